@@ -1,0 +1,93 @@
+ghost use Rattle.std.specs.Prelude.{◌≡◌, ◌↔◌, ◌≤◌, ◌<◌, ◌==◌, IsNone, IfSome, Some, position};
+ghost use Rattle.ed_codes.specs.Spelling.{byte_of, letters, row_of};
+
+use std::marker::Model;
+
+/// The code of a tape row or of a printed character, 0 to 31.
+#[derive(Clone, Copy, Debug, PartialEq, Eq)]
+pub struct Code {
+    number: u8,
+}
+
+impl Model for Code {
+    ghost use Rattle.std.specs.Prelude.{ℕ, ◌<◌};
+
+    ghost Value = { ℕ };
+
+    ghost view = { λ c. c.number };
+
+    ghost invariant = { λ c. c.number < 32 };
+
+    ghost inverse = { λ n. record { number = n } };
+}
+
+impl Default for Code {
+    ghost is_default = { λ c. c ≡ 0 };
+
+    /// Code 0.
+    fn default() -> Code {
+        Code { number: 0 }
+    }
+}
+
+/// The letters and signs of the codes 0 to 31.
+const LETTERS: &[u8; 32] = b"PQWERTYUIOJ#SZK*.F@D!HNM&LXGABCV";
+
+impl Code {
+    /// The code of a number, which is below 32.
+    pub fn new(n: u8) -> Option<Code>
+        ensures none { IsNone result ↔ (32 ≤ n) }
+        ensures some { IfSome result (λ c. c ≡ n) }
+    {
+        if n < 32 {
+            Some(Code { number: n })
+        } else {
+            None
+        }
+    }
+
+    /// The number, 0 to 31.
+    pub fn value(self) -> u8
+        ensures is { result ≡ self }
+        ensures fits { result < 32 }
+    {
+        self.number
+    }
+}
+
+/// The place of a byte among the letters and signs.
+fn letter_place(byte: u8) -> Option<usize>
+    ensures place { result ≡ position (λ l. l == byte) letters }
+    ensures bound { IfSome result (λ k. k < 32) }
+{
+    LETTERS.iter().position(|letter| *letter == byte)
+}
+
+/// The row that a byte of a tape text spells: a digit its number, a letter or sign its code. No other byte spells one.
+pub fn row_of_byte(byte: u8) -> Option<Code>
+    ensures { result ≡ row_of byte }
+{
+    if byte.is_ascii_digit() {
+        return Some(Code {
+            number: byte - b'0',
+        });
+    }
+    match letter_place(byte) {
+        Some(place) => Some(Code {
+            number: place as u8,
+        }),
+        None => None,
+    }
+}
+
+/// The byte that spells a code: for the codes 0 to 9 the digit where `as_digit`, else the letter or sign.
+pub fn byte_of(code: Code, as_digit: bool) -> u8
+    ensures is { result ≡ byte_of code as_digit }
+    ensures back { row_of result ≡ Some code }
+{
+    let number = code.value();
+    if as_digit && number < 10 {
+        return b'0' + number;
+    }
+    LETTERS[usize::from(number)]
+}

@@ -1,0 +1,3 @@
+pub mod Words
+pub mod Signed
+pub mod Sizes

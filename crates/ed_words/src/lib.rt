@@ -1,0 +1,16 @@
+//! Words: numbers of 17 and 35 binary digits, the fields of an order word, and the size of a store.
+//!
+//! The contract is that fields and halves are exact and inverse to each other. Stands on std alone.
+#![tactic(auto)]
+
+mod long;
+mod memory;
+mod order;
+mod size;
+mod word;
+
+pub use long::{Halves, Long};
+pub use memory::NoMemory;
+pub use order::Order;
+pub use size::{Size, fits};
+pub use word::Word;
