@@ -1,6 +1,6 @@
 -- The store: 1,024 short locations and the 512 sandwich digits between the two of each pair (the number of locations,
 -- and that a short write leaves the sandwich digit, are this project's own rules).
-use Rattle.std.specs.Prelude.{ℕ, ◌+◌, ◌-◌, ◌/◌, ◌%◌, ◌^◌, Bool, false, List, slice_index, slice_index_or, slice_set, ◌≡◌, ◌<◌, length}
+use Rattle.std.specs.Prelude.{ℕ, ◌+◌, ◌-◌, ◌/◌, ◌%◌, ◌^◌, Bool, false, List, slice_index, slice_index_or, slice_set, replicate, ◌≡◌, ◌<◌, length}
 use Rattle.ed_words.specs.Words.{joined, halves_of}
 
 -- the words of all locations, and the sandwich digits of all pairs
@@ -13,6 +13,10 @@ pub record IsStore (c : Cells) : Type 0 where
   pub words_are : length c.words ≡ 1024
   pub digits_are : length c.sandwich ≡ 512
   pub fits : (i : ℕ) → slice_index c.words i < 2 ^ 17
+
+-- the store with 0 everywhere
+abbrev pub cleared_cells : Cells
+cleared_cells = record { words = replicate 1024 0; sandwich = replicate 512 false }
 
 -- the even location of a pair, from either of the two
 abbrev pub even : ℕ → ℕ

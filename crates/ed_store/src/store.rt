@@ -1,5 +1,5 @@
 ghost use Rattle.std.specs.Prelude.{◌≡◌, ◌↔◌, ◌<◌, ◌/◌, ◌^◌, IsTrue, IfOk, false, replicate};
-ghost use Rattle.ed_store.specs.Cells.{Cells, IsStore, short_at, long_at, sandwich_at, with_short, with_long};
+ghost use Rattle.ed_store.specs.Cells.{Cells, IsStore, cleared_cells, short_at, long_at, sandwich_at, with_short, with_long};
 
 use ed_words::{Halves, Long, NoMemory, Word};
 use std::alloc::Global;
@@ -29,14 +29,10 @@ impl Model for Store {
 impl Store {
     /// A store with 0 in every word and sandwich digit.
     pub fn cleared(alloc: Global) -> Result<Store, NoMemory>
-        ensures { IfOk result (λ s. s ≡ record { words = replicate 1024 0; sandwich = replicate 512 false }) }
+        ensures { IfOk result (λ s. s ≡ cleared_cells) }
     {
-        let Ok(words) = vec![in alloc; 0; LOCATIONS] else {
-            return Err(NoMemory);
-        };
-        let Ok(sandwich) = vec![in alloc; false; LOCATIONS / 2] else {
-            return Err(NoMemory);
-        };
+        let words = cleared_words(alloc)?;
+        let sandwich = cleared_digits(alloc)?;
         Ok(Store {
             alloc,
             words,
@@ -117,8 +113,7 @@ impl Store {
     pub fn equals(&self, other: &Store) -> bool
         ensures { IsTrue result ↔ (self.now ≡ other.now) }
     {
-        self.words.as_slice() == other.words.as_slice()
-            && self.sandwich.as_slice() == other.sandwich.as_slice()
+        same_words(&self.words, &other.words) && same_digits(&self.sandwich, &other.sandwich)
     }
 }
 
@@ -128,4 +123,36 @@ fn word(number: u32) -> Word
     ensures { result ≡ number }
 {
     Word::new(number).unwrap()
+}
+
+/// 0 for every location.
+fn cleared_words(alloc: Global) -> Result<Vec<u32>, NoMemory>
+    ensures { IfOk result (λ v. v.items ≡ replicate 1024 0) }
+{
+    match vec![in alloc; 0u32; LOCATIONS] {
+        Ok(words) => Ok(words),
+        Err(_) => Err(NoMemory),
+    }
+}
+
+/// The digit 0 for every pair.
+fn cleared_digits(alloc: Global) -> Result<Vec<bool>, NoMemory>
+    ensures { IfOk result (λ v. v.items ≡ replicate 512 false) }
+{
+    match vec![in alloc; false; LOCATIONS / 2] {
+        Ok(digits) => Ok(digits),
+        Err(_) => Err(NoMemory),
+    }
+}
+
+fn same_words(xs: &[u32], ys: &[u32]) -> bool
+    ensures { IsTrue result ↔ (xs.now ≡ ys.now) }
+{
+    xs == ys
+}
+
+fn same_digits(xs: &[bool], ys: &[bool]) -> bool
+    ensures { IsTrue result ↔ (xs.now ≡ ys.now) }
+{
+    xs == ys
 }
