@@ -1,0 +1,4 @@
+pub mod Below
+pub mod Letters
+pub mod Numerals
+pub mod Shifts

@@ -1,0 +1,10 @@
+use Rattle.std.proofs.Common.{arith}
+use Rattle.ed_orders.proofs.Numerals.{last_digit}
+use Rattle.ed_orders.proofs.text.+push_decimal.Goals as goal
+
+pub returns-else-number-lt10-clause-bytes : goal.returns-else-number-lt10-clause-bytes
+returns-else-number-lt10-clause-bytes t c =
+    let front = c.push_decimal.new.text.bytes in
+    let whole = c.push_byte-else-number-lt10.new.text.bytes in
+    last_digit c.args.text.now.bytes front whole c.args.number c.if-number-lt10.false (omega arith)
+    c.push_decimal.ensures.bytes c.push_byte-else-number-lt10.ensures.bytes

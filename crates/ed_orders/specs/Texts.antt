@@ -1,0 +1,21 @@
+-- The text of an order, as Wilkes, Wheeler and Gill (1951) write one, but for the spare digit, which counts as 1024 in
+-- the number, and a number 0, which isn't written (this project's own rule).
+use Rattle.std.specs.Prelude.{ℕ, ◌/◌, ◌%◌, ◌==◌, List, [], ◌∷◌, ◌++◌, codes, decimal, slice_index, if◌then◌else◌}
+use Rattle.ed_words.specs.Words.{function_of, is_long}
+use Rattle.ed_codes.specs.Spelling.{letters}
+
+-- the number of a word's text: its spare digit and address as one number
+abbrev pub number_of : ℕ → ℕ
+number_of w = w / 2 % 2048
+
+-- a number in decimal, and nothing for 0
+abbrev pub number_text : ℕ → List ℕ
+number_text n = if n == 0 then [] else decimal n
+
+-- D for a long order, F for a short one
+abbrev pub length_text : ℕ → List ℕ
+length_text w = if is_long w then codes "D" else codes "F"
+
+-- the letter or sign of the function, the number, and the length
+abbrev pub order_text : ℕ → List ℕ
+order_text w = slice_index letters (function_of w) ∷ number_text (number_of w) ++ length_text w

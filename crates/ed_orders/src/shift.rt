@@ -1,0 +1,15 @@
+ghost use Rattle.std.specs.Prelude.{◌≡◌, ◌<◌, ◌≤◌};
+ghost use Rattle.ed_orders.specs.Places.{IsPlaces, places};
+
+use ed_words::Word;
+
+/// How many places a shift order shifts, 1 to 17: counted over the whole word, spare digit and length included.
+pub fn places(word: Word) -> u8
+    requires { 0 < word }
+    ensures is { result ≡ places word }
+    ensures law { IsPlaces word result }
+    ensures low { 1 ≤ result }
+    ensures high { result ≤ 17 }
+{
+    (word.value().trailing_zeros() + 1) as u8
+}
