@@ -5,5 +5,7 @@
 #![tactic(auto)]
 
 mod code;
+mod tape;
 
 pub use code::{Code, byte_of, row_of_byte};
+pub use tape::{TextFault, tape_of_text};

@@ -1,0 +1,4 @@
+pub mod Below
+pub mod Spellings
+pub mod Pieces
+pub mod Readings

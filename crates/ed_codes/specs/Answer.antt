@@ -1,0 +1,30 @@
+-- What the answer of `tape_of_text` says of the text. The answer for want of memory says nothing.
+use Rattle.std.specs.Prelude.{◌≡◌, ℕ, ◌≤◌, ◌<◌, false, List, ◌∷◌, ◌++◌, length, drop, Result, Ok, Err, Vec}
+use Rattle.std.specs.declared.alloc.Global.{Global}
+use Rattle.ed_codes.specs.Text.{Spells, HasNoRow, HasOpenComment, has_close}
+use Rattle.ed_codes.specs.Reading.{Reading, rows, no_row, open_comment}
+use Rattle.ed_codes.specs.declared.code.Code.{Code}
+use Rattle.ed_codes.specs.declared.tape.TextFault.{TextFault}
+use Rattle.ed_codes.specs.declared.tape.TextFault.TheVariants.{NoRow, OpenComment, Memory}
+
+-- the rows are what the text spells, and a fault is the one that it has
+abbrev pub ReadsText : List ℕ → Result (Vec Code Global) TextFault → Type 0
+ReadsText text (Ok v) = Spells text v.items
+ReadsText text (Err (NoRow place byte)) = HasNoRow text place byte
+ReadsText text (Err (OpenComment place)) = HasOpenComment text place
+ReadsText text (Err Memory) = Unit {0}
+
+-- the answer is the reading
+abbrev pub Answers : Reading → Result (Vec Code Global) TextFault → Type 0
+Answers r (Ok v) = r ≡ rows v.items
+Answers r (Err (NoRow place byte)) = r ≡ no_row place byte
+Answers r (Err (OpenComment place)) = r ≡ open_comment place
+Answers r (Err Memory) = Unit {0}
+
+-- the text is something with no `]`, a `]`, and what stands from the place on
+pub record ClosesAt (text : List ℕ) (place : ℕ) : Type 0 where
+  pub inside : List ℕ
+  pub no_close : has_close inside ≡ false
+  pub whole : text ≡ inside ++ 93 ∷ drop place text
+  pub within : place ≤ length text
+  pub some : length inside < place

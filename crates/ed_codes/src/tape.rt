@@ -1,0 +1,100 @@
+ghost use Rattle.std.specs.Prelude.{◌≡◌, false, IfSome, IfNone};
+ghost use Rattle.ed_codes.specs.Text.{has_close, is_spacing};
+ghost use Rattle.ed_codes.specs.Reading.{HasOneReading, reading};
+ghost use Rattle.ed_codes.specs.Answer.{Answers, ClosesAt, ReadsText};
+
+use crate::{Code, row_of_byte};
+use std::alloc::Global;
+use thiserror::Error;
+
+/// Why a tape text gives no rows. The message of each variant is its name.
+#[derive(Clone, Copy, Debug, PartialEq, Eq, Error)]
+pub enum TextFault {
+    /// A byte that spells no row, at its place, counted from 0.
+    #[error("NoRow")]
+    NoRow { place: usize, byte: u8 },
+    /// A comment that never ends, at the place of its `[`, counted from 0.
+    #[error("OpenComment")]
+    OpenComment { place: usize },
+    /// No memory for the rows.
+    #[error("Memory")]
+    Memory,
+}
+
+/// Whether a byte is one of the four that are no rows and no fault.
+fn is_spacing(byte: u8) -> bool
+    ensures { result ≡ is_spacing byte }
+{
+    matches!(byte, b' ' | b'\t' | b'\r' | b'\n')
+}
+
+/// The place after the first `]`.
+fn comment_end(text: &[u8]) -> Option<usize>
+    ensures some { IfSome result (ClosesAt text.now) }
+    ensures none { IfNone result (has_close text.now ≡ false) }
+{
+    for (place, byte) in text.iter().enumerate() {
+        if *byte == b']' {
+            return Some(place + 1);
+        }
+    }
+    None
+}
+
+/// The rows of a tape text, or its first fault. Spaces, tabs, carriage returns and line feeds stand for nothing, and
+/// neither does a comment, which goes from a `[` to the next `]`.
+pub fn tape_of_text(alloc: Global, text: &[u8]) -> Result<Vec<Code>, TextFault>
+    ensures spelled { ReadsText text.now result }
+    ensures exact { Answers (reading text.now) result }
+    ensures law { HasOneReading }
+{
+    rows_of_pieces(alloc, text)
+}
+
+/// The rows of a text, piece by piece.
+fn rows_of_pieces(alloc: Global, text: &[u8]) -> Result<Vec<Code>, TextFault>
+    ensures { ReadsText text.now result }
+{
+    let mut rows = Vec::new(alloc);
+    let mut place = 0;
+    while place < text.len() {
+        let byte = text[place];
+        if byte == b'[' {
+            match comment_end(&text[place + 1..]) {
+                Some(count) => place = place + 1 + count,
+                None => return Err(TextFault::OpenComment { place }),
+            }
+        } else if is_spacing(byte) {
+            place += 1;
+        } else {
+            match row_of_byte(byte) {
+                Some(code) => {
+                    if rows.push(code).is_err() {
+                        return Err(TextFault::Memory);
+                    }
+                    place += 1;
+                }
+                None => return Err(TextFault::NoRow { place, byte }),
+            }
+        }
+    }
+    Ok(rows)
+}
+
+#[cfg(test)]
+mod tests {
+    use super::*;
+    use std::test::Fail;
+
+    #[test]
+    fn messages_are_names(rt: HostRuntime) -> Result<(), Fail> {
+        let alloc = rt.alloc();
+        let no_row = TextFault::NoRow { place: 3, byte: 37 }.to_string(alloc)?;
+        let open_comment = TextFault::OpenComment { place: 3 }.to_string(alloc)?;
+        let memory = TextFault::Memory.to_string(alloc)?;
+        assert!(rt; no_row.as_str() == "NoRow");
+        assert!(rt; open_comment.as_str() == "OpenComment");
+        assert!(rt; memory.as_str() == "Memory");
+        Ok(())
+    }
+}
