@@ -1,0 +1,196 @@
+ghost use Rattle.std.specs.Prelude.{◌≡◌, ◌<◌, ◌≤◌, ◌^◌, ◌*◌, ◌/◌, ◌↔◌, IsTrue, pos, neg_ℤ, ◌≤ℤ◌, ◌*ℤ◌};
+ghost use Rattle.ed_words.specs.Signed.{signed};
+ghost use Rattle.ed_acc.specs.Arithmetic.{collated, left71, minus71, minus_product, plus71, plus_product, right71};
+ghost use Rattle.ed_acc.specs.Arithmetic.{common, modulo71, product};
+
+use ed_words::{Long, Word};
+use std::marker::Model;
+
+/// How many numbers an accumulator has.
+const MODULUS: u128 = 1 << 71;
+
+/// The accumulator: 71 binary digits, read as the number 0 to 2^71 - 1, in units of 2^-70. From 2^70 on its value as a
+/// fraction is negative.
+#[derive(Clone, Copy, Debug, PartialEq, Eq)]
+pub struct Acc {
+    number: u128,
+}
+
+impl Model for Acc {
+    ghost use Rattle.std.specs.Prelude.{ℕ, ◌^◌, ◌<◌};
+
+    ghost Value = { ℕ };
+
+    ghost view = { λ a. a.number };
+
+    ghost invariant = { λ a. a.number < 2 ^ 71 };
+
+    ghost inverse = { λ n. record { number = n } };
+}
+
+impl Acc {
+    /// An accumulator that holds 0.
+    pub fn cleared() -> Acc
+        ensures { result ≡ 0 }
+    {
+        Acc { number: 0 }
+    }
+
+    /// The number, 0 to 2^71 - 1.
+    pub fn value(&self) -> u128
+        ensures is { result ≡ self.now }
+        ensures fits { result < 2 ^ 71 }
+    {
+        self.number
+    }
+
+    /// Whether the fraction is negative.
+    pub fn is_negative(&self) -> bool
+        ensures { IsTrue result ↔ (2 ^ 70 ≤ self.now) }
+    {
+        self.number >= 1 << 70
+    }
+
+    /// Adds a short word at the top digits.
+    pub fn add_short(&mut self, word: Word)
+        ensures { self.new ≡ plus71 self.old (word * 2 ^ 18 * 2 ^ 36) }
+    {
+        self.add_long(Long::of_short(word));
+    }
+
+    /// Adds a long word at the top digits.
+    #[tactic(auto, unfolding(crate::specs::Arithmetic::plus71))]
+    pub fn add_long(&mut self, long: Long)
+        ensures { self.new ≡ plus71 self.old (long * 2 ^ 36) }
+    {
+        self.number = (self.number + (u128::from(long.value()) << 36)) % MODULUS;
+    }
+
+    /// Takes away a short word at the top digits.
+    pub fn sub_short(&mut self, word: Word)
+        ensures { self.new ≡ minus71 self.old (word * 2 ^ 18 * 2 ^ 36) }
+    {
+        self.sub_long(Long::of_short(word));
+    }
+
+    /// Takes away a long word at the top digits.
+    #[tactic(auto, unfolding(crate::specs::Arithmetic::minus71))]
+    pub fn sub_long(&mut self, long: Long)
+        ensures { self.new ≡ minus71 self.old (long * 2 ^ 36) }
+    {
+        self.number = (self.number + MODULUS - (u128::from(long.value()) << 36)) % MODULUS;
+    }
+
+    /// Adds the product of two signed long words: the product of their fractions.
+    pub fn add_product(&mut self, m: Long, x: Long)
+        ensures { self.new ≡ plus_product self.old m x }
+    {
+        self.number = wrapped(self.number as i128 + product(m, x));
+    }
+
+    /// Takes away the product of two signed long words.
+    pub fn sub_product(&mut self, m: Long, x: Long)
+        ensures { self.new ≡ minus_product self.old m x }
+    {
+        self.number = wrapped(self.number as i128 - product(m, x));
+    }
+
+    /// Adds the digits that two long words have in common, at the top digits.
+    #[tactic(auto, unfolding(crate::specs::Arithmetic::collated))]
+    pub fn collate(&mut self, m: Long, x: Long)
+        ensures { self.new ≡ collated self.old m x }
+    {
+        self.number = (self.number + (u128::from(common(m, x)) << 36)) % MODULUS;
+    }
+
+    /// Shifts to the left by 1 to 15 places.
+    #[tactic(auto, unfolding(crate::specs::Arithmetic::left71))]
+    pub fn left(&mut self, p: u8)
+        requires low { 1 ≤ p }
+        requires high { p ≤ 15 }
+        ensures { self.new ≡ left71 self.old p }
+    {
+        self.number = (self.number << p) % MODULUS;
+    }
+
+    /// Shifts to the right by 1 to 15 places; the sign stays.
+    #[tactic(auto, unfolding(crate::specs::Arithmetic::right71))]
+    pub fn right(&mut self, p: u8)
+        requires low { 1 ≤ p }
+        requires high { p ≤ 15 }
+        ensures { self.new ≡ right71 self.old p }
+    {
+        if self.is_negative() {
+            self.number = (self.number >> p) + (MODULUS - (MODULUS >> p));
+        } else {
+            self.number >>= p;
+        }
+    }
+
+    /// Rounds to a long word: adds 1 at the place below its digits.
+    #[tactic(auto, unfolding(crate::specs::Arithmetic::plus71))]
+    pub fn round(&mut self)
+        ensures { self.new ≡ plus71 self.old (2 ^ 35) }
+    {
+        self.number = (self.number + (1 << 35)) % MODULUS;
+    }
+
+    /// Sets the accumulator to 0.
+    pub fn clear(&mut self)
+        ensures { self.new ≡ 0 }
+    {
+        self.number = 0;
+    }
+
+    /// The top 17 digits.
+    pub fn top_short(&self) -> Word
+        ensures { result ≡ self.now / 2 ^ 54 }
+    {
+        Word::new((self.number >> 54) as u32).unwrap()
+    }
+
+    /// The top 35 digits.
+    pub fn top_long(&self) -> Long
+        ensures { result ≡ self.now / 2 ^ 36 }
+    {
+        Long::new((self.number >> 36) as u64).unwrap()
+    }
+}
+
+/// Four times the product of two signed long words.
+fn product(m: Long, x: Long) -> i128
+    ensures is { result ≡ product m x }
+    ensures low { neg_ℤ (pos (2 ^ 70)) ≤ℤ result }
+    ensures high { result ≤ℤ pos (2 ^ 70) }
+{
+    4 * (signed(m) * signed(x))
+}
+
+/// A long word as a signed number.
+fn signed(long: Long) -> i128
+    ensures is { result ≡ signed 35 long }
+    ensures low { neg_ℤ (pos (2 ^ 34)) ≤ℤ result }
+    ensures high { result ≤ℤ pos (2 ^ 34) }
+{
+    if long.value() < 1 << 34 {
+        i128::from(long.value())
+    } else {
+        i128::from(long.value()) - (1 << 35)
+    }
+}
+
+/// The digits that two long words have in common.
+fn common(m: Long, x: Long) -> u64
+    ensures is { result ≡ common 35 m x }
+    ensures fits { result < 2 ^ 35 }
+{
+    m.value() & x.value()
+}
+
+/// A number modulo 2^71.
+fn wrapped(number: i128) -> u128
+    ensures is { result ≡ modulo71 number }
+    ensures fits { result < 2 ^ 71 }
+{
+    number.rem_euclid(1 << 71) as u128
+}
