@@ -1,6 +1,7 @@
 -- What is spelled is read, and each fault is.
-use Rattle.std.proofs.Common.{◌≡◌, ◌∙◌, ◌<◌, ◌≤◌, ℕ, ◌+◌, ◌-◌, suc, Bool, true, false, List, [], ◌∷◌, ◌++◌, refl, sym, ap, subst, append_assoc, take, drop, length, arith}
-use Rattle.std.specs.Prelude.{Option, Some, None, ◌==◌, ◌||◌, Result, Ok, Err, Vec}
+use Rattle.std.proofs.Common.{◌≡◌, ◌∙◌, ℕ, ◌+◌, ◌-◌, suc, Bool, true, false, List, [], ◌∷◌, ◌++◌, refl, sym, ap}
+use Rattle.std.proofs.Common.{append_assoc, take, drop, length, arith}
+use Rattle.std.specs.Prelude.{Option, Some, None, ◌==◌, ◌||◌, is_some, Result, Ok, Err, Vec}
 use Rattle.std.specs.declared.alloc.Global.{Global}
 use Rattle.std.proofs.lemmas.Bool.Decides.{Decides-eqb}
 use Rattle.std.proofs.lemmas.List.{append-nil, take-append-drop, length-append, length-take-le, length-drop}
@@ -12,108 +13,136 @@ use Rattle.ed_codes.specs.declared.code.Code.{Code}
 use Rattle.ed_codes.specs.declared.tape.TextFault.{TextFault}
 use Rattle.ed_codes.specs.declared.tape.TextFault.TheVariants.{NoRow, OpenComment, Memory}
 
+-- some rows before a reading
 abbrev with_rows : List ℕ → Reading → Reading
 with_rows [] r = r
-with_rows (c ∷ cs) r = with_row c (with_rows cs r)
+with_rows (code ∷ codes) r = with_row code (with_rows codes r)
 
--- ---- bytes
+-- ---- one byte
 
-not_byte : (b k c : ℕ) (t : Bool) → (b == k) ≡ t → row_of b ≡ Some c → row_of k ≡ None → (b == k) ≡ false
-not_byte b k c true e h other = let same : b ≡ k = (Decides-eqb b k).0 e in let bad : Some c ≡ None = sym h ∙ ap row_of same ∙ other in absurd (cc)
-not_byte b k c false e h other = e
+-- a byte that passes a test is none that fails it
+other_byte : (test : ℕ → Bool) (b k : ℕ) → test b ≡ true → test k ≡ false → (b == k) ≡ false
+other_byte test b k passes fails = by_test (b == k) refl
+  where
+    by_test : (t : Bool) → (b == k) ≡ t → (b == k) ≡ false
+    by_test true e = let bad : true ≡ false = sym passes ∙ ap test ((Decides-eqb b k).0 e) ∙ fails in absurd (cc)
+    by_test false e = e
 
-other_byte : (b k c : ℕ) → row_of b ≡ Some c → row_of k ≡ None → (b == k) ≡ false
-other_byte b k c h other = not_byte b k c (b == k) refl h other
+row_byte : (b code place : ℕ) (bs : List ℕ) → row_of b ≡ Some code
+    → reading_from None place (b ∷ bs) ≡ with_row code (reading_from None (place + 1) bs)
+row_byte b code place bs h =
+    let no_comment = other_byte spells_row b 91 (ap is_some h) refl in
+    let no_space = other_byte spells_row b 32 (ap is_some h) refl in
+    let no_tab = other_byte spells_row b 9 (ap is_some h) refl in
+    let no_return = other_byte spells_row b 13 (ap is_some h) refl in
+    let no_feed = other_byte spells_row b 10 (ap is_some h) refl in
+    simp (no_comment, no_space, no_tab, no_return, no_feed)
+    (ap (λ (o : Option ℕ). row_or_fault o place b (reading_from None (place + 1) bs)) h)
+  where
+    spells_row : ℕ → Bool
+    spells_row byte = is_some (row_of byte)
 
-pub row_byte : (b c : ℕ) (place : ℕ) (bs : List ℕ) → row_of b ≡ Some c → reading_from None place (b ∷ bs) ≡ with_row c (reading_from None (place + 1) bs)
-row_byte b c place bs h =
-    let no_comment : (b == 91) ≡ false = other_byte b 91 c h refl in
-    let no_space : (b == 32) ≡ false = other_byte b 32 c h refl in
-    let no_tab : (b == 9) ≡ false = other_byte b 9 c h refl in
-    let no_return : (b == 13) ≡ false = other_byte b 13 c h refl in
-    let no_feed : (b == 10) ≡ false = other_byte b 10 c h refl in
-    simp (no_comment, no_space, no_tab, no_return, no_feed) (ap (λ (o : Option ℕ). row_or_fault o place b (reading_from None (place + 1) bs)) h)
+spacing_byte : (b place : ℕ) (bs : List ℕ) → is_spacing b ≡ true
+    → reading_from None place (b ∷ bs) ≡ reading_from None (place + 1) bs
+spacing_byte b place bs h = let no_comment = other_byte is_spacing b 91 h refl in simp (no_comment, h)
 
-spacing_no_comment : (b : ℕ) (t : Bool) → (b == 91) ≡ t → is_spacing b ≡ true → (b == 91) ≡ false
-spacing_no_comment b true e h = let same : b ≡ 91 = (Decides-eqb b 91).0 e in let bad : is_spacing 91 ≡ true = subst (λ (n : ℕ). is_spacing n ≡ true) same h in absurd (cc)
-spacing_no_comment b false e h = e
-
-spacing_byte : (b : ℕ) (place : ℕ) (bs : List ℕ) → is_spacing b ≡ true → reading_from None place (b ∷ bs) ≡ reading_from None (place + 1) bs
-spacing_byte b place bs h = let n : (b == 91) ≡ false = spacing_no_comment b (b == 91) refl h in simp (n, h)
+-- ---- a comment
 
 no_close_head : (x : ℕ) (xs : List ℕ) → has_close (x ∷ xs) ≡ false → ((x == 93) ≡ false) × (has_close xs ≡ false)
-no_close_head x xs = go (x == 93) (has_close xs)
+no_close_head x xs = by_first (x == 93) (has_close xs)
   where
-    go : (c d : Bool) → (c || d) ≡ false → (c ≡ false) × (d ≡ false)
-    go true d e = absurd (cc)
-    go false d e = (refl, e)
+    by_first : (c d : Bool) → (c || d) ≡ false → (c ≡ false) × (d ≡ false)
+    by_first true d e = absurd (cc)
+    by_first false d e = (refl, e)
 
-skipped : (start place : ℕ) (inside rest : List ℕ) → has_close inside ≡ false → reading_from (Some start) place (inside ++ 93 ∷ rest) ≡ reading_from None (place + length inside + 1) rest
+skipped : (start place : ℕ) (inside rest : List ℕ) → has_close inside ≡ false
+    → reading_from (Some start) place (inside ++ 93 ∷ rest) ≡ reading_from None (place + length inside + 1) rest
 skipped start place [] rest e = ap (λ (n : ℕ). reading_from None n rest) (omega arith)
 skipped start place (b ∷ bs) rest e =
     let here = no_close_head b bs e in
     let first : (b == 93) ≡ false = here.0 in
     simp first (skipped start (place + 1) bs rest here.1 ∙ ap (λ (n : ℕ). reading_from None n rest) (omega arith))
 
-never_closed : (start place : ℕ) (text : List ℕ) → has_close text ≡ false → reading_from (Some start) place text ≡ open_comment start
+never_closed : (start place : ℕ) (text : List ℕ) → has_close text ≡ false
+    → reading_from (Some start) place text ≡ open_comment start
 never_closed start place [] e = refl
-never_closed start place (b ∷ bs) e = let here = no_close_head b bs e in let first : (b == 93) ≡ false = here.0 in simp first (never_closed start (place + 1) bs here.1)
+never_closed start place (b ∷ bs) e =
+    let here = no_close_head b bs e in
+    let first : (b == 93) ≡ false = here.0 in
+    simp first (never_closed start (place + 1) bs here.1)
 
--- pieces, and then the rest
-pub read_front : (front cs : List ℕ) (place : ℕ) (rest : List ℕ) → Spells front cs → reading_from None place (front ++ rest) ≡ with_rows cs (reading_from None (place + length front) rest)
+-- ---- pieces, and then the rest
+
+read_front : (front codes : List ℕ) (place : ℕ) (rest : List ℕ) → Spells front codes
+    → reading_from None place (front ++ rest) ≡ with_rows codes (reading_from None (place + length front) rest)
 read_front _ _ place rest none = ap (λ (n : ℕ). reading_from None n rest) (omega arith)
-read_front _ _ place rest (row byte code text cs e s) =
-    row_byte byte code place (text ++ rest) e ∙ ap (with_row code) (read_front text cs (place + 1) rest s ∙ ap (λ (n : ℕ). with_rows cs (reading_from None n rest)) (omega arith))
-read_front _ _ place rest (spacing byte text cs e s) =
-    spacing_byte byte place (text ++ rest) e ∙ read_front text cs (place + 1) rest s ∙ ap (λ (n : ℕ). with_rows cs (reading_from None n rest)) (omega arith)
-read_front _ _ place rest (comment inside text cs e s) =
-    let size : length (91 ∷ inside ++ 93 ∷ text) ≡ length inside + suc (length text) + 1 = ap suc (length-append inside (93 ∷ text)) ∙ omega arith in
+read_front _ _ place rest (row byte code text codes e s) =
+    let at = λ (n : ℕ). with_rows codes (reading_from None n rest) in
+    row_byte byte code place (text ++ rest) e
+    ∙ ap (with_row code) (read_front text codes (place + 1) rest s ∙ ap at (omega arith))
+read_front _ _ place rest (spacing byte text codes e s) =
+    let at = λ (n : ℕ). with_rows codes (reading_from None n rest) in
+    spacing_byte byte place (text ++ rest) e ∙ read_front text codes (place + 1) rest s ∙ ap at (omega arith)
+read_front _ _ place rest (comment inside text codes e s) =
+    let at = λ (n : ℕ). with_rows codes (reading_from None n rest) in
+    let size = length-append inside (93 ∷ text) in
     ap (λ (l : List ℕ). reading_from (Some place) (place + 1) l) (append_assoc inside (93 ∷ text) rest)
     ∙ skipped place (place + 1) inside (text ++ rest) e
-    ∙ read_front text cs (place + 1 + length inside + 1) rest s
-    ∙ ap (λ (n : ℕ). with_rows cs (reading_from None n rest)) (omega (arith, size))
+    ∙ read_front text codes (place + 1 + length inside + 1) rest s
+    ∙ ap at (omega (arith, size))
 
-only_rows : (cs : List ℕ) → with_rows cs (rows []) ≡ rows cs
-only_rows [] = refl
-only_rows (c ∷ cs) = ap (with_row c) (only_rows cs)
+rows_stay : (codes : List ℕ) → with_rows codes (rows []) ≡ rows codes
+rows_stay [] = refl
+rows_stay (code ∷ codes) = ap (with_row code) (rows_stay codes)
 
-fault_stays : (cs : List ℕ) (p b : ℕ) → with_rows cs (no_row p b) ≡ no_row p b
-fault_stays [] p b = refl
-fault_stays (c ∷ cs) p b = ap (with_row c) (fault_stays cs p b)
+no_row_stays : (codes : List ℕ) (place byte : ℕ) → with_rows codes (no_row place byte) ≡ no_row place byte
+no_row_stays [] place byte = refl
+no_row_stays (code ∷ codes) place byte = ap (with_row code) (no_row_stays codes place byte)
 
-comment_stays : (cs : List ℕ) (p : ℕ) → with_rows cs (open_comment p) ≡ open_comment p
-comment_stays [] p = refl
-comment_stays (c ∷ cs) p = ap (with_row c) (comment_stays cs p)
+open_comment_stays : (codes : List ℕ) (place : ℕ) → with_rows codes (open_comment place) ≡ open_comment place
+open_comment_stays [] place = refl
+open_comment_stays (code ∷ codes) place = ap (with_row code) (open_comment_stays codes place)
 
-pub spelled_is_read : (text cs : List ℕ) → Spells text cs → reading text ≡ rows cs
-spelled_is_read text cs s = ap reading (sym (append-nil text)) ∙ read_front text cs 0 [] s ∙ only_rows cs
+-- ---- whole texts
+
+spelled_is_read : (text codes : List ℕ) → Spells text codes → reading text ≡ rows codes
+spelled_is_read text codes s = ap reading (sym (append-nil text)) ∙ read_front text codes 0 [] s ∙ rows_stay codes
 
 size_before : (text : List ℕ) (place b : ℕ) (after : List ℕ) → drop place text ≡ b ∷ after → length (take place text) ≡ place
-size_before text place b after e = let l : length text - place ≡ suc (length after) = sym (length-drop place text) ∙ ap length e in length-take-le place text (omega (arith, l))
+size_before text place b after e =
+    let left : length text - place ≡ suc (length after) = sym (length-drop place text) ∙ ap length e in
+    length-take-le place text (omega (arith, left))
 
--- up to the place
-stopped : (text : List ℕ) (place byte : ℕ) (after : List ℕ) (s : StopsAt text place byte after) → reading text ≡ with_rows s.rows (reading_from None place (byte ∷ after))
+-- the reading comes as far as the place
+stopped : (text : List ℕ) (place byte : ℕ) (after : List ℕ) (s : StopsAt text place byte after)
+    → reading text ≡ with_rows s.rows (reading_from None place (byte ∷ after))
 stopped text place byte after s =
     ap reading (sym (take-append-drop place text) ∙ ap (λ (l : List ℕ). take place text ++ l) s.here)
     ∙ read_front (take place text) s.rows 0 (byte ∷ after) s.before
     ∙ ap (λ (n : ℕ). with_rows s.rows (reading_from None n (byte ∷ after))) (omega (arith, size_before text place byte after s.here))
 
-pub no_row_is_read : (text : List ℕ) (place byte : ℕ) → HasNoRow text place byte → reading text ≡ no_row place byte
+no_row_is_read : (text : List ℕ) (place byte : ℕ) → HasNoRow text place byte → reading text ≡ no_row place byte
 no_row_is_read text place byte h =
-    let r = h.no_row in let b = h.no_spacing in let c = h.no_comment in
-    let here : reading_from None place (byte ∷ h.after) ≡ no_row place byte = simp (c, b) (ap (λ (o : Option ℕ). row_or_fault o place byte (reading_from None (place + 1) h.after)) r) in
-    stopped text place byte h.after h.stops ∙ ap (with_rows h.stops.rows) here ∙ fault_stays h.stops.rows place byte
+    let no_comment = h.no_comment in
+    let no_spacing = h.no_spacing in
+    let here : reading_from None place (byte ∷ h.after) ≡ no_row place byte =
+    simp (no_comment, no_spacing)
+    (ap (λ (o : Option ℕ). row_or_fault o place byte (reading_from None (place + 1) h.after)) h.no_row) in
+    stopped text place byte h.after h.stops ∙ ap (with_rows h.stops.rows) here ∙ no_row_stays h.stops.rows place byte
 
-pub open_is_read : (text : List ℕ) (place : ℕ) → HasOpenComment text place → reading text ≡ open_comment place
+open_is_read : (text : List ℕ) (place : ℕ) → HasOpenComment text place → reading text ≡ open_comment place
 open_is_read text place h =
-    stopped text place 91 h.after h.stops ∙ ap (with_rows h.stops.rows) (never_closed place (place + 1) h.after h.no_close) ∙ comment_stays h.stops.rows place
+    stopped text place 91 h.after h.stops
+    ∙ ap (with_rows h.stops.rows) (never_closed place (place + 1) h.after h.no_close)
+    ∙ open_comment_stays h.stops.rows place
 
+-- each of the three is the reading
+pub has_one_reading : HasOneReading
+has_one_reading = record { spelled = spelled_is_read; faulty = no_row_is_read; unended = open_is_read }
+
+-- an answer that says what the text has says its reading
 pub answers_reading : (text : List ℕ) (r : Result (Vec Code Global) TextFault) → ReadsText text r → Answers (reading text) r
 answers_reading text (Ok v) h = spelled_is_read text v.items h
 answers_reading text (Err (NoRow place byte)) h = no_row_is_read text place byte h
 answers_reading text (Err (OpenComment place)) h = open_is_read text place h
 answers_reading text (Err Memory) h = tt
-
--- each of the three is the reading
-pub has_one_reading : HasOneReading
-has_one_reading = record { spelled = spelled_is_read; faulty = no_row_is_read; unended = open_is_read }

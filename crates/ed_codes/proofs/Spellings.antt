@@ -1,5 +1,5 @@
 -- The bytes of the codes spell them.
-use Rattle.std.proofs.Common.{◌≡◌, ℕ, ◌<◌, refl, ap, Bool, true, false, arith}
+use Rattle.std.proofs.Common.{◌≡◌, ℕ, ◌<◌, refl, ap, Bool, true, false}
 use Rattle.std.specs.Prelude.{◌==◌, Option, Some, None, slice_index}
 use Rattle.std.proofs.lemmas.Bool.Decides.{Decides-eqb}
 use Rattle.ed_codes.specs.Spelling.{letters, row_of}

@@ -1,7 +1,7 @@
 -- What the answer of `tape_of_text` says of the text. The answer for want of memory says nothing.
-use Rattle.std.specs.Prelude.{◌≡◌, ℕ, ◌≤◌, ◌<◌, false, List, ◌∷◌, ◌++◌, length, drop, Result, Ok, Err, Vec}
+use Rattle.std.specs.Prelude.{◌≡◌, ℕ, List, Result, Ok, Err, Vec}
 use Rattle.std.specs.declared.alloc.Global.{Global}
-use Rattle.ed_codes.specs.Text.{Spells, HasNoRow, HasOpenComment, has_close}
+use Rattle.ed_codes.specs.Text.{Spells, HasNoRow, HasOpenComment}
 use Rattle.ed_codes.specs.Reading.{Reading, rows, no_row, open_comment}
 use Rattle.ed_codes.specs.declared.code.Code.{Code}
 use Rattle.ed_codes.specs.declared.tape.TextFault.{TextFault}
@@ -20,11 +20,3 @@ Answers r (Ok v) = r ≡ rows v.items
 Answers r (Err (NoRow place byte)) = r ≡ no_row place byte
 Answers r (Err (OpenComment place)) = r ≡ open_comment place
 Answers r (Err Memory) = Unit {0}
-
--- the text is something with no `]`, a `]`, and what stands from the place on
-pub record ClosesAt (text : List ℕ) (place : ℕ) : Type 0 where
-  pub inside : List ℕ
-  pub no_close : has_close inside ≡ false
-  pub whole : text ≡ inside ++ 93 ∷ drop place text
-  pub within : place ≤ length text
-  pub some : length inside < place

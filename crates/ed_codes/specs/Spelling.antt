@@ -1,6 +1,7 @@
 -- The 32 codes of the tape and the bytes that spell them (Wilkes, Wheeler and Gill 1951; the signs `# * . @ ! &` for
 -- π, erase, blank, θ, φ and Δ are this project's own).
-use Rattle.std.specs.Prelude.{ℕ, ◌+◌, ◌-◌, ◌==◌, ◌&&◌, Bool, List, Option, Some, codes, nat_le, nat_lt, position, slice_index, if◌then◌else◌}
+use Rattle.std.specs.Prelude.{ℕ, ◌+◌, ◌-◌, ◌==◌, ◌&&◌, Bool, List, Option, Some}
+use Rattle.std.specs.Prelude.{codes, nat_le, nat_lt, position, slice_index, if◌then◌else◌}
 
 -- the letters and signs of the codes 0 to 31
 abbrev pub letters : List ℕ

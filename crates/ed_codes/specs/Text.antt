@@ -1,5 +1,5 @@
 -- The rows of a tape text, and its faults (comments and spacing are this project's own rule).
-use Rattle.std.specs.Prelude.{◌≡◌, ℕ, ◌==◌, ◌||◌, Bool, true, false, List, [], ◌∷◌, ◌++◌, Option, Some, None, take, drop}
+use Rattle.std.specs.Prelude.{◌≡◌, ℕ, ◌==◌, ◌||◌, Bool, true, false, List, [], ◌∷◌, ◌++◌, Some, None, take, drop}
 use Rattle.std.specs.List.{list_any}
 use Rattle.ed_codes.specs.Spelling.{row_of}
 
@@ -17,7 +17,8 @@ pub data Spells : List ℕ → List ℕ → Type 0 where
   row : (byte code : ℕ) (text rows : List ℕ) → row_of byte ≡ Some code → Spells text rows → Spells (byte ∷ text) (code ∷ rows)
   spacing : (byte : ℕ) (text rows : List ℕ) → is_spacing byte ≡ true → Spells text rows → Spells (byte ∷ text) rows
   -- from a `[` (91) to the next `]`
-  comment : (inside text rows : List ℕ) → has_close inside ≡ false → Spells text rows → Spells (91 ∷ inside ++ 93 ∷ text) rows
+  comment : (inside text rows : List ℕ) → has_close inside ≡ false → Spells text rows
+      → Spells (91 ∷ inside ++ 93 ∷ text) rows
 
 -- the bytes before the place are a list of pieces; the byte stands there, and `after` follows it
 pub record StopsAt (text : List ℕ) (place byte : ℕ) (after : List ℕ) : Type 0 where

@@ -1,7 +1,7 @@
-ghost use Rattle.std.specs.Prelude.{◌≡◌, false, IfSome, IfNone};
-ghost use Rattle.ed_codes.specs.Text.{has_close, is_spacing};
+ghost use Rattle.std.specs.Prelude.{◌≡◌, ◌<◌, ◌==◌, length, IfSome, position};
+ghost use Rattle.ed_codes.specs.Text.{is_spacing};
 ghost use Rattle.ed_codes.specs.Reading.{HasOneReading, reading};
-ghost use Rattle.ed_codes.specs.Answer.{Answers, ClosesAt, ReadsText};
+ghost use Rattle.ed_codes.specs.Answer.{Answers, ReadsText};
 
 use crate::{Code, row_of_byte};
 use std::alloc::Global;
@@ -28,17 +28,12 @@ fn is_spacing(byte: u8) -> bool
     matches!(byte, b' ' | b'\t' | b'\r' | b'\n')
 }
 
-/// The place after the first `]`.
-fn comment_end(text: &[u8]) -> Option<usize>
-    ensures some { IfSome result (ClosesAt text.now) }
-    ensures none { IfNone result (has_close text.now ≡ false) }
+/// How many bytes stand before the first `]`.
+fn comment_length(after: &[u8]) -> Option<usize>
+    ensures place { result ≡ position (λ b. b == 93) after.now }
+    ensures bound { IfSome result (λ n. n < length after.now) }
 {
-    for (place, byte) in text.iter().enumerate() {
-        if *byte == b']' {
-            return Some(place + 1);
-        }
-    }
-    None
+    after.iter().position(|byte| *byte == b']')
 }
 
 /// The rows of a tape text, or its first fault. Spaces, tabs, carriage returns and line feeds stand for nothing, and
@@ -60,8 +55,8 @@ fn rows_of_pieces(alloc: Global, text: &[u8]) -> Result<Vec<Code>, TextFault>
     while place < text.len() {
         let byte = text[place];
         if byte == b'[' {
-            match comment_end(&text[place + 1..]) {
-                Some(count) => place = place + 1 + count,
+            match comment_length(&text[place + 1..]) {
+                Some(length) => place = place + length + 2,
                 None => return Err(TextFault::OpenComment { place }),
             }
         } else if is_spacing(byte) {

@@ -1,0 +1,112 @@
+ghost use Rattle.std.specs.Prelude.{◌≡◌};
+ghost use Rattle.ed_printer.specs.Paper.{bytes_of, printed, shift_after, IsInLatestShift};
+
+use arrayvec::ArrayVec;
+use ed_codes::Code;
+use std::marker::Model;
+
+/// Which of the two characters of a code is printed.
+#[derive(Clone, Copy, Debug, PartialEq, Eq)]
+pub enum Shift {
+    /// Letter shift, set by code 15.
+    Letters,
+    /// Figure shift, set by code 11.
+    Figures,
+}
+
+/// A teleprinter, which is in one of the two shifts.
+#[derive(Clone, Copy, Debug, PartialEq, Eq)]
+pub struct Printer {
+    shift: Shift,
+}
+
+impl Model for Printer {
+    ghost use Rattle.ed_printer.specs.declared.printer.Shift.{Shift};
+
+    ghost Value = { Shift };
+
+    ghost view = { λ p. p.shift };
+
+    ghost inverse = { λ s. record { shift = s } };
+}
+
+/// The character of each code in letter shift: 0 where it prints nothing.
+const LETTERS: &[u8; 32] = b"PQWERTYUIOJ\0SZK\0\0F\rD HNM\nLXGABCV";
+
+/// The character of each code in figure shift: 0 where it prints nothing.
+const FIGURES: &[u8; 32] = b"0123456789\0\0\"+(\0\0$\r; \xA3,.\n)/#-?:=";
+
+/// The character that stands for nothing.
+const NOTHING: u8 = 0;
+
+/// The pound sign, which is the one character of two bytes.
+const POUND: u8 = 0xA3;
+
+impl Shift {
+    /// The character of a code.
+    fn character(self, code: Code) -> u8
+        ensures { bytes_of result ≡ printed self code }
+    {
+        let place = usize::from(code.value());
+        match self {
+            Shift::Letters => LETTERS[place],
+            Shift::Figures => FIGURES[place],
+        }
+    }
+
+    /// The shift after a code.
+    fn after(self, code: Code) -> Shift
+        ensures { result ≡ shift_after self code }
+    {
+        match code.value() {
+            11 => Shift::Figures,
+            15 => Shift::Letters,
+            _ => self,
+        }
+    }
+}
+
+/// The bytes of a character.
+fn bytes_of(character: u8) -> ArrayVec<u8, 2>
+    ensures { result.items ≡ bytes_of character }
+{
+    let mut bytes = ArrayVec::new();
+    match character {
+        NOTHING => {}
+        POUND => {
+            bytes.push(0xC2);
+            bytes.push(0xA3);
+        }
+        _ => bytes.push(character),
+    }
+    bytes
+}
+
+impl Printer {
+    /// A printer at its start, in letter shift.
+    pub fn new() -> Printer
+        ensures { result ≡ Shift.Letters }
+    {
+        Printer {
+            shift: Shift::Letters,
+        }
+    }
+
+    /// Prints a code: the bytes are those of the shift that the printer was in.
+    pub fn strike(&mut self, code: Code) -> ArrayVec<u8, 2>
+        ensures bytes { result.items ≡ printed self.old code }
+        ensures shift { self.new ≡ shift_after self.old code }
+        ensures law { IsInLatestShift }
+    {
+        let character = self.shift.character(code);
+        self.shift = self.shift.after(code);
+        bytes_of(character)
+    }
+
+    /// The shift that the printer is in.
+    pub fn shift(&self) -> Shift
+        ensures { result ≡ self.now }
+    {
+        self.shift
+    }
+}
