@@ -1,0 +1,5 @@
+pub mod State
+pub mod OrderTable
+pub mod Steps
+pub mod Start
+pub mod Sheet

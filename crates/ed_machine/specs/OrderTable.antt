@@ -1,0 +1,117 @@
+-- The order table: what one order does (Wilkes, Wheeler and Gill 1951; that O prints at once, the whole row of F, that X
+-- does nothing, and that a long order with an odd address uses the pair that holds it, are this project's own rules).
+use Rattle.std.specs.Prelude.{ℕ, List, [], ◌∷◌, Option, Some, None, unwrap_or, Bool, true, false, ◌+◌, ◌*◌, ◌/◌, ◌^◌, nat_lt, nat_le}
+use Rattle.ed_words.specs.Words.{function_of, address_of, is_long}
+use Rattle.ed_words.specs.Sizes.{within}
+use Rattle.ed_acc.specs.Arithmetic.{plus71, minus71, plus_product, minus_product, collated, left71, right71}
+use Rattle.ed_store.specs.Cells.{Cells, short_at, long_at, with_short, with_long}
+use Rattle.ed_orders.specs.Kinds.{kind_of_function}
+use Rattle.ed_orders.specs.Places.{places}
+use Rattle.ed_orders.specs.declared.kind.Kind.{Kind}
+use Rattle.ed_orders.specs.declared.kind.Kind.TheVariants.{A, S, H, V, N, T, U, C, R, L, E, G, I, O, F, X, Y, Z}
+use Rattle.ed_machine.specs.State.{State}
+use Rattle.ed_machine.specs.declared.turn.Turn.{Turn}
+use Rattle.ed_machine.specs.declared.turn.Turn.TheVariants.{Went, Printed, Stopped, NoOrder, NoTape}
+
+-- the state after an order, and what the order did
+pub record Obeyed : Type 0 where
+  pub state : State
+  pub turn : Turn
+
+-- the location that an order word names: its address modulo the size
+abbrev pub place_of : State → ℕ → ℕ
+place_of s w = within s.size (address_of w)
+
+-- the 35 digits at a place: the long word of its pair, or its short word at the high end
+abbrev pub read_at : Bool → Cells → ℕ → ℕ
+read_at true c n = long_at c n
+read_at false c n = short_at c n * 2 ^ 18
+
+-- the 35 digits that an order reads
+abbrev pub operand35 : ℕ → State → ℕ
+operand35 w s = read_at (is_long w) s.store (place_of s w)
+
+-- the same at the high end of the accumulator's 71 digits
+abbrev pub operand71 : ℕ → State → ℕ
+operand71 w s = operand35 w s * 2 ^ 36
+
+-- the store with a number written at a place: the first where the order is short, the second where it is long
+abbrev pub written_at : Bool → Cells → ℕ → ℕ → ℕ → Cells
+written_at true c n short long = with_long c n long
+written_at false c n short long = with_short c n short
+
+-- the store after an order that writes
+abbrev pub written : ℕ → State → ℕ → ℕ → Cells
+written w s short long = written_at (is_long w) s.store (place_of s w) short long
+
+-- the location after the counter's
+abbrev pub after : State → ℕ
+after s = within s.size (s.counter + 1)
+
+-- a state with one more order done and the counter at a place
+abbrev pub done_at : ℕ → State → State
+done_at n s = record s { counter = n; orders = s.orders + 1 }
+
+-- an order that goes on at the next location
+abbrev pub went : State → Obeyed
+went s = record { state = done_at (after s) s; turn = Went }
+
+-- an order that jumps to a place where a test holds, and else goes on
+abbrev pub jumped : Bool → ℕ → State → Obeyed
+jumped true n s = record { state = done_at n s; turn = Went }
+jumped false n s = went s
+
+-- an order that prints a code
+abbrev pub printed : ℕ → State → Obeyed
+printed code s = record { state = record (done_at (after s) s) { last = Some code }; turn = Printed code }
+
+-- an order that stops the machine, with the counter past it
+abbrev pub stopped : State → Obeyed
+stopped s = record { state = done_at (after s) s; turn = Stopped }
+
+-- a state that no order leaves
+abbrev pub blocked : Turn → State → Obeyed
+blocked turn s = record { state = s; turn = turn }
+
+-- an order that reads a row of the tape, if there is one
+abbrev pub took_row : List ℕ → ℕ → State → Obeyed
+took_row [] w s = blocked NoTape s
+took_row (row ∷ rows) w s = went (record s { store = written w s row (row * 2 ^ 18); tape = rows })
+
+-- the last printed code, and 0 where nothing was printed
+abbrev pub last_code : State → ℕ
+last_code s = unwrap_or s.last 0
+
+-- the order table
+abbrev pub obey : Kind → ℕ → State → Obeyed
+obey A w s = went (record s { acc = plus71 s.acc (operand71 w s) })
+obey S w s = went (record s { acc = minus71 s.acc (operand71 w s) })
+obey H w s = went (record s { multiplier = operand35 w s })
+obey V w s = went (record s { acc = plus_product s.acc s.multiplier (operand35 w s) })
+obey N w s = went (record s { acc = minus_product s.acc s.multiplier (operand35 w s) })
+obey T w s = went (record s { store = written w s (s.acc / 2 ^ 54) (s.acc / 2 ^ 36); acc = 0 })
+obey U w s = went (record s { store = written w s (s.acc / 2 ^ 54) (s.acc / 2 ^ 36) })
+obey C w s = went (record s { acc = collated s.acc s.multiplier (operand35 w s) })
+obey R w s = went (record s { acc = right71 s.acc (places w) })
+obey L w s = went (record s { acc = left71 s.acc (places w) })
+obey E w s = jumped (nat_lt s.acc (2 ^ 70)) (place_of s w) s
+obey G w s = jumped (nat_le (2 ^ 70) s.acc) (place_of s w) s
+obey I w s = took_row s.tape w s
+obey O w s = printed (operand35 w s / 2 ^ 30) s
+obey F w s = went (record s { store = written w s (last_code s * 4096) (last_code s * 2 ^ 30) })
+obey X w s = went s
+obey Y w s = went (record s { acc = plus71 s.acc (2 ^ 35) })
+obey Z w s = stopped s
+
+-- a word obeyed as the order that it is, if it is one
+abbrev pub obey_word : Option Kind → ℕ → State → Obeyed
+obey_word None w s = blocked (NoOrder (function_of w)) s
+obey_word (Some kind) w s = obey kind w s
+
+-- the word at the counter
+abbrev pub next_word : State → ℕ
+next_word s = short_at s.store s.counter
+
+-- one step: the word at the counter is obeyed
+unfoldable pub step : State → Obeyed
+step s = obey_word (kind_of_function (function_of (next_word s))) (next_word s) s

@@ -1,0 +1,27 @@
+-- The state of the machine (Wilkes, Wheeler and Gill 1951; the last printed code, and the two sizes, are this project's
+-- own rules).
+use Rattle.std.specs.Prelude.{ℕ, List, [], Option, None}
+use Rattle.ed_words.specs.declared.size.Size.{Size}
+use Rattle.ed_store.specs.Cells.{Cells, cleared_cells}
+
+-- everything that a machine is at one moment, between two orders
+pub record State : Type 0 where
+  -- how many locations the orders reach
+  pub size : Size
+  -- the words of 1,024 locations and the sandwich digits of their pairs
+  pub store : Cells
+  -- the accumulator, in units of 2^-70
+  pub acc : ℕ
+  pub multiplier : ℕ
+  -- the place of the next order
+  pub counter : ℕ
+  -- the rows of tape not yet read
+  pub tape : List ℕ
+  -- the last printed code
+  pub last : Option ℕ
+  -- the number of orders done
+  pub orders : ℕ
+
+-- the state of a cleared machine: 0 everywhere, no tape, nothing printed
+abbrev pub cleared : Size → State
+cleared z = record { size = z; store = cleared_cells; acc = 0; multiplier = 0; counter = 0; tape = []; last = None; orders = 0 }

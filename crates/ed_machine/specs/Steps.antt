@@ -1,0 +1,58 @@
+-- Many orders one after the other. A state that no order leaves stays as it is, so a number of steps always leads to a
+-- state; `IsFree` says that each of them was an order obeyed.
+use Rattle.std.specs.Prelude.{◌≡◌, ℕ, zero, suc, ◌+◌, ◌<◌, List, [], ◌∷◌, ◌++◌, Bool, true, false}
+use Rattle.ed_machine.specs.State.{State}
+use Rattle.ed_machine.specs.OrderTable.{step}
+use Rattle.ed_machine.specs.declared.turn.Turn.{Turn}
+use Rattle.ed_machine.specs.declared.turn.Turn.TheVariants.{Went, Printed, Stopped, NoOrder, NoTape}
+
+-- the codes that a turn prints
+abbrev pub codes_of : Turn → List ℕ
+codes_of (Printed code) = code ∷ []
+codes_of Went = []
+codes_of Stopped = []
+codes_of (NoOrder function) = []
+codes_of NoTape = []
+
+-- the stops that a turn is
+abbrev pub stops_of : Turn → ℕ
+stops_of Stopped = 1
+stops_of Went = 0
+stops_of (Printed code) = 0
+stops_of (NoOrder function) = 0
+stops_of NoTape = 0
+
+-- a turn that obeyed an order
+abbrev pub is_obeyed : Turn → Bool
+is_obeyed Went = true
+is_obeyed (Printed code) = true
+is_obeyed Stopped = true
+is_obeyed (NoOrder function) = false
+is_obeyed NoTape = false
+
+-- where a number of orders led: the state, the codes printed on the way, and how many of the orders were stops
+pub record Past : Type 0 where
+  pub state : State
+  pub codes : List ℕ
+  pub stops : ℕ
+
+-- one order more
+abbrev pub next_past : Past → Past
+next_past p = record {
+  state = (step p.state).state;
+  codes = p.codes ++ codes_of (step p.state).turn;
+  stops = p.stops + stops_of (step p.state).turn;
+}
+
+-- where k steps from a state lead
+unfoldable pub past : ℕ → State → Past
+past zero s = record { state = s; codes = []; stops = 0 }
+past (suc k) s = next_past (past k s)
+
+-- the state after k steps
+abbrev pub state_after : ℕ → State → State
+state_after k s = (past k s).state
+
+-- each of the first k steps was an order obeyed
+abbrev pub IsFree : ℕ → State → Type 0
+IsFree k s = (j : ℕ) → j < k → is_obeyed (step (state_after j s)).turn ≡ true

@@ -1,0 +1,14 @@
+/// How a run ended.
+#[derive(Clone, Copy, Debug, PartialEq, Eq)]
+pub enum Ending {
+    /// A Z order was obeyed, and no resume was left.
+    Stopped,
+    /// As many orders were obeyed as the run was allowed.
+    Limit,
+    /// The word at the counter is no order.
+    NoOrder,
+    /// The order at the counter reads the tape, and no row is left.
+    NoTape,
+    /// The order at the counter prints, and the paper has no room left.
+    PaperFull,
+}

@@ -1,0 +1,16 @@
+use ed_codes::Code;
+
+/// What one step did.
+#[derive(Clone, Copy, Debug, PartialEq, Eq)]
+pub enum Turn {
+    /// An order was obeyed that neither prints nor stops.
+    Went,
+    /// An O order was obeyed and printed this code.
+    Printed(Code),
+    /// A Z order was obeyed; the counter stands past it.
+    Stopped,
+    /// The word at the counter is no order: its function. Nothing changed.
+    NoOrder(u8),
+    /// The word at the counter is an I order and no row of tape is left. Nothing changed.
+    NoTape,
+}

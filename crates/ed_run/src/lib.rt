@@ -1,0 +1,85 @@
+//! Runs of the machine onto a paper, order by order.
+//!
+//! The contract is that `run` is the definition's run; it changes the machine by `Machine::step` alone. Stands on
+//! `ed_machine`.
+#![tactic(auto)]
+
+ghost use Rattle.std.specs.Prelude.{◌≡◌, ℕ, ◌+◌, ◌-◌, ◌^◌, ◌≤◌, length, nat_le};
+ghost use Rattle.ed_machine.specs.OrderTable.{obey, step};
+ghost use Rattle.ed_machine.specs.State.{State};
+ghost use Rattle.ed_run.specs.Run.{Leaves, Runs, prints, ran};
+
+use ed_machine::{Ending, Machine, Paper, Turn};
+use ed_orders::{Kind, kind_of};
+
+/// Obeys orders until the run ends, and pushes each printed code onto the paper.
+///
+/// A Z uses up one resume and the run goes on; where none is left the answer is `Stopped`. Else, before each order:
+/// `Limit` where this call obeyed `limit` orders; `NoOrder` and `NoTape` as in `Machine::step`; `PaperFull` where the
+/// order is O and the paper has no room left.
+pub fn run(machine: &mut Machine, limit: u64, resumes: u32, paper: &mut Paper) -> Ending
+    requires { machine.old.orders + limit ≤ 2 ^ 63 }
+    ensures ends { Runs limit resumes machine.old paper.old result machine.new paper.new }
+    ensures ran { Leaves (ran limit resumes (paper.old.room - length paper.old.codes) machine.old) paper.old result machine.new paper.new }
+{
+    run_orders(machine, limit, resumes, paper)
+}
+
+/// Obeys orders until the run ends.
+fn run_orders(machine: &mut Machine, limit: u64, resumes: u32, paper: &mut Paper) -> Ending
+    requires { machine.old.orders + limit ≤ 2 ^ 63 }
+    ensures { Runs limit resumes machine.old paper.old result machine.new paper.new }
+{
+    let mut stops = 0u32;
+    for done in 0..limit {
+        if is_full(paper) && prints_next(machine) {
+            return Ending::PaperFull;
+        }
+        match machine.step() {
+            Turn::Went => {}
+            Turn::Printed(code) => {
+                paper.push(code);
+            }
+            Turn::Stopped => {
+                if stops == resumes {
+                    return Ending::Stopped;
+                }
+                stops += 1;
+            }
+            Turn::NoOrder(_) => return Ending::NoOrder,
+            Turn::NoTape => return Ending::NoTape,
+        }
+    }
+    Ending::Limit
+}
+
+/// Whether the paper has no room left.
+fn is_full(paper: &Paper) -> bool
+    ensures { result ≡ nat_le paper.now.room (length paper.now.codes) }
+{
+    paper.room_left() == 0
+}
+
+/// Whether the word at the counter is an order that prints.
+#[tactic(auto, unfolding(ed_machine::specs::OrderTable::step))]
+fn prints_next(machine: &Machine) -> bool
+    ensures { result ≡ prints (step machine.now).turn }
+{
+    let word = machine.word(machine.counter());
+    match kind_of(word.order().function) {
+        Some(kind) => kind_prints(kind),
+        None => false,
+    }
+}
+
+/// Whether an order of a kind prints.
+fn kind_prints(kind: Kind) -> bool
+    ensures { (w : ℕ) (s : State) → result ≡ prints (obey kind w s).turn }
+{
+    match kind {
+        Kind::O => true,
+        Kind::A | Kind::S | Kind::H | Kind::V | Kind::N | Kind::T | Kind::U | Kind::C | Kind::R =>
+            false,
+        Kind::L | Kind::E | Kind::G | Kind::I | Kind::F | Kind::X | Kind::Y | Kind::Z => false,
+    }
+}
