@@ -3,7 +3,7 @@ use Rattle.std.proofs.Common.{ℕ, ◌<◌, refl, arith, nat_lt}
 use Rattle.std.specs.Prelude.{slice_index}
 use Rattle.std.proofs.lemmas.Bool.Decides.{nat_tests}
 use Rattle.ed_codes.specs.Spelling.{letters}
-use Rattle.ed_orders.proofs.Below.{from_below}
+use Rattle.ed_codes.proofs.Below.{from_below}
 
 pub letter_ascii : (code : ℕ) → code < 32 → slice_index letters code < 128
 letter_ascii code below =

@@ -1,4 +1,3 @@
-pub mod Below
 pub mod Letters
 pub mod Numerals
 pub mod Shifts

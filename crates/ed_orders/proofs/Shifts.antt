@@ -10,7 +10,7 @@ use Rattle.ed_orders.specs.Kinds.{kind_of_function}
 use Rattle.ed_orders.specs.Places.{IsPlaces, places}
 use Rattle.ed_orders.specs.declared.kind.Kind.{Kind}
 use Rattle.ed_orders.specs.declared.kind.Kind.TheVariants.{R, L}
-use Rattle.ed_orders.proofs.Below.{from_below}
+use Rattle.ed_codes.proofs.Below.{from_below}
 
 -- the places of a number that isn't 0 are those that the law describes
 pub places_are : (w : ℕ) → 0 < w → w < 2 ^ 32 → IsPlaces w (places w)
