@@ -1,0 +1,6 @@
+pub mod Lookups
+pub mod Steps
+pub mod Rows
+pub mod Walks
+pub mod Whole
+pub mod Filtered
