@@ -1,0 +1,41 @@
+-- No row costs more than 17 orders.
+use Rattle.std.proofs.Common.{ℕ, ◌+◌, ◌*◌, ◌≤◌, arith, lit≤, Bool, true, false, if◌then◌else◌, List, [], ◌∷◌, length}
+use Rattle.std.proofs.Common.{length-append}
+use Rattle.ed_words.specs.Words.{digit}
+use Rattle.ed_notation.specs.declared.kind.RowKind.{RowKind}
+use Rattle.ed_notation.specs.declared.kind.RowKind.TheVariants.{Digit, Mark, Zed, Kay, Blank, Letter, Other}
+use Rattle.ed_notation.specs.Items.{row_kind, Written, mark_rows, begun_rows, rows_of, spelled, item}
+use Rattle.ed_notation.specs.Fold.{Note, act, aim_of, enters_at, end_cost, cost_of, costs}
+use Rattle.ed_notation.specs.Faults.{Entry, ComesTo}
+
+if_most : (b : Bool) → (if b then 13 else 17) ≤ 17
+if_most true = lit≤ tt
+if_most false = lit≤ tt
+
+end_most : (r : RowKind) (note : Note) → end_cost r note ≤ 17
+end_most Digit note = lit≤ tt
+end_most Mark note = lit≤ tt
+end_most Zed note = lit≤ tt
+end_most Kay note = lit≤ tt
+end_most Blank note = lit≤ tt
+end_most Other note = lit≤ tt
+end_most Letter note = if_most (enters_at (aim_of note.directive))
+
+mark_most : (m : Bool) → 15 * digit m ≤ 17 * length (mark_rows m)
+mark_most true = lit≤ tt
+mark_most false = lit≤ tt
+
+one_most : (note : Note) (w : Written) → cost_of note w ≤ 17 * length (rows_of w)
+one_most note w =
+    let b = w.begun in
+    let last = length-append (begun_rows b) (w.end ∷ []) in
+    omega (arith, end_most (row_kind w.end) note, mark_most b.mark, last, length-append b.digits (mark_rows b.mark))
+
+all_most : (words : List ℕ) (note : Note) (ws : List Written) → costs words note ws ≤ 17 * length (spelled ws)
+all_most words note [] = lit≤ tt
+all_most words note (w ∷ ws) =
+    omega (arith, one_most note w, all_most words (act words note (item w)) ws, length-append (rows_of w) (spelled ws))
+
+pub most : (words : List ℕ) (start : Note) (base : ℕ) (rows : List ℕ) (e : Entry) → ComesTo words start base rows e
+    → e.cost ≤ base + 17 * e.rows
+most words start base rows e c = omega (arith, c.cost_is, c.read_is, all_most words start c.before, one_most e.note c.last)

@@ -1,0 +1,122 @@
+-- The directive is a P, an E or a T at every row that the reader comes to.
+use Rattle.std.proofs.Common.{◌≡◌, ◌≢◌, ℕ, ◌+◌, ◌*◌, ◌<◌, ◌≤◌, refl, arith, Bool, true, false, ◌||◌, nat_eq}
+use Rattle.std.proofs.Common.{nat_lt, nat_le, if◌then◌else◌, List}
+use Rattle.std.proofs.lemmas.Bool.Decides.{nat_tests}
+use Rattle.ed_words.specs.declared.size.Size.{Size}
+use Rattle.ed_words.specs.Sizes.{locations}
+use Rattle.ed_words.proofs.SizeLemmas.{most}
+use Rattle.ed_notation.specs.declared.reader.Part.{Part}
+use Rattle.ed_notation.specs.declared.reader.Taken.{Taken}
+use Rattle.ed_notation.specs.declared.reader.Taken.TheVariants.{Ended, Placed}
+use Rattle.ed_notation.specs.declared.kind.RowKind.{RowKind}
+use Rattle.ed_notation.specs.declared.kind.RowKind.TheVariants.{Digit, Mark, Zed, Kay, Blank, Letter, Other}
+use Rattle.ed_notation.specs.declared.kind.Control.{Control}
+use Rattle.ed_notation.specs.declared.kind.Control.TheVariants.{Directive, ThetaByBlank, ThetaByG, Neither}
+use Rattle.ed_notation.specs.declared.kind.Aim.{Aim}
+use Rattle.ed_notation.specs.declared.kind.Aim.TheVariants.{Places, Enters, Nowhere, Unset}
+use Rattle.ed_notation.specs.Fold.{Note, over, address, control_of, aim_of}
+use Rattle.ed_notation.specs.Openings.{IsDirective}
+use Rattle.ed_notation.specs.Faults.{is_place}
+use Rattle.ed_notation.specs.Reading.{taken, setting_of, kay_sets, zed_sets, letter_taken}
+
+-- what a row does leaves a directive
+abbrev pub KeepsDirective : Note → Taken → Type 0
+KeepsDirective note (Ended s k) = IsDirective s.directive
+KeepsDirective note (Placed at word) = IsDirective (note.directive + 2)
+KeepsDirective note t = Unit {0}
+
+record IsSetting (f : ℕ) : Type 0 where
+  no_1 : f ≢ 1
+  no_2 : f ≢ 2
+  no_4 : f ≢ 4
+  most : f ≤ 5
+
+setting_function : (f : ℕ) → (nat_eq f 0 || (nat_eq f 3 || nat_eq f 5)) ≡ true → IsSetting f
+setting_function f h = record {
+  no_1 = grind (arith, nat_tests);
+  no_2 = grind (arith, nat_tests);
+  no_4 = grind (arith, nat_tests);
+  most = grind (arith, nat_tests);
+}
+
+if_control : (P : Control → Type 0) (b : Bool) (x y : Control) → (b ≡ true → P x) → (b ≡ false → P y) → P (if b then x else y)
+if_control P true x y f g = f refl
+if_control P false x y f g = g refl
+
+sets_directive : (f : ℕ) → control_of f ≡ Directive → IsSetting f
+sets_directive f =
+    let P : Control → Type 0 = λ k. k ≡ Directive → IsSetting f in
+    if_control P (nat_eq f 0 || (nat_eq f 3 || nat_eq f 5)) _ _ (λ h e. setting_function f h) (λ h.
+    if_control P (nat_eq f 16) _ _ (λ h e. cc) (λ h.
+    if_control P (nat_eq f 27) _ _ (λ h e. cc) (λ h e. cc)))
+
+place_directive : (x : ℕ) → is_place x ≡ true → IsDirective x
+place_directive x h = record {
+  no_1 = grind (arith, nat_tests);
+  no_2 = grind (arith, nat_tests);
+  no_4 = grind (arith, nat_tests);
+  most = grind (arith, nat_tests);
+}
+
+le_of : (a b : ℕ) → nat_lt a b ≡ false → b ≤ a
+le_of a b h = grind (arith, nat_tests)
+
+lt_of : (a b : ℕ) → nat_le a b ≡ false → b < a
+lt_of a b h = grind (arith, nat_tests)
+
+module _ (z : Size) (words : List ℕ) (note : Note) (i : Part) (c : ℕ) (d : IsDirective note.directive) where
+  keep_if : (b : Bool) (x y : Taken) → (b ≡ true → KeepsDirective note x) → (b ≡ false → KeepsDirective note y)
+      → KeepsDirective note (if b then x else y)
+  keep_if true x y f g = f refl
+  keep_if false x y f g = g refl
+
+  kay : (k : Control) → control_of i.function ≡ k → KeepsDirective note (kay_sets k (setting_of note) i)
+  kay Directive e =
+      let q = sets_directive i.function e in
+      keep_if (nat_lt 1023 i.number) _ _ (λ h. tt) (λ h.
+      let l = le_of _ _ h in
+      record {
+        no_1 = omega (arith, l, q.no_1);
+        no_2 = omega (arith, l, q.no_2);
+        no_4 = omega (arith, l, q.no_4);
+        most = omega (arith, l, q.most);
+      })
+  kay ThetaByBlank e = keep_if (nat_lt 1023 i.number) _ _ (λ h. tt) (λ h. d)
+  kay ThetaByG e = keep_if (nat_lt 1023 i.number) _ _ (λ h. tt) (λ h. d)
+  kay Neither e = tt
+
+  zed : (k : Control) → KeepsDirective note (zed_sets k (setting_of note) i)
+  zed Directive =
+      keep_if (is_place (4096 * i.function + 2 * i.number + note.theta)) _ _ (λ h. place_directive _ h) (λ h. tt)
+  zed ThetaByBlank = keep_if (nat_le 65536 (2 * i.number + note.theta)) _ _ (λ h. tt) (λ h. d)
+  zed ThetaByG = tt
+  zed Neither = tt
+
+  letter : (k : Aim) (word : ℕ) → KeepsDirective note (letter_taken z k (setting_of note) word)
+  letter Places word =
+      keep_if (nat_lt (address note.directive) 44) _ _ (λ h. tt) (λ h.
+      keep_if (nat_le (locations z) (address note.directive)) _ _ (λ g. tt) (λ g.
+      let l = lt_of _ _ g in
+      let m = most z in
+      record {
+        no_1 = omega (arith, l, m, d.no_1);
+        no_2 = omega (arith, l, m, d.no_2);
+        no_4 = omega (arith, l, m, d.no_4);
+        most = omega (arith, l, m, d.most);
+      }))
+  letter Enters word =
+      keep_if (nat_le (locations z) (address note.directive)) _ _ (λ h. tt) (λ h.
+      keep_if (nat_le 65536 word) _ _ (λ h. tt) (λ h.
+      keep_if (nat_lt (address note.directive) 44) _ _ (λ h. tt) (λ h. tt)))
+  letter Nowhere word = tt
+  letter Unset word = tt
+
+  -- whatever a row does
+  pub keeps : (r : RowKind) → KeepsDirective note (taken z r (over note.placed words) (setting_of note) i c)
+  keeps Digit = keep_if i.mark _ _ (λ h. tt) (λ h. keep_if (nat_lt 32767 (10 * i.number + c)) _ _ (λ h. tt) (λ h. tt))
+  keeps Mark = keep_if i.mark _ _ (λ h. tt) (λ h. tt)
+  keeps Zed = keep_if i.mark _ _ (λ h. tt) (λ h. zed (control_of i.function))
+  keeps Kay = keep_if i.mark _ _ (λ h. tt) (λ h. kay (control_of i.function) refl)
+  keeps Blank = keep_if i.blank _ _ (λ h. d) (λ h. tt)
+  keeps Letter = letter (aim_of note.directive) _
+  keeps Other = tt

@@ -1,0 +1,15 @@
+pub mod Rows
+pub mod Directives
+pub mod Least
+pub mod Follow
+pub mod Passes
+pub mod Tells
+pub mod Laws
+pub mod Loop
+pub mod Costs
+pub mod Contents
+pub mod Answered
+pub mod Unique
+pub mod Canonical
+pub mod Texts
+pub mod Worked

@@ -1,0 +1,104 @@
+-- The text of items spells their rows.
+use Rattle.std.proofs.Common.{◌≡◌, ℕ, ◌+◌, ◌-◌, ◌<◌, ◌≤◌, refl, sym, ap, ◌∙◌, arith, lit<, Bool, true, false, ◌&&◌, nat_eq}
+use Rattle.std.proofs.Common.{nat_lt, nat_le, if◌then◌else◌, List, [], ◌∷◌, ◌++◌, length, drop}
+use Rattle.std.specs.Prelude.{Some}
+use Rattle.std.proofs.lemmas.Bool.Decides.{nat_tests}
+use Rattle.std.proofs.lemmas.List.{append-nil, drop_all}
+use Rattle.ed_codes.specs.Spelling.{byte_of, row_of}
+use Rattle.ed_codes.specs.Text.{Spells, none, row, spacing}
+use Rattle.ed_codes.specs.Reading.{reading, rows}
+use Rattle.ed_codes.proofs.Spellings.{letter_back}
+use Rattle.ed_codes.proofs.Pieces.{spells_append}
+use Rattle.ed_codes.proofs.Readings.{has_one_reading}
+use Rattle.ed_notation.specs.declared.item.Item.{Item}
+use Rattle.ed_notation.specs.declared.kind.RowKind.{RowKind}
+use Rattle.ed_notation.specs.Items.{row_kind, Begun, Written, mark_rows, begun_rows, rows_of, spelled, AreDigits, IsWritten, ends}
+use Rattle.ed_notation.specs.Spellings.{AreWritten, canonicals, line_from, text_of}
+
+-- ---- bytes
+
+digit_back : (code : ℕ) → code < 10 → row_of (48 + code) ≡ Some code
+digit_back code h =
+    let a : nat_le 48 (48 + code) ≡ true = grind (arith, nat_tests) in
+    let b : nat_le (48 + code) 57 ≡ true = grind (arith, nat_tests) in
+    let c : 48 + code - 48 ≡ code = omega arith in
+    rw (a, b) (ap Some c)
+
+lt_of : (a b : ℕ) → nat_lt a b ≡ true → a < b
+lt_of a b h = grind (arith, nat_tests)
+
+as_digit_back : (code : ℕ) (t : Bool) → nat_lt code 10 ≡ t → code < 32 → row_of (byte_of code true) ≡ Some code
+as_digit_back code true e h = rw e (digit_back code (lt_of _ _ e))
+as_digit_back code false e h = rw e (letter_back code h)
+
+-- the byte of a code spells it
+byte_back : (code : ℕ) (as_digit : Bool) → code < 32 → row_of (byte_of code as_digit) ≡ Some code
+byte_back code true h = as_digit_back code (nat_lt code 10) refl h
+byte_back code false h = letter_back code h
+
+-- ---- rows are codes
+
+abbrev AreCodes : List ℕ → Type 0
+AreCodes [] = Unit {0}
+AreCodes (c ∷ cs) = (c < 32) × AreCodes cs
+
+codes_append : (xs ys : List ℕ) → AreCodes xs → AreCodes ys → AreCodes (xs ++ ys)
+codes_append [] ys h k = k
+codes_append (x ∷ xs) ys h k = (h.0, codes_append xs ys h.1 k)
+
+digit_codes : (ds : List ℕ) → AreDigits ds → AreCodes ds
+digit_codes [] h = tt
+digit_codes (d ∷ ds) h = let l = h.0 in (omega (arith, l), digit_codes ds h.1)
+
+mark_codes : (m : Bool) → AreCodes (mark_rows m)
+mark_codes true = (lit< tt, tt)
+mark_codes false = tt
+
+if_ends : (P : RowKind → Type 0) (b : Bool) (x y : RowKind) → (b ≡ true → P x) → (b ≡ false → P y) → P (if b then x else y)
+if_ends P true x y f g = f refl
+if_ends P false x y f g = g refl
+
+eq_of : (a b : ℕ) → nat_eq a b ≡ true → a ≡ b
+eq_of a b h = grind (arith, nat_tests)
+
+letter_low : (c : ℕ) → (nat_le 17 c && nat_lt c 32) ≡ true → c < 32
+letter_low c h = grind (arith, nat_tests)
+
+-- an ending row is a code
+end_code : (b : Begun) (c : ℕ) → ends (row_kind c) b ≡ true → c < 32
+end_code b c =
+    let P : RowKind → Type 0 = λ r. ends r b ≡ true → c < 32 in
+    if_ends P (nat_lt c 10) _ _ (λ h e. cc) (λ h.
+    if_ends P (nat_eq c 11) _ _ (λ h e. cc) (λ h.
+    if_ends P (nat_eq c 13) _ _ (λ h e. omega (arith, eq_of c 13 h)) (λ h.
+    if_ends P (nat_eq c 14) _ _ (λ h e. omega (arith, eq_of c 14 h)) (λ h.
+    if_ends P (nat_eq c 16) _ _ (λ h e. omega (arith, eq_of c 16 h)) (λ h.
+    if_ends P (nat_le 17 c && nat_lt c 32) _ _ (λ h e. letter_low c h) (λ h e. cc))))))
+
+row_codes : (w : Written) → IsWritten w → AreCodes (rows_of w)
+row_codes w good =
+    let b = w.begun in
+    let inner = codes_append b.digits (mark_rows b.mark) (digit_codes b.digits good.begun.digits) (mark_codes b.mark) in
+    codes_append (begun_rows b) (w.end ∷ []) (good.begun.function, inner) (end_code b w.end good.ended, tt)
+
+-- ---- the text
+
+line_spells : (as_digit : Bool) (cs : List ℕ) → AreCodes cs → Spells (line_from as_digit cs) cs
+line_spells as_digit [] h = spacing 10 [] [] refl none
+line_spells as_digit (c ∷ cs) h =
+    row (byte_of c as_digit) c (line_from true cs) cs (byte_back c as_digit h.0) (line_spells true cs h.1)
+
+text_spells : (ws : List Written) → AreWritten ws → Spells (text_of ws) (spelled ws)
+text_spells [] h = none
+text_spells (w ∷ ws) h =
+    spells_append (line_from false (rows_of w)) (rows_of w) (text_of ws) (spelled ws)
+    (line_spells false (rows_of w) (row_codes w h.0)) (text_spells ws h.1)
+
+pub text_reads : (ws : List Written) → AreWritten ws → reading (text_of ws) ≡ rows (spelled ws)
+text_reads ws h = has_one_reading.spelled (text_of ws) (spelled ws) (text_spells ws h)
+
+-- behind the last line
+pub text_end : (is : List Item) (text : List ℕ) (k : ℕ) → length is ≤ k
+    → text ++ text_of (canonicals (drop k is)) ≡ text_of (canonicals is) → text ≡ text_of (canonicals is)
+text_end is text k l h =
+    sym (append-nil text) ∙ ap (λ x. text ++ text_of (canonicals x)) (sym (drop_all k is l)) ∙ h

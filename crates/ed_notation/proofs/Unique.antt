@@ -1,0 +1,113 @@
+-- No spelling of an item begins another one's.
+use Rattle.std.proofs.Common.{◌≡◌, ℕ, ◌≤◌, refl, sym, ap, ◌∙◌, arith, Bool, true, false, ◌&&◌, nat_eq, nat_lt}
+use Rattle.std.proofs.Common.{nat_le, if◌then◌else◌, List, [], ◌∷◌, ◌++◌, append_assoc}
+use Rattle.std.proofs.lemmas.Bool.Decides.{nat_tests}
+use Rattle.std.proofs.lemmas.List.{append-nil}
+use Rattle.ed_notation.specs.declared.item.Item.{Item}
+use Rattle.ed_notation.specs.declared.kind.RowKind.{RowKind}
+use Rattle.ed_notation.specs.Items.{row_kind, Begun, Written, mark_rows, begun_rows, rows_of, spelled, AreDigits, IsWritten}
+use Rattle.ed_notation.specs.Items.{ends, item, items}
+use Rattle.ed_notation.specs.Spellings.{AreWritten, SpellsAll, NoSpellingBeginsAnother}
+
+if_ends : (P : RowKind → Type 0) (b : Bool) (x y : RowKind) → (b ≡ true → P x) → (b ≡ false → P y) → P (if b then x else y)
+if_ends P true x y f g = f refl
+if_ends P false x y f g = g refl
+
+eq_of : (a b : ℕ) → nat_eq a b ≡ true → a ≡ b
+eq_of a b h = grind (arith, nat_tests)
+
+letter_high : (c : ℕ) → (nat_le 17 c && nat_lt c 32) ≡ true → 17 ≤ c
+letter_high c h = grind (arith, nat_tests)
+
+-- an ending row is 13 at least
+ends_high : (b : Begun) (c : ℕ) → ends (row_kind c) b ≡ true → 13 ≤ c
+ends_high b c =
+    let P : RowKind → Type 0 = λ r. ends r b ≡ true → 13 ≤ c in
+    if_ends P (nat_lt c 10) _ _ (λ h e. cc) (λ h.
+    if_ends P (nat_eq c 11) _ _ (λ h e. cc) (λ h.
+    if_ends P (nat_eq c 13) _ _ (λ h e. omega (arith, eq_of c 13 h)) (λ h.
+    if_ends P (nat_eq c 14) _ _ (λ h e. omega (arith, eq_of c 14 h)) (λ h.
+    if_ends P (nat_eq c 16) _ _ (λ h e. omega (arith, eq_of c 16 h)) (λ h.
+    if_ends P (nat_le 17 c && nat_lt c 32) _ _ (λ h e. omega (arith, letter_high c h)) (λ h e. cc))))))
+
+head_same : (a b : ℕ) (xs ys : List ℕ) → a ∷ xs ≡ b ∷ ys → a ≡ b
+head_same a b xs ys e = cc
+
+tail_same : (a b : ℕ) (xs ys : List ℕ) → a ∷ xs ≡ b ∷ ys → xs ≡ ys
+tail_same a b xs ys e = cc
+
+record Same (ds ds' : List ℕ) (m m' : Bool) (e e' : ℕ) (a a' : List ℕ) : Type 0 where
+  digits : ds ≡ ds'
+  mark : m ≡ m'
+  end : e ≡ e'
+  rest : a ≡ a'
+
+-- the rows behind a function row
+tails : (ds ds' : List ℕ) (m m' : Bool) (e e' : ℕ) (a a' : List ℕ) → AreDigits ds → AreDigits ds' → 13 ≤ e → 13 ≤ e'
+    → ds ++ (mark_rows m ++ (e ∷ a)) ≡ ds' ++ (mark_rows m' ++ (e' ∷ a')) → Same ds ds' m m' e e' a a'
+tails [] [] true true e e' a a' p q h k x =
+    let t = tail_same _ _ _ _ x in
+    record { digits = refl; mark = refl; end = head_same _ _ _ _ t; rest = tail_same _ _ _ _ t }
+tails [] [] true false e e' a a' p q h k x = absurd (omega (arith, k, head_same _ _ _ _ x))
+tails [] [] false true e e' a a' p q h k x = absurd (omega (arith, h, head_same _ _ _ _ x))
+tails [] [] false false e e' a a' p q h k x =
+    record { digits = refl; mark = refl; end = head_same _ _ _ _ x; rest = tail_same _ _ _ _ x }
+tails [] (d ∷ ds') true m' e e' a a' p q h k x = absurd (omega (arith, q.0, head_same _ _ _ _ x))
+tails [] (d ∷ ds') false m' e e' a a' p q h k x = absurd (omega (arith, q.0, h, head_same _ _ _ _ x))
+tails (d ∷ ds) [] m true e e' a a' p q h k x = absurd (omega (arith, p.0, head_same _ _ _ _ x))
+tails (d ∷ ds) [] m false e e' a a' p q h k x = absurd (omega (arith, p.0, k, head_same _ _ _ _ x))
+tails (d ∷ ds) (d' ∷ ds') m m' e e' a a' p q h k x =
+    let r = tails ds ds' m m' e e' a a' p.1 q.1 h k (tail_same _ _ _ _ x) in
+    let y = head_same _ _ _ _ x in
+    let z = r.digits in
+    record { digits = cc; mark = r.mark; end = r.end; rest = r.rest }
+
+record SameItem (v w : Written) (a b : List ℕ) : Type 0 where
+  item : v ≡ w
+  rest : a ≡ b
+
+apart : (w : Written) (a : List ℕ)
+    → rows_of w ++ a ≡ w.begun.function ∷ (w.begun.digits ++ (mark_rows w.begun.mark ++ (w.end ∷ a)))
+apart w a =
+    append_assoc (begun_rows w.begun) (w.end ∷ []) a
+    ∙ ap (λ x. w.begun.function ∷ x) (append_assoc w.begun.digits (mark_rows w.begun.mark) (w.end ∷ a))
+
+-- the item that the first rows spell is one item
+one_item : (v w : Written) (a b : List ℕ) → IsWritten v → IsWritten w → rows_of v ++ a ≡ rows_of w ++ b → SameItem v w a b
+one_item v w a b p q e =
+    let x = sym (apart v a) ∙ e ∙ apart w b in
+    let f = head_same _ _ _ _ x in
+    let h = ends_high v.begun v.end p.ended in
+    let k = ends_high w.begun w.end q.ended in
+    let r = tails v.begun.digits w.begun.digits v.begun.mark w.begun.mark v.end w.end a b p.begun.digits q.begun.digits h k
+    (tail_same _ _ _ _ x) in
+    record {
+      item = λ i. record { begun = record { function = f i; digits = r.digits i; mark = r.mark i }; end = r.end i };
+      rest = r.rest;
+    }
+
+-- the law
+pub none_begins : NoSpellingBeginsAnother
+none_begins i j rows more p q =
+    let e = ap (λ x. x ++ more) p.rows_are ∙ sym q.rows_are ∙ sym (append-nil (rows_of q.written)) in
+    let r = one_item p.written q.written more [] p.good q.good e in
+    (sym p.item_is ∙ ap item r.item ∙ q.item_is, r.rest)
+
+none_empty : (w : Written) (xs : List ℕ) → (let x : List ℕ = [] in x) ≡ rows_of w ++ xs → ⊥
+none_empty w xs e = cc
+
+one_list : (vs ws : List Written) → AreWritten vs → AreWritten ws → spelled vs ≡ spelled ws → vs ≡ ws
+one_list [] [] p q e = refl
+one_list [] (w ∷ ws) p q e = absurd (none_empty w (spelled ws) e)
+one_list (v ∷ vs) [] p q e = absurd (none_empty v (spelled vs) (sym e))
+one_list (v ∷ vs) (w ∷ ws) p q e =
+    let r = one_item v w (spelled vs) (spelled ws) p.0 q.0 e in
+    let x = r.item in
+    let y = one_list vs ws p.1 q.1 r.rest in
+    cc
+
+-- the rows spell no other list of items
+pub no_other : (is js : List Item) (rows : List ℕ) → SpellsAll is rows → SpellsAll js rows → is ≡ js
+no_other is js rows p q =
+    let e = one_list p.written q.written p.good q.good (p.rows_are ∙ sym q.rows_are) in
+    sym p.items_are ∙ ap items e ∙ q.items_are

@@ -1,0 +1,67 @@
+-- What a check answers.
+use Rattle.std.specs.Prelude.{ℕ, ◌≡◌, ◌<◌, Bool, true, false, List, [], ◌∷◌, slice_index}
+use Rattle.std.specs.Prelude.{slice_set, replicate, Result, Ok, Err, length, unwrap_or}
+use Rattle.ed_words.specs.declared.size.Size.{Size}
+use Rattle.ed_notation.specs.declared.reader.Reached.{Reached}
+use Rattle.ed_notation.specs.declared.cause.TapeFault.{TapeFault}
+use Rattle.ed_notation.specs.declared.cause.TapeFault.TheVariants.{At, Memory}
+use Rattle.ed_notation.specs.Fold.{Note, placed_at, over}
+use Rattle.ed_notation.specs.Openings.{opening_with}
+use Rattle.ed_notation.specs.Faults.{Entry, IsFault, WellFormed, ComesTo}
+use Rattle.ed_notation.specs.Reports.{Report, word_in}
+
+-- the answer for a well-formed tape: all that the fold of its items tells
+pub record Accepts (z : Size) (words : List ℕ) (start : Note) (base : ℕ) (rows : List ℕ) (r : Report) : Type 0 where
+  pub well : WellFormed z words start rows
+  pub entry : Entry
+  pub comes : ComesTo words start base rows entry
+  pub entry_is : r.entry ≡ entry.at
+  pub orders_are : r.orders ≡ entry.cost
+  pub rows_are : r.rows ≡ entry.rows
+  pub theta_is : r.theta ≡ entry.note.theta
+  pub map_is : (a : ℕ) → a < 1024 → word_in r a ≡ placed_at entry.note.placed a
+
+-- the answer is that for a well-formed tape, or the fault, or that no memory was found
+abbrev pub Answers : Size → List ℕ → Note → ℕ → List ℕ → Result Report TapeFault → Type 0
+Answers z words start base rows (Ok r) = Accepts z words start base rows r
+Answers z words start base rows (Err (At row cause)) = IsFault z words start rows row cause
+Answers z words start base rows (Err Memory) = Unit {0}
+
+-- where words were placed
+abbrev pub marked : List (ℕ × ℕ) → List Bool
+marked [] = replicate 1024 false
+marked (p ∷ placed) = slice_set (marked placed) p.0 true
+
+-- the places are locations
+abbrev pub ArePlaces : List (ℕ × ℕ) → Type 0
+ArePlaces [] = Unit {0}
+ArePlaces (p ∷ placed) = (p.0 < 1024) × ArePlaces placed
+
+-- the content of a location is the word that was placed there, and else the store's
+abbrev pub ContentIsMapOrStore : Type 0
+ContentIsMapOrStore =
+    (words : List ℕ) → length words ≡ 1024 → (placed : List (ℕ × ℕ)) (a : ℕ) → ArePlaces placed
+    → slice_index (over placed words) a ≡ unwrap_or (placed_at placed a) (slice_index words a)
+
+-- what the reading of a well-formed tape leaves: the contents of all locations, and where words were placed
+pub record Arrives (z : Size) (words : List ℕ) (start : Note) (base : ℕ) (rows : List ℕ) (r : Reached)
+    (contents : List ℕ) (marks : List Bool) : Type 0 where
+  pub well : WellFormed z words start rows
+  pub entry : Entry
+  pub comes : ComesTo words start base rows entry
+  pub entry_is : r.entry ≡ entry.at
+  pub orders_are : r.orders ≡ entry.cost
+  pub rows_are : r.rows ≡ entry.rows
+  pub theta_is : r.theta ≡ entry.note.theta
+  pub contents_are : contents ≡ over entry.note.placed words
+  pub marks_are : marks ≡ marked entry.note.placed
+  pub places : ArePlaces entry.note.placed
+  pub locations_are : length words ≡ 1024
+
+-- the answer of a reading over a copy of the store, with what it leaves there
+abbrev pub Reads : Size → List ℕ → ℕ → ℕ → List ℕ → Result Reached TapeFault → List ℕ → List Bool → Type 0
+Reads z words directive base rows (Ok r) contents marks =
+    Arrives z words (opening_with directive words) base rows r contents marks
+Reads z words directive base rows (Err (At row cause)) contents marks =
+    IsFault z words (opening_with directive words) rows row cause
+Reads z words directive base rows (Err Memory) contents marks = ⊥

@@ -1,0 +1,167 @@
+-- Where a tape is well formed, and where and what its fault is (this project's own rules: what the Initial Orders would
+-- do with such a tape is no notation).
+use Rattle.std.specs.Prelude.{ℕ, ◌≡◌, ◌⊎◌, ◌+◌, ◌*◌, ◌%◌, ◌<◌, ◌≤◌, Bool, true, false, ◌&&◌, ◌||◌, not, nat_eq, nat_lt, nat_le}
+use Rattle.std.specs.Prelude.{Option, Some, None, List, [], ◌∷◌, ◌++◌, length}
+use Rattle.ed_words.specs.declared.size.Size.{Size}
+use Rattle.ed_words.specs.Sizes.{locations}
+use Rattle.ed_notation.specs.declared.item.Item.{Item}
+use Rattle.ed_notation.specs.declared.cause.TapeCause.{TapeCause}
+use Rattle.ed_notation.specs.declared.cause.TapeCause.TheVariants.{EndOfTape, BadRow, NumberTooLarge, AfterMark, BadControl}
+use Rattle.ed_notation.specs.declared.cause.TapeCause.TheVariants.{LoaderStore, StoreEnd, NoPlace, EntryNegative, EntryInLoader}
+use Rattle.ed_notation.specs.declared.kind.RowKind.{RowKind}
+use Rattle.ed_notation.specs.declared.kind.RowKind.TheVariants.{Digit, Mark, Zed, Kay, Blank, Letter, Other}
+use Rattle.ed_notation.specs.declared.kind.Control.{Control}
+use Rattle.ed_notation.specs.declared.kind.Control.TheVariants.{Directive, ThetaByBlank, ThetaByG, Neither}
+use Rattle.ed_notation.specs.declared.kind.Aim.{Aim}
+use Rattle.ed_notation.specs.declared.kind.Aim.TheVariants.{Places, Nowhere}
+use Rattle.ed_notation.specs.Items.{row_kind, Begun, Written, number, begun_rows, rows_of, spelled, IsBegun, IsWritten}
+use Rattle.ed_notation.specs.Items.{is_blank, item, item_of, items}
+use Rattle.ed_notation.specs.Fold.{Note, item_word, address, control_of, aim_of, enters_at, act, is_entry, fold, costs, cost_of}
+
+-- the numbers of the rules; of two rules broken at one row the less is the fault
+abbrev pub number_of : TapeCause → ℕ
+number_of EndOfTape = 1
+number_of BadRow = 2
+number_of NumberTooLarge = 3
+number_of AfterMark = 4
+number_of BadControl = 5
+number_of LoaderStore = 6
+number_of StoreEnd = 7
+number_of NoPlace = 8
+number_of EntryNegative = 9
+number_of EntryInLoader = 10
+
+-- an order P, E or T with no length digit and an address below 1024
+abbrev pub is_place : ℕ → Bool
+is_place x =
+    nat_eq (x % 2) 0 && (nat_lt x 2048 || ((nat_le 12288 x && nat_lt x 14336) || (nat_le 20480 x && nat_lt x 22528)))
+
+-- whether K may not end an item of this function
+abbrev pub bad_kay : Control → Bool
+bad_kay Neither = true
+bad_kay control = false
+
+-- whether Z may not end an item of this function
+abbrev pub bad_zed : Control → Bool
+bad_zed Neither = true
+bad_zed ThetaByG = true
+bad_zed control = false
+
+-- whether what Z would set goes past the store: a directive that is no place, or a sum for θ of 65536 or more
+abbrev pub past_zed : Control → Note → Item → Bool
+past_zed Directive note i = not (is_place (4096 * i.function + 2 * i.number + note.theta))
+past_zed ThetaByBlank note i = nat_le 65536 (2 * i.number + note.theta)
+past_zed control note i = false
+
+-- whether a code letter places a word
+abbrev pub places_at : Aim → Bool
+places_at Places = true
+places_at aim = false
+
+-- whether a code letter has no place to go to, under a P directive
+abbrev pub is_nowhere : Aim → Bool
+is_nowhere Nowhere = true
+is_nowhere aim = false
+
+-- whether the row c, of this kind, breaks the rule behind the rows of b: one line for each case of a rule
+abbrev pub breaks : TapeCause → RowKind → Size → List ℕ → Note → Begun → ℕ → Bool
+breaks BadRow Other z words note b c = true
+breaks BadRow Blank z words note b c = not (is_blank b)
+breaks NumberTooLarge Digit z words note b c = not b.mark && nat_lt 32767 (10 * number 0 b.digits + c)
+breaks AfterMark Digit z words note b c = b.mark
+breaks AfterMark Mark z words note b c = b.mark
+breaks BadControl Kay z words note b c = b.mark || bad_kay (control_of b.function)
+breaks BadControl Zed z words note b c = b.mark || bad_zed (control_of b.function)
+breaks LoaderStore Letter z words note b c = places_at (aim_of note.directive) && nat_lt (address note.directive) 44
+breaks StoreEnd Letter z words note b c =
+    (places_at (aim_of note.directive) || enters_at (aim_of note.directive)) && nat_le (locations z) (address note.directive)
+breaks StoreEnd Kay z words note b c = nat_lt 1023 (number 0 b.digits)
+breaks StoreEnd Zed z words note b c = past_zed (control_of b.function) note (item_of b c)
+breaks NoPlace Letter z words note b c = is_nowhere (aim_of note.directive)
+breaks EntryNegative Letter z words note b c =
+    enters_at (aim_of note.directive) && nat_le 65536 (item_word words note (item_of b c))
+breaks EntryInLoader Letter z words note b c = enters_at (aim_of note.directive) && nat_lt (address note.directive) 44
+breaks cause kind z words note b c = false
+
+-- whether the rule is the first one, that the rows go on
+abbrev pub is_end_of_tape : TapeCause → Bool
+is_end_of_tape EndOfTape = true
+is_end_of_tape cause = false
+
+-- whether the rule is the second one, on rows that stand in no item
+abbrev pub is_bad_row : TapeCause → Bool
+is_bad_row BadRow = true
+is_bad_row cause = false
+
+-- whether the rule is broken where so much of an item has been read and these rows are left
+abbrev pub broken : Size → List ℕ → Note → Option Begun → List ℕ → TapeCause → Bool
+broken z words note part [] cause = is_end_of_tape cause
+broken z words note None (c ∷ rest) cause = is_bad_row cause && not (nat_lt c 32)
+broken z words note (Some b) (c ∷ rest) cause = breaks cause (row_kind c) z words note b c
+
+-- whole items one after the other, none of them an entry item
+abbrev pub AreRead : List ℕ → Note → List Written → Type 0
+AreRead words note [] = Unit {0}
+AreRead words note (w ∷ ws) = IsWritten w × (is_entry note (item w) ≡ false) × AreRead words (act words note (item w)) ws
+
+-- the rows of a part of an item, none between two items
+abbrev pub part_rows : Option Begun → List ℕ
+part_rows None = []
+part_rows (Some b) = begun_rows b
+
+-- a part of an item is so far without a fault
+abbrev pub IsPart : Option Begun → Type 0
+IsPart None = Unit {0}
+IsPart (Some b) = IsBegun b
+
+-- a row as it is read: behind whole items, none of them an entry item, and a part of its own item
+pub record Stands (words : List ℕ) (start : Note) (rows : List ℕ) (row : ℕ) : Type 0 where
+  pub before : List Written
+  pub part : Option Begun
+  pub rest : List ℕ
+  pub are_read : AreRead words start before
+  pub is_part : IsPart part
+  pub rows_are : rows ≡ spelled before ++ (part_rows part ++ rest)
+  pub row_is : row ≡ length (spelled before) + length (part_rows part)
+
+-- the tape breaks the rule at the row
+pub record Breaks (z : Size) (words : List ℕ) (start : Note) (rows : List ℕ) (row : ℕ) (cause : TapeCause) : Type 0 where
+  pub stands : Stands words start rows row
+  pub breaks : broken z words (fold words start (items stands.before)) stands.part stands.rest cause ≡ true
+
+-- the fault of a tape: the least row at which a rule is broken, and there the rule with the least number
+pub record IsFault (z : Size) (words : List ℕ) (start : Note) (rows : List ℕ) (row : ℕ) (cause : TapeCause) : Type 0 where
+  pub is : Breaks z words start rows row cause
+  pub least : (r : ℕ) (other : TapeCause) → Breaks z words start rows r other
+      → (row < r) ⊎ ((row ≡ r) × (number_of cause ≤ number_of other))
+
+-- a tape is well formed: no rule is broken at any row
+abbrev pub WellFormed : Size → List ℕ → Note → List ℕ → Type 0
+WellFormed z words start rows = (row : ℕ) (cause : TapeCause) → Breaks z words start rows row cause → ⊥
+
+-- the entry that a tape comes to: its address, the entry item and its word, the cost in orders and the rows read up to
+-- it, the state of the notation there, and the rows that are left
+pub record Entry : Type 0 where
+  pub at : ℕ
+  pub word : ℕ
+  pub cost : ℕ
+  pub rows : ℕ
+  pub note : Note
+  pub last : Item
+  pub rest : List ℕ
+
+-- the first rows of the tape spell items of which the last alone is an entry item, and the entry is what their fold
+-- tells; `base` is the cost before the first row
+pub record ComesTo (words : List ℕ) (start : Note) (base : ℕ) (rows : List ℕ) (e : Entry) : Type 0 where
+  pub before : List Written
+  pub last : Written
+  pub are_read : AreRead words start before
+  pub is_written : IsWritten last
+  pub note_is : e.note ≡ fold words start (items before)
+  pub is_entry : is_entry e.note (item last) ≡ true
+  pub rows_are : rows ≡ spelled before ++ (rows_of last ++ e.rest)
+  pub last_is : e.last ≡ item last
+  pub at_is : e.at ≡ address e.note.directive
+  pub word_is : e.word ≡ item_word words e.note (item last)
+  pub cost_is : e.cost ≡ base + costs words start before + cost_of e.note last
+  pub read_is : e.rows ≡ length (spelled before) + length (rows_of last)

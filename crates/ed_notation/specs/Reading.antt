@@ -1,0 +1,182 @@
+-- The reading of a tape row by row: the plain program beside the rules over items. That both say the same of every tape
+-- is `ReadingAlwaysIsRules`, at the end, which the contract of `check` has.
+use Rattle.std.specs.Prelude.{ℕ, ◌≡◌, ◌⊎◌, ◌+◌, ◌*◌, ◌%◌, ◌^◌, true, false, nat_eq, nat_lt, nat_le, ◌<◌, ◌≤◌}
+use Rattle.std.specs.Prelude.{if◌then◌else◌, Option, Some, None, List, [], ◌∷◌}
+use Rattle.ed_words.specs.declared.size.Size.{Size}
+use Rattle.ed_words.specs.Sizes.{locations}
+use Rattle.ed_notation.specs.declared.cause.TapeCause.{TapeCause}
+use Rattle.ed_notation.specs.declared.cause.TapeCause.TheVariants.{EndOfTape, BadRow, NumberTooLarge, AfterMark, BadControl}
+use Rattle.ed_notation.specs.declared.cause.TapeCause.TheVariants.{LoaderStore, StoreEnd, NoPlace, EntryNegative, EntryInLoader}
+use Rattle.ed_notation.specs.declared.kind.RowKind.{RowKind}
+use Rattle.ed_notation.specs.declared.kind.RowKind.TheVariants.{Digit, Mark, Zed, Kay, Blank, Letter, Other}
+use Rattle.ed_notation.specs.declared.kind.Control.{Control}
+use Rattle.ed_notation.specs.declared.kind.Control.TheVariants.{Directive, ThetaByBlank, Neither}
+use Rattle.ed_notation.specs.declared.kind.Aim.{Aim}
+use Rattle.ed_notation.specs.declared.kind.Aim.TheVariants.{Places, Enters}
+use Rattle.ed_notation.specs.declared.reader.Setting.{Setting}
+use Rattle.ed_notation.specs.declared.reader.Part.{Part}
+use Rattle.ed_notation.specs.declared.reader.Taken.{Taken}
+use Rattle.ed_notation.specs.declared.reader.Taken.TheVariants.{Refused, Longer, Ended, Placed, Entered}
+use Rattle.ed_notation.specs.Items.{row_kind}
+use Rattle.ed_notation.specs.Fold.{Note, over, value_of, word_with, address, control_of, aim_of}
+use Rattle.ed_notation.specs.Openings.{IsDirective}
+use Rattle.ed_notation.specs.Faults.{is_place, Entry, IsFault, WellFormed, ComesTo}
+
+-- a digit row
+abbrev pub digit_taken : Part → ℕ → Taken
+digit_taken part c =
+    if part.mark then Refused AfterMark
+    else if nat_lt 32767 (10 * part.number + c) then Refused NumberTooLarge
+    else Longer (record part { number = 10 * part.number + c; blank = false }) 9
+
+-- a π row
+abbrev pub mark_taken : Part → Taken
+mark_taken part = if part.mark then Refused AfterMark else Longer (record part { mark = true; blank = false }) 15
+
+-- the row K, by what the function sets
+abbrev pub kay_sets : Control → Setting → Part → Taken
+kay_sets Directive setting part =
+    if nat_lt 1023 part.number then Refused StoreEnd
+    else Ended (record setting { directive = 4096 * part.function + 2 * part.number }) 16
+kay_sets Neither setting part = Refused BadControl
+kay_sets control setting part =
+    if nat_lt 1023 part.number then Refused StoreEnd
+    else Ended (record setting { theta = (4096 * part.function + 2 * part.number + setting.directive) % 2 ^ 17 }) 16
+
+abbrev pub kay_taken : Control → Setting → Part → Taken
+kay_taken control setting part = if part.mark then Refused BadControl else kay_sets control setting part
+
+-- the row Z, by what the function sets
+abbrev pub zed_sets : Control → Setting → Part → Taken
+zed_sets Directive setting part =
+    if is_place (4096 * part.function + 2 * part.number + setting.theta)
+    then Ended (record setting { directive = 4096 * part.function + 2 * part.number + setting.theta }) 17
+    else Refused StoreEnd
+zed_sets ThetaByBlank setting part =
+    if nat_le 65536 (2 * part.number + setting.theta) then Refused StoreEnd
+    else Ended (record setting { theta = (65536 + 2 * part.number + setting.theta + setting.directive) % 2 ^ 17 }) 17
+zed_sets control setting part = Refused BadControl
+
+abbrev pub zed_taken : Control → Setting → Part → Taken
+zed_taken control setting part = if part.mark then Refused BadControl else zed_sets control setting part
+
+-- a blank row
+abbrev pub blank_taken : Setting → Part → Taken
+blank_taken setting part =
+    if part.blank then Ended (record setting { theta = setting.directive }) 14 else Refused BadRow
+
+-- a code letter, by what it does, with the item's word
+abbrev pub letter_taken : Size → Aim → Setting → ℕ → Taken
+letter_taken z Places setting word =
+    if nat_lt (address setting.directive) 44 then Refused LoaderStore
+    else if nat_le (locations z) (address setting.directive) then Refused StoreEnd
+    else Placed (address setting.directive) word
+letter_taken z Enters setting word =
+    if nat_le (locations z) (address setting.directive) then Refused StoreEnd
+    else if nat_le 65536 word then Refused EntryNegative
+    else if nat_lt (address setting.directive) 44 then Refused EntryInLoader
+    else Entered (address setting.directive)
+letter_taken z aim setting word = Refused NoPlace
+
+-- the word of the item so far with a code letter
+abbrev pub part_word : List ℕ → Setting → Part → ℕ → ℕ
+part_word contents setting part c =
+    word_with part.function part.number part.mark (value_of contents setting.theta c)
+
+-- what a row of this kind does inside an item
+abbrev pub taken : Size → RowKind → List ℕ → Setting → Part → ℕ → Taken
+taken z Digit contents setting part c = digit_taken part c
+taken z Mark contents setting part c = mark_taken part
+taken z Zed contents setting part c = zed_taken (control_of part.function) setting part
+taken z Kay contents setting part c = kay_taken (control_of part.function) setting part
+taken z Blank contents setting part c = blank_taken setting part
+taken z Letter contents setting part c =
+    letter_taken z (aim_of setting.directive) setting (part_word contents setting part c)
+taken z Other contents setting part c = Refused BadRow
+
+-- what a tape comes to
+pub data Verdict : Type 0 where
+  Faulty : ℕ → TapeCause → Verdict
+  Arrived : Entry → Verdict
+
+-- an item of which the function row alone has been read
+abbrev pub part_of : ℕ → Part
+part_of f = record { function = f; number = 0; mark = false; blank = nat_eq f 16 }
+
+-- the directive and θ
+abbrev pub setting_of : Note → Setting
+setting_of note = record { directive = note.directive; theta = note.theta }
+
+-- the state with its directive and θ set
+abbrev pub set_by : Setting → Note → Note
+set_by setting note = record { directive = setting.directive; theta = setting.theta; placed = note.placed }
+
+-- the state with a word placed
+abbrev pub placed_by : ℕ → ℕ → Note → Note
+placed_by at word note = record {
+  directive = note.directive + 2;
+  theta = note.theta;
+  placed = (at, word) ∷ note.placed;
+}
+
+-- the entry at a row c that ends the entry item
+abbrev pub entry_by : List ℕ → ℕ → ℕ → Note → Part → ℕ → List ℕ → ℕ → Entry
+entry_by words row cost note part c rest at = record {
+  at = at;
+  word = part_word (over note.placed words) (setting_of note) part c;
+  cost = cost + 13;
+  rows = row + 1;
+  note = note;
+  last = record { function = part.function; number = part.number; mark = part.mark; end = c };
+  rest = rest;
+}
+
+-- the reading of the rows from a row on, between two items or inside one
+unfoldable pub reading : Size → List ℕ → ℕ → ℕ → Note → Option Part → List ℕ → Verdict
+reading z words row cost note part [] = Faulty row EndOfTape
+reading z words row cost note None (f ∷ rows) =
+    elim (nat_lt f 32) [
+      | true ↦ reading z words (row + 1) (cost + 6) note (Some (part_of f)) rows
+      | false ↦ Faulty row BadRow
+    ]
+reading z words row cost note (Some part) (c ∷ rows) =
+    elim (taken z (row_kind c) (over note.placed words) (setting_of note) part c) [
+      | Refused cause ↦ Faulty row cause
+      | Longer longer k ↦ reading z words (row + 1) (cost + k) note (Some longer) rows
+      | Ended setting k ↦ reading z words (row + 1) (cost + k) (set_by setting note) None rows
+      | Placed at word ↦ reading z words (row + 1) (cost + 17) (placed_by at word note) None rows
+      | Entered at ↦ Arrived (entry_by words row cost note part c rows at)
+    ]
+
+-- the number of an item so far is in range
+abbrev pub IsPartial : Option Part → Type 0
+IsPartial None = Unit {0}
+IsPartial (Some part) = part.number ≤ 32767
+
+-- the numbers of what a row does are in range
+abbrev pub IsTaken : Setting → Taken → Type 0
+IsTaken setting (Refused cause) = Unit {0}
+IsTaken setting (Longer part k) = (part.number ≤ 32767) × (k ≤ 17)
+IsTaken setting (Ended next k) = k ≤ 17
+IsTaken setting (Placed at word) = (at < 1024) × (setting.directive < 24576)
+IsTaken setting (Entered at) = at < 1024
+
+-- the reading and the rules over items say the same of every tape, from every opening state
+pub record ReadingIsRules (z : Size) (words : List ℕ) (start : Note) (base : ℕ) (rows : List ℕ) : Type 0 where
+  pub faulty : (row : ℕ) (cause : TapeCause) → reading z words 0 base start None rows ≡ Faulty row cause
+      → IsFault z words start rows row cause
+  pub found : (row : ℕ) (cause : TapeCause) → IsFault z words start rows row cause
+      → reading z words 0 base start None rows ≡ Faulty row cause
+  pub well : (e : Entry) → reading z words 0 base start None rows ≡ Arrived e → WellFormed z words start rows
+  pub comes : (e : Entry) → reading z words 0 base start None rows ≡ Arrived e → ComesTo words start base rows e
+  pub arrived : (e : Entry) → WellFormed z words start rows → ComesTo words start base rows e
+      → reading z words 0 base start None rows ≡ Arrived e
+  -- every tape is well formed and comes to an entry, or has a fault
+  pub either : (WellFormed z words start rows × ((e : Entry) × ComesTo words start base rows e))
+      ⊎ ((row : ℕ) × (cause : TapeCause) × IsFault z words start rows row cause)
+
+-- that holds from every opening state whose directive is an order P, E or T
+abbrev pub ReadingAlwaysIsRules : Type 0
+ReadingAlwaysIsRules =
+    (z : Size) (words : List ℕ) (start : Note) (base : ℕ) (rows : List ℕ) → IsDirective start.directive
+    → ReadingIsRules z words start base rows

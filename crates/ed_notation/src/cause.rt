@@ -1,0 +1,38 @@
+/// Why a tape is not well formed, in the order of the rules' numbers: of two rules broken at one row the first is told.
+#[derive(Clone, Copy, Debug, PartialEq, Eq)]
+pub enum TapeCause {
+    /// The rows end before an entry item is whole.
+    EndOfTape,
+    /// A row that no item has there: J, S or erase inside an item, or a blank that makes no blank pair.
+    BadRow,
+    /// A digit row that brings the number above 32767.
+    NumberTooLarge,
+    /// A digit row or π after the item's π.
+    AfterMark,
+    /// K or Z after π, after a function other than P, E, T, blank and G, or Z after G.
+    BadControl,
+    /// A word to be placed below location 44.
+    LoaderStore,
+    /// A word or an entry past the store's end, or a K or Z whose number or sum is too large.
+    StoreEnd,
+    /// A code letter under a P directive.
+    NoPlace,
+    /// An entry item whose word is 65536 or more.
+    EntryNegative,
+    /// An entry below location 44.
+    EntryInLoader,
+}
+
+/// Why a tape was not accepted.
+#[derive(Clone, Copy, Debug, PartialEq, Eq)]
+pub enum TapeFault {
+    /// The fault of the tape. Rows count from 0.
+    At {
+        /// The row, which is the number of rows where the tape ends too early.
+        row: usize,
+        /// The rule that is broken there.
+        cause: TapeCause,
+    },
+    /// No memory was found.
+    Memory,
+}

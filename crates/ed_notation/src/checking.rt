@@ -1,0 +1,140 @@
+ghost use Rattle.std.specs.Prelude.{◌≡◌, ◌+◌, ◌*◌, ◌%◌, ◌≤◌, ◌^◌, IfOk, false, length, replicate};
+ghost use Rattle.ed_notation.specs.Openings.{IsDirective, opening, opening_with};
+ghost use Rattle.ed_notation.specs.Reading.{ReadingAlwaysIsRules};
+ghost use Rattle.ed_notation.specs.Checks.{Answers, ContentIsMapOrStore, Reads};
+
+use crate::cause::{TapeCause, TapeFault};
+use crate::checked::Checked;
+use crate::reader::{Part, Reached, Setting, Taken, take};
+use ed_codes::Code;
+use ed_store::Store;
+use ed_words::{Size, Word};
+use std::alloc::Global;
+
+/// How many locations a store has.
+const LOCATIONS: usize = 1024;
+
+/// The word of T 44 F, the directive that the Initial Orders begin with.
+const FIRST_DIRECTIVE: u32 = 20568;
+
+/// Where θ stands in a store.
+const THETA: u16 = 42;
+
+/// Whether a whole tape is well formed from a store, for a machine of this size: what it comes to, or its fault.
+pub fn check(alloc: Global, size: Size, store: &Store, rows: &[Code]) -> Result<Checked, TapeFault>
+    requires { length rows.now ≤ 2 ^ 32 }
+    ensures answers { Answers size store.now.words (opening store.now.words) 9 rows.now result }
+    ensures bound { IfOk result (λ c. c.orders ≤ 17 * c.rows + 9) }
+    ensures program { ReadingAlwaysIsRules }
+    ensures contents { ContentIsMapOrStore }
+{
+    let directive = Word::new(FIRST_DIRECTIVE).unwrap();
+    check_opened(alloc, size, store, directive, 9, rows)
+}
+
+/// Whether the rest of a tape is well formed from a store, where it is read on under the directive that a program left.
+pub fn check_from(
+    alloc: Global,
+    size: Size,
+    store: &Store,
+    directive: Word,
+    rows: &[Code],
+) -> Result<Checked, TapeFault>
+    requires even { directive % 2 ≡ 0 }
+    requires least { 20480 ≤ directive }
+    requires most { directive ≤ 22526 }
+    requires rows { length rows.now ≤ 2 ^ 32 }
+    ensures answers { Answers size store.now.words (opening_with directive store.now.words) 2 rows.now result }
+    ensures bound { IfOk result (λ c. c.orders ≤ 17 * c.rows + 2) }
+{
+    check_opened(alloc, size, store, directive, 2, rows)
+}
+
+/// Whether rows are well formed from a store and a directive. The first row comes after `base` orders.
+fn check_opened(
+    alloc: Global,
+    size: Size,
+    store: &Store,
+    directive: Word,
+    base: u64,
+    rows: &[Code],
+) -> Result<Checked, TapeFault>
+    requires directive { IsDirective directive }
+    requires base { base ≤ 9 }
+    requires rows { length rows.now ≤ 2 ^ 32 }
+    ensures answers { Answers size store.now.words (opening_with directive store.now.words) base rows.now result }
+    ensures bound { IfOk result (λ c. c.orders ≤ 17 * c.rows + base) }
+{
+    let Ok(mut contents) = store.copy() else {
+        return Err(TapeFault::Memory);
+    };
+    let Ok(mut placed) = vec![in alloc; false; LOCATIONS] else {
+        return Err(TapeFault::Memory);
+    };
+    match read_rows(size, &mut contents, &mut placed, directive, base, rows) {
+        Ok(reached) => Ok(Checked::new(reached, contents, placed)),
+        Err(fault) => Err(fault),
+    }
+}
+
+/// Reads the rows, and places words in a copy of the store.
+fn read_rows(
+    size: Size,
+    contents: &mut Store,
+    placed: &mut [bool],
+    directive: Word,
+    base: u64,
+    rows: &[Code],
+) -> Result<Reached, TapeFault>
+    requires directive { IsDirective directive }
+    requires base { base ≤ 9 }
+    requires rows { length rows.now ≤ 2 ^ 32 }
+    requires placed { placed.old ≡ replicate 1024 false }
+    ensures { Reads size contents.old.words directive base rows.now result contents.new.words placed.new }
+{
+    let mut setting = Setting {
+        directive,
+        theta: contents.short(THETA),
+    };
+    let mut orders = base;
+    let mut item: Option<Part> = None;
+    for (row, code) in rows.iter().enumerate() {
+        match item {
+            None => {
+                item = Some(Part::begun(*code));
+                orders += 6;
+            }
+            Some(part) => match take(size, &*contents, &setting, &part, *code) {
+                Taken::Refused(cause) => return Err(TapeFault::At { row, cause }),
+                Taken::Longer(longer, more) => {
+                    item = Some(longer);
+                    orders += more;
+                }
+                Taken::Ended(next, more) => {
+                    setting = next;
+                    item = None;
+                    orders += more;
+                }
+                Taken::Placed(at, word) => {
+                    contents.put_short(at, word);
+                    placed[usize::from(at)] = true;
+                    setting = setting.moved_on();
+                    item = None;
+                    orders += 17;
+                }
+                Taken::Entered(entry) => {
+                    return Ok(Reached {
+                        entry,
+                        orders: orders + 13,
+                        rows: row + 1,
+                        theta: setting.theta,
+                    });
+                }
+            },
+        }
+    }
+    Err(TapeFault::At {
+        row: rows.len(),
+        cause: TapeCause::EndOfTape,
+    })
+}

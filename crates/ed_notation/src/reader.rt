@@ -1,0 +1,311 @@
+ghost use Rattle.std.specs.Prelude.{◌≡◌, ◌+◌, ◌*◌, ◌%◌, ◌<◌, ◌≤◌, ◌^◌, false};
+ghost use Rattle.ed_notation.specs.Items.{row_kind};
+ghost use Rattle.ed_notation.specs.Fold.{address, control_of, aim_of};
+ghost use Rattle.ed_notation.specs.Faults.{is_place};
+ghost use Rattle.ed_notation.specs.Reading.{digit_taken, mark_taken, kay_taken, zed_taken, blank_taken, letter_taken};
+ghost use Rattle.ed_notation.specs.Reading.{part_word, part_of, taken, IsTaken};
+
+use crate::cause::TapeCause;
+use crate::kind::{Aim, Control, RowKind};
+use ed_codes::Code;
+use ed_store::Store;
+use ed_words::{Size, Word};
+
+/// The directive and θ.
+#[derive(Clone, Copy)]
+pub struct Setting {
+    pub directive: Word,
+    pub theta: Word,
+}
+
+/// An item of which the function row and perhaps more rows have been read.
+#[derive(Clone, Copy)]
+pub struct Part {
+    pub function: Code,
+    pub number: u16,
+    pub mark: bool,
+    /// Whether it is a function row 16 and no more.
+    pub blank: bool,
+}
+
+/// What a row inside an item does. The numbers are orders.
+#[derive(Clone, Copy)]
+pub enum Taken {
+    /// The row breaks a rule.
+    Refused(TapeCause),
+    /// The item goes on.
+    Longer(Part, u64),
+    /// The item ends and sets the directive or θ.
+    Ended(Setting, u64),
+    /// The item ends and its word is placed at an address.
+    Placed(u16, Word),
+    /// The entry item ends, and control enters an address.
+    Entered(u16),
+}
+
+/// Where a tape was entered.
+#[derive(Clone, Copy)]
+pub struct Reached {
+    pub entry: u16,
+    pub orders: u64,
+    pub rows: usize,
+    pub theta: Word,
+}
+
+/// What a row inside an item does, over the store with the words in it that were placed so far.
+pub fn take(size: Size, contents: &Store, setting: &Setting, part: &Part, row: Code) -> Taken
+    requires { part.now.number ≤ 32767 }
+    ensures is { result ≡ taken size (row_kind row) contents.now.words setting.now part.now row }
+    ensures fits { IsTaken setting.now result }
+{
+    match RowKind::of(row) {
+        RowKind::Digit => part.take_digit(row.value()),
+        RowKind::Mark => part.take_mark(),
+        RowKind::Zed => part.take_zed(setting),
+        RowKind::Kay => part.take_kay(setting),
+        RowKind::Blank => part.take_blank(setting),
+        RowKind::Letter => setting.take_letter(size, part.word(contents, setting, row)),
+        RowKind::Other => Taken::Refused(TapeCause::BadRow),
+    }
+}
+
+impl Part {
+    /// The item that a function row begins.
+    pub fn begun(function: Code) -> Part
+        ensures is { result ≡ part_of function }
+        ensures fits { function < 32 }
+    {
+        Part {
+            function,
+            number: 0,
+            mark: false,
+            blank: function.value() == 16,
+        }
+    }
+
+    /// A digit row.
+    fn take_digit(&self, digit: u8) -> Taken
+        requires number { self.now.number ≤ 32767 }
+        requires digit { digit < 10 }
+        ensures is { result ≡ digit_taken self.now digit }
+        ensures fits { IsTaken (record { directive = 0; theta = 0 }) result }
+    {
+        if self.mark {
+            return Taken::Refused(TapeCause::AfterMark);
+        }
+        let number = 10 * u32::from(self.number) + u32::from(digit);
+        if 32767 < number {
+            return Taken::Refused(TapeCause::NumberTooLarge);
+        }
+        Taken::Longer(self.longer(number as u16, false), 9)
+    }
+
+    /// A π row.
+    fn take_mark(&self) -> Taken
+        requires { self.now.number ≤ 32767 }
+        ensures is { result ≡ mark_taken self.now }
+        ensures fits { IsTaken (record { directive = 0; theta = 0 }) result }
+    {
+        if self.mark {
+            return Taken::Refused(TapeCause::AfterMark);
+        }
+        Taken::Longer(self.longer(self.number, true), 15)
+    }
+
+    /// The item with one more row, which is no blank pair any more.
+    fn longer(&self, number: u16, mark: bool) -> Part
+        ensures { result ≡ record self.now { number = number; mark = mark; blank = false } }
+    {
+        Part {
+            function: self.function,
+            number,
+            mark,
+            blank: false,
+        }
+    }
+
+    /// A blank row, which ends a blank pair and nothing else.
+    fn take_blank(&self, setting: &Setting) -> Taken
+        ensures is { result ≡ blank_taken setting.now self.now }
+        ensures fits { IsTaken setting.now result }
+    {
+        if self.blank {
+            let next = Setting {
+                directive: setting.directive,
+                theta: setting.directive,
+            };
+            Taken::Ended(next, 14)
+        } else {
+            Taken::Refused(TapeCause::BadRow)
+        }
+    }
+
+    /// The row K.
+    fn take_kay(&self, setting: &Setting) -> Taken
+        requires { self.now.number ≤ 32767 }
+        ensures is { result ≡ kay_taken (control_of self.now.function) setting.now self.now }
+        ensures fits { IsTaken setting.now result }
+    {
+        if self.mark {
+            return Taken::Refused(TapeCause::BadControl);
+        }
+        match Control::of(self.function) {
+            Control::Neither => Taken::Refused(TapeCause::BadControl),
+            Control::Directive => {
+                if 1023 < self.number {
+                    return Taken::Refused(TapeCause::StoreEnd);
+                }
+                Taken::Ended(setting.with_directive(self.sum()), 16)
+            }
+            Control::ThetaByBlank | Control::ThetaByG => {
+                if 1023 < self.number {
+                    return Taken::Refused(TapeCause::StoreEnd);
+                }
+                Taken::Ended(
+                    setting.with_theta(self.sum() + setting.directive.value()),
+                    16,
+                )
+            }
+        }
+    }
+
+    /// The row Z, which adds θ.
+    fn take_zed(&self, setting: &Setting) -> Taken
+        requires { self.now.number ≤ 32767 }
+        ensures is { result ≡ zed_taken (control_of self.now.function) setting.now self.now }
+        ensures fits { IsTaken setting.now result }
+    {
+        if self.mark {
+            return Taken::Refused(TapeCause::BadControl);
+        }
+        match Control::of(self.function) {
+            Control::Neither | Control::ThetaByG => Taken::Refused(TapeCause::BadControl),
+            Control::Directive => {
+                let sum = self.sum() + setting.theta.value();
+                if !is_place(sum) {
+                    return Taken::Refused(TapeCause::StoreEnd);
+                }
+                Taken::Ended(setting.with_directive(sum), 17)
+            }
+            Control::ThetaByBlank => {
+                let sum = 2 * u32::from(self.number) + setting.theta.value();
+                if 65536 <= sum {
+                    return Taken::Refused(TapeCause::StoreEnd);
+                }
+                Taken::Ended(
+                    setting.with_theta(65536 + sum + setting.directive.value()),
+                    17,
+                )
+            }
+        }
+    }
+
+    /// The word of the function and the number.
+    fn sum(&self) -> u32
+        requires { self.now.number ≤ 32767 }
+        ensures is { result ≡ 4096 * self.now.function + 2 * self.now.number }
+        ensures fits { result < 2 ^ 18 }
+    {
+        4096 * u32::from(self.function.value()) + 2 * u32::from(self.number)
+    }
+
+    /// The word of the item that a code letter ends.
+    fn word(&self, contents: &Store, setting: &Setting, letter: Code) -> Word
+        requires { self.now.number ≤ 32767 }
+        ensures { result ≡ part_word contents.now.words setting.now self.now letter }
+    {
+        let value = match letter.value() {
+            17 => 0,
+            18 => setting.theta.value(),
+            19 => 1,
+            code => contents.short(24 + u16::from(code)).value(),
+        };
+        word((self.sum() + u32::from(self.mark) + value) % (1 << 17))
+    }
+}
+
+impl Setting {
+    /// The setting with another directive.
+    fn with_directive(&self, directive: u32) -> Setting
+        requires { directive < 2 ^ 17 }
+        ensures { result ≡ record self.now { directive = directive } }
+    {
+        Setting {
+            directive: word(directive),
+            theta: self.theta,
+        }
+    }
+
+    /// The setting with θ a sum modulo 2^17.
+    fn with_theta(&self, sum: u32) -> Setting
+        ensures { result ≡ record self.now { theta = sum % 2 ^ 17 } }
+    {
+        Setting {
+            directive: self.directive,
+            theta: word(sum % (1 << 17)),
+        }
+    }
+
+    /// The setting at the next place.
+    pub fn moved_on(&self) -> Setting
+        requires { self.now.directive + 2 < 2 ^ 17 }
+        ensures { result ≡ record self.now { directive = self.now.directive + 2 } }
+    {
+        self.with_directive(self.directive.value() + 2)
+    }
+
+    /// The address of the directive.
+    fn address(&self) -> u16
+        ensures is { result ≡ address self.now.directive }
+        ensures fits { result < 2048 }
+    {
+        (self.directive.value() % 4096 / 2) as u16
+    }
+
+    /// A code letter that ends an item with this word.
+    fn take_letter(&self, size: Size, word: Word) -> Taken
+        ensures is { result ≡ letter_taken size (aim_of self.now.directive) self.now word }
+        ensures fits { IsTaken self.now result }
+    {
+        let at = self.address();
+        match Aim::of(self.directive) {
+            Aim::Places => {
+                if at < 44 {
+                    Taken::Refused(TapeCause::LoaderStore)
+                } else if size.value() <= at {
+                    Taken::Refused(TapeCause::StoreEnd)
+                } else {
+                    Taken::Placed(at, word)
+                }
+            }
+            Aim::Enters => {
+                if size.value() <= at {
+                    Taken::Refused(TapeCause::StoreEnd)
+                } else if 65536 <= word.value() {
+                    Taken::Refused(TapeCause::EntryNegative)
+                } else if at < 44 {
+                    Taken::Refused(TapeCause::EntryInLoader)
+                } else {
+                    Taken::Entered(at)
+                }
+            }
+            Aim::Nowhere | Aim::Unset => Taken::Refused(TapeCause::NoPlace),
+        }
+    }
+}
+
+/// Whether a word is an order P, E or T with no length digit and an address below 1024.
+fn is_place(word: u32) -> bool
+    ensures { result ≡ is_place word }
+{
+    let function = word / 2048;
+    word % 2 == 0 && (function == 0 || function == 6 || function == 10)
+}
+
+/// The word of a number known to be small enough.
+fn word(number: u32) -> Word
+    requires { number < 2 ^ 17 }
+    ensures { result ≡ number }
+{
+    Word::new(number).unwrap()
+}

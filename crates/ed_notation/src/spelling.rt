@@ -1,0 +1,105 @@
+ghost use Rattle.std.specs.Prelude.{◌≡◌, ◌++◌, ◌<◌, IfOk, [], ◌∷◌, false};
+ghost use Rattle.ed_codes.specs.Reading.{reading, rows};
+ghost use Rattle.ed_notation.specs.Items.{mark_rows, rows_of, spelled};
+ghost use Rattle.ed_notation.specs.Spellings.{AreSpellable, IsSpelling, NoSpellingBeginsAnother, canonical, canonicals};
+ghost use Rattle.ed_notation.specs.Spellings.{digit_at, line_from, text_of};
+
+use crate::item::Item;
+use ed_codes::{Code, byte_of};
+use ed_words::NoMemory;
+use std::alloc::Global;
+
+/// The rows that spell these items one after the other, without leading zeros and without a digit row for 0.
+pub fn rows_of_items(alloc: Global, items: &[Item]) -> Result<Vec<Code>, NoMemory>
+    requires { AreSpellable items.now }
+    ensures rows { IfOk result (λ v. v.items ≡ spelled (canonicals items.now)) }
+    ensures spelling { IfOk result (λ v. IsSpelling items.now v.items) }
+    ensures law { NoSpellingBeginsAnother }
+{
+    let mut rows = Vec::new(alloc);
+    for item in items {
+        push_item(&mut rows, item)?;
+    }
+    Ok(rows)
+}
+
+/// The text of these items, a line for each: digit rows as digits, the other rows as letters or signs. Its rows are those
+/// of `rows_of_items`.
+pub fn text_of_items(alloc: Global, items: &[Item]) -> Result<Vec<u8>, NoMemory>
+    requires { AreSpellable items.now }
+    ensures text { IfOk result (λ v. v.items ≡ text_of (canonicals items.now)) }
+    ensures reads { IfOk result (λ v. reading v.items ≡ rows (spelled (canonicals items.now))) }
+    ensures spelling { IsSpelling items.now (spelled (canonicals items.now)) }
+{
+    let mut text = Vec::new(alloc);
+    for item in items {
+        let mut rows = Vec::new(alloc);
+        push_item(&mut rows, item)?;
+        push_line(&mut text, &rows)?;
+    }
+    Ok(text)
+}
+
+/// The line of an item's rows.
+fn push_line(text: &mut Vec<u8>, rows: &[Code]) -> Result<(), NoMemory>
+    ensures { IfOk result (λ v. text.new.items ≡ text.old.items ++ line_from false rows.now) }
+{
+    for (i, row) in rows.iter().enumerate() {
+        push_byte(text, byte_of(*row, 0 < i))?;
+    }
+    push_byte(text, b'\n')
+}
+
+/// The rows of an item.
+fn push_item(rows: &mut Vec<Code>, item: &Item) -> Result<(), NoMemory>
+    ensures { IfOk result (λ v. rows.new.items ≡ rows.old.items ++ rows_of (canonical item.now)) }
+{
+    push_row(rows, item.function)?;
+    push_digit(rows, item.number, 10000)?;
+    push_digit(rows, item.number, 1000)?;
+    push_digit(rows, item.number, 100)?;
+    push_digit(rows, item.number, 10)?;
+    push_digit(rows, item.number, 1)?;
+    push_mark(rows, item.mark)?;
+    push_row(rows, item.end)?;
+    Ok(())
+}
+
+/// The digit row at a power of ten, where the number reaches it.
+fn push_digit(rows: &mut Vec<Code>, number: u16, power: u16) -> Result<(), NoMemory>
+    requires { 0 < power }
+    ensures { IfOk result (λ v. rows.new.items ≡ rows.old.items ++ digit_at power number) }
+{
+    if power <= number {
+        push_row(rows, Code::new((number / power % 10) as u8).unwrap())?;
+    }
+    Ok(())
+}
+
+/// The π row of an item with a mark.
+fn push_mark(rows: &mut Vec<Code>, mark: bool) -> Result<(), NoMemory>
+    ensures { IfOk result (λ v. rows.new.items ≡ rows.old.items ++ mark_rows mark) }
+{
+    if mark {
+        push_row(rows, Code::new(11).unwrap())?;
+    }
+    Ok(())
+}
+
+fn push_row(rows: &mut Vec<Code>, row: Code) -> Result<(), NoMemory>
+    ensures { IfOk result (λ v. rows.new.items ≡ rows.old.items ++ row ∷ []) }
+{
+    match rows.push(row) {
+        Ok(()) => Ok(()),
+        Err(_) => Err(NoMemory),
+    }
+}
+
+fn push_byte(text: &mut Vec<u8>, byte: u8) -> Result<(), NoMemory>
+    ensures { IfOk result (λ v. text.new.items ≡ text.old.items ++ byte ∷ []) }
+{
+    match text.push(byte) {
+        Ok(()) => Ok(()),
+        Err(_) => Err(NoMemory),
+    }
+}
