@@ -1,0 +1,33 @@
+-- The bytes of a text that `format!` made.
+use Rattle.std.proofs.Common.{◌≡◌, ◌∙◌, ℕ, List, [], ◌∷◌, ◌++◌, append_assoc}
+use Rattle.std.specs.Prelude.{Result, Ok, Err, Some, IfOk, IfSome, IsOkAnd, string_bytes, String, Vec, codes}
+use Rattle.std.specs.Fmt.{decimal}
+use Rattle.std.specs.declared.alloc.Global.{Global}
+use Rattle.std.specs.declared.alloc.AllocError.{AllocError}
+use Rattle.ed_words.specs.declared.memory.NoMemory.{NoMemory}
+use Rattle.ed_store.specs.Cells.{short_at}
+use Rattle.ed_orders.specs.Texts.{order_text}
+use Rattle.ed_machine.specs.State.{State}
+use Rattle.ed_machine.specs.declared.ending.Ending.TheVariants.{NoOrder}
+use Rattle.ed_report.specs.Notes.{at_after, ending_line}
+
+-- the bytes are what `format!` wrote
+pub told : (text : Result (String Global) AllocError) (r : Result (Vec ℕ Global) NoMemory) (wrote wanted : List ℕ)
+    → wrote ≡ wanted → IfOk r (λ bytes. IsOkAnd text (λ s. bytes.items ≡ string_bytes s))
+    → IfOk text (λ s. IfSome (Some wrote) (λ w. string_bytes s ≡ w)) → IfOk r (λ bytes. bytes.items ≡ wanted)
+told text (Err e) wrote wanted same taken made = tt
+told (Ok s) (Ok bytes) wrote wanted same taken made = taken ∙ made ∙ same
+told (Err e) (Ok bytes) wrote wanted same taken made = absurd taken
+
+no_order_pieces : (counter orders : ℕ) (text : List ℕ)
+    → codes "no order at " ++ (decimal counter ++ (codes " after " ++ (decimal orders ++ (codes ": " ++ (text ++ 10 ∷ [])))))
+    ≡ at_after (codes "no order") counter orders ++ codes ": " ++ text ++ 10 ∷ []
+no_order_pieces counter orders text = simp append_assoc
+
+-- what is written of a run that came to no order is its line
+pub no_order_wrote : (s : State) (counter orders : ℕ) (text : List ℕ) → counter ≡ s.counter → orders ≡ s.orders
+    → text ≡ order_text (short_at s.store s.counter)
+    → codes "no order at " ++ (decimal counter ++ (codes " after " ++ (decimal orders ++ (codes ": " ++ (text ++ 10 ∷ [])))))
+    ≡ ending_line NoOrder s
+no_order_wrote s counter orders text c o t =
+    rw (c, o, t) (no_order_pieces s.counter s.orders (order_text (short_at s.store s.counter)))

@@ -1,0 +1,43 @@
+ghost use Rattle.std.specs.Prelude.{◌≡◌, ◌∷◌, [], ◌++◌, IfOk};
+ghost use Rattle.ed_report.specs.Notes.{at_after, ending_line};
+
+use crate::text::bytes_of_text;
+use ed_machine::{Ending, Machine};
+use ed_orders::order_text;
+use ed_words::NoMemory;
+use std::alloc::Global;
+
+/// The line that tells how a run ended, with the counter and the orders done of the machine after it. For `NoOrder` the
+/// text of the word at the counter stands on it too.
+#[tactic(auto, using(ed_words::proofs::SizeLemmas::most))]
+pub fn ending_text(alloc: Global, ending: Ending, machine: &Machine) -> Result<Vec<u8>, NoMemory>
+    ensures { IfOk result (λ bytes. bytes.items ≡ ending_line ending machine.now) }
+{
+    match ending {
+        Ending::Stopped => ending_line(alloc, "stopped", machine),
+        Ending::Limit => ending_line(alloc, "limit", machine),
+        Ending::NoOrder => no_order_line(alloc, machine),
+        Ending::NoTape => ending_line(alloc, "no tape", machine),
+        Ending::PaperFull => ending_line(alloc, "paper full", machine),
+    }
+}
+
+/// The line of an ending by its name.
+fn ending_line(alloc: Global, name: &str, machine: &Machine) -> Result<Vec<u8>, NoMemory>
+    ensures { IfOk result (λ bytes. bytes.items ≡ at_after name.now machine.now.counter machine.now.orders ++ 10 ∷ []) }
+{
+    let counter = machine.counter();
+    let orders = machine.orders_done();
+    bytes_of_text(format!(in alloc; "{name} at {counter} after {orders}\n"))
+}
+
+/// The line of a run that came to a word that is no order.
+fn no_order_line(alloc: Global, machine: &Machine) -> Result<Vec<u8>, NoMemory>
+    ensures { IfOk result (λ bytes. bytes.items ≡ ending_line Ending.NoOrder machine.now) }
+{
+    let counter = machine.counter();
+    let orders = machine.orders_done();
+    let order = order_text(machine.word(counter));
+    let text = order.as_str();
+    bytes_of_text(format!(in alloc; "no order at {counter} after {orders}: {text}\n"))
+}
