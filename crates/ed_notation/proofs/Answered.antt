@@ -12,6 +12,7 @@ use Rattle.ed_notation.specs.Checks.{Accepts, Answers, Arrives, Reads}
 use Rattle.ed_notation.specs.Reports.{Report}
 use Rattle.ed_notation.proofs.Contents.{word_is}
 use Rattle.ed_notation.proofs.Costs.{most}
+use Rattle.ed_notation.proofs.Sound.{well_sound}
 
 abbrev pub report_of : Reached → List ℕ → List Bool → Report
 report_of r contents marks = record {
@@ -35,6 +36,8 @@ module _ (z : Size) (words : List ℕ) (start : Note) (base : ℕ) (rows : List 
     well = a.well;
     entry = a.entry;
     comes = a.comes;
+    sound = (well_sound z words start base rows a.entry a.well a.comes).0;
+    last_sound = (well_sound z words start base rows a.entry a.well a.comes).1;
     entry_is = a.entry_is;
     orders_are = a.orders_are;
     rows_are = a.rows_are;

@@ -157,26 +157,46 @@ module _ (z : Size) (words : List ℕ) (row cost : ℕ) (note : Note) (b : Begun
   abbrev r : RowKind
   r = row_kind c
 
-  -- a row that ends an item that is no entry item
+  -- a row that breaks no rule and ends an item that is no entry item
+  pub goes_on : (t : Taken) → KeepsDirective note t → RowLaw r z words note b c t → first r z words note b c ≡ None
+      → ends r b ≡ true → entering r note ≡ false
+      → (after t ≡ reading z words (row + 1) (cost + end_cost r note) (acted r words note (item_of b c)) None rest)
+      × IsDirective (acted r words note (item_of b c)).directive
+  goes_on (Refused cause) u h s e n = let q : Some cause ≡ None = sym h ∙ s in absurd (cc)
+  goes_on (Longer i k) u h s e n = absurd (no_test (ends r b) e h.1)
+  goes_on (Ended m k) u h s e n =
+      (rw (h.1.note_is, h.1.cost_is) refl, subst (λ (x : Note). IsDirective x.directive) h.1.note_is u)
+  goes_on (Placed at word) u h s e n =
+      (rw (h.1.note_is, sym h.1.cost_is) refl, subst (λ (x : Note). IsDirective x.directive) h.1.note_is u)
+  goes_on (Entered at) u h s e n = absurd (no_test (entering r note) h.1.entered n)
+
+  -- a row that breaks no rule and ends the entry item
+  pub arrives : (t : Taken) → RowLaw r z words note b c t → first r z words note b c ≡ None → ends r b ≡ true
+      → entering r note ≡ true
+      → after t ≡ Arrived (entry_by words row cost note (as_part b) c rest (address note.directive))
+  arrives (Refused cause) h s e n = let q : Some cause ≡ None = sym h ∙ s in absurd (cc)
+  arrives (Longer i k) h s e n = absurd (no_test (ends r b) e h.1)
+  arrives (Ended m k) h s e n = absurd (no_test (entering r note) n h.1.goes_on)
+  arrives (Placed at word) h s e n = absurd (no_test (entering r note) n h.1.goes_on)
+  arrives (Entered at) h s e n = rw h.1.at_is refl
+
+  -- the same of a row that may break a rule
   pub ended : (t : Taken) → KeepsDirective note t → RowLaw r z words note b c t → ends r b ≡ true → entering r note ≡ false
       → Goes (after t) (reading z words (row + 1) (cost + end_cost r note) (acted r words note (item_of b c)) None rest)
       (row + 1) (acted r words note (item_of b c)).directive
   ended (Refused cause) u h e n = inr (record { at = row; cause = cause; is = refl; before = omega arith })
-  ended (Longer i k) u h e n = absurd (no_test (ends r b) e h.1)
-  ended (Ended m k) u h e n =
-      inl (rw (h.1.note_is, h.1.cost_is) refl, subst (λ (x : Note). IsDirective x.directive) h.1.note_is u)
-  ended (Placed at word) u h e n =
-      inl (rw (h.1.note_is, sym h.1.cost_is) refl, subst (λ (x : Note). IsDirective x.directive) h.1.note_is u)
-  ended (Entered at) u h e n = absurd (no_test (entering r note) h.1.entered n)
+  ended (Longer i k) u h e n = inl (goes_on (Longer i k) u h h.0 e n)
+  ended (Ended m k) u h e n = inl (goes_on (Ended m k) u h h.0 e n)
+  ended (Placed at word) u h e n = inl (goes_on (Placed at word) u h h.0 e n)
+  ended (Entered at) u h e n = inl (goes_on (Entered at) u h h.0 e n)
 
-  -- a row that ends the entry item
   pub entered : (t : Taken) → RowLaw r z words note b c t → ends r b ≡ true → entering r note ≡ true
       → Passes (after t) (Arrived (entry_by words row cost note (as_part b) c rest (address note.directive))) (row + 1)
   entered (Refused cause) h e n = inr (record { at = row; cause = cause; is = refl; before = omega arith })
-  entered (Longer i k) h e n = absurd (no_test (ends r b) e h.1)
-  entered (Ended m k) h e n = absurd (no_test (entering r note) n h.1.goes_on)
-  entered (Placed at word) h e n = absurd (no_test (entering r note) n h.1.goes_on)
-  entered (Entered at) h e n = inl (rw h.1.at_is refl)
+  entered (Longer i k) h e n = inl (arrives (Longer i k) h h.0 e n)
+  entered (Ended m k) h e n = inl (arrives (Ended m k) h h.0 e n)
+  entered (Placed at word) h e n = inl (arrives (Placed at word) h h.0 e n)
+  entered (Entered at) h e n = inl (arrives (Entered at) h h.0 e n)
 
   -- a row that breaks a rule
   pub refused : (t : Taken) (cause : TapeCause) → RowLaw r z words note b c t → first r z words note b c ≡ Some cause

@@ -12,4 +12,6 @@ pub mod Answered
 pub mod Unique
 pub mod Canonical
 pub mod Texts
+pub mod Cuts
+pub mod Sound
 pub mod Worked

@@ -7,14 +7,17 @@ use Rattle.ed_notation.specs.declared.cause.TapeFault.{TapeFault}
 use Rattle.ed_notation.specs.declared.cause.TapeFault.TheVariants.{At, Memory}
 use Rattle.ed_notation.specs.Fold.{Note, placed_at, over}
 use Rattle.ed_notation.specs.Openings.{opening_with}
-use Rattle.ed_notation.specs.Faults.{Entry, IsFault, WellFormed, ComesTo}
+use Rattle.ed_notation.specs.Faults.{Entry, IsFault, WellFormed, ComesTo, IsSound, AreSound}
 use Rattle.ed_notation.specs.Reports.{Report, word_in}
 
--- the answer for a well-formed tape: all that the fold of its items tells
+-- the answer for a well-formed tape: no rule is broken at any row, there are items that the first rows spell and that the
+-- fold takes without a fault, the last alone an entry item, and the report is what their fold tells
 pub record Accepts (z : Size) (words : List ℕ) (start : Note) (base : ℕ) (rows : List ℕ) (r : Report) : Type 0 where
   pub well : WellFormed z words start rows
   pub entry : Entry
   pub comes : ComesTo words start base rows entry
+  pub sound : AreSound z words start comes.before
+  pub last_sound : IsSound z words entry.note comes.last
   pub entry_is : r.entry ≡ entry.at
   pub orders_are : r.orders ≡ entry.cost
   pub rows_are : r.rows ≡ entry.rows

@@ -165,3 +165,12 @@ pub record ComesTo (words : List ℕ) (start : Note) (base : ℕ) (rows : List �
   pub word_is : e.word ≡ item_word words e.note (item last)
   pub cost_is : e.cost ≡ base + costs words start before + cost_of e.note last
   pub read_is : e.rows ≡ length (spelled before) + length (rows_of last)
+
+-- an item breaks no rule at its ending row
+abbrev pub IsSound : Size → List ℕ → Note → Written → Type 0
+IsSound z words note w = (cause : TapeCause) → breaks cause (row_kind w.end) z words note w.begun w.end ≡ false
+
+-- none of the items breaks a rule at its ending row: the fold takes them without a fault
+abbrev pub AreSound : Size → List ℕ → Note → List Written → Type 0
+AreSound z words note [] = Unit {0}
+AreSound z words note (w ∷ ws) = IsSound z words note w × AreSound z words (act words note (item w)) ws

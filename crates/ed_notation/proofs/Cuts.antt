@@ -1,0 +1,30 @@
+-- A tape cut at an item's end: rows, states and costs of the two sides.
+use Rattle.std.proofs.Common.{◌≡◌, ℕ, ◌+◌, refl, sym, ap, ◌∙◌, arith, List, [], ◌∷◌, ◌++◌, append_assoc}
+use Rattle.ed_notation.specs.declared.item.Item.{Item}
+use Rattle.ed_notation.specs.Items.{Written, rows_of, spelled, item, items}
+use Rattle.ed_notation.specs.Fold.{Note, act, fold, costs}
+use Rattle.ed_notation.specs.Faults.{AreRead}
+
+pub items-append : (vs ws : List Written) → items (vs ++ ws) ≡ items vs ++ items ws
+items-append [] ws = refl
+items-append (v ∷ vs) ws = ap (λ is. item v ∷ is) (items-append vs ws)
+
+pub spelled-append : (vs ws : List Written) → spelled (vs ++ ws) ≡ spelled vs ++ spelled ws
+spelled-append [] ws = refl
+spelled-append (v ∷ vs) ws =
+    ap (λ rows. rows_of v ++ rows) (spelled-append vs ws) ∙ sym (append_assoc (rows_of v) (spelled vs) (spelled ws))
+
+pub fold-append : (words : List ℕ) (note : Note) (is js : List Item)
+    → fold words note (is ++ js) ≡ fold words (fold words note is) js
+fold-append words note [] js = refl
+fold-append words note (i ∷ is) js = fold-append words (act words note i) is js
+
+pub costs-append : (words : List ℕ) (note : Note) (vs ws : List Written)
+    → costs words note (vs ++ ws) ≡ costs words note vs + costs words (fold words note (items vs)) ws
+costs-append words note [] ws = omega arith
+costs-append words note (v ∷ vs) ws = let rest = costs-append words (act words note (item v)) vs ws in omega (arith, rest)
+
+pub AreRead-append : (words : List ℕ) (note : Note) (vs ws : List Written) → AreRead words note vs
+    → AreRead words (fold words note (items vs)) ws → AreRead words note (vs ++ ws)
+AreRead-append words note [] ws h k = k
+AreRead-append words note (v ∷ vs) ws h k = (h.0, h.1, AreRead-append words (act words note (item v)) vs ws h.2 k)

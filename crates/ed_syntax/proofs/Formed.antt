@@ -1,0 +1,294 @@
+-- Statements and lines that have a form have their numbers in their ranges.
+use Rattle.std.proofs.Common.{◌≡◌, subst, ℕ, zero, suc, ◌+◌, ◌<◌, ◌≤◌, Bool, true, false}
+use Rattle.std.proofs.Common.{List, [], ◌∷◌, refl, arith, ℤ, length, map, codes, All, ◌≢◌, get_or}
+use Rattle.std.specs.Prelude.{◌==◌, ◌&&◌, not, Option, Some, None, Result}
+use Rattle.std.specs.Prelude.{Ok, Err, IfSome, nat_le, nat_lt, option_map, option_and_then, if◌then◌else◌}
+use Rattle.std.specs.List.{list_all}
+use Rattle.std.specs.Str.{bytes_eq}
+use Rattle.std.proofs.lemmas.Bool.Decides.{nat_tests, Decides-eqb}
+use Rattle.std.proofs.lemmas.List.{length-map}
+use Rattle.std.proofs.lemmas.List.Elements.{All-cons}
+use Rattle.ed_codes.specs.Spelling.{row_of}
+use Rattle.ed_syntax.specs.Lines.{Text}
+use Rattle.ed_syntax.specs.Parts.{Part, run, sign, quoted, parts_of}
+use Rattle.ed_syntax.specs.Grammar
+use Rattle.ed_syntax.specs.Programs.{AreNumbered, is_line}
+use Rattle.ed_syntax.proofs.Meaning.{IsForm, IsOperand, IsSetting, IsStatement, MayHaveLabel, lines_test}
+use Rattle.ed_syntax.specs.Sources.{Fault, and_lines, is_line_byte, line_of, lines_from, or_cause}
+use Rattle.ed_syntax.specs.declared.fault.SourceCause.{SourceCause}
+use Rattle.ed_syntax.specs.declared.fault.SourceCause.TheVariants as causes
+use Rattle.ed_syntax.specs.declared.program.Form.{Form}
+use Rattle.ed_syntax.specs.declared.program.Line.{Line}
+use Rattle.ed_syntax.specs.declared.program.Operand.{Operand}
+use Rattle.ed_syntax.specs.declared.program.Operand.TheVariants as operands
+use Rattle.ed_syntax.specs.declared.program.Statement.{Statement}
+use Rattle.ed_syntax.specs.declared.program.Statement.TheVariants as statements
+use Rattle.ed_syntax.proofs.NameLemmas.{and_both}
+use Rattle.ed_syntax.proofs.Ranges.{Within, FrontWithin, within_map, within_else, within_if, number_within, operand_within, preset_within}
+
+-- a statement that may have a label, with its numbers in their ranges
+abbrev pub IsPlaced : Bool → Statement → Type 0
+IsPlaced two s = MayHaveLabel s × IsStatement two s
+
+-- ---- orders
+
+end_within : (two : Bool) (o : Option (Option Operand × List Part)) → FrontWithin (IsOperand two) o
+    → FrontWithin (IsOperand two) (option_and_then (λ p. option_map (λ l. (p.0, l)) (Grammar.length_end p.1)) o)
+end_within two None w = tt
+end_within two (Some (o, rest)) w = by_length o (Grammar.length_end rest) w
+  where
+    by_length : (o : Option Operand) (l : Option Bool) → FrontWithin (IsOperand two) (Some (o, rest))
+        → FrontWithin (IsOperand two) (option_map (λ b. (o, b)) l)
+    by_length None None w = tt
+    by_length None (Some l) w = tt
+    by_length (Some a) None w = tt
+    by_length (Some a) (Some l) w = w
+
+missing_within : (two : Bool) (l : Option Bool) → FrontWithin (IsOperand two) (option_map (λ b. (Some (operands.Number 0), b)) l)
+missing_within two None = tt
+missing_within two (Some l) = omega arith
+
+order_end_within : (two : Bool) (parts : List Part) → FrontWithin (IsOperand two) (Grammar.order_end two parts)
+order_end_within two (sign e ∷ parts) = missing_within two (Grammar.length_end (sign e ∷ parts))
+order_end_within two [] = tt
+order_end_within two (run r ∷ parts) = end_within two (Grammar.operand two (run r ∷ parts)) (operand_within two (run r ∷ parts))
+order_end_within two (quoted q ∷ parts) = tt
+
+order_within : (two : Bool) (b : ℕ) (parts : List Part) → Within (IsPlaced two) (Grammar.order two b parts)
+order_within two b parts = by_parts (Grammar.function b) (Grammar.order_end two parts) (order_end_within two parts)
+  where
+    by_parts : (f : Option ℕ) (e : Option (Option Operand × Bool)) → FrontWithin (IsOperand two) e
+        → Within (IsPlaced two) (option_and_then (λ g. option_map (λ p. option_map (λ o. statements.Order g o p.1) p.0) e) f)
+    by_parts None e w = tt
+    by_parts (Some f) None w = tt
+    by_parts (Some f) (Some (None, l)) w = tt
+    by_parts (Some f) (Some (Some o, l)) w = (tt, w)
+
+-- ---- the other statements
+
+word_within : (two : Bool) (o : Option (Option ℤ)) (f : ℤ → ℕ)
+    → Within (IsPlaced two) (option_map (option_map (λ z. statements.Number (f z))) o)
+word_within two None f = tt
+word_within two (Some None) f = tt
+word_within two (Some (Some z)) f = (tt, tt)
+
+long_within : (two : Bool) (o : Option (Option ℤ)) (f : ℤ → ℕ) → two ≡ true
+    → Within (IsPlaced two) (option_map (option_map (λ z. statements.Long (f z))) o)
+long_within two None f h = tt
+long_within two (Some None) f h = tt
+long_within two (Some (Some z)) f h = (tt, h)
+
+string_rows_within : (q : Text) → IfSome (Grammar.string_rows q) (λ rows. 0 < length rows)
+string_rows_within q = by_test (nat_le 1 (length q)) _ refl
+  where
+    some : nat_le 1 (length q) ≡ true → 0 < length (map (λ b. Grammar.row (row_of b)) q)
+    some e =
+        let h : 0 < length q = grind (arith, nat_tests) in
+        let same : length (map (λ b. Grammar.row (row_of b)) q) ≡ length q = length-map q (λ b. Grammar.row (row_of b)) in
+        omega (arith, same, h)
+
+    by_test : (c d : Bool) → nat_le 1 (length q) ≡ c
+        → IfSome (if c && d then Some (map (λ b. Grammar.row (row_of b)) q) else None) (λ rows. 0 < length rows)
+    by_test false d e = tt
+    by_test true false e = tt
+    by_test true true e = some e
+
+string_within : (parts : List Part) → IfSome (Grammar.string parts) (λ rows. 0 < length rows)
+string_within [] = tt
+string_within (run r ∷ parts) = tt
+string_within (sign b ∷ parts) = tt
+string_within (quoted q ∷ []) = string_rows_within q
+string_within (quoted q ∷ p ∷ parts) = tt
+
+text_within : (two : Bool) (o : Option (List ℕ)) → IfSome o (λ rows. 0 < length rows)
+    → Within (IsPlaced two) (option_map (λ rows. Some (statements.Text (Grammar.array rows))) o)
+text_within two None w = tt
+text_within two (Some rows) w = (tt, w)
+
+rows_within : (two : Bool) (o : Option (List ℕ)) → IfSome o (λ rows. 0 < length rows)
+    → Within (IsStatement two) (option_map (λ rows. Some (statements.Rows (Grammar.array rows))) o)
+rows_within two None w = tt
+rows_within two (Some rows) w = w
+
+enter_within : (two : Bool) (parts : List Part) → Within (IsStatement two) (Grammar.enter parts)
+enter_within two [] = tt
+enter_within two (sign b ∷ parts) = tt
+enter_within two (quoted q ∷ parts) = tt
+enter_within two (run r ∷ p ∷ parts) = tt
+enter_within two (run r ∷ []) = within_if (IsStatement two) (Grammar.is_name r) _ (λ e. e)
+
+abbrev IsBase : Option ℕ → Type 0
+IsBase base = IfSome base (λ b. b ≤ 1023)
+
+base_within : (parts : List Part) → Within IsBase (Grammar.base parts)
+base_within [] = tt
+base_within (sign b ∷ parts) = tt
+base_within (quoted q ∷ parts) = tt
+base_within (run a ∷ []) = tt
+base_within (run a ∷ sign b ∷ parts) = tt
+base_within (run a ∷ quoted q ∷ parts) = tt
+base_within (run a ∷ run n ∷ p ∷ parts) = tt
+base_within (run a ∷ run n ∷ []) =
+    within_if IsBase (bytes_eq a (codes "at")) _
+    (λ e. within_map (λ k. k ≤ 1023) IsBase Some (λ k h. h) (Grammar.number 1023 n) (number_within 1023 n))
+
+segment_within : (two : Bool) (parts : List Part) → Within (IsStatement two) (Grammar.segment parts)
+segment_within two [] = tt
+segment_within two (sign b ∷ parts) = tt
+segment_within two (quoted q ∷ parts) = tt
+segment_within two (run r ∷ parts) =
+    within_if (IsStatement two) (Grammar.is_name r) _
+    (λ e. within_map IsBase (IsStatement two) (statements.Segment r) (λ base h. (e, h)) (Grammar.base parts) (base_within parts))
+
+fetch_within : (two : Bool) (parts : List Part) → Within (IsStatement two) (Grammar.fetch two parts)
+fetch_within two [] = tt
+fetch_within two (sign b ∷ parts) = tt
+fetch_within two (quoted q ∷ parts) = tt
+fetch_within two (run r ∷ []) = tt
+fetch_within two (run r ∷ sign b ∷ parts) = tt
+fetch_within two (run r ∷ quoted q ∷ parts) = tt
+fetch_within two (run r ∷ run a ∷ []) = tt
+fetch_within two (run r ∷ run a ∷ sign b ∷ parts) = tt
+fetch_within two (run r ∷ run a ∷ quoted q ∷ parts) = tt
+fetch_within two (run r ∷ run a ∷ run n ∷ parts) =
+    within_if (IsStatement two) (bytes_eq a (codes "as") && (Grammar.is_name r && Grammar.is_name n)) _
+    (λ e. let names = and_both _ _ (and_both _ _ e).1 in
+    within_map (All (IsSetting two)) (IsStatement two) (λ ss. statements.Fetch r n (Grammar.array ss)) (λ ss h. (names.0, (names.1, h)))
+    (Grammar.preset two parts) (preset_within two parts))
+
+-- ---- statements by their words
+
+placed_within : (two : Bool) (parts : List Part) → Within (IsPlaced two) (Grammar.placed two parts)
+placed_within two [] = tt
+placed_within two (quoted q ∷ parts) = tt
+placed_within two (sign b ∷ parts) = order_within two b parts
+placed_within two (run w ∷ parts) =
+    within_else (IsPlaced two) (bytes_eq w (codes "word")) _ _ (λ e. word_within two (Grammar.integer 65536 131071 parts) _)
+    (λ e. within_else (IsPlaced two) (bytes_eq w (codes "text")) _ _ (λ f. text_within two (Grammar.string parts) (string_within parts))
+    (λ f. within_if (IsPlaced two) (two && bytes_eq w (codes "long")) _
+    (λ g. long_within two (Grammar.integer 17179869184 34359738367 parts) _ (and_both two _ g).0)))
+
+unplaced : (two : Bool) (o : Option (Option Statement)) → Within (IsPlaced two) o → Within (IsStatement two) o
+unplaced two None w = tt
+unplaced two (Some None) w = tt
+unplaced two (Some (Some s)) w = w.1
+
+statement_within : (two : Bool) (parts : List Part) → Within (IsStatement two) (Grammar.statement two parts)
+statement_within two [] = tt
+statement_within two (quoted q ∷ parts) = tt
+statement_within two (sign b ∷ parts) = unplaced two _ (placed_within two (sign b ∷ parts))
+statement_within two (run w ∷ parts) =
+    within_else (IsStatement two) (bytes_eq w (codes "segment")) _ _ (λ e. segment_within two parts)
+    (λ e. within_else (IsStatement two) (bytes_eq w (codes "use")) _ _ (λ f. fetch_within two parts)
+    (λ f. within_else (IsStatement two) (bytes_eq w (codes "enter")) _ _ (λ g. enter_within two parts)
+    (λ g. within_else (IsStatement two) (bytes_eq w (codes "data")) _ _ (λ h. rows_within two (Grammar.string parts) (string_within parts))
+    (λ h. unplaced two _ (placed_within two (run w ∷ parts))))))
+
+-- ---- lines
+
+abbrev pub IsFormOf : Bool → Form → Type 0
+IsFormOf two f = IsForm two f.label f.statement
+
+unlabelled_within : (two : Bool) (parts : List Part) → Within (IsFormOf two) (Grammar.unlabelled two parts)
+unlabelled_within two parts =
+    within_map (IsStatement two) (IsFormOf two) (λ s. record { label = None; statement = Some s }) (λ s h. h)
+    (Grammar.statement two parts) (statement_within two parts)
+
+after_label_within : (two : Bool) (r : Text) (parts : List Part) → Grammar.is_place_name two r ≡ true
+    → Within (IsFormOf two) (Grammar.after_label two r parts)
+after_label_within two r [] h = h
+after_label_within two r (p ∷ parts) h =
+    within_map (IsPlaced two) (IsFormOf two) (λ s. record { label = Some r; statement = Some s }) (λ s k. (h, k))
+    (Grammar.placed two (p ∷ parts)) (placed_within two (p ∷ parts))
+
+labelled_within : (two : Bool) (r : Text) (parts : List Part) → Within (IsFormOf two) (Grammar.labelled two r parts)
+labelled_within two r parts = within_if (IsFormOf two) (Grammar.is_place_name two r) _ (λ e. after_label_within two r parts e)
+
+form_within : (two : Bool) (parts : List Part) → Within (IsFormOf two) (Grammar.form two parts)
+form_within two [] = tt
+form_within two (quoted q ∷ parts) = unlabelled_within two (quoted q ∷ parts)
+form_within two (sign b ∷ parts) = unlabelled_within two (sign b ∷ parts)
+form_within two (run r ∷ []) = unlabelled_within two (run r ∷ [])
+form_within two (run r ∷ run n ∷ parts) = unlabelled_within two (run r ∷ run n ∷ parts)
+form_within two (run r ∷ quoted q ∷ parts) = unlabelled_within two (run r ∷ quoted q ∷ parts)
+form_within two (run r ∷ sign s ∷ parts) =
+    within_else (IsFormOf two) (s == 58) _ _ (λ e. labelled_within two r parts) (λ e. unlabelled_within two (run r ∷ sign s ∷ parts))
+
+form_at_within : (two : Bool) (k : ℕ) (parts : List Part) → Within (IsFormOf two) (Grammar.form_at two k parts)
+form_at_within two k parts = within_else (IsFormOf two) (k == 1 && Grammar.is_version_two parts) _ _ (λ e. tt) (λ e. form_within two parts)
+
+-- whatever is no fault
+abbrev pub OkWithin : {A E : Type 0} → (A → Type 0) → Result A E → Type 0
+OkWithin P (Ok a) = P a
+OkWithin P (Err e) = Unit {0}
+
+line_within : (two : Bool) (k : ℕ) (line : Text) → OkWithin (IsFormOf two) (line_of two k line)
+line_within two k line = by_tests (list_all is_line_byte line) (nat_lt 120 (length line)) (parts_of line)
+  where
+    by_form : (o : Option (Option Form)) → Within (IsFormOf two) o → OkWithin (IsFormOf two) (or_cause o)
+    by_form None w = tt
+    by_form (Some None) w = tt
+    by_form (Some (Some f)) w = w
+
+    by_tests : (bytes long : Bool) (parts : Option (List Part)) → OkWithin (IsFormOf two)
+        (if not bytes then Err causes.BadByte else if long then Err causes.LongLine
+        else or_cause (option_and_then (Grammar.form_at two k) parts))
+    by_tests false long parts = tt
+    by_tests true true parts = tt
+    by_tests true false None = tt
+    by_tests true false (Some parts) = by_form (Grammar.form_at two k parts) (form_at_within two k parts)
+
+-- the lines' numbers run upwards from k without a gap
+abbrev pub IsNumberedFrom : ℕ → List Line → Type 0
+IsNumberedFrom k [] = Unit {0}
+IsNumberedFrom k (l ∷ ls) = (l.number ≡ k) × IsNumberedFrom (k + 1) ls
+
+-- what holds of the lines from number k on
+pub record AreFormed (two : Bool) (k : ℕ) (lines : List Line) : Type 0 where
+  pub few : k ≤ 2001 → k + length lines ≤ 2001
+  pub numbered : IsNumberedFrom k lines
+  pub formed : All (λ l. IsForm two l.label l.statement) lines
+
+lines_step : (two : Bool) (k : ℕ) (r : Result Form SourceCause) (rest : Result (List Line) Fault)
+    → (k == 2001) ≡ false → OkWithin (IsFormOf two) r
+    → OkWithin (AreFormed two (k + 1)) rest → OkWithin (AreFormed two k) (and_lines k r rest)
+lines_step two k (Err c) rest e w h = tt
+lines_step two k (Ok f) (Err c) e w h = tt
+lines_step two k (Ok f) (Ok lines) e w h =
+    let other : k ≢ 2001 = λ same. (let bad = (Decides-eqb k 2001).1 same in absurd (cc)) in
+    let line : Line = record { number = k; label = f.label; statement = f.statement } in
+    record {
+      few = λ most. omega (arith, other, h.few);
+      numbered = (refl, h.numbered);
+      formed = All-cons (λ l. IsForm two l.label l.statement) line lines w h.formed;
+    }
+
+pub lines_formed : (two : Bool) (k : ℕ) (texts : List Text) → OkWithin (AreFormed two k) (lines_from two k texts)
+lines_formed two k [] = record { few = λ most. omega arith; numbered = tt; formed = λ i d below. absurd (omega arith) }
+lines_formed two k (line ∷ rest) = by_test (k == 2001) refl (lines_formed two (k + 1) rest)
+  where
+    by_test : (c : Bool) → (k == 2001) ≡ c → OkWithin (AreFormed two (k + 1)) (lines_from two (k + 1) rest)
+        → OkWithin (AreFormed two k) (if c then Err (record { line = k; cause = causes.TooManyLines })
+        else and_lines k (line_of two k line) (lines_from two (k + 1) rest))
+    by_test true e h = tt
+    by_test false e h = lines_step two k (line_of two k line) (lines_from two (k + 1) rest) e (line_within two k line) h
+
+number_at : (k : ℕ) (lines : List Line) → IsNumberedFrom k lines → (i : ℕ) (d : Line) → i < length lines → (get_or lines i d).number ≡ k + i
+number_at k [] h i d below = absurd (omega arith)
+number_at k (l ∷ ls) h zero d below = omega (arith, h.0)
+number_at k (l ∷ ls) h (suc i) d below = omega (arith, number_at (k + 1) ls h.1 i d (omega arith))
+
+-- what holds of the lines of a program
+pub record AreLines (two : Bool) (lines : List Line) : Type 0 where
+  pub few : length lines ≤ 2000
+  pub numbered : AreNumbered lines
+  pub formed : list_all (is_line two) lines ≡ true
+
+pub program_formed : (two : Bool) (texts : List Text) (lines : List Line) → lines_from two 1 texts ≡ Ok lines → AreLines two lines
+program_formed two texts lines e =
+    let h : AreFormed two 1 lines = subst (OkWithin (AreFormed two 1)) e (lines_formed two 1 texts) in
+    record {
+      few = omega (arith, h.few (omega arith));
+      numbered = λ i d below. omega (arith, number_at 1 lines h.numbered i d below);
+      formed = lines_test two lines h.formed;
+    }

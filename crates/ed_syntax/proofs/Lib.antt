@@ -1,0 +1,10 @@
+pub mod Formed
+pub mod Lines
+pub mod Meaning
+pub mod NameLemmas
+pub mod Numbers
+pub mod PartLemmas
+pub mod Programs
+pub mod Ranges
+pub mod Settings
+pub mod Splits

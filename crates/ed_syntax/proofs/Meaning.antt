@@ -1,0 +1,189 @@
+-- What the tests of a program's lines say.
+use Rattle.std.proofs.Common.{◌≡◌, ℕ, ◌<◌, ◌≤◌, Bool, true, List, [], ◌∷◌, refl, arith, ℤ, pos, neg_ℤ, ◌≤ℤ◌, length, All, get_or}
+use Rattle.std.specs.Prelude.{◌&&◌, Option, Some, None, IfSome, nat_le, unsigned_abs}
+use Rattle.std.specs.List.{list_all}
+use Rattle.std.proofs.lemmas.Bool.Decides.{nat_tests}
+use Rattle.std.proofs.lemmas.Int.{ints}
+use Rattle.std.proofs.lemmas.List.Sums.{AllPass-from_list_all}
+use Rattle.std.proofs.lemmas.List.Elements.{All-cons, All-head, All-tail}
+use Rattle.ed_syntax.specs.Grammar.{is_name, is_place_name}
+use Rattle.ed_syntax.specs.Programs.{is_base, is_form, is_line, is_operand, is_setting, is_statement, may_have_label}
+use Rattle.ed_syntax.specs.declared.program.Operand.{Operand}
+use Rattle.ed_syntax.specs.declared.program.Operand.TheVariants as operands
+use Rattle.ed_syntax.specs.declared.program.Setting.{Setting}
+use Rattle.ed_syntax.specs.declared.program.Statement.{Statement}
+use Rattle.ed_syntax.specs.declared.program.Statement.TheVariants as statements
+use Rattle.ed_syntax.specs.declared.program.Line.{Line}
+use Rattle.ed_syntax.proofs.NameLemmas.{and_both}
+
+-- a number that an operand adds to a name or takes from it
+pub record IsOffset (plus : ℤ) : Type 0 where
+  pub low : neg_ℤ (pos 1023) ≤ℤ plus
+  pub high : plus ≤ℤ pos 1023
+
+-- an operand with its number in its range
+abbrev pub IsOperand : Bool → Operand → Type 0
+IsOperand two (operands.Number n) = n ≤ 32767
+IsOperand two (operands.Label name plus) = (is_place_name two name ≡ true) × IsOffset plus
+IsOperand two (operands.Two first second minus) =
+    (two ≡ true) × ((is_place_name two first ≡ true) × (is_place_name two second ≡ true))
+
+-- a setting: the codes of H N M & L X are 21 to 26
+pub record IsSetting (two : Bool) (s : Setting) : Type 0 where
+  pub low : 21 ≤ s.letter
+  pub high : s.letter ≤ 26
+  pub operand : IsOperand two s.operand
+
+-- a statement with its numbers in their ranges
+abbrev pub IsStatement : Bool → Statement → Type 0
+IsStatement two (statements.Segment name base) = (is_name name ≡ true) × IfSome base (λ b. b ≤ 1023)
+IsStatement two (statements.Order function operand length) = IsOperand two operand
+IsStatement two (statements.Number value) = Unit {0}
+IsStatement two (statements.Text codes) = 0 < length codes.items
+IsStatement two (statements.Fetch routine name settings) =
+    (is_name routine ≡ true) × ((is_name name ≡ true) × All (IsSetting two) settings.items)
+IsStatement two (statements.Enter name) = is_name name ≡ true
+IsStatement two (statements.Rows codes) = 0 < length codes.items
+IsStatement two (statements.Long value) = two ≡ true
+
+-- a statement that may have a label
+abbrev pub MayHaveLabel : Statement → Type 0
+MayHaveLabel (statements.Order function operand length) = Unit {0}
+MayHaveLabel (statements.Number value) = Unit {0}
+MayHaveLabel (statements.Text codes) = Unit {0}
+MayHaveLabel (statements.Long value) = Unit {0}
+MayHaveLabel _ = ⊥
+
+-- what a line says: nothing, a statement, a label, or both
+abbrev pub IsForm : Bool → Option (List ℕ) → Option Statement → Type 0
+IsForm two None None = Unit {0}
+IsForm two None (Some s) = IsStatement two s
+IsForm two (Some label) None = is_place_name two label ≡ true
+IsForm two (Some label) (Some s) = (is_place_name two label ≡ true) × (MayHaveLabel s × IsStatement two s)
+
+-- ---- from the facts to the tests
+
+both : (x y : Bool) → x ≡ true → y ≡ true → (x && y) ≡ true
+both x y h k = rw h k
+
+operand_test : (two : Bool) (o : Operand) → IsOperand two o → is_operand two o ≡ true
+operand_test two (operands.Number n) h = grind (arith, nat_tests)
+operand_test two (operands.Label name plus) h =
+    let most : unsigned_abs plus ≤ 1023 = omega (arith, ints, h.1.low, h.1.high) in
+    both _ _ h.0 (grind (arith, nat_tests))
+operand_test two (operands.Two first second minus) h = both _ _ h.0 (both _ _ h.1.0 h.1.1)
+
+setting_test : (two : Bool) (s : Setting) → IsSetting two s → is_setting two s ≡ true
+setting_test two s h =
+    let low = h.low in
+    let high = h.high in
+    let first : nat_le 21 s.letter ≡ true = grind (arith, nat_tests) in
+    let last : nat_le s.letter 26 ≡ true = grind (arith, nat_tests) in
+    both _ _ (both _ _ first last) (operand_test two s.operand h.operand)
+
+settings_test : (two : Bool) (ss : List Setting) → All (IsSetting two) ss → list_all (is_setting two) ss ≡ true
+settings_test two [] h = refl
+settings_test two (s ∷ ss) h =
+    both _ _ (setting_test two s (All-head (IsSetting two) s ss h)) (settings_test two ss (All-tail (IsSetting two) s ss h))
+
+base_test : (base : Option ℕ) → IfSome base (λ b. b ≤ 1023) → is_base base ≡ true
+base_test None h = refl
+base_test (Some b) h = grind (arith, nat_tests)
+
+statement_test : (two : Bool) (s : Statement) → IsStatement two s → is_statement two s ≡ true
+statement_test two (statements.Segment name base) h = both _ _ h.0 (base_test base h.1)
+statement_test two (statements.Order function operand length) h = operand_test two operand h
+statement_test two (statements.Number value) h = refl
+statement_test two (statements.Text codes) h = grind (arith, nat_tests)
+statement_test two (statements.Fetch routine name settings) h = both _ _ h.0 (both _ _ h.1.0 (settings_test two settings.items h.1.1))
+statement_test two (statements.Enter name) h = h
+statement_test two (statements.Rows codes) h = grind (arith, nat_tests)
+statement_test two (statements.Long value) h = h
+
+label_test : (s : Statement) → MayHaveLabel s → may_have_label s ≡ true
+label_test (statements.Order function operand length) h = refl
+label_test (statements.Number value) h = refl
+label_test (statements.Text codes) h = refl
+label_test (statements.Long value) h = refl
+label_test (statements.Segment name base) h = absurd h
+label_test (statements.Fetch routine name settings) h = absurd h
+label_test (statements.Enter name) h = absurd h
+label_test (statements.Rows codes) h = absurd h
+
+form_test : (two : Bool) (label : Option (List ℕ)) (s : Option Statement) → IsForm two label s → is_form two label s ≡ true
+form_test two None None h = refl
+form_test two None (Some s) h = statement_test two s h
+form_test two (Some label) None h = h
+form_test two (Some label) (Some s) h = both _ _ h.0 (both _ _ (label_test s h.1.0) (statement_test two s h.1.1))
+
+pub lines_test : (two : Bool) (lines : List Line) → All (λ l. IsForm two l.label l.statement) lines → list_all (is_line two) lines ≡ true
+lines_test two [] h = refl
+lines_test two (l ∷ ls) h =
+    both _ _ (form_test two l.label l.statement (All-head (λ l. IsForm two l.label l.statement) l ls h))
+    (lines_test two ls (All-tail (λ l. IsForm two l.label l.statement) l ls h))
+
+-- ---- from the tests to the facts
+
+operand_fact : (two : Bool) (o : Operand) → is_operand two o ≡ true → IsOperand two o
+operand_fact two (operands.Number n) h = grind (arith, nat_tests)
+operand_fact two (operands.Label name plus) h =
+    let parts = and_both (is_place_name two name) (nat_le (unsigned_abs plus) 1023) h in
+    let test : nat_le (unsigned_abs plus) 1023 ≡ true = parts.1 in
+    let most : unsigned_abs plus ≤ 1023 = grind (arith, nat_tests) in
+    (parts.0, record { low = omega (arith, ints, most); high = omega (arith, ints, most) })
+operand_fact two (operands.Two first second minus) h = let parts = and_both _ _ h in (parts.0, and_both _ _ parts.1)
+
+setting_fact : (two : Bool) (s : Setting) → is_setting two s ≡ true → IsSetting two s
+setting_fact two s h =
+    let parts = and_both (nat_le 21 s.letter && nat_le s.letter 26) (is_operand two s.operand) h in
+    let ends = and_both (nat_le 21 s.letter) (nat_le s.letter 26) parts.0 in
+    let low : nat_le 21 s.letter ≡ true = ends.0 in
+    let high : nat_le s.letter 26 ≡ true = ends.1 in
+    record { low = grind (arith, nat_tests); high = grind (arith, nat_tests); operand = operand_fact two s.operand parts.1 }
+
+settings_fact : (two : Bool) (ss : List Setting) → list_all (is_setting two) ss ≡ true → All (IsSetting two) ss
+settings_fact two [] h = λ k d below. absurd (omega arith)
+settings_fact two (s ∷ ss) h =
+    let parts = and_both _ _ h in All-cons (IsSetting two) s ss (setting_fact two s parts.0) (settings_fact two ss parts.1)
+
+base_fact : (base : Option ℕ) → is_base base ≡ true → IfSome base (λ b. b ≤ 1023)
+base_fact None h = tt
+base_fact (Some b) h = grind (arith, nat_tests)
+
+pub statement_fact : (two : Bool) (s : Statement) → is_statement two s ≡ true → IsStatement two s
+statement_fact two (statements.Segment name base) h = let parts = and_both _ _ h in (parts.0, base_fact base parts.1)
+statement_fact two (statements.Order function operand length) h = operand_fact two operand h
+statement_fact two (statements.Number value) h = tt
+statement_fact two (statements.Text codes) h = grind (arith, nat_tests)
+statement_fact two (statements.Fetch routine name settings) h =
+    let parts = and_both _ _ h in
+    let rest = and_both _ _ parts.1 in
+    (parts.0, (rest.0, settings_fact two settings.items rest.1))
+statement_fact two (statements.Enter name) h = h
+statement_fact two (statements.Rows codes) h = grind (arith, nat_tests)
+statement_fact two (statements.Long value) h = h
+
+label_fact : (s : Statement) → may_have_label s ≡ true → MayHaveLabel s
+label_fact (statements.Order function operand length) h = tt
+label_fact (statements.Number value) h = tt
+label_fact (statements.Text codes) h = tt
+label_fact (statements.Long value) h = tt
+label_fact (statements.Segment name base) h = absurd (cc)
+label_fact (statements.Fetch routine name settings) h = absurd (cc)
+label_fact (statements.Enter name) h = absurd (cc)
+label_fact (statements.Rows codes) h = absurd (cc)
+
+-- a line of a program has a form
+pub form_fact : (two : Bool) (label : Option (List ℕ)) (s : Option Statement) → is_form two label s ≡ true → IsForm two label s
+form_fact two None None h = tt
+form_fact two None (Some s) h = statement_fact two s h
+form_fact two (Some label) None h = h
+form_fact two (Some label) (Some s) h =
+    let parts = and_both _ _ h in
+    let rest = and_both _ _ parts.1 in
+    (parts.0, (label_fact s rest.0, statement_fact two s rest.1))
+
+-- each line of a program has a form
+pub line_fact : (two : Bool) (lines : List Line) → list_all (is_line two) lines ≡ true → (k : ℕ) (d : Line) → k < length lines
+    → IsForm two (get_or lines k d).label (get_or lines k d).statement
+line_fact two lines h k d below = form_fact two _ _ (AllPass-from_list_all (is_line two) lines h k d below)

@@ -1,0 +1,6 @@
+use Rattle.std.proofs.Common.{◌≡◌, take, false}
+use Rattle.ed_syntax.specs.LineFronts.{has_end}
+use Rattle.ed_syntax.proofs.source.split_line.Given as goal
+
+abbrev pub invariant-loop-place : goal.invariant-loop-place
+invariant-loop-place l = has_end (take l.place l.text) ≡ false

@@ -1,0 +1,9 @@
+use Rattle.std.proofs.Common.{◌≡◌, ◌≤◌, take}
+use Rattle.ed_syntax.specs.Grammar.{value}
+use Rattle.ed_syntax.proofs.terms.up_to.Given as goal
+
+abbrev pub invariant-loop-digit : goal.invariant-loop-digit
+invariant-loop-digit l = record {
+  same : l.value ≡ value (take l.digit-index l.digits);
+  within : l.value ≤ l.most;
+}

@@ -1,0 +1,292 @@
+-- The grammar of the lines of a source (this project's own rule), over the parts of a line. Each definition answers none
+-- where the parts don't have its form. What has a form is `Ranged`: it is given where its numbers are in their ranges.
+-- The argument `two` says whether the source is of version 2.
+use Rattle.std.specs.Prelude.{ℕ, zero, suc, ◌+◌, ◌*◌, ◌-◌, ◌^◌, ◌==◌, ◌&&◌, ◌||◌, Bool, true, false, ℤ, pos, neg_ℤ, unsigned_abs}
+use Rattle.std.specs.Prelude.{List, [], ◌∷◌, codes, fold, length, map, nat_le, if◌then◌else◌}
+use Rattle.std.specs.Prelude.{Option, Some, None, option_map, option_and_then}
+use Rattle.std.specs.Int.{int_rem_euclid}
+use Rattle.std.specs.List.{list_all, list_any}
+use Rattle.std.specs.Str.{bytes_eq}
+use Rattle.ed_codes.specs.Spelling.{row_of}
+use Rattle.arrayvec.specs.ArrayVec.{ArrayVec}
+use Rattle.ed_syntax.specs.Lines.{Text}
+use Rattle.ed_syntax.specs.Parts.{Part, run, sign, quoted, is_lower, is_digit, is_run_byte}
+use Rattle.ed_syntax.specs.declared.program.Operand.{Operand}
+use Rattle.ed_syntax.specs.declared.program.Operand.TheVariants as operands
+use Rattle.ed_syntax.specs.declared.program.Setting.{Setting}
+use Rattle.ed_syntax.specs.declared.program.Statement.{Statement}
+use Rattle.ed_syntax.specs.declared.program.Statement.TheVariants as statements
+use Rattle.ed_syntax.specs.declared.program.Form.{Form}
+
+-- what has a form: none where a number of it is out of its range
+abbrev pub Ranged : Type 0 → Type 0
+Ranged A = Option A
+
+-- what is made of what has a form, where its numbers are in their ranges
+abbrev pub made : {A B : Type 0} → (A → B) → Option (Ranged A) → Option (Ranged B)
+made f o = option_map (option_map f) o
+
+-- ---- names and numbers
+
+-- a name: a lower-case letter followed by up to 15 lower-case letters, digits or `_`
+abbrev pub is_name : Text → Bool
+is_name [] = false
+is_name (b ∷ bs) = is_lower b && (nat_le (length bs) 15 && list_all is_run_byte bs)
+
+-- a local name: `_` followed by 1 to 15 of these
+abbrev pub is_local_name : Text → Bool
+is_local_name [] = false
+is_local_name (b ∷ bs) = b == 95 && (nat_le 1 (length bs) && (nat_le (length bs) 15 && list_all is_run_byte bs))
+
+-- what may stand as a label and in an operand: a name, or in version 2 a local name
+abbrev pub is_place_name : Bool → Text → Bool
+is_place_name two r = is_name r || (two && is_local_name r)
+
+-- a number: one or more decimal digits
+abbrev pub is_number : Text → Bool
+is_number [] = false
+is_number (b ∷ bs) = is_digit b && list_all is_digit bs
+
+-- the number that digits spell
+abbrev pub value : Text → ℕ
+value = fold (λ n b. 10 * n + (b - 48)) 0
+
+-- the number that digits spell, where it is at most this
+abbrev pub up_to : ℕ → Text → Ranged ℕ
+up_to most digits = if nat_le (value digits) most then Some (value digits) else None
+
+-- a number from 0 to this
+abbrev pub number : ℕ → Text → Option (Ranged ℕ)
+number most r = if is_number r then Some (up_to most r) else None
+
+-- a number, or its negative
+abbrev pub signed : Bool → ℕ → ℤ
+signed minus n = if minus then neg_ℤ (pos n) else pos n
+
+-- a number or, after a minus sign (45), its negative, from -least to most
+abbrev pub integer : ℕ → ℕ → List Part → Option (Ranged ℤ)
+integer least most (run r ∷ []) = made (signed false) (number most r)
+integer least most (sign s ∷ run r ∷ []) = if s == 45 then made (signed true) (number least r) else None
+integer least most _ = None
+
+-- ---- strings
+
+-- a byte that spells a row
+abbrev pub spells : Option ℕ → Bool
+spells (Some code) = true
+spells None = false
+
+-- the row of a byte that spells one
+abbrev pub row : Option ℕ → ℕ
+row (Some code) = code
+row None = 0
+
+-- a string: one or more bytes that spell rows, between quotes; a line has no room for more than 120
+abbrev pub string_rows : Text → Option (List ℕ)
+string_rows q = if nat_le 1 (length q) && (nat_le (length q) 120 && list_all (λ b. spells (row_of b)) q)
+    then Some (map (λ b. row (row_of b)) q) else None
+
+-- a string alone
+abbrev pub string : List Part → Option (List ℕ)
+string (quoted q ∷ []) = string_rows q
+string _ = None
+
+-- ---- operands
+
+-- a plus sign (43) or a minus sign (45)
+abbrev pub is_plus_or_minus : ℕ → Bool
+is_plus_or_minus s = s == 43 || s == 45
+
+-- an operand that is a number or a name
+abbrev pub single : Bool → Text → Option (Ranged Operand)
+single two r = if is_number r then Some (option_map operands.Number (up_to 32767 r))
+    else if is_place_name two r then Some (Some (operands.Label r (pos 0)))
+    else None
+
+-- an operand that is a name, a sign, and a number or in version 2 a name
+abbrev pub joined : Bool → Text → ℕ → Text → Option (Ranged Operand)
+joined two r s n = if is_place_name two r
+    then (if is_number n then Some (option_map (λ k. operands.Label r (signed (s == 45) k)) (up_to 1023 n))
+    else if two && is_place_name two n then Some (Some (operands.Two r n (s == 45)))
+    else None)
+    else None
+
+-- an operand, and the parts behind it
+abbrev pub with_rest : List Part → Option (Ranged Operand) → Option (Ranged Operand × List Part)
+with_rest parts o = option_map (λ a. (a, parts)) o
+
+-- after a name and a sign: what the sign joins to it
+abbrev pub joined_front : Bool → Text → ℕ → List Part → Option (Ranged Operand × List Part)
+joined_front two r s (run n ∷ parts) = with_rest parts (joined two r s n)
+joined_front two r s _ = None
+
+-- an operand at the front, and the parts behind it
+abbrev pub operand : Bool → List Part → Option (Ranged Operand × List Part)
+operand two (run r ∷ sign s ∷ parts) =
+    if is_plus_or_minus s then joined_front two r s parts else with_rest (sign s ∷ parts) (single two r)
+operand two (run r ∷ parts) = with_rest parts (single two r)
+operand two _ = None
+
+-- ---- orders
+
+-- a function: an upper-case letter or one of `# * . @ ! &`, which are the letters and signs of the 32 rows
+abbrev pub function : ℕ → Option ℕ
+function b = if is_digit b then None else row_of b
+
+-- the length: F (70) is short, D (68) is long
+abbrev pub length_of : ℕ → Option Bool
+length_of b = if b == 70 then Some false else if b == 68 then Some true else None
+
+-- the length at the end of an order
+abbrev pub length_end : List Part → Option Bool
+length_end (sign e ∷ []) = length_of e
+length_end _ = None
+
+-- what follows the function: an operand, which may be missing and is the number 0 then, and the length
+abbrev pub order_end : Bool → List Part → Option (Ranged Operand × Bool)
+order_end two (sign e ∷ parts) = option_map (λ l. (Some (operands.Number 0), l)) (length_end (sign e ∷ parts))
+order_end two parts = option_and_then (λ p. option_map (λ l. (p.0, l)) (length_end p.1)) (operand two parts)
+
+-- an order: a function, an operand that may be missing, and F or D
+abbrev pub order : Bool → ℕ → List Part → Option (Ranged Statement)
+order two b parts =
+    option_and_then (λ f. option_map (λ p. option_map (λ o. statements.Order f o p.1) p.0) (order_end two parts)) (function b)
+
+-- ---- settings
+
+-- the letter of a setting, as its code
+abbrev pub setting_letter : ℕ → Option ℕ
+setting_letter b = if list_any (λ c. c == b) (codes "HNM&LX") then row_of b else None
+
+-- a letter with its operand
+abbrev pub lettered : ℕ → Ranged Operand → Ranged Setting
+lettered l o = option_map (λ a. record { letter = l; operand = a }) o
+
+-- a setting at the front, and the parts behind it: a letter, `=` (61) and an operand
+abbrev pub setting : Bool → List Part → Option (Ranged Setting × List Part)
+setting two (sign b ∷ sign e ∷ parts) = if e == 61
+    then option_and_then (λ l. option_map (λ p. (lettered l p.0, p.1)) (operand two parts)) (setting_letter b)
+    else None
+setting two _ = None
+
+-- a setting in front of others
+abbrev pub both : Ranged Setting → Ranged (List Setting) → Ranged (List Setting)
+both (Some s) (Some more) = Some (s ∷ more)
+both _ _ = None
+
+-- behind a setting: nothing, or a comma (44) and more settings
+abbrev pub and_more : Ranged Setting → List Part → (List Part → Option (Ranged (List Setting))) → Option (Ranged (List Setting))
+and_more s [] more = Some (option_map (λ a. a ∷ []) s)
+and_more s (sign c ∷ parts) more = if c == 44 then option_map (both s) (more parts) else None
+and_more s _ more = None
+
+-- one to k settings with commas between
+unfoldable pub settings : Bool → ℕ → List Part → Option (Ranged (List Setting))
+settings two zero parts = None
+settings two (suc k) parts = option_and_then (λ p. and_more p.0 p.1 (settings two k)) (setting two parts)
+
+-- nothing, or `with` and one to six settings
+abbrev pub preset : Bool → List Part → Option (Ranged (List Setting))
+preset two [] = Some (Some [])
+preset two (run w ∷ parts) = if bytes_eq w (codes "with") then settings two 6 parts else None
+preset two _ = None
+
+-- ---- statements
+
+-- an array with these items
+abbrev pub array : {A : Type 0} → List A → ArrayVec A
+array xs = record { items = xs }
+
+-- a number modulo 2^k, from 0 upwards for a negative one too
+abbrev pub modulo : ℕ → ℤ → ℕ
+modulo k z = unsigned_abs (int_rem_euclid z (pos (2 ^ k)))
+
+-- `word N` or `word -N`: N modulo 2^17
+abbrev pub word : List Part → Option (Ranged Statement)
+word parts = made (λ z. statements.Number (modulo 17 z)) (integer 65536 131071 parts)
+
+-- `long N` or `long -N`: N modulo 2^35
+abbrev pub long : List Part → Option (Ranged Statement)
+long parts = made (λ z. statements.Long (modulo 35 z)) (integer 17179869184 34359738367 parts)
+
+-- `text STRING`
+abbrev pub text : List Part → Option (Ranged Statement)
+text parts = option_map (λ rows. Some (statements.Text (array rows))) (string parts)
+
+-- `data STRING`
+abbrev pub tape_rows : List Part → Option (Ranged Statement)
+tape_rows parts = option_map (λ rows. Some (statements.Rows (array rows))) (string parts)
+
+-- `enter NAME`
+abbrev pub enter : List Part → Option (Ranged Statement)
+enter (run r ∷ []) = if is_name r then Some (Some (statements.Enter r)) else None
+enter _ = None
+
+-- nothing, or `at N`
+abbrev pub base : List Part → Option (Ranged (Option ℕ))
+base [] = Some (Some None)
+base (run a ∷ run n ∷ []) = if bytes_eq a (codes "at") then made Some (number 1023 n) else None
+base _ = None
+
+-- `segment NAME` or `segment NAME at N`
+abbrev pub segment : List Part → Option (Ranged Statement)
+segment (run r ∷ parts) = if is_name r then made (statements.Segment r) (base parts) else None
+segment _ = None
+
+-- `use NAME as NAME`, or that followed by `with` and settings
+abbrev pub fetch : Bool → List Part → Option (Ranged Statement)
+fetch two (run r ∷ run a ∷ run n ∷ parts) = if bytes_eq a (codes "as") && (is_name r && is_name n)
+    then made (λ ss. statements.Fetch r n (array ss)) (preset two parts) else None
+fetch two _ = None
+
+-- a statement that may have a label: an order, `word`, `text` or, in version 2, `long`
+abbrev pub placed : Bool → List Part → Option (Ranged Statement)
+placed two (sign b ∷ parts) = order two b parts
+placed two (run w ∷ parts) = if bytes_eq w (codes "word") then word parts
+    else if bytes_eq w (codes "text") then text parts
+    else if two && bytes_eq w (codes "long") then long parts
+    else None
+placed two _ = None
+
+-- any statement: `segment`, `use`, `enter`, `data` or one that may have a label
+abbrev pub statement : Bool → List Part → Option (Ranged Statement)
+statement two (run w ∷ parts) = if bytes_eq w (codes "segment") then segment parts
+    else if bytes_eq w (codes "use") then fetch two parts
+    else if bytes_eq w (codes "enter") then enter parts
+    else if bytes_eq w (codes "data") then tape_rows parts
+    else placed two (run w ∷ parts)
+statement two parts = placed two parts
+
+-- ---- lines
+
+-- an empty line
+abbrev pub empty : Form
+empty = record { label = None; statement = None }
+
+-- a statement alone
+abbrev pub unlabelled : Bool → List Part → Option (Ranged Form)
+unlabelled two parts = made (λ s. record { label = None; statement = Some s }) (statement two parts)
+
+-- what follows a label: nothing, or a statement that may have one
+abbrev pub after_label : Bool → Text → List Part → Option (Ranged Form)
+after_label two r [] = Some (Some (record { label = Some r; statement = None }))
+after_label two r parts = made (λ s. record { label = Some r; statement = Some s }) (placed two parts)
+
+-- a line that begins with a label
+abbrev pub labelled : Bool → Text → List Part → Option (Ranged Form)
+labelled two r parts = if is_place_name two r then after_label two r parts else None
+
+-- a line: empty, or a label, a statement, or both; a colon (58) follows a label
+abbrev pub form : Bool → List Part → Option (Ranged Form)
+form two [] = Some (Some empty)
+form two (run r ∷ sign s ∷ parts) = if s == 58 then labelled two r parts else unlabelled two (run r ∷ sign s ∷ parts)
+form two parts = unlabelled two parts
+
+-- `version 2`, which may stand on line 1 alone
+abbrev pub is_version_two : List Part → Bool
+is_version_two (run w ∷ run n ∷ []) = bytes_eq w (codes "version") && (is_number n && value n == 2)
+is_version_two _ = false
+
+-- the line with the number k: `version 2` as line 1 is otherwise an empty line
+abbrev pub form_at : Bool → ℕ → List Part → Option (Ranged Form)
+form_at two k parts = if k == 1 && is_version_two parts then Some (Some empty) else form two parts

@@ -1,0 +1,10 @@
+pub mod Names
+pub mod Lines
+pub mod Parts
+pub mod Grammar
+pub mod Sources
+pub mod Seen
+pub mod PartFronts
+pub mod LineFronts
+pub mod Answers
+pub mod Programs

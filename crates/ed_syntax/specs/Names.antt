@@ -1,0 +1,20 @@
+-- How a name lies in memory. No public clause cites this.
+use Rattle.std.specs.Prelude.{◌≡◌, ℕ, ◌-◌, ◌<◌, ◌≤◌, List, ◌++◌, length, take, replicate, IsUtf8}
+
+-- the bytes of a name in 16, filled up with 0
+abbrev pub padded : List ℕ → List ℕ
+padded text = text ++ replicate (16 - length text) 0
+
+-- the first n of 16 bytes are a text, and the others are 0
+pub record IsPadded (bytes : List ℕ) (n : ℕ) : Type 0 where
+  pub some : 0 < n
+  pub few : n ≤ 16
+  pub size : length (take n bytes) ≡ n
+  pub zeros : padded (take n bytes) ≡ bytes
+  pub text : ∥ IsUtf8 (take n bytes) ∥₁
+
+-- a text of 1 to 16 bytes
+pub record IsNameText (text : List ℕ) : Type 0 where
+  pub some : 0 < length text
+  pub few : length text ≤ 16
+  pub utf8 : IsUtf8 text

@@ -1,0 +1,35 @@
+-- What the code takes from the front of a line. No public clause cites this.
+use Rattle.std.specs.Prelude.{◌≡◌, ◌<◌, ◌==◌, Bool, true, false, [], ◌∷◌, ◌++◌, Option, Some, None, Result, Ok, Err, length, option_map}
+use Rattle.std.specs.Borrow.{Bor}
+use Rattle.std.specs.List.{list_all, list_any}
+use Rattle.ed_syntax.specs.Lines.{Text}
+use Rattle.ed_syntax.specs.Parts.{parts_of, is_run_byte, begins_run, is_blank}
+use Rattle.ed_syntax.specs.Seen.{part}
+use Rattle.ed_syntax.specs.declared.parts.Part.{Part}
+use Rattle.ed_syntax.specs.declared.parts.OpenQuote.{OpenQuote}
+
+-- whether a quote stands in a text
+abbrev pub has_quote : Text → Bool
+has_quote text = list_any (λ b. b == 34) text
+
+-- whether a text begins with a blank
+abbrev pub begins_blank : Text → Bool
+begins_blank [] = false
+begins_blank (b ∷ bs) = is_blank b
+
+-- a text begins with a run, which ends where the rest begins
+pub record SplitsRun (text first rest : Text) : Type 0 where
+  pub whole : text ≡ first ++ rest
+  pub each : list_all is_run_byte first ≡ true
+  pub end : begins_run rest ≡ false
+
+-- the first quote of a text stands between what is inside and the rest
+pub record SplitsQuote (text inside rest : Text) : Type 0 where
+  pub whole : text ≡ inside ++ 34 ∷ rest
+  pub none : has_quote inside ≡ false
+
+-- the part at the front, and what is left; no part; or a quote that stays open
+abbrev pub Takes : Text → Result (Option (Part × Bor Text)) OpenQuote → Type 0
+Takes text (Ok (Some p)) = (parts_of text ≡ option_map (λ ps. part p.0 ∷ ps) (parts_of p.1.now)) × (length p.1.now < length text)
+Takes text (Ok None) = parts_of text ≡ Some []
+Takes text (Err e) = parts_of text ≡ None

@@ -1,0 +1,47 @@
+/// Why a source is refused. S1 to S5 are faults of form, the others of meaning, which are found above this crate.
+#[derive(Clone, Copy, Debug, PartialEq, Eq)]
+pub enum SourceCause {
+    /// S1: a byte of the line is neither a tab nor 32 to 126.
+    BadByte,
+    /// S2: the line has more than 120 bytes.
+    LongLine,
+    /// S3: the line has none of the forms, its numbers being of any size.
+    NotAStatement,
+    /// S4: the line has a form and a number is out of its range.
+    NumberRange,
+    /// S5: line 2001, where there is one.
+    TooManyLines,
+    /// S6: the line defines a name that is defined already.
+    LabelTwice,
+    /// S7: an operand or `enter` names what has no place on its line.
+    LabelUnknown,
+    /// S8: an operand's place is outside 0 to 1023.
+    AddressRange,
+    /// S9: the line has to stand in a segment.
+    OutsideSegment,
+    /// S10: a word of the line, or the place of an `enter`'s label, is below 44.
+    LoaderStore,
+    /// S11: the same for 44 to 55.
+    ParameterStore,
+    /// S12: the same for the size of the store and more.
+    StoreEnd,
+    /// S13: a word's place holds a word of an earlier line.
+    Overlap,
+    /// S14: `use` of a name that isn't in the catalogue.
+    NoSuchRoutine,
+    /// S15: the letters set aren't exactly the routine's parameters, each once.
+    Parameters,
+    /// S16: `enter` twice, missing or out of its order.
+    Enter,
+    /// S17: a `long` whose sandwich digit is 1, which no tape can place.
+    SandwichDigit,
+}
+
+/// What is wrong with a source.
+#[derive(Clone, Copy, Debug, PartialEq, Eq)]
+pub enum SourceFault {
+    /// A fault at a line, counted from 1.
+    At { line: u32, cause: SourceCause },
+    /// No memory was found.
+    Memory,
+}

@@ -1,0 +1,203 @@
+//! Names, numbers and strings.
+ghost use Rattle.std.specs.Prelude.{◌≡◌, ◌∷◌, ◌≤◌, ◌<◌, ◌^◌, true, false, Some, map, length, IfSome, IfNone, option_map};
+ghost use Rattle.std.specs.List.{list_all};
+ghost use Rattle.std.specs.Str.{bytes_eq};
+ghost use Rattle.ed_codes.specs.Spelling.{row_of};
+ghost use Rattle.ed_syntax.specs.Grammar.{array, integer, is_local_name, is_name, is_number, is_place_name, number, row};
+ghost use Rattle.ed_syntax.specs.Grammar.{signed, spells, string, string_rows, up_to};
+ghost use Rattle.ed_syntax.specs.Names.{IsNameText};
+ghost use Rattle.ed_syntax.specs.Parts.{is_digit, is_run_byte, sign};
+ghost use Rattle.ed_syntax.specs.Seen.{part};
+
+use crate::Name;
+use crate::parts::{Part, is_run_byte};
+use arrayvec::ArrayVec;
+use ed_codes::{Code, row_of_byte};
+use std::str;
+
+/// Whether each byte belongs to a run.
+fn are_run_bytes(bytes: &[u8]) -> bool
+    ensures { result ≡ list_all is_run_byte bytes.now }
+{
+    bytes.iter().all(|byte| is_run_byte(*byte))
+}
+
+/// Whether each byte is a digit.
+fn are_digits(bytes: &[u8]) -> bool
+    ensures { result ≡ list_all is_digit bytes.now }
+{
+    bytes.iter().all(|byte| byte.is_ascii_digit())
+}
+
+/// Whether a run is a name.
+fn is_name(run: &[u8]) -> bool
+    ensures { result ≡ is_name run.now }
+{
+    match run.split_first() {
+        None => false,
+        Some((first, rest)) => {
+            first.is_ascii_lowercase() && rest.len() <= 15 && are_run_bytes(rest)
+        }
+    }
+}
+
+/// Whether a run is a local name.
+fn is_local_name(run: &[u8]) -> bool
+    ensures { result ≡ is_local_name run.now }
+{
+    match run.split_first() {
+        None => false,
+        Some((first, rest)) => {
+            *first == b'_' && 1 <= rest.len() && rest.len() <= 15 && are_run_bytes(rest)
+        }
+    }
+}
+
+/// Whether a run may name a place.
+fn is_place_name(two: bool, run: &[u8]) -> bool
+    ensures { result ≡ is_place_name two run.now }
+{
+    is_name(run) || two && is_local_name(run)
+}
+
+/// The name of a text that is one.
+fn name_of(text: &[u8]) -> Name
+    requires { IsNameText text.now }
+    ensures { result ≡ text.now }
+{
+    match str::from_utf8(text) {
+        Ok(text) => Name::new(text).unwrap(),
+        Err(_) => unreachable!(),
+    }
+}
+
+/// A name.
+pub(crate) fn name(run: &[u8]) -> Option<Name>
+    ensures none { IfNone result (is_name run.now ≡ false) }
+    ensures some { IfSome result (λ n. (n ≡ run.now) × (is_name run.now ≡ true)) }
+{
+    if is_name(run) {
+        Some(name_of(run))
+    } else {
+        None
+    }
+}
+
+/// A name or, in version 2, a local name.
+pub(crate) fn place_name(two: bool, run: &[u8]) -> Option<Name>
+    ensures none { IfNone result (is_place_name two run.now ≡ false) }
+    ensures some { IfSome result (λ n. (n ≡ run.now) × (is_place_name two run.now ≡ true)) }
+{
+    if is_place_name(two, run) {
+        Some(name_of(run))
+    } else {
+        None
+    }
+}
+
+/// Whether a run is a number.
+pub(crate) fn is_number(run: &[u8]) -> bool
+    ensures { result ≡ is_number run.now }
+{
+    match run.split_first() {
+        None => false,
+        Some((first, rest)) => first.is_ascii_digit() && are_digits(rest),
+    }
+}
+
+/// The number that digits spell, where it is at most this.
+pub(crate) fn up_to(most: u64, digits: &[u8]) -> Option<u64>
+    requires { most < 2 ^ 36 }
+    ensures is { result ≡ up_to most digits.now }
+    ensures within { IfSome result (λ n. n ≤ most) }
+{
+    let mut value = 0;
+    for digit in digits {
+        value = 10 * value + u64::from(digit.saturating_sub(b'0'));
+        if value > most {
+            return None;
+        }
+    }
+    Some(value)
+}
+
+/// A number from 0 to this.
+pub(crate) fn number(most: u64, run: &[u8]) -> Option<Option<u64>>
+    requires { most < 2 ^ 36 }
+    ensures is { result ≡ number most run.now }
+    ensures within { IfSome result (λ n. IfSome n (λ k. k < 2 ^ 36)) }
+{
+    if is_number(run) {
+        Some(up_to(most, run))
+    } else {
+        None
+    }
+}
+
+/// A number or, after a minus sign, its negative.
+pub(crate) fn integer(least: u64, most: u64, parts: &[Part]) -> Option<Option<i64>>
+    requires least { least < 2 ^ 36 }
+    requires most { most < 2 ^ 36 }
+    ensures { result ≡ integer least most (map part parts.now) }
+{
+    match parts.split_first() {
+        Some((Part::Run(run), rest)) if rest.is_empty() => signed(false, number(most, run)),
+        Some((Part::Sign(sign), rest)) if *sign == b'-' => negative(least, most, rest),
+        _ => None,
+    }
+}
+
+/// What follows the minus sign of a number that may be `most` where it has none.
+fn negative(least: u64, most: u64, parts: &[Part]) -> Option<Option<i64>>
+    requires { least < 2 ^ 36 }
+    ensures { result ≡ integer least most (sign 45 ∷ map part parts.now) }
+{
+    match parts.split_first() {
+        Some((Part::Run(run), rest)) if rest.is_empty() => signed(true, number(least, run)),
+        _ => None,
+    }
+}
+
+/// A number that was found, or its negative.
+fn signed(minus: bool, found: Option<Option<u64>>) -> Option<Option<i64>>
+    requires { IfSome found (λ n. IfSome n (λ k. k < 2 ^ 36)) }
+    ensures { result ≡ option_map (option_map (signed minus)) found }
+{
+    match found {
+        Some(Some(number)) if minus => Some(Some(-(number as i64))),
+        Some(Some(number)) => Some(Some(number as i64)),
+        Some(None) => Some(None),
+        None => None,
+    }
+}
+
+/// A string of one or more bytes that spell rows.
+pub(crate) fn string(parts: &[Part]) -> Option<ArrayVec<Code, 120>>
+    ensures { result ≡ option_map array (string (map part parts.now)) }
+{
+    match parts.split_first() {
+        Some((Part::Quoted(text), rest)) if rest.is_empty() => string_rows(text),
+        _ => None,
+    }
+}
+
+/// The rows of a string.
+fn string_rows(text: &[u8]) -> Option<ArrayVec<Code, 120>>
+    ensures { result ≡ option_map array (string_rows text.now) }
+{
+    if text.is_empty() || text.len() > 120 {
+        return None;
+    }
+    let mut rows = ArrayVec::new();
+    for byte in text {
+        rows.push(row_of_byte(*byte)?);
+    }
+    Some(rows)
+}
+
+/// Whether a run is a word of the forms.
+pub(crate) fn is(run: &[u8], word: &[u8]) -> bool
+    ensures { result ≡ bytes_eq run.now word.now }
+{
+    run == word
+}

@@ -1,0 +1,5 @@
+pub mod Bytes
+pub mod Endings
+pub mod Givens
+pub mod Inputs
+pub mod Lines

@@ -1,0 +1,14 @@
+//! The program as one call: words, an input and two outputs in, a status out.
+//!
+//! The contract of [`edsac`] is exact for every list of words and every input, over any source and any two sinks: the
+//! status and both texts are those of the definition, and the answers for a fault or for want of memory come with their
+//! cause and with what was written. Stands on all crates below.
+#![tactic(auto)]
+
+mod answer;
+mod check;
+mod devices;
+mod program;
+mod tape;
+
+pub use program::edsac;

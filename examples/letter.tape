@@ -1,0 +1,7 @@
+[Prints the letter A and stops.]
+T64K        [words go to location 64 and upwards]
+GK          [theta is 64]
+O2@         [64: print the code in the word two places on]
+ZF          [65: stop]
+AF          [66: the letter A]
+EZPF        [enter at theta]
