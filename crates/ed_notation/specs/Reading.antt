@@ -43,6 +43,7 @@ kay_sets control setting part =
     if nat_lt 1023 part.number then Refused StoreEnd
     else Ended (record setting { theta = (4096 * part.function + 2 * part.number + setting.directive) % 2 ^ 17 }) 16
 
+-- the row K, which a mark before it forbids
 abbrev pub kay_taken : Control → Setting → Part → Taken
 kay_taken control setting part = if part.mark then Refused BadControl else kay_sets control setting part
 
@@ -57,6 +58,7 @@ zed_sets ThetaByBlank setting part =
     else Ended (record setting { theta = (65536 + 2 * part.number + setting.theta + setting.directive) % 2 ^ 17 }) 17
 zed_sets control setting part = Refused BadControl
 
+-- the row Z, which a mark before it forbids
 abbrev pub zed_taken : Control → Setting → Part → Taken
 zed_taken control setting part = if part.mark then Refused BadControl else zed_sets control setting part
 
