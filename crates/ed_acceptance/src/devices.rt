@@ -1,0 +1,65 @@
+//! Each device through the trait that the program uses it by.
+
+use ed_io::{
+    Failed, MemorySink, MemorySource, Sink, Source, StdSink, StdSource, SureSink, SureSource,
+};
+use std::process::Abort;
+use std::test::Fail;
+
+/// Checks what the calls of `read` answer one after the other, with pieces of two bytes.
+fn reads(rt: &impl Abort, source: &mut impl Source, answers: &[Result<usize, Failed>]) {
+    for (call, answer) in answers.iter().enumerate() {
+        let mut piece = [0; 2];
+        assert!(rt; source.read(&mut piece) == *answer, "read {call}");
+    }
+}
+
+/// Checks what a call of `write` answers.
+fn writes(rt: &impl Abort, sink: &mut impl Sink, piece: &str, answer: Result<usize, Failed>) {
+    assert!(rt; sink.write(piece.as_bytes()) == answer, "write of {piece}");
+}
+
+#[test]
+fn sources(rt: HostRuntime) -> Result<(), Fail> {
+    let alloc = rt.alloc();
+    let mut source = MemorySource::new(b"ABC".to_vec(alloc)?, [1].to_vec(alloc)?);
+    reads(&rt, &mut source, &[Ok(2), Err(Failed), Ok(1), Ok(0)]);
+    assert_eq!(rt; source.faults(), 1);
+    assert!(rt; source.bytes().is_empty());
+    let mut source = MemorySource::in_pieces(b"ABC".to_vec(alloc)?, Vec::new(alloc), 1);
+    reads(&rt, &mut source, &[Ok(1), Ok(1), Ok(1), Ok(0)]);
+    let mut source = SureSource::new(b"ABC".to_vec(alloc)?);
+    reads(&rt, &mut source, &[Ok(2)]);
+    assert_eq!(rt; source.bytes(), b"C".as_slice());
+    reads(&rt, &mut source, &[Ok(1), Ok(0)]);
+    assert_eq!(rt; source.faults(), 0);
+    let mut source = StdSource::new(&b"ABC"[..]);
+    reads(&rt, &mut source, &[Ok(2), Ok(1), Ok(0)]);
+    Ok(())
+}
+
+#[test]
+fn sinks(rt: HostRuntime) -> Result<(), Fail> {
+    let alloc = rt.alloc();
+    let mut sink = MemorySink::new(alloc, 3)?;
+    writes(&rt, &mut sink, "AB", Ok(2));
+    writes(&rt, &mut sink, "CD", Ok(1));
+    writes(&rt, &mut sink, "E", Err(Failed));
+    writes(&rt, &mut sink, "", Ok(0));
+    assert_eq!(rt; sink.bytes(), b"ABC".as_slice());
+    assert_eq!(rt; sink.faults(), 1);
+    let mut sink = MemorySink::with_faults(alloc, 3, [0].to_vec(alloc)?)?;
+    writes(&rt, &mut sink, "A", Err(Failed));
+    writes(&rt, &mut sink, "A", Ok(1));
+    let mut sink = MemorySink::in_pieces(alloc, 3, Vec::new(alloc), 2)?;
+    writes(&rt, &mut sink, "ABC", Ok(2));
+    let mut sink = SureSink::new(alloc, 2)?;
+    writes(&rt, &mut sink, "ABC", Ok(3));
+    assert_eq!(rt; sink.bytes(), b"AB".as_slice());
+    assert_eq!(rt; sink.faults(), 0);
+    let mut room = [0; 3];
+    let mut sink = StdSink::new(&mut room[..]);
+    writes(&rt, &mut sink, "ABCD", Ok(3));
+    writes(&rt, &mut sink, "D", Err(Failed));
+    Ok(())
+}

@@ -1,0 +1,280 @@
+//! What `check-tape` and the checker say of a tape.
+
+use crate::support::answer_of;
+use ed_codes::{Code, byte_of, tape_of_text};
+use ed_notation::{Checked, TapeCause, TapeFault, check, check_from};
+use ed_store::Store;
+use ed_words::{Size, Word};
+use std::alloc::Global;
+use std::process::Abort;
+use std::test::Fail;
+
+/// Checks that a command line says a line of a tape: on `out` where the tape is well formed, and else on `note`.
+fn says(
+    rt: &impl Abort,
+    alloc: Global,
+    line: &str,
+    tape: &[u8],
+    verdict: &str,
+) -> Result<(), Fail> {
+    let answer = answer_of(alloc, line, tape)?;
+    let (status, told, silent) = if verdict.starts_with("entry ") {
+        (0, &answer.out, &answer.note)
+    } else {
+        (3, &answer.note, &answer.out)
+    };
+    assert_eq!(rt; answer.status, status, "{line} of {tape:?}");
+    assert!(rt; silent.is_empty(), "{line} of {tape:?}");
+    match told.split_last() {
+        Some((last, text)) => {
+            assert_eq!(rt; *last, b'\n', "{line} of {tape:?}");
+            assert_eq!(rt; text, verdict.as_bytes(), "{line} of {tape:?}");
+        }
+        None => assert!(rt; false, "nothing is said of {tape:?}"),
+    }
+    Ok(())
+}
+
+#[test]
+fn the_worked_tapes(rt: HostRuntime) -> Result<(), Fail> {
+    for (tape, verdict) in [
+        ("EZPF", "row 3: N10 entry in loader"),
+        ("T64KGKO2@ZFAFEZPF", "entry 64 after 191 orders, 17 rows"),
+        ("T64KP32767DE64KPF", "entry 64 after 176 orders, 17 rows"),
+        ("P32768F", "row 5: N3 number too large"),
+        ("T64KGKA2#@EZPF", "entry 64 after 160 orders, 14 rows"),
+        (
+            "T45KP100FT64KA1HE64KPF",
+            "entry 64 after 230 orders, 22 rows",
+        ),
+        ("E64KAF", "row 5: N9 entry negative"),
+        ("T20KPF", "row 5: N6 loader store"),
+        ("T20KT64KPFE64KPF", "entry 64 after 171 orders, 16 rows"),
+        ("T1023KPFPF", "row 9: N7 store end"),
+        ("", "row 0: N1 end of tape"),
+        (
+            "..PKT64KGKO2@ZFAFEZPF",
+            "entry 64 after 233 orders, 21 rows",
+        ),
+        (
+            "...PKT64KGKO2@ZFAFEZPF",
+            "entry 64 after 242 orders, 22 rows",
+        ),
+        ("PKAF", "row 3: N8 no place"),
+        (
+            "T64K..PZGKO2@ZFAFEZPF",
+            "entry 64 after 234 orders, 21 rows",
+        ),
+    ] {
+        says(&rt, rt.alloc(), "check-tape", tape.as_bytes(), verdict)?;
+    }
+    Ok(())
+}
+
+#[test]
+fn a_tape_that_is_cut_has_no_entry(rt: HostRuntime) -> Result<(), Fail> {
+    let alloc = rt.alloc();
+    let tape = b"T64KGKO2@ZFAFEZPF";
+    for rows in 0..17 {
+        let verdict = format!(in alloc; "row {rows}: N1 end of tape")?;
+        says(&rt, alloc, "check-tape", &tape[..rows], verdict.as_str())?;
+    }
+    Ok(())
+}
+
+#[test]
+fn each_rule_at_its_row(rt: HostRuntime) -> Result<(), Fail> {
+    for (tape, verdict) in [
+        ("T64", "row 3: N1 end of tape"),
+        ("T64KPF", "row 6: N1 end of tape"),
+        ("P#J", "row 2: N2 bad row"),
+        (".5.", "row 2: N2 bad row"),
+        (".#.", "row 2: N2 bad row"),
+        ("P32767F", "row 7: N1 end of tape"),
+        ("P000032768F", "row 9: N3 number too large"),
+        ("P327670F", "row 6: N3 number too large"),
+        ("P5#5F", "row 3: N4 after mark"),
+        ("P##F", "row 2: N4 after mark"),
+        ("P#K", "row 2: N5 bad control"),
+        ("T64#Z", "row 4: N5 bad control"),
+        ("A5K", "row 2: N5 bad control"),
+        ("G5Z", "row 2: N5 bad control"),
+        ("T43KPF", "row 5: N6 loader store"),
+        ("T44KPF", "row 6: N1 end of tape"),
+        ("T1023K", "row 6: N1 end of tape"),
+        ("T1024K", "row 5: N7 store end"),
+        ("G1024K", "row 5: N7 store end"),
+        ("T1023Z", "row 6: N1 end of tape"),
+        ("T1024Z", "row 5: N7 store end"),
+        ("T32767Z", "row 6: N7 store end"),
+        (".32767Z", "row 7: N1 end of tape"),
+        ("T64KGK.32767Z", "row 12: N7 store end"),
+        ("E43KPF", "row 5: N10 entry in loader"),
+        ("E44KPF", "entry 44 after 68 orders, 6 rows"),
+        ("E1023KPF", "entry 1023 after 86 orders, 8 rows"),
+        ("P6144ZPF", "row 7: N10 entry in loader"),
+        ("P6208ZPF", "entry 64 after 87 orders, 8 rows"),
+    ] {
+        says(&rt, rt.alloc(), "check-tape", tape.as_bytes(), verdict)?;
+    }
+    Ok(())
+}
+
+#[test]
+fn the_first_row_and_then_the_first_rule(rt: HostRuntime) -> Result<(), Fail> {
+    for (tape, verdict) in [
+        ("P32768J", "row 5: N3 number too large"),
+        ("T20KPFPJ", "row 5: N6 loader store"),
+        ("PJP32768F", "row 1: N2 bad row"),
+        ("P3276#8F", "row 6: N4 after mark"),
+        ("P32767#9F", "row 7: N4 after mark"),
+        ("A1024K", "row 5: N5 bad control"),
+        ("P1024#K", "row 6: N5 bad control"),
+        ("GZEZPF", "row 1: N5 bad control"),
+        ("PKAFEZPF", "row 3: N8 no place"),
+        ("E43KAF", "row 5: N9 entry negative"),
+        ("E64KAFP", "row 5: N9 entry negative"),
+    ] {
+        says(&rt, rt.alloc(), "check-tape", tape.as_bytes(), verdict)?;
+    }
+    Ok(())
+}
+
+#[test]
+fn a_store_of_512_locations_ends_sooner(rt: HostRuntime) -> Result<(), Fail> {
+    for (line, tape, verdict) in [
+        ("check-tape --store 512", "T511KPFPF", "row 8: N7 store end"),
+        ("check-tape", "T511KPFPF", "row 9: N1 end of tape"),
+        ("check-tape --store=512", "E600KPF", "row 6: N7 store end"),
+        ("check-tape --store=512", "E600KAF", "row 6: N7 store end"),
+        ("check-tape", "E600KPF", "entry 600 after 77 orders, 7 rows"),
+        ("check-tape", "E600KAF", "row 6: N9 entry negative"),
+        ("--store=512 check-tape", "T1023K", "row 6: N1 end of tape"),
+    ] {
+        says(&rt, rt.alloc(), line, tape.as_bytes(), verdict)?;
+    }
+    Ok(())
+}
+
+/// What is said of the tape of a function row and a row behind it.
+fn verdict_of_two(function: u8, row: u8) -> &'static str {
+    match (function, row) {
+        (b'.', b'.') => "row 2: N1 end of tape",
+        (_, b'J' | b'S' | b'*' | b'.') => "row 1: N2 bad row",
+        (b'A', b'K' | b'Z') | (b'G', b'Z') => "row 1: N5 bad control",
+        _ => "row 2: N1 end of tape",
+    }
+}
+
+#[test]
+fn every_code_behind_a_function_row(rt: HostRuntime) -> Result<(), Fail> {
+    for function in [b'P', b'.', b'A', b'G'] {
+        for number in 0..32 {
+            let row = byte_of(Code::new(number).ok_or("no code")?, false);
+            let verdict = verdict_of_two(function, row);
+            says(&rt, rt.alloc(), "check-tape", &[function, row], verdict)?;
+        }
+    }
+    Ok(())
+}
+
+/// The number of the word that a tape placed at an address.
+fn placed(rt: &impl Abort, checked: &Checked, address: u16) -> Option<u32> {
+    assert!(rt; address < 1024);
+    Some(checked.word(address)?.value())
+}
+
+#[test]
+fn the_checker_tells_the_words_that_a_tape_places(rt: HostRuntime) -> Result<(), Fail> {
+    let alloc = rt.alloc();
+    for (tape, theta, places) in [
+        ("T64KP32767DE64KPF", 0, [(64, Some(65535)), (65, None)]),
+        ("T64KGKA2#@EZPF", 128, [(64, Some(114_821)), (63, None)]),
+        (
+            "T45KP100FT64KA1HE64KPF",
+            0,
+            [(45, Some(200)), (64, Some(114_890))],
+        ),
+    ] {
+        let rows = tape_of_text(alloc, tape.as_bytes())?;
+        assert!(rt; rows.len() <= 100);
+        let checked = check(alloc, Size::Full, &Store::cleared(alloc)?, &rows)?;
+        assert_eq!(rt; checked.theta().value(), theta, "{tape}");
+        for (address, word) in places {
+            assert!(rt;
+                placed(&rt, &checked, address) == word,
+                "{address} of {tape}"
+            );
+        }
+    }
+    Ok(())
+}
+
+#[test]
+fn the_checker_begins_with_the_word_at_42(rt: HostRuntime) -> Result<(), Fail> {
+    let alloc = rt.alloc();
+    let mut store = Store::cleared(alloc)?;
+    store.put_short(42, Word::new(5).ok_or("no word")?);
+    for (tape, theta, word, orders, rows_read) in [
+        ("T64KA@E64KPF", 5, 114_693, 131, 12),
+        (".ZT64KA@E64KPF", 86_109, 69_725, 154, 14),
+    ] {
+        let rows = tape_of_text(alloc, tape.as_bytes())?;
+        assert!(rt; rows.len() <= 100);
+        let checked = check(alloc, Size::Full, &store, &rows)?;
+        assert_eq!(rt; checked.entry(), 64, "{tape}");
+        assert_eq!(rt; checked.orders(), orders, "{tape}");
+        assert_eq!(rt; checked.rows(), rows_read, "{tape}");
+        assert_eq!(rt; checked.theta().value(), theta, "{tape}");
+        assert!(rt; placed(&rt, &checked, 64) == Some(word), "{tape}");
+    }
+    let rows = tape_of_text(alloc, b"T59Z")?;
+    assert!(rt; rows.len() <= 100);
+    match check(alloc, Size::Full, &store, &rows) {
+        Ok(_) => assert!(rt; false, "an odd directive is taken"),
+        Err(fault) => assert_eq!(rt;
+            fault,
+            TapeFault::At {
+                row: 3,
+                cause: TapeCause::StoreEnd
+            }
+        ),
+    }
+    Ok(())
+}
+
+#[test]
+fn the_rest_of_a_tape_goes_by_the_directive_that_is_left(rt: HostRuntime) -> Result<(), Fail> {
+    let alloc = rt.alloc();
+    let store = Store::cleared(alloc)?;
+    for (directive, tape, address, word, orders) in [
+        (20_680, "PFE64KPF", 100, 0, 84),
+        (22_526, "P5FE64KPF", 1023, 10, 93),
+    ] {
+        let rows = tape_of_text(alloc, tape.as_bytes())?;
+        assert!(rt; rows.len() <= 100);
+        let directive = Word::new(directive).ok_or("no word")?;
+        let number = directive.value();
+        assert!(rt; number % 2 == 0 && 20_480 <= number && number <= 22_526);
+        let checked = check_from(alloc, Size::Full, &store, directive, &rows)?;
+        assert_eq!(rt; checked.entry(), 64, "{tape}");
+        assert_eq!(rt; checked.orders(), orders, "{tape}");
+        assert_eq!(rt; checked.rows(), rows.len(), "{tape}");
+        assert!(rt; placed(&rt, &checked, address) == Some(word), "{tape}");
+    }
+    for (directive, tape, row, cause) in [
+        (20_480, "PF", 1, TapeCause::LoaderStore),
+        (22_526, "P5FPF", 4, TapeCause::StoreEnd),
+    ] {
+        let rows = tape_of_text(alloc, tape.as_bytes())?;
+        assert!(rt; rows.len() <= 100);
+        let directive = Word::new(directive).ok_or("no word")?;
+        let number = directive.value();
+        assert!(rt; number % 2 == 0 && 20_480 <= number && number <= 22_526);
+        match check_from(alloc, Size::Full, &store, directive, &rows) {
+            Ok(_) => assert!(rt; false, "{tape} is taken"),
+            Err(fault) => assert_eq!(rt; fault, TapeFault::At { row, cause }, "{tape}"),
+        }
+    }
+    Ok(())
+}

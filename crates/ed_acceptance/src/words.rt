@@ -1,0 +1,110 @@
+//! Command lines: the options, and words that are no line.
+
+use crate::support::{answer_of, expect};
+use std::test::Fail;
+
+const USAGE: &str =
+    "usage: edsac COMMAND [--limit N] [--resume N] [--post-mortem FROM,COUNT] [--store SIZE]\n";
+
+const PRINTS_A: &str = "T64KGKO2@ZFAFEZPF";
+
+const STOPS_TWICE: &str = "T64KGKZFZFEZPF";
+
+const PRINTS_BY_SIZE: &str = "T64KGKO578FZFAFEZPF";
+
+#[test]
+fn words_that_are_no_line_read_nothing(rt: HostRuntime) -> Result<(), Fail> {
+    for line in [
+        "",
+        "--",
+        "-",
+        "-h",
+        "--help",
+        "help",
+        "tape x",
+        "tape --",
+        "tape --limit",
+        "tape --limit 0",
+        "tape --limit 5 --limit=5",
+        "tape --limit 100000001",
+        "tape --limit 1234567890",
+        "--li 5 tape",
+        "--limit= tape",
+        "--limit=+5 tape",
+        "--limit 1234567890 tape",
+        "--resume=1001 tape",
+        "tape --post-mortem 144,1",
+        "tape --store 0512",
+        "tape --store 513",
+        "check-tape --limit 5",
+        "check-tape check-tape",
+    ] {
+        let answer = answer_of(rt.alloc(), line, PRINTS_A.as_bytes())?;
+        assert_eq!(rt; answer.status, 2, "{line}");
+        assert!(rt; answer.out.is_empty(), "{line}");
+        assert_eq!(rt; answer.note.as_slice(), USAGE.as_bytes(), "{line}");
+        assert_eq!(rt; answer.unread, PRINTS_A.len(), "{line}");
+    }
+    Ok(())
+}
+
+#[test]
+fn options_of_a_run(rt: HostRuntime) -> Result<(), Fail> {
+    for (line, tape, status, out, note) in [
+        ("tape", STOPS_TWICE, 0, "", "stopped at 65 after 160\n"),
+        (
+            "tape --resume 1",
+            STOPS_TWICE,
+            0,
+            "",
+            "stopped at 66 after 161\n",
+        ),
+        (
+            "tape --limit 160",
+            STOPS_TWICE,
+            0,
+            "",
+            "stopped at 65 after 160\n",
+        ),
+        ("--limit=9 tape", PRINTS_A, 4, "", "limit at 34 after 9\n"),
+        (
+            "--limit 7 tape --resume=1000",
+            PRINTS_A,
+            4,
+            "",
+            "limit at 25 after 7\n",
+        ),
+        (
+            "--limit=000000009 --resume=3 tape",
+            PRINTS_A,
+            4,
+            "",
+            "limit at 34 after 9\n",
+        ),
+        (
+            "tape --limit 1000",
+            "T64KGKE@EZPF",
+            4,
+            "",
+            "limit at 64 after 1000\n",
+        ),
+        ("tape", PRINTS_BY_SIZE, 0, "P", "stopped at 66 after 211\n"),
+        (
+            "tape --store 512",
+            PRINTS_BY_SIZE,
+            0,
+            "A",
+            "stopped at 66 after 211\n",
+        ),
+        (
+            "tape --store=1024",
+            PRINTS_BY_SIZE,
+            0,
+            "P",
+            "stopped at 66 after 211\n",
+        ),
+    ] {
+        expect(&rt, rt.alloc(), line, tape, (status, out, note))?;
+    }
+    Ok(())
+}

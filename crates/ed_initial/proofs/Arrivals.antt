@@ -1,0 +1,125 @@
+-- A walk along a path of the listing ends where the path does.
+use Rattle.std.proofs.Common.{◌≡◌, ℕ, zero, suc, ◌+◌, ◌<◌, ◌≤◌, refl, sym, ap, ◌∙◌, subst, arith, inl, inr, ◌⊎◌, Bool, true, false}
+use Rattle.std.proofs.lemmas.Bool.{cases_lt}
+use Rattle.ed_machine.specs.State.{State}
+use Rattle.ed_machine.specs.OrderTable.{Obeyed, step}
+use Rattle.ed_machine.specs.Steps.{state_after, past}
+use Rattle.ed_machine.specs.declared.turn.Turn.TheVariants.{Went}
+use Rattle.ed_initial.specs.declared.resting.Rested.{Rested}
+use Rattle.ed_initial.specs.declared.resting.Rested.TheVariants.{Entered, At, Lost}
+use Rattle.ed_initial.specs.Load.{enters}
+use Rattle.ed_initial.specs.Walks.{Event, Blocks, Enters, Rests, Sounds, Goes, event, event_by, is_rest, IsWalk, WalksTo, IsStray}
+use Rattle.ed_initial.specs.Walks.{blocked, sounded, too_long, WalkEnds, walked}
+use Rattle.ed_initial.proofs.Moves.{Frame, Run, state}
+use Rattle.ed_initial.proofs.Moves.{Enters as EntersBy}
+use Rattle.ed_initial.proofs.Paths.{Runs, stay, on, Path, ends}
+use Rattle.ed_initial.proofs.Goes.{after_sum, along, whole}
+
+-- what an order of a path does to a walk
+event_of : (s t : State) (jumps rests : Bool) → step s ≡ record { state = t; turn = Went } → enters s ≡ jumps → is_rest t.counter ≡ rests
+    → event s ≡ event_by true jumps rests true
+event_of s t jumps rests does a b = rw (does, a, b) refl
+
+one_earlier : (j : ℕ) (s t : State) → step s ≡ record { state = t; turn = Went } → state_after (suc j) s ≡ state_after j t
+unfolding past
+one_earlier j s t does =
+    let e : suc j ≡ 1 + j = omega arith in
+    ap (λ x. state_after x s) e ∙ after_sum 1 j s ∙ ap (λ (x : Obeyed). state_after j x.state) does
+
+walk_along : {f : Frame} {k : ℕ} {r t : Run} → Runs f k r t → (o : ℕ) → IsWalk k (state f r o)
+unfolding past
+walk_along stay o j h = absurd (omega arith)
+walk_along {f} (on {r = r} {m = m} first away rest) o zero h =
+    event_of (state f r o) (state f m (o + 1)) false false (first.does o) (first.stays o) away
+walk_along {f} (on {r = r} {m = m} first away rest) o (suc j) h =
+    ap event (one_earlier j (state f r o) (state f m (o + 1)) (first.does o)) ∙ walk_along rest (o + 1) j (omega arith)
+
+-- a walk whose first order that does not go on is known ends there
+module _ (s : State) (m : ℕ) (walk : IsWalk m s) (what : Event) (last : event (state_after m s) ≡ what) (fits : m < 17)
+    (not_goes : what ≡ Goes → ⊥) where
+  not_past : (k : ℕ) → IsWalk k s → k ≤ m
+  not_past k h = elim (cases_lt m k) [ inl l ↦ absurd (not_goes (sym last ∙ h m l)) | inr g ↦ g ]
+
+  -- each order up to the last goes on
+  event_up_to : (k : ℕ) → k ≤ m → (event (state_after k s) ≡ Goes) ⊎ (event (state_after k s) ≡ what)
+  event_up_to k h =
+      elim (cases_lt k m) [
+        | inl l ↦ inl (walk k l)
+        | inr g ↦ let e : m ≡ k = omega arith in inr (subst (λ j. event (state_after j s) ≡ what) e last)
+      ]
+
+  -- an end of another kind is none
+  no_other : (k : ℕ) (other : Event) → IsWalk k s → event (state_after k s) ≡ other → (other ≡ Goes → ⊥) → what ≡ other
+  no_other k other h e not_going =
+      elim (event_up_to k (not_past k h)) [ inl g ↦ absurd (not_going (sym e ∙ g)) | inr g ↦ sym g ∙ e ]
+
+  same_place : (k : ℕ) (other : Event) → IsWalk k s → event (state_after k s) ≡ other → (other ≡ Goes → ⊥) → k ≡ m
+  same_place k other h e not_going =
+      let first = not_past k h in
+      elim (cases_lt k m) [ inl l ↦ absurd (not_going (sym e ∙ walk k l)) | inr g ↦ omega arith ]
+
+  pub record Settled (place k : ℕ) : Type 0 where
+    pub count : k ≡ suc m
+    pub place_is : place ≡ (state_after (suc m) s).counter
+
+  pub settled : (place k : ℕ) (other : Event) → (other ≡ Goes → ⊥) → WalksTo other s place k → Settled place k
+  settled place k other not_going h =
+      let same = same_place h.before other h.walk h.last not_going in
+      let count : k ≡ suc m = h.count ∙ ap suc same in
+      record { count = count; place_is = h.place_is ∙ ap (λ j. (state_after j s).counter) count }
+
+  pub not_stray : (k : ℕ) → (what ≡ Blocks → ⊥) → (what ≡ Sounds → ⊥) → IsStray s k → ⊥
+  not_stray k a b (blocked less h e) = a (no_other k Blocks h e (λ x. cc))
+  not_stray k a b (sounded before count less h e) = b (no_other before Sounds h e (λ x. cc))
+  not_stray k a b (too_long e h) = omega (arith, not_past k h)
+
+-- a walk that comes to a rest after so many orders
+rests_at : (s : State) (m : ℕ) → IsWalk m s → event (state_after m s) ≡ Rests → m < 17 → (r : Rested) → WalkEnds s r
+    → r ≡ At (state_after (suc m) s).counter (suc m)
+rests_at s m walk last fits (Entered at k) h =
+    absurd (let e = no_other s m walk Rests last fits (λ x. cc) h.before Enters h.walk h.last (λ x. cc) in cc)
+rests_at s m walk last fits (At place k) h =
+    let o = settled s m walk Rests last fits (λ x. cc) place k Rests (λ x. cc) h in λ i. At (o.place_is i) (o.count i)
+rests_at s m walk last fits (Lost k) h = absurd (not_stray s m walk Rests last fits (λ x. cc) k (λ x. cc) (λ x. cc) h)
+
+-- a walk that enters the program after so many orders
+enters_at : (s : State) (m : ℕ) → IsWalk m s → event (state_after m s) ≡ Enters → m < 17 → (r : Rested) → WalkEnds s r
+    → r ≡ Entered (state_after (suc m) s).counter (suc m)
+enters_at s m walk last fits (At at k) h =
+    absurd (let e = no_other s m walk Enters last fits (λ x. cc) h.before Rests h.walk h.last (λ x. cc) in cc)
+enters_at s m walk last fits (Entered place k) h =
+    let o = settled s m walk Enters last fits (λ x. cc) place k Enters (λ x. cc) h in λ i. Entered (o.place_is i) (o.count i)
+enters_at s m walk last fits (Lost k) h = absurd (not_stray s m walk Enters last fits (λ x. cc) k (λ x. cc) (λ x. cc) h)
+
+-- a walk along a path
+pub walks_path : {f : Frame} {k : ℕ} {r t : Run} → Path f k r t → is_rest t.counter ≡ true → k ≤ 17 → (o : ℕ) (u : State) (res : Rested)
+    → WalkEnds (state f r o) res → u ≡ state_after (walked res) (state f r o) → (res ≡ At t.counter k) × (u ≡ state f t (o + k))
+walks_path {f} {t = t} (ends {k = k} {r = r} {m = m} runs last) rest most o u res h is =
+    let s = state f r o in
+    let there = along runs o in
+    let e : event (state_after k s) ≡ Rests =
+    ap event there.state
+    ∙ event_of (state f m (o + k)) (state f t (o + k + 1)) false true (last.does (o + k)) (last.stays (o + k)) rest in
+    let end : state_after (suc k) s ≡ state f t (o + suc k) = (whole (ends runs last) o).state in
+    let a : res ≡ At (state_after (suc k) s).counter (suc k) = rests_at s k (walk_along runs o) e (omega arith) res h in
+    let place : (state_after (suc k) s).counter ≡ t.counter = ap (λ (x : State). x.counter) end in
+    (a ∙ (λ i. At (place i) (suc k)), is ∙ ap (λ x. state_after (walked x) s) a ∙ end)
+
+-- a walk that enters the program
+pub walks_in : {f : Frame} {k : ℕ} {r m t : Run} → Runs f k r m → EntersBy f m t → k < 17 → (o : ℕ) (u : State) (res : Rested)
+    → WalkEnds (state f r o) res → u ≡ state_after (walked res) (state f r o)
+    → (res ≡ Entered t.counter (suc k)) × (u ≡ state f t (o + suc k))
+unfolding past
+walks_in {f} {k} {r} {m} {t} runs last few o u res h is =
+    let s = state f r o in
+    let there = along runs o in
+    let does = last.does (o + k) in
+    let e : event (state_after k s) ≡ Enters =
+    ap event there.state
+    ∙ event_of (state f m (o + k)) (state f t (o + k + 1)) true (is_rest t.counter) does (last.jumps (o + k)) refl in
+    let sum : o + k + 1 ≡ o + suc k = omega arith in
+    let end : state_after (suc k) s ≡ state f t (o + suc k) =
+    ap (λ (x : State). (step x).state) there.state ∙ ap (λ (x : Obeyed). x.state) does ∙ ap (state f t) sum in
+    let a : res ≡ Entered (state_after (suc k) s).counter (suc k) = enters_at s k (walk_along runs o) e few res h in
+    let place : (state_after (suc k) s).counter ≡ t.counter = ap (λ (x : State). x.counter) end in
+    (a ∙ (λ i. Entered (place i) (suc k)), is ∙ ap (λ x. state_after (walked x) s) a ∙ end)

@@ -1,0 +1,257 @@
+-- What the Initial Orders do with a row inside an item is what the notation says of it: from one rest to the next, or to
+-- the entry. One lemma for each kind of row.
+use Rattle.std.proofs.Common.{◌≡◌, ℕ, ◌+◌, ◌*◌, ◌/◌, ◌%◌, ◌^◌, ◌<◌, ◌≤◌, refl, sym, ap, ◌∙◌, subst, arith, lit≤}
+use Rattle.std.proofs.Common.{Bool, true, false, nat_lt, nat_le, List, ◌∷◌, drop}
+use Rattle.ed_words.specs.Words.{digit}
+use Rattle.ed_words.specs.Sizes.{locations, within}
+use Rattle.ed_words.proofs.SizeLemmas.{most, within_below}
+use Rattle.ed_notation.specs.declared.kind.RowKind.{RowKind}
+use Rattle.ed_notation.specs.declared.kind.RowKind.TheVariants.{Digit, Mark, Zed, Kay, Blank, Letter, Other}
+use Rattle.ed_notation.specs.declared.kind.Control.{Control}
+use Rattle.ed_notation.specs.declared.kind.Control.TheVariants.{Directive, ThetaByBlank, ThetaByG, Neither}
+use Rattle.ed_notation.specs.declared.kind.Aim.{Aim}
+use Rattle.ed_notation.specs.declared.kind.Aim.TheVariants.{Places, Enters, Nowhere, Unset}
+use Rattle.ed_notation.specs.declared.reader.Part.{Part}
+use Rattle.ed_notation.specs.declared.reader.Taken.{Taken}
+use Rattle.ed_notation.specs.declared.reader.Taken.TheVariants.{Refused, Longer, Ended, Placed, Entered}
+use Rattle.ed_notation.specs.Items.{row_kind}
+use Rattle.ed_notation.specs.Fold.{Note, over, value_of, address, control_of, aim_of}
+use Rattle.ed_notation.specs.Faults.{is_place}
+use Rattle.ed_notation.specs.Reading.{taken, digit_taken, mark_taken, kay_taken, zed_taken, blank_taken, letter_taken}
+use Rattle.ed_notation.specs.Reading.{part_word, setting_of, set_by, placed_by, entry_by}
+use Rattle.ed_initial.specs.Rests.{Working, Scratch, working, begun, IsNote, IsPart}
+use Rattle.ed_initial.specs.Entry.{entry_words}
+use Rattle.ed_initial.proofs.Moves.{Frame, Run}
+use Rattle.ed_initial.proofs.Moves.{Enters as EntersBy}
+use Rattle.ed_initial.proofs.Paths.{Runs, Path, run, digit_path, mark_path, kay_directive_path, kay_theta_path, zed_directive_path}
+use Rattle.ed_initial.proofs.Paths.{zed_theta_path, blank_path, letter_row, placed_path, entry_order}
+use Rattle.ed_initial.proofs.Tests.{not_lt, not_le, if_means, RowMeans, row_means, ControlMeans, control_means, AimMeans, aim_means}
+use Rattle.ed_initial.proofs.Tests.{is_place_means}
+use Rattle.ed_initial.proofs.Contents.{placed, value_here}
+
+-- the two rests
+abbrev pub between : List ℕ → Scratch → Note → List ℕ → Run
+between ws w note rows = run (working w note) (drop 44 (over note.placed ws)) w.digit40 0 34 rows
+
+abbrev pub inside : List ℕ → Part → ℕ → ℕ → Note → List ℕ → Run
+inside ws part at1 at20 note rows = run (working (begun part at1 at20) note) (drop 44 (over note.placed ws)) false 0 9 rows
+
+-- at the entry by an item whose ending row is c
+abbrev pub entered : List ℕ → Part → Note → ℕ → ℕ → ℕ → List ℕ → Run
+entered ws part note c at word rows =
+    run (entry_words (entry_by ws 0 0 note part c rows at)) (drop 44 (over note.placed ws)) false word at rows
+
+module _ (f : Frame) (ws : List ℕ) (note : Note) (good : IsNote note) (part : Part) (phase : IsPart part)
+    (at1 at20 c : ℕ) (rows : List ℕ) where
+  abbrev here : Run
+  here = inside ws part at1 at20 note (c ∷ rows)
+
+  -- the item grows
+  pub record Grows (next : Part) (k : ℕ) : Type 0 where
+    pub one : ℕ
+    pub twenty : ℕ
+    pub path : Path f k here (inside ws next one twenty note rows)
+    pub few : k ≤ 17
+    pub part_is : IsPart next
+
+  -- the item is closed, and leaves a state of the notation
+  pub record Closes (next : Note) (k : ℕ) : Type 0 where
+    pub scratch : Scratch
+    pub path : Path f k here (between ws scratch next rows)
+    pub few : k ≤ 17
+    pub note_is : IsNote next
+
+  -- the item enters the program
+  pub record Arrives (at word : ℕ) : Type 0 where
+    pub middle : Run
+    pub runs : Runs f 12 here middle
+    pub last : EntersBy f middle (entered ws part note c at word rows)
+
+  -- what follows the row, as the notation has it
+  abbrev pub Follows : Taken → Type 0
+  Follows (Refused cause) = Unit {0}
+  Follows (Longer next k) = Grows next k
+  Follows (Ended setting k) = Closes (set_by setting note) k
+  Follows (Placed at word) = Closes (placed_by at word note) 17
+  Follows (Entered at) = Arrives at (part_word (over note.placed ws) (setting_of note) part c)
+
+  abbrev w : Working
+  w = working (begun part at1 at20) note
+
+  abbrev high : List ℕ
+  high = drop 44 (over note.placed ws)
+
+  mark_most : (b : Bool) → digit b ≤ 1
+  mark_most true = lit≤ tt
+  mark_most false = lit≤ tt
+
+  unmarked : part.mark ≡ false → digit part.mark ≡ 0
+  unmarked h = ap digit h
+
+  by_digit : c < 10 → Follows (digit_taken part c)
+  by_digit small =
+      if_means Follows part.mark _ _ (λ _. tt) (λ m.
+      if_means Follows (nat_lt 32767 (10 * part.number + c)) _ _ (λ _. tt) (λ n.
+      let none = unmarked m in
+      let fits : 10 * part.number + c ≤ 32767 = not_lt _ _ n in
+      record {
+        one = c;
+        twenty = at20;
+        path = digit_path f w high false c (2 * (10 * part.number + c) + digit part.mark) rows small
+            (omega arith) (omega arith) (omega arith);
+        few = lit≤ tt;
+        part_is = record { function = phase.function; number = fits; blank = λ h. cc };
+      }))
+
+  abbrev marked : Part
+  marked = record part { mark = true; blank = false }
+
+  by_mark : c ≡ 11 → Follows (mark_taken part)
+  by_mark is =
+      if_means Follows part.mark _ _ (λ _. tt) (λ m.
+      let none = unmarked m in
+      let n = phase.number in
+      record {
+        one = 11;
+        twenty = 12342;
+        path = subst (λ x. Path f 15 (inside ws part at1 at20 note (x ∷ rows)) (inside ws marked 11 12342 note rows)) (sym is)
+            (mark_path f w high false (2 * part.number + 1) rows refl (omega arith) (omega arith));
+        few = lit≤ tt;
+        part_is = record { function = phase.function; number = phase.number; blank = λ h. cc };
+      })
+
+  -- what the item leaves in the changing words behind K, Z or blank
+  abbrev left : ℕ → Scratch
+  left end = begun part end (12320 + 2 * end)
+
+  abbrev closes : (next : Note) (k end : ℕ) → c ≡ end → k ≤ 17 → IsNote next
+      → Path f k (inside ws part at1 at20 note (end ∷ rows)) (between ws (left end) next rows) → Closes next k
+  closes next k end is few note_is path = record {
+    scratch = left end;
+    path = subst (λ x. Path f k (inside ws part at1 at20 note (x ∷ rows)) (between ws (left end) next rows)) (sym is) path;
+    few = few;
+    note_is = note_is;
+  }
+
+  by_kay_theta : (u : ℕ) → (4096 * part.function + 2 * part.number + note.directive) % 2 ^ 17 ≡ u → c ≡ 14 → digit part.mark ≡ 0
+      → 16 ≤ part.function → part.number ≤ 1023 → Closes (record note { theta = u }) 16
+  by_kay_theta u sum is none least fits =
+      let f32 = phase.function in
+      closes (record note { theta = u }) 16 14 is (lit≤ tt) (omega (arith, good))
+      (kay_theta_path f w high false (4096 * part.function + 2 * part.number) u rows
+      (omega arith) (omega arith) (omega arith) (omega arith) sum)
+
+  by_kay : (k : Control) → ControlMeans k part.function → c ≡ 14 → Follows (kay_taken k (setting_of note) part)
+  by_kay Directive means is =
+      if_means Follows part.mark _ _ (λ _. tt) (λ m.
+      if_means Follows (nat_lt 1023 part.number) _ _ (λ _. tt) (λ n.
+      let none = unmarked m in
+      let fits : part.number ≤ 1023 = not_lt _ _ n in
+      let u = 4096 * part.function + 2 * part.number in
+      closes (record note { directive = u }) 16 14 is (lit≤ tt) (omega (arith, good))
+      (kay_directive_path f w high false u rows (omega arith) (omega arith))))
+  by_kay ThetaByBlank means is =
+      if_means Follows part.mark _ _ (λ _. tt) (λ m.
+      if_means Follows (nat_lt 1023 part.number) _ _ (λ _. tt) (λ n.
+      by_kay_theta _ refl is (unmarked m) (omega arith) (not_lt _ _ n)))
+  by_kay ThetaByG means is =
+      if_means Follows part.mark _ _ (λ _. tt) (λ m.
+      if_means Follows (nat_lt 1023 part.number) _ _ (λ _. tt) (λ n.
+      by_kay_theta _ refl is (unmarked m) (omega arith) (not_lt _ _ n)))
+  by_kay Neither means is = if_means Follows part.mark _ _ (λ _. tt) (λ _. tt)
+
+  by_zed : (k : Control) → ControlMeans k part.function → c ≡ 13 → Follows (zed_taken k (setting_of note) part)
+  by_zed Directive means is =
+      let u = 4096 * part.function + 2 * part.number + note.theta in
+      if_means Follows part.mark _ _ (λ _. tt) (λ m.
+      if_means Follows (is_place u) _ _ (λ p.
+      let none = unmarked m in
+      let place = is_place_means u p in
+      let even = place.even in
+      let range = place.range in
+      closes (record note { directive = u }) 17 13 is (lit≤ tt) (omega (arith, good))
+      (zed_directive_path f w high false u rows (omega arith) (omega arith))) (λ _. tt))
+  by_zed ThetaByBlank means is =
+      let u = (65536 + 2 * part.number + note.theta + note.directive) % 2 ^ 17 in
+      if_means Follows part.mark _ _ (λ _. tt) (λ m.
+      if_means Follows (nat_le 65536 (2 * part.number + note.theta)) _ _ (λ _. tt) (λ n.
+      let none = unmarked m in
+      let fits : 2 * part.number + note.theta < 65536 = not_le _ _ n in
+      closes (record note { theta = u }) 17 13 is (lit≤ tt) (omega (arith, good))
+      (zed_theta_path f w high false u rows (omega arith) (omega arith) (omega arith))))
+  by_zed ThetaByG means is = if_means Follows part.mark _ _ (λ _. tt) (λ _. tt)
+  by_zed Neither means is = if_means Follows part.mark _ _ (λ _. tt) (λ _. tt)
+
+  by_blank : c ≡ 16 → Follows (blank_taken (setting_of note) part)
+  by_blank is =
+      if_means Follows part.blank _ _ (λ b.
+      let new = phase.blank b in
+      let none = unmarked new.1 in
+      let zero = new.0 in
+      closes (record note { theta = note.directive }) 14 16 is (lit≤ tt) (omega (arith, good))
+      (blank_path f w high false rows (omega arith) (omega (arith, good)))) (λ _. tt)
+
+  -- the changing words once a code letter has been read
+  abbrev lettered : Working
+  lettered = record w { at1 = c; at20 = 114736 + 2 * c }
+
+  abbrev value : ℕ
+  value = value_of (over note.placed ws) note.theta c
+
+  abbrev word : ℕ
+  word = part_word (over note.placed ws) (setting_of note) part c
+
+  by_letter : (k : Aim) → AimMeans k note.directive → 17 ≤ c → c < 32 → Follows (letter_taken f.size k (setting_of note) word)
+  by_letter Places means low code =
+      let a = address note.directive in
+      if_means Follows (nat_lt a 44) _ _ (λ _. tt) (λ p.
+      if_means Follows (nat_le (locations f.size) a) _ _ (λ _. tt) (λ q.
+      let above : 44 ≤ a = not_lt _ _ p in
+      let below : a < locations f.size = not_le _ _ q in
+      let last : a < 1024 = omega (arith, most f.size) in
+      let named : note.directive / 2 % 1024 ≡ a = omega (arith, good) in
+      let place : within f.size (note.directive / 2 % 1024) ≡ a = ap (within f.size) named ∙ within_below f.size a below in
+      record {
+        scratch = begun part c (114736 + 2 * c);
+        path = placed_path f w high false c value ((w.at0 + value) % 2 ^ 17) word a rows
+            (drop 44 (over ((a, word) ∷ note.placed) ws)) low code (omega (arith, phase, mark_most part.mark))
+            (value_here lettered (over note.placed ws) c low refl refl) refl (omega arith) means good.even place
+            (placed lettered (over note.placed ws) a word above);
+        few = lit≤ tt;
+        note_is = omega (arith, good);
+      }))
+  by_letter Enters means low code =
+      let a = address note.directive in
+      if_means Follows (nat_le (locations f.size) a) _ _ (λ _. tt) (λ p.
+      if_means Follows (nat_le 65536 word) _ _ (λ _. tt) (λ q.
+      if_means Follows (nat_lt a 44) _ _ (λ _. tt) (λ r.
+      let below : a < locations f.size = not_le _ _ p in
+      let last : a < 1024 = omega (arith, most f.size) in
+      let positive : word < 65536 = not_le _ _ q in
+      let named : note.directive / 2 % 1024 ≡ a = omega (arith, good) in
+      let place : within f.size (note.directive / 2 % 1024) ≡ a = ap (within f.size) named ∙ within_below f.size a below in
+      let twenty : 114736 + 2 * c ≡ 114688 + 2 * (24 + c) = omega arith in
+      let order : note.directive ≡ 12288 + 2 * a = omega (arith, good) in
+      record {
+        middle = run lettered high false word 22 rows;
+        runs = letter_row f w high false c value ((w.at0 + value) % 2 ^ 17) word rows low code (omega (arith, phase, mark_most part.mark))
+            (value_here lettered (over note.placed ws) c low refl refl) refl (omega arith);
+        last = subst (λ x. EntersBy f (run lettered high false word 22 rows) (run x high false word a rows))
+            (λ i. record lettered { at20 = twenty i; at22 = order i })
+            (entry_order f lettered high false word a rows means good.even place positive);
+      })))
+  by_letter Nowhere means low code = tt
+  by_letter Unset means low code = tt
+
+  by_row : (r : RowKind) → RowMeans r c → Follows (taken f.size r (over note.placed ws) (setting_of note) part c)
+  by_row Digit means = by_digit means
+  by_row Mark means = by_mark means
+  by_row Zed means = by_zed (control_of part.function) (control_means part.function) means
+  by_row Kay means = by_kay (control_of part.function) (control_means part.function) means
+  by_row Blank means = by_blank means
+  by_row Letter means = by_letter (aim_of note.directive) (aim_means note.directive) means.0 means.1
+  by_row Other means = tt
+
+  -- every row
+  pub follows : Follows (taken f.size (row_kind c) (over note.placed ws) (setting_of note) part c)
+  follows = by_row (row_kind c) (row_means c)

@@ -1,0 +1,90 @@
+-- The state in which a load begins, as the paths see it.
+use Rattle.std.proofs.Common.{◌≡◌, ℕ, suc, ◌*◌, ◌/◌, ◌^◌, ◌<◌, ◌≤◌, refl, sym, ap, ◌∙◌, arith, false, List, [], ◌∷◌, ◌++◌}
+use Rattle.std.proofs.Common.{length, get_or, drop, drop-cons}
+use Rattle.std.proofs.lemmas.List.{set-get_or}
+use Rattle.ed_store.specs.Cells.{IsStore}
+use Rattle.ed_machine.specs.State.{State}
+use Rattle.ed_notation.specs.Openings.{opening}
+use Rattle.ed_initial.specs.Listing.{initial_orders}
+use Rattle.ed_initial.specs.Rests.{Working, Scratch, IsNote}
+use Rattle.ed_initial.specs.Entry.{IsStarted}
+use Rattle.ed_initial.proofs.Moves.{Frame, Run, state}
+use Rattle.ed_initial.proofs.Paths.{Path, cells, run, start_path}
+use Rattle.ed_initial.proofs.Inside.{between}
+
+-- what stays during a load from this state
+abbrev pub frame : (s : State) → IsStore s.store → Frame
+frame s store = record { size = s.size; digits = s.store.sandwich; room = omega (arith, store.digits_are); last = s.last }
+
+-- the changing words: those of the listing, and what stood behind it
+abbrev pub listed : List ℕ → Working
+listed ws = record {
+  at0 = 20480;
+  at1 = 12328;
+  at20 = 86032;
+  at22 = 20566;
+  at40 = 1;
+  at41 = get_or ws 41 0;
+  at42 = get_or ws 42 0;
+  at43 = get_or ws 43 0;
+}
+
+abbrev pub begins : State → Run
+begins s = record (run (listed s.store.words) (drop 44 s.store.words) (get_or s.store.sandwich 20 false) s.acc 0 s.tape) {
+  unit = 0;
+  multiplier = s.multiplier;
+}
+
+-- a list that holds another at its head
+headed : (cs ws : List ℕ) → length cs ≤ length ws → ((j : ℕ) → j < length cs → get_or ws j 0 ≡ get_or cs j 0)
+    → cs ++ drop (length cs) ws ≡ ws
+headed [] ws l h = refl
+headed (c ∷ cs) [] l h = absurd (omega arith)
+headed (c ∷ cs) (w ∷ ws) l h =
+    rw (h 0 (omega arith)) (ap (λ x. c ∷ x) (headed cs ws (omega arith) (λ j lj. h (suc j) (omega arith))))
+
+words_are : (ws : List ℕ) → length ws ≡ 1024 → ((i : ℕ) → i < 41 → get_or ws i 0 ≡ get_or initial_orders i 0)
+    → cells (listed ws) (drop 44 ws) ≡ ws
+words_are ws long orders =
+    let behind : get_or ws 41 0 ∷ get_or ws 42 0 ∷ get_or ws 43 0 ∷ drop 44 ws ≡ drop 41 ws =
+    ap (λ x. get_or ws 41 0 ∷ get_or ws 42 0 ∷ x) (sym (drop-cons ws 43 0 (omega arith)))
+    ∙ ap (λ x. get_or ws 41 0 ∷ x) (sym (drop-cons ws 42 0 (omega arith)))
+    ∙ sym (drop-cons ws 41 0 (omega arith)) in
+    ap (λ x. initial_orders ++ x) behind ∙ headed initial_orders ws (omega arith) orders
+
+pub opened : (s : State) (store : IsStore s.store) → IsStarted s → state (frame s store) (begins s) s.orders ≡ s
+opened s store started =
+    let words = words_are s.store.words store.words_are started.orders in
+    let digits = set-get_or s.store.sandwich 20 false in
+    let acc : s.acc * 2 ^ 0 ≡ s.acc = omega arith in
+    let counter : 0 ≡ s.counter = sym started.counter in
+    λ i. record {
+      size = s.size;
+      store = record { words = words i; sandwich = digits i };
+      acc = acc i;
+      multiplier = s.multiplier;
+      counter = counter i;
+      tape = s.tape;
+      last = s.last;
+      orders = s.orders;
+    }
+
+-- what the first rest leaves open
+abbrev pub first_scratch : State → Scratch
+first_scratch s = record {
+  at0 = s.acc * 2 ^ 0 / 2 ^ 54;
+  at1 = 12328;
+  at20 = 86032;
+  at40 = 1;
+  at41 = get_or s.store.words 41 0;
+  digit40 = get_or s.store.sandwich 20 false;
+}
+
+-- the first nine orders
+pub first_path : (s : State) (store : IsStore s.store)
+    → Path (frame s store) 9 (begins s) (between s.store.words (first_scratch s) (opening s.store.words) s.tape)
+first_path s store =
+    start_path (frame s store) (listed s.store.words) (drop 44 s.store.words) (get_or s.store.sandwich 20 false) s.acc s.multiplier s.tape
+
+pub first_note : (ws : List ℕ) → get_or ws 42 0 < 2 ^ 17 → IsNote (opening ws)
+first_note ws h = omega arith

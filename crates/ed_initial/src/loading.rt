@@ -1,0 +1,67 @@
+ghost use Rattle.std.specs.Prelude.{◌≡◌, ◌+◌, ◌*◌, ◌^◌, ◌≤◌, length};
+ghost use Rattle.ed_machine.specs.Steps.{state_after};
+ghost use Rattle.ed_notation.specs.Faults.{Entry};
+ghost use Rattle.ed_initial.specs.Entry.{IsStarted, Comes, IsLoaded};
+ghost use Rattle.ed_initial.specs.Load.{EndsAs, orders_of};
+
+use crate::turns::{is_entering, is_obeyed, is_went};
+use ed_machine::Machine;
+
+/// How a load ended.
+#[derive(Clone, Copy, Debug, PartialEq, Eq)]
+pub enum Loaded {
+    /// The program was entered.
+    Entered {
+        /// The location of its first order.
+        at: u16,
+        /// The number of orders obeyed, the entering one included.
+        orders: u64,
+    },
+    /// The load went wrong, which it does only on a tape that is not well formed.
+    Lost {
+        /// The number of orders obeyed.
+        orders: u64,
+    },
+}
+
+/// Obeys the Initial Orders until they enter the program of the tape.
+///
+/// It is lost where an order prints, stops or cannot be obeyed before that, or where 17 orders for each row of tape and 9
+/// more were obeyed.
+pub fn load(machine: &mut Machine) -> Loaded
+    requires started { IsStarted machine.old }
+    requires room { machine.old.orders + (17 * length machine.old.tape + 9) ≤ 2 ^ 63 }
+    ensures ends { EndsAs machine.old (17 * length machine.old.tape + 9) result }
+    ensures state { machine.new ≡ state_after (orders_of result) machine.old }
+    ensures loads { (e : Entry) → Comes machine.old e → IsLoaded machine.old e result machine.new }
+{
+    let rows = machine.rows_left().len() as u64;
+    // The contract of `word` tells the proof that the store is one.
+    let _ = machine.word(0);
+    obey_orders(machine, 17 * rows + 9)
+}
+
+/// Obeys orders until a program is entered or the load is lost.
+fn obey_orders(machine: &mut Machine, bound: u64) -> Loaded
+    requires { machine.old.orders + bound ≤ 2 ^ 63 }
+    ensures ends { EndsAs machine.old bound result }
+    ensures state { machine.new ≡ state_after (orders_of result) machine.old }
+{
+    for orders in 0..bound {
+        let enters = is_entering(machine);
+        let turn = machine.step();
+        if !is_obeyed(&turn) {
+            return Loaded::Lost { orders };
+        }
+        if !is_went(&turn) {
+            return Loaded::Lost { orders: orders + 1 };
+        }
+        if enters {
+            return Loaded::Entered {
+                at: machine.counter(),
+                orders: orders + 1,
+            };
+        }
+    }
+    Loaded::Lost { orders: bound }
+}

@@ -1,0 +1,96 @@
+ghost use Rattle.std.specs.Prelude.{◌≡◌, ℕ, ◌+◌, ◌∷◌, ◌^◌, ◌<◌, ◌≤◌, List};
+ghost use Rattle.ed_machine.specs.State.{State};
+ghost use Rattle.ed_machine.specs.Steps.{state_after};
+ghost use Rattle.ed_notation.specs.declared.reader.Part.{Part};
+ghost use Rattle.ed_notation.specs.Items.{row_kind};
+ghost use Rattle.ed_notation.specs.Fold.{Note, over};
+ghost use Rattle.ed_notation.specs.Openings.{opening};
+ghost use Rattle.ed_notation.specs.Reading.{part_of, setting_of, taken};
+ghost use Rattle.ed_initial.specs.Entry.{IsStarted};
+ghost use Rattle.ed_initial.specs.Rests.{IsNote, IsPart, Scratch, rest34, rest9};
+ghost use Rattle.ed_initial.specs.Walks.{BeginsWalk, Between, DoesRow, Inside, WalkEnds, is_rest, walked};
+
+use crate::turns::{is_entering, is_obeyed, is_went};
+use ed_machine::Machine;
+
+/// Where a walk to the next rest ended.
+#[derive(Clone, Copy, Debug, PartialEq, Eq)]
+pub enum Rested {
+    /// The program was entered.
+    Entered {
+        /// The location of its first order.
+        at: u16,
+        /// The number of orders obeyed.
+        orders: u64,
+    },
+    /// The machine rests.
+    At {
+        /// 34 between two items, and 9 inside one.
+        place: u16,
+        /// The number of orders obeyed.
+        orders: u64,
+    },
+    /// The walk went wrong.
+    Lost {
+        /// The number of orders obeyed.
+        orders: u64,
+    },
+}
+
+/// Obeys orders up to the next rest of the Initial Orders, which come to one with each row of a well-formed tape.
+///
+/// After each order, in this order: it is `Entered` where an E order at 22 jumped, `At` where the counter is 9 or 34, and
+/// `Lost` where the order printed or stopped, or where it was the seventeenth. An order that cannot be obeyed ends it as
+/// `Lost` too.
+pub fn to_rest(machine: &mut Machine) -> Rested
+    requires begins { BeginsWalk machine.old }
+    requires room { machine.old.orders + 17 ≤ 2 ^ 63 }
+    ensures ends { WalkEnds machine.old result }
+    ensures state { machine.new ≡ state_after (walked result) machine.old }
+    ensures start { IsStarted machine.old →
+        Between machine.old (opening machine.old.store.words) machine.old.tape 9 result machine.new }
+    ensures function { (o : State) (w : Scratch) (note : Note) (c : ℕ) (rows : List ℕ) → IsNote note → c < 32 →
+        o.tape ≡ c ∷ rows → machine.old ≡ rest34 w note o → Inside o note (part_of c) rows 6 result machine.new }
+    ensures row { (o : State) (part : Part) (at1 at20 : ℕ) (note : Note) (c : ℕ) (rows : List ℕ) → IsNote note → IsPart part →
+        o.tape ≡ c ∷ rows → machine.old ≡ rest9 part at1 at20 note o →
+        DoesRow o note part c rows result machine.new
+        (taken o.size (row_kind c) (over note.placed o.store.words) (setting_of note) part c) }
+{
+    // The contract of `word` tells the proof that the store is one.
+    let _ = machine.word(0);
+    walk(machine)
+}
+
+/// Obeys 17 orders at the most, up to the next rest.
+fn walk(machine: &mut Machine) -> Rested
+    requires { machine.old.orders + 17 ≤ 2 ^ 63 }
+    ensures ends { WalkEnds machine.old result }
+    ensures state { machine.new ≡ state_after (walked result) machine.old }
+{
+    for orders in 0..17 {
+        let enters = is_entering(machine);
+        let turn = machine.step();
+        if !is_obeyed(&turn) {
+            return Rested::Lost { orders };
+        }
+        let place = machine.counter();
+        let orders = orders + 1;
+        if enters {
+            return Rested::Entered { at: place, orders };
+        }
+        if is_rest(place) {
+            return Rested::At { place, orders };
+        }
+        if !is_went(&turn) {
+            return Rested::Lost { orders };
+        }
+    }
+    Rested::Lost { orders: 17 }
+}
+
+/// Whether a place is that of a rest.
+fn is_rest(place: u16) -> bool
+    ensures { result ≡ is_rest place }
+{
+    place == 9 || place == 34
+}
