@@ -13,3 +13,4 @@ pub mod Opened
 mod Arrivals
 pub mod Whole
 pub mod Walked
+mod Itemwise

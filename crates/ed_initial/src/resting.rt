@@ -2,13 +2,13 @@ ghost use Rattle.std.specs.Prelude.{◌≡◌, ℕ, ◌+◌, ◌∷◌, ◌^◌,
 ghost use Rattle.ed_machine.specs.State.{State};
 ghost use Rattle.ed_machine.specs.Steps.{state_after};
 ghost use Rattle.ed_notation.specs.declared.reader.Part.{Part};
-ghost use Rattle.ed_notation.specs.Items.{row_kind};
+ghost use Rattle.ed_notation.specs.Items.{Begun, IsBegun, row_kind};
 ghost use Rattle.ed_notation.specs.Fold.{Note, over};
 ghost use Rattle.ed_notation.specs.Openings.{opening};
 ghost use Rattle.ed_notation.specs.Reading.{part_of, setting_of, taken};
 ghost use Rattle.ed_initial.specs.Entry.{IsStarted};
 ghost use Rattle.ed_initial.specs.Rests.{IsNote, IsPart, Scratch, rest34, rest9};
-ghost use Rattle.ed_initial.specs.Walks.{BeginsWalk, Between, DoesRow, Inside, WalkEnds, is_rest, walked};
+ghost use Rattle.ed_initial.specs.Walks.{BeginsWalk, BreaksNone, Between, DoesItemRow, DoesRow, Inside, WalkEnds, is_rest, part_so_far, walked};
 
 use crate::turns::{is_entering, is_obeyed, is_went};
 use ed_machine::Machine;
@@ -55,6 +55,9 @@ pub fn to_rest(machine: &mut Machine) -> Rested
         o.tape ≡ c ∷ rows → machine.old ≡ rest9 part at1 at20 note o →
         DoesRow o note part c rows result machine.new
         (taken o.size (row_kind c) (over note.placed o.store.words) (setting_of note) part c) }
+    ensures item { (o : State) (b : Begun) (at1 at20 : ℕ) (note : Note) (c : ℕ) (rows : List ℕ) → IsNote note → IsBegun b →
+        BreaksNone o.size o.store.words note b c → o.tape ≡ c ∷ rows → machine.old ≡ rest9 (part_so_far b) at1 at20 note o →
+        DoesItemRow o note b c rows result machine.new }
 {
     // The contract of `word` tells the proof that the store is one.
     let _ = machine.word(0);
