@@ -1,0 +1,239 @@
+//! The lines of a source: their forms, and the first fault of form.
+
+use ed_syntax::{Operand, SourceCause, SourceFault, Statement, parse};
+
+/// How a text is read: the number of its lines, or its first fault with its line.
+fn outcome(rt: &HostRuntime, text: &[u8]) -> (u32, Option<SourceCause>) {
+    match parse(rt.alloc(), text) {
+        Ok(program) => (program.lines.len() as u32, None),
+        Err(SourceFault::At { line, cause }) => (line, Some(cause)),
+        Err(SourceFault::Memory) => (0, None),
+    }
+}
+
+#[test]
+fn lines_have_a_form_or_their_first_fault(rt: HostRuntime) {
+    use SourceCause::{BadByte, NotAStatement, NumberRange};
+    let cases: [(&[u8], u32, Option<SourceCause>); 60] = [
+        (b"", 0, None),
+        (b"\n", 1, None),
+        (b"\n\n", 2, None),
+        (b"A 5 F", 1, None),
+        (b"A 5 F\n", 1, None),
+        (b"A 5 F\r\nZ F\r\n", 2, None),
+        (b"A 5 F\r\r\n", 1, Some(BadByte)),
+        (b"A 5 F\r", 1, Some(BadByte)),
+        (b"A\t5\tF", 1, None),
+        (b"A5F", 1, None),
+        (b"A 5F ; comment \" \x7e", 1, None),
+        (b"A 5F ; \x7f", 1, Some(BadByte)),
+        (b"%", 1, Some(NotAStatement)),
+        (b"word 131072", 1, Some(NumberRange)),
+        (b"word 131071", 1, None),
+        (b"word -65536", 1, None),
+        (b"word - 65537", 1, Some(NumberRange)),
+        (b"word-5", 1, None),
+        (b"word5", 1, Some(NotAStatement)),
+        (b"word 5x", 1, Some(NotAStatement)),
+        (b"word +5", 1, Some(NotAStatement)),
+        (b"a:", 1, None),
+        (b"a : A F", 1, None),
+        (b"a: word 5", 1, None),
+        (b"a: text \"AB\"", 1, None),
+        (b"a: segment m", 1, Some(NotAStatement)),
+        (b"a: enter m", 1, Some(NotAStatement)),
+        (b"a: data \"12\"", 1, Some(NotAStatement)),
+        (b"a: b: A F", 1, Some(NotAStatement)),
+        (b"segment m", 1, None),
+        (b"segment at", 1, None),
+        (b"segment at at 60", 1, None),
+        (b"segment m at60", 1, Some(NotAStatement)),
+        (b"segment m at 1023", 1, None),
+        (b"segment m at 1024", 1, Some(NumberRange)),
+        (b"segment m at 1024 x", 1, Some(NotAStatement)),
+        (b"segment M", 1, Some(NotAStatement)),
+        (b"use use as as", 1, None),
+        (b"use print as p with H=x", 1, None),
+        (b"use print as p withH=5,N = y + 3", 1, None),
+        (b"use p as q with H=1,N=2,M=3,&=4,L=5,X=6", 1, None),
+        (
+            b"use p as q with H=1,N=2,M=3,&=4,L=5,X=6,H=7",
+            1,
+            Some(NotAStatement),
+        ),
+        (b"use p as q with", 1, Some(NotAStatement)),
+        (b"use p as q with H=1,", 1, Some(NotAStatement)),
+        (b"use p as q with A=1", 1, Some(NotAStatement)),
+        (b"use p as q with H=32768", 1, Some(NumberRange)),
+        (b"enter main", 1, None),
+        (b"enter 5", 1, Some(NotAStatement)),
+        (b"text \"AB", 1, Some(NotAStatement)),
+        (b"text \"\"", 1, Some(NotAStatement)),
+        (b"text \"A;B\"", 1, Some(NotAStatement)),
+        (b"text\"AB\"", 1, None),
+        (b"data \"0123456789#*.@!&\"", 1, None),
+        (b"A 32767 F", 1, None),
+        (b"A 32768 D", 1, Some(NumberRange)),
+        (b"A 99999999999999999999999999 X", 1, Some(NotAStatement)),
+        (b"A a+1023 F", 1, None),
+        (b"A a - 1024 F", 1, Some(NumberRange)),
+        (b"A a-b F", 1, Some(NotAStatement)),
+        (
+            b"A abcdefghijklmnop F\nA abcdefghijklmnopq F",
+            2,
+            Some(NotAStatement),
+        ),
+    ];
+    for (text, line, cause) in cases {
+        assert_eq!(rt; outcome(&rt, text), (line, cause), "{text:?}");
+    }
+}
+
+#[test]
+fn the_second_version_of_the_language(rt: HostRuntime) {
+    use SourceCause::{NotAStatement, NumberRange};
+    let cases: [(&[u8], u32, Option<SourceCause>); 22] = [
+        (b"version 2", 1, None),
+        (b" version 02 ; comment", 1, None),
+        (b"version", 1, Some(NotAStatement)),
+        (b"version 1", 1, Some(NotAStatement)),
+        (b"version 99999999999999999999", 1, Some(NotAStatement)),
+        (b"Z F\nversion 2", 2, Some(NotAStatement)),
+        (b"version 2\nversion 2", 2, Some(NotAStatement)),
+        (b"segment main\nO _c F", 2, Some(NotAStatement)),
+        (b"version 2\nO _c F", 2, None),
+        (b"version 2\n_c: A F\n_1: P _d-_c F", 3, None),
+        (b"version 2\nP a+b D", 2, None),
+        (b"version 2\nP 5+b D", 2, Some(NotAStatement)),
+        (b"version 2\nP _ D", 2, Some(NotAStatement)),
+        (b"version 2\nenter _c", 2, Some(NotAStatement)),
+        (b"version 2\nsegment _c", 2, Some(NotAStatement)),
+        (b"version 2\nuse a as _c", 2, Some(NotAStatement)),
+        (b"version 2\nuse a as b with H=_c-d", 2, None),
+        (b"version 2\nx: long 34359738367", 2, None),
+        (b"version 2\nlong -17179869184", 2, None),
+        (b"version 2\nlong -17179869185", 2, Some(NumberRange)),
+        (b"long 5", 1, Some(NotAStatement)),
+        (b"version 2\nlong: long 5", 2, None),
+    ];
+    for (text, line, cause) in cases {
+        assert_eq!(rt; outcome(&rt, text), (line, cause), "{text:?}");
+    }
+}
+
+#[test]
+fn the_most_lines_and_bytes(rt: HostRuntime) {
+    let mut ends = [b'\n'; 2001];
+    assert_eq!(rt;
+        outcome(&rt, &ends),
+        (2001, Some(SourceCause::TooManyLines)),
+        "2001"
+    );
+    assert_eq!(rt; outcome(&rt, &ends[..2000]), (2000, None), "2000");
+    ends[2000] = b'%';
+    assert_eq!(rt;
+        outcome(&rt, &ends),
+        (2001, Some(SourceCause::TooManyLines)),
+        "2001 lines, the last one faulty"
+    );
+    let blanks = [b' '; 121];
+    assert_eq!(rt;
+        outcome(&rt, &blanks),
+        (1, Some(SourceCause::LongLine)),
+        "121"
+    );
+    assert_eq!(rt; outcome(&rt, &blanks[..120]), (1, None), "120");
+}
+
+#[test]
+fn each_form_is_read(rt: HostRuntime) {
+    let text =
+        b"version 2\nl: O letter-3 D\nword -5\ntext \"A0#\"\nuse print as p with X=12,H=_c+b\nlong -1\nsegment m at 77\n;\n* F\ndata \"9A\"";
+    let program = match parse(rt.alloc(), text) {
+        Ok(program) => program,
+        Err(_) => {
+            assert!(rt; false, "a fault");
+            return;
+        }
+    };
+    assert_eq!(rt; program.version, 2, "version");
+    let mut seen = 0u32;
+    for line in &program.lines {
+        match &line.statement {
+            Some(
+                Statement::Order {
+                    function,
+                    operand,
+                    length,
+                },
+            ) => {
+                if line.number == 2 {
+                    assert_eq!(rt; (function.value(), *length), (9, true), "order");
+                    assert!(rt; line.label.is_some());
+                    match operand {
+                        Operand::Label { name, plus } => {
+                            assert_eq!(rt; name.text(), "letter", "label");
+                            assert_eq!(rt; *plus, -3, "plus");
+                        }
+                        _ => assert!(rt; false),
+                    }
+                } else {
+                    assert_eq!(rt;
+                        (line.number, function.value(), *length),
+                        (9, 15, false),
+                        "star"
+                    );
+                    assert!(rt; *operand == Operand::Number(0));
+                }
+                seen = u32::saturating_add(seen, 1);
+            }
+            Some(Statement::Number { value }) => {
+                assert_eq!(rt; (line.number, value.value()), (3, 131067), "word");
+                seen = u32::saturating_add(seen, 1);
+            }
+            Some(Statement::Text { codes }) => {
+                assert_eq!(rt; codes.len(), 3, "codes");
+                assert_eq!(rt;
+                    (codes[0].value(), codes[1].value(), codes[2].value()),
+                    (28, 0, 11),
+                    "codes"
+                );
+                seen = u32::saturating_add(seen, 1);
+            }
+            Some(
+                Statement::Fetch {
+                    routine,
+                    name,
+                    settings,
+                },
+            ) => {
+                assert_eq!(rt; routine.text(), "print", "routine");
+                assert_eq!(rt; name.text(), "p", "name");
+                assert_eq!(rt; settings.len(), 2, "settings");
+                assert_eq!(rt;
+                    (settings[0].letter.value(), settings[1].letter.value()),
+                    (26, 21),
+                    "letters"
+                );
+                seen = u32::saturating_add(seen, 1);
+            }
+            Some(Statement::Long { value }) => {
+                assert_eq!(rt; value.value(), (1 << 35) - 1, "long");
+                seen = u32::saturating_add(seen, 1);
+            }
+            Some(Statement::Segment { name, base }) => {
+                assert_eq!(rt; name.text(), "m", "segment");
+                assert!(rt; *base == Some(77));
+                seen = u32::saturating_add(seen, 1);
+            }
+            Some(Statement::Rows { codes }) => {
+                assert_eq!(rt; codes.len(), 2, "rows");
+                assert_eq!(rt; (codes[0].value(), codes[1].value()), (9, 28), "rows");
+                seen = u32::saturating_add(seen, 1);
+            }
+            Some(Statement::Enter { .. }) => {}
+            None => assert!(rt; line.number == 1 || line.number == 8),
+        }
+    }
+    assert_eq!(rt; (seen, program.lines.len()), (8, 10), "seen");
+}

@@ -1,0 +1,24 @@
+-- The catalogue of the library: its routines in order of name (this project's own). A routine is its index in the
+-- catalogue in all that follows, counted from 0.
+use Rattle.std.specs.Prelude.{ℕ, Bool, List, [], ◌∷◌, length, slice_index_or, codes}
+use Rattle.ed_library.specs.declared.tables.TheConstants.{NEWLINE}
+
+-- what the catalogue says of a routine: its name, the letters of its preset parameters, the places of its own text that
+-- it changes, and its items, each a function, a number, whether a π stands behind the number, and an ending row
+pub record Entry : Type 0 where
+  pub name : List ℕ
+  pub parameters : List ℕ
+  pub working : List ℕ
+  pub items : List (ℕ × ℕ × Bool × ℕ)
+
+-- the routines in order of name
+abbrev pub catalogue : List Entry
+catalogue = record { name = codes "newline"; parameters = []; working = 4 ∷ []; items = NEWLINE } ∷ []
+
+-- the number of routines
+abbrev pub how_many : ℕ
+how_many = length catalogue
+
+-- what the catalogue says of a routine; of one that it hasn't, that it is empty
+abbrev pub entry : ℕ → Entry
+entry r = slice_index_or catalogue r (record { name = []; parameters = []; working = []; items = [] })

@@ -1,0 +1,15 @@
+//! The library: routines that a source may use, by their names, and the words that they have at a place in the store.
+//!
+//! The contract is that every reader gives what the catalogue's tables say, and that an image's word is the item's word
+//! with θ twice the base and with the preset parameters. Stands on `ed_words`, `ed_codes`, `ed_notation` and `arrayvec`.
+#![tactic(auto)]
+
+mod catalogue;
+mod images;
+mod library;
+mod tables;
+
+pub use catalogue::{catalogue_size, find, routine};
+pub use images::{Parameters, image_word};
+pub use library::Routine;
+pub use tables::NEWLINE;

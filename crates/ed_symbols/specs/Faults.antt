@@ -1,0 +1,118 @@
+-- What is wrong with the names of a source: the faults S6, S7 and S8 (this project's own rule).
+use Rattle.std.specs.Prelude.{ℕ, ◌||◌, Bool, false, List, [], ◌∷◌}
+use Rattle.std.specs.Prelude.{◌++◌, Option, Some, None, is_none, is_some, if◌then◌else◌}
+use Rattle.std.specs.Prelude.{ℤ, pos, ◌+ℤ◌, ◌-ℤ◌, int_lt}
+use Rattle.std.specs.List.{list_any}
+use Rattle.ed_syntax.specs.declared.program.Operand.{Operand}
+use Rattle.ed_syntax.specs.declared.program.Operand.TheVariants.{Number, Label, Two}
+use Rattle.ed_syntax.specs.declared.program.Setting.{Setting}
+use Rattle.ed_syntax.specs.declared.program.Statement.{Statement}
+use Rattle.ed_syntax.specs.declared.program.Statement.TheVariants.{Order, Fetch, Enter}
+use Rattle.ed_syntax.specs.declared.program.Line.{Line}
+use Rattle.ed_syntax.specs.declared.fault.SourceCause.{SourceCause}
+use Rattle.ed_syntax.specs.declared.fault.SourceCause.TheVariants.{LabelTwice, LabelUnknown, AddressRange}
+use Rattle.ed_syntax.specs.declared.fault.SourceFault.{SourceFault}
+use Rattle.ed_syntax.specs.declared.fault.SourceFault.TheVariants.{At}
+use Rattle.ed_symbols.specs.Places.{first_spot, passed, segment_of, standings_from}
+use Rattle.ed_symbols.specs.Names.{defined, home_of, homes_from, label_home, listed, name_home, place_on}
+use Rattle.ed_symbols.specs.declared.spots.Spot.{Spot}
+use Rattle.ed_symbols.specs.declared.spots.Standing.{Standing}
+use Rattle.ed_symbols.specs.declared.homes.Home.{Home}
+
+-- the sum or the difference of two places
+abbrev pub joined : Bool → Option ℕ → Option ℕ → Option ℤ
+joined minus (Some a) (Some b) = Some (if minus then pos a -ℤ pos b else pos a +ℤ pos b)
+joined minus _ b = None
+
+-- a place with a number added to it
+abbrev pub with_more : ℤ → Option ℕ → Option ℤ
+with_more plus None = None
+with_more plus (Some p) = Some (pos p +ℤ plus)
+
+-- the value of an operand on a line of this segment; none where a name of it has no place there
+abbrev pub value : List Home → Option ℕ → Operand → Option ℤ
+value homes segment (Number n) = Some (pos n)
+value homes segment (Label name plus) = with_more plus (place_on homes segment name)
+value homes segment (Two first second minus) = joined minus (place_on homes segment first) (place_on homes segment second)
+
+-- whether an operand names what has no place on its line
+abbrev pub is_unknown : List Home → Option ℕ → Operand → Bool
+is_unknown homes segment o = is_none (value homes segment o)
+
+-- whether a number is no address of the full store, 0 to 1023
+abbrev pub is_far : Option ℤ → Bool
+is_far None = false
+is_far (Some v) = int_lt v (pos 0) || int_lt (pos 1023) v
+
+-- whether an operand with a name has a value that is no address
+abbrev pub is_outside : List Home → Option ℕ → Operand → Bool
+is_outside homes segment (Number n) = false
+is_outside homes segment (Label name plus) = is_far (value homes segment (Label name plus))
+is_outside homes segment (Two first second minus) = is_far (value homes segment (Two first second minus))
+
+-- the operand of a setting
+abbrev pub operand_of : Setting → Operand
+operand_of t = t.operand
+
+-- whether an operand of a statement passes a test: that of an order, or one of those of the settings of a `use`
+abbrev pub any_operand : (Operand → Bool) → Option Statement → Bool
+any_operand test (Some (Order function operand length)) = test operand
+any_operand test (Some (Fetch routine name settings)) = list_any (λ t. test (operand_of t)) settings.items
+any_operand test _ = false
+
+-- whether an `enter` names what has no place
+abbrev pub enters_unknown : List Home → Option Statement → Bool
+enters_unknown homes (Some (Enter name)) = is_none (place_on homes None name)
+enters_unknown homes _ = false
+
+-- whether a definition is of a name that is defined earlier, a local name in the same segment
+abbrev pub is_again : List Home → Option Home → Bool
+is_again earlier None = false
+is_again earlier (Some h) = is_some (home_of h.segment h.name earlier)
+
+-- S6: the line defines a name that an earlier line defines, or that it defines twice
+abbrev pub defines_again : List Home → Line → Spot → Bool
+defines_again earlier l s = is_again earlier (label_home l.label l.statement s)
+    || is_again (earlier ++ listed (label_home l.label l.statement s)) (name_home l.statement s)
+
+-- S7: an operand or `enter` names what has no place on the line
+abbrev pub names_unknown : List Home → Line → Spot → Bool
+names_unknown homes l s = any_operand (is_unknown homes (segment_of l s)) l.statement || enters_unknown homes l.statement
+
+-- S8: the value of an operand with a name is no address
+abbrev pub reaches_outside : List Home → Line → Spot → Bool
+reaches_outside homes l s = any_operand (is_outside homes (segment_of l s)) l.statement
+
+-- the fault of a line with the least number, by whether it defines a name again
+abbrev pub cause_of : List Home → Bool → Line → Spot → Option SourceCause
+cause_of homes again l s =
+    if again then Some LabelTwice
+    else if names_unknown homes l s then Some LabelUnknown
+    else if reaches_outside homes l s then Some AddressRange
+    else None
+
+-- a fault of a line, or else that of a later line
+abbrev pub or_later : ℕ → Option SourceCause → Option SourceFault → Option SourceFault
+or_later line None later = later
+or_later line (Some cause) later = Some (At line cause)
+
+-- the fault of the least line from a spot on that has one
+abbrev pub fault_from : List Home → List Home → Spot → List Line → Option SourceFault
+fault_from homes earlier s [] = None
+fault_from homes earlier s (l ∷ lines) =
+    or_later l.number (cause_of homes (defines_again earlier l s) l s)
+    (fault_from homes (earlier ++ defined l s) (passed l.statement s) lines)
+
+-- what the names of a source come to: where each line stands, what is defined, and the least fault
+pub record Resolved : Type 0 where
+  pub standings : List Standing
+  pub homes : List Home
+  pub fault : Option SourceFault
+
+-- the same for the lines of a source
+abbrev pub resolved : List Line → Resolved
+resolved lines = record {
+  standings = standings_from first_spot lines;
+  homes = homes_from first_spot lines;
+  fault = fault_from (homes_from first_spot lines) [] first_spot lines;
+}

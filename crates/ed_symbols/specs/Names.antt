@@ -1,0 +1,68 @@
+-- Places of names: a name's place is that of its first definition, a local name's that of its first definition in the
+-- segment of the line that asks (this project's own rule).
+use Rattle.std.specs.Prelude.{ℕ, ◌==◌, ◌&&◌, ◌||◌, not, Bool, false, List}
+use Rattle.std.specs.Prelude.{[], ◌∷◌, ◌++◌, Option, Some, None, unwrap_or, option_map, if◌then◌else◌}
+use Rattle.std.specs.Str.{bytes_eq}
+use Rattle.ed_syntax.specs.declared.program.Statement.{Statement}
+use Rattle.ed_syntax.specs.declared.program.Statement.TheVariants.{Segment, Fetch, Long}
+use Rattle.ed_syntax.specs.declared.program.Line.{Line}
+use Rattle.ed_symbols.specs.Places.{even, passed, segment_at}
+use Rattle.ed_symbols.specs.declared.spots.Spot.{Spot}
+use Rattle.ed_symbols.specs.declared.homes.Home.{Home}
+
+-- the place for which the label of a line stands: at `long` it is even
+abbrev pub label_place : Option Statement → Spot → ℕ
+label_place (Some (Long value)) s = even s.place
+label_place _ s = s.place
+
+-- what the label of a line defines, in the segment of its line
+abbrev pub label_home : Option (List ℕ) → Option Statement → Spot → Option Home
+label_home None statement s = None
+label_home (Some name) statement s = Some (record { name = name; place = label_place statement s; segment = segment_at s })
+
+-- what a statement defines: a segment's name, and the second name of a `use`
+abbrev pub name_home : Option Statement → Spot → Option Home
+name_home (Some (Segment name base)) s = Some (record { name = name; place = unwrap_or base s.place; segment = None })
+name_home (Some (Fetch routine name settings)) s = Some (record { name = name; place = even s.place; segment = None })
+name_home _ s = None
+
+-- none or one
+abbrev pub listed : Option Home → List Home
+listed None = []
+listed (Some h) = h ∷ []
+
+-- what a line defines
+abbrev pub defined : Line → Spot → List Home
+defined l s = listed (label_home l.label l.statement s) ++ listed (name_home l.statement s)
+
+-- what the lines from a spot on define, in their order
+abbrev pub homes_from : Spot → List Line → List Home
+homes_from s [] = []
+homes_from s (l ∷ lines) = defined l s ++ homes_from (passed l.statement s) lines
+
+-- whether a name is local: it begins with _
+abbrev pub is_local : List ℕ → Bool
+is_local [] = false
+is_local (c ∷ cs) = c == 95
+
+-- whether both are one segment
+abbrev pub same_segment : Option ℕ → Option ℕ → Bool
+same_segment (Some a) (Some b) = a == b
+same_segment _ b = false
+
+-- whether a definition is one of this name as a line of this segment sees it
+abbrev pub is_home : Option ℕ → List ℕ → Home → Bool
+is_home segment name h = bytes_eq h.name name && (not (is_local name) || same_segment h.segment segment)
+
+-- the first definition of a name, on a line of this segment
+abbrev pub home_of : Option ℕ → List ℕ → List Home → Option Home
+home_of segment name [] = None
+home_of segment name (h ∷ homes) = if is_home segment name h then Some h else home_of segment name homes
+
+-- the place of a definition
+abbrev pub place_of : Home → ℕ
+place_of h = h.place
+
+-- the place of a name on a line of this segment, if it has one there
+abbrev pub place_on : List Home → Option ℕ → List ℕ → Option ℕ
+place_on homes segment name = option_map place_of (home_of segment name homes)

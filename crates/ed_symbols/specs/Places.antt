@@ -1,0 +1,57 @@
+-- Places of lines: where a line stands, by the words of the lines before it (this project's own rule).
+use Rattle.std.specs.Prelude.{ℕ, ◌+◌, ◌%◌, true, false, List, []}
+use Rattle.std.specs.Prelude.{◌∷◌, length, Option, Some, None, unwrap_or, if◌then◌else◌}
+use Rattle.ed_library.specs.Routines.{find, places}
+use Rattle.ed_syntax.specs.declared.program.Statement.{Statement}
+use Rattle.ed_syntax.specs.declared.program.Statement.TheVariants.{Segment, Order, Number, Text, Fetch, Enter, Rows, Long}
+use Rattle.ed_syntax.specs.declared.program.Line.{Line}
+use Rattle.ed_symbols.specs.declared.spots.Spot.{Spot}
+use Rattle.ed_symbols.specs.declared.spots.Standing.{Standing}
+
+-- a place, raised by 1 where it is odd
+abbrev pub even : ℕ → ℕ
+even p = p + p % 2
+
+-- the places that a routine takes, and 0 for one that isn't in the catalogue
+abbrev pub taken : Option ℕ → ℕ
+taken None = 0
+taken (Some r) = places r
+
+-- before the first line: place 56, outside every segment
+abbrev pub first_spot : Spot
+first_spot = record { place = 56; segments = 0; inside = false }
+
+-- the place moves on by some words
+abbrev pub moved : ℕ → Spot → Spot
+moved n s = record s { place = s.place + n }
+
+-- behind a statement: `segment` sets the place or leaves it, an order and `word` take 1 place, `text` one for each row,
+-- `use` the routine's length from an even place on and `long` 2 from an even place on
+abbrev pub passed : Option Statement → Spot → Spot
+passed None s = s
+passed (Some (Segment name base)) s = record { place = unwrap_or base s.place; segments = s.segments + 1; inside = true }
+passed (Some (Order function operand length)) s = moved 1 s
+passed (Some (Number value)) s = moved 1 s
+passed (Some (Text codes)) s = moved (length codes.items) s
+passed (Some (Fetch routine name settings)) s =
+    record { place = even s.place + taken (find routine); segments = s.segments + 1; inside = false }
+passed (Some (Enter name)) s = s
+passed (Some (Rows codes)) s = s
+passed (Some (Long value)) s = record s { place = even s.place + 2 }
+
+-- the segment of a spot: its number where the last `segment` or `use` line was a `segment`
+abbrev pub segment_at : Spot → Option ℕ
+segment_at s = if s.inside then Some s.segments else None
+
+-- the segment to which a line belongs: a `segment` line to its own one, a `use` line to none
+abbrev pub segment_of : Line → Spot → Option ℕ
+segment_of l s = segment_at (passed l.statement s)
+
+-- the place before a line, and the segment to which it belongs
+abbrev pub standing : Line → Spot → Standing
+standing l s = record { place = s.place; segment = segment_of l s }
+
+-- the same of each line from a spot on
+abbrev pub standings_from : Spot → List Line → List Standing
+standings_from s [] = []
+standings_from s (l ∷ lines) = standing l s ∷ standings_from (passed l.statement s) lines

@@ -1,0 +1,143 @@
+//! Where names are defined.
+ghost use Rattle.std.specs.Prelude.{◌≡◌, ◌++◌, ◌≤◌, ◌^◌, IfOk, OnOk, option_map};
+ghost use Rattle.ed_symbols.specs.Names.{defined, home_of, is_home, is_local, label_home, label_place, listed, name_home};
+ghost use Rattle.ed_symbols.specs.Names.{place_on, same_segment};
+ghost use Rattle.ed_symbols.specs.Faults.{defines_again, is_again};
+
+use crate::spots::{Spot, base_or, even};
+use ed_syntax::{Line, Name, Statement};
+use ed_words::NoMemory;
+
+/// The definition of a name.
+#[derive(Clone, Copy)]
+pub(crate) struct Home {
+    pub(crate) name: Name,
+    pub(crate) place: u32,
+    /// The segment in which a label is defined.
+    pub(crate) segment: Option<u32>,
+}
+
+/// The place for which the label of a line stands.
+fn label_place(statement: &Option<Statement>, spot: Spot) -> u32
+    requires { spot.place ≤ 2 ^ 30 }
+    ensures { result ≡ label_place statement.now spot }
+{
+    match statement {
+        Some(Statement::Long { .. }) => even(spot.place),
+        _ => spot.place,
+    }
+}
+
+/// What the label of a line defines.
+fn label_home(line: &Line, spot: Spot) -> Option<Home>
+    requires { spot.place ≤ 2 ^ 30 }
+    ensures { result ≡ label_home line.now.label line.now.statement spot }
+{
+    match line.label {
+        Some(name) => Some(Home {
+            name,
+            place: label_place(&line.statement, spot),
+            segment: spot.segment(),
+        }),
+        None => None,
+    }
+}
+
+/// What a statement defines.
+fn name_home(statement: &Option<Statement>, spot: Spot) -> Option<Home>
+    requires { spot.place ≤ 2 ^ 30 }
+    ensures { result ≡ name_home statement.now spot }
+{
+    match statement {
+        Some(Statement::Segment { name, base }) => Some(Home {
+            name: *name,
+            place: base_or(base, spot.place),
+            segment: None,
+        }),
+        Some(Statement::Fetch { name, .. }) => Some(Home {
+            name: *name,
+            place: even(spot.place),
+            segment: None,
+        }),
+        _ => None,
+    }
+}
+
+/// Whether a name is local.
+fn is_local(name: &Name) -> bool
+    ensures { result ≡ is_local name.now }
+{
+    match name.text().as_bytes().split_first() {
+        Some((first, _)) => *first == b'_',
+        None => false,
+    }
+}
+
+/// Whether both are one segment.
+fn same_segment(one: Option<u32>, other: Option<u32>) -> bool
+    ensures { result ≡ same_segment one other }
+{
+    match (one, other) {
+        (Some(one), Some(other)) => one == other,
+        _ => false,
+    }
+}
+
+impl Home {
+    /// Whether this is a definition of a name as a line of a segment sees it.
+    fn is_of(&self, segment: Option<u32>, name: &Name) -> bool
+        ensures { result ≡ is_home segment name.now self.now }
+    {
+        self.name.text() == name.text() && (!is_local(name) || same_segment(self.segment, segment))
+    }
+}
+
+/// The first definition of a name, on a line of a segment.
+pub(crate) fn find_home(homes: &[Home], segment: Option<u32>, name: &Name) -> Option<Home>
+    ensures { result ≡ home_of segment name.now homes.now }
+{
+    for home in homes {
+        if home.is_of(segment, name) {
+            return Some(*home);
+        }
+    }
+    None
+}
+
+/// The place of a name on a line of a segment, if it has one there.
+pub(crate) fn find_place(homes: &[Home], segment: Option<u32>, name: &Name) -> Option<u32>
+    ensures { result ≡ place_on homes.now segment name.now }
+{
+    match find_home(homes, segment, name) {
+        Some(home) => Some(home.place),
+        None => None,
+    }
+}
+
+/// Adds a definition, and says whether its name was defined already.
+fn add(homes: &mut Vec<Home>, home: Option<Home>) -> Result<bool, NoMemory>
+    ensures homes { OnOk result (homes.new.items ≡ homes.old.items ++ listed home) }
+    ensures again { IfOk result (λ again. again ≡ is_again homes.old.items home) }
+{
+    match home {
+        Some(home) => {
+            let again = find_home(homes, home.segment, &home.name).is_some();
+            if homes.push(home).is_err() {
+                return Err(NoMemory);
+            }
+            Ok(again)
+        }
+        None => Ok(false),
+    }
+}
+
+/// Adds what a line defines, and says whether a name of it was defined already.
+pub(crate) fn add_line(homes: &mut Vec<Home>, line: &Line, spot: Spot) -> Result<bool, NoMemory>
+    requires { spot.place ≤ 2 ^ 30 }
+    ensures homes { OnOk result (homes.new.items ≡ homes.old.items ++ defined line.now spot) }
+    ensures again { IfOk result (λ again. again ≡ defines_again homes.old.items line.now spot) }
+{
+    let label_again = add(homes, label_home(line, spot))?;
+    let name_again = add(homes, name_home(&line.statement, spot))?;
+    Ok(label_again || name_again)
+}

@@ -1,0 +1,124 @@
+ghost use Rattle.std.specs.Prelude.{◌≡◌, ◌-◌, ◌≤◌, IfOk, None, [], length};
+ghost use Rattle.ed_symbols.specs.Faults.{fault_from, resolved};
+ghost use Rattle.ed_symbols.specs.Names.{homes_from, place_on};
+ghost use Rattle.ed_symbols.specs.Places.{first_spot, standings_from};
+ghost use Rattle.ed_symbols.specs.Readers.{line_place, line_segment};
+
+use crate::faults::cause_of;
+use crate::homes::{Home, add_line, find_place};
+use crate::spots::{Spot, Standing, standing_of};
+use ed_syntax::{Name, Program, SourceFault};
+use ed_words::NoMemory;
+use std::alloc::Global;
+use std::marker::Model;
+
+/// The places of a source's lines and names, and the least fault of its names.
+#[derive(Drop)]
+pub struct Places {
+    standings: Vec<Standing>,
+    homes: Vec<Home>,
+    fault: Option<SourceFault>,
+}
+
+impl Model for Places {
+    ghost use Rattle.ed_symbols.specs.Faults.{Resolved};
+
+    ghost Value = { Resolved };
+
+    ghost view = { λ p. record { standings = p.standings.items; homes = p.homes.items; fault = p.fault } };
+}
+
+/// Where the lines of a program stand, and what they define.
+fn resolve_places(alloc: Global, program: &Program) -> Result<(Vec<Standing>, Vec<Home>), NoMemory>
+    ensures standings { IfOk result (λ r. r.0.items ≡ standings_from first_spot program.now.lines.items) }
+    ensures homes { IfOk result (λ r. r.1.items ≡ homes_from first_spot program.now.lines.items) }
+    ensures lines { IfOk result (λ r. length r.0.items ≡ length program.now.lines.items) }
+{
+    let mut standings = Vec::new(alloc);
+    let mut homes = Vec::new(alloc);
+    let mut spot = Spot::first();
+    for line in &program.lines {
+        if standings.push(standing_of(line, spot)).is_err() {
+            return Err(NoMemory);
+        }
+        let _ = add_line(&mut homes, line, spot)?;
+        spot = spot.passed(&line.statement);
+    }
+    Ok((standings, homes))
+}
+
+/// The least fault of a program's names.
+fn find_fault(
+    alloc: Global,
+    homes: &[Home],
+    program: &Program,
+) -> Result<Option<SourceFault>, NoMemory>
+    ensures { IfOk result (λ fault. fault ≡ fault_from homes.now [] first_spot program.now.lines.items) }
+{
+    let mut earlier = Vec::new(alloc);
+    let mut spot = Spot::first();
+    for line in &program.lines {
+        let again = add_line(&mut earlier, line, spot)?;
+        if let Some(cause) = cause_of(homes, again, line, spot) {
+            return Ok(Some(SourceFault::At {
+                line: line.number,
+                cause,
+            }));
+        }
+        spot = spot.passed(&line.statement);
+    }
+    Ok(None)
+}
+
+/// The places of a program's lines and names.
+pub fn resolve(alloc: Global, program: &Program) -> Result<Places, NoMemory>
+    ensures is { IfOk result (λ p. p ≡ resolved program.now.lines.items) }
+    ensures lines { IfOk result (λ p. length p.standings ≡ length program.now.lines.items) }
+{
+    let (standings, homes) = resolve_places(alloc, program)?;
+    let fault = find_fault(alloc, &homes, program)?;
+    Ok(Places {
+        standings,
+        homes,
+        fault,
+    })
+}
+
+impl Places {
+    /// The place before a line, which is counted from 1 and is one of the program.
+    pub fn line_place(&self, line: u32) -> u32
+        requires from_one { 1 ≤ line }
+        requires of_the_program { line ≤ length self.now.standings }
+        ensures { result ≡ line_place self.now line }
+    {
+        self.standings[(line - 1) as usize].place
+    }
+
+    /// The place of a name that isn't local, by its first definition. A local name has none.
+    pub fn label(&self, name: &Name) -> Option<u32>
+        ensures { result ≡ place_on self.now.homes None name.now }
+    {
+        find_place(&self.homes, None, name)
+    }
+
+    /// The place of a name on a line, which is counted from 1 and is one of the program. A local name has one on the
+    /// lines of a segment that defines it.
+    pub fn label_at(&self, line: u32, name: &Name) -> Option<u32>
+        requires from_one { 1 ≤ line }
+        requires of_the_program { line ≤ length self.now.standings }
+        ensures { result ≡ place_on self.now.homes (line_segment self.now line) name.now }
+    {
+        find_place(
+            &self.homes,
+            self.standings[(line - 1) as usize].segment,
+            name,
+        )
+    }
+
+    /// The least of the faults S6 to S8 by line and then number, if there is one.
+    pub fn fault(&self) -> Option<SourceFault>
+        ensures { result ≡ self.now.fault }
+    {
+        self.fault
+    }
+}

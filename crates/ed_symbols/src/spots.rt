@@ -1,0 +1,133 @@
+//! Where a line stands.
+ghost use Rattle.std.specs.Prelude.{◌≡◌, ◌+◌, ◌≤◌, ◌^◌, unwrap_or};
+ghost use Rattle.ed_library.specs.Routines.{find};
+ghost use Rattle.ed_symbols.specs.Places.{even, first_spot, passed, segment_at, standing, taken};
+
+use ed_library::find;
+use ed_syntax::{Line, Name, Statement};
+
+/// What the lines before a line come to.
+#[derive(Clone, Copy)]
+pub(crate) struct Spot {
+    /// The place before the line.
+    pub(crate) place: u32,
+    /// How many `segment` and `use` lines stand before the line.
+    pub(crate) segments: u32,
+    /// Whether the last of these is a `segment` line.
+    pub(crate) inside: bool,
+}
+
+/// The place before a line, and the segment to which the line belongs.
+#[derive(Clone, Copy)]
+pub(crate) struct Standing {
+    pub(crate) place: u32,
+    pub(crate) segment: Option<u32>,
+}
+
+/// A place, raised by 1 where it is odd.
+pub(crate) fn even(place: u32) -> u32
+    requires { place ≤ 2 ^ 30 }
+    ensures is { result ≡ even place }
+    ensures near { result ≤ place + 1 }
+{
+    place + place % 2
+}
+
+/// The places that a routine takes.
+fn taken(routine: &Name) -> u32
+    ensures is { result ≡ taken (find routine.now) }
+    ensures few { result ≤ 65535 }
+{
+    match find(routine.text()) {
+        Some(routine) => u32::from(routine.length()),
+        None => 0,
+    }
+}
+
+/// The base of a segment, or the place where it has none.
+pub(crate) fn base_or(base: &Option<u16>, place: u32) -> u32
+    ensures is { result ≡ unwrap_or base.now place }
+    ensures near { result ≤ place + 65535 }
+{
+    match base {
+        Some(base) => u32::from(*base),
+        None => place,
+    }
+}
+
+impl Spot {
+    /// Before the first line.
+    pub(crate) fn first() -> Spot
+        ensures { result ≡ first_spot }
+    {
+        Spot {
+            place: 56,
+            segments: 0,
+            inside: false,
+        }
+    }
+
+    /// Some words further on.
+    fn moved(self, words: u32) -> Spot
+        requires place { self.place ≤ 2 ^ 30 }
+        requires words { words ≤ 65536 }
+        ensures { result ≡ record self { place = self.place + words } }
+    {
+        Spot {
+            place: self.place + words,
+            ..self
+        }
+    }
+
+    /// Behind a statement.
+    pub(crate) fn passed(self, statement: &Option<Statement>) -> Spot
+        requires place { self.place ≤ 2 ^ 30 }
+        requires segments { self.segments ≤ 2000 }
+        ensures is { result ≡ passed statement.now self }
+        ensures place { result.place ≤ self.place + 65536 }
+        ensures segments { result.segments ≤ self.segments + 1 }
+    {
+        match statement {
+            None | Some(Statement::Enter { .. } | Statement::Rows { .. }) => self,
+            Some(Statement::Order { .. } | Statement::Number { .. }) => self.moved(1),
+            Some(Statement::Text { codes }) => self.moved(codes.len() as u32),
+            Some(Statement::Long { .. }) => Spot {
+                place: even(self.place) + 2,
+                ..self
+            },
+            Some(Statement::Segment { base, .. }) => Spot {
+                place: base_or(base, self.place),
+                segments: self.segments + 1,
+                inside: true,
+            },
+            Some(Statement::Fetch { routine, .. }) => Spot {
+                place: even(self.place) + taken(routine),
+                segments: self.segments + 1,
+                inside: false,
+            },
+        }
+    }
+
+    /// The segment of the spot.
+    pub(crate) fn segment(self) -> Option<u32>
+        ensures { result ≡ segment_at self }
+    {
+        if self.inside {
+            Some(self.segments)
+        } else {
+            None
+        }
+    }
+}
+
+/// The place before a line, and the segment to which it belongs.
+pub(crate) fn standing_of(line: &Line, spot: Spot) -> Standing
+    requires place { spot.place ≤ 2 ^ 30 }
+    requires segments { spot.segments ≤ 2000 }
+    ensures { result ≡ standing line.now spot }
+{
+    Standing {
+        place: spot.place,
+        segment: spot.passed(&line.statement).segment(),
+    }
+}
