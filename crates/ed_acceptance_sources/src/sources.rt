@@ -2,6 +2,19 @@
 
 use ed_syntax::{Operand, SourceCause, SourceFault, Statement, parse};
 
+/// Two lines as one text.
+fn joined(rt: &HostRuntime, first: &[u8], second: &[u8]) -> Option<Vec<u8>> {
+    let mut text = Vec::new(rt.alloc());
+    for byte in first {
+        text.push(*byte).ok()?;
+    }
+    text.push(b'\n').ok()?;
+    for byte in second {
+        text.push(*byte).ok()?;
+    }
+    Some(text)
+}
+
 /// How a text is read: the number of its lines, or its first fault with its line.
 fn outcome(rt: &HostRuntime, text: &[u8]) -> (u32, Option<SourceCause>) {
     match parse(rt.alloc(), text) {
@@ -92,7 +105,16 @@ fn lines_have_a_form_or_their_first_fault(rt: HostRuntime) {
 #[test]
 fn the_second_version_of_the_language(rt: HostRuntime) {
     use SourceCause::{NotAStatement, NumberRange};
-    let cases: [(&[u8], u32, Option<SourceCause>); 22] = [
+    let cases: [(&[u8], u32, Option<SourceCause>); 27] = [
+        (b"version 2\nlong 34359738368", 2, Some(NumberRange)),
+        (b"version 2\nuse _c as d", 2, Some(NotAStatement)),
+        (b"version 2\n_c: segment m", 2, Some(NotAStatement)),
+        (
+            b"version 2\n_c:\n_d: word 1\n_e: text \"A\"\n_f: long 1",
+            5,
+            None,
+        ),
+        (b"version 2\n_abcdefghijklmnop: Z F", 2, Some(NotAStatement)),
         (b"version 2", 1, None),
         (b" version 02 ; comment", 1, None),
         (b"version", 1, Some(NotAStatement)),
@@ -118,6 +140,101 @@ fn the_second_version_of_the_language(rt: HostRuntime) {
     ];
     for (text, line, cause) in cases {
         assert_eq!(rt; outcome(&rt, text), (line, cause), "{text:?}");
+    }
+}
+
+#[test]
+fn blanks_stand_between_any_two_parts(rt: HostRuntime) {
+    let cases: [&[u8]; 22] = [
+        b"a:",
+        b"\t a \t : \t",
+        b"a:AF",
+        b" a :\tA\t b \t+ 1\tF ;",
+        b"Ab+1F",
+        b"A b\t-\t1 D",
+        b"#F",
+        b"\t# \tD\t",
+        b"segment m at 0",
+        b"\tsegment\tm \tat\t 0 \t",
+        b"word 0",
+        b"\tword\t-\t0\t",
+        b"a:word-0",
+        b"text\"0\"",
+        b"\ttext \t\"A\" \t;\"",
+        b"use a as b",
+        b"\tuse\ta \tas\t b\t",
+        b"use a as b withH=c+1,N=2",
+        b"\tuse a as b\twith\tH\t=\tc\t-\t1\t,\tX\t=\t2\t",
+        b"\tenter\tm\t",
+        b"data\".\"",
+        b"\tdata\t\"AB\"\t;",
+    ];
+    for text in cases {
+        assert_eq!(rt; outcome(&rt, text), (1, None), "{text:?}");
+    }
+}
+
+#[test]
+fn the_least_line_and_then_the_least_fault(rt: HostRuntime) {
+    use SourceCause::{BadByte, LongLine, NotAStatement, NumberRange};
+    let long_and_bad = [1u8; 121];
+    let long_and_odd = [b'%'; 121];
+    let cases: [(&[u8], u32, Option<SourceCause>); 17] = [
+        (&long_and_bad, 1, Some(BadByte)),
+        (&long_and_odd, 1, Some(LongLine)),
+        (&long_and_odd[..120], 1, Some(NotAStatement)),
+        (b"word 131072 \x01", 1, Some(BadByte)),
+        (b"text \"A B\"", 1, Some(NotAStatement)),
+        (b"% \x01", 1, Some(BadByte)),
+        (b"word 131072 x", 1, Some(NotAStatement)),
+        (b"\x01\n%", 1, Some(BadByte)),
+        (b"%\n\x01", 1, Some(NotAStatement)),
+        (b"word 131072\n\x01", 1, Some(NumberRange)),
+        (b"word 131072\n%", 1, Some(NumberRange)),
+        (b"%\nword 131072", 1, Some(NotAStatement)),
+        (b"Z F\nword 131072\n%", 2, Some(NumberRange)),
+        (b"word 0000000000000000000000000000000000000007", 1, None),
+        (
+            b"word 1000000000000000000000000000000000000000",
+            1,
+            Some(NumberRange),
+        ),
+        (
+            b"A 1000000000000000000000000000000000000000 F",
+            1,
+            Some(NumberRange),
+        ),
+        (b"segment m at 4294967296", 1, Some(NumberRange)),
+    ];
+    for (text, line, cause) in cases {
+        assert_eq!(rt; outcome(&rt, text), (line, cause), "{text:?}");
+    }
+}
+
+#[test]
+fn two_faulty_lines(rt: HostRuntime) {
+    let long = [b' '; 121];
+    let faults: [(&[u8], SourceCause); 4] = [
+        (b"\x01", SourceCause::BadByte),
+        (&long, SourceCause::LongLine),
+        (b"%", SourceCause::NotAStatement),
+        (b"word 131072", SourceCause::NumberRange),
+    ];
+    for (first, cause) in faults {
+        for (second, _) in faults {
+            match joined(&rt, first, second) {
+                Some(text) => assert_eq!(rt;
+                    outcome(&rt, &text),
+                    (1, Some(cause)),
+                    "{first:?} {second:?}"
+                ),
+                None => assert!(rt; false, "no memory"),
+            }
+        }
+        match joined(&rt, b"Z F", first) {
+            Some(text) => assert_eq!(rt; outcome(&rt, &text), (2, Some(cause)), "{first:?}"),
+            None => assert!(rt; false, "no memory"),
+        }
     }
 }
 
