@@ -179,7 +179,38 @@ fn the_least_line_and_then_the_least_fault(rt: HostRuntime) {
     use SourceCause::{BadByte, LongLine, NotAStatement, NumberRange};
     let long_and_bad = [1u8; 121];
     let long_and_odd = [b'%'; 121];
-    let cases: [(&[u8], u32, Option<SourceCause>); 17] = [
+    let mut long_and_large = [b'9'; 121];
+    long_and_large[0] = b'A';
+    long_and_large[120] = b'F';
+    let cases: [(&[u8], u32, Option<SourceCause>); 25] = [
+        (&long_and_large, 1, Some(LongLine)),
+        (
+            b"segment m\nA nowhere F\nsegment s at 20\nZ F\nenter m\n%",
+            6,
+            Some(NotAStatement),
+        ),
+        (
+            b"segment m at 1000000000000000000000000000000000000000",
+            1,
+            Some(NumberRange),
+        ),
+        (
+            b"A a+1000000000000000000000000000000000000000 F",
+            1,
+            Some(NumberRange),
+        ),
+        (
+            b"word -1000000000000000000000000000000000000000",
+            1,
+            Some(NumberRange),
+        ),
+        (b"use p as q with H=32767,N=a+1023,M=a-1023", 1, None),
+        (b"use p as q with H=a+1024", 1, Some(NumberRange)),
+        (
+            b"version 2\nlong 1000000000000000000000000000000000000000",
+            2,
+            Some(NumberRange),
+        ),
         (&long_and_bad, 1, Some(BadByte)),
         (&long_and_odd, 1, Some(LongLine)),
         (&long_and_odd[..120], 1, Some(NotAStatement)),
@@ -252,6 +283,13 @@ fn the_most_lines_and_bytes(rt: HostRuntime) {
         outcome(&rt, &ends),
         (2001, Some(SourceCause::TooManyLines)),
         "2001 lines, the last one faulty"
+    );
+    let mut odd_and_many = [b'\n'; 2002];
+    odd_and_many[0] = b'%';
+    assert_eq!(rt;
+        outcome(&rt, &odd_and_many),
+        (1, Some(SourceCause::NotAStatement)),
+        "a faulty line before line 2001"
     );
     let blanks = [b' '; 121];
     assert_eq!(rt;
