@@ -1,17 +1,17 @@
 -- Places modulo the size of a store.
-use Rattle.std.proofs.Common.{◌≡◌, ℕ, ◌+◌, ◌/◌, ◌%◌, ◌<◌, ◌≤◌, refl, sym, ◌∙◌, arith, Bool, true, false, nat_lt}
-use Rattle.std.proofs.lemmas.Bool.Decides.{nat_tests}
+use Rattle.std.proofs.Common.{◌≡◌, ℕ, ◌%◌, ◌<◌, ◌≤◌, refl, sym, ◌∙◌, arith, Bool, true, false, nat_lt}
+use Rattle.ed_words.proofs.Numbers.{lt_of, not_lt_of, lt_true, lt_false}
 use Rattle.ed_words.specs.Sizes.{locations, within, WithinIsModulo}
 use Rattle.ed_words.specs.declared.size.Size.{Size}
 use Rattle.ed_words.specs.declared.size.Size.TheVariants.{Small, Full}
 
 -- a number below 512 is itself
 pub within_low : (z : Size) (n : ℕ) → n < 512 → within z n ≡ n
-within_low z n h = let e : nat_lt n 512 ≡ true = grind (arith, nat_tests) in rw e refl
+within_low z n h = rw (lt_true n 512 h) refl
 
 -- a number from 512 on is reduced
 pub within_high : (z : Size) (n : ℕ) → 512 ≤ n → within z n ≡ n % locations z
-within_high z n h = let e : nat_lt n 512 ≡ false = grind (arith, nat_tests) in rw e refl
+within_high z n h = rw (lt_false n 512 h) refl
 
 by_size : (z : Size) (n : ℕ) → n < 512 → n ≡ n % locations z
 by_size Small n h = omega arith
@@ -22,8 +22,8 @@ pub within_is : WithinIsModulo
 within_is z n = by_test (nat_lt n 512) refl
   where
     by_test : (b : Bool) → nat_lt n 512 ≡ b → within z n ≡ n % locations z
-    by_test true e = let h : n < 512 = grind (arith, nat_tests) in within_low z n h ∙ by_size z n h
-    by_test false e = let h : 512 ≤ n = grind (arith, nat_tests) in within_high z n h
+    by_test true e = within_low z n (lt_of n 512 e) ∙ by_size z n (lt_of n 512 e)
+    by_test false e = within_high z n (not_lt_of n 512 e)
 
 -- a size is 1024 at most
 pub most : (z : Size) → locations z ≤ 1024

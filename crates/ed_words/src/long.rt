@@ -46,6 +46,14 @@ impl Long {
         }
     }
 
+    /// The long word of a number known to be below 2^35.
+    pub fn of_number(number: u64) -> Long
+        requires { number < 2 ^ 35 }
+        ensures { result ≡ number }
+    {
+        Long { number }
+    }
+
     /// The number, 0 to 2^35 - 1.
     pub fn value(self) -> u64
         ensures is { result ≡ self }
@@ -60,9 +68,9 @@ impl Long {
         ensures back { long_of result ≡ self }
     {
         Halves {
-            odd: part(self.number >> 18),
+            odd: Word::of_number((self.number >> 18) as u32),
             sandwich: (self.number >> 17) & 1 == 1,
-            even: part(self.number & 0x1_FFFF),
+            even: Word::of_number((self.number & 0x1_FFFF) as u32),
         }
     }
 
@@ -86,12 +94,4 @@ impl Long {
             number: u64::from(word.value()) << 18,
         }
     }
-}
-
-/// The word of a number known to be small enough.
-fn part(number: u64) -> Word
-    requires { number < 2 ^ 17 }
-    ensures { result ≡ number }
-{
-    Word::new(number as u32).unwrap()
 }

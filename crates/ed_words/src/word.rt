@@ -34,6 +34,14 @@ impl Word {
         }
     }
 
+    /// The word of a number known to be below 131072.
+    pub fn of_number(number: u32) -> Word
+        requires { number < 2 ^ 17 }
+        ensures { result ≡ number }
+    {
+        Word { number }
+    }
+
     /// The number, 0 to 131071.
     pub fn value(self) -> u32
         ensures is { result ≡ self }
