@@ -5,7 +5,7 @@ use Rattle.std.specs.Prelude.{Some, None, ◌==◌, position}
 use Rattle.std.specs.List.{position_or_len}
 use Rattle.std.proofs.Math.Seq.{take-add}
 use Rattle.std.proofs.lemmas.Bool.Decides.{nat_tests, Decides-eqb}
-use Rattle.std.proofs.lemmas.List.{append-nil, drop_more, take_more, take_all}
+use Rattle.std.proofs.lemmas.List.{append-nil, drop_more, length-append, take_more, take_all}
 use Rattle.std.proofs.lemmas.List.Folds.{list_any_more}
 use Rattle.std.proofs.lemmas.List.Quantifiers.{position-Some}
 use Rattle.std.proofs.lemmas.List.Sums.{fails_before_first}
@@ -92,3 +92,10 @@ past_comment text rows i n lt s opens found =
     let no_close = no_close_before after n (omega arith) close.2 in
     no_row_more text rows (91 ∷ take n after ++ 93 ∷ []) i (i + n + 2) (comment_taken text i n lt opens close.0 is_close) s
     (comment (take n after) [] [] no_close none)
+
+-- a text spells no more rows than it has bytes
+pub few_rows : (text rows : List ℕ) → Spells text rows → length rows ≤ length text
+few_rows _ _ none = omega arith
+few_rows _ _ (row byte code text rows is s) = omega (arith, few_rows text rows s)
+few_rows _ _ (spacing byte text rows is s) = omega (arith, few_rows text rows s)
+few_rows _ _ (comment inside text rows is s) = omega (arith, few_rows text rows s, length-append inside (93 ∷ text))

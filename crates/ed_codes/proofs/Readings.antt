@@ -8,7 +8,8 @@ use Rattle.std.proofs.lemmas.List.{append-nil, take-append-drop, length-append, 
 use Rattle.ed_codes.specs.Spelling.{row_of}
 use Rattle.ed_codes.specs.Text.{Spells, none, row, spacing, comment, is_spacing, has_close, HasNoRow, HasOpenComment, StopsAt}
 use Rattle.ed_codes.specs.Answer.{ReadsText, Answers}
-use Rattle.ed_codes.specs.Reading.{Reading, rows, no_row, open_comment, with_row, row_or_fault, reading_from, reading, HasOneReading}
+use Rattle.ed_codes.specs.Reading.{Reading, rows, no_row, open_comment, with_row, row_or_fault, reading_from, reading, IsReadingOf, HasOneReading}
+use Rattle.ed_codes.proofs.Every.{every_text}
 use Rattle.ed_codes.specs.declared.code.Code.{Code}
 use Rattle.ed_codes.specs.declared.tape.TextFault.{TextFault}
 use Rattle.ed_codes.specs.declared.tape.TextFault.TheVariants.{NoRow, OpenComment, Memory}
@@ -136,9 +137,15 @@ open_is_read text place h =
     ∙ ap (with_rows h.stops.rows) (never_closed place (place + 1) h.after h.no_close)
     ∙ open_comment_stays h.stops.rows place
 
--- each of the three is the reading
+-- what a text has is its reading
+only_reading : (text : List ℕ) (r : Reading) → IsReadingOf text r → reading text ≡ r
+only_reading text (rows codes) h = spelled_is_read text codes h
+only_reading text (no_row place byte) h = no_row_is_read text place byte h
+only_reading text (open_comment place) h = open_is_read text place h
+
+-- every text has its reading and no other
 pub has_one_reading : HasOneReading
-has_one_reading = record { spelled = spelled_is_read; faulty = no_row_is_read; unended = open_is_read }
+has_one_reading = record { every = every_text; only = only_reading }
 
 -- an answer that says what the text has says its reading
 pub answers_reading : (text : List ℕ) (r : Result (Vec Code Global) TextFault) → ReadsText text r → Answers (reading text) r

@@ -33,8 +33,13 @@ reading_from (Some start) place (b ∷ bs) = if b == 93 then reading_from None (
 abbrev pub reading : List ℕ → Reading
 reading = reading_from None 0
 
--- A text spells one list of rows or has one fault at one place, and never both: each of the three is its reading.
+-- what a reading says of its text: the rows that it spells, or the one fault that it has
+abbrev pub IsReadingOf : List ℕ → Reading → Type 0
+IsReadingOf text (rows codes) = Spells text codes
+IsReadingOf text (no_row place byte) = HasNoRow text place byte
+IsReadingOf text (open_comment place) = HasOpenComment text place
+
+-- Every text spells one list of rows or has one fault at one place, and never both: that is its reading.
 pub record HasOneReading : Type 0 where
-  pub spelled : (text codes : List ℕ) → Spells text codes → reading text ≡ rows codes
-  pub faulty : (text : List ℕ) (place byte : ℕ) → HasNoRow text place byte → reading text ≡ no_row place byte
-  pub unended : (text : List ℕ) (place : ℕ) → HasOpenComment text place → reading text ≡ open_comment place
+  pub every : (text : List ℕ) → IsReadingOf text (reading text)
+  pub only : (text : List ℕ) (r : Reading) → IsReadingOf text r → reading text ≡ r
