@@ -1,14 +1,20 @@
 -- Products of signed long words, and sums with them, fit 128 binary digits.
-use Rattle.std.proofs.Common.{◌≡◌, ℕ, ◌^◌, ◌<◌, ◌≤◌, arith, ℤ, pos, nat_abs, neg_ℤ, ◌≤ℤ◌, ◌+ℤ◌, ◌-ℤ◌, ◌*ℤ◌, lit<, lit≤}
-use Rattle.std.proofs.lemmas.Int.{ints, to_z-of_z, to_z_pos, fits_signed_mul, unsigned_abs-mul}
+use Rattle.std.proofs.Common.{◌≡◌, refl, ap, ℕ, ◌+◌, ◌-◌, ◌%◌, ◌^◌, ◌≤◌, arith, ℤ, pos, nat_abs, neg_ℤ, ◌≤ℤ◌, ◌+ℤ◌, ◌-ℤ◌, ◌*ℤ◌, lit<, lit≤}
+use Rattle.std.proofs.lemmas.Int.{ints, to_z-of_z, fits_signed_mul, unsigned_abs-mul, int_rem_euclid_is}
 use Rattle.std.proofs.Math.Nat.{mul-le-mul}
+use Rattle.std.specs.Prelude.{unsigned_abs}
+use Rattle.ed_acc.specs.Arithmetic.{modulo71}
 use mir.Val.{SFits, of_z, to_z}
-use mir.Syntax.{w128}
+use mir.Syntax.{w64, w128}
 
 -- a whole number from -n to n
 pub record IsWithin (n : ℕ) (z : ℤ) : Type 0 where
   pub low : neg_ℤ (pos n) ≤ℤ z
   pub high : z ≤ℤ pos n
+
+-- a signed long word that is passed as one of 64 binary digits is itself
+pub widened : (x : ℤ) → IsWithin (2 ^ 34) x → to_z w64 (of_z w64 x) ≡ x
+widened x within = to_z-of_z w64 x (omega (arith, ints, within.low, within.high))
 
 -- four times a product as it is computed
 abbrev computed : ℤ → ℤ → ℤ
@@ -33,14 +39,34 @@ module _ (x y : ℤ) (left : IsWithin (2 ^ 34) x) (right : IsWithin (2 ^ 34) y) 
   pub product_within : IsWithin (2 ^ 70) (pos 4 *ℤ (x *ℤ y))
   product_within = record { low = omega (arith, ints, small); high = omega (arith, ints, small) }
 
-module _ (a : ℕ) (p : ℤ) (fits : a < 2 ^ 71) (within : IsWithin (2 ^ 70) p) where
-  -- an accumulator and a product, added and taken away, as they are computed
-  pub sum_is : to_z w128 (of_z w128 (to_z w128 a +ℤ to_z w128 (of_z w128 p))) ≡ pos a +ℤ p
-  sum_is =
-      rw (to_z-of_z w128 p (omega (arith, ints, within.low, within.high)), to_z_pos w128 a (omega arith))
-      (to_z-of_z w128 (pos a +ℤ p) (omega (arith, ints, within.low, within.high)))
+module _ (a : ℕ) (p : ℤ) (within : IsWithin (2 ^ 70) p) where
+  -- a product and 2^71 are a whole number from 0 upwards
+  raised : p +ℤ pos (2 ^ 71) ≡ pos (nat_abs (p +ℤ pos (2 ^ 71)))
+  raised = omega (arith, ints, within.low, within.high)
 
-  pub difference_is : to_z w128 (of_z w128 (to_z w128 a -ℤ to_z w128 (of_z w128 p))) ≡ pos a -ℤ p
-  difference_is =
-      rw (to_z-of_z w128 p (omega (arith, ints, within.low, within.high)), to_z_pos w128 a (omega arith))
-      (to_z-of_z w128 (pos a -ℤ p) (omega (arith, ints, within.low, within.high)))
+  module _ (n : ℕ) (is : p +ℤ pos (2 ^ 71) ≡ pos n) where
+    wrapped_is : modulo71 p ≡ n % 2 ^ 71
+    wrapped_is = ap unsigned_abs (int_rem_euclid_is p (pos (2 ^ 71)) (2 ^ 71) 1 n (lit< tt) refl is)
+
+    sum_wrapped : modulo71 (pos a +ℤ p) ≡ (a + modulo71 p) % 2 ^ 71
+    sum_wrapped =
+        let whole : modulo71 (pos a +ℤ p) ≡ (a + n) % 2 ^ 71 =
+        ap unsigned_abs (int_rem_euclid_is (pos a +ℤ p) (pos (2 ^ 71)) (2 ^ 71) 1 (a + n) (lit< tt) refl (omega (arith, ints, is))) in
+        rw (whole, wrapped_is) (omega arith)
+
+    difference_wrapped : n ≤ 2 ^ 72 → modulo71 (pos a -ℤ p) ≡ (a + 2 ^ 71 - modulo71 p) % 2 ^ 71
+    difference_wrapped low =
+        let whole : modulo71 (pos a -ℤ p) ≡ (a + 2 ^ 72 - n) % 2 ^ 71 =
+        ap unsigned_abs (int_rem_euclid_is (pos a -ℤ p) (pos (2 ^ 71)) (2 ^ 71) 1 (a + 2 ^ 72 - n) (lit< tt) refl (omega (arith, ints, is, low))) in
+        rw (whole, wrapped_is) (omega (arith, low))
+
+  -- a product that a call is passed is itself
+  pub passed : to_z w128 (of_z w128 p) ≡ p
+  passed = to_z-of_z w128 p (omega (arith, ints, within.low, within.high))
+
+  -- a product added, and taken away, after it was brought below 2^71
+  pub plus_wrapped : modulo71 (pos a +ℤ p) ≡ (a + modulo71 p) % 2 ^ 71
+  plus_wrapped = sum_wrapped _ raised
+
+  pub minus_wrapped : modulo71 (pos a -ℤ p) ≡ (a + 2 ^ 71 - modulo71 p) % 2 ^ 71
+  minus_wrapped = difference_wrapped _ raised (omega (arith, ints, within.low, within.high))

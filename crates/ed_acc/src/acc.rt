@@ -1,4 +1,4 @@
-ghost use Rattle.std.specs.Prelude.{◌≡◌, ◌<◌, ◌≤◌, ◌^◌, ◌*◌, ◌/◌, ◌↔◌, IsTrue, pos, neg_ℤ, ◌≤ℤ◌, ◌*ℤ◌};
+ghost use Rattle.std.specs.Prelude.{◌≡◌, ◌<◌, ◌≤◌, ◌^◌, ◌*◌, ◌/◌, ◌%◌, ◌+◌, ◌-◌, ◌↔◌, IsTrue, pos, neg_ℤ, ◌≤ℤ◌, ◌*ℤ◌};
 ghost use Rattle.ed_words.specs.Signed.{signed};
 ghost use Rattle.ed_acc.specs.Arithmetic.{collated, left71, minus71, minus_product, plus71, plus_product, right71};
 ghost use Rattle.ed_acc.specs.Arithmetic.{common, modulo71, product};
@@ -13,19 +13,26 @@ const MODULUS: u128 = 1 << 71;
 /// fraction is negative.
 #[derive(Clone, Copy, Debug, PartialEq, Eq)]
 pub struct Acc {
-    number: u128,
+    /// The number times 2^57: the first digit is the first of 128, so that what leaves at the top is lost.
+    digits: u128,
 }
 
 impl Model for Acc {
-    ghost use Rattle.std.specs.Prelude.{ℕ, ◌^◌, ◌<◌};
+    ghost use Rattle.std.specs.Prelude.{ℕ, ◌*◌, ◌/◌, ◌%◌, ◌^◌, ◌≡◌};
+    ghost use Rattle.std.proofs.Common.{◌+◌, ◌∙◌, ap, sym, add-zero};
+    ghost use Rattle.std.proofs.lemmas.Nat.{div-add-mod'};
 
     ghost Value = { ℕ };
 
-    ghost view = { λ a. a.number };
+    ghost view = { λ a. a.digits / 2 ^ 57 };
 
-    ghost invariant = { λ a. a.number < 2 ^ 71 };
+    ghost invariant = { λ a. a.digits % 2 ^ 57 ≡ 0 };
 
-    ghost inverse = { λ n. record { number = n } };
+    ghost inverse = { λ n. record { digits = n * 2 ^ 57 } };
+
+    ghost inverse_ok = { λ a h. let units = a.digits / 2 ^ 57 * 2 ^ 57 in
+        let whole = sym (add-zero units) ∙ ap (λ rest. units + rest) (sym h) ∙ div-add-mod' a.digits (2 ^ 57) in
+        λ i. record { digits = whole i } };
 }
 
 impl Acc {
@@ -33,7 +40,7 @@ impl Acc {
     pub fn cleared() -> Acc
         ensures { result ≡ 0 }
     {
-        Acc { number: 0 }
+        Acc { digits: 0 }
     }
 
     /// The number, 0 to 2^71 - 1.
@@ -41,14 +48,14 @@ impl Acc {
         ensures is { result ≡ self.now }
         ensures fits { result < 2 ^ 71 }
     {
-        self.number
+        self.digits >> 57
     }
 
     /// Whether the fraction is negative.
     pub fn is_negative(&self) -> bool
         ensures { IsTrue result ↔ (2 ^ 70 ≤ self.now) }
     {
-        self.number >= 1 << 70
+        self.digits >= 1 << 127
     }
 
     /// Adds a short word at the top digits.
@@ -63,7 +70,7 @@ impl Acc {
     pub fn add_long(&mut self, long: Long)
         ensures { self.new ≡ plus71 self.old (long * 2 ^ 36) }
     {
-        self.number = (self.number + (u128::from(long.value()) << 36)) % MODULUS;
+        self.add(u128::from(long.value()) << 36);
     }
 
     /// Takes away a short word at the top digits.
@@ -78,21 +85,21 @@ impl Acc {
     pub fn sub_long(&mut self, long: Long)
         ensures { self.new ≡ minus71 self.old (long * 2 ^ 36) }
     {
-        self.number = (self.number + MODULUS - (u128::from(long.value()) << 36)) % MODULUS;
+        self.subtract(u128::from(long.value()) << 36);
     }
 
     /// Adds the product of two signed long words: the product of their fractions.
     pub fn add_product(&mut self, m: Long, x: Long)
         ensures { self.new ≡ plus_product self.old m x }
     {
-        self.number = wrapped(self.number as i128 + product(m, x));
+        self.add(wrapped(product(m, x)));
     }
 
     /// Takes away the product of two signed long words.
     pub fn sub_product(&mut self, m: Long, x: Long)
         ensures { self.new ≡ minus_product self.old m x }
     {
-        self.number = wrapped(self.number as i128 - product(m, x));
+        self.subtract(wrapped(product(m, x)));
     }
 
     /// Adds the digits that two long words have in common, at the top digits.
@@ -100,7 +107,7 @@ impl Acc {
     pub fn collate(&mut self, m: Long, x: Long)
         ensures { self.new ≡ collated self.old m x }
     {
-        self.number = (self.number + (u128::from(common(m, x)) << 36)) % MODULUS;
+        self.add(u128::from(common(m, x)) << 36);
     }
 
     /// Shifts to the left by 1 to 15 places.
@@ -110,7 +117,7 @@ impl Acc {
         requires high { p ≤ 15 }
         ensures { self.new ≡ left71 self.old p }
     {
-        self.number = (self.number << p) % MODULUS;
+        self.set((self.value() << p) % MODULUS);
     }
 
     /// Shifts to the right by 1 to 15 places; the sign stays.
@@ -121,9 +128,9 @@ impl Acc {
         ensures { self.new ≡ right71 self.old p }
     {
         if self.is_negative() {
-            self.number = (self.number >> p) + (MODULUS - (MODULUS >> p));
+            self.set((self.value() >> p) + (MODULUS - (MODULUS >> p)));
         } else {
-            self.number >>= p;
+            self.set(self.value() >> p);
         }
     }
 
@@ -132,28 +139,52 @@ impl Acc {
     pub fn round(&mut self)
         ensures { self.new ≡ plus71 self.old (2 ^ 35) }
     {
-        self.number = (self.number + (1 << 35)) % MODULUS;
+        self.add(1 << 35);
     }
 
     /// Sets the accumulator to 0.
     pub fn clear(&mut self)
         ensures { self.new ≡ 0 }
     {
-        self.number = 0;
+        self.digits = 0;
     }
 
     /// The top 17 digits.
     pub fn top_short(&self) -> Word
         ensures { result ≡ self.now / 2 ^ 54 }
     {
-        Word::new((self.number >> 54) as u32).unwrap()
+        Word::of_number((self.value() >> 54) as u32)
     }
 
     /// The top 35 digits.
     pub fn top_long(&self) -> Long
         ensures { result ≡ self.now / 2 ^ 36 }
     {
-        Long::new((self.number >> 36) as u64).unwrap()
+        Long::of_number((self.value() >> 36) as u64)
+    }
+
+    /// Adds a number.
+    fn add(&mut self, number: u128)
+        requires { number < 2 ^ 71 }
+        ensures { self.new ≡ (self.old + number) % 2 ^ 71 }
+    {
+        self.digits = self.digits.wrapping_add(number << 57);
+    }
+
+    /// Takes away a number.
+    fn subtract(&mut self, number: u128)
+        requires { number < 2 ^ 71 }
+        ensures { self.new ≡ (self.old + 2 ^ 71 - number) % 2 ^ 71 }
+    {
+        self.digits = self.digits.wrapping_sub(number << 57);
+    }
+
+    /// Sets the number.
+    fn set(&mut self, number: u128)
+        requires { number < 2 ^ 71 }
+        ensures { self.new ≡ number }
+    {
+        self.digits = number << 57;
     }
 }
 
@@ -163,19 +194,19 @@ fn product(m: Long, x: Long) -> i128
     ensures low { neg_ℤ (pos (2 ^ 70)) ≤ℤ result }
     ensures high { result ≤ℤ pos (2 ^ 70) }
 {
-    4 * (signed(m) * signed(x))
+    4 * (i128::from(signed(m)) * i128::from(signed(x)))
 }
 
 /// A long word as a signed number.
-fn signed(long: Long) -> i128
+fn signed(long: Long) -> i64
     ensures is { result ≡ signed 35 long }
     ensures low { neg_ℤ (pos (2 ^ 34)) ≤ℤ result }
     ensures high { result ≤ℤ pos (2 ^ 34) }
 {
     if long.value() < 1 << 34 {
-        i128::from(long.value())
+        long.value() as i64
     } else {
-        i128::from(long.value()) - (1 << 35)
+        long.value() as i64 - (1 << 35)
     }
 }
 

@@ -1,11 +1,13 @@
-use Rattle.std.proofs.Common.{refl, ◌^◌}
-use Rattle.ed_acc.specs.Arithmetic.{minus_product}
-use Rattle.ed_acc.proofs.Products.{IsWithin, difference_is}
+use Rattle.std.proofs.Common.{◌≡◌, sym, ap, ◌∙◌, ◌-ℤ◌, pos, ◌^◌}
+use Rattle.ed_acc.specs.Arithmetic.{modulo71, minus_product}
+use Rattle.ed_acc.proofs.Products.{IsWithin, passed, minus_wrapped}
 use Rattle.ed_acc.proofs.acc.Acc.sub_product.Goals as goal
 
 pub returns : goal.returns
 unfolding minus_product
 returns c =
+    let old = c.args.self.now in
     let within : IsWithin (2 ^ 70) c.product.result = record { low = c.product.ensures.low; high = c.product.ensures.high } in
-    let whole = difference_is c.self.inside.number c.product.result c.self.invariant within in
-    rw (c.wrapped-self-inside.ensures.is, whole, c.product.ensures.is, c.self.view_is) refl
+    let whole : c.subtract.new.self ≡ modulo71 (pos old -ℤ c.product.result) =
+    rw (c.subtract.ensures, c.wrapped.ensures.is, passed old c.product.result within) (sym (minus_wrapped old c.product.result within)) in
+    whole ∙ ap (λ p. modulo71 (pos old -ℤ p)) c.product.ensures.is
