@@ -1,9 +1,13 @@
 //! The store: locations, pairs and sandwich digits.
 //!
 //! The contract is a list of 1,024 words and a list of 512 sandwich digits: each call reads or changes what it names
-//! and nothing else. Stands on `ed_words`.
+//! and nothing else. The code keeps one list of 512 cells of 35 digits. Stands on `ed_words`.
 #![tactic(auto)]
 
+#[cfg(test)]
+mod plain;
 mod store;
+#[cfg(test)]
+mod tests;
 
 pub use store::Store;

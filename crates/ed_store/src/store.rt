@@ -1,29 +1,30 @@
-ghost use Rattle.std.specs.Prelude.{◌≡◌, ◌↔◌, ◌<◌, ◌/◌, ◌^◌, IsTrue, IfOk, false, replicate};
+ghost use Rattle.std.specs.Prelude.{◌≡◌, ◌↔◌, ℕ, ◌*◌, ◌<◌, ◌^◌, IsTrue, IfOk, length, replicate, slice_index};
 ghost use Rattle.ed_store.specs.Cells.{Cells, IsStore, cleared_cells, short_at, long_at, sandwich_at, with_short, with_long};
 
-use ed_words::{Halves, Long, NoMemory, Word};
+use ed_words::{Long, NoMemory, Word};
 use std::alloc::Global;
 use std::marker::Model;
 
-/// How many short locations a store has, whatever part of them a machine reaches.
-const LOCATIONS: usize = 1024;
+/// How many pairs of locations a store has, whatever part of them a machine reaches.
+const PAIRS: usize = 512;
 
 /// 1,024 words and the sandwich digits of their 512 pairs.
 #[derive(Drop)]
 pub struct Store {
     alloc: Global,
-    words: Vec<u32>,
-    sandwich: Vec<bool>,
+    /// The long word of each pair.
+    cells: Vec<u64>,
 }
 
 impl Model for Store {
-    ghost use Rattle.ed_store.specs.Cells.{Cells, IsStore};
+    ghost use Rattle.ed_store.specs.Cells.{Cells};
+    ghost use Rattle.ed_store.specs.Packed.{ArePacked, unpacked};
 
     ghost Value = { Cells };
 
-    ghost view = { λ s. record { words = s.words.items; sandwich = s.sandwich.items } };
+    ghost view = { λ s. unpacked s.cells.items };
 
-    ghost invariant = { λ s. IsStore (record { words = s.words.items; sandwich = s.sandwich.items }) };
+    ghost invariant = { λ s. ArePacked s.cells.items };
 }
 
 impl Store {
@@ -31,30 +32,29 @@ impl Store {
     pub fn cleared(alloc: Global) -> Result<Store, NoMemory>
         ensures { IfOk result (λ s. s ≡ cleared_cells) }
     {
-        let words = cleared_words(alloc)?;
-        let sandwich = cleared_digits(alloc)?;
-        Ok(Store {
-            alloc,
-            words,
-            sandwich,
-        })
+        let cells = cleared_cells(alloc)?;
+        Ok(Store { alloc, cells })
     }
 
     /// A store with equal contents.
     pub fn copy(&self) -> Result<Store, NoMemory>
         ensures { IfOk result (λ s. s ≡ self.now) }
     {
-        let Ok(words) = self.words.as_slice().to_vec(self.alloc) else {
-            return Err(NoMemory);
-        };
-        let Ok(sandwich) = self.sandwich.as_slice().to_vec(self.alloc) else {
+        let Ok(cells) = self.cells.as_slice().to_vec(self.alloc) else {
             return Err(NoMemory);
         };
         Ok(Store {
             alloc: self.alloc,
-            words,
-            sandwich,
+            cells,
         })
+    }
+
+    /// The long words of all pairs, that of the locations 0 and 1 first.
+    pub fn cells(&self) -> &[u64]
+        ensures many { length result.now ≡ 512 }
+        ensures long { (k : ℕ) → k < 512 → slice_index result.now k ≡ long_at self.now (2 * k) }
+    {
+        self.cells.as_slice()
     }
 
     /// The word of a location.
@@ -64,7 +64,13 @@ impl Store {
         ensures fits { result < 2 ^ 17 }
         ensures store { IsStore self.now }
     {
-        word(self.words[usize::from(a)])
+        let cell = self.cells[usize::from(a / 2)];
+        let number = if a % 2 == 0 {
+            cell % (1 << 17)
+        } else {
+            cell >> 18
+        };
+        Word::of_number(number as u32)
     }
 
     /// The long word of a location's pair.
@@ -72,12 +78,7 @@ impl Store {
         requires { a < 1024 }
         ensures { result ≡ long_at self.now a }
     {
-        let even = usize::from(a - a % 2);
-        Long::join(Halves {
-            odd: word(self.words[even + 1]),
-            sandwich: self.sandwich[even / 2],
-            even: word(self.words[even]),
-        })
+        Long::of_number(self.cells[usize::from(a / 2)])
     }
 
     /// The sandwich digit of a location's pair.
@@ -85,7 +86,7 @@ impl Store {
         requires { a < 1024 }
         ensures { result ≡ sandwich_at self.now a }
     {
-        self.sandwich[usize::from(a / 2)]
+        (self.cells[usize::from(a / 2)] >> 17) % 2 == 1
     }
 
     /// Writes a word. The sandwich digit of its pair stays.
@@ -94,7 +95,14 @@ impl Store {
         ensures is { self.new ≡ with_short self.old a word }
         ensures store { IsStore self.old }
     {
-        self.words[usize::from(a)] = word.value();
+        let pair = usize::from(a / 2);
+        let cell = self.cells[pair];
+        let number = u64::from(word.value());
+        self.cells[pair] = if a % 2 == 0 {
+            ((cell >> 17) << 17) + number
+        } else {
+            cell % (1 << 18) + (number << 18)
+        };
     }
 
     /// Writes both words of a location's pair and its sandwich digit.
@@ -102,56 +110,28 @@ impl Store {
         requires { a < 1024 }
         ensures { self.new ≡ with_long self.old a long }
     {
-        let even = usize::from(a - a % 2);
-        let halves = long.halves();
-        self.words[even] = halves.even.value();
-        self.words[even + 1] = halves.odd.value();
-        self.sandwich[even / 2] = halves.sandwich;
+        self.cells[usize::from(a / 2)] = long.value();
     }
 
     /// Whether two stores have the same words and the same sandwich digits.
     pub fn equals(&self, other: &Store) -> bool
         ensures { IsTrue result ↔ (self.now ≡ other.now) }
     {
-        same_words(&self.words, &other.words) && same_digits(&self.sandwich, &other.sandwich)
+        same_cells(&self.cells, &other.cells)
     }
 }
 
-/// The word of a number known to be small enough.
-fn word(number: u32) -> Word
-    requires { number < 2 ^ 17 }
-    ensures { result ≡ number }
+/// 0 for every pair.
+fn cleared_cells(alloc: Global) -> Result<Vec<u64>, NoMemory>
+    ensures { IfOk result (λ v. v.items ≡ replicate 512 0) }
 {
-    Word::new(number).unwrap()
-}
-
-/// 0 for every location.
-fn cleared_words(alloc: Global) -> Result<Vec<u32>, NoMemory>
-    ensures { IfOk result (λ v. v.items ≡ replicate 1024 0) }
-{
-    match vec![in alloc; 0u32; LOCATIONS] {
-        Ok(words) => Ok(words),
+    match vec![in alloc; 0u64; PAIRS] {
+        Ok(cells) => Ok(cells),
         Err(_) => Err(NoMemory),
     }
 }
 
-/// The digit 0 for every pair.
-fn cleared_digits(alloc: Global) -> Result<Vec<bool>, NoMemory>
-    ensures { IfOk result (λ v. v.items ≡ replicate 512 false) }
-{
-    match vec![in alloc; false; LOCATIONS / 2] {
-        Ok(digits) => Ok(digits),
-        Err(_) => Err(NoMemory),
-    }
-}
-
-fn same_words(xs: &[u32], ys: &[u32]) -> bool
-    ensures { IsTrue result ↔ (xs.now ≡ ys.now) }
-{
-    xs == ys
-}
-
-fn same_digits(xs: &[bool], ys: &[bool]) -> bool
+fn same_cells(xs: &[u64], ys: &[u64]) -> bool
     ensures { IsTrue result ↔ (xs.now ≡ ys.now) }
 {
     xs == ys

@@ -1,8 +1,10 @@
-use Rattle.ed_store.proofs.CellsLemmas.{cells_equal, cleared_is}
+use Rattle.std.proofs.Common.{◌∙◌, ap}
+use Rattle.ed_store.specs.Packed.{unpacked}
+use Rattle.ed_store.proofs.PackedLemmas.{cleared_is, cleared_packed}
 use Rattle.ed_store.proofs.store.Store.cleared.Goals as goal
 
 pub invariant_of-result : goal.invariant_of-result
-invariant_of-result c = cleared_is _ _ c.in_ok-words.ensures c.in_ok-sandwich.ensures
+invariant_of-result c = rw c.in_ok-cells.ensures cleared_packed
 
 pub returns : goal.returns
-returns c = cells_equal _ _ c.in_ok-words.ensures c.in_ok-sandwich.ensures
+returns c = ap unpacked c.in_ok-cells.ensures ∙ cleared_is

@@ -1,0 +1,75 @@
+//! The packed store beside the two plain lists, over a stated sequence of writes.
+
+ghost use Rattle.std.specs.Prelude.{◌<◌};
+
+use crate::Store;
+use crate::plain::Plain;
+use ed_words::{Long, Word};
+use std::test::Fail;
+
+/// A linear congruential sequence modulo 2^64, of whose numbers the upper 32 digits are taken.
+#[derive(Drop)]
+struct Sequence {
+    state: u64,
+}
+
+impl Sequence {
+    fn next(&mut self) -> u32 {
+        self.state = self.state.wrapping_mul(6_364_136_223_846_793_005);
+        self.state = self.state.wrapping_add(1_442_695_040_888_963_407);
+        (self.state >> 32) as u32
+    }
+
+    fn location(&mut self) -> u16
+        ensures { result < 1024 }
+    {
+        (self.next() % 1024) as u16
+    }
+
+    fn word(&mut self) -> Word {
+        Word::of_number(self.next() % (1 << 17))
+    }
+
+    fn long(&mut self) -> Long {
+        let high = u64::from(self.next());
+        let low = u64::from(self.next() % 8);
+        Long::of_number(high * 8 + low)
+    }
+}
+
+/// A location, if there is one, at which the two stores differ.
+fn difference(packed: &Store, plain: &Plain) -> Option<u16> {
+    (0..1024).find(|a| {
+        packed.short(*a) != plain.short(*a)
+            || packed.long(*a) != plain.long(*a)
+            || packed.sandwich(*a) != plain.sandwich(*a)
+            || packed.cells()[usize::from(*a / 2)] != plain.long(*a).value()
+    })
+}
+
+/// Writes the same word or long word into both stores.
+fn write(sequence: &mut Sequence, packed: &mut Store, plain: &mut Plain) {
+    let a = sequence.location();
+    if sequence.next() < 1 << 31 {
+        let word = sequence.word();
+        packed.put_short(a, word);
+        plain.put_short(a, word);
+    } else {
+        let long = sequence.long();
+        packed.put_long(a, long);
+        plain.put_long(a, long);
+    }
+}
+
+#[test]
+fn packed_cells_are_the_plain_lists(rt: HostRuntime) -> Result<(), Fail> {
+    let mut packed = Store::cleared(rt.alloc()).or(Err("no memory"))?;
+    let mut plain = Plain::cleared();
+    let mut sequence = Sequence { state: 1949 };
+    for round in 0..2_000 {
+        write(&mut sequence, &mut packed, &mut plain);
+        let unlike = difference(&packed, &plain);
+        assert!(rt; unlike.is_none(), "round {round}: {unlike:?}");
+    }
+    Ok(())
+}
