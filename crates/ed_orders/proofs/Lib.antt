@@ -1,3 +1,4 @@
+pub mod KindLetters
 pub mod Letters
 pub mod Numerals
 pub mod Shifts

@@ -1,5 +1,5 @@
 ghost use Rattle.std.specs.Prelude.{◌≡◌};
-ghost use Rattle.ed_orders.specs.Kinds.{kind_of_function};
+ghost use Rattle.ed_orders.specs.Kinds.{kind_of_function, FunctionIsByLetter};
 
 /// The eighteen orders, each named by its letter.
 #[derive(Clone, Copy, Debug, PartialEq, Eq)]
@@ -42,49 +42,33 @@ pub enum Kind {
     Z,
 }
 
-/// The kinds of the functions 0 to 31.
-const KINDS: [Option<Kind>; 32] = [
-    None,
-    None,
-    None,
-    Some(Kind::E),
-    Some(Kind::R),
-    Some(Kind::T),
-    Some(Kind::Y),
-    Some(Kind::U),
-    Some(Kind::I),
-    Some(Kind::O),
-    None,
-    None,
-    Some(Kind::S),
-    Some(Kind::Z),
-    None,
-    None,
-    None,
-    Some(Kind::F),
-    None,
-    None,
-    None,
-    Some(Kind::H),
-    Some(Kind::N),
-    None,
-    None,
-    Some(Kind::L),
-    Some(Kind::X),
-    Some(Kind::G),
-    Some(Kind::A),
-    None,
-    Some(Kind::C),
-    Some(Kind::V),
-];
-
-/// The kind of a function: none where it is no order, as it is from 32 on.
+/// The kind of a function: none where it is no order, as it is from 32 on. Each order's function is the tape code that
+/// its letter spells.
+#[tactic(auto, using(crate::proofs::KindLetters::by_letter))]
 pub fn kind_of(function: u8) -> Option<Kind>
-    ensures { result ≡ kind_of_function function }
+    ensures is { result ≡ kind_of_function function }
+    ensures law { FunctionIsByLetter }
 {
-    if function < 32 {
-        KINDS[usize::from(function)]
-    } else {
-        None
+    match function {
+        3 => Some(Kind::E),
+        4 => Some(Kind::R),
+        5 => Some(Kind::T),
+        6 => Some(Kind::Y),
+        7 => Some(Kind::U),
+        8 => Some(Kind::I),
+        9 => Some(Kind::O),
+        12 => Some(Kind::S),
+        13 => Some(Kind::Z),
+        17 => Some(Kind::F),
+        21 => Some(Kind::H),
+        22 => Some(Kind::N),
+        25 => Some(Kind::L),
+        26 => Some(Kind::X),
+        27 => Some(Kind::G),
+        28 => Some(Kind::A),
+        30 => Some(Kind::C),
+        31 => Some(Kind::V),
+        0 | 1 | 2 | 10 | 11 | 14 | 15 | 16 | 18 | 19 | 20 | 23 | 24 | 29 => None,
+        32..=255 => None,
     }
 }

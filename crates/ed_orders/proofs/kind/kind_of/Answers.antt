@@ -1,7 +1,9 @@
-use Rattle.std.proofs.Common.{sym, None}
+use Rattle.std.proofs.Common.{sym, None, ◌≤◌, arith}
 use Rattle.std.proofs.lemmas.List.{get_or_past}
 use Rattle.ed_orders.specs.Kinds.{kinds}
 use Rattle.ed_orders.proofs.kind.kind_of.Goals as goal
 
-pub returns-else-function-lt32 : goal.returns-else-function-lt32
-returns-else-function-lt32 c = sym (get_or_past kinds c.args.function None c.if-function-lt32.false)
+pub returns-in-32-to-255-clause-is : goal.returns-in-32-to-255-clause-is
+returns-in-32-to-255-clause-is c =
+    let past : 32 ≤ c.args.function = grind (arith, c.in-32-to-255) in
+    sym (get_or_past kinds c.args.function None past)
