@@ -1,1 +1,4 @@
+pub mod Counts
 pub mod Images
+pub mod LeastNumbers
+pub mod SoundSteps

@@ -1,5 +1,6 @@
 pub mod State
 pub mod OrderTable
 pub mod Steps
+pub mod Sound
 pub mod Start
 pub mod Sheet

@@ -1,6 +1,6 @@
 -- Many orders one after the other. A state that no order leaves stays as it is, so a number of steps always leads to a
 -- state; `IsFree` says that each of them was an order obeyed.
-use Rattle.std.specs.Prelude.{◌≡◌, ℕ, zero, suc, ◌+◌, ◌<◌, List, [], ◌∷◌, ◌++◌, Bool, true, false}
+use Rattle.std.specs.Prelude.{◌≡◌, ℕ, zero, suc, ◌+◌, ◌<◌, List, [], ◌∷◌, ◌++◌, Bool, true, false, if◌then◌else◌}
 use Rattle.ed_machine.specs.State.{State}
 use Rattle.ed_machine.specs.OrderTable.{step}
 use Rattle.ed_machine.specs.declared.turn.Turn.{Turn}
@@ -56,3 +56,8 @@ state_after k s = (past k s).state
 -- each of the first k steps was an order obeyed
 abbrev pub IsFree : ℕ → State → Type 0
 IsFree k s = (j : ℕ) → j < k → is_obeyed (step (state_after j s)).turn ≡ true
+
+-- the least number below n at which a test holds, and n where there is none
+unfoldable pub least : (ℕ → Bool) → ℕ → ℕ
+least test zero = zero
+least test (suc n) = if test (least test n) then least test n else suc n

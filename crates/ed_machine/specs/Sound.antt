@@ -1,0 +1,24 @@
+-- The bounds that states of machines keep, and how orders are counted.
+use Rattle.std.specs.Prelude.{◌≡◌, ℕ, ◌+◌, ◌^◌, ◌<◌, slice_index}
+use Rattle.ed_words.specs.Sizes.{locations}
+use Rattle.ed_store.specs.Cells.{IsStore}
+use Rattle.ed_machine.specs.State.{State}
+use Rattle.ed_machine.specs.OrderTable.{last_code}
+use Rattle.ed_machine.specs.Steps.{IsFree, state_after}
+
+-- a state within its bounds: its words, its registers, its counter, the rows of its tape and its last code
+pub record IsSound (s : State) : Type 0 where
+  pub store : IsStore s.store
+  pub acc : s.acc < 2 ^ 71
+  pub multiplier : s.multiplier < 2 ^ 35
+  pub counter : s.counter < locations s.size
+  pub tape : (i : ℕ) → slice_index s.tape i < 32
+  pub last : last_code s < 32
+
+-- steps lead from a state within its bounds to another
+abbrev pub StaysSound : Type 0
+StaysSound = (k : ℕ) (s : State) → IsSound s → IsSound (state_after k s)
+
+-- k steps that are each an order obeyed are k orders done
+abbrev pub CountsOrders : Type 0
+CountsOrders = (k : ℕ) (s : State) → IsFree k s → (state_after k s).orders ≡ s.orders + k

@@ -1,0 +1,214 @@
+//! One order: what a machine does with a word of a kind.
+
+ghost use Rattle.std.specs.Prelude.{◌≡◌, ◌<◌, ◌≤◌, ◌+◌, ◌*◌, ◌/◌, ◌^◌, Some, nat_le, nat_lt, not, unwrap_or};
+ghost use Rattle.ed_words.specs.Sizes.{locations, within};
+ghost use Rattle.ed_words.specs.Words.{function_of};
+ghost use Rattle.ed_orders.specs.Kinds.{kind_of_function};
+ghost use Rattle.ed_machine.specs.OrderTable.{after, done_at, jumped, last_code, obey, operand35, place_of, printed, stopped, took_row, written};
+
+use super::Machine;
+use crate::Turn;
+use ed_codes::Code;
+use ed_orders::{Kind, places};
+use ed_words::{Long, Word};
+
+impl Machine {
+    /// Obeys a word of a kind.
+    pub(super) fn obey(&mut self, kind: Kind, word: Word) -> Turn
+        requires room { self.old.orders < 2 ^ 63 }
+        requires word { word < 2 ^ 17 }
+        requires kind { kind_of_function (function_of word) ≡ Some kind }
+        ensures state { self.new ≡ (obey kind word self.old).state }
+        ensures turn { result ≡ (obey kind word self.old).turn }
+        ensures count { self.new.orders ≤ self.old.orders + 1 }
+    {
+        match kind {
+            Kind::A => {
+                let x = self.operand(word);
+                self.acc.add_long(x);
+            }
+            Kind::S => {
+                let x = self.operand(word);
+                self.acc.sub_long(x);
+            }
+            Kind::H => self.multiplier = self.operand(word),
+            Kind::V => {
+                let x = self.operand(word);
+                self.acc.add_product(self.multiplier, x);
+            }
+            Kind::N => {
+                let x = self.operand(word);
+                self.acc.sub_product(self.multiplier, x);
+            }
+            Kind::T => {
+                self.write_top(word);
+                self.acc.clear();
+            }
+            Kind::U => self.write_top(word),
+            Kind::C => {
+                let x = self.operand(word);
+                self.acc.collate(self.multiplier, x);
+            }
+            Kind::R => self.acc.right(places(word)),
+            Kind::L => self.acc.left(places(word)),
+            Kind::E => {
+                let jumps = !self.is_negative();
+                return self.jump(word, jumps);
+            }
+            Kind::G => {
+                let jumps = self.is_negative();
+                return self.jump(word, jumps);
+            }
+            Kind::I => return self.take_row(word),
+            Kind::O => return self.print(word),
+            Kind::F => self.write_last(word),
+            Kind::X => {}
+            Kind::Y => self.acc.round(),
+            Kind::Z => return self.stop(),
+        }
+        self.advance();
+        Turn::Went
+    }
+
+    /// The location that an order word names.
+    fn place(&self, word: Word) -> u16
+        ensures is { result ≡ place_of self.now word }
+        ensures below { result < locations self.now.size }
+        ensures fits { result < 1024 }
+    {
+        self.within(word.order().address)
+    }
+
+    /// A number modulo the number of locations, which is a power of two.
+    fn within(&self, number: u16) -> u16
+        ensures is { result ≡ within self.now.size number }
+        ensures below { result < locations self.now.size }
+        ensures fits { result < 1024 }
+    {
+        number & (self.size.value() - 1)
+    }
+
+    /// The 35 digits that an order reads.
+    fn operand(&self, word: Word) -> Long
+        ensures { result ≡ operand35 word self.now }
+    {
+        let place = self.place(word);
+        if word.order().length {
+            self.store.long(place)
+        } else {
+            Long::of_short(self.store.short(place))
+        }
+    }
+
+    /// Writes at the location that an order names: the short number or the long one, by the order's length.
+    fn write(&mut self, word: Word, short: Word, long: Long)
+        ensures { self.new ≡ record self.old { store = written word self.old short long } }
+    {
+        let place = self.place(word);
+        if word.order().length {
+            self.store.put_long(place, long);
+        } else {
+            self.store.put_short(place, short);
+        }
+    }
+
+    /// Writes the top 17 or 35 digits of the accumulator.
+    fn write_top(&mut self, word: Word)
+        ensures { self.new ≡ record self.old { store = written word self.old (self.old.acc / 2 ^ 54) (self.old.acc / 2 ^ 36) } }
+    {
+        let short = self.acc.top_short();
+        let long = self.acc.top_long();
+        self.write(word, short, long);
+    }
+
+    /// Writes the last printed code, as the function of a word.
+    fn write_last(&mut self, word: Word)
+        ensures { self.new ≡ record self.old { store = written word self.old (last_code self.old * 4096) (last_code self.old * 2 ^ 30) } }
+    {
+        let last = self.last;
+        let code = code_or_zero(last);
+        let short = Word::of_number(u32::from(code) << 12);
+        self.write(word, short, Long::of_short(short));
+    }
+
+    /// Counts the order and goes on to the next location.
+    fn advance(&mut self)
+        requires { self.old.orders < 2 ^ 63 }
+        ensures { self.new ≡ done_at (after self.old) self.old }
+    {
+        self.counter = self.within(self.counter + 1);
+        self.orders += 1;
+    }
+
+    /// Whether the number in the accumulator is negative.
+    fn is_negative(&self) -> bool
+        ensures negative { result ≡ nat_le (2 ^ 70) self.now.acc }
+        ensures positive { not result ≡ nat_lt self.now.acc (2 ^ 70) }
+    {
+        self.acc.is_negative()
+    }
+
+    /// Jumps to the order's address where `jumps`, and else goes on.
+    fn jump(&mut self, word: Word, jumps: bool) -> Turn
+        requires { self.old.orders < 2 ^ 63 }
+        ensures state { self.new ≡ (jumped jumps (place_of self.old word) self.old).state }
+        ensures turn { result ≡ (jumped jumps (place_of self.old word) self.old).turn }
+    {
+        if jumps {
+            self.counter = self.place(word);
+            self.orders += 1;
+        } else {
+            self.advance();
+        }
+        Turn::Went
+    }
+
+    /// An order that reads a row of the tape.
+    fn take_row(&mut self, word: Word) -> Turn
+        requires { self.old.orders < 2 ^ 63 }
+        ensures state { self.new ≡ (took_row self.old.tape word self.old).state }
+        ensures turn { result ≡ (took_row self.old.tape word self.old).turn }
+    {
+        if self.row == self.tape.len() {
+            return Turn::NoTape;
+        }
+        let row = Word::of_number(u32::from(self.tape[self.row].value()));
+        self.row += 1;
+        self.write(word, row, Long::of_short(row));
+        self.advance();
+        Turn::Went
+    }
+
+    /// An order that prints.
+    fn print(&mut self, word: Word) -> Turn
+        requires { self.old.orders < 2 ^ 63 }
+        ensures state { self.new ≡ (printed (operand35 word self.old / 2 ^ 30) self.old).state }
+        ensures turn { result ≡ (printed (operand35 word self.old / 2 ^ 30) self.old).turn }
+    {
+        let code = Code::new((self.operand(word).value() >> 30) as u8).unwrap();
+        self.last = Some(code);
+        self.advance();
+        Turn::Printed(code)
+    }
+
+    /// An order that stops the machine.
+    fn stop(&mut self) -> Turn
+        requires { self.old.orders < 2 ^ 63 }
+        ensures state { self.new ≡ (stopped self.old).state }
+        ensures turn { result ≡ (stopped self.old).turn }
+    {
+        self.advance();
+        Turn::Stopped
+    }
+}
+
+/// The number of a code, and 0 for none.
+fn code_or_zero(code: Option<Code>) -> u8
+    ensures is { result ≡ unwrap_or code 0 }
+    ensures fits { result < 32 }
+{
+    match code {
+        Some(code) => code.value(),
+        None => 0,
+    }
+}
