@@ -1,2 +1,4 @@
-pub mod Least
+pub mod Ends
+pub mod Places
+pub mod Later
 pub mod Pasts

@@ -1,9 +1,9 @@
 -- A run of the machine: where it ends, how, and what it printed (the order of the ends, the limit, the resumes and the
 -- paper are this project's own rules).
-use Rattle.std.specs.Prelude.{◌≡◌, ℕ, zero, suc, ◌-◌, ◌<◌, Bool, true, false, nat_eq, nat_lt, nat_le, if◌then◌else◌, Option, Some, None, is_some, unwrap_or, List, ◌++◌, length}
+use Rattle.std.specs.Prelude.{◌≡◌, ℕ, ◌-◌, ◌<◌, Bool, true, false, nat_eq, nat_lt, nat_le, if◌then◌else◌, Option, Some, None, is_some, unwrap_or, List, ◌++◌, length}
 use Rattle.ed_machine.specs.State.{State}
 use Rattle.ed_machine.specs.OrderTable.{step}
-use Rattle.ed_machine.specs.Steps.{Past, past}
+use Rattle.ed_machine.specs.Steps.{Past, least, past}
 use Rattle.ed_machine.specs.Sheet.{Sheet}
 use Rattle.ed_machine.specs.declared.turn.Turn.{Turn}
 use Rattle.ed_machine.specs.declared.turn.Turn.TheVariants.{Went, Printed, Stopped as Stops, NoOrder as IsNoOrder, NoTape as HasNoTape}
@@ -34,36 +34,35 @@ end_at limit resumes room k p =
     else end_by (step p.state).turn (nat_le room (length p.codes))
 
 -- a run from a state ends so after k orders, and not before
-pub record Ends (limit resumes room : ℕ) (s : State) (k : ℕ) (ending : Ending) : Type 0 where
+pub record EndsAfter (limit resumes room : ℕ) (s : State) (k : ℕ) (ending : Ending) : Type 0 where
   pub now : end_at limit resumes room k (past k s) ≡ Some ending
   pub first : (j : ℕ) → j < k → end_at limit resumes room j (past j s) ≡ None
 
 -- a run from a state onto a sheet of paper: its ending, the state that it leaves, and the sheet with its codes added
-pub record Runs (limit resumes : ℕ) (s : State) (sheet : Sheet) (ending : Ending) (last : State) (full : Sheet) : Type 0 where
+pub record IsRun (limit resumes : ℕ) (s : State) (sheet : Sheet) (ending : Ending) (last : State) (full : Sheet) : Type 0 where
   pub orders : ℕ
-  pub ends : Ends limit resumes (sheet.room - length sheet.codes) s orders ending
+  pub ends : EndsAfter limit resumes (sheet.room - length sheet.codes) s orders ending
   pub state_is : last ≡ (past orders s).state
   pub sheet_is : full ≡ record { codes = sheet.codes ++ (past orders s).codes; room = sheet.room }
 
--- the least number below n at which a test holds, and n where there is none
-unfoldable pub least : (ℕ → Bool) → ℕ → ℕ
-least test zero = zero
-least test (suc n) = if test (least test n) then least test n else suc n
+-- how many orders a run obeys: the least number at which an end holds, the limit at the latest
+abbrev pub run_orders : ℕ → ℕ → ℕ → State → ℕ
+run_orders limit resumes room s = least (λ j. is_some (end_at limit resumes room j (past j s))) limit
 
 -- what a run answers and leaves
-pub record Ran : Type 0 where
+pub record RunEnd : Type 0 where
   pub ending : Ending
   pub state : State
   pub codes : List ℕ
 
--- a run as a function: it ends at the least number of orders at which an end holds, the limit at the latest
-unfoldable pub ran : ℕ → ℕ → ℕ → State → Ran
+-- a run as a function
+unfoldable pub ran : ℕ → ℕ → ℕ → State → RunEnd
 ran limit resumes room s =
-    let k = least (λ j. is_some (end_at limit resumes room j (past j s))) limit in
+    let k = run_orders limit resumes room s in
     record { ending = unwrap_or (end_at limit resumes room k (past k s)) Limit; state = (past k s).state; codes = (past k s).codes }
 
 -- the ending, the state and the sheet with its codes added are those of a run
-pub record Leaves (r : Ran) (sheet : Sheet) (ending : Ending) (last : State) (full : Sheet) : Type 0 where
+pub record IsLeft (r : RunEnd) (sheet : Sheet) (ending : Ending) (last : State) (full : Sheet) : Type 0 where
   pub ending_is : ending ≡ r.ending
   pub state_is : last ≡ r.state
   pub sheet_is : full ≡ record { codes = sheet.codes ++ r.codes; room = sheet.room }

@@ -7,7 +7,8 @@
 ghost use Rattle.std.specs.Prelude.{◌≡◌, ℕ, ◌+◌, ◌-◌, ◌^◌, ◌≤◌, length, nat_le};
 ghost use Rattle.ed_machine.specs.OrderTable.{obey, step};
 ghost use Rattle.ed_machine.specs.State.{State};
-ghost use Rattle.ed_run.specs.Run.{Leaves, Runs, prints, ran};
+ghost use Rattle.ed_run.specs.Laws.{RunLaw};
+ghost use Rattle.ed_run.specs.Run.{IsLeft, IsRun, prints, ran};
 
 use ed_machine::{Ending, Machine, Paper, Turn};
 use ed_orders::{Kind, kind_of};
@@ -19,8 +20,9 @@ use ed_orders::{Kind, kind_of};
 /// order is O and the paper has no room left.
 pub fn run(machine: &mut Machine, limit: u64, resumes: u32, paper: &mut Paper) -> Ending
     requires { machine.old.orders + limit ≤ 2 ^ 63 }
-    ensures ends { Runs limit resumes machine.old paper.old result machine.new paper.new }
-    ensures ran { Leaves (ran limit resumes (paper.old.room - length paper.old.codes) machine.old) paper.old result machine.new paper.new }
+    ensures ends { IsRun limit resumes machine.old paper.old result machine.new paper.new }
+    ensures ran { IsLeft (ran limit resumes (paper.old.room - length paper.old.codes) machine.old) paper.old result machine.new paper.new }
+    ensures law { RunLaw }
 {
     run_orders(machine, limit, resumes, paper)
 }
@@ -28,7 +30,7 @@ pub fn run(machine: &mut Machine, limit: u64, resumes: u32, paper: &mut Paper) -
 /// Obeys orders until the run ends.
 fn run_orders(machine: &mut Machine, limit: u64, resumes: u32, paper: &mut Paper) -> Ending
     requires { machine.old.orders + limit ≤ 2 ^ 63 }
-    ensures { Runs limit resumes machine.old paper.old result machine.new paper.new }
+    ensures { IsRun limit resumes machine.old paper.old result machine.new paper.new }
 {
     let mut stops = 0u32;
     for done in 0..limit {

@@ -1,10 +1,10 @@
-use Rattle.std.proofs.Common.{◌≡◌, ◌⊎◌, inl, inr, Bool, true, false, None, refl, sym, ◌∙◌, ap, arith, length, nat_le}
+use Rattle.std.proofs.Common.{◌≡◌, ◌⊎◌, inl, inr, Bool, true, false, None, refl, sym, ◌∙◌, ap, arith}
 use Rattle.ed_machine.specs.OrderTable.{step}
 use Rattle.ed_machine.specs.Steps.{is_obeyed}
 use Rattle.ed_machine.specs.declared.turn.Turn.{Turn}
 use Rattle.ed_machine.specs.declared.turn.Turn.TheVariants.{Went, Printed, Stopped}
 use Rattle.ed_run.specs.Run.{end_by, prints}
-use Rattle.ed_run.proofs.Pasts.{at_first, goes_on, ends_with_stop, none_ends, nothing_printed, pushed}
+use Rattle.ed_run.proofs.Pasts.{is_full, at_first, goes_on, ends_with_stop, none_ends, pushed, silent}
 use Rattle.ed_run.proofs.run_orders.Goals as goal
 use Rattle.ed_run.proofs.run_orders.Goals.{in-Went, in-Printed, in-Stopped+else-stops-resumes, else-is_full-via-then-is_full+else-prints_next, else-is_full-via-else-is_full}
 
@@ -13,18 +13,13 @@ loop-done-init c = record { running = at_first _ _ _ _; count = omega arith }
 
 pub returns-then-stops-resumes : goal.returns-then-stops-resumes
 returns-then-stops-resumes c =
-    ends_with_stop _ _ _ _ _ c.loop-done.machine c.step.new.self c.loop-done.paper c.loop-done.paper c.loop-done.stops _ c.loop-done.invariant.running c.loop-done-test.true
-    (record {
-      turn_is = sym c.step.ensures.turn ∙ c.in-Stopped.is;
-      state_is = c.step.ensures.state;
-      paper_is = nothing_printed _ _ refl;
-      stops_are = refl;
-    })
+    ends_with_stop _ _ _ _ c.loop-done.invariant.running c.loop-done-test.true
+    (silent (sym c.step.ensures.turn ∙ c.in-Stopped.is) c.step.ensures.state refl refl refl)
     (omega arith)
 
 -- the paper has room, or the order does not print
 either_way : (c : goal.Joined-step)
-    → (nat_le c.loop-done.paper.room (length c.loop-done.paper.codes) ≡ false) ⊎ (prints (step c.loop-done.machine).turn ≡ false)
+    → (is_full c.loop-done.paper ≡ false) ⊎ (prints (step c.loop-done.machine).turn ≡ false)
 either_way c = elim c.else-is_full.branch [
   | else-is_full-via-then-is_full+else-prints_next v ↦ inr (sym v.prints_next.ensures ∙ v.if-prints_next.false)
   | else-is_full-via-else-is_full v ↦ inl (sym c.is_full.ensures ∙ v.if-is_full.false)
@@ -32,12 +27,12 @@ either_way c = elim c.else-is_full.branch [
 
 -- so an order that is obeyed does not end the run
 goes : (c : goal.Joined-step) (turn : Turn) → (step c.loop-done.machine).turn ≡ turn → is_obeyed turn ≡ true
-    → end_by (step c.loop-done.machine).turn (nat_le c.loop-done.paper.room (length c.loop-done.paper.codes)) ≡ None
+    → end_by (step c.loop-done.machine).turn (is_full c.loop-done.paper) ≡ None
 goes c turn is obeyed = none_ends _ _ (ap is_obeyed is ∙ obeyed) (either_way c)
 
 -- the paper has room where the order prints
 room : (c : goal.Joined-step) {code : _} → (step c.loop-done.machine).turn ≡ Printed code
-    → nat_le c.loop-done.paper.room (length c.loop-done.paper.codes) ≡ false
+    → is_full c.loop-done.paper ≡ false
 room c is = by_branch (either_way c) (ap prints is)
   where
     by_branch : {a b : Bool} → (a ≡ false) ⊎ (b ≡ false) → b ≡ true → a ≡ false
@@ -51,16 +46,15 @@ loop-done-preserved c =
       | in-Went w ↦
           let is = sym c.step.ensures.turn ∙ w.in-Went.is in
           record {
-            running = goes_on _ _ _ _ _ c.loop-done.machine c.step.new.self c.loop-done.paper c.match-step.paper c.loop-done.stops c.match-step.stops Went r c.loop-done-test.true
-                (record { turn_is = is; state_is = c.step.ensures.state; paper_is = nothing_printed _ _ w.paper-is; stops_are = omega (arith, w.stops-is) })
+            running = goes_on _ _ _ _ r c.loop-done-test.true
+                (silent is c.step.ensures.state w.paper-is refl (omega (arith, w.stops-is)))
                 (goes c Went is refl) (omega (arith, w.stops-is, r.within));
             count = omega (arith, c.step.ensures.count, c.loop-done.invariant.count);
           }
       | in-Printed w ↦
           let is = sym c.step.ensures.turn ∙ w.in-Printed.is in
           record {
-            running = goes_on _ _ _ _ _ c.loop-done.machine c.step.new.self c.loop-done.paper c.match-step.paper c.loop-done.stops c.match-step.stops (Printed w.in-Printed.code) r
-                c.loop-done-test.true
+            running = goes_on _ _ _ _ r c.loop-done-test.true
                 (record {
                   turn_is = is;
                   state_is = c.step.ensures.state;
@@ -73,8 +67,8 @@ loop-done-preserved c =
       | in-Stopped+else-stops-resumes w ↦
           let is = sym c.step.ensures.turn ∙ w.in-Stopped.is in
           record {
-            running = goes_on _ _ _ _ _ c.loop-done.machine c.step.new.self c.loop-done.paper c.match-step.paper c.loop-done.stops c.match-step.stops Stopped r c.loop-done-test.true
-                (record { turn_is = is; state_is = c.step.ensures.state; paper_is = nothing_printed _ _ w.paper-is; stops_are = omega (arith, w.stops-is) })
+            running = goes_on _ _ _ _ r c.loop-done-test.true
+                (silent is c.step.ensures.state w.paper-is refl (omega (arith, w.stops-is)))
                 (goes c Stopped is refl) (omega (arith, w.stops-is, r.within, w.if-stops-resumes.false));
             count = omega (arith, c.step.ensures.count, c.loop-done.invariant.count);
           }

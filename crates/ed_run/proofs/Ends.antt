@@ -1,0 +1,79 @@
+-- A run ends at the least number of orders at which an end holds, and nowhere else.
+use Rattle.std.proofs.Common.{◌≡◌, inl, inr, ℕ, ◌-◌, refl, sym, ap, ◌∙◌, arith, Bool, true, false, true≢false, nat_eq, nat_lt, Option, Some, None, is_some, unwrap_or, length}
+use Rattle.std.proofs.lemmas.Bool.{cases_lt}
+use Rattle.std.proofs.lemmas.Bool.Decides.{nat_tests}
+use Rattle.ed_machine.specs.State.{State}
+use Rattle.ed_machine.specs.Steps.{Past, past}
+use Rattle.ed_machine.specs.Sheet.{Sheet}
+use Rattle.ed_machine.specs.declared.ending.Ending.{Ending}
+use Rattle.ed_machine.specs.declared.ending.Ending.TheVariants.{Limit}
+use Rattle.ed_run.specs.Run.{end_at, ran, run_orders, EndsAfter, IsLeft, IsRun}
+use Rattle.ed_machine.proofs.LeastNumbers.{least_holds, least_first}
+
+-- at the limit there is an end
+limit_ends : (limit resumes room : ℕ) (p : Past) → is_some (end_at limit resumes room limit p) ≡ true
+limit_ends limit resumes room p = by_stops (nat_lt resumes p.stops) refl
+  where
+    same : nat_eq limit limit ≡ true
+    same = grind (arith, nat_tests)
+
+    by_stops : (b : Bool) → nat_lt resumes p.stops ≡ b → is_some (end_at limit resumes room limit p) ≡ true
+    by_stops true e = rw e refl
+    by_stops false e = rw (e, same) refl
+
+-- an option that is one
+is_of : (o : Option Ending) (d : Ending) → is_some o ≡ true → o ≡ Some (unwrap_or o d)
+is_of None d h = absurd (true≢false (sym h))
+is_of (Some e) d h = refl
+
+none_of : (o : Option Ending) → is_some o ≡ false → o ≡ None
+none_of None h = refl
+none_of (Some e) h = absurd (true≢false h)
+
+-- the run that is a function ends so
+pub ran_ends : (limit resumes room : ℕ) (s : State)
+    → EndsAfter limit resumes room s (run_orders limit resumes room s) (ran limit resumes room s).ending
+unfolding ran
+ran_ends limit resumes room s =
+    let k = run_orders limit resumes room s in
+    let test : ℕ → Bool = λ j. is_some (end_at limit resumes room j (past j s)) in
+    record {
+      now = is_of (end_at limit resumes room k (past k s)) Limit
+          (least_holds test limit (limit_ends limit resumes room (past limit s)));
+      first = λ j h. none_of (end_at limit resumes room j (past j s)) (least_first test limit j h);
+    }
+
+-- two ends of one run are the same
+pub ends_once : (limit resumes room : ℕ) (s : State) (j k : ℕ) (d e : Ending)
+    → EndsAfter limit resumes room s j d → EndsAfter limit resumes room s k e → (j ≡ k) × (d ≡ e)
+ends_once limit resumes room s j k d e g h =
+    elim (cases_lt j k) [
+      | inl l ↦ absurd (none_some d (sym (h.first j l) ∙ g.now))
+      | inr m ↦
+          elim (cases_lt k j) [
+            | inl l ↦ absurd (none_some e (sym (g.first k l) ∙ h.now))
+            | inr n ↦
+                let same : j ≡ k = omega arith in
+                (same, some_is d e (sym g.now ∙ ap (λ i. end_at limit resumes room i (past i s)) same ∙ h.now))
+          ]
+    ]
+  where
+    none_some : (e : Ending) → None ≡ Some e → ⊥
+    none_some e h = cc
+
+    some_is : (d e : Ending) → Some d ≡ Some e → d ≡ e
+    some_is d e h = cc
+
+-- what a run leaves is the function's
+pub run_left : (limit resumes : ℕ) (s : State) (sheet : Sheet) (ending : Ending) (last : State) (full : Sheet)
+    → IsRun limit resumes s sheet ending last full → IsLeft (ran limit resumes (sheet.room - length sheet.codes) s) sheet ending last full
+unfolding ran
+run_left limit resumes s sheet ending last full r =
+    let room = sheet.room - length sheet.codes in
+    let one = ends_once limit resumes room s _ _ _ _ (ran_ends limit resumes room s) r.ends in
+    let k = one.0 in
+    record {
+      ending_is = sym one.1;
+      state_is = rw k r.state_is;
+      sheet_is = rw k r.sheet_is;
+    }
