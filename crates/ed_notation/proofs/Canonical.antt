@@ -2,7 +2,6 @@
 use Rattle.std.proofs.Common.{◌≡◌, ℕ, ◌<◌, ◌≤◌, refl, sym, ap, ◌∙◌, subst, arith, Bool, true}
 use Rattle.std.proofs.Common.{false, ◌&&◌, nat_lt, nat_le, List, [], ◌∷◌, ◌++◌}
 use Rattle.std.proofs.Common.{length, drop}
-use Rattle.std.proofs.lemmas.Bool.Decides.{nat_tests}
 use Rattle.std.proofs.lemmas.List.{append-nil, drop_all}
 use Rattle.ed_notation.specs.declared.item.Item.{Item}
 use Rattle.ed_notation.specs.declared.kind.RowKind.{RowKind}
@@ -11,35 +10,23 @@ use Rattle.ed_notation.specs.Items.{row_kind, ends, number, Written, AreDigits, 
 use Rattle.ed_notation.specs.Spellings.{AreWritten, SpellsAll, NoLeadingZero, AreCanonical, digits_of, canonical, canonicals}
 use Rattle.ed_notation.specs.Spellings.{is_spellable, AreSpellable, IsSpelling, SpellableIsSpelled}
 use Rattle.ed_notation.proofs.Unique.{no_other}
+use Rattle.ed_words.proofs.Numbers.{le_of, not_le_of, le_true, lt_of, lt_true}
+use Rattle.std.proofs.lemmas.Bool.{and_parts}
 
-record AreDigitsOf (n : ℕ) (ds : List ℕ) : Type 0 where
-  digits : AreDigits ds
-  number_is : number 0 ds ≡ n
-  no_zero : NoLeadingZero ds
-
-yes_test : (p n : ℕ) → p ≤ n → nat_le p n ≡ true
-yes_test p n h = grind (arith, nat_tests)
-
-le_of : (a b : ℕ) → nat_le a b ≡ true → a ≤ b
-le_of a b h = grind (arith, nat_tests)
-
-not_le_of : (a b : ℕ) → nat_le a b ≡ false → b < a
-not_le_of a b h = grind (arith, nat_tests)
-
-lt_of : (a b : ℕ) → nat_lt a b ≡ true → a < b
-lt_of a b h = grind (arith, nat_tests)
-
-lt_true : (a b : ℕ) → a < b → nat_lt a b ≡ true
-lt_true a b h = grind (arith, nat_tests)
+-- the digits of a number, without a leading zero
+pub record AreDigitsOf (n : ℕ) (ds : List ℕ) : Type 0 where
+  pub digits : AreDigits ds
+  pub number_is : number 0 ds ≡ n
+  pub no_zero : NoLeadingZero ds
 
 by_tests : (n : ℕ) (a b c d e : Bool) → n ≤ 32767 → nat_le 10000 n ≡ a → nat_le 1000 n ≡ b → nat_le 100 n ≡ c
     → nat_le 10 n ≡ d → nat_le 1 n ≡ e → AreDigitsOf n (digits_of n)
 by_tests n true b c d e h p q r s t =
     let p' = le_of _ _ p in
-    let q' = yes_test 1000 n (omega (arith, p')) in
-    let r' = yes_test 100 n (omega (arith, p')) in
-    let s' = yes_test 10 n (omega (arith, p')) in
-    let t' = yes_test 1 n (omega (arith, p')) in
+    let q' = le_true 1000 n (omega (arith, p')) in
+    let r' = le_true 100 n (omega (arith, p')) in
+    let s' = le_true 10 n (omega (arith, p')) in
+    let t' = le_true 1 n (omega (arith, p')) in
     rw (p, q', r', s', t') (record {
       digits = (omega arith, (omega arith, (omega arith, (omega arith, (omega arith, tt)))));
       number_is = omega (arith, h);
@@ -48,9 +35,9 @@ by_tests n true b c d e h p q r s t =
 by_tests n false true c d e h p q r s t =
     let p' = not_le_of _ _ p in
     let q' = le_of _ _ q in
-    let r' = yes_test 100 n (omega (arith, q')) in
-    let s' = yes_test 10 n (omega (arith, q')) in
-    let t' = yes_test 1 n (omega (arith, q')) in
+    let r' = le_true 100 n (omega (arith, q')) in
+    let s' = le_true 10 n (omega (arith, q')) in
+    let t' = le_true 1 n (omega (arith, q')) in
     rw (p, q, r', s', t') (record {
       digits = (omega arith, (omega arith, (omega arith, (omega arith, tt))));
       number_is = omega (arith, p');
@@ -59,8 +46,8 @@ by_tests n false true c d e h p q r s t =
 by_tests n false false true d e h p q r s t =
     let q' = not_le_of _ _ q in
     let r' = le_of _ _ r in
-    let s' = yes_test 10 n (omega (arith, r')) in
-    let t' = yes_test 1 n (omega (arith, r')) in
+    let s' = le_true 10 n (omega (arith, r')) in
+    let t' = le_true 1 n (omega (arith, r')) in
     rw (p, q, r, s', t') (record {
       digits = (omega arith, (omega arith, (omega arith, tt)));
       number_is = omega (arith, q');
@@ -69,7 +56,7 @@ by_tests n false false true d e h p q r s t =
 by_tests n false false false true e h p q r s t =
     let r' = not_le_of _ _ r in
     let s' = le_of _ _ s in
-    let t' = yes_test 1 n (omega (arith, s')) in
+    let t' = le_true 1 n (omega (arith, s')) in
     rw (p, q, r, s, t') (record {
       digits = (omega arith, (omega arith, tt));
       number_is = omega (arith, r');
@@ -88,14 +75,8 @@ by_tests n false false false false false h p q r s t =
     rw (p, q, r, s, t) (record { digits = tt; number_is = omega (arith, t'); no_zero = tt })
 
 -- the digits of a number are its digits
-digits_are : (n : ℕ) → n ≤ 32767 → AreDigitsOf n (digits_of n)
+pub digits_are : (n : ℕ) → n ≤ 32767 → AreDigitsOf n (digits_of n)
 digits_are n h = by_tests n _ _ _ _ _ h refl refl refl refl refl
-
-and_first : (x y : Bool) → (x && y) ≡ true → x ≡ true
-and_first x y h = grind arith
-
-and_second : (x y : Bool) → (x && y) ≡ true → y ≡ true
-and_second x y h = grind arith
 
 and_both : (x y : Bool) → x ≡ true → y ≡ true → (x && y) ≡ true
 and_both x y h k = grind arith
@@ -107,20 +88,23 @@ record CanBeSpelled (i : Item) : Type 0 where
 
 can_be : (i : Item) → is_spellable i ≡ true → CanBeSpelled i
 can_be i h =
-    let rest = and_second _ _ h in
+    let all = and_parts (nat_lt i.function 32) (nat_le i.number 32767 && ends (row_kind i.end) (canonical i).begun) h in
+    let rest = and_parts (nat_le i.number 32767) (ends (row_kind i.end) (canonical i).begun) all.1 in
     record {
-      function = lt_of _ _ (and_first _ _ h);
-      number = le_of _ _ (and_first _ _ rest);
-      ended = and_second _ _ rest;
+      function = lt_of _ _ all.0;
+      number = le_of _ _ rest.0;
+      ended = rest.1;
     }
 
-written : (i : Item) → is_spellable i ≡ true → IsWritten (canonical i)
-written i h =
+-- the canonical spelling spells
+pub is_written : (i : Item) → is_spellable i ≡ true → IsWritten (canonical i)
+is_written i h =
     let c = can_be i h in
     let g = digits_are i.number c.number in
     record { begun = record { function = c.function; digits = g.digits; fits = rw g.number_is c.number }; ended = c.ended }
 
-same_item : (i : Item) → is_spellable i ≡ true → item (canonical i) ≡ i
+-- and it spells its item
+pub same_item : (i : Item) → is_spellable i ≡ true → item (canonical i) ≡ i
 same_item i h =
     let g = (digits_are i.number (can_be i h).number).number_is in
     λ k. record { function = i.function; number = g k; mark = i.mark; end = i.end }
@@ -137,13 +121,17 @@ all_spelled (i ∷ is) h =
     let x = same_item i h.0 in
     let y = r.same in
     record {
-      good = (written i h.0, r.good);
+      good = (is_written i h.0, r.good);
       same = λ k. x k ∷ y k;
       no_zeros = ((digits_are i.number (can_be i h.0).number).no_zero, r.no_zeros);
     }
 
 pub are_written : (is : List Item) → AreSpellable is → AreWritten (canonicals is)
 are_written is h = (all_spelled is h).good
+
+-- the canonical spellings of items spell these items
+pub same_items : (is : List Item) → AreSpellable is → items (canonicals is) ≡ is
+same_items is h = (all_spelled is h).same
 
 -- the rows that the items' canonical spellings make
 pub spelling : (is : List Item) → AreSpellable is → IsSpelling is (spelled (canonicals is))
@@ -168,14 +156,14 @@ spelled_can_be : (w : Written) → IsWritten w → is_spellable (item w) ≡ tru
 spelled_can_be w good =
     let b = w.begun in
     let ended = ends_canonical (row_kind w.end) b.function b.digits b.mark good.ended in
-    and_both _ _ (lt_true _ _ good.begun.function) (and_both _ _ (yes_test _ _ good.begun.fits) ended)
+    and_both _ _ (lt_true _ _ good.begun.function) (and_both _ _ (le_true _ _ good.begun.fits) ended)
 
 -- what can be spelled is what is spelled
 pub spellable_law : (i : Item) → SpellableIsSpelled i
 spellable_law i = record {
   spelled = λ h. (
     rows_of (canonical i),
-    record { written = canonical i; good = written i h; item_is = same_item i h; rows_are = refl },
+    record { written = canonical i; good = is_written i h; item_is = same_item i h; rows_are = refl },
   );
   spellable = λ rows s. subst (λ (j : Item). is_spellable j ≡ true) s.item_is (spelled_can_be s.written s.good);
 }

@@ -6,6 +6,7 @@ use Rattle.std.proofs.lemmas.Bool.Decides.{nat_tests}
 use Rattle.std.proofs.lemmas.List.{get_or-set_same, get_or-set_other, length-set, length-replicate, get_or-replicate}
 use Rattle.ed_notation.specs.Fold.{over, placed_at}
 use Rattle.ed_notation.specs.Checks.{ArePlaces, ContentIsMapOrStore, marked}
+use Rattle.ed_words.proofs.Numbers.{eq_of}
 
 pub length-over : (placed : List (ℕ × ℕ)) (words : List ℕ) → length (over placed words) ≡ length words
 length-over [] words = refl
@@ -14,9 +15,6 @@ length-over (p ∷ placed) words = length-set (over placed words) p.0 p.1 ∙ le
 pub length-marked : (placed : List (ℕ × ℕ)) → length (marked placed) ≡ 1024
 length-marked [] = length-replicate {A = Bool} 1024 false
 length-marked (p ∷ placed) = length-set (marked placed) p.0 true ∙ length-marked placed
-
-eq_of : (a b : ℕ) → nat_eq a b ≡ true → a ≡ b
-eq_of a b h = grind (arith, nat_tests)
 
 differs : (a b : ℕ) → nat_eq a b ≡ false → b ≢ a
 differs a b h = grind (arith, nat_tests)

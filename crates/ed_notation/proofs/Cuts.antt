@@ -3,7 +3,9 @@ use Rattle.std.proofs.Common.{◌≡◌, ℕ, ◌+◌, refl, sym, ap, ◌∙◌,
 use Rattle.ed_notation.specs.declared.item.Item.{Item}
 use Rattle.ed_notation.specs.Items.{Written, rows_of, spelled, item, items}
 use Rattle.ed_notation.specs.Fold.{Note, act, fold, costs}
-use Rattle.ed_notation.specs.Faults.{AreRead}
+use Rattle.ed_words.specs.declared.size.Size.{Size}
+use Rattle.ed_notation.specs.Faults.{AreRead, AreSound}
+use Rattle.ed_notation.specs.Spellings.{canonical, canonicals}
 
 pub items-append : (vs ws : List Written) → items (vs ++ ws) ≡ items vs ++ items ws
 items-append [] ws = refl
@@ -28,3 +30,12 @@ pub AreRead-append : (words : List ℕ) (note : Note) (vs ws : List Written) →
     → AreRead words (fold words note (items vs)) ws → AreRead words note (vs ++ ws)
 AreRead-append words note [] ws h k = k
 AreRead-append words note (v ∷ vs) ws h k = (h.0, h.1, AreRead-append words (act words note (item v)) vs ws h.2 k)
+
+pub AreSound-append : (z : Size) (words : List ℕ) (note : Note) (vs ws : List Written) → AreSound z words note vs
+    → AreSound z words (fold words note (items vs)) ws → AreSound z words note (vs ++ ws)
+AreSound-append z words note [] ws h k = k
+AreSound-append z words note (v ∷ vs) ws h k = (h.0, AreSound-append z words (act words note (item v)) vs ws h.1 k)
+
+pub canonicals-append : (is js : List Item) → canonicals (is ++ js) ≡ canonicals is ++ canonicals js
+canonicals-append [] js = refl
+canonicals-append (i ∷ is) js = ap (λ ws. canonical i ∷ ws) (canonicals-append is js)

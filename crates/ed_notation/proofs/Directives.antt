@@ -1,5 +1,5 @@
 -- The directive is a P, an E or a T at every row that the reader comes to.
-use Rattle.std.proofs.Common.{◌≡◌, ◌≢◌, ℕ, ◌+◌, ◌*◌, ◌<◌, ◌≤◌, refl, arith, Bool, true, false, ◌||◌, nat_eq}
+use Rattle.std.proofs.Common.{◌≡◌, ◌≢◌, ℕ, ◌+◌, ◌*◌, ◌≤◌, refl, arith, Bool, true, false, ◌||◌, nat_eq}
 use Rattle.std.proofs.Common.{nat_lt, nat_le, if◌then◌else◌, List}
 use Rattle.std.proofs.lemmas.Bool.Decides.{nat_tests}
 use Rattle.ed_words.specs.declared.size.Size.{Size}
@@ -18,6 +18,7 @@ use Rattle.ed_notation.specs.Fold.{Note, over, address, control_of, aim_of}
 use Rattle.ed_notation.specs.Openings.{IsDirective}
 use Rattle.ed_notation.specs.Faults.{is_place}
 use Rattle.ed_notation.specs.Reading.{taken, setting_of, kay_sets, zed_sets, letter_taken}
+use Rattle.ed_words.proofs.Numbers.{not_lt_of, not_le_of}
 
 -- what a row does leaves a directive
 abbrev pub KeepsDirective : Note → Taken → Type 0
@@ -58,12 +59,6 @@ place_directive x h = record {
   most = grind (arith, nat_tests);
 }
 
-le_of : (a b : ℕ) → nat_lt a b ≡ false → b ≤ a
-le_of a b h = grind (arith, nat_tests)
-
-lt_of : (a b : ℕ) → nat_le a b ≡ false → b < a
-lt_of a b h = grind (arith, nat_tests)
-
 module _ (z : Size) (words : List ℕ) (note : Note) (i : Part) (c : ℕ) (d : IsDirective note.directive) where
   keep_if : (b : Bool) (x y : Taken) → (b ≡ true → KeepsDirective note x) → (b ≡ false → KeepsDirective note y)
       → KeepsDirective note (if b then x else y)
@@ -74,7 +69,7 @@ module _ (z : Size) (words : List ℕ) (note : Note) (i : Part) (c : ℕ) (d : I
   kay Directive e =
       let q = sets_directive i.function e in
       keep_if (nat_lt 1023 i.number) _ _ (λ h. tt) (λ h.
-      let l = le_of _ _ h in
+      let l = not_lt_of _ _ h in
       record {
         no_1 = omega (arith, l, q.no_1);
         no_2 = omega (arith, l, q.no_2);
@@ -96,7 +91,7 @@ module _ (z : Size) (words : List ℕ) (note : Note) (i : Part) (c : ℕ) (d : I
   letter Places word =
       keep_if (nat_lt (address note.directive) 44) _ _ (λ h. tt) (λ h.
       keep_if (nat_le (locations z) (address note.directive)) _ _ (λ g. tt) (λ g.
-      let l = lt_of _ _ g in
+      let l = not_le_of _ _ g in
       let m = most z in
       record {
         no_1 = omega (arith, l, m, d.no_1);

@@ -2,7 +2,6 @@
 use Rattle.std.proofs.Common.{◌≡◌, ℕ, suc, ◌+◌, ◌*◌, ◌<◌, ◌≤◌, ◌⊎◌, inl, inr, refl, sym, ap, ◌∙◌, subst, arith, Bool, true}
 use Rattle.std.proofs.Common.{false, ◌&&◌, nat_lt, nat_eq, Option, Some, None, List, [], ◌∷◌, ◌++◌, length}
 use Rattle.std.proofs.Common.{length-append, append_assoc}
-use Rattle.std.proofs.lemmas.Bool.Decides.{nat_tests}
 use Rattle.ed_words.specs.declared.size.Size.{Size}
 use Rattle.ed_words.specs.Words.{digit}
 use Rattle.ed_notation.specs.declared.cause.TapeCause.{TapeCause}
@@ -17,6 +16,8 @@ use Rattle.ed_notation.specs.Fold.{Note, over, address, acted, entering, begun_c
 use Rattle.ed_notation.specs.Reading.{taken, setting_of, set_by, placed_by, entry_by, reading, Verdict, Faulty, Arrived, part_of}
 use Rattle.ed_notation.proofs.Rows.{RowLaw, row_law, row_means, as_part, first}
 use Rattle.ed_notation.proofs.Directives.{KeepsDirective, keeps}
+use Rattle.ed_words.proofs.Numbers.{lt_true, lt_false}
+use Rattle.std.proofs.Math.Bool.{and-false}
 
 -- what follows a row inside an item
 abbrev pub follow : Size → List ℕ → ℕ → ℕ → Note → Part → ℕ → List ℕ → Taken → Verdict
@@ -48,16 +49,6 @@ reader_part (Some b) = Some (as_part b)
 abbrev pub part_cost : Option Begun → ℕ
 part_cost None = 0
 part_cost (Some b) = begun_cost b
-
-lt_true : (a b : ℕ) → a < b → nat_lt a b ≡ true
-lt_true a b h = grind (arith, nat_tests)
-
-lt_false : (a b : ℕ) → b ≤ a → nat_lt a b ≡ false
-lt_false a b h = grind (arith, nat_tests)
-
-and_false : (x : Bool) → (x && false) ≡ false
-and_false true = refl
-and_false false = refl
 
 number_le : (ds : List ℕ) (n : ℕ) → n ≤ number n ds
 number_le [] n = omega arith
@@ -98,7 +89,7 @@ digits_read (d ∷ ds) rest z words row cost note f n blank are fits =
     let longer : Part = record { function = f; number = 10 * n + d; mark = false; blank = false } in
     let t : taken z (row_kind d) (over note.placed words) (setting_of note) part d ≡ Longer longer 9 = rw (a, b) refl in
     let ih = digits_read ds rest z words (row + 1) (cost + 9) note f (10 * n + d) false are.1 fits in
-    ap (follow z words row cost note part d (ds ++ rest)) t ∙ rw (r, k) (ih ∙ rw (and_false (is_empty ds)) refl)
+    ap (follow z words row cost note part d (ds ++ rest)) t ∙ rw (r, k) (ih ∙ rw (and-false (is_empty ds)) refl)
 
 mark_read : (z : Size) (words : List ℕ) (row cost : ℕ) (note : Note) (f : ℕ) (ds rest : List ℕ) (m : Bool)
     → reading z words row cost note (Some (as_part (record { function = f; digits = ds; mark = false }))) (mark_rows m ++ rest)
@@ -109,7 +100,7 @@ mark_read z words row cost note f ds rest false =
     let r : row + 0 ≡ row = omega arith in
     let k : cost + 0 ≡ cost = omega arith in
     rw (r, k) refl
-mark_read z words row cost note f ds rest true = rw (and_false (is_empty ds)) refl
+mark_read z words row cost note f ds rest true = rw (and-false (is_empty ds)) refl
 
 -- the rows of an item before its ending
 pub begun_read : (z : Size) (words : List ℕ) (row cost : ℕ) (note : Note) (b : Begun) (rest : List ℕ) → IsBegun b

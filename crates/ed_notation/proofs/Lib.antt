@@ -14,4 +14,6 @@ pub mod Canonical
 pub mod Texts
 pub mod Cuts
 pub mod Sound
+pub mod Steps
+pub mod Placing
 pub mod Worked

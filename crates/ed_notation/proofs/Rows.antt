@@ -1,5 +1,5 @@
 -- What the reader does at a row inside an item, in the words of the rules.
-use Rattle.std.proofs.Common.{◌≢◌, ◌≡◌, ℕ, ◌+◌, ◌*◌, ◌/◌, ◌<◌, ◌≤◌, refl, sym, ap, ◌∙◌, arith, Bool, true, false}
+use Rattle.std.proofs.Common.{◌≢◌, ◌≡◌, ℕ, ◌+◌, ◌*◌, ◌/◌, ◌<◌, refl, sym, ap, ◌∙◌, arith, Bool, true, false}
 use Rattle.std.proofs.Common.{◌&&◌, nat_eq, nat_lt, nat_le, if◌then◌else◌, Option, Some, None, List, [], ◌∷◌, ◌++◌}
 use Rattle.std.proofs.Common.{length-append}
 use Rattle.std.proofs.lemmas.Bool.Decides.{nat_tests}
@@ -23,6 +23,8 @@ use Rattle.ed_notation.specs.Fold.{Note, over, item_word, address, control_of, a
 use Rattle.ed_notation.specs.Openings.{IsDirective}
 use Rattle.ed_notation.specs.Faults.{breaks, is_place}
 use Rattle.ed_notation.specs.Reading.{taken, setting_of, set_by, placed_by}
+use Rattle.ed_words.proofs.Numbers.{lt_of, not_lt_of, eq_of}
+use Rattle.std.proofs.Math.Bool.{and-false}
 
 abbrev first_if : Bool → TapeCause → Option TapeCause → Option TapeCause
 first_if true c x = Some c
@@ -61,7 +63,7 @@ pub record Extends (b : Begun) (c : ℕ) (part : Part) (k : ℕ) : Type 0 where
   pub cost_is : begun_cost next ≡ begun_cost b + k
 
 -- the row ends an item that is no entry item
-pub record Ends (r : RowKind) (words : List ℕ) (note : Note) (b : Begun) (c : ℕ) (n : Note) (k : ℕ) : Type 0 where
+pub record EndsItem (r : RowKind) (words : List ℕ) (note : Note) (b : Begun) (c : ℕ) (n : Note) (k : ℕ) : Type 0 where
   pub ended : ends r b ≡ true
   pub goes_on : entering r note ≡ false
   pub note_is : n ≡ acted r words note (item_of b c)
@@ -77,9 +79,9 @@ pub record IsEntry (r : RowKind) (note : Note) (b : Begun) (at : ℕ) : Type 0 w
 abbrev pub RowLaw : RowKind → Size → List ℕ → Note → Begun → ℕ → Taken → Type 0
 RowLaw r z words note b c (Refused cause) = first r z words note b c ≡ Some cause
 RowLaw r z words note b c (Longer part k) = (first r z words note b c ≡ None) × (ends r b ≡ false) × Extends b c part k
-RowLaw r z words note b c (Ended s k) = (first r z words note b c ≡ None) × Ends r words note b c (set_by s note) k
+RowLaw r z words note b c (Ended s k) = (first r z words note b c ≡ None) × EndsItem r words note b c (set_by s note) k
 RowLaw r z words note b c (Placed at word) =
-    (first r z words note b c ≡ None) × Ends r words note b c (placed_by at word note) 17
+    (first r z words note b c ≡ None) × EndsItem r words note b c (placed_by at word note) 17
 RowLaw r z words note b c (Entered at) = (first r z words note b c ≡ None) × IsEntry r note b at
 
 abbrev pub RowMeans : RowKind → ℕ → Type 0
@@ -90,12 +92,6 @@ RowMeans r c = Unit {0}
 if_means : (P : RowKind → Type 0) (b : Bool) (x y : RowKind) → (b ≡ true → P x) → (b ≡ false → P y) → P (if b then x else y)
 if_means P true x y f g = f refl
 if_means P false x y f g = g refl
-
-lt_of : (a b : ℕ) → nat_lt a b ≡ true → a < b
-lt_of a b h = grind (arith, nat_tests)
-
-eq_of : (a b : ℕ) → nat_eq a b ≡ true → a ≡ b
-eq_of a b h = grind (arith, nat_tests)
 
 pub row_means : (c : ℕ) → RowMeans (row_kind c) c
 row_means c =
@@ -119,9 +115,6 @@ digits_more : (ds : List ℕ) (c : ℕ) → AreDigits ds → c < 10 → AreDigit
 digits_more [] c h k = (k, tt)
 digits_more (d ∷ ds) c h k = (h.0, digits_more ds c h.1 k)
 
-le_of : (a b : ℕ) → nat_lt a b ≡ false → b ≤ a
-le_of a b h = grind (arith, nat_tests)
-
 if_aim : (P : Aim → Type 0) (b : Bool) (x y : Aim) → (b ≡ true → P x) → (b ≡ false → P y) → P (if b then x else y)
 if_aim P true x y f g = f refl
 if_aim P false x y f g = g refl
@@ -136,10 +129,6 @@ not_unset d s =
     if_aim P (nat_eq (d / 4096) 3) _ _ (λ g e. cc) (λ g.
     if_aim P (nat_eq (d / 4096) 0) _ _ (λ o e. cc) (λ o e.
     omega (arith, differs _ _ h, differs _ _ g, differs _ _ o, s.no_1, s.no_2, s.no_4, s.most))))
-
-and_false : (x : Bool) → (x && false) ≡ false
-and_false true = refl
-and_false false = refl
 
 module _ (z : Size) (words : List ℕ) (note : Note) (f : ℕ) (ds : List ℕ) (c : ℕ) (set : IsDirective note.directive) where
   abbrev begun : Bool → Begun
@@ -159,7 +148,7 @@ module _ (z : Size) (words : List ℕ) (note : Note) (f : ℕ) (ds : List ℕ) (
         refl,
         record {
           next = record { function = f; digits = ds ++ (c ∷ []); mark = false };
-          good = record { function = good.function; digits = digits_more ds c good.digits h; fits = rw n (le_of _ _ e) };
+          good = record { function = good.function; digits = digits_more ds c good.digits h; fits = rw n (not_lt_of _ _ e) };
           part_is = rw (n, empty_more ds c) refl;
           rows_are = ap (λ x. f ∷ x) (append-nil (ds ++ (c ∷ [])) ∙ ap (λ x. x ++ (c ∷ [])) (sym (append-nil ds)));
           cost_is = omega (arith, l);
@@ -174,7 +163,7 @@ module _ (z : Size) (words : List ℕ) (note : Note) (f : ℕ) (ds : List ℕ) (
     record {
       next = record { function = f; digits = ds; mark = true };
       good = record { function = good.function; digits = good.digits; fits = good.fits };
-      part_is = rw (and_false (is_empty ds)) refl;
+      part_is = rw (and-false (is_empty ds)) refl;
       rows_are =
           let mark = ap (λ x. ds ++ (x ∷ [])) (sym e) in
           ap (λ x. f ∷ x) (mark ∙ ap (λ x. x ++ (c ∷ [])) (sym (append-nil ds)));

@@ -67,7 +67,8 @@ module _ (z : Size) (words : List ℕ) where
       let e = ap (λ x. reading z words row cost note None x) (append_assoc (rows_of w) (spelled ws) rest) in
       rw (sym l, sym k) (e ∙ a.0 ∙ ih.0, ih.1)
 
-  last_read : (row cost : ℕ) (note : Note) (w : Written) (rest : List ℕ) → IsDirective note.directive → IsWritten w
+  -- the reader comes to the entry item
+  pub last_read : (row cost : ℕ) (note : Note) (w : Written) (rest : List ℕ) → IsDirective note.directive → IsWritten w
       → is_entry note (item w) ≡ true → IsSound z words note w
       → reading z words row cost note None (rows_of w ++ rest)
       ≡ Arrived (entry_by words (row + length (begun_rows w.begun)) (cost + begun_cost w.begun) note (as_part w.begun) w.end rest

@@ -1,7 +1,6 @@
 -- Whatever the reader answers, there are items that say so.
-use Rattle.std.proofs.Common.{◌≡◌, ℕ, ◌+◌, ◌<◌, refl, sym, ap, ◌∙◌, subst, arith, lit≤, Bool, true, false, nat_lt}
+use Rattle.std.proofs.Common.{◌≡◌, ℕ, ◌+◌, refl, sym, ap, ◌∙◌, subst, arith, lit≤, Bool, true, false, nat_lt}
 use Rattle.std.proofs.Common.{Option, Some, None, List, [], ◌∷◌, ◌++◌, length, length-append, append_assoc}
-use Rattle.std.proofs.lemmas.Bool.Decides.{nat_tests}
 use Rattle.ed_words.specs.declared.size.Size.{Size}
 use Rattle.ed_notation.specs.declared.cause.TapeCause.{TapeCause}
 use Rattle.ed_notation.specs.declared.cause.TapeCause.TheVariants.{EndOfTape, BadRow}
@@ -12,13 +11,11 @@ use Rattle.ed_notation.specs.Openings.{IsDirective}
 use Rattle.ed_notation.specs.Fold.{Note, act, is_entry, begun_cost, cost_of}
 use Rattle.ed_notation.specs.Faults.{breaks, broken, part_rows, IsPart, Entry, Breaks, ComesTo}
 use Rattle.ed_notation.specs.Reading.{set_by, placed_by, reading, Verdict, Faulty, Arrived}
-use Rattle.ed_notation.proofs.Rows.{RowLaw, Ends, as_part, causes}
+use Rattle.ed_notation.proofs.Rows.{RowLaw, EndsItem, as_part, causes}
 use Rattle.ed_notation.proofs.Directives.{KeepsDirective}
 use Rattle.ed_notation.proofs.Least.{found_is}
 use Rattle.ed_notation.proofs.Follow.{follow, seen, seen_keeps, law, reader_part, part_cost, function_read}
-
-lt_of : (a b : ℕ) → nat_lt a b ≡ true → a < b
-lt_of a b h = grind (arith, nat_tests)
+use Rattle.ed_words.proofs.Numbers.{lt_of}
 
 module _ (z : Size) (words : List ℕ) where
   pub record TellsFault (note : Note) (first : ℕ) (tape : List ℕ) (row : ℕ) (cause : TapeCause) : Type 0 where
@@ -106,7 +103,7 @@ module _ (z : Size) (words : List ℕ) where
   -- a row that ends an item that is no entry item
   by_end : (c : ℕ) (rows : List ℕ) (note : Note) (first base row cost n : ℕ) (b : Begun) (m : Note) → Told rows
       → IsDirective m.directive → IsBegun b → row ≡ first + length (begun_rows b) → cost ≡ base + begun_cost b
-      → Ends (row_kind c) words note b c m n
+      → EndsItem (row_kind c) words note b c m n
       → Tells note first base (begun_rows b ++ (c ∷ rows)) (reading z words (row + 1) (cost + n) m None rows)
   by_end c rows note first base row cost n b m told set good r k x =
       let w : Written = record { begun = b; end = c } in

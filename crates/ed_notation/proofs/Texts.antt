@@ -1,6 +1,6 @@
 -- The text of items spells their rows.
 use Rattle.std.proofs.Common.{◌≡◌, ℕ, ◌+◌, ◌-◌, ◌<◌, ◌≤◌, refl, sym, ap, ◌∙◌, arith, lit<, Bool, true, false, ◌&&◌, nat_eq}
-use Rattle.std.proofs.Common.{nat_lt, nat_le, if◌then◌else◌, List, [], ◌∷◌, ◌++◌, length, drop}
+use Rattle.std.proofs.Common.{nat_lt, nat_le, List, [], ◌∷◌, ◌++◌, length, drop}
 use Rattle.std.specs.Prelude.{Some}
 use Rattle.std.proofs.lemmas.Bool.Decides.{nat_tests}
 use Rattle.std.proofs.lemmas.List.{append-nil, drop_all}
@@ -14,6 +14,7 @@ use Rattle.ed_notation.specs.declared.item.Item.{Item}
 use Rattle.ed_notation.specs.declared.kind.RowKind.{RowKind}
 use Rattle.ed_notation.specs.Items.{row_kind, Begun, Written, mark_rows, begun_rows, rows_of, spelled, AreDigits, IsWritten, ends}
 use Rattle.ed_notation.specs.Spellings.{AreWritten, canonicals, line_from, text_of}
+use Rattle.ed_words.proofs.Numbers.{lt_of, eq_of, if_means}
 
 -- ---- bytes
 
@@ -23,9 +24,6 @@ digit_back code h =
     let b : nat_le (48 + code) 57 ≡ true = grind (arith, nat_tests) in
     let c : 48 + code - 48 ≡ code = omega arith in
     rw (a, b) (ap Some c)
-
-lt_of : (a b : ℕ) → nat_lt a b ≡ true → a < b
-lt_of a b h = grind (arith, nat_tests)
 
 as_digit_back : (code : ℕ) (t : Bool) → nat_lt code 10 ≡ t → code < 32 → row_of (byte_of code true) ≡ Some code
 as_digit_back code true e h = rw e (digit_back code (lt_of _ _ e))
@@ -54,13 +52,6 @@ mark_codes : (m : Bool) → AreCodes (mark_rows m)
 mark_codes true = (lit< tt, tt)
 mark_codes false = tt
 
-if_ends : (P : RowKind → Type 0) (b : Bool) (x y : RowKind) → (b ≡ true → P x) → (b ≡ false → P y) → P (if b then x else y)
-if_ends P true x y f g = f refl
-if_ends P false x y f g = g refl
-
-eq_of : (a b : ℕ) → nat_eq a b ≡ true → a ≡ b
-eq_of a b h = grind (arith, nat_tests)
-
 letter_low : (c : ℕ) → (nat_le 17 c && nat_lt c 32) ≡ true → c < 32
 letter_low c h = grind (arith, nat_tests)
 
@@ -68,12 +59,12 @@ letter_low c h = grind (arith, nat_tests)
 end_code : (b : Begun) (c : ℕ) → ends (row_kind c) b ≡ true → c < 32
 end_code b c =
     let P : RowKind → Type 0 = λ r. ends r b ≡ true → c < 32 in
-    if_ends P (nat_lt c 10) _ _ (λ h e. cc) (λ h.
-    if_ends P (nat_eq c 11) _ _ (λ h e. cc) (λ h.
-    if_ends P (nat_eq c 13) _ _ (λ h e. omega (arith, eq_of c 13 h)) (λ h.
-    if_ends P (nat_eq c 14) _ _ (λ h e. omega (arith, eq_of c 14 h)) (λ h.
-    if_ends P (nat_eq c 16) _ _ (λ h e. omega (arith, eq_of c 16 h)) (λ h.
-    if_ends P (nat_le 17 c && nat_lt c 32) _ _ (λ h e. letter_low c h) (λ h e. cc))))))
+    if_means P (nat_lt c 10) _ _ (λ h e. cc) (λ h.
+    if_means P (nat_eq c 11) _ _ (λ h e. cc) (λ h.
+    if_means P (nat_eq c 13) _ _ (λ h e. omega (arith, eq_of c 13 h)) (λ h.
+    if_means P (nat_eq c 14) _ _ (λ h e. omega (arith, eq_of c 14 h)) (λ h.
+    if_means P (nat_eq c 16) _ _ (λ h e. omega (arith, eq_of c 16 h)) (λ h.
+    if_means P (nat_le 17 c && nat_lt c 32) _ _ (λ h e. letter_low c h) (λ h e. cc))))))
 
 row_codes : (w : Written) → IsWritten w → AreCodes (rows_of w)
 row_codes w good =
@@ -95,7 +86,7 @@ text_spells (w ∷ ws) h =
     (line_spells false (rows_of w) (row_codes w h.0)) (text_spells ws h.1)
 
 pub text_reads : (ws : List Written) → AreWritten ws → reading (text_of ws) ≡ rows (spelled ws)
-text_reads ws h = has_one_reading.spelled (text_of ws) (spelled ws) (text_spells ws h)
+text_reads ws h = has_one_reading.only (text_of ws) (rows (spelled ws)) (text_spells ws h)
 
 -- behind the last line
 pub text_end : (is : List Item) (text : List ℕ) (k : ℕ) → length is ≤ k

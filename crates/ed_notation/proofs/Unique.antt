@@ -1,6 +1,6 @@
 -- No spelling of an item begins another one's.
 use Rattle.std.proofs.Common.{◌≡◌, ℕ, ◌≤◌, refl, sym, ap, ◌∙◌, arith, Bool, true, false, ◌&&◌, nat_eq, nat_lt}
-use Rattle.std.proofs.Common.{nat_le, if◌then◌else◌, List, [], ◌∷◌, ◌++◌, append_assoc}
+use Rattle.std.proofs.Common.{nat_le, List, [], ◌∷◌, ◌++◌, append_assoc}
 use Rattle.std.proofs.lemmas.Bool.Decides.{nat_tests}
 use Rattle.std.proofs.lemmas.List.{append-nil}
 use Rattle.ed_notation.specs.declared.item.Item.{Item}
@@ -8,13 +8,7 @@ use Rattle.ed_notation.specs.declared.kind.RowKind.{RowKind}
 use Rattle.ed_notation.specs.Items.{row_kind, Begun, Written, mark_rows, begun_rows, rows_of, spelled, AreDigits, IsWritten}
 use Rattle.ed_notation.specs.Items.{ends, item, items}
 use Rattle.ed_notation.specs.Spellings.{AreWritten, SpellsAll, NoSpellingBeginsAnother}
-
-if_ends : (P : RowKind → Type 0) (b : Bool) (x y : RowKind) → (b ≡ true → P x) → (b ≡ false → P y) → P (if b then x else y)
-if_ends P true x y f g = f refl
-if_ends P false x y f g = g refl
-
-eq_of : (a b : ℕ) → nat_eq a b ≡ true → a ≡ b
-eq_of a b h = grind (arith, nat_tests)
+use Rattle.ed_words.proofs.Numbers.{eq_of, if_means}
 
 letter_high : (c : ℕ) → (nat_le 17 c && nat_lt c 32) ≡ true → 17 ≤ c
 letter_high c h = grind (arith, nat_tests)
@@ -23,12 +17,12 @@ letter_high c h = grind (arith, nat_tests)
 ends_high : (b : Begun) (c : ℕ) → ends (row_kind c) b ≡ true → 13 ≤ c
 ends_high b c =
     let P : RowKind → Type 0 = λ r. ends r b ≡ true → 13 ≤ c in
-    if_ends P (nat_lt c 10) _ _ (λ h e. cc) (λ h.
-    if_ends P (nat_eq c 11) _ _ (λ h e. cc) (λ h.
-    if_ends P (nat_eq c 13) _ _ (λ h e. omega (arith, eq_of c 13 h)) (λ h.
-    if_ends P (nat_eq c 14) _ _ (λ h e. omega (arith, eq_of c 14 h)) (λ h.
-    if_ends P (nat_eq c 16) _ _ (λ h e. omega (arith, eq_of c 16 h)) (λ h.
-    if_ends P (nat_le 17 c && nat_lt c 32) _ _ (λ h e. omega (arith, letter_high c h)) (λ h e. cc))))))
+    if_means P (nat_lt c 10) _ _ (λ h e. cc) (λ h.
+    if_means P (nat_eq c 11) _ _ (λ h e. cc) (λ h.
+    if_means P (nat_eq c 13) _ _ (λ h e. omega (arith, eq_of c 13 h)) (λ h.
+    if_means P (nat_eq c 14) _ _ (λ h e. omega (arith, eq_of c 14 h)) (λ h.
+    if_means P (nat_eq c 16) _ _ (λ h e. omega (arith, eq_of c 16 h)) (λ h.
+    if_means P (nat_le 17 c && nat_lt c 32) _ _ (λ h e. omega (arith, letter_high c h)) (λ h e. cc))))))
 
 head_same : (a b : ℕ) (xs ys : List ℕ) → a ∷ xs ≡ b ∷ ys → a ≡ b
 head_same a b xs ys e = cc

@@ -1,0 +1,119 @@
+-- Items that place words one after the other, as the fold takes them: a segment's words, a routine, a whole tape.
+use Rattle.std.proofs.Common.{◌≡◌, ℕ, zero, suc, ◌+◌, ◌*◌, ◌<◌, ◌≤◌, refl, sym, ap, ◌∙◌, subst, arith, Bool, true, false, ◌&&◌, List, [], ◌∷◌, ◌++◌}
+use Rattle.std.proofs.Common.{length, get_or, set, take, drop}
+use Rattle.std.proofs.lemmas.Bool.{and_parts}
+use Rattle.std.proofs.lemmas.Bool.Decides.{nat_tests}
+use Rattle.std.proofs.lemmas.List.{get_or-set_other}
+use Rattle.ed_words.specs.declared.size.Size.{Size}
+use Rattle.ed_words.specs.Sizes.{locations}
+use Rattle.ed_notation.specs.declared.item.Item.{Item}
+use Rattle.ed_notation.specs.declared.kind.RowKind.{RowKind}
+use Rattle.ed_notation.specs.declared.kind.RowKind.TheVariants.{Digit, Mark, Zed, Kay, Blank, Letter, Other}
+use Rattle.ed_notation.specs.Items.{row_kind}
+use Rattle.ed_notation.specs.Fold.{Note, over, value_of, word_with, item_word, begun_cost}
+use Rattle.ed_notation.specs.Spellings.{canonical, is_spellable}
+use Rattle.ed_notation.proofs.Contents.{length-over}
+use Rattle.ed_notation.proofs.Steps.{Reads, reads_none, reads_one, placing, placing_cost}
+
+-- a code letter
+abbrev pub is_letter : RowKind → Bool
+is_letter Letter = true
+is_letter kind = false
+
+-- items that can be spelled and end with a code letter
+abbrev pub all_letters : List Item → Bool
+all_letters [] = true
+all_letters (i ∷ is) = (is_spellable i && is_letter (row_kind i.end)) && all_letters is
+
+letter_of : (k : RowKind) → is_letter k ≡ true → k ≡ Letter
+letter_of Letter h = refl
+letter_of Digit h = cc
+letter_of Mark h = cc
+letter_of Zed h = cc
+letter_of Kay h = cc
+letter_of Blank h = cc
+letter_of Other h = cc
+
+code_of : (c : ℕ) → row_kind c ≡ Letter → c < 32
+code_of c h = grind (arith, nat_tests)
+
+-- the words that items place, by θ and by what stands below 56, where the values of the letters are
+abbrev pub block : List ℕ → ℕ → List Item → List ℕ
+block contents theta [] = []
+block contents theta (i ∷ is) = word_with i.function i.number i.mark (value_of contents theta i.end) ∷ block contents theta is
+
+-- words placed one after the other from a place on
+abbrev pub laid : ℕ → List ℕ → List (ℕ × ℕ) → List (ℕ × ℕ)
+laid a [] placed = placed
+laid a (w ∷ ws) placed = laid (a + 1) ws ((a, w) ∷ placed)
+
+-- the orders that read items which place words
+abbrev pub block_cost : List Item → ℕ
+block_cost [] = 0
+block_cost (i ∷ is) = begun_cost (canonical i).begun + 17 + block_cost is
+
+-- a store with words laid over it from a place on
+abbrev pub with_block : List ℕ → ℕ → List ℕ → List ℕ
+with_block words a ws = take a words ++ (ws ++ drop (a + length ws) words)
+
+set_block : (xs : List ℕ) (a w : ℕ) (ws : List ℕ) → a < length xs → with_block (set xs a w) (a + 1) ws ≡ with_block xs a (w ∷ ws)
+set_block [] a w ws h = absurd (omega arith)
+set_block (x ∷ xs) zero w ws h =
+    let e : 0 + 1 + length ws ≡ suc (length ws) = omega arith in
+    let f : 0 + suc (length ws) ≡ suc (length ws) = omega arith in
+    rw (e, f) refl
+set_block (x ∷ xs) (suc a) w ws h =
+    let b : suc a + 1 ≡ suc (a + 1) = omega arith in
+    let e : suc (a + 1) + length ws ≡ suc (a + 1 + length ws) = omega arith in
+    let f : suc a + suc (length ws) ≡ suc (a + suc (length ws)) = omega arith in
+    rw (b, e, f) (ap (λ l. x ∷ l) (set_block xs a w ws (omega arith)))
+
+none_laid : (xs : List ℕ) (a : ℕ) → a ≤ length xs → with_block xs a [] ≡ xs
+none_laid xs zero h = refl
+none_laid [] (suc a) h = absurd (omega arith)
+none_laid (x ∷ xs) (suc a) h = let e : suc a + 0 ≡ suc (a + 0) = omega arith in rw e (ap (λ l. x ∷ l) (none_laid xs a (omega arith)))
+
+-- words laid one after the other stand so in the store
+pub over_laid : (words : List ℕ) (a : ℕ) (ws : List ℕ) (placed : List (ℕ × ℕ)) → a + length ws ≤ length words
+    → over (laid a ws placed) words ≡ with_block (over placed words) a ws
+over_laid words a [] placed h = sym (none_laid (over placed words) a (omega (arith, length-over placed words)))
+over_laid words a (w ∷ ws) placed h =
+    over_laid words (a + 1) ws ((a, w) ∷ placed) (omega arith)
+    ∙ set_block (over placed words) a w ws (omega (arith, length-over placed words))
+
+value_same : (xs ys : List ℕ) (theta c : ℕ) → c < 32 → ((j : ℕ) → j < 56 → get_or ys j 0 ≡ get_or xs j 0)
+    → value_of ys theta c ≡ value_of xs theta c
+value_same xs ys theta c h same = let e = same (24 + c) (omega arith) in rw e refl
+
+-- the state behind items that place words
+abbrev pub behind : List ℕ → Note → ℕ → List Item → Note
+behind contents note a is = record {
+  directive = 20480 + 2 * (a + length is);
+  theta = note.theta;
+  placed = laid a (block contents note.theta is) note.placed;
+}
+
+-- items that place words under T a K, from 56 on, are read without a fault and place their words in a row; `contents` is
+-- what stands below 56
+pub placing_all : (z : Size) (words contents : List ℕ) (note : Note) (a : ℕ) (is : List Item) → all_letters is ≡ true
+    → note.directive ≡ 20480 + 2 * a → 56 ≤ a → a + length is ≤ locations z
+    → ((j : ℕ) → j < 56 → get_or (over note.placed words) j 0 ≡ get_or contents j 0)
+    → Reads z words note is (behind contents note a is) (block_cost is)
+placing_all z words contents note a [] h d low fits same =
+    let e : a + 0 ≡ a = omega arith in
+    let is : note ≡ behind contents note a [] = rw e (λ k. record { directive = d k; theta = note.theta; placed = note.placed }) in
+    subst (λ (n : Note). Reads z words note [] n 0) is (reads_none z words note)
+placing_all z words contents note a (i ∷ is) h d low fits same =
+    let p = and_parts (is_spellable i && is_letter (row_kind i.end)) (all_letters is) h in
+    let q = and_parts (is_spellable i) (is_letter (row_kind i.end)) p.0 in
+    let k : row_kind i.end ≡ Letter = letter_of (row_kind i.end) q.1 in
+    let below : a < locations z = omega arith in
+    let word : ℕ = word_with i.function i.number i.mark (value_of contents note.theta i.end) in
+    let next : Note = record { directive = 20480 + 2 * (a + 1); theta = note.theta; placed = (a, word) ∷ note.placed } in
+    let value = value_same contents (over note.placed words) note.theta i.end (code_of i.end k) same in
+    let word_is : item_word words note i ≡ word = ap (λ v. word_with i.function i.number i.mark v) value in
+    let rest = placing_all z words contents next (a + 1) is p.1 refl (omega arith) (omega arith)
+    (λ j l. get_or-set_other (over note.placed words) a j word 0 (omega arith) ∙ same j l) in
+    let n : a + suc (length is) ≡ a + 1 + length is = omega arith in
+    let cost = placing_cost z words note i a k d below in
+    rw (n, sym cost) (reads_one z words note next i is _ _ q.0 (placing z words note i a word k d (omega arith) below word_is) rest)
