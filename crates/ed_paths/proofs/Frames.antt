@@ -1,0 +1,90 @@
+-- The state of the machine as a piece of code sees it: its own words and sandwich digits as a window on the store, and the
+-- registers as plain numbers.
+use Rattle.std.proofs.Common.{◌≡◌, ℕ, ◌+◌, ◌*◌, ◌/◌, ◌^◌, ◌<◌, ◌≤◌, refl, arith, Bool, false, ◌⊎◌, inl, inr, List, [], ◌∷◌, Option}
+use Rattle.std.proofs.Common.{length, set, get_or}
+use Rattle.ed_words.specs.declared.size.Size.{Size}
+use Rattle.ed_words.specs.Sizes.{locations}
+use Rattle.ed_store.specs.Cells.{Cells}
+use Rattle.ed_machine.specs.State.{State}
+use Rattle.ed_paths.proofs.Window.{patched, get_below, set_below, get_above, set_above}
+
+-- the accumulator that holds a short number at its top, and a long one
+abbrev pub short : ℕ → ℕ
+short x = x * 2 ^ 54
+
+abbrev pub long : ℕ → ℕ
+long x = x * 2 ^ 36
+
+-- where a piece of n cells stands; h is the first of its pairs whose sandwich digits it changes
+pub record Frame (n h : ℕ) : Type 0 where
+  pub size : Size
+  pub base : ℕ
+  -- its orders reach only locations below this place
+  pub top : ℕ
+  pub under : base + n ≤ top
+  pub fits : top ≤ locations size
+
+-- what varies: the store around the piece, its own words and sandwich digits, and the registers
+pub record Moment : Type 0 where
+  pub words : List ℕ
+  pub digits : List Bool
+  pub cells : List ℕ
+  pub pairs : List Bool
+  pub acc : ℕ
+  pub multiplier : ℕ
+  pub counter : ℕ
+  pub tape : List ℕ
+  pub last : Option ℕ
+
+abbrev pub all_words : {n h : ℕ} → Frame n h → Moment → List ℕ
+all_words f r = patched 0 r.words f.base r.cells
+
+-- the sandwich digits with those of the piece's pairs, if it has any
+abbrev pub all_digits : List Bool → ℕ → List Bool → List Bool
+all_digits ds b [] = ds
+all_digits ds b (c ∷ cs) = patched false ds b (c ∷ cs)
+
+abbrev pub store : {n h : ℕ} → Frame n h → Moment → Cells
+store {n} {h} f r = record { words = all_words f r; sandwich = all_digits r.digits (f.base / 2 + h) r.pairs }
+
+-- the machine at a moment, after k orders
+abbrev pub state : {n h : ℕ} → Frame n h → Moment → ℕ → State
+state f r k = record {
+  size = f.size;
+  store = store f r;
+  acc = r.acc;
+  multiplier = r.multiplier;
+  counter = r.counter;
+  tape = r.tape;
+  last = r.last;
+  orders = k;
+}
+
+-- a place of a list that a window of so many items at a base leaves alone
+abbrev pub Beside : {A : Type 0} → List A → ℕ → ℕ → ℕ → Type 0
+Beside xs base count i = ((i < base) × (i < length xs)) ⊎ (base + count ≤ i)
+
+-- what stands there, and what is written there
+module _ {A : Type 0} (d : A) (xs : List A) (b : ℕ) (cs : List A) (i : ℕ) where
+  pub get_beside : Beside xs b (length cs) i → get_or (patched d xs b cs) i d ≡ get_or xs i d
+  get_beside (inl l) = get_below d xs b cs i l.0
+  get_beside (inr g) = get_above d xs b cs i g
+
+  pub set_beside : (v : A) → Beside xs b (length cs) i → set (patched d xs b cs) i v ≡ patched d (set xs i v) b cs
+  set_beside v (inl l) = set_below d xs b cs i v l.0 l.1
+  set_beside v (inr g) = set_above d xs b cs i v g
+
+pub some_digits : (ds : List Bool) (b : ℕ) (cs : List Bool) → 0 < length cs → all_digits ds b cs ≡ patched false ds b cs
+some_digits ds b [] h = absurd (omega arith)
+some_digits ds b (c ∷ cs) h = refl
+
+-- the digit of another pair
+pub get_digit : (ds : List Bool) (b : ℕ) (cs : List Bool) (p : ℕ) → Beside ds b (length cs) p
+    → get_or (all_digits ds b cs) p false ≡ get_or ds p false
+get_digit ds b [] p a = refl
+get_digit ds b (c ∷ cs) p a = get_beside false ds b (c ∷ cs) p a
+
+pub set_digit : (ds : List Bool) (b : ℕ) (cs : List Bool) (p : ℕ) (v : Bool) → Beside ds b (length cs) p
+    → set (all_digits ds b cs) p v ≡ all_digits (set ds p v) b cs
+set_digit ds b [] p v a = refl
+set_digit ds b (c ∷ cs) p v a = set_beside false ds b (c ∷ cs) p v a

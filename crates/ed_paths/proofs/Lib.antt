@@ -1,0 +1,11 @@
+pub mod Window
+pub mod Sums
+pub mod Frames
+pub mod Places
+pub mod Orders
+pub mod Shifts
+pub mod Moves
+pub mod Leads
+pub mod Paths
+pub mod Standing
+pub mod Newline

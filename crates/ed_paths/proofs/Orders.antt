@@ -1,0 +1,186 @@
+-- One order of a piece: the word at its cell, the place that it names, and the step of the machine that it is.
+use Rattle.std.proofs.Common.{◌≡◌, ℕ, ◌+◌, ◌*◌, ◌/◌, ◌%◌, ◌<◌, ◌≤◌, refl, sym, ap, ◌∙◌, subst, true≢false, arith, Bool, true, false, ◌&&◌}
+use Rattle.std.proofs.Common.{nat_lt, nat_eq, Some, get_or, length}
+use Rattle.std.proofs.lemmas.Bool.{and_parts}
+use Rattle.std.proofs.lemmas.Bool.Decides.{nat_tests}
+use Rattle.ed_words.specs.Sizes.{locations, within}
+use Rattle.ed_words.specs.Words.{function_of, address_of, is_long, is_spare, digit}
+use Rattle.ed_words.proofs.SizeLemmas.{most, within_below}
+use Rattle.ed_orders.specs.Kinds.{kind_of_function}
+use Rattle.ed_orders.specs.declared.kind.Kind.{Kind}
+use Rattle.ed_orders.specs.declared.kind.Kind.TheVariants.{R, L, E, G, F, X, Y, Z}
+use Rattle.ed_machine.specs.State.{State}
+use Rattle.ed_machine.specs.OrderTable.{obey, step, next_word}
+use Rattle.ed_machine.specs.declared.turn.Turn.{Turn}
+use Rattle.ed_paths.proofs.Window.{get_own}
+use Rattle.ed_words.proofs.Numbers.{lt_of, eq_of}
+use Rattle.ed_paths.proofs.Frames.{Frame, Moment, all_words, state}
+use Rattle.ed_paths.proofs.Places.{Place, address, is_pair, is_there, near}
+
+-- whether an order of a kind names a location, whether it jumps to it, and whether it is F
+abbrev pub names : Kind → Bool
+names R = false
+names L = false
+names X = false
+names Y = false
+names Z = false
+names kind = true
+
+abbrev pub jumps : Kind → Bool
+jumps E = true
+jumps G = true
+jumps kind = false
+
+abbrev pub is_F : Kind → Bool
+is_F F = true
+is_F kind = false
+
+-- an order that names a location below a place
+pub record IsNear (top w : ℕ) : Type 0 where
+  pub plain : is_spare w ≡ false
+  pub below : address_of w < top
+
+-- what holds before an order of a path: it is of the kind, no F, and neither it nor what it names is from the place on
+pub record IsOrder (top : ℕ) (kind : Kind) (s : State) : Type 0 where
+  pub fits : top ≤ locations s.size
+  pub counter : s.counter < top
+  pub kind_is : kind_of_function (function_of (next_word s)) ≡ Some kind
+  pub near : names kind ≡ true → IsNear top (next_word s)
+  pub short : jumps kind ≡ true → is_long (next_word s) ≡ false
+  pub no_F : is_F kind ≡ false
+
+-- an order of a kind leads from one moment to another
+pub record Does {n h : ℕ} (f : Frame n h) (kind : Kind) (r : Moment) (turn : Turn) (t : Moment) : Type 0 where
+  pub does : (k : ℕ) → step (state f r k) ≡ record { state = state f t (k + 1); turn = turn }
+  pub order : (k : ℕ) → IsOrder f.top kind (state f r k)
+
+-- the word at the counter, where it is known otherwise than by computation
+pub word_is : {c v w : ℕ} {a b : Bool} → v ≡ w → ◌≡◌ {A = ℕ × (ℕ × (Bool × Bool))} (c, (v, (a, b))) (c, (w, (a, b)))
+word_is {c} {a = a} {b = b} e = λ i. (c, (e i, (a, b)))
+
+-- that a place is the piece's, where it is known otherwise
+pub there_is : {c w : ℕ} {a b : Bool} → b ≡ true → ◌≡◌ {A = ℕ × (ℕ × (Bool × Bool))} (c, (w, (a, b))) (c, (w, (a, true)))
+there_is {c} {w} {a} e = λ i. (c, (w, (a, e i)))
+
+-- the word of an order with no spare digit, by its function and address
+abbrev word_by : ℕ → Bool → ℕ → ℕ
+word_by g long a = 4096 * g + digit long + 2 * a
+
+long_by : (g a : ℕ) (long : Bool) → is_long (word_by g long a) ≡ long
+long_by g a true = grind (arith, nat_tests)
+long_by g a false = grind (arith, nat_tests)
+
+fields_by : (g a : ℕ) (long : Bool) → a < 1024 → (function_of (word_by g long a) ≡ g) × (address_of (word_by g long a) ≡ a)
+fields_by g a true h = (omega arith, omega arith)
+fields_by g a false h = (omega arith, omega arith)
+
+plain_by : (g a : ℕ) (long : Bool) → a < 1024 → is_spare (word_by g long a) ≡ false
+plain_by g a true h = let e : (4096 * g + 1 + 2 * a) / 2048 % 2 ≡ 0 = omega arith in rw e refl
+plain_by g a false h = let e : (4096 * g + 0 + 2 * a) / 2048 % 2 ≡ 0 = omega arith in rw e refl
+
+-- an order that jumps does so at a short place
+short_by : (a b c : Bool) → (a && (b && c)) ≡ false → a ≡ true → b ≡ true → c ≡ false
+short_by a b c e x y = grind arith
+
+module _ {n h : ℕ} (f : Frame n h) (r : Moment) where
+  -- the counter is at cell i, the word w stands there, and a test holds
+  abbrev pub Stands : ℕ → ℕ → Bool → Type 0
+  Stands i w test = ◌≡◌ {A = ℕ × (ℕ × (Bool × Bool))}
+      (r.counter, (get_or r.cells i 0, (nat_lt (i + 1) n && nat_eq (length r.cells) n, test)))
+      (f.base + i, (w, (true, true)))
+
+  -- the order with the function g that names the place stands there; a further test holds
+  abbrev pub Names : ℕ → ℕ → Place f r → Bool → Type 0
+  Names i g p more = Stands i (4096 * g + digit (is_pair f r p) + 2 * address f r p) (more && is_there f r p)
+
+  -- what the word at the counter is
+  pub record IsWord (kind : Kind) (w next : ℕ) : Type 0 where
+    pub here : get_or (all_words f r) r.counter 0 ≡ w
+    pub kind_is : kind_of_function (function_of w) ≡ Some kind
+    pub after : within f.size (r.counter + 1) ≡ next
+    pub low : r.counter < f.top
+    pub all : length r.cells ≡ n
+
+  pub word : (i w : ℕ) (test : Bool) (kind : Kind) → Stands i w test → kind_of_function (function_of w) ≡ Some kind
+      → IsWord kind w (f.base + (i + 1))
+  word i w test kind e is =
+      let tests = and_parts (nat_lt (i + 1) n) (nat_eq (length r.cells) n) (ap (λ x. x.1.1.0) e) in
+      let at : r.counter ≡ f.base + i = ap (λ x. x.0) e in
+      let second = lt_of (i + 1) n tests.0 in
+      let all = eq_of (length r.cells) n tests.1 in
+      let inside : i < length r.cells = omega (arith, all, second) in
+      let next : r.counter + 1 ≡ f.base + (i + 1) = omega (arith, at) in
+      record {
+        here = ap (λ x. get_or (all_words f r) x 0) at ∙ get_own 0 r.words f.base r.cells i inside ∙ ap (λ x. x.1.0) e;
+        kind_is = is;
+        after = ap (within f.size) next ∙ within_below f.size (f.base + (i + 1)) (omega (arith, f.under, f.fits, second));
+        low = omega (arith, f.under, second, at);
+        all = all;
+      }
+
+  pub obeyed : (kind : Kind) (w next k : ℕ) → IsWord kind w next → step (state f r k) ≡ obey kind w (state f r k)
+  unfolding step
+  obeyed kind w next k o = rw (o.here, o.kind_is) refl
+
+  -- what it names
+  pub record Named (kind : Kind) (p : Place f r) (more : Bool) (next : ℕ) : Type 0 where
+    pub w : ℕ
+    pub is : IsWord kind w next
+    pub place : within f.size (address_of w) ≡ address f r p
+    pub long : is_long w ≡ is_pair f r p
+    pub there : is_there f r p ≡ true
+    pub more_is : more ≡ true
+    pub reaches : IsNear f.top w
+
+  pub named : (i g : ℕ) (kind : Kind) (p : Place f r) (more : Bool) → Names i g p more → kind_of_function g ≡ Some kind
+      → Named kind p more (f.base + (i + 1))
+  named i g kind p more e is =
+      let w : ℕ = 4096 * g + digit (is_pair f r p) + 2 * address f r p in
+      let tests = and_parts more (is_there f r p) (ap (λ x. x.1.1.1) e) in
+      let below = near f r p tests.1 in
+      let small : address f r p < 1024 = omega (arith, below, f.fits, most f.size) in
+      let x = fields_by g (address f r p) (is_pair f r p) small in
+      record {
+        w = w;
+        is = word i w (more && is_there f r p) kind e (ap kind_of_function x.0 ∙ is);
+        place = ap (within f.size) x.1 ∙ within_below f.size (address f r p) (omega (arith, below, f.fits));
+        long = long_by g (address f r p) (is_pair f r p);
+        there = tests.1;
+        more_is = tests.0;
+        reaches = record { plain = plain_by g (address f r p) (is_pair f r p) small; below = rw x.1 below };
+      }
+
+  order_of : (kind : Kind) {w next : ℕ} → is_F kind ≡ false → IsWord kind w next → (names kind ≡ true → IsNear f.top w)
+      → (jumps kind ≡ true → is_long w ≡ false) → (k : ℕ) → IsOrder f.top kind (state f r k)
+  order_of kind no_F o near short k = record {
+    fits = f.fits;
+    counter = o.low;
+    kind_is = ap (λ x. kind_of_function (function_of x)) o.here ∙ o.kind_is;
+    near = λ e. subst (IsNear f.top) (sym o.here) (near e);
+    short = λ e. subst (λ x. is_long x ≡ false) (sym o.here) (short e);
+    no_F = no_F;
+  }
+
+  -- an order that names a place
+  pub by_place : (i g : ℕ) (kind : Kind) (p : Place f r) (more : Bool) (turn : Turn) (t : Moment) → Names i g p more
+      → kind_of_function g ≡ Some kind → is_F kind ≡ false → (jumps kind && (more && is_pair f r p)) ≡ false
+      → ((o : Named kind p more (f.base + (i + 1))) (k : ℕ) → obey kind o.w (state f r k) ≡ record { state = state f t (k + 1); turn = turn })
+      → Does f kind r turn t
+  by_place i g kind p more turn t e is no_F short does =
+      let o = named i g kind p more e is in
+      record {
+        does = λ k. obeyed kind o.w (f.base + (i + 1)) k o.is ∙ does o k;
+        order = order_of kind no_F o.is (λ x. o.reaches) (λ x. o.long ∙ short_by (jumps kind) more (is_pair f r p) short x o.more_is);
+      }
+
+  -- an order of which the whole word counts
+  pub by_word : (i w : ℕ) (kind : Kind) (turn : Turn) (t : Moment) → Stands i w true → kind_of_function (function_of w) ≡ Some kind
+      → names kind ≡ false → jumps kind ≡ false → is_F kind ≡ false
+      → ((o : IsWord kind w (f.base + (i + 1))) (k : ℕ) → obey kind w (state f r k) ≡ record { state = state f t (k + 1); turn = turn })
+      → Does f kind r turn t
+  by_word i w kind turn t e is none stays no_F does =
+      let o = word i w true kind e is in
+      record {
+        does = λ k. obeyed kind w (f.base + (i + 1)) k o ∙ does o k;
+        order = order_of kind no_F o (λ x. absurd (true≢false (sym x ∙ none))) (λ x. absurd (true≢false (sym x ∙ stays)));
+      }

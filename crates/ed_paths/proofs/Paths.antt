@@ -1,0 +1,100 @@
+-- A path: orders one after the other, and the orders of the machine that it is.
+use Rattle.std.proofs.Common.{◌≡◌, ℕ, zero, suc, ◌+◌, ◌<◌, refl, sym, ap, ◌∙◌, subst, arith, true, List, [], ◌∷◌, ◌++◌, append_assoc}
+use Rattle.std.proofs.Common.{append-nil}
+use Rattle.ed_orders.specs.declared.kind.Kind.{Kind}
+use Rattle.ed_machine.specs.State.{State}
+use Rattle.ed_machine.specs.OrderTable.{Obeyed, step}
+use Rattle.ed_machine.specs.Steps.{past, state_after, codes_of}
+use Rattle.ed_machine.specs.declared.turn.Turn.{Turn}
+use Rattle.ed_machine.specs.declared.turn.Turn.TheVariants.{Went, Printed}
+use Rattle.ed_paths.proofs.Leads.{Leads, goes_on}
+use Rattle.ed_paths.proofs.Frames.{Frame, Moment, state}
+use Rattle.ed_paths.proofs.Orders.{Does, IsOrder}
+
+-- k orders lead from one moment to another and print the codes: each goes on at the next, or prints its code and goes on
+pub data Path {n h : ℕ} (f : Frame n h) : ℕ → Moment → List ℕ → Moment → Type 0 where
+  stay : {r : Moment} → Path f 0 r [] r
+  on : {k : ℕ} {kind : Kind} {r m t : Moment} {cs : List ℕ} → Does f kind r Went m → Path f k m cs t → Path f (suc k) r cs t
+  prints : {k c : ℕ} {kind : Kind} {r m t : Moment} {cs : List ℕ} → Does f kind r (Printed c) m → Path f k m cs t
+      → Path f (suc k) r (c ∷ cs) t
+
+-- two paths make one
+pub followed : {n h : ℕ} {f : Frame n h} {a b : ℕ} {r m t : Moment} {cs ds : List ℕ} → Path f a r cs m → Path f b m ds t
+    → Path f (a + b) r (cs ++ ds) t
+followed {b = b} stay next = let e : 0 + b ≡ b = omega arith in rw e next
+followed {b = b} (on {k = k} first rest) next =
+    let e : suc k + b ≡ suc (k + b) = omega arith in rw e (on first (followed rest next))
+followed {b = b} (prints {k = k} first rest) next =
+    let e : suc k + b ≡ suc (k + b) = omega arith in rw e (prints first (followed rest next))
+
+-- the states after an order and after those behind it
+pub no_state : (s : State) → state_after 0 s ≡ s
+unfolding past
+no_state s = refl
+
+pub first_state : (k : ℕ) (s : State) → state_after (suc k) s ≡ state_after k (step s).state
+unfolding past
+first_state zero s = refl
+first_state (suc k) s = ap (λ (x : State). (step x).state) (first_state k s)
+
+first_codes : (k : ℕ) (s : State) → (past (suc k) s).codes ≡ codes_of (step s).turn ++ (past k (step s).state).codes
+unfolding past
+first_codes zero s = sym (append-nil (codes_of (step s).turn))
+first_codes (suc k) s =
+    ap (λ x. x ++ codes_of (step (state_after (suc k) s)).turn) (first_codes k s)
+    ∙ append_assoc (codes_of (step s).turn) (past k (step s).state).codes (codes_of (step (state_after (suc k) s)).turn)
+    ∙ ap (λ (x : State). codes_of (step s).turn ++ ((past k (step s).state).codes ++ codes_of (step x).turn)) (first_state k s)
+
+-- one order more, at the front
+preceded : (k : ℕ) (s m t : State) (w : Turn) (cs : List ℕ) → step s ≡ record { state = m; turn = w } → goes_on w ≡ true → Leads k m cs t
+    → Leads (suc k) s (codes_of w ++ cs) t
+unfolding past
+preceded k s m t w cs first ok rest =
+    let a : (step s).state ≡ m = ap (λ (o : Obeyed). o.state) first in
+    let b : (step s).turn ≡ w = ap (λ (o : Obeyed). o.turn) first in
+    record {
+      state_is = first_state k s ∙ ap (state_after k) a ∙ rest.state_is;
+      codes_are = first_codes k s
+          ∙ ap (λ x. codes_of (step s).turn ++ (past k x).codes) a
+          ∙ ap (λ x. codes_of x ++ (past k m).codes) b
+          ∙ ap (λ x. codes_of w ++ x) rest.codes_are;
+      goes = later;
+    }
+  where
+    later : (j : ℕ) → j < suc k → goes_on (step (state_after j s)).turn ≡ true
+    later zero h = ap (λ (o : Obeyed). goes_on o.turn) first ∙ ok
+    later (suc j) h =
+        ap (λ (x : State). goes_on (step x).turn) (first_state j s ∙ ap (λ (o : Obeyed). state_after j o.state) first)
+        ∙ rest.goes j (omega arith)
+
+none : (s : State) → Leads 0 s [] s
+unfolding past
+none s = record { state_is = refl; codes_are = refl; goes = λ j h. absurd (omega arith) }
+
+-- a path leads the machine where it says, from any number of orders done
+pub leads : {n h : ℕ} {f : Frame n h} {k : ℕ} {r t : Moment} {cs : List ℕ} → Path f k r cs t
+    → (done : ℕ) → Leads k (state f r done) cs (state f t (done + k))
+leads {f = f} {t = t} stay done = let e : done + 0 ≡ done = omega arith in rw e (none (state f t done))
+leads {f = f} {t = t} (on {k = k} {r = r} {m = m} {cs = cs} first rest) done =
+    let e : done + suc k ≡ done + 1 + k = omega arith in
+    rw e (preceded k (state f r done) (state f m (done + 1)) (state f t (done + 1 + k)) _ cs (first.does done) refl (leads rest (done + 1)))
+leads {f = f} {t = t} (prints {k = k} {r = r} {m = m} {cs = cs} first rest) done =
+    let e : done + suc k ≡ done + 1 + k = omega arith in
+    rw e (preceded k (state f r done) (state f m (done + 1)) (state f t (done + 1 + k)) _ cs (first.does done) refl (leads rest (done + 1)))
+
+-- what holds before an order of any kind holds before every order of a path
+module _ {n h : ℕ} {f : Frame n h} (P : State → Type 0) (holds : (kind : Kind) (s : State) → IsOrder f.top kind s → P s) where
+  begins : {kind : Kind} {r m : Moment} {turn : Turn} → Does f kind r turn m → (done : ℕ) → P (state_after 0 (state f r done))
+  begins {kind} {r} first done = subst P (sym (no_state (state f r done))) (holds kind (state f r done) (first.order done))
+
+  behind : {kind : Kind} {r m : Moment} {turn : Turn} → Does f kind r turn m → (done j : ℕ) → P (state_after j (state f m (done + 1)))
+      → P (state_after (suc j) (state f r done))
+  behind {r = r} first done j =
+      subst P (sym (first_state j (state f r done) ∙ ap (λ (y : Obeyed). state_after j y.state) (first.does done)))
+
+  pub each : {k : ℕ} {r t : Moment} {cs : List ℕ} → Path f k r cs t → (done j : ℕ) → j < k → P (state_after j (state f r done))
+  each stay done j l = absurd (omega arith)
+  each (on first rest) done zero l = begins first done
+  each (on first rest) done (suc j) l = behind first done j (each rest (done + 1) j (omega arith))
+  each (prints first rest) done zero l = begins first done
+  each (prints first rest) done (suc j) l = behind first done j (each rest (done + 1) j (omega arith))

@@ -1,0 +1,218 @@
+-- Where an order of a piece reads, writes or jumps to, and what the store then holds.
+use Rattle.std.proofs.Common.{◌≡◌, ℕ, ◌+◌, ◌-◌, ◌*◌, ◌/◌, ◌%◌, ◌^◌, ◌<◌, ◌≤◌, refl, sym, ap, true≢false, arith, Bool, inl, true, false}
+use Rattle.std.proofs.Common.{◌&&◌}
+use Rattle.std.proofs.Common.{nat_lt, nat_eq, List, length, get_or, set}
+use Rattle.std.proofs.lemmas.Bool.{and_parts}
+use Rattle.std.proofs.lemmas.List.{length-set}
+use Rattle.ed_words.specs.Words.{joined}
+use Rattle.ed_machine.specs.OrderTable.{read_at, written_at}
+use Rattle.ed_paths.proofs.Window.{get_own, set_own}
+use Rattle.ed_words.proofs.Numbers.{lt_of, eq_of}
+use Rattle.ed_paths.proofs.Frames.{Frame, Moment, Beside, short, long, all_words, store, some_digits, get_digit, set_digit, get_beside}
+use Rattle.ed_paths.proofs.Frames.{set_beside}
+
+-- a location outside the piece
+pub record IsOutside {n h : ℕ} (f : Frame n h) (words : List ℕ) (q : ℕ) : Type 0 where
+  pub below : q < f.top
+  pub beside : Beside words f.base n q
+
+-- a pair of locations outside it, whose sandwich digit is none of the piece's m
+pub record IsPairOutside {n h : ℕ} (f : Frame n h) (words : List ℕ) (digits : List Bool) (m q : ℕ) : Type 0 where
+  pub even : q % 2 ≡ 0
+  pub below : q + 1 < f.top
+  pub low : Beside words f.base n q
+  pub high : Beside words f.base n (q + 1)
+  pub digit : Beside digits (f.base / 2 + h) m (q / 2)
+
+-- cell j; the long word of the cells j and j + 1, whose sandwich digit is the p-th of the piece's; a location outside;
+-- the long word of q and q + 1 outside; and a location anywhere, which can be read and jumped to, and is not written
+pub data Place {n h : ℕ} (f : Frame n h) (r : Moment) : Type 0 where
+  own : ℕ → Place f r
+  pair : (j p : ℕ) → f.base % 2 ≡ 0 → Place f r
+  out : (q : ℕ) → IsOutside f r.words q → Place f r
+  pair_out : (q : ℕ) → IsPairOutside f r.words r.digits (length r.pairs) q → Place f r
+  any : (q : ℕ) → q < f.top → Place f r
+
+-- the store around a piece, and its own words and digits
+pub record Held : Type 0 where
+  pub words : List ℕ
+  pub digits : List Bool
+  pub cells : List ℕ
+  pub pairs : List Bool
+
+-- a location below 56 is outside a piece that stands behind the Initial Orders
+pub early : {n h : ℕ} {f : Frame n h} {words : List ℕ} (q : ℕ) → 56 ≤ f.base → q < 56 → length words ≡ 1024 → IsOutside f words q
+early {f = f} q low l all = record { below = omega (arith, low, f.under); beside = inl (omega (arith, low), omega (arith, all)) }
+
+module _ {n h : ℕ} (f : Frame n h) (r : Moment) where
+  abbrev pub address : Place f r → ℕ
+  address (own j) = f.base + j
+  address (pair j p e) = f.base + j
+  address (out q a) = q
+  address (pair_out q a) = q
+  address (any q b) = q
+
+  abbrev pub is_pair : Place f r → Bool
+  is_pair (own j) = false
+  is_pair (pair j p e) = true
+  is_pair (out q a) = false
+  is_pair (pair_out q a) = true
+  is_pair (any q b) = false
+
+  -- whether the cell, or the pair of cells and its digit, is the piece's
+  abbrev pub is_there : Place f r → Bool
+  is_there (own j) = nat_lt j n
+  is_there (pair j p e) = nat_lt (j + 1) n && (nat_eq j (2 * (h + p)) && nat_lt p (length r.pairs))
+  is_there (out q a) = true
+  is_there (pair_out q a) = true
+  is_there (any q b) = true
+
+  abbrev pub is_written : Place f r → Bool
+  is_written (any q b) = false
+  is_written p = true
+
+  -- the 35 digits there
+  abbrev pub value : Place f r → ℕ
+  value (own j) = get_or r.cells j 0 * 2 ^ 18
+  value (pair j p e) = joined (get_or r.cells (j + 1) 0) (get_or r.pairs p false) (get_or r.cells j 0)
+  value (out q a) = get_or r.words q 0 * 2 ^ 18
+  value (pair_out q a) = joined (get_or r.words (q + 1) 0) (get_or r.digits (q / 2) false) (get_or r.words q 0)
+  value (any q b) = get_or (all_words f r) q 0 * 2 ^ 18
+
+  -- the accumulator that holds the number u for this place at its top
+  abbrev pub at_top : Place f r → ℕ → ℕ
+  at_top (own j) u = short u
+  at_top (pair j p e) u = long u
+  at_top (out q a) u = short u
+  at_top (pair_out q a) u = long u
+  at_top (any q b) u = short u
+
+  -- which of a short and a long number is written there
+  abbrev pub fitting : Place f r → ℕ → ℕ → ℕ
+  fitting (own j) s l = s
+  fitting (pair j p e) s l = l
+  fitting (out q a) s l = s
+  fitting (pair_out q a) s l = l
+  fitting (any q b) s l = s
+
+  -- what holds the number u once it is written there
+  abbrev pub holding : Place f r → ℕ → Held
+  holding (own j) u = record { words = r.words; digits = r.digits; cells = set r.cells j u; pairs = r.pairs }
+  holding (pair j p e) u = record {
+    words = r.words;
+    digits = r.digits;
+    cells = set (set r.cells j (u % 2 ^ 17)) (j + 1) (u / 2 ^ 18);
+    pairs = set r.pairs p (nat_eq (u / 2 ^ 17 % 2) 1);
+  }
+  holding (out q a) u = record { words = set r.words q u; digits = r.digits; cells = r.cells; pairs = r.pairs }
+  holding (pair_out q a) u = record {
+    words = set (set r.words q (u % 2 ^ 17)) (q + 1) (u / 2 ^ 18);
+    digits = set r.digits (q / 2) (nat_eq (u / 2 ^ 17 % 2) 1);
+    cells = r.cells;
+    pairs = r.pairs;
+  }
+  holding (any q b) u = record { words = r.words; digits = r.digits; cells = r.cells; pairs = r.pairs }
+
+  -- the moment with the number written there
+  abbrev pub put : Place f r → ℕ → Moment
+  put p u = record r {
+    words = (holding p u).words;
+    digits = (holding p u).digits;
+    cells = (holding p u).cells;
+    pairs = (holding p u).pairs;
+  }
+
+  pub fitted : (p : Place f r) (a u : ℕ) → a ≡ at_top p u → fitting p (a / 2 ^ 54) (a / 2 ^ 36) ≡ u
+  fitted (own j) a u e = omega arith
+  fitted (pair j p even) a u e = omega arith
+  fitted (out q a') a u e = omega arith
+  fitted (pair_out q a') a u e = omega arith
+  fitted (any q b) a u e = omega arith
+
+  -- a pair of the piece, and where it stands
+  record Paired (j p : ℕ) : Type 0 where
+    second : j + 1 < n
+    pair_is : j ≡ 2 * (h + p)
+    digit_is : p < length r.pairs
+
+  paired : (j p : ℕ) (even : f.base % 2 ≡ 0) → is_there (pair j p even) ≡ true → Paired j p
+  paired j p even e =
+      let c = and_parts (nat_lt (j + 1) n) (nat_eq j (2 * (h + p)) && nat_lt p (length r.pairs)) e in
+      let d = and_parts (nat_eq j (2 * (h + p))) (nat_lt p (length r.pairs)) c.1 in
+      record { second = lt_of (j + 1) n c.0; pair_is = eq_of j (2 * (h + p)) d.0; digit_is = lt_of p (length r.pairs) d.1 }
+
+  -- each place that an order names is below the top
+  pub near : (p : Place f r) → is_there p ≡ true → address p < f.top
+  near (own j) e = omega (arith, f.under, lt_of j n e)
+  near (pair j p even) e = omega (arith, f.under, (paired j p even e).second)
+  near (out q a) e = a.below
+  near (pair_out q a) e = omega (arith, a.below)
+  near (any q b) e = b
+
+  pub reads : (p : Place f r) → length r.cells ≡ n → is_there p ≡ true → read_at (is_pair p) (store f r) (address p) ≡ value p
+  reads (own j) all e =
+      let inside = lt_of j n e in
+      ap (λ x. x * 2 ^ 18) (get_own 0 r.words f.base r.cells j (omega (arith, all)))
+  reads (pair j p even) all e =
+      let o = paired j p even e in
+      let first : f.base + j - (f.base + j) % 2 ≡ f.base + j = omega (arith, o.pair_is) in
+      let second : f.base + j + 1 ≡ f.base + (j + 1) = omega arith in
+      let digit : (f.base + j) / 2 ≡ f.base / 2 + h + p = omega (arith, o.pair_is) in
+      rw (
+        some_digits r.digits (f.base / 2 + h) r.pairs (omega (arith, o.digit_is)),
+        first,
+        second,
+        digit,
+        get_own 0 r.words f.base r.cells j (omega (arith, o.second, all)),
+        get_own 0 r.words f.base r.cells (j + 1) (omega (arith, o.second, all)),
+        get_own false r.digits (f.base / 2 + h) r.pairs p o.digit_is,
+      ) refl
+  reads (out q a) all e = ap (λ x. x * 2 ^ 18) (get_beside 0 r.words f.base r.cells q (rw all a.beside))
+  reads (pair_out q a) all e =
+      let even = a.even in
+      let first : q - q % 2 ≡ q = omega arith in
+      rw (
+        first,
+        get_beside 0 r.words f.base r.cells q (rw all a.low),
+        get_beside 0 r.words f.base r.cells (q + 1) (rw all a.high),
+        get_digit r.digits (f.base / 2 + h) r.pairs (q / 2) a.digit,
+      ) refl
+  reads (any q b) all e = refl
+
+  pub writes : (p : Place f r) (s l : ℕ) → length r.cells ≡ n → is_there p ≡ true → is_written p ≡ true
+      → written_at (is_pair p) (store f r) (address p) s l ≡ store f (put p (fitting p s l))
+  writes (own j) s l all e w =
+      let inside = lt_of j n e in
+      rw (set_own 0 r.words f.base r.cells j s (omega (arith, all))) refl
+  writes (pair j p even) s l all e w =
+      let o = paired j p even e in
+      let first : f.base + j - (f.base + j) % 2 ≡ f.base + j = omega (arith, o.pair_is) in
+      let second : f.base + j + 1 ≡ f.base + (j + 1) = omega arith in
+      let digit : (f.base + j) / 2 ≡ f.base / 2 + h + p = omega (arith, o.pair_is) in
+      let b : Bool = nat_eq (l / 2 ^ 17 % 2) 1 in
+      let behind : j + 1 < length (set r.cells j (l % 2 ^ 17)) =
+      rw (length-set r.cells j (l % 2 ^ 17)) (omega (arith, o.second, all)) in
+      let some : 0 < length (set r.pairs p b) = omega (arith, length-set r.pairs p b, o.digit_is) in
+      rw (
+        some_digits r.digits (f.base / 2 + h) r.pairs (omega (arith, o.digit_is)),
+        some_digits r.digits (f.base / 2 + h) (set r.pairs p b) some,
+        first,
+        second,
+        digit,
+        set_own 0 r.words f.base r.cells j (l % 2 ^ 17) (omega (arith, o.second, all)),
+        set_own 0 r.words f.base (set r.cells j (l % 2 ^ 17)) (j + 1) (l / 2 ^ 18) behind,
+        set_own false r.digits (f.base / 2 + h) r.pairs p b o.digit_is,
+      ) refl
+  writes (out q a) s l all e w = rw (set_beside 0 r.words f.base r.cells q s (rw all a.beside)) refl
+  writes (pair_out q a) s l all e w =
+      let even = a.even in
+      let first : q - q % 2 ≡ q = omega arith in
+      let more : Beside (set r.words q (l % 2 ^ 17)) f.base (length r.cells) (q + 1) =
+      rw (length-set r.words q (l % 2 ^ 17), all) a.high in
+      rw (
+        first,
+        set_beside 0 r.words f.base r.cells q (l % 2 ^ 17) (rw all a.low),
+        set_beside 0 (set r.words q (l % 2 ^ 17)) f.base r.cells (q + 1) (l / 2 ^ 18) more,
+        set_digit r.digits (f.base / 2 + h) r.pairs (q / 2) (nat_eq (l / 2 ^ 17 % 2) 1) a.digit,
+      ) refl
+  writes (any q b) s l all e w = absurd (true≢false (sym w))
