@@ -10,10 +10,10 @@ use Rattle.ed_initial.specs.declared.resting.Rested.TheVariants.{Entered, At, Lo
 use Rattle.ed_initial.specs.Load.{enters}
 use Rattle.ed_initial.specs.Walks.{Event, Blocks, Enters, Rests, Sounds, Goes, event, event_by, is_rest, IsWalk, WalksTo, IsStray}
 use Rattle.ed_initial.specs.Walks.{blocked, sounded, too_long, WalkEnds, walked}
-use Rattle.ed_initial.proofs.Moves.{Frame, Run, state}
-use Rattle.ed_initial.proofs.Moves.{Enters as EntersBy}
-use Rattle.ed_initial.proofs.Paths.{Runs, stay, on, Path, ends}
-use Rattle.ed_initial.proofs.Goes.{after_sum, along, whole}
+use Rattle.ed_paths.proofs.Frames.{Moment}
+use Rattle.ed_paths.proofs.Paths.{first_state}
+use Rattle.ed_initial.proofs.Paths.{Kept, state, is_calm, Walk, stay, on, ToRest, ends, Enters as EntersBy}
+use Rattle.ed_initial.proofs.Goes.{along, whole, quiet, passes}
 
 -- what an order of a path does to a walk
 event_of : (s t : State) (jumps rests : Bool) → step s ≡ record { state = t; turn = Went } → enters s ≡ jumps → is_rest t.counter ≡ rests
@@ -21,16 +21,14 @@ event_of : (s t : State) (jumps rests : Bool) → step s ≡ record { state = t;
 event_of s t jumps rests does a b = rw (does, a, b) refl
 
 one_earlier : (j : ℕ) (s t : State) → step s ≡ record { state = t; turn = Went } → state_after (suc j) s ≡ state_after j t
-unfolding past
-one_earlier j s t does =
-    let e : suc j ≡ 1 + j = omega arith in
-    ap (λ x. state_after x s) e ∙ after_sum 1 j s ∙ ap (λ (x : Obeyed). state_after j x.state) does
+one_earlier j s t does = first_state j s ∙ ap (λ (x : Obeyed). state_after j x.state) does
 
-walk_along : {f : Frame} {k : ℕ} {r t : Run} → Runs f k r t → (o : ℕ) → IsWalk k (state f r o)
+walk_along : {f : Kept} {k : ℕ} {r t : Moment} → Walk f k r t → (o : ℕ) → IsWalk k (state f r o)
 unfolding past
 walk_along stay o j h = absurd (omega arith)
-walk_along {f} (on {r = r} {m = m} first away rest) o zero h =
-    event_of (state f r o) (state f m (o + 1)) false false (first.does o) (first.stays o) away
+walk_along {f} (on {kind = kind} {r = r} {m = m} first away rest) o zero h =
+    let p = passes (is_calm kind r.counter) m.counter away in
+    event_of (state f r o) (state f m (o + 1)) false false (first.does o) (quiet (state f r o) (first.order o) p.0) p.1
 walk_along {f} (on {r = r} {m = m} first away rest) o (suc j) h =
     ap event (one_earlier j (state f r o) (state f m (o + 1)) (first.does o)) ∙ walk_along rest (o + 1) j (omega arith)
 
@@ -92,21 +90,22 @@ enters_at s m walk last fits (Entered place k) h =
 enters_at s m walk last fits (Lost k) h = absurd (not_stray s m walk Enters last fits (λ x. cc) k (λ x. cc) (λ x. cc) h)
 
 -- a walk along a path
-pub walks_path : {f : Frame} {k : ℕ} {r t : Run} → Path f k r t → is_rest t.counter ≡ true → k ≤ 17 → (o : ℕ) (u : State) (res : Rested)
+pub walks_path : {f : Kept} {k : ℕ} {r t : Moment} → ToRest f k r t → is_rest t.counter ≡ true → k ≤ 17 → (o : ℕ) (u : State) (res : Rested)
     → WalkEnds (state f r o) res → u ≡ state_after (walked res) (state f r o) → (res ≡ At t.counter k) × (u ≡ state f t (o + k))
-walks_path {f} {t = t} (ends {k = k} {r = r} {m = m} runs last) rest most o u res h is =
+walks_path {f} {t = t} (ends {k = k} {r = r} {m = m} runs last calm) rest most o u res h is =
     let s = state f r o in
     let there = along runs o in
     let e : event (state_after k s) ≡ Rests =
     ap event there.state
-    ∙ event_of (state f m (o + k)) (state f t (o + k + 1)) false true (last.does (o + k)) (last.stays (o + k)) rest in
-    let end : state_after (suc k) s ≡ state f t (o + suc k) = (whole (ends runs last) o).state in
+    ∙ event_of (state f m (o + k)) (state f t (o + k + 1)) false true (last.does (o + k))
+    (quiet (state f m (o + k)) (last.order (o + k)) calm) rest in
+    let end : state_after (suc k) s ≡ state f t (o + suc k) = (whole (ends runs last calm) o).state in
     let a : res ≡ At (state_after (suc k) s).counter (suc k) = rests_at s k (walk_along runs o) e (omega arith) res h in
     let place : (state_after (suc k) s).counter ≡ t.counter = ap (λ (x : State). x.counter) end in
     (a ∙ (λ i. At (place i) (suc k)), is ∙ ap (λ x. state_after (walked x) s) a ∙ end)
 
 -- a walk that enters the program
-pub walks_in : {f : Frame} {k : ℕ} {r m t : Run} → Runs f k r m → EntersBy f m t → k < 17 → (o : ℕ) (u : State) (res : Rested)
+pub walks_in : {f : Kept} {k : ℕ} {r m t : Moment} → Walk f k r m → EntersBy f m t → k < 17 → (o : ℕ) (u : State) (res : Rested)
     → WalkEnds (state f r o) res → u ≡ state_after (walked res) (state f r o)
     → (res ≡ Entered t.counter (suc k)) × (u ≡ state f t (o + suc k))
 unfolding past

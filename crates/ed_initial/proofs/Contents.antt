@@ -1,33 +1,22 @@
 -- The words from 44 on, and the value of a code letter in the store.
-use Rattle.std.proofs.Common.{◌≡◌, ℕ, suc, ◌+◌, ◌-◌, ◌≤◌, refl, sym, ap, ◌∙◌, arith, inl}
-use Rattle.std.proofs.Common.{inr, List, [], ◌∷◌, ◌++◌, length, set, get_or, drop}
+use Rattle.std.proofs.Common.{◌≡◌, ℕ, suc, ◌+◌, ◌-◌, ◌≤◌, refl, ◌∙◌, arith, inl}
+use Rattle.std.proofs.Common.{inr, List, [], ◌∷◌, ◌++◌, length, get_or, drop}
 use Rattle.std.proofs.lemmas.Bool.{cases_eq}
-use Rattle.std.proofs.lemmas.List.{get_or-drop, drop-set-add}
+use Rattle.std.proofs.lemmas.List.{get_or-drop}
 use Rattle.ed_notation.specs.Fold.{value_of}
+use Rattle.ed_paths.proofs.Window.{patched}
 use Rattle.ed_initial.specs.Rests.{Working}
 use Rattle.ed_initial.proofs.Paths.{cells}
-use Rattle.ed_initial.proofs.Tests.{neq_of}
-
-set_after : (xs ys : List ℕ) (j v : ℕ) → set (xs ++ ys) (length xs + j) v ≡ xs ++ set ys j v
-set_after [] ys j v = let e : 0 + j ≡ j = omega arith in rw e refl
-set_after (x ∷ xs) ys j v = let e : suc (length xs) + j ≡ suc (length xs + j) = omega arith in rw (e, set_after xs ys j v) refl
+use Rattle.ed_words.proofs.Numbers.{eq_false}
 
 get_after : (xs ys : List ℕ) (j : ℕ) → get_or (xs ++ ys) (length xs + j) 0 ≡ get_or ys j 0
 get_after [] ys j = let e : 0 + j ≡ j = omega arith in rw e refl
 get_after (x ∷ xs) ys j = let e : suc (length xs) + j ≡ suc (length xs + j) = omega arith in rw (e, get_after xs ys j) refl
 
--- a word placed from 44 on
-pub placed : (w : Working) (contents : List ℕ) (a v : ℕ) → 44 ≤ a
-    → set (cells w (drop 44 contents)) a v ≡ cells w (drop 44 (set contents a v))
-placed w contents a v h =
-    let e : 44 + (a - 44) ≡ a = omega arith in
-    ap (λ x. set (cells w (drop 44 contents)) x v) (sym e)
-    ∙ set_after (cells w []) (drop 44 contents) (a - 44) v
-    ∙ ap (cells w) (sym (drop-set-add 44 contents (a - 44) v) ∙ ap (λ x. drop 44 (set contents x v)) e)
-
 -- what stands at the place of a code letter is its value: 0 at 41, θ at 42, 1 at 43, and a word of the program after them
 pub value_here : (w : Working) (contents : List ℕ) (c : ℕ) → 17 ≤ c → w.at41 ≡ 0 → w.at43 ≡ 1
-    → get_or (cells w (drop 44 contents)) (24 + c) 0 ≡ value_of contents w.at42 c
+    → get_or (patched 0 contents 0 (cells w)) (24 + c) 0 ≡ value_of contents w.at42 c
+unfolding patched
 value_here w contents c low at41 at43 =
     elim (cases_eq c 17) [
       | inl e ↦ rw e at41
@@ -39,11 +28,11 @@ value_here w contents c low at41 at43 =
                   | inl e ↦ rw e at43
                   | inr no19 ↦
                       let at : 24 + c ≡ 44 + (c - 20) = omega arith in
-                      let word : get_or (cells w (drop 44 contents)) (44 + (c - 20)) 0 ≡ get_or contents (44 + (c - 20)) 0 =
-                      get_after (cells w []) (drop 44 contents) (c - 20) ∙ get_or-drop 44 contents (c - 20) 0 in
-                      let t17 = neq_of c 17 no17 in
-                      let t18 = neq_of c 18 no18 in
-                      let t19 = neq_of c 19 no19 in
+                      let word : get_or (cells w ++ drop 44 contents) (44 + (c - 20)) 0 ≡ get_or contents (44 + (c - 20)) 0 =
+                      get_after (cells w) (drop 44 contents) (c - 20) ∙ get_or-drop 44 contents (c - 20) 0 in
+                      let t17 = eq_false c 17 no17 in
+                      let t18 = eq_false c 18 no18 in
+                      let t19 = eq_false c 19 no19 in
                       rw (t17, t18, t19, at) word
                 ]
           ]

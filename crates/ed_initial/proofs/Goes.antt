@@ -1,12 +1,35 @@
 -- From the paths of the listing to steps of the machine.
-use Rattle.std.proofs.Common.{◌≡◌, ℕ, suc, zero, ◌+◌, ◌-◌, ◌<◌, ◌≤◌, refl, sym, ap, ◌∙◌, subst, arith, inl, inr, ◌⊎◌}
+use Rattle.std.proofs.Common.{◌≡◌, ℕ, suc, zero, ◌+◌, ◌-◌, ◌<◌, ◌≤◌, ◌^◌, nat_lt, Some, refl, sym, ap, ◌∙◌, subst, arith, inl, inr, ◌⊎◌}
 use Rattle.std.proofs.lemmas.Bool.{cases_lt}
 use Rattle.ed_machine.specs.State.{State}
 use Rattle.ed_machine.specs.OrderTable.{Obeyed, step}
 use Rattle.ed_machine.specs.Steps.{state_after, past}
-use Rattle.ed_initial.specs.Load.{GoesOn, IsQuiet}
-use Rattle.ed_initial.proofs.Moves.{Frame, Run, Moves, state}
-use Rattle.ed_initial.proofs.Paths.{Runs, stay, on, Path, ends}
+use Rattle.std.proofs.Common.{Bool, true, false, ◌&&◌, not, nat_eq}
+use Rattle.std.proofs.lemmas.Bool.{and_parts}
+use Rattle.ed_orders.specs.declared.kind.Kind.{Kind}
+use Rattle.ed_paths.proofs.Frames.{Moment}
+use Rattle.ed_paths.proofs.Orders.{IsOrder}
+use Rattle.ed_paths.proofs.Moves.{Moves}
+use Rattle.ed_initial.specs.Load.{GoesOn, IsQuiet, enters, is_E}
+use Rattle.ed_initial.specs.Walks.{is_rest}
+use Rattle.ed_initial.proofs.Paths.{Kept, piece, state, is_calm, Walk, stay, on, ToRest, ends}
+
+both_not : (a b c : Bool) → not (b && a) ≡ true → (a && (b && c)) ≡ false
+both_not true true c h = cc
+both_not true false c h = refl
+both_not false b c h = refl
+
+not_so : (b : Bool) → not b ≡ true → b ≡ false
+not_so true h = cc
+not_so false h = refl
+
+-- an order that is quiet does not enter
+pub quiet : {top : ℕ} {kind : Kind} (s : State) → IsOrder top kind s → is_calm kind s.counter ≡ true → enters s ≡ false
+quiet {kind = kind} s o h = rw o.kind_is (both_not (nat_eq s.counter 22) (is_E (Some kind)) (nat_lt s.acc (2 ^ 70)) h)
+
+-- one that goes on comes to no rest
+pub passes : (q : Bool) (place : ℕ) → (q && not (is_rest place)) ≡ true → (q ≡ true) × (is_rest place ≡ false)
+passes q place h = let p = and_parts q (not (is_rest place)) h in (p.0, not_so (is_rest place) p.1)
 
 -- k orders that go on lead from one state to another
 pub record Goes (k : ℕ) (s t : State) : Type 0 where
@@ -23,13 +46,15 @@ pub none : (s : State) → Goes 0 s s
 unfolding past
 none s = record { state = refl; quiet = λ j h. absurd (omega arith) }
 
-pub one : (f : Frame) (r t : Run) (o : ℕ) → Moves f r t → Goes 1 (state f r o) (state f t (o + 1))
+pub one : (f : Kept) (kind : Kind) (r t : Moment) (o : ℕ) → Moves (piece f) kind r t → is_calm kind r.counter ≡ true
+    → Goes 1 (state f r o) (state f t (o + 1))
 unfolding past
-one f r t o m = record {
+one f kind r t o m q = record {
   state = ap (λ (x : Obeyed). x.state) (m.does o);
   quiet = λ j h.
       let e : 0 ≡ j = omega arith in
-      subst (λ x. GoesOn (state_after x (state f r o))) e (record { went = ap (λ (x : Obeyed). x.turn) (m.does o); stays = m.stays o });
+      let went = ap (λ (x : Obeyed). x.turn) (m.does o) in
+      subst (λ x. GoesOn (state_after x (state f r o))) e (record { went = went; stays = quiet (state f r o) (m.order o) q });
 }
 
 pub joined : (a b : ℕ) (s m t : State) → Goes a s m → Goes b m t → Goes (a + b) s t
@@ -46,15 +71,16 @@ joined a b s m t g h = record {
         ap (state_after (j - a)) (sym g.state) ∙ sym (after_sum a (j - a) s) ∙ ap (λ x. state_after x s) e in
         subst GoesOn same (h.quiet (j - a) (omega arith))
 
-pub along : {f : Frame} {k : ℕ} {r t : Run} → Runs f k r t → (o : ℕ) → Goes k (state f r o) (state f t (o + k))
+pub along : {f : Kept} {k : ℕ} {r t : Moment} → Walk f k r t → (o : ℕ) → Goes k (state f r o) (state f t (o + k))
 along {f} {t = t} stay o = let e : o + 0 ≡ o = omega arith in rw e (none (state f t o))
-along {f} {t = t} (on {k = k} {r = r} {m = m} first away rest) o =
+along {f} {t = t} (on {k = k} {kind = kind} {r = r} {m = m} first away rest) o =
     let e : o + suc k ≡ o + 1 + k = omega arith in
     let sum : suc k ≡ 1 + k = omega arith in
-    rw (e, sum) (joined 1 k (state f r o) (state f m (o + 1)) (state f t (o + 1 + k)) (one f r m o first) (along rest (o + 1)))
+    let calm = (passes (is_calm kind r.counter) m.counter away).0 in
+    rw (e, sum) (joined 1 k (state f r o) (state f m (o + 1)) (state f t (o + 1 + k)) (one f kind r m o first calm) (along rest (o + 1)))
 
-pub whole : {f : Frame} {k : ℕ} {r t : Run} → Path f k r t → (o : ℕ) → Goes k (state f r o) (state f t (o + k))
-whole {f} {t = t} (ends {k = k} {r = r} {m = m} runs last) o =
+pub whole : {f : Kept} {k : ℕ} {r t : Moment} → ToRest f k r t → (o : ℕ) → Goes k (state f r o) (state f t (o + k))
+whole {f} {t = t} (ends {k = k} {kind = kind} {r = r} {m = m} runs last calm) o =
     let e : o + suc k ≡ o + k + 1 = omega arith in
     let sum : suc k ≡ k + 1 = omega arith in
-    rw (e, sum) (joined k 1 (state f r o) (state f m (o + k)) (state f t (o + k + 1)) (along runs o) (one f m t (o + k) last))
+    rw (e, sum) (joined k 1 (state f r o) (state f m (o + k)) (state f t (o + k + 1)) (along runs o) (one f kind m t (o + k) last calm))

@@ -1,10 +1,10 @@
 -- What the Initial Orders do with a row inside an item is what the notation says of it: from one rest to the next, or to
 -- the entry. One lemma for each kind of row.
-use Rattle.std.proofs.Common.{◌≡◌, ℕ, ◌+◌, ◌*◌, ◌/◌, ◌%◌, ◌^◌, ◌<◌, ◌≤◌, refl, sym, ap, ◌∙◌, subst, arith, lit≤}
-use Rattle.std.proofs.Common.{Bool, true, false, nat_lt, nat_le, List, ◌∷◌, drop}
+use Rattle.std.proofs.Common.{◌≡◌, ℕ, ◌+◌, ◌*◌, ◌%◌, ◌^◌, ◌<◌, ◌≤◌, refl, sym, ap, subst, arith, lit≤}
+use Rattle.std.proofs.Common.{Bool, true, false, nat_lt, nat_le, List, ◌∷◌}
 use Rattle.ed_words.specs.Words.{digit}
-use Rattle.ed_words.specs.Sizes.{locations, within}
-use Rattle.ed_words.proofs.SizeLemmas.{most, within_below}
+use Rattle.ed_words.specs.Sizes.{locations}
+use Rattle.ed_words.proofs.SizeLemmas.{most}
 use Rattle.ed_notation.specs.declared.kind.RowKind.{RowKind}
 use Rattle.ed_notation.specs.declared.kind.RowKind.TheVariants.{Digit, Mark, Zed, Kay, Blank, Letter, Other}
 use Rattle.ed_notation.specs.declared.kind.Control.{Control}
@@ -19,53 +19,54 @@ use Rattle.ed_notation.specs.Fold.{Note, over, value_of, address, control_of, ai
 use Rattle.ed_notation.specs.Faults.{is_place}
 use Rattle.ed_notation.specs.Reading.{taken, digit_taken, mark_taken, kay_taken, zed_taken, blank_taken, letter_taken}
 use Rattle.ed_notation.specs.Reading.{part_word, setting_of, set_by, placed_by, entry_by}
-use Rattle.ed_initial.specs.Rests.{Working, Scratch, working, begun, IsNote, IsPart}
+use Rattle.ed_initial.specs.Rests.{Working, Scratch, working, begun, IsNote, IsPartSoFar}
 use Rattle.ed_initial.specs.Entry.{entry_words}
-use Rattle.ed_initial.proofs.Moves.{Frame, Run}
-use Rattle.ed_initial.proofs.Moves.{Enters as EntersBy}
-use Rattle.ed_initial.proofs.Paths.{Runs, Path, run, digit_path, mark_path, kay_directive_path, kay_theta_path, zed_directive_path}
+use Rattle.ed_paths.proofs.Frames.{Moment}
+use Rattle.ed_initial.proofs.Paths.{Kept, Walk, ToRest, moment, Enters as EntersBy, digit_path, mark_path, kay_directive_path}
+use Rattle.ed_initial.proofs.Paths.{kay_theta_path, zed_directive_path}
 use Rattle.ed_initial.proofs.Paths.{zed_theta_path, blank_path, letter_row, placed_path, entry_order}
-use Rattle.ed_initial.proofs.Tests.{not_lt, not_le, if_means, RowMeans, row_means, ControlMeans, control_means, AimMeans, aim_means}
+use Rattle.ed_words.proofs.Numbers.{not_lt_of, not_le_of, if_means}
+use Rattle.ed_initial.proofs.Tests.{RowMeans, row_means, ControlMeans, control_means, AimMeans, aim_means}
 use Rattle.ed_initial.proofs.Tests.{is_place_means}
-use Rattle.ed_initial.proofs.Contents.{placed, value_here}
+use Rattle.ed_initial.proofs.Contents.{value_here}
 
 -- the two rests
-abbrev pub between : List ℕ → Scratch → Note → List ℕ → Run
-between ws w note rows = run (working w note) (drop 44 (over note.placed ws)) w.digit40 0 34 rows
+abbrev pub between : Kept → List ℕ → Scratch → Note → List ℕ → Moment
+between f ws w note rows = moment f (working w note) (over note.placed ws) w.digit40 0 34 rows
 
-abbrev pub inside : List ℕ → Part → ℕ → ℕ → Note → List ℕ → Run
-inside ws part at1 at20 note rows = run (working (begun part at1 at20) note) (drop 44 (over note.placed ws)) false 0 9 rows
+abbrev pub inside : Kept → List ℕ → Part → ℕ → ℕ → Note → List ℕ → Moment
+inside f ws part at1 at20 note rows = moment f (working (begun part at1 at20) note) (over note.placed ws) false 0 9 rows
 
 -- at the entry by an item whose ending row is c
-abbrev pub entered : List ℕ → Part → Note → ℕ → ℕ → ℕ → List ℕ → Run
-entered ws part note c at word rows =
-    run (entry_words (entry_by ws 0 0 note part c rows at)) (drop 44 (over note.placed ws)) false word at rows
+abbrev pub entered : Kept → List ℕ → Part → Note → ℕ → ℕ → ℕ → List ℕ → Moment
+entered f ws part note c at word rows =
+    moment f (entry_words (entry_by ws 0 0 note part c rows at)) (over note.placed ws) false (word * 2 ^ 54) at rows
 
-module _ (f : Frame) (ws : List ℕ) (note : Note) (good : IsNote note) (part : Part) (phase : IsPart part)
+module _ (f : Kept) (ws : List ℕ) (note : Note) (good : IsNote note) (part : Part) (phase : IsPartSoFar part)
     (at1 at20 c : ℕ) (rows : List ℕ) where
-  abbrev here : Run
-  here = inside ws part at1 at20 note (c ∷ rows)
+  abbrev here : Moment
+  here = inside f ws part at1 at20 note (c ∷ rows)
 
   -- the item grows
   pub record Grows (next : Part) (k : ℕ) : Type 0 where
     pub one : ℕ
     pub twenty : ℕ
-    pub path : Path f k here (inside ws next one twenty note rows)
+    pub path : ToRest f k here (inside f ws next one twenty note rows)
     pub few : k ≤ 17
-    pub part_is : IsPart next
+    pub part_is : IsPartSoFar next
 
   -- the item is closed, and leaves a state of the notation
   pub record Closes (next : Note) (k : ℕ) : Type 0 where
     pub scratch : Scratch
-    pub path : Path f k here (between ws scratch next rows)
+    pub path : ToRest f k here (between f ws scratch next rows)
     pub few : k ≤ 17
     pub note_is : IsNote next
 
   -- the item enters the program
   pub record Arrives (at word : ℕ) : Type 0 where
-    pub middle : Run
-    pub runs : Runs f 12 here middle
-    pub last : EntersBy f middle (entered ws part note c at word rows)
+    pub middle : Moment
+    pub runs : Walk f 12 here middle
+    pub last : EntersBy f middle (entered f ws part note c at word rows)
 
   -- what follows the row, as the notation has it
   abbrev pub Follows : Taken → Type 0
@@ -79,7 +80,7 @@ module _ (f : Frame) (ws : List ℕ) (note : Note) (good : IsNote note) (part : 
   w = working (begun part at1 at20) note
 
   abbrev high : List ℕ
-  high = drop 44 (over note.placed ws)
+  high = over note.placed ws
 
   mark_most : (b : Bool) → digit b ≤ 1
   mark_most true = lit≤ tt
@@ -93,7 +94,7 @@ module _ (f : Frame) (ws : List ℕ) (note : Note) (good : IsNote note) (part : 
       if_means Follows part.mark _ _ (λ _. tt) (λ m.
       if_means Follows (nat_lt 32767 (10 * part.number + c)) _ _ (λ _. tt) (λ n.
       let none = unmarked m in
-      let fits : 10 * part.number + c ≤ 32767 = not_lt _ _ n in
+      let fits : 10 * part.number + c ≤ 32767 = not_lt_of _ _ n in
       record {
         one = c;
         twenty = at20;
@@ -114,7 +115,7 @@ module _ (f : Frame) (ws : List ℕ) (note : Note) (good : IsNote note) (part : 
       record {
         one = 11;
         twenty = 12342;
-        path = subst (λ x. Path f 15 (inside ws part at1 at20 note (x ∷ rows)) (inside ws marked 11 12342 note rows)) (sym is)
+        path = subst (λ x. ToRest f 15 (inside f ws part at1 at20 note (x ∷ rows)) (inside f ws marked 11 12342 note rows)) (sym is)
             (mark_path f w high false (2 * part.number + 1) rows refl (omega arith) (omega arith));
         few = lit≤ tt;
         part_is = record { function = phase.function; number = phase.number; blank = λ h. cc };
@@ -125,10 +126,10 @@ module _ (f : Frame) (ws : List ℕ) (note : Note) (good : IsNote note) (part : 
   left end = begun part end (12320 + 2 * end)
 
   abbrev closes : (next : Note) (k end : ℕ) → c ≡ end → k ≤ 17 → IsNote next
-      → Path f k (inside ws part at1 at20 note (end ∷ rows)) (between ws (left end) next rows) → Closes next k
+      → ToRest f k (inside f ws part at1 at20 note (end ∷ rows)) (between f ws (left end) next rows) → Closes next k
   closes next k end is few note_is path = record {
     scratch = left end;
-    path = subst (λ x. Path f k (inside ws part at1 at20 note (x ∷ rows)) (between ws (left end) next rows)) (sym is) path;
+    path = subst (λ x. ToRest f k (inside f ws part at1 at20 note (x ∷ rows)) (between f ws (left end) next rows)) (sym is) path;
     few = few;
     note_is = note_is;
   }
@@ -146,18 +147,18 @@ module _ (f : Frame) (ws : List ℕ) (note : Note) (good : IsNote note) (part : 
       if_means Follows part.mark _ _ (λ _. tt) (λ m.
       if_means Follows (nat_lt 1023 part.number) _ _ (λ _. tt) (λ n.
       let none = unmarked m in
-      let fits : part.number ≤ 1023 = not_lt _ _ n in
+      let fits : part.number ≤ 1023 = not_lt_of _ _ n in
       let u = 4096 * part.function + 2 * part.number in
       closes (record note { directive = u }) 16 14 is (lit≤ tt) (omega (arith, good))
       (kay_directive_path f w high false u rows (omega arith) (omega arith))))
   by_kay ThetaByBlank means is =
       if_means Follows part.mark _ _ (λ _. tt) (λ m.
       if_means Follows (nat_lt 1023 part.number) _ _ (λ _. tt) (λ n.
-      by_kay_theta _ refl is (unmarked m) (omega arith) (not_lt _ _ n)))
+      by_kay_theta _ refl is (unmarked m) (omega arith) (not_lt_of _ _ n)))
   by_kay ThetaByG means is =
       if_means Follows part.mark _ _ (λ _. tt) (λ m.
       if_means Follows (nat_lt 1023 part.number) _ _ (λ _. tt) (λ n.
-      by_kay_theta _ refl is (unmarked m) (omega arith) (not_lt _ _ n)))
+      by_kay_theta _ refl is (unmarked m) (omega arith) (not_lt_of _ _ n)))
   by_kay Neither means is = if_means Follows part.mark _ _ (λ _. tt) (λ _. tt)
 
   by_zed : (k : Control) → ControlMeans k part.function → c ≡ 13 → Follows (zed_taken k (setting_of note) part)
@@ -176,7 +177,7 @@ module _ (f : Frame) (ws : List ℕ) (note : Note) (good : IsNote note) (part : 
       if_means Follows part.mark _ _ (λ _. tt) (λ m.
       if_means Follows (nat_le 65536 (2 * part.number + note.theta)) _ _ (λ _. tt) (λ n.
       let none = unmarked m in
-      let fits : 2 * part.number + note.theta < 65536 = not_le _ _ n in
+      let fits : 2 * part.number + note.theta < 65536 = not_le_of _ _ n in
       closes (record note { theta = u }) 17 13 is (lit≤ tt) (omega (arith, good))
       (zed_theta_path f w high false u rows (omega arith) (omega arith) (omega arith))))
   by_zed ThetaByG means is = if_means Follows part.mark _ _ (λ _. tt) (λ _. tt)
@@ -206,17 +207,14 @@ module _ (f : Frame) (ws : List ℕ) (note : Note) (good : IsNote note) (part : 
       let a = address note.directive in
       if_means Follows (nat_lt a 44) _ _ (λ _. tt) (λ p.
       if_means Follows (nat_le (locations f.size) a) _ _ (λ _. tt) (λ q.
-      let above : 44 ≤ a = not_lt _ _ p in
-      let below : a < locations f.size = not_le _ _ q in
+      let above : 44 ≤ a = not_lt_of _ _ p in
+      let below : a < locations f.size = not_le_of _ _ q in
       let last : a < 1024 = omega (arith, most f.size) in
-      let named : note.directive / 2 % 1024 ≡ a = omega (arith, good) in
-      let place : within f.size (note.directive / 2 % 1024) ≡ a = ap (within f.size) named ∙ within_below f.size a below in
       record {
         scratch = begun part c (114736 + 2 * c);
-        path = placed_path f w high false c value ((w.at0 + value) % 2 ^ 17) word a rows
-            (drop 44 (over ((a, word) ∷ note.placed) ws)) low code (omega (arith, phase, mark_most part.mark))
-            (value_here lettered (over note.placed ws) c low refl refl) refl (omega arith) means good.even place
-            (placed lettered (over note.placed ws) a word above);
+        path = placed_path f w high false c value ((w.at0 + value) % 2 ^ 17) word a rows low code
+            (omega (arith, phase, mark_most part.mark)) (value_here lettered (over note.placed ws) c low refl refl) refl (omega arith)
+            (omega (arith, good, means)) above below;
         few = lit≤ tt;
         note_is = omega (arith, good);
       }))
@@ -225,20 +223,18 @@ module _ (f : Frame) (ws : List ℕ) (note : Note) (good : IsNote note) (part : 
       if_means Follows (nat_le (locations f.size) a) _ _ (λ _. tt) (λ p.
       if_means Follows (nat_le 65536 word) _ _ (λ _. tt) (λ q.
       if_means Follows (nat_lt a 44) _ _ (λ _. tt) (λ r.
-      let below : a < locations f.size = not_le _ _ p in
+      let below : a < locations f.size = not_le_of _ _ p in
       let last : a < 1024 = omega (arith, most f.size) in
-      let positive : word < 65536 = not_le _ _ q in
-      let named : note.directive / 2 % 1024 ≡ a = omega (arith, good) in
-      let place : within f.size (note.directive / 2 % 1024) ≡ a = ap (within f.size) named ∙ within_below f.size a below in
+      let positive : word < 65536 = not_le_of _ _ q in
       let twenty : 114736 + 2 * c ≡ 114688 + 2 * (24 + c) = omega arith in
       let order : note.directive ≡ 12288 + 2 * a = omega (arith, good) in
       record {
-        middle = run lettered high false word 22 rows;
+        middle = moment f lettered high false (word * 2 ^ 54) 22 rows;
         runs = letter_row f w high false c value ((w.at0 + value) % 2 ^ 17) word rows low code (omega (arith, phase, mark_most part.mark))
             (value_here lettered (over note.placed ws) c low refl refl) refl (omega arith);
-        last = subst (λ x. EntersBy f (run lettered high false word 22 rows) (run x high false word a rows))
+        last = subst (λ x. EntersBy f (moment f lettered high false (word * 2 ^ 54) 22 rows) (moment f x high false (word * 2 ^ 54) a rows))
             (λ i. record lettered { at20 = twenty i; at22 = order i })
-            (entry_order f lettered high false word a rows means good.even place positive);
+            (entry_order f lettered high false word a rows order below positive);
       })))
   by_letter Nowhere means low code = tt
   by_letter Unset means low code = tt

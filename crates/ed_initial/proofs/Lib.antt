@@ -1,7 +1,5 @@
 pub mod Runs
 mod Steps
-mod Units
-pub mod Moves
 pub mod Paths
 pub mod Goes
 mod Tests
@@ -11,6 +9,8 @@ pub mod Loads
 mod Settled
 pub mod Opened
 mod Arrivals
+pub mod Started
+pub mod Quiet
 pub mod Whole
 pub mod Walked
 mod Itemwise

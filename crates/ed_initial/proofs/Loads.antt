@@ -1,6 +1,6 @@
 -- The induction over the rows of a tape: from any rest, a tape that the notation accepts leads to its entry at its cost.
-use Rattle.std.proofs.Common.{◌≡◌, ℕ, suc, ◌+◌, ◌<◌, refl, subst, arith, lit≤, Bool, true, false, nat_lt}
-use Rattle.std.proofs.Common.{Option, Some, None, List, [], ◌∷◌, drop}
+use Rattle.std.proofs.Common.{◌≡◌, ℕ, suc, ◌+◌, ◌*◌, ◌^◌, ◌<◌, refl, subst, arith, lit≤, Bool, true, false, nat_lt}
+use Rattle.std.proofs.Common.{Option, Some, None, List, [], ◌∷◌}
 use Rattle.ed_machine.specs.State.{State}
 use Rattle.ed_machine.specs.OrderTable.{step}
 use Rattle.ed_machine.specs.declared.turn.Turn.TheVariants.{Went}
@@ -12,21 +12,21 @@ use Rattle.ed_notation.specs.Items.{row_kind}
 use Rattle.ed_notation.specs.Fold.{Note, over}
 use Rattle.ed_notation.specs.Faults.{Entry}
 use Rattle.ed_notation.specs.Reading.{Verdict, Faulty, Arrived, reading, taken, part_of, setting_of, set_by, placed_by, entry_by}
-use Rattle.ed_initial.specs.Rests.{Scratch, working, IsNote, IsPart}
+use Rattle.ed_initial.specs.Rests.{Scratch, working, IsNote, IsPartSoFar}
 use Rattle.ed_initial.specs.Entry.{entry_words}
 use Rattle.ed_initial.specs.Load.{enters}
-use Rattle.ed_initial.proofs.Moves.{Frame, Run, state}
-use Rattle.ed_initial.proofs.Paths.{Path, run, function_path}
+use Rattle.ed_paths.proofs.Frames.{Moment}
+use Rattle.ed_initial.proofs.Paths.{Kept, state, ToRest, moment, function_path}
 use Rattle.ed_initial.proofs.Goes.{Goes, joined, along, whole}
-use Rattle.ed_initial.proofs.Tests.{lt_of}
+use Rattle.ed_words.proofs.Numbers.{lt_of}
 use Rattle.ed_initial.proofs.Inside.{between, inside, Follows, follows}
 
 -- the machine at the entry, when it has done so many orders
-abbrev pub entered : Frame → List ℕ → Entry → ℕ → State
-entered f ws e orders = state f (run (entry_words e) (drop 44 (over e.note.placed ws)) false e.word e.at e.rest) orders
+abbrev pub entered : Kept → List ℕ → Entry → ℕ → State
+entered f ws e orders = state f (moment f (entry_words e) (over e.note.placed ws) false (e.word * 2 ^ 54) e.at e.rest) orders
 
 -- a load goes on from a state, which it came to at a cost, up to an entry
-pub record Reaches (f : Frame) (ws : List ℕ) (first cost : ℕ) (s : State) (e : Entry) : Type 0 where
+pub record Reaches (f : Kept) (ws : List ℕ) (first cost : ℕ) (s : State) (e : Entry) : Type 0 where
   pub steps : ℕ
   pub middle : State
   pub goes : Goes steps s middle
@@ -34,9 +34,9 @@ pub record Reaches (f : Frame) (ws : List ℕ) (first cost : ℕ) (s : State) (e
   pub enters_by : step middle ≡ record { state = entered f ws e (first + e.cost); turn = Went }
   pub cost_is : cost + suc steps ≡ e.cost
 
-module _ (f : Frame) (ws : List ℕ) (first : ℕ) where
+module _ (f : Kept) (ws : List ℕ) (first : ℕ) where
   -- a load that goes on from where a path leads
-  pub prepend : {r t : Run} {e : Entry} (k cost : ℕ) → Path f k r t → Reaches f ws first (cost + k) (state f t (first + (cost + k))) e
+  pub prepend : {r t : Moment} {e : Entry} (k cost : ℕ) → ToRest f k r t → Reaches f ws first (cost + k) (state f t (first + (cost + k))) e
       → Reaches f ws first cost (state f r (first + cost)) e
   prepend {r} {t} {e} k cost path a =
       let sum : first + cost + k ≡ first + (cost + k) = omega arith in
@@ -53,12 +53,12 @@ module _ (f : Frame) (ws : List ℕ) (first : ℕ) where
 
   abbrev IsPhase : Option Part → Type 0
   IsPhase None = Unit {0}
-  IsPhase (Some part) = IsPart part
+  IsPhase (Some part) = IsPartSoFar part
 
   -- at rest between two items, or inside one
-  abbrev rests : Scratch → Note → Option Part → List ℕ → Run
-  rests w note None rows = between ws w note rows
-  rests w note (Some part) rows = inside ws part w.at1 w.at20 note rows
+  abbrev rests : Scratch → Note → Option Part → List ℕ → Moment
+  rests w note None rows = between f ws w note rows
+  rests w note (Some part) rows = inside f ws part w.at1 w.at20 note rows
 
   -- what is shown of the rows of a tape
   abbrev pub Loads : List ℕ → Type 0
@@ -79,9 +79,9 @@ module _ (f : Frame) (ws : List ℕ) (first : ℕ) where
   ]
 
   module _ (rows : List ℕ) (ih : Loads rows) (w : Scratch) (row cost : ℕ) (note : Note) (part : Part) (e : Entry) (c : ℕ)
-      (good : IsNote note) (phase : IsPart part) where
+      (good : IsNote note) (phase : IsPartSoFar part) where
     by_taken : (t : Taken) → Follows f ws note good part phase w.at1 w.at20 c rows t → next row cost note part c rows t ≡ Arrived e
-        → Reaches f ws first cost (state f (inside ws part w.at1 w.at20 note (c ∷ rows)) (first + cost)) e
+        → Reaches f ws first cost (state f (inside f ws part w.at1 w.at20 note (c ∷ rows)) (first + cost)) e
     by_taken (Refused cause) o h = cc
     by_taken (Longer longer k) o h =
         prepend k cost o.path (ih (record w { at1 = o.one; at20 = o.twenty }) (row + 1) (cost + k) note (Some longer) e good o.part_is h)
@@ -90,7 +90,7 @@ module _ (f : Frame) (ws : List ℕ) (first : ℕ) where
     by_taken (Placed at word) o h =
         prepend 17 cost o.path (ih o.scratch (row + 1) (cost + 17) (placed_by at word note) None e o.note_is tt h)
     by_taken (Entered at) o h =
-        let here = inside ws part w.at1 w.at20 note (c ∷ rows) in
+        let here = inside f ws part w.at1 w.at20 note (c ∷ rows) in
         let x : Entry = entry_by ws row cost note part c rows at in
         let sum : first + cost + 12 + 1 ≡ first + (cost + 13) = omega arith in
         let arrives : Reaches f ws first cost (state f here (first + cost)) x = record {
@@ -109,11 +109,11 @@ module _ (f : Frame) (ws : List ℕ) (first : ℕ) where
       → elim b [
         | true ↦ reading f.size ws (row + 1) (cost + 6) note (Some (part_of c)) rows
         | false ↦ Faulty row BadRow
-      ] ≡ Arrived e → Reaches f ws first cost (state f (between ws w note (c ∷ rows)) (first + cost)) e
+      ] ≡ Arrived e → Reaches f ws first cost (state f (between f ws w note (c ∷ rows)) (first + cost)) e
   by_function rows ih w row cost note e c good true t h =
       let small : c < 32 = lt_of c 32 t in
-      let begins : IsPart (part_of c) = record { function = small; number = lit≤ tt; blank = λ b. (refl, refl) } in
-      prepend 6 cost (function_path f (working w note) (drop 44 (over note.placed ws)) w.digit40 c rows small)
+      let begins : IsPartSoFar (part_of c) = record { function = small; number = lit≤ tt; blank = λ b. (refl, refl) } in
+      prepend 6 cost (function_path f (working w note) (over note.placed ws) w.digit40 c rows small)
       (ih w (row + 1) (cost + 6) note (Some (part_of c)) e good begins h)
   by_function rows ih w row cost note e c good false t h = cc
 

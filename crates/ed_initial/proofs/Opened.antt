@@ -1,6 +1,6 @@
 -- The state in which a load begins, as the paths see it.
-use Rattle.std.proofs.Common.{◌≡◌, ℕ, suc, ◌*◌, ◌/◌, ◌^◌, ◌<◌, ◌≤◌, refl, sym, ap, ◌∙◌, arith, false, List, [], ◌∷◌, ◌++◌}
-use Rattle.std.proofs.Common.{length, get_or, drop, drop-cons}
+use Rattle.std.proofs.Common.{◌≡◌, ℕ, ◌*◌, ◌/◌, ◌^◌, ◌<◌, refl, sym, ap, ◌∙◌, arith, false, List, ◌∷◌, ◌++◌}
+use Rattle.std.proofs.Common.{length, get_or, set, drop, drop-cons, Bool}
 use Rattle.std.proofs.lemmas.List.{set-get_or}
 use Rattle.ed_store.specs.Cells.{IsStore}
 use Rattle.ed_machine.specs.State.{State}
@@ -8,12 +8,13 @@ use Rattle.ed_notation.specs.Openings.{opening}
 use Rattle.ed_initial.specs.Listing.{initial_orders}
 use Rattle.ed_initial.specs.Rests.{Working, Scratch, IsNote}
 use Rattle.ed_initial.specs.Entry.{IsStarted}
-use Rattle.ed_initial.proofs.Moves.{Frame, Run, state}
-use Rattle.ed_initial.proofs.Paths.{Path, cells, run, start_path}
+use Rattle.ed_paths.proofs.Frames.{Moment}
+use Rattle.ed_paths.proofs.Window.{patched, patched_one, headed}
+use Rattle.ed_initial.proofs.Paths.{Kept, state, ToRest, cells, moment, start_path}
 use Rattle.ed_initial.proofs.Inside.{between}
 
 -- what stays during a load from this state
-abbrev pub frame : (s : State) → IsStore s.store → Frame
+abbrev pub frame : (s : State) → IsStore s.store → Kept
 frame s store = record { size = s.size; digits = s.store.sandwich; room = omega (arith, store.digits_are); last = s.last }
 
 -- the changing words: those of the listing, and what stood behind it
@@ -29,39 +30,32 @@ listed ws = record {
   at43 = get_or ws 43 0;
 }
 
-abbrev pub begins : State → Run
-begins s = record (run (listed s.store.words) (drop 44 s.store.words) (get_or s.store.sandwich 20 false) s.acc 0 s.tape) {
-  unit = 0;
-  multiplier = s.multiplier;
-}
-
--- a list that holds another at its head
-headed : (cs ws : List ℕ) → length cs ≤ length ws → ((j : ℕ) → j < length cs → get_or ws j 0 ≡ get_or cs j 0)
-    → cs ++ drop (length cs) ws ≡ ws
-headed [] ws l h = refl
-headed (c ∷ cs) [] l h = absurd (omega arith)
-headed (c ∷ cs) (w ∷ ws) l h =
-    rw (h 0 (omega arith)) (ap (λ x. c ∷ x) (headed cs ws (omega arith) (λ j lj. h (suc j) (omega arith))))
+abbrev pub begins : (s : State) → IsStore s.store → Moment
+begins s store =
+    let r = moment (frame s store) (listed s.store.words) s.store.words (get_or s.store.sandwich 20 false) s.acc 0 s.tape in
+    record r { multiplier = s.multiplier }
 
 words_are : (ws : List ℕ) → length ws ≡ 1024 → ((i : ℕ) → i < 41 → get_or ws i 0 ≡ get_or initial_orders i 0)
-    → cells (listed ws) (drop 44 ws) ≡ ws
+    → patched 0 ws 0 (cells (listed ws)) ≡ ws
+unfolding patched
 words_are ws long orders =
     let behind : get_or ws 41 0 ∷ get_or ws 42 0 ∷ get_or ws 43 0 ∷ drop 44 ws ≡ drop 41 ws =
     ap (λ x. get_or ws 41 0 ∷ get_or ws 42 0 ∷ x) (sym (drop-cons ws 43 0 (omega arith)))
     ∙ ap (λ x. get_or ws 41 0 ∷ x) (sym (drop-cons ws 42 0 (omega arith)))
     ∙ sym (drop-cons ws 41 0 (omega arith)) in
-    ap (λ x. initial_orders ++ x) behind ∙ headed initial_orders ws (omega arith) orders
+    ap (λ x. initial_orders ++ x) behind ∙ headed 0 initial_orders ws (omega arith) (λ j l. sym (orders j l))
 
-pub opened : (s : State) (store : IsStore s.store) → IsStarted s → state (frame s store) (begins s) s.orders ≡ s
+pub opened : (s : State) (store : IsStore s.store) → IsStarted s → state (frame s store) (begins s store) s.orders ≡ s
 opened s store started =
     let words = words_are s.store.words store.words_are started.orders in
-    let digits = set-get_or s.store.sandwich 20 false in
-    let acc : s.acc * 2 ^ 0 ≡ s.acc = omega arith in
+    let digits =
+    patched_one false s.store.sandwich 20 (get_or s.store.sandwich 20 false) (omega (arith, store.digits_are))
+    ∙ set-get_or s.store.sandwich 20 false in
     let counter : 0 ≡ s.counter = sym started.counter in
     λ i. record {
       size = s.size;
       store = record { words = words i; sandwich = digits i };
-      acc = acc i;
+      acc = s.acc;
       multiplier = s.multiplier;
       counter = counter i;
       tape = s.tape;
@@ -72,7 +66,7 @@ opened s store started =
 -- what the first rest leaves open
 abbrev pub first_scratch : State → Scratch
 first_scratch s = record {
-  at0 = s.acc * 2 ^ 0 / 2 ^ 54;
+  at0 = s.acc / 2 ^ 54;
   at1 = 12328;
   at20 = 86032;
   at40 = 1;
@@ -82,9 +76,24 @@ first_scratch s = record {
 
 -- the first nine orders
 pub first_path : (s : State) (store : IsStore s.store)
-    → Path (frame s store) 9 (begins s) (between s.store.words (first_scratch s) (opening s.store.words) s.tape)
+    → ToRest (frame s store) 9 (begins s store) (between (frame s store) s.store.words (first_scratch s) (opening s.store.words) s.tape)
 first_path s store =
-    start_path (frame s store) (listed s.store.words) (drop 44 s.store.words) (get_or s.store.sandwich 20 false) s.acc s.multiplier s.tape
+    start_path (frame s store) (listed s.store.words) s.store.words (get_or s.store.sandwich 20 false) s.acc s.multiplier s.tape
 
 pub first_note : (ws : List ℕ) → get_or ws 42 0 < 2 ^ 17 → IsNote (opening ws)
 first_note ws h = omega arith
+
+-- the state of a path, as the definitions of the rests and of the entry write it
+pub shown : (f : Kept) (w : Working) (words : List ℕ) (b : Bool) (acc counter : ℕ) (tape : List ℕ) (k : ℕ)
+    → state f (moment f w words b acc counter tape) k ≡ record {
+      size = f.size;
+      store = record { words = cells w ++ drop 44 words; sandwich = set f.digits 20 b };
+      acc = acc;
+      multiplier = 20480 * 2 ^ 18;
+      counter = counter;
+      tape = tape;
+      last = f.last;
+      orders = k;
+    }
+unfolding patched
+shown f w words b acc counter tape k = rw (patched_one false f.digits 20 b f.room) refl

@@ -1,5 +1,5 @@
 -- The walk from one rest to the next does what the notation says of the row.
-use Rattle.std.proofs.Common.{◌≡◌, ℕ, ◌+◌, ◌<◌, ◌≤◌, refl, sym, ap, ◌∙◌, subst, arith, lit<, lit≤, true, List, ◌∷◌, length, drop, set}
+use Rattle.std.proofs.Common.{◌≡◌, ℕ, ◌+◌, ◌<◌, ◌≤◌, refl, sym, ap, ◌∙◌, subst, arith, lit<, lit≤, true, List, ◌∷◌, length, set}
 use Rattle.std.proofs.lemmas.List.{length-set}
 use Rattle.ed_store.specs.Cells.{IsStore}
 use Rattle.ed_machine.specs.State.{State}
@@ -13,18 +13,18 @@ use Rattle.ed_notation.specs.Openings.{opening}
 use Rattle.ed_notation.specs.Reading.{part_of, setting_of, taken}
 use Rattle.ed_initial.specs.declared.resting.Rested.{Rested}
 use Rattle.ed_initial.specs.declared.resting.Rested.TheVariants.{At}
-use Rattle.ed_initial.specs.Rests.{Scratch, working, begun, rest34, rest9, rest_at, IsNote, IsPart}
+use Rattle.ed_initial.specs.Rests.{Scratch, working, begun, rest34, rest9, rest_at, IsNote, IsPartSoFar}
 use Rattle.ed_initial.specs.Entry.{IsStarted}
 use Rattle.ed_initial.specs.Walks.{WalkEnds, walked, Between, Inside, DoesRow, is_rest}
-use Rattle.ed_initial.proofs.Moves.{Frame, Run, state}
-use Rattle.ed_initial.proofs.Paths.{Path, function_path}
+use Rattle.ed_paths.proofs.Frames.{Moment}
+use Rattle.ed_initial.proofs.Paths.{Kept, state, ToRest, function_path}
 use Rattle.ed_initial.proofs.Inside.{between, inside, Follows, follows}
-use Rattle.ed_initial.proofs.Opened.{opened, first_path, first_scratch}
+use Rattle.ed_initial.proofs.Opened.{frame, opened, first_path, first_scratch, shown}
 use Rattle.ed_initial.proofs.Arrivals.{walks_path, walks_in}
 
 -- a walk from a state that stands at the head of a path
-moved : {f : Frame} {k : ℕ} {a b : Run} (s t : State) (r : Rested) (orders : ℕ) → WalkEnds s r → t ≡ state_after (walked r) s
-    → s ≡ state f a orders → Path f k a b → is_rest b.counter ≡ true → k ≤ 17
+moved : {f : Kept} {k : ℕ} {a b : Moment} (s t : State) (r : Rested) (orders : ℕ) → WalkEnds s r → t ≡ state_after (walked r) s
+    → s ≡ state f a orders → ToRest f k a b → is_rest b.counter ≡ true → k ≤ 17
     → (r ≡ At b.counter k) × (t ≡ state f b (orders + k))
 moved s t r orders ends is same path rest few =
     walks_path path rest few orders t r (subst (λ x. WalkEnds x r) same ends) (is ∙ ap (state_after (walked r)) same)
@@ -34,7 +34,7 @@ pub from_start : (s t : State) (r : Rested) → IsStore s.store → IsStarted s 
     → Between s (opening s.store.words) s.tape 9 r t
 from_start s t r store started ends is =
     let p = moved s t r s.orders ends is (sym (opened s store started)) (first_path s store) refl (lit≤ tt) in
-    record { result_is = p.0; scratch = first_scratch s; state_is = p.1 }
+    record { result_is = p.0; scratch = first_scratch s; state_is = p.1 ∙ shown (frame s store) _ _ _ _ _ _ _ }
 
 module _ (o s t : State) (r : Rested) (store : IsStore s.store) (ends : WalkEnds s r) (is : t ≡ state_after (walked r) s) where
   -- the opening store has sandwich digits as the machine's has
@@ -43,7 +43,7 @@ module _ (o s t : State) (r : Rested) (store : IsStore s.store) (ends : WalkEnds
       let a : length s.store.sandwich ≡ length (set o.store.sandwich 20 w.digit40) = ap (λ (x : State). length x.store.sandwich) e in
       omega (arith, a, length-set o.store.sandwich 20 w.digit40, store.digits_are)
 
-  abbrev held : 20 < length o.store.sandwich → Frame
+  abbrev held : 20 < length o.store.sandwich → Kept
   held room = record { size = o.size; digits = o.store.sandwich; room = room; last = o.last }
 
   -- a function row
@@ -52,40 +52,41 @@ module _ (o s t : State) (r : Rested) (store : IsStore s.store) (ends : WalkEnds
   by_function w note c rows good small tape e =
       let f = held (has_room 34 w note e) in
       let ws = o.store.words in
-      let same : s ≡ state f (between ws w note (c ∷ rows)) o.orders = e ∙ (λ i. rest34 w note (record o { tape = tape i })) in
-      let path = function_path f (working w note) (drop 44 (over note.placed ws)) w.digit40 c rows small in
+      let same : s ≡ state f (between f ws w note (c ∷ rows)) o.orders =
+      e ∙ (λ i. rest34 w note (record o { tape = tape i })) ∙ sym (shown f _ _ _ _ _ _ _) in
+      let path = function_path f (working w note) (over note.placed ws) w.digit40 c rows small in
       let p = moved s t r o.orders ends is same path refl (lit≤ tt) in
-      record { result_is = p.0; at1 = w.at1; at20 = w.at20; state_is = p.1 }
+      record { result_is = p.0; at1 = w.at1; at20 = w.at20; state_is = p.1 ∙ shown f _ _ _ _ _ _ _ }
 
-  module _ (part : Part) (at1 at20 : ℕ) (note : Note) (c : ℕ) (rows : List ℕ) (good : IsNote note) (phase : IsPart part) where
+  module _ (part : Part) (at1 at20 : ℕ) (note : Note) (c : ℕ) (rows : List ℕ) (good : IsNote note) (phase : IsPartSoFar part) where
     by_taken : (room : 20 < length o.store.sandwich)
-        → s ≡ state (held room) (inside o.store.words part at1 at20 note (c ∷ rows)) o.orders
+        → s ≡ state (held room) (inside (held room) o.store.words part at1 at20 note (c ∷ rows)) o.orders
         → (k : Taken) → Follows (held room) o.store.words note good part phase at1 at20 c rows k
         → DoesRow o note part c rows r t k
     by_taken room same (Refused cause) h = tt
     by_taken room same (Longer next k) h =
         let p = moved s t r o.orders ends is same h.path refl h.few in
-        record { result_is = p.0; at1 = h.one; at20 = h.twenty; state_is = p.1 }
+        record { result_is = p.0; at1 = h.one; at20 = h.twenty; state_is = p.1 ∙ shown (held room) _ _ _ _ _ _ _ }
     by_taken room same (Ended setting k) h =
         let p = moved s t r o.orders ends is same h.path refl h.few in
-        record { result_is = p.0; scratch = h.scratch; state_is = p.1 }
+        record { result_is = p.0; scratch = h.scratch; state_is = p.1 ∙ shown (held room) _ _ _ _ _ _ _ }
     by_taken room same (Placed at word) h =
         let p = moved s t r o.orders ends is same h.path refl h.few in
-        record { result_is = p.0; scratch = h.scratch; state_is = p.1 }
+        record { result_is = p.0; scratch = h.scratch; state_is = p.1 ∙ shown (held room) _ _ _ _ _ _ _ }
     by_taken room same (Entered at) h =
         let here = subst (λ x. WalkEnds x r) same ends in
         let p = walks_in h.runs h.last (lit< tt) o.orders t r here (is ∙ ap (state_after (walked r)) same) in
-        record { result_is = p.0; state_is = p.1 }
+        record { result_is = p.0; state_is = p.1 ∙ shown (held room) _ _ _ _ _ _ _ }
 
   -- a row inside an item
-  pub by_row : (part : Part) (at1 at20 : ℕ) (note : Note) (c : ℕ) (rows : List ℕ) → IsNote note → IsPart part → o.tape ≡ c ∷ rows
+  pub by_row : (part : Part) (at1 at20 : ℕ) (note : Note) (c : ℕ) (rows : List ℕ) → IsNote note → IsPartSoFar part → o.tape ≡ c ∷ rows
       → s ≡ rest9 part at1 at20 note o
       → DoesRow o note part c rows r t (taken o.size (row_kind c) (over note.placed o.store.words) (setting_of note) part c)
   by_row part at1 at20 note c rows good phase tape e =
       let room = has_room 9 (begun part at1 at20) note e in
       let f = held room in
-      let same : s ≡ state f (inside o.store.words part at1 at20 note (c ∷ rows)) o.orders =
-      e ∙ (λ i. rest9 part at1 at20 note (record o { tape = tape i })) in
+      let same : s ≡ state f (inside f o.store.words part at1 at20 note (c ∷ rows)) o.orders =
+      e ∙ (λ i. rest9 part at1 at20 note (record o { tape = tape i })) ∙ sym (shown f _ _ _ _ _ _ _) in
       by_taken part at1 at20 note c rows good phase room same
       (taken o.size (row_kind c) (over note.placed o.store.words) (setting_of note) part c)
       (follows f o.store.words note good part phase at1 at20 c rows)

@@ -1,6 +1,7 @@
 ghost use Rattle.std.specs.Prelude.{◌≡◌, ◌+◌, ◌*◌, ◌^◌, ◌≤◌, length};
 ghost use Rattle.ed_machine.specs.Steps.{state_after};
-ghost use Rattle.ed_notation.specs.Faults.{Entry};
+ghost use Rattle.ed_notation.specs.Faults.{Entry, WellFormed};
+ghost use Rattle.ed_notation.specs.Openings.{opening};
 ghost use Rattle.ed_initial.specs.Entry.{IsStarted, Comes, IsLoaded};
 ghost use Rattle.ed_initial.specs.Load.{EndsAs, orders_of};
 
@@ -34,6 +35,8 @@ pub fn load(machine: &mut Machine) -> Loaded
     ensures ends { EndsAs machine.old (17 * length machine.old.tape + 9) result }
     ensures state { machine.new ≡ state_after (orders_of result) machine.old }
     ensures loads { (e : Entry) → Comes machine.old e → IsLoaded machine.old e result machine.new }
+    ensures total { WellFormed machine.old.size machine.old.store.words (opening machine.old.store.words) machine.old.tape →
+        (e : Entry) × Comes machine.old e × IsLoaded machine.old e result machine.new }
 {
     let rows = machine.rows_left().len() as u64;
     // The contract of `word` tells the proof that the store is one.
@@ -41,8 +44,10 @@ pub fn load(machine: &mut Machine) -> Loaded
     obey_orders(machine, 17 * rows + 9)
 }
 
-/// Obeys orders until a program is entered or the load is lost.
-fn obey_orders(machine: &mut Machine, bound: u64) -> Loaded
+/// Obeys orders, `bound` of them at the most, until an E order at 22 jumps or the load is lost.
+///
+/// `load` is this from a started machine; from any other it says no more than how it ended.
+pub fn obey_orders(machine: &mut Machine, bound: u64) -> Loaded
     requires { machine.old.orders + bound ≤ 2 ^ 63 }
     ensures ends { EndsAs machine.old bound result }
     ensures state { machine.new ≡ state_after (orders_of result) machine.old }

@@ -7,7 +7,7 @@ ghost use Rattle.ed_notation.specs.Fold.{Note, over};
 ghost use Rattle.ed_notation.specs.Openings.{opening};
 ghost use Rattle.ed_notation.specs.Reading.{part_of, setting_of, taken};
 ghost use Rattle.ed_initial.specs.Entry.{IsStarted};
-ghost use Rattle.ed_initial.specs.Rests.{IsNote, IsPart, Scratch, rest34, rest9};
+ghost use Rattle.ed_initial.specs.Rests.{IsNote, IsPartSoFar, Scratch, rest34, rest9};
 ghost use Rattle.ed_initial.specs.Walks.{BeginsWalk, BreaksNone, Between, DoesItemRow, DoesRow, Inside, WalkEnds, is_rest, part_so_far, walked};
 
 use crate::turns::{is_entering, is_obeyed, is_went};
@@ -51,7 +51,7 @@ pub fn to_rest(machine: &mut Machine) -> Rested
         Between machine.old (opening machine.old.store.words) machine.old.tape 9 result machine.new }
     ensures function { (o : State) (w : Scratch) (note : Note) (c : ℕ) (rows : List ℕ) → IsNote note → c < 32 →
         o.tape ≡ c ∷ rows → machine.old ≡ rest34 w note o → Inside o note (part_of c) rows 6 result machine.new }
-    ensures row { (o : State) (part : Part) (at1 at20 : ℕ) (note : Note) (c : ℕ) (rows : List ℕ) → IsNote note → IsPart part →
+    ensures row { (o : State) (part : Part) (at1 at20 : ℕ) (note : Note) (c : ℕ) (rows : List ℕ) → IsNote note → IsPartSoFar part →
         o.tape ≡ c ∷ rows → machine.old ≡ rest9 part at1 at20 note o →
         DoesRow o note part c rows result machine.new
         (taken o.size (row_kind c) (over note.placed o.store.words) (setting_of note) part c) }
