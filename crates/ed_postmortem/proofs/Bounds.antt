@@ -1,0 +1,85 @@
+-- How many codes and orders a word is printed with at the most, and how long the tape's numbers are.
+use Rattle.std.proofs.Common.{ℕ, zero, suc, ◌+◌, ◌*◌, ◌/◌, ◌%◌, ◌≤◌, arith, Bool, true, false, nat_le, if◌then◌else◌}
+use Rattle.std.proofs.Common.{List, [], ◌∷◌, ◌++◌, length, get_or, length-append}
+use Rattle.ed_words.proofs.SizeLemmas.{most}
+use Rattle.ed_notation.specs.Spellings.{digit_at, digits_of}
+use Rattle.ed_postmortem.specs.Answers.{PaperIsEnough}
+use Rattle.ed_postmortem.specs.Codes.{before_units, decimal, is_even, length_code, length_orders, number_in, printed_codes, word_codes}
+use Rattle.ed_postmortem.specs.Codes.{word_orders, words_orders}
+use Rattle.ed_postmortem.proofs.Digits.{Digits, began, digits_are, one_shown}
+
+-- no word is printed with more than 11 codes
+word_few : (w : ℕ) → length (word_codes w) ≤ 11
+word_few w =
+    let n : ℕ = number_in w in
+    let g : Digits n = digits_are n (omega arith) in
+    omega (
+      arith,
+      g.count,
+      one_shown false (n / 1000),
+      one_shown (began n 1) (n / 100 % 10),
+      one_shown (began n 2) (n / 10 % 10),
+      length-append (decimal n) (15 ∷ length_code (is_even w) ∷ 18 ∷ 24 ∷ []),
+      length-append (before_units n) (n % 10 ∷ []),
+    )
+
+pub few_codes : (count : ℕ) (words : List ℕ) (p : ℕ) → length (printed_codes words p count) ≤ 11 * count
+unfolding printed_codes
+few_codes zero words p = omega arith
+few_codes (suc count) words p =
+    omega (
+      arith,
+      word_few (get_or words p 0),
+      few_codes count words (p + 1),
+      length-append (word_codes (get_or words p 0)) (printed_codes words (p + 1) count),
+    )
+
+pub enough : PaperIsEnough
+enough s first count range =
+    let behind = range.behind in
+    let within = range.within in
+    omega (arith, few_codes count s.store.words first, most s.size)
+
+-- no word takes more than 257 orders
+few_length : (even : Bool) → length_orders even ≤ 2
+few_length true = omega arith
+few_length false = omega arith
+
+few_orders : (w : ℕ) → word_orders w ≤ 257
+few_orders w =
+    let n : ℕ = number_in w in
+    let g : Digits n = digits_are n (omega arith) in
+    omega (
+      arith,
+      g.sum,
+      g.count,
+      one_shown false (n / 1000),
+      one_shown (began n 1) (n / 100 % 10),
+      one_shown (began n 2) (n / 10 % 10),
+      few_length (is_even w),
+    )
+
+pub all_few : (count : ℕ) (xs : List ℕ) (p : ℕ) → words_orders xs p count ≤ 257 * count
+unfolding words_orders
+all_few zero xs p = omega arith
+all_few (suc count) xs p = omega (arith, few_orders (get_or xs p 0), all_few count xs (p + 1))
+
+-- a number has five digits at the most
+one_digit : (t : Bool) (d : ℕ) → length (if t then d ∷ [] else []) ≤ 1
+one_digit true d = omega arith
+one_digit false d = omega arith
+
+pub few_digits : (n : ℕ) → length (digits_of n) ≤ 5
+few_digits n =
+    omega (
+      arith,
+      length-append (digit_at 10000 n) (digit_at 1000 n ++ (digit_at 100 n ++ (digit_at 10 n ++ digit_at 1 n))),
+      one_digit (nat_le 10000 n) (n / 10000 % 10),
+      length-append (digit_at 1000 n) (digit_at 100 n ++ (digit_at 10 n ++ digit_at 1 n)),
+      one_digit (nat_le 1000 n) (n / 1000 % 10),
+      length-append (digit_at 100 n) (digit_at 10 n ++ digit_at 1 n),
+      one_digit (nat_le 100 n) (n / 100 % 10),
+      length-append (digit_at 10 n) (digit_at 1 n),
+      one_digit (nat_le 10 n) (n / 10 % 10),
+      one_digit (nat_le 1 n) (n / 1 % 10),
+    )

@@ -1,0 +1,39 @@
+use thiserror::Error;
+
+/// Why no post-mortem was printed. The message of each variant is its name.
+#[derive(Clone, Copy, Debug, PartialEq, Eq, Error)]
+pub enum PmFault {
+    /// The first location is below 144: the post-mortem's own tape takes the store up to 139.
+    #[error("InItsOwnStore")]
+    InItsOwnStore,
+    /// The words go past the end of the store.
+    #[error("StoreEnd")]
+    StoreEnd,
+    /// The paper has room for fewer codes than are needed.
+    #[error("PaperFull")]
+    PaperFull { needed: usize, room: usize },
+    /// No memory for the tape.
+    #[error("Memory")]
+    Memory,
+}
+
+#[cfg(test)]
+mod tests {
+    use super::*;
+    use std::test::Fail;
+
+    #[test]
+    fn messages_are_names(rt: HostRuntime) -> Result<(), Fail> {
+        let alloc = rt.alloc();
+        let (needed, room) = (8, 6);
+        for (fault, name) in [
+            (PmFault::InItsOwnStore, "InItsOwnStore"),
+            (PmFault::StoreEnd, "StoreEnd"),
+            (PmFault::PaperFull { needed, room }, "PaperFull"),
+            (PmFault::Memory, "Memory"),
+        ] {
+            assert!(rt; fault.to_string(alloc)?.as_str() == name, "{name}");
+        }
+        Ok(())
+    }
+}
