@@ -1,6 +1,7 @@
 pub mod Formed
 pub mod Lines
 pub mod Meaning
+pub mod NameBytes
 pub mod NameLemmas
 pub mod Numbers
 pub mod PartLemmas

@@ -5,7 +5,7 @@ use Rattle.std.specs.Prelude.{◌==◌, ◌||◌, ◌&&◌}
 use Rattle.std.proofs.lemmas.List.{take_more, length-drop}
 use Rattle.ed_syntax.proofs.Splits.{split_at}
 use Rattle.ed_syntax.specs.Lines.{Text, lines_of, with_byte}
-use Rattle.ed_syntax.specs.LineFronts.{has_end, without_return, TakesLine}
+use Rattle.ed_syntax.specs.Private.LineFronts.{has_end, without_return, TakesLine}
 
 no_end_head : (b : ℕ) (bs : Text) → has_end (b ∷ bs) ≡ false → ((b == 10) ≡ false) × (has_end bs ≡ false)
 no_end_head b bs = go (b == 10) (has_end bs)

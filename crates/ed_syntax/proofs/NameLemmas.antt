@@ -8,7 +8,7 @@ use Rattle.std.proofs.lemmas.Str.{IsUtf8-from_ascii}
 use Rattle.ed_syntax.specs.Lines.{Text}
 use Rattle.ed_syntax.specs.Parts.{is_lower, is_run_byte}
 use Rattle.ed_syntax.specs.Grammar.{is_name, is_local_name, is_place_name}
-use Rattle.ed_syntax.specs.Names.{IsNameText}
+use Rattle.ed_syntax.specs.Private.Names.{IsNameText}
 
 pub and_both : (x y : Bool) → (x && y) ≡ true → (x ≡ true) × (y ≡ true)
 and_both true y h = (refl, h)

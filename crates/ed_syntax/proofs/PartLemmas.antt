@@ -12,10 +12,10 @@ use Rattle.std.specs.Prelude.{Result, Ok, Err}
 use Rattle.std.specs.Borrow.{Bor}
 use Rattle.std.proofs.Common.{◌≤◌, suc, length-append, map}
 use Rattle.std.proofs.lemmas.List.{map-append}
-use Rattle.ed_syntax.specs.Seen.{part}
+use Rattle.ed_syntax.specs.Private.Seen.{part}
 use Rattle.ed_syntax.specs.declared.parts.Part as code
 use Rattle.ed_syntax.specs.declared.parts.OpenQuote.{OpenQuote}
-use Rattle.ed_syntax.specs.PartFronts.{has_quote, SplitsQuote, SplitsRun, Takes}
+use Rattle.ed_syntax.specs.Private.PartFronts.{has_quote, SplitsQuote, SplitsRun, Takes}
 
 -- a byte that passes a test is none that fails it
 differs : (f : ℕ → Bool) (b k : ℕ) (c : Bool) → (b == k) ≡ c → f b ≡ true → f k ≡ false → (b == k) ≡ false

@@ -2,7 +2,7 @@
 use Rattle.std.proofs.Common.{◌≡◌, ◌∙◌, ℕ, ◌+◌, Bool, true, false, List, [], ◌∷◌, ◌++◌, refl, sym, ap, append_assoc}
 use Rattle.std.specs.Prelude.{◌==◌, Result, Ok, Err}
 use Rattle.ed_syntax.specs.Lines.{Text, lines_of}
-use Rattle.ed_syntax.specs.LineFronts.{with_front}
+use Rattle.ed_syntax.specs.Private.LineFronts.{with_front}
 use Rattle.ed_syntax.specs.Sources.{Fault, and_lines, line_of, lines_from, with_first}
 use Rattle.ed_syntax.specs.declared.fault.SourceCause.{SourceCause}
 use Rattle.ed_syntax.specs.declared.fault.SourceCause.TheVariants.{TooManyLines}

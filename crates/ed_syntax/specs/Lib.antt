@@ -1,10 +1,7 @@
-pub mod Names
 pub mod Lines
 pub mod Parts
 pub mod Grammar
 pub mod Sources
-pub mod Seen
-pub mod PartFronts
-pub mod LineFronts
 pub mod Answers
 pub mod Programs
+pub mod Private

@@ -14,7 +14,7 @@ pub struct Name {
 
 impl Model for Name {
     ghost use Rattle.std.specs.Prelude.{ℕ, List, take, length};
-    ghost use Rattle.ed_syntax.specs.Names.{padded, IsPadded};
+    ghost use Rattle.ed_syntax.specs.Private.Names.{padded, IsPadded};
 
     ghost Value = { List ℕ };
 
@@ -64,8 +64,9 @@ impl PartialEq for Name {
 
     ghost laws = { partial_equiv_from_equiv nat_list_eq_equiv };
 
+    #[tactic(auto, using(crate::proofs::NameBytes::same_bytes))]
     fn eq(&self, other: &Self) -> bool {
-        self.text() == other.text()
+        self.size == other.size && self.bytes == other.bytes
     }
 }
 

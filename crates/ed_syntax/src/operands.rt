@@ -2,10 +2,10 @@
 ghost use Rattle.std.specs.Prelude.{◌≡◌, ◌+◌, ◌≤◌, ◌∷◌, ◌==◌, ◌<◌, ◌^◌, length, map, option_map, IfSome};
 ghost use Rattle.std.specs.Borrow.{Bor};
 ghost use Rattle.std.specs.List.{list_any};
-ghost use Rattle.ed_syntax.specs.Grammar.{and_more, array, both, joined, joined_front, operand, preset, setting};
+ghost use Rattle.ed_syntax.specs.Grammar.{and_more, array, both, joined, operand, preset, setting};
 ghost use Rattle.ed_syntax.specs.Grammar.{setting_letter, settings, signed, single};
-ghost use Rattle.ed_syntax.specs.Parts.{run, sign};
-ghost use Rattle.ed_syntax.specs.Seen.{part};
+ghost use Rattle.ed_syntax.specs.Parts.{sign};
+ghost use Rattle.ed_syntax.specs.Private.Seen.{part};
 
 use crate::parts::Part;
 use crate::terms::{is, is_number, place_name, up_to};
@@ -65,37 +65,6 @@ fn joined(two: bool, run: &[u8], sign: u8, more: &[u8]) -> Option<Option<Operand
     }))
 }
 
-/// What a sign joins to a name, and the parts behind it.
-fn joined_front<'a, 'p>(
-    two: bool,
-    run: &'a [u8],
-    sign: u8,
-    parts: &'p [Part<'a>],
-) -> Option<(Option<Operand>, &'p [Part<'a>])>
-    ensures { option_map (λ p. (p.0, map part p.1.now)) result ≡ joined_front two run.entry.now sign (map part parts.entry.now) }
-{
-    match parts.split_first() {
-        Some((Part::Run(more), rest)) => Some((joined(two, run, sign, more)?, rest)),
-        _ => None,
-    }
-}
-
-/// The operand that a run begins, and the parts behind it.
-fn operand_of_run<'a, 'p>(
-    two: bool,
-    text: &'a [u8],
-    parts: &'p [Part<'a>],
-) -> Option<(Option<Operand>, &'p [Part<'a>])>
-    ensures { option_map (λ p. (p.0, map part p.1.now)) result ≡ operand two (run text.entry.now ∷ map part parts.entry.now) }
-{
-    match parts.split_first() {
-        Some((Part::Sign(sign), rest)) if *sign == b'+' || *sign == b'-' => {
-            joined_front(two, text, *sign, rest)
-        }
-        _ => Some((single(two, text)?, parts)),
-    }
-}
-
 /// An operand at the front, and the parts behind it.
 pub(crate) fn operand<'a, 'p>(
     two: bool,
@@ -103,8 +72,15 @@ pub(crate) fn operand<'a, 'p>(
 ) -> Option<(Option<Operand>, &'p [Part<'a>])>
     ensures { option_map (λ p. (p.0, map part p.1.now)) result ≡ operand two (map part parts.entry.now) }
 {
-    match parts.split_first() {
-        Some((Part::Run(run), rest)) => operand_of_run(two, run, rest),
+    match parts {
+        [
+            Part::Run(run),
+            Part::Sign(sign @ (b'+' | b'-')),
+            Part::Run(more),
+            rest @ ..,
+        ] => Some((joined(two, run, *sign, more)?, rest)),
+        [Part::Run(_), Part::Sign(b'+' | b'-'), ..] => None,
+        [Part::Run(run), rest @ ..] => Some((single(two, run)?, rest)),
         _ => None,
     }
 }

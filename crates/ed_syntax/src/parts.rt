@@ -1,8 +1,8 @@
 //! The parts of a line: runs, signs and strings.
 ghost use Rattle.std.specs.Prelude.{◌∷◌, true, ◌≡◌, ◌≤◌, ◌<◌, Some, None, IfSome, IfNone, IfOk, IfErr, map, false, length};
 ghost use Rattle.ed_syntax.specs.Parts.{begins_run, is_blank, is_run_byte, parts_of};
-ghost use Rattle.ed_syntax.specs.Seen.{part};
-ghost use Rattle.ed_syntax.specs.PartFronts.{SplitsRun, SplitsQuote, Takes, begins_blank, has_quote};
+ghost use Rattle.ed_syntax.specs.Private.Seen.{part};
+ghost use Rattle.ed_syntax.specs.Private.PartFronts.{SplitsRun, SplitsQuote, Takes, begins_blank, has_quote};
 
 use std::alloc::Global;
 

@@ -2,7 +2,7 @@
 ghost use Rattle.std.specs.Prelude.{◌≡◌, ◌==◌, ◌≤◌, ◌<◌, if◌then◌else◌, length, IfErr, IfOk, Ok};
 ghost use Rattle.std.specs.List.{list_all};
 ghost use Rattle.ed_syntax.specs.Answers.{IsFaultOf, LineIs, LinesAre};
-ghost use Rattle.ed_syntax.specs.LineFronts.{TakesLine, without_return};
+ghost use Rattle.ed_syntax.specs.Private.LineFronts.{TakesLine, without_return};
 ghost use Rattle.ed_syntax.specs.Lines.{lines_of};
 ghost use Rattle.ed_syntax.specs.Sources.{is_line_byte, is_two, line_of, lines_from, or_cause, program_of, version_of};
 

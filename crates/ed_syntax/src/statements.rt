@@ -5,7 +5,7 @@ ghost use Rattle.ed_syntax.specs.Grammar.{base, enter, fetch, form, form_at, fun
 ghost use Rattle.ed_syntax.specs.Grammar.{long, order, order_end, placed, segment, statement, tape_rows, unlabelled, value, word};
 ghost use Rattle.ed_syntax.specs.Grammar as grammar;
 ghost use Rattle.ed_syntax.specs.Parts.{run, sign};
-ghost use Rattle.ed_syntax.specs.Seen.{part};
+ghost use Rattle.ed_syntax.specs.Private.Seen.{part};
 
 use crate::operands::{operand, preset};
 use crate::parts::Part;
@@ -118,8 +118,8 @@ fn tape_rows(parts: &[Part]) -> Option<Option<Statement>>
 fn enter(parts: &[Part]) -> Option<Option<Statement>>
     ensures { result ≡ enter (map part parts.now) }
 {
-    match parts.split_first() {
-        Some((Part::Run(run), rest)) if rest.is_empty() => {
+    match parts {
+        [Part::Run(run)] => {
             let name = name(run)?;
             Some(Some(Statement::Enter { name }))
         }
@@ -131,24 +131,12 @@ fn enter(parts: &[Part]) -> Option<Option<Statement>>
 fn base(parts: &[Part]) -> Option<Option<Option<u16>>>
     ensures { result ≡ base (map part parts.now) }
 {
-    match parts.split_first() {
-        None => Some(Some(None)),
-        Some((Part::Run(at), rest)) => base_at(at, rest),
-        _ => None,
-    }
-}
-
-/// What follows the word `at` of a segment.
-fn base_at(at: &[u8], parts: &[Part]) -> Option<Option<Option<u16>>>
-    ensures { result ≡ base (run at.now ∷ map part parts.now) }
-{
-    match parts.split_first() {
-        Some((Part::Run(digits), rest)) if rest.is_empty() && is(at, b"at") => {
-            match number(1023, digits)? {
-                Some(base) => Some(Some(Some(base as u16))),
-                None => Some(None),
-            }
-        }
+    match parts {
+        [] => Some(Some(None)),
+        [Part::Run(at), Part::Run(digits)] if is(at, b"at") => match number(1023, digits)? {
+            Some(base) => Some(Some(Some(base as u16))),
+            None => Some(None),
+        },
         _ => None,
     }
 }
@@ -173,28 +161,13 @@ fn segment(parts: &[Part]) -> Option<Option<Statement>>
 fn fetch(two: bool, parts: &[Part]) -> Option<Option<Statement>>
     ensures { result ≡ fetch two (map part parts.now) }
 {
-    match parts.split_first() {
-        Some((Part::Run(routine), rest)) => fetch_of(two, routine, rest),
-        _ => None,
-    }
-}
-
-/// What follows the routine of a `use`.
-fn fetch_of(two: bool, routine: &[u8], parts: &[Part]) -> Option<Option<Statement>>
-    ensures { result ≡ fetch two (run routine.now ∷ map part parts.now) }
-{
-    match parts.split_first() {
-        Some((Part::Run(word), rest)) => fetch_as(two, routine, word, rest),
-        _ => None,
-    }
-}
-
-/// What follows the word `as` of a `use`.
-fn fetch_as(two: bool, routine: &[u8], word: &[u8], parts: &[Part]) -> Option<Option<Statement>>
-    ensures { result ≡ fetch two (run routine.now ∷ run word.now ∷ map part parts.now) }
-{
-    match parts.split_first() {
-        Some((Part::Run(run), rest)) if is(word, b"as") => {
+    match parts {
+        [
+            Part::Run(routine),
+            Part::Run(word),
+            Part::Run(run),
+            rest @ ..,
+        ] if is(word, b"as") => {
             let routine = name(routine)?;
             let name = name(run)?;
             match preset(two, rest)? {
@@ -325,18 +298,8 @@ fn form(two: bool, parts: &[Part]) -> Option<Option<Form>>
 pub(crate) fn is_version_two(parts: &[Part]) -> bool
     ensures { result ≡ is_version_two (map part parts.now) }
 {
-    match parts.split_first() {
-        Some((Part::Run(word), rest)) => is_version_of(word, rest),
-        _ => false,
-    }
-}
-
-/// Whether a word is `version`, and 2 follows it.
-fn is_version_of(word: &[u8], parts: &[Part]) -> bool
-    ensures { result ≡ is_version_two (run word.now ∷ map part parts.now) }
-{
-    match parts.split_first() {
-        Some((Part::Run(digits), rest)) if rest.is_empty() => {
+    match parts {
+        [Part::Run(word), Part::Run(digits)] => {
             is(word, b"version") && is_number(digits) && is_value_two(digits)
         }
         _ => false,

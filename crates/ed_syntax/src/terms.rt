@@ -5,9 +5,9 @@ ghost use Rattle.std.specs.Str.{bytes_eq};
 ghost use Rattle.ed_codes.specs.Spelling.{row_of};
 ghost use Rattle.ed_syntax.specs.Grammar.{array, integer, is_local_name, is_name, is_number, is_place_name, number, row};
 ghost use Rattle.ed_syntax.specs.Grammar.{signed, spells, string, string_rows, up_to};
-ghost use Rattle.ed_syntax.specs.Names.{IsNameText};
-ghost use Rattle.ed_syntax.specs.Parts.{is_digit, is_run_byte, sign};
-ghost use Rattle.ed_syntax.specs.Seen.{part};
+ghost use Rattle.ed_syntax.specs.Private.Names.{IsNameText};
+ghost use Rattle.ed_syntax.specs.Parts.{is_digit, is_run_byte};
+ghost use Rattle.ed_syntax.specs.Private.Seen.{part};
 
 use crate::Name;
 use crate::parts::{Part, is_run_byte};
@@ -140,20 +140,9 @@ pub(crate) fn integer(least: u64, most: u64, parts: &[Part]) -> Option<Option<i6
     requires most { most < 2 ^ 36 }
     ensures { result ≡ integer least most (map part parts.now) }
 {
-    match parts.split_first() {
-        Some((Part::Run(run), rest)) if rest.is_empty() => signed(false, number(most, run)),
-        Some((Part::Sign(sign), rest)) if *sign == b'-' => negative(least, most, rest),
-        _ => None,
-    }
-}
-
-/// What follows the minus sign of a number that may be `most` where it has none.
-fn negative(least: u64, most: u64, parts: &[Part]) -> Option<Option<i64>>
-    requires { least < 2 ^ 36 }
-    ensures { result ≡ integer least most (sign 45 ∷ map part parts.now) }
-{
-    match parts.split_first() {
-        Some((Part::Run(run), rest)) if rest.is_empty() => signed(true, number(least, run)),
+    match parts {
+        [Part::Run(run)] => signed(false, number(most, run)),
+        [Part::Sign(b'-'), Part::Run(run)] => signed(true, number(least, run)),
         _ => None,
     }
 }

@@ -1,6 +1,6 @@
 use Rattle.std.proofs.Common.{◌≡◌, ◌≤◌, length}
 use Rattle.ed_syntax.specs.Lines.{lines_of}
-use Rattle.ed_syntax.specs.LineFronts.{with_front}
+use Rattle.ed_syntax.specs.Private.LineFronts.{with_front}
 use Rattle.ed_syntax.specs.Sources.{lines_from}
 use Rattle.ed_syntax.proofs.source.lines.Given as goal
 

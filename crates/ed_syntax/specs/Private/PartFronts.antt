@@ -1,10 +1,10 @@
--- What the code takes from the front of a line. No public clause cites this.
+-- What the code takes from the front of a line.
 use Rattle.std.specs.Prelude.{◌≡◌, ◌<◌, ◌==◌, Bool, true, false, [], ◌∷◌, ◌++◌, Option, Some, None, Result, Ok, Err, length, option_map}
 use Rattle.std.specs.Borrow.{Bor}
 use Rattle.std.specs.List.{list_all, list_any}
 use Rattle.ed_syntax.specs.Lines.{Text}
 use Rattle.ed_syntax.specs.Parts.{parts_of, is_run_byte, begins_run, is_blank}
-use Rattle.ed_syntax.specs.Seen.{part}
+use Rattle.ed_syntax.specs.Private.Seen.{part}
 use Rattle.ed_syntax.specs.declared.parts.Part.{Part}
 use Rattle.ed_syntax.specs.declared.parts.OpenQuote.{OpenQuote}
 

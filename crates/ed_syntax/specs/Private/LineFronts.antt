@@ -1,4 +1,4 @@
--- What the code takes from the front of a text. No public clause cites this.
+-- What the code takes from the front of a text.
 use Rattle.std.specs.Prelude.{◌≡◌, ◌<◌, ◌==◌, Bool, List, [], ◌∷◌, ◌++◌, length, if◌then◌else◌, Result, Ok, Err}
 use Rattle.std.specs.List.{list_any}
 use Rattle.ed_syntax.specs.Lines.{Text, lines_of}

@@ -1,4 +1,4 @@
--- How a name lies in memory. No public clause cites this.
+-- How a name lies in memory.
 use Rattle.std.specs.Prelude.{◌≡◌, ℕ, ◌-◌, ◌<◌, ◌≤◌, List, ◌++◌, length, take, replicate, IsUtf8}
 
 -- the bytes of a name in 16, filled up with 0

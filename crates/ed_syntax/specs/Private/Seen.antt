@@ -1,4 +1,4 @@
--- The parts of the code, as those of the definition. No public clause cites this.
+-- The parts of the code, as those of the definition.
 use Rattle.ed_syntax.specs.Parts as spec
 use Rattle.ed_syntax.specs.declared.parts.Part.{Part}
 use Rattle.ed_syntax.specs.declared.parts.Part.TheVariants.{Run, Sign, Quoted}

@@ -1,0 +1,38 @@
+-- Two names are equal exactly where their sizes and their 16 bytes are.
+use Rattle.std.proofs.Common.{◌≡◌, ℕ, refl, sym, ap, ◌∙◌, Bool, true, false, ◌&&◌, nat_eq, List, take, length}
+use Rattle.std.specs.Bool.{Decides}
+use Rattle.std.specs.Cmp.Lexicographic.{pointwise}
+use Rattle.std.proofs.lemmas.Bool.{and_parts}
+use Rattle.std.proofs.lemmas.Bool.Decides.{Decides-eqb}
+use Rattle.std.proofs.lemmas.Slice.Eq.{slice_eq-Decides}
+use Rattle.ed_syntax.specs.Private.Names.{padded, IsPadded}
+
+-- the test of two lists decides whether they are one
+list_test : (xs ys : List ℕ) → Decides (pointwise nat_eq xs ys) (xs ≡ ys)
+list_test xs ys = slice_eq-Decides Decides-eqb xs ys (pointwise nat_eq xs ys) refl
+
+both_ways : (p q : Bool) → (p ≡ true → q ≡ true) → (q ≡ true → p ≡ true) → p ≡ q
+both_ways true q f g = sym (f refl)
+both_ways false true f g = g refl
+both_ways false false f g = refl
+
+and_true : (x y : Bool) → x ≡ true → y ≡ true → (x && y) ≡ true
+and_true x y h k = rw (h, k) refl
+
+pub same_bytes : (b d : List ℕ) (n m : ℕ) → IsPadded b n → IsPadded d m
+    → (nat_eq n m && pointwise nat_eq b d) ≡ pointwise nat_eq (take n b) (take m d)
+same_bytes b d n m p q = both_ways (nat_eq n m && pointwise nat_eq b d) (pointwise nat_eq (take n b) (take m d)) onward back
+  where
+    onward : (nat_eq n m && pointwise nat_eq b d) ≡ true → pointwise nat_eq (take n b) (take m d) ≡ true
+    onward h =
+        let parts = and_parts (nat_eq n m) (pointwise nat_eq b d) h in
+        let e : n ≡ m = (Decides-eqb n m).0 parts.0 in
+        let f : b ≡ d = (list_test b d).0 parts.1 in
+        (list_test (take n b) (take m d)).1 (ap (λ k. take k b) e ∙ ap (λ (x : List ℕ). take m x) f)
+
+    back : pointwise nat_eq (take n b) (take m d) ≡ true → (nat_eq n m && pointwise nat_eq b d) ≡ true
+    back h =
+        let t : take n b ≡ take m d = (list_test (take n b) (take m d)).0 h in
+        let e : n ≡ m = sym p.size ∙ ap (λ (x : List ℕ). length x) t ∙ q.size in
+        let f : b ≡ d = sym p.zeros ∙ ap padded t ∙ q.zeros in
+        and_true (nat_eq n m) (pointwise nat_eq b d) ((Decides-eqb n m).1 e) ((list_test b d).1 f)
