@@ -1,7 +1,7 @@
 -- The catalogue of the library: its routines in order of name (this project's own). A routine is its index in the
 -- catalogue in all that follows, counted from 0.
 use Rattle.std.specs.Prelude.{ℕ, Bool, List, [], ◌∷◌, length, slice_index_or, codes}
-use Rattle.ed_library.specs.declared.tables.TheConstants.{NEWLINE}
+use Rattle.ed_library.specs.declared.tables.TheConstants.{NEWLINE, PRINT, READ}
 
 -- what the catalogue says of a routine: its name, the letters of its preset parameters, the places of its own text that
 -- it changes, and its items, each a function, a number, whether a π stands behind the number, and an ending row
@@ -13,12 +13,20 @@ pub record Entry : Type 0 where
 
 -- the routines in order of name
 abbrev pub catalogue : List Entry
-catalogue = record { name = codes "newline"; parameters = []; working = 4 ∷ []; items = NEWLINE } ∷ []
+catalogue =
+    record { name = codes "newline"; parameters = []; working = 4 ∷ []; items = NEWLINE }
+    ∷ record { name = codes "print"; parameters = 21 ∷ []; working = 11 ∷ 38 ∷ 47 ∷ 48 ∷ 49 ∷ 50 ∷ []; items = PRINT }
+    ∷ record { name = codes "read"; parameters = 21 ∷ []; working = 19 ∷ 21 ∷ 22 ∷ 23 ∷ []; items = READ }
+    ∷ []
 
 -- the number of routines
 abbrev pub how_many : ℕ
 how_many = length catalogue
 
--- what the catalogue says of a routine; of one that it hasn't, that it is empty
+-- what stands for a routine that the catalogue hasn't
+abbrev pub no_entry : Entry
+no_entry = record { name = []; parameters = []; working = []; items = [] }
+
+-- what the catalogue says of a routine
 abbrev pub entry : ℕ → Entry
-entry r = slice_index_or catalogue r (record { name = []; parameters = []; working = []; items = [] })
+entry r = slice_index_or catalogue r no_entry

@@ -1,7 +1,8 @@
 //! The library: routines that a source may use, by their names, and the words that they have at a place in the store.
 //!
-//! The contract is that every reader gives what the catalogue's tables say, and that an image's word is the item's word
-//! with θ twice the base and with the preset parameters. Stands on `ed_words`, `ed_codes`, `ed_notation` and `arrayvec`.
+//! The contract is that every reader gives what the catalogue's tables say, that each routine of the catalogue can be
+//! linked and their names rise, and that an image's word is what the notation makes of the item, with θ twice the base
+//! and with the preset parameters. Stands on `ed_words`, `ed_codes`, `ed_notation` and `arrayvec`.
 #![tactic(auto)]
 
 mod catalogue;
@@ -12,4 +13,4 @@ mod tables;
 pub use catalogue::{catalogue_size, find, routine};
 pub use images::{Parameters, image_word};
 pub use library::Routine;
-pub use tables::NEWLINE;
+pub use tables::{NEWLINE, PRINT, READ};

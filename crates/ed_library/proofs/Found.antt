@@ -1,0 +1,11 @@
+-- The search for a routine by its name.
+use Rattle.std.proofs.Common.{◌≡◌, ◌<◌, ℕ, ◌+◌, false, List, length, drop}
+use Rattle.std.specs.Str.{bytes_eq}
+use Rattle.std.proofs.lemmas.List.{drop_more}
+use Rattle.ed_library.specs.Entries.{catalogue, entry, no_entry}
+use Rattle.ed_library.specs.Routines.{find_from}
+
+-- a routine of another name is passed over
+pub passed_over : (text : List ℕ) (r : ℕ) → r < length catalogue → bytes_eq (entry r).name text ≡ false
+    → find_from text r (drop r catalogue) ≡ find_from text (r + 1) (drop (r + 1) catalogue)
+passed_over text r below other = rw (drop_more catalogue r no_entry below) (simp other)
