@@ -1,6 +1,6 @@
 -- Places of names: a name's place is that of its first definition, a local name's that of its first definition in the
 -- segment of the line that asks (this project's own rule).
-use Rattle.std.specs.Prelude.{ℕ, ◌==◌, ◌&&◌, ◌||◌, not, Bool, false, List}
+use Rattle.std.specs.Prelude.{ℕ, ◌+◌, ◌==◌, ◌&&◌, ◌||◌, not, Bool, false, List}
 use Rattle.std.specs.Prelude.{[], ◌∷◌, ◌++◌, Option, Some, None, unwrap_or, option_map, if◌then◌else◌}
 use Rattle.std.specs.Str.{bytes_eq}
 use Rattle.ed_syntax.specs.declared.program.Statement.{Statement}
@@ -20,9 +20,11 @@ abbrev pub label_home : Option (List ℕ) → Option Statement → Spot → Opti
 label_home None statement s = None
 label_home (Some name) statement s = Some (record { name = name; place = label_place statement s; segment = segment_at s })
 
--- what a statement defines: a segment's name, and the second name of a `use`
+-- what a statement defines: a segment's name, which belongs to its segment, and the second name of a `use`, which belongs
+-- to none
 abbrev pub name_home : Option Statement → Spot → Option Home
-name_home (Some (Segment name base)) s = Some (record { name = name; place = unwrap_or base s.place; segment = None })
+name_home (Some (Segment name base)) s =
+    Some (record { name = name; place = unwrap_or base s.place; segment = Some (s.segments + 1) })
 name_home (Some (Fetch routine name settings)) s = Some (record { name = name; place = even s.place; segment = None })
 name_home _ s = None
 

@@ -19,22 +19,24 @@ taken (Some r) = places r
 
 -- before the first line: place 56, outside every segment
 abbrev pub first_spot : Spot
-first_spot = record { place = 56; segments = 0; inside = false }
+first_spot = record { place = 56; base = 56; segments = 0; inside = false }
 
 -- the place moves on by some words
 abbrev pub moved : ℕ → Spot → Spot
 moved n s = record s { place = s.place + n }
 
 -- behind a statement: `segment` sets the place or leaves it, an order and `word` take 1 place, `text` one for each row,
--- `use` the routine's length from an even place on and `long` 2 from an even place on
+-- `use` the routine's length from an even place on and `long` 2 from an even place on; `segment` and `use` have their base
+-- where they begin
 abbrev pub passed : Option Statement → Spot → Spot
 passed None s = s
-passed (Some (Segment name base)) s = record { place = unwrap_or base s.place; segments = s.segments + 1; inside = true }
+passed (Some (Segment name base)) s =
+    record { place = unwrap_or base s.place; base = unwrap_or base s.place; segments = s.segments + 1; inside = true }
 passed (Some (Order function operand length)) s = moved 1 s
 passed (Some (Number value)) s = moved 1 s
 passed (Some (Text codes)) s = moved (length codes.items) s
 passed (Some (Fetch routine name settings)) s =
-    record { place = even s.place + taken (find routine); segments = s.segments + 1; inside = false }
+    record { place = even s.place + taken (find routine); base = even s.place; segments = s.segments + 1; inside = false }
 passed (Some (Enter name)) s = s
 passed (Some (Rows codes)) s = s
 passed (Some (Long value)) s = record s { place = even s.place + 2 }

@@ -9,7 +9,7 @@ use crate::spots::Spot;
 use ed_syntax::{Line, Operand, Setting, SourceCause, Statement};
 
 /// The value of an operand on a line of a segment.
-fn value(homes: &[Home], segment: Option<u32>, operand: &Operand) -> Option<i64>
+pub fn value(homes: &[Home], segment: Option<u32>, operand: &Operand) -> Option<i64>
     ensures { result ≡ value homes.now segment operand.now }
 {
     match operand {

@@ -9,12 +9,14 @@ use ed_syntax::{Line, Name, Statement};
 use ed_words::NoMemory;
 
 /// The definition of a name.
-#[derive(Clone, Copy)]
-pub(crate) struct Home {
-    pub(crate) name: Name,
-    pub(crate) place: u32,
-    /// The segment in which a label is defined.
-    pub(crate) segment: Option<u32>,
+#[derive(Clone, Copy, Debug, PartialEq, Eq)]
+pub struct Home {
+    pub name: Name,
+    /// The place for which the name stands.
+    pub place: u32,
+    /// The number of the segment to which the name belongs: a label to that of its line, a segment's name to its own, and
+    /// the second name of a `use` to none.
+    pub segment: Option<u32>,
 }
 
 /// The place for which the label of a line stands.
@@ -45,14 +47,15 @@ fn label_home(line: &Line, spot: Spot) -> Option<Home>
 
 /// What a statement defines.
 fn name_home(statement: &Option<Statement>, spot: Spot) -> Option<Home>
-    requires { spot.place ≤ 2 ^ 30 }
+    requires place { spot.place ≤ 2 ^ 30 }
+    requires segments { spot.segments ≤ 2000 }
     ensures { result ≡ name_home statement.now spot }
 {
     match statement {
         Some(Statement::Segment { name, base }) => Some(Home {
             name: *name,
             place: base_or(base, spot.place),
-            segment: None,
+            segment: Some(spot.segments + 1),
         }),
         Some(Statement::Fetch { name, .. }) => Some(Home {
             name: *name,
@@ -64,7 +67,7 @@ fn name_home(statement: &Option<Statement>, spot: Spot) -> Option<Home>
 }
 
 /// Whether a name is local.
-fn is_local(name: &Name) -> bool
+pub fn is_local(name: &Name) -> bool
     ensures { result ≡ is_local name.now }
 {
     match name.text().as_bytes().split_first() {
@@ -88,12 +91,12 @@ impl Home {
     fn is_of(&self, segment: Option<u32>, name: &Name) -> bool
         ensures { result ≡ is_home segment name.now self.now }
     {
-        self.name.text() == name.text() && (!is_local(name) || same_segment(self.segment, segment))
+        self.name == *name && (!is_local(name) || same_segment(self.segment, segment))
     }
 }
 
 /// The first definition of a name, on a line of a segment.
-pub(crate) fn find_home(homes: &[Home], segment: Option<u32>, name: &Name) -> Option<Home>
+pub fn find_home(homes: &[Home], segment: Option<u32>, name: &Name) -> Option<Home>
     ensures { result ≡ home_of segment name.now homes.now }
 {
     for home in homes {
@@ -105,7 +108,7 @@ pub(crate) fn find_home(homes: &[Home], segment: Option<u32>, name: &Name) -> Op
 }
 
 /// The place of a name on a line of a segment, if it has one there.
-pub(crate) fn find_place(homes: &[Home], segment: Option<u32>, name: &Name) -> Option<u32>
+pub fn find_place(homes: &[Home], segment: Option<u32>, name: &Name) -> Option<u32>
     ensures { result ≡ place_on homes.now segment name.now }
 {
     match find_home(homes, segment, name) {
@@ -133,7 +136,8 @@ fn add(homes: &mut Vec<Home>, home: Option<Home>) -> Result<bool, NoMemory>
 
 /// Adds what a line defines, and says whether a name of it was defined already.
 pub(crate) fn add_line(homes: &mut Vec<Home>, line: &Line, spot: Spot) -> Result<bool, NoMemory>
-    requires { spot.place ≤ 2 ^ 30 }
+    requires place { spot.place ≤ 2 ^ 30 }
+    requires segments { spot.segments ≤ 2000 }
     ensures homes { OnOk result (homes.new.items ≡ homes.old.items ++ defined line.now spot) }
     ensures again { IfOk result (λ again. again ≡ defines_again homes.old.items line.now spot) }
 {

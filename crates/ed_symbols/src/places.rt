@@ -1,11 +1,11 @@
 ghost use Rattle.std.specs.Prelude.{◌≡◌, ◌-◌, ◌≤◌, IfOk, None, [], length};
 ghost use Rattle.ed_symbols.specs.Faults.{fault_from, resolved};
-ghost use Rattle.ed_symbols.specs.Names.{homes_from, place_on};
+ghost use Rattle.ed_symbols.specs.Names.{home_of, homes_from, place_on};
 ghost use Rattle.ed_symbols.specs.Places.{first_spot, standings_from};
-ghost use Rattle.ed_symbols.specs.Readers.{line_place, line_segment};
+ghost use Rattle.ed_symbols.specs.Readers.{line_place, line_segment, standing_at};
 
 use crate::faults::cause_of;
-use crate::homes::{Home, add_line, find_place};
+use crate::homes::{Home, add_line, find_home, find_place};
 use crate::spots::{Spot, Standing, standing_of};
 use ed_syntax::{Name, Program, SourceFault};
 use ed_words::NoMemory;
@@ -85,13 +85,39 @@ pub fn resolve(alloc: Global, program: &Program) -> Result<Places, NoMemory>
 }
 
 impl Places {
+    /// What the source defines, in its order: the labels, the names of segments and the second names of `use` lines.
+    pub fn homes(&self) -> &[Home]
+        ensures { result.now ≡ self.now.homes }
+    {
+        self.homes.as_slice()
+    }
+
+    /// Where a line stands.
+    fn standing(&self, line: u32) -> Standing
+        requires from_one { 1 ≤ line }
+        requires of_the_program { line ≤ length self.now.standings }
+        ensures { result ≡ standing_at self.now line }
+    {
+        self.standings[(line - 1) as usize]
+    }
+
     /// The place before a line, which is counted from 1 and is one of the program.
     pub fn line_place(&self, line: u32) -> u32
         requires from_one { 1 ≤ line }
         requires of_the_program { line ≤ length self.now.standings }
         ensures { result ≡ line_place self.now line }
     {
-        self.standings[(line - 1) as usize].place
+        self.standing(line).place
+    }
+
+    /// The number of the segment to which a line belongs, if it belongs to one. The line is counted from 1 and is one of
+    /// the program.
+    pub fn line_segment(&self, line: u32) -> Option<u32>
+        requires from_one { 1 ≤ line }
+        requires of_the_program { line ≤ length self.now.standings }
+        ensures { result ≡ line_segment self.now line }
+    {
+        self.standing(line).segment
     }
 
     /// The place of a name that isn't local, by its first definition. A local name has none.
@@ -108,11 +134,17 @@ impl Places {
         requires of_the_program { line ≤ length self.now.standings }
         ensures { result ≡ place_on self.now.homes (line_segment self.now line) name.now }
     {
-        find_place(
-            &self.homes,
-            self.standings[(line - 1) as usize].segment,
-            name,
-        )
+        find_place(&self.homes, self.line_segment(line), name)
+    }
+
+    /// The definition of a name that a line sees, with the number of the segment to which the name belongs. The line is
+    /// counted from 1 and is one of the program.
+    pub fn home_at(&self, line: u32, name: &Name) -> Option<Home>
+        requires from_one { 1 ≤ line }
+        requires of_the_program { line ≤ length self.now.standings }
+        ensures { result ≡ home_of (line_segment self.now line) name.now self.now.homes }
+    {
+        find_home(&self.homes, self.line_segment(line), name)
     }
 
     /// The least of the faults S6 to S8 by line and then number, if there is one.

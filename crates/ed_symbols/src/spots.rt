@@ -7,14 +7,16 @@ use ed_library::find;
 use ed_syntax::{Line, Name, Statement};
 
 /// What the lines before a line come to.
-#[derive(Clone, Copy)]
-pub(crate) struct Spot {
+#[derive(Clone, Copy, Debug, PartialEq, Eq)]
+pub struct Spot {
     /// The place before the line.
-    pub(crate) place: u32,
+    pub place: u32,
+    /// The place at which the last `segment` or `use` line before it begins, and 56 where there is none.
+    pub base: u32,
     /// How many `segment` and `use` lines stand before the line.
-    pub(crate) segments: u32,
+    pub segments: u32,
     /// Whether the last of these is a `segment` line.
-    pub(crate) inside: bool,
+    pub inside: bool,
 }
 
 /// The place before a line, and the segment to which the line belongs.
@@ -25,7 +27,7 @@ pub(crate) struct Standing {
 }
 
 /// A place, raised by 1 where it is odd.
-pub(crate) fn even(place: u32) -> u32
+pub fn even(place: u32) -> u32
     requires { place ≤ 2 ^ 30 }
     ensures is { result ≡ even place }
     ensures near { result ≤ place + 1 }
@@ -57,11 +59,12 @@ pub(crate) fn base_or(base: &Option<u16>, place: u32) -> u32
 
 impl Spot {
     /// Before the first line.
-    pub(crate) fn first() -> Spot
+    pub fn first() -> Spot
         ensures { result ≡ first_spot }
     {
         Spot {
             place: 56,
+            base: 56,
             segments: 0,
             inside: false,
         }
@@ -80,7 +83,7 @@ impl Spot {
     }
 
     /// Behind a statement.
-    pub(crate) fn passed(self, statement: &Option<Statement>) -> Spot
+    pub fn passed(self, statement: &Option<Statement>) -> Spot
         requires place { self.place ≤ 2 ^ 30 }
         requires segments { self.segments ≤ 2000 }
         ensures is { result ≡ passed statement.now self }
@@ -97,11 +100,13 @@ impl Spot {
             },
             Some(Statement::Segment { base, .. }) => Spot {
                 place: base_or(base, self.place),
+                base: base_or(base, self.place),
                 segments: self.segments + 1,
                 inside: true,
             },
             Some(Statement::Fetch { routine, .. }) => Spot {
                 place: even(self.place) + taken(routine),
+                base: even(self.place),
                 segments: self.segments + 1,
                 inside: false,
             },
@@ -109,7 +114,7 @@ impl Spot {
     }
 
     /// The segment of the spot.
-    pub(crate) fn segment(self) -> Option<u32>
+    pub fn segment(self) -> Option<u32>
         ensures { result ≡ segment_at self }
     {
         if self.inside {
