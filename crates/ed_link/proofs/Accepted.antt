@@ -1,0 +1,126 @@
+-- The tape of an accepted source, row by row.
+use Rattle.std.proofs.Common.{◌≡◌, ℕ, ◌+◌, ◌*◌, refl, sym, ap, ◌∙◌, subst, arith, Bool, true, false, nat_le}
+use Rattle.std.proofs.Common.{Option, Some, None, List, [], ◌∷◌, ◌++◌, length, append_assoc, length-append, if◌then◌else◌}
+use Rattle.std.specs.Prelude.{reverse, slice_index}
+use Rattle.std.specs.List.{list_all}
+use Rattle.std.proofs.lemmas.List.{append-nil}
+use Rattle.ed_words.specs.declared.size.Size.{Size}
+use Rattle.ed_notation.specs.declared.item.Item.{Item}
+use Rattle.ed_notation.specs.Items.{rows_of, spelled, item as item_in, items, IsWritten}
+use Rattle.ed_notation.specs.Fold.{Note, is_entry, item_word, fold, cost_of, costs, address}
+use Rattle.ed_notation.specs.Openings.{IsDirective, opening}
+use Rattle.ed_notation.specs.Faults.{IsSound, WellFormed, ComesTo}
+use Rattle.ed_notation.specs.Spellings.{AreSpellable, canonical, canonicals}
+use Rattle.ed_notation.proofs.Canonical.{is_written}
+use Rattle.ed_notation.proofs.Cuts.{spelled-append, costs-append, canonicals-append}
+use Rattle.ed_notation.proofs.Sound.{sound_well}
+use Rattle.ed_library.specs.Entries.{catalogue}
+use Rattle.ed_library.specs.Ready.{is_ready}
+use Rattle.ed_syntax.specs.declared.program.Line.{Line}
+use Rattle.ed_syntax.specs.declared.fault.SourceFault.{SourceFault}
+use Rattle.ed_syntax.specs.Programs.{is_line}
+use Rattle.ed_symbols.specs.Places.{first_spot}
+use Rattle.ed_link.specs.Linked.{homes_of, linked, after, entry_of, theta_from}
+use Rattle.ed_link.specs.Punch.{item, punched}
+use Rattle.ed_link.specs.Faults.{any_enter, missing, sooner, fault, line_of}
+use Rattle.ed_link.specs.Tapes.{punched_rows, tape, arrival}
+use Rattle.ed_link.proofs.Passes.{taken}
+use Rattle.ed_link.proofs.Orders.{split}
+use Rattle.ed_link.proofs.Inductions.{Ends, ends}
+use Rattle.ed_link.proofs.Costs.{NoZed, passes_no_zed, same_costs}
+
+no_zed-append : (is js : List Item) → NoZed is → NoZed js → NoZed (is ++ js)
+no_zed-append [] js p q = q
+no_zed-append (i ∷ is) js p q = (p.0, no_zed-append is js p.1 q)
+
+-- neither of two is a fault
+none_of : (a b : Option SourceFault) → sooner a b ≡ None → (a ≡ None) × (b ≡ None)
+none_of None b h = (refl, h)
+none_of (Some a) None h = cc
+none_of (Some a) (Some b) h = by_test (nat_le (line_of a) (line_of b)) h
+  where
+    by_test : (t : Bool) → ◌≡◌ {A = Option SourceFault} (if t then Some a else Some b) None
+        → (◌≡◌ {A = Option SourceFault} (Some a) None) × (◌≡◌ {A = Option SourceFault} (Some b) None)
+    by_test true h = cc
+    by_test false h = cc
+
+-- there is an `enter`
+there_is : (any : Bool) (n : ℕ) → missing any n ≡ None → any ≡ true
+there_is true n h = refl
+there_is false n h = cc
+
+abbrev last_item : Item
+last_item = item 0 0 false 17
+
+-- the directive before the first item
+first : (words : List ℕ) → IsDirective 20568
+first words = record { no_1 = omega arith; no_2 = omega arith; no_4 = omega arith; most = omega arith }
+
+module _ (tables : list_all is_ready catalogue ≡ true) (z : Size) (two : Bool) (lines : List Line) (accepted : fault z lines
+    ≡ None) (formed : list_all (is_line two) lines ≡ true)
+    (spelled_are : AreSpellable (punched lines)) (words : List ℕ) (whole : length words ≡ 1024) where
+  an_end : Ends z words (homes_of lines) (slice_index words 42) first_spot (opening words) lines
+  an_end =
+      let a = none_of _ _ accepted in
+      let b = none_of _ _ a.1 in
+      let any = there_is (any_enter lines) (length lines) b.1 in
+      ends tables z words whole (homes_of lines) (any_enter lines) two lines (record { runs = []; entered = false })
+      [] first_spot (opening words) (slice_index words 42)
+      formed b.0 a.0 refl any spelled_are (record { base = omega arith; follows = λ h. cc; theta_is = refl })
+
+  by_end : Ends z words (homes_of lines) (slice_index words 42) first_spot (opening words) lines
+      → WellFormed z words (opening words) (tape lines) × ComesTo words (opening words) 9 (tape lines) (arrival words lines)
+  by_end e =
+      let ws = canonicals e.before in
+      let w = canonical last_item in
+      let are = split e.before (last_item ∷ []) (subst (λ (is : List Item). AreSpellable is) e.items spelled_are) in
+      let t = (taken z words (opening words) e.last e.before are.0 e.passes).1 in
+      let good : IsWritten w = is_written last_item refl in
+      let cut : canonicals (punched lines) ≡ ws ++ (w ∷ []) = ap (λ is. canonicals is) e.items
+      ∙ canonicals-append e.before (last_item ∷ []) in
+      let rows : punched_rows lines ≡ spelled ws ++ rows_of w =
+      ap (λ x. spelled x) cut ∙ spelled-append ws (w ∷ []) ∙ ap (λ x. spelled ws ++ x) (append-nil (rows_of w)) in
+      let all : tape lines ≡ spelled ws ++ (rows_of w ++ after lines) =
+      ap (λ x. x ++ after lines) rows ∙ append_assoc (spelled ws) (rows_of w) (after lines) in
+      let note : Note = record {
+        directive = 12288 + 2 * entry_of lines;
+        theta = theta_from (slice_index words 42)
+            first_spot lines;
+        placed = reverse (linked lines);
+      } in
+      let last_is : e.last ≡ note = λ i. record {
+        directive = e.directive i;
+        theta = e.theta_is i;
+        placed = (e.placed ∙ append-nil (reverse (linked lines))) i;
+      } in
+      let f = t.folds in
+      let zeds = no_zed-append e.before (last_item ∷ []) (passes_no_zed z words (opening words) e.last e.before e.passes) (refl, tt) in
+      let k : costs [] (opening []) (canonicals (punched lines)) ≡ costs words (opening words) (canonicals (punched lines)) =
+      same_costs [] words (opening []) (opening words) (punched lines) (subst NoZed (sym e.items) zeds) refl in
+      let c : costs words (opening words) (canonicals (punched lines))
+      ≡ costs words (opening words) ws + costs words (fold words (opening words) (items ws)) (w ∷ []) =
+      ap (λ x. costs words (opening words) x) cut ∙ costs-append words (opening words) ws (w ∷ []) in
+      let d : costs words (fold words (opening words) (items ws)) (w ∷ [])
+      ≡ cost_of note w + 0 = ap (λ (n : Note). cost_of n w + 0) (f ∙ last_is) in (
+        subst (λ x. WellFormed z words (opening words) x) (sym all)
+            (sound_well z words (opening words) ws w (after lines) (first words) t.are_read t.are_sound good
+            (ap (λ (n : Note). is_entry n (item_in w)) f ∙ e.enters.enters)
+            (subst (λ (n : Note). IsSound z words n w) (sym f) e.enters.sound)),
+        record {
+          before = ws;
+          last = w;
+          are_read = t.are_read;
+          is_written = good;
+          note_is = sym (f ∙ last_is);
+          is_entry = subst (λ (n : Note). is_entry n (item_in w) ≡ true) last_is e.enters.enters;
+          rows_are = all;
+          last_is = refl;
+          at_is = sym (subst (λ (n : Note). address n.directive ≡ entry_of lines) last_is e.enters.place);
+          word_is = sym (subst (λ (n : Note). item_word words n (item_in w) ≡ 0) last_is e.enters.word);
+          cost_is = omega (arith, k, c, d);
+          read_is = ap (λ (x : List ℕ). length x) rows ∙ length-append (spelled ws) (rows_of w);
+        },
+      )
+
+  pub accepted_law : WellFormed z words (opening words) (tape lines) × ComesTo words (opening words) 9 (tape lines) (arrival words lines)
+  accepted_law = by_end an_end

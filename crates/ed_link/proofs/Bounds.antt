@@ -1,0 +1,165 @@
+-- How many rows a line gives.
+use Rattle.std.proofs.Common.{◌≡◌, ℕ, ◌+◌, ◌*◌, ◌/◌, ◌%◌, ◌^◌, ◌≤◌, subst, arith, lit≤, Bool, true, false, nat_eq}
+use Rattle.std.proofs.Common.{nat_le, if◌then◌else◌, Option, Some, None}
+use Rattle.std.proofs.Common.{List, [], ◌∷◌, ◌++◌, length, map, length-append}
+use Rattle.std.specs.List.{flat_map}
+use Rattle.std.proofs.lemmas.List.{length-map}
+use Rattle.ed_notation.specs.declared.item.Item.{Item}
+use Rattle.ed_notation.specs.Items.{mark_rows, rows_of, begun_rows, spelled}
+use Rattle.ed_notation.specs.Spellings.{canonical, canonicals, digit_at, digits_of}
+use Rattle.ed_library.specs.Entries.{entry}
+use Rattle.ed_library.specs.Routines.{find, item_of, places}
+use Rattle.ed_syntax.specs.declared.program.Operand.{Operand}
+use Rattle.ed_syntax.specs.declared.program.Setting.{Setting}
+use Rattle.ed_syntax.specs.declared.program.Statement.{Statement}
+use Rattle.ed_syntax.specs.declared.program.Statement.TheVariants.{Segment, Order, Number, Text, Long, Fetch, Enter, Rows}
+use Rattle.ed_symbols.specs.declared.homes.Home.{Home}
+use Rattle.ed_symbols.specs.declared.spots.Spot.{Spot}
+use Rattle.ed_symbols.specs.Places.{even, segment_at}
+use Rattle.ed_link.specs.Linked.{letters, long_words, number, rows_of as data_of, setting}
+use Rattle.ed_link.specs.Punch.{goes_by_theta, heads, headed, order_item, items_of, preset_items, routine_items}
+use Rattle.ed_link.specs.Punch.{use_items, word_item}
+use Rattle.ed_link.specs.Private.Building.{IsFew}
+
+digit_few : (p n : ℕ) (t : Bool) → length (if t then (n / p % 10) ∷ [] else []) ≤ 1
+digit_few p n true = lit≤ tt
+digit_few p n false = lit≤ tt
+
+mark_few : (m : Bool) → length (mark_rows m) ≤ 1
+mark_few true = lit≤ tt
+mark_few false = lit≤ tt
+
+one : (p n : ℕ) → length (digit_at p n) ≤ 1
+one p n = digit_few p n (nat_le p n)
+
+-- a number has 5 digit rows at the most
+digits_few : (n : ℕ) → length (digits_of n) ≤ 5
+digits_few n =
+    let e = digit_at 1 n in
+    let d = digit_at 10 n ++ e in
+    let c = digit_at 100 n ++ d in
+    let b = digit_at 1000 n ++ c in
+    omega (
+      arith,
+      length-append (digit_at 10000 n) b,
+      length-append (digit_at 1000 n) c,
+      length-append (digit_at 100 n) d,
+      length-append (digit_at 10 n) e,
+      one 10000 n,
+      one 1000 n,
+      one 100 n,
+      one 10 n,
+      one 1 n,
+    )
+
+-- an item has 8 rows at the most
+pub rows_few : (is : List Item) → length (spelled (canonicals is)) ≤ 8 * length is
+rows_few [] = lit≤ tt
+rows_few (i ∷ is) =
+    let w = canonical i in
+    omega (
+      arith,
+      rows_few is,
+      length-append (rows_of w) (spelled (canonicals is)),
+      length-append (begun_rows w.begun) (i.end ∷ []),
+      length-append (digits_of i.number) (mark_rows i.mark),
+      digits_few i.number,
+      mark_few i.mark,
+    )
+
+-- a whole tape
+pub tape_few : (is : List Item) (rows : List ℕ) → length is ≤ 480000 → length rows ≤ 240000
+    → length (spelled (canonicals is)) + length rows ≤ 2 ^ 22
+tape_few is rows h k = omega (arith, h, k, rows_few is)
+
+heads_few : (first : Bool) (base : ℕ) → length (heads first base) ≤ 2
+heads_few true base = lit≤ tt
+heads_few false base = lit≤ tt
+
+-- the head of a segment is 2 items
+headed_few : (is : List Item) (first : Bool) (base : ℕ) → length (headed is first base) ≤ length is + 2
+headed_few [] first base = omega arith
+headed_few (i ∷ is) first base = omega (arith, length-append (heads first base) (i ∷ is), heads_few first base)
+
+preset_few : (homes : List Home) (o : Option Operand) (c : ℕ) → length (preset_items homes o c) ≤ 2
+preset_few homes None c = lit≤ tt
+preset_few homes (Some o) c = lit≤ tt
+
+-- a parameter is 2 items
+presets_few : (homes : List Home) (ts : List Setting) (cs : List ℕ)
+    → length (flat_map (λ c. preset_items homes (setting ts c) c) cs) ≤ 2 * length cs
+presets_few homes ts [] = lit≤ tt
+presets_few homes ts (c ∷ cs) =
+    omega (
+      arith,
+      preset_few homes (setting ts c) c,
+      presets_few homes ts cs,
+      length-append (preset_items homes (setting ts c) c) (flat_map (λ c. preset_items homes (setting ts c) c) cs),
+    )
+
+-- the 6 parameters and the head of a routine are 14 items
+routine_few : (found : Option ℕ) (n : ℕ) → length (routine_items found) ≤ n → (homes : List Home) (ts : List Setting) (base : ℕ)
+    → length (use_items homes ts base found) ≤ n + 14
+routine_few found n h homes ts base =
+    omega (
+      arith,
+      presets_few homes ts letters,
+      headed_few (routine_items found) true base,
+      length-append (flat_map (λ c. preset_items homes (setting ts c) c) letters) (headed (routine_items found) true base),
+    )
+
+long_few : (b : Bool) (v w : ℕ) → length (map word_item ((if b then 0 ∷ [] else []) ++ (v ∷ (w ∷ [])))) ≤ 3
+long_few true v w = lit≤ tt
+long_few false v w = lit≤ tt
+
+-- a line gives 240 items at the most
+pub items_few : (homes : List Home) (s : Spot) (st : Option Statement) → IsFew st → length (items_of homes s st) ≤ 240
+items_few homes s None h = lit≤ tt
+items_few homes s (Some (Segment name base)) h = lit≤ tt
+items_few homes s (Some (Order f o long)) h = omega (
+  arith,
+  headed_few (order_item (goes_by_theta homes s o)
+      s.base f (number homes (segment_at s) o) long ∷ []) (nat_eq s.place s.base) s.base,
+)
+items_few homes s (Some (Number w)) h = omega (arith, headed_few (word_item w ∷ []) (nat_eq s.place s.base) s.base)
+items_few homes s (Some (Text codes)) h =
+    let ws = map (λ c. 4096 * c) codes.items in
+    omega (
+      arith,
+      headed_few (map word_item ws) (nat_eq s.place s.base)
+          s.base,
+      length-map ws word_item,
+      length-map codes.items (λ c. 4096 * c),
+      h,
+    )
+items_few homes s (Some (Long v)) h =
+    omega (
+      arith,
+      headed_few (map word_item (long_words s.place v)) (nat_eq s.place s.base)
+          s.base,
+      long_few (nat_eq (s.place % 2) 1) (v % 2 ^ 17) (v / 2 ^ 18),
+    )
+items_few homes s (Some (Fetch routine name ts)) h =
+    let r = routine_few (find routine) 128 h homes ts.items (even s.place) in omega (arith, r)
+items_few homes s (Some (Enter name)) h = lit≤ tt
+items_few homes s (Some (Rows codes)) h = lit≤ tt
+
+-- a line gives 120 rows behind the program at the most
+pub data_few : (st : Option Statement) → IsFew st → length (data_of st) ≤ 120
+data_few None h = lit≤ tt
+data_few (Some (Segment name base)) h = lit≤ tt
+data_few (Some (Order f o long)) h = lit≤ tt
+data_few (Some (Number w)) h = lit≤ tt
+data_few (Some (Text codes)) h = lit≤ tt
+data_few (Some (Long v)) h = lit≤ tt
+data_few (Some (Fetch routine name ts)) h = lit≤ tt
+data_few (Some (Enter name)) h = lit≤ tt
+data_few (Some (Rows codes)) h = h
+
+pub found_few : (found : Option ℕ) (r : ℕ) → Some r ≡ found → places r ≤ 128 → length (routine_items found) ≤ 128
+found_few found r e h =
+    let l : length (routine_items (Some r)) ≤ 128 = omega (arith, h, length-map (entry r).items item_of) in
+    subst (λ (x : Option ℕ). length (routine_items x) ≤ 128) e l
+
+pub none_few : (found : Option ℕ) → found ≡ None → length (routine_items found) ≤ 128
+none_few found e = rw e (lit≤ tt)

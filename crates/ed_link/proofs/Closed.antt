@@ -1,0 +1,110 @@
+-- What the catalogue says of a routine that is found: it has an item, its items can be spelled, and its code letters are
+-- F, θ, D or its parameters. `tables` is the clause of the catalogue that all its routines are ready.
+use Rattle.std.proofs.Common.{◌≡◌, ℕ, suc, ◌+◌, ◌<◌, inl, inr, refl, sym, subst, arith}
+use Rattle.std.proofs.Common.{Bool, true, false, ◌&&◌, nat_lt, nat_le, Option, Some, None, List, [], ◌∷◌, length, is_some}
+use Rattle.std.specs.Prelude.{◌==◌, if◌then◌else◌}
+use Rattle.std.specs.List.{list_all, list_any}
+use Rattle.std.specs.Str.{bytes_eq}
+use Rattle.std.proofs.lemmas.Bool.{and_parts}
+use Rattle.std.proofs.lemmas.List.Sums.{AllPass-from_list_all}
+use Rattle.ed_words.proofs.Numbers.{eq_of, le_of, lt_of, or_of}
+use Rattle.ed_words.specs.declared.size.Size.{Size}
+use Rattle.ed_notation.specs.Spellings.{is_spellable}
+use Rattle.ed_library.specs.Entries.{Entry, catalogue, entry, no_entry}
+use Rattle.ed_library.specs.Ready.{is_ready, is_ready_row, is_parameter, are_letters, are_rising}
+use Rattle.ed_library.specs.Routines.{find, find_from, item_of, item, places}
+use Rattle.ed_syntax.specs.declared.program.Operand.{Operand}
+use Rattle.ed_syntax.specs.declared.program.Setting.{Setting}
+use Rattle.ed_symbols.specs.declared.homes.Home.{Home}
+use Rattle.ed_link.specs.Linked.{setting}
+use Rattle.ed_link.specs.Faults.{sets}
+use Rattle.ed_link.proofs.Uses.{IsKnown, AreKnown}
+
+-- a routine is found among those from an index on
+found_by : (k r n : ℕ) (t : Bool) (later : Option ℕ) → (later ≡ Some r → r < k + 1 + n)
+    → (if t then Some k else later) ≡ Some r → r < k + suc n
+found_by k r n true later more h = let q : k ≡ r = cc in omega arith
+found_by k r n false later more h = let i = more h in omega arith
+
+-- the same of the whole list
+found_in : (text : List ℕ) (k r : ℕ) (es : List Entry) → find_from text k es ≡ Some r → r < k + length es
+found_in text k r [] h = cc
+found_in text k r (e ∷ es) h = found_by k r (length es) (bytes_eq e.name text) (find_from text (k + 1) es) (found_in text (k + 1) r es) h
+
+-- what holds of all holds of one that is among them
+one_of : (test : ℕ → Bool) (cs : List ℕ) (c : ℕ) → list_all test cs ≡ true → list_any (λ x. x == c) cs ≡ true → test c ≡ true
+one_of test [] c h g = cc
+one_of test (x ∷ cs) c h g =
+    let p = and_parts (test x) (list_all test cs) h in
+    elim (or_of (x == c) (list_any (λ y. y == c) cs) g) [
+      | inl e ↦ subst (λ y. test y ≡ true) (eq_of x c e) p.0
+      | inr e ↦ one_of test cs c p.1 e
+    ]
+
+record IsClosed (e : Entry) : Type 0 where
+  some : 0 < length e.items
+  letters : list_all is_parameter e.parameters ≡ true
+  rows : list_all (is_ready_row e.parameters) e.items ≡ true
+
+-- what it means that a routine is ready
+of_ready : (e : Entry) → is_ready e ≡ true → IsClosed e
+of_ready e h =
+    let p = and_parts (nat_lt 0 (length e.items) && list_all (λ q. nat_lt q (length e.items)) e.working)
+    (are_letters e.parameters && list_all (is_ready_row e.parameters) e.items) h in
+    let q = and_parts (are_letters e.parameters) (list_all (is_ready_row e.parameters) e.items) p.1 in
+    record {
+      some = lt_of _ _ (and_parts (nat_lt 0 (length e.items)) (list_all (λ q. nat_lt q (length e.items)) e.working) p.0).0;
+      letters = (and_parts (are_rising e.parameters) (list_all is_parameter e.parameters) q.0).1;
+      rows = q.1;
+    }
+
+module _ (tables : list_all is_ready catalogue ≡ true) (text : List ℕ) (r : ℕ) (found : find text ≡ Some r) where
+  closed : IsClosed (entry r)
+  closed =
+      let inside : r < length catalogue = found_in text 0 r catalogue found in
+      of_ready (entry r) (AllPass-from_list_all is_ready catalogue tables r no_entry inside)
+
+  pub some_items : 0 < length (entry r).items
+  some_items = closed.some
+
+  pub spelled_item : (place : ℕ) → place < places r → is_spellable (item r place) ≡ true
+  spelled_item place h =
+      let row = AllPass-from_list_all (is_ready_row (entry r).parameters) (entry r).items closed.rows place (0, 0, false, 0) h in
+      (and_parts (is_spellable (item r place)) _ row).0
+
+module _ (z : Size) (words : List ℕ) (whole : length words ≡ 1024) (homes : List Home) (ts : List Setting) where
+  operand_of : (o : Option Operand) → is_some o ≡ true → (x : Operand) × (o ≡ Some x)
+  operand_of None h = cc
+  operand_of (Some x) h = (x, refl)
+
+  known : (letters : List ℕ) (c : ℕ) → list_all (λ p. is_some (setting ts p)) letters ≡ true → list_all is_parameter letters ≡ true
+      → list_any (λ x. x == c) (17 ∷ 18 ∷ 19 ∷ letters) ≡ true → IsKnown z words whole homes ts c
+  known letters c set range g =
+      elim (or_of (17 == c) _ g) [
+        | inl e ↦ inl (sym (eq_of 17 c e))
+        | inr g1 ↦ elim (or_of (18 == c) _ g1) [
+          | inl e ↦ inr (inl (sym (eq_of 18 c e)))
+          | inr g2 ↦ elim (or_of (19 == c) _ g2) [
+            | inl e ↦ inr (inr (inl (sym (eq_of 19 c e))))
+            | inr g3 ↦
+                let p = and_parts (nat_le 21 c) (nat_le c 26) (one_of is_parameter letters c range g3) in
+                let o = operand_of (setting ts c) (one_of (λ x. is_some (setting ts x)) letters c set g3) in
+                inr (inr (inr (record { low = le_of 21 c p.0; high = le_of c 26 p.1; operand = o.0; is_set = o.1 })))
+          ]
+        ]
+      ]
+
+  all_known : (letters : List ℕ) (rows : List (ℕ × ℕ × Bool × ℕ)) → list_all (λ p. is_some (setting ts p)) letters ≡ true
+      → list_all is_parameter letters ≡ true → list_all (is_ready_row letters) rows ≡ true → AreKnown z words whole homes ts rows
+  all_known letters [] set range h = tt
+  all_known letters (row ∷ rows) set range h =
+      let p = and_parts (is_ready_row letters row) (list_all (is_ready_row letters) rows) h in
+      let q = and_parts (is_spellable (item_of row)) _ p.0 in
+      (known letters row.3 set range q.1, all_known letters rows set range p.1)
+
+  -- the code letters of a routine whose parameters are set
+  pub are_known : list_all is_ready catalogue ≡ true → (text : List ℕ) (r : ℕ) → find text ≡ Some r → sets ts (Some r) ≡ true
+      → AreKnown z words whole homes ts (entry r).items
+  are_known tables text r found s =
+      let k = closed tables text r found in
+      all_known (entry r).parameters (entry r).items (and_parts _ _ s).1 k.letters k.rows

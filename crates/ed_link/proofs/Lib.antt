@@ -1,0 +1,16 @@
+pub mod Spellable
+pub mod Texts
+pub mod Passes
+pub mod Orders
+pub mod Uses
+pub mod Lines
+pub mod Closed
+pub mod Inductions
+pub mod Costs
+pub mod Accepted
+pub mod Lengths
+pub mod UseWords
+pub mod Bounds
+pub mod LineLoop
+pub mod Maps
+pub mod Finished

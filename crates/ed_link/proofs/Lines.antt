@@ -1,0 +1,198 @@
+-- What the fold does at the items of one line.
+use Rattle.std.proofs.Common.{◌≡◌, ℕ, ◌+◌, ◌*◌, ◌/◌, ◌%◌, ◌^◌, ◌<◌, ◌≤◌, refl, sym, ap, ◌∙◌, subst, arith}
+use Rattle.std.proofs.Common.{Bool, true, false, nat_eq, nat_lt, Option, Some, None, List, [], ◌∷◌, ◌++◌, length, map}
+use Rattle.std.specs.Prelude.{reverse, unwrap_or, if◌then◌else◌}
+use Rattle.std.specs.List.{flat_map}
+use Rattle.std.proofs.lemmas.List.{length-map}
+use Rattle.std.proofs.lemmas.Bool.Decides.{nat_tests}
+use Rattle.ed_words.specs.declared.size.Size.{Size}
+use Rattle.ed_words.specs.Sizes.{locations}
+use Rattle.ed_words.specs.Words.{digit}
+use Rattle.ed_notation.specs.declared.item.Item.{Item}
+use Rattle.ed_notation.specs.Fold.{Note, word_with}
+use Rattle.ed_notation.specs.Spellings.{AreSpellable}
+use Rattle.ed_library.specs.Entries.{entry}
+use Rattle.ed_library.specs.Routines.{find, item_of}
+use Rattle.ed_library.specs.Images.{item_word}
+use Rattle.ed_syntax.specs.declared.program.Setting.{Setting}
+use Rattle.ed_syntax.specs.declared.program.Statement.{Statement}
+use Rattle.ed_syntax.specs.declared.program.Statement.TheVariants.{Segment, Order, Number, Text, Long, Fetch, Enter, Rows}
+use Rattle.ed_symbols.specs.declared.homes.Home.{Home}
+use Rattle.ed_symbols.specs.declared.spots.Spot.{Spot}
+use Rattle.ed_symbols.specs.Places.{even, taken as places_of, passed, segment_at}
+use Rattle.ed_link.specs.Linked.{number, long_words, laid, letters, setting, presets, parameters, image}
+use Rattle.ed_link.specs.Linked.{placed_by, first_place}
+use Rattle.ed_link.specs.Punch.{word_item, order_item, goes_by_theta, headed, preset_items, routine_items, use_items, items_of}
+use Rattle.ed_words.proofs.Numbers.{eq_true, lt_true, lt_false}
+use Rattle.ed_link.proofs.Passes.{Passes, join, at}
+use Rattle.ed_link.proofs.Orders.{split, laid_pass, order_pass, headed_pass, unheaded}
+use Rattle.ed_link.proofs.Uses.{AreKnown, all, holds, image_pass, reversed}
+
+-- no place is before itself
+pub lt_same : (a : ℕ) → nat_lt a a ≡ false
+lt_same a = lt_false a a (omega arith)
+
+-- a place is itself
+eq_same : (a : ℕ) → nat_eq a a ≡ true
+eq_same a = eq_true a a refl
+
+-- the state of the notation where a line stands
+pub record IsReady (theta : ℕ) (s : Spot) (note : Note) : Type 0 where
+  pub base : s.base ≤ s.place
+  pub follows : nat_eq s.place s.base ≡ false → (note.directive ≡ 20480 + 2 * s.place) × (note.theta ≡ 2 * s.base)
+  pub theta_is : note.theta ≡ theta
+
+-- θ behind a line
+abbrev pub theta_behind : ℕ → ℕ → Spot → ℕ
+theta_behind theta first next = if nat_lt first next.place then 2 * next.base else theta
+
+-- what the items of a line do
+pub record Line (z : Size) (words : List ℕ) (theta first : ℕ) (next : Spot) (note : Note) (is : List Item) (ps : List (ℕ × ℕ))
+    : Type 0 where
+  pub last : Note
+  pub passes : Passes z words note is last
+  pub ready : IsReady (theta_behind theta first next) next last
+  pub placed : last.placed ≡ reverse ps ++ note.placed
+
+-- what a `use` needs
+abbrev pub IsUse : Size → List ℕ → List Home → List Setting → ℕ → Option ℕ → Type 0
+IsUse z words homes ts base None = ⊥
+IsUse z words homes ts base (Some r) =
+    (0 < length (entry r).items) × (56 ≤ base) × (base + length (entry r).items ≤ locations z)
+    × ((whole : length words ≡ 1024) → AreKnown z words whole homes ts (entry r).items)
+
+-- what a line needs that is no `enter` line
+abbrev pub IsSound : Size → List ℕ → List Home → Spot → Option Statement → Type 0
+IsSound z words homes s (Some (Order f o long)) = (56 ≤ s.place) × (s.place + 1 ≤ locations z)
+IsSound z words homes s (Some (Number w)) = (56 ≤ s.place) × (s.place + 1 ≤ locations z)
+IsSound z words homes s (Some (Text codes)) = (0 < length codes.items) × (56 ≤ s.place) × (s.place + length codes.items ≤ locations z)
+IsSound z words homes s (Some (Long v)) = (56 ≤ s.place) × (even s.place + 2 ≤ locations z)
+IsSound z words homes s (Some (Fetch routine name ts)) = IsUse z words homes ts.items (even s.place) (find routine)
+IsSound z words homes s (Some (Enter name)) = ⊥
+IsSound z words homes s st = Unit {0}
+
+module _ (z : Size) (words : List ℕ) (whole : length words ≡ 1024) (homes : List Home) (theta : ℕ) (s : Spot) (note : Note)
+    (ready : IsReady theta s note) where
+  -- a line of no words
+  quiet : Line z words theta s.place s note [] []
+  quiet = record {
+    last = note;
+    passes = refl;
+    ready = record { base = ready.base; follows = ready.follows; theta_is = let e = lt_same s.place in rw e ready.theta_is };
+    placed = refl;
+  }
+
+  -- a line of words in a segment
+  in_segment : (is : List Item) (ws : List ℕ) → 0 < length is → 0 < length ws → s.place + length ws ≤ locations z
+      → Passes z words (at s.place s.base note.placed) is (at (s.place + length ws) s.base (reverse (laid s.place ws) ++ note.placed))
+      → Line z words theta s.place (record s { place = s.place + length ws }) note (headed is (nat_eq s.place s.base) s.base)
+      (laid s.place ws)
+  in_segment is ws some more high p = record {
+    last = at (s.place + length ws) s.base (reverse (laid s.place ws) ++ note.placed);
+    passes = headed_pass z words note _ s.place s.base (nat_eq s.place s.base) is refl (omega arith) some ready.follows p;
+    ready = record {
+      base = let b = ready.base in omega arith;
+      follows = λ h. (refl, refl);
+      theta_is = let e = lt_true s.place (s.place + length ws) (omega arith) in rw e refl;
+    };
+    placed = refl;
+  }
+
+  -- a line of numbers
+  numbered : (ws : List ℕ) → AreSpellable (headed (map word_item ws) (nat_eq s.place s.base) s.base) → 0 < length ws → 56 ≤ s.place
+      → s.place + length ws ≤ locations z
+      → Line z words theta s.place (record s { place = s.place + length ws }) note
+      (headed (map word_item ws) (nat_eq s.place s.base) s.base) (laid s.place ws)
+  numbered ws are some low high =
+      in_segment (map word_item ws) ws (let l = length-map ws word_item in omega arith) some high
+      (laid_pass z words s.base ws s.place note.placed (unheaded (map word_item ws) _ _ are) (omega arith) high)
+
+  use_line : (ts : List Setting) (base : ℕ) (found : Option ℕ) (segments : ℕ) → IsUse z words homes ts base found
+      → AreSpellable (use_items homes ts base found)
+      → Line z words theta base (record { place = base + places_of found; base = base; segments = segments; inside = false }) note
+      (use_items homes ts base found) (presets homes ts ++ image homes ts base found)
+  use_line ts base None segments is are = absurd is
+  use_line ts base (Some r) segments is are =
+      let rows = (entry r).items in
+      let js = flat_map (λ c. preset_items homes (setting ts c) c) letters in
+      let sp = split js (headed (routine_items (Some r)) true base) are in
+      let a = all z words whole homes ts letters (
+        omega arith,
+        omega arith,
+        (
+          omega arith,
+          omega arith,
+          (
+            omega arith,
+            omega arith,
+            (
+              omega arith,
+              omega arith,
+              (
+                omega arith,
+                omega arith,
+                (omega arith, omega arith, tt),
+              ),
+            ),
+          ),
+        ),
+      ) note sp.0 in
+      let m = a.0.next in
+      let held = holds z words whole homes ts m.placed a.1 in
+      let img = laid base (map (λ row. item_word (parameters homes ts) base (item_of row)) rows) in
+      let last = at (base + length rows) base (reverse img ++ m.placed) in
+      let p = image_pass z words whole homes ts rows base base m.placed (is.3 whole) is.1 is.2 held in
+      let l : 0 < length (map item_of rows) = let e = length-map rows item_of in omega (arith, is.0) in
+      let h = headed_pass z words m last base base true (map item_of rows) (eq_same base) (omega (arith, is.0, is.2)) l (λ e. cc) p in
+      record {
+        last = last;
+        passes = join z words note m last js (headed (map item_of rows) true base) a.0.passes h;
+        ready = record {
+          base = omega arith;
+          follows = λ e. (refl, refl);
+          theta_is = let e = lt_true base (base + length rows) (omega (arith, is.0)) in rw e refl;
+        };
+        placed = ap (λ x. reverse img ++ x) a.0.placed ∙ reversed (presets homes ts) img note.placed;
+      }
+
+  long_spot : (v : ℕ) → record s { place = s.place + length (long_words s.place v) } ≡ passed (Some (Long v)) s
+  long_spot v = λ i. record s { place = by_test (nat_eq (s.place % 2) 1) refl i }
+    where
+      by_test : (t : Bool) → nat_eq (s.place % 2) 1 ≡ t
+          → s.place + length ((if t then 0 ∷ [] else []) ++ (v % 2 ^ 17 ∷ (v / 2 ^ 18 ∷ []))) ≡ even s.place + 2
+      by_test true e = let q : s.place % 2 ≡ 1 = grind (arith, nat_tests) in omega arith
+      by_test false e = let q : s.place % 2 ≡ 0 = grind (arith, nat_tests) in omega arith
+
+  pub line : (st : Option Statement) → IsSound z words homes s st → AreSpellable (items_of homes s st)
+      → Line z words theta (first_place st s) (passed st s) note (items_of homes s st) (placed_by homes s st)
+  line None is are = quiet
+  line (Some (Segment name base)) is are = record {
+    last = note;
+    passes = refl;
+    ready = record {
+      base = omega arith;
+      follows = λ h. let e = eq_same (unwrap_or base s.place) in let q = sym e ∙ h in cc;
+      theta_is = let e = lt_same (unwrap_or base s.place) in rw e ready.theta_is;
+    };
+    placed = refl;
+  }
+  line (Some (Order f o long)) is are =
+      let w = word_with f (number homes (segment_at s) o) false (digit long) in
+      in_segment (order_item (goes_by_theta homes s o) s.base f (number homes (segment_at s) o) long ∷ []) (w ∷ [])
+      (omega arith) (omega arith) is.1
+      (order_pass z words homes s note.placed f o long (omega (arith, is.0)) (omega (arith, is.1)))
+  line (Some (Number w)) is are = numbered (w ∷ []) are (omega arith) is.0 is.1
+  line (Some (Text codes)) is are =
+      let l = length-map codes.items (λ c. 4096 * c) in
+      subst (λ (x : Spot). Line z words theta s.place x note (items_of homes s (Some (Text codes)))
+      (placed_by homes s (Some (Text codes))))
+      (λ i. record s { place = s.place + l i })
+      (numbered (map (λ c. 4096 * c) codes.items) are (omega (arith, l, is.0)) is.1 (omega (arith, l, is.2)))
+  line (Some (Long v)) is are =
+      let e = long_spot v in
+      let p : s.place + length (long_words s.place v) ≡ even s.place + 2 = ap (λ (x : Spot). x.place) e in
+      subst (λ (x : Spot). Line z words theta s.place x note (items_of homes s (Some (Long v))) (placed_by homes s (Some (Long v))))
+      e (numbered (long_words s.place v) are (omega (arith, p)) is.0 (omega (arith, p, is.1)))
+  line (Some (Fetch routine name ts)) is are = use_line ts.items (even s.place) (find routine) (s.segments + 1) is are
+  line (Some (Enter name)) is are = absurd is
+  line (Some (Rows codes)) is are = quiet

@@ -1,0 +1,40 @@
+-- The text of a tape spells its rows.
+use Rattle.std.proofs.Common.{◌≡◌, ◌<◌, ◌≤◌, ℕ, ◌+◌, refl, sym, subst, arith, true, List, [], ◌∷◌, ◌++◌, length, drop, get_or}
+use Rattle.std.specs.Prelude.{Some}
+use Rattle.std.proofs.lemmas.List.{drop_all, drop_more}
+use Rattle.ed_codes.specs.Reading.{reading, rows, IsReadingOf, Reading}
+use Rattle.ed_codes.specs.Spelling.{byte_of, row_of}
+use Rattle.ed_codes.specs.Text.{Spells, none, row, spacing}
+use Rattle.ed_codes.proofs.Pieces.{spells_append}
+use Rattle.ed_codes.proofs.Readings.{has_one_reading}
+use Rattle.ed_notation.specs.Spellings.{line_from}
+use Rattle.ed_link.specs.Tapes.{after_text}
+
+-- a text that reads as rows, and one that spells rows behind it
+pub both_read : (before after : List ℕ) (cs ds : List ℕ) → reading before ≡ rows cs → Spells after ds
+    → reading (before ++ after) ≡ rows (cs ++ ds)
+both_read before after cs ds e s =
+    let b : Spells before cs = subst (λ (r : Reading). IsReadingOf before r) e (has_one_reading.every before) in
+    has_one_reading.only (before ++ after) (rows (cs ++ ds)) (spells_append before cs after ds b s)
+
+-- where there are rows their text is a line
+pub some_text : (cs : List ℕ) → 0 < length cs → after_text cs ≡ line_from true cs
+some_text [] h = absurd (omega arith)
+some_text (c ∷ cs) h = refl
+
+-- where there are none there is no text
+pub no_text : (cs : List ℕ) → cs ≡ [] → Spells (after_text cs) cs
+no_text cs e = rw e none
+
+-- behind the last row a line feed is left
+pub last_spells : (cs : List ℕ) (k : ℕ) → length cs ≤ k → Spells (line_from true (drop k cs)) (drop k cs)
+last_spells cs k h = rw (drop_all k cs h) (spacing 10 [] [] refl none)
+
+-- one row more
+pub one_spells : (cs : List ℕ) (k c byte : ℕ) → k < length cs → c ≡ get_or cs k c → byte ≡ byte_of c true → row_of byte ≡ Some c
+    → Spells (line_from true (drop (k + 1) cs)) (drop (k + 1) cs) → Spells (line_from true (drop k cs)) (drop k cs)
+one_spells cs k c byte below is spelled back s =
+    let e : drop k cs ≡ c ∷ drop (k + 1) cs = subst (λ x. drop k cs ≡ x ∷ drop (k + 1) cs) (sym is) (drop_more cs k c below) in
+    let b : row_of (byte_of c true) ≡ Some c = rw spelled at back in
+    subst (λ (xs : List ℕ). Spells (line_from true xs) xs) (sym e) (row (byte_of c true) c (line_from true (drop (k + 1) cs))
+    (drop (k + 1) cs) b s)

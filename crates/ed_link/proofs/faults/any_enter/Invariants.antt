@@ -1,0 +1,6 @@
+use Rattle.std.proofs.Common.{◌≡◌, drop}
+use Rattle.ed_link.specs.Faults.{any_enter}
+use Rattle.ed_link.proofs.faults.any_enter.Given as goal
+
+abbrev pub invariant-loop-line : goal.invariant-loop-line
+invariant-loop-line l = any_enter (drop l.line-index l.lines) ≡ any_enter l.lines

@@ -1,0 +1,32 @@
+-- What linking answers, by the definitions of the linked program, the punched tape and the faults.
+use Rattle.std.specs.Prelude.{◌≡◌, ℕ, ◌<◌, reverse, List, Option, Some, None}
+use Rattle.ed_words.specs.declared.size.Size.{Size}
+use Rattle.ed_notation.specs.Fold.{placed_at}
+use Rattle.ed_syntax.specs.declared.program.Line.{Line}
+use Rattle.ed_syntax.specs.declared.fault.SourceFault.{SourceFault}
+use Rattle.ed_syntax.specs.declared.fault.SourceFault.TheVariants.{At, Memory}
+use Rattle.ed_link.specs.declared.linked.Linked.{Linked}
+use Rattle.ed_link.specs.Linked.{after, homes_of, entry_of, linked}
+use Rattle.ed_link.specs.Punch.{punched}
+use Rattle.ed_link.specs.Faults.{fault}
+use Rattle.ed_link.specs.Tables.{table_of, word_at, words_from}
+use Rattle.ed_link.specs.Labels.{labels}
+use Rattle.ed_link.specs.Tapes.{ComesToLinked}
+
+-- a fault is the one of the definition, or memory ran out
+abbrev pub IsFaultOf : Option SourceFault → SourceFault → Type 0
+IsFaultOf wanted (At k c) = wanted ≡ Some (At k c)
+IsFaultOf wanted Memory = Unit {0}
+
+-- the linked program of a source without a fault, and its tape
+pub record IsLinked (z : Size) (lines : List Line) (k : Linked) : Type 0 where
+  pub accepted : fault z lines ≡ None
+  pub items : k.items.items ≡ punched lines
+  pub words : k.words.items ≡ words_from 0 (table_of (linked lines))
+  -- they are the map of the linked program
+  pub map : (a : ℕ) → a < 1024 → word_at k.words.items a ≡ placed_at (reverse (linked lines)) a
+  pub entry : k.entry ≡ entry_of lines
+  pub after : k.after.items ≡ after lines
+  pub labels : k.labels.items ≡ labels (homes_of lines)
+  -- the tape comes to the linked program, from every store
+  pub loads : ComesToLinked z lines

@@ -1,0 +1,55 @@
+-- What is made of the lines of a source on the way to its linked program. No public clause cites this.
+use Rattle.std.specs.Prelude.{◌≡◌, ◌≤◌, Bool, List, [], false, Option, Some, None, Result, Ok, Err, unwrap_or, length}
+use Rattle.ed_words.specs.declared.size.Size.{Size}
+use Rattle.ed_notation.specs.Spellings.{AreSpellable}
+use Rattle.ed_library.specs.Routines.{find}
+use Rattle.ed_syntax.specs.declared.program.Line.{Line}
+use Rattle.ed_syntax.specs.declared.program.Statement.{Statement}
+use Rattle.ed_syntax.specs.declared.program.Statement.TheVariants.{Text, Fetch, Rows}
+use Rattle.ed_syntax.specs.declared.fault.SourceFault.{SourceFault}
+use Rattle.ed_symbols.specs.declared.homes.Home.{Home}
+use Rattle.ed_symbols.specs.Places.{first_spot}
+use Rattle.ed_link.specs.declared.building.Built.{Built}
+use Rattle.ed_link.specs.declared.linked.Linked.{Linked}
+use Rattle.ed_link.specs.Answers.{IsFaultOf}
+use Rattle.ed_link.specs.Linked.{after, entry_from, placed_from}
+use Rattle.ed_link.specs.Punch.{punched_from, routine_items}
+use Rattle.ed_link.specs.Faults.{Past, fault_from}
+use Rattle.ed_link.specs.Tables.{table_of, words_from}
+use Rattle.ed_link.specs.Labels.{labels}
+
+-- a string has 120 rows at the most, and a routine 128 items
+abbrev pub IsFew : Option Statement → Type 0
+IsFew (Some (Text codes)) = length codes.items ≤ 120
+IsFew (Some (Rows codes)) = length codes.items ≤ 120
+IsFew (Some (Fetch routine name ts)) = length (routine_items (find routine)) ≤ 128
+IsFew st = Unit {0}
+
+-- before the first line
+abbrev pub first_past : Past
+first_past = record { runs = []; entered = false }
+
+-- what is made of lines that have none of the faults S9 to S17
+pub record IsBuilt (z : Size) (homes : List Home) (any : Bool) (lines : List Line) (b : Built) : Type 0 where
+  pub accepted : fault_from z homes any first_past first_spot lines ≡ None
+  pub items : b.items.items ≡ punched_from homes first_spot lines
+  pub spellable : AreSpellable b.items.items
+  pub table : b.table.items ≡ table_of (placed_from homes first_spot lines)
+  pub size : length b.table.items ≡ 1024
+  pub entry : unwrap_or b.entry 0 ≡ entry_from homes lines
+  pub after : b.after.items ≡ after lines
+  pub few_items : length b.items.items ≤ 480000
+  pub few_rows : length b.after.items ≤ 240000
+
+-- the lines are built, or their fault is told
+abbrev pub BuildIs : Size → List Home → Bool → List Line → Result Built SourceFault → Type 0
+BuildIs z homes any lines (Ok b) = IsBuilt z homes any lines b
+BuildIs z homes any lines (Err e) = IsFaultOf (fault_from z homes any first_past first_spot lines) e
+
+-- a linked program is what was made of the lines
+pub record IsFinished (homes : List Home) (b : Built) (k : Linked) : Type 0 where
+  pub items : k.items.items ≡ b.items.items
+  pub words : k.words.items ≡ words_from 0 b.table.items
+  pub entry : k.entry ≡ unwrap_or b.entry 0
+  pub after : k.after.items ≡ b.after.items
+  pub labels : k.labels.items ≡ labels homes

@@ -1,0 +1,51 @@
+-- What the punched tape comes to: the linked program, from every store.
+use Rattle.std.specs.Prelude.{◌≡◌, ℕ, ◌+◌, ◌*◌, true, false, List, [], ◌∷◌, ◌++◌, length, reverse, slice_index}
+use Rattle.ed_words.specs.declared.size.Size.{Size}
+use Rattle.ed_syntax.specs.declared.program.Line.{Line}
+use Rattle.ed_symbols.specs.Places.{first_spot}
+use Rattle.ed_notation.specs.Items.{spelled}
+use Rattle.ed_notation.specs.Fold.{costs}
+use Rattle.ed_notation.specs.Openings.{opening}
+use Rattle.ed_notation.specs.Faults.{Entry, WellFormed, ComesTo}
+use Rattle.ed_notation.specs.Spellings.{canonicals, line_from}
+use Rattle.ed_link.specs.Linked.{linked, entry_of, theta_from, after}
+use Rattle.ed_link.specs.Punch.{item, punched}
+
+-- the rows of the punched items
+abbrev pub punched_rows : List Line → List ℕ
+punched_rows lines = spelled (canonicals (punched lines))
+
+-- the rows of the whole tape
+abbrev pub tape : List Line → List ℕ
+tape lines = punched_rows lines ++ after lines
+
+-- the orders that read the tape up to the entry, 9 at the start among them
+abbrev pub cost : List Line → ℕ
+cost lines = 9 + costs [] (opening []) (canonicals (punched lines))
+
+-- the entry to which the tape comes from a store
+abbrev pub arrival : List ℕ → List Line → Entry
+arrival words lines = record {
+  at = entry_of lines;
+  word = 0;
+  cost = cost lines;
+  rows = length (punched_rows lines);
+  note = record {
+    directive = 12288 + 2 * entry_of lines;
+    theta = theta_from (slice_index words 42) first_spot lines;
+    placed = reverse (linked lines);
+  };
+  last = item 0 0 false 17;
+  rest = after lines;
+}
+
+-- from every store the tape is well formed and comes to that entry
+abbrev pub ComesToLinked : Size → List Line → Type 0
+ComesToLinked z lines =
+    (words : List ℕ) → length words ≡ 1024
+    → WellFormed z words (opening words) (tape lines) × ComesTo words (opening words) 9 (tape lines) (arrival words lines)
+
+-- the text of the rows behind the items: a line where there are any, digits as digits and other rows as letters or signs
+abbrev pub after_text : List ℕ → List ℕ
+after_text [] = []
+after_text (c ∷ rows) = line_from true (c ∷ rows)

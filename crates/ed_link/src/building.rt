@@ -1,0 +1,219 @@
+//! What the lines of a source come to, one line after the other.
+ghost use Rattle.std.specs.Prelude.{◌≡◌, ◌≤◌, ◌<◌, ◌^◌, ◌+◌, ◌++◌, ◌∷◌, ◌||◌, replicate, None, Some, [], IfOk, OnOk};
+ghost use Rattle.std.specs.Prelude.{length, unwrap_or, ℕ};
+ghost use Rattle.ed_notation.specs.Spellings.{AreSpellable};
+ghost use Rattle.ed_library.specs.Routines.{find};
+ghost use Rattle.ed_link.specs.Private.Building.{BuildIs, IsFew};
+ghost use Rattle.ed_link.specs.Faults.{is_enter, reach, run_of};
+ghost use Rattle.ed_link.specs.Linked.{enters, placed_by, rows_of};
+ghost use Rattle.ed_link.specs.Punch.{items_of, routine_items};
+ghost use Rattle.ed_link.specs.Tables.{empty_table, put_all};
+
+use crate::faults::{Past, cause_of, is_enter, run_of};
+use crate::punching::{entry_of, push_line};
+use crate::words::put_line;
+use ed_codes::Code;
+use ed_library::find;
+use ed_notation::Item;
+use ed_symbols::{Home, Spot};
+use ed_syntax::{Line, Name, SourceFault, Statement};
+use ed_words::{NoMemory, Size, Word};
+use std::alloc::Global;
+
+/// Adds rows.
+fn push_codes(rows: &mut Vec<Code>, codes: &[Code]) -> Result<(), NoMemory>
+    ensures { OnOk result (rows.new.items ≡ rows.old.items ++ codes.now) }
+{
+    for code in codes {
+        if rows.push(*code).is_err() {
+            return Err(NoMemory);
+        }
+    }
+    Ok(())
+}
+
+/// Adds the rows of a `data` line.
+fn push_rows(rows: &mut Vec<Code>, statement: &Option<Statement>) -> Result<(), NoMemory>
+    ensures { OnOk result (rows.new.items ≡ rows.old.items ++ rows_of statement.now) }
+{
+    match statement {
+        Some(Statement::Rows { codes }) => push_codes(rows, codes),
+        _ => Ok(()),
+    }
+}
+
+/// What has been made of the lines.
+#[derive(Drop)]
+pub(crate) struct Built {
+    pub(crate) items: Vec<Item>,
+    /// The words by their places.
+    pub(crate) table: Vec<Option<Word>>,
+    pub(crate) entry: Option<u16>,
+    pub(crate) after: Vec<Code>,
+}
+
+/// The entry with that of one more line.
+fn with_entry(
+    entry: Option<u16>,
+    homes: &[Home],
+    spot: Spot,
+    statement: &Option<Statement>,
+) -> Option<u16>
+    requires fits { (reach homes.now statement.now spot).0 < (reach homes.now statement.now spot).1
+        → (reach homes.now statement.now spot).1 ≤ 1024 }
+    ensures { (later : ℕ) → unwrap_or result later ≡ unwrap_or entry (enters homes.now statement.now later) }
+{
+    if entry.is_some() {
+        return entry;
+    }
+    match statement {
+        Some(Statement::Enter { name }) => Some(entry_of(homes, name)),
+        _ => None,
+    }
+}
+
+/// Adds what one more line comes to.
+fn add_line(
+    built: &mut Built,
+    homes: &[Home],
+    spot: Spot,
+    statement: &Option<Statement>,
+) -> Result<(), NoMemory>
+    requires spellable { AreSpellable built.old.items.items }
+    requires table { length built.old.table.items ≡ 1024 }
+    requires place { spot.place ≤ 2 ^ 30 }
+    requires base { spot.base ≤ spot.place }
+    requires fits { (reach homes.now statement.now spot).0 < (reach homes.now statement.now spot).1
+        → (reach homes.now statement.now spot).1 ≤ 1024 }
+    ensures items { OnOk result (built.new.items.items ≡ built.old.items.items ++ items_of homes.now spot statement.now) }
+    ensures spellable { AreSpellable built.new.items.items }
+    ensures table { OnOk result (built.new.table.items ≡ put_all built.old.table.items (placed_by homes.now spot statement.now)) }
+    ensures size { OnOk result (length built.new.table.items ≡ 1024) }
+    ensures after { OnOk result (built.new.after.items ≡ built.old.after.items ++ rows_of statement.now) }
+    ensures entry { OnOk result ((later : ℕ)
+        → unwrap_or built.new.entry later ≡ unwrap_or built.old.entry (enters homes.now statement.now later)) }
+{
+    push_line(&mut built.items, homes, spot, statement)?;
+    push_rows(&mut built.after, statement)?;
+    put_line(&mut built.table, homes, spot, statement);
+    built.entry = with_entry(built.entry, homes, spot, statement);
+    Ok(())
+}
+
+/// Leaves what one more line leaves for the lines behind it.
+fn pass_line(past: &mut Past, spot: Spot, statement: &Option<Statement>) -> Result<(), NoMemory>
+    requires place { spot.place ≤ 2 ^ 30 }
+    requires segments { spot.segments ≤ 2000 }
+    ensures runs { OnOk result (past.new.runs.items ≡ past.old.runs.items ++ run_of statement.now spot ∷ []) }
+    ensures entered { OnOk result (past.new.entered ≡ (past.old.entered || is_enter statement.now)) }
+{
+    if past.runs.push(run_of(statement, spot)).is_err() {
+        return Err(NoMemory);
+    }
+    past.entered = past.entered || is_enter(statement);
+    Ok(())
+}
+
+/// Nothing, so many times.
+fn nothing(alloc: Global, count: usize) -> Result<Vec<Option<Word>>, NoMemory>
+    ensures { IfOk result (λ v. v.items ≡ replicate count None) }
+{
+    let mut table = Vec::new(alloc);
+    for count_so_far in 0..count {
+        if table.push(None).is_err() {
+            return Err(NoMemory);
+        }
+    }
+    Ok(table)
+}
+
+/// A table of all locations without a word.
+#[tactic(auto, using(crate::proofs::Lengths::empty_is))]
+fn empty_table(alloc: Global) -> Result<Vec<Option<Word>>, NoMemory>
+    ensures { IfOk result (λ v. v.items ≡ empty_table) }
+{
+    match nothing(alloc, 1024) {
+        Ok(table) => Ok(table),
+        Err(_) => Err(NoMemory),
+    }
+}
+
+/// Does nothing: its contract is what bounds the rows that a line gives.
+fn bound_rows(statement: &Option<Statement>)
+    ensures { IsFew statement.now }
+{
+    match statement {
+        Some(Statement::Text { codes } | Statement::Rows { codes }) => {
+            let _length = codes.len();
+        }
+        Some(Statement::Fetch { routine, .. }) => bound_routine(routine),
+        _ => {}
+    }
+}
+
+/// Does nothing: its contract is what bounds the items of a routine.
+#[tactic(auto, using(crate::proofs::Bounds::found_few, crate::proofs::Bounds::none_few))]
+fn bound_routine(routine: &Name)
+    ensures { length (routine_items (find routine.now)) ≤ 128 }
+{
+    match find(routine.text()) {
+        Some(routine) => {
+            let _length = routine.length();
+        }
+        None => {}
+    }
+}
+
+/// Before the first line.
+fn start(alloc: Global) -> Result<Built, NoMemory>
+    ensures { IfOk result (λ b. (b.items.items ≡ []) × (b.table.items ≡ empty_table) × (b.entry ≡ None) × (b.after.items ≡ [])) }
+{
+    let table = empty_table(alloc)?;
+    Ok(Built {
+        items: Vec::new(alloc),
+        table,
+        entry: None,
+        after: Vec::new(alloc),
+    })
+}
+
+/// What the lines come to, or the least of their faults S9 to S17.
+pub(crate) fn build(
+    alloc: Global,
+    size: Size,
+    homes: &[Home],
+    any: bool,
+    lines: &[Line],
+) -> Result<Built, SourceFault>
+    requires { length lines.now ≤ 2000 }
+    ensures { BuildIs size homes.now any lines.now result }
+{
+    let Ok(mut built) = start(alloc) else {
+        return Err(SourceFault::Memory);
+    };
+    let mut past = Past {
+        runs: Vec::new(alloc),
+        entered: false,
+    };
+    let mut spot = Spot::first();
+    for line in lines {
+        match cause_of(size, homes, any, &past, line, spot) {
+            Some(cause) => {
+                return Err(SourceFault::At {
+                    line: line.number,
+                    cause,
+                });
+            }
+            None => {}
+        }
+        bound_rows(&line.statement);
+        let Ok(_added) = add_line(&mut built, homes, spot, &line.statement) else {
+            return Err(SourceFault::Memory);
+        };
+        let Ok(_passed) = pass_line(&mut past, spot, &line.statement) else {
+            return Err(SourceFault::Memory);
+        };
+        spot = spot.passed(&line.statement);
+    }
+    Ok(built)
+}

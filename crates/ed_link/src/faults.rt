@@ -1,0 +1,280 @@
+//! Faults of meaning, of a line and of a whole source.
+ghost use Rattle.std.specs.Prelude.{◌≡◌, ◌≤◌, ◌<◌, ◌^◌, ◌+◌, min, max, length, None, Some, is_some};
+ghost use Rattle.std.specs.List.{list_any, list_all};
+ghost use Rattle.ed_words.specs.Sizes.{locations};
+ghost use Rattle.ed_library.specs.Routines.{find};
+ghost use Rattle.ed_link.specs.Linked.{first_place, end_place, setting};
+ghost use Rattle.ed_link.specs.Faults.{any_enter, cause_of, has_no_routine, has_sandwich, is_enter, is_in_segment};
+ghost use Rattle.ed_link.specs.Faults.{is_misplaced, is_outside};
+ghost use Rattle.ed_link.specs.Faults.{is_rows, meets, reach, run_at, run_of, sets, sets_otherwise};
+ghost use Rattle.ed_link.specs.Faults.{line_of, missing, sooner};
+
+use crate::operands::setting;
+use ed_codes::Code;
+use ed_library::{Routine, find};
+use ed_symbols::{Home, Spot, even, find_place};
+use ed_syntax::{Line, Setting, SourceCause, SourceFault, Statement};
+use ed_words::Size;
+
+/// The first place of a line's words.
+pub(crate) fn first_place(statement: &Option<Statement>, spot: Spot) -> u32
+    requires place { spot.place ≤ 2 ^ 30 }
+    requires segments { spot.segments ≤ 2000 }
+    ensures { result ≡ first_place statement.now spot }
+{
+    match statement {
+        Some(Statement::Segment { .. }) => spot.passed(statement).place,
+        Some(Statement::Fetch { .. }) => even(spot.place),
+        _ => spot.place,
+    }
+}
+
+/// The places of a line's words.
+pub(crate) fn run_of(statement: &Option<Statement>, spot: Spot) -> (u64, u64)
+    requires place { spot.place ≤ 2 ^ 30 }
+    requires segments { spot.segments ≤ 2000 }
+    ensures { result ≡ run_of statement.now spot }
+{
+    (
+        u64::from(first_place(statement, spot)),
+        u64::from(spot.passed(statement).place),
+    )
+}
+
+/// The places that a line needs.
+fn reach(homes: &[Home], statement: &Option<Statement>, spot: Spot) -> (u64, u64)
+    requires place { spot.place ≤ 2 ^ 30 }
+    requires segments { spot.segments ≤ 2000 }
+    ensures { result ≡ reach homes.now statement.now spot }
+{
+    match statement {
+        Some(Statement::Enter { name }) => match find_place(homes, None, name) {
+            Some(place) => (u64::from(place), u64::from(place) + 1),
+            None => (0, 0),
+        },
+        _ => run_of(statement, spot),
+    }
+}
+
+/// Whether one of some places is from a place on and below another.
+fn meets(run: (u64, u64), other: (u64, u64)) -> bool
+    ensures { result ≡ meets run other }
+{
+    run.0.max(other.0) < run.1.min(other.1)
+}
+
+/// Whether one of some places is among earlier ones.
+fn meets_any(run: (u64, u64), others: &[(u64, u64)]) -> bool
+    ensures { result ≡ list_any (λ other. meets run other) others.now }
+{
+    for other in others {
+        if meets(run, *other) {
+            return true;
+        }
+    }
+    false
+}
+
+/// Whether a line has to stand in a segment, and doesn't.
+fn is_outside(line: &Line, spot: Spot) -> bool
+    ensures { result ≡ is_outside line.now spot }
+{
+    !spot.inside
+        && (line.label.is_some()
+            || matches!(
+                line.statement,
+                Some(
+                    Statement::Order { .. }
+                        | Statement::Number { .. }
+                        | Statement::Text { .. }
+                        | Statement::Long { .. }
+                )
+            ))
+}
+
+/// Whether a line is a `use` of a name that isn't in the catalogue.
+fn has_no_routine(statement: &Option<Statement>) -> bool
+    ensures { result ≡ has_no_routine statement.now }
+{
+    match statement {
+        Some(Statement::Fetch { routine, .. }) => find(routine.text()).is_none(),
+        _ => false,
+    }
+}
+
+/// Whether each of some letters is set.
+fn are_set(settings: &[Setting], letters: &[Code]) -> bool
+    ensures { result ≡ list_all (λ c. is_some (setting settings.now c)) letters.now }
+{
+    for letter in letters {
+        if setting(settings, letter.value()).is_none() {
+            return false;
+        }
+    }
+    true
+}
+
+/// Whether exactly a routine's parameters are set.
+fn sets(settings: &[Setting], routine: Routine) -> bool
+    ensures { result ≡ sets settings.now (Some routine) }
+{
+    let parameters = routine.parameters();
+    settings.len() == parameters.len() && are_set(settings, &parameters)
+}
+
+/// Whether a line is a `use` that sets other letters than the routine's parameters.
+fn sets_otherwise(statement: &Option<Statement>) -> bool
+    ensures { result ≡ sets_otherwise statement.now }
+{
+    match statement {
+        Some(
+            Statement::Fetch {
+                routine,
+                settings,
+                ..
+            },
+        ) => match find(routine.text()) {
+            Some(routine) => !sets(settings, routine),
+            None => false,
+        },
+        _ => false,
+    }
+}
+
+/// Whether a line is an `enter` line.
+pub(crate) fn is_enter(statement: &Option<Statement>) -> bool
+    ensures { result ≡ is_enter statement.now }
+{
+    matches!(statement, Some(Statement::Enter { .. }))
+}
+
+/// Whether a line is out of the order of `enter` and `data`.
+fn is_misplaced(entered: bool, any: bool, line: &Line) -> bool
+    ensures { result ≡ is_misplaced entered any line.now }
+{
+    let is_rows = matches!(line.statement, Some(Statement::Rows { .. }));
+    if entered {
+        (line.label.is_some() || line.statement.is_some()) && !is_rows
+    } else {
+        any && is_rows
+    }
+}
+
+/// Whether a line is a `long` with a sandwich digit.
+fn has_sandwich(statement: &Option<Statement>) -> bool
+    ensures { result ≡ has_sandwich statement.now }
+{
+    match statement {
+        Some(Statement::Long { value }) => value.halves().sandwich,
+        _ => false,
+    }
+}
+
+/// What the lines before a line leave.
+#[derive(Drop)]
+pub(crate) struct Past {
+    /// The places of their words.
+    pub(crate) runs: Vec<(u64, u64)>,
+    /// Whether one of them is an `enter`.
+    pub(crate) entered: bool,
+}
+
+/// Of the faults S9 to S17 of a line the one with the least number.
+pub(crate) fn cause_of(
+    size: Size,
+    homes: &[Home],
+    any: bool,
+    past: &Past,
+    line: &Line,
+    spot: Spot,
+) -> Option<SourceCause>
+    requires place { spot.place ≤ 2 ^ 30 }
+    requires segments { spot.segments ≤ 2000 }
+    ensures { result ≡ cause_of size homes.now any (record { runs = past.now.runs.items; entered = past.now.entered }) line.now spot }
+{
+    let reach = reach(homes, &line.statement, spot);
+    if is_outside(line, spot) {
+        Some(SourceCause::OutsideSegment)
+    } else if meets(reach, (0, 44)) {
+        Some(SourceCause::LoaderStore)
+    } else if meets(reach, (44, 56)) {
+        Some(SourceCause::ParameterStore)
+    } else if meets(reach, (u64::from(size.value()), reach.1)) {
+        Some(SourceCause::StoreEnd)
+    } else if meets_any(run_of(&line.statement, spot), &past.runs) {
+        Some(SourceCause::Overlap)
+    } else if has_no_routine(&line.statement) {
+        Some(SourceCause::NoSuchRoutine)
+    } else if sets_otherwise(&line.statement) {
+        Some(SourceCause::Parameters)
+    } else if is_misplaced(past.entered, any, line) {
+        Some(SourceCause::Enter)
+    } else if has_sandwich(&line.statement) {
+        Some(SourceCause::SandwichDigit)
+    } else {
+        None
+    }
+}
+
+/// Whether a program has an `enter` line.
+pub(crate) fn any_enter(lines: &[Line]) -> bool
+    ensures { result ≡ any_enter lines.now }
+{
+    for line in lines {
+        if is_enter(&line.statement) {
+            return true;
+        }
+    }
+    false
+}
+
+/// The sooner of a fault and another, if there is one.
+pub(crate) fn sooner(fault: SourceFault, other: Option<SourceFault>) -> SourceFault
+    ensures { Some result ≡ sooner (Some fault) other }
+{
+    match other {
+        Some(other) => {
+            if line_of(fault) <= line_of(other) {
+                fault
+            } else {
+                other
+            }
+        }
+        None => fault,
+    }
+}
+
+/// The sooner of a fault, if there is one, and another.
+pub(crate) fn sooner_than(fault: Option<SourceFault>, other: SourceFault) -> SourceFault
+    ensures { Some result ≡ sooner fault (Some other) }
+{
+    match fault {
+        Some(fault) => sooner(fault, Some(other)),
+        None => other,
+    }
+}
+
+/// The line of a fault.
+fn line_of(fault: SourceFault) -> u32
+    ensures { result ≡ line_of fault }
+{
+    match fault {
+        SourceFault::At { line, .. } => line,
+        SourceFault::Memory => 0,
+    }
+}
+
+/// The fault of a source without an `enter`.
+pub(crate) fn missing(any: bool, lines: u32) -> Option<SourceFault>
+    requires { lines ≤ 2000 }
+    ensures { result ≡ missing any lines }
+{
+    if any {
+        None
+    } else {
+        Some(SourceFault::At {
+            line: lines + 1,
+            cause: SourceCause::Enter,
+        })
+    }
+}

@@ -1,0 +1,112 @@
+//! Linking a whole source.
+ghost use Rattle.std.specs.Prelude.{◌≡◌, ◌≤◌, IfOk, IfErr, length};
+ghost use Rattle.ed_notation.specs.Spellings.{AreSpellable};
+ghost use Rattle.ed_symbols.specs.Faults.{resolved};
+ghost use Rattle.ed_link.specs.Answers.{IsFaultOf, IsLinked};
+ghost use Rattle.ed_link.specs.Private.Building.{IsFinished};
+ghost use Rattle.ed_link.specs.Faults.{fault};
+ghost use Rattle.ed_link.specs.Labels.{labels};
+ghost use Rattle.ed_link.specs.Linked.{homes_of};
+
+use crate::building::{Built, build};
+use crate::faults::{any_enter, missing, sooner, sooner_than};
+use crate::linked::{LabelPlace, Linked};
+use crate::words::words_of;
+use ed_library::catalogue_size;
+use ed_symbols::{Home, is_local, resolve};
+use ed_syntax::{Program, SourceFault};
+use ed_words::{NoMemory, Size};
+use std::alloc::Global;
+
+/// Links a source for a machine of a size: the linked program with its punched tape, or the least fault of meaning.
+pub fn link(alloc: Global, size: Size, program: &Program) -> Result<Linked, SourceFault>
+    ensures linked { IfOk result (λ k. IsLinked size program.now.lines.items k) }
+    ensures fault { IfErr result (λ e. IsFaultOf (fault size program.now.lines.items) e) }
+{
+    match resolve(alloc, program) {
+        Ok(places) => link_names(alloc, size, program, places.homes(), places.fault()),
+        Err(_) => Err(SourceFault::Memory),
+    }
+}
+
+/// The same where it is known what the names stand for, and what is wrong with them.
+fn link_names(
+    alloc: Global,
+    size: Size,
+    program: &Program,
+    homes: &[Home],
+    names: Option<SourceFault>,
+) -> Result<Linked, SourceFault>
+    requires homes { homes.now ≡ homes_of program.now.lines.items }
+    requires names { names ≡ (resolved program.now.lines.items).fault }
+    ensures linked { IfOk result (λ k. IsLinked size program.now.lines.items k) }
+    ensures fault { IfErr result (λ e. IsFaultOf (fault size program.now.lines.items) e) }
+{
+    let _ready = catalogue_size();
+    let any = any_enter(&program.lines);
+    let missing = missing(any, program.lines.len() as u32);
+    let built = match build(alloc, size, homes, any, &program.lines) {
+        Ok(built) => built,
+        Err(SourceFault::At { line, cause }) => {
+            let fault = SourceFault::At { line, cause };
+            return Err(sooner_than(names, sooner(fault, missing)));
+        }
+        Err(SourceFault::Memory) => return Err(SourceFault::Memory),
+    };
+    match names {
+        Some(names) => return Err(sooner(names, missing)),
+        None => {}
+    }
+    match missing {
+        Some(missing) => return Err(missing),
+        None => {}
+    }
+    match finish(alloc, homes, built) {
+        Ok(linked) => Ok(linked),
+        Err(_) => Err(SourceFault::Memory),
+    }
+}
+
+/// The names that a linked program tells.
+fn labels_of(alloc: Global, homes: &[Home]) -> Result<Vec<LabelPlace>, NoMemory>
+    ensures { IfOk result (λ v. v.items ≡ labels homes.now) }
+{
+    let mut labels = Vec::new(alloc);
+    for home in homes {
+        if !is_local(&home.name) && home.place <= 1023 {
+            let label = LabelPlace {
+                name: home.name,
+                place: home.place as u16,
+            };
+            if labels.push(label).is_err() {
+                return Err(NoMemory);
+            }
+        }
+    }
+    Ok(labels)
+}
+
+/// The linked program of what was made of the lines.
+#[tactic(auto, using(crate::proofs::Spellable::all_spellable, crate::proofs::Bounds::tape_few))]
+fn finish(alloc: Global, homes: &[Home], built: Built) -> Result<Linked, SourceFault>
+    requires spellable { AreSpellable built.items.items }
+    requires table { length built.table.items ≡ 1024 }
+    requires few_items { length built.items.items ≤ 480000 }
+    requires few_rows { length built.after.items ≤ 240000 }
+    ensures linked { IfOk result (λ k. IsFinished homes.now built k) }
+    ensures memory { IfErr result (λ e. e ≡ SourceFault.Memory) }
+{
+    let Ok(words) = words_of(alloc, &built.table) else {
+        return Err(SourceFault::Memory);
+    };
+    let Ok(labels) = labels_of(alloc, homes) else {
+        return Err(SourceFault::Memory);
+    };
+    Ok(Linked {
+        items: built.items,
+        words,
+        labels,
+        entry: built.entry.unwrap_or(0),
+        after: built.after,
+    })
+}

@@ -1,0 +1,339 @@
+//! The items of a line.
+ghost use Rattle.std.specs.Prelude.{ℕ, ◌≡◌, ◌≤◌, ◌<◌, ◌^◌, ◌+◌, ◌*◌, ◌++◌, ◌∷◌, [], OnOk, map, nat_eq, nat_le, IsTrue};
+ghost use Rattle.std.specs.Prelude.{unwrap_or, length, false, true, None};
+ghost use Rattle.std.specs.List.{flat_map, list_all};
+ghost use Rattle.ed_notation.specs.Spellings.{AreSpellable, is_spellable};
+ghost use Rattle.ed_library.specs.Entries.{entry};
+ghost use Rattle.ed_library.specs.Routines.{item_of, places};
+ghost use Rattle.ed_symbols.specs.Names.{place_on};
+ghost use Rattle.ed_symbols.specs.Places.{segment_at};
+ghost use Rattle.ed_library.specs.Routines.{find, item as item_at};
+ghost use Rattle.ed_symbols.specs.Places.{passed, taken};
+ghost use Rattle.ed_link.specs.Faults.{reach};
+ghost use Rattle.ed_link.specs.Linked.{number, long_words, setting, letters, words_of};
+ghost use Rattle.ed_link.specs.Punch.{ending, head, headed, heads, item, items_of, order_item, goes_by_theta};
+ghost use Rattle.ed_link.specs.Punch.{preset_items, routine_items, use_items, word_item, word_items};
+
+use crate::operands::{goes_by_theta, number, setting};
+use ed_codes::Code;
+use ed_library::{Routine, catalogue_size, find};
+use ed_notation::Item;
+use ed_symbols::{Home, Spot, even, find_place};
+use ed_syntax::{Name, Operand, Setting, Statement};
+use ed_words::{Long, NoMemory, Word};
+
+/// Adds an item.
+#[tactic(auto, using(crate::proofs::Spellable::more))]
+fn push(items: &mut Vec<Item>, item: Item) -> Result<(), NoMemory>
+    requires spellable { AreSpellable items.old.items }
+    requires item { is_spellable item ≡ true }
+    ensures items { OnOk result (items.new.items ≡ items.old.items ++ item ∷ []) }
+    ensures spellable { AreSpellable items.new.items }
+{
+    match items.push(item) {
+        Ok(()) => Ok(()),
+        Err(_) => Err(NoMemory),
+    }
+}
+
+/// The ending of a length.
+fn ending(length: bool) -> Code
+    ensures { result ≡ ending length }
+{
+    if length {
+        Code::new(19).unwrap()
+    } else {
+        Code::new(17).unwrap()
+    }
+}
+
+/// Adds an item that ends with K.
+fn push_control(items: &mut Vec<Item>, function: u8, number: u16) -> Result<(), NoMemory>
+    requires spellable { AreSpellable items.old.items }
+    requires function { function < 32 }
+    requires number { number ≤ 32767 }
+    ensures items { OnOk result (items.new.items ≡ items.old.items ++ item function number false 14 ∷ []) }
+    ensures spellable { AreSpellable items.new.items }
+{
+    push(
+        items,
+        Item {
+            function: Code::new(function).unwrap(),
+            number,
+            mark: false,
+            end: Code::new(14).unwrap(),
+        },
+    )
+}
+
+/// Adds an item of a word by its number, with F or D.
+fn push_number(
+    items: &mut Vec<Item>,
+    function: Code,
+    number: u16,
+    length: bool,
+) -> Result<(), NoMemory>
+    requires spellable { AreSpellable items.old.items }
+    requires number { number ≤ 32767 }
+    ensures items { OnOk result (items.new.items ≡ items.old.items ++ item function number false (ending length) ∷ []) }
+    ensures spellable { AreSpellable items.new.items }
+{
+    let _ = function.value();
+    push(
+        items,
+        Item {
+            function,
+            number,
+            mark: false,
+            end: ending(length),
+        },
+    )
+}
+
+/// Adds the head of a segment.
+fn push_head(items: &mut Vec<Item>, base: u16) -> Result<(), NoMemory>
+    requires spellable { AreSpellable items.old.items }
+    requires base { base ≤ 32767 }
+    ensures items { OnOk result (items.new.items ≡ items.old.items ++ head base) }
+    ensures spellable { AreSpellable items.new.items }
+{
+    push_control(items, 5, base)?;
+    push_control(items, 27, 0)
+}
+
+/// Adds the item of a word.
+fn push_word(items: &mut Vec<Item>, word: Word) -> Result<(), NoMemory>
+    requires spellable { AreSpellable items.old.items }
+    ensures items { OnOk result (items.new.items ≡ items.old.items ++ word_item word ∷ []) }
+    ensures spellable { AreSpellable items.new.items }
+{
+    let word = word.value();
+    push_number(
+        items,
+        Code::new((word / 4096) as u8).unwrap(),
+        (word % 4096 / 2) as u16,
+        word % 2 == 1,
+    )
+}
+
+/// Adds the item of an order.
+fn push_order(
+    items: &mut Vec<Item>,
+    homes: &[Home],
+    spot: Spot,
+    function: Code,
+    operand: &Operand,
+    length: bool,
+) -> Result<(), NoMemory>
+    requires spellable { AreSpellable items.old.items }
+    requires base { spot.base ≤ 32767 }
+    ensures items { OnOk result (items.new.items
+        ≡ items.old.items ++ order_item (goes_by_theta homes.now spot operand.now)
+        spot.base function (number homes.now (segment_at spot) operand.now) length ∷ []) }
+    ensures spellable { AreSpellable items.new.items }
+{
+    let number = number(homes, spot.segment(), operand);
+    let _ = function.value();
+    if goes_by_theta(homes, spot, operand) {
+        push(
+            items,
+            Item {
+                function,
+                number: number.saturating_sub(spot.base as u16),
+                mark: length,
+                end: Code::new(18).unwrap(),
+            },
+        )
+    } else {
+        push_number(items, function, number, length)
+    }
+}
+
+/// Adds the head of a segment where a line is its first.
+fn push_heads(items: &mut Vec<Item>, spot: Spot) -> Result<(), NoMemory>
+    requires spellable { AreSpellable items.old.items }
+    requires base { spot.base ≤ 32767 }
+    ensures items { OnOk result (items.new.items ≡ items.old.items ++ heads (nat_eq spot.place spot.base) spot.base) }
+    ensures spellable { AreSpellable items.new.items }
+{
+    if spot.place == spot.base {
+        push_head(items, spot.base as u16)?;
+    }
+    Ok(())
+}
+
+/// Adds the items of a `text`.
+fn push_text(items: &mut Vec<Item>, codes: &[Code]) -> Result<(), NoMemory>
+    requires spellable { AreSpellable items.old.items }
+    ensures items { OnOk result (items.new.items ≡ items.old.items ++ map word_item (map (λ c. 4096 * c) codes.now)) }
+    ensures spellable { AreSpellable items.new.items }
+{
+    for code in codes {
+        push_word(items, Word::new(4096 * u32::from(code.value())).unwrap())?;
+    }
+    Ok(())
+}
+
+/// Adds the items of a `long`.
+fn push_long(items: &mut Vec<Item>, place: u32, value: Long) -> Result<(), NoMemory>
+    requires spellable { AreSpellable items.old.items }
+    ensures items { OnOk result (items.new.items ≡ items.old.items ++ map word_item (long_words place value)) }
+    ensures spellable { AreSpellable items.new.items }
+{
+    let halves = value.halves();
+    if place % 2 == 1 {
+        push_word(items, Word::new(0).unwrap())?;
+    }
+    push_word(items, halves.even)?;
+    push_word(items, halves.odd)
+}
+
+/// Adds the items of a parameter, where it is set.
+fn push_preset(
+    items: &mut Vec<Item>,
+    homes: &[Home],
+    settings: &[Setting],
+    letter: u8,
+) -> Result<(), NoMemory>
+    requires spellable { AreSpellable items.old.items }
+    requires letter { letter ≤ 26 }
+    ensures items { OnOk result (items.new.items ≡ items.old.items ++ preset_items homes.now (setting settings.now letter) letter) }
+    ensures spellable { AreSpellable items.new.items }
+{
+    match setting(settings, letter) {
+        Some(operand) => {
+            push_control(items, 5, 24 + u16::from(letter))?;
+            push_number(
+                items,
+                Code::new(0).unwrap(),
+                number(homes, None, &operand),
+                false,
+            )
+        }
+        None => Ok(()),
+    }
+}
+
+/// Adds the items of the parameters of some letters.
+fn push_presets(
+    items: &mut Vec<Item>,
+    homes: &[Home],
+    settings: &[Setting],
+    letters: &[u8],
+) -> Result<(), NoMemory>
+    requires spellable { AreSpellable items.old.items }
+    requires letters { IsTrue (list_all (λ c. nat_le c 26) letters.now) }
+    ensures items { OnOk result (items.new.items
+        ≡ items.old.items ++ flat_map (λ c. preset_items homes.now (setting settings.now c) c) letters.now) }
+    ensures spellable { AreSpellable items.new.items }
+{
+    for letter in letters {
+        push_preset(items, homes, settings, *letter)?;
+    }
+    Ok(())
+}
+
+/// Adds the items of a routine.
+fn push_routine(items: &mut Vec<Item>, routine: Routine) -> Result<(), NoMemory>
+    requires spellable { AreSpellable items.old.items }
+    requires spelled { (place : ℕ) → place < places routine → is_spellable (item_at routine place) ≡ true }
+    ensures items { OnOk result (items.new.items ≡ items.old.items ++ map item_of (entry routine).items) }
+    ensures spellable { AreSpellable items.new.items }
+{
+    for place in 0..routine.length() {
+        push(items, routine.item(place))?;
+    }
+    Ok(())
+}
+
+/// Adds the items of a `use`.
+fn push_use(
+    items: &mut Vec<Item>,
+    homes: &[Home],
+    settings: &[Setting],
+    base: u32,
+    routine: &Name,
+) -> Result<(), NoMemory>
+    requires spellable { AreSpellable items.old.items }
+    requires base { 0 < taken (find routine.now) → base ≤ 32767 }
+    ensures items { OnOk result (items.new.items ≡ items.old.items ++ use_items homes.now settings.now base (find routine.now)) }
+    ensures spellable { AreSpellable items.new.items }
+{
+    push_presets(items, homes, settings, &[21, 22, 23, 24, 25, 26])?;
+    match find(routine.text()) {
+        Some(routine) => {
+            let _ready = catalogue_size();
+            let _some = routine.length();
+            push_head(items, base as u16)?;
+            push_routine(items, routine)
+        }
+        None => Ok(()),
+    }
+}
+
+/// Adds the items of a line.
+pub(crate) fn push_line(
+    items: &mut Vec<Item>,
+    homes: &[Home],
+    spot: Spot,
+    statement: &Option<Statement>,
+) -> Result<(), NoMemory>
+    requires spellable { AreSpellable items.old.items }
+    requires place { spot.place ≤ 2 ^ 30 }
+    requires base { spot.base ≤ spot.place }
+    requires fits { (reach homes.now statement.now spot).0 < (reach homes.now statement.now spot).1
+        → (reach homes.now statement.now spot).1 ≤ 1024 }
+    ensures items { OnOk result (items.new.items ≡ items.old.items ++ items_of homes.now spot statement.now) }
+    ensures spellable { AreSpellable items.new.items }
+{
+    match statement {
+        Some(
+            Statement::Order {
+                function,
+                operand,
+                length,
+            },
+        ) => {
+            push_heads(items, spot)?;
+            push_order(items, homes, spot, *function, operand, *length)
+        }
+        Some(Statement::Number { value }) => {
+            push_heads(items, spot)?;
+            push_word(items, *value)
+        }
+        Some(Statement::Text { codes }) => {
+            if codes.is_empty() {
+                return Ok(());
+            }
+            push_heads(items, spot)?;
+            push_text(items, codes)
+        }
+        Some(Statement::Long { value }) => {
+            push_heads(items, spot)?;
+            push_long(items, spot.place, *value)
+        }
+        Some(
+            Statement::Fetch {
+                routine,
+                settings,
+                ..
+            },
+        ) => push_use(items, homes, settings, even(spot.place), routine),
+        Some(Statement::Enter { name }) => {
+            push_control(items, 3, entry_of(homes, name))?;
+            push_number(items, Code::new(0).unwrap(), 0, false)
+        }
+        None | Some(Statement::Segment { .. } | Statement::Rows { .. }) => Ok(()),
+    }
+}
+
+/// The place of a name, which is in the store, and 0 where there is none.
+pub(crate) fn entry_of(homes: &[Home], name: &Name) -> u16
+    requires { unwrap_or (place_on homes.now None name.now) 0 ≤ 32767 }
+    ensures is { result ≡ unwrap_or (place_on homes.now None name.now) 0 }
+{
+    match find_place(homes, None, name) {
+        Some(place) => place as u16,
+        None => 0,
+    }
+}

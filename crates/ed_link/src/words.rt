@@ -1,0 +1,195 @@
+//! The words of a line.
+ghost use Rattle.std.specs.Prelude.{◌≡◌, ◌≤◌, ◌<◌, ◌^◌, ◌+◌, ◌*◌, ◌%◌, ◌∷◌, [], ◌++◌, Some, None, IfOk, length, map};
+ghost use Rattle.std.specs.Prelude.{nat_le, false, IsTrue, ℕ};
+ghost use Rattle.std.specs.List.{flat_map, list_all};
+ghost use Rattle.ed_words.specs.Words.{digit};
+ghost use Rattle.ed_notation.specs.Fold.{word_with};
+ghost use Rattle.ed_library.specs.Entries.{entry};
+ghost use Rattle.ed_library.specs.Images.{item_word};
+ghost use Rattle.ed_library.specs.Routines.{find, item_of, places};
+ghost use Rattle.ed_symbols.specs.Places.{segment_at, even, taken};
+ghost use Rattle.ed_link.specs.Linked.{image, laid, long_words, number, parameters, placed_by, preset, presets};
+ghost use Rattle.ed_link.specs.Linked.{setting, words_of};
+ghost use Rattle.ed_link.specs.Faults.{reach};
+ghost use Rattle.ed_link.specs.Tables.{put_all, with_word, words_from};
+
+use crate::linked::Placed;
+use crate::operands::{number, parameters, setting};
+use ed_codes::Code;
+use ed_library::{Parameters, Routine, find, image_word};
+use ed_symbols::{Home, Spot, even};
+use ed_syntax::{Name, Operand, Setting, Statement};
+use ed_words::{Long, NoMemory, Word};
+use std::alloc::Global;
+
+/// Puts a word at a place.
+fn put(table: &mut Vec<Option<Word>>, place: u32, word: Word)
+    requires { place < length table.old.items }
+    ensures { table.new.items ≡ put_all table.old.items ((place, word) ∷ []) }
+{
+    table[place as usize] = Some(word);
+}
+
+/// The word of an order.
+fn order_word(homes: &[Home], spot: Spot, function: Code, operand: &Operand, length: bool) -> Word
+    ensures { result ≡ word_with function (number homes.now (segment_at spot) operand.now) false (digit length) }
+{
+    let number = u32::from(number(homes, spot.segment(), operand));
+    let sum = 4096 * u32::from(function.value()) + 2 * number + u32::from(length);
+    Word::new(sum % 131072).unwrap()
+}
+
+/// Puts the words of a `text`.
+fn put_text(table: &mut Vec<Option<Word>>, place: u32, codes: &[Code])
+    requires table { place + length codes.now ≤ length table.old.items }
+    requires few { length table.old.items ≤ 1024 }
+    ensures { table.new.items ≡ put_all table.old.items (laid place (map (λ c. 4096 * c) codes.now)) }
+{
+    let mut at = place;
+    for code in codes {
+        put(
+            table,
+            at,
+            Word::new(4096 * u32::from(code.value())).unwrap(),
+        );
+        at += 1;
+    }
+}
+
+/// Puts the words of a `long`.
+fn put_long(table: &mut Vec<Option<Word>>, place: u32, value: Long)
+    requires table { place + length (long_words place value) ≤ length table.old.items }
+    requires few { length table.old.items ≤ 1024 }
+    ensures { table.new.items ≡ put_all table.old.items (laid place (long_words place value)) }
+{
+    let halves = value.halves();
+    let mut at = place;
+    if place % 2 == 1 {
+        put(table, at, Word::new(0).unwrap());
+        at += 1;
+    }
+    put(table, at, halves.even);
+    put(table, at + 1, halves.odd);
+}
+
+/// Puts the word of a parameter, where it is set.
+fn put_preset(table: &mut Vec<Option<Word>>, homes: &[Home], settings: &[Setting], letter: u8)
+    requires letter { letter ≤ 26 }
+    requires table { 51 ≤ length table.old.items }
+    ensures { table.new.items ≡ put_all table.old.items (preset homes.now (setting settings.now letter) letter) }
+{
+    if let Some(operand) = setting(settings, letter) {
+        let word = 2 * u32::from(number(homes, None, &operand));
+        put(table, 24 + u32::from(letter), Word::new(word).unwrap());
+    }
+}
+
+/// Puts the words of the parameters of some letters.
+fn put_presets(table: &mut Vec<Option<Word>>, homes: &[Home], settings: &[Setting], letters: &[u8])
+    requires letters { IsTrue (list_all (λ c. nat_le c 26) letters.now) }
+    requires table { 51 ≤ length table.old.items }
+    ensures { table.new.items ≡ put_all table.old.items (flat_map (λ c. preset homes.now (setting settings.now c) c) letters.now) }
+{
+    for letter in letters {
+        put_preset(table, homes, settings, *letter);
+    }
+}
+
+/// Puts the words of a routine.
+fn put_routine(table: &mut Vec<Option<Word>>, parameters: &Parameters, base: u16, routine: Routine)
+    requires { base + places routine ≤ length table.old.items }
+    ensures { table.new.items ≡ put_all table.old.items (laid base (map (λ row. item_word parameters.now base (item_of row))
+        (entry routine).items)) }
+{
+    for place in 0..routine.length() {
+        let word = image_word(&routine, place, base, parameters);
+        put(table, u32::from(base) + u32::from(place), word);
+    }
+}
+
+/// Puts the words of a `use`.
+#[tactic(auto, using(crate::proofs::Lengths::put_all_append))]
+fn put_use(
+    table: &mut Vec<Option<Word>>,
+    homes: &[Home],
+    settings: &[Setting],
+    base: u32,
+    routine: &Name,
+)
+    requires base { 0 < taken (find routine.now) → base + taken (find routine.now) ≤ length table.old.items }
+    requires table { length table.old.items ≡ 1024 }
+    ensures { table.new.items ≡ put_all table.old.items (presets homes.now settings.now ++ image homes.now settings.now base
+        (find routine.now)) }
+{
+    put_presets(table, homes, settings, &[21, 22, 23, 24, 25, 26]);
+    if let Some(routine) = find(routine.text()) {
+        let _ = routine.length();
+        put_routine(table, &parameters(homes, settings), base as u16, routine);
+    }
+}
+
+/// Puts the words that a line places.
+#[tactic(auto, using(crate::proofs::Lengths::put_all_length))]
+pub(crate) fn put_line(
+    table: &mut Vec<Option<Word>>,
+    homes: &[Home],
+    spot: Spot,
+    statement: &Option<Statement>,
+)
+    requires table { length table.old.items ≡ 1024 }
+    requires place { spot.place ≤ 2 ^ 30 }
+    requires fits { (reach homes.now statement.now spot).0 < (reach homes.now statement.now spot).1
+        → (reach homes.now statement.now spot).1 ≤ 1024 }
+    ensures is { table.new.items ≡ put_all table.old.items (placed_by homes.now spot statement.now) }
+    ensures length { length table.new.items ≡ 1024 }
+{
+    match statement {
+        Some(
+            Statement::Order {
+                function,
+                operand,
+                length,
+            },
+        ) => put(
+            table,
+            spot.place,
+            order_word(homes, spot, *function, operand, *length),
+        ),
+        Some(Statement::Number { value }) => put(table, spot.place, *value),
+        Some(Statement::Text { codes }) => {
+            if !codes.is_empty() {
+                put_text(table, spot.place, codes);
+            }
+        }
+        Some(Statement::Long { value }) => put_long(table, spot.place, *value),
+        Some(
+            Statement::Fetch {
+                routine,
+                settings,
+                ..
+            },
+        ) => put_use(table, homes, settings, even(spot.place), routine),
+        None | Some(Statement::Segment { .. } | Statement::Rows { .. } | Statement::Enter { .. }) =>
+            {}
+    }
+}
+
+/// The words of a table with their places, by rising place.
+pub(crate) fn words_of(alloc: Global, table: &[Option<Word>]) -> Result<Vec<Placed>, NoMemory>
+    requires { length table.now ≡ 1024 }
+    ensures { IfOk result (λ v. v.items ≡ words_from 0 table.now) }
+{
+    let mut words = Vec::new(alloc);
+    for (place, word) in table.iter().enumerate() {
+        if let Some(word) = word {
+            let placed = Placed {
+                place: place as u16,
+                word: *word,
+            };
+            if words.push(placed).is_err() {
+                return Err(NoMemory);
+            }
+        }
+    }
+    Ok(words)
+}
