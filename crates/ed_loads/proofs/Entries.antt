@@ -1,0 +1,129 @@
+-- The tape of a linked program leads to its state at the entry.
+use Rattle.std.proofs.Common.{◌≡◌, ℕ, zero, suc, ◌+◌, ◌-◌, ◌*◌, ◌^◌, ◌<◌, ◌≤◌, refl, sym, ap, ◌∙◌, subst, arith, lit≤}
+use Rattle.std.proofs.Common.{Bool, true, false, nat_lt, List, [], ◌∷◌, ◌++◌, length, drop, set, None}
+use Rattle.std.specs.Prelude.{reverse, replicate, slice_index}
+use Rattle.std.specs.List.{list_all}
+use Rattle.std.proofs.lemmas.Bool.{and_parts}
+use Rattle.std.proofs.lemmas.Bool.Decides.{nat_tests}
+use Rattle.std.proofs.lemmas.List.{drop-set-lt, drop-set-add, length-append, length-drop, length-replicate}
+use Rattle.ed_words.specs.declared.size.Size.{Size}
+use Rattle.ed_words.proofs.Numbers.{lt_of}
+use Rattle.ed_store.specs.Cells.{IsStore}
+use Rattle.ed_machine.specs.State.{State, cleared}
+use Rattle.ed_notation.specs.Fold.{over}
+use Rattle.ed_notation.specs.Faults.{Entry}
+use Rattle.ed_notation.specs.Items.{spelled}
+use Rattle.ed_notation.specs.Spellings.{canonicals}
+use Rattle.ed_notation.proofs.Costs.{most}
+use Rattle.ed_initial.specs.Listing.{initial_orders}
+use Rattle.ed_initial.specs.Rests.{initial_words}
+use Rattle.ed_initial.specs.Entry.{at_entry, Comes, IsLoaded, IsStarted}
+use Rattle.ed_initial.specs.declared.loading.Loaded.{Loaded}
+use Rattle.ed_initial.proofs.Started.{is_started}
+use Rattle.ed_initial.proofs.Quiet.{LeadsIn, comes_in}
+use Rattle.ed_syntax.specs.declared.program.Line.{Line}
+use Rattle.ed_link.specs.declared.linked.Linked.{Linked}
+use Rattle.ed_link.specs.Answers.{IsLinked}
+use Rattle.ed_link.specs.Linked.{linked, entry_of, after}
+use Rattle.ed_link.specs.Tapes.{ComesToLinked, arrival, cost, tape}
+use Rattle.ed_loads.specs.EntryState.{Enters, EachLinkedProgramEnters, entry_state, first_state, own_words}
+
+-- words placed over stores that agree from 44 on agree there
+one : (v w : List ℕ) (p x : ℕ) (t : Bool) → nat_lt p 44 ≡ t → drop 44 v ≡ drop 44 w → drop 44 (set v p x) ≡ drop 44 (set w p x)
+one v w p x true e h =
+    let l : p < 44 = grind (arith, nat_tests) in
+    drop-set-lt 44 v p x l ∙ h ∙ sym (drop-set-lt 44 w p x l)
+one v w p x false e h =
+    let l : 44 ≤ p = grind (arith, nat_tests) in
+    let q : 44 + (p - 44) ≡ p = omega arith in
+    let a : (u : List ℕ) → drop 44 (set u p x) ≡ set (drop 44 u) (p - 44) x =
+    λ u. ap (λ y. drop 44 (set u y x)) (sym q) ∙ drop-set-add 44 u (p - 44) x in
+    a v ∙ ap (λ (y : List ℕ). set y (p - 44) x) h ∙ sym (a w)
+
+same_over : (placed : List (ℕ × ℕ)) (v w : List ℕ) → drop 44 v ≡ drop 44 w → drop 44 (over placed v) ≡ drop 44 (over placed w)
+same_over [] v w h = h
+same_over (p ∷ placed) v w h = one (over placed v) (over placed w) p.0 p.1 (nat_lt p.0 44) refl (same_over placed v w h)
+
+-- ---- the machine that is started
+
+-- its words: those of the Initial Orders, and 0
+abbrev first_words : List ℕ
+first_words = initial_orders ++ drop 41 (replicate 1024 0)
+
+first_length : length first_words ≡ 1024
+first_length =
+    omega (
+      arith,
+      length-append initial_orders (drop 41 (replicate 1024 0)),
+      length-drop {A = ℕ} 41 (replicate 1024 0),
+      length-replicate {A = ℕ} 1024 0,
+    )
+
+all_fit : (ws : List ℕ) → list_all (λ w. nat_lt w (2 ^ 17)) ws ≡ true → (i : ℕ) → slice_index ws i < 2 ^ 17
+all_fit [] h i = lit≤ tt
+all_fit (w ∷ ws) h zero = lt_of w (2 ^ 17) (and_parts _ _ h).0
+all_fit (w ∷ ws) h (suc i) = all_fit ws (and_parts (nat_lt w (2 ^ 17)) _ h).1 i
+
+first_store : (z : Size) (rows : List ℕ) → IsStore (first_state z rows).store
+unfolding first_state
+first_store z rows = record {
+  words_are = first_length;
+  digits_are = length-replicate {A = Bool} 512 false;
+  fits = all_fit first_words refl;
+}
+
+starts : (z : Size) (rows : List ℕ) → IsStarted (first_state z rows)
+unfolding first_state
+starts z rows = is_started rows (cleared z)
+
+-- ---- its state at the entry
+
+first_orders : (n : ℕ) → 0 + n ≡ n
+first_orders n = omega arith
+
+entered : (z : Size) (lines : List Line)
+    → at_entry (first_state z (tape lines)) (arrival (first_state z (tape lines)).store.words lines) ≡ entry_state z lines
+unfolding first_state
+entered z lines = λ i.
+    let high : List ℕ = same_over (reverse (linked lines)) first_words (replicate 1024 0) refl i in
+    let k : ℕ = first_orders (cost lines) i in
+    record {
+      size = z;
+      store = record { words = initial_words (own_words lines) ++ high; sandwich = replicate 512 false };
+      acc = 0;
+      multiplier = 20480 * 2 ^ 18;
+      counter = entry_of lines;
+      tape = after lines;
+      last = None;
+      orders = k;
+    }
+
+module _ (z : Size) (lines : List Line) (loads : ComesToLinked z lines) where
+  comes : Comes (first_state z (tape lines)) (arrival (first_state z (tape lines)).store.words lines)
+  unfolding first_state
+  comes = let w = loads first_words first_length in record { well = w.0; comes = w.1 }
+
+  pub leads : LeadsIn (first_state z (tape lines)) (arrival (first_state z (tape lines)).store.words lines)
+  leads = comes_in _ _ (first_store z (tape lines)) (starts z (tape lines)) comes
+
+  pub enters : Enters z lines
+  enters = record {
+    state_is = leads.arrives ∙ entered z lines;
+    silent = leads.prints_none;
+    went = leads.went;
+    cheap = let m = most _ _ _ _ _ comes.comes in omega (arith, m);
+  }
+
+pub each_enters : EachLinkedProgramEnters
+each_enters z lines program is = enters z lines is.loads
+
+-- what `load` leaves of the machine that is started on the tape of a linked program
+pub loaded : (z : Size) (lines : List Line) (program : Linked) (rows : List ℕ) (s t : State) (r : Loaded) → IsLinked z lines program
+    → s ≡ first_state z rows → rows ≡ spelled (canonicals program.items.items) ++ program.after.items
+    → ((e : Entry) → Comes s e → IsLoaded s e r t) → t ≡ entry_state z lines
+loaded z lines program rows s t r is begun written load =
+    let tape_is : rows ≡ tape lines = written ∙ (λ i. spelled (canonicals (is.items i)) ++ is.after i) in
+    let first : s ≡ first_state z (tape lines) = begun ∙ ap (first_state z) tape_is in
+    let e = arrival (first_state z (tape lines)).store.words lines in
+    let there = load e (subst (λ (x : State). Comes x e) (sym first) (comes z lines is.loads)) in
+    there.state_is ∙ ap (λ (x : State). at_entry x e) first ∙ entered z lines

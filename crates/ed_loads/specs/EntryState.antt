@@ -1,0 +1,68 @@
+-- The state in which the program of a source is entered, on a machine that was cleared before Start (what the Initial
+-- Orders of Wilkes, Wheeler and Gill 1951 do with the tape of a linked program).
+use Rattle.std.specs.Prelude.{◌≡◌, ℕ, ◌+◌, ◌*◌, ◌^◌, ◌<◌, ◌≤◌, false, List, [], ◌++◌, None, drop, length, replicate, reverse}
+use Rattle.ed_words.specs.declared.size.Size.{Size}
+use Rattle.ed_store.specs.Cells.{Cells}
+use Rattle.ed_machine.specs.State.{State, cleared}
+use Rattle.ed_machine.specs.Start.{started}
+use Rattle.ed_machine.specs.OrderTable.{step}
+use Rattle.ed_machine.specs.Steps.{past, state_after}
+use Rattle.ed_machine.specs.declared.turn.Turn.TheVariants.{Went}
+use Rattle.ed_notation.specs.Fold.{over}
+use Rattle.ed_initial.specs.Listing.{initial_orders}
+use Rattle.ed_initial.specs.Rests.{Working, initial_words}
+use Rattle.ed_syntax.specs.declared.program.Line.{Line}
+use Rattle.ed_symbols.specs.Places.{first_spot}
+use Rattle.ed_link.specs.declared.linked.Linked.{Linked}
+use Rattle.ed_link.specs.Linked.{linked, entry_of, theta_from, after}
+use Rattle.ed_link.specs.Tapes.{cost, punched_rows, tape}
+use Rattle.ed_link.specs.Answers.{IsLinked}
+
+-- a cleared machine of a size, started on rows with the Initial Orders
+unfoldable pub first_state : Size → List ℕ → State
+first_state z rows = started initial_orders rows (cleared z)
+
+-- the words that the Initial Orders leave in the locations 0, 1, 20, 22 and 40 to 43; the others of 0 to 40 are as listed
+abbrev pub own_words : List Line → Working
+own_words lines = record {
+  at0 = 0;
+  at1 = 17;
+  at20 = 114770;
+  at22 = 12288 + 2 * entry_of lines;
+  at40 = 0;
+  at41 = 0;
+  at42 = theta_from 0 first_spot lines;
+  at43 = 1;
+}
+
+-- the store at the entry: those words, and from 44 on the linked program's words over 0; every sandwich digit is 0
+abbrev pub entry_store : List Line → Cells
+entry_store lines = record {
+  words = initial_words (own_words lines) ++ drop 44 (over (reverse (linked lines)) (replicate 1024 0));
+  sandwich = replicate 512 false;
+}
+
+-- the state at the entry
+abbrev pub entry_state : Size → List Line → State
+entry_state z lines = record {
+  size = z;
+  store = entry_store lines;
+  acc = 0;
+  multiplier = 20480 * 2 ^ 18;
+  counter = entry_of lines;
+  tape = after lines;
+  last = None;
+  orders = cost lines;
+}
+
+-- a cleared machine that is started on the punched tape comes to that state after the stated cost, which is at most 17
+-- orders a row of the punched items and 9 more; each of these orders neither prints nor stops, so that nothing is printed
+pub record Enters (z : Size) (lines : List Line) : Type 0 where
+  pub state_is : state_after (cost lines) (first_state z (tape lines)) ≡ entry_state z lines
+  pub silent : (past (cost lines) (first_state z (tape lines))).codes ≡ []
+  pub went : (j : ℕ) → j < cost lines → (step (state_after j (first_state z (tape lines)))).turn ≡ Went
+  pub cheap : cost lines ≤ 17 * length (punched_rows lines) + 9
+
+-- so it is with every linked program
+abbrev pub EachLinkedProgramEnters : Type 0
+EachLinkedProgramEnters = (z : Size) (lines : List Line) (program : Linked) → IsLinked z lines program → Enters z lines
