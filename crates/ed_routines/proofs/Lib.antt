@@ -1,0 +1,9 @@
+pub mod Image
+pub mod Called
+pub mod Runs
+pub mod NewLine
+pub mod Digits
+pub mod Print
+pub mod PrintCall
+pub mod Read
+pub mod ReadCall

@@ -1,0 +1,304 @@
+-- The routine `print`, by its listing.
+use Rattle.std.proofs.Common.{◌≡◌, ℕ, zero, suc, ◌+◌, ◌-◌, ◌*◌, ◌/◌, ◌%◌, ◌^◌, ◌<◌, ◌≤◌, refl, ap, arith, Bool, true, false, nat_lt}
+use Rattle.std.proofs.Common.{List, [], ◌∷◌, ◌++◌, Option, Some, get_or, length, lit<, lit≤}
+use Rattle.ed_words.proofs.SizeLemmas.{most}
+use Rattle.ed_paths.proofs.Frames.{Frame, Moment, short}
+use Rattle.ed_paths.proofs.Places.{IsOutside, early, own, out, any}
+use Rattle.ed_paths.proofs.Orders.{there_is}
+use Rattle.ed_paths.proofs.Shifts.{LD, L512F}
+use Rattle.ed_paths.proofs.Moves.{A, S, T, U, O, E_jumps, G_jumps, G_stays, L}
+use Rattle.ed_paths.proofs.Paths.{Path, stay, on, prints, followed}
+use Rattle.ed_routines.specs.Digits.{sum, without_zeros}
+use Rattle.ed_routines.proofs.Digits.{tens}
+
+-- the cells that change: the order that takes a power away, the one that returns, what is left of the number, whether a
+-- digit was printed, the digit, and a spare cell
+pub record Work : Type 0 where
+  pub at11 : ℕ
+  pub at38 : ℕ
+  pub at47 : ℕ
+  pub at48 : ℕ
+  pub at49 : ℕ
+  pub at50 : ℕ
+
+-- its words
+abbrev pub cells : ℕ → ℕ → Work → List ℕ
+cells b h w =
+    114694 ∷ (20480 + 2 * (b + 38)) ∷ (36864 + 2 * (b + 39)) ∷ (114688 + 2 * h) ∷ (20480 + 2 * (b + 47)) ∷ (20480 + 2 * (b + 48))
+    ∷ (114688 + 2 * (b + 41)) ∷ (20480 + 2 * (b + 11)) ∷ (20480 + 2 * (b + 50)) ∷ (20480 + 2 * (b + 49))
+    ∷ (114688 + 2 * (b + 47)) ∷ w.at11 ∷ (110592 + 2 * (b + 18)) ∷ (20480 + 2 * (b + 47)) ∷ (114688 + 2 * (b + 49))
+    ∷ (114688 + 2 * (b + 40)) ∷ (20480 + 2 * (b + 49)) ∷ (12288 + 2 * (b + 10)) ∷ (20480 + 2 * (b + 50)) ∷ (114688 + 2 * (b + 49))
+    ∷ (114688 + 2 * (b + 48)) ∷ (49152 + 2 * (b + 40)) ∷ (110592 + 2 * (b + 27)) ∷ (36864 + 2 * (b + 49)) ∷ (20480 + 2 * (b + 50))
+    ∷ (114688 + 2 * (b + 40)) ∷ (20480 + 2 * (b + 48)) ∷ (20480 + 2 * (b + 50)) ∷ (114688 + 2 * (b + 11)) ∷ 114692
+    ∷ (28672 + 2 * (b + 11)) ∷ (49152 + 2 * (b + 42)) ∷ (110592 + 2 * (b + 8)) ∷ (114688 + 2 * (b + 47)) ∷ 103424 ∷ 102401
+    ∷ (20480 + 2 * (b + 49)) ∷ (36864 + 2 * (b + 49)) ∷ w.at38 ∷ 45056
+    ∷ 4096 ∷ (49152 + 2 * (b + 43)) ∷ (49152 + 2 * (b + 47)) ∷ 10000 ∷ 1000 ∷ 100 ∷ 10 ∷ w.at47 ∷ w.at48 ∷ w.at49
+    ∷ w.at50 ∷ []
+
+-- the word that says whether a digit was printed
+abbrev pub flag_of : Bool → ℕ
+flag_of true = 4096
+flag_of false = 0
+
+-- what is printed of a digit, where one stands before it or not, whether one then does, and what its printing leaves
+abbrev pub shown : Bool → ℕ → List ℕ
+shown false zero = []
+shown false (suc q) = suc q ∷ []
+shown true q = q ∷ []
+
+abbrev pub begun : Bool → ℕ → Bool
+begun false zero = false
+begun false (suc q) = true
+begun true q = true
+
+abbrev pub spared : Bool → ℕ → ℕ
+spared false zero = 126976
+spared false (suc q) = 0
+spared true q = 0
+
+abbrev pub last_of : Option ℕ → List ℕ → Option ℕ
+last_of last [] = last
+last_of last (c ∷ cs) = last_of (Some c) cs
+
+-- digits without those zeros that lead, with the units
+abbrev pub spelled : Bool → List ℕ → ℕ → List ℕ
+spelled b [] units = units ∷ []
+spelled b (q ∷ qs) units = shown b q ++ spelled (begun b q) qs units
+
+abbrev pub shows : Bool → List ℕ → ℕ
+shows b [] = 0
+shows b (q ∷ qs) = length (shown b q) + shows (begun b q) qs
+
+-- they are what the definition of the digits has
+spelled_all : (qs : List ℕ) (units : ℕ) → spelled true qs units ≡ qs ++ units ∷ []
+spelled_all [] units = refl
+spelled_all (q ∷ qs) units = ap (λ x. q ∷ x) (spelled_all qs units)
+
+pub spelled_is : (qs : List ℕ) (units : ℕ) → spelled false qs units ≡ without_zeros qs ++ units ∷ []
+spelled_is [] units = refl
+spelled_is (zero ∷ qs) units = spelled_is qs units
+spelled_is (suc q ∷ qs) units = ap (λ x. suc q ∷ x) (spelled_all qs units)
+
+shows_all : (qs : List ℕ) → shows true qs ≡ length qs
+shows_all [] = refl
+shows_all (q ∷ qs) = let e = shows_all qs in omega (arith, e)
+
+pub shows_is : (qs : List ℕ) → shows false qs ≡ length (without_zeros qs)
+shows_is [] = refl
+shows_is (zero ∷ qs) = let e = shows_is qs in omega (arith, e)
+shows_is (suc q ∷ qs) = let e = shows_all qs in omega (arith, e)
+
+pub sum_is : (qs : List ℕ) → sum qs ≡ sum (without_zeros qs)
+sum_is [] = refl
+sum_is (zero ∷ qs) = let e = sum_is qs in omega (arith, e)
+sum_is (suc q ∷ qs) = refl
+
+-- how many orders a digit before the units takes
+abbrev pub digit_orders : Bool → ℕ → ℕ
+digit_orders b q = 15 + 8 * q + 4 * length (shown b q)
+
+-- whether a digit stands before the tens
+abbrev pub before_tens : ℕ → Bool
+before_tens n = begun (begun (begun false (n / 10000)) (n / 1000 % 10)) (n / 100 % 10)
+
+module _ (f : Frame 51 0) (behind : 56 ≤ f.base) (h m multiplier : ℕ) (ws tape : List ℕ) (sandwich : List Bool)
+    (all : length ws ≡ 1024) where
+  abbrev pub run : Work → ℕ → ℕ → Option ℕ → Moment
+  run w v i last = record {
+    words = ws;
+    digits = sandwich;
+    cells = cells f.base h w;
+    pairs = [];
+    acc = short v;
+    multiplier = multiplier;
+    counter = f.base + i;
+    tape = tape;
+    last = last;
+  }
+
+  -- with the power at cell j
+  abbrev pub at : ℕ → ℕ → ℕ → ℕ → ℕ → ℕ → ℕ → Option ℕ → Moment
+  at j rest flag count spare v i last =
+      run (record {
+        at11 = 49152 + 2 * (f.base + j);
+        at38 = 12288 + 2 * (m + 2);
+        at47 = rest;
+        at48 = flag;
+        at49 = count;
+        at50 = spare;
+      }) v i last
+
+  -- what the test for the next power leaves, behind the power at cell j
+  abbrev pub tested : ℕ → ℕ
+  tested j = (2 * j + 2 + (2 ^ 17 - 94)) % 2 ^ 17
+
+  -- the power p stands in cell j
+  record Power (j p : ℕ) : Type 0 where
+    holds : (w : Work) → get_or (cells f.base h w) j 0 ≡ p
+    own : nat_lt j 51 ≡ true
+    most : p ≤ 10000
+
+  -- the power is taken away once, and as often as it goes
+  subtract : (j p d v u flag spare : ℕ) (last : Option ℕ) → Power j p → v ≡ u + p → v < 2 ^ 16 → d < 9
+      → Path f 8 (at j v flag (4096 * d) spare 0 10 last) [] (at j u flag (4096 * (d + 1)) spare 0 10 last)
+  subtract j p d v u flag spare last o sum low few =
+      let most = o.most in
+      on (A 10 (own 47) (short v) refl (omega arith))
+      (on (S 11 (own j) (short u) (there_is o.own) (rw (o.holds _) (omega arith)))
+      (on (G_stays 12 (own 18) refl (omega arith))
+      (on (T 13 (own 47) _ refl refl)
+      (on (A 14 (own 49) (short (4096 * d)) refl (omega arith))
+      (on (A 15 (own 40) (short (4096 * (d + 1))) refl (omega arith))
+      (on (T 16 (own 49) _ refl refl)
+      (on (E_jumps 17 (own 10) refl (lit< tt)) stay)))))))
+
+  subtractions : (j p q d v r flag spare : ℕ) (last : Option ℕ) → Power j p → v ≡ q * p + r → v < 2 ^ 16 → d + q ≤ 9
+      → Path f (8 * q) (at j v flag (4096 * d) spare 0 10 last) [] (at j r flag (4096 * (d + q)) spare 0 10 last)
+  subtractions j p zero d v r flag spare last o sum low few =
+      let e : v ≡ r = omega arith in
+      let g : d + 0 ≡ d = omega arith in
+      rw (e, g) stay
+  subtractions j p (suc q) d v r flag spare last o sum low few =
+      let e : 8 * suc q ≡ 8 + 8 * q = omega arith in
+      let g : d + suc q ≡ d + 1 + q = omega arith in
+      rw (e, g) (followed (subtract j p d v (q * p + r) flag spare last o (omega arith) low (omega arith))
+      (subtractions j p q (d + 1) (q * p + r) r flag spare last o refl (omega arith) (omega arith)))
+
+  -- the next power
+  next : (j u rest flag count spare v : ℕ) (last : Option ℕ) → j < 47 → v < 2 ^ 17 → get_or ws 2 0 ≡ 2 → tested j ≡ u
+      → Path f 5 (at j rest flag count spare v 27 last) [] (at (j + 1) rest flag count v u 32 last)
+  next j u rest flag count spare v last inside low at2 is =
+      let b = most f.size in let fits = f.fits in
+      on (T 27 (own 50) _ refl refl)
+      (on (A 28 (own 11) (short (49152 + 2 * (f.base + j))) refl (omega arith))
+      (on (A 29 (out 2 (early 2 behind (lit< tt) all)) (short (49152 + 2 * (f.base + (j + 1)))) refl (omega arith))
+      (on (U 30 (own 11) _ refl refl)
+      (on (S 31 (own 42) (short u) refl (omega arith)) stay))))
+
+  -- a digit that is printed, and one that isn't
+  print_digit : (j q rest flag spare v : ℕ) (last : Option ℕ) → q ≤ 9 → flag ≤ 4096 → 4096 ≤ 4096 * q + flag → v < 2 ^ 17
+      → Path f 9 (at j rest flag (4096 * q) spare v 18 last) (q ∷ []) (at j rest 4096 (4096 * q) (4096 * q + flag - 4096) 0 27 (Some q))
+  print_digit j q rest flag spare v last few low some fits =
+      on (T 18 (own 50) _ refl refl)
+      (on (A 19 (own 49) (short (4096 * q)) refl (omega arith))
+      (on (A 20 (own 48) (short (4096 * q + flag)) refl (omega arith))
+      (on (S 21 (own 40) (short (4096 * q + flag - 4096)) refl (omega arith))
+      (on (G_stays 22 (own 27) refl (omega arith))
+      (prints (O 23 (own 49) q refl (omega arith))
+      (on (T 24 (own 50) _ refl refl)
+      (on (A 25 (own 40) (short 4096) refl refl)
+      (on (T 26 (own 48) _ refl refl) stay))))))))
+
+  skip_digit : (j rest spare v : ℕ) (last : Option ℕ) → v < 2 ^ 17
+      → Path f 5 (at j rest 0 0 spare v 18 last) [] (at j rest 0 0 v 126976 27 last)
+  skip_digit j rest spare v last fits =
+      on (T 18 (own 50) _ refl refl)
+      (on (A 19 (own 49) (short 0) refl refl)
+      (on (A 20 (own 48) (short 0) refl refl)
+      (on (S 21 (own 40) (short 126976) refl (omega arith))
+      (on (G_jumps 22 (own 27) refl (lit≤ tt)) stay))))
+
+  -- from the test of a digit to the test for the next power
+  show : (j q u rest spare v : ℕ) (b : Bool) (last : Option ℕ) → j < 47 → q ≤ 9 → v < 2 ^ 17 → get_or ws 2 0 ≡ 2 → tested j ≡ u
+      → Path f (10 + 4 * length (shown b q)) (at j rest (flag_of b) (4096 * q) spare v 18 last) (shown b q)
+      (at (j + 1) rest (flag_of (begun b q)) (4096 * q) (spared b q) u 32 (last_of last (shown b q)))
+  show j zero u rest spare v false last inside few fits at2 is =
+      followed (skip_digit j rest spare v last fits) (next j u rest 0 0 v 126976 last inside (lit< tt) at2 is)
+  show j (suc q) u rest spare v false last inside few fits at2 is =
+      followed (print_digit j (suc q) rest 0 spare v last few (lit≤ tt) (omega arith) fits)
+      (next j u rest 4096 (4096 * suc q) (4096 * suc q + 0 - 4096) 0 (Some (suc q)) inside (lit< tt) at2 is)
+  show j q u rest spare v true last inside few fits at2 is =
+      followed (print_digit j q rest 4096 spare v last few (lit≤ tt) (omega arith) fits)
+      (next j u rest 4096 (4096 * q) (4096 * q + 4096 - 4096) 0 (Some q) inside (lit< tt) at2 is)
+
+  -- a digit before the units
+  turn : (j p q u v r spare count top : ℕ) (b : Bool) (last : Option ℕ) → Power j p → v ≡ q * p + r → r < p → v < 2 ^ 16 → q ≤ 9
+      → top < 2 ^ 17 → j < 47 → get_or ws 2 0 ≡ 2 → tested j ≡ u
+      → Path f (digit_orders b q) (at j v (flag_of b) count spare top 8 last) (shown b q)
+      (at (j + 1) r (flag_of (begun b q)) (4096 * q) (spared b q) u 32 (last_of last (shown b q)))
+  turn j p q u v r spare count top b last o sum less low few fits inside at2 is =
+      let most = o.most in
+      let n : digit_orders b q ≡ 2 + (8 * q + (3 + (10 + 4 * length (shown b q)))) = omega arith in
+      let first : Path f 2 (at j v (flag_of b) count spare top 8 last) [] (at j v (flag_of b) (4096 * 0) top 0 10 last)
+      = on (T 8 (own 50) _ refl refl) (on (T 9 (own 49) _ refl refl) stay) in
+      let last_try : Path f 3 (at j r (flag_of b) (4096 * q) top 0 10 last) []
+      (at j r (flag_of b) (4096 * q) top (r + (2 ^ 17 - p)) 18 last)
+      = on (A 10 (own 47) (short r) refl (omega arith))
+      (on (S 11 (own j) (short (r + (2 ^ 17 - p))) (there_is o.own) (rw (o.holds _) (omega arith)))
+      (on (G_jumps 12 (own 18) refl (omega arith)) stay)) in
+      let z : 0 + q ≡ q = omega arith in
+      let loop : Path f (8 * q) (at j v (flag_of b) (4096 * 0) top 0 10 last) [] (at j r (flag_of b) (4096 * q) top 0 10 last)
+      = rw z at (subtractions j p q 0 v r (flag_of b) top last o sum low (omega arith)) in
+      rw n (followed first (followed loop (followed last_try (show j q u r top (r + (2 ^ 17 - p)) b last inside few (omega arith) at2 is))))
+
+  -- the figure shift is printed, and the number taken
+  opened : (w : Work) (v : ℕ) (last : Option ℕ) → get_or ws 3 0 ≡ 28676 → m + 3 ≤ f.top → IsOutside f ws h → get_or ws h 0 ≡ v
+      → v < 2 ^ 16
+      → Path f 8 (run w (114688 + 2 * m) 0 last) (11 ∷ []) (at 43 v 0 w.at49 w.at50 0 8 (Some 11))
+  opened w v last at3 room away is low =
+      let b = most f.size in let fits = f.fits in
+      on (A 0 (out 3 (early 3 behind (lit< tt) all)) (short (12288 + 2 * (m + 2))) refl (omega arith))
+      (on (T 1 (own 38) _ refl refl)
+      (prints (O 2 (own 39) 11 refl refl)
+      (on (A 3 (out h away) (short v) refl (omega arith))
+      (on (T 4 (own 47) _ refl refl)
+      (on (T 5 (own 48) _ refl refl)
+      (on (A 6 (own 41) (short (49152 + 2 * (f.base + 43))) refl (omega arith))
+      (on (T 7 (own 11) _ refl refl) stay)))))))
+
+  -- a power is left
+  again : (j rest flag count spare u : ℕ) (last : Option ℕ) → 2 ^ 16 ≤ u
+      → Path f 1 (at j rest flag count spare u 32 last) [] (at j rest flag count spare u 8 last)
+  again j rest flag count spare u last high = on (G_jumps 32 (own 8) refl (omega arith)) stay
+
+  -- none is: the units are printed
+  closed : (j rest flag count spare : ℕ) (last : Option ℕ) → rest ≤ 9 → m + 3 ≤ f.top
+      → Path f 7 (at j rest flag count spare 0 32 last) (rest ∷ [])
+      (record (at j rest flag (4096 * rest) spare 0 0 (Some rest)) { counter = m + 2 })
+  closed j rest flag count spare last few room =
+      let there : m + 2 < f.top = omega arith in
+      on (G_stays 32 (own 8) refl (lit< tt))
+      (on (A 33 (own 47) (short rest) refl (omega arith))
+      (on (L 34 L512F (short (2048 * rest)) refl (omega arith))
+      (on (L 35 LD (short (4096 * rest)) refl (omega arith))
+      (on (T 36 (own 49) _ refl refl)
+      (prints (O 37 (own 49) rest refl (omega arith))
+      (on (E_jumps 38 (any (m + 2) there) refl (lit< tt)) stay))))))
+
+  pub whole : (w : Work) (n : ℕ) (last : Option ℕ) → get_or ws 2 0 ≡ 2 → get_or ws 3 0 ≡ 28676 → m + 3 ≤ f.top → IsOutside f ws h
+      → get_or ws h 0 ≡ n → n < 2 ^ 16
+      → Path f (78 + 8 * sum (tens n) + 4 * shows false (tens n)) (run w (114688 + 2 * m) 0 last) (11 ∷ spelled false (tens n) (n % 10))
+      (record (at 47 (n % 10) (flag_of (begun (before_tens n) (n / 10 % 10))) (4096 * (n % 10)) (spared (before_tens n) (n / 10 % 10)) 0 0
+      (Some (n % 10))) { counter = m + 2 })
+  whole w n last at2 at3 room away is low =
+      let q1 : ℕ = n / 10000 in
+      let q2 : ℕ = n / 1000 % 10 in
+      let q3 : ℕ = n / 100 % 10 in
+      let q4 : ℕ = n / 10 % 10 in
+      let b1 : Bool = begun false q1 in
+      let b2 : Bool = begun b1 q2 in
+      let b3 : Bool = begun b2 q3 in
+      let b4 : Bool = begun b3 q4 in
+      let p1 : Power 43 10000 = record { holds = λ w. refl; own = refl; most = lit≤ tt } in
+      let p2 : Power 44 1000 = record { holds = λ w. refl; own = refl; most = lit≤ tt } in
+      let p3 : Power 45 100 = record { holds = λ w. refl; own = refl; most = lit≤ tt } in
+      let p4 : Power 46 10 = record { holds = λ w. refl; own = refl; most = lit≤ tt } in
+      let l1 : Option ℕ = last_of (Some 11) (shown false q1) in
+      let l2 : Option ℕ = last_of l1 (shown b1 q2) in
+      let l3 : Option ℕ = last_of l2 (shown b2 q3) in
+      let l4 : Option ℕ = last_of l3 (shown b3 q4) in
+      let e : 78 + 8 * sum (tens n) + 4 * shows false (tens n)
+      ≡ 8 + (digit_orders false q1 + (1 + (digit_orders b1 q2 + (1 + (digit_orders b2 q3 + (1 + (digit_orders b3 q4 + 7))))))) = omega arith in
+      rw e (followed (opened w n last at3 room away is low)
+      (followed (turn 43 10000 q1 131066 n (n % 10000) w.at50 w.at49 0 false (Some 11) p1 (omega arith) (omega arith) low (omega arith)
+      (lit< tt) (lit< tt) at2 refl)
+      (followed (again 44 (n % 10000) (flag_of b1) (4096 * q1) (spared false q1) 131066 l1 (lit≤ tt))
+      (followed (turn 44 1000 q2 131068 (n % 10000) (n % 1000) (spared false q1) (4096 * q1) 131066 b1 l1 p2
+      (omega arith) (omega arith) (omega arith) (omega arith) (lit< tt) (lit< tt) at2 refl)
+      (followed (again 45 (n % 1000) (flag_of b2) (4096 * q2) (spared b1 q2) 131068 l2 (lit≤ tt))
+      (followed (turn 45 100 q3 131070 (n % 1000) (n % 100) (spared b1 q2) (4096 * q2) 131068 b2 l2 p3
+      (omega arith) (omega arith) (omega arith) (omega arith) (lit< tt) (lit< tt) at2 refl)
+      (followed (again 46 (n % 100) (flag_of b3) (4096 * q3) (spared b2 q3) 131070 l3 (lit≤ tt))
+      (followed (turn 46 10 q4 0 (n % 100) (n % 10) (spared b2 q3) (4096 * q3) 131070 b3 l3 p4
+      (omega arith) (omega arith) (omega arith) (omega arith) (lit< tt) (lit< tt) at2 refl)
+      (closed 47 (n % 10) (flag_of b4) (4096 * q4) (spared b3 q4) l4 (omega arith) room)))))))))

@@ -1,0 +1,140 @@
+-- The routine `read`, by its listing.
+use Rattle.std.proofs.Common.{◌≡◌, ℕ, ◌+◌, ◌-◌, ◌*◌, ◌%◌, ◌^◌, ◌<◌, ◌≤◌, refl, arith, Bool, List, [], ◌∷◌, ◌++◌, Option, get_or}
+use Rattle.std.proofs.Common.{set, length}
+use Rattle.std.proofs.Common.{lit<}
+use Rattle.ed_words.proofs.SizeLemmas.{most}
+use Rattle.ed_paths.proofs.Frames.{Frame, Moment, short}
+use Rattle.ed_paths.proofs.Places.{IsOutside, early, own, out, any}
+use Rattle.ed_paths.proofs.Orders.{word_is}
+use Rattle.ed_paths.proofs.Shifts.{LD, L1F}
+use Rattle.ed_paths.proofs.Moves.{A, S, T, U, I, E_jumps, E_stays, L}
+use Rattle.ed_paths.proofs.Paths.{Path, stay, on, followed}
+use Rattle.ed_routines.specs.Digits.{value, value_behind}
+
+-- the cells that change: the order that returns, the number so far, the row, and a spare cell
+pub record Work : Type 0 where
+  pub at19 : ℕ
+  pub at21 : ℕ
+  pub at22 : ℕ
+  pub at23 : ℕ
+
+-- its words
+abbrev pub cells : ℕ → ℕ → Work → List ℕ
+cells b h w =
+    114694 ∷ (20480 + 2 * (b + 19)) ∷ (20480 + 2 * (b + 21)) ∷ (32768 + 2 * (b + 22)) ∷ (114688 + 2 * (b + 22))
+    ∷ (49152 + 2 * (b + 20)) ∷ (12288 + 2 * (b + 16)) ∷ (20480 + 2 * (b + 23)) ∷ (114688 + 2 * (b + 21)) ∷ 102401
+    ∷ (28672 + 2 * (b + 23)) ∷ 102402 ∷ (114688 + 2 * (b + 23)) ∷ (114688 + 2 * (b + 22)) ∷ (20480 + 2 * (b + 21))
+    ∷ (12288 + 2 * (b + 3)) ∷ (20480 + 2 * (b + 23)) ∷ (114688 + 2 * (b + 21)) ∷ (20480 + 2 * h) ∷ w.at19
+    ∷ 10 ∷ w.at21 ∷ w.at22 ∷ w.at23 ∷ []
+
+-- the cells after digit rows behind a number
+abbrev pub worked : ℕ → List ℕ → Work → Work
+worked n [] w = w
+worked n (d ∷ ds) w = worked (10 * n + d) ds (record w { at21 = (10 * n + d) % 2 ^ 17; at22 = d; at23 = (2 * n) % 2 ^ 17 })
+
+-- digit rows
+pub data Digits : List ℕ → Type 0 where
+  none : Digits []
+  more : {d : ℕ} {ds : List ℕ} → d < 10 → Digits ds → Digits (d ∷ ds)
+
+module _ (f : Frame 24 0) (behind : 56 ≤ f.base) (h m multiplier : ℕ) (sandwich : List Bool) (last : Option ℕ) where
+  abbrev pub run : List ℕ → Work → ℕ → ℕ → List ℕ → Moment
+  run ws w v i tape = record {
+    words = ws;
+    digits = sandwich;
+    cells = cells f.base h w;
+    pairs = [];
+    acc = short v;
+    multiplier = multiplier;
+    counter = f.base + i;
+    tape = tape;
+    last = last;
+  }
+
+  -- a digit row
+  digit : (ws : List ℕ) (w : Work) (c : ℕ) (rest : List ℕ) (v u x : ℕ) → w.at21 ≡ v → v < 2 ^ 17 → c < 10 → (2 * v) % 2 ^ 17 ≡ x
+      → (10 * v + c) % 2 ^ 17 ≡ u
+      → Path f 13 (run ws w 0 3 (c ∷ rest)) [] (run ws (record w { at21 = u; at22 = c; at23 = x }) 0 3 rest)
+  digit ws w c rest v u x is low d twice sum =
+      on (I 3 (own 22) c refl refl refl)
+      (on (A 4 (own 22) (short c) refl (omega arith))
+      (on (S 5 (own 20) (short (c + (2 ^ 17 - 10))) refl (omega arith))
+      (on (E_stays 6 (own 16) refl (omega arith))
+      (on (T 7 (own 23) _ refl refl)
+      (on (A 8 (own 21) (short v) refl (omega arith))
+      (on (L 9 LD (short x) refl (omega arith))
+      (on (U 10 (own 23) _ refl refl)
+      (on (L 11 L1F (short ((8 * v) % 2 ^ 17)) refl (omega arith))
+      (on (A 12 (own 23) (short ((10 * v) % 2 ^ 17)) refl (omega arith))
+      (on (A 13 (own 22) (short u) refl (omega arith))
+      (on (T 14 (own 21) _ refl refl)
+      (on (E_jumps 15 (own 3) refl (lit< tt)) stay))))))))))))
+
+  digits : (ws : List ℕ) (n : ℕ) (w : Work) (ds rest : List ℕ) → Digits ds → w.at21 ≡ n % 2 ^ 17
+      → Path f (13 * length ds) (run ws w 0 3 (ds ++ rest)) [] (run ws (worked n ds w) 0 3 rest)
+  digits ws n w [] rest ok is = stay
+  digits ws n w (d ∷ ds) rest (more low ok) is =
+      let e : 13 * length (d ∷ ds) ≡ 13 + 13 * length ds = omega arith in
+      let first = digit ws w d (ds ++ rest) (n % 2 ^ 17) ((10 * n + d) % 2 ^ 17) ((2 * n) % 2 ^ 17) is
+      (omega arith) low (omega arith) (omega arith) in
+      rw e (followed first
+      (digits ws (10 * n + d) (record w { at21 = (10 * n + d) % 2 ^ 17; at22 = d; at23 = (2 * n) % 2 ^ 17 }) ds rest ok refl))
+
+  -- the order that returns is made, and the number begins with 0
+  abbrev pub opened_work : Work → Work
+  opened_work w = record w { at19 = 12288 + 2 * (m + 2); at21 = 0 }
+
+  opened : (ws : List ℕ) (w : Work) (tape : List ℕ) → length ws ≡ 1024 → get_or ws 3 0 ≡ 28676 → m + 3 ≤ f.top
+      → Path f 3 (run ws w (114688 + 2 * m) 0 tape) [] (run ws (opened_work w) 0 3 tape)
+  opened ws w tape all at3 room =
+      let b = most f.size in
+      let fits = f.fits in
+      on (A 0 (out 3 (early 3 behind (lit< tt) all)) (short (12288 + 2 * (m + 2))) refl (omega arith))
+      (on (T 1 (own 19) _ refl refl)
+      (on (T 2 (own 21) _ refl refl) stay))
+
+  -- an ending row
+  closed : (ws : List ℕ) (w : Work) (c v : ℕ) (rest : List ℕ) → w.at19 ≡ 12288 + 2 * (m + 2) → w.at21 ≡ v → v < 2 ^ 17 → 10 ≤ c
+      → c < 32 → IsOutside f ws h → m + 3 ≤ f.top
+      → Path f 8 (run ws w 0 3 (c ∷ rest)) []
+      (record (run (set ws h v) (record w { at22 = c; at23 = c - 10 }) 0 0 rest) { counter = m + 2 })
+  closed ws w c v rest link is low end code away room =
+      let there : m + 2 < f.top = omega arith in
+      on (I 3 (own 22) c refl refl refl)
+      (on (A 4 (own 22) (short c) refl (omega arith))
+      (on (S 5 (own 20) (short (c - 10)) refl (omega arith))
+      (on (E_jumps 6 (own 16) refl (omega arith))
+      (on (T 16 (own 23) _ refl refl)
+      (on (A 17 (own 21) (short v) refl (omega arith))
+      (on (T 18 (out h away) _ refl refl)
+      (on (E_jumps 19 (any (m + 2) there) (word_is link) (lit< tt)) stay)))))))
+
+  link_kept : (n : ℕ) (ds : List ℕ) (w : Work) → (worked n ds w).at19 ≡ w.at19
+  link_kept n [] w = refl
+  link_kept n (d ∷ ds) w = link_kept (10 * n + d) ds (record w { at21 = (10 * n + d) % 2 ^ 17; at22 = d; at23 = (2 * n) % 2 ^ 17 })
+
+  value_kept : (n : ℕ) (ds : List ℕ) (w : Work) → w.at21 ≡ n % 2 ^ 17 → (worked n ds w).at21 ≡ value_behind n ds % 2 ^ 17
+  value_kept n [] w e = e
+  value_kept n (d ∷ ds) w e =
+      value_kept (10 * n + d) ds (record w { at21 = (10 * n + d) % 2 ^ 17; at22 = d; at23 = (2 * n) % 2 ^ 17 }) refl
+
+  -- the whole routine
+  abbrev pub last_work : List ℕ → ℕ → Work → Work
+  last_work ds c w = record (worked 0 ds (opened_work w)) { at22 = c; at23 = c - 10 }
+
+  pub whole : (ws : List ℕ) (w : Work) (ds : List ℕ) (c : ℕ) (rest : List ℕ) → length ws ≡ 1024 → get_or ws 3 0 ≡ 28676 → m + 3 ≤ f.top
+      → Digits ds → 10 ≤ c → c < 32 → IsOutside f ws h
+      → Path f (11 + 13 * length ds) (run ws w (114688 + 2 * m) 0 (ds ++ c ∷ rest)) []
+      (record (run (set ws h (value ds % 2 ^ 17)) (last_work ds c w) 0 0 rest) { counter = m + 2 })
+  whole ws w ds c rest all at3 room ok end code away =
+      let start : Work = opened_work w in
+      let e : 11 + 13 * length ds ≡ 3 + (13 * length ds + 8) = omega arith in
+      rw e (followed (opened ws w (ds ++ c ∷ rest) all at3 room)
+      (followed (digits ws 0 start ds (c ∷ rest) ok refl)
+      (closed ws (worked 0 ds start) c (value ds % 2 ^ 17) rest (link_kept 0 ds start) (value_kept 0 ds start refl)
+      (omega arith) end code away room)))
+
+  -- the tape that ends
+  pub until_end : (ws : List ℕ) (w : Work) (ds : List ℕ) → length ws ≡ 1024 → get_or ws 3 0 ≡ 28676 → m + 3 ≤ f.top → Digits ds
+      → Path f (3 + 13 * length ds) (run ws w (114688 + 2 * m) 0 (ds ++ [])) [] (run ws (worked 0 ds (opened_work w)) 0 3 [])
+  until_end ws w ds all at3 room ok = followed (opened ws w (ds ++ []) all at3 room) (digits ws 0 (opened_work w) ds [] ok refl)

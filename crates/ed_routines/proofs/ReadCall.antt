@@ -1,0 +1,261 @@
+-- `read` from the library's table to what it does.
+use Rattle.std.proofs.Common.{◌≡◌, ◌≢◌, inl, inr, ℕ, ◌+◌, ◌*◌, ◌%◌, ◌^◌, ◌<◌, ◌≤◌, refl, sym, ap, ◌∙◌, subst, arith, true, false, Bool}
+use Rattle.std.proofs.Common.{List, [], ◌∷◌, ◌++◌, get_or, set, length, length-append, append-nil, drop, nat_lt}
+use Rattle.std.proofs.lemmas.List.{get_or-set_same, get_or-set_other}
+use Rattle.ed_words.proofs.Numbers.{lt_of, not_lt_of}
+use Rattle.ed_words.proofs.SizeLemmas.{most}
+use Rattle.ed_orders.specs.declared.kind.Kind.{Kind}
+use Rattle.ed_orders.specs.declared.kind.Kind.TheVariants.{I as KindI}
+use Rattle.ed_store.specs.Cells.{IsStore}
+use Rattle.ed_machine.specs.State.{State}
+use Rattle.ed_machine.specs.OrderTable.{Obeyed, step}
+use Rattle.ed_machine.specs.Steps.{state_after}
+use Rattle.ed_machine.specs.declared.turn.Turn.TheVariants.{NoTape}
+use Rattle.ed_paths.proofs.Frames.{Frame, Moment, state, short}
+use Rattle.ed_paths.proofs.Places.{IsOutside as IsBeside, own}
+use Rattle.ed_paths.proofs.Orders.{IsOrder, named, obeyed}
+use Rattle.ed_paths.proofs.Paths.{Path, leads, each}
+use Rattle.ed_paths.proofs.Leads.{Leads}
+use Rattle.ed_paths.proofs.Standing.{Holds, opens}
+use Rattle.ed_paths.proofs.Window.{patched, get_below, get_above}
+use Rattle.ed_routines.specs.Catalogue.{read, with_h}
+use Rattle.ed_routines.specs.Standing.{Stands, IsOutside, caller}
+use Rattle.ed_routines.specs.Digits.{value, digit_rows, after_digits}
+use Rattle.ed_routines.specs.Returns.{HasRead, IsOther, KeepsBut, Waits}
+use Rattle.ed_routines.proofs.Called.{IsWithin, image, holds, kept, beside}
+use Rattle.ed_routines.proofs.Read.{Work, Digits, none, more, cells, run, whole, until_end, worked, opened_work, last_work}
+
+-- a tape is its digit rows and the rows behind them
+pub split : (rows : List ℕ) → rows ≡ digit_rows rows ++ after_digits rows
+split [] = refl
+split (row ∷ rows) = by_test (nat_lt row 10) refl (split rows)
+  where
+    by_test : (b : Bool) → nat_lt row 10 ≡ b → rows ≡ digit_rows rows ++ after_digits rows
+        → row ∷ rows ≡ digit_rows (row ∷ rows) ++ after_digits (row ∷ rows)
+    by_test true e before = rw e (ap (λ x. row ∷ x) before)
+    by_test false e before = rw e refl
+
+are_digits : (rows : List ℕ) → Digits (digit_rows rows)
+are_digits [] = none
+are_digits (row ∷ rows) = by_test (nat_lt row 10) refl (are_digits rows)
+  where
+    by_test : (b : Bool) → nat_lt row 10 ≡ b → Digits (digit_rows rows) → Digits (digit_rows (row ∷ rows))
+    by_test true e before = rw e (more (lt_of row 10 e) before)
+    by_test false e before = rw e none
+
+get_or-length : (xs : List ℕ) (c : ℕ) (rest : List ℕ) → get_or (xs ++ c ∷ rest) (length xs) 0 ≡ c
+get_or-length [] c rest = refl
+get_or-length (x ∷ xs) c rest = get_or-length xs c rest
+
+-- the row behind digit rows is an ending row
+is_ending : (rows : List ℕ) (c : ℕ) (rest : List ℕ) → after_digits rows ≡ c ∷ rest → 10 ≤ c
+is_ending [] c rest e = cc
+is_ending (row ∷ rows) c rest e = by_test (nat_lt row 10) refl (is_ending rows c rest)
+  where
+    by_test : (b : Bool) → nat_lt row 10 ≡ b → (after_digits rows ≡ c ∷ rest → 10 ≤ c) → 10 ≤ c
+    by_test true t before = before (rw t at e)
+    by_test false t before =
+        let high = not_lt_of row 10 t in
+        let same : row ≡ c = ap (λ x. get_or x 0 0) (rw t at e) in
+        omega arith
+
+pub few_rows : (rows : List ℕ) → length (digit_rows rows) ≤ length rows
+few_rows rows =
+    let whole = ap length (split rows) in
+    let sum = length-append (digit_rows rows) (after_digits rows) in
+    omega arith
+
+-- where all rows are digit rows, none stands behind them
+pub no_ending : (rows : List ℕ) → length (digit_rows rows) ≡ length rows → after_digits rows ≡ []
+no_ending rows all = by_rows (after_digits rows) refl
+  where
+    by_rows : (a : List ℕ) → after_digits rows ≡ a → after_digits rows ≡ []
+    by_rows [] e = e
+    by_rows (c ∷ rest) e =
+        let whole = ap length (split rows) in
+        let sum = length-append (digit_rows rows) (after_digits rows) in
+        let more : length (after_digits rows) ≡ length (c ∷ rest) = ap length e in
+        absurd (omega arith)
+
+-- where some row is none, the first such row stands behind them
+pub has_ending : (rows : List ℕ) → length (digit_rows rows) ≢ length rows
+    → after_digits rows ≡ get_or rows (length (digit_rows rows)) 0 ∷ drop 1 (after_digits rows)
+has_ending rows other = by_rows (after_digits rows) refl
+  where
+    by_rows : (a : List ℕ) → after_digits rows ≡ a → a ≡ get_or rows (length (digit_rows rows)) 0 ∷ drop 1 a
+    by_rows [] e =
+        absurd (other (sym (ap length (split rows) ∙ ap (λ x. length (digit_rows rows ++ x)) e ∙ ap length (append-nil (digit_rows rows)))))
+    by_rows (c ∷ rest) e =
+        let there : get_or (digit_rows rows ++ c ∷ rest) (length (digit_rows rows)) 0 ≡ c = get_or-length (digit_rows rows) c rest in
+        ap (λ x. x ∷ rest) (sym (ap (λ x. get_or x (length (digit_rows rows)) 0) (split rows ∙ ap (λ x. digit_rows rows ++ x) e) ∙ there))
+
+module _ (b h top : ℕ) (s : State) (store : IsStore s.store) (o : Stands read (with_h h) b s) (out : IsOutside read b h s)
+    (within : IsWithin 24 b h top s) where
+  abbrev f : Frame 24 0
+  f = record { size = s.size; base = b; top = top; under = within.under; fits = within.fits }
+
+  abbrev ds : List ℕ
+  ds = digit_rows s.tape
+
+  image_holds : Holds (image read b h) s.store.words b
+  image_holds =
+      let size = most s.size in
+      let below = out.below in
+      holds read b h true (with_h h) s o (omega arith) (λ e. refl) refl
+
+  abbrev first : Work
+  first = record {
+    at19 = get_or s.store.words (b + 19) 0;
+    at21 = get_or s.store.words (b + 21) 0;
+    at22 = get_or s.store.words (b + 22) 0;
+    at23 = get_or s.store.words (b + 23) 0;
+  }
+
+  abbrev at : List ℕ → Work → ℕ → ℕ → List ℕ → Moment
+  at ws w acc place rows = run f o.low h (caller s) s.multiplier s.store.sandwich s.last ws w acc place rows
+
+  begins : (rows : List ℕ) → s.tape ≡ rows → state f (at s.store.words first (114688 + 2 * caller s) 0 rows) s.orders ≡ s
+  begins rows tape =
+      let size = most s.size in
+      let fits = o.fits in
+      let all = store.words_are in
+      let words : patched 0 s.store.words b (cells b h first) ≡ s.store.words =
+      opens (image read b h) s.store.words b (omega (arith, fits, all)) image_holds in
+      let counter : b + 0 ≡ s.counter = omega (arith, o.counter) in
+      let acc : short (114688 + 2 * caller s) ≡ s.acc = sym o.call.acc in
+      let rows : rows ≡ s.tape = sym tape in
+      λ i. record {
+        size = s.size;
+        store = record { words = words i; sandwich = s.store.sandwich };
+        acc = acc i;
+        multiplier = s.multiplier;
+        counter = counter i;
+        tape = rows i;
+        last = s.last;
+        orders = s.orders;
+      }
+
+  -- a word at no working place stays, whatever was written at h
+  stays : (v : ℕ) (w : Work) (i : ℕ) → i ≢ h → IsOther read b i
+      → get_or (patched 0 (set s.store.words h v) b (cells b h w)) i 0 ≡ get_or s.store.words i 0
+  stays v w i other free =
+      kept read b h (set s.store.words h v) (cells b h w) refl refl still i free ∙ get_or-set_other s.store.words h i v 0 other
+    where
+      apart : (j : ℕ) → j < 24 → b + j ≢ h
+      apart j l e = elim out.beside [ inl x ↦ absurd (omega arith) | inr y ↦ absurd (omega arith) ]
+
+      still : Holds (image read b h) (set s.store.words h v) b
+      still j l = rw (get_or-set_other s.store.words h (b + j) v 0 (apart j l)) (image_holds j l)
+
+  -- the word at h is none of the routine's
+  at_h : (ws : List ℕ) (w : Work) → get_or (patched 0 ws b (cells b h w)) h 0 ≡ get_or ws h 0
+  at_h ws w = elim out.beside [ inl l ↦ get_below 0 ws b (cells b h w) h l | inr g ↦ get_above 0 ws b (cells b h w) h g ]
+
+  away : IsBeside f s.store.words h
+  away = record { below = within.near; beside = beside 24 b h s store out.beside o.fits }
+
+  -- where an ending row stands behind the digit rows
+  module _ (c : ℕ) (rest : List ℕ) (e : after_digits s.tape ≡ c ∷ rest) (code : c < 32) where
+    rows_are : s.tape ≡ ds ++ c ∷ rest
+    rows_are = split s.tape ∙ ap (λ x. ds ++ x) e
+
+    abbrev written : List ℕ
+    written = set s.store.words h (value ds % 2 ^ 17)
+
+    abbrev left : Work
+    left = last_work f o.low h (caller s) s.multiplier s.store.sandwich s.last ds c first
+
+    abbrev end : Moment
+    end = record (at written left 0 0 rest) { counter = caller s + 2 }
+
+    path : Path f (11 + 13 * length ds) (at s.store.words first (114688 + 2 * caller s) 0 (ds ++ c ∷ rest)) [] end
+    path =
+        whole f o.low h (caller s) s.multiplier s.store.sandwich s.last s.store.words first ds c rest store.words_are o.at3 within.back
+        (are_digits s.tape) (is_ending s.tape c rest e) code away
+
+    abbrev pub last : State
+    last = record s {
+      store = record { words = patched 0 written b (cells b h left); sandwich = s.store.sandwich };
+      acc = 0;
+      counter = caller s + 2;
+      tape = rest;
+      orders = s.orders + (11 + 13 * length ds);
+    }
+
+    -- so many orders read the rows and lead behind the call
+    pub leads_to : Leads (11 + 13 * length ds) s [] last
+    leads_to = subst (λ x. Leads (11 + 13 * length ds) x [] last) (begins (ds ++ c ∷ rest) rows_are) (leads path s.orders)
+
+    -- what holds of every order that keeps below the place holds before each of them
+    pub keeps_below : (P : State → Type 0) → ((kind : Kind) (x : State) → IsOrder top kind x → P x) → (j : ℕ)
+        → j < 11 + 13 * length ds → P (state_after j s)
+    keeps_below P is j l = subst (λ x. P (state_after j x)) (begins (ds ++ c ∷ rest) rows_are) (each P is path s.orders j l)
+
+    module _ (t : State) (is : t ≡ last) where
+      pub has_read : HasRead h s t
+      has_read =
+          let size = most s.size in
+          let below = out.below in
+          let all = store.words_are in
+          record {
+            number = ap (λ (x : State). get_or x.store.words h 0) is ∙ at_h written left
+                ∙ get_or-set_same s.store.words h (value ds % 2 ^ 17) 0 (omega arith);
+            returned = rw (e, is) refl;
+          }
+
+      pub keeps : KeepsBut h read b s t
+      keeps = record {
+        words = λ i other free. ap (λ (x : State). get_or x.store.words i 0) is
+            ∙ stays (value ds % 2 ^ 17) left i other free;
+      }
+
+  -- where none does
+  module _ (e : after_digits s.tape ≡ []) where
+    rows_are_all : s.tape ≡ ds ++ []
+    rows_are_all = split s.tape ∙ ap (λ x. ds ++ x) e
+
+    abbrev so_far : Work
+    so_far = worked 0 ds (opened_work f o.low h (caller s) s.multiplier s.store.sandwich s.last first)
+
+    path_to_end : Path f (3 + 13 * length ds) (at s.store.words first (114688 + 2 * caller s) 0 (ds ++ [])) []
+        (at s.store.words so_far 0 3 [])
+    path_to_end =
+        until_end f o.low h (caller s) s.multiplier s.store.sandwich s.last s.store.words first ds store.words_are o.at3 within.back
+        (are_digits s.tape)
+
+    abbrev pub waiting : State
+    waiting = record s {
+      store = record { words = patched 0 s.store.words b (cells b h so_far); sandwich = s.store.sandwich };
+      acc = 0;
+      counter = b + 3;
+      tape = [];
+      orders = s.orders + (3 + 13 * length ds);
+    }
+
+    -- so many orders read the rows and lead to the order that waits for one more
+    pub leads_to_end : Leads (3 + 13 * length ds) s [] waiting
+    leads_to_end = subst (λ x. Leads (3 + 13 * length ds) x [] waiting) (begins (ds ++ []) rows_are_all) (leads path_to_end s.orders)
+
+    pub keeps_below_to_end : (P : State → Type 0) → ((kind : Kind) (x : State) → IsOrder top kind x → P x) → (j : ℕ)
+        → j < 3 + 13 * length ds → P (state_after j s)
+    keeps_below_to_end P is j l = subst (λ x. P (state_after j x)) (begins (ds ++ []) rows_are_all) (each P is path_to_end s.orders j l)
+
+    blocked : (step waiting).turn ≡ NoTape
+    blocked =
+        let r : Moment = at s.store.words so_far 0 3 [] in
+        let w = named f r 3 8 KindI (own 22) true refl refl in
+        ap (λ (x : Obeyed). x.turn) (obeyed f r KindI w.w (b + 4) (s.orders + (3 + 13 * length ds)) w.is)
+
+    module _ (t : State) (is : t ≡ waiting) where
+      pub waits : Waits b h s t
+      waits = record {
+        blocked = ap (λ x. (step x).turn) is ∙ blocked;
+        number = ap (λ (x : State). get_or x.store.words h 0) is ∙ at_h s.store.words so_far;
+        is = rw is refl;
+      }
+
+      pub keeps_waiting : KeepsBut h read b s t
+      keeps_waiting = record {
+        words = λ i other free. ap (λ (x : State). get_or x.store.words i 0) is
+            ∙ kept read b h s.store.words (cells b h so_far) refl refl image_holds i free;
+      }

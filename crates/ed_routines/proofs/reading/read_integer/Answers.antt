@@ -1,0 +1,111 @@
+use Rattle.std.proofs.Common.{◌≡◌, ◌+◌, ◌*◌, ◌<◌, ℕ, sym, ap, ◌∙◌, refl, subst, arith, List, [], ◌∷◌, get_or, drop, length, ◌≤◌}
+use Rattle.std.proofs.Common.{slice_index}
+use Rattle.ed_words.specs.Sizes.{locations}
+use Rattle.ed_machine.specs.State.{State}
+use Rattle.ed_machine.specs.Steps.{state_after}
+use Rattle.ed_paths.proofs.Leads.{Leads}
+use Rattle.ed_routines.specs.Catalogue.{read, with_h}
+use Rattle.ed_routines.specs.Digits.{after_digits, digit_rows}
+use Rattle.ed_routines.specs.Returns.{ReadLeaves, read_by}
+use Rattle.ed_routines.proofs.Called.{IsWithin, within_size}
+use Rattle.ed_routines.proofs.ReadCall.{no_ending, has_ending, few_rows, last, leads_to, has_read, keeps, waiting, leads_to_end}
+use Rattle.ed_routines.proofs.ReadCall.{waits, keeps_waiting}
+use Rattle.ed_routines.proofs.Runs.{free}
+use Rattle.ed_routines.proofs.reading.read_integer.Goals as goal
+
+-- the tape that ends
+module _ (c : goal.After-obey_orders) where
+  abbrev s : State
+  s = c.args.machine.now
+
+  within : IsWithin 24 c.args.base c.args.h (locations s.size) s
+  within = within_size read c.args.base c.args.h (with_h c.args.h) s c.requires.stands c.requires.outside
+
+  count : c.count_digits-digits.result ≡ length (digit_rows s.tape)
+  count = c.count_digits-digits.ensures.is ∙ ap (λ x. length (digit_rows x)) c.rows_left-rows.ensures
+
+  end : after_digits s.tape ≡ []
+  end = no_ending s.tape (sym count ∙ c.if-digits-rows.true ∙ ap length c.rows_left-rows.ensures)
+
+  leads : Leads (3 + 13 * length (digit_rows s.tape)) s []
+      (waiting c.args.base c.args.h (locations s.size) s c.word.ensures.store c.requires.stands c.requires.outside within end)
+  leads = leads_to_end c.args.base c.args.h (locations s.size) s c.word.ensures.store c.requires.stands c.requires.outside within end
+
+  state_is : c.obey_orders.new.machine ≡ state_after (3 + 13 * length (digit_rows s.tape)) s
+  state_is = c.obey_orders.ensures ∙ ap (λ k. state_after (3 + 13 * k) s) count
+
+pub returns-then-digits-rows-clause-back : goal.returns-then-digits-rows-clause-back
+returns-then-digits-rows-clause-back c = rw (end c, count c) refl
+
+pub returns-then-digits-rows-clause-after : goal.returns-then-digits-rows-clause-after
+returns-then-digits-rows-clause-after c = rw (count c) (record { state_is = state_is c; free = free (leads c) })
+
+pub returns-then-digits-rows-clause-words : goal.returns-then-digits-rows-clause-words
+returns-then-digits-rows-clause-words c =
+    keeps_waiting c.args.base c.args.h (locations (s c).size) (s c) c.word.ensures.store c.requires.stands c.requires.outside (within c) (end c)
+    c.obey_orders.new.machine (state_is c ∙ (leads c).state_is)
+
+pub returns-then-digits-rows-clause-leaves : goal.returns-then-digits-rows-clause-leaves
+returns-then-digits-rows-clause-leaves c =
+    subst (λ rows. ReadLeaves rows c.args.base c.args.h (s c) c.obey_orders.new.machine) (sym (end c))
+    (waits c.args.base c.args.h (locations (s c).size) (s c) c.word.ensures.store c.requires.stands c.requires.outside (within c) (end c)
+    c.obey_orders.new.machine (state_is c ∙ (leads c).state_is))
+
+below_by : (k n all : ℕ) {d : ℕ} → k ≡ d → d ≤ n → (k ≡ n → ⊥) → all ≡ n → k < all
+below_by k n all e few other is = grind arith
+
+-- the tape with an ending row
+module _ (c : goal.After-obey_orders-else-digits-rows) where
+  abbrev old : State
+  old = c.args.machine.now
+
+  below : IsWithin 24 c.args.base c.args.h (locations old.size) old
+  below = within_size read c.args.base c.args.h (with_h c.args.h) old c.requires.stands c.requires.outside
+
+  digits : c.count_digits-digits.result ≡ length (digit_rows old.tape)
+  digits = c.count_digits-digits.ensures.is ∙ ap (λ x. length (digit_rows x)) c.rows_left-rows.ensures
+
+  abbrev ending : ℕ
+  ending = get_or old.tape (length (digit_rows old.tape)) 0
+
+  abbrev rest : List ℕ
+  rest = drop 1 (after_digits old.tape)
+
+  behind : after_digits old.tape ≡ ending ∷ rest
+  behind = has_ending old.tape (λ e. c.if-digits-rows.false (digits ∙ e ∙ ap length (sym c.rows_left-rows.ensures)))
+
+  code : ending < 32
+  code =
+      let rows = c.rows_left-rows.ensures in
+      let few = few_rows old.tape in
+      let other = c.if-digits-rows.false in
+      let k = digits in
+      let all : length c.rows_left-rows.result.now ≡ length old.tape = ap length rows in
+      let inside : c.count_digits-digits.result < length c.rows_left-rows.result.now = below_by _ _ _ k few (λ e. other (e ∙ sym all)) all in
+      let same : slice_index c.rows_left-rows.result.now c.count_digits-digits.result ≡ ending = λ i. slice_index (rows i) (k i) in
+      subst (λ x. x < 32) same (c.count_digits-digits.ensures.fits inside)
+
+  leads_back : Leads (11 + 13 * length (digit_rows old.tape)) old []
+      (last c.args.base c.args.h (locations old.size) old c.word.ensures.store c.requires.stands c.requires.outside below ending rest behind code)
+  leads_back =
+      leads_to c.args.base c.args.h (locations old.size) old c.word.ensures.store c.requires.stands c.requires.outside below ending rest behind code
+
+  state_there : c.obey_orders-else-digits-rows.new.machine ≡ state_after (11 + 13 * length (digit_rows old.tape)) old
+  state_there = c.obey_orders-else-digits-rows.ensures ∙ ap (λ k. state_after (11 + 13 * k) old) digits
+
+pub returns-else-digits-rows-clause-back : goal.returns-else-digits-rows-clause-back
+returns-else-digits-rows-clause-back c = let e = sym (behind c) in λ i. read_by (e i) (digits c i) (c.way_back-at.ensures i)
+
+pub returns-else-digits-rows-clause-after : goal.returns-else-digits-rows-clause-after
+returns-else-digits-rows-clause-after c = rw (digits c) (record { state_is = state_there c; free = free (leads_back c) })
+
+pub returns-else-digits-rows-clause-words : goal.returns-else-digits-rows-clause-words
+returns-else-digits-rows-clause-words c =
+    keeps c.args.base c.args.h (locations (old c).size) (old c) c.word.ensures.store c.requires.stands c.requires.outside (below c)
+    (ending c) (rest c) (behind c) (code c) c.obey_orders-else-digits-rows.new.machine (state_there c ∙ (leads_back c).state_is)
+
+pub returns-else-digits-rows-clause-leaves : goal.returns-else-digits-rows-clause-leaves
+returns-else-digits-rows-clause-leaves c =
+    subst (λ rows. ReadLeaves rows c.args.base c.args.h (old c) c.obey_orders-else-digits-rows.new.machine) (sym (behind c))
+    (has_read c.args.base c.args.h (locations (old c).size) (old c) c.word.ensures.store c.requires.stands c.requires.outside (below c)
+    (ending c) (rest c) (behind c) (code c) c.obey_orders-else-digits-rows.new.machine (state_there c ∙ (leads_back c).state_is))

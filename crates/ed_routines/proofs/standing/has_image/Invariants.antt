@@ -1,0 +1,6 @@
+use Rattle.std.proofs.Common.{◌<◌, ℕ}
+use Rattle.ed_routines.specs.Standing.{HasWord}
+use Rattle.ed_routines.proofs.standing.has_image.Given as goal
+
+abbrev pub invariant-loop-place : goal.invariant-loop-place
+invariant-loop-place l = (i : ℕ) → i < l.place → HasWord l.routine l.parameters l.base l.machine i

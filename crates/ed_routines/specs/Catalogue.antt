@@ -1,0 +1,20 @@
+-- The routines by their names, and the preset parameter with which they are used (this project's own).
+use Rattle.std.specs.Prelude.{ℕ, ◌*◌, List, [], ◌∷◌, codes, unwrap_or}
+use Rattle.ed_library.specs.Routines.{find}
+
+-- the routine of a name
+abbrev pub named : List ℕ → ℕ
+named name = unwrap_or (find name) 0
+
+abbrev pub newline : ℕ
+newline = named (codes "newline")
+
+abbrev pub print : ℕ
+print = named (codes "print")
+
+abbrev pub read : ℕ
+read = named (codes "read")
+
+-- the parameters with H = 2h, which makes H the location h
+abbrev pub with_h : ℕ → List ℕ
+with_h h = 2 * h ∷ 0 ∷ 0 ∷ 0 ∷ 0 ∷ 0 ∷ []

@@ -1,0 +1,4 @@
+pub mod Catalogue
+pub mod Standing
+pub mod Digits
+pub mod Returns

@@ -1,0 +1,63 @@
+ghost use Rattle.std.specs.Prelude.{◌↔◌, ℕ, ◌+◌, ◌≤◌, ◌<◌, IsTrue};
+ghost use Rattle.ed_words.specs.Sizes.{locations};
+ghost use Rattle.ed_library.specs.Routines.{places};
+ghost use Rattle.ed_routines.specs.Standing.{HasWord, IsCall, Stands};
+
+use crate::calling::caller;
+use ed_library::{Parameters, Routine, image_word};
+use ed_machine::Machine;
+
+/// Whether a routine stands at a base and is called from a place m.
+///
+/// The counter is the base, each place but the working ones holds its word, 2 and 3 hold 2 and 28676, and the accumulator
+/// holds the order A m F and nothing else, where m + 2 is below the size.
+pub fn stands(machine: &Machine, routine: &Routine, base: u16, parameters: &Parameters) -> bool
+    requires low { 56 ≤ base }
+    requires fits { base + places routine.now ≤ locations machine.now.size }
+    ensures { IsTrue result ↔ Stands routine.now parameters.now base machine.now }
+{
+    machine.counter() == base
+        && machine.word(2).value() == 2
+        && machine.word(3).value() == 28676
+        && is_call(machine)
+        && has_image(machine, routine, base, parameters)
+}
+
+/// Whether the accumulator holds an order A m F from which a routine can return.
+fn is_call(machine: &Machine) -> bool
+    ensures { IsTrue result ↔ IsCall machine.now }
+{
+    let caller = caller(machine);
+    let acc = u128::from(114_688 + 2 * caller) * (1 << 54);
+    machine.acc() == acc && caller + 3 <= u32::from(machine.size().value())
+}
+
+/// Whether each place of the routine but its working places holds its word.
+fn has_image(machine: &Machine, routine: &Routine, base: u16, parameters: &Parameters) -> bool
+    requires { base + places routine.now ≤ locations machine.now.size }
+    ensures { IsTrue result ↔ ((i : ℕ) → i < places routine.now → HasWord routine.now parameters.now base machine.now i) }
+{
+    for place in 0..routine.length() {
+        if !has_word(machine, routine, base, place, parameters) {
+            return false;
+        }
+    }
+    true
+}
+
+/// Whether a place of the routine is a working one or holds its word.
+fn has_word(
+    machine: &Machine,
+    routine: &Routine,
+    base: u16,
+    place: u16,
+    parameters: &Parameters,
+) -> bool
+    requires room { base + places routine.now ≤ locations machine.now.size }
+    requires place { place < places routine.now }
+    ensures { IsTrue result ↔ HasWord routine.now parameters.now base machine.now place }
+{
+    let _ = machine.size().value();
+    routine.is_working(place)
+        || machine.word(base + place) == image_word(routine, place, base, parameters)
+}
