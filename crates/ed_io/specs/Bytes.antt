@@ -37,3 +37,10 @@ IsWithin result piece = IfOk result (λ k. k ≤ length piece)
 -- Ok(k): k is at least 1 for a piece that is not empty
 abbrev pub TakesSome : {E : Type 0} → Result ℕ E → List ℕ → Type 0
 TakesSome result piece = IfOk result (λ k. 0 < length piece → 0 < k)
+
+-- the bytes held have gained the first bytes of a text
+pub record GainsPart (old new : Option (List ℕ)) (text : List ℕ) : Type 0 where
+  pub part : List ℕ
+  pub rest : List ℕ
+  pub whole : text ≡ part ++ rest
+  pub gains : Gains old new part

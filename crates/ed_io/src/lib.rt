@@ -11,9 +11,11 @@ mod sink;
 mod source;
 mod standard;
 mod sure;
+mod writing;
 
 pub use device::{Failed, Sink, Source};
 pub use sink::MemorySink;
 pub use source::MemorySource;
 pub use standard::{StdSink, StdSource};
 pub use sure::{SureSink, SureSource};
+pub use writing::write_all;

@@ -113,6 +113,81 @@ fn write_through<W: Write>(writer: &mut W, piece: &[u8]) -> Option<usize>
 #[cfg(test)]
 mod tests {
     use super::*;
+    use std::io;
+
+    /// Gives its text a byte a call, but for the call with this number, which fails.
+    #[derive(Drop)]
+    struct Dripping<'a> {
+        text: &'a [u8],
+        calls: usize,
+        failing: Option<usize>,
+    }
+
+    impl<'a> Read for Dripping<'a> {
+        fn read(&mut self, into: &mut [u8]) -> io::Result<usize> {
+            let call = self.calls;
+            self.calls = self.calls.saturating_add(1);
+            if self.failing == Some(call) {
+                return Err(io::Error::from(io::ErrorKind::BrokenPipe));
+            }
+            match (self.text.split_first(), into.first_mut()) {
+                (Some((byte, rest)), Some(place)) => {
+                    *place = *byte;
+                    self.text = rest;
+                    Ok(1)
+                }
+                _ => Ok(0),
+            }
+        }
+    }
+
+    fn source_of(text: &[u8], failing: Option<usize>) -> StdSource<Dripping<'_>> {
+        StdSource::new(Dripping {
+            text,
+            calls: 0,
+            failing,
+        })
+    }
+
+    /// Takes the first two bytes of a piece, and refuses the flush with this number.
+    #[derive(Drop)]
+    struct Choosy {
+        held: [u8; 4],
+        count: usize,
+        flushes: usize,
+        refused: Option<usize>,
+    }
+
+    impl Write for Choosy {
+        fn write(&mut self, piece: &[u8]) -> io::Result<usize> {
+            let taken = piece.len().min(2);
+            for byte in piece.iter().take(taken) {
+                if let Some(place) = self.held.get_mut(self.count) {
+                    *place = *byte;
+                }
+                self.count = self.count.saturating_add(1);
+            }
+            Ok(taken)
+        }
+
+        fn flush(&mut self) -> io::Result<()> {
+            let flush = self.flushes;
+            self.flushes = self.flushes.saturating_add(1);
+            if self.refused == Some(flush) {
+                return Err(io::Error::from(io::ErrorKind::BrokenPipe));
+            }
+            Ok(())
+        }
+    }
+
+    fn sink_refusing(refused: Option<usize>) -> StdSink<Choosy> {
+        StdSink::new(Choosy {
+            held: [0; 4],
+            count: 0,
+            flushes: 0,
+            refused,
+        })
+    }
 
     #[test]
     fn a_reader_of_std_is_read_to_its_end(rt: HostRuntime) {
@@ -124,6 +199,31 @@ mod tests {
     }
 
     #[test]
+    fn a_reader_that_gives_a_byte_a_call_gives_each_once(rt: HostRuntime) {
+        let mut source = source_of(b"AB", None);
+        let mut piece = [0; 4];
+        for (byte, answer) in [(b'A', Ok(1)), (b'B', Ok(1)), (b'B', Ok(0))] {
+            assert!(rt; source.read(&mut piece) == answer);
+            assert!(rt; piece == [byte, 0, 0, 0]);
+        }
+    }
+
+    #[test]
+    fn a_reader_that_fails_has_failed_and_has_not_ended(rt: HostRuntime) {
+        let mut source = source_of(b"AB", Some(1));
+        let mut piece = [0; 4];
+        for (byte, answer) in [
+            (b'A', Ok(1)),
+            (b'A', Err(Failed)),
+            (b'B', Ok(1)),
+            (b'B', Ok(0)),
+        ] {
+            assert!(rt; source.read(&mut piece) == answer);
+            assert!(rt; piece == [byte, 0, 0, 0]);
+        }
+    }
+
+    #[test]
     fn a_writer_of_std_is_written_until_it_is_full(rt: HostRuntime) {
         let mut room = [0; 3];
         let mut sink = StdSink::new(&mut room[..]);
@@ -132,5 +232,23 @@ mod tests {
         assert!(rt; sink.write(b"D") == Err(Failed));
         assert!(rt; sink.write(b"") == Ok(0));
         assert!(rt; room == [b'A', b'B', b'C']);
+    }
+
+    #[test]
+    fn a_writer_that_takes_some_bytes_is_flushed_after_each_write(rt: HostRuntime) {
+        let mut sink = sink_refusing(None);
+        assert!(rt; sink.write(b"ABC") == Ok(2));
+        assert!(rt; sink.writer.flushes == 1);
+        assert!(rt; sink.write(b"C") == Ok(1));
+        assert!(rt; sink.writer.flushes == 2);
+        assert!(rt; sink.writer.held == [b'A', b'B', b'C', 0]);
+    }
+
+    #[test]
+    fn a_refused_flush_is_a_failed_write(rt: HostRuntime) {
+        let mut sink = sink_refusing(Some(1));
+        for answer in [Ok(2), Err(Failed), Ok(2)] {
+            assert!(rt; sink.write(b"AB") == answer);
+        }
     }
 }
