@@ -1,3 +1,5 @@
+pub mod Named
+pub mod Ranged
 pub mod Lookups
 pub mod Steps
 pub mod Rows

@@ -1,113 +1,114 @@
--- The lines of the program: which words are a command, and which command they are (this project's own rule). No option
--- stands twice, and a command has only the options that it names.
-use Rattle.std.specs.Prelude.{ℕ, ◌+◌, ◌*◌, ◌-◌, ◌&&◌, Bool, List, [], ◌∷◌, Option, Some, None, codes, fold, length, nat_le}
+-- The lines of the program: which words are a command, and which command they are (this project's own rule).
+use Rattle.std.specs.Prelude.{ℕ, ◌*◌, List, [], ◌∷◌, Option, Some, None, codes, nat_lt}
 use Rattle.std.specs.Prelude.{option_map, option_and_then, if◌then◌else◌}
-use Rattle.std.specs.List.{list_all}
 use Rattle.std.specs.Str.{bytes_eq}
-use Rattle.ed_words.specs.declared.size.Size.{Size}
-use Rattle.ed_words.specs.declared.size.Size.TheVariants.{Small, Full}
+use Rattle.ed_call.specs.declared.Call.{Call}
+use Rattle.ed_call.specs.declared.Call.TheVariants.{Print, Read, NewLine, Divide, Root, Check}
 use Rattle.ed_command.specs.Words.{Text, Parts, parts_of, values_of}
+use Rattle.ed_command.specs.Numbers.{number, number_within}
+use Rattle.ed_command.specs.Settings.{Options, has_only, options_by, settings_of}
+use Rattle.ed_command.specs.declared.command.Action.{Action}
+use Rattle.ed_command.specs.declared.command.Action.TheVariants as doing
 use Rattle.ed_command.specs.declared.command.Command.{Command}
-use Rattle.ed_command.specs.declared.command.Command.TheVariants.{Tape, CheckTape}
+use Rattle.ed_command.specs.declared.command.Settings.{Settings}
 
--- ---- numbers and sizes
+-- ---- arguments
 
--- the bytes `0` to `9`
-abbrev pub is_digit : ℕ → Bool
-is_digit byte = nat_le 48 byte && nat_le byte 57
+-- no argument
+abbrev pub alone : {A : Type 0} → A → List Text → Option A
+alone action [] = Some action
+alone action _ = None
 
--- decimal digits as a number
-abbrev pub digits_value : Text → ℕ
-digits_value = fold (λ n byte. 10 * n + (byte - 48)) 0
+-- one argument, a number from `least` to `most`
+abbrev pub one_number : ℕ → ℕ → List Text → Option ℕ
+one_number least most (text ∷ []) = number_within least most text
+one_number least most _ = None
 
--- a text of 1 to 9 decimal digits with no sign, as a number
-abbrev pub number : Text → Option ℕ
-number text =
-    if nat_le 1 (length text) && nat_le (length text) 9 && list_all is_digit text then Some (digits_value text) else None
+-- a division whose quotient is below 65,536
+abbrev pub division : Option ℕ → Option ℕ → Option Call
+division (Some n) (Some by) = if nat_lt n (65536 * by) then Some (Divide n by) else None
+division _ _ = None
 
--- the number, where it lies from `least` to `most`
-abbrev pub in_range : ℕ → ℕ → ℕ → Option ℕ
-in_range least most n = if nat_le least n && nat_le n most then Some n else None
+-- two arguments, the number that is divided and the one that it is divided by, 1 to 32,767
+abbrev pub with_division : List Text → Option Call
+with_division (n ∷ by ∷ []) = division (number n) (number_within 1 32767 by)
+with_division _ = None
 
--- a text as a number from `least` to `most`
-abbrev pub number_within : ℕ → ℕ → Text → Option ℕ
-number_within least most text = option_and_then (in_range least most) (number text)
+-- the name of a call and its numbers
+abbrev pub call_of : List Text → Option Call
+call_of [] = None
+call_of (name ∷ numbers) =
+    if bytes_eq name (codes "print") then option_map Print (one_number 0 65535 numbers)
+    else if bytes_eq name (codes "read") then option_map Read (one_number 0 65535 numbers)
+    else if bytes_eq name (codes "newline") then alone NewLine numbers
+    else if bytes_eq name (codes "divide") then with_division numbers
+    else if bytes_eq name (codes "root") then option_map Root (one_number 0 65535 numbers)
+    else if bytes_eq name (codes "check") then option_map Check (one_number 0 65535 numbers)
+    else None
 
--- the texts `512` and `1024` as sizes
-abbrev pub size_named : Text → Option Size
-size_named text =
-    if bytes_eq text (codes "512") then Some Small else if bytes_eq text (codes "1024") then Some Full else None
+-- ---- lines
 
--- ---- options
+-- a line: the word of a command, what it does by its arguments, and the options that it may have
+pub record Line : Type 0 where
+  pub word : Text
+  pub action : List Text → Option Action
+  pub options : List Text
 
--- the values of the four options
-pub record Options : Type 0 where
-  pub limits : List Text
-  pub resumes : List Text
-  pub post_mortems : List Text
-  pub stores : List Text
+abbrev pub table_line : Text → (List Text → Option Action) → List Text → Line
+table_line word action options = record { word = word; action = action; options = options }
 
--- the value of a number's option that is given once at most, or what stands for it where it isn't given
-abbrev pub number_setting : ℕ → ℕ → ℕ → List Text → Option ℕ
-number_setting default least most [] = Some default
-number_setting default least most (value ∷ []) = number_within least most value
-number_setting default least most _ = None
+abbrev pub limit : Text
+limit = codes "limit"
 
--- the same of the option of a size
-abbrev pub size_setting : List Text → Option Size
-size_setting [] = Some Full
-size_setting (value ∷ []) = size_named value
-size_setting _ = None
+abbrev pub resume : Text
+resume = codes "resume"
 
--- `--limit`: how many orders may be obeyed, 1 to 100,000,000
-abbrev pub limit_of : Options → Option ℕ
-limit_of o = number_setting 10000000 1 100000000 o.limits
+abbrev pub post_mortem : Text
+post_mortem = codes "post-mortem"
 
--- `--resume`: how often the machine is started again after a stop, 0 to 1000
-abbrev pub resumes_of : Options → Option ℕ
-resumes_of o = number_setting 0 0 1000 o.resumes
+abbrev pub store : Text
+store = codes "store"
 
--- `--store`: the size of the store
-abbrev pub size_of : Options → Option Size
-size_of o = size_setting o.stores
+-- the lines of the program
+abbrev pub lines : List Line
+lines =
+    table_line (codes "tape") (alone doing.Tape) (limit ∷ resume ∷ post_mortem ∷ store ∷ [])
+    ∷ table_line (codes "check-tape") (alone doing.CheckTape) (store ∷ [])
+    ∷ table_line (codes "run") (alone doing.Run) (limit ∷ resume ∷ post_mortem ∷ store ∷ [])
+    ∷ table_line (codes "punch") (alone doing.Punch) (store ∷ [])
+    ∷ table_line (codes "listing") (alone doing.Listing) (store ∷ [])
+    ∷ table_line (codes "step") (alone doing.Step) (limit ∷ [])
+    ∷ table_line (codes "trace") (alone doing.Trace) (limit ∷ resume ∷ store ∷ [])
+    ∷ table_line (codes "call") (λ arguments. option_map doing.Call (call_of arguments)) (limit ∷ [])
+    ∷ table_line (codes "library") (alone doing.Library) []
+    ∷ table_line (codes "demo") (λ arguments. option_map doing.Demo (one_number 1 112 arguments)) (limit ∷ [])
+    ∷ table_line (codes "parts") (alone doing.Parts) (limit ∷ [])
+    ∷ table_line (codes "tape1") (alone doing.Tape1) (limit ∷ resume ∷ [])
+    ∷ table_line (codes "check-tape1") (alone doing.CheckTape1) []
+    ∷ []
 
--- ---- commands
+-- the line that begins with a word
+abbrev pub line_named : List Line → Text → Option Line
+line_named [] word = None
+line_named (l ∷ ls) word = if bytes_eq word l.word then Some l else line_named ls word
 
--- this command, where none of these is given
-abbrev pub with_no : List Text → Option Command → Option Command
-with_no [] command = command
-with_no (x ∷ xs) command = None
+-- the command of an action with what the options set
+abbrev pub command : Option Action → Option Settings → Option Command
+command (Some action) (Some settings) = Some (record { action = action; settings = settings })
+command _ _ = None
 
--- the command `tape` of its three options
-abbrev pub made_tape : Option ℕ → Option ℕ → Option Size → Option Command
-made_tape (Some limit) (Some resumes) (Some size) = Some (Tape limit resumes size)
-made_tape _ _ _ = None
+-- the command of an action, where only these options are given
+abbrev pub with_only : List Text → Options → Option Action → Option Command
+with_only names o action = if has_only names o then command action (settings_of o) else None
 
--- `tape`, with the options limit, resume and store
-abbrev pub tape : List Text → Options → Option Command
-tape arguments o = with_no arguments (with_no o.post_mortems (made_tape (limit_of o) (resumes_of o) (size_of o)))
-
--- `check-tape`, with the option store
-abbrev pub check_tape : List Text → Options → Option Command
-check_tape arguments o =
-    with_no arguments (with_no o.limits (with_no o.resumes (with_no o.post_mortems (option_map CheckTape (size_of o)))))
+-- the command of the line that begins with a word, with these arguments
+abbrev pub command_named : Text → List Text → Options → Option Command
+command_named word arguments o = option_and_then (λ l. with_only l.options o (l.action arguments)) (line_named lines word)
 
 -- the command of the first word that belongs to no option, with the others as its arguments
 abbrev pub command_of : List Text → Options → Option Command
 command_of [] o = None
-command_of (word ∷ arguments) o =
-    if bytes_eq word (codes "tape") then tape arguments o
-    else if bytes_eq word (codes "check-tape") then check_tape arguments o
-    else None
-
--- the options by the values of each name
-abbrev pub options_by : (Text → List Text) → Options
-options_by values = record {
-  limits = values (codes "limit");
-  resumes = values (codes "resume");
-  post_mortems = values (codes "post-mortem");
-  stores = values (codes "store");
-}
+command_of (word ∷ arguments) o = command_named word arguments o
 
 -- the command of the parts
 abbrev pub command_in : Parts → Option Command

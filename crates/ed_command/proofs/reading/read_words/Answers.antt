@@ -4,11 +4,11 @@ use Rattle.std.specs.List.{list_all}
 use Rattle.ed_command.specs.Found.{is_plain_or_long}
 use Rattle.ed_command.specs.Lines.{command_in, line_of}
 use Rattle.ed_command.proofs.Filtered.{all_map, refused_parts}
-use Rattle.ed_command.proofs.command.read_words.Goals as goal
+use Rattle.ed_command.proofs.reading.read_words.Goals as goal
 
-pub returns-then-not-are_plain_or_long : goal.returns-then-not-are_plain_or_long
+pub returns-then-not-are_plain_or_long-clause-is : goal.returns-then-not-are_plain_or_long-clause-is
 unfolding line_of
-returns-then-not-are_plain_or_long c =
+returns-then-not-are_plain_or_long-clause-is c =
     let strange : list_all is_plain_or_long (map string_bytes c.args.words.now) ≡ false =
     all_map is_plain_or_long string_bytes c.args.words.now ∙ search rules in
     ap (option_and_then command_in) (refused_parts (map string_bytes c.args.words.now) strange None)

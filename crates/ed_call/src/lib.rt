@@ -1,0 +1,25 @@
+//! What a call of a library routine asks for. A crate of its own, since the reader of the command line and the maker of the
+//! program's sources both speak of it. Stands on std alone.
+#![tactic(auto)]
+
+/// A call of a library routine with its numbers.
+#[derive(Clone, Copy, Debug, PartialEq, Eq)]
+pub enum Call {
+    /// Prints a number.
+    Print(u16),
+    /// Reads a number from the tape and prints it.
+    Read(u16),
+    /// Prints a new line.
+    NewLine,
+    /// Divides `n` by `by`, and prints the quotient and the remainder.
+    Divide {
+        /// The number that is divided.
+        n: u32,
+        /// The number that it is divided by.
+        by: u16,
+    },
+    /// Prints the whole square root of a number.
+    Root(u16),
+    /// Prints a number, as the checking routine checks it.
+    Check(u16),
+}

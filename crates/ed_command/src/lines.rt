@@ -1,0 +1,155 @@
+ghost use Rattle.std.specs.Prelude.{◌≡◌, ◌≤◌, IfSome, map, option_map};
+ghost use Rattle.ed_command.specs.Held.{options_in};
+ghost use Rattle.ed_command.specs.Lines.{alone, call_of, command_named, command_of, division, one_number, with_division, with_only};
+
+use crate::command::{Action, Command};
+use crate::numbers::{number, number_within};
+use crate::options::Options;
+use ed_call::Call;
+
+/// The command of the words that belong to no option, and the options.
+pub(crate) fn command_of(words: &[&str], options: &Options<'_>) -> Option<Command>
+    ensures { result ≡ command_of (map (λ w. w.now) words.now) (options_in options.now) }
+{
+    let (word, arguments) = words.split_first()?;
+    command_named(word, arguments, options)
+}
+
+/// The command of a word with these arguments and options.
+fn command_named(word: &str, arguments: &[&str], options: &Options<'_>) -> Option<Command>
+    ensures { result ≡ command_named word.now (map (λ a. a.now) arguments.now) (options_in options.now) }
+{
+    match word {
+        "tape" => with_only(
+            &["limit", "resume", "post-mortem", "store"],
+            options,
+            alone(Action::Tape, arguments),
+        ),
+        "check-tape" => with_only(&["store"], options, alone(Action::CheckTape, arguments)),
+        "run" => with_only(
+            &["limit", "resume", "post-mortem", "store"],
+            options,
+            alone(Action::Run, arguments),
+        ),
+        "punch" => with_only(&["store"], options, alone(Action::Punch, arguments)),
+        "listing" => with_only(&["store"], options, alone(Action::Listing, arguments)),
+        "step" => with_only(&["limit"], options, alone(Action::Step, arguments)),
+        "trace" => with_only(
+            &["limit", "resume", "store"],
+            options,
+            alone(Action::Trace, arguments),
+        ),
+        "call" => with_only(&["limit"], options, call(arguments)),
+        "library" => with_only(&[], options, alone(Action::Library, arguments)),
+        "demo" => with_only(&["limit"], options, demo(arguments)),
+        "parts" => with_only(&["limit"], options, alone(Action::Parts, arguments)),
+        "tape1" => with_only(
+            &["limit", "resume"],
+            options,
+            alone(Action::Tape1, arguments),
+        ),
+        "check-tape1" => with_only(&[], options, alone(Action::CheckTape1, arguments)),
+        _ => None,
+    }
+}
+
+/// The command of an action, where only these options are given.
+fn with_only(names: &[&str], options: &Options<'_>, action: Option<Action>) -> Option<Command>
+    ensures { result ≡ with_only (map (λ n. n.now) names.now) (options_in options.now) action }
+{
+    if options.has_only(names) {
+        Some(Command {
+            action: action?,
+            settings: options.settings()?,
+        })
+    } else {
+        None
+    }
+}
+
+/// An action that has no argument.
+fn alone(action: Action, arguments: &[&str]) -> Option<Action>
+    ensures { result ≡ alone action (map (λ a. a.now) arguments.now) }
+{
+    match arguments {
+        [] => Some(action),
+        _ => None,
+    }
+}
+
+/// `call`: a name and its numbers.
+fn call(arguments: &[&str]) -> Option<Action>
+    ensures { result ≡ option_map Action.Call (call_of (map (λ a. a.now) arguments.now)) }
+{
+    Some(Action::Call(call_of(arguments)?))
+}
+
+/// `demo`: one number, 1 to 112.
+fn demo(arguments: &[&str]) -> Option<Action>
+    ensures { result ≡ option_map Action.Demo (one_number 1 112 (map (λ a. a.now) arguments.now)) }
+{
+    match arguments {
+        [text] => Some(Action::Demo(number_within(text, 1, 112)?)),
+        _ => None,
+    }
+}
+
+/// The call of a name and its numbers.
+fn call_of(arguments: &[&str]) -> Option<Call>
+    ensures { result ≡ call_of (map (λ a. a.now) arguments.now) }
+{
+    let (name, numbers) = arguments.split_first()?;
+    match *name {
+        "print" => short(numbers).map(Call::Print),
+        "read" => short(numbers).map(Call::Read),
+        "newline" => new_line(numbers),
+        "divide" => with_division(numbers),
+        "root" => short(numbers).map(Call::Root),
+        "check" => short(numbers).map(Call::Check),
+        _ => None,
+    }
+}
+
+/// The call `newline`, which has no number.
+fn new_line(numbers: &[&str]) -> Option<Call>
+    ensures { result ≡ alone Call.NewLine (map (λ a. a.now) numbers.now) }
+{
+    match numbers {
+        [] => Some(Call::NewLine),
+        _ => None,
+    }
+}
+
+/// The one number, 0 to 65,535.
+fn short(numbers: &[&str]) -> Option<u16>
+    ensures { result ≡ one_number 0 65535 (map (λ a. a.now) numbers.now) }
+{
+    match numbers {
+        [text] => Some(number_within(text, 0, 65535)? as u16),
+        _ => None,
+    }
+}
+
+/// The call `divide` of its two numbers.
+fn with_division(numbers: &[&str]) -> Option<Call>
+    ensures { result ≡ with_division (map (λ a. a.now) numbers.now) }
+{
+    match numbers {
+        [n, by] => division(number(n), number_within(by, 1, 32767)),
+        _ => None,
+    }
+}
+
+/// A division whose quotient is below 65,536.
+fn division(n: Option<u32>, by: Option<u32>) -> Option<Call>
+    requires { IfSome by (λ b. b ≤ 32767) }
+    ensures { result ≡ division n by }
+{
+    let n = n?;
+    let by = by?;
+    if n < 65536 * by {
+        Some(Call::Divide { n, by: by as u16 })
+    } else {
+        None
+    }
+}
