@@ -22,9 +22,9 @@ figures_printed =
     ∷ (10 ∷ []) ∷ codes ")" ∷ codes "/" ∷ codes "#" ∷ codes "-" ∷ codes "?" ∷ codes ":" ∷ codes "=" ∷ []
 
 -- the bytes that a code prints in a shift
-abbrev pub printed : Shift → ℕ → List ℕ
-printed Letters code = slice_index_or letters_printed code []
-printed Figures code = slice_index_or figures_printed code []
+abbrev pub struck : Shift → ℕ → List ℕ
+struck Letters code = slice_index_or letters_printed code []
+struck Figures code = slice_index_or figures_printed code []
 
 -- the shift after a code: 11 sets figure shift and 15 letter shift
 abbrev pub shift_after : Shift → ℕ → Shift
@@ -33,7 +33,7 @@ shift_after shift code = if code == 11 then Figures else if code == 15 then Lett
 -- the bytes of codes, printed from a shift on
 abbrev pub paper_from : Shift → List ℕ → List ℕ
 paper_from shift [] = []
-paper_from shift (code ∷ codes) = printed shift code ++ paper_from (shift_after shift code) codes
+paper_from shift (code ∷ codes) = struck shift code ++ paper_from (shift_after shift code) codes
 
 -- the bytes of codes, printed from letter shift on
 abbrev pub paper : List ℕ → List ℕ
@@ -47,7 +47,7 @@ latest_shift (code ∷ codes) = if code == 11 then Figures else if code == 15 th
 -- each code is printed in the shift set by the latest 11 or 15 before it, and in letter shift where there is none
 abbrev pub IsInLatestShift : Type 0
 IsInLatestShift =
-    (before : List ℕ) (code : ℕ) → paper (before ++ code ∷ []) ≡ paper before ++ printed (latest_shift (reverse before)) code
+    (before : List ℕ) (code : ℕ) → paper (before ++ code ∷ []) ≡ paper before ++ struck (latest_shift (reverse before)) code
 
 -- the bytes of a character of the printer's tables: none for 0, two for the pound sign (163), and else the one byte
 abbrev pub bytes_of : ℕ → List ℕ

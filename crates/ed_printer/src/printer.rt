@@ -1,5 +1,5 @@
 ghost use Rattle.std.specs.Prelude.{◌≡◌};
-ghost use Rattle.ed_printer.specs.Paper.{bytes_of, printed, shift_after, IsInLatestShift};
+ghost use Rattle.ed_printer.specs.Paper.{IsInLatestShift, bytes_of, shift_after, struck};
 
 use arrayvec::ArrayVec;
 use ed_codes::Code;
@@ -45,7 +45,7 @@ const POUND: u8 = 0xA3;
 impl Shift {
     /// The character of a code.
     fn character(self, code: Code) -> u8
-        ensures { bytes_of result ≡ printed self code }
+        ensures { bytes_of result ≡ struck self code }
     {
         let place = usize::from(code.value());
         match self {
@@ -94,7 +94,7 @@ impl Printer {
 
     /// Prints a code: the bytes are those of the shift that the printer was in.
     pub fn strike(&mut self, code: Code) -> ArrayVec<u8, 2>
-        ensures bytes { result.items ≡ printed self.old code }
+        ensures bytes { result.items ≡ struck self.old code }
         ensures shift { self.new ≡ shift_after self.old code }
         ensures law { IsInLatestShift }
     {

@@ -9,6 +9,10 @@ use Rattle.ed_notation.specs.declared.cause.TapeFault.TheVariants.{At, Memory as
 use Rattle.ed_notation.specs.declared.cause.TapeCause.{TapeCause}
 use Rattle.ed_notation.specs.declared.cause.TapeCause.TheVariants.{EndOfTape, BadRow, NumberTooLarge, AfterMark, BadControl}
 use Rattle.ed_notation.specs.declared.cause.TapeCause.TheVariants.{LoaderStore, StoreEnd, NoPlace, EntryNegative, EntryInLoader}
+use Rattle.ed_syntax.specs.declared.fault.SourceFault.{SourceFault}
+use Rattle.ed_syntax.specs.declared.fault.SourceFault.TheVariants.{At as AtLine, Memory as NoMemoryForIt}
+use Rattle.ed_syntax.specs.declared.fault.SourceCause.{SourceCause}
+use Rattle.ed_syntax.specs.declared.fault.SourceCause.TheVariants as source
 use Rattle.ed_store.specs.Cells.{short_at}
 use Rattle.ed_orders.specs.Texts.{order_text}
 use Rattle.ed_machine.specs.State.{State}
@@ -43,6 +47,31 @@ abbrev pub tape_fault_line : TapeFault → List ℕ
 tape_fault_line (At row cause) = rule_line row cause
 tape_fault_line NoMemoryThere = []
 
+-- the number and the text of each fault of a source
+abbrev pub source_cause_text : SourceCause → List ℕ
+source_cause_text source.BadByte = codes "S1 bad byte"
+source_cause_text source.LongLine = codes "S2 long line"
+source_cause_text source.NotAStatement = codes "S3 not a statement"
+source_cause_text source.NumberRange = codes "S4 number out of range"
+source_cause_text source.TooManyLines = codes "S5 too many lines"
+source_cause_text source.LabelTwice = codes "S6 label twice"
+source_cause_text source.LabelUnknown = codes "S7 unknown label"
+source_cause_text source.AddressRange = codes "S8 address out of range"
+source_cause_text source.OutsideSegment = codes "S9 outside a segment"
+source_cause_text source.LoaderStore = codes "S10 loader store"
+source_cause_text source.ParameterStore = codes "S11 parameter store"
+source_cause_text source.StoreEnd = codes "S12 store end"
+source_cause_text source.Overlap = codes "S13 overlap"
+source_cause_text source.NoSuchRoutine = codes "S14 no such routine"
+source_cause_text source.Parameters = codes "S15 parameters"
+source_cause_text source.Enter = codes "S16 enter"
+source_cause_text source.SandwichDigit = codes "S17 sandwich digit"
+
+-- `line L: Sk TEXT`, L the line, counted from 1; want of memory is told by no line of this kind
+abbrev pub source_fault_line : SourceFault → List ℕ
+source_fault_line (AtLine line cause) = codes "line " ++ decimal line ++ codes ": " ++ source_cause_text cause ++ 10 ∷ []
+source_fault_line NoMemoryForIt = []
+
 -- `NAME at C after K`, with no line feed
 abbrev pub at_after : List ℕ → ℕ → ℕ → List ℕ
 at_after name counter orders = name ++ codes " at " ++ decimal counter ++ codes " after " ++ decimal orders
@@ -56,3 +85,7 @@ ending_line NoOrder s =
     at_after (codes "no order") s.counter s.orders ++ codes ": " ++ order_text (short_at s.store s.counter) ++ 10 ∷ []
 ending_line NoTape s = at_after (codes "no tape") s.counter s.orders ++ 10 ∷ []
 ending_line PaperFull s = at_after (codes "paper full") s.counter s.orders ++ 10 ∷ []
+
+-- `entered E after N orders, `, which stands before the line of an ending where the run entered its program
+abbrev pub entered : ℕ → ℕ → List ℕ
+entered at orders = codes "entered " ++ decimal at ++ codes " after " ++ decimal orders ++ codes " orders, "

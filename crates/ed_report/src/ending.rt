@@ -1,5 +1,5 @@
 ghost use Rattle.std.specs.Prelude.{◌≡◌, ◌∷◌, [], ◌++◌, IfOk};
-ghost use Rattle.ed_report.specs.Notes.{at_after, ending_line};
+ghost use Rattle.ed_report.specs.Notes.{at_after, ending_line, entered};
 
 use crate::text::bytes_of_text;
 use ed_machine::{Ending, Machine};
@@ -20,6 +20,31 @@ pub fn ending_text(alloc: Global, ending: Ending, machine: &Machine) -> Result<V
         Ending::NoTape => ending_line(alloc, "no tape", machine),
         Ending::PaperFull => ending_line(alloc, "paper full", machine),
     }
+}
+
+/// The same line behind `entered E after N orders, `, for a run that entered its program at `entry` after `cost` orders.
+pub fn entered_text(
+    alloc: Global,
+    entry: u16,
+    cost: u64,
+    ending: Ending,
+    machine: &Machine,
+) -> Result<Vec<u8>, NoMemory>
+    ensures { IfOk result (λ bytes. bytes.items ≡ entered entry cost ++ ending_line ending machine.now) }
+{
+    let mut text = entered(alloc, entry, cost)?;
+    let line = ending_text(alloc, ending, machine)?;
+    match text.extend_from_slice(&line) {
+        Ok(()) => Ok(text),
+        Err(_) => Err(NoMemory),
+    }
+}
+
+/// What stands before the line of an ending where the program was entered.
+fn entered(alloc: Global, entry: u16, cost: u64) -> Result<Vec<u8>, NoMemory>
+    ensures { IfOk result (λ bytes. bytes.items ≡ entered entry cost) }
+{
+    bytes_of_text(format!(in alloc; "entered {entry} after {cost} orders, "))
 }
 
 /// The line of an ending by its name.

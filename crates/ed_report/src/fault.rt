@@ -1,10 +1,11 @@
 ghost use Rattle.std.specs.Prelude.{◌≡◌, ◌≢◌, IfOk};
 ghost use Rattle.ed_codes.specs.declared.tape.TextFault.TheVariants.{Memory};
-ghost use Rattle.ed_report.specs.Notes.{cause_text, rule_line, tape_fault_line, text_fault_line};
+ghost use Rattle.ed_report.specs.Notes.{cause_text, rule_line, source_cause_text, source_fault_line, tape_fault_line, text_fault_line};
 
 use crate::text::bytes_of_text;
 use ed_codes::TextFault;
 use ed_notation::{TapeCause, TapeFault};
+use ed_syntax::{SourceCause, SourceFault};
 use ed_words::NoMemory;
 use std::alloc::Global;
 
@@ -58,5 +59,44 @@ fn cause_text(cause: TapeCause) -> &'static str
         TapeCause::NoPlace => "N8 no place",
         TapeCause::EntryNegative => "N9 entry negative",
         TapeCause::EntryInLoader => "N10 entry in loader",
+    }
+}
+
+/// The line that tells of a fault of a source.
+pub fn source_fault(alloc: Global, fault: &SourceFault) -> Result<Vec<u8>, NoMemory>
+    requires { fault.now ≢ SourceFault.Memory }
+    ensures { IfOk result (λ bytes. bytes.items ≡ source_fault_line fault.now) }
+{
+    match fault {
+        SourceFault::At { line, cause } => {
+            let rule = source_cause_text(*cause);
+            bytes_of_text(format!(in alloc; "line {line}: {rule}\n"))
+        }
+        SourceFault::Memory => unreachable!(),
+    }
+}
+
+/// The number and the text of a fault of a source.
+fn source_cause_text(cause: SourceCause) -> &'static str
+    ensures { result.now ≡ source_cause_text cause }
+{
+    match cause {
+        SourceCause::BadByte => "S1 bad byte",
+        SourceCause::LongLine => "S2 long line",
+        SourceCause::NotAStatement => "S3 not a statement",
+        SourceCause::NumberRange => "S4 number out of range",
+        SourceCause::TooManyLines => "S5 too many lines",
+        SourceCause::LabelTwice => "S6 label twice",
+        SourceCause::LabelUnknown => "S7 unknown label",
+        SourceCause::AddressRange => "S8 address out of range",
+        SourceCause::OutsideSegment => "S9 outside a segment",
+        SourceCause::LoaderStore => "S10 loader store",
+        SourceCause::ParameterStore => "S11 parameter store",
+        SourceCause::StoreEnd => "S12 store end",
+        SourceCause::Overlap => "S13 overlap",
+        SourceCause::NoSuchRoutine => "S14 no such routine",
+        SourceCause::Parameters => "S15 parameters",
+        SourceCause::Enter => "S16 enter",
+        SourceCause::SandwichDigit => "S17 sandwich digit",
     }
 }

@@ -1,5 +1,5 @@
-ghost use Rattle.std.specs.Prelude.{◌≡◌, IfOk};
-ghost use Rattle.ed_printer.specs.Paper.{paper};
+ghost use Rattle.std.specs.Prelude.{◌≡◌, ◌++◌, IfOk, List, ℕ};
+ghost use Rattle.ed_printer.specs.Paper.{paper, paper_from};
 
 use ed_codes::Code;
 use ed_printer::Printer;
@@ -12,11 +12,42 @@ pub fn paper_text(alloc: Global, codes: &[Code]) -> Result<Vec<u8>, NoMemory>
 {
     let mut bytes = Vec::new(alloc);
     let mut printer = Printer::new();
+    strike_all(&mut printer, &mut bytes, codes)?;
+    Ok(bytes)
+}
+
+/// The bytes that a printer at its start gives for two papers: the second is printed in the shift that the first leaves.
+pub fn papers_text(alloc: Global, first: &[Code], second: &[Code]) -> Result<Vec<u8>, NoMemory>
+    ensures { IfOk result (λ bytes. bytes.items ≡ paper (first.now ++ second.now)) }
+{
+    let mut bytes = Vec::new(alloc);
+    let mut printer = Printer::new();
+    strike_all(&mut printer, &mut bytes, first)?;
+    strike_all(&mut printer, &mut bytes, second)?;
+    Ok(bytes)
+}
+
+/// Prints codes; whatever codes come after them are printed in the shift that is left. Kept out of the callers, since it
+/// would slow the run of a tape down.
+#[inline(never)]
+fn strike_all(printer: &mut Printer, bytes: &mut Vec<u8>, codes: &[Code]) -> Result<(), NoMemory>
+    ensures { IfOk result (λ _. (rest : List ℕ) →
+        bytes.old.items ++ paper_from printer.old (codes.now ++ rest) ≡ bytes.new.items ++ paper_from printer.new rest) }
+{
     for code in codes {
         let struck = printer.strike(*code);
-        if bytes.extend_from_slice(struck.as_slice()).is_err() {
-            return Err(NoMemory);
-        }
+        add(bytes, struck.as_slice())?;
     }
-    Ok(bytes)
+    Ok(())
+}
+
+/// Adds the bytes of a code. Most codes print one, which is pushed alone, since this is much faster.
+fn add(bytes: &mut Vec<u8>, struck: &[u8]) -> Result<(), NoMemory>
+    ensures { IfOk result (λ _. bytes.new.items ≡ bytes.old.items ++ struck.now) }
+{
+    let is_full = match struck {
+        [byte] => bytes.push(*byte).is_err(),
+        _ => bytes.extend_from_slice(struck).is_err(),
+    };
+    if is_full { Err(NoMemory) } else { Ok(()) }
 }

@@ -1,0 +1,22 @@
+-- Codes that were struck from a printer's start on are a paper.
+use Rattle.std.proofs.Common.{◌≡◌, ◌∙◌, ◌++◌, List, ℕ, [], sym, ap, append_assoc, append-nil}
+use Rattle.ed_printer.specs.Paper.{paper, paper_from}
+use Rattle.ed_printer.specs.declared.printer.Shift.{Shift}
+use Rattle.ed_printer.specs.declared.printer.Shift.TheVariants.{Letters}
+
+-- after some bytes, codes gave more bytes; whatever codes come next are printed in the shift that is left
+abbrev pub Strikes : List ℕ → Shift → List ℕ → List ℕ → Shift → Type 0
+Strikes before start codes after left =
+    (rest : List ℕ) → before ++ paper_from start (codes ++ rest) ≡ after ++ paper_from left rest
+
+pub one_paper : (before after codes : List ℕ) (start left : Shift) → before ≡ [] → start ≡ Letters → Strikes before start codes after left
+    → after ≡ paper codes
+one_paper before after codes start left b s strikes =
+    let whole = strikes [] in
+    sym ((λ i. sym b i ++ paper_from (sym s i) (sym (append-nil codes) i)) ∙ whole ∙ append-nil after)
+
+pub two_papers : (before between after first second : List ℕ) (start middle left : Shift) → before ≡ [] → start ≡ Letters
+    → Strikes before start first between middle → Strikes between middle second after left → after ≡ paper (first ++ second)
+two_papers before between after first second start middle left b s p q =
+    one_paper before after (first ++ second) start left b s
+    (λ rest. ap (λ (codes : List ℕ). before ++ paper_from start codes) (append_assoc first second rest) ∙ p (second ++ rest) ∙ q rest)

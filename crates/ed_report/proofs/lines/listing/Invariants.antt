@@ -1,0 +1,7 @@
+use Rattle.std.proofs.Common.{◌≡◌, ◌++◌, drop}
+use Rattle.ed_report.specs.Listings.{listing}
+use Rattle.ed_report.proofs.lines.listing.Given as goal
+
+-- the lines so far, and then those of the places that are left
+abbrev pub invariant-loop-place : goal.invariant-loop-place
+invariant-loop-place l = l.lines.items ++ listing l.store (drop l.place-index l.places) ≡ listing l.store l.places
