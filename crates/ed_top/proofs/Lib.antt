@@ -1,5 +1,7 @@
-pub mod Bytes
+pub mod Replies
+pub mod Checks
+mod FromEntry
+mod Sources
+pub mod OneOutcome
 pub mod Endings
-pub mod Givens
-pub mod Inputs
-pub mod Lines
+pub mod Headlines

@@ -1,9 +1,10 @@
 -- The contract of `edsac`: what a run of the program does to its source and its two sinks, devices that fail included
 -- (this project's own rules).
-use Rattle.std.specs.Prelude.{◌≡◌, ◌≢◌, ◌⊎◌, ℕ, Bool, true, false, [], ◌++◌, drop, Option, Some}
-use Rattle.ed_io.specs.Bytes.{Gains}
+use Rattle.std.specs.Prelude.{◌≡◌, ◌≢◌, ◌⊎◌, ℕ, true, [], drop, Option, Some}
+use Rattle.ed_io.specs.Bytes.{Gains, GainsPart}
 use Rattle.ed_io.specs.Causes.{Rose}
 use Rattle.ed_top.specs.Outcome.{Text, Outcome, read_fault, no_memory}
+use Rattle.ed_top.specs.Answer.{Answer, known, of_input, reads_input, WithinLimit}
 
 -- a device before and after the call: the bytes that it tells, if it tells them, and its count of faults
 pub record Device : Type 0 where
@@ -25,48 +26,55 @@ abbrev pub Wrote : Device → Text → Type 0
 Wrote d text = Gains d.before d.after text
 
 -- the sink has gained the first bytes of this text
-pub record WrotePart (d : Device) (text : Text) : Type 0 where
-  pub part : Text
-  pub rest : Text
-  pub whole : text ≡ part ++ rest
-  pub wrote : Wrote d part
+abbrev pub WrotePart : Device → Text → Type 0
+WrotePart d text = GainsPart d.before d.after text
 
--- the source has lost exactly its first n bytes, if it tells its bytes
+-- the source has lost its first n bytes, or all where it had fewer, if it tells its bytes
 abbrev pub Lost : Device → ℕ → Type 0
 Lost d n = (bytes : Text) → d.before ≡ Some bytes → d.after ≡ Some (drop n bytes)
 
--- the input is what the source tells; where none is read, it does not matter what it is
-abbrev pub IsInput : Bool → Device → Text → Type 0
-IsInput reads source input = (source.before ≡ Some input) ⊎ (reads ≡ false)
+-- how many bytes are read at the most: none, or one more than an input may have
+abbrev pub most_read : Answer → ℕ
+most_read (known o) = 0
+most_read (of_input answers) = 262145
 
--- what is on `note` after a write that failed: nothing, a part of the outcome's line behind all of `out`, a part of the
--- line on a source that failed too, or a part of the line on want of memory
-abbrev pub NoteAfterFault : Device → Device → Device → Outcome → Type 0
-NoteAfterFault source out note o =
-    Wrote note []
-    ⊎ ((WrotePart note o.note × Wrote out o.out)
-    ⊎ ((Failing source × WrotePart note read_fault)
-    ⊎ WrotePart note no_memory))
+-- this holds of the outcome that is due: the known one, or that of the input, if the source tells it
+abbrev pub ForDue : Answer → Device → (Outcome → Type 0) → Type 0
+ForDue (known due) source P = P due
+ForDue (of_input answers) source P =
+    (input : Text) → source.before ≡ Some input → (o : Outcome) × WithinLimit answers input o × P o
 
--- the program that answers `output` to an input, and reads it or not, ended so with this status
-pub record Ended (output : Text → Outcome) (reads : Bool) (source out note : Device) (status : ℕ) : Type 0 where
-  -- neither a fault nor want of memory: exactly the outcome
-  pub finished : (input : Text) → IsInput reads source input → status ≢ 8 → status ≢ 9 → status ≢ 10
-      → (status ≡ (output input).status) × Wrote out (output input).out × Wrote note (output input).note × Lost source (output input).read
-  -- 8 comes only where the source failed, with nothing on `out` and the line on `note`
-  pub read : status ≡ 8 → (reads ≡ true) × Failing source × Wrote out [] × Wrote note read_fault
-  -- 9 comes only where a sink failed
-  pub write : status ≡ 9 → Failing out ⊎ Failing note
-  -- and a part of the outcome was written
-  pub written : (input : Text) → IsInput reads source input → status ≡ 9
-      → WrotePart out (output input).out × NoteAfterFault source out note (output input)
-  -- 10 comes with a part of the outcome on `out`
-  pub memory : (input : Text) → IsInput reads source input → status ≡ 10 → WrotePart out (output input).out
-  -- and the line on `note`
-  pub told : status ≡ 10 → Wrote note no_memory
+-- the sink has gained the first bytes of what is due on `out`
+abbrev pub WrotePartDue : Answer → Device → Device → Type 0
+WrotePartDue answer source out = ForDue answer source (λ o. WrotePart out o.out)
 
--- the last step of the program: a text on `out`, then a line on `note`, then the wanted status; or 9
-pub record Finishes (out note : Device) (text note_line : Text) (wanted status : ℕ) : Type 0 where
-  pub done : status ≢ 9 → (status ≡ wanted) × Wrote out text × Wrote note note_line
-  pub cause : status ≡ 9 → Failing out ⊎ Failing note
-  pub part : status ≡ 9 → WrotePart out text × (Wrote note [] ⊎ (WrotePart note note_line × Wrote out text))
+-- a write on `out` failed, and nothing was written on `note`
+pub record BrokeOut (answer : Answer) (source out note : Device) : Type 0 where
+  pub failing : Failing out
+  pub part : WrotePartDue answer source out
+  pub nothing : Wrote note []
+
+-- what is on `out` before a line on `note`: all that is due, and its line; nothing, and the line of a read that failed;
+-- or a part of what is due, and the line of want of memory
+abbrev pub NoteBroke : Answer → Device → Device → Device → Type 0
+NoteBroke answer source out note =
+    ForDue answer source (λ o. Wrote out o.out × WrotePart note o.note)
+    ⊎ (((reads_input answer ≡ true) × Failing source × Wrote out [] × WrotePart note read_fault)
+    ⊎ (WrotePartDue answer source out × WrotePart note no_memory))
+
+-- a write on `note` failed, behind all writes on `out`
+pub record BrokeNote (answer : Answer) (source out note : Device) : Type 0 where
+  pub failing : Failing note
+  pub part : NoteBroke answer source out note
+
+-- the program that answers so ended with this status
+pub record ProgramEnded (answer : Answer) (source out note : Device) (status : ℕ) : Type 0 where
+  -- neither a fault nor want of memory: exactly the outcome that is due
+  pub finished : status ≢ 8 → status ≢ 9 → status ≢ 10
+      → Lost source (most_read answer) × ForDue answer source (λ o. (status ≡ o.status) × Wrote out o.out × Wrote note o.note)
+  -- 8: a read failed; nothing is on `out` and its line on `note`
+  pub read : status ≡ 8 → (reads_input answer ≡ true) × Failing source × Wrote out [] × Wrote note read_fault
+  -- 9: a write failed, and nothing was written after it on either sink
+  pub written : status ≡ 9 → BrokeOut answer source out note ⊎ BrokeNote answer source out note
+  -- 10: no memory was found; a part of what is due is on `out` and the line on `note`
+  pub memory : status ≡ 10 → WrotePartDue answer source out × Wrote note no_memory

@@ -1,4 +1,8 @@
 pub mod Outcome
+pub mod Answer
+pub mod Runs
+pub mod Sources
 pub mod Output
-pub mod Given
+pub mod Headline
 pub mod Clause
+pub mod Private

@@ -1,35 +1,46 @@
-ghost use Rattle.std.specs.Prelude.{◌≡◌, ◌≢◌, ◌<◌, ◌≤◌, ◌^◌, ℕ, [], IfOk, length};
+ghost use Rattle.std.specs.Prelude.{◌≡◌, ◌≢◌, ◌≤◌, ◌^◌, IfOk, length};
 ghost use Rattle.ed_report.specs.Notes.{tape_fault_line};
-ghost use Rattle.ed_top.specs.Outcome.{refused};
-ghost use Rattle.ed_top.specs.Given.{Gives};
-ghost use Rattle.ed_top.specs.Output.{check_outcome, cleared_verdict, entry_line};
+ghost use Rattle.ed_top.specs.Answer.{of_rows};
+ghost use Rattle.ed_top.specs.Private.Stages.{Gives, Replies};
+ghost use Rattle.ed_top.specs.Outcome.{Outcome, done, refused};
+ghost use Rattle.ed_top.specs.Output.{IsChecked, entry_line};
 
-use crate::answer::{Answer, refusal};
+use crate::reply::{Reply, refusal};
+use crate::rows::rows_of;
 use ed_codes::Code;
+use ed_command::Settings;
 use ed_notation::{TapeFault, check};
 use ed_report::tape_fault;
 use ed_store::Store;
-use ed_words::{NoMemory, Size};
+use ed_words::NoMemory;
 use std::alloc::Global;
 
-/// Checks the rows from a cleared store.
-pub fn check_rows(alloc: Global, size: Size, rows: &[Code]) -> Result<Answer, NoMemory>
-    requires { length rows.now ≤ 2 ^ 32 }
-    ensures is { IfOk result (λ answer. (read : ℕ) → Gives answer (check_outcome read (cleared_verdict size rows.now))) }
-    ensures status { IfOk result (λ answer. answer.status < 8) }
+/// `check-tape`: the entry that a text's rows come to from a cleared store, or their fault.
+pub fn check_tape(alloc: Global, settings: Settings, input: &[u8]) -> Result<Reply, NoMemory>
+    requires { length input.now ≤ 2 ^ 32 }
+    ensures { Replies (of_rows (IsChecked settings)) input.now result }
 {
-    let store = Store::cleared(alloc)?;
-    match check(alloc, size, &store, rows) {
-        Ok(checked) => entry_answer(alloc, checked.entry(), checked.orders(), checked.rows()),
-        Err(fault) => fault_answer(alloc, &fault),
+    match rows_of(alloc, input) {
+        Ok(rows) => check_rows(alloc, settings, &rows),
+        Err(refusal) => refusal,
     }
 }
 
-/// The answer to rows that are no tape of the notation.
-fn fault_answer(alloc: Global, fault: &TapeFault) -> Result<Answer, NoMemory>
-    ensures is { IfOk result (λ answer. (read : ℕ) → Gives answer (refused read (tape_fault_line fault.now))) }
+fn check_rows(alloc: Global, settings: Settings, rows: &[Code]) -> Result<Reply, NoMemory>
+    requires { length rows.now ≤ 2 ^ 32 }
+    ensures { IfOk result (λ reply. (o : Outcome) × IsChecked settings rows.now o × Gives reply o) }
+{
+    let store = Store::cleared(alloc)?;
+    match check(alloc, settings.size, &store, rows) {
+        Ok(checked) => entry_reply(alloc, checked.entry(), checked.orders(), checked.rows()),
+        Err(fault) => fault_reply(alloc, &fault),
+    }
+}
+
+/// The reply to rows that are no tape of the notation.
+fn fault_reply(alloc: Global, fault: &TapeFault) -> Result<Reply, NoMemory>
+    ensures is { IfOk result (λ reply. Gives reply (refused (tape_fault_line fault.now))) }
     ensures told { IfOk result (λ _. fault.now ≢ TapeFault.Memory) }
-    ensures status { IfOk result (λ answer. answer.status < 8) }
 {
     match fault {
         TapeFault::Memory => Err(NoMemory),
@@ -37,14 +48,12 @@ fn fault_answer(alloc: Global, fault: &TapeFault) -> Result<Answer, NoMemory>
     }
 }
 
-/// The answer that tells of a well-formed tape.
-fn entry_answer(alloc: Global, entry: u16, orders: u64, rows: usize) -> Result<Answer, NoMemory>
-    ensures out { IfOk result (λ answer. answer.out.items ≡ entry_line entry orders rows) }
-    ensures note { IfOk result (λ answer. answer.note.items ≡ []) }
-    ensures status { IfOk result (λ answer. answer.status ≡ 0) }
+/// The reply that tells of a well-formed tape.
+fn entry_reply(alloc: Global, entry: u16, orders: u64, rows: usize) -> Result<Reply, NoMemory>
+    ensures { IfOk result (λ reply. Gives reply (done (entry_line entry orders rows))) }
 {
     match format!(in alloc; "entry {entry} after {orders} orders, {rows} rows\n") {
-        Ok(line) => Ok(Answer {
+        Ok(line) => Ok(Reply {
             out: line.into_bytes(),
             note: Vec::new(alloc),
             status: 0,

@@ -1,9 +1,12 @@
-ghost use Rattle.std.specs.Prelude.{◌≡◌, ◌≢◌, ◌⊎◌, ◌≤◌, ◌<◌, length, nat_lt, IfOk, IfErr, MatchResult};
+ghost use Rattle.std.specs.Prelude.{◌≡◌, ◌≢◌, ◌⊎◌, ◌≤◌, ◌<◌, length, IfOk, IfErr, MatchResult};
 ghost use Rattle.ed_io.specs.Bytes.{IsAtEnd, Loses};
-ghost use Rattle.ed_io.specs.Causes.{HasCause, Rose};
-ghost use Rattle.ed_top.specs.Clause.{Finishes, Wrote, WrotePart, device};
+ghost use Rattle.ed_io.specs.Causes.{Rose};
+ghost use Rattle.ed_top.specs.Clause.{device};
+ghost use Rattle.ed_top.specs.Private.Stages.{HasInput, TellsLine, WritesReply};
 
-use ed_io::{Failed, Sink, Source};
+use crate::reply::Reply;
+use ed_io::{Failed, Sink, Source, write_all};
+use ed_words::NoMemory;
 use std::alloc::Global;
 
 /// The most bytes of input.
@@ -12,21 +15,65 @@ const LIMIT: usize = 262_144;
 /// How many bytes are read at once, at the most.
 const PIECE: usize = 4096;
 
-/// Why the input was not read.
+/// Why there is no input.
 #[derive(Clone, Copy, Debug, PartialEq, Eq)]
-pub enum ReadStop {
+pub enum InputStop {
     /// A read failed.
+    Failed,
+    /// No memory was found.
+    Memory,
+    /// The input has more bytes than are taken.
+    TooLong,
+}
+
+/// What is still to tell of a command when its text is on `out`.
+#[derive(Drop)]
+pub struct Rest {
+    pub note: Vec<u8>,
+    pub status: u8,
+}
+
+/// Why a command was not carried out.
+#[derive(Clone, Copy, Debug, PartialEq, Eq)]
+pub enum Stop {
+    /// A write on `out` failed.
     Failed,
     /// No memory was found.
     Memory,
 }
 
+/// The whole input, where one is read, and else none.
+pub fn input_of<S: Source>(alloc: Global, reads: bool, source: &mut S) -> Result<Vec<u8>, InputStop>
+    ensures { HasInput reads (device S.left S.faults source.old source.new) result }
+{
+    if !reads {
+        return Ok(Vec::new(alloc));
+    }
+    match read_all(alloc, source) {
+        Ok(input) => within_limit(input),
+        Err(stop) => Err(stop),
+    }
+}
+
+/// The input, where it has no more bytes than are taken.
+fn within_limit(input: Vec<u8>) -> Result<Vec<u8>, InputStop>
+    ensures { MatchResult result
+        (λ v. (v ≡ input) × (length input.items ≤ 262144))
+        (λ e. (e ≡ InputStop.TooLong) × (262144 < length input.items)) }
+{
+    if input.len() > LIMIT {
+        return Err(InputStop::TooLong);
+    }
+    Ok(input)
+}
+
 /// Reads to the end of the input, or one byte more than the limit.
-pub fn read_all<S: Source>(alloc: Global, source: &mut S) -> Result<Vec<u8>, ReadStop>
+fn read_all<S: Source>(alloc: Global, source: &mut S) -> Result<Vec<u8>, InputStop>
     ensures bytes { IfOk result (λ v. Loses (S.left source.old) (S.left source.new) v.items) }
     ensures end { IfOk result (λ v. (length v.items ≡ 262145) ⊎ ((length v.items < 262145) × IsAtEnd (S.left source.new))) }
     ensures later { S.faults source.old ≤ S.faults source.new }
-    ensures cause { IfErr result (λ e. e ≡ ReadStop.Failed → Rose (S.faults source.old) (S.faults source.new)) }
+    ensures cause { IfErr result
+        (λ e. (e ≡ InputStop.Memory) ⊎ ((e ≡ InputStop.Failed) × Rose (S.faults source.old) (S.faults source.new))) }
 {
     let mut input = Vec::new(alloc);
     let mut piece = [0u8; PIECE];
@@ -36,54 +83,38 @@ pub fn read_all<S: Source>(alloc: Global, source: &mut S) -> Result<Vec<u8>, Rea
             Ok(0) => break,
             Ok(count) => {
                 if input.extend_from_slice(&piece[..count]).is_err() {
-                    return Err(ReadStop::Memory);
+                    return Err(InputStop::Memory);
                 }
             }
-            Err(Failed) => return Err(ReadStop::Failed),
+            Err(Failed) => return Err(InputStop::Failed),
         }
     }
     Ok(input)
 }
 
-/// Whether an input has more bytes than are taken.
-pub fn is_too_long(input: &[u8]) -> bool
-    ensures { result ≡ nat_lt 262144 (length input.now) }
+/// Writes the text of a reply on `out`.
+pub fn write<K: Sink>(out: &mut K, reply: Result<Reply, NoMemory>) -> Result<Rest, Stop>
+    ensures { WritesReply reply (device K.held K.faults out.old out.new) result }
 {
-    input.len() > LIMIT
-}
-
-/// Writes all of a text.
-fn write_all<K: Sink>(sink: &mut K, text: &[u8]) -> Result<(), Failed>
-    ensures whole { MatchResult result
-        (λ _. Wrote (device K.held K.faults sink.old sink.new) text.now)
-        (λ _. WrotePart (device K.held K.faults sink.old sink.new) text.now) }
-    ensures cause { HasCause (K.faults sink.old) (K.faults sink.new) result }
-{
-    let mut rest = text;
-    while !rest.is_empty() {
-        let count = sink.write(rest)?;
-        rest = &rest[count..];
+    match reply {
+        Ok(reply) => match write_all(out, &reply.out) {
+            Ok(()) => Ok(Rest {
+                note: reply.note,
+                status: reply.status,
+            }),
+            Err(Failed) => Err(Stop::Failed),
+        },
+        Err(NoMemory) => Err(Stop::Memory),
     }
-    Ok(())
 }
 
-/// Writes a text on `out` and then a line on `note`, and answers the status; or 9, with nothing written after the write
-/// that failed.
-pub fn finish<K: Sink, L: Sink>(
-    out: &mut K,
-    note: &mut L,
-    text: &[u8],
-    line: &[u8],
-    status: u8,
-) -> u8
+/// Writes a line on `note` and answers the status; or 9.
+pub fn tell<L: Sink>(note: &mut L, line: &[u8], status: u8) -> u8
     requires { status ≢ 9 }
-    ensures { Finishes (device K.held K.faults out.old out.new) (device L.held L.faults note.old note.new) text.now line.now status result }
+    ensures { TellsLine (device L.held L.faults note.old note.new) line.now status result }
 {
-    if write_all(out, text).is_err() {
-        return 9;
+    match write_all(note, line) {
+        Ok(()) => status,
+        Err(Failed) => 9,
     }
-    if write_all(note, line).is_err() {
-        return 9;
-    }
-    status
 }

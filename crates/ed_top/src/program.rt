@@ -1,17 +1,15 @@
-ghost use Rattle.std.specs.Prelude.{◌≡◌, true, map, string_bytes};
+ghost use Rattle.std.specs.Prelude.{Some, map, string_bytes};
 ghost use Rattle.ed_command.specs.Lines.{line_of};
-ghost use Rattle.ed_top.specs.Clause.{Ended, device};
-ghost use Rattle.ed_top.specs.Output.{answer_of, output, reads, within_limit};
+ghost use Rattle.ed_top.specs.Clause.{ProgramEnded, device};
+ghost use Rattle.ed_top.specs.Headline.{Headline};
+ghost use Rattle.ed_top.specs.Output.{EachLineHasOneOutcome, answer, output};
 
-use crate::answer::respond;
-use crate::devices::{ReadStop, finish, is_too_long, read_all};
+use crate::commands::{carry_out, reads_input};
+use crate::devices::{InputStop, Stop, input_of, tell};
+use crate::reply::USAGE;
 use ed_command::{Command, CommandFault, read_words};
 use ed_io::{Sink, Source};
-use ed_words::NoMemory;
 use std::alloc::Global;
-
-const USAGE: &[u8] =
-    b"usage: edsac COMMAND [--limit N] [--resume N] [--post-mortem FROM,COUNT] [--store SIZE]\n";
 
 const READ_FAULT: &[u8] = b"read fault\n";
 
@@ -31,19 +29,21 @@ pub fn edsac<S: Source, K: Sink, L: Sink>(
     out: &mut K,
     note: &mut L,
 ) -> u8
-    ensures { let line = line_of (map string_bytes words.now) in Ended (output line) (reads line)
+    ensures ended { ProgramEnded (output (line_of (map string_bytes words.now)))
         (device S.left S.faults source.old source.new)
         (device K.held K.faults out.old out.new)
         (device L.held L.faults note.old note.new) result }
+    ensures law { EachLineHasOneOutcome }
+    ensures headline { Headline (line_of (map string_bytes words.now)) (S.left source.old) result }
 {
     match read_words(alloc, words) {
         Ok(command) => run_command(alloc, command, source, out, note),
-        Err(CommandFault::Usage) => finish(out, note, &[], USAGE, 2),
-        Err(CommandFault::Memory) => finish(out, note, &[], NO_MEMORY, 10),
+        Err(CommandFault::Usage) => tell(note, USAGE, 2),
+        Err(CommandFault::Memory) => tell(note, NO_MEMORY, 10),
     }
 }
 
-/// Reads the input, answers it as the command does, and writes the answer.
+/// Reads the input, carries the command out on it, and tells the rest.
 fn run_command<S: Source, K: Sink, L: Sink>(
     alloc: Global,
     command: Command,
@@ -51,21 +51,21 @@ fn run_command<S: Source, K: Sink, L: Sink>(
     out: &mut K,
     note: &mut L,
 ) -> u8
-    ensures { Ended (within_limit (answer_of command)) true
+    ensures ended { ProgramEnded (answer command.action command.settings)
         (device S.left S.faults source.old source.new)
         (device K.held K.faults out.old out.new)
         (device L.held L.faults note.old note.new) result }
+    ensures headline { Headline (Some command) (S.left source.old) result }
 {
-    let input = match read_all(alloc, source) {
+    let input = match input_of(alloc, reads_input(command), source) {
         Ok(input) => input,
-        Err(ReadStop::Failed) => return finish(out, note, &[], READ_FAULT, 8),
-        Err(ReadStop::Memory) => return finish(out, note, &[], NO_MEMORY, 10),
+        Err(InputStop::Failed) => return tell(note, READ_FAULT, 8),
+        Err(InputStop::Memory) => return tell(note, NO_MEMORY, 10),
+        Err(InputStop::TooLong) => return tell(note, TOO_LONG, 11),
     };
-    if is_too_long(&input) {
-        return finish(out, note, &[], TOO_LONG, 11);
-    }
-    match respond(alloc, command, &input) {
-        Ok(answer) => finish(out, note, &answer.out, &answer.note, answer.status),
-        Err(NoMemory) => finish(out, note, &[], NO_MEMORY, 10),
+    match carry_out(alloc, command, &input, out) {
+        Ok(rest) => tell(note, &rest.note, rest.status),
+        Err(Stop::Failed) => 9,
+        Err(Stop::Memory) => tell(note, NO_MEMORY, 10),
     }
 }

@@ -1,52 +1,42 @@
-ghost use Rattle.std.specs.Prelude.{◌≡◌, ◌<◌, ℕ, IfOk};
-ghost use Rattle.ed_run.specs.Run.{ran};
-ghost use Rattle.ed_top.specs.Given.{Gives};
-ghost use Rattle.ed_top.specs.Output.{begin, paper_room, ran_outcome, status_of};
+ghost use Rattle.std.specs.Prelude.{IfOk};
+ghost use Rattle.ed_top.specs.Answer.{exactly, of_rows};
+ghost use Rattle.ed_top.specs.Private.Stages.{Gives, Replies};
+ghost use Rattle.ed_top.specs.Output.{tape_answer, tape_outcome};
 
-use crate::answer::Answer;
+use crate::reply::{Reply, usage};
+use crate::rows::rows_of;
+use crate::running::{ran_reply, run_rows};
 use ed_codes::Code;
-use ed_initial::orders;
-use ed_machine::{Ending, Machine, Paper};
-use ed_report::{ending_text, paper_text};
-use ed_run::run;
-use ed_words::{NoMemory, Size};
+use ed_command::Settings;
+use ed_report::ending_text;
+use ed_words::NoMemory;
 use std::alloc::Global;
 
-/// How many codes the paper of a run holds.
-const PAPER_ROOM: usize = 1_000_000;
-
-/// Runs a cleared machine of a size, started on the rows with the Initial Orders.
-pub fn run_rows(
-    alloc: Global,
-    limit: u32,
-    resumes: u32,
-    size: Size,
-    rows: Vec<Code>,
-) -> Result<Answer, NoMemory>
-    ensures is { IfOk result (λ answer. (read : ℕ) → Gives answer (ran_outcome read (ran limit resumes paper_room (begin size rows.items)))) }
-    ensures status { IfOk result (λ answer. answer.status < 8) }
+/// `tape`: the run of a text's rows. With a window to print after the run it has no answer yet.
+pub fn tape(alloc: Global, settings: Settings, input: &[u8]) -> Result<Reply, NoMemory>
+    ensures { Replies (tape_answer settings.post_mortem settings) input.now result }
 {
-    let mut machine = Machine::cleared_of(alloc, size)?;
-    let mut paper = Paper::new(alloc, PAPER_ROOM)?;
-    machine.start(&orders(), rows);
-    let ending = run(&mut machine, u64::from(limit), resumes, &mut paper);
-    Ok(Answer {
-        out: paper_text(alloc, paper.codes())?,
-        note: ending_text(alloc, ending, &machine)?,
-        status: status_of(ending),
-    })
+    match settings.post_mortem {
+        None => run_text(alloc, settings, input),
+        Some(_) => usage(alloc),
+    }
 }
 
-/// The status of a run's ending.
-fn status_of(ending: Ending) -> u8
-    ensures is { result ≡ status_of ending }
-    ensures low { result < 8 }
+/// Runs the rows of a text, or refuses it.
+fn run_text(alloc: Global, settings: Settings, input: &[u8]) -> Result<Reply, NoMemory>
+    ensures { Replies (of_rows (exactly (tape_outcome settings))) input.now result }
 {
-    match ending {
-        Ending::Stopped => 0,
-        Ending::Limit => 4,
-        Ending::NoOrder => 5,
-        Ending::NoTape => 6,
-        Ending::PaperFull => 7,
+    match rows_of(alloc, input) {
+        Ok(rows) => run_tape(alloc, settings, rows),
+        Err(refusal) => refusal,
     }
+}
+
+/// Runs rows.
+fn run_tape(alloc: Global, settings: Settings, rows: Vec<Code>) -> Result<Reply, NoMemory>
+    ensures { IfOk result (λ reply. Gives reply (tape_outcome settings rows.items)) }
+{
+    let ran = run_rows(alloc, settings, rows)?;
+    let note = ending_text(alloc, ran.ending, &ran.machine)?;
+    ran_reply(alloc, &ran, note)
 }

@@ -1,22 +1,55 @@
-use Rattle.std.proofs.Common.{refl, map, string_bytes}
-use Rattle.std.specs.Prelude.{Some, None}
+use Rattle.std.proofs.Common.{◌≡◌, ℕ, refl, sym, subst, map, string_bytes}
+use Rattle.std.specs.Prelude.{Option, Some, None, Err}
+use Rattle.ed_command.specs.Answers.{Answers}
 use Rattle.ed_command.specs.Lines.{line_of}
+use Rattle.ed_command.specs.declared.command.Command.{Command}
+use Rattle.ed_command.specs.declared.reading.CommandFault.{CommandFault}
+use Rattle.ed_command.specs.declared.reading.CommandFault.TheVariants.{Usage, Memory}
+use Rattle.ed_top.specs.Answer.{known}
 use Rattle.ed_top.specs.Outcome.{usage_outcome}
-use Rattle.ed_top.specs.Clause.{device}
-use Rattle.ed_top.proofs.Endings.{with_no_memory, with_outcome}
-use Rattle.ed_top.proofs.Inputs.{nothing_lost}
-use Rattle.ed_top.proofs.Lines.{ended_by_line, usage_line}
+use Rattle.ed_top.specs.Output.{output}
+use Rattle.ed_top.specs.Clause.{Device, ProgramEnded, device}
+use Rattle.ed_io.proofs.Calls.{gains_none}
+use Rattle.ed_top.proofs.Endings.{none_due, with_due, with_no_memory}
+use Rattle.ed_top.proofs.OneOutcome.{line_once}
 use Rattle.ed_top.proofs.program.edsac.Goals as goal
 
-pub returns-in-Ok : goal.returns-in-Ok
-returns-in-Ok g c =
-    ended_by_line (line_of (map string_bytes c.args.words.now)) (Some c.in-Ok.command) _ _ _ _ c.in-Ok.ensures c.run_command.ensures
+-- a program that ended as a line wants ended as the words want which are that line
+by_line : (words line : Option Command) (source out note : Device) (status : ℕ) → words ≡ line
+    → ProgramEnded (output line) source out note status → ProgramEnded (output words) source out note status
+by_line words line source out note status is ended =
+    subst (λ (l : Option Command). ProgramEnded (output l) source out note status) (sym is) ended
 
-pub returns-in-Err-Usage : goal.returns-in-Err-Usage
-returns-in-Err-Usage g c =
+-- words that are refused are no line
+usage_line : (words : Option Command) (fault : CommandFault) → fault ≡ Usage → Answers words (Err fault) → words ≡ None
+usage_line words Usage is answers = answers
+usage_line words Memory is answers = absurd (cc)
+
+pub returns-in-Ok-clause-ended : goal.returns-in-Ok-clause-ended
+returns-in-Ok-clause-ended g c =
+    by_line (line_of (map string_bytes c.args.words.now)) (Some c.in-Ok.command) _ _ _ _ c.in-Ok.ensures.is c.run_command.ensures.ended
+
+pub returns-in-Err-Usage-clause-ended : goal.returns-in-Err-Usage-clause-ended
+returns-in-Err-Usage-clause-ended g c =
     let source = device g.S.Source.left g.S.Source.faults c.args.source.now c.args.source.now in
-    ended_by_line (line_of (map string_bytes c.args.words.now)) None _ _ _ _ (usage_line _ _ c.in-Err-Usage.field-0-is c.in-Err-Usage.ensures)
-    (with_outcome _ _ source _ _ usage_outcome _ c.finish.ensures (λ e. cc) (λ e. cc) (λ input known. (refl, nothing_lost source refl)))
+    let out = device g.K.Sink.held g.K.Sink.faults c.args.out.now c.args.out.now in
+    by_line (line_of (map string_bytes c.args.words.now)) None _ _ _ _ (usage_line _ _ c.in-Err-Usage.field-0-is c.in-Err-Usage.ensures.is)
+    (with_due (known usage_outcome) source out _ usage_outcome.note 2 _ (λ e. cc) (λ e. cc) (λ bytes told. told)
+    (record { wrote = gains_none out.before; note_is = refl; status_is = refl }) c.tell.ensures)
 
-pub returns-in-Err-Memory : goal.returns-in-Err-Memory
-returns-in-Err-Memory g c = with_no_memory _ _ _ _ _ _ c.finish-in-Err-Memory.ensures
+pub returns-in-Err-Memory-clause-ended : goal.returns-in-Err-Memory-clause-ended
+returns-in-Err-Memory-clause-ended g c =
+    let line = line_of (map string_bytes c.args.words.now) in
+    let source = device g.S.Source.left g.S.Source.faults c.args.source.now c.args.source.now in
+    let out = device g.K.Sink.held g.K.Sink.faults c.args.out.now c.args.out.now in
+    with_no_memory (output line) source out _ _ (none_due (output line) source out (line_once line) (gains_none out.before))
+    c.tell-in-Err-Memory.ensures
+
+pub returns-in-Ok-clause-law : goal.returns-in-Ok-clause-law
+returns-in-Ok-clause-law g c = line_once
+
+pub returns-in-Err-Usage-clause-law : goal.returns-in-Err-Usage-clause-law
+returns-in-Err-Usage-clause-law g c = line_once
+
+pub returns-in-Err-Memory-clause-law : goal.returns-in-Err-Memory-clause-law
+returns-in-Err-Memory-clause-law g c = line_once

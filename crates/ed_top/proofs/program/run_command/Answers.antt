@@ -1,46 +1,95 @@
-use Rattle.std.proofs.Common.{◌≡◌, ◌∙◌, ◌<◌, refl, sym, ap, subst, true, false, length, arith}
-use Rattle.std.specs.Prelude.{nat_lt}
-use Rattle.ed_top.specs.Outcome.{Text, too_long_outcome}
-use Rattle.ed_top.specs.Output.{answer_of}
-use Rattle.ed_top.specs.Clause.{device}
-use Rattle.ed_top.specs.Given.{Gives}
-use Rattle.ed_top.proofs.Endings.{with_no_memory, with_outcome, with_read_fault, finishes_as}
-use Rattle.ed_top.proofs.Inputs.{long_outcome, short_outcome}
-use Rattle.ed_top.proofs.Givens.{answer_read}
+use Rattle.std.proofs.Common.{subst}
+use Rattle.std.specs.Prelude.{Ok}
+use Rattle.ed_top.specs.declared.devices.InputStop.TheVariants as input
+use Rattle.ed_top.specs.declared.devices.Stop.TheVariants as stop
+use Rattle.ed_top.specs.Outcome.{Text}
+use Rattle.ed_top.specs.Private.Stages.{ForInput, IsToTell, TellsLine}
+use Rattle.ed_top.specs.Output.{answer}
+use Rattle.ed_top.specs.Headline.{RunsAccepted}
+use Rattle.ed_top.specs.Clause.{WrotePart, device}
+use Rattle.ed_io.proofs.Calls.{gains_none}
+use Rattle.ed_top.proofs.Endings.{carried_stop, due_input, input_by, none_due, stop_by}
+use Rattle.ed_top.proofs.Endings.{with_broken_out, with_long, with_no_memory, with_read_fault, with_rest}
+use Rattle.ed_top.proofs.OneOutcome.{answer_once}
+use Rattle.ed_top.proofs.Headlines.{carried}
 use Rattle.ed_top.proofs.program.run_command.Goals as goal
 
-pub returns-in-Err-Failed : goal.returns-in-Err-Failed
-returns-in-Err-Failed g c =
-    with_read_fault _ _ _ _ _ c.finish.ensures (c.in-Err-Failed.ensures.cause c.in-Err-Failed.field-0-is)
+pub returns-in-Err-Failed-clause-ended : goal.returns-in-Err-Failed-clause-ended
+returns-in-Err-Failed-clause-ended g c =
+    let a = answer c.args.command.action c.args.command.settings in
+    let source = device g.S.Source.left g.S.Source.faults c.args.source.now c.input_of.new.source in
+    let out = device g.K.Sink.held g.K.Sink.faults c.args.out.now c.args.out.now in
+    with_read_fault a source out _ _
+    (stop_by a source c.reads_input.result c.in-Err-Failed.field-0 input.Failed c.reads_input.ensures c.in-Err-Failed.field-0-is
+    c.in-Err-Failed.ensures)
+    (gains_none out.before) c.tell.ensures
 
-pub returns-in-Err-Memory : goal.returns-in-Err-Memory
-returns-in-Err-Memory g c = with_no_memory _ _ _ _ _ _ c.finish-in-Err-Memory.ensures
+pub returns-in-Err-Memory-clause-ended : goal.returns-in-Err-Memory-clause-ended
+returns-in-Err-Memory-clause-ended g c =
+    let a = answer c.args.command.action c.args.command.settings in
+    let source = device g.S.Source.left g.S.Source.faults c.args.source.now c.input_of.new.source in
+    let out = device g.K.Sink.held g.K.Sink.faults c.args.out.now c.args.out.now in
+    with_no_memory a source out _ _
+    (none_due a source out (answer_once c.args.command.action c.args.command.settings) (gains_none out.before))
+    c.tell-in-Err-Memory.ensures
 
-pub returns-then-is_too_long : goal.returns-then-is_too_long
-returns-then-is_too_long g c =
-    let source = device g.S.Source.left g.S.Source.faults c.args.source.now c.read_all.new.source in
-    let v = c.in-Ok.input.items in
-    let long : nat_lt 262144 (length v) ≡ true =
-    ap (λ (t : Text). nat_lt 262144 (length t)) (sym c.deref.ensures.value) ∙ sym c.is_too_long.ensures ∙ c.if-is_too_long.true in
-    with_outcome _ _ _ _ _ too_long_outcome _ c.finish-then-is_too_long.ensures (λ e. cc) (λ e. cc)
-    (long_outcome (answer_of c.args.command) source v c.in-Ok.ensures.bytes c.in-Ok.ensures.end long)
+pub returns-in-Err-TooLong-clause-ended : goal.returns-in-Err-TooLong-clause-ended
+returns-in-Err-TooLong-clause-ended g c =
+    let a = answer c.args.command.action c.args.command.settings in
+    let source = device g.S.Source.left g.S.Source.faults c.args.source.now c.input_of.new.source in
+    let out = device g.K.Sink.held g.K.Sink.faults c.args.out.now c.args.out.now in
+    with_long a source out _ _
+    (stop_by a source c.reads_input.result c.in-Err-TooLong.field-0 input.TooLong c.reads_input.ensures c.in-Err-TooLong.field-0-is
+    c.in-Err-TooLong.ensures)
+    (gains_none out.before) c.tell-in-Err-TooLong.ensures
 
-pub returns-in-Ok-respond : goal.returns-in-Ok-respond
-returns-in-Ok-respond g c =
-    let source = device g.S.Source.left g.S.Source.faults c.args.source.now c.read_all.new.source in
-    let v = c.in-Ok.input.items in
-    let short : nat_lt 262144 (length v) ≡ false =
-    ap (λ (t : Text). nat_lt 262144 (length t)) (sym c.deref.ensures.value) ∙ sym c.is_too_long.ensures ∙ c.if-is_too_long.false in
-    let o = answer_of c.args.command v in
-    let answer = c.in-Ok-respond.answer in
-    let gives : Gives answer o = subst (λ (t : Text). Gives answer (answer_of c.args.command t)) c.deref-2.ensures.value c.in-Ok-respond.ensures.is in
-    let low : answer.status < 8 = c.in-Ok-respond.ensures.status in
-    let is : answer.status ≡ o.status = gives.status_is in
-    with_outcome _ _ _ _ _ o _
-    (finishes_as _ _ _ _ _ _ _ _ _ (c.deref-in-Ok-respond.ensures.value ∙ gives.out_is) (c.deref-in-Ok-respond-2.ensures.value ∙ gives.note_is) gives.status_is
-    c.finish-in-Ok-respond.ensures)
-    (omega arith) (omega arith)
-    (short_outcome (answer_of c.args.command) source v o c.in-Ok.ensures.bytes c.in-Ok.ensures.end short refl (answer_read c.args.command v))
+pub returns-in-Ok-carry_out-clause-ended : goal.returns-in-Ok-carry_out-clause-ended
+returns-in-Ok-carry_out-clause-ended g c =
+    let a = answer c.args.command.action c.args.command.settings in
+    let source = device g.S.Source.left g.S.Source.faults c.args.source.now c.input_of.new.source in
+    let out = device g.K.Sink.held g.K.Sink.faults c.args.out.now c.carry_out.new.out in
+    let note = device g.L.Sink.held g.L.Sink.faults c.args.note.now c.tell-in-Ok-carry_out.new.note in
+    let rest = c.in-Ok-carry_out.rest in
+    with_rest a source out note c.in-Ok.input rest _
+    (input_by a source c.reads_input.result (Ok c.in-Ok.input) c.reads_input.ensures c.in-Ok.ensures)
+    c.in-Ok-carry_out.ensures.is.0
+    (subst (λ (t : Text). ForInput a t (IsToTell out rest.note.items rest.status)) c.deref.ensures.value c.in-Ok-carry_out.ensures.is.1)
+    (subst (λ (t : Text). TellsLine note t rest.status c.tell-in-Ok-carry_out.result) c.deref-in-Ok-carry_out.ensures.value
+    c.tell-in-Ok-carry_out.ensures)
 
-pub returns : goal.returns
-returns g c = with_no_memory _ _ _ _ _ _ c.finish-in-Err.ensures
+pub returns-in-Err-Failed-carry_out-clause-ended : goal.returns-in-Err-Failed-carry_out-clause-ended
+returns-in-Err-Failed-carry_out-clause-ended g c =
+    let a = answer c.args.command.action c.args.command.settings in
+    let source = device g.S.Source.left g.S.Source.faults c.args.source.now c.input_of.new.source in
+    let out = device g.K.Sink.held g.K.Sink.faults c.args.out.now c.carry_out.new.out in
+    let note = device g.L.Sink.held g.L.Sink.faults c.args.note.now c.args.note.now in
+    let broken =
+    carried_stop a _ out c.in-Err-Failed-carry_out.field-0 stop.Failed c.in-Err-Failed-carry_out.field-0-is
+    c.in-Err-Failed-carry_out.ensures.is in
+    with_broken_out a source out note broken.0
+    (due_input a source c.in-Ok.input _
+    (input_by a source c.reads_input.result (Ok c.in-Ok.input) c.reads_input.ensures c.in-Ok.ensures)
+    (subst (λ (t : Text). ForInput a t (λ o. WrotePart out o.out)) c.deref.ensures.value broken.1))
+    (gains_none note.before)
+
+pub returns-clause-ended : goal.returns-clause-ended
+returns-clause-ended g c =
+    let a = answer c.args.command.action c.args.command.settings in
+    let source = device g.S.Source.left g.S.Source.faults c.args.source.now c.input_of.new.source in
+    let out = device g.K.Sink.held g.K.Sink.faults c.args.out.now c.carry_out.new.out in
+    let stopped =
+    carried_stop a _ out c.in-Err-Memory-carry_out.field-0 stop.Memory c.in-Err-Memory-carry_out.field-0-is
+    c.in-Err-Memory-carry_out.ensures.is in
+    with_no_memory a source out _ _
+    (due_input a source c.in-Ok.input _
+    (input_by a source c.reads_input.result (Ok c.in-Ok.input) c.reads_input.ensures c.in-Ok.ensures)
+    (subst (λ (t : Text). ForInput a t (λ o. WrotePart out o.out)) c.deref.ensures.value stopped))
+    c.tell-in-Err-Memory-carry_out.ensures
+
+pub returns-in-Ok-carry_out-clause-headline : goal.returns-in-Ok-carry_out-clause-headline
+returns-in-Ok-carry_out-clause-headline g c =
+    let command = c.args.command in
+    let source = device g.S.Source.left g.S.Source.faults c.args.source.now c.input_of.new.source in
+    carried command source c.in-Ok.input _
+    (input_by (answer command.action command.settings) source c.reads_input.result (Ok c.in-Ok.input) c.reads_input.ensures c.in-Ok.ensures)
+    (subst (λ (t : Text). RunsAccepted command.action command.settings t) c.deref.ensures.value c.in-Ok-carry_out.ensures.headline)

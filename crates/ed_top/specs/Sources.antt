@@ -1,0 +1,53 @@
+-- What the program answers to a source (this project's own rules).
+use Rattle.std.specs.Prelude.{◌++◌, [], List, map, nat_le, Option, Some, None, Result, Ok, Err, if◌then◌else◌}
+use Rattle.ed_words.specs.declared.size.Size.{Size}
+use Rattle.ed_machine.specs.State.{State}
+use Rattle.ed_notation.specs.Spellings.{canonicals, text_of}
+use Rattle.ed_syntax.specs.declared.program.Line.{Line}
+use Rattle.ed_syntax.specs.declared.fault.SourceFault.{SourceFault}
+use Rattle.ed_syntax.specs.declared.fault.SourceFault.TheVariants.{At}
+use Rattle.ed_syntax.specs.Sources.{Fault, program_of}
+use Rattle.ed_link.specs.Faults.{fault}
+use Rattle.ed_link.specs.Linked.{after, entry_of, linked}
+use Rattle.ed_link.specs.Punch.{punched}
+use Rattle.ed_link.specs.Tables.{table_of, words_from}
+use Rattle.ed_link.specs.Tapes.{after_text, cost, tape}
+use Rattle.ed_loads.specs.EntryState.{entry_store}
+use Rattle.ed_report.specs.Listings.{listing}
+use Rattle.ed_report.specs.Notes.{entered, source_fault_line}
+use Rattle.ed_command.specs.declared.command.Settings.{Settings}
+use Rattle.ed_top.specs.Outcome.{Text, Outcome, done, refused}
+use Rattle.ed_top.specs.Answer.{Answer, exactly, of_input}
+use Rattle.ed_top.specs.Runs.{ran_outcome, run_of}
+
+-- an outcome, or the refusal for a fault where there is one
+abbrev pub unless_faulty : Option SourceFault → Outcome → Outcome
+unless_faulty None o = o
+unless_faulty (Some f) o = refused (source_fault_line f)
+
+-- what is answered to a source for a machine of a size: the refusal for its fault of form; where it has none, that for its
+-- fault of meaning; and where it has none either, what a function gives for its lines
+abbrev pub of_program : Size → (List Line → Outcome) → Result (List Line) Fault → Outcome
+of_program z accepted (Err f) = refused (source_fault_line (At f.line f.cause))
+of_program z accepted (Ok lines) = unless_faulty (fault z lines) (accepted lines)
+
+-- the input is a source, and this is answered where it is accepted
+abbrev pub of_source : Size → (List Line → Outcome) → Answer
+of_source z accepted = of_input (exactly (λ input. of_program z accepted (program_of input)))
+
+-- what stands before the line of an ending: where the run obeyed the orders that the tape costs up to its entry, the entry
+-- and these orders
+abbrev pub entered_before : List Line → State → Text
+entered_before lines s = if nat_le (cost lines) s.orders then entered (entry_of lines) (cost lines) else []
+
+-- `run`: the run of the punched tape
+abbrev pub run_outcome : Settings → List Line → Outcome
+run_outcome s lines = let r = run_of s (tape lines) in ran_outcome (entered_before lines r.state) r
+
+-- `punch`: the text of the punched tape
+abbrev pub punch_outcome : List Line → Outcome
+punch_outcome lines = done (text_of (canonicals (punched lines)) ++ after_text (after lines))
+
+-- `listing`: the places of the linked program, with the words of the store at entry
+abbrev pub listing_outcome : List Line → Outcome
+listing_outcome lines = done (listing (entry_store lines) (map (λ p. p.place) (words_from 0 (table_of (linked lines)))))
