@@ -1,24 +1,20 @@
-//! Tests that cross crates: whole runs of the program, and each public call once on its happy path.
+//! Tests of the program: whole runs of `ed_top::edsac` on words and an input, and the devices that it uses.
 //!
 //! The contract of this crate is nothing: it has no public item and no code but its tests. Their expected values come
-//! from the description of the machine and from worked examples, never from the program's own output. Stands on all
+//! from the description of the machine and from worked examples, never from the program's own output. Stands on the
 //! crates of the program.
 #![tactic(auto)]
 
 #[cfg(test)]
-mod calls;
+mod check_tape;
 #[cfg(test)]
 mod devices;
 #[cfg(test)]
 mod faults;
 #[cfg(test)]
-mod loading;
+mod lines;
 #[cfg(test)]
-mod notation;
-#[cfg(test)]
-mod orders;
-#[cfg(test)]
-mod runs;
+mod sources;
 #[cfg(test)]
 mod support;
 #[cfg(test)]

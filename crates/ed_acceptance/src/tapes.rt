@@ -76,3 +76,16 @@ fn a_tape_that_is_cut_ends_the_run_where_it_is_read(rt: HostRuntime) -> Result<(
     }
     Ok(())
 }
+
+/// A tape of 36,097 rows: 900 words placed 20 times over, and then the tape that prints A. `T 64 K` costs 40 orders and
+/// each `P F` 23; the rest costs 9 less than alone.
+#[test]
+fn a_tape_of_many_thousand_rows(rt: HostRuntime) -> Result<(), Fail> {
+    let alloc = rt.alloc();
+    let block = format!(in alloc; "T64K{}", "PF".repeat(alloc, 900)?)?;
+    let tape = format!(in alloc; "{}T64KGKO2@ZFAFEZPF", block.as_str().repeat(alloc, 20)?)?;
+    let checked = (0, "entry 64 after 414991 orders, 36097 rows\n", "");
+    expect(&rt, alloc, "check-tape", tape.as_str(), checked)?;
+    let stopped = (0, "A", "stopped at 66 after 414993\n");
+    expect(&rt, alloc, "tape", tape.as_str(), stopped)
+}

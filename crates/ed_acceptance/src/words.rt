@@ -38,6 +38,11 @@ fn words_that_are_no_line_read_nothing(rt: HostRuntime) -> Result<(), Fail> {
         "tape --store 513",
         "check-tape --limit 5",
         "check-tape check-tape",
+        "library",
+        "run --post-mortem 144,1",
+        "punch --limit 5",
+        "listing x",
+        "call print 5",
     ] {
         let answer = answer_of(rt.alloc(), line, PRINTS_A.as_bytes())?;
         assert_eq!(rt; answer.status, 2, "{line}");
@@ -87,6 +92,20 @@ fn options_of_a_run(rt: HostRuntime) -> Result<(), Fail> {
             4,
             "",
             "limit at 64 after 1000\n",
+        ),
+        (
+            "--store 512 --limit 1000 tape --resume 0",
+            PRINTS_BY_SIZE,
+            0,
+            "A",
+            "stopped at 66 after 211\n",
+        ),
+        (
+            "--resume=1 --store=512 tape --limit=161",
+            STOPS_TWICE,
+            0,
+            "",
+            "stopped at 66 after 161\n",
         ),
         ("tape", PRINTS_BY_SIZE, 0, "P", "stopped at 66 after 211\n"),
         (

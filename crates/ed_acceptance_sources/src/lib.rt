@@ -1,10 +1,16 @@
-//! Tests of a source: the forms of its lines, the places of its lines and names, and its first fault.
+//! Tests of a source and of the library: the forms of its lines, the places of its lines and names, its first fault, the
+//! routines that it may use, and what it is linked to.
 //!
 //! The contract of this crate is nothing: it has no public item and no code but its tests. Their expected values come
-//! from the grammar and the rules of places. Stands on `ed_syntax` and `ed_symbols`.
+//! from the grammar, the rules of places and the written texts of the routines. Stands on `ed_codes`, `ed_notation`,
+//! `ed_syntax`, `ed_library`, `ed_symbols` and `ed_link`.
 #![tactic(auto)]
 
 #[cfg(test)]
+mod linking;
+#[cfg(test)]
 mod places;
+#[cfg(test)]
+mod routines;
 #[cfg(test)]
 mod sources;

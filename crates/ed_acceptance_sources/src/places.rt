@@ -2,6 +2,7 @@
 
 use ed_symbols::resolve;
 use ed_syntax::{Name, SourceCause, SourceFault, parse};
+use std::test::Fail;
 
 /// The program of seven lines that prints A.
 const FIRST: &[u8] = b"segment main\nO mark F\nO letter F\nZ F\nmark: * F\nletter: A F\nenter main";
@@ -46,6 +47,27 @@ fn place_on(rt: &HostRuntime, text: &[u8], line: u32, name: &str) -> Option<u32>
         return None;
     }
     places.label_at(line, &Name::new(name)?)
+}
+
+/// The segment to which a line of a source belongs, by its number.
+fn segment_of(rt: &HostRuntime, text: &[u8], line: u32) -> Option<u32> {
+    let program = parse(rt.alloc(), text).ok()?;
+    let places = resolve(rt.alloc(), &program).ok()?;
+    if line == 0 || line as usize > program.lines.len() {
+        return None;
+    }
+    places.line_segment(line)
+}
+
+/// The segment to which a name belongs that a line of a source sees, by its number.
+fn segment_on(rt: &HostRuntime, text: &[u8], line: u32, name: &str) -> Option<Option<u32>> {
+    let program = parse(rt.alloc(), text).ok()?;
+    let places = resolve(rt.alloc(), &program).ok()?;
+    if line == 0 || line as usize > program.lines.len() {
+        return None;
+    }
+    let home = places.home_at(line, &Name::new(name)?)?;
+    Some(home.segment)
 }
 
 #[test]
@@ -165,4 +187,63 @@ fn where_local_names_stand(rt: HostRuntime) {
     for (line, name, place) in cases {
         assert_eq!(rt; place_on(&rt, ODD, line, name), place, "{line} {name}");
     }
+}
+
+#[test]
+fn the_segments_of_lines(rt: HostRuntime) {
+    let segments = [
+        None,
+        Some(1),
+        Some(1),
+        None,
+        Some(3),
+        Some(3),
+        Some(3),
+        Some(3),
+        None,
+    ];
+    for (index, segment) in segments.iter().enumerate() {
+        let line = index as u32 + 1;
+        assert_eq!(rt; segment_of(&rt, ODD, line), *segment, "{line}");
+    }
+}
+
+#[test]
+fn the_segments_of_names(rt: HostRuntime) {
+    let cases = [
+        (1, "m", Some(Some(1))),
+        (2, "m", Some(Some(1))),
+        (1, "n", Some(None)),
+        (1, "s", Some(Some(3))),
+        (3, "q", Some(Some(3))),
+        (1, "_x", None),
+        (2, "_x", Some(Some(1))),
+        (8, "_x", Some(Some(3))),
+        (4, "_x", None),
+        (8, "other", None),
+    ];
+    for (line, name, segment) in cases {
+        assert_eq!(rt; segment_on(&rt, ODD, line, name), segment, "{line} {name}");
+    }
+}
+
+#[test]
+fn what_a_source_defines(rt: HostRuntime) -> Result<(), Fail> {
+    let wanted = [
+        ("m", 56, Some(1)),
+        ("_x", 56, Some(1)),
+        ("n", 58, None),
+        ("s", 65, Some(3)),
+        ("_x", 66, Some(3)),
+        ("q", 68, Some(3)),
+        ("r", 71, Some(3)),
+    ];
+    let program = parse(rt.alloc(), ODD).expect(&rt, "a program");
+    let places = resolve(rt.alloc(), &program).expect(&rt, "places");
+    assert_eq!(rt; places.homes().len(), wanted.len());
+    for (home, (name, place, segment)) in places.homes().iter().zip(wanted) {
+        assert_eq!(rt; home.name.text(), name);
+        assert_eq!(rt; (home.place, home.segment), (place, segment), "{name}");
+    }
+    Ok(())
 }

@@ -1,6 +1,6 @@
 //! A run of the machine on a tape, by the calls of the crates below.
 
-use crate::orders::word_at;
+use crate::support::word_at;
 use ed_codes::{Code, tape_of_text};
 use ed_initial::orders;
 use ed_machine::{Ending, Machine, Paper};

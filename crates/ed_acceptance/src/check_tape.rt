@@ -1,10 +1,7 @@
-//! What `check-tape` and the checker say of a tape.
+//! What `check-tape` says of a tape.
 
 use crate::support::answer_of;
-use ed_codes::{Code, byte_of, tape_of_text};
-use ed_notation::{Checked, TapeCause, TapeFault, check, check_from};
-use ed_store::Store;
-use ed_words::{Size, Word};
+use ed_codes::{Code, byte_of};
 use std::alloc::Global;
 use std::process::Abort;
 use std::test::Fail;
@@ -173,107 +170,6 @@ fn every_code_behind_a_function_row(rt: HostRuntime) -> Result<(), Fail> {
             let row = byte_of(Code::new(number).ok_or("no code")?, false);
             let verdict = verdict_of_two(function, row);
             says(&rt, rt.alloc(), "check-tape", &[function, row], verdict)?;
-        }
-    }
-    Ok(())
-}
-
-/// The number of the word that a tape placed at an address.
-fn placed(rt: &impl Abort, checked: &Checked, address: u16) -> Option<u32> {
-    assert!(rt; address < 1024);
-    Some(checked.word(address)?.value())
-}
-
-#[test]
-fn the_checker_tells_the_words_that_a_tape_places(rt: HostRuntime) -> Result<(), Fail> {
-    let alloc = rt.alloc();
-    for (tape, theta, places) in [
-        ("T64KP32767DE64KPF", 0, [(64, Some(65535)), (65, None)]),
-        ("T64KGKA2#@EZPF", 128, [(64, Some(114_821)), (63, None)]),
-        (
-            "T45KP100FT64KA1HE64KPF",
-            0,
-            [(45, Some(200)), (64, Some(114_890))],
-        ),
-    ] {
-        let rows = tape_of_text(alloc, tape.as_bytes())?;
-        assert!(rt; rows.len() <= 100);
-        let checked = check(alloc, Size::Full, &Store::cleared(alloc)?, &rows)?;
-        assert_eq!(rt; checked.theta().value(), theta, "{tape}");
-        for (address, word) in places {
-            assert!(rt;
-                placed(&rt, &checked, address) == word,
-                "{address} of {tape}"
-            );
-        }
-    }
-    Ok(())
-}
-
-#[test]
-fn the_checker_begins_with_the_word_at_42(rt: HostRuntime) -> Result<(), Fail> {
-    let alloc = rt.alloc();
-    let mut store = Store::cleared(alloc)?;
-    store.put_short(42, Word::new(5).ok_or("no word")?);
-    for (tape, theta, word, orders, rows_read) in [
-        ("T64KA@E64KPF", 5, 114_693, 131, 12),
-        (".ZT64KA@E64KPF", 86_109, 69_725, 154, 14),
-    ] {
-        let rows = tape_of_text(alloc, tape.as_bytes())?;
-        assert!(rt; rows.len() <= 100);
-        let checked = check(alloc, Size::Full, &store, &rows)?;
-        assert_eq!(rt; checked.entry(), 64, "{tape}");
-        assert_eq!(rt; checked.orders(), orders, "{tape}");
-        assert_eq!(rt; checked.rows(), rows_read, "{tape}");
-        assert_eq!(rt; checked.theta().value(), theta, "{tape}");
-        assert!(rt; placed(&rt, &checked, 64) == Some(word), "{tape}");
-    }
-    let rows = tape_of_text(alloc, b"T59Z")?;
-    assert!(rt; rows.len() <= 100);
-    match check(alloc, Size::Full, &store, &rows) {
-        Ok(_) => assert!(rt; false, "an odd directive is taken"),
-        Err(fault) => assert_eq!(rt;
-            fault,
-            TapeFault::At {
-                row: 3,
-                cause: TapeCause::StoreEnd
-            }
-        ),
-    }
-    Ok(())
-}
-
-#[test]
-fn the_rest_of_a_tape_goes_by_the_directive_that_is_left(rt: HostRuntime) -> Result<(), Fail> {
-    let alloc = rt.alloc();
-    let store = Store::cleared(alloc)?;
-    for (directive, tape, address, word, orders) in [
-        (20_680, "PFE64KPF", 100, 0, 84),
-        (22_526, "P5FE64KPF", 1023, 10, 93),
-    ] {
-        let rows = tape_of_text(alloc, tape.as_bytes())?;
-        assert!(rt; rows.len() <= 100);
-        let directive = Word::new(directive).ok_or("no word")?;
-        let number = directive.value();
-        assert!(rt; number % 2 == 0 && 20_480 <= number && number <= 22_526);
-        let checked = check_from(alloc, Size::Full, &store, directive, &rows)?;
-        assert_eq!(rt; checked.entry(), 64, "{tape}");
-        assert_eq!(rt; checked.orders(), orders, "{tape}");
-        assert_eq!(rt; checked.rows(), rows.len(), "{tape}");
-        assert!(rt; placed(&rt, &checked, address) == Some(word), "{tape}");
-    }
-    for (directive, tape, row, cause) in [
-        (20_480, "PF", 1, TapeCause::LoaderStore),
-        (22_526, "P5FPF", 4, TapeCause::StoreEnd),
-    ] {
-        let rows = tape_of_text(alloc, tape.as_bytes())?;
-        assert!(rt; rows.len() <= 100);
-        let directive = Word::new(directive).ok_or("no word")?;
-        let number = directive.value();
-        assert!(rt; number % 2 == 0 && 20_480 <= number && number <= 22_526);
-        match check_from(alloc, Size::Full, &store, directive, &rows) {
-            Ok(_) => assert!(rt; false, "{tape} is taken"),
-            Err(fault) => assert_eq!(rt; fault, TapeFault::At { row, cause }, "{tape}"),
         }
     }
     Ok(())

@@ -1,0 +1,128 @@
+//! Each of the 131,072 words as an order.
+
+use crate::numbers::word;
+use crate::support::{image_of, machine_with, next_turn, obey};
+use ed_codes::{Code, byte_of, tape_of_text};
+use ed_machine::{Machine, Turn};
+use ed_words::{Size, Word};
+use std::alloc::Global;
+use std::process::Abort;
+use std::test::Fail;
+
+/// Orders that leave something in the store, in a sandwich digit and in each register, and print.
+const USE: &str = "T100D H30F A31F R0D T101D A30F O31F";
+
+/// The words at 30 to 33 for these orders.
+const DATA: [u32; 4] = [74_565, 43_981, 0, 0];
+
+/// A machine that has obeyed these orders.
+fn used_machine(rt: &impl Abort, alloc: Global, size: Size) -> Result<Machine, Fail> {
+    let mut machine = machine_with(rt, alloc, size, USE, DATA)?;
+    obey(rt, &mut machine, USE);
+    assert!(rt; machine.sandwich(100) && machine.acc() != 0 && machine.multiplier().value() != 0);
+    assert!(rt; machine.last_printed().is_some() && machine.orders_done() == 7);
+    Ok(machine)
+}
+
+/// Whether two machines are equal by all that can be read of them.
+fn are_equal(one: &Machine, other: &Machine) -> bool {
+    one.size() == other.size()
+        && one.store().equals(other.store())
+        && one.acc() == other.acc()
+        && one.multiplier() == other.multiplier()
+        && one.counter() == other.counter()
+        && one.orders_done() == other.orders_done()
+        && one.last_printed() == other.last_printed()
+        && one.rows_left() == other.rows_left()
+}
+
+/// The letter or sign of a word's function.
+fn letter_of(word: Word) -> Result<u8, Fail> {
+    Ok(byte_of(Code::new(word.order().function).ok_or("no code")?, false))
+}
+
+/// What a word that changes nothing answers, with no row left on the tape: none for an order that is obeyed.
+fn blocked(order: Word) -> Result<Option<Turn>, Fail> {
+    let turn = match letter_of(order)? {
+        b'I' => Turn::NoTape,
+        letter if b"PQWJ#K*.@D!M&B".contains(&letter) => Turn::NoOrder(order.order().function),
+        _ => return Ok(None),
+    };
+    Ok(Some(turn))
+}
+
+/// The first word that is no order, or a read with no row left, and yet answers otherwise or changes the machine.
+fn first_that_is_obeyed(rt: &impl Abort, alloc: Global, size: Size) -> Result<Option<u32>, Fail> {
+    let mut machine = used_machine(rt, alloc, size)?;
+    let mut before = machine.copy()?;
+    for number in 0..131_072 {
+        let order = word(number)?;
+        if let Some(wanted) = blocked(order)? {
+            let _no_rows = machine.start(&[order], Vec::new(alloc));
+            let _no_rows = before.start(&[order], Vec::new(alloc));
+            if next_turn(rt, &mut machine) != wanted || !are_equal(&machine, &before) {
+                return Ok(Some(number));
+            }
+        }
+    }
+    Ok(None)
+}
+
+#[test]
+fn every_word_that_is_no_order_and_every_read_without_a_row_changes_nothing(
+    rt: HostRuntime,
+) -> Result<(), Fail> {
+    for size in [Size::Small, Size::Full] {
+        let found = first_that_is_obeyed(&rt, rt.alloc(), size)?;
+        assert!(rt; found.is_none(), "{found:?} at {size:?}");
+    }
+    Ok(())
+}
+
+/// Whether the turn of an order is one that its letter may have, and the row that it left is as it should be.
+fn is_turn_of(letter: u8, turn: Turn, rows_left: usize) -> bool {
+    let letters = match turn {
+        Turn::Went => b"ASHVNTUCRLEGIFXY".as_slice(),
+        Turn::Printed(_) => b"O".as_slice(),
+        Turn::Stopped => b"Z".as_slice(),
+        Turn::NoOrder(_) | Turn::NoTape => b"".as_slice(),
+    };
+    letters.contains(&letter) && (rows_left == 0) == (letter == b'I')
+}
+
+/// The first word that is an order and yet is not obeyed as one, with one row left on the tape.
+fn first_that_is_not_obeyed(
+    rt: &impl Abort,
+    alloc: Global,
+    size: Size,
+) -> Result<Option<u32>, Fail> {
+    let row = tape_of_text(alloc, b"A")?;
+    let image = image_of(alloc, USE, DATA)?;
+    assert!(rt; image.len() <= 41);
+    let mut machine = used_machine(rt, alloc, size)?;
+    for number in 0..131_072 {
+        let order = word(number)?;
+        let letter = letter_of(order)?;
+        if b"ASHVNTUCRLEGIOFXYZ".contains(&letter) {
+            let _old_rows = machine.start(&image, Vec::new(alloc));
+            obey(rt, &mut machine, USE);
+            let _no_rows = machine.start(&[order], row.as_slice().to_vec(alloc)?);
+            let orders = machine.orders_done();
+            let turn = next_turn(rt, &mut machine);
+            let counted = machine.orders_done() == orders.wrapping_add(1);
+            if !counted || !is_turn_of(letter, turn, machine.rows_left().len()) {
+                return Ok(Some(number));
+            }
+        }
+    }
+    Ok(None)
+}
+
+#[test]
+fn every_order_is_obeyed(rt: HostRuntime) -> Result<(), Fail> {
+    for size in [Size::Small, Size::Full] {
+        let found = first_that_is_not_obeyed(&rt, rt.alloc(), size)?;
+        assert!(rt; found.is_none(), "{found:?} at {size:?}");
+    }
+    Ok(())
+}

@@ -1,0 +1,21 @@
+//! Tests of the machine and its parts: each public call once on its happy path, and single orders on worked values.
+//!
+//! The contract of this crate is nothing: it has no public item and no code but its tests. Their expected values come
+//! from the description of the machine and from worked examples, never from the program's own output. Stands on the
+//! crates up to the machine, its runs and the printed paper.
+#![tactic(auto)]
+
+#[cfg(test)]
+mod endings;
+#[cfg(test)]
+mod every_word;
+#[cfg(test)]
+mod numbers;
+#[cfg(test)]
+mod orders;
+#[cfg(test)]
+mod parts;
+#[cfg(test)]
+mod printing;
+#[cfg(test)]
+mod support;

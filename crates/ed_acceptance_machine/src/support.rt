@@ -1,0 +1,81 @@
+//! What the tests share: machines with a few orders and words in their store.
+
+use crate::numbers::word;
+use ed_codes::row_of_byte;
+use ed_machine::{Machine, Turn};
+use ed_words::{Order, Size, Word};
+use std::alloc::Global;
+use std::process::Abort;
+use std::test::Fail;
+
+/// The word of an order that is written as its letter, its number in decimal, and F or D. A number from 1024 on has the
+/// spare digit, as in the text of an order.
+fn word_of_order(text: &str) -> Option<Word> {
+    let [letter, digits @ .., length] = text.as_bytes() else {
+        return None;
+    };
+    let mut number: u16 = 0;
+    for digit in digits {
+        let value = digit.checked_sub(b'0')?;
+        number = number.checked_mul(10)?.checked_add(u16::from(value))?;
+    }
+    Some(Word::of_order(Order {
+        function: row_of_byte(*letter)?.value(),
+        spare: number / 1024 % 2 == 1,
+        address: number % 1024,
+        length: *length == b'D',
+    }))
+}
+
+/// The image of orders from location 0 upwards, and of four words at 30 to 33.
+pub fn image_of(alloc: Global, orders: &str, data: [u32; 4]) -> Result<Vec<Word>, Fail> {
+    let mut image = Vec::new(alloc);
+    for order in orders.split_whitespace() {
+        image.push(word_of_order(order).ok_or("no order")?)?;
+    }
+    image.resize(30, word(0)?)?;
+    for number in data {
+        image.push(word(number)?)?;
+    }
+    Ok(image)
+}
+
+/// A cleared machine with these orders at the head of its store and these four words at 30 to 33.
+pub fn machine_with(
+    rt: &impl Abort,
+    alloc: Global,
+    size: Size,
+    orders: &str,
+    data: [u32; 4],
+) -> Result<Machine, Fail> {
+    let mut machine = Machine::cleared_of(alloc, size)?;
+    let image = image_of(alloc, orders, data)?;
+    assert!(rt; image.len() <= 41);
+    let _no_rows = machine.start(&image, Vec::new(alloc));
+    Ok(machine)
+}
+
+/// What the next order does.
+pub fn next_turn(rt: &impl Abort, machine: &mut Machine) -> Turn {
+    assert!(rt; machine.orders_done() < 1 << 63);
+    machine.step()
+}
+
+/// The number of the word at a location.
+pub fn word_at(rt: &impl Abort, machine: &Machine, address: u16) -> u32 {
+    assert!(rt; address < 1024);
+    machine.word(address).value()
+}
+
+/// Obeys the next orders, so many as are written.
+pub fn obey(rt: &impl Abort, machine: &mut Machine, orders: &str) {
+    for order in orders.split_whitespace() {
+        match next_turn(rt, machine) {
+            Turn::Went | Turn::Printed(_) => {}
+            Turn::Stopped | Turn::NoOrder(_) | Turn::NoTape => assert!(rt;
+                false,
+                "{order} of {orders}"
+            ),
+        }
+    }
+}

@@ -1,0 +1,130 @@
+//! What the tests share: a machine in which a routine stands and is called.
+ghost use Rattle.std.specs.Prelude.{◌≡◌, ◌<◌, ◌≤◌, IsTrue};
+ghost use Rattle.ed_library.specs.Entries.{how_many};
+ghost use Rattle.ed_routines.specs.Catalogue.{with_h};
+ghost use Rattle.ed_routines.specs.Standing.{Stands};
+
+use ed_codes::tape_of_text;
+use ed_initial::{Loaded, begin, is_started, load};
+use ed_library::{Parameters, Routine, routine};
+use ed_machine::Machine;
+use ed_notation::{spellable, text_of_items};
+use ed_routines::stands;
+use ed_words::{Size, Word};
+use std::alloc::Global;
+use std::process::Abort;
+use std::test::Fail;
+
+/// Where a routine and its caller stand, and the location that the routine is given.
+#[derive(Clone, Copy)]
+pub struct Places {
+    pub size: Size,
+    pub base: u16,
+    pub caller: u16,
+    /// The location behind the call.
+    pub back: u16,
+    pub h: u16,
+}
+
+/// Even and odd bases, on both sizes.
+pub const PLACES: [Places; 3] = [
+    Places {
+        size: Size::Full,
+        base: 56,
+        caller: 200,
+        back: 202,
+        h: 300,
+    },
+    Places {
+        size: Size::Small,
+        base: 461,
+        caller: 60,
+        back: 62,
+        h: 460,
+    },
+    Places {
+        size: Size::Full,
+        base: 901,
+        caller: 1021,
+        back: 1023,
+        h: 44,
+    },
+];
+
+/// The parameters with H = 2h.
+fn with_h(h: u16) -> Parameters
+    ensures { result ≡ with_h h }
+{
+    let zero = Word::of_number(0);
+    [
+        Word::of_number(2 * u32::from(h)),
+        zero,
+        zero,
+        zero,
+        zero,
+        zero,
+    ]
+}
+
+/// Whether the routine with an index stands at a base with H = 2h, and is called. No routine stands above 1000 here.
+pub fn stands_at(machine: &Machine, index: u16, base: u16, h: u16) -> bool
+    requires { index < how_many }
+    ensures { IsTrue result → Stands index (with_h h) base machine.now }
+{
+    let routine = routine(index);
+    if base < 56 || base > 1000 {
+        return false;
+    }
+    if base + routine.length() > machine.size().value() {
+        return false;
+    }
+    stands(machine, &routine, base, &with_h(h))
+}
+
+/// The text of a routine's items.
+fn text_of(rt: &impl Abort, alloc: Global, routine: Routine) -> Result<String, Fail> {
+    let mut text = String::new(alloc);
+    for place in 0..routine.length() {
+        let item = routine.item(place);
+        assert!(rt; spellable(&item));
+        for byte in text_of_items(alloc, &[item])? {
+            text.push(char::from(byte))?;
+        }
+    }
+    Ok(text)
+}
+
+/// A machine in which the routine stands and has just been called, with a number at h, and rows left on the tape.
+pub fn called(
+    rt: &impl Abort,
+    alloc: Global,
+    routine: Routine,
+    places: &Places,
+    number: u32,
+    rows: &str,
+) -> Result<Machine, Fail> {
+    let Places {
+        size,
+        base,
+        caller,
+        h,
+        ..
+    } = *places;
+    let items = text_of(rt, alloc, routine)?;
+    let half = number / 2;
+    let odd = if number % 2 == 1 { "D" } else { "F" };
+    let tape = format!(in alloc;
+        "T45KP{h}FT{base}KGK{items}T{h}KP{half}{odd}T{caller}KA{caller}FG{base}FE{caller}KPF{rows}"
+    )?;
+    let mut machine = Machine::cleared_of(alloc, size)?;
+    begin(&mut machine, tape_of_text(alloc, tape.as_bytes())?);
+    assert!(rt; is_started(&machine));
+    assert!(rt; machine.orders_done() < 1 << 20 && machine.rows_left().len() < 1 << 20);
+    assert!(rt; matches!(load(&mut machine), Loaded::Entered { .. }));
+    for _ in 0..2 {
+        assert!(rt; machine.orders_done() < 1 << 40);
+        machine.step();
+    }
+    assert!(rt; machine.counter() == base);
+    Ok(machine)
+}

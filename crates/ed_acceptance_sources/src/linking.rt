@@ -1,0 +1,179 @@
+//! Linking: the punched tape and the words of a source, where it begins, and the first fault of meaning.
+
+use ed_codes::tape_of_text;
+use ed_link::{Linked, link};
+use ed_syntax::{SourceCause, SourceFault, parse};
+use ed_words::Size;
+use std::test::Fail;
+
+/// The program of seven lines that prints A.
+const FIRST: &[u8] = b"segment main\nO mark F\nO letter F\nZ F\nmark: * F\nletter: A F\nenter main";
+
+/// Two segments with local names, operands of two names, a long word at an odd place, a routine and data.
+const SECOND: &[u8] =
+    b"version 2\nsegment m\na: A _l F\n_l: A _l D\nP _l-a F\nv: long 17179869185\nsegment t\n_l: A _l F\nS v D\n\
+    use newline as n\nG n F\nenter t\ndata \"4F2\"";
+
+/// The same without the order behind the routine, which stands outside a segment.
+const THIRD: &[u8] =
+    b"version 2\nsegment m\na: A _l F\n_l: A _l D\nP _l-a F\nv: long 17179869185\nsegment t\n_l: A _l F\nS v D\n\
+    use newline as n\nenter t\ndata \"4F2\"";
+
+/// A source, linked for a machine of a size.
+fn linked(rt: &HostRuntime, size: Size, text: &[u8]) -> Option<Linked> {
+    let program = parse(rt.alloc(), text).ok()?;
+    link(rt.alloc(), size, &program).ok()
+}
+
+/// The first fault of meaning of a source, with its line; line 0 where it has none.
+fn fault_of(rt: &HostRuntime, size: Size, text: &[u8]) -> Option<(u32, Option<SourceCause>)> {
+    let program = parse(rt.alloc(), text).ok()?;
+    match link(rt.alloc(), size, &program) {
+        Ok(_) => Some((0, None)),
+        Err(SourceFault::At { line, cause }) => Some((line, Some(cause))),
+        Err(SourceFault::Memory) => None,
+    }
+}
+
+#[test]
+fn what_is_punched(rt: HostRuntime) -> Result<(), Fail> {
+    let cases: [(&[u8], &str); 4] = [
+        (FIRST, "T56K\nGK\nO3@\nO4@\nZF\n*F\nAF\nE56K\nPF\n"),
+        (
+            THIRD,
+            "T56K\nGK\nA1@\nA1#@\nP1F\nPF\nPD\n.F\nT62K\nGK\nA@\nS60D\nT64K\nGK\nA3F\nT4@\nO5@\nO6@\nPF\n@F\n&F\nE62K\nPF\n4F2\n",
+        ),
+        (
+            b"segment m at 100\ntext \"AB\"\nword -1\nsegment n\nA m F\nA n+1 D\nA m+2 D\nA n-1 F\nenter n",
+            "T100K\nGK\nAF\nBF\nV2047D\nT103K\nGK\nA100F\nA1#@\nA102D\nA102F\nE103K\nPF\n",
+        ),
+        (
+            b"segment m\nsegment n at 512\nZ F\nenter n",
+            "T512K\nGK\nZF\nE512K\nPF\n",
+        ),
+    ];
+    for (text, punched) in cases {
+        let linked = linked(&rt, Size::Full, text).expect(&rt, punched);
+        let tape = linked.text()?;
+        assert_eq!(rt; tape.as_slice(), punched.as_bytes());
+        let spelled = tape_of_text(rt.alloc(), &tape).ok().expect(&rt, punched);
+        let rows = linked.rows()?;
+        assert_eq!(rt; spelled.as_slice(), rows.as_slice());
+    }
+    Ok(())
+}
+
+#[test]
+fn the_linked_program(rt: HostRuntime) {
+    let linked = linked(&rt, Size::Small, FIRST).expect(&rt, "linked");
+    let words = [
+        (56, 36982),
+        (57, 36984),
+        (58, 53248),
+        (59, 61440),
+        (60, 114688),
+    ];
+    assert_eq!(rt; linked.words.len(), words.len());
+    for (placed, (place, word)) in linked.words.iter().zip(words) {
+        assert_eq!(rt; placed.place, place);
+        assert_eq!(rt; placed.word.value(), word);
+    }
+    assert_eq!(rt; linked.entry, 56);
+    assert!(rt; linked.after.is_empty());
+    let labels = [("main", 56), ("mark", 59), ("letter", 60)];
+    assert_eq!(rt; linked.labels.len(), labels.len());
+    for (label, (name, place)) in linked.labels.iter().zip(labels) {
+        assert_eq!(rt; label.name.text(), name);
+        assert_eq!(rt; label.place, place);
+    }
+}
+
+#[test]
+fn the_fault_of_meaning(rt: HostRuntime) {
+    use SourceCause::{
+        AddressRange, Enter, LabelTwice, LabelUnknown, LoaderStore, NoSuchRoutine, OutsideSegment,
+        Overlap, ParameterStore, Parameters, SandwichDigit, StoreEnd,
+    };
+    let cases: [(&[u8], u32, Option<SourceCause>); 28] = [
+        (FIRST, 0, None),
+        (SECOND, 11, Some(OutsideSegment)),
+        (THIRD, 0, None),
+        (b"", 1, Some(Enter)),
+        (
+            b"segment m\nA nowhere F\nsegment s at 20\nZ F\nenter m",
+            2,
+            Some(LabelUnknown),
+        ),
+        (
+            b"segment m\nsegment s at 20\nZ F\nenter m",
+            3,
+            Some(LoaderStore),
+        ),
+        (b"segment m at 43\nm: Z F\nenter m", 2, Some(LabelTwice)),
+        (b"segment m\nA m+1000 F\nenter m", 2, Some(AddressRange)),
+        (b"Z F\nsegment m\nZ F\nenter m", 1, Some(OutsideSegment)),
+        (b"segment m at 43\nZ F\nenter m", 2, Some(LoaderStore)),
+        (b"segment m at 44\nZ F\nenter m", 2, Some(ParameterStore)),
+        (b"segment m at 55\nZ F\nenter m", 2, Some(ParameterStore)),
+        (b"segment m at 55\nenter m", 2, Some(ParameterStore)),
+        (b"segment m at 1023\nZ F\nenter m", 0, None),
+        (b"segment m at 1023\nZ F\nZ F\nenter m", 3, Some(StoreEnd)),
+        (
+            b"segment m at 60\nZ F\nsegment n at 58\ntext \"ABC\"\nenter m",
+            4,
+            Some(Overlap),
+        ),
+        (
+            b"segment m at 60\nZ F\nsegment n at 58\ntext \"AB\"\nenter m",
+            0,
+            None,
+        ),
+        (b"use newlin as n\nenter n", 1, Some(NoSuchRoutine)),
+        (b"use newline as n with H=1\nenter n", 1, Some(Parameters)),
+        (b"segment m\nZ F\nenter m\nenter m", 4, Some(Enter)),
+        (b"segment m\nZ F\nenter m\nZ F", 4, Some(Enter)),
+        (b"data \"A\"\nsegment m\nZ F\nenter m", 1, Some(Enter)),
+        (b"data \"A\"\nsegment m\nZ F\n", 4, Some(Enter)),
+        (b"segment m\nZ F\nenter m\n\ndata \"A\"", 0, None),
+        (b"segment m\nZ F\nenter m\na:", 4, Some(Enter)),
+        (
+            b"version 2\nsegment m\nlong 131072\nenter m",
+            3,
+            Some(SandwichDigit),
+        ),
+        (
+            b"version 2\nsegment m at 55\nlong 5\nenter m",
+            3,
+            Some(ParameterStore),
+        ),
+        (
+            b"version 2\nsegment m at 1023\nlong 5\nenter m",
+            3,
+            Some(StoreEnd),
+        ),
+    ];
+    for (text, line, cause) in cases {
+        assert_eq!(rt;
+            fault_of(&rt, Size::Full, text),
+            Some((line, cause)),
+            "{text:?}"
+        );
+    }
+}
+
+#[test]
+fn the_end_of_a_small_store(rt: HostRuntime) {
+    use SourceCause::StoreEnd;
+    let cases: [(&[u8], u32, Option<SourceCause>); 3] = [
+        (b"segment m at 511\nZ F\nenter m", 0, None),
+        (b"segment m at 512\nZ F\nenter m", 2, Some(StoreEnd)),
+        (b"segment m at 512\nenter m", 2, Some(StoreEnd)),
+    ];
+    for (text, line, cause) in cases {
+        assert_eq!(rt;
+            fault_of(&rt, Size::Small, text),
+            Some((line, cause)),
+            "{text:?}"
+        );
+    }
+}

@@ -1,0 +1,118 @@
+//! The routines of the library: their texts as they are punched, what is read of them, and their words in the store.
+
+use ed_library::{Routine, catalogue_size, find, image_word, routine};
+use ed_notation::{spellable, text_of_items};
+use ed_words::Word;
+use std::alloc::Global;
+use std::process::Abort;
+use std::test::Fail;
+
+/// What is written down of a routine.
+#[derive(Clone, Copy)]
+struct Sheet {
+    name: &'static str,
+    length: u16,
+    parameters: &'static [u8],
+    working: &'static [u16],
+    /// Its items, a line for each.
+    text: &'static str,
+}
+
+/// The routines in order of name.
+const SHEETS: [Sheet; 3] = [
+    Sheet {
+        name: "newline",
+        length: 7,
+        parameters: &[],
+        working: &[4],
+        text: "A3F\nT4@\nO5@\nO6@\nPF\n@F\n&F\n",
+    },
+    Sheet {
+        name: "print",
+        length: 51,
+        parameters: &[21],
+        working: &[11, 38, 47, 48, 49, 50],
+        text: "A3F\nT38@\nO39@\nAH\nT47@\nT48@\nA41@\nT11@\nT50@\nT49@\n\
+           A47@\nS43@\nG18@\nT47@\nA49@\nA40@\nT49@\nE10@\nT50@\nA49@\n\
+           A48@\nS40@\nG27@\nO49@\nT50@\nA40@\nT48@\nT50@\nA11@\nA2F\n\
+           U11@\nS42@\nG8@\nA47@\nL512F\nLD\nT49@\nO49@\nPF\n#F\n\
+           QF\nS43@\nS47@\nP5000F\nP500F\nP50F\nP5F\nPF\nPF\nPF\n\
+           PF\n",
+    },
+    Sheet {
+        name: "read",
+        length: 24,
+        parameters: &[21],
+        working: &[19, 21, 22, 23],
+        text: "A3F\nT19@\nT21@\nI22@\nA22@\nS20@\nE16@\nT23@\nA21@\nLD\n\
+           U23@\nL1F\nA23@\nA22@\nT21@\nE3@\nT23@\nA21@\nTH\nPF\n\
+           P5F\nPF\nPF\nPF\n",
+    },
+];
+
+/// The text of a routine's items, a line for each.
+fn text_of(rt: &impl Abort, alloc: Global, routine: Routine) -> Result<Vec<u8>, Fail> {
+    let mut text = Vec::new(alloc);
+    for place in 0..routine.length() {
+        let item = routine.item(place);
+        assert!(rt; spellable(&item));
+        for byte in text_of_items(alloc, &[item])? {
+            text.push(byte)?;
+        }
+    }
+    Ok(text)
+}
+
+#[test]
+fn texts_as_they_are_punched(rt: HostRuntime) -> Result<(), Fail> {
+    for sheet in &SHEETS {
+        let found = find(sheet.name).expect(&rt, sheet.name);
+        let text = text_of(&rt, rt.alloc(), found)?;
+        assert_eq!(rt; text.as_slice(), sheet.text.as_bytes(), "{}", sheet.name);
+    }
+    Ok(())
+}
+
+#[test]
+fn what_the_catalogue_says(rt: HostRuntime) {
+    assert_eq!(rt; usize::from(catalogue_size()), SHEETS.len());
+    assert!(rt; find("new").is_none());
+    for index in 0..catalogue_size() {
+        let routine = routine(index);
+        let sheet = &SHEETS[usize::from(index)];
+        assert_eq!(rt; routine.name(), sheet.name);
+        assert!(rt; find(sheet.name) == Some(routine));
+        assert_eq!(rt; routine.length(), sheet.length);
+        let parameters = routine.parameters();
+        assert!(rt;
+            parameters
+                .iter()
+                .map(|letter| letter.value())
+                .eq(sheet.parameters.iter().copied())
+        );
+        for place in 0..routine.length() {
+            assert_eq!(rt;
+                routine.is_working(place),
+                sheet.working.contains(&place),
+                "{place}"
+            );
+        }
+    }
+}
+
+#[test]
+fn words_at_a_base(rt: HostRuntime) -> Result<(), Fail> {
+    let newline = find("newline").expect(&rt, "newline");
+    let parameters = [Word::new(131_071).expect(&rt, "a word"); 6];
+    let wanted = [114_694, 20_616, 37_002, 37_004, 0, 73_728, 98_304];
+    assert_eq!(rt; usize::from(newline.length()), wanted.len());
+    for place in 0..newline.length() {
+        let word = image_word(&newline, place, 64, &parameters).value();
+        assert_eq!(rt;
+            wanted.get(usize::from(place)).copied(),
+            Some(word),
+            "{place}"
+        );
+    }
+    Ok(())
+}

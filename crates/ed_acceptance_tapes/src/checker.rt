@@ -1,0 +1,122 @@
+//! What the checker says of a tape.
+
+ghost use Rattle.std.specs.Prelude.{◌≡◌, ◌≤◌, ◌%◌, IfOk};
+
+use crate::support::rows_of;
+use ed_notation::{Checked, TapeCause, TapeFault, check, check_from};
+use ed_store::Store;
+use ed_words::{Size, Word};
+use std::alloc::Global;
+use std::process::Abort;
+use std::test::Fail;
+
+/// The number of the word that a tape placed at an address.
+fn placed(rt: &impl Abort, checked: &Checked, address: u16) -> Option<u32> {
+    assert!(rt; address < 1024);
+    Some(checked.word(address)?.value())
+}
+
+/// A directive that aims at a place of the store.
+fn directive(rt: &impl Abort, number: u32) -> Result<Word, Fail>
+    ensures { IfOk result (λ w. (w % 2 ≡ 0) × (20480 ≤ w) × (w ≤ 22526)) }
+{
+    let directive = Word::new(number).ok_or("no word")?;
+    let number = directive.value();
+    assert!(rt; number % 2 == 0 && 20_480 <= number && number <= 22_526);
+    Ok(directive)
+}
+
+#[test]
+fn the_checker_tells_the_words_that_a_tape_places(rt: HostRuntime) -> Result<(), Fail> {
+    let alloc = rt.alloc();
+    for (tape, theta, address, word) in [
+        ("T64KP32767DE64KPF", 0, 64, Some(65535)),
+        ("T64KP32767DE64KPF", 0, 65, None),
+        ("T64KGKA2#@EZPF", 128, 64, Some(114_821)),
+        ("T64KGKA2#@EZPF", 128, 63, None),
+        ("T45KP100FT64KA1HE64KPF", 0, 45, Some(200)),
+        ("T45KP100FT64KA1HE64KPF", 0, 64, Some(114_890)),
+    ] {
+        let rows = rows_of(&rt, alloc, tape)?;
+        let checked = check(alloc, Size::Full, &Store::cleared(alloc)?, &rows)?;
+        assert_eq!(rt; checked.theta().value(), theta, "{tape}");
+        assert!(rt;
+            placed(&rt, &checked, address) == word,
+            "{address} of {tape}"
+        );
+    }
+    Ok(())
+}
+
+/// A store with 5 at the location of θ.
+fn store_with_theta(alloc: Global) -> Result<Store, Fail> {
+    let mut store = Store::cleared(alloc)?;
+    store.put_short(42, Word::new(5).ok_or("no word")?);
+    Ok(store)
+}
+
+#[test]
+fn the_checker_begins_with_the_word_at_42(rt: HostRuntime) -> Result<(), Fail> {
+    let alloc = rt.alloc();
+    let store = store_with_theta(alloc)?;
+    for (tape, theta, word, orders, rows_read) in [
+        ("T64KA@E64KPF", 5, 114_693, 131, 12),
+        (".ZT64KA@E64KPF", 86_109, 69_725, 154, 14),
+    ] {
+        let rows = rows_of(&rt, alloc, tape)?;
+        let checked = check(alloc, Size::Full, &store, &rows)?;
+        let told = (
+            checked.entry(),
+            checked.orders(),
+            checked.rows(),
+            checked.theta().value(),
+        );
+        assert!(rt; told == (64, orders, rows_read, theta), "{tape}");
+        assert!(rt; placed(&rt, &checked, 64) == Some(word), "{tape}");
+    }
+    Ok(())
+}
+
+#[test]
+fn an_odd_directive_is_refused(rt: HostRuntime) -> Result<(), Fail> {
+    let alloc = rt.alloc();
+    let rows = rows_of(&rt, alloc, "T59Z")?;
+    let fault = check(alloc, Size::Full, &store_with_theta(alloc)?, &rows).err();
+    let (row, cause) = (3, TapeCause::StoreEnd);
+    assert!(rt; fault == Some(TapeFault::At { row, cause }));
+    Ok(())
+}
+
+#[test]
+fn the_rest_of_a_tape_goes_by_the_directive_that_is_left(rt: HostRuntime) -> Result<(), Fail> {
+    let alloc = rt.alloc();
+    let store = Store::cleared(alloc)?;
+    for (number, tape, address, word, orders) in [
+        (20_680, "PFE64KPF", 100, 0, 84),
+        (22_526, "P5FE64KPF", 1023, 10, 93),
+    ] {
+        let rows = rows_of(&rt, alloc, tape)?;
+        let checked = check_from(alloc, Size::Full, &store, directive(&rt, number)?, &rows)?;
+        let told = (checked.entry(), checked.orders(), checked.rows());
+        assert!(rt; told == (64, orders, rows.len()), "{tape}");
+        assert!(rt; placed(&rt, &checked, address) == Some(word), "{tape}");
+    }
+    Ok(())
+}
+
+#[test]
+fn the_rest_of_a_tape_is_refused_by_the_directive_that_is_left(
+    rt: HostRuntime,
+) -> Result<(), Fail> {
+    let alloc = rt.alloc();
+    let store = Store::cleared(alloc)?;
+    for (number, tape, row, cause) in [
+        (20_480, "PF", 1, TapeCause::LoaderStore),
+        (22_526, "P5FPF", 4, TapeCause::StoreEnd),
+    ] {
+        let rows = rows_of(&rt, alloc, tape)?;
+        let fault = check_from(alloc, Size::Full, &store, directive(&rt, number)?, &rows).err();
+        assert!(rt; fault == Some(TapeFault::At { row, cause }), "{tape}");
+    }
+    Ok(())
+}

@@ -1,0 +1,73 @@
+//! The store at the entry of a tape, beside what the checker tells of it.
+
+use crate::support::{LETTER, loaded, rows_of, start_on, started, stops};
+use ed_initial::Loaded;
+use ed_machine::Machine;
+use ed_notation::{Checked, check};
+use ed_words::Size;
+use std::alloc::Global;
+use std::process::Abort;
+use std::test::Fail;
+
+/// A program that leaves a sandwich digit between 100 and 101, and words of its own.
+const BEFORE: &str = "T64KGKA4#@RDT100DZFPFPDEZPF";
+
+/// A machine on which another program was run before.
+fn used_machine(rt: &impl Abort, alloc: Global, size: Size) -> Result<Machine, Fail> {
+    let mut machine = started(alloc, size, BEFORE)?;
+    let (at, orders) = (64, 302);
+    assert!(rt; loaded(rt, &mut machine) == Loaded::Entered { at, orders });
+    for stop in [false, false, false, true] {
+        assert!(rt; stops(rt, &mut machine) == stop);
+    }
+    assert!(rt; machine.sandwich(100));
+    Ok(machine)
+}
+
+/// The first location from 44 on that holds neither what the tape placed there nor, where it placed nothing, what stood
+/// there before, or whose sandwich digit is another one.
+fn first_difference(machine: &Machine, before: &Machine, checked: &Checked) -> Option<u16> {
+    for place in 44..1024 {
+        let wanted = checked.word(place).unwrap_or(before.word(place));
+        if machine.word(place) != wanted || machine.sandwich(place) != before.sandwich(place) {
+            return Some(place);
+        }
+    }
+    None
+}
+
+/// Loads a tape on a used machine, and compares with what the checker tells.
+fn is_as_checked(rt: &impl Abort, alloc: Global, size: Size, tape: &str) -> Result<(), Fail> {
+    let mut machine = used_machine(rt, alloc, size)?;
+    let before = machine.copy()?;
+    let rows = rows_of(rt, alloc, tape)?;
+    let checked = check(alloc, size, before.store(), &rows)?;
+    start_on(alloc, &mut machine, tape)?;
+    let (at, orders) = (checked.entry(), checked.orders());
+    assert!(rt;
+        loaded(rt, &mut machine) == Loaded::Entered { at, orders },
+        "{tape}"
+    );
+    let differs = first_difference(&machine, &before, &checked);
+    assert!(rt; differs.is_none(), "{differs:?} of {tape}");
+    assert!(rt; machine.word(42) == checked.theta(), "{tape}");
+    let read = rows.len().checked_sub(machine.rows_left().len());
+    assert!(rt; read == Some(checked.rows()), "{tape}");
+    Ok(())
+}
+
+#[test]
+fn the_store_at_the_entry_is_what_the_checker_tells(rt: HostRuntime) -> Result<(), Fail> {
+    for (size, tape) in [
+        (Size::Small, LETTER),
+        (Size::Full, LETTER),
+        (Size::Full, "..PKT64KGKO2@ZFAFEZPF"),
+        (Size::Small, "T45KP100FT64KA1HT100KA1!E64KPF"),
+        (Size::Full, "T45KP100FT64KA1HT100KA1!E64KPF"),
+        (Size::Small, "T44K#FT500KP1DA2#DP3@E500KPD"),
+        (Size::Full, "T44K#FT500KP1DA2#DP3@E500KPD"),
+    ] {
+        is_as_checked(&rt, rt.alloc(), size, tape)?;
+    }
+    Ok(())
+}

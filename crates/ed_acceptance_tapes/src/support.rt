@@ -1,0 +1,52 @@
+//! What the tests share: machines started on a tape, and loads.
+
+ghost use Rattle.std.specs.Prelude.{◌<◌, IfOk, length};
+
+use ed_codes::{Code, tape_of_text};
+use ed_initial::{Loaded, begin, is_started, load};
+use ed_machine::Machine;
+use ed_words::Size;
+use std::alloc::Global;
+use std::process::Abort;
+use std::test::Fail;
+
+/// The tape that prints A.
+pub const LETTER: &str = "T64KGKO2@ZFAFEZPF";
+
+/// The rows of a tape's text, of which there are few.
+pub fn rows_of(rt: &impl Abort, alloc: Global, tape: &str) -> Result<Vec<Code>, Fail>
+    ensures { IfOk result (λ rows. length rows.items < 1000) }
+{
+    let rows = tape_of_text(alloc, tape.as_bytes())?;
+    assert!(rt; rows.len() < 1000);
+    Ok(rows)
+}
+
+/// Starts a machine on a tape with the Initial Orders.
+pub fn start_on(alloc: Global, machine: &mut Machine, tape: &str) -> Result<(), Fail> {
+    let rows = tape_of_text(alloc, tape.as_bytes())?;
+    begin(machine, rows);
+    Ok(())
+}
+
+/// A cleared machine of a size, started on a tape with the Initial Orders.
+pub fn started(alloc: Global, size: Size, tape: &str) -> Result<Machine, Fail> {
+    let mut machine = Machine::cleared_of(alloc, size)?;
+    start_on(alloc, &mut machine, tape)?;
+    Ok(machine)
+}
+
+/// Loads the tape that a machine was started on.
+pub fn loaded(rt: &impl Abort, machine: &mut Machine) -> Loaded {
+    assert!(rt; is_started(machine));
+    let done = machine.orders_done();
+    let rows = machine.rows_left().len();
+    assert!(rt; done < 1 << 20 && rows < 1 << 20);
+    load(machine)
+}
+
+/// Obeys the next order, and tells whether it was a stop.
+pub fn stops(rt: &impl Abort, machine: &mut Machine) -> bool {
+    assert!(rt; machine.orders_done() < 1 << 20);
+    machine.step() == ed_machine::Turn::Stopped
+}
