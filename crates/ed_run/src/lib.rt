@@ -18,6 +18,7 @@ use ed_orders::{Kind, kind_of};
 /// A Z uses up one resume and the run goes on; where none is left the answer is `Stopped`. Else, before each order:
 /// `Limit` where this call obeyed `limit` orders; `NoOrder` and `NoTape` as in `Machine::step`; `PaperFull` where the
 /// order is O and the paper has no room left.
+#[inline(always)]
 pub fn run(machine: &mut Machine, limit: u64, resumes: u32, paper: &mut Paper) -> Ending
     requires { machine.old.orders + limit ≤ 2 ^ 63 }
     ensures ends { IsRun limit resumes machine.old paper.old result machine.new paper.new }
@@ -28,6 +29,7 @@ pub fn run(machine: &mut Machine, limit: u64, resumes: u32, paper: &mut Paper) -
 }
 
 /// Obeys orders until the run ends.
+#[inline(always)]
 fn run_orders(machine: &mut Machine, limit: u64, resumes: u32, paper: &mut Paper) -> Ending
     requires { machine.old.orders + limit ≤ 2 ^ 63 }
     ensures { IsRun limit resumes machine.old paper.old result machine.new paper.new }

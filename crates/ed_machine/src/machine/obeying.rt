@@ -14,6 +14,7 @@ use ed_words::{Long, Word};
 
 impl Machine {
     /// Obeys a word of a kind.
+    #[inline(always)]
     pub(super) fn obey(&mut self, kind: Kind, word: Word) -> Turn
         requires room { self.old.orders < 2 ^ 63 }
         requires word { word < 2 ^ 17 }
