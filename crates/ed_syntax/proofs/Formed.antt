@@ -1,19 +1,21 @@
 -- Statements and lines that have a form have their numbers in their ranges.
-use Rattle.std.proofs.Common.{◌≡◌, subst, ℕ, zero, suc, ◌+◌, ◌<◌, ◌≤◌, Bool, true, false}
-use Rattle.std.proofs.Common.{List, [], ◌∷◌, refl, arith, ℤ, length, map, codes, All, ◌≢◌, get_or}
+use Rattle.std.proofs.Common.{◌≡◌, subst, ℕ, zero, suc, ◌+◌, ◌-◌, ◌^◌, ◌<◌, ◌≤◌, Bool, true, false}
+use Rattle.std.proofs.Common.{List, [], ◌∷◌, refl, arith, lit<, ℤ, pos, negsuc, length, map, codes, All, ◌≢◌, get_or}
 use Rattle.std.specs.Prelude.{◌==◌, ◌&&◌, not, Option, Some, None, Result}
-use Rattle.std.specs.Prelude.{Ok, Err, IfSome, nat_le, nat_lt, option_map, option_and_then, if◌then◌else◌}
+use Rattle.std.specs.Prelude.{Ok, Err, IfSome, nat_le, nat_lt, position, option_map, option_and_then, if◌then◌else◌, unsigned_abs}
+use Rattle.std.specs.Int.{int_rem_euclid}
 use Rattle.std.specs.List.{list_all}
 use Rattle.std.specs.Str.{bytes_eq}
 use Rattle.std.proofs.lemmas.Bool.Decides.{nat_tests, Decides-eqb}
 use Rattle.std.proofs.lemmas.List.{length-map}
 use Rattle.std.proofs.lemmas.List.Elements.{All-cons}
-use Rattle.ed_codes.specs.Spelling.{row_of}
+use Rattle.std.proofs.lemmas.List.Quantifiers.{position-Some}
+use Rattle.ed_codes.specs.Spelling.{letters, row_of}
 use Rattle.ed_syntax.specs.Lines.{Text}
-use Rattle.ed_syntax.specs.Parts.{Part, run, sign, quoted, parts_of}
+use Rattle.ed_syntax.specs.Parts.{Part, run, sign, quoted, is_digit, parts_of}
 use Rattle.ed_syntax.specs.Grammar
 use Rattle.ed_syntax.specs.Programs.{AreNumbered, is_line}
-use Rattle.ed_syntax.proofs.Meaning.{IsForm, IsOperand, IsSetting, IsStatement, MayHaveLabel, lines_test}
+use Rattle.ed_syntax.proofs.Meaning.{AreRows, IsForm, IsOperand, IsSetting, IsStatement, MayHaveLabel, lines_test}
 use Rattle.ed_syntax.specs.Sources.{Fault, and_lines, is_line_byte, line_of, lines_from, or_cause}
 use Rattle.ed_syntax.specs.declared.fault.SourceCause.{SourceCause}
 use Rattle.ed_syntax.specs.declared.fault.SourceCause.TheVariants as causes
@@ -54,58 +56,95 @@ order_end_within two [] = tt
 order_end_within two (run r ∷ parts) = end_within two (Grammar.operand two (run r ∷ parts)) (operand_within two (run r ∷ parts))
 order_end_within two (quoted q ∷ parts) = tt
 
-order_within : (two : Bool) (b : ℕ) (parts : List Part) → Within (IsPlaced two) (Grammar.order two b parts)
-order_within two b parts = by_parts (Grammar.function b) (Grammar.order_end two parts) (order_end_within two parts)
+-- the row of a byte is a code
+row_fits : (b : ℕ) → IfSome (row_of b) (λ c. c < 32)
+row_fits b = by_test (nat_le 48 b) (nat_le b 57) refl refl
   where
-    by_parts : (f : Option ℕ) (e : Option (Option Operand × Bool)) → FrontWithin (IsOperand two) e
+    letter : (o : Option ℕ) → position (λ l. l == b) letters ≡ o → IfSome o (λ c. c < 32)
+    letter None e = tt
+    letter (Some c) e = (position-Some (λ l. l == b) letters c 0 e).0
+
+    by_test : (low high : Bool) → nat_le 48 b ≡ low → nat_le b 57 ≡ high
+        → IfSome (if low && high then Some (b - 48) else position (λ l. l == b) letters) (λ c. c < 32)
+    by_test true true l h = grind (arith, nat_tests)
+    by_test true false l h = letter _ refl
+    by_test false high l h = letter _ refl
+
+function_fits : (b : ℕ) → IfSome (Grammar.function b) (λ f. f < 32)
+function_fits b = by_test (is_digit b)
+  where
+    by_test : (c : Bool) → IfSome (if c then None else row_of b) (λ f. f < 32)
+    by_test true = tt
+    by_test false = row_fits b
+
+order_within : (two : Bool) (b : ℕ) (parts : List Part) → Within (IsPlaced two) (Grammar.order two b parts)
+order_within two b parts =
+    by_parts (Grammar.function b) (Grammar.order_end two parts) (function_fits b) (order_end_within two parts)
+  where
+    by_parts : (f : Option ℕ) (e : Option (Option Operand × Bool)) → IfSome f (λ g. g < 32) → FrontWithin (IsOperand two) e
         → Within (IsPlaced two) (option_and_then (λ g. option_map (λ p. option_map (λ o. statements.Order g o p.1) p.0) e) f)
-    by_parts None e w = tt
-    by_parts (Some f) None w = tt
-    by_parts (Some f) (Some (None, l)) w = tt
-    by_parts (Some f) (Some (Some o, l)) w = (tt, w)
+    by_parts None e fits w = tt
+    by_parts (Some f) None fits w = tt
+    by_parts (Some f) (Some (None, l)) fits w = tt
+    by_parts (Some f) (Some (Some o, l)) fits w = (tt, (fits, w))
 
 -- ---- the other statements
 
-word_within : (two : Bool) (o : Option (Option ℤ)) (f : ℤ → ℕ)
-    → Within (IsPlaced two) (option_map (option_map (λ z. statements.Number (f z))) o)
-word_within two None f = tt
-word_within two (Some None) f = tt
-word_within two (Some (Some z)) f = (tt, tt)
+-- a number modulo another
+modulo_fits : (m : ℕ) (z : ℤ) → 0 < m → unsigned_abs (int_rem_euclid z (pos m)) < m
+modulo_fits m (pos a) h = omega (arith, h)
+modulo_fits m (negsuc a) h = omega (arith, h)
 
-long_within : (two : Bool) (o : Option (Option ℤ)) (f : ℤ → ℕ) → two ≡ true
-    → Within (IsPlaced two) (option_map (option_map (λ z. statements.Long (f z))) o)
-long_within two None f h = tt
-long_within two (Some None) f h = tt
-long_within two (Some (Some z)) f h = (tt, h)
+word_within : (two : Bool) (o : Option (Option ℤ))
+    → Within (IsPlaced two) (option_map (option_map (λ z. statements.Number (Grammar.modulo 17 z))) o)
+word_within two None = tt
+word_within two (Some None) = tt
+word_within two (Some (Some z)) = (tt, modulo_fits (2 ^ 17) z (lit< tt))
 
-string_rows_within : (q : Text) → IfSome (Grammar.string_rows q) (λ rows. 0 < length rows)
+long_within : (two : Bool) (o : Option (Option ℤ)) → two ≡ true
+    → Within (IsPlaced two) (option_map (option_map (λ z. statements.Long (Grammar.modulo 35 z))) o)
+long_within two None h = tt
+long_within two (Some None) h = tt
+long_within two (Some (Some z)) h = (tt, (h, modulo_fits (2 ^ 35) z (lit< tt)))
+
+-- the rows of bytes are codes
+rows_fit : (q : Text) → list_all (λ c. nat_lt c 32) (map (λ b. Grammar.row (row_of b)) q) ≡ true
+rows_fit [] = refl
+rows_fit (b ∷ q) = by_row (row_of b) (row_fits b) (rows_fit q)
+  where
+    by_row : (o : Option ℕ) → IfSome o (λ c. c < 32) → list_all (λ c. nat_lt c 32) (map (λ b. Grammar.row (row_of b)) q) ≡ true
+        → (nat_lt (Grammar.row o) 32 && list_all (λ c. nat_lt c 32) (map (λ b. Grammar.row (row_of b)) q)) ≡ true
+    by_row None fits rest = rest
+    by_row (Some c) fits rest = let test : nat_lt c 32 ≡ true = grind (arith, nat_tests) in rw test rest
+
+string_rows_within : (q : Text) → IfSome (Grammar.string_rows q) AreRows
 string_rows_within q = by_test (nat_le 1 (length q)) _ refl
   where
-    some : nat_le 1 (length q) ≡ true → 0 < length (map (λ b. Grammar.row (row_of b)) q)
+    some : nat_le 1 (length q) ≡ true → AreRows (map (λ b. Grammar.row (row_of b)) q)
     some e =
         let h : 0 < length q = grind (arith, nat_tests) in
         let same : length (map (λ b. Grammar.row (row_of b)) q) ≡ length q = length-map q (λ b. Grammar.row (row_of b)) in
-        omega (arith, same, h)
+        (omega (arith, same, h), rows_fit q)
 
     by_test : (c d : Bool) → nat_le 1 (length q) ≡ c
-        → IfSome (if c && d then Some (map (λ b. Grammar.row (row_of b)) q) else None) (λ rows. 0 < length rows)
+        → IfSome (if c && d then Some (map (λ b. Grammar.row (row_of b)) q) else None) AreRows
     by_test false d e = tt
     by_test true false e = tt
     by_test true true e = some e
 
-string_within : (parts : List Part) → IfSome (Grammar.string parts) (λ rows. 0 < length rows)
+string_within : (parts : List Part) → IfSome (Grammar.string parts) AreRows
 string_within [] = tt
 string_within (run r ∷ parts) = tt
 string_within (sign b ∷ parts) = tt
 string_within (quoted q ∷ []) = string_rows_within q
 string_within (quoted q ∷ p ∷ parts) = tt
 
-text_within : (two : Bool) (o : Option (List ℕ)) → IfSome o (λ rows. 0 < length rows)
+text_within : (two : Bool) (o : Option (List ℕ)) → IfSome o AreRows
     → Within (IsPlaced two) (option_map (λ rows. Some (statements.Text (Grammar.array rows))) o)
 text_within two None w = tt
 text_within two (Some rows) w = (tt, w)
 
-rows_within : (two : Bool) (o : Option (List ℕ)) → IfSome o (λ rows. 0 < length rows)
+rows_within : (two : Bool) (o : Option (List ℕ)) → IfSome o AreRows
     → Within (IsStatement two) (option_map (λ rows. Some (statements.Rows (Grammar.array rows))) o)
 rows_within two None w = tt
 rows_within two (Some rows) w = w
@@ -163,10 +202,10 @@ placed_within two [] = tt
 placed_within two (quoted q ∷ parts) = tt
 placed_within two (sign b ∷ parts) = order_within two b parts
 placed_within two (run w ∷ parts) =
-    within_else (IsPlaced two) (bytes_eq w (codes "word")) _ _ (λ e. word_within two (Grammar.integer 65536 131071 parts) _)
+    within_else (IsPlaced two) (bytes_eq w (codes "word")) _ _ (λ e. word_within two (Grammar.integer 65536 131071 parts))
     (λ e. within_else (IsPlaced two) (bytes_eq w (codes "text")) _ _ (λ f. text_within two (Grammar.string parts) (string_within parts))
     (λ f. within_if (IsPlaced two) (two && bytes_eq w (codes "long")) _
-    (λ g. long_within two (Grammar.integer 17179869184 34359738367 parts) _ (and_both two _ g).0)))
+    (λ g. long_within two (Grammar.integer 17179869184 34359738367 parts) (and_both two _ g).0)))
 
 unplaced : (two : Bool) (o : Option (Option Statement)) → Within (IsPlaced two) o → Within (IsStatement two) o
 unplaced two None w = tt

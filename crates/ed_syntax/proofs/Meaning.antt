@@ -1,13 +1,13 @@
 -- What the tests of a program's lines say.
-use Rattle.std.proofs.Common.{◌≡◌, ℕ, ◌<◌, ◌≤◌, Bool, true, List, [], ◌∷◌, refl, arith, ℤ, pos, neg_ℤ, ◌≤ℤ◌, length, All, get_or}
-use Rattle.std.specs.Prelude.{◌&&◌, Option, Some, None, IfSome, nat_le, unsigned_abs}
+use Rattle.std.proofs.Common.{◌≡◌, ℕ, ◌^◌, ◌<◌, ◌≤◌, Bool, true, List, [], ◌∷◌, refl, arith, ℤ, pos, neg_ℤ, ◌≤ℤ◌, length, All, get_or}
+use Rattle.std.specs.Prelude.{◌&&◌, Option, Some, None, IfSome, nat_le, nat_lt, unsigned_abs}
 use Rattle.std.specs.List.{list_all}
 use Rattle.std.proofs.lemmas.Bool.Decides.{nat_tests}
 use Rattle.std.proofs.lemmas.Int.{ints}
 use Rattle.std.proofs.lemmas.List.Sums.{AllPass-from_list_all}
 use Rattle.std.proofs.lemmas.List.Elements.{All-cons, All-head, All-tail}
 use Rattle.ed_syntax.specs.Grammar.{is_name, is_place_name}
-use Rattle.ed_syntax.specs.Programs.{is_base, is_form, is_line, is_operand, is_setting, is_statement, may_have_label}
+use Rattle.ed_syntax.specs.Programs.{are_rows, is_base, is_form, is_line, is_operand, is_setting, is_statement, may_have_label}
 use Rattle.ed_syntax.specs.declared.program.Operand.{Operand}
 use Rattle.ed_syntax.specs.declared.program.Operand.TheVariants as operands
 use Rattle.ed_syntax.specs.declared.program.Setting.{Setting}
@@ -34,17 +34,21 @@ pub record IsSetting (two : Bool) (s : Setting) : Type 0 where
   pub high : s.letter ≤ 26
   pub operand : IsOperand two s.operand
 
+-- rows: one at the least, and each a code
+abbrev pub AreRows : List ℕ → Type 0
+AreRows codes = (0 < length codes) × (list_all (λ c. nat_lt c 32) codes ≡ true)
+
 -- a statement with its numbers in their ranges
 abbrev pub IsStatement : Bool → Statement → Type 0
 IsStatement two (statements.Segment name base) = (is_name name ≡ true) × IfSome base (λ b. b ≤ 1023)
-IsStatement two (statements.Order function operand length) = IsOperand two operand
-IsStatement two (statements.Number value) = Unit {0}
-IsStatement two (statements.Text codes) = 0 < length codes.items
+IsStatement two (statements.Order function operand length) = (function < 32) × IsOperand two operand
+IsStatement two (statements.Number value) = value < 2 ^ 17
+IsStatement two (statements.Text codes) = AreRows codes.items
 IsStatement two (statements.Fetch routine name settings) =
     (is_name routine ≡ true) × ((is_name name ≡ true) × All (IsSetting two) settings.items)
 IsStatement two (statements.Enter name) = is_name name ≡ true
-IsStatement two (statements.Rows codes) = 0 < length codes.items
-IsStatement two (statements.Long value) = two ≡ true
+IsStatement two (statements.Rows codes) = AreRows codes.items
+IsStatement two (statements.Long value) = (two ≡ true) × (value < 2 ^ 35)
 
 -- a statement that may have a label
 abbrev pub MayHaveLabel : Statement → Type 0
@@ -90,15 +94,20 @@ base_test : (base : Option ℕ) → IfSome base (λ b. b ≤ 1023) → is_base b
 base_test None h = refl
 base_test (Some b) h = grind (arith, nat_tests)
 
+rows_test : (codes : List ℕ) → AreRows codes → are_rows codes ≡ true
+rows_test codes h = let some = h.0 in both _ _ (grind (arith, nat_tests)) h.1
+
 statement_test : (two : Bool) (s : Statement) → IsStatement two s → is_statement two s ≡ true
 statement_test two (statements.Segment name base) h = both _ _ h.0 (base_test base h.1)
-statement_test two (statements.Order function operand length) h = operand_test two operand h
-statement_test two (statements.Number value) h = refl
-statement_test two (statements.Text codes) h = grind (arith, nat_tests)
+statement_test two (statements.Order function operand length) h =
+    let fits = h.0 in both _ _ (grind (arith, nat_tests)) (operand_test two operand h.1)
+statement_test two (statements.Number value) h = grind (arith, nat_tests)
+statement_test two (statements.Text codes) h = rows_test codes.items h
 statement_test two (statements.Fetch routine name settings) h = both _ _ h.0 (both _ _ h.1.0 (settings_test two settings.items h.1.1))
 statement_test two (statements.Enter name) h = h
-statement_test two (statements.Rows codes) h = grind (arith, nat_tests)
-statement_test two (statements.Long value) h = h
+statement_test two (statements.Rows codes) h = rows_test codes.items h
+statement_test two (statements.Long value) h =
+    let fits = h.1 in both _ _ h.0 (grind (arith, nat_tests))
 
 label_test : (s : Statement) → MayHaveLabel s → may_have_label s ≡ true
 label_test (statements.Order function operand length) h = refl
@@ -150,18 +159,30 @@ base_fact : (base : Option ℕ) → is_base base ≡ true → IfSome base (λ b.
 base_fact None h = tt
 base_fact (Some b) h = grind (arith, nat_tests)
 
+rows_fact : (codes : List ℕ) → are_rows codes ≡ true → AreRows codes
+rows_fact codes h =
+    let parts = and_both (nat_le 1 (length codes)) _ h in
+    let some : nat_le 1 (length codes) ≡ true = parts.0 in
+    (grind (arith, nat_tests), parts.1)
+
 pub statement_fact : (two : Bool) (s : Statement) → is_statement two s ≡ true → IsStatement two s
 statement_fact two (statements.Segment name base) h = let parts = and_both _ _ h in (parts.0, base_fact base parts.1)
-statement_fact two (statements.Order function operand length) h = operand_fact two operand h
-statement_fact two (statements.Number value) h = tt
-statement_fact two (statements.Text codes) h = grind (arith, nat_tests)
+statement_fact two (statements.Order function operand length) h =
+    let parts = and_both (nat_lt function 32) _ h in
+    let fits : nat_lt function 32 ≡ true = parts.0 in
+    (grind (arith, nat_tests), operand_fact two operand parts.1)
+statement_fact two (statements.Number value) h = grind (arith, nat_tests)
+statement_fact two (statements.Text codes) h = rows_fact codes.items h
 statement_fact two (statements.Fetch routine name settings) h =
     let parts = and_both _ _ h in
     let rest = and_both _ _ parts.1 in
     (parts.0, (rest.0, settings_fact two settings.items rest.1))
 statement_fact two (statements.Enter name) h = h
-statement_fact two (statements.Rows codes) h = grind (arith, nat_tests)
-statement_fact two (statements.Long value) h = h
+statement_fact two (statements.Rows codes) h = rows_fact codes.items h
+statement_fact two (statements.Long value) h =
+    let parts = and_both two (nat_lt value (2 ^ 35)) h in
+    let fits : nat_lt value (2 ^ 35) ≡ true = parts.1 in
+    (parts.0, grind (arith, nat_tests))
 
 label_fact : (s : Statement) → may_have_label s ≡ true → MayHaveLabel s
 label_fact (statements.Order function operand length) h = tt

@@ -1,6 +1,6 @@
 -- What holds of each program: its lines are of the grammar's forms, with their numbers in their ranges (this project's
 -- own rule). The argument `two` says whether the source is of version 2.
-use Rattle.std.specs.Prelude.{◌≡◌, ℕ, ◌+◌, ◌<◌, ◌&&◌, Bool, true, false, unsigned_abs, nat_le}
+use Rattle.std.specs.Prelude.{◌≡◌, ℕ, ◌+◌, ◌^◌, ◌<◌, ◌&&◌, Bool, true, false, unsigned_abs, nat_le, nat_lt}
 use Rattle.std.specs.Prelude.{List, Option, Some, None, length, slice_index_or}
 use Rattle.std.specs.List.{list_all}
 use Rattle.ed_syntax.specs.Grammar.{is_name, is_place_name}
@@ -26,16 +26,20 @@ abbrev pub is_base : Option ℕ → Bool
 is_base None = true
 is_base (Some b) = nat_le b 1023
 
+-- codes of rows: one at the least, and each below 32
+abbrev pub are_rows : List ℕ → Bool
+are_rows codes = nat_le 1 (length codes) && list_all (λ c. nat_lt c 32) codes
+
 -- a statement
 abbrev pub is_statement : Bool → Statement → Bool
 is_statement two (statements.Segment name base) = is_name name && is_base base
-is_statement two (statements.Order function operand length) = is_operand two operand
-is_statement two (statements.Number value) = true
-is_statement two (statements.Text codes) = nat_le 1 (length codes.items)
+is_statement two (statements.Order function operand length) = nat_lt function 32 && is_operand two operand
+is_statement two (statements.Number value) = nat_lt value (2 ^ 17)
+is_statement two (statements.Text codes) = are_rows codes.items
 is_statement two (statements.Fetch routine name settings) = is_name routine && (is_name name && list_all (is_setting two) settings.items)
 is_statement two (statements.Enter name) = is_name name
-is_statement two (statements.Rows codes) = nat_le 1 (length codes.items)
-is_statement two (statements.Long value) = two
+is_statement two (statements.Rows codes) = are_rows codes.items
+is_statement two (statements.Long value) = two && nat_lt value (2 ^ 35)
 
 -- a statement that may have a label
 abbrev pub may_have_label : Statement → Bool
