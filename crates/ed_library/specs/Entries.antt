@@ -1,7 +1,7 @@
 -- The catalogue of the library: its routines in order of name (this project's own). A routine is its index in the
 -- catalogue in all that follows, counted from 0.
 use Rattle.std.specs.Prelude.{ℕ, Bool, List, [], ◌∷◌, length, slice_index_or, codes}
-use Rattle.ed_library.specs.declared.tables.TheConstants.{NEWLINE, PRINT, READ}
+use Rattle.ed_library.specs.declared.tables.TheConstants.{CHECK, DIVIDE, NEWLINE, PRINT, READ, ROOT}
 
 -- what the catalogue says of a routine: its name, the letters of its preset parameters, the places of its own text that
 -- it changes, and its items, each a function, a number, whether a π stands behind the number, and an ending row
@@ -14,9 +14,12 @@ pub record Entry : Type 0 where
 -- the routines in order of name
 abbrev pub catalogue : List Entry
 catalogue =
-    record { name = codes "newline"; parameters = []; working = 4 ∷ []; items = NEWLINE }
+    record { name = codes "check"; parameters = 21 ∷ []; working = 0 ∷ 40 ∷ 58 ∷ 59 ∷ 60 ∷ 61 ∷ 62 ∷ 63 ∷ 64 ∷ 65 ∷ []; items = CHECK }
+    ∷ record { name = codes "divide"; parameters = 21 ∷ 22 ∷ 23 ∷ []; working = 32 ∷ 35 ∷ 36 ∷ 37 ∷ 38 ∷ 39 ∷ 40 ∷ []; items = DIVIDE }
+    ∷ record { name = codes "newline"; parameters = []; working = 4 ∷ []; items = NEWLINE }
     ∷ record { name = codes "print"; parameters = 21 ∷ []; working = 11 ∷ 38 ∷ 47 ∷ 48 ∷ 49 ∷ 50 ∷ []; items = PRINT }
     ∷ record { name = codes "read"; parameters = 21 ∷ []; working = 19 ∷ 21 ∷ 22 ∷ 23 ∷ []; items = READ }
+    ∷ record { name = codes "root"; parameters = 21 ∷ 22 ∷ []; working = 18 ∷ 21 ∷ 22 ∷ []; items = ROOT }
     ∷ []
 
 -- the number of routines

@@ -12,6 +12,8 @@ const Q: u8 = 1;
 
 const E: u8 = 3;
 
+const R: u8 = 4;
+
 const T: u8 = 5;
 
 const U: u8 = 7;
@@ -32,6 +34,10 @@ const D: u8 = 19;
 
 const H: u8 = 21;
 
+const N: u8 = 22;
+
+const M: u8 = 23;
+
 const LINE_FEED: u8 = 24;
 
 const L: u8 = 25;
@@ -39,6 +45,123 @@ const L: u8 = 25;
 const G: u8 = 27;
 
 const A: u8 = 28;
+
+const B: u8 = 29;
+
+/// The routine `check`, which obeys another program order by order and prints the function of each order.
+pub const CHECK: [(u8, u16, bool, u8); 66] = [
+    (A, 0, false, H),
+    (U, 40, false, THETA),
+    (O, 40, false, THETA),
+    (E, 13, false, THETA),
+    (S, 53, false, THETA),
+    (G, 30, false, THETA),
+    (S, 55, false, THETA),
+    (E, 30, false, THETA),
+    (A, 56, false, THETA),
+    (T, 58, false, THETA),
+    (A, 60, true, THETA),
+    (G, 26, false, THETA),
+    (E, 21, false, THETA),
+    (S, 54, false, THETA),
+    (G, 30, false, THETA),
+    (S, 55, false, THETA),
+    (E, 30, false, THETA),
+    (A, 56, false, THETA),
+    (T, 58, false, THETA),
+    (A, 60, true, THETA),
+    (E, 26, false, THETA),
+    (T, 59, false, THETA),
+    (A, 0, false, THETA),
+    (A, 57, false, THETA),
+    (T, 0, false, THETA),
+    (E, 0, false, THETA),
+    (T, 59, false, THETA),
+    (A, 58, false, THETA),
+    (T, 0, false, THETA),
+    (E, 0, false, THETA),
+    (T, 59, false, THETA),
+    (A, 64, true, THETA),
+    (R, 0, false, F),
+    (R, 0, false, F),
+    (R, 4, false, F),
+    (A, 62, true, THETA),
+    (R, 0, false, F),
+    (R, 0, false, F),
+    (R, 4, false, F),
+    (A, 60, true, THETA),
+    (P, 0, false, F),
+    (U, 60, true, THETA),
+    (S, 60, true, THETA),
+    (L, 0, false, F),
+    (L, 0, false, F),
+    (L, 64, false, F),
+    (U, 62, true, THETA),
+    (S, 62, true, THETA),
+    (L, 0, false, F),
+    (L, 0, false, F),
+    (L, 64, false, F),
+    (T, 64, true, THETA),
+    (E, 22, false, THETA),
+    (G, 0, false, F),
+    (E, 0, false, F),
+    (Q, 0, false, F),
+    (B, 0, false, F),
+    (P, 1, false, F),
+    (P, 0, false, F),
+    (P, 0, false, F),
+    (P, 0, false, F),
+    (P, 0, false, F),
+    (P, 0, false, F),
+    (P, 0, false, F),
+    (P, 0, false, F),
+    (P, 0, false, F),
+];
+
+/// The routine `divide`, which divides a number of 32 digits by one of 15.
+pub const DIVIDE: [(u8, u16, bool, u8); 41] = [
+    (A, 3, false, F),
+    (T, 32, false, THETA),
+    (A, 33, false, THETA),
+    (R, 0, false, F),
+    (R, 0, false, D),
+    (T, 36, true, THETA),
+    (A, 0, false, N),
+    (R, 0, false, F),
+    (R, 0, false, D),
+    (A, 0, false, H),
+    (T, 38, true, THETA),
+    (S, 34, false, THETA),
+    (U, 35, false, THETA),
+    (T, 40, false, THETA),
+    (A, 38, true, THETA),
+    (L, 0, false, D),
+    (S, 0, false, M),
+    (E, 20, false, THETA),
+    (A, 0, false, M),
+    (E, 21, false, THETA),
+    (A, 36, true, THETA),
+    (T, 38, true, THETA),
+    (A, 35, false, THETA),
+    (A, 33, false, THETA),
+    (U, 35, false, THETA),
+    (G, 13, false, THETA),
+    (A, 38, true, THETA),
+    (U, 0, false, H),
+    (S, 0, false, H),
+    (L, 0, false, F),
+    (L, 2, false, F),
+    (T, 0, false, N),
+    (P, 0, false, F),
+    (P, 0, false, D),
+    (P, 8, false, F),
+    (P, 0, false, F),
+    (P, 0, false, F),
+    (P, 0, false, F),
+    (P, 0, false, F),
+    (P, 0, false, F),
+    (P, 0, false, F),
+];
 
 /// The routine `newline`, which prints a carriage return and a line feed.
 pub const NEWLINE: [(u8, u16, bool, u8); 7] = [
@@ -134,8 +257,35 @@ pub const READ: [(u8, u16, bool, u8); 24] = [
     (P, 0, false, F),
 ];
 
+/// The routine `root`, which takes the square root of an integer.
+pub const ROOT: [(u8, u16, bool, u8); 23] = [
+    (A, 3, false, F),
+    (T, 18, false, THETA),
+    (A, 0, false, H),
+    (T, 21, false, THETA),
+    (A, 19, false, THETA),
+    (T, 22, false, THETA),
+    (A, 21, false, THETA),
+    (S, 22, false, THETA),
+    (G, 14, false, THETA),
+    (T, 21, false, THETA),
+    (A, 22, false, THETA),
+    (A, 20, false, THETA),
+    (T, 22, false, THETA),
+    (E, 6, false, THETA),
+    (T, 21, false, THETA),
+    (A, 22, false, THETA),
+    (R, 0, false, D),
+    (T, 0, false, N),
+    (P, 0, false, F),
+    (P, 0, false, D),
+    (P, 1, false, F),
+    (P, 0, false, F),
+    (P, 0, false, F),
+];
+
 /// The number of routines.
-pub(crate) const SIZE: u16 = 3;
+pub(crate) const SIZE: u16 = 6;
 
 /// What the catalogue says of a routine.
 #[derive(Clone, Copy)]
@@ -161,22 +311,40 @@ pub(crate) fn table(index: u16) -> Entry
 {
     match index {
         0 => Entry {
+            name: "check",
+            parameters: &[21],
+            working: &[0, 40, 58, 59, 60, 61, 62, 63, 64, 65],
+            items: &CHECK,
+        },
+        1 => Entry {
+            name: "divide",
+            parameters: &[21, 22, 23],
+            working: &[32, 35, 36, 37, 38, 39, 40],
+            items: &DIVIDE,
+        },
+        2 => Entry {
             name: "newline",
             parameters: &[],
             working: &[4],
             items: &NEWLINE,
         },
-        1 => Entry {
+        3 => Entry {
             name: "print",
             parameters: &[21],
             working: &[11, 38, 47, 48, 49, 50],
             items: &PRINT,
         },
-        2 => Entry {
+        4 => Entry {
             name: "read",
             parameters: &[21],
             working: &[19, 21, 22, 23],
             items: &READ,
+        },
+        5 => Entry {
+            name: "root",
+            parameters: &[21, 22],
+            working: &[18, 21, 22],
+            items: &ROOT,
         },
         _ => unreachable!(),
     }
