@@ -10,7 +10,7 @@ use Rattle.ed_notation.specs.Items.{rows_of, spelled, item as item_in, items, Is
 use Rattle.ed_notation.specs.Fold.{Note, is_entry, item_word, fold, cost_of, costs, address}
 use Rattle.ed_notation.specs.Openings.{IsDirective, opening}
 use Rattle.ed_notation.specs.Faults.{IsSound, WellFormed, ComesTo}
-use Rattle.ed_notation.specs.Spellings.{AreSpellable, canonical, canonicals}
+use Rattle.ed_notation.specs.Spellings.{canonical, canonicals}
 use Rattle.ed_notation.proofs.Canonical.{is_written}
 use Rattle.ed_notation.proofs.Cuts.{spelled-append, costs-append, canonicals-append}
 use Rattle.ed_notation.proofs.Sound.{sound_well}
@@ -25,7 +25,6 @@ use Rattle.ed_link.specs.Punch.{item, punched}
 use Rattle.ed_link.specs.Faults.{any_enter, missing, sooner, fault, line_of}
 use Rattle.ed_link.specs.Tapes.{punched_rows, tape, arrival}
 use Rattle.ed_link.proofs.Passes.{taken}
-use Rattle.ed_link.proofs.Orders.{split}
 use Rattle.ed_link.proofs.Inductions.{Ends, ends}
 use Rattle.ed_link.proofs.Costs.{NoZed, passes_no_zed, same_costs}
 
@@ -57,8 +56,7 @@ first : (words : List ℕ) → IsDirective 20568
 first words = record { no_1 = omega arith; no_2 = omega arith; no_4 = omega arith; most = omega arith }
 
 module _ (tables : list_all is_ready catalogue ≡ true) (z : Size) (two : Bool) (lines : List Line) (accepted : fault z lines
-    ≡ None) (formed : list_all (is_line two) lines ≡ true)
-    (spelled_are : AreSpellable (punched lines)) (words : List ℕ) (whole : length words ≡ 1024) where
+    ≡ None) (formed : list_all (is_line two) lines ≡ true) (words : List ℕ) (whole : length words ≡ 1024) where
   an_end : Ends z words (homes_of lines) (slice_index words 42) first_spot (opening words) lines
   an_end =
       let a = none_of _ _ accepted in
@@ -66,15 +64,14 @@ module _ (tables : list_all is_ready catalogue ≡ true) (z : Size) (two : Bool)
       let any = there_is (any_enter lines) (length lines) b.1 in
       ends tables z words whole (homes_of lines) (any_enter lines) two lines (record { runs = []; entered = false })
       [] first_spot (opening words) (slice_index words 42)
-      formed b.0 a.0 refl any spelled_are (record { base = omega arith; follows = λ h. cc; theta_is = refl })
+      formed b.0 a.0 refl any (record { base = omega arith; follows = λ h. cc; theta_is = refl })
 
   by_end : Ends z words (homes_of lines) (slice_index words 42) first_spot (opening words) lines
       → WellFormed z words (opening words) (tape lines) × ComesTo words (opening words) 9 (tape lines) (arrival words lines)
   by_end e =
       let ws = canonicals e.before in
       let w = canonical last_item in
-      let are = split e.before (last_item ∷ []) (subst (λ (is : List Item). AreSpellable is) e.items spelled_are) in
-      let t = (taken z words (opening words) e.last e.before are.0 e.passes).1 in
+      let t = (taken z words (opening words) e.last e.before e.spelled e.passes).1 in
       let good : IsWritten w = is_written last_item refl in
       let cut : canonicals (punched lines) ≡ ws ++ (w ∷ []) = ap (λ is. canonicals is) e.items
       ∙ canonicals-append e.before (last_item ∷ []) in

@@ -72,6 +72,9 @@ module _ (tables : list_all is_ready catalogue ≡ true) (text : List ℕ) (r : 
       let row = AllPass-from_list_all (is_ready_row (entry r).parameters) (entry r).items closed.rows place (0, 0, false, 0) h in
       (and_parts (is_spellable (item r place)) _ row).0
 
+  pub rows_are_ready : list_all (is_ready_row (entry r).parameters) (entry r).items ≡ true
+  rows_are_ready = closed.rows
+
 module _ (z : Size) (words : List ℕ) (whole : length words ≡ 1024) (homes : List Home) (ts : List Setting) where
   operand_of : (o : Option Operand) → is_some o ≡ true → (x : Operand) × (o ≡ Some x)
   operand_of None h = cc

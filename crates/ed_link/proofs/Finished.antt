@@ -2,8 +2,6 @@
 use Rattle.std.proofs.Common.{◌≡◌, refl, sym, ap, ◌∙◌, subst, Bool, true, Option, None, List, length}
 use Rattle.std.specs.List.{list_all}
 use Rattle.ed_words.specs.declared.size.Size.{Size}
-use Rattle.ed_notation.specs.declared.item.Item.{Item}
-use Rattle.ed_notation.specs.Spellings.{AreSpellable}
 use Rattle.ed_library.specs.Entries.{catalogue}
 use Rattle.ed_library.specs.Ready.{is_ready}
 use Rattle.ed_syntax.specs.declared.program.Line.{Line}
@@ -43,7 +41,6 @@ finished z two lines homes any names lost b k tables formed h a n g no_names not
     built.items ∙ ap (λ (x : List Home). punched_from x first_spot lines) h in
     let words : k.words.items ≡ words_from 0 (table_of (linked lines)) =
     f.words ∙ ap (λ t. words_from 0 t) (built.table ∙ ap (λ (x : List Home). table_of (placed_from x first_spot lines)) h) in
-    let spellable = subst (λ (x : List Item). AreSpellable x) items built.spellable in
     record {
       accepted = accepted;
       items = f.items ∙ items;
@@ -52,5 +49,5 @@ finished z two lines homes any names lost b k tables formed h a n g no_names not
       entry = f.entry ∙ built.entry ∙ ap (λ (x : List Home). entry_from x lines) h;
       after = f.after ∙ built.after;
       labels = f.labels ∙ ap (λ (x : List Home). labels x) h;
-      loads = λ words whole. accepted_law tables z two lines accepted formed spellable words whole;
+      loads = λ words whole. accepted_law tables z two lines accepted formed words whole;
     }

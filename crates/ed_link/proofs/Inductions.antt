@@ -20,7 +20,7 @@ use Rattle.ed_syntax.specs.declared.program.Statement.TheVariants.{Segment, Orde
 use Rattle.ed_syntax.specs.declared.program.Line.{Line as SourceLine}
 use Rattle.ed_syntax.specs.declared.fault.SourceCause.{SourceCause}
 use Rattle.ed_syntax.specs.declared.fault.SourceFault.{SourceFault}
-use Rattle.ed_syntax.specs.Programs.{is_line}
+use Rattle.ed_syntax.specs.Programs.{is_line, is_statement}
 use Rattle.ed_symbols.specs.declared.homes.Home.{Home}
 use Rattle.ed_symbols.specs.declared.spots.Spot.{Spot}
 use Rattle.ed_symbols.specs.Places.{even, taken as places_of, passed, segment_of}
@@ -35,7 +35,7 @@ use Rattle.ed_words.proofs.Numbers.{le_of}
 use Rattle.ed_words.proofs.SizeLemmas.{most}
 use Rattle.ed_notation.proofs.Steps.{Enters, aiming_entry, entering_at}
 use Rattle.ed_link.proofs.Passes.{Passes, join}
-use Rattle.ed_link.proofs.Orders.{split}
+use Rattle.ed_link.proofs.Spelled.{aiming_spelled, joined, line_spelled}
 use Rattle.ed_link.proofs.Uses.{reversed}
 use Rattle.ed_link.proofs.Lines.{IsReady, IsUse, IsSound, line, lt_same}
 use Rattle.ed_link.proofs.Closed.{some_items, are_known}
@@ -89,8 +89,20 @@ and_second x y h = (and_parts x y h).1
 some_rows : (two : Bool) (label : Option (List ℕ)) (n : ℕ) (codes : _)
     → is_line two (record { number = n; label = label; statement = Some (Text codes) }) ≡ true
     → 0 < length codes.items
-some_rows two None n codes h = le_of 1 (length codes.items) h
-some_rows two (Some name) n codes h = le_of 1 (length codes.items) (and_second _ _ h)
+some_rows two None n codes h = le_of 1 (length codes.items) (and_first _ _ h)
+some_rows two (Some name) n codes h = le_of 1 (length codes.items) (and_first _ _ (and_second _ _ h))
+
+same_statement : (x y : Statement) → ◌≡◌ {A = Option Statement} (Some x) (Some y) → x ≡ y
+same_statement x y e = cc
+
+-- a line's statement has a form
+formed_statement : (two : Bool) (n : ℕ) (label : Option (List ℕ)) (st : Option Statement)
+    → is_line two (record { number = n; label = label; statement = st }) ≡ true
+    → (x : Statement) → st ≡ Some x → is_statement two x ≡ true
+formed_statement two n label None h x e = cc
+formed_statement two n None (Some y) h x e = subst (λ (s : Statement). is_statement two s ≡ true) (same_statement y x e) h
+formed_statement two n (Some name) (Some y) h x e =
+    subst (λ (s : Statement). is_statement two s ≡ true) (same_statement y x e) (and_second _ _ (and_second _ _ h))
 
 -- a `use` without a fault has what its items need
 is_use : list_all is_ready catalogue ≡ true
@@ -178,6 +190,7 @@ pub record Ends (z : Size) (words : List ℕ) (homes : List Home) (theta : ℕ) 
     : Type 0 where
   pub before : List Item
   pub items : punched_from homes s lines ≡ before ++ (item 0 0 false 17 ∷ [])
+  pub spelled : AreSpellable before
   pub last : Note
   pub passes : Passes z words note before last
   pub enters : Enters z words last (entry_from homes lines)
@@ -208,18 +221,21 @@ module _ (tables : list_all is_ready catalogue ≡ true) (z : Size) (words : Lis
       (note : Note) (theta : ℕ)
       → is_enter st ≡ false → is_line two (record { number = n; label = label; statement = st }) ≡ true
       → IsFaultless z homes any past (record { number = n; label = label; statement = st }) s
-      → AreSpellable (items_of homes s st) → IsReady theta s note
+      → IsReady theta s note
       → ((next : Note) (t : ℕ) → IsReady t (passed st s) next → Ends z words homes t (passed st s) next lines)
       → Ends z words homes theta s note (record { number = n; label = label; statement = st } ∷ lines)
-  going n label st lines past s note theta e formed f are ready more =
+  going n label st lines past s note theta e formed f ready more =
       let is = items_of homes s st in
       let ps = placed_by homes s st in
-      let a = line z words whole homes theta s note ready st (sound_line tables z words homes any two past n label st s formed f e) are in
+      let sound = sound_line tables z words homes any two past n label st s formed f e in
+      let are = line_spelled tables two z words homes s st (formed_statement two n label st formed) sound ready.base in
+      let a = line z words whole homes theta s note ready st sound are in
       let r = more a.last _ a.ready in
       let q = sym (entry_later homes st (entry_from homes lines) e) in
       record {
         before = is ++ r.before;
         items = ap (λ x. is ++ x) r.items ∙ sym (append_assoc is r.before (item 0 0 false 17 ∷ []));
+        spelled = joined is r.before are r.spelled;
         last = r.last;
         passes = join z words note a.last r.last is r.before a.passes r.passes;
         enters = subst (λ p. Enters z words r.last p) q r.enters;
@@ -243,6 +259,7 @@ module _ (tables : list_all is_ready catalogue ≡ true) (z : Size) (words : Lis
       record {
         before = item 3 p false 14 ∷ [];
         items = ap (λ (is : List Item). item 3 p false 14 ∷ (item 0 0 false 17 ∷ is)) b.items;
+        spelled = aiming_spelled p (omega (arith, m, g.1));
         last = last;
         passes = (last, aiming_entry z words note p (omega (arith, g.1)), refl, refl);
         enters = entering_at z words last p refl (omega (arith, g.0)) (omega (arith, g.1));
@@ -256,28 +273,27 @@ module _ (tables : list_all is_ready catalogue ≡ true) (z : Size) (words : Lis
       → is_line two (record { number = n; label = label; statement = st }) ≡ true
       → IsFaultless z homes any past (record { number = n; label = label; statement = st }) s
       → enters_unknown homes st ≡ false
-      → AreSpellable (items_of homes s st) → IsReady theta s note
+      → IsReady theta s note
       → (is_enter st ≡ false → (next : Note) (t : ℕ) → IsReady t (passed st s) next → Ends z words homes t (passed st s) next lines)
       → (is_enter st ≡ true → IsBehind homes theta (passed st s) lines)
       → Ends z words homes theta s note (record { number = n; label = label; statement = st } ∷ lines)
-  ends_at n label (Some (Enter name)) lines past s note theta formed f known are ready more rest =
+  ends_at n label (Some (Enter name)) lines past s note theta formed f known ready more rest =
       entering n label name lines past s note theta f known ready (rest refl)
-  ends_at n label st lines past s note theta formed f known are ready more rest =
-      going n label st lines past s note theta refl formed f are ready (more refl)
+  ends_at n label st lines past s note theta formed f known ready more rest =
+      going n label st lines past s note theta refl formed f ready (more refl)
 
   pub ends : (lines : List SourceLine) (past : Past) (earlier : List Home) (s : Spot) (note : Note) (theta : ℕ)
       → list_all (is_line two) lines ≡ true → fault_from z homes any past s lines ≡ None → names_from homes earlier s lines ≡ None
-      → past.entered ≡ false → any_enter lines ≡ true → AreSpellable (punched_from homes s lines) → IsReady theta s note
+      → past.entered ≡ false → any_enter lines ≡ true → IsReady theta s note
       → Ends z words homes theta s note lines
-  ends [] past earlier s note theta formed h names e any are ready = cc
-  ends (l ∷ lines) past earlier s note theta formed h names e some are ready =
+  ends [] past earlier s note theta formed h names e any ready = cc
+  ends (l ∷ lines) past earlier s note theta formed h names e some ready =
       let a = later_of l.number (cause_of z homes any past l s) _ h in
       let b = later_of l.number (names_cause homes (defines_again earlier l s) l s) _ names in
       let c6 = none_of _ _ _ b.0 in
       let c7 = none_of _ _ _ c6.1 in
-      let sp = split (items_of homes s l.statement) _ are in
       ends_at l.number l.label l.statement lines past s note theta (and_first _ _ formed) (faultless z homes any past l s a.0)
-      (or_right (any_operand (is_unknown homes (segment_of l s)) l.statement) (enters_unknown homes l.statement) c7.0) sp.0 ready
+      (or_right (any_operand (is_unknown homes (segment_of l s)) l.statement) (enters_unknown homes l.statement) c7.0) ready
       (λ g next t r. ends lines (past_of past l s) _ (passed l.statement s) next t (and_second _ _ formed) a.1 b.1 (rw (e, g)
-      refl) (rw g at some) sp.1 r)
+      refl) (rw g at some) r)
       (λ g. behind z homes any theta (past_of past l s) (passed l.statement s) lines (rw (e, g) refl) a.1)

@@ -1,7 +1,8 @@
--- A table keeps its length.
-use Rattle.std.proofs.Common.{◌≡◌, ℕ, refl, ◌∙◌, Option, Some, None, List, [], ◌∷◌, ◌++◌, length, set}
+-- A table keeps its length; how words are put into it.
+use Rattle.std.proofs.Common.{◌≡◌, ℕ, ◌+◌, ◌<◌, refl, sym, ap, ◌∙◌, arith, Option, Some, None, List, [], ◌∷◌, ◌++◌, length, map, drop, set, get_or}
 use Rattle.std.specs.Prelude.{replicate}
-use Rattle.std.proofs.lemmas.List.{length-set, length-replicate}
+use Rattle.std.proofs.lemmas.List.{length-set, length-replicate, drop_more}
+use Rattle.ed_link.specs.Linked.{laid}
 use Rattle.ed_link.specs.Tables.{empty_table, put_all}
 
 -- words that are put into a table leave its length
@@ -23,3 +24,18 @@ empty_length = length-replicate {A = Option ℕ} 1024 None
 pub put_all_append : (table : List (Option ℕ)) (ps qs : List (ℕ × ℕ)) → put_all (put_all table ps) qs ≡ put_all table (ps ++ qs)
 put_all_append table [] qs = refl
 put_all_append table (p ∷ ps) qs = put_all_append (set table p.0 (Some p.1)) ps qs
+
+-- one word more of those that stand one after the other
+pub put_more : {Row : Type 0} (word : Row → ℕ) (rows : List Row) (k : ℕ) (d : Row) (base at put : ℕ)
+    (table more whole : List (Option ℕ))
+    → k < length rows → at ≡ base + k → put ≡ word (get_or rows k d) → more ≡ set table at (Some put)
+    → put_all table (laid (base + k) (map word (drop k rows))) ≡ whole
+    → put_all more (laid (base + (k + 1)) (map word (drop (k + 1) rows))) ≡ whole
+put_more word rows k d base at put table more whole below here is set_is before =
+    let next : base + k + 1 ≡ base + (k + 1) = omega arith in
+    let rest = map word (drop (k + 1) rows) in
+    let first : put_all table (laid (base + k) (map word (drop k rows)))
+    ≡ put_all (set table (base + k) (Some (word (get_or rows k d)))) (laid (base + k + 1) rest) =
+    ap (λ (xs : List _). put_all table (laid (base + k) (map word xs))) (drop_more rows k d below) in
+    let same : more ≡ set table (base + k) (Some (word (get_or rows k d))) = set_is ∙ (λ i. set table (here i) (Some (is i))) in
+    (λ i. put_all (same i) (laid (sym next i) rest)) ∙ sym first ∙ before

@@ -5,6 +5,7 @@ pub mod Orders
 pub mod Uses
 pub mod Lines
 pub mod Closed
+pub mod Spelled
 pub mod Inductions
 pub mod Costs
 pub mod Accepted
@@ -14,3 +15,4 @@ pub mod Bounds
 pub mod LineLoop
 pub mod Maps
 pub mod Finished
+pub mod EachSource

@@ -1,7 +1,9 @@
 -- What linking answers, by the definitions of the linked program, the punched tape and the faults.
-use Rattle.std.specs.Prelude.{◌≡◌, ℕ, ◌<◌, reverse, List, Option, Some, None}
+use Rattle.std.specs.Prelude.{◌≡◌, ℕ, ◌<◌, reverse, List, Option, Some, None, Ok}
 use Rattle.ed_words.specs.declared.size.Size.{Size}
 use Rattle.ed_notation.specs.Fold.{placed_at}
+use Rattle.ed_syntax.specs.Lines.{Text}
+use Rattle.ed_syntax.specs.Sources.{program_of}
 use Rattle.ed_syntax.specs.declared.program.Line.{Line}
 use Rattle.ed_syntax.specs.declared.fault.SourceFault.{SourceFault}
 use Rattle.ed_syntax.specs.declared.fault.SourceFault.TheVariants.{At, Memory}
@@ -30,3 +32,8 @@ pub record IsLinked (z : Size) (lines : List Line) (k : Linked) : Type 0 where
   pub labels : k.labels.items ≡ labels (homes_of lines)
   -- the tape comes to the linked program, from every store
   pub loads : ComesToLinked z lines
+
+-- whatever source has no fault, its tape comes to its linked program, from every store
+abbrev pub EachSourceComes : Type 0
+EachSourceComes =
+    (z : Size) (source : Text) (lines : List Line) → program_of source ≡ Ok lines → fault z lines ≡ None → ComesToLinked z lines

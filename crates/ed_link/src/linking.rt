@@ -2,7 +2,7 @@
 ghost use Rattle.std.specs.Prelude.{◌≡◌, ◌≤◌, IfOk, IfErr, length};
 ghost use Rattle.ed_notation.specs.Spellings.{AreSpellable};
 ghost use Rattle.ed_symbols.specs.Faults.{resolved};
-ghost use Rattle.ed_link.specs.Answers.{IsFaultOf, IsLinked};
+ghost use Rattle.ed_link.specs.Answers.{EachSourceComes, IsFaultOf, IsLinked};
 ghost use Rattle.ed_link.specs.Private.Building.{IsFinished};
 ghost use Rattle.ed_link.specs.Faults.{fault};
 ghost use Rattle.ed_link.specs.Labels.{labels};
@@ -22,6 +22,7 @@ use std::alloc::Global;
 pub fn link(alloc: Global, size: Size, program: &Program) -> Result<Linked, SourceFault>
     ensures linked { IfOk result (λ k. IsLinked size program.now.lines.items k) }
     ensures fault { IfErr result (λ e. IsFaultOf (fault size program.now.lines.items) e) }
+    ensures law { EachSourceComes }
 {
     match resolve(alloc, program) {
         Ok(places) => link_names(alloc, size, program, places.homes(), places.fault()),

@@ -25,8 +25,9 @@ use Rattle.ed_syntax.specs.declared.program.Line.{Line}
 use Rattle.ed_link.specs.declared.linked.Linked.{Linked}
 use Rattle.ed_link.specs.Answers.{IsLinked}
 use Rattle.ed_link.specs.Linked.{linked, entry_of, after}
+use Rattle.ed_link.proofs.EachSource.{each_source as comes_to}
 use Rattle.ed_link.specs.Tapes.{ComesToLinked, arrival, cost, tape}
-use Rattle.ed_loads.specs.EntryState.{Enters, EachLinkedProgramEnters, entry_state, first_state, own_words}
+use Rattle.ed_loads.specs.EntryState.{Enters, EachSourceEnters, entry_state, first_state, own_words}
 
 -- words placed over stores that agree from 44 on agree there
 one : (v w : List ℕ) (p x : ℕ) (t : Bool) → nat_lt p 44 ≡ t → drop 44 v ≡ drop 44 w → drop 44 (set v p x) ≡ drop 44 (set w p x)
@@ -114,8 +115,8 @@ module _ (z : Size) (lines : List Line) (loads : ComesToLinked z lines) where
     cheap = let m = most _ _ _ _ _ comes.comes in omega (arith, m);
   }
 
-pub each_enters : EachLinkedProgramEnters
-each_enters z lines program is = enters z lines is.loads
+pub each_source : EachSourceEnters
+each_source z source lines p f = enters z lines (comes_to z source lines p f)
 
 -- what `load` leaves of the machine that is started on the tape of a linked program
 pub loaded : (z : Size) (lines : List Line) (program : Linked) (rows : List ℕ) (s t : State) (r : Loaded) → IsLinked z lines program

@@ -1,6 +1,6 @@
 -- The state in which the program of a source is entered, on a machine that was cleared before Start (what the Initial
 -- Orders of Wilkes, Wheeler and Gill 1951 do with the tape of a linked program).
-use Rattle.std.specs.Prelude.{◌≡◌, ℕ, ◌+◌, ◌*◌, ◌^◌, ◌<◌, ◌≤◌, false, List, [], ◌++◌, None, drop, length, replicate, reverse}
+use Rattle.std.specs.Prelude.{◌≡◌, ℕ, ◌+◌, ◌*◌, ◌^◌, ◌<◌, ◌≤◌, false, List, [], ◌++◌, None, Ok, drop, length, replicate, reverse}
 use Rattle.ed_words.specs.declared.size.Size.{Size}
 use Rattle.ed_store.specs.Cells.{Cells}
 use Rattle.ed_machine.specs.State.{State, cleared}
@@ -11,12 +11,13 @@ use Rattle.ed_machine.specs.declared.turn.Turn.TheVariants.{Went}
 use Rattle.ed_notation.specs.Fold.{over}
 use Rattle.ed_initial.specs.Listing.{initial_orders}
 use Rattle.ed_initial.specs.Rests.{Working, initial_words}
+use Rattle.ed_syntax.specs.Lines.{Text}
+use Rattle.ed_syntax.specs.Sources.{program_of}
 use Rattle.ed_syntax.specs.declared.program.Line.{Line}
 use Rattle.ed_symbols.specs.Places.{first_spot}
-use Rattle.ed_link.specs.declared.linked.Linked.{Linked}
 use Rattle.ed_link.specs.Linked.{linked, entry_of, theta_from, after}
 use Rattle.ed_link.specs.Tapes.{cost, punched_rows, tape}
-use Rattle.ed_link.specs.Answers.{IsLinked}
+use Rattle.ed_link.specs.Faults.{fault}
 
 -- a cleared machine of a size, started on rows with the Initial Orders
 unfoldable pub first_state : Size → List ℕ → State
@@ -63,6 +64,6 @@ pub record Enters (z : Size) (lines : List Line) : Type 0 where
   pub went : (j : ℕ) → j < cost lines → (step (state_after j (first_state z (tape lines)))).turn ≡ Went
   pub cheap : cost lines ≤ 17 * length (punched_rows lines) + 9
 
--- so it is with every linked program
-abbrev pub EachLinkedProgramEnters : Type 0
-EachLinkedProgramEnters = (z : Size) (lines : List Line) (program : Linked) → IsLinked z lines program → Enters z lines
+-- so it is with every source without a fault
+abbrev pub EachSourceEnters : Type 0
+EachSourceEnters = (z : Size) (source : Text) (lines : List Line) → program_of source ≡ Ok lines → fault z lines ≡ None → Enters z lines

@@ -2,7 +2,7 @@ ghost use Rattle.std.specs.Prelude.{◌≡◌, IfOk, List};
 ghost use Rattle.ed_initial.specs.Entry.{IsStarted};
 ghost use Rattle.ed_syntax.specs.declared.program.Line.{Line};
 ghost use Rattle.ed_link.specs.Answers.{IsLinked};
-ghost use Rattle.ed_loads.specs.EntryState.{EachLinkedProgramEnters, entry_state, first_state};
+ghost use Rattle.ed_loads.specs.EntryState.{EachSourceEnters, entry_state, first_state};
 
 use ed_codes::Code;
 use ed_initial::{begin, load};
@@ -27,7 +27,7 @@ pub fn started(alloc: Global, size: Size, rows: Vec<Code>) -> Result<Machine, No
 /// A cleared machine of a size, started on the tape of a linked program and led to its entry by the Initial Orders.
 pub fn enter(alloc: Global, size: Size, linked: &Linked) -> Result<Machine, NoMemory>
     ensures entry { IfOk result (λ m. (lines : List Line) → IsLinked size lines linked.now → m ≡ entry_state size lines) }
-    ensures law { EachLinkedProgramEnters }
+    ensures law { EachSourceEnters }
 {
     let mut machine = started(alloc, size, linked.rows()?)?;
     load(&mut machine);

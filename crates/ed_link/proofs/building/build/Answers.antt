@@ -1,5 +1,5 @@
 use Rattle.std.proofs.Common.{sym}
-use Rattle.ed_link.proofs.LineLoop.{start, step}
+use Rattle.ed_link.proofs.LineLoop.{reach_fits, start, step}
 use Rattle.ed_link.proofs.building.build.Goals as goal
 
 pub loop-line-init : goal.loop-line-init
@@ -21,3 +21,9 @@ loop-line-preserved c =
     c.line-item.is (sym c.in-None.ensures) c.bound_rows.ensures a.items a.spellable a.table a.size a.after a.entry
     c.passed-spot.ensures.is c.passed-spot.ensures.place
     c.passed-spot.ensures.segments b.runs b.entered
+
+pub add_line-requires-clause-fits : goal.add_line-requires-clause-fits
+add_line-requires-clause-fits c =
+    reach_fits c.args.size c.args.homes.now c.args.any
+    (record { runs = c.loop-line.past.runs.items; entered = c.loop-line.past.entered }) c.line-item.result c.loop-line.spot
+    (sym c.in-None.ensures)

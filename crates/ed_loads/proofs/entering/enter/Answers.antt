@@ -1,11 +1,11 @@
-use Rattle.ed_loads.proofs.Entries.{each_enters, loaded}
+use Rattle.ed_loads.proofs.Entries.{each_source, loaded}
 use Rattle.ed_loads.proofs.entering.enter.Goals as goal
 
 pub returns-in_err-rows-clause-law : goal.returns-in_err-rows-clause-law
-returns-in_err-rows-clause-law c = each_enters
+returns-in_err-rows-clause-law c = each_source
 
 pub returns-in_err-machine-clause-law : goal.returns-in_err-machine-clause-law
-returns-in_err-machine-clause-law c = each_enters
+returns-in_err-machine-clause-law c = each_source
 
 pub returns-clause-entry : goal.returns-clause-entry
 returns-clause-entry c = λ lines is.
@@ -13,4 +13,4 @@ returns-clause-entry c = λ lines is.
     c.in_ok-rows.ensures.is c.load.ensures.loads
 
 pub returns-clause-law : goal.returns-clause-law
-returns-clause-law c = each_enters
+returns-clause-law c = each_source
