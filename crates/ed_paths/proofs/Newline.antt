@@ -1,15 +1,18 @@
 -- A worked piece: the routine `newline`, five orders and two codes, from its listing to what it does at any base.
-use Rattle.std.proofs.Common.{◌≡◌, ℕ, ◌+◌, ◌*◌, ◌<◌, ◌≤◌, refl, sym, arith, List, [], ◌∷◌, Option, Some, None, get_or, length, lit<}
+use Rattle.std.proofs.Common.{◌≡◌, ℕ, ◌+◌, ◌*◌, ◌<◌, ◌≤◌, refl, sym, subst, arith, List, [], ◌∷◌, Option, Some, None, get_or, length, lit<}
 use Rattle.ed_words.specs.Sizes.{locations}
 use Rattle.ed_words.proofs.SizeLemmas.{most}
+use Rattle.ed_orders.specs.declared.kind.Kind.{Kind}
 use Rattle.ed_machine.specs.State.{State}
+use Rattle.ed_machine.specs.Steps.{state_after}
 use Rattle.ed_paths.proofs.Leads.{Leads}
 use Rattle.ed_paths.proofs.Window.{patched}
 use Rattle.ed_paths.proofs.Standing.{Holds, IsWorking, opens, unchanged}
 use Rattle.ed_paths.proofs.Frames.{Frame, Moment, state, short}
 use Rattle.ed_paths.proofs.Places.{early, own, out, any}
+use Rattle.ed_paths.proofs.Orders.{IsOrder}
 use Rattle.ed_paths.proofs.Moves.{A, T, O, E_jumps}
-use Rattle.ed_paths.proofs.Paths.{Path, stay, on, prints, leads}
+use Rattle.ed_paths.proofs.Paths.{Path, stay, on, prints, leads, each}
 
 -- its listing at b: A3F T4θ O5θ O6θ, the order that returns, and the codes of carriage return and line feed
 abbrev pub image : ℕ → List (Option ℕ)
@@ -23,19 +26,20 @@ cells b at4 =
     114694 ∷ (20480 + 2 * (b + 4)) ∷ (36864 + 2 * (b + 5)) ∷ (36864 + 2 * (b + 6)) ∷ at4
     ∷ 73728 ∷ 98304 ∷ []
 
--- it stands at b, and is called from m: the accumulator holds the order A m F
-pub record IsCalled (s : State) (b m : ℕ) : Type 0 where
+-- it stands at b, and is called from m: the accumulator holds the order A m F. It and its way back are below a place
+pub record IsCalled (s : State) (b m top : ℕ) : Type 0 where
   pub counter : s.counter ≡ b
   pub low : 56 ≤ b
-  pub fits : b + 7 ≤ locations s.size
+  pub under : b + 7 ≤ top
+  pub back : m + 3 ≤ top
+  pub fits : top ≤ locations s.size
   pub at3 : get_or s.store.words 3 0 ≡ 28676
   pub holds : Holds (image b) s.store.words b
   pub acc : s.acc ≡ short (114688 + 2 * m)
-  pub room : m + 3 ≤ locations s.size
 
-module _ (s : State) (b m : ℕ) (o : IsCalled s b m) (all : length s.store.words ≡ 1024) where
+module _ (s : State) (b m top : ℕ) (o : IsCalled s b m top) (all : length s.store.words ≡ 1024) where
   abbrev f : Frame 7 0
-  f = record { size = s.size; base = b; top = locations s.size; under = o.fits; fits = omega arith }
+  f = record { size = s.size; base = b; top = top; under = o.under; fits = o.fits }
 
   abbrev at : ℕ → ℕ → ℕ → Option ℕ → Moment
   at i acc at4 last = record {
@@ -57,13 +61,21 @@ module _ (s : State) (b m : ℕ) (o : IsCalled s b m) (all : length s.store.word
   path : (at4 : ℕ) → Path f 5 (at 0 (short (114688 + 2 * m)) at4 s.last) (18 ∷ 24 ∷ []) (record (at 0 0 link (Some 24)) { counter = m + 2 })
   path at4 =
       let at3 = o.at3 in
-      let fits = most s.size in
-      let back : m + 2 < locations s.size = omega (arith, o.room) in
+      let size = most s.size in
+      let fits = o.fits in
+      let back : m + 2 < top = omega (arith, o.back) in
       on (A 0 (out 3 (early 3 o.low (lit< tt) all)) (short link) refl (omega arith))
       (on (T 1 (own 4) _ refl refl)
       (prints (O 2 (own 5) 18 refl refl)
       (prints (O 3 (own 6) 24 refl refl)
       (on (E_jumps 4 (any (m + 2) back) refl (lit< tt)) stay))))
+
+  begins : state f (at 0 (short (114688 + 2 * m)) (get_or s.store.words (b + 4) 0) s.last) s.orders ≡ s
+  begins =
+      let size = most s.size in
+      let same = opens (image b) s.store.words b (omega (arith, o.under, o.fits, size, all)) o.holds in
+      let z : b + 0 ≡ b = omega arith in
+      rw (z, same, sym o.acc, sym o.counter) refl
 
   -- five orders print the two codes and lead behind the call
   pub newline : Leads 5 s (18 ∷ 24 ∷ []) (record s {
@@ -73,13 +85,13 @@ module _ (s : State) (b m : ℕ) (o : IsCalled s b m) (all : length s.store.word
     last = Some 24;
     orders = s.orders + 5;
   })
-  newline =
-      let at4 = get_or s.store.words (b + 4) 0 in
-      let fits = most s.size in
-      let same = opens (image b) s.store.words b (omega (arith, o.fits, all)) o.holds in
-      let z : b + 0 ≡ b = omega arith in
-      let begin : state f (at 0 (short (114688 + 2 * m)) at4 s.last) s.orders ≡ s = rw (z, same, sym o.acc, sym o.counter) refl in
-      rw begin at (leads (path at4) s.orders)
+  newline = rw begins at (leads (path (get_or s.store.words (b + 4) 0)) s.orders)
+
+  -- what holds of every order that keeps below the place holds before each of them
+  pub keeps_below : (P : State → Type 0) → ((kind : Kind) (x : State) → IsOrder top kind x → P x) → (j : ℕ) → j < 5
+      → P (state_after j s)
+  keeps_below P is j l =
+      subst (λ x. P (state_after j x)) begins (each P is (path (get_or s.store.words (b + 4) 0)) s.orders j l)
 
   -- each word of the store stays, but for the order that returns
   pub keeps : (i : ℕ) → (IsWorking (image b) b i → ⊥) → get_or (patched 0 s.store.words b (cells b link)) i 0 ≡ get_or s.store.words i 0

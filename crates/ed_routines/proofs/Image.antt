@@ -1,12 +1,12 @@
 -- The tie between a routine's table in the library and the words that a path speaks of: its image at a base, with none at
 -- its working places.
-use Rattle.std.proofs.Common.{◌≡◌, ℕ, zero, suc, ◌+◌, ◌*◌, ◌<◌, ◌≤◌, refl, sym, ap, ◌∙◌, arith, Bool, true, false}
-use Rattle.std.proofs.Common.{◌&&◌, ◌||◌, true≢false, nat_eq, nat_le, List, [], ◌∷◌, Option, Some, None, length, get_or, lit≤}
+use Rattle.std.proofs.Common.{◌≡◌, ℕ, zero, suc, ◌+◌, ◌-◌, ◌*◌, ◌<◌, ◌≤◌, refl, sym, ap, ◌∙◌, arith, Bool, true, false}
+use Rattle.std.proofs.Common.{◌&&◌, ◌||◌, nat_eq, nat_le, nat_lt, List, [], ◌∷◌, Option, Some, None, length, get_or, lit≤}
 use Rattle.std.specs.Prelude.{◌==◌, if◌then◌else◌}
 use Rattle.std.specs.List.{list_any}
 use Rattle.std.proofs.lemmas.Bool.{and_parts}
 use Rattle.ed_words.specs.Words.{digit}
-use Rattle.ed_words.proofs.Numbers.{eq_of, le_of}
+use Rattle.ed_words.proofs.Numbers.{eq_of, eq_false, le_of, le_true, lt_of}
 use Rattle.ed_notation.specs.Fold.{value_of, word_with}
 use Rattle.ed_library.specs.Routines.{item_of}
 use Rattle.ed_library.specs.Images.{parameter_store, item_word}
@@ -17,83 +17,86 @@ use Rattle.ed_paths.proofs.Standing.{Meets}
 abbrev pub Row : Type 0
 Row = ℕ × ℕ × Bool × ℕ
 
--- the word of a row at a base, with H the location h
-abbrev pub row_word : ℕ → ℕ → Row → ℕ
-row_word b h row =
+-- the word of a row at a base, with H, N, M and so on the locations hs
+abbrev pub row_word : ℕ → List ℕ → Row → ℕ
+row_word b hs row =
     if nat_eq row.3 18 then 4096 * row.0 + digit row.2 + 2 * (b + row.1)
     else if nat_eq row.3 19 then 4096 * row.0 + 2 * row.1 + digit row.2 + 1
-    else if nat_eq row.3 21 then 4096 * row.0 + 2 * row.1 + digit row.2 + 2 * h
+    else if nat_le 21 row.3 then 4096 * row.0 + 2 * row.1 + digit row.2 + 2 * get_or hs (row.3 - 21) 0
     else 4096 * row.0 + 2 * row.1 + digit row.2
 
--- a row that ends with F, θ or D, or with H where the routine takes that parameter, and whose word is not reduced
-abbrev pub is_plain : Bool → Row → Bool
+-- a row that ends with F, θ or D, or with one of the so many parameters that the routine takes, and whose word is not reduced
+abbrev pub is_plain : ℕ → Row → Bool
 is_plain takes row =
     nat_le (4096 * row.0 + 2 * row.1) 124928
-    && (nat_eq row.3 17 || (nat_eq row.3 18 || (nat_eq row.3 19 || (takes && nat_eq row.3 21))))
+    && (nat_eq row.3 17 || (nat_eq row.3 18 || (nat_eq row.3 19 || (nat_le 21 row.3 && nat_lt row.3 (21 + takes)))))
 
-abbrev pub all_plain : Bool → List Row → Bool
+abbrev pub all_plain : ℕ → List Row → Bool
 all_plain takes [] = true
 all_plain takes (row ∷ rows) = is_plain takes row && all_plain takes rows
 
 -- the words of the rows from place i on, but for the working places
-abbrev pub image_from : List Row → List ℕ → ℕ → ℕ → ℕ → List (Option ℕ)
-image_from [] working b h i = []
-image_from (row ∷ rows) working b h i =
-    (if list_any (λ p. p == i) working then None else Some (row_word b h row)) ∷ image_from rows working b h (i + 1)
+abbrev pub image_from : List Row → List ℕ → ℕ → List ℕ → ℕ → List (Option ℕ)
+image_from [] working b hs i = []
+image_from (row ∷ rows) working b hs i =
+    (if list_any (λ p. p == i) working then None else Some (row_word b hs row)) ∷ image_from rows working b hs (i + 1)
 
-pub length_image : (rows : List Row) (working : List ℕ) (b h i : ℕ) → length (image_from rows working b h i) ≡ length rows
-length_image [] working b h i = refl
-length_image (row ∷ rows) working b h i = ap suc (length_image rows working b h (i + 1))
+pub length_image : (rows : List Row) (working : List ℕ) (b : ℕ) (hs : List ℕ) (i : ℕ) → length (image_from rows working b hs i) ≡ length rows
+length_image [] working b hs i = refl
+length_image (row ∷ rows) working b hs i = ap suc (length_image rows working b hs (i + 1))
 
 -- the letters of such rows
-pub data IsLetter (takes : Bool) (c : ℕ) : Type 0 where
+pub data IsLetter (takes c : ℕ) : Type 0 where
   F : c ≡ 17 → IsLetter takes c
   theta : c ≡ 18 → IsLetter takes c
   D : c ≡ 19 → IsLetter takes c
-  H : takes ≡ true → c ≡ 21 → IsLetter takes c
+  parameter : 21 ≤ c → c < 21 + takes → IsLetter takes c
 
-letter_of : (takes : Bool) (c : ℕ) → (nat_eq c 17 || (nat_eq c 18 || (nat_eq c 19 || (takes && nat_eq c 21)))) ≡ true → IsLetter takes c
-letter_of takes c e = by_tests (nat_eq c 17) (nat_eq c 18) (nat_eq c 19) takes refl refl refl refl
+letter_of : (takes c : ℕ) → (nat_eq c 17 || (nat_eq c 18 || (nat_eq c 19 || (nat_le 21 c && nat_lt c (21 + takes))))) ≡ true → IsLetter takes c
+letter_of takes c e = by_tests (nat_eq c 17) (nat_eq c 18) (nat_eq c 19) refl refl refl
   where
-    by_tests : (p q r t : Bool) → nat_eq c 17 ≡ p → nat_eq c 18 ≡ q → nat_eq c 19 ≡ r → takes ≡ t → IsLetter takes c
-    by_tests true q r t a b d g = F (eq_of c 17 a)
-    by_tests false true r t a b d g = theta (eq_of c 18 b)
-    by_tests false false true t a b d g = D (eq_of c 19 d)
-    by_tests false false false true a b d g = H g (eq_of c 21 (rw (a, b, d, g) at e))
-    by_tests false false false false a b d g = absurd (true≢false (sym (rw (a, b, d, g) at e)))
+    by_tests : (p q r : Bool) → nat_eq c 17 ≡ p → nat_eq c 18 ≡ q → nat_eq c 19 ≡ r → IsLetter takes c
+    by_tests true q r a b d = F (eq_of c 17 a)
+    by_tests false true r a b d = theta (eq_of c 18 b)
+    by_tests false false true a b d = D (eq_of c 19 d)
+    by_tests false false false a b d =
+        let t = and_parts (nat_le 21 c) (nat_lt c (21 + takes)) (rw (a, b, d) at e) in
+        parameter (le_of 21 c t.0) (lt_of c (21 + takes) t.1)
 
 digit_low : (d : Bool) → digit d ≤ 1
 digit_low true = lit≤ tt
 digit_low false = lit≤ tt
 
-module _ (takes : Bool) (parameters : List ℕ) (b h : ℕ) (low : b ≤ 1024) (near : h ≤ 1023)
-    (h_is : takes ≡ true → get_or parameters 0 0 ≡ 2 * h) where
+module _ (takes : ℕ) (parameters : List ℕ) (b : ℕ) (hs : List ℕ) (low : b ≤ 1024) (near : (p : ℕ) → p < takes → get_or hs p 0 ≤ 1023)
+    (is : (p : ℕ) → p < takes → get_or parameters p 0 ≡ 2 * get_or hs p 0) where
   by_letter : (f n c : ℕ) (d : Bool) → 4096 * f + 2 * n ≤ 124928 → IsLetter takes c
-      → word_with f n d (value_of (parameter_store parameters) (2 * b) c) ≡ row_word b h (f, n, d, c)
+      → word_with f n d (value_of (parameter_store parameters) (2 * b) c) ≡ row_word b hs (f, n, d, c)
   by_letter f n c d small (F e) = let l = digit_low d in rw e (omega arith)
   by_letter f n c d small (theta e) = let l = digit_low d in rw e (omega arith)
   by_letter f n c d small (D e) = let l = digit_low d in rw e (omega arith)
-  by_letter f n c d small (H is e) =
+  by_letter f n c d small (parameter from below) =
       let l = digit_low d in
-      let v : value_of (parameter_store parameters) (2 * b) 21 ≡ 2 * h = value_of_parameter parameters (2 * b) 21 (lit≤ tt) ∙ h_is is in
-      rw (e, v) (omega arith)
+      let v : value_of (parameter_store parameters) (2 * b) c ≡ 2 * get_or hs (c - 21) 0 =
+      value_of_parameter parameters (2 * b) c from ∙ is (c - 21) (omega arith) in
+      let near_c = near (c - 21) (omega arith) in
+      rw (v, eq_false c 18 (λ e. absurd (omega arith)), eq_false c 19 (λ e. absurd (omega arith)), le_true 21 c from) (omega arith)
 
   -- the word that the library gives a row
-  pub row_word_is : (row : Row) → is_plain takes row ≡ true → item_word parameters b (item_of row) ≡ row_word b h row
+  pub row_word_is : (row : Row) → is_plain takes row ≡ true → item_word parameters b (item_of row) ≡ row_word b hs row
   row_word_is row plain =
       let p = and_parts (nat_le (4096 * row.0 + 2 * row.1) 124928) _ plain in
       by_letter row.0 row.1 row.3 row.2 (le_of _ _ p.0) (letter_of takes row.3 p.1)
 
   module _ (working : List ℕ) (none : Row) where
     here_meets : (t : Bool) (row : Row) (x : ℕ) → is_plain takes row ≡ true → (t ≡ false → x ≡ item_word parameters b (item_of row))
-        → Meets (if t then None else Some (row_word b h row)) x
+        → Meets (if t then None else Some (row_word b hs row)) x
     here_meets true row x plain e = tt
     here_meets false row x plain e = e refl ∙ row_word_is row plain
 
     -- a word that is the library's, where its place is no working one, meets the image
     pub meets : (rows : List Row) (i j x : ℕ) → all_plain takes rows ≡ true → j < length rows
         → (list_any (λ p. p == (i + j)) working ≡ false → x ≡ item_word parameters b (item_of (get_or rows j none)))
-        → Meets (get_or (image_from rows working b h i) j None) x
+        → Meets (get_or (image_from rows working b hs i) j None) x
     meets [] i j x plain l e = absurd (omega arith)
     meets (row ∷ rows) i zero x plain l e =
         let p = and_parts (is_plain takes row) (all_plain takes rows) plain in
@@ -109,12 +112,13 @@ here_working true w e = refl
 here_working false w e = cc
 
 -- the image has none at working places alone
-pub working_at : (rows : List Row) (working : List ℕ) (b h i j : ℕ) → j < length rows → get_or (image_from rows working b h i) j None ≡ None
+pub working_at : (rows : List Row) (working : List ℕ) (b : ℕ) (hs : List ℕ) (i j : ℕ) → j < length rows
+    → get_or (image_from rows working b hs i) j None ≡ None
     → list_any (λ p. p == (i + j)) working ≡ true
-working_at [] working b h i j l e = absurd (omega arith)
-working_at (row ∷ rows) working b h i zero l e =
+working_at [] working b hs i j l e = absurd (omega arith)
+working_at (row ∷ rows) working b hs i zero l e =
     let z : i + 0 ≡ i = omega arith in
-    ap (λ y. list_any (λ p. p == y) working) z ∙ here_working (list_any (λ p. p == i) working) (row_word b h row) e
-working_at (row ∷ rows) working b h i (suc j) l e =
+    ap (λ y. list_any (λ p. p == y) working) z ∙ here_working (list_any (λ p. p == i) working) (row_word b hs row) e
+working_at (row ∷ rows) working b hs i (suc j) l e =
     let z : i + suc j ≡ i + 1 + j = omega arith in
-    ap (λ y. list_any (λ p. p == y) working) z ∙ working_at rows working b h (i + 1) j (omega arith) e
+    ap (λ y. list_any (λ p. p == y) working) z ∙ working_at rows working b hs (i + 1) j (omega arith) e

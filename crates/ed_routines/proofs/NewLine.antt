@@ -1,25 +1,30 @@
 -- `newline` from the library's table to what it does.
-use Rattle.std.proofs.Common.{◌≡◌, ℕ, ◌+◌, ◌*◌, refl, ap, ◌∙◌, sym, arith, false, List, [], ◌∷◌, Some, get_or, true≢false}
-use Rattle.ed_store.specs.Cells.{IsStore}
+use Rattle.std.proofs.Common.{◌≡◌, ℕ, ◌+◌, ◌*◌, refl, ap, ◌∙◌, sym, arith, ◌<◌, List, [], ◌∷◌, Some, get_or, length}
+use Rattle.ed_words.proofs.SizeLemmas.{most}
+use Rattle.ed_orders.specs.declared.kind.Kind.{Kind}
 use Rattle.ed_machine.specs.State.{State}
+use Rattle.ed_machine.specs.Steps.{state_after}
 use Rattle.ed_paths.proofs.Leads.{Leads}
 use Rattle.ed_paths.proofs.Window.{patched}
-use Rattle.ed_paths.proofs.Newline.{IsCalled, cells, newline as newline_leads}
+use Rattle.ed_paths.proofs.Orders.{IsOrder}
+use Rattle.ed_paths.proofs.Newline.{IsCalled, cells, newline as newline_leads, keeps_below as newline_keeps}
 use Rattle.ed_routines.specs.Catalogue.{newline}
 use Rattle.ed_routines.specs.Standing.{Stands, caller}
 use Rattle.ed_routines.specs.Returns.{Keeps, Returned}
-use Rattle.ed_routines.proofs.Called.{holds, kept}
+use Rattle.ed_routines.proofs.Called.{IsWithin, holds, kept, length-patched}
 
-module _ (parameters : List ℕ) (b : ℕ) (s : State) (store : IsStore s.store) (o : Stands newline parameters b s) where
-  called : IsCalled s b (caller s)
+module _ (parameters : List ℕ) (b top : ℕ) (s : State) (all : length s.store.words ≡ 1024) (o : Stands newline parameters b s)
+    (within : IsWithin 7 b 0 top s) where
+  called : IsCalled s b (caller s) top
   called = record {
     counter = o.counter;
     low = o.low;
-    fits = o.fits;
+    under = within.under;
+    back = within.back;
+    fits = within.fits;
     at3 = o.at3;
-    holds = holds newline b 0 false parameters s o (omega arith) (λ e. absurd (true≢false (sym e))) refl;
+    holds = holds newline b [] 0 parameters s o (λ p l. absurd (omega arith)) (λ p l. absurd (omega arith)) refl;
     acc = o.call.acc;
-    room = o.call.room;
   }
 
   abbrev pub link : ℕ
@@ -34,8 +39,19 @@ module _ (parameters : List ℕ) (b : ℕ) (s : State) (store : IsStore s.store)
     orders = s.orders + 5;
   }
 
+  pub all_last : length last.store.words ≡ 1024
+  all_last =
+      let size = most s.size in
+      let fits = o.fits in
+      length-patched 0 s.store.words b (cells b link) (omega (arith, all, fits)) ∙ all
+
   pub leads_to : Leads 5 s (18 ∷ 24 ∷ []) last
-  leads_to = newline_leads s b (caller s) called store.words_are
+  leads_to = newline_leads s b (caller s) top called all
+
+  -- what holds of every order that keeps below the place holds before each of them
+  pub keeps_below : (P : State → Type 0) → ((kind : Kind) (x : State) → IsOrder top kind x → P x) → (j : ℕ) → j < 5
+      → P (state_after j s)
+  keeps_below = newline_keeps s b (caller s) top called all
 
   module _ (t : State) (e : t ≡ last) where
     pub returned : Returned 5 s.tape (Some 24) s t
@@ -44,5 +60,5 @@ module _ (parameters : List ℕ) (b : ℕ) (s : State) (store : IsStore s.store)
     pub keeps : Keeps newline b s t
     keeps = record {
       words = λ i other. ap (λ (x : State). get_or x.store.words i 0) e
-          ∙ kept newline b 0 s.store.words (cells b link) refl refl called.holds i other;
+          ∙ kept newline b [] s.store.words (cells b link) refl refl called.holds i other;
     }

@@ -1,9 +1,9 @@
 -- `print` from the library's table to what it does.
-use Rattle.std.proofs.Common.{◌≡◌, ℕ, ◌+◌, ◌*◌, ◌/◌, ◌%◌, ◌<◌, refl, sym, ap, ◌∙◌, subst, arith, true, false, ◌∷◌, Some}
-use Rattle.std.proofs.Common.{get_or}
+use Rattle.std.proofs.Common.{◌≡◌, ℕ, ◌+◌, ◌*◌, ◌/◌, ◌%◌, ◌<◌, refl, sym, ap, ◌∙◌, subst, arith, false, [], ◌∷◌, Some}
+use Rattle.std.proofs.Common.{get_or, length}
 use Rattle.ed_words.proofs.SizeLemmas.{most}
 use Rattle.ed_orders.specs.declared.kind.Kind.{Kind}
-use Rattle.ed_store.specs.Cells.{IsStore, short_at}
+use Rattle.ed_store.specs.Cells.{short_at}
 use Rattle.ed_machine.specs.State.{State}
 use Rattle.ed_machine.specs.Steps.{state_after}
 use Rattle.ed_paths.proofs.Frames.{Frame, Moment, state, short}
@@ -17,12 +17,12 @@ use Rattle.ed_routines.specs.Catalogue.{print, with_h}
 use Rattle.ed_routines.specs.Standing.{Stands, IsOutside, caller}
 use Rattle.ed_routines.specs.Digits.{digits, print_orders, sum}
 use Rattle.ed_routines.specs.Returns.{Keeps, Returned}
-use Rattle.ed_routines.proofs.Called.{IsWithin, image, holds, kept, beside}
+use Rattle.ed_routines.proofs.Called.{IsWithin, image, holds, kept, near_h, h_is, beside, length-patched}
 use Rattle.ed_routines.proofs.Digits.{tens}
 use Rattle.ed_routines.proofs.Print.{Work, cells, run, whole, flag_of, begun, spared, before_tens, spelled, shows, spelled_is}
 use Rattle.ed_routines.proofs.Print.{shows_is, sum_is}
 
-module _ (b h top : ℕ) (s : State) (store : IsStore s.store) (o : Stands print (with_h h) b s) (out : IsOutside print b h s)
+module _ (b h top : ℕ) (s : State) (all : length s.store.words ≡ 1024) (o : Stands print (with_h h) b s) (out : IsOutside print b h s)
     (within : IsWithin 51 b h top s) (small : short_at s.store h < 65536) where
   abbrev n : ℕ
   n = short_at s.store h
@@ -30,11 +30,11 @@ module _ (b h top : ℕ) (s : State) (store : IsStore s.store) (o : Stands print
   abbrev f : Frame 51 0
   f = record { size = s.size; base = b; top = top; under = within.under; fits = within.fits }
 
-  image_holds : Holds (image print b h) s.store.words b
+  image_holds : Holds (image print b (h ∷ [])) s.store.words b
   image_holds =
       let size = most s.size in
       let below = out.below in
-      holds print b h true (with_h h) s o (omega arith) (λ e. refl) refl
+      holds print b (h ∷ []) 1 (with_h h) s o (near_h h (omega arith)) (h_is h) refl
 
   abbrev first : Work
   first = record {
@@ -48,15 +48,14 @@ module _ (b h top : ℕ) (s : State) (store : IsStore s.store) (o : Stands print
 
   abbrev moment : Moment
   moment =
-      run f o.low h (caller s) s.multiplier s.store.words s.tape s.store.sandwich store.words_are first (114688 + 2 * caller s) 0 s.last
+      run f o.low h (caller s) s.multiplier s.store.words s.tape s.store.sandwich all first (114688 + 2 * caller s) 0 s.last
 
   begins : state f moment s.orders ≡ s
   begins =
       let size = most s.size in
       let fits = o.fits in
-      let all = store.words_are in
       let words : patched 0 s.store.words b (cells b h first) ≡ s.store.words =
-      opens (image print b h) s.store.words b (omega (arith, fits, all)) image_holds in
+      opens (image print b (h ∷ [])) s.store.words b (omega (arith, fits, all)) image_holds in
       let counter : b + 0 ≡ s.counter = omega (arith, o.counter) in
       let acc : short (114688 + 2 * caller s) ≡ s.acc = sym o.call.acc in
       λ i. record {
@@ -82,7 +81,7 @@ module _ (b h top : ℕ) (s : State) (store : IsStore s.store) (o : Stands print
   }
 
   abbrev end : Moment
-  end = record (run f o.low h (caller s) s.multiplier s.store.words s.tape s.store.sandwich store.words_are left 0 0 (Some (n % 10)))
+  end = record (run f o.low h (caller s) s.multiplier s.store.words s.tape s.store.sandwich all left 0 0 (Some (n % 10)))
       { counter = caller s + 2 }
 
   path : Path f (print_orders n) moment (11 ∷ digits n) end
@@ -90,10 +89,10 @@ module _ (b h top : ℕ) (s : State) (store : IsStore s.store) (o : Stands print
       let count : 78 + 8 * sum (tens n) + 4 * shows false (tens n) ≡ print_orders n =
       λ i. 78 + 8 * sum_is (tens n) i + 4 * shows_is (tens n) i in
       let codes : 11 ∷ spelled false (tens n) (n % 10) ≡ 11 ∷ digits n = λ i. 11 ∷ spelled_is (tens n) (n % 10) i in
-      let away : IsBeside f s.store.words h = record { below = within.near; beside = beside 51 b h s store out.beside o.fits } in
+      let away : IsBeside f s.store.words h = record { below = within.near; beside = beside 51 b h s all out.beside o.fits } in
       subst (λ k. Path f k moment (11 ∷ digits n) end) count
       (subst (λ cs. Path f (78 + 8 * sum (tens n) + 4 * shows false (tens n)) moment cs end) codes
-      (whole f o.low h (caller s) s.multiplier s.store.words s.tape s.store.sandwich store.words_are first n s.last o.at2 o.at3
+      (whole f o.low h (caller s) s.multiplier s.store.words s.tape s.store.sandwich all first n s.last o.at2 o.at3
       within.back away refl small))
 
   abbrev pub last : State
@@ -104,6 +103,12 @@ module _ (b h top : ℕ) (s : State) (store : IsStore s.store) (o : Stands print
     last = Some (n % 10);
     orders = s.orders + print_orders n;
   }
+
+  pub all_last : length last.store.words ≡ 1024
+  all_last =
+      let size = most s.size in
+      let fits = o.fits in
+      length-patched 0 s.store.words b (cells b h left) (omega (arith, all, fits)) ∙ all
 
   -- so many orders print the digits and lead behind the call
   pub leads_to : Leads (print_orders n) s (11 ∷ digits n) last
@@ -121,5 +126,5 @@ module _ (b h top : ℕ) (s : State) (store : IsStore s.store) (o : Stands print
     pub keeps : Keeps print b s t
     keeps = record {
       words = λ i other. ap (λ (x : State). get_or x.store.words i 0) e
-          ∙ kept print b h s.store.words (cells b h left) refl refl image_holds i other;
+          ∙ kept print b (h ∷ []) s.store.words (cells b h left) refl refl image_holds i other;
     }

@@ -1,12 +1,11 @@
 -- `read` from the library's table to what it does.
 use Rattle.std.proofs.Common.{◌≡◌, ◌≢◌, inl, inr, ℕ, ◌+◌, ◌*◌, ◌%◌, ◌^◌, ◌<◌, ◌≤◌, refl, sym, ap, ◌∙◌, subst, arith, true, false, Bool}
 use Rattle.std.proofs.Common.{List, [], ◌∷◌, ◌++◌, get_or, set, length, length-append, append-nil, drop, nat_lt}
-use Rattle.std.proofs.lemmas.List.{get_or-set_same, get_or-set_other}
+use Rattle.std.proofs.lemmas.List.{get_or-set_same, get_or-set_other, length-set}
 use Rattle.ed_words.proofs.Numbers.{lt_of, not_lt_of}
 use Rattle.ed_words.proofs.SizeLemmas.{most}
 use Rattle.ed_orders.specs.declared.kind.Kind.{Kind}
 use Rattle.ed_orders.specs.declared.kind.Kind.TheVariants.{I as KindI}
-use Rattle.ed_store.specs.Cells.{IsStore}
 use Rattle.ed_machine.specs.State.{State}
 use Rattle.ed_machine.specs.OrderTable.{Obeyed, step}
 use Rattle.ed_machine.specs.Steps.{state_after}
@@ -22,7 +21,7 @@ use Rattle.ed_routines.specs.Catalogue.{read, with_h}
 use Rattle.ed_routines.specs.Standing.{Stands, IsOutside, caller}
 use Rattle.ed_routines.specs.Digits.{value, digit_rows, after_digits}
 use Rattle.ed_routines.specs.Returns.{HasRead, IsOther, KeepsBut, Waits}
-use Rattle.ed_routines.proofs.Called.{IsWithin, image, holds, kept, beside}
+use Rattle.ed_routines.proofs.Called.{IsWithin, image, holds, kept, near_h, h_is, beside, length-patched}
 use Rattle.ed_routines.proofs.Read.{Work, Digits, none, more, cells, run, whole, until_end, worked, opened_work, last_work}
 
 -- a tape is its digit rows and the rows behind them
@@ -89,7 +88,7 @@ has_ending rows other = by_rows (after_digits rows) refl
         let there : get_or (digit_rows rows ++ c ∷ rest) (length (digit_rows rows)) 0 ≡ c = get_or-length (digit_rows rows) c rest in
         ap (λ x. x ∷ rest) (sym (ap (λ x. get_or x (length (digit_rows rows)) 0) (split rows ∙ ap (λ x. digit_rows rows ++ x) e) ∙ there))
 
-module _ (b h top : ℕ) (s : State) (store : IsStore s.store) (o : Stands read (with_h h) b s) (out : IsOutside read b h s)
+module _ (b h top : ℕ) (s : State) (all : length s.store.words ≡ 1024) (o : Stands read (with_h h) b s) (out : IsOutside read b h s)
     (within : IsWithin 24 b h top s) where
   abbrev f : Frame 24 0
   f = record { size = s.size; base = b; top = top; under = within.under; fits = within.fits }
@@ -97,11 +96,11 @@ module _ (b h top : ℕ) (s : State) (store : IsStore s.store) (o : Stands read 
   abbrev ds : List ℕ
   ds = digit_rows s.tape
 
-  image_holds : Holds (image read b h) s.store.words b
+  image_holds : Holds (image read b (h ∷ [])) s.store.words b
   image_holds =
       let size = most s.size in
       let below = out.below in
-      holds read b h true (with_h h) s o (omega arith) (λ e. refl) refl
+      holds read b (h ∷ []) 1 (with_h h) s o (near_h h (omega arith)) (h_is h) refl
 
   abbrev first : Work
   first = record {
@@ -118,9 +117,8 @@ module _ (b h top : ℕ) (s : State) (store : IsStore s.store) (o : Stands read 
   begins rows tape =
       let size = most s.size in
       let fits = o.fits in
-      let all = store.words_are in
       let words : patched 0 s.store.words b (cells b h first) ≡ s.store.words =
-      opens (image read b h) s.store.words b (omega (arith, fits, all)) image_holds in
+      opens (image read b (h ∷ [])) s.store.words b (omega (arith, fits, all)) image_holds in
       let counter : b + 0 ≡ s.counter = omega (arith, o.counter) in
       let acc : short (114688 + 2 * caller s) ≡ s.acc = sym o.call.acc in
       let rows : rows ≡ s.tape = sym tape in
@@ -139,12 +137,12 @@ module _ (b h top : ℕ) (s : State) (store : IsStore s.store) (o : Stands read 
   stays : (v : ℕ) (w : Work) (i : ℕ) → i ≢ h → IsOther read b i
       → get_or (patched 0 (set s.store.words h v) b (cells b h w)) i 0 ≡ get_or s.store.words i 0
   stays v w i other free =
-      kept read b h (set s.store.words h v) (cells b h w) refl refl still i free ∙ get_or-set_other s.store.words h i v 0 other
+      kept read b (h ∷ []) (set s.store.words h v) (cells b h w) refl refl still i free ∙ get_or-set_other s.store.words h i v 0 other
     where
       apart : (j : ℕ) → j < 24 → b + j ≢ h
       apart j l e = elim out.beside [ inl x ↦ absurd (omega arith) | inr y ↦ absurd (omega arith) ]
 
-      still : Holds (image read b h) (set s.store.words h v) b
+      still : Holds (image read b (h ∷ [])) (set s.store.words h v) b
       still j l = rw (get_or-set_other s.store.words h (b + j) v 0 (apart j l)) (image_holds j l)
 
   -- the word at h is none of the routine's
@@ -152,7 +150,7 @@ module _ (b h top : ℕ) (s : State) (store : IsStore s.store) (o : Stands read 
   at_h ws w = elim out.beside [ inl l ↦ get_below 0 ws b (cells b h w) h l | inr g ↦ get_above 0 ws b (cells b h w) h g ]
 
   away : IsBeside f s.store.words h
-  away = record { below = within.near; beside = beside 24 b h s store out.beside o.fits }
+  away = record { below = within.near; beside = beside 24 b h s all out.beside o.fits }
 
   -- where an ending row stands behind the digit rows
   module _ (c : ℕ) (rest : List ℕ) (e : after_digits s.tape ≡ c ∷ rest) (code : c < 32) where
@@ -170,7 +168,7 @@ module _ (b h top : ℕ) (s : State) (store : IsStore s.store) (o : Stands read 
 
     path : Path f (11 + 13 * length ds) (at s.store.words first (114688 + 2 * caller s) 0 (ds ++ c ∷ rest)) [] end
     path =
-        whole f o.low h (caller s) s.multiplier s.store.sandwich s.last s.store.words first ds c rest store.words_are o.at3 within.back
+        whole f o.low h (caller s) s.multiplier s.store.sandwich s.last s.store.words first ds c rest all o.at3 within.back
         (are_digits s.tape) (is_ending s.tape c rest e) code away
 
     abbrev pub last : State
@@ -181,6 +179,14 @@ module _ (b h top : ℕ) (s : State) (store : IsStore s.store) (o : Stands read 
       tape = rest;
       orders = s.orders + (11 + 13 * length ds);
     }
+
+    pub all_last : length last.store.words ≡ 1024
+    all_last =
+        let size = most s.size in
+        let fits = o.fits in
+        length-patched 0 written b (cells b h left) (let e = length-set s.store.words h (value ds % 2 ^ 17) in omega (arith, e, all, fits))
+        ∙ length-set s.store.words h (value ds % 2 ^ 17)
+        ∙ all
 
     -- so many orders read the rows and lead behind the call
     pub leads_to : Leads (11 + 13 * length ds) s [] last
@@ -196,7 +202,6 @@ module _ (b h top : ℕ) (s : State) (store : IsStore s.store) (o : Stands read 
       has_read =
           let size = most s.size in
           let below = out.below in
-          let all = store.words_are in
           record {
             number = ap (λ (x : State). get_or x.store.words h 0) is ∙ at_h written left
                 ∙ get_or-set_same s.store.words h (value ds % 2 ^ 17) 0 (omega arith);
@@ -220,7 +225,7 @@ module _ (b h top : ℕ) (s : State) (store : IsStore s.store) (o : Stands read 
     path_to_end : Path f (3 + 13 * length ds) (at s.store.words first (114688 + 2 * caller s) 0 (ds ++ [])) []
         (at s.store.words so_far 0 3 [])
     path_to_end =
-        until_end f o.low h (caller s) s.multiplier s.store.sandwich s.last s.store.words first ds store.words_are o.at3 within.back
+        until_end f o.low h (caller s) s.multiplier s.store.sandwich s.last s.store.words first ds all o.at3 within.back
         (are_digits s.tape)
 
     abbrev pub waiting : State
@@ -257,5 +262,5 @@ module _ (b h top : ℕ) (s : State) (store : IsStore s.store) (o : Stands read 
       pub keeps_waiting : KeepsBut h read b s t
       keeps_waiting = record {
         words = λ i other free. ap (λ (x : State). get_or x.store.words i 0) is
-            ∙ kept read b h s.store.words (cells b h so_far) refl refl image_holds i free;
+            ∙ kept read b (h ∷ []) s.store.words (cells b h so_far) refl refl image_holds i free;
       }

@@ -32,7 +32,7 @@ pub free : {k : ℕ} {s t : State} {codes : List ℕ} → Leads k s codes t → 
 free o j l = obeyed_of _ (o.goes j l)
 
 -- and none of them stops the machine
-no_stops : (k : ℕ) (s : State) → ((j : ℕ) → j < k → goes_on (step (state_after j s)).turn ≡ true) → (past k s).stops ≡ 0
+pub no_stops : (k : ℕ) (s : State) → ((j : ℕ) → j < k → goes_on (step (state_after j s)).turn ≡ true) → (past k s).stops ≡ 0
 unfolding past
 no_stops zero s goes = refl
 no_stops (suc k) s goes =

@@ -33,7 +33,7 @@ fn is_call(machine: &Machine) -> bool
 }
 
 /// Whether each place of the routine but its working places holds its word.
-fn has_image(machine: &Machine, routine: &Routine, base: u16, parameters: &Parameters) -> bool
+pub fn has_image(machine: &Machine, routine: &Routine, base: u16, parameters: &Parameters) -> bool
     requires { base + places routine.now ≤ locations machine.now.size }
     ensures { IsTrue result ↔ ((i : ℕ) → i < places routine.now → HasWord routine.now parameters.now base machine.now i) }
 {

@@ -1,30 +1,54 @@
-use Rattle.std.proofs.Common.{◌∙◌, [], ◌∷◌}
+use Rattle.std.proofs.Common.{◌≡◌, ◌∙◌, arith, ℕ, List, [], ◌∷◌}
+use Rattle.ed_words.specs.Sizes.{locations}
+use Rattle.ed_machine.specs.State.{State}
 use Rattle.ed_machine.specs.Steps.{state_after}
 use Rattle.ed_paths.proofs.Leads.{Leads}
+use Rattle.ed_routines.specs.Catalogue.{newline}
+use Rattle.ed_routines.specs.Standing.{Stands}
+use Rattle.ed_routines.proofs.Called.{IsWithin}
 use Rattle.ed_routines.proofs.NewLine.{last, leads_to, returned, keeps}
 use Rattle.ed_routines.proofs.Runs.{Ran, ran, free}
 use Rattle.ed_routines.proofs.printing.new_line.Goals as goal
 
--- the routine's orders, and that the run obeys them
-leads : (c : goal.After-run) → Leads 5 c.args.machine.now (18 ∷ 24 ∷ [])
-    (last c.requires.stands.0 c.args.base c.args.machine.now c.word.ensures.store c.requires.stands.1)
-leads c = leads_to c.requires.stands.0 c.args.base c.args.machine.now c.word.ensures.store c.requires.stands.1
+module _ (c : goal.After-run) where
+  abbrev s : State
+  s = c.args.machine.now
 
-left : (c : goal.After-run) → Ran (state_after 5 c.args.machine.now) c.run.new.machine c.args.paper.now c.run.new.paper (18 ∷ 24 ∷ [])
-left c = ran 5 _ _ _ _ _ _ _ (leads c) c.requires.room c.run.ensures.ends
+  abbrev parameters : List ℕ
+  parameters = c.requires.stands.0
+
+  stands : Stands newline parameters c.args.base s
+  stands = c.requires.stands.1
+
+  within : IsWithin 7 c.args.base 0 (locations s.size) s
+  within =
+      let low = stands.low in
+      let under = stands.fits in
+      record { under = under; near = omega arith; back = stands.call.room; fits = omega arith }
+
+  -- the routine's orders, and that the run obeys them
+  abbrev end : State
+  end = last parameters c.args.base (locations s.size) s c.word.ensures.store.words_are stands within
+
+  leads : Leads 5 s (18 ∷ 24 ∷ []) end
+  leads = leads_to parameters c.args.base (locations s.size) s c.word.ensures.store.words_are stands within
+
+  left : Ran (state_after 5 s) c.run.new.machine c.args.paper.now c.run.new.paper (18 ∷ 24 ∷ [])
+  left = ran 5 _ _ _ _ _ _ _ leads c.requires.room c.run.ensures.ends
+
+  there : c.run.new.machine ≡ end
+  there = left.state_is ∙ leads.state_is
 
 pub returns-clause-after : goal.returns-clause-after
 returns-clause-after c = record { state_is = (left c).state_is; free = free (leads c) }
 
 pub returns-clause-returned : goal.returns-clause-returned
 returns-clause-returned c =
-    returned c.requires.stands.0 c.args.base c.args.machine.now c.word.ensures.store c.requires.stands.1 c.run.new.machine
-    ((left c).state_is ∙ (leads c).state_is)
+    returned (parameters c) c.args.base (locations (s c).size) (s c) c.word.ensures.store.words_are (stands c) (within c) c.run.new.machine (there c)
 
 pub returns-clause-words : goal.returns-clause-words
 returns-clause-words c =
-    keeps c.requires.stands.0 c.args.base c.args.machine.now c.word.ensures.store c.requires.stands.1 c.run.new.machine
-    ((left c).state_is ∙ (leads c).state_is)
+    keeps (parameters c) c.args.base (locations (s c).size) (s c) c.word.ensures.store.words_are (stands c) (within c) c.run.new.machine (there c)
 
 pub returns-clause-printed : goal.returns-clause-printed
 returns-clause-printed c = (left c).sheet_is

@@ -28,8 +28,8 @@ module _ (c : goal.After-obey_orders) where
   end = no_ending s.tape (sym count ∙ c.if-digits-rows.true ∙ ap length c.rows_left-rows.ensures)
 
   leads : Leads (3 + 13 * length (digit_rows s.tape)) s []
-      (waiting c.args.base c.args.h (locations s.size) s c.word.ensures.store c.requires.stands c.requires.outside within end)
-  leads = leads_to_end c.args.base c.args.h (locations s.size) s c.word.ensures.store c.requires.stands c.requires.outside within end
+      (waiting c.args.base c.args.h (locations s.size) s c.word.ensures.store.words_are c.requires.stands c.requires.outside within end)
+  leads = leads_to_end c.args.base c.args.h (locations s.size) s c.word.ensures.store.words_are c.requires.stands c.requires.outside within end
 
   state_is : c.obey_orders.new.machine ≡ state_after (3 + 13 * length (digit_rows s.tape)) s
   state_is = c.obey_orders.ensures ∙ ap (λ k. state_after (3 + 13 * k) s) count
@@ -42,13 +42,13 @@ returns-then-digits-rows-clause-after c = rw (count c) (record { state_is = stat
 
 pub returns-then-digits-rows-clause-words : goal.returns-then-digits-rows-clause-words
 returns-then-digits-rows-clause-words c =
-    keeps_waiting c.args.base c.args.h (locations (s c).size) (s c) c.word.ensures.store c.requires.stands c.requires.outside (within c) (end c)
+    keeps_waiting c.args.base c.args.h (locations (s c).size) (s c) c.word.ensures.store.words_are c.requires.stands c.requires.outside (within c) (end c)
     c.obey_orders.new.machine (state_is c ∙ (leads c).state_is)
 
 pub returns-then-digits-rows-clause-leaves : goal.returns-then-digits-rows-clause-leaves
 returns-then-digits-rows-clause-leaves c =
     subst (λ rows. ReadLeaves rows c.args.base c.args.h (s c) c.obey_orders.new.machine) (sym (end c))
-    (waits c.args.base c.args.h (locations (s c).size) (s c) c.word.ensures.store c.requires.stands c.requires.outside (within c) (end c)
+    (waits c.args.base c.args.h (locations (s c).size) (s c) c.word.ensures.store.words_are c.requires.stands c.requires.outside (within c) (end c)
     c.obey_orders.new.machine (state_is c ∙ (leads c).state_is))
 
 below_by : (k n all : ℕ) {d : ℕ} → k ≡ d → d ≤ n → (k ≡ n → ⊥) → all ≡ n → k < all
@@ -86,9 +86,9 @@ module _ (c : goal.After-obey_orders-else-digits-rows) where
       subst (λ x. x < 32) same (c.count_digits-digits.ensures.fits inside)
 
   leads_back : Leads (11 + 13 * length (digit_rows old.tape)) old []
-      (last c.args.base c.args.h (locations old.size) old c.word.ensures.store c.requires.stands c.requires.outside below ending rest behind code)
+      (last c.args.base c.args.h (locations old.size) old c.word.ensures.store.words_are c.requires.stands c.requires.outside below ending rest behind code)
   leads_back =
-      leads_to c.args.base c.args.h (locations old.size) old c.word.ensures.store c.requires.stands c.requires.outside below ending rest behind code
+      leads_to c.args.base c.args.h (locations old.size) old c.word.ensures.store.words_are c.requires.stands c.requires.outside below ending rest behind code
 
   state_there : c.obey_orders-else-digits-rows.new.machine ≡ state_after (11 + 13 * length (digit_rows old.tape)) old
   state_there = c.obey_orders-else-digits-rows.ensures ∙ ap (λ k. state_after (11 + 13 * k) old) digits
@@ -101,11 +101,11 @@ returns-else-digits-rows-clause-after c = rw (digits c) (record { state_is = sta
 
 pub returns-else-digits-rows-clause-words : goal.returns-else-digits-rows-clause-words
 returns-else-digits-rows-clause-words c =
-    keeps c.args.base c.args.h (locations (old c).size) (old c) c.word.ensures.store c.requires.stands c.requires.outside (below c)
+    keeps c.args.base c.args.h (locations (old c).size) (old c) c.word.ensures.store.words_are c.requires.stands c.requires.outside (below c)
     (ending c) (rest c) (behind c) (code c) c.obey_orders-else-digits-rows.new.machine (state_there c ∙ (leads_back c).state_is)
 
 pub returns-else-digits-rows-clause-leaves : goal.returns-else-digits-rows-clause-leaves
 returns-else-digits-rows-clause-leaves c =
     subst (λ rows. ReadLeaves rows c.args.base c.args.h (old c) c.obey_orders-else-digits-rows.new.machine) (sym (behind c))
-    (has_read c.args.base c.args.h (locations (old c).size) (old c) c.word.ensures.store c.requires.stands c.requires.outside (below c)
+    (has_read c.args.base c.args.h (locations (old c).size) (old c) c.word.ensures.store.words_are c.requires.stands c.requires.outside (below c)
     (ending c) (rest c) (behind c) (code c) c.obey_orders-else-digits-rows.new.machine (state_there c ∙ (leads_back c).state_is))
