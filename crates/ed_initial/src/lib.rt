@@ -11,7 +11,7 @@ mod resting;
 mod starting;
 mod turns;
 
-pub use listing::orders;
+pub use listing::{order, orders};
 pub use loading::{Loaded, load, obey_orders};
 pub use resting::{Rested, to_rest};
 pub use starting::{begin, is_started};

@@ -35,8 +35,8 @@ const F: bool = false;
 
 const D: bool = true;
 
-/// The word of an order of the listing.
-fn order(function: u8, address: u16, length: bool) -> Word
+/// The word of an order of a listing: `length` is true where it is long.
+pub fn order(function: u8, address: u16, length: bool) -> Word
     requires function { function < 32 }
     requires address { address < 1024 }
     ensures { result ≡ order function address length }

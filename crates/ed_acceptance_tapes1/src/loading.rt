@@ -1,0 +1,207 @@
+//! Initial Orders 1, obeyed one by one on a tape.
+
+ghost use Rattle.std.specs.Prelude.{◌<◌, IfOk, length};
+
+use crate::support::{LETTER, loaded, misplaced, rows_of, started};
+use ed_codes::Code;
+use ed_initial1::{Loaded1, check1, is_started1, orders1};
+use ed_machine::{Machine, Turn};
+use ed_words::{Size, Word};
+use std::alloc::Global;
+use std::process::Abort;
+use std::test::Fail;
+
+/// The listing's words, by location.
+const WORDS: [u32; 31] = [
+    20_480, 86_020, 20_480, 12_300, 2, 10, 20_480, 32_768, 114_688, 16_416, 20_481, 32_772,
+    114_692, 49_162, 12_330, 20_486, 126_978, 102_416, 114_692, 20_482, 12_310, 16_392, 114_690,
+    102_401, 114_688, 20_542, 114_738, 114_696, 28_722, 49_214, 110_604,
+];
+
+#[test]
+fn the_words_of_the_listing(rt: HostRuntime) {
+    for (place, word) in orders1().iter().enumerate() {
+        assert!(rt; word.value() == WORDS[place], "{place}");
+    }
+}
+
+/// What the tape of a letter leaves at the entry, by location, where it is not as listed.
+const AT_THE_ENTRY: [(u16, u32); 9] = [
+    (0, 114_688),
+    (1, 0),
+    (2, 12),
+    (3, 131_066),
+    (25, 20_550),
+    (31, 20_550),
+    (32, 36_932),
+    (33, 53_248),
+    (34, 114_688),
+];
+
+/// The word that a location holds at the entry, which the tape of a letter leaves.
+fn wanted(place: u16) -> Option<u32> {
+    for (changed, word) in AT_THE_ENTRY {
+        if changed == place {
+            return Some(word);
+        }
+    }
+    WORDS.get(usize::from(place)).copied()
+}
+
+/// The first location that doesn't hold what the orders and the tape of a letter leave there, or, from 35 on, the word
+/// before.
+fn first_difference(machine: &Machine, before: &Machine) -> Option<u16> {
+    for place in 0..1024 {
+        let word = match wanted(place) {
+            Some(word) => word,
+            None => before.word(place).value(),
+        };
+        if machine.word(place).value() != word {
+            return Some(place);
+        }
+    }
+    None
+}
+
+/// Whether the registers are those of an entry, and the sandwich digit of the pair 0, 1 is 0.
+fn has_entered(machine: &Machine) -> bool {
+    machine.counter() == 31
+        && machine.acc() == 0
+        && machine.multiplier().value() == 20_480 << 18
+        && !machine.sandwich(0)
+}
+
+/// The largest tape: T 1023 S and 991 more items, each of this text.
+fn largest(rt: &impl Abort, alloc: Global, item: &str) -> Result<Vec<Code>, Fail>
+    ensures { IfOk result (λ rows. length rows.items < 10000) }
+{
+    let tape = format!(in alloc; "T1023S{}", item.repeat(alloc, 991)?.as_str())?;
+    rows_of(rt, alloc, tape.as_str())
+}
+
+/// A short program that leaves 1 in the sandwich digit of the pair 0, 1: A 4 F, R D, T 0 D and Z F, and the word 1 of which
+/// half is taken.
+const HALVES_A_WORD: [u32; 5] = [114_696, 16_385, 20_481, 53_248, 1];
+
+/// Runs that program.
+fn set_sandwich(rt: &impl Abort, alloc: Global, machine: &mut Machine) -> Result<(), Fail> {
+    let mut image = Vec::new(alloc);
+    for number in HALVES_A_WORD {
+        image.push(Word::new(number).ok_or("no word")?)?;
+    }
+    assert!(rt; image.len() < 41);
+    machine.start(&image, Vec::new(alloc));
+    for _ in 0..3 {
+        assert!(rt; machine.orders_done() < 1 << 20);
+        machine.step();
+    }
+    Ok(())
+}
+
+/// A machine whose locations 31 to 1022 hold the word of Q 7 L, and whose pair 0, 1 has the sandwich digit 1.
+fn used(rt: &impl Abort, alloc: Global) -> Result<Machine, Fail> {
+    let mut machine = started(alloc, largest(rt, alloc, "Q7L")?)?;
+    assert!(rt; matches!(loaded(rt, &mut machine), Loaded1::Entered { .. }));
+    set_sandwich(rt, alloc, &mut machine)?;
+    assert!(rt; machine.sandwich(0) && machine.word(35).value() == 4111);
+    Ok(machine)
+}
+
+#[test]
+fn a_used_machine_is_loaded_cell_by_cell(rt: HostRuntime) -> Result<(), Fail> {
+    let alloc = rt.alloc();
+    let mut machine = used(&rt, alloc)?;
+    let before = machine.copy()?;
+    machine.start(&orders1(), rows_of(&rt, alloc, LETTER)?);
+    assert!(rt; loaded(&rt, &mut machine) == Loaded1::Entered { orders: 120 });
+    let differs = first_difference(&machine, &before);
+    assert!(rt; differs.is_none(), "{differs:?}");
+    assert!(rt; has_entered(&machine) && machine.rows_left().is_empty());
+    assert!(rt; machine.last_printed().is_none());
+    Ok(())
+}
+
+#[test]
+fn the_first_order_clears_the_place_that_it_names(rt: HostRuntime) -> Result<(), Fail> {
+    let mut machine = used(&rt, rt.alloc())?;
+    machine.start(&orders1(), rows_of(&rt, rt.alloc(), LETTER)?);
+    assert!(rt; matches!(loaded(&rt, &mut machine), Loaded1::Entered { .. }));
+    for (turn, counter) in [
+        (Some(Turn::Went), 32),
+        (Code::new(28).map(Turn::Printed), 33),
+        (Some(Turn::Stopped), 34),
+    ] {
+        assert!(rt; machine.orders_done() < 1 << 20);
+        assert!(rt; Some(machine.step()) == turn, "{counter}");
+        assert!(rt;
+            machine.counter() == counter && machine.word(35).value() == 0,
+            "{counter}"
+        );
+    }
+    Ok(())
+}
+
+#[test]
+fn tapes_are_loaded_at_their_cost(rt: HostRuntime) -> Result<(), Fail> {
+    for (tape, orders) in [
+        (LETTER, 120),
+        ("T35SO34SZSAS*", 120),
+        ("T32S", 43),
+        ("T33SPS", 62),
+        ("T34S50L*32767S", 141),
+        // No notation, and yet the orders obey it: the word of the first item is that of T 35 S.
+        ("R2083SO34SZSAS", 140),
+    ] {
+        let mut machine = started(rt.alloc(), rows_of(&rt, rt.alloc(), tape)?)?;
+        let loaded = loaded(&rt, &mut machine);
+        assert!(rt; loaded == Loaded1::Entered { orders }, "{tape}");
+    }
+    Ok(())
+}
+
+#[test]
+fn the_largest_tape(rt: HostRuntime) -> Result<(), Fail> {
+    let alloc = rt.alloc();
+    for (item, orders, rows) in [("PS", 18_892, 1988), ("Q7L", 28_802, 2979)] {
+        let read = largest(&rt, alloc, item)?;
+        let checked = check1(alloc, &read)?;
+        let told = (checked.orders(), checked.rows(), checked.end());
+        assert!(rt; told == (orders, rows, 1023), "{item}");
+        let mut machine = started(alloc, read)?;
+        assert!(rt;
+            loaded(&rt, &mut machine) == Loaded1::Entered { orders },
+            "{item}"
+        );
+        assert!(rt; misplaced(&machine, &checked).is_none(), "{item}");
+    }
+    Ok(())
+}
+
+#[test]
+fn a_tape_that_ends_too_early_is_lost(rt: HostRuntime) -> Result<(), Fail> {
+    for (tape, orders) in [("", 4), ("T", 9), ("T35", 29), ("T35S", 44), ("T35SO", 48)] {
+        let mut machine = started(rt.alloc(), rows_of(&rt, rt.alloc(), tape)?)?;
+        let loaded = loaded(&rt, &mut machine);
+        assert!(rt; loaded == Loaded1::Lost { orders }, "{tape}");
+    }
+    Ok(())
+}
+
+#[test]
+fn a_machine_is_started_at_full_size_and_at_0(rt: HostRuntime) -> Result<(), Fail> {
+    let alloc = rt.alloc();
+    for (size, orders, wanted) in [
+        (Size::Full, 0, true),
+        (Size::Full, 1, false),
+        (Size::Small, 0, false),
+    ] {
+        let mut machine = Machine::cleared_of(alloc, size)?;
+        machine.start(&orders1(), Vec::new(alloc));
+        for _ in 0..orders {
+            assert!(rt; machine.orders_done() < 1 << 20);
+            machine.step();
+        }
+        assert!(rt; is_started1(&machine) == wanted, "{orders}");
+    }
+    Ok(())
+}

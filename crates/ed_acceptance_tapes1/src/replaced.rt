@@ -1,0 +1,119 @@
+//! Every row of a short tape replaced by every code: the check's answer, and what the orders do.
+
+ghost use Rattle.std.specs.Prelude.{◌<◌, IfOk, length};
+
+use crate::support::{fault_of, loaded, misplaced, rows_of, started};
+use ed_codes::Code;
+use ed_initial1::Tape1Cause::{BadRow, EndOfTape, FirstWord};
+use ed_initial1::{Loaded1, Tape1Cause, check1};
+use std::alloc::Global;
+use std::process::Abort;
+use std::test::Fail;
+
+/// Two items, for 31 and 32.
+const TAPE: &str = "T33SA5L";
+
+/// The fault of that tape with a code at a place, if it has one then.
+fn wanted(place: usize, code: u8) -> Option<(usize, Tape1Cause)> {
+    match (place, code) {
+        (0, 5) => None,
+        (0, _) => Some((3, FirstWord)),
+        // T 13 S, T 23 S; T 33 S; T 43 S and more
+        (1, 0..=2) => Some((3, FirstWord)),
+        (1, 3) => None,
+        (1, 4..=9) => Some((7, EndOfTape)),
+        // T 30 S, T 31 S; T 32 S, which is the whole of a tape, and T 33 S; T 34 S and more
+        (2, 0..=1) => Some((3, FirstWord)),
+        (2, 2..=3) => None,
+        (2, 4..=9) => Some((7, EndOfTape)),
+        // the first item is longer, and A is no row of it
+        (3, 0..=9) => Some((4, BadRow)),
+        (3, 12) => None,
+        (1 | 2 | 3, 12 | 25) => Some((place, FirstWord)),
+        // any function
+        (4, _) => None,
+        (5 | 6, 12 | 25) => None,
+        (5, 0..=9) => None,
+        (6, 0..=9) => Some((7, EndOfTape)),
+        _ => Some((place, BadRow)),
+    }
+}
+
+/// The tape with a code at a place.
+fn replaced(rt: &impl Abort, alloc: Global, place: usize, code: Code) -> Result<Vec<Code>, Fail>
+    ensures { IfOk result (λ rows. length rows.items < 10000) }
+{
+    let mut rows = Vec::new(alloc);
+    for (at, row) in rows_of(rt, alloc, TAPE)?.iter().enumerate() {
+        rows.push(if at == place { code } else { *row })?;
+    }
+    assert!(rt; rows.len() < 10000);
+    Ok(rows)
+}
+
+/// The orders that read rows without a fault and come to the end of the tape, where the next order is I: one more than
+/// they cost between two items, since T at 6 stands before it.
+fn orders_to_the_end(rt: &impl Abort, rows: &[Code]) -> u64 {
+    let mut orders = 4;
+    let mut inside = false;
+    for row in rows {
+        let digit = row.value() < 10;
+        assert!(rt; orders < 1 << 20);
+        orders += match (inside, digit) {
+            (false, _) => 5,
+            (true, true) => 10,
+            (true, false) => 14,
+        };
+        inside = !inside || digit;
+    }
+    assert!(rt; orders < 1 << 20);
+    if inside { orders } else { orders + 1 }
+}
+
+/// Whether rows are loaded as the check tells of them. Where they have a fault other than their end, the orders may do
+/// anything.
+fn are_loaded_as_told(rt: &impl Abort, alloc: Global, rows: Vec<Code>) -> Result<bool, Fail>
+    requires { length rows.items < 10000 }
+{
+    let told = check1(alloc, &rows);
+    let (count, to_the_end) = (rows.len(), orders_to_the_end(rt, &rows));
+    let mut machine = started(alloc, rows)?;
+    let loaded = loaded(rt, &mut machine);
+    let left = machine.rows_left().len();
+    match (&told, fault_of(&told)?) {
+        (Ok(checked), _) => Ok(
+            loaded
+                == Loaded1::Entered {
+                    orders: checked.orders(),
+                }
+                && count.checked_sub(left) == Some(checked.rows())
+                && misplaced(&machine, checked).is_none(),
+        ),
+        (_, Some((_, EndOfTape))) => Ok(
+            loaded == Loaded1::Lost { orders: to_the_end } && left == 0,
+        ),
+        _ => Ok(true),
+    }
+}
+
+/// The first code that makes a difference at a place: the check doesn't answer what is wanted, or the rows are not loaded
+/// as it tells.
+fn first_difference(rt: &impl Abort, alloc: Global, place: usize) -> Result<Option<u8>, Fail> {
+    for number in 0..32 {
+        let rows = replaced(rt, alloc, place, Code::new(number).ok_or("no code")?)?;
+        let fault = fault_of(&check1(alloc, &rows))?;
+        if fault != wanted(place, number) || !are_loaded_as_told(rt, alloc, rows)? {
+            return Ok(Some(number));
+        }
+    }
+    Ok(None)
+}
+
+#[test]
+fn every_code_at_every_place(rt: HostRuntime) -> Result<(), Fail> {
+    for place in 0..7 {
+        let differs = first_difference(&rt, rt.alloc(), place)?;
+        assert!(rt; differs.is_none(), "{differs:?} at {place}");
+    }
+    Ok(())
+}

@@ -1,0 +1,59 @@
+//! What the tests share: rows of a text, machines started on them, checks and loads.
+
+ghost use Rattle.std.specs.Prelude.{◌<◌, IfOk, length};
+
+use ed_codes::{Code, tape_of_text};
+use ed_initial1::{Checked1, Loaded1, Tape1Cause, Tape1Fault, is_started1, load1, orders1};
+use ed_machine::Machine;
+use std::alloc::Global;
+use std::process::Abort;
+use std::test::Fail;
+
+/// The tape that prints A: it clears 35, prints the letter at 34 and stops.
+pub const LETTER: &str = "T35SO34SZSAS";
+
+/// The rows of a tape's text, of which there are few.
+pub fn rows_of(rt: &impl Abort, alloc: Global, tape: &str) -> Result<Vec<Code>, Fail>
+    ensures { IfOk result (λ rows. length rows.items < 10000) }
+{
+    let rows = tape_of_text(alloc, tape.as_bytes())?;
+    assert!(rt; rows.len() < 10000);
+    Ok(rows)
+}
+
+/// A cleared machine, started on rows with Initial Orders 1.
+pub fn started(alloc: Global, rows: Vec<Code>) -> Result<Machine, Fail> {
+    let mut machine = Machine::cleared(alloc)?;
+    machine.start(&orders1(), rows);
+    Ok(machine)
+}
+
+/// Loads the tape that a machine was started on.
+pub fn loaded(rt: &impl Abort, machine: &mut Machine) -> Loaded1 {
+    assert!(rt; is_started1(machine));
+    let done = machine.orders_done();
+    let rows = machine.rows_left().len();
+    assert!(rt; done < 1 << 20 && rows < 1 << 20);
+    load1(machine)
+}
+
+/// The fault that a check tells, or none.
+pub fn fault_of(told: &Result<Checked1, Tape1Fault>) -> Result<Option<(usize, Tape1Cause)>, Fail> {
+    match told {
+        Ok(_) => Ok(None),
+        Err(Tape1Fault::At { row, cause }) => Ok(Some((*row, *cause))),
+        Err(Tape1Fault::Memory) => Err(Fail::from("no memory")),
+    }
+}
+
+/// The first location whose word is not what a check tells of it.
+pub fn misplaced(machine: &Machine, checked: &Checked1) -> Option<u16> {
+    for place in 31..1024 {
+        if let Some(word) = checked.word(place) {
+            if machine.word(place) != word {
+                return Some(place);
+            }
+        }
+    }
+    None
+}

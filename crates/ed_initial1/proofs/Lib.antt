@@ -1,0 +1,11 @@
+mod Paths
+mod Rests
+mod Turns
+pub mod Walks
+pub mod Settled
+pub mod Started
+pub mod Opened
+pub mod Whole
+mod Reading
+pub mod Unique
+mod Loop

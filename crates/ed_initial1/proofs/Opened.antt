@@ -1,0 +1,165 @@
+-- The state in which a load begins and the state at the entry, as the paths see them.
+use Rattle.std.proofs.Common.{◌≡◌, ℕ, suc, ◌+◌, ◌*◌, ◌^◌, ◌<◌, ◌≤◌, refl, sym, ap, ◌∙◌, arith, false, List, [], ◌∷◌}
+use Rattle.std.proofs.Common.{◌++◌, ◌%◌}
+use Rattle.std.proofs.Common.{length, get_or, set, drop, drop-cons, length-append}
+use Rattle.std.proofs.lemmas.List.{get_or-set_same, get_or-set_other, drop-set-lt, length-set, set-get_or}
+use Rattle.ed_words.specs.declared.size.Size.TheVariants.{Full}
+use Rattle.ed_words.specs.Words.{function_of, address_of, is_long}
+use Rattle.ed_words.specs.Sizes.{within}
+use Rattle.ed_words.proofs.SizeLemmas.{within_below}
+use Rattle.ed_store.specs.Cells.{Cells, with_short}
+use Rattle.ed_orders.specs.Kinds.{kind_of_function}
+use Rattle.ed_machine.specs.State.{State}
+use Rattle.ed_machine.specs.OrderTable.{step, next_word, obey_word}
+use Rattle.ed_notation.specs.Items.{number}
+use Rattle.ed_paths.proofs.Frames.{Moment}
+use Rattle.ed_paths.proofs.Window.{patched, patched_one, headed}
+use Rattle.ed_initial1.specs.Listing.{first_orders}
+use Rattle.ed_initial1.specs.Items.{Item, number_of, words, word, costs, digits, last_of, IsFirst}
+use Rattle.ed_initial1.specs.Entry.{IsStarted1, at_entry1}
+use Rattle.ed_initial1.proofs.Paths.{Working, Kept, cells, moment}
+use Rattle.ed_initial1.proofs.Rests.{third, thirds, written, final}
+use Rattle.ed_initial1.proofs.Walks.{state}
+
+-- what the paths ask of a store
+pub record HasItsLengths (c : Cells) : Type 0 where
+  pub words : length c.words ≡ 1024
+  pub sandwich : length c.sandwich ≡ 512
+
+-- what stays during a load from this state
+abbrev pub kept : State → Kept
+kept s = record { digits = s.store.sandwich; last = s.last }
+
+-- the words that change, as the listing has them, and what stands at 31
+abbrev pub listed : List ℕ → Working
+listed ws = record { at0 = 20480; at1 = 86020; at2 = 20480; at3 = 12300; at25 = 20542; at31 = get_or ws 31 0 }
+
+-- the machine at the first order, on a tape
+abbrev pub begins : State → List ℕ → Moment
+begins s tape =
+    record (moment (kept s) (listed s.store.words) s.store.words (get_or s.store.sandwich 0 false) s.acc 0 tape) {
+      multiplier = s.multiplier;
+    }
+
+words_are : (ws : List ℕ) → length ws ≡ 1024 → ((i : ℕ) → i < 31 → get_or ws i 0 ≡ get_or first_orders i 0)
+    → patched 0 ws 0 (cells (listed ws)) ≡ ws
+unfolding patched
+words_are ws long orders =
+    ap (λ x. first_orders ++ x) (sym (drop-cons ws 31 0 (omega arith)))
+    ∙ headed 0 first_orders ws (omega arith) (λ j l. sym (orders j l))
+
+pub opened : (s : State) → HasItsLengths s.store → IsStarted1 s → state (begins s s.tape) s.orders ≡ s
+opened s store started =
+    let words = words_are s.store.words store.words started.orders in
+    let digits =
+    patched_one false s.store.sandwich 0 (get_or s.store.sandwich 0 false) (omega (arith, store.sandwich))
+    ∙ set-get_or s.store.sandwich 0 false in
+    let size = sym started.size in
+    let counter : 0 ≡ s.counter = sym started.counter in
+    λ i. record {
+      size = size i;
+      store = record { words = words i; sandwich = digits i };
+      acc = s.acc;
+      multiplier = s.multiplier;
+      counter = counter i;
+      tape = s.tape;
+      last = s.last;
+      orders = s.orders;
+    }
+
+-- words placed from a location on
+length_written : (ws : List ℕ) (a : ℕ) (vs : List ℕ) → length (written ws a vs) ≡ length ws
+length_written ws a [] = refl
+length_written ws a (v ∷ vs) = length_written (set ws a v) (a + 1) vs ∙ length-set ws a v
+
+below_written : (ws : List ℕ) (a : ℕ) (vs : List ℕ) (j : ℕ) → j < a → get_or (written ws a vs) j 0 ≡ get_or ws j 0
+below_written ws a [] j h = refl
+below_written ws a (v ∷ vs) j h =
+    below_written (set ws a v) (a + 1) vs j (omega arith) ∙ get_or-set_other ws a j v 0 (omega arith)
+
+behind : (ws : List ℕ) (a : ℕ) (vs : List ℕ) → a + length vs ≤ length ws
+    → drop a (written ws a vs) ≡ vs ++ drop (a + length vs) ws
+behind ws a [] h = let e : a + 0 ≡ a = omega arith in rw e refl
+behind ws a (v ∷ vs) h =
+    let x = written (set ws a v) (a + 1) vs in
+    let long : length x ≡ length ws = length_written (set ws a v) (a + 1) vs ∙ length-set ws a v in
+    let head : get_or x a 0 ≡ v =
+    below_written (set ws a v) (a + 1) vs a (omega arith) ∙ get_or-set_same ws a v 0 (omega arith) in
+    let next : suc a ≡ a + 1 = omega arith in
+    let sum : a + suc (length vs) ≡ a + 1 + length vs = omega arith in
+    drop-cons x a 0 (omega arith)
+    ∙ (λ i. head i ∷ drop (next i) x)
+    ∙ ap (λ y. v ∷ y) (behind (set ws a v) (a + 1) vs (omega (arith, length-set ws a v)))
+    ∙ ap (λ y. v ∷ (vs ++ y)) (drop-set-lt (a + 1 + length vs) ws a v (omega arith))
+    ∙ ap (λ n. v ∷ (vs ++ drop n ws)) (sym sum)
+
+pub length_words : (is : List Item) → length (words is) ≡ length is
+length_words [] = refl
+length_words (i ∷ is) = ap suc (length_words is)
+
+-- the last digit row read
+third_append : (y : ℕ) (xs ys : List ℕ) → third y (xs ++ ys) ≡ third (third y xs) ys
+third_append y [] ys = refl
+third_append y (x ∷ xs) ys = third_append (131062 + x) xs ys
+
+thirds_is : (y : ℕ) (is : List Item) → thirds y is ≡ third y (digits is)
+thirds_is y [] = refl
+thirds_is y (i ∷ is) = thirds_is (third y i.begun.digits) is ∙ sym (third_append y i.begun.digits (digits is))
+
+third_after : (d : ℕ) (ds : List ℕ) → third (131062 + d) ds ≡ 131062 + last_of d ds
+third_after d [] = refl
+third_after d (x ∷ xs) = third_after x xs
+
+third_last : (y : ℕ) (ds : List ℕ) → 1 ≤ length ds → third y ds ≡ 131062 + last_of 0 ds
+third_last y [] h = absurd (omega arith)
+third_last y (d ∷ ds) h = third_after d ds
+
+some_digit : (ds : List ℕ) → 32 ≤ number 0 ds → 1 ≤ length ds
+some_digit [] h = absurd (omega arith)
+some_digit (d ∷ ds) h = omega arith
+
+three : (i : Item) (is : List Item) → 32 ≤ number_of i → thirds 12300 (i ∷ is) ≡ 131062 + last_of 0 (digits (i ∷ is))
+three i is h =
+    thirds_is 12300 (i ∷ is)
+    ∙ third_last 12300 (digits (i ∷ is)) (omega (arith, some_digit i.begun.digits h, length-append i.begun.digits (digits is)))
+
+pub closed : (s : State) → HasItsLengths s.store → IsStarted1 s → (e : ℕ) (i : Item) (is : List Item) (rest : List ℕ)
+    → IsFirst e i
+    → 31 + length (i ∷ is) ≡ e
+    → state (moment (kept s) (final e 12300 (word i) i is) (written s.store.words 32 (words is)) false 0 31 rest)
+    (s.orders + (4 + costs (i ∷ is)))
+    ≡ at_entry1 s (record { end = e; items = i ∷ is; rest = rest })
+unfolding patched
+closed s store started e i is rest first count =
+    let ws = s.store.words in
+    let t = three i is (omega (arith, first)) in
+    let all = store.words in
+    let last : 32 + length (words is) ≡ e = omega (arith, length_words is) in
+    let d : drop 32 (written ws 32 (words is)) ≡ words is ++ drop e ws =
+    behind ws 32 (words is) (omega (arith, first.high)) ∙ ap (λ n. words is ++ drop n ws) last in
+    let ds = patched_one false s.store.sandwich 0 false (omega (arith, store.sandwich)) in
+    let size = sym started.size in
+    let f = final e 12300 (word i) i is in
+    λ k. record {
+      size = size k;
+      store = record { words = cells (record f { at3 = t k }) ++ d k; sandwich = ds k };
+      acc = 0;
+      multiplier = 20480 * 2 ^ 18;
+      counter = 31;
+      tape = rest;
+      last = s.last;
+      orders = s.orders + (4 + costs (i ∷ is));
+    }
+
+-- T e S with the accumulator 0 clears location e
+pub clears : (u : State) (e : ℕ) → u.size ≡ Full → u.acc ≡ 0 → next_word u ≡ 20480 + 2 * e → e < 1024
+    → (step u).state.store ≡ with_short u.store e 0
+unfolding step
+clears u e size acc word fits =
+    let function : function_of (20480 + 2 * e) ≡ 5 = omega arith in
+    let address : address_of (20480 + 2 * e) ≡ e = omega arith in
+    let short : is_long (20480 + 2 * e) ≡ false = (let even : (20480 + 2 * e) % 2 ≡ 0 = omega arith in rw even refl) in
+    let place : within u.size (address_of (20480 + 2 * e)) ≡ e =
+    ap (λ z. within z (address_of (20480 + 2 * e))) size ∙ ap (within Full) address ∙ within_below Full e fits in
+    ap (λ w. (obey_word (kind_of_function (function_of w)) w u).state.store) word
+    ∙ rw (function, short, place, acc) refl

@@ -1,0 +1,31 @@
+-- One more order at the end of a load's orders.
+use Rattle.std.proofs.Common.{◌≡◌, ℕ, ◌+◌, ◌≤◌, ◌⊎◌, inl, inr, ap, subst, add-one, below_more, true, false}
+use Rattle.ed_machine.specs.State.{State}
+use Rattle.ed_machine.specs.OrderTable.{step}
+use Rattle.ed_machine.specs.Steps.{state_after, is_obeyed}
+use Rattle.ed_codes.specs.declared.code.Code.{Code}
+use Rattle.ed_machine.specs.declared.turn.Turn.{Turn}
+use Rattle.ed_machine.specs.declared.turn.Turn.TheVariants.{Went, Printed, Stopped}
+use Rattle.ed_initial.specs.Load.{is_went}
+use Rattle.ed_initial1.specs.Load.{at_31, GoesOn, IsQuiet, IsLost, sounded}
+
+-- it goes on
+pub more_quiet : (k : ℕ) (s t u : State) → IsQuiet k s → t ≡ state_after k s → u ≡ (step t).state → (step t).turn ≡ Went
+    → at_31 u ≡ false → IsQuiet (k + 1) s
+more_quiet k s t u quiet e is went stays =
+    below_more (λ j. GoesOn (state_after j s)) k quiet
+    (subst GoesOn e (record { went = went; stays = subst (λ (x : State). at_31 x ≡ false) is stays }))
+
+-- it prints or stops, and does not come to 31
+pub sounded_now : (k bound : ℕ) (s t u : State) → k + 1 ≤ bound → IsQuiet k s → t ≡ state_after k s → u ≡ (step t).state
+    → is_obeyed (step t).turn ≡ true → is_went (step t).turn ≡ false → at_31 u ≡ false → IsLost s bound (k + 1)
+sounded_now k bound s t u most quiet e is obeyed h stays =
+    sounded k (add-one k) most quiet (subst (λ (x : State). is_obeyed (step x).turn ≡ true) e obeyed)
+    (subst (λ (x : State). is_went (step x).turn ≡ false) e h)
+    (subst (λ (x : State). at_31 (step x).state ≡ false) e (subst (λ (x : State). at_31 x ≡ false) is stays))
+
+-- an order that prints or stops is obeyed, and does not merely go on
+pub sounds : (turn : Turn) → ((code : Code) × (turn ≡ Printed code)) ⊎ (turn ≡ Stopped)
+    → (is_obeyed turn ≡ true) × (is_went turn ≡ false)
+sounds turn (inl h) = (ap is_obeyed h.1, ap is_went h.1)
+sounds turn (inr h) = (ap is_obeyed h, ap is_went h)

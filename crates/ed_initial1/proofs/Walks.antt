@@ -1,0 +1,55 @@
+-- From the walks of the listing to steps of the machine.
+use Rattle.std.proofs.Common.{◌≡◌, ℕ, suc, zero, ◌+◌, refl, sym, ap, ◌∙◌, subst, arith, [], true}
+use Rattle.ed_machine.specs.State.{State}
+use Rattle.ed_machine.specs.OrderTable.{Obeyed, step}
+use Rattle.ed_machine.specs.Steps.{state_after, past}
+use Rattle.ed_machine.specs.declared.turn.Turn.TheVariants.{Went}
+use Rattle.ed_paths.proofs.Frames.{Moment, state as piece_state}
+use Rattle.ed_paths.proofs.Paths.{Path, stay as path_stays, on as path_on, followed as paths_followed, leads, no_state}
+use Rattle.ed_paths.proofs.Paths.{first_state}
+use Rattle.ed_initial1.specs.Load.{GoesOn, IsQuiet, at_31}
+use Rattle.ed_initial1.proofs.Paths.{piece, Walk, stay, on, ToProgram, ends}
+
+-- the machine at a moment of a load, after k orders
+abbrev pub state : Moment → ℕ → State
+state r k = piece_state piece r k
+
+-- a walk is a path that prints nothing
+path_of : {k : ℕ} {r t : Moment} → Walk k r t → Path piece k r [] t
+path_of stay = path_stays
+path_of (on first away rest) = path_on first (path_of rest)
+
+-- each of its orders goes on
+quiet : {k : ℕ} {r t : Moment} → Walk k r t → (done : ℕ) → IsQuiet k (state r done)
+quiet stay done j h = absurd (omega arith)
+quiet (on {r = r} first away rest) done zero h =
+    subst GoesOn (sym (no_state (state r done)))
+    (record { went = ap (λ (o : Obeyed). o.turn) (first.does done); stays = ap (λ (o : Obeyed). at_31 o.state) (first.does done) ∙ away })
+quiet (on {r = r} first away rest) done (suc j) h =
+    subst GoesOn (sym (first_state j (state r done) ∙ ap (λ (o : Obeyed). state_after j o.state) (first.does done)))
+    (quiet rest (done + 1) j (omega arith))
+
+-- all orders but the last go on, the last one comes to 31, and none of them prints
+pub record Reaches (k : ℕ) (s t : State) : Type 0 where
+  pub before : ℕ
+  pub count : k ≡ suc before
+  pub quiet : IsQuiet before s
+  pub last : step (state_after before s) ≡ record { state = t; turn = Went }
+  pub at : at_31 t ≡ true
+  pub silent : (past k s).codes ≡ []
+
+pub reaches : {k : ℕ} {r t : Moment} → ToProgram k r t → (done : ℕ) → Reaches k (state r done) (state t (done + k))
+reaches {t = t} (ends {k = k} {r = r} {m = m} walk last at) done =
+    let there = leads (path_of walk) done in
+    let sum : k + 1 ≡ suc k = omega arith in
+    let all : Path piece (suc k) r [] t = rw sum at (paths_followed (path_of walk) (path_on last path_stays)) in
+    let e : done + k + 1 ≡ done + suc k = omega arith in
+    record {
+      before = k;
+      count = refl;
+      quiet = quiet walk done;
+      last = ap step there.state_is
+          ∙ subst (λ x. step (state m (done + k)) ≡ record { state = state t x; turn = Went }) e (last.does (done + k));
+      at = at;
+      silent = (leads all done).codes_are;
+    }

@@ -1,0 +1,110 @@
+-- What a tape of Initial Orders 1 comes to, and where and what its fault is (this project's own rules: what the orders
+-- would do with a faulty tape is no notation).
+use Rattle.std.specs.Prelude.{ℕ, ◌≡◌, ◌⊎◌, ◌+◌, ◌*◌, ◌<◌, ◌≤◌, Bool, true, false, ◌&&◌, ◌||◌, not, nat_eq, nat_lt}
+use Rattle.std.specs.Prelude.{nat_le}
+use Rattle.std.specs.Prelude.{Option, Some, None, List, [], ◌∷◌, ◌++◌, length}
+use Rattle.ed_notation.specs.Items.{number}
+use Rattle.ed_initial1.specs.declared.cause.Tape1Cause.{Tape1Cause}
+use Rattle.ed_initial1.specs.declared.cause.Tape1Cause.TheVariants.{EndOfTape, BadRow, NumberTooLarge, FirstWord}
+use Rattle.ed_initial1.specs.Items.{Begun, Item, number_of, begun_rows, spelled, IsBegun, AreItems, IsFirst}
+
+-- the numbers of the rules; of two rules broken at one row the less is the fault
+abbrev pub rule : Tape1Cause → ℕ
+rule EndOfTape = 1
+rule BadRow = 2
+rule NumberTooLarge = 3
+rule FirstWord = 4
+
+-- what is read of a tape: the place that T e S names, the items, and the rows left behind them
+pub record Tape : Type 0 where
+  pub end : ℕ
+  pub items : List Item
+  pub rest : List ℕ
+
+-- the first of the items is T e S
+abbrev pub BeginsWith : ℕ → List Item → Type 0
+BeginsWith e [] = ⊥
+BeginsWith e (i ∷ is) = IsFirst e i
+
+-- the rows come to a whole program: items of which the first is T e S, one for each of the locations 31 to e - 1
+pub record Comes (rows : List ℕ) (t : Tape) : Type 0 where
+  pub rows_are : rows ≡ spelled t.items ++ t.rest
+  pub good : AreItems t.items
+  pub first : BeginsWith t.end t.items
+  pub count : 31 + length t.items ≡ t.end
+
+-- whole items behind which loading goes on: none, or the first is T e S and they do not reach e - 1
+abbrev pub GoesOn : List Item → Type 0
+GoesOn [] = Unit {0}
+GoesOn (i ∷ is) = IsFirst (number_of i) i × (31 + length (i ∷ is) < number_of i)
+
+-- the rows of a part of an item, none between two items
+abbrev pub part_rows : Option Begun → List ℕ
+part_rows None = []
+part_rows (Some b) = begun_rows b
+
+-- a part of an item is so far without a fault
+abbrev pub IsPart : Option Begun → Type 0
+IsPart None = Unit {0}
+IsPart (Some b) = IsBegun b
+
+-- a row as it is read: behind whole items and a part of its own item, while loading goes on
+pub record Stands (rows : List ℕ) (row : ℕ) : Type 0 where
+  pub before : List Item
+  pub part : Option Begun
+  pub rest : List ℕ
+  pub good : AreItems before
+  pub goes_on : GoesOn before
+  pub is_part : IsPart part
+  pub rows_are : rows ≡ spelled before ++ (part_rows part ++ rest)
+  pub row_is : row ≡ length (spelled before) + length (part_rows part)
+
+-- whether an item is a first word: T e S with e from 32 to 1023
+abbrev pub is_first : Begun → ℕ → Bool
+is_first b c = nat_eq b.function 5 && (nat_eq c 12 && (nat_le 32 (number 0 b.digits) && nat_le (number 0 b.digits) 1023))
+
+-- whether there are no items
+abbrev pub is_none : List Item → Bool
+is_none [] = true
+is_none (i ∷ is) = false
+
+-- whether a row ends an item
+abbrev pub ends : ℕ → Bool
+ends c = nat_eq c 12 || nat_eq c 25
+
+-- whether the row c breaks the rule behind a part of an item: one line for each rule
+abbrev pub breaks : Tape1Cause → List Item → Begun → ℕ → Bool
+breaks EndOfTape before b c = false
+breaks BadRow before b c = not (nat_lt c 10) && not (ends c)
+breaks NumberTooLarge before b c = nat_lt c 10 && nat_lt 32767 (10 * number 0 b.digits + c)
+breaks FirstWord before b c = ends c && (is_none before && not (is_first b c))
+
+-- whether the rule is the first one, that the rows go on
+abbrev pub is_end_of_tape : Tape1Cause → Bool
+is_end_of_tape EndOfTape = true
+is_end_of_tape cause = false
+
+-- whether the rule is the second one, on rows that stand in no item
+abbrev pub is_bad_row : Tape1Cause → Bool
+is_bad_row BadRow = true
+is_bad_row cause = false
+
+-- whether the rule is broken where so much has been read and these rows are left
+abbrev pub broken : List Item → Option Begun → List ℕ → Tape1Cause → Bool
+broken before part [] cause = is_end_of_tape cause
+broken before None (c ∷ rest) cause = is_bad_row cause && not (nat_lt c 32)
+broken before (Some b) (c ∷ rest) cause = breaks cause before b c
+
+-- the tape breaks the rule at the row
+pub record Breaks (rows : List ℕ) (row : ℕ) (cause : Tape1Cause) : Type 0 where
+  pub stands : Stands rows row
+  pub breaks : broken stands.before stands.part stands.rest cause ≡ true
+
+-- the fault of a tape: the least row at which a rule is broken, and there the rule with the least number
+pub record IsFault (rows : List ℕ) (row : ℕ) (cause : Tape1Cause) : Type 0 where
+  pub is : Breaks rows row cause
+  pub least : (r : ℕ) (other : Tape1Cause) → Breaks rows r other → (row < r) ⊎ ((row ≡ r) × (rule cause ≤ rule other))
+
+-- a tape is well formed: no rule is broken at any row
+abbrev pub WellFormed : List ℕ → Type 0
+WellFormed rows = (row : ℕ) (cause : Tape1Cause) → Breaks rows row cause → ⊥

@@ -1,0 +1,85 @@
+-- Items of the tape of Initial Orders 1: a function row, digit rows, and S or L (the listing of May 1949; that a number
+-- stays at most 32767 is this project's own rule). Rows are whole numbers here. One of 32 or more is no row and breaks
+-- a rule wherever it is read; no tape has such a row.
+use Rattle.std.specs.Prelude.{ℕ, ◌≡◌, ◌+◌, ◌*◌, ◌%◌, ◌^◌, ◌<◌, ◌≤◌, Bool, true, false, List, [], ◌∷◌, ◌++◌, length}
+use Rattle.ed_words.specs.Words.{digit}
+use Rattle.ed_notation.specs.Items.{number, AreDigits}
+
+-- an item as far as it has been punched: its function row and its digit rows
+pub record Begun : Type 0 where
+  pub function : ℕ
+  pub digits : List ℕ
+
+-- a whole item, ended by L where it is long and by S where it is not
+pub record Item : Type 0 where
+  pub begun : Begun
+  pub long : Bool
+
+-- the number of an item
+abbrev pub number_of : Item → ℕ
+number_of i = number 0 i.begun.digits
+
+-- the ending row: S is the row 12, and L is the row 25
+abbrev pub ending : Bool → ℕ
+ending false = 12
+ending true = 25
+
+-- the rows of an item before its ending row
+abbrev pub begun_rows : Begun → List ℕ
+begun_rows b = b.function ∷ b.digits
+
+-- the rows of an item
+abbrev pub rows_of : Item → List ℕ
+rows_of i = begun_rows i.begun ++ (ending i.long ∷ [])
+
+-- the rows of items one after the other
+abbrev pub spelled : List Item → List ℕ
+spelled [] = []
+spelled (i ∷ is) = rows_of i ++ spelled is
+
+-- a function row and digit rows whose number is small enough
+pub record IsBegun (b : Begun) : Type 0 where
+  pub function : b.function < 32
+  pub digits : AreDigits b.digits
+  pub fits : number 0 b.digits ≤ 32767
+
+-- each item begins as an item may
+abbrev pub AreItems : List Item → Type 0
+AreItems [] = Unit {0}
+AreItems (i ∷ is) = IsBegun i.begun × AreItems is
+
+-- the word of an item
+abbrev pub word : Item → ℕ
+word i = (4096 * i.begun.function + 2 * number_of i + digit i.long) % 2 ^ 17
+
+-- the words of items
+abbrev pub words : List Item → List ℕ
+words [] = []
+words (i ∷ is) = word i ∷ words is
+
+-- the orders that read an item: 5 for its function row, 10 for a digit row, 14 for its ending row
+abbrev pub cost_of : Item → ℕ
+cost_of i = 5 + 10 * length i.begun.digits + 14
+
+-- the orders that read items one after the other
+abbrev pub costs : List Item → ℕ
+costs [] = 0
+costs (i ∷ is) = cost_of i + costs is
+
+-- the digit rows of items
+abbrev pub digits : List Item → List ℕ
+digits [] = []
+digits (i ∷ is) = i.begun.digits ++ digits is
+
+-- the last of some things, and one before them where there are none
+abbrev pub last_of : {A : Type 0} → A → List A → A
+last_of a [] = a
+last_of a (x ∷ xs) = last_of x xs
+
+-- the item is T e S with e from 32 to 1023: the words go to 31 up to e - 1
+pub record IsFirst (e : ℕ) (i : Item) : Type 0 where
+  pub function : i.begun.function ≡ 5
+  pub short : i.long ≡ false
+  pub number : number_of i ≡ e
+  pub low : 32 ≤ e
+  pub high : e ≤ 1023

@@ -1,0 +1,26 @@
+/// What is wrong with a tape of Initial Orders 1. At one row the first one that applies is the fault.
+#[derive(Clone, Copy, Debug, PartialEq, Eq)]
+pub enum Tape1Cause {
+    /// The rows end before loading has ended: the row is the number of rows.
+    EndOfTape,
+    /// Behind a function row, a row that is neither a digit nor S nor L.
+    BadRow,
+    /// A digit row that brings the number of its item above 32767.
+    NumberTooLarge,
+    /// The ending row of the first item, where that item is not T e S with e from 32 to 1023.
+    FirstWord,
+}
+
+/// Why a tape of Initial Orders 1 was not accepted.
+#[derive(Clone, Copy, Debug, PartialEq, Eq)]
+pub enum Tape1Fault {
+    /// The fault of the tape.
+    At {
+        /// The row, which counts from 0.
+        row: usize,
+        /// What is wrong there.
+        cause: Tape1Cause,
+    },
+    /// No memory was found.
+    Memory,
+}

@@ -1,0 +1,68 @@
+ghost use Rattle.std.specs.Prelude.{◌≡◌, ◌+◌, ◌*◌, ◌^◌, ◌≤◌, length};
+ghost use Rattle.ed_machine.specs.Steps.{state_after};
+ghost use Rattle.ed_initial1.specs.Faults.{Tape, Comes, WellFormed};
+ghost use Rattle.ed_initial1.specs.Entry.{IsStarted1, IsLoaded1};
+ghost use Rattle.ed_initial1.specs.Load.{EndsAs, orders_of};
+
+use ed_machine::{Machine, Turn};
+
+/// Where the program begins.
+const ENTRY: u16 = 31;
+
+/// How a load by Initial Orders 1 ended.
+#[derive(Clone, Copy, Debug, PartialEq, Eq)]
+pub enum Loaded1 {
+    /// The counter came to 31, where the program begins.
+    Entered {
+        /// The number of orders obeyed.
+        orders: u64,
+    },
+    /// The load went wrong, which it does only on a tape with a fault.
+    Lost {
+        /// The number of orders obeyed.
+        orders: u64,
+    },
+}
+
+/// Obeys Initial Orders 1 until they enter the program of the tape at 31.
+///
+/// It is lost where an order prints, stops or cannot be obeyed before that, or where 14 orders for each row of tape and
+/// 4 more were obeyed.
+pub fn load1(machine: &mut Machine) -> Loaded1
+    requires started { IsStarted1 machine.old }
+    requires room { machine.old.orders + (14 * length machine.old.tape + 4) ≤ 2 ^ 63 }
+    ensures ends { EndsAs machine.old (14 * length machine.old.tape + 4) result }
+    ensures state { machine.new ≡ state_after (orders_of result) machine.old }
+    ensures loads { (t : Tape) → Comes machine.old.tape t → IsLoaded1 machine.old t result machine.new }
+    ensures total { WellFormed machine.old.tape → (t : Tape) × Comes machine.old.tape t × IsLoaded1 machine.old t result machine.new }
+{
+    let rows = machine.rows_left().len() as u64;
+    // The contract of `word` tells the proof that the store is one.
+    let _ = machine.word(0);
+    obey_orders(machine, 14 * rows + 4)
+}
+
+/// Obeys orders, `bound` of them at the most, until the counter is 31 or the load is lost.
+fn obey_orders(machine: &mut Machine, bound: u64) -> Loaded1
+    requires { machine.old.orders + bound ≤ 2 ^ 63 }
+    ensures ends { EndsAs machine.old bound result }
+    ensures state { machine.new ≡ state_after (orders_of result) machine.old }
+{
+    for orders in 0..bound {
+        match machine.step() {
+            Turn::NoOrder(_) | Turn::NoTape => return Loaded1::Lost { orders },
+            Turn::Printed(_) | Turn::Stopped => {
+                if machine.counter() == ENTRY {
+                    return Loaded1::Entered { orders: orders + 1 };
+                }
+                return Loaded1::Lost { orders: orders + 1 };
+            }
+            Turn::Went => {
+                if machine.counter() == ENTRY {
+                    return Loaded1::Entered { orders: orders + 1 };
+                }
+            }
+        }
+    }
+    Loaded1::Lost { orders: bound }
+}
