@@ -1,0 +1,67 @@
+ghost use Rattle.std.specs.Prelude.{◌≡◌, ◌↔◌, ◌≤◌, IsTrue};
+ghost use Rattle.ed_interlude.specs.Returned.{AreListed, IsReturned, LeavesDirective, directive};
+
+use ed_initial::orders;
+use ed_machine::Machine;
+use ed_words::Word;
+
+/// The location to which programs return.
+const RETURN: u16 = 25;
+
+/// The location of the constant 1.
+const ONE: u16 = 43;
+
+/// What the multiplier holds: the ten sixteenths of the conversion from decimal.
+const MULTIPLIER: u64 = 20480 << 18;
+
+/// The order T 0 F, the least directive of a return.
+const LEAST: u32 = 20480;
+
+/// The order T 1023 F, the greatest one.
+const MOST: u32 = LEAST + 2 * 1023;
+
+/// Whether a program came back to the Initial Orders, so that they can read on.
+///
+/// The machine stands at 25, the locations 2 to 19, 21 and 23 to 39 hold the Initial Orders, 43 holds 1, the multiplier
+/// is as it was, and the accumulator has an order T with no length digit at its top.
+pub fn is_returned(machine: &Machine) -> bool
+    ensures { IsTrue result ↔ IsReturned machine.now }
+{
+    machine.counter() == RETURN
+        && machine.word(ONE).value() == 1
+        && machine.multiplier().value() == MULTIPLIER
+        && leaves_directive(machine)
+        && are_listed(machine, 2, 20)
+        && are_listed(machine, 21, 22)
+        && are_listed(machine, 23, 40)
+}
+
+/// The word at the top of the accumulator.
+pub(crate) fn directive(machine: &Machine) -> Word
+    ensures { result ≡ directive machine.now }
+{
+    Word::of_number((machine.acc() >> 54) as u32)
+}
+
+/// Whether that word is an order T with no length digit and an address of 1023 at the most.
+fn leaves_directive(machine: &Machine) -> bool
+    ensures { IsTrue result ↔ LeavesDirective machine.now }
+{
+    let word = directive(machine).value();
+    word % 2 == 0 && LEAST <= word && word <= MOST
+}
+
+/// Whether the locations from `first` up to `end`, itself left out, hold the Initial Orders.
+fn are_listed(machine: &Machine, first: u16, end: u16) -> bool
+    requires { end ≤ 41 }
+    ensures { IsTrue result ↔ AreListed machine.now.store first end }
+{
+    let orders = orders();
+    let listed = &orders[..];
+    for place in first..end {
+        if machine.word(place) != listed[usize::from(place)] {
+            return false;
+        }
+    }
+    true
+}
