@@ -1,17 +1,11 @@
 //! What `print` and `newline` print.
 
-use crate::support::{PLACES, Places, called, stands_at};
+use crate::support::{NEWLINE, PLACES, PRINT, Places, called, stands_at};
 use ed_library::routine;
 use ed_machine::{Machine, Paper};
 use ed_routines::{Back, new_line, print_integer};
 use std::process::Abort;
 use std::test::Fail;
-
-/// The index of `newline` in the catalogue.
-const NEWLINE: u16 = 0;
-
-/// The index of `print` in the catalogue.
-const PRINT: u16 = 1;
 
 /// Numbers, their decimal digits, and the orders that they take: 78, and 8 for each unit of the digits before the last one,
 /// and 4 for each of these digits.

@@ -1,15 +1,12 @@
 //! What `read` reads, and when a routine stands.
 
-use crate::support::{PLACES, Places, called, stands_at};
+use crate::support::{PLACES, Places, READ, called, stands_at};
 use ed_codes::{Code, byte_of};
 use ed_library::routine;
 use ed_machine::Machine;
 use ed_routines::{ReadBack, read_integer};
 use std::process::Abort;
 use std::test::Fail;
-
-/// The index of `read` in the catalogue.
-const READ: u16 = 2;
 
 /// Rows, the number that they leave, and the orders that they take: 11, and 13 for each digit row.
 const ROWS: [(&str, u32, u64); 8] = [

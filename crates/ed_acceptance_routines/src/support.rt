@@ -15,6 +15,21 @@ use std::alloc::Global;
 use std::process::Abort;
 use std::test::Fail;
 
+/// The index of `divide` in the catalogue.
+pub const DIVIDE: u16 = 1;
+
+/// The index of `newline`.
+pub const NEWLINE: u16 = 2;
+
+/// The index of `print`.
+pub const PRINT: u16 = 3;
+
+/// The index of `read`.
+pub const READ: u16 = 4;
+
+/// The index of `root`.
+pub const ROOT: u16 = 5;
+
 /// Where a routine and its caller stand, and the location that the routine is given.
 #[derive(Clone, Copy)]
 pub struct Places {
@@ -71,6 +86,14 @@ pub fn stands_at(machine: &Machine, index: u16, base: u16, h: u16) -> bool
     requires { index < how_many }
     ensures { IsTrue result → Stands index (with_h h) base machine.now }
 {
+    stands_with(machine, index, base, &with_h(h))
+}
+
+/// Whether the routine with an index stands at a base with these parameters, and is called. No routine stands above 1000 here.
+pub fn stands_with(machine: &Machine, index: u16, base: u16, parameters: &Parameters) -> bool
+    requires { index < how_many }
+    ensures { IsTrue result → Stands index parameters.now base machine.now }
+{
     let routine = routine(index);
     if base < 56 || base > 1000 {
         return false;
@@ -78,11 +101,11 @@ pub fn stands_at(machine: &Machine, index: u16, base: u16, h: u16) -> bool
     if base + routine.length() > machine.size().value() {
         return false;
     }
-    stands(machine, &routine, base, &with_h(h))
+    stands(machine, &routine, base, parameters)
 }
 
 /// The text of a routine's items.
-fn text_of(rt: &impl Abort, alloc: Global, routine: Routine) -> Result<String, Fail> {
+pub fn text_of(rt: &impl Abort, alloc: Global, routine: Routine) -> Result<String, Fail> {
     let mut text = String::new(alloc);
     for place in 0..routine.length() {
         let item = routine.item(place);
@@ -92,6 +115,24 @@ fn text_of(rt: &impl Abort, alloc: Global, routine: Routine) -> Result<String, F
         }
     }
     Ok(text)
+}
+
+/// A machine in which a routine stands and has just been called with the number 0 at h, by a program that adds 1 to the number
+/// and calls it again, within six orders.
+pub fn counting(
+    rt: &impl Abort,
+    alloc: Global,
+    index: u16,
+    base: u16,
+    h: u16,
+) -> Result<Machine, Fail> {
+    assert!(rt; index < 6 && h < 300);
+    let items = text_of(rt, alloc, routine(index))?;
+    let one = h + 1;
+    let tape = format!(in alloc;
+        "T45KP{h}FT{base}KGK{items}T{h}KPFPDT300KA300FG{base}FA{h}FA{one}FT{h}FE300FE300KPF"
+    )?;
+    entered(rt, alloc, Size::Full, &tape)
 }
 
 /// A machine in which the routine stands and has just been called, with a number at h, and rows left on the tape.
@@ -116,6 +157,13 @@ pub fn called(
     let tape = format!(in alloc;
         "T45KP{h}FT{base}KGK{items}T{h}KP{half}{odd}T{caller}KA{caller}FG{base}FE{caller}KPF{rows}"
     )?;
+    let machine = entered(rt, alloc, size, &tape)?;
+    assert!(rt; machine.counter() == base);
+    Ok(machine)
+}
+
+/// A machine that has obeyed the first two orders of a tape's program, which are those of a call.
+pub fn entered(rt: &impl Abort, alloc: Global, size: Size, tape: &str) -> Result<Machine, Fail> {
     let mut machine = Machine::cleared_of(alloc, size)?;
     begin(&mut machine, tape_of_text(alloc, tape.as_bytes())?);
     assert!(rt; is_started(&machine));
@@ -125,6 +173,5 @@ pub fn called(
         assert!(rt; machine.orders_done() < 1 << 40);
         machine.step();
     }
-    assert!(rt; machine.counter() == base);
     Ok(machine)
 }

@@ -1,0 +1,143 @@
+//! `root` for every number of which it takes one.
+ghost use Rattle.std.specs.Prelude.{◌≡◌};
+ghost use Rattle.ed_maths.specs.Roots.{with_hn};
+
+use crate::support::{ROOT, entered, stands_with, text_of};
+use ed_library::{Parameters, routine};
+use ed_machine::Machine;
+use ed_maths::square_root;
+use ed_words::{Size, Word};
+use std::alloc::Global;
+use std::process::Abort;
+use std::test::Fail;
+
+/// Where the routine and its caller stand, and the locations of the number and the root.
+#[derive(Clone, Copy)]
+struct Site {
+    size: Size,
+    base: u16,
+    caller: u16,
+    source: u16,
+    target: u16,
+}
+
+/// Words before and behind the routine, on both sizes.
+const SITES: [Site; 3] = [
+    Site {
+        size: Size::Full,
+        base: 56,
+        caller: 200,
+        source: 300,
+        target: 310,
+    },
+    Site {
+        size: Size::Small,
+        base: 481,
+        caller: 60,
+        source: 479,
+        target: 44,
+    },
+    Site {
+        size: Size::Full,
+        base: 900,
+        caller: 1000,
+        source: 60,
+        target: 923,
+    },
+];
+
+/// The parameters with H and N the two locations.
+fn with_hn(source: u16, target: u16) -> Parameters
+    ensures { result ≡ with_hn source target }
+{
+    let zero = Word::of_number(0);
+    [
+        Word::of_number(2 * u32::from(source)),
+        Word::of_number(2 * u32::from(target)),
+        zero,
+        zero,
+        zero,
+        zero,
+    ]
+}
+
+/// The machine in which the routine stands and has just been called with the number 0, by a program that adds 1 to the number
+/// and calls it again, in six orders.
+fn counting(rt: &impl Abort, alloc: Global, site: &Site) -> Result<Machine, Fail> {
+    let Site {
+        size,
+        base,
+        caller,
+        source,
+        target,
+    } = *site;
+    assert!(rt; caller < 2000);
+    let items = text_of(rt, alloc, routine(ROOT))?;
+    let one = caller + 6;
+    let tape = format!(in alloc;
+        "T45KP{source}FP{target}FT{base}KGK{items}T{source}KPFT{caller}KA{caller}FG{base}FA{source}FA{one}FT{source}FE{caller}F\
+        PDE{caller}KPF"
+    )?;
+    entered(rt, alloc, size, &tape)
+}
+
+/// Takes the root of a machine that counts, and says what is wrong, if anything.
+fn rooted(rt: &impl Abort, machine: &mut Machine, site: &Site, number: u32) -> &'static str {
+    let Site {
+        base,
+        caller,
+        source,
+        target,
+        ..
+    } = *site;
+    assert!(rt; caller < 2000 && source != target);
+    assert!(rt; stands_with(machine, ROOT, base, &with_hn(source, target)));
+    assert!(rt;
+        source < machine.size().value() && (source < base || 23 <= source && base <= source - 23)
+    );
+    assert!(rt;
+        target < machine.size().value() && (target < base || 23 <= target && base <= target - 23)
+    );
+    assert!(rt; machine.word(source).value() == number && number < 65536);
+    assert!(rt; machine.orders_done() < 1 << 40);
+    let back = square_root(machine, base, source, target);
+    let root = machine.word(target).value();
+    if root > 255 || root * root > number || (root + 1) * (root + 1) <= number {
+        return "no root";
+    }
+    if back.orders != 14 + 8 * u64::from(root) {
+        return "another count";
+    }
+    if back.at != caller + 2 || machine.counter() != caller + 2 || machine.acc() != 0 {
+        "not returned"
+    } else {
+        ""
+    }
+}
+
+/// Takes the roots of the numbers from 0 to the last one at a site.
+fn take_roots(rt: &impl Abort, alloc: Global, site: &Site, last: u32) -> Result<(), Fail> {
+    let mut machine = counting(rt, alloc, site)?;
+    for number in 0..=last {
+        let wrong = rooted(rt, &mut machine, site, number);
+        assert!(rt; wrong.is_empty(), "{number}: {wrong}");
+        for _ in 0..6 {
+            assert!(rt; machine.orders_done() < 1 << 40);
+            machine.step();
+        }
+    }
+    Ok(())
+}
+
+#[test]
+fn each_root_is_taken(rt: HostRuntime) -> Result<(), Fail> {
+    take_roots(&rt, rt.alloc(), &SITES[0], 65535)
+}
+
+#[test]
+fn roots_are_taken_at_other_places(rt: HostRuntime) -> Result<(), Fail> {
+    for site in &SITES {
+        take_roots(&rt, rt.alloc(), site, 300)?;
+    }
+    Ok(())
+}

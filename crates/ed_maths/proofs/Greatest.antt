@@ -1,0 +1,21 @@
+-- The square root of a number, in whole numbers, is one.
+use Rattle.std.proofs.Common.{◌≡◌, ℕ, zero, suc, ◌+◌, ◌*◌, ◌<◌, ◌≤◌, refl, arith, Bool, true, false, nat_le}
+use Rattle.std.specs.Prelude.{if◌then◌else◌}
+use Rattle.ed_words.proofs.Numbers.{le_of, not_le_of}
+use Rattle.ed_maths.specs.Roots.{IsRoot, root_of, root_up_to}
+
+by_test : (k n below : ℕ) (t : Bool) → nat_le (suc k * suc k) n ≡ t → n < (suc k + 1) * (suc k + 1) → (n < (k + 1) * (k + 1) → IsRoot n below)
+    → IsRoot n (if t then suc k else below)
+by_test k n below true e low rest = record { square = le_of (suc k * suc k) n e; greatest = low }
+by_test k n below false e low rest =
+    let high = not_le_of (suc k * suc k) n e in
+    let s : suc k * suc k ≡ (k + 1) * (k + 1) = omega arith in
+    rest (omega arith)
+
+up_to : (k n : ℕ) → n < (k + 1) * (k + 1) → IsRoot n (root_up_to k n)
+unfolding root_up_to
+up_to zero n low = record { square = omega arith; greatest = low }
+up_to (suc k) n low = by_test k n (root_up_to k n) (nat_le (suc k * suc k) n) refl low (up_to k n)
+
+pub root_is : (n : ℕ) → IsRoot n (root_of n)
+root_is n = let e : (n + 1) * (n + 1) ≡ n * n + 2 * n + 1 = omega arith in up_to n n (omega arith)

@@ -1,0 +1,9 @@
+use Rattle.std.proofs.Common.{◌≡◌, ◌+◌, ◌-◌, ◌≤◌}
+use Rattle.ed_maths.specs.Quotients.{ones}
+use Rattle.ed_maths.proofs.division.count_ones.Given as goal
+
+abbrev pub invariant-loop-done : goal.invariant-loop-done
+invariant-loop-done l = record {
+  sum : l.sum + ones (16 - l.done) l.rest ≡ ones 16 l.fn.number;
+  few : l.sum ≤ l.done;
+}

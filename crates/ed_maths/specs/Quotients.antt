@@ -1,0 +1,61 @@
+-- What `divide` does: a number of 32 binary digits, whose halves stand in two words, is divided by a third (this project's own
+-- rule).
+use Rattle.std.specs.Prelude.{◌≡◌, ◌≢◌, ◌⊎◌, ℕ, zero, suc, ◌+◌, ◌-◌, ◌*◌, ◌/◌, ◌%◌, ◌<◌, ◌≤◌, false, List, [], ◌∷◌, codes}
+use Rattle.std.specs.Prelude.{slice_index_or}
+use Rattle.ed_store.specs.Cells.{short_at}
+use Rattle.ed_machine.specs.State.{State}
+use Rattle.ed_routines.specs.Catalogue.{named}
+use Rattle.ed_routines.specs.Standing.{IsOutside, caller}
+use Rattle.ed_routines.specs.Returns.{IsOther}
+
+abbrev pub divide : ℕ
+divide = named (codes "divide")
+
+-- the parameters with H, N and M the locations of the high word, the low word and the divisor
+abbrev pub with_hnm : ℕ → ℕ → ℕ → List ℕ
+with_hnm high low by = 2 * high ∷ 2 * low ∷ 2 * by ∷ 0 ∷ 0 ∷ 0 ∷ []
+
+-- the number of which two words are the halves
+abbrev pub dividend : ℕ → ℕ → State → ℕ
+dividend high low s = 65536 * short_at s.store high + short_at s.store low
+
+-- how many of the last k binary digits of a number are 1
+unfoldable pub ones : ℕ → ℕ → ℕ
+ones zero q = 0
+ones (suc k) q = q % 2 + ones k (q / 2)
+
+-- how many orders `divide` takes for a quotient
+abbrev pub divide_orders : ℕ → ℕ
+divide_orders q = 212 - ones 16 q
+
+-- three places outside the routine, with a divisor of 1 to 32767 above the high word, and a low word of 16 digits
+pub record IsDivision (base high low by : ℕ) (s : State) : Type 0 where
+  pub high_outside : IsOutside divide base high s
+  pub low_outside : IsOutside divide base low s
+  pub by_outside : IsOutside divide base by s
+  pub high_low : high ≢ low
+  pub high_by : high ≢ by
+  pub low_by : low ≢ by
+  pub positive : 1 ≤ short_at s.store by
+  pub divisor : short_at s.store by ≤ 32767
+  pub less : short_at s.store high < short_at s.store by
+  pub small : short_at s.store low < 65536
+
+-- a pair of locations whose sandwich digit `divide` leaves: neither 36 and 37 nor 38 and 39 of its places
+pub record IsOtherPair (base pair : ℕ) : Type 0 where
+  pub other : (pair < base / 2 + 18) ⊎ (base / 2 + 20 ≤ pair)
+
+-- the quotient stands at the low place and the remainder at the high one; control is behind the call and the accumulator
+-- clear; and no other word has changed but the working places, no sandwich digit but of pairs of these, and nothing else
+pub record Divided (base high low by : ℕ) (s t : State) : Type 0 where
+  pub quotient : short_at t.store low ≡ dividend high low s / short_at s.store by
+  pub remainder : short_at t.store high ≡ dividend high low s % short_at s.store by
+  pub is : t
+      ≡ record s {
+        store = t.store;
+        acc = 0;
+        counter = caller s + 2;
+        orders = s.orders + divide_orders (dividend high low s / short_at s.store by);
+      }
+  pub words : (i : ℕ) → i ≢ high → i ≢ low → IsOther divide base i → short_at t.store i ≡ short_at s.store i
+  pub digits : (pair : ℕ) → IsOtherPair base pair → slice_index_or t.store.sandwich pair false ≡ slice_index_or s.store.sandwich pair false

@@ -1,0 +1,11 @@
+//! What the mathematical routines of the library do: `divide` and `root`, run on a machine in which they stand.
+//!
+//! The contract is the quotient and the remainder, or the root, after exactly how many orders, and that nothing else
+//! changes. Stands on `ed_routines`, and is proved over `ed_paths`.
+#![tactic(auto)]
+
+mod division;
+mod square;
+
+pub use division::divide_integers;
+pub use square::square_root;
