@@ -1,0 +1,240 @@
+-- The routine obeys the guest order by order.
+use Rattle.std.proofs.Common.{◌≡◌, ℕ, zero, suc, ◌+◌, ◌%◌, ◌^◌, ◌<◌, refl, sym, ap, ◌∙◌, subst, arith, lit<, Bool, true, false, nat_lt, nat_le, [], ◌∷◌, ◌++◌, Option, Some, inl, inr}
+use Rattle.std.proofs.lemmas.Bool.{cases_eq}
+use Rattle.ed_words.specs.Sizes.{within}
+use Rattle.ed_words.specs.Words.{function_of, address_of}
+use Rattle.ed_store.specs.Cells.{IsStore, short_at}
+use Rattle.ed_orders.specs.Kinds.{kind_of_function}
+use Rattle.ed_orders.specs.declared.kind.Kind.{Kind}
+use Rattle.ed_orders.specs.declared.kind.Kind.TheVariants.{E, G}
+use Rattle.ed_machine.specs.State.{State}
+use Rattle.ed_machine.specs.OrderTable.{Obeyed, step, next_word, obey_word, jumped, place_of}
+use Rattle.ed_machine.specs.Steps.{Past, past, state_after, codes_of, stops_of, is_obeyed}
+use Rattle.ed_machine.specs.declared.turn.Turn.TheVariants.{Stopped}
+use Rattle.ed_checker.specs.Checker.{IsOutside, IsAllowed, IsAllowedOrder, Agree, guest, checked_codes}
+use Rattle.ed_checker.proofs.Alike.{Alike, is_planted, planted}
+use Rattle.ed_machine.specs.Sound.{IsSound}
+use Rattle.ed_machine.proofs.SoundSteps.{sound_after}
+use Rattle.ed_checker.specs.Laws.{IsFollowed, Checked, ChecksToStop, HasGuest, CheckerLaw}
+use Rattle.ed_checker.proofs.Halves.{long_fits}
+use Rattle.ed_checker.proofs.Ran.{joined, none, renamed}
+use Rattle.ed_checker.proofs.Turns.{turn, turn_halts, other_planted}
+
+agree_self : (base : ℕ) (s : State) → Agree base s s
+agree_self base s = record { size = refl; words = λ a i. refl; digits = λ a i. refl; acc = refl; multiplier = refl; counter = refl; tape = refl }
+
+agree_trans : (base : ℕ) (s t u : State) → Agree base s t → Agree base t u → Agree base s u
+agree_trans base s t u p q = record {
+  size = p.size ∙ q.size;
+  words = λ a i. p.words a i ∙ q.words a i;
+  digits = λ a i. p.digits a i ∙ q.digits a i;
+  acc = p.acc ∙ q.acc;
+  multiplier = p.multiplier ∙ q.multiplier;
+  counter = p.counter ∙ q.counter;
+  tape = p.tape ∙ q.tape;
+}
+
+-- two guests that agree, of which the second is allowed its next order
+module _ (base : ℕ) (even_base : base % 2 ≡ 0) (s t : State) (p : Agree base s t) (ok : IsAllowed base t) where
+  same_word : next_word s ≡ next_word t
+  same_word = ap (short_at s.store) p.counter ∙ p.words t.counter ok.outside
+
+  pub allowed : IsAllowed base s
+  allowed =
+      let x = next_word t in
+      let order : IsAllowedOrder (kind_of_function (function_of (next_word s))) base (next_word s) s.size =
+      subst (λ w. IsAllowedOrder (kind_of_function (function_of w)) base w s.size) (sym same_word)
+      (subst (λ z. IsAllowedOrder (kind_of_function (function_of x)) base x z) (sym p.size) ok.order) in
+      record { outside = subst (IsOutside base) (sym p.counter) ok.outside; next = rw (p.counter, p.size) ok.next; order = order }
+
+  -- the order that both obey
+  abbrev x : ℕ
+  x = next_word s
+
+  at_s : (k : Option Kind) → kind_of_function (function_of x) ≡ k → step s ≡ obey_word k x s
+  unfolding step
+  at_s k e = ap (λ k. obey_word k x s) e
+
+  at_t : (k : Option Kind) → kind_of_function (function_of x) ≡ k → step t ≡ obey_word k x t
+  unfolding step
+  at_t k e = ap (λ w. obey_word (kind_of_function (function_of w)) w t) (sym same_word) ∙ ap (λ k. obey_word k x t) e
+
+  record Both (a b : Obeyed) : Type 0 where
+    turn : a.turn ≡ b.turn
+    agree : Agree base a.state b.state
+
+  both_jump : (b : Bool) (j : ℕ) → Both (jumped b j s) (jumped b j t)
+  both_jump true j = record { turn = refl; agree = record { size = p.size; words = p.words; digits = p.digits; acc = p.acc; multiplier = p.multiplier; counter = refl; tape = p.tape } }
+  both_jump false j = record {
+    turn = refl;
+    agree = record { size = p.size; words = p.words; digits = p.digits; acc = p.acc; multiplier = p.multiplier; counter = λ i. within (p.size i) (p.counter i + 1); tape = p.tape };
+  }
+
+  place : place_of s x ≡ place_of t x
+  place = ap (λ z. within z (address_of x)) p.size
+
+  both_E : Both (obey_word (Some E) x s) (obey_word (Some E) x t)
+  both_E = subst (Both (obey_word (Some E) x s)) (λ i. jumped (nat_lt (p.acc i) (2 ^ 70)) (place i) t) (both_jump (nat_lt s.acc (2 ^ 70)) (place_of s x))
+
+  both_G : Both (obey_word (Some G) x s) (obey_word (Some G) x t)
+  both_G = subst (Both (obey_word (Some G) x s)) (λ i. jumped (nat_le (2 ^ 70) (p.acc i)) (place i) t) (both_jump (nat_le (2 ^ 70) s.acc) (place_of s x))
+
+  module _ (a : IsStore s.store) (b : IsStore t.store) where
+    alike : Alike base s t
+    alike = record {
+      size = p.size;
+      words = p.words;
+      digits = p.digits;
+      word_count = a.words_are ∙ sym b.words_are;
+      digit_count = a.digits_are ∙ sym b.digits_are;
+      acc = p.acc;
+      multiplier = p.multiplier;
+      tape = p.tape;
+    }
+
+    both_planted : is_planted (kind_of_function (function_of x)) ≡ true → is_obeyed (step t).turn ≡ true
+        → Both (obey_word (kind_of_function (function_of x)) x s) (obey_word (kind_of_function (function_of x)) x t)
+    both_planted may h =
+        let o = planted base even_base s t alike (kind_of_function (function_of x)) x may allowed.order in
+        let went = ap is_obeyed (o.turn ∙ ap (λ (y : Obeyed). y.turn) (sym (at_t (kind_of_function (function_of x)) refl))) ∙ h in
+        let q = o.alike in
+        record {
+          turn = o.turn;
+          agree = record {
+            size = q.size;
+            words = q.words;
+            digits = q.digits;
+            acc = q.acc;
+            multiplier = q.multiplier;
+            counter = o.counter went ∙ (λ i. within (p.size i) (p.counter i + 1)) ∙ sym (o.other_counter went);
+            tape = q.tape;
+          };
+        }
+
+    by_step : (k : Option Kind) → kind_of_function (function_of x) ≡ k → Both (obey_word k x s) (obey_word k x t) → Both (step s) (step t)
+    by_step k e h = subst (λ y. Both y (step t)) (sym (at_s k e)) (subst (Both (obey_word k x s)) (sym (at_t k e)) h)
+
+    pub steps : is_obeyed (step t).turn ≡ true → ((step s).turn ≡ (step t).turn) × Agree base (step s).state (step t).state
+    steps h = (whole.turn, whole.agree)
+      where
+        whole : Both (step s) (step t)
+        whole =
+            elim (cases_eq (function_of x) 3) [
+              | inl e ↦ by_step (Some E) (ap kind_of_function e) both_E
+              | inr no3 ↦
+                  elim (cases_eq (function_of x) 27) [
+                    | inl e ↦ by_step (Some G) (ap kind_of_function e) both_G
+                    | inr no27 ↦ by_step (kind_of_function (function_of x)) refl (both_planted (other_planted (function_of x) no3 no27) h)
+                  ]
+            ]
+
+-- ---- the guest of a machine in which the routine stands
+
+guest_fits : (base : ℕ) (m : State) → HasGuest base m → (guest base m).acc < 2 ^ 71
+guest_fits base m h =
+    let high = long_fits base h.even m h.sound.store 60 refl in
+    let middle = h.stands.middle in
+    let low = h.stands.low_few in
+    omega arith
+
+guest_sound : (base : ℕ) (m : State) → HasGuest base m → IsAllowed base (guest base m) → IsSound (guest base m)
+guest_sound base m h ok = record {
+  store = h.sound.store;
+  acc = guest_fits base m h;
+  multiplier = h.sound.multiplier;
+  counter = let next = ok.next in omega arith;
+  tape = h.sound.tape;
+  last = lit< tt;
+}
+
+at_first : (base : ℕ) (g : State) → IsAllowed base (state_after 0 g) → IsAllowed base g
+unfolding past
+at_first base g ok = ok
+
+module _ (base : ℕ) (m : State) (has : HasGuest base m) where
+  abbrev g : State
+  g = guest base m
+
+  -- the machine within its bounds once some orders are checked, and the guest
+  after_sound : (q : ℕ) (c : Checked base q m) → IsSound c.last
+  after_sound q c = subst IsSound (ap (λ (y : Past). y.state) c.ran.is) (sound_after c.count m has.sound)
+
+  next : (q : ℕ) → Checked base q m → IsAllowed base g → IsAllowed base (state_after q g)
+      → is_obeyed (step (state_after q g)).turn ≡ true → Checked base (suc q) m
+  unfolding past checked_codes
+  next q c first ok obeyed =
+      let gq = state_after q g in
+      let a = c.last in
+      let a_sound : IsSound a = after_sound q c in
+      let g_sound : IsSound gq = sound_after q g (guest_sound base m has first) in
+      let b = steps base has.even (guest base a) gq c.agree ok a_sound.store g_sound.store obeyed in
+      let word : next_word (guest base a) ≡ next_word gq = same_word base has.even (guest base a) gq c.agree ok in
+      let t = turn base has.even a a_sound.store (rw c.size has.room) c.stands (allowed base has.even (guest base a) gq c.agree ok)
+      (ap is_obeyed b.0 ∙ obeyed) in
+      let codes : function_of (next_word (guest base a)) ∷ codes_of (step (guest base a)).turn
+      ≡ function_of (next_word gq) ∷ codes_of (step gq).turn
+      = (λ i. function_of (word i) ∷ codes_of (b.0 i)) in
+      let r = joined c.count t.count _ _ _ _ m a t.after c.ran t.ran in
+      record {
+        last = t.after;
+        count = c.count + t.count;
+        most = omega (arith, c.most, t.most);
+        ran = renamed (c.count + t.count) m t.after _ _ _ _ r (ap (λ cs. checked_codes g q ++ cs) codes)
+            (ap (λ n. (past q g).stops + n) (ap stops_of b.0));
+        stands = t.stands;
+        agree = agree_trans base (guest base t.after) (step (guest base a)).state (step gq).state t.agree b.1;
+        size = t.size ∙ c.size;
+      }
+
+  checks_from : (q : ℕ) → IsFollowed base q g → Checked base q m
+  unfolding past checked_codes
+  checks_from zero h = record {
+    last = m;
+    count = 0;
+    most = omega arith;
+    ran = none m;
+    stands = has.stands;
+    agree = agree_self base g;
+    size = refl;
+  }
+  checks_from (suc q) h =
+      next q (checks_from q (record { allowed = λ j l. h.allowed j (omega arith); obeyed = λ j l. h.obeyed j (omega arith) }))
+      (at_first base g (h.allowed 0 (omega arith))) (h.allowed q (omega arith)) (h.obeyed q (omega arith))
+
+  first_allowed : (q : ℕ) → IsFollowed base q g → IsAllowed base (state_after q g) → IsAllowed base g
+  first_allowed zero h ok = at_first base g ok
+  first_allowed (suc q) h ok = at_first base g (h.allowed 0 (omega arith))
+
+  -- the guest's orders up to a stop
+  stops_from : (q : ℕ) → IsFollowed base q g → (past q g).stops ≡ 0 → IsAllowed base (state_after q g)
+      → (step (state_after q g)).turn ≡ Stopped → ChecksToStop base (suc q) m
+  unfolding checked_codes
+  stops_from q h no_stop ok stop =
+      let gq = state_after q g in
+      let c = checks_from q h in
+      let a = c.last in
+      let a_sound : IsSound a = after_sound q c in
+      let g_sound : IsSound gq = sound_after q g (guest_sound base m has (first_allowed q h ok)) in
+      let b = steps base has.even (guest base a) gq c.agree ok a_sound.store g_sound.store (ap is_obeyed stop) in
+      let word : next_word (guest base a) ≡ next_word gq = same_word base has.even (guest base a) gq c.agree ok in
+      let t = turn_halts base has.even a a_sound.store (rw c.size has.room) c.stands (allowed base has.even (guest base a) gq c.agree ok)
+      (b.0 ∙ stop) in
+      let to_it = joined c.count t.count (past q g).stops 0 (checked_codes g q) (function_of (next_word (guest base a)) ∷ []) m a t.before
+      c.ran t.ran in
+      record {
+        last = t.before;
+        count = c.count + t.count;
+        most = omega (arith, c.most, t.most);
+        codes_are = ap (λ (y : Past). y.codes) to_it.is
+            ∙ (λ i. checked_codes g q ++ (function_of (word i) ∷ codes_of (sym stop i)));
+        free = to_it.free;
+        no_stops = ap (λ (y : Past). y.stops) to_it.is ∙ omega (arith, no_stop);
+        state_is = ap (λ (y : Past). y.state) to_it.is;
+        stops = t.turn;
+      }
+
+pub checker_law : CheckerLaw
+checker_law = record {
+  checks = λ base q m has h. checks_from base m has q h;
+  to_stop = λ base q m has h no_stop ok stop. stops_from base m has q h no_stop ok stop;
+}

@@ -1,0 +1,11 @@
+pub mod Saving
+pub mod Halves
+pub mod Paths
+pub mod Alike
+pub mod Ran
+pub mod Opening
+pub mod AccFits
+pub mod Turns
+pub mod Follow
+pub mod Whole
+pub mod Guests

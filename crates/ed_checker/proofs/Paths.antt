@@ -1,0 +1,212 @@
+-- The routine's paths: the guest's order fetched, the tests, the 71 digits brought back and saved, the guest's counter.
+use Rattle.std.proofs.Common.{◌≡◌, ℕ, ◌+◌, ◌-◌, ◌*◌, ◌/◌, ◌%◌, ◌^◌, ◌<◌, ◌≤◌, refl, arith, lit<, Bool, nat_eq, List, [], ◌∷◌, Option, Some, get_or}
+use Rattle.ed_paths.proofs.Sums.{parted}
+use Rattle.ed_paths.proofs.Frames.{Frame, Moment}
+use Rattle.ed_paths.proofs.Places.{IsOutside, own, out, pair}
+use Rattle.ed_paths.proofs.Orders.{word_is}
+use Rattle.ed_paths.proofs.Shifts.{RF, R4F, LF, L64F}
+use Rattle.ed_paths.proofs.Moves.{A, S, T_top, U_top, R, L, E_jumps, E_stays, G_jumps, G_stays, O}
+use Rattle.ed_paths.proofs.Paths.{Path, stay, on, prints, followed}
+use Rattle.ed_checker.proofs.Saving.{high_of, middle_of, low_of, whole}
+
+-- the routine's changing words: its places 0, 40, 58 and 59, and its three long words
+pub record Work : Type 0 where
+  pub at0 : ℕ
+  pub at40 : ℕ
+  pub at58 : ℕ
+  pub at59 : ℕ
+  pub high : ℕ
+  pub middle : ℕ
+  pub low : ℕ
+
+-- the routine's words, with those of its six last places
+abbrev pub cells_with : ℕ → Work → ℕ → ℕ → ℕ → ℕ → ℕ → ℕ → List ℕ
+cells_with b w a60 a61 a62 a63 a64 a65 =
+    w.at0 ∷ (28672 + 2 * (b + 40)) ∷ (36864 + 2 * (b + 40)) ∷ (12288 + 2 * (b + 13)) ∷ (49152 + 2 * (b + 53))
+    ∷ (110592 + 2 * (b + 30)) ∷ (49152 + 2 * (b + 55)) ∷ (12288 + 2 * (b + 30)) ∷ (114688 + 2 * (b + 56)) ∷ (20480 + 2 * (b + 58))
+    ∷ (114689 + 2 * (b + 60)) ∷ (110592 + 2 * (b + 26)) ∷ (12288 + 2 * (b + 21)) ∷ (49152 + 2 * (b + 54)) ∷ (110592 + 2 * (b + 30))
+    ∷ (49152 + 2 * (b + 55)) ∷ (12288 + 2 * (b + 30)) ∷ (114688 + 2 * (b + 56)) ∷ (20480 + 2 * (b + 58)) ∷ (114689 + 2 * (b + 60))
+    ∷ (12288 + 2 * (b + 26)) ∷ (20480 + 2 * (b + 59)) ∷ (114688 + 2 * (b + 0)) ∷ (114688 + 2 * (b + 57)) ∷ (20480 + 2 * (b + 0))
+    ∷ (12288 + 2 * (b + 0)) ∷ (20480 + 2 * (b + 59)) ∷ (114688 + 2 * (b + 58)) ∷ (20480 + 2 * (b + 0)) ∷ (12288 + 2 * (b + 0))
+    ∷ (20480 + 2 * (b + 59)) ∷ (114689 + 2 * (b + 64)) ∷ 16384 ∷ 16384 ∷ 16392
+    ∷ (114689 + 2 * (b + 62)) ∷ 16384 ∷ 16384 ∷ 16392 ∷ (114689 + 2 * (b + 60))
+    ∷ w.at40 ∷ (28673 + 2 * (b + 60)) ∷ (49153 + 2 * (b + 60)) ∷ 102400 ∷ 102400
+    ∷ 102528 ∷ (28673 + 2 * (b + 62)) ∷ (49153 + 2 * (b + 62)) ∷ 102400 ∷ 102400
+    ∷ 102528 ∷ (20481 + 2 * (b + 64)) ∷ (12288 + 2 * (b + 22)) ∷ 110592 ∷ 12288
+    ∷ 4096 ∷ 118784 ∷ 2 ∷ w.at58 ∷ w.at59
+    ∷ a60 ∷ a61 ∷ a62 ∷ a63 ∷ a64 ∷ a65 ∷ []
+
+abbrev pub cells : ℕ → Work → List ℕ
+cells b w = cells_with b w (w.high % 2 ^ 17) (w.high / 2 ^ 18) (w.middle % 2 ^ 17) (w.middle / 2 ^ 18) (w.low % 2 ^ 17) (w.low / 2 ^ 18)
+
+-- the sandwich digits of its three long words, which are the pairs from the 30th on
+abbrev pub pairs : Work → List Bool
+pairs w = nat_eq (w.high / 2 ^ 17 % 2) 1 ∷ nat_eq (w.middle / 2 ^ 17 % 2) 1 ∷ nat_eq (w.low / 2 ^ 17 % 2) 1 ∷ []
+
+-- what the routine leaves alone: the store outside, the multiplier and the tape
+pub record Around : Type 0 where
+  pub words : List ℕ
+  pub digits : List Bool
+  pub multiplier : ℕ
+  pub tape : List ℕ
+
+abbrev pub moment : ℕ → Around → Work → ℕ → ℕ → Option ℕ → Moment
+moment b o w acc at last = record {
+  words = o.words;
+  digits = o.digits;
+  cells = cells b w;
+  pairs = pairs w;
+  acc = acc;
+  multiplier = o.multiplier;
+  counter = b + at;
+  tape = o.tape;
+  last = last;
+}
+
+module _ (f : Frame 66 30) (f_even : f.base % 2 ≡ 0) (o : Around) where
+  -- places 22 to 25: the guest's counter is one more
+  pub advance : (w : Work) (last : Option ℕ) → w.at0 + 2 < 2 ^ 17
+      → Path f 4 (moment f.base o w 0 22 last) [] (moment f.base o (record w { at0 = w.at0 + 2 }) 0 0 last)
+  advance w last h =
+      on (A 22 (own 0) (w.at0 * 2 ^ 54) refl (omega arith))
+      (on (A 23 (own 57) ((w.at0 + 2) * 2 ^ 54) refl (omega arith))
+      (on (T_top 24 (own 0) (w.at0 + 2) refl (omega arith))
+      (on (E_jumps 25 (own 0) refl (lit< tt)) stay)))
+
+  -- places 26 to 29: the guest's counter is the place of a jump
+  pub jump : (w : Work) (acc : ℕ) (last : Option ℕ) → w.at58 < 2 ^ 17
+      → Path f 4 (moment f.base o w acc 26 last) [] (moment f.base o (record w { at59 = acc / 2 ^ 54; at0 = w.at58 }) 0 0 last)
+  jump w acc last h =
+      on (T_top 26 (own 59) (acc / 2 ^ 54) refl refl)
+      (on (A 27 (own 58) (w.at58 * 2 ^ 54) refl (omega arith))
+      (on (T_top 28 (own 0) w.at58 refl (omega arith))
+      (on (E_jumps 29 (own 0) refl (lit< tt)) stay)))
+
+  -- places 30 to 39: the accumulator is brought back
+  pub restore : (w : Work) (acc l : ℕ) (last : Option ℕ) → w.low ≡ l * 2 ^ 32 → l < 4 → w.middle < 2 ^ 34 → w.high < 2 ^ 35
+      → Path f 10 (moment f.base o w acc 30 last) [] (moment f.base o (record w { at59 = acc / 2 ^ 54 }) (whole w.high w.middle w.low) 40 last)
+  restore w acc l last is lf mf hf =
+      let small : 4 * w.middle + l < 2 ^ 36 = omega arith in
+      on (T_top 30 (own 59) (acc / 2 ^ 54) refl refl)
+      (on (A 31 (pair 64 2 f_even) (l * 2 ^ 68) refl (rw (parted w.low) (omega arith)))
+      (on (R 32 RF (l * 2 ^ 53) refl (omega arith, omega arith))
+      (on (R 33 RF (l * 2 ^ 38) refl (omega arith, omega arith))
+      (on (R 34 R4F (l * 2 ^ 34) refl (omega arith, omega arith))
+      (on (A 35 (pair 62 1 f_even) ((4 * w.middle + l) * 2 ^ 34) refl (rw (parted w.middle) (omega arith)))
+      (on (R 36 RF ((4 * w.middle + l) * 2 ^ 19) refl (omega arith, omega arith))
+      (on (R 37 RF ((4 * w.middle + l) * 2 ^ 4) refl (omega arith, omega arith))
+      (on (R 38 R4F (4 * w.middle + l) refl (omega arith, omega arith))
+      (on (A 39 (pair 60 0 f_even) (whole w.high w.middle w.low) refl (rw (parted w.high) (omega arith))) stay)))))))))
+
+  -- places 41 to 52: the accumulator is saved
+  pub save : (w : Work) (a : ℕ) (last : Option ℕ) → a < 2 ^ 71
+      → Path f 12 (moment f.base o w a 41 last) [] (moment f.base o (record w { high = high_of a; middle = middle_of a; low = low_of a }) 0 22 last)
+  save w a last h =
+      let d : a % 2 ^ 36 < 2 ^ 36 = omega arith in
+      let e : a % 4 < 4 = omega arith in
+      on (U_top 41 (pair 60 0 f_even) (high_of a) refl refl)
+      (on (S 42 (pair 60 0 f_even) (a % 2 ^ 36) refl (omega arith, rw (parted (high_of a)) (omega arith)))
+      (on (L 43 LF (a % 2 ^ 36 * 2 ^ 13) refl (omega arith))
+      (on (L 44 LF (a % 2 ^ 36 * 2 ^ 26) refl (omega arith))
+      (on (L 45 L64F (a % 2 ^ 36 * 2 ^ 34) refl (omega arith))
+      (on (U_top 46 (pair 62 1 f_even) (middle_of a) refl (omega arith))
+      (on (S 47 (pair 62 1 f_even) (a % 4 * 2 ^ 34) refl (omega arith, rw (parted (middle_of a)) (omega arith)))
+      (on (L 48 LF (a % 4 * 2 ^ 47) refl (omega arith))
+      (on (L 49 LF (a % 4 * 2 ^ 60) refl (omega arith))
+      (on (L 50 L64F (a % 4 * 2 ^ 68) refl (omega arith))
+      (on (T_top 51 (pair 64 2 f_even) (low_of a) refl (omega arith))
+      (on (E_jumps 52 (own 22) refl (lit< tt)) stay)))))))))))
+
+  -- places 0 to 2: the guest's order is fetched, planted, and its function printed
+  pub fetch : (w : Work) (c x g : ℕ) (last : Option ℕ) → w.at0 ≡ 114688 + 2 * c → IsOutside f o.words c → get_or o.words c 0 ≡ x → x < 2 ^ 17 → x / 4096 ≡ g
+      → Path f 3 (moment f.base o w 0 0 last) (g ∷ []) (moment f.base o (record w { at40 = x }) (x * 2 ^ 54) 3 (Some g))
+  fetch w c x g last is outside word fits e =
+      on (A 0 (out c outside) (x * 2 ^ 54) (word_is is) (omega arith))
+      (on (U_top 1 (own 40) x refl (omega arith))
+      (prints (O 2 (own 40) g refl (omega arith)) stay))
+
+  -- places 3 to 16: the tests, for a function that is neither E nor G
+  pub below_E : (w : Work) (x : ℕ) (last : Option ℕ) → x < 12288
+      → Path f 3 (moment f.base o w (x * 2 ^ 54) 3 last) [] (moment f.base o w ((x + 118784) * 2 ^ 54) 30 last)
+  below_E w x last h =
+      on (E_jumps 3 (own 13) refl (omega arith))
+      (on (S 13 (own 54) ((x + 118784) * 2 ^ 54) refl (omega arith, omega arith))
+      (on (G_jumps 14 (own 30) refl (omega arith)) stay))
+
+  pub above_E : (w : Work) (x : ℕ) (last : Option ℕ) → 16384 ≤ x → x < 65536
+      → Path f 5 (moment f.base o w (x * 2 ^ 54) 3 last) [] (moment f.base o w ((x - 16384) * 2 ^ 54) 30 last)
+  above_E w x last low high =
+      on (E_jumps 3 (own 13) refl (omega arith))
+      (on (S 13 (own 54) ((x - 12288) * 2 ^ 54) refl (omega arith, omega arith))
+      (on (G_stays 14 (own 30) refl (omega arith))
+      (on (S 15 (own 55) ((x - 16384) * 2 ^ 54) refl (omega arith, omega arith))
+      (on (E_jumps 16 (own 30) refl (omega arith)) stay))))
+
+  pub below_G : (w : Work) (x : ℕ) (last : Option ℕ) → 65536 ≤ x → x < 110592
+      → Path f 3 (moment f.base o w (x * 2 ^ 54) 3 last) [] (moment f.base o w ((x + 20480) * 2 ^ 54) 30 last)
+  below_G w x last low high =
+      on (E_stays 3 (own 13) refl (omega arith))
+      (on (S 4 (own 53) ((x + 20480) * 2 ^ 54) refl (omega arith, omega arith))
+      (on (G_jumps 5 (own 30) refl (omega arith)) stay))
+
+  pub above_G : (w : Work) (x : ℕ) (last : Option ℕ) → 114688 ≤ x → x < 2 ^ 17
+      → Path f 5 (moment f.base o w (x * 2 ^ 54) 3 last) [] (moment f.base o w ((x - 114688) * 2 ^ 54) 30 last)
+  above_G w x last low high =
+      on (E_stays 3 (own 13) refl (omega arith))
+      (on (S 4 (own 53) ((x - 110592) * 2 ^ 54) refl (omega arith, omega arith))
+      (on (G_stays 5 (own 30) refl (omega arith))
+      (on (S 6 (own 55) ((x - 114688) * 2 ^ 54) refl (omega arith, omega arith))
+      (on (E_jumps 7 (own 30) refl (omega arith)) stay))))
+
+  -- for E and G the place of the jump is made an A order, and the saved accumulator comes to the top
+  at_E : (w : Work) (x : ℕ) (last : Option ℕ) → 12288 ≤ x → x < 16384 → w.high < 2 ^ 35
+      → Path f 8 (moment f.base o w (x * 2 ^ 54) 3 last) [] (moment f.base o (record w { at58 = x + 102400 }) (w.high * 2 ^ 36) 20 last)
+  at_E w x last low high fits =
+      on (E_jumps 3 (own 13) refl (omega arith))
+      (on (S 13 (own 54) ((x - 12288) * 2 ^ 54) refl (omega arith, omega arith))
+      (on (G_stays 14 (own 30) refl (omega arith))
+      (on (S 15 (own 55) ((x + 114688) * 2 ^ 54) refl (omega arith, omega arith))
+      (on (E_stays 16 (own 30) refl (omega arith))
+      (on (A 17 (own 56) ((x + 102400) * 2 ^ 54) refl (omega arith))
+      (on (T_top 18 (own 58) (x + 102400) refl (omega arith))
+      (on (A 19 (pair 60 0 f_even) (w.high * 2 ^ 36) refl (rw (parted w.high) (omega arith))) stay)))))))
+
+  at_G : (w : Work) (x : ℕ) (last : Option ℕ) → 110592 ≤ x → x < 114688 → w.high < 2 ^ 35
+      → Path f 8 (moment f.base o w (x * 2 ^ 54) 3 last) [] (moment f.base o (record w { at58 = x + 4096 }) (w.high * 2 ^ 36) 11 last)
+  at_G w x last low high fits =
+      on (E_stays 3 (own 13) refl (omega arith))
+      (on (S 4 (own 53) ((x - 110592) * 2 ^ 54) refl (omega arith, omega arith))
+      (on (G_stays 5 (own 30) refl (omega arith))
+      (on (S 6 (own 55) ((x + 16384) * 2 ^ 54) refl (omega arith, omega arith))
+      (on (E_stays 7 (own 30) refl (omega arith))
+      (on (A 8 (own 56) ((x + 4096) * 2 ^ 54) refl (omega arith))
+      (on (T_top 9 (own 58) (x + 4096) refl (omega arith))
+      (on (A 10 (pair 60 0 f_even) (w.high * 2 ^ 36) refl (rw (parted w.high) (omega arith))) stay)))))))
+
+  -- an E or G order of the guest, from place 3 to the beginning of the next turn: the four cases
+  pub E_taken : (w : Work) (x : ℕ) (last : Option ℕ) → 12288 ≤ x → x < 16384 → w.high < 2 ^ 34
+      → Path f 13 (moment f.base o w (x * 2 ^ 54) 3 last) [] (moment f.base o (record w { at0 = x + 102400; at58 = x + 102400; at59 = w.high * 2 ^ 36 / 2 ^ 54 }) 0 0 last)
+  E_taken w x last low high fits =
+      followed (at_E w x last low high (omega arith))
+      (on (E_jumps 20 (own 26) refl (omega arith)) (jump (record w { at58 = x + 102400 }) (w.high * 2 ^ 36) last (omega arith)))
+
+  pub E_passed : (w : Work) (x : ℕ) (last : Option ℕ) → 12288 ≤ x → x < 16384 → 2 ^ 34 ≤ w.high → w.high < 2 ^ 35 → w.at0 + 2 < 2 ^ 17
+      → Path f 14 (moment f.base o w (x * 2 ^ 54) 3 last) [] (moment f.base o (record w { at0 = w.at0 + 2; at58 = x + 102400; at59 = w.high * 2 ^ 36 / 2 ^ 54 }) 0 0 last)
+  E_passed w x last low high negative fits room =
+      followed (at_E w x last low high fits)
+      (on (E_stays 20 (own 26) refl (omega arith))
+      (on (T_top 21 (own 59) (w.high * 2 ^ 36 / 2 ^ 54) refl refl) (advance (record w { at58 = x + 102400; at59 = w.high * 2 ^ 36 / 2 ^ 54 }) last room)))
+
+  pub G_taken : (w : Work) (x : ℕ) (last : Option ℕ) → 110592 ≤ x → x < 114688 → 2 ^ 34 ≤ w.high → w.high < 2 ^ 35
+      → Path f 13 (moment f.base o w (x * 2 ^ 54) 3 last) [] (moment f.base o (record w { at0 = x + 4096; at58 = x + 4096; at59 = w.high * 2 ^ 36 / 2 ^ 54 }) 0 0 last)
+  G_taken w x last low high negative fits =
+      followed (at_G w x last low high fits)
+      (on (G_jumps 11 (own 26) refl (omega arith)) (jump (record w { at58 = x + 4096 }) (w.high * 2 ^ 36) last (omega arith)))
+
+  pub G_passed : (w : Work) (x : ℕ) (last : Option ℕ) → 110592 ≤ x → x < 114688 → w.high < 2 ^ 34 → w.at0 + 2 < 2 ^ 17
+      → Path f 15 (moment f.base o w (x * 2 ^ 54) 3 last) [] (moment f.base o (record w { at0 = w.at0 + 2; at58 = x + 4096; at59 = w.high * 2 ^ 36 / 2 ^ 54 }) 0 0 last)
+  G_passed w x last low high fits room =
+      followed (at_G w x last low high (omega arith))
+      (on (G_stays 11 (own 26) refl (omega arith))
+      (on (E_jumps 12 (own 21) refl (omega arith))
+      (on (T_top 21 (own 59) (w.high * 2 ^ 36 / 2 ^ 54) refl refl) (advance (record w { at58 = x + 4096; at59 = w.high * 2 ^ 36 / 2 ^ 54 }) last room))))

@@ -1,0 +1,207 @@
+-- What a turn does, for a run of the machine that obeys as many orders.
+use Rattle.std.proofs.Common.{◌≡◌, ℕ, ◌+◌, ◌-◌, ◌%◌, ◌^◌, ◌<◌, ◌≤◌, refl, sym, ap, ◌∙◌, subst, arith, lit≤, Bool, true, false, true≢false, nat_lt, nat_le, List, [], ◌∷◌, ◌++◌, length, Option, Some, None, ◌⊎◌, inl, inr}
+use Rattle.std.specs.Prelude.{if◌then◌else◌}
+use Rattle.ed_words.specs.Sizes.{locations}
+use Rattle.ed_words.specs.Words.{function_of}
+use Rattle.ed_store.specs.Cells.{IsStore}
+use Rattle.ed_orders.specs.Kinds.{kind_of_function}
+use Rattle.ed_orders.specs.declared.kind.Kind.{Kind}
+use Rattle.ed_orders.specs.declared.kind.Kind.TheVariants.{E, G, I}
+use Rattle.ed_machine.specs.State.{State}
+use Rattle.ed_machine.specs.OrderTable.{Obeyed, step, next_word, obey_word, jumped, took_row, place_of}
+use Rattle.ed_machine.specs.Steps.{Past, past, codes_of, stops_of, is_obeyed}
+use Rattle.ed_machine.specs.Sheet.{Sheet}
+use Rattle.ed_machine.specs.declared.turn.Turn.{Turn}
+use Rattle.ed_machine.specs.declared.turn.Turn.TheVariants.{Went, Printed, Stopped, NoOrder, NoTape}
+use Rattle.ed_machine.specs.declared.ending.Ending.{Ending}
+use Rattle.ed_machine.specs.declared.ending.Ending.TheVariants.{Limit, NoOrder as EndsNoOrder, NoTape as EndsNoTape}
+use Rattle.ed_run.specs.Run.{EndsAfter, IsRun, end_by}
+use Rattle.ed_run.proofs.Ends.{ends_once}
+use Rattle.ed_run.proofs.Places.{at_limit, at_block}
+use Rattle.ed_checker.specs.Checker.{CheckerStands, IsAllowed, Agree, guest, turn_orders, is_Z}
+use Rattle.ed_checker.specs.Contract.{ChecksOne, answer_by}
+use Rattle.ed_checker.specs.declared.checking.Checking.TheVariants.{Went as HasGone, Stopped as HasStopped, Blocked as IsBlocked}
+use Rattle.ed_checker.proofs.Turns.{Turned, Stuck, turn, turn_stuck}
+
+pub few_codes : (t : Turn) → length (codes_of t) ≤ 1
+few_codes Went = lit≤ tt
+few_codes (Printed code) = lit≤ tt
+few_codes Stopped = lit≤ tt
+few_codes (NoOrder function) = lit≤ tt
+few_codes NoTape = lit≤ tt
+
+few_stops : (t : Turn) → stops_of t ≤ 1
+few_stops Went = lit≤ tt
+few_stops (Printed code) = lit≤ tt
+few_stops Stopped = lit≤ tt
+few_stops (NoOrder function) = lit≤ tt
+few_stops NoTape = lit≤ tt
+
+-- a state that no order leaves
+same_state : (k : Option Kind) (w : ℕ) (s : State) → is_obeyed (obey_word k w s).turn ≡ false → ((obey_word k w s).state ≡ s) × (codes_of (obey_word k w s).turn ≡ [])
+same_state (Some E) w s h = absurd (by_test (nat_lt s.acc (2 ^ 70)) h)
+  where
+    by_test : (b : Bool) → is_obeyed (jumped b (place_of s w) s).turn ≡ false → ⊥
+    by_test true h = true≢false h
+    by_test false h = true≢false h
+same_state (Some G) w s h = absurd (by_test (nat_le (2 ^ 70) s.acc) h)
+  where
+    by_test : (b : Bool) → is_obeyed (jumped b (place_of s w) s).turn ≡ false → ⊥
+    by_test true h = true≢false h
+    by_test false h = true≢false h
+same_state (Some I) w s h = by_tape s.tape h
+  where
+    by_tape : (xs : List ℕ) → is_obeyed (took_row xs w s).turn ≡ false → ((took_row xs w s).state ≡ s) × (codes_of (took_row xs w s).turn ≡ [])
+    by_tape [] h = (refl, refl)
+    by_tape (x ∷ xs) h = absurd (true≢false h)
+same_state None w s h = (refl, refl)
+same_state (Some k) w s h = absurd (true≢false h)
+
+-- the answer by the kind of the order
+answer_of : (k : Option Kind) (w n : ℕ) (s : State) → is_obeyed (obey_word k w s).turn ≡ true
+    → answer_by (obey_word k w s).turn n ≡ (if is_Z k then HasStopped n else HasGone n)
+answer_of (Some E) w n s h = by_test (nat_lt s.acc (2 ^ 70))
+  where
+    by_test : (b : Bool) → answer_by (jumped b (place_of s w) s).turn n ≡ HasGone n
+    by_test true = refl
+    by_test false = refl
+answer_of (Some G) w n s h = by_test (nat_le (2 ^ 70) s.acc)
+  where
+    by_test : (b : Bool) → answer_by (jumped b (place_of s w) s).turn n ≡ HasGone n
+    by_test true = refl
+    by_test false = refl
+answer_of (Some I) w n s h = by_tape s.tape h
+  where
+    by_tape : (xs : List ℕ) → is_obeyed (took_row xs w s).turn ≡ true → answer_by (took_row xs w s).turn n ≡ HasGone n
+    by_tape [] h = absurd (true≢false (sym h))
+    by_tape (x ∷ xs) h = refl
+answer_of None w n s h = absurd (true≢false (sym h))
+answer_of (Some k) w n s h = refl
+
+-- the answer where the order is blocked
+blocked_answer : (t : Turn) (n : ℕ) → is_obeyed t ≡ false → answer_by t n ≡ IsBlocked n
+blocked_answer Went n h = absurd (true≢false h)
+blocked_answer (Printed code) n h = absurd (true≢false h)
+blocked_answer Stopped n h = absurd (true≢false h)
+blocked_answer (NoOrder function) n h = refl
+blocked_answer NoTape n h = refl
+
+-- and how a run ends there
+blocked_end : (t : Turn) (full : Bool) → is_obeyed t ≡ false → (e : Ending) × (end_by t full ≡ Some e) × ((e ≡ EndsNoOrder) ⊎ (e ≡ EndsNoTape))
+blocked_end Went full h = absurd (true≢false h)
+blocked_end (Printed code) full h = absurd (true≢false h)
+blocked_end Stopped full h = absurd (true≢false h)
+blocked_end (NoOrder function) full h = (EndsNoOrder, refl, inl refl)
+blocked_end NoTape full h = (EndsNoTape, refl, inr refl)
+
+module _ (base : ℕ) (even_base : base % 2 ≡ 0) (s t : State) (sheet full : Sheet) (ending : Ending) (store : IsStore s.store) (room : base + 66 ≤ locations s.size)
+    (stands : CheckerStands base s) (ok : IsAllowed base (guest base s)) (space : 2 ≤ sheet.room - length sheet.codes)
+    (runs : IsRun (turn_orders (guest base s)) 1 s sheet ending t full) where
+  abbrev g : State
+  g = guest base s
+
+  -- how many codes the paper takes
+  abbrev space_left : ℕ
+  space_left = sheet.room - length sheet.codes
+
+  at_g : step g ≡ obey_word (kind_of_function (function_of (next_word g))) (next_word g) g
+  unfolding step
+  at_g = refl
+
+  -- the run ends at its limit
+  abbrev pub Done : Type 0
+  Done = (ending ≡ Limit) × ChecksOne base s t sheet full (if is_Z (kind_of_function (function_of (next_word g))) then HasStopped (turn_orders g) else HasGone (turn_orders g))
+
+  -- or before the blocked order
+  abbrev pub Blocks : Type 0
+  Blocks = ((ending ≡ EndsNoOrder) ⊎ (ending ≡ EndsNoTape)) × (17 ≤ turn_orders g) × ChecksOne base s t sheet full (IsBlocked (turn_orders g - 17))
+
+  done : is_obeyed (step g).turn ≡ true → Done
+  done h =
+      let r : Turned base s = turn base even_base s store room stands ok h in
+      let cs = function_of (next_word g) ∷ codes_of (step g).turn in
+      let few = few_codes (step g).turn in
+      let printed : length (past r.count s).codes ≡ length cs = ap (λ (p : Past). length p.codes) r.ran.is in
+      let stopped : (past r.count s).stops ≡ stops_of (step g).turn = ap (λ (p : Past). p.stops) r.ran.is in
+      let e = subst (λ limit. EndsAfter limit 1 space_left s r.count Limit) r.exact
+      (at_limit r.count 1 space_left s (record { obeyed = r.ran.free; printed = omega (arith, few, printed) })
+      (omega (arith, few_stops (step g).turn, stopped))) in
+      let u = ends_once (turn_orders g) 1 space_left s runs.orders r.count ending Limit runs.ends e in
+      let there : (past runs.orders s) ≡ record { state = r.after; codes = cs; stops = stops_of (step g).turn } = ap (λ i. past i s) u.0 ∙ r.ran.is in
+      let state : t ≡ r.after = runs.state_is ∙ ap (λ (p : Past). p.state) there in
+      let answer = answer_of (kind_of_function (function_of (next_word g))) (next_word g) (turn_orders g) g (ap (λ (y : Obeyed). is_obeyed y.turn) (sym at_g) ∙ h) in (
+        u.1,
+        record {
+          orders = r.count;
+          most = r.most;
+          answer_is = sym ((λ i. answer_by (at_g i).turn (r.exact i)) ∙ answer);
+          state_is = state ∙ sym (ap (λ (p : Past). p.state) r.ran.is);
+          free = r.ran.free;
+          paper_is = runs.sheet_is ∙ ap (λ (p : Past). record { codes = sheet.codes ++ p.codes; room = sheet.room }) there;
+          guest_is = subst (λ x. Agree base (guest base x) (step g).state) (sym state) r.agree;
+          stands = λ i. subst (CheckerStands base) (sym state) r.stands;
+          blocked = λ i. absurd (true≢false (sym h ∙ i));
+        },
+      )
+
+  blocks : is_obeyed (step g).turn ≡ false → Blocks
+  blocks h =
+      let r : Stuck base s = turn_stuck base even_base s store room stands ok h in
+      let n = function_of (next_word g) in
+      let cs = n ∷ [] in
+      let count : r.count ≡ turn_orders g - 17 = omega (arith, r.exact) in
+      let below : r.count < turn_orders g = omega (arith, r.exact) in
+      let b = blocked_end (step r.after).turn (nat_le space_left (length cs)) (ap is_obeyed r.turn ∙ h) in
+      let printed : length (past r.count s).codes ≡ length cs = ap (λ (p : Past). length p.codes) r.ran.is in
+      let stopped : (past r.count s).stops ≡ 0 = ap (λ (p : Past). p.stops) r.ran.is in
+      let there_too : end_by (step (past r.count s).state).turn (nat_le space_left (length (past r.count s).codes)) ≡ Some b.0 =
+      ap (λ (p : Past). end_by (step p.state).turn (nat_le space_left (length p.codes))) r.ran.is ∙ b.1 in
+      let e = at_block (turn_orders g) 1 space_left r.count s b.0
+      (record { obeyed = r.ran.free; printed = omega (arith, printed) }) (omega (arith, stopped)) below there_too in
+      let u = ends_once (turn_orders g) 1 space_left s runs.orders r.count ending b.0 runs.ends e in
+      let there : (past runs.orders s) ≡ record { state = r.after; codes = cs; stops = 0 } = ap (λ i. past i s) u.0 ∙ r.ran.is in
+      let state : t ≡ r.after = runs.state_is ∙ ap (λ (p : Past). p.state) there in
+      let same = same_state (kind_of_function n) (next_word g) g (ap (λ (y : Obeyed). is_obeyed y.turn) (sym at_g) ∙ h) in
+      let guest_same : g ≡ (step g).state = sym (ap (λ (y : Obeyed). y.state) at_g ∙ same.0) in
+      let no_codes : codes_of (step g).turn ≡ [] = ap (λ (y : Obeyed). codes_of y.turn) at_g ∙ same.1 in
+      let by_end : ((b.0 ≡ EndsNoOrder) ⊎ (b.0 ≡ EndsNoTape)) → (ending ≡ EndsNoOrder) ⊎ (ending ≡ EndsNoTape) =
+      (λ x. elim x [ inl a ↦ inl (u.1 ∙ a) | inr a ↦ inr (u.1 ∙ a) ]) in (
+        by_end b.2,
+        omega (arith, r.exact),
+        record {
+          orders = r.count;
+          most = omega (arith, r.most);
+          answer_is = sym (blocked_answer (step g).turn r.count h ∙ ap IsBlocked count);
+          state_is = state ∙ sym (ap (λ (p : Past). p.state) r.ran.is);
+          free = r.ran.free;
+          paper_is =
+              runs.sheet_is
+              ∙ ap (λ (p : Past). record { codes = sheet.codes ++ p.codes; room = sheet.room }) there
+              ∙ ap (λ xs. record { codes = sheet.codes ++ (n ∷ xs); room = sheet.room }) (sym no_codes);
+          guest_is = subst (λ x. Agree base (guest base x) (step g).state) (sym state) (subst (Agree base (guest base r.after)) guest_same r.agree);
+          stands = λ i. absurd (true≢false (sym i ∙ h));
+          blocked = λ i. ap (λ (x : State). (step x).turn) state ∙ r.turn;
+        },
+      )
+
+  by_test : (b : Bool) → is_obeyed (step g).turn ≡ b → Done ⊎ Blocks
+  by_test true h = inl (done h)
+  by_test false h = inr (blocks h)
+
+  pub answered : Done ⊎ Blocks
+  answered = by_test (is_obeyed (step g).turn) refl
+
+  no_end : (ending ≡ Limit) → ((ending ≡ EndsNoOrder) ⊎ (ending ≡ EndsNoTape)) → ⊥
+  no_end l (inl e) = let bad : Limit ≡ EndsNoOrder = sym l ∙ e in absurd (cc)
+  no_end l (inr e) = let bad : Limit ≡ EndsNoTape = sym l ∙ e in absurd (cc)
+
+  pub when_blocked : ((ending ≡ EndsNoOrder) ⊎ (ending ≡ EndsNoTape)) → (17 ≤ turn_orders g) × ChecksOne base s t sheet full (IsBlocked (turn_orders g - 17))
+  when_blocked e = elim answered [ inl d ↦ absurd (no_end d.0 e) | inr b ↦ (b.1, b.2) ]
+
+  not_blocked : (ending ≡ EndsNoOrder → ⊥) → (ending ≡ EndsNoTape → ⊥) → ((ending ≡ EndsNoOrder) ⊎ (ending ≡ EndsNoTape)) → ⊥
+  not_blocked a b (inl e) = a e
+  not_blocked a b (inr e) = b e
+
+  pub when_done : (ending ≡ EndsNoOrder → ⊥) → (ending ≡ EndsNoTape → ⊥) → (b : Bool) → is_Z (kind_of_function (function_of (next_word g))) ≡ b
+      → ChecksOne base s t sheet full (if b then HasStopped (turn_orders g) else HasGone (turn_orders g))
+  when_done a c b e = elim answered [ inl d ↦ subst (λ b. ChecksOne base s t sheet full (if b then HasStopped (turn_orders g) else HasGone (turn_orders g))) e d.1 | inr x ↦ absurd (not_blocked a c x.0) ]

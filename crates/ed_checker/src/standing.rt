@@ -1,0 +1,75 @@
+ghost use Rattle.std.specs.Prelude.{◌↔◌, ◌≡◌, ◌<◌, ◌≤◌, ◌+◌, ◌*◌, ◌%◌, ◌^◌, IsTrue};
+ghost use Rattle.ed_words.specs.Sizes.{locations};
+ghost use Rattle.ed_words.specs.Words.{address_of};
+ghost use Rattle.ed_store.specs.Cells.{short_at, long_at};
+ghost use Rattle.ed_routines.specs.Catalogue.{with_h};
+ghost use Rattle.ed_checker.specs.Checker.{CheckerStands, HasImage, check};
+
+use crate::places::{FETCH, LOW, MIDDLE};
+use ed_library::{Parameters, Routine, routine};
+use ed_machine::Machine;
+use ed_routines::has_image as has_image_of;
+use ed_words::Word;
+
+/// Whether the routine stands at `base`, at the beginning of a turn.
+///
+/// The counter is the base, the accumulator is 0, and the longs at `MIDDLE` and `LOW` are such as the routine saves.
+pub fn checker_stands(machine: &Machine, base: u16) -> bool
+    requires even { base % 2 ≡ 0 }
+    requires fits { base + 66 ≤ locations machine.now.size }
+    ensures { IsTrue result ↔ CheckerStands base machine.now }
+{
+    let _ = machine.size().value();
+    if machine.counter() != base {
+        return false;
+    }
+    if machine.acc() != 0 {
+        return false;
+    }
+    if !has_image(machine, base) {
+        return false;
+    }
+    if !fetches(machine, base) {
+        return false;
+    }
+    if machine.long(base + MIDDLE).value() >= 1 << 34 {
+        return false;
+    }
+    let low = machine.long(base + LOW).value();
+    if low % (1 << 32) != 0 {
+        return false;
+    }
+    low < 1 << 34
+}
+
+/// Whether the first place holds A c F without the spare digit.
+fn fetches(machine: &Machine, base: u16) -> bool
+    requires { base ≤ 1023 }
+    ensures { IsTrue result ↔ (short_at machine.now.store base ≡ 114688 + 2 * address_of (short_at machine.now.store base)) }
+{
+    let word = machine.word(base + FETCH);
+    word.value() == 114688 + 2 * u32::from(word.order().address)
+}
+
+/// Whether each place of the routine but its working places holds its word.
+fn has_image(machine: &Machine, base: u16) -> bool
+    requires { base + 66 ≤ locations machine.now.size }
+    ensures { IsTrue result ↔ HasImage base machine.now }
+{
+    has_image_of(machine, &check(), base, &no_parameters())
+}
+
+/// The routine in the catalogue.
+fn check() -> Routine
+    ensures { result ≡ check }
+{
+    routine(0)
+}
+
+/// Preset parameters that are all 0.
+fn no_parameters() -> Parameters
+    ensures { result ≡ with_h 0 }
+{
+    let zero = Word::new(0).unwrap();
+    [zero, zero, zero, zero, zero, zero]
+}
