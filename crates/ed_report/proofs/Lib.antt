@@ -1,3 +1,4 @@
 pub mod Texts
 pub mod Struck
+pub mod Letters
 mod Columns

@@ -1,2 +1,5 @@
 pub mod Notes
 pub mod Listings
+pub mod FirstNotes
+pub mod Catalogue
+pub mod Traces

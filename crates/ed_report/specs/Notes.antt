@@ -42,6 +42,10 @@ cause_text EntryInLoader = codes "N10 entry in loader"
 abbrev pub rule_line : ℕ → TapeCause → List ℕ
 rule_line row cause = codes "row " ++ decimal row ++ codes ": " ++ cause_text cause ++ 10 ∷ []
 
+-- `part P, row R: Nk TEXT`, for a tape that is read in parts: P counts from 1, and R from the tape's first row
+abbrev pub part_line : ℕ → ℕ → TapeCause → List ℕ
+part_line part row cause = codes "part " ++ decimal part ++ codes ", row " ++ decimal row ++ codes ": " ++ cause_text cause ++ 10 ∷ []
+
 -- the line of a tape's fault; want of memory is told by no line of this kind
 abbrev pub tape_fault_line : TapeFault → List ℕ
 tape_fault_line (At row cause) = rule_line row cause
@@ -67,10 +71,26 @@ source_cause_text source.Parameters = codes "S15 parameters"
 source_cause_text source.Enter = codes "S16 enter"
 source_cause_text source.SandwichDigit = codes "S17 sandwich digit"
 
+-- `line L: ` and a text
+abbrev pub of_line : ℕ → List ℕ → List ℕ
+of_line line text = codes "line " ++ decimal line ++ codes ": " ++ text ++ 10 ∷ []
+
 -- `line L: Sk TEXT`, L the line, counted from 1; want of memory is told by no line of this kind
 abbrev pub source_fault_line : SourceFault → List ℕ
-source_fault_line (AtLine line cause) = codes "line " ++ decimal line ++ codes ": " ++ source_cause_text cause ++ 10 ∷ []
+source_fault_line (AtLine line cause) = of_line line (source_cause_text cause)
 source_fault_line NoMemoryForIt = []
+
+-- the line of a script's line that is none
+abbrev pub bad_command_line : ℕ → List ℕ
+bad_command_line line = of_line line (codes "C1 bad command")
+
+-- that of one that goes back too far, with the orders done there
+abbrev pub too_far_line : ℕ → ℕ → List ℕ
+too_far_line line done = codes "line " ++ decimal line ++ codes ": C2 back too far, " ++ decimal done ++ codes " done" ++ 10 ∷ []
+
+-- that of an input that no line divides, with the number of its lines and 1
+abbrev pub no_text_line : ℕ → List ℕ
+no_text_line line = of_line line (codes "C3 no text line")
 
 -- `NAME at C after K`, with no line feed
 abbrev pub at_after : List ℕ → ℕ → ℕ → List ℕ

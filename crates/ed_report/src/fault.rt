@@ -1,6 +1,6 @@
 ghost use Rattle.std.specs.Prelude.{◌≡◌, ◌≢◌, IfOk};
 ghost use Rattle.ed_codes.specs.declared.tape.TextFault.TheVariants.{Memory};
-ghost use Rattle.ed_report.specs.Notes.{cause_text, rule_line, source_cause_text, source_fault_line, tape_fault_line, text_fault_line};
+ghost use Rattle.ed_report.specs.Notes.{cause_text, part_line, rule_line, source_cause_text, source_fault_line, tape_fault_line, text_fault_line};
 
 use crate::text::bytes_of_text;
 use ed_codes::TextFault;
@@ -34,6 +34,20 @@ pub fn tape_fault(alloc: Global, fault: &TapeFault) -> Result<Vec<u8>, NoMemory>
         TapeFault::At { row, cause } => rule_line(alloc, *row, *cause),
         TapeFault::Memory => unreachable!(),
     }
+}
+
+/// The line that tells of a rule that is broken in a part of a tape, with the parts counted from 1 and the row from 0, from
+/// the tape's first.
+pub fn part_fault(
+    alloc: Global,
+    part: u32,
+    row: usize,
+    cause: TapeCause,
+) -> Result<Vec<u8>, NoMemory>
+    ensures { IfOk result (λ bytes. bytes.items ≡ part_line part row cause) }
+{
+    let rule = cause_text(cause);
+    bytes_of_text(format!(in alloc; "part {part}, row {row}: {rule}\n"))
 }
 
 /// The line of a rule that is broken at a row.

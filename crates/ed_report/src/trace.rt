@@ -1,0 +1,37 @@
+ghost use Rattle.std.specs.Prelude.{◌≡◌, ◌++◌, ◌∷◌, [], IfOk};
+ghost use Rattle.ed_report.specs.Traces.{trace_text};
+
+use ed_codes::{Code, byte_of};
+use ed_words::NoMemory;
+use std::alloc::Global;
+
+/// How many letters a line of a trace has.
+pub const LETTERS: usize = 50;
+
+/// The trace of the functions of orders: the letter or sign of each, never a digit, 50 to a line. The last line, where it
+/// has a letter, ends with a line feed.
+pub fn trace_text(alloc: Global, functions: &[Code]) -> Result<Vec<u8>, NoMemory>
+    ensures { IfOk result (λ bytes. bytes.items ≡ trace_text functions.now) }
+{
+    let mut text = Vec::new(alloc);
+    for (place, function) in functions.iter().enumerate() {
+        add(&mut text, byte_of(*function, false))?;
+        if (place + 1) % LETTERS == 0 {
+            add(&mut text, b'\n')?;
+        }
+    }
+    if functions.len() % LETTERS != 0 {
+        add(&mut text, b'\n')?;
+    }
+    Ok(text)
+}
+
+/// A byte more of a text.
+fn add(text: &mut Vec<u8>, byte: u8) -> Result<(), NoMemory>
+    ensures { IfOk result (λ _. text.new.items ≡ text.old.items ++ byte ∷ []) }
+{
+    match text.push(byte) {
+        Ok(()) => Ok(()),
+        Err(_) => Err(NoMemory),
+    }
+}
