@@ -1,0 +1,124 @@
+-- The two orders that call a routine: A m F at m, and G to its base behind it.
+use Rattle.std.proofs.Common.{◌≡◌, ℕ, zero, suc, ◌+◌, ◌*◌, ◌^◌, ◌<◌, ◌≤◌, refl, sym, ap, ◌∙◌, subst, arith, List, [], ◌∷◌}
+use Rattle.std.proofs.Common.{Some, None, get_or, length}
+use Rattle.ed_words.specs.Sizes.{locations}
+use Rattle.ed_words.proofs.SizeLemmas.{most}
+use Rattle.ed_store.specs.Cells.{short_at}
+use Rattle.ed_machine.specs.State.{State}
+use Rattle.ed_paths.proofs.Frames.{Frame, Moment, state, short}
+use Rattle.ed_paths.proofs.Leads.{Leads}
+use Rattle.ed_paths.proofs.Moves.{A, G_jumps}
+use Rattle.ed_paths.proofs.Paths.{Path, leads, on, stay}
+use Rattle.ed_paths.proofs.Places.{any, own}
+use Rattle.ed_paths.proofs.Standing.{Holds, opens}
+use Rattle.ed_paths.proofs.Window.{patched}
+use Rattle.ed_library.specs.Routines.{places}
+use Rattle.ed_routines.specs.Standing.{HasWord, Stands, caller}
+
+-- a state before such a call, from m to a base
+pub record IsBefore (s : State) (m base : ℕ) : Type 0 where
+  pub counter : s.counter ≡ m
+  pub acc : s.acc ≡ 0
+  pub first : get_or s.store.words m 0 ≡ 114688 + 2 * m
+  pub second : get_or s.store.words (m + 1) 0 ≡ 110592 + 2 * base
+  pub all : length s.store.words ≡ 1024
+  pub room : m + 3 ≤ locations s.size
+  pub there : base < locations s.size
+
+-- the state behind it, in which the routine is called
+abbrev pub called : State → ℕ → ℕ → State
+called s m base = record s { acc = short (114688 + 2 * m); counter = base; orders = s.orders + 2 }
+
+module _ (s : State) (m base : ℕ) (o : IsBefore s m base) where
+  abbrev f : Frame 3 0
+  f = record { size = s.size; base = m; top = locations s.size; under = o.room; fits = omega arith }
+
+  abbrev cells : List ℕ
+  cells = (114688 + 2 * (m + 0)) ∷ (110592 + 2 * base) ∷ get_or s.store.words (m + 2) 0 ∷ []
+
+  abbrev at : ℕ → ℕ → Moment
+  at v place = record {
+    words = s.store.words;
+    digits = s.store.sandwich;
+    cells = cells;
+    pairs = [];
+    acc = short v;
+    multiplier = s.multiplier;
+    counter = place;
+    tape = s.tape;
+    last = s.last;
+  }
+
+  path : Path f 2 (at 0 (m + 0)) [] (at (114688 + 2 * m) base)
+  path =
+      let size = most s.size in
+      let room = o.room in
+      on (A 0 (own 0) (short (114688 + 2 * m)) refl (omega arith))
+      (on (G_jumps 1 (any base o.there) refl (omega arith)) stay)
+
+  holds : Holds (Some (114688 + 2 * (m + 0)) ∷ Some (110592 + 2 * base) ∷ None ∷ []) s.store.words m
+  holds zero l =
+      let e : m + 0 ≡ m = omega arith in
+      ap (λ x. get_or s.store.words x 0) e ∙ o.first ∙ ap (λ x. 114688 + 2 * x) (sym e)
+  holds (suc zero) l = o.second
+  holds (suc (suc zero)) l = tt
+  holds (suc (suc (suc i))) l = absurd (omega arith)
+
+  same : patched 0 s.store.words m cells ≡ s.store.words
+  same =
+      let size = most s.size in
+      let room = o.room in
+      let all = o.all in
+      opens (Some (114688 + 2 * (m + 0)) ∷ Some (110592 + 2 * base) ∷ None ∷ []) s.store.words m (omega arith) holds
+
+  begins : state f (at 0 (m + 0)) s.orders ≡ s
+  begins =
+      let counter : m + 0 ≡ s.counter = omega (arith, o.counter) in
+      let acc : short 0 ≡ s.acc = sym o.acc in
+      λ i. record {
+        size = s.size;
+        store = record { words = same i; sandwich = s.store.sandwich };
+        acc = acc i;
+        multiplier = s.multiplier;
+        counter = counter i;
+        tape = s.tape;
+        last = s.last;
+        orders = s.orders;
+      }
+
+  ends : state f (at (114688 + 2 * m) base) (s.orders + 2) ≡ called s m base
+  ends = λ i. record {
+    size = s.size;
+    store = record { words = same i; sandwich = s.store.sandwich };
+    acc = short (114688 + 2 * m);
+    multiplier = s.multiplier;
+    counter = base;
+    tape = s.tape;
+    last = s.last;
+    orders = s.orders + 2;
+  }
+
+  pub calls : Leads 2 s [] (called s m base)
+  calls =
+      subst (λ (t : State). Leads 2 s [] t) ends
+      (subst (λ (x : State). Leads 2 x [] (state f (at (114688 + 2 * m) base) (s.orders + 2))) begins (leads path s.orders))
+
+  pub caller_is : caller (called s m base) ≡ m
+  caller_is = omega arith
+
+  -- a routine whose words are at the base stands there
+  pub stands : (r : ℕ) (parameters : List ℕ) → 56 ≤ base → base + places r ≤ locations s.size → short_at s.store 2 ≡ 2
+      → short_at s.store 3 ≡ 28676 → ((i : ℕ) → i < places r → HasWord r parameters base s i)
+      → Stands r parameters base (called s m base)
+  stands r parameters low fits at2 at3 words = record {
+    low = low;
+    fits = fits;
+    counter = refl;
+    at2 = at2;
+    at3 = at3;
+    image = λ i l. record { has = (words i l).has };
+    call = record {
+      acc = ap (λ x. (114688 + 2 * x) * 2 ^ 54) (sym caller_is);
+      room = let e = caller_is in let room = o.room in omega arith;
+    };
+  }

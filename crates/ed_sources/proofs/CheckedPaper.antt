@@ -1,0 +1,93 @@
+-- What the guest of `call check N` prints has room on the paper, and the machine's orders lead to its stop.
+use Rattle.std.proofs.Common.{◌≡◌, inl, inr, ◌∙◌, ℕ, zero, suc, ◌+◌, ◌*◌, ◌/◌, ◌%◌, ◌<◌, ◌≤◌, refl, sym, ap, subst, arith, true, true≢false}
+use Rattle.std.proofs.Common.{List, [], ◌∷◌, ◌++◌, length, length-append}
+use Rattle.std.proofs.lemmas.Bool.{cases_lt}
+use Rattle.ed_words.specs.declared.size.Size.{Size}
+use Rattle.ed_words.specs.Words.{function_of}
+use Rattle.ed_machine.specs.State.{State}
+use Rattle.ed_machine.specs.OrderTable.{next_word, step}
+use Rattle.ed_machine.specs.Steps.{IsFree, codes_of, is_obeyed, past, state_after, stops_of}
+use Rattle.ed_machine.specs.declared.turn.Turn.{Turn}
+use Rattle.ed_machine.specs.declared.turn.Turn.TheVariants.{Went, Printed, Stopped, NoOrder, NoTape}
+use Rattle.ed_loads.specs.EntryState.{entry_state}
+use Rattle.ed_paths.proofs.Leads.{goes_on}
+use Rattle.ed_routines.specs.Digits.{before_units, print_orders, sum, without_zeros}
+use Rattle.ed_checker.specs.Checker.{checked_codes, guest}
+use Rattle.ed_checker.specs.Laws.{ChecksToStop}
+use Rattle.ed_checker.proofs.Whole.{few_codes}
+use Rattle.ed_sources.proofs.CheckedPrint.{checks_print}
+use Rattle.ed_sources.proofs.Said.{check_lines}
+use Rattle.ed_sources.proofs.Stops.{LeadsToStop}
+
+-- orders that are obeyed and no stops go on
+goes_of : (turn : Turn) → is_obeyed turn ≡ true → stops_of turn ≡ 0 → goes_on turn ≡ true
+goes_of Went o e = refl
+goes_of (Printed code) o e = refl
+goes_of Stopped o e = absurd (omega (arith, e))
+goes_of (NoOrder function) o e = absurd (true≢false (sym o))
+goes_of NoTape o e = absurd (true≢false (sym o))
+
+all_go : (k : ℕ) (s : State) → IsFree k s → (past k s).stops ≡ 0 → (j : ℕ) → j < k → goes_on (step (state_after j s)).turn ≡ true
+unfolding past
+all_go zero s free none j l = absurd (omega arith)
+all_go (suc k) s free none j l =
+    elim (cases_lt j k) [
+      | inl below ↦ all_go k s (λ i m. free i (omega arith)) (omega (arith, none)) j below
+      | inr here ↦
+          let e : k ≡ j = omega arith in
+          subst (λ i. goes_on (step (state_after i s)).turn ≡ true) e
+          (goes_of (step (state_after k s)).turn (free k (omega arith)) (omega (arith, none)))
+    ]
+
+-- each order of a guest is at most two codes
+two_each : (q : ℕ) (g : State) → length (checked_codes g q) ≤ 2 * q
+unfolding checked_codes
+two_each zero g = omega arith
+two_each (suc q) g =
+    let before = two_each q g in
+    let one = few_codes (step (state_after q g)).turn in
+    let all = length-append (checked_codes g q) (function_of (next_word (state_after q g)) ∷ codes_of (step (state_after q g)).turn) in
+    omega (arith, before, one, all)
+
+-- `print` takes few orders
+less_sum : (ds : List ℕ) → sum (without_zeros ds) ≤ sum ds
+less_sum [] = omega arith
+less_sum (zero ∷ ds) = omega (arith, less_sum ds)
+less_sum (suc d ∷ ds) = omega arith
+
+less_long : (ds : List ℕ) → length (without_zeros ds) ≤ length ds
+less_long [] = omega arith
+less_long (zero ∷ ds) = omega (arith, less_long ds)
+less_long (suc d ∷ ds) = omega arith
+
+few_orders : (n : ℕ) → n < 65536 → print_orders n ≤ 400
+few_orders n small =
+    let ds : List ℕ = n / 10000 ∷ n / 1000 % 10 ∷ n / 100 % 10 ∷ n / 10 % 10 ∷ [] in
+    let a = less_sum ds in
+    let b = less_long ds in
+    omega (arith, a, b)
+
+pub room_for_codes : (n : ℕ) (g : State) → n < 65536 → length (checked_codes g (3 + print_orders n)) ≤ 1000000
+room_for_codes n g small = let two = two_each (3 + print_orders n) g in let few = few_orders n small in omega arith
+
+module _ (z : Size) (n : ℕ) (small : n < 65536) where
+  abbrev c : ChecksToStop 112 (3 + print_orders n) (entry_state z (check_lines n))
+  c = checks_print z n small
+
+  -- how many orders lead to the stop
+  abbrev pub check_count : ℕ
+  check_count = c.count
+
+  pub few_checked : suc check_count ≤ 35 * (3 + print_orders n)
+  few_checked = omega (arith, c.most)
+
+  pub check_ends : LeadsToStop check_count (entry_state z (check_lines n)) (checked_codes (guest 112 (entry_state z (check_lines n))) (3 + print_orders n))
+  check_ends = record {
+    last = c.last;
+    leads = record {
+      state_is = c.state_is;
+      codes_are = c.codes_are;
+      goes = all_go c.count (entry_state z (check_lines n)) c.free c.no_stops;
+    };
+    stops = c.stops;
+  }

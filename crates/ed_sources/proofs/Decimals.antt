@@ -1,0 +1,131 @@
+-- The digits of a number in a source: as a word of it, and as rows of its tape.
+use Rattle.std.proofs.Common.{◌≡◌, ◌∙◌, inl, inr, ℕ, zero, suc, ◌+◌, ◌-◌, ◌*◌, ◌/◌, ◌%◌, ◌<◌, ◌≤◌, Bool, true, List, [], ◌∷◌, ◌++◌}
+use Rattle.std.proofs.Common.{refl, ap, subst, arith, length, length-append, map, nat_lt, nat_eq}
+use Rattle.std.specs.Prelude.{◌&&◌, ◌==◌, not, fold}
+use Rattle.std.specs.Fmt.{decimal}
+use Rattle.std.specs.List.{list_all}
+use Rattle.std.proofs.lemmas.Bool.{and_parts, cases_lt}
+use Rattle.std.proofs.lemmas.Bool.Decides.{nat_tests}
+use Rattle.std.proofs.lemmas.List.{length-map}
+use Rattle.ed_words.proofs.Numbers.{eq_of, lt_of}
+use Rattle.ed_codes.specs.Spelling.{row_of}
+use Rattle.ed_syntax.specs.Grammar.{row, spells}
+use Rattle.ed_syntax.specs.Grammar as grammar
+use Rattle.ed_syntax.specs.Parts.{is_digit, is_run_byte}
+use Rattle.ed_syntax.specs.Sources.{is_line_byte}
+use Rattle.ed_routines.specs.Digits.{before_units, digits, value_behind, without_zeros}
+use Rattle.ed_routines.proofs.Digits.{digits_law, few_digits, tens}
+
+abbrev pub are_digits : List ℕ → Bool
+are_digits ds = list_all (λ d. nat_lt d 10) ds
+
+-- the bytes of digits
+abbrev pub written : List ℕ → List ℕ
+written ds = map (λ d. 48 + d) ds
+
+both : (x y : Bool) → x ≡ true → y ≡ true → (x && y) ≡ true
+both x y h k = grind arith
+
+-- n numbers from k on
+abbrev pub numbers : ℕ → ℕ → List ℕ
+numbers k zero = []
+numbers k (suc n) = k ∷ numbers (k + 1) n
+
+pub among : (test : ℕ → Bool) (k n d : ℕ) → list_all test (numbers k n) ≡ true → k ≤ d → d < k + n → test d ≡ true
+among test k zero d h low high = absurd (omega arith)
+among test k (suc n) d h low high =
+    let p = and_parts (test k) (list_all test (numbers (k + 1) n)) h in
+    elim (cases_lt k d) [
+      | inl l ↦ among test (k + 1) n d p.1 (omega arith) (omega arith)
+      | inr g ↦ let e : k ≡ d = omega arith in subst (λ x. test x ≡ true) e p.0
+    ]
+
+-- a test that the ten digits pass is passed by all digits
+each_passes : (test : ℕ → Bool) → list_all test (numbers 0 10) ≡ true → (ds : List ℕ) → are_digits ds ≡ true → list_all test ds ≡ true
+each_passes test ten [] h = refl
+each_passes test ten (d ∷ ds) h =
+    let p = and_parts (nat_lt d 10) (are_digits ds) h in
+    let l = lt_of d 10 p.0 in
+    both (test d) (list_all test ds) (among test 0 10 d ten (omega arith) (omega arith)) (each_passes test ten ds p.1)
+
+-- and by their bytes
+all_written : (test : ℕ → Bool) (ds : List ℕ) → list_all (λ d. test (48 + d)) ds ≡ true → list_all test (written ds) ≡ true
+all_written test [] h = refl
+all_written test (d ∷ ds) h =
+    let p = and_parts (test (48 + d)) (list_all (λ d. test (48 + d)) ds) h in
+    both (test (48 + d)) (list_all test (written ds)) p.0 (all_written test ds p.1)
+
+-- what a source reads in the bytes of digits
+module _ (ds : List ℕ) (are : are_digits ds ≡ true) where
+  pub run_bytes : list_all is_run_byte (written ds) ≡ true
+  run_bytes = all_written is_run_byte ds (each_passes (λ d. is_run_byte (48 + d)) refl ds are)
+
+  pub digit_bytes : list_all is_digit (written ds) ≡ true
+  digit_bytes = all_written is_digit ds (each_passes (λ d. is_digit (48 + d)) refl ds are)
+
+  pub line_bytes : list_all is_line_byte (written ds) ≡ true
+  line_bytes = all_written is_line_byte ds (each_passes (λ d. is_line_byte (48 + d)) refl ds are)
+
+  pub row_bytes : list_all (λ b. spells (row_of b)) (written ds) ≡ true
+  row_bytes = all_written (λ b. spells (row_of b)) ds (each_passes (λ d. spells (row_of (48 + d))) refl ds are)
+
+  pub no_quotes : list_all (λ b. not (b == 34)) (written ds) ≡ true
+  no_quotes = all_written (λ b. not (b == 34)) ds (each_passes (λ d. not (48 + d == 34)) refl ds are)
+
+-- their rows are the digits
+rows_from : (ds : List ℕ) → list_all (λ d. nat_eq (row (row_of (48 + d))) d) ds ≡ true → map (λ b. row (row_of b)) (written ds) ≡ ds
+rows_from [] h = refl
+rows_from (d ∷ ds) h =
+    let p = and_parts (nat_eq (row (row_of (48 + d))) d) (list_all (λ d. nat_eq (row (row_of (48 + d))) d) ds) h in
+    let first = eq_of (row (row_of (48 + d))) d p.0 in
+    let rest = rows_from ds p.1 in
+    λ i. first i ∷ rest i
+
+pub rows_are : (ds : List ℕ) → are_digits ds ≡ true → map (λ b. row (row_of b)) (written ds) ≡ ds
+rows_are ds are = rows_from ds (each_passes (λ d. nat_eq (row (row_of (48 + d))) d) refl ds are)
+
+-- and their number is that of the digits
+value_from : (n : ℕ) (ds : List ℕ) → fold (λ n b. 10 * n + (b - 48)) n (written ds) ≡ value_behind n ds
+value_from n [] = refl
+value_from n (d ∷ ds) =
+    let e : 10 * n + (48 + d - 48) ≡ 10 * n + d = omega arith in
+    ap (λ m. fold (λ n b. 10 * n + (b - 48)) m (written ds)) e ∙ value_from (10 * n + d) ds
+
+-- ---- the digits of a number
+
+more_digits : (xs ys : List ℕ) → are_digits xs ≡ true → are_digits ys ≡ true → are_digits (xs ++ ys) ≡ true
+more_digits [] ys p q = q
+more_digits (x ∷ xs) ys p q =
+    let h = and_parts (nat_lt x 10) (are_digits xs) p in
+    both (nat_lt x 10) (are_digits (xs ++ ys)) h.0 (more_digits xs ys h.1 q)
+
+fewer : (ds : List ℕ) → are_digits ds ≡ true → are_digits (without_zeros ds) ≡ true
+fewer [] h = refl
+fewer (zero ∷ ds) h = fewer ds h
+fewer (suc d ∷ ds) h = h
+
+below : (n m : ℕ) → n < m → nat_lt n m ≡ true
+below n m l = grind (arith, nat_tests)
+
+module _ (n : ℕ) (small : n < 65536) where
+  pub are : are_digits (digits n) ≡ true
+  are =
+      let a = below (n / 10000) 10 (omega arith) in
+      let b = below (n / 1000 % 10) 10 (omega arith) in
+      let c = below (n / 100 % 10) 10 (omega arith) in
+      let d = below (n / 10 % 10) 10 (omega arith) in
+      let u = below (n % 10) 10 (omega arith) in
+      more_digits (before_units n) (n % 10 ∷ []) (fewer (tens n) (rw (a, b, c, d) refl)) (rw u refl)
+
+  pub decimal_is : written (digits n) ≡ decimal n
+  decimal_is = (digits_law n small).written
+
+  pub value_is : grammar.value (written (digits n)) ≡ n
+  value_is = value_from 0 (digits n) ∙ (digits_law n small).value_is
+
+  pub few_bytes : length (written (digits n)) ≤ 5
+  few_bytes = let e = length-map (digits n) (λ d. 48 + d) in let few = few_digits n in omega (arith, e, few)
+
+-- there is at least one
+pub some_digit : (n : ℕ) → 0 < length (digits n)
+some_digit n = let e = length-append (before_units n) (n % 10 ∷ []) in omega (arith, e)

@@ -1,0 +1,19 @@
+mod TextLines
+mod Decimals
+pub mod Said
+pub mod SaidMaths
+pub mod Faultless
+pub mod CallsAccepted
+pub mod Stops
+mod Calling
+mod CalledRoutines
+mod AtEntry
+mod CalledMaths
+mod Along
+pub mod PrintAndNewline
+pub mod CheckedPrint
+pub mod CheckedPaper
+pub mod ReadAndPrint
+pub mod DivideAndPrint
+pub mod RootAndPrint
+pub mod Papers

@@ -1,0 +1,244 @@
+-- What the lines of the sources of calls say.
+use Rattle.std.proofs.Common.{◌≡◌, ◌∙◌, ℕ, ◌+◌, ◌<◌, ◌≤◌, Bool, true, false, List, [], ◌∷◌, ◌++◌, refl, sym, ap, subst, arith}
+use Rattle.std.proofs.Common.{true≢false, append_assoc, append-nil, length, length-append, map, codes, pos, nat_le, lit≤}
+use Rattle.std.specs.Prelude.{◌==◌, not, Option, Some, None, Ok}
+use Rattle.std.specs.Fmt.{decimal}
+use Rattle.std.specs.List.{list_all}
+use Rattle.std.proofs.lemmas.Bool.{and_parts}
+use Rattle.std.proofs.lemmas.List.{length-map, map-append}
+use Rattle.ed_words.proofs.Numbers.{le_true, lt_false}
+use Rattle.ed_codes.specs.Spelling.{row_of}
+use Rattle.ed_syntax.specs.Lines.{Text}
+use Rattle.ed_syntax.specs.Parts.{run, sign, quoted, is_digit, is_run_byte, parts_from, parts_of}
+use Rattle.ed_syntax.specs.Grammar.{array, form_at, is_number, row, settings, spells, value}
+use Rattle.ed_syntax.specs.Sources.{is_line_byte, line_of}
+use Rattle.ed_syntax.specs.declared.program.Line.{Line}
+use Rattle.ed_syntax.specs.declared.program.Operand.TheVariants as operands
+use Rattle.ed_syntax.specs.declared.program.Statement.{Statement}
+use Rattle.ed_syntax.specs.declared.program.Statement.TheVariants as statements
+use Rattle.ed_syntax.proofs.PartLemmas.{run_parts}
+use Rattle.ed_sources.specs.Calls.{check_source, newline_source, number_line, print_source, read_source}
+use Rattle.ed_sources.proofs.TextLines.{Says, ends, says, by_parts}
+use Rattle.ed_sources.proofs.Decimals.{are, are_digits, decimal_is, digit_bytes, few_bytes, line_bytes, no_quotes, row_bytes}
+use Rattle.ed_sources.proofs.Decimals.{rows_are, run_bytes, some_digit, value_is, written}
+use Rattle.ed_routines.specs.Digits.{digits}
+
+-- ---- lines
+
+abbrev pub said : ℕ → Option Text → Statement → Line
+said k label statement = record { number = k; label = label; statement = Some statement }
+
+-- an order that names a place
+abbrev pub order : ℕ → Text → Statement
+order function name = statements.Order function (operands.Label name (pos 0)) false
+
+-- the order Z F
+abbrev pub stop : Statement
+stop = statements.Order 13 (operands.Number 0) false
+
+-- `use` with H set to the place `value`
+abbrev pub use_on_value : Text → Text → Statement
+use_on_value routine name =
+    statements.Fetch routine name (array (record { letter = 21; operand = operands.Label (codes "value") (pos 0) } ∷ []))
+
+abbrev pub print_lines : ℕ → List Line
+print_lines n =
+    said 1 None (statements.Segment (codes "main") None)
+    ∷ said 2 (Some (codes "here")) (order 28 (codes "here"))
+    ∷ said 3 None (order 27 (codes "p"))
+    ∷ said 4 None stop
+    ∷ said 5 (Some (codes "value")) (statements.Number n)
+    ∷ said 6 None (use_on_value (codes "print") (codes "p"))
+    ∷ said 7 None (statements.Enter (codes "main"))
+    ∷ []
+
+abbrev pub read_lines : ℕ → List Line
+read_lines n =
+    said 1 None (statements.Segment (codes "main") None)
+    ∷ said 2 (Some (codes "here")) (order 28 (codes "here"))
+    ∷ said 3 None (order 27 (codes "r"))
+    ∷ said 4 (Some (codes "then")) (order 28 (codes "then"))
+    ∷ said 5 None (order 27 (codes "p"))
+    ∷ said 6 None stop
+    ∷ said 7 (Some (codes "value")) (statements.Order 0 (operands.Number 0) false)
+    ∷ said 8 None (use_on_value (codes "read") (codes "r"))
+    ∷ said 9 None (use_on_value (codes "print") (codes "p"))
+    ∷ said 10 None (statements.Enter (codes "main"))
+    ∷ said 11 None (statements.Rows (array (digits n ++ 17 ∷ [])))
+    ∷ []
+
+abbrev pub newline_lines : List Line
+newline_lines =
+    said 1 None (statements.Segment (codes "main") None)
+    ∷ said 2 (Some (codes "here")) (order 28 (codes "here"))
+    ∷ said 3 None (order 27 (codes "n"))
+    ∷ said 4 None stop
+    ∷ said 5 None (statements.Fetch (codes "newline") (codes "n") (array []))
+    ∷ said 6 None (statements.Enter (codes "main"))
+    ∷ []
+
+abbrev pub check_lines : ℕ → List Line
+check_lines n =
+    said 1 None (statements.Segment (codes "main") None)
+    ∷ said 2 (Some (codes "here")) (order 28 (codes "here"))
+    ∷ said 3 None (order 27 (codes "p"))
+    ∷ said 4 None stop
+    ∷ said 5 (Some (codes "value")) (statements.Number n)
+    ∷ said 6 None (use_on_value (codes "print") (codes "p"))
+    ∷ said 7 None (statements.Fetch (codes "check") (codes "c")
+    (array (record { letter = 21; operand = operands.Label (codes "main") (pos 0) } ∷ [])))
+    ∷ said 8 None (statements.Enter (codes "c"))
+    ∷ []
+
+-- a `use` line with H
+print_used : line_of false 6 (codes "use print as p with H=value")
+    ≡ Ok (record { label = None; statement = Some (use_on_value (codes "print") (codes "p")) })
+unfolding settings
+print_used = refl
+
+read_used : line_of false 8 (codes "use read as r with H=value")
+    ≡ Ok (record { label = None; statement = Some (use_on_value (codes "read") (codes "r")) })
+unfolding settings
+read_used = refl
+
+print_used_too : line_of false 9 (codes "use print as p with H=value")
+    ≡ Ok (record { label = None; statement = Some (use_on_value (codes "print") (codes "p")) })
+unfolding settings
+print_used_too = refl
+
+check_used : line_of false 7 (codes "use check as c with H=main")
+    ≡ Ok (record {
+      label = None;
+      statement = Some (statements.Fetch (codes "check") (codes "c")
+          (array (record { letter = 21; operand = operands.Label (codes "main") (pos 0) } ∷ [])));
+    })
+unfolding settings
+check_used = refl
+
+-- ---- the line with the number
+
+number_parts : (bytes : Text) → 0 < length bytes → list_all is_run_byte bytes ≡ true → parts_of bytes ≡ Some (run bytes ∷ [])
+number_parts [] some h = absurd (omega arith)
+number_parts (b ∷ r) some h = ap parts_of (sym (append-nil (b ∷ r))) ∙ run_parts b r [] h refl
+
+a_number : (bytes : Text) → 0 < length bytes → list_all is_digit bytes ≡ true → is_number bytes ≡ true
+a_number [] some h = absurd (omega arith)
+a_number (b ∷ r) some h = h
+
+-- what the front of a line `label: word N` makes of it, whatever bytes stand behind
+pub record IsWordFront (k : ℕ) (front label : Text) : Type 0 where
+  pub plain : (bytes : Text) → list_all is_line_byte bytes ≡ true → list_all is_line_byte (front ++ bytes) ≡ true
+  pub short : length front ≤ 20
+  pub parts : (bytes : Text) → parts_of bytes ≡ Some (run bytes ∷ [])
+      → parts_of (front ++ bytes) ≡ Some (run label ∷ sign 58 ∷ run (codes "word") ∷ run bytes ∷ [])
+  pub form : (bytes : Text) (n : ℕ) → is_number bytes ≡ true → nat_le (value bytes) 131071 ≡ true → value bytes ≡ n → n < 65536
+      → form_at false k (run label ∷ sign 58 ∷ run (codes "word") ∷ run bytes ∷ [])
+      ≡ Some (Some (record { label = Some label; statement = Some (statements.Number n) }))
+
+module _ (k : ℕ) (front label : Text) (is_front : IsWordFront k front label) where
+  word_line : (bytes : Text) (n : ℕ) → list_all is_line_byte bytes ≡ true → length bytes ≤ 5 → parts_of bytes ≡ Some (run bytes ∷ [])
+      → is_number bytes ≡ true → value bytes ≡ n → n < 65536
+      → line_of false k (front ++ bytes) ≡ Ok (record { label = Some label; statement = Some (statements.Number n) })
+  word_line bytes n plain few parts number is small =
+      let long = length-append front bytes in
+      let short = is_front.short in
+      by_parts k (front ++ bytes) (run label ∷ sign 58 ∷ run (codes "word") ∷ run bytes ∷ []) _ _ (is_front.plain bytes plain)
+      (lt_false 120 (length (front ++ bytes)) (omega (arith, long, few)))
+      (is_front.parts bytes parts)
+      (is_front.form bytes n number (le_true (value bytes) 131071 (omega (arith, is, small))) is small)
+
+  pub word_says : (n : ℕ) → n < 65536
+      → line_of false k (front ++ decimal n) ≡ Ok (record { label = Some label; statement = Some (statements.Number n) })
+  word_says n small =
+      let ds : List ℕ = digits n in
+      let few = few_bytes n small in
+      let some : 0 < length (written ds) = let e = some_digit n in omega (arith, length-map ds (λ d. 48 + d), e) in
+      subst (λ (bytes : Text). line_of false k (front ++ bytes) ≡ Ok (record { label = Some label; statement = Some (statements.Number n) }))
+      (decimal_is n small)
+      (word_line (written ds) n (line_bytes ds (are n small)) few (number_parts (written ds) some (run_bytes ds (are n small)))
+      (a_number (written ds) some (digit_bytes ds (are n small))) (value_is n small) small)
+
+value_front : IsWordFront 5 (codes "value: word ") (codes "value")
+value_front = record {
+  plain = λ bytes h. h;
+  short = lit≤ tt;
+  parts = λ bytes h. rw h refl;
+  form = λ bytes n number in_range is small.
+      rw (number, in_range, is) (ap (λ m. Some (Some (record { label = Some (codes "value"); statement = Some (statements.Number m) })))
+      (omega (arith, small)));
+}
+
+print_number : (n : ℕ) → n < 65536
+    → line_of false 5 (codes "value: word " ++ decimal n)
+    ≡ Ok (record { label = Some (codes "value"); statement = Some (statements.Number n) })
+print_number = word_says 5 (codes "value: word ") (codes "value") value_front
+
+pub print_says : (n : ℕ) → n < 65536 → Says 1 (print_source n) (print_lines n)
+print_says n small = says refl (says refl (says refl (says refl (says (print_number n small) (says print_used (says refl ends))))))
+
+pub check_says : (n : ℕ) → n < 65536 → Says 1 (check_source n) (check_lines n)
+check_says n small =
+    says refl (says refl (says refl (says refl (says (print_number n small) (says print_used (says check_used (says refl ends)))))))
+
+pub newline_says : Says 1 newline_source newline_lines
+newline_says = says refl (says refl (says refl (says refl (says refl (says refl ends)))))
+
+-- ---- the line with the rows of a number
+
+-- digits and F between quotes
+quoted_digits : (q : Text) (ds : List ℕ) → list_all (λ b. not (b == 34)) (written ds) ≡ true
+    → parts_from (Some q) (written ds ++ 70 ∷ 34 ∷ []) ≡ Some (quoted (q ++ (written ds ++ 70 ∷ [])) ∷ [])
+quoted_digits q [] h = refl
+quoted_digits q (d ∷ ds) h =
+    let p = and_parts (not (48 + d == 34)) (list_all (λ b. not (b == 34)) (written ds)) h in
+    let other : (48 + d == 34) ≡ false = not_true (48 + d == 34) p.0 in
+    rw other (quoted_digits (q ++ (48 + d) ∷ []) ds p.1
+    ∙ ap (λ (t : Text). Some (quoted t ∷ [])) (append_assoc q ((48 + d) ∷ []) (written ds ++ 70 ∷ [])))
+  where
+    not_true : (t : Bool) → not t ≡ true → t ≡ false
+    not_true false e = refl
+    not_true true e = absurd (true≢false (sym e))
+
+-- the same, and behind them F
+with_F : (test : ℕ → Bool) (bytes : Text) → list_all test bytes ≡ true → test 70 ≡ true → list_all test (bytes ++ 70 ∷ []) ≡ true
+with_F test [] h k = rw k refl
+with_F test (b ∷ bytes) h k =
+    let p = and_parts (test b) (list_all test bytes) h in rw (p.0, with_F test bytes p.1 k) refl
+
+-- and the quote behind them
+pub with_end : (bytes : Text) → list_all is_line_byte bytes ≡ true → list_all is_line_byte (bytes ++ 70 ∷ 34 ∷ []) ≡ true
+with_end [] h = refl
+with_end (b ∷ bytes) h =
+    let p = and_parts (is_line_byte b) (list_all is_line_byte bytes) h in rw (p.0, with_end bytes p.1) refl
+
+rows_line : (ds : List ℕ) → are_digits ds ≡ true → length (written ds) ≤ 5
+    → line_of false 11 (codes "data " ++ 34 ∷ written ds ++ 70 ∷ 34 ∷ [])
+    ≡ Ok (record { label = None; statement = Some (statements.Rows (array (ds ++ 17 ∷ []))) })
+rows_line ds are few =
+    let bytes : Text = written ds in
+    let quote : Text = bytes ++ 70 ∷ [] in
+    let all_long = length-append bytes (70 ∷ 34 ∷ []) in
+    let plain : list_all is_line_byte (bytes ++ 70 ∷ 34 ∷ []) ≡ true = with_end bytes (line_bytes ds are) in
+    let long = length-append bytes (70 ∷ []) in
+    let some = le_true 1 (length quote) (omega (arith, long)) in
+    let fits = le_true (length quote) 120 (omega (arith, long, few)) in
+    let spelled : list_all (λ b. spells (row_of b)) quote ≡ true = with_F (λ b. spells (row_of b)) bytes (row_bytes ds are) refl in
+    let rows : map (λ b. row (row_of b)) quote ≡ ds ++ 17 ∷ [] =
+    map-append (λ b. row (row_of b)) bytes (70 ∷ []) ∙ ap (λ (x : List ℕ). x ++ 17 ∷ []) (rows_are ds are) in
+    by_parts 11 (codes "data " ++ 34 ∷ bytes ++ 70 ∷ 34 ∷ []) (run (codes "data") ∷ quoted quote ∷ []) _ _ plain
+    (lt_false 120 _ (omega (arith, all_long, few)))
+    (rw (quoted_digits [] ds (no_quotes ds are)) refl)
+    (rw (some, fits, spelled) (ap (λ (x : List ℕ). Some (Some (record { label = None; statement = Some (statements.Rows (array x)) }))) rows))
+
+read_number : (n : ℕ) → n < 65536
+    → line_of false 11 (number_line n) ≡ Ok (record { label = None; statement = Some (statements.Rows (array (digits n ++ 17 ∷ []))) })
+read_number n small =
+    ap (λ (t : Text). line_of false 11 (codes "data " ++ 34 ∷ t)) (append_assoc (decimal n) (70 ∷ []) (34 ∷ []))
+    ∙ subst (λ (bytes : Text). line_of false 11 (codes "data " ++ 34 ∷ bytes ++ 70 ∷ 34 ∷ [])
+    ≡ Ok (record { label = None; statement = Some (statements.Rows (array (digits n ++ 17 ∷ []))) }))
+    (decimal_is n small) (rows_line (digits n) (are n small) (few_bytes n small))
+
+pub read_says : (n : ℕ) → n < 65536 → Says 1 (read_source n) (read_lines n)
+read_says n small =
+    says refl (says refl (says refl (says refl (says refl (says refl (says refl (says read_used (says print_used_too (says refl
+    (says (read_number n small) ends))))))))))

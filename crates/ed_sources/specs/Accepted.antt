@@ -1,0 +1,35 @@
+-- Whatever its numbers are, the source of a call is accepted.
+use Rattle.std.specs.Prelude.{◌≡◌, ℕ, ◌*◌, ◌<◌, ◌≤◌, List, None, Ok}
+use Rattle.ed_words.specs.declared.size.Size.{Size}
+use Rattle.ed_call.specs.declared.Call.{Call}
+use Rattle.ed_call.specs.declared.Call.TheVariants.{Print, Read, NewLine, Divide, Root, Check}
+use Rattle.ed_syntax.specs.declared.program.Line.{Line}
+use Rattle.ed_syntax.specs.Lines.{Text}
+use Rattle.ed_syntax.specs.Sources.{program_of}
+use Rattle.ed_link.specs.Faults.{fault}
+use Rattle.ed_sources.specs.Calls.{call_text}
+
+-- a source that has no fault on a machine of a size, and what its lines say
+pub record IsAccepted (z : Size) (text : Text) : Type 0 where
+  pub lines : List Line
+  pub reads : program_of text ≡ Ok lines
+  pub faultless : fault z lines ≡ None
+
+-- a division whose quotient is below 65536, by a divisor of 1 to 32767
+pub record IsDivisible (n by : ℕ) : Type 0 where
+  pub positive : 1 ≤ by
+  pub divisor : by ≤ 32767
+  pub less : n < 65536 * by
+
+-- the library has the routine of a call, and its numbers are in range: below 65536, or those of such a division
+abbrev pub IsMade : Call → Type 0
+IsMade (Print n) = n < 65536
+IsMade (Read n) = n < 65536
+IsMade NewLine = Unit {0}
+IsMade (Divide n by) = IsDivisible n by
+IsMade (Root n) = n < 65536
+IsMade (Check n) = n < 65536
+
+-- so each call's source is accepted, on either size
+abbrev pub EachCallIsAccepted : Type 0
+EachCallIsAccepted = (z : Size) (call : Call) → IsMade call → IsAccepted z (call_text call)
