@@ -1,0 +1,32 @@
+//! A session on an endless loop, far on and often back.
+
+use crate::support::{LOOP, session_on};
+use ed_stepper::{BackFault, MoveEnd, Moved};
+use std::test::Fail;
+
+#[test]
+fn far_on_and_often_back(rt: HostRuntime) -> Result<(), Fail> {
+    let alloc = rt.alloc();
+    let mut session = session_on(&rt, alloc, LOOP, 10_000_000)?;
+    assert!(rt; session.go(10_000_000).end == MoveEnd::Went);
+    for _ in 0..200 {
+        assert!(rt; session.back(1).is_ok());
+    }
+    let moved = session.go(1_000);
+    let (at, done, end) = (64, 10_000_000, MoveEnd::Limit);
+    assert!(rt; moved == Moved { at, done, end });
+    Ok(())
+}
+
+#[test]
+fn a_session_goes_back_to_its_start_and_no_further(rt: HostRuntime) -> Result<(), Fail> {
+    let alloc = rt.alloc();
+    let mut session = session_on(&rt, alloc, LOOP, 1_000)?;
+    assert!(rt; session.go(90).end == MoveEnd::Went);
+    assert!(rt; session.back(91) == Err(BackFault::TooFar { done: 90 }));
+    let (at, done, end) = (0, 0, MoveEnd::Back);
+    assert!(rt; session.back(90) == Ok(Moved { at, done, end }));
+    assert!(rt; session.back(1) == Err(BackFault::TooFar { done: 0 }));
+    assert!(rt; session.until_entry().end == MoveEnd::Entered);
+    Ok(())
+}

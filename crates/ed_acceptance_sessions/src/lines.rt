@@ -1,0 +1,124 @@
+//! Which lines are lines of a script.
+
+use ed_stepper::bad_line;
+use std::test::Fail;
+
+/// Lines of a script, at both ends of their ranges, and with blanks at every seam.
+const LINES: [&str; 30] = [
+    "",
+    " \t ",
+    "go 1",
+    "go 100000000",
+    "go 000000001",
+    "\tgo \t 7 ",
+    "to 0",
+    "to 1023",
+    "  to  1023\t",
+    "entry",
+    " entry ",
+    "\tentry",
+    "back 0",
+    "back 100000000",
+    " back  5 ",
+    "trace 1",
+    "trace 10000",
+    "\ttrace\t10000\t",
+    "show 0",
+    "show 1023",
+    " show \t 44 ",
+    "show 0 0",
+    "show 0 1023",
+    "show 1023 1023",
+    "\tshow 5\t 6 ",
+    "show acc",
+    " show\tacc\t",
+    "show mult",
+    "show last",
+    "show  last",
+];
+
+/// Lines that are none: a number beyond its range or out of form, a part too few or too many, other words.
+const OTHERS: [&str; 40] = [
+    "go",
+    "go 0",
+    "go 100000001",
+    "go 0000000001",
+    "go +1",
+    "go -1",
+    "go 1x",
+    "go 1 2",
+    "go1",
+    "Go 1",
+    "to",
+    "to 1024",
+    "to acc",
+    "to 1 2",
+    "entry 1",
+    "entries",
+    "back",
+    "back 100000001",
+    "back -1",
+    "back 1 1",
+    "trace",
+    "trace 0",
+    "trace 10001",
+    "trace 1 1",
+    "show",
+    "show 1024",
+    "show 2 1",
+    "show 0 1024",
+    "show 1 2 3",
+    "show acc 1",
+    "show acc mult",
+    "show accu",
+    "show Mult",
+    "show last last",
+    "show 1,2",
+    "tape",
+    "source",
+    "x",
+    "go 1\u{b}",
+    "go\r1",
+];
+
+#[test]
+fn lines_of_a_script(rt: HostRuntime) -> Result<(), Fail> {
+    for line in LINES {
+        assert!(rt; bad_line(line.as_bytes()).is_none(), "{line}");
+    }
+    Ok(())
+}
+
+#[test]
+fn lines_that_are_none(rt: HostRuntime) -> Result<(), Fail> {
+    for line in OTHERS {
+        assert!(rt; bad_line(line.as_bytes()) == Some(1), "{line}");
+    }
+    Ok(())
+}
+
+#[test]
+fn the_least_line_that_is_none_is_told(rt: HostRuntime) -> Result<(), Fail> {
+    for (script, line) in [
+        ("go 1\r\nto 5\r\n\r\nentry", None),
+        ("go 1\r\nto 5\r\r\nx\n", Some(2)),
+        ("\n\nx\nx\n", Some(3)),
+        ("go 1\nentry\r", Some(2)),
+    ] {
+        assert!(rt; bad_line(script.as_bytes()) == line, "{script}");
+    }
+    Ok(())
+}
+
+#[test]
+fn a_script_has_a_thousand_lines(rt: HostRuntime) -> Result<(), Fail> {
+    let alloc = rt.alloc();
+    for (lines, bad) in [(1000, None), (1001, Some(1001)), (1002, Some(1001))] {
+        let mut script = Vec::new(alloc);
+        for _ in 0..lines {
+            script.push(b'\n')?;
+        }
+        assert!(rt; bad_line(&script) == bad, "{lines}");
+    }
+    Ok(())
+}

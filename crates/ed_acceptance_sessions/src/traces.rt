@@ -1,0 +1,68 @@
+//! Traces of runs, on sinks that take pieces and fail.
+
+use crate::support::{LETTER, LOOP, started};
+use ed_io::MemorySink;
+use ed_machine::Ending;
+use ed_trace::{TraceFault, trace_run};
+use std::alloc::Global;
+use std::process::Abort;
+use std::test::Fail;
+
+/// What a trace answers on a sink.
+fn traced(
+    rt: &impl Abort,
+    alloc: Global,
+    tape: &str,
+    limit: u64,
+    out: &mut MemorySink,
+) -> Result<Result<Ending, TraceFault>, Fail> {
+    let mut machine = started(alloc, tape)?;
+    assert!(rt; machine.orders_done() == 0 && limit < 1 << 40);
+    Ok(trace_run(alloc, &mut machine, limit, 0, out))
+}
+
+/// A sink that takes at most seven bytes a call, of whose calls these fail.
+fn sink(alloc: Global, failing: Vec<u64>) -> Result<MemorySink, Fail> {
+    Ok(MemorySink::in_pieces(alloc, 100_000, failing, 7)?)
+}
+
+#[test]
+fn lines_of_fifty_letters(rt: HostRuntime) -> Result<(), Fail> {
+    let alloc = rt.alloc();
+    for (tape, limit, ending, bytes, lines) in [
+        (LETTER, 9, Ending::Limit, 10, 1),
+        (LETTER, 1_000, Ending::Stopped, 197, 4),
+        (LETTER, 49, Ending::Limit, 50, 1),
+        (LETTER, 50, Ending::Limit, 51, 1),
+        (LETTER, 51, Ending::Limit, 53, 2),
+        (LOOP, 5_000, Ending::Limit, 5_100, 100),
+        ("", 1_000, Ending::NoTape, 10, 1),
+        ("EZPF", 1_000, Ending::NoOrder, 53, 2),
+    ] {
+        let mut out = sink(alloc, Vec::new(alloc))?;
+        let answer = traced(&rt, alloc, tape, limit, &mut out)?;
+        assert!(rt; answer == Ok(ending), "{tape} {limit}");
+        let text = out.bytes();
+        assert!(rt; text.len() == bytes, "{tape} {limit}");
+        let ends = text.iter().filter(|byte| **byte == b'\n').count();
+        assert!(rt; ends == lines, "{tape} {limit}");
+        assert!(rt; text.starts_with(b"TEHATAATE"), "{tape} {limit}");
+    }
+    Ok(())
+}
+
+#[test]
+fn a_failed_write_ends_a_trace_at_once(rt: HostRuntime) -> Result<(), Fail> {
+    let alloc = rt.alloc();
+    let mut whole = sink(alloc, Vec::new(alloc))?;
+    let answer = traced(&rt, alloc, LETTER, 1_000, &mut whole)?;
+    assert!(rt; answer == Ok(Ending::Stopped));
+    for call in 0..31 {
+        let mut out = sink(alloc, [call].to_vec(alloc)?)?;
+        let answer = traced(&rt, alloc, LETTER, 1_000, &mut out)?;
+        assert!(rt; answer == Err(TraceFault::Failed), "{call}");
+        assert!(rt; out.faults() == 1, "{call}");
+        assert!(rt; whole.bytes().starts_with(out.bytes()), "{call}");
+    }
+    Ok(())
+}

@@ -1,0 +1,149 @@
+-- How an input is divided, line by line.
+use Rattle.std.proofs.Common.{◌≡◌, ◌∙◌, ℕ, suc, ◌+◌, ◌-◌, ◌<◌, ◌≤◌, refl, sym, ap, subst, arith, Bool, true, false, List, [], ◌∷◌, ◌++◌, length, take, drop}
+use Rattle.std.proofs.Common.{Option, Some, None}
+use Rattle.std.specs.Prelude.{◌==◌, not, position, slice_index_or, if◌then◌else◌}
+use Rattle.std.proofs.lemmas.List.{append-nil, append_assoc, drop_all, length-append, take_at}
+use Rattle.ed_syntax.specs.Lines.{Text, lines_of}
+use Rattle.ed_stepper.specs.Inputs.{Input, announced, at_line, behind_line, divided, divided_at, first_line, with_front}
+use Rattle.ed_stepper.specs.Private.Fronts.{unended}
+use Rattle.ed_stepper.specs.declared.inputs.TextKind.{TextKind}
+use Rattle.ed_stepper.proofs.Heads.{found, none_found}
+
+-- ---- the bytes of a first line
+
+-- what stands behind it, by the place of its line feed
+behind_is : (text : Text) → behind_line text ≡ drop (unended text + 1) text
+behind_is [] = refl
+behind_is (b ∷ bs) = by_test (b == 10) (behind_is bs)
+  where
+    by_test : (t : Bool) → behind_line bs ≡ drop (unended bs + 1) bs
+        → (if t then bs else behind_line bs) ≡ drop ((if not t then 1 + unended bs else 0) + 1) (b ∷ bs)
+    by_test true h = refl
+    by_test false h = let s : 1 + unended bs + 1 ≡ suc (unended bs + 1) = omega arith in rw s h
+
+pub behind_ended : (text : Text) (end : ℕ) → position (λ b. b == 10) text ≡ Some end → behind_line text ≡ drop (end + 1) text
+behind_ended text end at =
+    behind_is text ∙ ap (λ n. drop (n + 1) text) (sym (found (λ b. b == 10) text end at).0)
+
+pub behind_unended : (text : Text) → position (λ b. b == 10) text ≡ None → behind_line text ≡ []
+behind_unended text none =
+    let all = none_found (λ b. b == 10) text none in
+    behind_is text ∙ drop_all (unended text + 1) text (omega (arith, all))
+
+-- a first line with its end
+abbrev pub line_front : Text → Text
+line_front [] = []
+line_front (b ∷ bs) = if b == 10 then b ∷ [] else b ∷ line_front bs
+
+-- it stands before what stands behind it
+pub front_whole : (text : Text) → line_front text ++ behind_line text ≡ text
+front_whole [] = refl
+front_whole (b ∷ bs) = by_test (b == 10) (front_whole bs)
+  where
+    by_test : (t : Bool) → line_front bs ++ behind_line bs ≡ bs
+        → (if t then b ∷ [] else b ∷ line_front bs) ++ (if t then bs else behind_line bs) ≡ b ∷ bs
+    by_test true h = refl
+    by_test false h = ap (λ (x : Text). b ∷ x) h
+
+-- ---- a script with bytes in front
+
+abbrev pub prefixed : Text → Option Input → Option Input
+prefixed before None = None
+prefixed before (Some i) = Some (record i { script = before ++ i.script })
+
+pub prefixed_none : (o : Option Input) → prefixed [] o ≡ o
+prefixed_none None = refl
+prefixed_none (Some i) = refl
+
+pub prefixed-append : (before more : Text) (o : Option Input) → prefixed before (prefixed more o) ≡ prefixed (before ++ more) o
+prefixed-append before more None = refl
+prefixed-append before more (Some i) =
+    ap (λ (script : Text). Some (record i { script = script })) (sym (append_assoc before more i.script))
+
+one_front : (b : ℕ) (more : Text) (o : Option Input) → with_front b (prefixed more o) ≡ prefixed (b ∷ more) o
+one_front b more None = refl
+one_front b more (Some i) = refl
+
+-- ---- lines
+
+-- where no line begins, the input is divided behind the first line feed
+skips : (text : Text) → divided_at false text ≡ prefixed (line_front text) (divided (behind_line text))
+skips [] = refl
+skips (b ∷ bs) = by_test (b == 10) (skips bs)
+  where
+    by_test : (t : Bool) → divided_at false bs ≡ prefixed (line_front bs) (divided (behind_line bs))
+        → with_front b (divided_at t bs) ≡ prefixed (if t then b ∷ [] else b ∷ line_front bs) (divided (if t then bs else behind_line bs))
+    by_test true h = ap (with_front b) (sym (prefixed_none (divided bs))) ∙ one_front b [] (divided bs)
+    by_test false h = ap (with_front b) h ∙ one_front b (line_front bs) (divided (behind_line bs))
+
+-- so it is behind a line that announces nothing
+pub passes : (text : Text) → 0 < length text → announced (first_line text) ≡ None
+    → divided text ≡ prefixed (line_front text) (divided (behind_line text))
+passes [] some none = absurd (omega arith)
+passes (b ∷ bs) some none =
+    ap (λ (k : Option TextKind). at_line k (b ∷ bs) (with_front b (divided_at (b == 10) bs))) none ∙ skips (b ∷ bs)
+
+-- and a line that announces a text divides it
+pub divides : (text : Text) (kind : TextKind) → 0 < length text → announced (first_line text) ≡ Some kind
+    → divided text ≡ Some (record { script = []; kind = kind; text = behind_line text })
+divides [] kind some is = absurd (omega arith)
+divides (b ∷ bs) kind some is =
+    ap (λ (k : Option TextKind). at_line k (b ∷ bs) (with_front b (divided_at (b == 10) bs))) is
+
+-- the first line of a text whose lines are known
+pub first_is : (text line : Text) (rest : List Text) → lines_of text ≡ line ∷ rest → first_line text ≡ line
+first_is text line rest is = ap (λ (lines : List Text). slice_index_or lines 0 []) is
+
+-- ---- the loop over the lines
+
+-- what stands before a rest is the front, by its length
+cut : (front rest whole : Text) → front ++ rest ≡ whole → take (length whole - length rest) whole ≡ front
+cut front rest whole is =
+    let long : length front + length rest ≡ length whole = sym (length-append front rest) ∙ ap (λ (x : Text). length x) is in
+    ap (λ (x : Text). take (length whole - length rest) x) (sym is) ∙ take_at front rest (length whole - length rest) (omega (arith, long))
+
+-- the bytes before the rest and the rest, and that the division of the rest is that of the input
+pub record Stands (input rest : Text) : Type 0 where
+  pub few : length rest ≤ length input
+  pub whole : take (length input - length rest) input ++ rest ≡ input
+  pub same : divided input ≡ prefixed (take (length input - length rest) input) (divided rest)
+
+-- before the first line
+pub at_start : (input : Text) → Stands input input
+at_start input =
+    let e = cut [] input input refl in record {
+      few = omega arith;
+      whole = ap (λ (x : Text). x ++ input) e;
+      same = sym (ap (λ (x : Text). prefixed x (divided input)) e ∙ prefixed_none (divided input));
+    }
+
+-- behind a line that announces nothing
+pub goes_on : (input rest after : Text) → Stands input rest → 0 < length rest → announced (first_line rest) ≡ None
+    → after ≡ behind_line rest → Stands input after
+goes_on input rest after s some none is =
+    let before : Text = take (length input - length rest) input in
+    let front = line_front rest in
+    let rest_is : front ++ after ≡ rest = ap (λ (x : Text). front ++ x) is ∙ front_whole rest in
+    let whole : (before ++ front) ++ after ≡ input = append_assoc before front after ∙ ap (λ (x : Text). before ++ x) rest_is ∙ s.whole in
+    let e = cut (before ++ front) after input whole in
+    let long = ap (λ (x : Text). length x) whole in
+    record {
+      few = omega (arith, long, length-append (before ++ front) after);
+      whole = ap (λ (x : Text). x ++ after) e ∙ whole;
+      same = s.same ∙ ap (prefixed before) (passes rest some none ∙ ap (λ (x : Text). prefixed front (divided x)) (sym is))
+          ∙ prefixed-append before front (divided after) ∙ sym (ap (λ (x : Text). prefixed x (divided after)) e);
+    }
+
+-- at a line that announces a text
+pub ends_at : (input rest after : Text) (kind : TextKind) → Stands input rest → 0 < length rest
+    → announced (first_line rest) ≡ Some kind → after ≡ behind_line rest
+    → divided input ≡ Some (record { script = take (length input - length rest) input; kind = kind; text = after })
+ends_at input rest after kind s some found is =
+    let before : Text = take (length input - length rest) input in
+    s.same ∙ ap (prefixed before) (divides rest kind some found)
+    ∙ (λ i. Some (record { script = append-nil before i; kind = kind; text = sym is i }))
+
+-- behind the last line
+pub at_end : (input rest : Text) → Stands input rest → length rest ≡ 0 → divided input ≡ None
+at_end input [] s none = s.same
+at_end input (b ∷ bs) s none = absurd (omega (arith, none))

@@ -1,0 +1,57 @@
+-- What a session keeps over a move.
+use Rattle.std.proofs.Common.{◌≡◌, ℕ, ◌+◌, ◌-◌, ◌<◌, ◌≤◌, refl, sym, ap, ◌∙◌, subst, arith, true, List, [], ◌⊎◌, inl, inr}
+use Rattle.ed_machine.specs.State.{State}
+use Rattle.ed_machine.specs.OrderTable.{step}
+use Rattle.ed_machine.specs.Steps.{IsFree, is_obeyed, state_after}
+use Rattle.ed_initial.proofs.Goes.{after_sum}
+use Rattle.ed_stepper.specs.MoveEnds.{Ends}
+use Rattle.ed_stepper.specs.Sessions.{Moves}
+use Rattle.ed_stepper.specs.Private.Kept.{AreMarks, IsMark}
+use Rattle.ed_stepper.specs.declared.marks.Mark.{Mark}
+use Rattle.ed_stepper.specs.declared.moves.Aim.{Aim}
+use Rattle.ed_stepper.specs.declared.moves.MoveEnd.{MoveEnd}
+use Rattle.ed_stepper.proofs.Founds.{orders_found, end_found}
+
+pub no_marks : (start : State) (marks : List Mark) → marks ≡ [] → AreMarks start marks
+no_marks start marks is = subst (λ ms. AreMarks start ms) (sym is) none
+  where
+    none : AreMarks start []
+    none k d h = absurd (omega arith)
+
+-- a walk from where a session stands is a move
+pub moves_so : (aim : Aim) (start machine last : State) (limit done orders at : ℕ) (end : MoveEnd) → machine ≡ state_after done start
+    → Ends aim (limit - done) machine orders end → last ≡ state_after orders machine → at ≡ last.counter
+    → Moves aim (record { start = start; limit = limit; done = done }) (record { start = start; limit = limit; done = done + orders })
+    (record { at = at; done = done + orders; end = end })
+moves_so aim start machine last limit done orders at end is ends to place =
+    let from : Ends aim (limit - done) (state_after done start) orders end =
+    subst (λ (x : State). Ends aim (limit - done) x orders end) is ends in
+    record {
+      orders = orders;
+      ends = from;
+      orders_are = orders_found aim (limit - done) orders (state_after done start) end from;
+      end_is = end_found aim (limit - done) orders (state_after done start) end from;
+      done_is = refl;
+      at_is = place ∙ ap (λ (x : State). x.counter) (to ∙ ap (state_after orders) is ∙ sym (after_sum done orders start));
+      stand_is = refl;
+    }
+
+-- the state after so many orders, from a copy on
+pub from_mark : (start : State) (m : Mark) (done : ℕ) → IsMark start m → m.done ≤ done
+    → state_after (done - m.done) m.machine ≡ state_after done start
+from_mark start m done mark low =
+    let e : m.done + (done - m.done) ≡ done = omega arith in
+    ap (state_after (done - m.done)) mark.is ∙ sym (after_sum m.done (done - m.done) start) ∙ ap (λ k. state_after k start) e
+
+-- orders obeyed, and more after them
+pub free_later : (j k : ℕ) (s : State) → IsFree j s → IsFree k (state_after j s) → IsFree (j + k) s
+free_later j k s a b i h = by_place (split i j)
+  where
+    split : (a b : ℕ) → (a < b) ⊎ (b ≤ a)
+    split a b = grind arith
+
+    by_place : (i < j) ⊎ (j ≤ i) → is_obeyed (step (state_after i s)).turn ≡ true
+    by_place (inl low) = a i low
+    by_place (inr high) =
+        let e : j + (i - j) ≡ i = omega arith in
+        rw e at (ap (λ (x : State). is_obeyed (step x).turn) (after_sum j (i - j) s) ∙ b (i - j) (omega arith))

@@ -1,0 +1,7 @@
+pub mod Walks
+pub mod Founds
+pub mod Keeping
+pub mod Listed
+mod Heads
+mod Divisions
+mod Plays

@@ -1,0 +1,18 @@
+-- The functions of orders, one after the other.
+use Rattle.std.proofs.Common.{◌≡◌, ℕ, ◌+◌, sym, ap, ◌∙◌, List, [], ◌∷◌, ◌++◌, append-nil, append_assoc}
+use Rattle.ed_words.specs.Words.{function_of}
+use Rattle.ed_machine.specs.State.{State}
+use Rattle.ed_machine.specs.OrderTable.{next_word}
+use Rattle.ed_machine.specs.Steps.{state_after}
+use Rattle.ed_report.specs.Traces.{functions_after}
+use Rattle.ed_report.proofs.Letters.{next_functions, no_functions}
+
+pub listed_none : (s : State) (xs : List ℕ) → xs ≡ xs ++ functions_after 0 s
+listed_none s xs = sym (ap (λ t. xs ++ t) (no_functions s) ∙ append-nil xs)
+
+pub listed_more : (xs items more : List ℕ) (k f : ℕ) (s m : State) → more ≡ items ++ f ∷ [] → items ≡ xs ++ functions_after k s
+    → f ≡ function_of (next_word m) → m ≡ state_after k s → more ≡ xs ++ functions_after (k + 1) s
+listed_more xs items more k f s m grown are is at =
+    grown ∙ (λ i. are i ++ (is ∙ ap (λ (x : State). function_of (next_word x)) at) i ∷ [])
+    ∙ append_assoc xs (functions_after k s) (function_of (next_word (state_after k s)) ∷ [])
+    ∙ ap (λ t. xs ++ t) (sym (next_functions k s))

@@ -1,0 +1,120 @@
+-- One more order of a move.
+use Rattle.std.proofs.Common.{◌≡◌, ℕ, ◌+◌, ◌<◌, refl, sym, ap, ◌∙◌, arith, add-one, below_more, true, false, Some, None, ◌⊎◌, inl, inr}
+use Rattle.ed_words.proofs.Numbers.{eq_true, eq_false}
+use Rattle.ed_machine.specs.State.{State}
+use Rattle.ed_machine.specs.OrderTable.{step}
+use Rattle.ed_machine.specs.Steps.{IsFree, is_obeyed, past, state_after}
+use Rattle.ed_machine.specs.declared.turn.Turn.{Turn}
+use Rattle.ed_machine.specs.declared.turn.Turn.TheVariants.{Went, Printed, Stopped, NoOrder, NoTape}
+use Rattle.ed_initial.proofs.Goes.{after_sum}
+use Rattle.ed_stepper.specs.MoveEnds.{Ends, blocked_end, end_after, is_stop, own_end, stopped_after}
+use Rattle.ed_stepper.specs.declared.moves.MoveEnd.{MoveEnd}
+use Rattle.ed_stepper.specs.declared.moves.MoveEnd.TheVariants.{Limit, Stopped as EndStopped}
+use Rattle.ed_stepper.specs.declared.moves.Aim.{Aim}
+
+pub after_none : (s : State) → state_after 0 s ≡ s
+unfolding past
+after_none s = refl
+
+pub next_state : (k : ℕ) (s : State) → state_after (k + 1) s ≡ (step (state_after k s)).state
+unfolding past
+next_state k s = rw add-one refl
+
+-- k orders of a move have been obeyed, and it has not ended; the limit and a blocked order are not looked at yet
+pub record Walking (aim : Aim) (left : ℕ) (s : State) (k : ℕ) (m : State) : Type 0 where
+  pub state : m ≡ state_after k s
+  pub free : IsFree k s
+  pub quiet : stopped_after k s ≡ false
+  pub going : own_end aim k s ≡ None
+  pub first : (j : ℕ) → j < k → end_after aim left j s ≡ None
+
+pub at_first : (aim : Aim) (left : ℕ) (s : State) → own_end aim 0 s ≡ None → Walking aim left s 0 s
+at_first aim left s none = record {
+  state = sym (after_none s);
+  free = λ j h. absurd (omega arith);
+  quiet = refl;
+  going = none;
+  first = λ j h. absurd (omega arith);
+}
+
+-- below the limit only an order that can't be obeyed ends it now
+by_next : (aim : Aim) (left k : ℕ) (s m : State) → Walking aim left s k m → k < left
+    → end_after aim left k s ≡ blocked_end (step m).turn
+by_next aim left k s m w below =
+    let e = eq_false k left (omega arith) in
+    rw (w.quiet, w.going, e) (ap (λ (x : State). blocked_end (step x).turn) (sym w.state))
+
+not_blocked : (turn : Turn) → is_obeyed turn ≡ true → blocked_end turn ≡ None
+not_blocked Went h = refl
+not_blocked (Printed code) h = refl
+not_blocked Stopped h = refl
+not_blocked (NoOrder function) h = cc
+not_blocked NoTape h = cc
+
+-- an order that was obeyed
+pub record Next (aim : Aim) (left : ℕ) (s : State) (k : ℕ) (m n : State) (turn : Turn) : Type 0 where
+  pub state : n ≡ state_after (k + 1) s
+  pub free : IsFree (k + 1) s
+  pub stop_is : stopped_after (k + 1) s ≡ is_stop turn
+  pub first : (j : ℕ) → j < k + 1 → end_after aim left j s ≡ None
+
+pub next : (aim : Aim) (left k : ℕ) (s m n : State) (turn : Turn) → Walking aim left s k m → k < left → turn ≡ (step m).turn
+    → n ≡ (step m).state → is_obeyed turn ≡ true → Next aim left s k m n turn
+next aim left k s m n turn w below is to obeyed =
+    let same : (step (state_after k s)).turn ≡ turn = ap (λ (x : State). (step x).turn) (sym w.state) ∙ sym is in
+    let none : end_after aim left k s ≡ None =
+    by_next aim left k s m w below ∙ ap blocked_end (sym is) ∙ not_blocked turn obeyed in
+    record {
+      state = to ∙ ap (λ (x : State). (step x).state) w.state ∙ sym (next_state k s);
+      free = below_more (λ j. is_obeyed (step (state_after j s)).turn ≡ true) k w.free (ap is_obeyed same ∙ obeyed);
+      stop_is = rw add-one (ap is_stop same);
+      first = below_more (λ j. end_after aim left j s ≡ None) k w.first none;
+    }
+
+-- the move goes on
+pub goes_on : (aim : Aim) (left k : ℕ) (s m n : State) (turn : Turn) → Next aim left s k m n turn → is_stop turn ≡ false
+    → own_end aim (k + 1) s ≡ None → Walking aim left s (k + 1) n
+goes_on aim left k s m n turn next go none =
+    record { state = next.state; free = next.free; quiet = next.stop_is ∙ go; going = none; first = next.first }
+
+-- it ends with a stop
+pub stops : (aim : Aim) (left k : ℕ) (s m n : State) (turn : Turn) → Next aim left s k m n turn → is_stop turn ≡ true
+    → Ends aim left s (k + 1) EndStopped
+stops aim left k s m n turn next stop = let e = next.stop_is ∙ stop in record { now = rw e refl; first = next.first }
+
+-- it comes to its own end
+pub owns : (aim : Aim) (left k : ℕ) (s m n : State) (turn : Turn) (end : MoveEnd) → Next aim left s k m n turn
+    → is_stop turn ≡ false → own_end aim (k + 1) s ≡ Some end → Ends aim left s (k + 1) end
+owns aim left k s m n turn end next go own =
+    let e = next.stop_is ∙ go in record { now = rw (e, own) refl; first = next.first }
+
+-- it comes to an order that can't be obeyed
+pub blocks : (aim : Aim) (left k : ℕ) (s m : State) (end : MoveEnd) → Walking aim left s k m → k < left
+    → blocked_end (step m).turn ≡ Some end → Ends aim left s k end
+blocks aim left k s m end w below is = record { now = by_next aim left k s m w below ∙ is; first = w.first }
+
+-- it comes to the limit
+pub limits : (aim : Aim) (left : ℕ) (s m : State) → Walking aim left s left m → Ends aim left s left Limit
+limits aim left s m w = let e = eq_true left left refl in record { now = rw (w.quiet, w.going, e) refl; first = w.first }
+
+-- it ends before any order
+pub ends_at_once : (aim : Aim) (left : ℕ) (s : State) (end : MoveEnd) → own_end aim 0 s ≡ Some end → Ends aim left s 0 end
+ends_at_once aim left s end own = record { now = rw own refl; first = λ j h. absurd (omega arith) }
+
+-- a turn that neither stops nor is blocked
+quiet_turn : (t : Turn) → (t ≡ Went) ⊎ ((x : ℕ) × (t ≡ Printed x)) → (is_obeyed t ≡ true) × (is_stop t ≡ false)
+quiet_turn t (inl e) = (ap is_obeyed e, ap is_stop e)
+quiet_turn t (inr p) = (ap is_obeyed p.1, ap is_stop p.1)
+
+-- an order that neither stops nor is blocked
+pub taken : (aim : Aim) (left k : ℕ) (s m n : State) (turn : Turn) → Walking aim left s k m → k < left → turn ≡ (step m).turn
+    → n ≡ (step m).state → (turn ≡ Went) ⊎ ((x : ℕ) × (turn ≡ Printed x)) → Next aim left s k m n turn × (is_stop turn ≡ false)
+taken aim left k s m n turn w below is to quiet =
+    let q = quiet_turn turn quiet in (next aim left k s m n turn w below is to q.0, q.1)
+
+-- the state so many orders after another
+pub after_from : (from k : ℕ) (s start m : State) → m ≡ state_after (k + 1) s → s ≡ state_after from start
+    → m ≡ state_after (from + k + 1) start
+after_from from k s start m is at =
+    let e : from + (k + 1) ≡ from + k + 1 = omega arith in
+    is ∙ ap (state_after (k + 1)) at ∙ sym (after_sum from (k + 1) start) ∙ ap (λ j. state_after j start) e

@@ -1,0 +1,13 @@
+use Rattle.std.proofs.Common.{◌≡◌, ◌+◌, ◌++◌, ◌≤◌, vec_len, vec_capacity}
+use Rattle.ed_machine.specs.Steps.{state_after}
+use Rattle.ed_report.specs.Traces.{functions_after}
+use Rattle.ed_stepper.proofs.session.list_functions.Given as goal
+
+abbrev pub invariant-loop-done : goal.invariant-loop-done
+invariant-loop-done l = record {
+  is : l.machine ≡ state_after l.done l.fn.machine;
+  count : l.machine.orders ≤ l.fn.machine.orders + l.done;
+  listed : l.functions.items ≡ l.fn.functions.items ++ functions_after l.done l.fn.machine;
+  few : vec_len l.functions ≡ vec_len l.fn.functions + l.done;
+  room : vec_capacity l.functions ≡ vec_capacity l.fn.functions;
+}

@@ -1,0 +1,52 @@
+-- The input of the command that runs a script: the script's lines, a line that divides, and a tape's text or a source
+-- (this project's own rule).
+use Rattle.std.specs.Prelude.{◌≡◌, ℕ, ◌==◌, Bool, true, List, [], ◌∷◌, codes, slice_index_or, if◌then◌else◌, Option, Some, None}
+use Rattle.std.specs.Str.{bytes_eq}
+use Rattle.ed_syntax.specs.Lines.{Text, lines_of}
+use Rattle.ed_stepper.specs.declared.inputs.Divided.{Divided}
+use Rattle.ed_stepper.specs.declared.inputs.TextKind.{TextKind}
+use Rattle.ed_stepper.specs.declared.inputs.TextKind.TheVariants.{Tape, Source}
+
+-- the first line of a text, without its end
+abbrev pub first_line : Text → Text
+first_line text = slice_index_or (lines_of text) 0 []
+
+-- what stands behind the first line and its end
+abbrev pub behind_line : Text → Text
+behind_line [] = []
+behind_line (b ∷ bs) = if b == 10 then bs else behind_line bs
+
+-- what a line announces, if it divides: it is exactly `tape` or `source`
+abbrev pub announced : Text → Option TextKind
+announced line = if bytes_eq line (codes "tape") then Some Tape else if bytes_eq line (codes "source") then Some Source else None
+
+-- an input that is divided: the bytes of the script, and the kind and the bytes of the text behind the dividing line
+pub record Input : Type 0 where
+  pub script : Text
+  pub kind : TextKind
+  pub text : Text
+
+-- a byte more in front of the script
+abbrev pub with_front : ℕ → Option Input → Option Input
+with_front b None = None
+with_front b (Some i) = Some (record i { script = b ∷ i.script })
+
+-- the input is divided here, where a line announces a text, and else further on
+abbrev pub at_line : Option TextKind → Text → Option Input → Option Input
+at_line (Some kind) text later = Some (record { script = []; kind = kind; text = behind_line text })
+at_line None text later = later
+
+-- an input from a byte on, at which a line begins or not, divided by the first line that announces a text
+abbrev pub divided_at : Bool → Text → Option Input
+divided_at begins [] = None
+divided_at begins (b ∷ bs) =
+    at_line (if begins then announced (first_line (b ∷ bs)) else None) (b ∷ bs) (with_front b (divided_at (b == 10) bs))
+
+-- an input, divided
+abbrev pub divided : Text → Option Input
+divided input = divided_at true input
+
+-- the parts that are found are those of the definition
+abbrev pub Divides : Text → Option Divided → Type 0
+Divides input None = divided input ≡ None
+Divides input (Some d) = divided input ≡ Some (record { script = d.script.now; kind = d.kind; text = d.text.now })

@@ -1,0 +1,6 @@
+pub mod MoveEnds
+pub mod Sessions
+pub mod Commands
+pub mod Scripts
+pub mod Inputs
+pub mod Private

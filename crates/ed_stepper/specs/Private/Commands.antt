@@ -1,0 +1,10 @@
+-- The ranges of a command's numbers.
+use Rattle.std.specs.Prelude.{◌≤◌}
+use Rattle.ed_stepper.specs.declared.commands.Command.{Command}
+use Rattle.ed_stepper.specs.declared.commands.Command.TheVariants.{Trace, Show}
+
+-- a trace of at most 10,000 orders, locations of the store
+abbrev pub IsInRange : Command → Type 0
+IsInRange (Trace n) = n ≤ 10000
+IsInRange (Show a b) = (a ≤ b) × (b ≤ 1023)
+IsInRange command = Unit {0}

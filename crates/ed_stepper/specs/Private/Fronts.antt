@@ -1,0 +1,28 @@
+-- What the code takes from the front of a text.
+use Rattle.std.specs.Prelude.{◌≡◌, ℕ, ◌-◌, ◌==◌, ◌&&◌, not, [], ◌∷◌, Option, Some, None, nat_lt, slice_index, if◌then◌else◌}
+use Rattle.std.specs.Borrow.{Bor}
+use Rattle.std.specs.List.{position_or_len}
+use Rattle.ed_syntax.specs.Lines.{Text}
+use Rattle.ed_syntax.specs.Parts.{is_blank}
+use Rattle.ed_stepper.specs.Commands.{parts_of}
+
+-- how many blanks a text begins with
+abbrev pub blanks : Text → ℕ
+blanks = position_or_len (λ b. not (is_blank b))
+
+-- how many bytes that are no blanks
+abbrev pub solid : Text → ℕ
+solid = position_or_len is_blank
+
+-- how many bytes that are no line feeds
+abbrev pub unended : Text → ℕ
+unended = position_or_len (λ b. b == 10)
+
+-- where the first line stops that ends at a line feed: a carriage return just before it belongs to the end
+abbrev pub stop_of : Text → ℕ → ℕ
+stop_of text end = if nat_lt 0 end && slice_index text (end - 1) == 13 then end - 1 else end
+
+-- the first part, and what stands behind it; or no part
+abbrev pub TakesPart : Text → Option (Bor Text × Bor Text) → Type 0
+TakesPart line (Some p) = parts_of line ≡ p.0.now ∷ parts_of p.1.now
+TakesPart line None = parts_of line ≡ []

@@ -1,0 +1,24 @@
+-- What a session keeps.
+use Rattle.std.specs.Prelude.{ℕ, ◌≡◌, ◌+◌, ◌^◌, ◌≤◌, List}
+use Rattle.std.specs.List.{All}
+use Rattle.ed_machine.specs.State.{State}
+use Rattle.ed_machine.specs.Steps.{IsFree, state_after}
+use Rattle.ed_stepper.specs.declared.marks.Mark.{Mark}
+
+-- a copy of the machine is that of the state after so many orders
+pub record IsMark (start : State) (m : Mark) : Type 0 where
+  pub is : m.machine ≡ state_after m.done start
+  pub count : m.machine.orders ≤ start.orders + m.done
+
+-- each copy is
+abbrev pub AreMarks : State → List Mark → Type 0
+AreMarks start marks = All (λ m. IsMark start m) marks
+
+-- the machine stands so many orders after the start, each of them was obeyed, and each copy is one
+pub record IsSession (start : State) (machine : State) (marks : List Mark) (limit done : ℕ) : Type 0 where
+  pub is : machine ≡ state_after done start
+  pub count : machine.orders ≤ start.orders + done
+  pub free : IsFree done start
+  pub kept : AreMarks start marks
+  pub most : done ≤ limit
+  pub room : start.orders + limit ≤ 2 ^ 63

@@ -1,0 +1,146 @@
+-- What a script does, and what it writes (this project's own rules).
+use Rattle.std.specs.Prelude.{ℕ, ◌≡◌, ◌+◌, ◌-◌, ◌==◌, ◌||◌, Bool, false, nat_lt, if◌then◌else◌, List, [], ◌∷◌, ◌++◌, codes, map}
+use Rattle.std.specs.Prelude.{Option, Some, None, is_none, unwrap_or, Result, Ok, Err, Vec}
+use Rattle.std.specs.List.{range_with_len}
+use Rattle.std.specs.Fmt.{decimal}
+use Rattle.std.specs.declared.alloc.Global.{Global}
+use Rattle.ed_syntax.specs.Lines.{Text, lines_of}
+use Rattle.ed_report.specs.Listings.{listing}
+use Rattle.ed_report.specs.Traces.{functions_after, trace_text}
+use Rattle.ed_stepper.specs.MoveEnds.{move_end, move_orders}
+use Rattle.ed_stepper.specs.Sessions.{Stand, left, stands_at}
+use Rattle.ed_stepper.specs.Commands.{command_of}
+use Rattle.ed_stepper.specs.declared.commands.Command.{Command}
+use Rattle.ed_stepper.specs.declared.commands.Command.TheVariants.{Nothing, Move, Back, Trace, Show, Accumulator, Multiplier, LastPrinted}
+use Rattle.ed_stepper.specs.declared.moves.Aim.{Aim}
+use Rattle.ed_stepper.specs.declared.moves.Aim.TheVariants.{Orders}
+use Rattle.ed_stepper.specs.declared.moves.MoveEnd.{MoveEnd}
+use Rattle.ed_stepper.specs.declared.moves.MoveEnd.TheVariants as ends
+use Rattle.ed_stepper.specs.declared.script.ScriptFault.{ScriptFault}
+use Rattle.ed_stepper.specs.declared.script.ScriptFault.TheVariants.{BadCommand, BackTooFar, Memory}
+
+-- ---- lines that are none
+
+-- the number of the first line that is none, from number k on; line 1001 is none
+abbrev pub bad_from : ℕ → List Text → Option ℕ
+bad_from k [] = None
+bad_from k (line ∷ rest) = if k == 1001 || is_none (command_of line) then Some k else bad_from (k + 1) rest
+
+-- the least line of a script that is none; lines count from 1
+abbrev pub bad_line : Text → Option ℕ
+bad_line script = bad_from 1 (lines_of script)
+
+-- ---- what a line writes
+
+-- the word of an end
+abbrev pub end_word : MoveEnd → Text
+end_word ends.Went = codes "went"
+end_word ends.There = codes "there"
+end_word ends.Entered = codes "entered"
+end_word ends.Back = codes "back"
+end_word ends.Stopped = codes "stopped"
+end_word ends.NoOrder = codes "no order"
+end_word ends.NoTape = codes "no tape"
+end_word ends.Limit = codes "limit"
+
+-- `at A after K: W`, A the counter, K the orders done and W the end of a move
+abbrev pub move_line : ℕ → ℕ → MoveEnd → Text
+move_line at done end = codes "at " ++ decimal at ++ codes " after " ++ decimal done ++ codes ": " ++ end_word end ++ 10 ∷ []
+
+-- where a move on leaves a session
+abbrev pub moved : Aim → Stand → Stand
+moved aim s = record s { done = s.done + move_orders aim (left s) (stands_at s) }
+
+-- where a move back leaves it
+abbrev pub moved_back : ℕ → Stand → Stand
+moved_back n s = record s { done = s.done - n }
+
+-- the line of a move that leaves a session here
+abbrev pub line_at : Stand → MoveEnd → Text
+line_at t end = move_line (stands_at t).counter t.done end
+
+-- the line of a move on
+abbrev pub line_of_move : Aim → Stand → Text
+line_of_move aim s = line_at (moved aim s) (move_end aim (left s) (stands_at s))
+
+-- the functions of the orders of a move by n orders
+abbrev pub traced : ℕ → Stand → List ℕ
+traced n s = functions_after (move_orders (Orders n) (left s) (stands_at s)) (stands_at s)
+
+-- the last printed code, if there is one
+abbrev pub last_word : Option ℕ → Text
+last_word (Some code) = decimal code
+last_word None = codes "none"
+
+-- what a line writes
+abbrev pub writes : Command → Stand → Text
+writes Nothing s = []
+writes (Move aim) s = line_of_move aim s
+writes (Back n) s = line_at (moved_back n s) ends.Back
+writes (Trace n) s = trace_text (traced n s) ++ line_of_move (Orders n) s
+writes (Show a b) s = listing (stands_at s).store (range_with_len a (b + 1 - a))
+writes Accumulator s = codes "acc " ++ decimal (stands_at s).acc ++ 10 ∷ []
+writes Multiplier s = codes "mult " ++ decimal (stands_at s).multiplier ++ 10 ∷ []
+writes LastPrinted s = codes "last " ++ last_word (stands_at s).last ++ 10 ∷ []
+
+-- where a line leaves a session
+abbrev pub after : Command → Stand → Stand
+after (Move aim) s = moved aim s
+after (Back n) s = moved_back n s
+after (Trace n) s = moved (Orders n) s
+after command s = s
+
+-- whether a line goes back by more orders than are done
+abbrev pub is_too_far : Command → Stand → Bool
+is_too_far (Back n) s = nat_lt s.done n
+is_too_far command s = false
+
+-- ---- whole scripts
+
+-- a line that went back too far, and the orders that were done
+pub record TooFar : Type 0 where
+  pub line : ℕ
+  pub done : ℕ
+
+-- what lines wrote, where they left the session, and which went back too far, if one did
+pub record Played : Type 0 where
+  pub text : Text
+  pub stand : Stand
+  pub refused : Option TooFar
+
+-- these behind a text
+abbrev pub behind : Text → Played → Played
+behind text p = record p { text = text ++ p.text }
+
+-- the lines from number k on, one after the other, until one goes back too far
+abbrev pub play : ℕ → List Command → Stand → Played
+play k [] s = record { text = []; stand = s; refused = None }
+play k (command ∷ rest) s = if is_too_far command s
+    then record { text = []; stand = s; refused = Some (record { line = k; done = s.done }) }
+    else behind (writes command s) (play (k + 1) rest (after command s))
+
+-- the commands of a script
+abbrev pub commands_of : Text → List Command
+commands_of script = map (λ line. unwrap_or (command_of line) Nothing) (lines_of script)
+
+-- a script from its first line on
+abbrev pub played : Text → Stand → Played
+played script s = play 1 (commands_of script) s
+
+-- the first of the lines have run, each whole, and the session stands where they left it
+pub record LeftBy (script : Text) (s t : Stand) : Type 0 where
+  pub ran : List Command
+  pub rest : List Command
+  pub whole : commands_of script ≡ ran ++ rest
+  pub none_refused : (play 1 ran s).refused ≡ None
+  pub stand : (play 1 ran s).stand ≡ t
+
+-- what a script answers, and where it leaves the session: its text; its least line that is none, before any line runs; the
+-- line that went back too far, behind those before it; or want of memory
+abbrev pub ScriptEnds : Text → Stand → Result (Vec ℕ Global) ScriptFault → Stand → Type 0
+ScriptEnds script s (Ok text) t =
+    (bad_line script ≡ None) × (played script s ≡ record { text = text.items; stand = t; refused = None })
+ScriptEnds script s (Err (BadCommand line)) t = (bad_line script ≡ Some line) × (t ≡ s)
+ScriptEnds script s (Err (BackTooFar line done)) t =
+    (bad_line script ≡ None) × ((played script s).refused ≡ Some (record { line = line; done = done })) × ((played script s).stand ≡ t)
+ScriptEnds script s (Err Memory) t = (bad_line script ≡ None) × LeftBy script s t

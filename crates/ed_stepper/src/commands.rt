@@ -1,0 +1,169 @@
+//! The lines of a script, each a command.
+ghost use Rattle.std.specs.Prelude.{◌≡◌, ◌≤◌, IfSome, option_map};
+ghost use Rattle.ed_stepper.specs.Commands.{command_of, digits, number, of_one, of_three, of_two, shown, window};
+ghost use Rattle.ed_stepper.specs.Private.Commands.{IsInRange};
+
+use crate::fronts::first_part;
+use crate::moves::Aim;
+
+/// What a line of a script does.
+#[derive(Clone, Copy)]
+pub(crate) enum Command {
+    /// Nothing.
+    Nothing,
+    /// Moves the session on.
+    Move(Aim),
+    /// Moves it back by so many orders.
+    Back(u32),
+    /// Moves it on by so many orders, and writes the letter of each.
+    Trace(u32),
+    /// Lists the words from one location to another.
+    Show(u16, u16),
+    /// Shows the accumulator.
+    Accumulator,
+    /// Shows the multiplier.
+    Multiplier,
+    /// Shows the last printed code.
+    LastPrinted,
+}
+
+/// The command of a line, if it is one.
+pub(crate) fn command_of(line: &[u8]) -> Option<Command>
+    ensures is { result ≡ command_of line.now }
+    ensures in_range { IfSome result IsInRange }
+{
+    let Some((word, rest)) = first_part(line) else {
+        return Some(Command::Nothing);
+    };
+    let Some((second, rest)) = first_part(rest) else {
+        return of_one(word);
+    };
+    let Some((third, rest)) = first_part(rest) else {
+        return of_two(word, second);
+    };
+    match first_part(rest) {
+        Some(_) => None,
+        None => of_three(word, second, third),
+    }
+}
+
+/// The command of one part.
+fn of_one(word: &[u8]) -> Option<Command>
+    ensures is { result ≡ of_one word.now }
+    ensures in_range { IfSome result IsInRange }
+{
+    match word {
+        b"entry" => Some(Command::Move(Aim::Entry)),
+        _ => None,
+    }
+}
+
+/// The command of two parts.
+fn of_two(word: &[u8], argument: &[u8]) -> Option<Command>
+    ensures is { result ≡ of_two word.now argument.now }
+    ensures in_range { IfSome result IsInRange }
+{
+    match word {
+        b"go" => go(argument),
+        b"to" => to(argument),
+        b"back" => number(0, 100_000_000, argument).map(Command::Back),
+        b"trace" => number(1, 10_000, argument).map(Command::Trace),
+        b"show" => shown(argument),
+        _ => None,
+    }
+}
+
+/// The command `go`.
+fn go(argument: &[u8]) -> Option<Command>
+    ensures is { result ≡ option_map (λ n. Command.Move (Aim.Orders n)) (number 1 100000000 argument.now) }
+    ensures in_range { IfSome result IsInRange }
+{
+    let orders = number(1, 100_000_000, argument)?;
+    Some(Command::Move(Aim::Orders(u64::from(orders))))
+}
+
+/// The command `to`.
+fn to(argument: &[u8]) -> Option<Command>
+    ensures is { result ≡ option_map (λ n. Command.Move (Aim.Address n)) (number 0 1023 argument.now) }
+    ensures in_range { IfSome result IsInRange }
+{
+    let address = address(argument)?;
+    Some(Command::Move(Aim::Address(address)))
+}
+
+/// The command `show` with one part.
+fn shown(argument: &[u8]) -> Option<Command>
+    ensures is { result ≡ shown argument.now }
+    ensures in_range { IfSome result IsInRange }
+{
+    match argument {
+        b"acc" => Some(Command::Accumulator),
+        b"mult" => Some(Command::Multiplier),
+        b"last" => Some(Command::LastPrinted),
+        _ => window(address(argument), address(argument)),
+    }
+}
+
+/// The command of three parts.
+fn of_three(word: &[u8], first: &[u8], last: &[u8]) -> Option<Command>
+    ensures is { result ≡ of_three word.now first.now last.now }
+    ensures in_range { IfSome result IsInRange }
+{
+    match word {
+        b"show" => window(address(first), address(last)),
+        _ => None,
+    }
+}
+
+/// The command that lists the words from one location to another.
+fn window(first: Option<u16>, last: Option<u16>) -> Option<Command>
+    requires { IfSome last (λ n. n ≤ 1023) }
+    ensures is { result ≡ window first last }
+    ensures in_range { IfSome result IsInRange }
+{
+    let first = first?;
+    let last = last?;
+    if first <= last {
+        Some(Command::Show(first, last))
+    } else {
+        None
+    }
+}
+
+/// The address of a location.
+fn address(part: &[u8]) -> Option<u16>
+    ensures is { result ≡ number 0 1023 part.now }
+    ensures within { IfSome result (λ n. n ≤ 1023) }
+{
+    Some(number(0, 1023, part)? as u16)
+}
+
+/// A number of 1 to 9 digits from `least` to `most`.
+fn number(least: u32, most: u32, part: &[u8]) -> Option<u32>
+    ensures is { result ≡ number least most part.now }
+    ensures within { IfSome result (λ n. n ≤ most) }
+{
+    let number = digits(part)?;
+    if least <= number && number <= most {
+        Some(number)
+    } else {
+        None
+    }
+}
+
+/// The number of 1 to 9 digits.
+fn digits(part: &[u8]) -> Option<u32>
+    ensures { result ≡ digits part.now }
+{
+    if part.is_empty() || part.len() > 9 {
+        return None;
+    }
+    let mut value: u32 = 0;
+    for byte in part {
+        if !byte.is_ascii_digit() {
+            return None;
+        }
+        value = 10 * value + u32::from(*byte - b'0');
+    }
+    Some(value)
+}

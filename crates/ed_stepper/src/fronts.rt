@@ -1,0 +1,77 @@
+//! What stands at the front of a text: its first line, and the first part of a line.
+ghost use Rattle.std.specs.Prelude.{◌≡◌, ◌==◌, ◌∷◌, ◌≤◌, ◌<◌, not, IfSome, length, position};
+ghost use Rattle.ed_syntax.specs.Lines.{lines_of};
+ghost use Rattle.ed_syntax.specs.Parts.{is_blank};
+ghost use Rattle.ed_stepper.specs.Inputs.{behind_line};
+ghost use Rattle.ed_stepper.specs.Private.Fronts.{TakesPart, stop_of};
+
+/// The first line without its end, and what stands behind it.
+pub(crate) fn first_line<'a>(text: &'a [u8]) -> (&'a [u8], &'a [u8])
+    requires { 0 < length text.now }
+    ensures lines { lines_of text.entry.now ≡ result.0.now ∷ lines_of result.1.now }
+    ensures behind { result.1.now ≡ behind_line text.entry.now }
+    ensures shorter { length result.1.now < length text.entry.now }
+{
+    match first_end(text) {
+        Some(end) => (&text[..stop_of(text, end)], &text[end + 1..]),
+        None => (text, &[]),
+    }
+}
+
+/// Where the first line stops, which ends at a line feed.
+fn stop_of(text: &[u8], end: usize) -> usize
+    requires { end ≤ length text.now }
+    ensures is { result ≡ stop_of text.now end }
+    ensures within { result ≤ end }
+{
+    if end > 0 && text[end - 1] == b'\r' {
+        end - 1
+    } else {
+        end
+    }
+}
+
+/// The first part of a line, and what stands behind it.
+pub(crate) fn first_part<'a>(line: &'a [u8]) -> Option<(&'a [u8], &'a [u8])>
+    ensures { TakesPart line.entry.now result }
+{
+    match first_solid(line) {
+        Some(start) => {
+            let rest = &line[start..];
+            let end = first_blank(rest).unwrap_or(rest.len());
+            Some(rest.split_at(end))
+        }
+        None => None,
+    }
+}
+
+/// The place of the first line feed.
+fn first_end(text: &[u8]) -> Option<usize>
+    ensures is { result ≡ position (λ b. b == 10) text.now }
+    ensures within { IfSome result (λ i. i < length text.now) }
+{
+    text.iter().position(|byte| *byte == b'\n')
+}
+
+/// The place of the first blank.
+fn first_blank(text: &[u8]) -> Option<usize>
+    ensures is { result ≡ position is_blank text.now }
+    ensures within { IfSome result (λ i. i < length text.now) }
+{
+    text.iter().position(|byte| is_blank(*byte))
+}
+
+/// The place of the first byte that is no blank.
+fn first_solid(text: &[u8]) -> Option<usize>
+    ensures is { result ≡ position (λ b. not (is_blank b)) text.now }
+    ensures within { IfSome result (λ i. i < length text.now) }
+{
+    text.iter().position(|byte| !is_blank(*byte))
+}
+
+/// Whether a byte is a blank or a tab.
+fn is_blank(byte: u8) -> bool
+    ensures { result ≡ is_blank byte }
+{
+    byte == b' ' || byte == b'\t'
+}

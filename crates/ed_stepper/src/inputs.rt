@@ -1,0 +1,74 @@
+//! The input of the command that runs a script: the script, a line that divides, and a text.
+ghost use Rattle.std.specs.Prelude.{◌≡◌, ◌≤◌, ◌<◌, length};
+ghost use Rattle.ed_syntax.specs.Lines.{lines_of};
+ghost use Rattle.ed_stepper.specs.Inputs.{Divides, announced};
+
+use crate::fronts::first_line;
+
+/// What stands behind the line that divides an input.
+#[derive(Clone, Copy, Debug, PartialEq, Eq)]
+pub enum TextKind {
+    /// The text of a tape, behind the line `tape`.
+    Tape,
+    /// A source, behind the line `source`.
+    Source,
+}
+
+/// An input, divided by its first line that is `tape` or `source`.
+#[derive(Clone, Copy)]
+pub struct Divided<'a> {
+    /// The lines before it.
+    pub script: &'a [u8],
+    /// What it announces.
+    pub kind: TextKind,
+    /// The bytes behind it.
+    pub text: &'a [u8],
+}
+
+/// Divides an input by its first line that is exactly `tape` or `source`; none where no line is.
+pub fn divide<'a>(input: &'a [u8]) -> Option<Divided<'a>>
+    ensures { Divides input.entry.now result }
+{
+    let mut rest = input;
+    while !rest.is_empty() {
+        let (line, after) = first_line(rest);
+        if let Some(kind) = announced(line) {
+            return Some(Divided {
+                script: &input[..input.len() - rest.len()],
+                kind,
+                text: after,
+            });
+        }
+        rest = after;
+    }
+    None
+}
+
+/// What a line announces, if it divides.
+fn announced(line: &[u8]) -> Option<TextKind>
+    ensures { result ≡ announced line.now }
+{
+    if line == b"tape".as_slice() {
+        Some(TextKind::Tape)
+    } else if line == b"source".as_slice() {
+        Some(TextKind::Source)
+    } else {
+        None
+    }
+}
+
+/// How many lines a text has; a last line without an end counts where it isn't empty.
+pub fn line_count(text: &[u8]) -> u32
+    requires { length text.now ≤ 1000000000 }
+    ensures is { result ≡ length (lines_of text.now) }
+    ensures few { result ≤ length text.now }
+{
+    let mut rest = text;
+    let mut count = 0;
+    while !rest.is_empty() {
+        let (_, after) = first_line(rest);
+        count += 1;
+        rest = after;
+    }
+    count
+}

@@ -1,0 +1,161 @@
+//! One line of a script: what it does to a session, and what it writes.
+ghost use Rattle.std.specs.Prelude.{◌≡◌, ◌≤◌, ◌+◌, ◌-◌, ◌++◌, ◌∷◌, [], IfErr, IfOk, codes};
+ghost use Rattle.std.specs.Fmt.{decimal};
+ghost use Rattle.std.specs.List.{range_with_len};
+ghost use Rattle.ed_report.specs.Listings.{listing};
+ghost use Rattle.ed_stepper.specs.Scripts.{end_word, last_word, move_line};
+ghost use Rattle.ed_stepper.specs.Sessions.{stands_at};
+ghost use Rattle.ed_stepper.specs.Private.Commands.{IsInRange};
+ghost use Rattle.ed_stepper.specs.Private.Lines.{LineEnds};
+
+use crate::commands::Command;
+use crate::moves::{Aim, BackFault, MoveEnd, Moved};
+use crate::session::Session;
+use ed_machine::Machine;
+use ed_report::{bytes_of_text, listing, trace_text};
+use ed_words::NoMemory;
+use std::alloc::{AllocError, Global};
+
+/// Does what a line says, and answers what it writes.
+pub(crate) fn carry_out(
+    alloc: Global,
+    session: &mut Session,
+    command: Command,
+) -> Result<Vec<u8>, BackFault>
+    requires { IsInRange command }
+    ensures { LineEnds command session.old result session.new }
+{
+    match command {
+        Command::Nothing => Ok(Vec::new(alloc)),
+        Command::Move(aim) => move_on(alloc, session, aim),
+        Command::Back(orders) => move_back(alloc, session, orders),
+        Command::Trace(orders) => trace(alloc, session, orders),
+        Command::Show(first, last) => or_memory(show(alloc, session.machine(), first, last)),
+        Command::Accumulator => or_memory(accumulator(alloc, session.machine())),
+        Command::Multiplier => or_memory(multiplier(alloc, session.machine())),
+        Command::LastPrinted => or_memory(last_printed(alloc, session.machine())),
+    }
+}
+
+/// A text, or want of memory.
+fn or_memory(text: Result<Vec<u8>, NoMemory>) -> Result<Vec<u8>, BackFault>
+    ensures is { IfOk result (λ bytes. text ≡ Ok bytes) }
+    ensures memory { IfErr result (λ fault. fault ≡ BackFault.Memory) }
+{
+    match text {
+        Ok(bytes) => Ok(bytes),
+        Err(_) => Err(BackFault::Memory),
+    }
+}
+
+/// Moves on, and tells of the move.
+fn move_on(alloc: Global, session: &mut Session, aim: Aim) -> Result<Vec<u8>, BackFault>
+    ensures { LineEnds (Command.Move aim) session.old result session.new }
+{
+    let moved = session.advance(aim);
+    or_memory(move_line(alloc, moved))
+}
+
+/// Moves back, and tells of the move.
+fn move_back(alloc: Global, session: &mut Session, orders: u32) -> Result<Vec<u8>, BackFault>
+    ensures { LineEnds (Command.Back orders) session.old result session.new }
+{
+    match session.back(u64::from(orders)) {
+        Ok(moved) => or_memory(move_line(alloc, moved)),
+        Err(fault) => Err(fault),
+    }
+}
+
+/// Moves on, writes the letter of each order obeyed, and tells of the move.
+fn trace(alloc: Global, session: &mut Session, orders: u32) -> Result<Vec<u8>, BackFault>
+    requires { orders ≤ 10000 }
+    ensures { LineEnds (Command.Trace orders) session.old result session.new }
+{
+    let Ok(traced) = session.trace(u64::from(orders)) else {
+        return Err(BackFault::Memory);
+    };
+    let Ok(mut text) = trace_text(alloc, &traced.functions) else {
+        return Err(BackFault::Memory);
+    };
+    let Ok(line) = move_line(alloc, traced.moved) else {
+        return Err(BackFault::Memory);
+    };
+    match text.extend_from_slice(&line) {
+        Ok(()) => Ok(text),
+        Err(_) => Err(BackFault::Memory),
+    }
+}
+
+/// The line that tells of a move.
+fn move_line(alloc: Global, moved: Moved) -> Result<Vec<u8>, NoMemory>
+    ensures { IfOk result (λ bytes. bytes.items ≡ move_line moved.at moved.done moved.end) }
+{
+    let Moved { at, done, end } = moved;
+    let word = end_word(end);
+    bytes_of_text(format!(in alloc; "at {at} after {done}: {word}\n"))
+}
+
+/// The word of an end.
+fn end_word(end: MoveEnd) -> &'static str
+    ensures { result.now ≡ end_word end }
+{
+    match end {
+        MoveEnd::Went => "went",
+        MoveEnd::There => "there",
+        MoveEnd::Entered => "entered",
+        MoveEnd::Back => "back",
+        MoveEnd::Stopped => "stopped",
+        MoveEnd::NoOrder => "no order",
+        MoveEnd::NoTape => "no tape",
+        MoveEnd::Limit => "limit",
+    }
+}
+
+/// The words from one location to another, a line each.
+fn show(alloc: Global, machine: &Machine, first: u16, last: u16) -> Result<Vec<u8>, NoMemory>
+    requires order { first ≤ last }
+    requires within { last ≤ 1023 }
+    ensures { IfOk result (λ bytes. bytes.items ≡ listing machine.now.store (range_with_len first (last + 1 - first))) }
+{
+    let Ok(places) = places(alloc, first, last) else {
+        return Err(NoMemory);
+    };
+    listing(alloc, machine.store(), &places)
+}
+
+/// The locations from one to another.
+fn places(alloc: Global, first: u16, last: u16) -> Result<Vec<u16>, AllocError>
+    requires { last ≤ 1023 }
+    ensures { IfOk result (λ places. places.items ≡ range_with_len first (last + 1 - first)) }
+{
+    (first..last + 1).collect(alloc)
+}
+
+/// The accumulator in units of 2^-70.
+fn accumulator(alloc: Global, machine: &Machine) -> Result<Vec<u8>, NoMemory>
+    ensures { IfOk result (λ bytes. bytes.items ≡ codes "acc " ++ decimal machine.now.acc ++ 10 ∷ []) }
+{
+    let number = machine.acc();
+    bytes_of_text(format!(in alloc; "acc {number}\n"))
+}
+
+/// The multiplier in units of 2^-34.
+fn multiplier(alloc: Global, machine: &Machine) -> Result<Vec<u8>, NoMemory>
+    ensures { IfOk result (λ bytes. bytes.items ≡ codes "mult " ++ decimal machine.now.multiplier ++ 10 ∷ []) }
+{
+    let number = machine.multiplier().value();
+    bytes_of_text(format!(in alloc; "mult {number}\n"))
+}
+
+/// The last printed code.
+fn last_printed(alloc: Global, machine: &Machine) -> Result<Vec<u8>, NoMemory>
+    ensures { IfOk result (λ bytes. bytes.items ≡ codes "last " ++ last_word machine.now.last ++ 10 ∷ []) }
+{
+    match machine.last_printed() {
+        Some(code) => {
+            let number = code.value();
+            bytes_of_text(format!(in alloc; "last {number}\n"))
+        }
+        None => bytes_of_text(format!(in alloc; "last none\n")),
+    }
+}

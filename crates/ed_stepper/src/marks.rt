@@ -1,0 +1,68 @@
+ghost use Rattle.std.specs.Prelude.{◌≡◌, ◌+◌, ◌≤◌, ◌<◌, ◌^◌, IfOk, IfSome, length, slice_index_or};
+ghost use Rattle.ed_machine.specs.State.{State};
+ghost use Rattle.ed_machine.specs.Steps.{state_after};
+ghost use Rattle.ed_stepper.specs.Private.Kept.{AreMarks};
+ghost use Rattle.ed_stepper.specs.declared.marks.Mark.{Mark};
+
+use ed_machine::Machine;
+use ed_words::NoMemory;
+
+/// How many orders lie between two copies.
+pub(crate) const BETWEEN: u64 = 65_536;
+
+/// A copy of the machine, and how many orders were done then.
+#[derive(Drop)]
+pub(crate) struct Mark {
+    pub(crate) done: u64,
+    pub(crate) machine: Machine,
+}
+
+/// Keeps a copy of the machine where the orders done are a multiple of 65,536 and past the last copy. One for which no
+/// memory is found is left out.
+pub(crate) fn keep(marks: &mut Vec<Mark>, machine: &Machine, done: u64)
+    ensures { (start : State) → machine.now ≡ state_after done start → machine.now.orders ≤ start.orders + done
+        → AreMarks start marks.old.items → AreMarks start marks.new.items }
+{
+    if done % BETWEEN != 0 || !is_past(marks, done) {
+        return;
+    }
+    if let Ok(machine) = machine.copy() {
+        let _ = marks.push(Mark { done, machine });
+    }
+}
+
+/// Whether a number of orders is past the last copy.
+fn is_past(marks: &[Mark], done: u64) -> bool {
+    match marks.last() {
+        Some(mark) => mark.done < done,
+        None => true,
+    }
+}
+
+/// The place of the latest copy that was made after `aim` orders or before.
+pub(crate) fn latest(marks: &[Mark], aim: u64) -> Option<usize>
+    ensures { IfSome result (λ i. (i < length marks.now) × ((d : Mark) → (slice_index_or marks.now i d).done ≤ aim)) }
+{
+    let mut found: Option<usize> = None;
+    let mut done = 0;
+    for (place, mark) in marks.iter().enumerate() {
+        if mark.done <= aim && done <= mark.done {
+            found = Some(place);
+            done = mark.done;
+        }
+    }
+    found
+}
+
+/// The machine so many orders after another.
+pub(crate) fn replay(machine: &Machine, orders: u64) -> Result<Machine, NoMemory>
+    requires { machine.now.orders + orders ≤ 2 ^ 63 }
+    ensures is { IfOk result (λ m. m ≡ state_after orders machine.now) }
+    ensures count { IfOk result (λ m. m.orders ≤ machine.now.orders + orders) }
+{
+    let mut copy = machine.copy()?;
+    for done in 0..orders {
+        let _ = copy.step();
+    }
+    Ok(copy)
+}

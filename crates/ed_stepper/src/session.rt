@@ -1,0 +1,203 @@
+ghost use Rattle.std.specs.Prelude.{◌≡◌, ◌+◌, ◌-◌, ◌≤◌, ◌^◌, ◌++◌, IfOk, MatchResult, vec_len, vec_capacity};
+ghost use Rattle.ed_words.specs.Words.{function_of};
+ghost use Rattle.ed_machine.specs.OrderTable.{next_word};
+ghost use Rattle.ed_machine.specs.Steps.{IsFree, state_after};
+ghost use Rattle.ed_report.specs.Traces.{functions_after};
+ghost use Rattle.ed_stepper.specs.Sessions.{Moves, MovesBack, stands_at};
+ghost use Rattle.ed_stepper.specs.declared.moves.Aim.TheVariants.{Address, Entry, Orders};
+
+use crate::marks::{Mark, latest, replay};
+use crate::moves::{Aim, BackFault, MoveEnd, Moved};
+use crate::walk::walk;
+use ed_codes::Code;
+use ed_machine::Machine;
+use ed_words::NoMemory;
+use std::alloc::Global;
+use std::marker::Model;
+
+/// A machine that is moved on from a start by its orders, and back.
+///
+/// A copy of the machine is kept each time the orders done reach a multiple of 65,536, so that a way back is short. A copy
+/// for which no memory is found is left out.
+#[derive(Drop)]
+pub struct Session {
+    alloc: Global,
+    start: Machine,
+    machine: Machine,
+    marks: Vec<Mark>,
+    limit: u64,
+    done: u64,
+}
+
+impl Model for Session {
+    ghost use Rattle.ed_stepper.specs.Sessions.{Stand};
+    ghost use Rattle.ed_stepper.specs.Private.Kept.{IsSession};
+
+    ghost Value = { Stand };
+
+    ghost view = { λ s. record { start = s.start; limit = s.limit; done = s.done } };
+
+    ghost invariant = { λ s. IsSession s.start s.machine s.marks.items s.limit s.done };
+}
+
+/// Why no session was made.
+#[derive(Drop)]
+pub enum NewFault {
+    /// No memory was found for a copy of the machine, which comes back as it was.
+    Memory(Machine),
+}
+
+/// The functions of the orders that a move obeyed.
+#[derive(Drop)]
+pub struct Traced {
+    /// The function of each order, in the order in which they were obeyed.
+    pub functions: Vec<Code>,
+    /// The move.
+    pub moved: Moved,
+}
+
+impl Session {
+    /// A session that begins with the machine as it is, and in which so many orders may be done.
+    pub fn new(alloc: Global, machine: Machine, limit: u64) -> Result<Session, NewFault>
+        requires { machine.orders + limit ≤ 2 ^ 63 }
+        ensures { MatchResult result (λ s. s ≡ record { start = machine; limit = limit; done = 0 }) (λ e. e ≡ NewFault.Memory machine) }
+    {
+        match machine.copy() {
+            Ok(start) => Ok(Session {
+                alloc,
+                start,
+                machine,
+                marks: Vec::new(alloc),
+                limit,
+                done: 0,
+            }),
+            Err(_) => Err(NewFault::Memory(machine)),
+        }
+    }
+
+    /// The machine as it stands: so many orders after the start, each of them obeyed.
+    pub fn machine(&self) -> &Machine
+        ensures is { result.now ≡ stands_at self.now }
+        ensures free { IsFree self.now.done self.now.start }
+        ensures most { self.now.done ≤ self.now.limit }
+    {
+        &self.machine
+    }
+
+    /// Obeys n orders, or fewer where another end comes before.
+    pub fn go(&mut self, n: u64) -> Moved
+        ensures { Moves (Orders n) self.old self.new result }
+    {
+        self.advance(Aim::Orders(n))
+    }
+
+    /// Obeys orders, at least one, until the counter is the address or another end comes.
+    pub fn to(&mut self, address: u16) -> Moved
+        ensures { Moves (Address address) self.old self.new result }
+    {
+        self.advance(Aim::Address(address))
+    }
+
+    /// Obeys orders until an E order at 22 has jumped or another end comes.
+    pub fn until_entry(&mut self) -> Moved
+        ensures { Moves Entry self.old self.new result }
+    {
+        self.advance(Aim::Entry)
+    }
+
+    /// Obeys n orders as `go` does, and tells the function of each order obeyed. A refusal changes nothing.
+    pub fn trace(&mut self, n: u64) -> Result<Traced, NoMemory>
+        requires { n ≤ 10000 }
+        ensures { MatchResult result
+            (λ t. Moves (Orders n) self.old self.new t.moved
+            × (t.functions.items ≡ functions_after (t.moved.done - self.old.done) (stands_at self.old)))
+            (λ _. self.new ≡ self.old) }
+    {
+        let Ok(mut functions) = Vec::with_capacity(self.alloc, n as usize) else {
+            return Err(NoMemory);
+        };
+        let Ok(mut machine) = self.machine.copy() else {
+            return Err(NoMemory);
+        };
+        let before = self.done;
+        let moved = self.go(n);
+        list_functions(&mut machine, moved.done - before, &mut functions);
+        Ok(Traced { functions, moved })
+    }
+
+    /// Goes back by n orders: `TooFar` exactly where fewer were done. A refusal changes nothing.
+    pub fn back(&mut self, n: u64) -> Result<Moved, BackFault>
+        ensures { MovesBack n self.old result self.new }
+    {
+        if self.done < n {
+            return Err(BackFault::TooFar { done: self.done });
+        }
+        let done = self.done - n;
+        match self.again(done) {
+            Ok(machine) => {
+                self.machine = machine;
+                self.done = done;
+                Ok(Moved {
+                    at: self.machine.counter(),
+                    done,
+                    end: MoveEnd::Back,
+                })
+            }
+            Err(_) => Err(BackFault::Memory),
+        }
+    }
+
+    /// Moves on until an end comes.
+    pub(crate) fn advance(&mut self, aim: Aim) -> Moved
+        ensures { Moves aim self.old self.new result }
+    {
+        let walked = walk(
+            &mut self.machine,
+            &mut self.marks,
+            self.done,
+            aim,
+            self.limit - self.done,
+        );
+        self.done += walked.orders;
+        Moved {
+            at: self.machine.counter(),
+            done: self.done,
+            end: walked.end,
+        }
+    }
+
+    /// The machine after so many orders, which were done before: from the latest copy on that is not past them.
+    fn again(&self, done: u64) -> Result<Machine, NoMemory>
+        requires { done ≤ self.now.done }
+        ensures is { IfOk result (λ m. m ≡ state_after done self.now.start) }
+        ensures count { IfOk result (λ m. m.orders ≤ self.now.start.orders + done) }
+    {
+        match latest(&self.marks, done) {
+            Some(place) => {
+                let mark = &self.marks[place];
+                replay(&mark.machine, done - mark.done)
+            }
+            None => replay(&self.start, done),
+        }
+    }
+}
+
+/// Obeys orders and lists the function of each.
+fn list_functions(machine: &mut Machine, count: u64, functions: &mut Vec<Code>)
+    requires orders { machine.old.orders + count ≤ 2 ^ 63 }
+    requires room { vec_len functions.old + count ≤ vec_capacity functions.old }
+    ensures { functions.new.items ≡ functions.old.items ++ functions_after count machine.old }
+{
+    for done in 0..count {
+        functions.push_reserved(next_function(machine));
+        let _ = machine.step();
+    }
+}
+
+/// The function of the order at the counter.
+fn next_function(machine: &Machine) -> Code
+    ensures { result ≡ function_of (next_word machine.now) }
+{
+    let function = machine.word(machine.counter()).order().function;
+    Code::new(function).unwrap()
+}

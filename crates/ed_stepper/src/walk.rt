@@ -1,0 +1,124 @@
+ghost use Rattle.std.specs.Prelude.{◌≡◌, ◌+◌, ◌≤◌, ◌^◌, ℕ, Some, None, suc, true, false, if◌then◌else◌};
+ghost use Rattle.ed_initial.specs.Load.{enters};
+ghost use Rattle.ed_machine.specs.State.{State};
+ghost use Rattle.ed_machine.specs.Steps.{IsFree, state_after};
+ghost use Rattle.ed_stepper.specs.MoveEnds.{Ends, own_end};
+ghost use Rattle.ed_stepper.specs.declared.moves.MoveEnd.TheVariants.{Went};
+ghost use Rattle.ed_stepper.specs.Private.Kept.{AreMarks};
+
+use crate::marks::{Mark, keep};
+use crate::moves::{Aim, MoveEnd};
+use ed_machine::{Machine, Turn};
+use ed_orders::{Kind, kind_of};
+
+/// How many orders a walk obeyed, and how it ended.
+#[derive(Clone, Copy)]
+pub(crate) struct Walked {
+    pub(crate) orders: u64,
+    pub(crate) end: MoveEnd,
+}
+
+/// Obeys orders until a move ends, `left` of them at the most, where `from` are done before. Copies of the machine are
+/// kept on the way.
+pub(crate) fn walk(
+    machine: &mut Machine,
+    marks: &mut Vec<Mark>,
+    from: u64,
+    aim: Aim,
+    left: u64,
+) -> Walked
+    requires orders { machine.old.orders + left ≤ 2 ^ 63 }
+    requires done { from + left ≤ 2 ^ 63 }
+    ensures ends { Ends aim left machine.old result.orders result.end }
+    ensures state { machine.new ≡ state_after result.orders machine.old }
+    ensures free { IsFree result.orders machine.old }
+    ensures most { result.orders ≤ left }
+    ensures count { machine.new.orders ≤ machine.old.orders + result.orders }
+    ensures marks { (start : State) → machine.old ≡ state_after from start → machine.old.orders ≤ start.orders + from
+        → AreMarks start marks.old.items → AreMarks start marks.new.items }
+{
+    if is_at_once(&aim) {
+        return Walked {
+            orders: 0,
+            end: MoveEnd::Went,
+        };
+    }
+    for orders in 0..left {
+        let entered = is_entering(machine);
+        match machine.step() {
+            Turn::Went | Turn::Printed(_) => {}
+            Turn::Stopped => {
+                return Walked {
+                    orders: orders + 1,
+                    end: MoveEnd::Stopped,
+                };
+            }
+            Turn::NoOrder(_) => {
+                return Walked {
+                    orders,
+                    end: MoveEnd::NoOrder,
+                };
+            }
+            Turn::NoTape => {
+                return Walked {
+                    orders,
+                    end: MoveEnd::NoTape,
+                };
+            }
+        }
+        keep(marks, machine, from + orders + 1);
+        if let Some(end) = own_end(&aim, orders + 1, machine.counter(), entered) {
+            return Walked {
+                orders: orders + 1,
+                end,
+            };
+        }
+    }
+    Walked {
+        orders: left,
+        end: MoveEnd::Limit,
+    }
+}
+
+/// Whether a move has come to its own end before any order: one that goes for no order.
+fn is_at_once(aim: &Aim) -> bool
+    ensures yes { result ≡ true → (s : State) → own_end aim.now 0 s ≡ Some Went }
+    ensures no { result ≡ false → (s : State) → own_end aim.now 0 s ≡ None }
+{
+    match aim {
+        Aim::Orders(n) => *n == 0,
+        Aim::Address(_) | Aim::Entry => false,
+    }
+}
+
+/// A move's own end after at least one order, if it has come.
+fn own_end(aim: &Aim, orders: u64, at: u16, entered: bool) -> Option<MoveEnd>
+    ensures { (s : State) (k : ℕ) → orders ≡ suc k → at ≡ (state_after orders s).counter → entered ≡ enters (state_after k s)
+        → result ≡ own_end aim.now orders s }
+{
+    match aim {
+        Aim::Orders(n) => when(*n == orders, MoveEnd::Went),
+        Aim::Address(a) => when(*a == at, MoveEnd::There),
+        Aim::Entry => when(entered, MoveEnd::Entered),
+    }
+}
+
+/// The end where a test holds, and else none.
+fn when(test: bool, end: MoveEnd) -> Option<MoveEnd>
+    ensures { result ≡ (if test then Some end else None) }
+{
+    if test { Some(end) } else { None }
+}
+
+/// Whether the order at 22 is the next one, is an E order and jumps.
+fn is_entering(machine: &Machine) -> bool
+    ensures { result ≡ enters machine.now }
+{
+    if machine.counter() != 22 {
+        return false;
+    }
+    match kind_of(machine.word(22).order().function) {
+        Some(Kind::E) => machine.acc() < 1 << 70,
+        _ => false,
+    }
+}

@@ -1,0 +1,110 @@
+//! The run whose trace is written.
+ghost use Rattle.std.specs.Prelude.{◌≡◌, ◌+◌, ◌≤◌, ◌^◌, [], vec_capacity, MatchResult, IfErr};
+ghost use Rattle.ed_io.specs.Causes.{HasCause, Rose};
+ghost use Rattle.ed_trace.specs.Traces.{TraceEnds};
+ghost use Rattle.ed_trace.specs.Private.Growth.{Breaks, Traces, is_stop, letter};
+
+use crate::sheet::{end_line, put};
+use ed_codes::{Code, byte_of};
+use ed_io::{Failed, Sink};
+use ed_machine::{Ending, Machine, Turn};
+use std::alloc::Global;
+
+/// How many letters a line has.
+const LETTERS: u64 = 50;
+
+/// Why a trace was not written whole.
+#[derive(Clone, Copy, Debug, PartialEq, Eq)]
+pub enum TraceFault {
+    /// A write failed.
+    Failed,
+    /// No memory was found for a line.
+    Memory,
+}
+
+/// Runs the machine, with a paper that never is full, and writes the letter or sign of the function of each order, 50 to a
+/// line, each line as it is full. The last line, where it has a letter, ends with a line feed.
+///
+/// `Failed` comes only where the sink's count of faults rose; a first part of the trace was written then. With `Memory`
+/// nothing was.
+pub fn trace_run<K: Sink>(
+    alloc: Global,
+    machine: &mut Machine,
+    limit: u64,
+    resumes: u32,
+    out: &mut K,
+) -> Result<Ending, TraceFault>
+    requires { machine.old.orders + limit ≤ 2 ^ 63 }
+    ensures trace { TraceEnds limit resumes machine.old result machine.new (K.held out.old) (K.held out.new) }
+    ensures later { K.faults out.old ≤ K.faults out.new }
+    ensures cause { IfErr result (λ e. e ≡ TraceFault.Failed → Rose (K.faults out.old) (K.faults out.new)) }
+{
+    let Ok(mut line) = Vec::with_capacity(alloc, 51) else {
+        return Err(TraceFault::Memory);
+    };
+    match trace_orders(machine, limit, resumes, &mut line, out) {
+        Ok(ending) => match end_line(out, &mut line) {
+            Ok(()) => Ok(ending),
+            Err(Failed) => Err(TraceFault::Failed),
+        },
+        Err(Failed) => Err(TraceFault::Failed),
+    }
+}
+
+/// Obeys orders as a run does whose paper never is full, and writes the letter of each; the last line, where it is not
+/// full, stays in `line`.
+fn trace_orders<K: Sink>(
+    machine: &mut Machine,
+    limit: u64,
+    resumes: u32,
+    line: &mut Vec<u8>,
+    out: &mut K,
+) -> Result<Ending, Failed>
+    requires orders { machine.old.orders + limit ≤ 2 ^ 63 }
+    requires line { line.old.items ≡ [] }
+    requires room { 51 ≤ vec_capacity line.old }
+    ensures trace { MatchResult result
+        (λ ending. Traces limit resumes machine.old ending machine.new (K.held out.old) (K.held out.new) line.new.items)
+        (λ _. Breaks limit resumes machine.old (K.held out.old) (K.held out.new)) }
+    ensures room { vec_capacity line.new ≡ vec_capacity line.old }
+    ensures cause { HasCause (K.faults out.old) (K.faults out.new) result }
+{
+    let mut stops = 0u32;
+    for done in 0..limit {
+        let letter = next_letter(machine);
+        let turn = machine.step();
+        match turn {
+            Turn::NoOrder(_) => return Ok(Ending::NoOrder),
+            Turn::NoTape => return Ok(Ending::NoTape),
+            Turn::Went | Turn::Printed(_) | Turn::Stopped => {}
+        }
+        if let Err(Failed) = put(out, line, letter, (done + 1) % LETTERS == 0) {
+            return Err(Failed);
+        }
+        if is_stop(&turn) {
+            if stops == resumes {
+                return Ok(Ending::Stopped);
+            }
+            stops += 1;
+        }
+    }
+    Ok(Ending::Limit)
+}
+
+/// The letter of the order at the counter.
+fn next_letter(machine: &Machine) -> u8
+    ensures { result ≡ letter machine.now }
+{
+    let function = machine.word(machine.counter()).order().function;
+    byte_of(Code::new(function).unwrap(), false)
+}
+
+/// Whether a turn is a stop.
+fn is_stop(turn: &Turn) -> bool
+    ensures { result ≡ is_stop turn.now }
+{
+    match turn {
+        Turn::Stopped => true,
+        Turn::Went | Turn::Printed(_) | Turn::NoOrder(_) | Turn::NoTape => false,
+    }
+}
