@@ -15,7 +15,8 @@ use Rattle.ed_notation.proofs.Laws.{reading_is_rules}
 use Rattle.ed_report.specs.Notes.{rule_line, tape_fault_line}
 use Rattle.ed_command.specs.declared.command.Settings.{Settings}
 use Rattle.ed_top.specs.Outcome.{Outcome, done, refused}
-use Rattle.ed_top.specs.Output.{IsChecked, entry_line, first_note}
+use Rattle.ed_top.specs.Entries.{entry_line}
+use Rattle.ed_top.specs.Output.{IsChecked, first_note}
 use Rattle.ed_top.specs.Private.Stages.{Gives}
 use Rattle.ed_top.specs.declared.reply.Reply.{Reply}
 use Rattle.ed_top.proofs.Replies.{HasOne}

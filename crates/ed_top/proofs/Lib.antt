@@ -1,7 +1,11 @@
 pub mod Replies
 pub mod Checks
+mod FirstChecks
+mod FirstEntries
+mod Keeping
 mod FromEntry
 mod Sources
+mod CallRuns
 pub mod OneOutcome
 pub mod Endings
-pub mod Headlines
+mod Writing

@@ -1,20 +1,26 @@
 -- Whatever the words are, each input has one outcome.
 use Rattle.std.proofs.Common.{◌≡◌, ◌⊎◌, inl, inr, ◌∙◌, ◌≤◌, ◌<◌, ℕ, List, refl, sym, arith, length}
-use Rattle.std.specs.Prelude.{Option, Some, None}
+use Rattle.std.specs.Prelude.{Some, None}
 use Rattle.ed_codes.specs.Reading.{Reading, rows, no_row, open_comment, reading}
 use Rattle.ed_words.specs.declared.size.Size.{Size}
 use Rattle.ed_syntax.specs.declared.program.Line.{Line}
 use Rattle.ed_syntax.specs.Sources.{program_of}
+use Rattle.ed_report.specs.Catalogue.{library_text}
 use Rattle.ed_command.specs.declared.command.Settings.{Settings}
-use Rattle.ed_command.specs.declared.command.Window.{Window}
 use Rattle.ed_command.specs.declared.command.Action.{Action}
-use Rattle.ed_command.specs.declared.command.Action.TheVariants.{Tape, CheckTape, Run, Punch, Listing}
-use Rattle.ed_top.specs.Outcome.{Text, Outcome, too_long_outcome, usage_outcome}
+use Rattle.ed_command.specs.declared.command.Action.TheVariants.{Tape, CheckTape, Run, Punch, Listing, Call as CallOf, Library}
+use Rattle.ed_command.specs.declared.command.Action.TheVariants.{Tape1, CheckTape1, Step, Trace}
+use Rattle.ed_top.specs.Outcome.{Text, Outcome, done, too_long_outcome, usage_outcome}
+use Rattle.ed_top.specs.Calls.{call_outcome}
 use Rattle.ed_top.specs.Answer.{HasOneOutcome, OfReading, WithinLimit, exactly, known, of_input, of_rows}
-use Rattle.ed_top.specs.Output.{EachLineHasOneOutcome, answer, run_answer, tape_answer, tape_outcome}
+use Rattle.ed_top.specs.FirstOrders.{tape1_outcome}
+use Rattle.ed_top.specs.Output.{EachLineHasOneOutcome, answer, tape_outcome}
 use Rattle.ed_top.specs.Sources.{listing_outcome, of_program, of_source, punch_outcome, run_outcome}
+use Rattle.ed_top.specs.Scripts.{step_outcome}
+use Rattle.ed_top.specs.Traces.{trace_outcome}
 use Rattle.ed_top.proofs.Replies.{HasOne, exactly_one, text_outcome}
 use Rattle.ed_top.proofs.Checks.{checked_one}
+use Rattle.ed_top.proofs.FirstChecks.{checked1_one}
 
 known_once : (due : Outcome) → HasOneOutcome (known due)
 known_once due = record { some = λ input. (due, refl); once = λ input o other p q. sym p ∙ q }
@@ -68,20 +74,18 @@ source_once z accepted = input_once (λ input. of_program z accepted (program_of
 
 -- ---- every line of words
 
-tape_once : (window : Option Window) (s : Settings) → HasOneOutcome (tape_answer window s)
-tape_once None s = rows_once _ (exactly_one (tape_outcome s))
-tape_once (Some window) s = known_once usage_outcome
-
-run_once : (window : Option Window) (s : Settings) → HasOneOutcome (run_answer window s)
-run_once None s = source_once s.size (run_outcome s)
-run_once (Some window) s = known_once usage_outcome
-
 pub answer_once : (action : Action) (s : Settings) → HasOneOutcome (answer action s)
-answer_once Tape s = tape_once s.post_mortem s
+answer_once Tape s = rows_once _ (exactly_one (tape_outcome s))
 answer_once CheckTape s = rows_once _ (checked_one s)
-answer_once Run s = run_once s.post_mortem s
+answer_once Run s = source_once s.size (run_outcome s)
 answer_once Punch s = source_once s.size punch_outcome
 answer_once Listing s = source_once s.size listing_outcome
+answer_once (CallOf call) s = known_once (call_outcome call s)
+answer_once Library s = known_once (done library_text)
+answer_once Tape1 s = rows_once _ (exactly_one (tape1_outcome s))
+answer_once CheckTape1 s = rows_once _ checked1_one
+answer_once Step s = input_once (step_outcome s)
+answer_once Trace s = rows_once _ (exactly_one (trace_outcome s))
 answer_once _ s = known_once usage_outcome
 
 pub line_once : EachLineHasOneOutcome

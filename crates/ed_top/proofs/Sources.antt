@@ -24,25 +24,23 @@ use Rattle.ed_link.specs.declared.linked.Linked.{Linked}
 use Rattle.ed_link.specs.declared.linked.Placed.{Placed}
 use Rattle.ed_link.proofs.Lengths.{empty_length, put_all_length}
 use Rattle.ed_loads.specs.EntryState.{entry_state, entry_store}
-use Rattle.ed_loads.proofs.Entries.{each_enters}
+use Rattle.ed_loads.proofs.Entries.{each_source}
 use Rattle.ed_report.specs.Listings.{listing}
 use Rattle.ed_report.specs.Notes.{ending_line, source_fault_line}
 use Rattle.ed_command.specs.declared.command.Settings.{Settings}
+use Rattle.ed_command.specs.declared.command.Window.{Window}
 use Rattle.ed_top.specs.Outcome.{Text, Outcome, done, refused}
 use Rattle.ed_top.specs.Answer.{exactly, of_input}
-use Rattle.ed_top.specs.Runs.{ran_outcome, status_of}
+use Rattle.ed_top.specs.Runs.{post_mortem_codes, ran_outcome, status_of, with_post_mortem}
 use Rattle.ed_top.specs.Sources.{listing_outcome, of_program, of_source, punch_outcome, unless_faulty}
-use Rattle.ed_top.specs.Headline.{AcceptedRuns}
+use Rattle.ed_top.specs.Headline.{Headline}
 use Rattle.ed_top.specs.Private.Stages.{Gives, LinksSource, Replies}
 use Rattle.ed_top.specs.declared.reply.Reply.{Reply}
 use Rattle.ed_top.proofs.FromEntry.{runs_from_entry}
 
 -- ---- what is made of a source
 
-ok_same : (a b : List Line) → ◌≡◌ {A = Result (List Line) Fault} (Ok a) (Ok b) → a ≡ b
-ok_same a b h = cc
-
-accepted_is : (z : Size) (accepted : List Line → Outcome) (program : Result (List Line) Fault) (lines : List Line) → program ≡ Ok lines
+pub accepted_is : (z : Size) (accepted : List Line → Outcome) (program : Result (List Line) Fault) (lines : List Line) → program ≡ Ok lines
     → fault z lines ≡ None → of_program z accepted program ≡ accepted lines
 accepted_is z accepted program lines p f =
     ap (of_program z accepted) p ∙ ap (λ (x : Option SourceFault). unless_faulty x (accepted lines)) f
@@ -53,10 +51,8 @@ pub refused_form : (z : Size) (program : Result (List Line) Fault) (f : SourceFa
     → LinksSource z program (Err r)
 refused_form z program f (Err e) is gives told = tt
 refused_form z program Memory (Ok reply) is gives told = absurd (told refl)
-refused_form z program (At line cause) (Ok reply) is gives told = record {
-  gives = λ accepted. subst (Gives reply) (sym (ap (of_program z accepted) is)) gives;
-  faulty = λ lines p n. let bad = sym is ∙ p in absurd (cc);
-}
+refused_form z program (At line cause) (Ok reply) is gives told =
+    λ accepted. subst (Gives reply) (sym (ap (of_program z accepted) is)) gives
 
 -- a fault of meaning
 pub refused_meaning : (z : Size) (program : Result (List Line) Fault) (lines : List Line) (f : SourceFault) (r : Result Reply NoMemory)
@@ -64,13 +60,9 @@ pub refused_meaning : (z : Size) (program : Result (List Line) Fault) (lines : L
     → IfOk r (λ reply. f ≢ Memory) → LinksSource z program (Err r)
 refused_meaning z program lines f (Err e) p is gives told = tt
 refused_meaning z program lines Memory (Ok reply) p is gives told = absurd (told refl)
-refused_meaning z program lines (At line cause) (Ok reply) p is gives told = record {
-  gives = λ accepted. subst (Gives reply)
-      (sym (ap (of_program z accepted) p ∙ ap (λ (x : Option SourceFault). unless_faulty x (accepted lines)) is)) gives;
-  faulty = λ others q n.
-      let same : lines ≡ others = ok_same lines others (sym p ∙ q) in
-      let bad : ◌≡◌ {A = Option SourceFault} (Some (At line cause)) None = sym is ∙ ap (fault z) same ∙ n in absurd (cc);
-}
+refused_meaning z program lines (At line cause) (Ok reply) p is gives told =
+    λ accepted. subst (Gives reply)
+    (sym (ap (of_program z accepted) p ∙ ap (λ (x : Option SourceFault). unless_faulty x (accepted lines)) is)) gives
 
 -- ---- the outcome of an input
 
@@ -93,34 +85,26 @@ linked_replied z accepted input k (Ok reply) l g = (
 -- of another
 pub source_refused : (z : Size) (accepted : List Line → Outcome) (input : Text) (r : Result Reply NoMemory)
     → LinksSource z (program_of input) (Err r) → Replies (of_source z accepted) input r
-source_refused z accepted input (Ok reply) l = (of_program z accepted (program_of input), refl, l.gives accepted)
+source_refused z accepted input (Ok reply) l = (of_program z accepted (program_of input), refl, l accepted)
 source_refused z accepted input (Err e) l = (of_program z accepted (program_of input), refl, tt)
 
 -- ---- that it is run from its entry
 
-pub if_ok : {P : Type 0} (r : Result Reply NoMemory) → P → IfOk r (λ reply. P)
-if_ok (Ok reply) p = p
-if_ok (Err e) p = tt
-
-pub accepted_runs : (s : Settings) (input : Text) (k : Linked) → LinksSource s.size (program_of input) (Ok k) → AcceptedRuns s input
-accepted_runs s input k l = λ lines p n.
-    let same : l.0 ≡ lines = ok_same l.0 lines (sym l.1 ∙ p) in
-    runs_from_entry s lines (each_enters s.size lines k (subst (λ (x : List Line). IsLinked s.size x k) same l.2))
-
-pub refused_runs : (s : Settings) (input : Text) (r : Result Reply NoMemory) → LinksSource s.size (program_of input) (Err r)
-    → IfOk r (λ reply. AcceptedRuns s input)
-refused_runs s input (Ok reply) l = λ lines p n. absurd (l.faulty lines p n)
-refused_runs s input (Err e) l = tt
+pub headline : Headline
+headline s source lines p f = runs_from_entry s lines (each_source s.size source lines p f)
 
 -- ---- the reply of a run
 
-pub ran_gives : (before note : Text) (r : RunEnd) (ending : Ending) (state : State) (codes : List ℕ) (reply : Reply) → ending ≡ r.ending
-    → state ≡ r.state → codes ≡ r.codes → note ≡ before ++ ending_line ending state
-    → Gives reply (record { out = paper codes; note = note; status = status_of ending }) → Gives reply (ran_outcome before r)
-ran_gives before note r ending state codes reply e s c n gives =
+pub ran_gives : (window : Option Window) (before note : Text) (r : RunEnd) (ending : Ending) (state : State) (codes : List ℕ) (reply : Reply)
+    → ending ≡ r.ending → state ≡ r.state → codes ≡ r.codes → note ≡ before ++ ending_line ending state
+    → Gives reply (record { out = paper (codes ++ post_mortem_codes window state); note = note; status = status_of ending })
+    → Gives reply (ran_outcome before (with_post_mortem window r))
+ran_gives window before note r ending state codes reply e s c n gives =
     let line : note ≡ before ++ ending_line r.ending r.state = n ∙ (λ i. before ++ ending_line (e i) (s i)) in
-    let same : ◌≡◌ {A = Outcome} (record { out = paper codes; note = note; status = status_of ending }) (ran_outcome before r) =
-    λ i. record { out = paper (c i); note = line i; status = status_of (e i) } in
+    let same : ◌≡◌ {A = Outcome}
+    (record { out = paper (codes ++ post_mortem_codes window state); note = note; status = status_of ending })
+    (ran_outcome before (with_post_mortem window r)) =
+    λ i. record { out = paper (c i ++ post_mortem_codes window (s i)); note = line i; status = status_of (e i) } in
     subst (Gives reply) same gives
 
 -- ---- the tape and the listing

@@ -1,8 +1,14 @@
 pub mod Outcome
 pub mod Answer
 pub mod Runs
+pub mod Traces
 pub mod Sources
-pub mod Output
+pub mod Scripts
+pub mod Entries
+pub mod FirstOrders
+pub mod FirstEntry
 pub mod Headline
+pub mod Calls
+pub mod Output
 pub mod Clause
 pub mod Private

@@ -18,7 +18,7 @@ use Rattle.ed_report.specs.Notes.{entered, source_fault_line}
 use Rattle.ed_command.specs.declared.command.Settings.{Settings}
 use Rattle.ed_top.specs.Outcome.{Text, Outcome, done, refused}
 use Rattle.ed_top.specs.Answer.{Answer, exactly, of_input}
-use Rattle.ed_top.specs.Runs.{ran_outcome, run_of}
+use Rattle.ed_top.specs.Runs.{ran_outcome, run_of, with_post_mortem}
 
 -- an outcome, or the refusal for a fault where there is one
 abbrev pub unless_faulty : Option SourceFault → Outcome → Outcome
@@ -40,9 +40,10 @@ of_source z accepted = of_input (exactly (λ input. of_program z accepted (progr
 abbrev pub entered_before : List Line → State → Text
 entered_before lines s = if nat_le (cost lines) s.orders then entered (entry_of lines) (cost lines) else []
 
--- `run`: the run of the punched tape
+-- `run`: the run of the punched tape, with the post-mortem that is asked for
 abbrev pub run_outcome : Settings → List Line → Outcome
-run_outcome s lines = let r = run_of s (tape lines) in ran_outcome (entered_before lines r.state) r
+run_outcome s lines =
+    let r = run_of s (tape lines) in ran_outcome (entered_before lines r.state) (with_post_mortem s.post_mortem r)
 
 -- `punch`: the text of the punched tape
 abbrev pub punch_outcome : List Line → Outcome

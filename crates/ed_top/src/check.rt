@@ -3,7 +3,8 @@ ghost use Rattle.ed_report.specs.Notes.{tape_fault_line};
 ghost use Rattle.ed_top.specs.Answer.{of_rows};
 ghost use Rattle.ed_top.specs.Private.Stages.{Gives, Replies};
 ghost use Rattle.ed_top.specs.Outcome.{Outcome, done, refused};
-ghost use Rattle.ed_top.specs.Output.{IsChecked, entry_line};
+ghost use Rattle.ed_top.specs.Entries.{entry_line};
+ghost use Rattle.ed_top.specs.Output.{IsChecked};
 
 use crate::reply::{Reply, refusal};
 use crate::rows::rows_of;
@@ -49,7 +50,7 @@ fn fault_reply(alloc: Global, fault: &TapeFault) -> Result<Reply, NoMemory>
 }
 
 /// The reply that tells of a well-formed tape.
-fn entry_reply(alloc: Global, entry: u16, orders: u64, rows: usize) -> Result<Reply, NoMemory>
+pub fn entry_reply(alloc: Global, entry: u16, orders: u64, rows: usize) -> Result<Reply, NoMemory>
     ensures { IfOk result (λ reply. Gives reply (done (entry_line entry orders rows))) }
 {
     match format!(in alloc; "entry {entry} after {orders} orders, {rows} rows\n") {

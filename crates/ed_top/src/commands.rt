@@ -1,15 +1,20 @@
-ghost use Rattle.std.specs.Prelude.{◌≡◌, ◌≤◌, IfOk, length};
+ghost use Rattle.std.specs.Prelude.{◌≡◌, ◌≤◌, length};
+ghost use Rattle.ed_command.specs.Ranges.{IsInRange};
 ghost use Rattle.ed_top.specs.Answer.{reads_input};
 ghost use Rattle.ed_top.specs.Clause.{device};
-ghost use Rattle.ed_top.specs.Headline.{RunsAccepted};
 ghost use Rattle.ed_top.specs.Private.Stages.{Carried};
 ghost use Rattle.ed_top.specs.Output.{answer};
 
+use crate::calls::call_routine;
 use crate::check::check_tape;
 use crate::devices::{Rest, Stop, write};
+use crate::first_orders::{check_tape1, tape1};
+use crate::library::list_library;
 use crate::reply::usage;
 use crate::source::{list, punch, run};
+use crate::step::step;
 use crate::tape::tape;
+use crate::trace::trace;
 use ed_command::{Action, Command};
 use ed_io::Sink;
 use std::alloc::Global;
@@ -19,8 +24,8 @@ pub fn reads_input(command: Command) -> bool
     ensures { result ≡ reads_input (answer command.action command.settings) }
 {
     match command.action {
-        Action::Tape | Action::Run => command.settings.post_mortem.is_none(),
-        Action::CheckTape | Action::Punch | Action::Listing => true,
+        Action::Tape | Action::CheckTape | Action::Run | Action::Punch | Action::Listing => true,
+        Action::Tape1 | Action::CheckTape1 | Action::Trace | Action::Step => true,
         _ => false,
     }
 }
@@ -32,9 +37,9 @@ pub fn carry_out<K: Sink>(
     input: &[u8],
     out: &mut K,
 ) -> Result<Rest, Stop>
-    requires { length input.now ≤ 262144 }
-    ensures is { Carried (answer command.action command.settings) input.now (device K.held K.faults out.old out.new) result }
-    ensures headline { IfOk result (λ _. RunsAccepted command.action command.settings input.now) }
+    requires few { length input.now ≤ 262144 }
+    requires ranges { IsInRange command }
+    ensures { Carried (answer command.action command.settings) input.now (device K.held K.faults out.old out.new) result }
 {
     let settings = command.settings;
     match command.action {
@@ -43,6 +48,12 @@ pub fn carry_out<K: Sink>(
         Action::Run => write(out, run(alloc, settings, input)),
         Action::Punch => write(out, punch(alloc, settings, input)),
         Action::Listing => write(out, list(alloc, settings, input)),
+        Action::Call(call) => write(out, call_routine(alloc, settings, call)),
+        Action::Library => write(out, list_library(alloc)),
+        Action::Tape1 => write(out, tape1(alloc, settings, input)),
+        Action::CheckTape1 => write(out, check_tape1(alloc, input)),
+        Action::Step => write(out, step(alloc, settings, input)),
+        Action::Trace => trace(alloc, settings, input, out),
         _ => write(out, usage(alloc)),
     }
 }

@@ -6,14 +6,20 @@
 //! accepted source is run from the state that its linked program means. Stands on all crates below.
 #![tactic(auto)]
 
+mod calls;
 mod check;
 mod commands;
 mod devices;
+mod first_orders;
+mod library;
 mod program;
 mod reply;
 mod rows;
 mod running;
 mod source;
+mod step;
 mod tape;
+mod trace;
 
+pub use ed_sources::call_source;
 pub use program::edsac;

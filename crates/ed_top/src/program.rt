@@ -1,6 +1,9 @@
 ghost use Rattle.std.specs.Prelude.{Some, map, string_bytes};
 ghost use Rattle.ed_command.specs.Lines.{line_of};
+ghost use Rattle.ed_command.specs.Ranges.{IsInRange};
+ghost use Rattle.ed_top.specs.Calls.{EachCallRuns};
 ghost use Rattle.ed_top.specs.Clause.{ProgramEnded, device};
+ghost use Rattle.ed_top.specs.FirstEntry.{EachProgramRunsFrom31};
 ghost use Rattle.ed_top.specs.Headline.{Headline};
 ghost use Rattle.ed_top.specs.Output.{EachLineHasOneOutcome, answer, output};
 
@@ -34,7 +37,9 @@ pub fn edsac<S: Source, K: Sink, L: Sink>(
         (device K.held K.faults out.old out.new)
         (device L.held L.faults note.old note.new) result }
     ensures law { EachLineHasOneOutcome }
-    ensures headline { Headline (line_of (map string_bytes words.now)) (S.left source.old) result }
+    ensures headline { Headline }
+    ensures calls { EachCallRuns }
+    ensures first_orders { EachProgramRunsFrom31 }
 {
     match read_words(alloc, words) {
         Ok(command) => run_command(alloc, command, source, out, note),
@@ -51,11 +56,11 @@ fn run_command<S: Source, K: Sink, L: Sink>(
     out: &mut K,
     note: &mut L,
 ) -> u8
-    ensures ended { ProgramEnded (answer command.action command.settings)
+    requires { IsInRange command }
+    ensures { ProgramEnded (answer command.action command.settings)
         (device S.left S.faults source.old source.new)
         (device K.held K.faults out.old out.new)
         (device L.held L.faults note.old note.new) result }
-    ensures headline { Headline (Some command) (S.left source.old) result }
 {
     let input = match input_of(alloc, reads_input(command), source) {
         Ok(input) => input,

@@ -5,14 +5,13 @@ ghost use Rattle.ed_syntax.specs.Sources.{program_of};
 ghost use Rattle.ed_link.specs.Answers.{IsLinked};
 ghost use Rattle.ed_link.specs.Tapes.{after_text, cost};
 ghost use Rattle.ed_report.specs.Notes.{ending_line, entered, source_fault_line};
-ghost use Rattle.ed_top.specs.Headline.{AcceptedRuns};
+ghost use Rattle.ed_command.specs.Ranges.{AreSettingsInRange};
 ghost use Rattle.ed_top.specs.Outcome.{done, refused};
-ghost use Rattle.ed_top.specs.Output.{run_answer};
 ghost use Rattle.ed_top.specs.Private.Stages.{Gives, LinksSource, Replies};
 ghost use Rattle.ed_top.specs.Sources.{listing_outcome, of_source, punch_outcome, run_outcome};
 
-use crate::reply::{Reply, refusal, usage};
-use crate::running::{Ran, ran_reply, run_rows};
+use crate::reply::{Reply, refusal};
+use crate::running::{Ran, post_mortem_reply, run_rows};
 use ed_command::Settings;
 use ed_link::{Linked, Placed, link};
 use ed_loads::enter;
@@ -21,21 +20,10 @@ use ed_syntax::{SourceFault, parse};
 use ed_words::{NoMemory, Size};
 use std::alloc::Global;
 
-/// `run`: the run of a source's tape. With a window to print after the run it has no answer yet.
+/// `run`: the run of a source's tape.
 pub fn run(alloc: Global, settings: Settings, input: &[u8]) -> Result<Reply, NoMemory>
-    ensures is { Replies (run_answer settings.post_mortem settings) input.now result }
-    ensures headline { IfOk result (λ _. settings.post_mortem ≡ None → AcceptedRuns settings input.now) }
-{
-    match settings.post_mortem {
-        None => run_source(alloc, settings, input),
-        Some(_) => usage(alloc),
-    }
-}
-
-/// Runs the tape of a source, or refuses the source.
-fn run_source(alloc: Global, settings: Settings, input: &[u8]) -> Result<Reply, NoMemory>
-    ensures is { Replies (of_source settings.size (run_outcome settings)) input.now result }
-    ensures headline { IfOk result (λ _. AcceptedRuns settings input.now) }
+    requires { AreSettingsInRange settings }
+    ensures { Replies (of_source settings.size (run_outcome settings)) input.now result }
 {
     match linked_of(alloc, settings.size, input) {
         Ok(linked) => run_linked(alloc, settings, &linked),
@@ -64,7 +52,7 @@ pub fn list(alloc: Global, settings: Settings, input: &[u8]) -> Result<Reply, No
 }
 
 /// The linked program of a source, or the reply that refuses the source.
-fn linked_of(alloc: Global, size: Size, input: &[u8]) -> Result<Linked, Result<Reply, NoMemory>>
+pub fn linked_of(alloc: Global, size: Size, input: &[u8]) -> Result<Linked, Result<Reply, NoMemory>>
     ensures { LinksSource size (program_of input.now) result }
 {
     let program = match parse(alloc, input) {
@@ -90,12 +78,13 @@ fn source_refusal(alloc: Global, fault: &SourceFault) -> Result<Reply, NoMemory>
 
 /// Runs the tape of a linked program.
 fn run_linked(alloc: Global, settings: Settings, linked: &Linked) -> Result<Reply, NoMemory>
+    requires { AreSettingsInRange settings }
     ensures { IfOk result (λ reply. (lines : List Line) → IsLinked settings.size lines linked.now → Gives reply (run_outcome settings lines)) }
 {
     let cost = enter(alloc, settings.size, linked)?.orders_done();
     let ran = run_rows(alloc, settings, linked.rows()?)?;
     let note = note_of(alloc, linked.entry, cost, &ran)?;
-    ran_reply(alloc, &ran, note)
+    post_mortem_reply(alloc, settings, ran, note)
 }
 
 /// The line of a run's ending, behind the entry and its cost where these orders were obeyed.
@@ -111,7 +100,7 @@ fn note_of(alloc: Global, entry: u16, cost: u64, ran: &Ran) -> Result<Vec<u8>, N
 }
 
 /// The reply that is finished, with a text on `out`.
-fn done(alloc: Global, out: Vec<u8>) -> Reply
+pub fn done(alloc: Global, out: Vec<u8>) -> Reply
     ensures { Gives result (done out.items) }
 {
     Reply {

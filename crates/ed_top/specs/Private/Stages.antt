@@ -10,7 +10,6 @@ use Rattle.ed_run.specs.Run.{RunEnd}
 use Rattle.ed_syntax.specs.declared.program.Line.{Line}
 use Rattle.ed_syntax.specs.Sources.{Fault}
 use Rattle.ed_link.specs.Answers.{IsLinked}
-use Rattle.ed_link.specs.Faults.{fault}
 use Rattle.ed_link.specs.declared.linked.Linked.{Linked}
 use Rattle.ed_io.specs.Bytes.{IsAtEnd, Loses}
 use Rattle.ed_report.specs.Notes.{text_fault_line}
@@ -69,15 +68,11 @@ pub record IsRan (r : RunEnd) (ran : Ran) : Type 0 where
   pub state_is : ran.machine ≡ r.state
   pub codes_are : ran.paper.codes ≡ r.codes
 
--- a reply refuses a source for its fault, whatever would be answered where it is accepted
-pub record RefusesSource (z : Size) (program : Result (List Line) Fault) (reply : Reply) : Type 0 where
-  pub gives : (accepted : List Line → Outcome) → Gives reply (of_program z accepted program)
-  pub faulty : (lines : List Line) → program ≡ Ok lines → fault z lines ≡ None → ⊥
-
--- the linked program of a source without a fault, or the reply that refuses the source
+-- the linked program of a source without a fault, or the reply that refuses the source, whatever would be answered where it
+-- is accepted
 abbrev pub LinksSource : Size → Result (List Line) Fault → Result Linked (Result Reply NoMemory) → Type 0
 LinksSource z program (Ok k) = (lines : List Line) × (program ≡ Ok lines) × IsLinked z lines k
-LinksSource z program (Err (Ok reply)) = RefusesSource z program reply
+LinksSource z program (Err (Ok reply)) = (accepted : List Line → Outcome) → Gives reply (of_program z accepted program)
 LinksSource z program (Err (Err e)) = Unit {0}
 
 -- all that is due on `out` is there, and the line and the status are still to tell

@@ -11,7 +11,10 @@ use Rattle.ed_top.specs.Output.{output}
 use Rattle.ed_top.specs.Clause.{Device, ProgramEnded, device}
 use Rattle.ed_io.proofs.Calls.{gains_none}
 use Rattle.ed_top.proofs.Endings.{none_due, with_due, with_no_memory}
+use Rattle.ed_top.proofs.CallRuns.{each_call_runs}
+use Rattle.ed_top.proofs.FirstEntries.{runs_from_31}
 use Rattle.ed_top.proofs.OneOutcome.{line_once}
+use Rattle.ed_top.proofs.Sources.{headline}
 use Rattle.ed_top.proofs.program.edsac.Goals as goal
 
 -- a program that ended as a line wants ended as the words want which are that line
@@ -27,7 +30,7 @@ usage_line words Memory is answers = absurd (cc)
 
 pub returns-in-Ok-clause-ended : goal.returns-in-Ok-clause-ended
 returns-in-Ok-clause-ended g c =
-    by_line (line_of (map string_bytes c.args.words.now)) (Some c.in-Ok.command) _ _ _ _ c.in-Ok.ensures.is c.run_command.ensures.ended
+    by_line (line_of (map string_bytes c.args.words.now)) (Some c.in-Ok.command) _ _ _ _ c.in-Ok.ensures.is c.run_command.ensures
 
 pub returns-in-Err-Usage-clause-ended : goal.returns-in-Err-Usage-clause-ended
 returns-in-Err-Usage-clause-ended g c =
@@ -53,3 +56,30 @@ returns-in-Err-Usage-clause-law g c = line_once
 
 pub returns-in-Err-Memory-clause-law : goal.returns-in-Err-Memory-clause-law
 returns-in-Err-Memory-clause-law g c = line_once
+
+pub returns-in-Ok-clause-headline : goal.returns-in-Ok-clause-headline
+returns-in-Ok-clause-headline g c = headline
+
+pub returns-in-Err-Usage-clause-headline : goal.returns-in-Err-Usage-clause-headline
+returns-in-Err-Usage-clause-headline g c = headline
+
+pub returns-in-Err-Memory-clause-headline : goal.returns-in-Err-Memory-clause-headline
+returns-in-Err-Memory-clause-headline g c = headline
+
+pub returns-in-Ok-clause-calls : goal.returns-in-Ok-clause-calls
+returns-in-Ok-clause-calls g c = each_call_runs
+
+pub returns-in-Err-Usage-clause-calls : goal.returns-in-Err-Usage-clause-calls
+returns-in-Err-Usage-clause-calls g c = each_call_runs
+
+pub returns-in-Err-Memory-clause-calls : goal.returns-in-Err-Memory-clause-calls
+returns-in-Err-Memory-clause-calls g c = each_call_runs
+
+pub returns-in-Ok-clause-first_orders : goal.returns-in-Ok-clause-first_orders
+returns-in-Ok-clause-first_orders g c = runs_from_31
+
+pub returns-in-Err-Usage-clause-first_orders : goal.returns-in-Err-Usage-clause-first_orders
+returns-in-Err-Usage-clause-first_orders g c = runs_from_31
+
+pub returns-in-Err-Memory-clause-first_orders : goal.returns-in-Err-Memory-clause-first_orders
+returns-in-Err-Memory-clause-first_orders g c = runs_from_31

@@ -5,17 +5,15 @@ use Rattle.ed_top.specs.declared.devices.Stop.TheVariants as stop
 use Rattle.ed_top.specs.Outcome.{Text}
 use Rattle.ed_top.specs.Private.Stages.{ForInput, IsToTell, TellsLine}
 use Rattle.ed_top.specs.Output.{answer}
-use Rattle.ed_top.specs.Headline.{RunsAccepted}
 use Rattle.ed_top.specs.Clause.{WrotePart, device}
 use Rattle.ed_io.proofs.Calls.{gains_none}
 use Rattle.ed_top.proofs.Endings.{carried_stop, due_input, input_by, none_due, stop_by}
 use Rattle.ed_top.proofs.Endings.{with_broken_out, with_long, with_no_memory, with_read_fault, with_rest}
 use Rattle.ed_top.proofs.OneOutcome.{answer_once}
-use Rattle.ed_top.proofs.Headlines.{carried}
 use Rattle.ed_top.proofs.program.run_command.Goals as goal
 
-pub returns-in-Err-Failed-clause-ended : goal.returns-in-Err-Failed-clause-ended
-returns-in-Err-Failed-clause-ended g c =
+pub returns-in-Err-Failed : goal.returns-in-Err-Failed
+returns-in-Err-Failed g c =
     let a = answer c.args.command.action c.args.command.settings in
     let source = device g.S.Source.left g.S.Source.faults c.args.source.now c.input_of.new.source in
     let out = device g.K.Sink.held g.K.Sink.faults c.args.out.now c.args.out.now in
@@ -24,8 +22,8 @@ returns-in-Err-Failed-clause-ended g c =
     c.in-Err-Failed.ensures)
     (gains_none out.before) c.tell.ensures
 
-pub returns-in-Err-Memory-clause-ended : goal.returns-in-Err-Memory-clause-ended
-returns-in-Err-Memory-clause-ended g c =
+pub returns-in-Err-Memory : goal.returns-in-Err-Memory
+returns-in-Err-Memory g c =
     let a = answer c.args.command.action c.args.command.settings in
     let source = device g.S.Source.left g.S.Source.faults c.args.source.now c.input_of.new.source in
     let out = device g.K.Sink.held g.K.Sink.faults c.args.out.now c.args.out.now in
@@ -33,8 +31,8 @@ returns-in-Err-Memory-clause-ended g c =
     (none_due a source out (answer_once c.args.command.action c.args.command.settings) (gains_none out.before))
     c.tell-in-Err-Memory.ensures
 
-pub returns-in-Err-TooLong-clause-ended : goal.returns-in-Err-TooLong-clause-ended
-returns-in-Err-TooLong-clause-ended g c =
+pub returns-in-Err-TooLong : goal.returns-in-Err-TooLong
+returns-in-Err-TooLong g c =
     let a = answer c.args.command.action c.args.command.settings in
     let source = device g.S.Source.left g.S.Source.faults c.args.source.now c.input_of.new.source in
     let out = device g.K.Sink.held g.K.Sink.faults c.args.out.now c.args.out.now in
@@ -43,8 +41,8 @@ returns-in-Err-TooLong-clause-ended g c =
     c.in-Err-TooLong.ensures)
     (gains_none out.before) c.tell-in-Err-TooLong.ensures
 
-pub returns-in-Ok-carry_out-clause-ended : goal.returns-in-Ok-carry_out-clause-ended
-returns-in-Ok-carry_out-clause-ended g c =
+pub returns-in-Ok-carry_out : goal.returns-in-Ok-carry_out
+returns-in-Ok-carry_out g c =
     let a = answer c.args.command.action c.args.command.settings in
     let source = device g.S.Source.left g.S.Source.faults c.args.source.now c.input_of.new.source in
     let out = device g.K.Sink.held g.K.Sink.faults c.args.out.now c.carry_out.new.out in
@@ -52,44 +50,36 @@ returns-in-Ok-carry_out-clause-ended g c =
     let rest = c.in-Ok-carry_out.rest in
     with_rest a source out note c.in-Ok.input rest _
     (input_by a source c.reads_input.result (Ok c.in-Ok.input) c.reads_input.ensures c.in-Ok.ensures)
-    c.in-Ok-carry_out.ensures.is.0
-    (subst (λ (t : Text). ForInput a t (IsToTell out rest.note.items rest.status)) c.deref.ensures.value c.in-Ok-carry_out.ensures.is.1)
+    c.in-Ok-carry_out.ensures.0
+    (subst (λ (t : Text). ForInput a t (IsToTell out rest.note.items rest.status)) c.deref.ensures.value c.in-Ok-carry_out.ensures.1)
     (subst (λ (t : Text). TellsLine note t rest.status c.tell-in-Ok-carry_out.result) c.deref-in-Ok-carry_out.ensures.value
     c.tell-in-Ok-carry_out.ensures)
 
-pub returns-in-Err-Failed-carry_out-clause-ended : goal.returns-in-Err-Failed-carry_out-clause-ended
-returns-in-Err-Failed-carry_out-clause-ended g c =
+pub returns-in-Err-Failed-carry_out : goal.returns-in-Err-Failed-carry_out
+returns-in-Err-Failed-carry_out g c =
     let a = answer c.args.command.action c.args.command.settings in
     let source = device g.S.Source.left g.S.Source.faults c.args.source.now c.input_of.new.source in
     let out = device g.K.Sink.held g.K.Sink.faults c.args.out.now c.carry_out.new.out in
     let note = device g.L.Sink.held g.L.Sink.faults c.args.note.now c.args.note.now in
     let broken =
     carried_stop a _ out c.in-Err-Failed-carry_out.field-0 stop.Failed c.in-Err-Failed-carry_out.field-0-is
-    c.in-Err-Failed-carry_out.ensures.is in
+    c.in-Err-Failed-carry_out.ensures in
     with_broken_out a source out note broken.0
     (due_input a source c.in-Ok.input _
     (input_by a source c.reads_input.result (Ok c.in-Ok.input) c.reads_input.ensures c.in-Ok.ensures)
     (subst (λ (t : Text). ForInput a t (λ o. WrotePart out o.out)) c.deref.ensures.value broken.1))
     (gains_none note.before)
 
-pub returns-clause-ended : goal.returns-clause-ended
-returns-clause-ended g c =
+pub returns : goal.returns
+returns g c =
     let a = answer c.args.command.action c.args.command.settings in
     let source = device g.S.Source.left g.S.Source.faults c.args.source.now c.input_of.new.source in
     let out = device g.K.Sink.held g.K.Sink.faults c.args.out.now c.carry_out.new.out in
     let stopped =
     carried_stop a _ out c.in-Err-Memory-carry_out.field-0 stop.Memory c.in-Err-Memory-carry_out.field-0-is
-    c.in-Err-Memory-carry_out.ensures.is in
+    c.in-Err-Memory-carry_out.ensures in
     with_no_memory a source out _ _
     (due_input a source c.in-Ok.input _
     (input_by a source c.reads_input.result (Ok c.in-Ok.input) c.reads_input.ensures c.in-Ok.ensures)
     (subst (λ (t : Text). ForInput a t (λ o. WrotePart out o.out)) c.deref.ensures.value stopped))
     c.tell-in-Err-Memory-carry_out.ensures
-
-pub returns-in-Ok-carry_out-clause-headline : goal.returns-in-Ok-carry_out-clause-headline
-returns-in-Ok-carry_out-clause-headline g c =
-    let command = c.args.command in
-    let source = device g.S.Source.left g.S.Source.faults c.args.source.now c.input_of.new.source in
-    carried command source c.in-Ok.input _
-    (input_by (answer command.action command.settings) source c.reads_input.result (Ok c.in-Ok.input) c.reads_input.ensures c.in-Ok.ensures)
-    (subst (λ (t : Text). RunsAccepted command.action command.settings t) c.deref.ensures.value c.in-Ok-carry_out.ensures.headline)

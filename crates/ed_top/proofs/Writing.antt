@@ -1,0 +1,54 @@
+-- From what a command wrote on `out` to the outcome of a tape's text.
+use Rattle.std.proofs.Common.{◌≡◌, ◌∙◌, ◌<◌, ℕ, List, [], refl, sym, ap, subst}
+use Rattle.std.specs.Prelude.{Result, Ok, Err}
+use Rattle.ed_words.specs.declared.memory.NoMemory.{NoMemory}
+use Rattle.ed_codes.specs.Reading.{Reading, rows, reading}
+use Rattle.ed_top.specs.Outcome.{Text, Outcome}
+use Rattle.ed_top.specs.Answer.{Answer, OfReading, exactly, known, of_input, of_rows}
+use Rattle.ed_top.specs.Clause.{Device, Wrote, WrotePart}
+use Rattle.ed_top.specs.Private.Stages.{Carried, ForInput, Gives, Replies, WritesReply}
+use Rattle.ed_top.specs.declared.reply.Reply.{Reply}
+use Rattle.ed_top.specs.declared.devices.Rest.{Rest}
+use Rattle.ed_top.specs.declared.devices.Stop.{Stop}
+use Rattle.ed_top.specs.declared.devices.Stop.TheVariants.{Failed, Memory}
+use Rattle.ed_top.proofs.Replies.{none_written}
+
+for_more : (answer : Answer) (input : Text) (P Q : Outcome → Type 0) → ((o : Outcome) → P o → Q o) → ForInput answer
+    input P → ForInput answer input Q
+for_more (known o) input P Q more p = more o p
+for_more (of_input answers) input P Q more p = (p.0, p.1, more p.0 p.2)
+
+-- a reply that was written is carried out
+pub reply_carried : (answer : Answer) (input : Text) (reply : Result Reply NoMemory) (out : Device) (r : Result Rest Stop)
+    → Replies answer input reply → WritesReply reply out r → Carried answer input out r
+reply_carried answer input (Ok reply) out (Ok rest) replies w = (
+  low answer replies,
+  for_more answer input _ _ (λ o gives. record {
+    wrote = subst (λ (t : Text). Wrote out t) gives.out_is w.0;
+    note_is = ap (λ v. v.items) w.1 ∙ gives.note_is;
+    status_is = w.2 ∙ gives.status_is;
+  }) replies,
+)
+  where
+    low : (answer : Answer) → ForInput answer input (Gives reply) → rest.status < 8
+    low (known o) gives = rw w.2 gives.low
+    low (of_input answers) gives = rw w.2 gives.2.low
+reply_carried answer input (Ok reply) out (Err Failed) replies w =
+    (w.0, for_more answer input _ _ (λ o gives. subst (λ (t : Text). WrotePart out t) gives.out_is w.1) replies)
+reply_carried answer input (Ok reply) out (Err Memory) replies w = absurd w
+reply_carried answer input (Err e) out (Ok rest) replies w = absurd w
+reply_carried answer input (Err e) out (Err Failed) replies w = absurd w
+reply_carried answer input (Err e) out (Err Memory) replies w = for_more answer input _ _ (λ o u. none_written out o.out w) replies
+
+-- what was written of the rows as it came is that of the text
+pub rows_carried : (f : List ℕ → Outcome) (input : Text) (codes : List ℕ) (out : Device) (r : Result Rest Stop) → reading input ≡ rows codes
+    → Carried (known (f codes)) [] out r → Carried (of_rows (exactly f)) input out r
+rows_carried f input codes out r is = by_result r
+  where
+    at : OfReading (exactly f) (reading input) (f codes)
+    at = subst (λ (q : Reading). OfReading (exactly f) q (f codes)) (sym is) refl
+
+    by_result : (r : Result Rest Stop) → Carried (known (f codes)) [] out r → Carried (of_rows (exactly f)) input out r
+    by_result (Ok rest) c = (c.0, (f codes, at, c.1))
+    by_result (Err Failed) c = (c.0, (f codes, at, c.1))
+    by_result (Err Memory) c = (f codes, at, c)

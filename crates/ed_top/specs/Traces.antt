@@ -1,0 +1,22 @@
+-- What is answered of a run that is traced (this project's own rule).
+use Rattle.std.specs.Prelude.{ℕ, List}
+use Rattle.ed_machine.specs.State.{State}
+use Rattle.ed_run.specs.Run.{ran}
+use Rattle.ed_loads.specs.EntryState.{first_state}
+use Rattle.ed_report.specs.Notes.{ending_line}
+use Rattle.ed_trace.specs.Traces.{trace_of}
+use Rattle.ed_command.specs.declared.command.Settings.{Settings}
+use Rattle.ed_top.specs.Outcome.{Outcome}
+use Rattle.ed_top.specs.Runs.{status_of}
+
+-- the trace of a run from a state, whose paper never is full, the line of its ending and its status
+abbrev pub traced : Settings → State → Outcome
+traced s start = record {
+  out = trace_of s.limit s.resumes start;
+  note = ending_line (ran s.limit s.resumes s.limit start).ending (ran s.limit s.resumes s.limit start).state;
+  status = status_of (ran s.limit s.resumes s.limit start).ending;
+}
+
+-- `trace`: the run of the rows, traced
+abbrev pub trace_outcome : Settings → List ℕ → Outcome
+trace_outcome s codes = traced s (first_state s.size codes)

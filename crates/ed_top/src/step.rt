@@ -1,0 +1,117 @@
+ghost use Rattle.std.specs.Prelude.{◌≡◌, ◌≤◌, IfOk, List, None, length};
+ghost use Rattle.ed_syntax.specs.declared.program.Line.{Line};
+ghost use Rattle.ed_link.specs.Answers.{IsLinked};
+ghost use Rattle.ed_link.specs.Tapes.{tape};
+ghost use Rattle.ed_stepper.specs.Scripts.{bad_line};
+ghost use Rattle.ed_top.specs.Answer.{exactly, of_input};
+ghost use Rattle.ed_top.specs.Private.Stages.{Gives, Replies};
+ghost use Rattle.ed_top.specs.Scripts.{if_good, on_rows, on_text, step_outcome};
+
+use crate::reply::{Reply, refusal};
+use crate::rows::rows_of;
+use crate::source::{done, linked_of};
+use ed_codes::Code;
+use ed_command::Settings;
+use ed_link::Linked;
+use ed_loads::started;
+use ed_report::{back_too_far, bad_command, no_text};
+use ed_stepper::{
+    Divided, ScriptFault, Session, TextKind, bad_line, divide, line_count, run_script,
+};
+use ed_words::NoMemory;
+use std::alloc::Global;
+
+/// `step`: what the script writes that stands before the dividing line, on a machine started on what stands behind it.
+pub fn step(alloc: Global, settings: Settings, input: &[u8]) -> Result<Reply, NoMemory>
+    requires { length input.now ≤ 262144 }
+    ensures { Replies (of_input (exactly (step_outcome settings))) input.now result }
+{
+    match divide(input) {
+        Some(divided) => step_divided(alloc, settings, divided),
+        None => Ok(refusal(alloc, no_text(alloc, line_count(input) + 1)?)),
+    }
+}
+
+/// Looks at the script, then at the text.
+fn step_divided(alloc: Global, settings: Settings, divided: Divided<'_>) -> Result<Reply, NoMemory>
+    ensures { IfOk result (λ reply. Gives reply (if_good (bad_line divided.entry.script.now)
+        (on_text settings divided.entry.script.now divided.entry.kind divided.entry.text.now))) }
+{
+    if let Some(line) = bad_line(divided.script) {
+        return Ok(refusal(alloc, bad_command(alloc, line)?));
+    }
+    match divided.kind {
+        TextKind::Tape => step_tape(alloc, settings, divided.script, divided.text),
+        TextKind::Source => step_source(alloc, settings, divided.script, divided.text),
+    }
+}
+
+/// Runs a script on the rows of a tape's text, or refuses the text.
+fn step_tape(
+    alloc: Global,
+    settings: Settings,
+    script: &[u8],
+    text: &[u8],
+) -> Result<Reply, NoMemory>
+    requires { bad_line script.now ≡ None }
+    ensures { IfOk result (λ reply. Gives reply (on_text settings script.now TextKind.Tape text.now)) }
+{
+    match rows_of(alloc, text) {
+        Ok(rows) => step_rows(alloc, settings, script, rows),
+        Err(refusal) => refusal,
+    }
+}
+
+/// Runs a script on the tape of a source, or refuses the source.
+fn step_source(
+    alloc: Global,
+    settings: Settings,
+    script: &[u8],
+    text: &[u8],
+) -> Result<Reply, NoMemory>
+    requires { bad_line script.now ≡ None }
+    ensures { IfOk result (λ reply. Gives reply (on_text settings script.now TextKind.Source text.now)) }
+{
+    match linked_of(alloc, settings.size, text) {
+        Ok(linked) => step_linked(alloc, settings, script, &linked),
+        Err(refusal) => refusal,
+    }
+}
+
+/// Runs a script on the tape of a linked program.
+fn step_linked(
+    alloc: Global,
+    settings: Settings,
+    script: &[u8],
+    linked: &Linked,
+) -> Result<Reply, NoMemory>
+    requires { bad_line script.now ≡ None }
+    ensures { IfOk result (λ reply. (lines : List Line) → IsLinked settings.size lines linked.now
+        → Gives reply (on_rows settings script.now (tape lines))) }
+{
+    step_rows(alloc, settings, script, linked.rows()?)
+}
+
+/// Runs a script on a cleared machine that is started on rows.
+fn step_rows(
+    alloc: Global,
+    settings: Settings,
+    script: &[u8],
+    rows: Vec<Code>,
+) -> Result<Reply, NoMemory>
+    requires { bad_line script.now ≡ None }
+    ensures { IfOk result (λ reply. Gives reply (on_rows settings script.now rows.items)) }
+{
+    let machine = started(alloc, settings.size, rows)?;
+    let Ok(mut session) = Session::new(alloc, machine, u64::from(settings.limit)) else {
+        return Err(NoMemory);
+    };
+    match run_script(alloc, &mut session, script) {
+        Ok(text) => Ok(done(alloc, text)),
+        Err(ScriptFault::BackTooFar { line, done: obeyed }) => {
+            Ok(refusal(alloc, back_too_far(alloc, line, obeyed)?))
+        }
+        Err(ScriptFault::BadCommand { .. }) => unreachable!(),
+        Err(ScriptFault::Memory) => Err(NoMemory),
+    }
+}

@@ -1,0 +1,62 @@
+ghost use Rattle.std.specs.Prelude.{[]};
+ghost use Rattle.ed_top.specs.Answer.{exactly, known, of_rows};
+ghost use Rattle.ed_top.specs.Clause.{device};
+ghost use Rattle.ed_top.specs.Private.Stages.{Carried};
+ghost use Rattle.ed_top.specs.Traces.{trace_outcome};
+
+use crate::devices::{Rest, Stop, write};
+use crate::rows::rows_of;
+use crate::running::status_of;
+use ed_codes::Code;
+use ed_command::Settings;
+use ed_io::Sink;
+use ed_loads::started;
+use ed_report::ending_text;
+use ed_trace::{TraceFault, trace_run};
+use std::alloc::Global;
+
+/// `trace`: the letters of the orders that the run of a text's rows obeys, each line written as it is full.
+pub fn trace<K: Sink>(
+    alloc: Global,
+    settings: Settings,
+    input: &[u8],
+    out: &mut K,
+) -> Result<Rest, Stop>
+    ensures { Carried (of_rows (exactly (trace_outcome settings))) input.now (device K.held K.faults out.old out.new) result }
+{
+    match rows_of(alloc, input) {
+        Ok(rows) => trace_rows(alloc, settings, rows, out),
+        Err(refusal) => write(out, refusal),
+    }
+}
+
+/// Traces the run of rows.
+fn trace_rows<K: Sink>(
+    alloc: Global,
+    settings: Settings,
+    rows: Vec<Code>,
+    out: &mut K,
+) -> Result<Rest, Stop>
+    ensures { Carried (known (trace_outcome settings rows.items)) [] (device K.held K.faults out.old out.new) result }
+{
+    let Ok(mut machine) = started(alloc, settings.size, rows) else {
+        return Err(Stop::Memory);
+    };
+    match trace_run(
+        alloc,
+        &mut machine,
+        u64::from(settings.limit),
+        settings.resumes,
+        out,
+    ) {
+        Ok(ending) => match ending_text(alloc, ending, &machine) {
+            Ok(note) => Ok(Rest {
+                note,
+                status: status_of(ending),
+            }),
+            Err(_) => Err(Stop::Memory),
+        },
+        Err(TraceFault::Failed) => Err(Stop::Failed),
+        Err(TraceFault::Memory) => Err(Stop::Memory),
+    }
+}
