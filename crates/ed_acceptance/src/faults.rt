@@ -1,104 +1,174 @@
 //! Runs over devices that take and give few bytes a call, and of which one call fails.
 
+use crate::sources::LETTER;
 use crate::support::words_of;
 use ed_io::{MemorySink, MemorySource};
 use ed_top::edsac;
 use std::alloc::Global;
+use std::process::Abort;
 use std::test::Fail;
 
-const TAPE: &str = "T64KGKO2@ZFAFEZPF";
+/// A run: its command, its input, and the two texts that it writes where no call fails.
+struct Run {
+    command: &'static str,
+    input: &'static str,
+    out: &'static str,
+    note: &'static str,
+}
 
-const STOPPED: &str = "stopped at 66 after 193\n";
+const TAPE: Run = Run {
+    command: "tape",
+    input: "T64KGKO2@ZFAFEZPF",
+    out: "A",
+    note: "stopped at 66 after 193\n",
+};
 
-const CHECKED: &str = "entry 64 after 191 orders, 17 rows\n";
+const CHECK_TAPE: Run = Run {
+    command: "check-tape",
+    input: "T64KGKO2@ZFAFEZPF",
+    out: "entry 64 after 191 orders, 17 rows\n",
+    note: "",
+};
+
+const SOURCE: Run = Run {
+    command: "run",
+    input: LETTER,
+    out: "A",
+    note: "entered 56 after 263 orders, stopped at 59 after 266\n",
+};
+
+const PUNCH: Run = Run {
+    command: "punch",
+    input: LETTER,
+    out: "T56K\nGK\nO3@\nO4@\nZF\n*F\nAF\nE56K\nPF\n",
+    note: "",
+};
 
 /// No device has so many calls in these runs.
 const CALLS: u64 = 100;
 
-/// A source of the tape in pieces, of which these calls fail.
-fn tape_source(alloc: Global, failing: &[u64]) -> Result<MemorySource, Fail> {
-    let bytes = TAPE.as_bytes().to_vec(alloc)?;
-    Ok(MemorySource::in_pieces(bytes, failing.to_vec(alloc)?, 7))
+/// What a run of the program came to.
+#[derive(Drop)]
+struct Outcome {
+    status: u8,
+    out: Vec<u8>,
+    note: Vec<u8>,
+    /// How many calls failed, of all three devices.
+    faults: u64,
 }
 
-/// A sink in pieces, of which these calls fail.
-fn sink(alloc: Global, failing: &[u64]) -> Result<MemorySink, Fail> {
-    Ok(MemorySink::in_pieces(alloc, 100, failing.to_vec(alloc)?, 3)?)
+/// Runs the program with its input in pieces of 7 bytes and its texts in pieces of 3, where these calls of the input, of
+/// out and of note fail.
+fn outcome_of(
+    alloc: Global,
+    run: &Run,
+    reads: &[u64],
+    writes: &[u64],
+    notes: &[u64],
+) -> Result<Outcome, Fail> {
+    let words = words_of(alloc, run.command)?;
+    let input = run.input.as_bytes().to_vec(alloc)?;
+    let mut source = MemorySource::in_pieces(input, reads.to_vec(alloc)?, 7);
+    let mut out = MemorySink::in_pieces(alloc, 100, writes.to_vec(alloc)?, 3)?;
+    let mut note = MemorySink::in_pieces(alloc, 100, notes.to_vec(alloc)?, 3)?;
+    let status = edsac(alloc, &words, &mut source, &mut out, &mut note);
+    let faults = source.faults().saturating_add(out.faults());
+    Ok(Outcome {
+        status,
+        out: out.bytes().to_vec(alloc)?,
+        note: note.bytes().to_vec(alloc)?,
+        faults: faults.saturating_add(note.faults()),
+    })
+}
+
+/// How many writes of 3 bytes a text takes.
+fn writes_of(text: &str) -> u64 {
+    text.len().div_ceil(3) as u64
+}
+
+/// Each read of a run fails in turn.
+fn reads_fail(rt: &impl Abort, alloc: Global, run: &Run) -> Result<(), Fail> {
+    for call in 0..CALLS {
+        let outcome = outcome_of(alloc, run, &[call], &[], &[])?;
+        if outcome.faults == 0 {
+            assert!(rt; (run.input.len().div_ceil(7) as u64) < call);
+            assert_eq!(rt; outcome.status, 0);
+            assert_eq!(rt; outcome.out.as_slice(), run.out.as_bytes());
+            assert_eq!(rt; outcome.note.as_slice(), run.note.as_bytes());
+            return Ok(());
+        }
+        assert_eq!(rt; outcome.status, 8, "read {call}");
+        assert!(rt; outcome.out.is_empty(), "read {call}");
+        assert_eq!(rt;
+            outcome.note.as_slice(),
+            b"read fault\n".as_slice(),
+            "read {call}"
+        );
+    }
+    assert!(rt; false, "each read fails");
+    Ok(())
+}
+
+/// Each write of a run on out fails in turn.
+fn writes_fail(rt: &impl Abort, alloc: Global, run: &Run) -> Result<(), Fail> {
+    for call in 0..CALLS {
+        let outcome = outcome_of(alloc, run, &[], &[call], &[])?;
+        assert!(rt; outcome.note.is_empty(), "write {call}");
+        assert!(rt;
+            run.out.as_bytes().starts_with(&outcome.out),
+            "write {call}"
+        );
+        if outcome.faults == 0 {
+            assert_eq!(rt; call, writes_of(run.out));
+            assert_eq!(rt; outcome.status, 0);
+            assert_eq!(rt; outcome.out.len(), run.out.len());
+            return Ok(());
+        }
+        assert_eq!(rt; outcome.status, 9, "write {call}");
+        assert_eq!(rt; outcome.out.len() as u64, 3 * call, "write {call}");
+    }
+    assert!(rt; false, "each write fails");
+    Ok(())
+}
+
+/// Each write of a run on note fails in turn.
+fn notes_fail(rt: &impl Abort, alloc: Global, run: &Run) -> Result<(), Fail> {
+    for call in 0..CALLS {
+        let outcome = outcome_of(alloc, run, &[], &[], &[call])?;
+        assert_eq!(rt; outcome.out.as_slice(), run.out.as_bytes(), "write {call}");
+        assert!(rt;
+            run.note.as_bytes().starts_with(&outcome.note),
+            "write {call}"
+        );
+        if outcome.faults == 0 {
+            assert_eq!(rt; call, writes_of(run.note));
+            assert_eq!(rt; outcome.status, 0);
+            assert_eq!(rt; outcome.note.len(), run.note.len());
+            return Ok(());
+        }
+        assert_eq!(rt; outcome.status, 9, "write {call}");
+        assert_eq!(rt; outcome.note.len() as u64, 3 * call, "write {call}");
+    }
+    assert!(rt; false, "each write fails");
+    Ok(())
 }
 
 #[test]
 fn a_read_that_fails_is_told_and_nothing_is_run(rt: HostRuntime) -> Result<(), Fail> {
-    let alloc = rt.alloc();
-    let words = words_of(alloc, "tape")?;
-    for call in 0..CALLS {
-        let mut source = tape_source(alloc, &[call])?;
-        let mut out = sink(alloc, &[])?;
-        let mut note = sink(alloc, &[])?;
-        let status = edsac(alloc, &words, &mut source, &mut out, &mut note);
-        if source.faults() == 0 {
-            assert!(rt; 3 < call);
-            assert_eq!(rt; status, 0);
-            assert_eq!(rt; out.bytes(), b"A".as_slice());
-            assert_eq!(rt; note.bytes(), STOPPED.as_bytes());
-            return Ok(());
-        }
-        assert_eq!(rt; status, 8, "read {call}");
-        assert!(rt; out.bytes().is_empty(), "read {call}");
-        assert_eq!(rt; note.bytes(), b"read fault\n".as_slice(), "read {call}");
-    }
-    assert!(rt; false, "each read fails");
-    Ok(())
+    reads_fail(&rt, rt.alloc(), &TAPE)?;
+    reads_fail(&rt, rt.alloc(), &SOURCE)
 }
 
 #[test]
 fn a_write_that_fails_leaves_a_part_on_out_and_nothing_on_note(
     rt: HostRuntime,
 ) -> Result<(), Fail> {
-    let alloc = rt.alloc();
-    let words = words_of(alloc, "check-tape")?;
-    for call in 0..CALLS {
-        let mut source = tape_source(alloc, &[])?;
-        let mut out = sink(alloc, &[call])?;
-        let mut note = sink(alloc, &[])?;
-        let status = edsac(alloc, &words, &mut source, &mut out, &mut note);
-        assert!(rt; note.bytes().is_empty(), "write {call}");
-        assert!(rt; CHECKED.as_bytes().starts_with(out.bytes()), "write {call}");
-        if out.faults() == 0 {
-            assert_eq!(rt; call, 12);
-            assert_eq!(rt; status, 0);
-            assert_eq!(rt; out.bytes().len(), CHECKED.len());
-            return Ok(());
-        }
-        assert_eq!(rt; status, 9, "write {call}");
-        assert_eq!(rt; out.bytes().len() as u64, 3 * call, "write {call}");
-    }
-    assert!(rt; false, "each write fails");
-    Ok(())
+    writes_fail(&rt, rt.alloc(), &CHECK_TAPE)?;
+    writes_fail(&rt, rt.alloc(), &PUNCH)
 }
 
 #[test]
 fn a_note_that_fails_leaves_all_of_out_and_a_part_of_the_note(rt: HostRuntime) -> Result<(), Fail> {
-    let alloc = rt.alloc();
-    let words = words_of(alloc, "tape")?;
-    for call in 0..CALLS {
-        let mut source = tape_source(alloc, &[])?;
-        let mut out = sink(alloc, &[])?;
-        let mut note = sink(alloc, &[call])?;
-        let status = edsac(alloc, &words, &mut source, &mut out, &mut note);
-        assert_eq!(rt; out.bytes(), b"A".as_slice(), "write {call}");
-        assert!(rt;
-            STOPPED.as_bytes().starts_with(note.bytes()),
-            "write {call}"
-        );
-        if note.faults() == 0 {
-            assert_eq!(rt; call, 8);
-            assert_eq!(rt; status, 0);
-            assert_eq!(rt; note.bytes().len(), STOPPED.len());
-            return Ok(());
-        }
-        assert_eq!(rt; status, 9, "write {call}");
-        assert_eq!(rt; note.bytes().len() as u64, 3 * call, "write {call}");
-    }
-    assert!(rt; false, "each write fails");
-    Ok(())
+    notes_fail(&rt, rt.alloc(), &TAPE)?;
+    notes_fail(&rt, rt.alloc(), &SOURCE)
 }

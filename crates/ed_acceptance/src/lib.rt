@@ -6,15 +6,27 @@
 #![tactic(auto)]
 
 #[cfg(test)]
+mod calls;
+#[cfg(test)]
 mod check_tape;
+#[cfg(test)]
+mod checks;
 #[cfg(test)]
 mod devices;
 #[cfg(test)]
 mod faults;
 #[cfg(test)]
+mod first_orders;
+#[cfg(test)]
 mod lines;
 #[cfg(test)]
+mod linking;
+#[cfg(test)]
+mod post_mortems;
+#[cfg(test)]
 mod sources;
+#[cfg(test)]
+mod steps;
 #[cfg(test)]
 mod support;
 #[cfg(test)]

@@ -4,7 +4,7 @@ use crate::support::{answer_of, expect};
 use std::test::Fail;
 
 /// Prints A, from two orders and two words of its one segment.
-const LETTER: &str =
+pub const LETTER: &str =
     "segment main\nO mark F\nO letter F\nZ F\nmark: * F\nletter: A F\nenter main\n";
 
 /// The same with a stop at its head.

@@ -7,10 +7,18 @@
 #![tactic(auto)]
 
 #[cfg(test)]
+mod faults;
+#[cfg(test)]
 mod linking;
+#[cfg(test)]
+mod operands;
 #[cfg(test)]
 mod places;
 #[cfg(test)]
 mod routines;
 #[cfg(test)]
 mod sources;
+#[cfg(test)]
+mod support;
+#[cfg(test)]
+mod uses;

@@ -1,8 +1,8 @@
 //! Linking: the punched tape and the words of a source, where it begins, and the first fault of meaning.
 
+use crate::support::{fault_of, linked};
 use ed_codes::tape_of_text;
-use ed_link::{Linked, link};
-use ed_syntax::{SourceCause, SourceFault, parse};
+use ed_syntax::SourceCause;
 use ed_words::Size;
 use std::test::Fail;
 
@@ -18,22 +18,6 @@ const SECOND: &[u8] =
 const THIRD: &[u8] =
     b"version 2\nsegment m\na: A _l F\n_l: A _l D\nP _l-a F\nv: long 17179869185\nsegment t\n_l: A _l F\nS v D\n\
     use newline as n\nenter t\ndata \"4F2\"";
-
-/// A source, linked for a machine of a size.
-fn linked(rt: &HostRuntime, size: Size, text: &[u8]) -> Option<Linked> {
-    let program = parse(rt.alloc(), text).ok()?;
-    link(rt.alloc(), size, &program).ok()
-}
-
-/// The first fault of meaning of a source, with its line; line 0 where it has none.
-fn fault_of(rt: &HostRuntime, size: Size, text: &[u8]) -> Option<(u32, Option<SourceCause>)> {
-    let program = parse(rt.alloc(), text).ok()?;
-    match link(rt.alloc(), size, &program) {
-        Ok(_) => Some((0, None)),
-        Err(SourceFault::At { line, cause }) => Some((line, Some(cause))),
-        Err(SourceFault::Memory) => None,
-    }
-}
 
 #[test]
 fn what_is_punched(rt: HostRuntime) -> Result<(), Fail> {
@@ -53,7 +37,7 @@ fn what_is_punched(rt: HostRuntime) -> Result<(), Fail> {
         ),
     ];
     for (text, punched) in cases {
-        let linked = linked(&rt, Size::Full, text).expect(&rt, punched);
+        let linked = linked(rt.alloc(), Size::Full, text).expect(&rt, punched);
         let tape = linked.text()?;
         assert_eq!(rt; tape.as_slice(), punched.as_bytes());
         let spelled = tape_of_text(rt.alloc(), &tape).ok().expect(&rt, punched);
@@ -65,7 +49,7 @@ fn what_is_punched(rt: HostRuntime) -> Result<(), Fail> {
 
 #[test]
 fn the_linked_program(rt: HostRuntime) {
-    let linked = linked(&rt, Size::Small, FIRST).expect(&rt, "linked");
+    let linked = linked(rt.alloc(), Size::Small, FIRST).expect(&rt, "linked");
     let words = [
         (56, 36982),
         (57, 36984),
@@ -154,7 +138,7 @@ fn the_fault_of_meaning(rt: HostRuntime) {
     ];
     for (text, line, cause) in cases {
         assert_eq!(rt;
-            fault_of(&rt, Size::Full, text),
+            fault_of(rt.alloc(), Size::Full, text),
             Some((line, cause)),
             "{text:?}"
         );
@@ -171,7 +155,7 @@ fn the_end_of_a_small_store(rt: HostRuntime) {
     ];
     for (text, line, cause) in cases {
         assert_eq!(rt;
-            fault_of(&rt, Size::Small, text),
+            fault_of(rt.alloc(), Size::Small, text),
             Some((line, cause)),
             "{text:?}"
         );

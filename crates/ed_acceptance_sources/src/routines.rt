@@ -19,7 +19,31 @@ struct Sheet {
 }
 
 /// The routines in order of name.
-const SHEETS: [Sheet; 3] = [
+const SHEETS: [Sheet; 6] = [
+    Sheet {
+        name: "check",
+        length: 66,
+        parameters: &[21],
+        working: &[0, 40, 58, 59, 60, 61, 62, 63, 64, 65],
+        text: "AH\nU40@\nO40@\nE13@\nS53@\nG30@\nS55@\nE30@\nA56@\nT58@\n\
+           A60#@\nG26@\nE21@\nS54@\nG30@\nS55@\nE30@\nA56@\nT58@\nA60#@\n\
+           E26@\nT59@\nA@\nA57@\nT@\nE@\nT59@\nA58@\nT@\nE@\n\
+           T59@\nA64#@\nRF\nRF\nR4F\nA62#@\nRF\nRF\nR4F\nA60#@\n\
+           PF\nU60#@\nS60#@\nLF\nLF\nL64F\nU62#@\nS62#@\nLF\nLF\n\
+           L64F\nT64#@\nE22@\nGF\nEF\nQF\nBF\nP1F\nPF\nPF\n\
+           PF\nPF\nPF\nPF\nPF\nPF\n",
+    },
+    Sheet {
+        name: "divide",
+        length: 41,
+        parameters: &[21, 22, 23],
+        working: &[32, 35, 36, 37, 38, 39, 40],
+        text: "A3F\nT32@\nA33@\nRF\nRD\nT36#@\nAN\nRF\nRD\nAH\n\
+           T38#@\nS34@\nU35@\nT40@\nA38#@\nLD\nSM\nE20@\nAM\nE21@\n\
+           A36#@\nT38#@\nA35@\nA33@\nU35@\nG13@\nA38#@\nUH\nSH\nLF\n\
+           L2F\nTN\nPF\nPD\nP8F\nPF\nPF\nPF\nPF\nPF\n\
+           PF\n",
+    },
     Sheet {
         name: "newline",
         length: 7,
@@ -47,6 +71,15 @@ const SHEETS: [Sheet; 3] = [
         text: "A3F\nT19@\nT21@\nI22@\nA22@\nS20@\nE16@\nT23@\nA21@\nLD\n\
            U23@\nL1F\nA23@\nA22@\nT21@\nE3@\nT23@\nA21@\nTH\nPF\n\
            P5F\nPF\nPF\nPF\n",
+    },
+    Sheet {
+        name: "root",
+        length: 23,
+        parameters: &[21, 22],
+        working: &[18, 21, 22],
+        text: "A3F\nT18@\nAH\nT21@\nA19@\nT22@\nA21@\nS22@\nG14@\nT21@\n\
+           A22@\nA20@\nT22@\nE6@\nT21@\nA22@\nRD\nTN\nPF\nPD\n\
+           P1F\nPF\nPF\n",
     },
 ];
 

@@ -1,0 +1,55 @@
+//! Calls of the library's routines, and the list of the library.
+
+use crate::support::{answer_of, expect};
+use std::test::Fail;
+
+#[test]
+fn calls_print_digits(rt: HostRuntime) -> Result<(), Fail> {
+    for (line, printed) in [
+        ("call print 0", "0"),
+        ("call print 7", "7"),
+        ("call print 10", "10"),
+        ("call print 4096", "4096"),
+        ("call print 65535", "65535"),
+        ("call read 0", "0"),
+        ("call read 42", "42"),
+        ("call read 65535", "65535"),
+        ("call --limit=100000 read 0000042", "42"),
+        ("call newline", "\r\n"),
+        ("call divide 400000 7", "57142\r\n6"),
+        ("call divide 0 1", "0\r\n0"),
+        ("call root 65535", "255"),
+        ("call root 65025", "255"),
+        ("call root 65024", "254"),
+        ("call root 0", "0"),
+    ] {
+        let answer = answer_of(rt.alloc(), line, b"no source")?;
+        assert_eq!(rt; answer.status, 0, "{line}");
+        assert_eq!(rt; answer.out.as_slice(), printed.as_bytes(), "{line}");
+        assert!(rt; answer.note.starts_with(b"entered 56 after "), "{line}");
+        assert_eq!(rt; answer.unread, 9, "{line}");
+    }
+    Ok(())
+}
+
+#[test]
+fn a_call_ends_at_its_limit(rt: HostRuntime) -> Result<(), Fail> {
+    let note = "limit at 34 after 9\n";
+    expect(&rt, rt.alloc(), "call print 5 --limit 9", "", (4, "", note))
+}
+
+#[test]
+fn the_lines_of_the_library(rt: HostRuntime) -> Result<(), Fail> {
+    let lines = "check 66 H\ndivide 41 H N M\nnewline 7\nprint 51 H\nread 24 H\nroot 23 H N\n";
+    expect(&rt, rt.alloc(), "library", "", (0, lines, ""))
+}
+
+#[test]
+fn two_prints_with_parameters_of_their_own(rt: HostRuntime) -> Result<(), Fail> {
+    let source = "segment main\na: A a F\nG p F\nb: A b F\nG q F\nZ F\nx: word 7\ny: word 12\n\
+        use print as p with H=x\nuse print as q with H=y\nenter main\n";
+    let answer = answer_of(rt.alloc(), "run", source.as_bytes())?;
+    assert_eq!(rt; answer.status, 0);
+    assert_eq!(rt; answer.out.as_slice(), b"712".as_slice());
+    Ok(())
+}

@@ -1,0 +1,62 @@
+//! `call check` beside plain steps of its guest.
+
+use crate::support::answer_of;
+use ed_codes::Code;
+use ed_link::link;
+use ed_loads::enter;
+use ed_machine::{Machine, Turn};
+use ed_report::paper_text;
+use ed_syntax::parse;
+use ed_words::Size;
+use std::alloc::Global;
+use std::process::Abort;
+use std::test::Fail;
+
+/// The most orders of a guest.
+const MOST: u32 = 1000;
+
+/// The guest of a number: the source of `call check` without its checking routine.
+fn guest_of(rt: &impl Abort, alloc: Global, number: u16) -> Result<Machine, Fail> {
+    let source = format!(in alloc;
+        "segment main\nhere: A here F\nG p F\nZ F\nvalue: word {number}\nuse print as p with H=value\nenter main\n"
+    )?;
+    let program = parse(alloc, source.as_bytes()).ok().expect(rt, "a program");
+    let linked = link(alloc, Size::Full, &program)
+        .ok()
+        .expect(rt, "a linked program");
+    Ok(enter(alloc, Size::Full, &linked)?)
+}
+
+/// The codes of a machine's orders up to its stop: each order's function, and what it prints.
+fn codes_to_stop(alloc: Global, machine: &mut Machine) -> Result<Vec<Code>, Fail> {
+    let mut codes = Vec::new(alloc);
+    for _ in 0..MOST {
+        if machine.orders_done() > 1 << 40 {
+            break;
+        }
+        let word = machine.word(machine.counter());
+        if let Some(code) = Code::new(word.order().function) {
+            codes.push(code)?;
+        }
+        match machine.step() {
+            Turn::Printed(code) => codes.push(code)?,
+            Turn::Went => {}
+            Turn::Stopped | Turn::NoOrder(_) | Turn::NoTape => break,
+        }
+    }
+    Ok(codes)
+}
+
+#[test]
+fn a_checked_guest_is_seen_order_by_order(rt: HostRuntime) -> Result<(), Fail> {
+    let alloc = rt.alloc();
+    for number in [0, 7, 42, 123, 1949, 65535] {
+        let mut machine = guest_of(&rt, alloc, number)?;
+        let wanted = paper_text(alloc, &codes_to_stop(alloc, &mut machine)?)?;
+        let line = format!(in alloc; "call check {number}")?;
+        let answer = answer_of(alloc, line.as_str(), b"")?;
+        assert_eq!(rt; answer.status, 0, "{number}");
+        assert_eq!(rt; answer.out.as_slice(), wanted.as_slice(), "{number}");
+    }
+    Ok(())
+}

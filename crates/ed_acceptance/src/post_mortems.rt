@@ -1,0 +1,137 @@
+//! The option `--post-mortem`: what is printed behind a run.
+
+use crate::support::{answer_of, expect};
+use std::test::Fail;
+
+/// Prints A, and leaves the words O 66 F and P 2047 D with function 15 at 144 and 145.
+const SOURCE: &str = "segment main\nO mark F\nO letter F\nZ F\nmark: * F\nletter: A F\n\
+    segment d at 144\nword 36996\nword 65535\nenter main\n";
+
+/// A tape that does the same.
+const TAPE: &str = "T144KO66F*2047DT64KGKO2@ZFAFEZPF";
+
+/// A tape that leaves O 66 F at 144 and prints for ever.
+const ENDLESS: &str = "T144KO66FT64KGKO@E@EZPF";
+
+/// A tape that leaves O 66 F at 144 and ends in figure shift.
+const FIGURES: &str = "T144KO66FT64KGKO4@O5@O6@ZF#FHFAFEZPF";
+
+#[test]
+fn words_that_a_source_leaves(rt: HostRuntime) -> Result<(), Fail> {
+    let alloc = rt.alloc();
+    let note = "entered 56 after 434 orders, stopped at 59 after 437\n";
+    let printed = (0, "AO66F\r\n2047D\r\n", note);
+    expect(&rt, alloc, "run --post-mortem 144,2", SOURCE, printed)?;
+    let alone = (0, "A", note);
+    expect(&rt, alloc, "run", SOURCE, alone)?;
+    let short = (4, "O66F\r\nP0F\r\n", "limit at 19 after 150\n");
+    let line = "tape --limit 150 --post-mortem 144,2";
+    expect(&rt, alloc, line, TAPE, short)
+}
+
+#[test]
+fn after_each_ending_of_a_run(rt: HostRuntime) -> Result<(), Fail> {
+    for (line, tape, status, out, note) in [
+        (
+            "tape --post-mortem 144,2",
+            TAPE,
+            0,
+            "AO66F\r\n2047D\r\n",
+            "stopped at 66 after 342\n",
+        ),
+        (
+            "tape --post-mortem=144,1 --limit 342",
+            TAPE,
+            0,
+            "AO66F\r\n",
+            "stopped at 66 after 342\n",
+        ),
+        (
+            "--limit 120 tape --post-mortem 144,1",
+            TAPE,
+            4,
+            "O66F\r\n",
+            "limit at 6 after 120\n",
+        ),
+        (
+            "tape --post-mortem 144,1",
+            "T144KO66FEZPF",
+            5,
+            "O66F\r\n",
+            "no order at 0 after 141: PF\n",
+        ),
+        (
+            "--post-mortem 144,1 tape",
+            "T144KO66F",
+            6,
+            "O66F\r\n",
+            "no tape at 34 after 99\n",
+        ),
+    ] {
+        expect(&rt, rt.alloc(), line, tape, (status, out, note))?;
+    }
+    Ok(())
+}
+
+#[test]
+fn behind_a_paper_that_is_full(rt: HostRuntime) -> Result<(), Fail> {
+    let line = "tape --post-mortem 144,1";
+    let answer = answer_of(rt.alloc(), line, ENDLESS.as_bytes())?;
+    assert_eq!(rt; answer.status, 7);
+    assert_eq!(rt; answer.out.len(), 1_000_006);
+    assert!(rt; answer.out.ends_with(b"OO66F\r\n"));
+    assert_eq!(rt;
+        answer.note.as_slice(),
+        b"paper full at 64 after 2000249\n".as_slice()
+    );
+    Ok(())
+}
+
+#[test]
+fn in_both_sizes_and_both_shifts(rt: HostRuntime) -> Result<(), Fail> {
+    for (line, tape, out, note) in [
+        (
+            "tape --post-mortem 144,1",
+            FIGURES,
+            "\u{a3}-O66F\r\n",
+            "stopped at 68 after 395\n",
+        ),
+        (
+            "tape --store 512 --post-mortem 511,1",
+            "T511KO66FT64KGKO2@ZFAFEZPF",
+            "AO66F\r\n",
+            "stopped at 66 after 283\n",
+        ),
+        (
+            "tape --post-mortem 512,0 --store=512",
+            TAPE,
+            "A",
+            "stopped at 66 after 342\n",
+        ),
+        (
+            "tape --post-mortem 1024,0",
+            TAPE,
+            "A",
+            "stopped at 66 after 342\n",
+        ),
+        (
+            "tape --post-mortem 144,0",
+            TAPE,
+            "A",
+            "stopped at 66 after 342\n",
+        ),
+    ] {
+        expect(&rt, rt.alloc(), line, tape, (0, out, note))?;
+    }
+    Ok(())
+}
+
+/// A post-mortem of 880 words, the most that there are: of the words from 146 on, each is 0.
+#[test]
+fn of_the_whole_store(rt: HostRuntime) -> Result<(), Fail> {
+    let alloc = rt.alloc();
+    let zeros = "P0F\r\n".repeat(alloc, 878)?;
+    let out = format!(in alloc; "AO66F\r\n2047D\r\n{zeros}")?;
+    let printed = (0, out.as_str(), "stopped at 66 after 342\n");
+    expect(&rt, alloc, "tape --post-mortem 144,880", TAPE, printed)
+}

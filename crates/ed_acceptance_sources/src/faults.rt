@@ -1,0 +1,159 @@
+//! The twelve faults of meaning: each alone, and each two of them on one line and on two.
+
+use crate::support::fault_of;
+use ed_syntax::SourceCause;
+use ed_words::Size;
+use std::alloc::Global;
+use std::test::Fail;
+
+/// The faults of meaning, by their numbers from 6 on.
+const CAUSES: [SourceCause; 12] = [
+    SourceCause::LabelTwice,
+    SourceCause::LabelUnknown,
+    SourceCause::AddressRange,
+    SourceCause::OutsideSegment,
+    SourceCause::LoaderStore,
+    SourceCause::ParameterStore,
+    SourceCause::StoreEnd,
+    SourceCause::Overlap,
+    SourceCause::NoSuchRoutine,
+    SourceCause::Parameters,
+    SourceCause::Enter,
+    SourceCause::SandwichDigit,
+];
+
+/// Greater than the number of each fault: none.
+const NONE: usize = 18;
+
+/// Two lines for each fault, in rising order of its number. The second has the fault and no other.
+const FAULTY: [&str; 12] = [
+    "segment c at 100\na: Z F\n",
+    "segment d at 110\nA nowhere F\n",
+    "segment e at 120\nA a-1000 F\n",
+    "use newline as f\nZ F\n",
+    "segment g at 43\nZ F\n",
+    "segment h at 55\nZ F\n",
+    "segment i at 1023\ntext \"AB\"\n",
+    "segment j at 56\nZ F\n",
+    "segment k at 130\nuse sine as l\n",
+    "segment n at 140\nuse print as o\n",
+    "segment p at 200\ndata \"A\"\n",
+    "segment q at 210\nlong -1\n",
+];
+
+/// What stands before a line, that line's number, and the fault that a word of the line has there.
+const SETTINGS: [(&str, u32, usize); 7] = [
+    ("segment c at 100\n", 5, NONE),
+    ("use newline as c\n", 5, 9),
+    ("segment c at 42\n", 5, 10),
+    ("segment c at 52\n", 5, 11),
+    ("segment c at 1023\nZ F\n", 6, 12),
+    ("segment c at 56\n", 5, 13),
+    ("segment c at 100\nenter m\n", 6, 16),
+];
+
+/// A line of which the name that it defines is left out: what stands before that name and behind it, the least fault
+/// that the line has wherever it stands, and the least of those faults that it can have by what stands before it, as a
+/// routine's words stand in no segment and a routine that is unknown has none.
+const LINES: [(&str, &str, usize, usize); 11] = [
+    ("", ": Z F\n", NONE, 9),
+    ("", ": A nowhere F\n", 7, 9),
+    ("", ": A a-1000 F\n", 8, 9),
+    ("", ": text \"ABCDEFGHIJKLMNOP\"\n", NONE, 9),
+    ("", ": long -1\n", 17, 9),
+    ("use print as ", "\n", 15, 10),
+    ("use print as ", " with N=nowhere\n", 7, 10),
+    ("use print as ", " with H=a-1000\n", 8, 10),
+    ("use sine as ", "\n", 14, 16),
+    ("use sine as ", " with H=a-1000\n", 8, 16),
+    ("use sine as ", " with H=a-1000,N=nowhere\n", 7, 16),
+];
+
+/// Lines that have faults behind what stands before them: their place, and the least of their faults.
+const OTHERS: [(&str, u32, usize); 7] = [
+    (
+        "segment c at 1022\nsegment d at 1022\ntext \"ABC\"\n",
+        6,
+        12,
+    ),
+    (
+        "segment c at 1022\nZ F\nsegment d at 1022\ntext \"ABC\"\n",
+        7,
+        12,
+    ),
+    (
+        "segment c at 1022\nZ F\nsegment d at 1022\ntext \"AB\"\n",
+        7,
+        13,
+    ),
+    ("enter m\nenter nowhere\n", 5, 7),
+    ("segment c at 43\nenter c\n", 5, 10),
+    ("segment c at 43\nenter m\nenter c\n", 6, 10),
+    ("segment c at 1023\nuse newline as d\nenter d\n", 5, 12),
+];
+
+/// The program of some lines, behind two that define m and a at 56.
+fn source(alloc: Global, lines: &str) -> Result<String, Fail> {
+    Ok(format!(in alloc; "version 2\nsegment m\na: Z F\n{lines}enter m\n")?)
+}
+
+/// The cause of a fault by its number.
+fn cause(number: usize) -> Option<SourceCause> {
+    CAUSES.get(number.wrapping_sub(6)).copied()
+}
+
+#[test]
+fn each_fault_alone_and_two_on_two_lines(rt: HostRuntime) -> Result<(), Fail> {
+    let alloc = rt.alloc();
+    for (first, cause) in FAULTY.iter().zip(CAUSES) {
+        let wanted = Some((5, Some(cause)));
+        let text = source(alloc, first)?;
+        assert!(rt;
+            fault_of(alloc, Size::Full, text.as_bytes()) == wanted,
+            "{first}"
+        );
+        for second in FAULTY {
+            let text = source(alloc, &format!(in alloc; "{first}{second}")?)?;
+            assert!(rt;
+                fault_of(alloc, Size::Full, text.as_bytes()) == wanted,
+                "{first}{second}"
+            );
+        }
+    }
+    Ok(())
+}
+
+#[test]
+fn two_faults_on_one_line(rt: HostRuntime) -> Result<(), Fail> {
+    let alloc = rt.alloc();
+    for (before, line, given) in SETTINGS {
+        for (head, tail, own, least) in LINES {
+            for (name, twice) in [("b", NONE), ("a", 6)] {
+                let text = source(alloc, &format!(in alloc; "{before}{head}{name}{tail}")?)?;
+                let given = if given < least { NONE } else { given };
+                let cause = cause(own.min(twice).min(given));
+                let line = if cause.is_some() { line } else { 0 };
+                assert_eq!(rt;
+                    fault_of(alloc, Size::Full, text.as_bytes()),
+                    Some((line, cause)),
+                    "{text}"
+                );
+            }
+        }
+    }
+    Ok(())
+}
+
+#[test]
+fn other_faults_on_one_line(rt: HostRuntime) -> Result<(), Fail> {
+    let alloc = rt.alloc();
+    for (lines, line, number) in OTHERS {
+        let text = source(alloc, lines)?;
+        assert_eq!(rt;
+            fault_of(alloc, Size::Full, text.as_bytes()),
+            Some((line, cause(number))),
+            "{text}"
+        );
+    }
+    Ok(())
+}

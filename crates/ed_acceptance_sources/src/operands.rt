@@ -1,0 +1,196 @@
+//! Each kind of operand at its edges, in a first segment, in one at a place, and in the settings of a use.
+
+use crate::support::{fault_of, linked};
+use ed_syntax::SourceCause;
+use ed_syntax::SourceCause::{AddressRange, LabelUnknown, NotAStatement, NumberRange};
+use ed_words::Size;
+use std::alloc::Global;
+use std::process::Abort;
+use std::test::Fail;
+
+/// A source of which an operand is left out, on line 3: what stands before it and behind it, and the tape of the source
+/// up to that operand's item and from it on.
+struct Frame {
+    head: &'static str,
+    tail: &'static str,
+    punched_head: &'static str,
+    punched_tail: &'static str,
+}
+
+/// The operand stands at 56, where m is; _l is 57.
+const FIRST: Frame = Frame {
+    head: "version 2\nsegment m\nA ",
+    tail: " F\n_l: Z F\nsegment t at 1023\nZ F\nsegment s at 0\nenter m\n",
+    punched_head: "T56K\nGK\nA",
+    punched_tail: "\nZF\nT1023K\nGK\nZF\nE56K\nPF\n",
+};
+
+/// The operand stands at 100, where m is; _l is 101.
+const AT_100: Frame = Frame {
+    head: "version 2\nsegment m at 100\nA ",
+    tail: " F\n_l: Z F\nsegment t at 1023\nZ F\nsegment s at 0\nenter m\n",
+    punched_head: "T100K\nGK\nA",
+    punched_tail: "\nZF\nT1023K\nGK\nZF\nE100K\nPF\n",
+};
+
+/// The operand gives a parameter of the routine at 56, which is p; m and _l are 107 and in a segment of their own.
+const IN_A_USE: Frame = Frame {
+    head: "version 2\n\nuse print as p with H=",
+    tail: "\nsegment m\n_l: Z F\nsegment t at 1023\nZ F\nsegment s at 0\nenter m\n",
+    punched_head: "T45K\nP",
+    punched_tail: "\nT56K\nGK\n",
+};
+
+/// Checks what is punched for operands.
+fn punched(
+    rt: &impl Abort,
+    alloc: Global,
+    frame: &Frame,
+    cases: &[(&str, &str)],
+) -> Result<(), Fail> {
+    for (operand, item) in cases {
+        let text = format!(in alloc; "{}{operand}{}", frame.head, frame.tail)?;
+        let tape = linked(alloc, Size::Full, text.as_bytes())
+            .expect(rt, operand)
+            .text()?;
+        let wanted = format!(in alloc; "{}{item}{}", frame.punched_head, frame.punched_tail)?;
+        assert!(rt; tape.starts_with(wanted.as_bytes()), "{text}{wanted}");
+    }
+    Ok(())
+}
+
+/// Checks that operands are refused.
+fn refused(
+    rt: &impl Abort,
+    alloc: Global,
+    frame: &Frame,
+    cases: &[(&str, SourceCause)],
+) -> Result<(), Fail> {
+    for (operand, cause) in cases {
+        let text = format!(in alloc; "{}{operand}{}", frame.head, frame.tail)?;
+        assert!(rt;
+            fault_of(alloc, Size::Full, text.as_bytes()) == Some((3, Some(*cause))),
+            "{text}"
+        );
+    }
+    Ok(())
+}
+
+#[test]
+fn operands_in_the_first_segment(rt: HostRuntime) -> Result<(), Fail> {
+    let cases = [
+        ("", "F"),
+        ("0", "F"),
+        ("1023", "1023F"),
+        ("32767", "32767F"),
+        ("m", "@"),
+        ("m+0", "@"),
+        ("m+967", "967@"),
+        ("m-1", "55F"),
+        ("m-56", "F"),
+        ("t", "1023F"),
+        ("t-1023", "F"),
+        ("s", "F"),
+        ("s+1023", "1023F"),
+        ("_l", "1@"),
+        ("_l+966", "967@"),
+        ("_l-57", "F"),
+        ("t-s", "1023F"),
+        ("t+s", "1023F"),
+        ("m-m", "F"),
+        ("_l+m", "113F"),
+    ];
+    punched(&rt, rt.alloc(), &FIRST, &cases)
+}
+
+#[test]
+fn operands_in_a_segment_at_a_place(rt: HostRuntime) -> Result<(), Fail> {
+    let cases = [
+        ("", "F"),
+        ("32767", "32767F"),
+        ("m", "@"),
+        ("m+923", "923@"),
+        ("m-1", "99F"),
+        ("m-100", "F"),
+        ("t", "1023F"),
+        ("s+1023", "1023F"),
+        ("_l", "1@"),
+        ("_l+922", "923@"),
+        ("_l-1", "@"),
+        ("_l-2", "99F"),
+        ("_l-101", "F"),
+        ("t-_l", "922F"),
+        ("_l+_l", "202F"),
+        ("_l-m", "1F"),
+    ];
+    punched(&rt, rt.alloc(), &AT_100, &cases)
+}
+
+#[test]
+fn operands_in_the_settings_of_a_use(rt: HostRuntime) -> Result<(), Fail> {
+    let cases = [
+        ("0", "F"),
+        ("1023", "1023F"),
+        ("32767", "32767F"),
+        ("p", "56F"),
+        ("p+967", "1023F"),
+        ("p-56", "F"),
+        ("m", "107F"),
+        ("m+916", "1023F"),
+        ("m-107", "F"),
+        ("t", "1023F"),
+        ("s", "F"),
+        ("t-s", "1023F"),
+        ("s+t", "1023F"),
+        ("m-p", "51F"),
+    ];
+    punched(&rt, rt.alloc(), &IN_A_USE, &cases)
+}
+
+#[test]
+fn operands_beyond_their_edges(rt: HostRuntime) -> Result<(), Fail> {
+    let cases = [
+        ("32768", NumberRange),
+        ("m+968", AddressRange),
+        ("m-57", AddressRange),
+        ("t+1", AddressRange),
+        ("t-1024", NumberRange),
+        ("s-1", AddressRange),
+        ("s+1024", NumberRange),
+        ("_l+967", AddressRange),
+        ("_l-58", AddressRange),
+        ("_k", LabelUnknown),
+        ("s-t", AddressRange),
+        ("t+m", AddressRange),
+        ("m-_l", AddressRange),
+        ("m-_k", LabelUnknown),
+    ];
+    refused(&rt, rt.alloc(), &FIRST, &cases)?;
+    let cases = [
+        ("m+924", AddressRange),
+        ("m-101", AddressRange),
+        ("_l+923", AddressRange),
+        ("_l-102", AddressRange),
+        ("m-t", AddressRange),
+    ];
+    refused(&rt, rt.alloc(), &AT_100, &cases)
+}
+
+#[test]
+fn settings_beyond_their_edges(rt: HostRuntime) -> Result<(), Fail> {
+    let cases = [
+        ("", NotAStatement),
+        ("32768", NumberRange),
+        ("p+968", AddressRange),
+        ("p-57", AddressRange),
+        ("m+917", AddressRange),
+        ("m-108", AddressRange),
+        ("t+1", AddressRange),
+        ("s-1", AddressRange),
+        ("_l", LabelUnknown),
+        ("m-_l", LabelUnknown),
+        ("s-t", AddressRange),
+        ("t+p", AddressRange),
+    ];
+    refused(&rt, rt.alloc(), &IN_A_USE, &cases)
+}

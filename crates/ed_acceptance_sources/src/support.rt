@@ -1,0 +1,25 @@
+//! What the tests share: a source that is linked, and its first fault.
+
+use ed_link::{Linked, link};
+use ed_syntax::{SourceCause, SourceFault, parse};
+use ed_words::Size;
+use std::alloc::Global;
+
+/// A source, linked for a machine of a size.
+pub fn linked(alloc: Global, size: Size, text: &[u8]) -> Option<Linked> {
+    let program = parse(alloc, text).ok()?;
+    link(alloc, size, &program).ok()
+}
+
+/// The first fault of a source, of form or of meaning, with its line; line 0 where it has none.
+pub fn fault_of(alloc: Global, size: Size, text: &[u8]) -> Option<(u32, Option<SourceCause>)> {
+    let fault = match parse(alloc, text) {
+        Ok(program) => link(alloc, size, &program).err(),
+        Err(fault) => Some(fault),
+    };
+    match fault {
+        None => Some((0, None)),
+        Some(SourceFault::At { line, cause }) => Some((line, Some(cause))),
+        Some(SourceFault::Memory) => None,
+    }
+}
