@@ -1,15 +1,17 @@
 -- The numbers of a command that words are lie in their ranges.
 use Rattle.std.proofs.Common.{◌≡◌, ◌≤◌, ◌*◌, ◌+◌, ℕ, Bool, true, false, List, [], ◌∷◌, refl, arith, lit≤, subst, sym}
 use Rattle.std.proofs.lemmas.Bool.Decides.{nat_tests}
-use Rattle.std.specs.Prelude.{Option, Some, None, IfSome, ◌&&◌, if◌then◌else◌, nat_le, nat_lt, option_map, option_and_then, codes}
+use Rattle.std.specs.Prelude.{Option, Some, None, IfSome, ◌&&◌, if◌then◌else◌}
+use Rattle.std.specs.Prelude.{nat_le, nat_lt, option_map, option_and_then, codes}
 use Rattle.std.specs.List.{after_first, before_first, list_any}
 use Rattle.std.specs.Str.{bytes_eq}
+use Rattle.ed_words.specs.Decimals.{in_range, number, number_within}
 use Rattle.ed_words.specs.Sizes.{locations}
 use Rattle.ed_words.specs.declared.size.Size.{Size}
 use Rattle.ed_call.specs.declared.Call.{Call}
 use Rattle.ed_call.specs.declared.Call.TheVariants.{Print, Read, NewLine, Divide, Root, Check}
-use Rattle.ed_command.specs.Words.{Text}
-use Rattle.ed_command.specs.Numbers.{in_range, is_comma, number, number_within, window, window_named}
+use Rattle.ed_words.specs.Texts.{Text}
+use Rattle.ed_command.specs.Windows.{is_comma, window, window_named}
 use Rattle.ed_command.specs.Settings.{Options, all_settings, has_only, option_value, settings_of}
 use Rattle.ed_command.specs.Settings.{limit_of, post_mortem_of, resumes_of, size_of}
 use Rattle.ed_command.specs.Lines.{Line, alone, call_of, command, command_of, division, line_named, lines, one_number}
@@ -23,7 +25,8 @@ use Rattle.ed_command.specs.declared.command.Window.{Window}
 
 -- ---- what holds of the value in an option
 
-mapped : {A B : Type 0} (P : A → Type 0) (Q : B → Type 0) (f : A → B) (o : Option A) → ((a : A) → P a → Q (f a)) → IfSome o P
+mapped : {A B : Type 0} (P : A → Type 0) (Q : B → Type 0) (f : A → B) (o : Option A) → ((a : A) → P a → Q (f a))
+    → IfSome o P
     → IfSome (option_map f o) Q
 mapped P Q f (Some a) more h = more a h
 mapped P Q f None more h = tt
@@ -57,7 +60,8 @@ set_to P default read (value ∷ []) usual given = given value
 set_to P default read (value ∷ more ∷ others) usual given = tt
 
 limit_set : (o : Options) → IfSome (limit_of o) (IsFromTo 1 100000000)
-limit_set o = set_to (IsFromTo 1 100000000) 10000000 (number_within 1 100000000) o.limits (lit≤ tt, lit≤ tt) (read_within 1 100000000)
+limit_set o = set_to (IsFromTo 1 100000000) 10000000 (number_within 1 100000000) o.limits (lit≤ tt, lit≤ tt)
+    (read_within 1 100000000)
 
 resumes_set : (o : Options) → IfSome (resumes_of o) (IsFromTo 0 1000)
 resumes_set o = set_to (IsFromTo 0 1000) 0 (number_within 0 1000) o.resumes (lit≤ tt, lit≤ tt) (read_within 0 1000)
@@ -73,7 +77,8 @@ in_window z (Some first) (Some count) = window_by z first count _ _ refl refl
 in_window z (Some first) None = tt
 in_window z None count = tt
 
-named_by : (z : Size) (first count : Option ℕ) (c : Bool) → IfSome (if c then window z first count else None) (IsWindowOf z)
+named_by : (z : Size) (first count : Option ℕ) (c : Bool)
+    → IfSome (if c then window z first count else None) (IsWindowOf z)
 named_by z first count true = in_window z first count
 named_by z first count false = tt
 
@@ -96,8 +101,10 @@ all_set z (Some l) None w l_in r_in w_in = tt
 all_set z None r w l_in r_in w_in = tt
 
 settings_by : (o : Options) (z : Option Size)
-    → IfSome (option_and_then (λ z. all_settings z (limit_of o) (resumes_of o) (post_mortem_of z o)) z) AreSettingsInRange
-settings_by o (Some z) = all_set z (limit_of o) (resumes_of o) (post_mortem_of z o) (limit_set o) (resumes_set o) (window_set z o)
+    → IfSome (option_and_then (λ z. all_settings z (limit_of o) (resumes_of o) (post_mortem_of z o)) z)
+    AreSettingsInRange
+settings_by o (Some z) =
+    all_set z (limit_of o) (resumes_of o) (post_mortem_of z o) (limit_set o) (resumes_set o) (window_set z o)
 settings_by o None = tt
 
 -- ---- arguments
@@ -126,7 +133,8 @@ no_number_in P a (argument ∷ others) h = tt
 short_in : (made : ℕ → Call) (numbers : List Text) → ((n : ℕ) → n ≤ 65535 → IsCallInRange (made n))
     → IfSome (option_map made (one_number 0 65535 numbers)) IsCallInRange
 short_in made numbers more =
-    mapped (IsFromTo 0 65535) IsCallInRange made (one_number 0 65535 numbers) (λ n h. more n h.1) (one_within 0 65535 numbers)
+    mapped (IsFromTo 0 65535) IsCallInRange made (one_number 0 65535 numbers) (λ n h. more n h.1)
+    (one_within 0 65535 numbers)
 
 -- one of two
 either_in : {A : Type 0} (P : A → Type 0) (c : Bool) (first second : Option A) → IfSome first P → IfSome second P
@@ -164,7 +172,8 @@ asked_in arguments = mapped IsCallInRange IsActionInRange doing.Call (call_of ar
 
 demo_in : (arguments : List Text) → IfSome (option_map doing.Demo (one_number 1 112 arguments)) IsActionInRange
 demo_in arguments =
-    mapped (IsFromTo 1 112) IsActionInRange doing.Demo (one_number 1 112 arguments) (λ n h. h) (one_within 1 112 arguments)
+    mapped (IsFromTo 1 112) IsActionInRange doing.Demo (one_number 1 112 arguments) (λ n h. h)
+    (one_within 1 112 arguments)
 
 all_in : AreInRange lines
 all_in =
@@ -205,5 +214,6 @@ command_in_range [] o = tt
 command_in_range (word ∷ arguments) o = line_by (line_named lines word) o arguments (named_in lines word all_in)
 
 -- so has the command that was found
-pub found_in_range : (words : List Text) (o : Options) (found : Option Command) → found ≡ command_of words o → IfSome found IsInRange
+pub found_in_range : (words : List Text) (o : Options) (found : Option Command) → found ≡ command_of words o
+    → IfSome found IsInRange
 found_in_range words o found is = subst (λ (c : Option Command). IfSome c IsInRange) (sym is) (command_in_range words o)

@@ -1,5 +1,5 @@
 pub mod Words
-pub mod Numbers
+pub mod Windows
 pub mod Settings
 pub mod Lines
 pub mod Ranges

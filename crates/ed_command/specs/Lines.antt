@@ -2,10 +2,11 @@
 use Rattle.std.specs.Prelude.{ℕ, ◌*◌, List, [], ◌∷◌, Option, Some, None, codes, nat_lt}
 use Rattle.std.specs.Prelude.{option_map, option_and_then, if◌then◌else◌}
 use Rattle.std.specs.Str.{bytes_eq}
+use Rattle.ed_words.specs.Decimals.{number, number_within}
 use Rattle.ed_call.specs.declared.Call.{Call}
 use Rattle.ed_call.specs.declared.Call.TheVariants.{Print, Read, NewLine, Divide, Root, Check}
-use Rattle.ed_command.specs.Words.{Text, Parts, parts_of, values_of}
-use Rattle.ed_command.specs.Numbers.{number, number_within}
+use Rattle.ed_words.specs.Texts.{Text}
+use Rattle.ed_command.specs.Words.{Parts, parts_of, values_of}
 use Rattle.ed_command.specs.Settings.{Options, has_only, options_by, settings_of}
 use Rattle.ed_command.specs.declared.command.Action.{Action}
 use Rattle.ed_command.specs.declared.command.Action.TheVariants as doing
@@ -54,18 +55,23 @@ pub record Line : Type 0 where
   pub action : List Text → Option Action
   pub options : List Text
 
+-- a line of the table
 abbrev pub table_line : Text → (List Text → Option Action) → List Text → Line
 table_line word action options = record { word = word; action = action; options = options }
 
+-- the names of the options: how many orders may be obeyed
 abbrev pub limit : Text
 limit = codes "limit"
 
+-- how often the machine is started again
 abbrev pub resume : Text
 resume = codes "resume"
 
+-- which words are printed after the run
 abbrev pub post_mortem : Text
 post_mortem = codes "post-mortem"
 
+-- the size of the store
 abbrev pub store : Text
 store = codes "store"
 
@@ -103,7 +109,8 @@ with_only names o action = if has_only names o then command action (settings_of 
 
 -- the command of the line that begins with a word, with these arguments
 abbrev pub command_named : Text → List Text → Options → Option Command
-command_named word arguments o = option_and_then (λ l. with_only l.options o (l.action arguments)) (line_named lines word)
+command_named word arguments o =
+    option_and_then (λ l. with_only l.options o (l.action arguments)) (line_named lines word)
 
 -- the command of the first word that belongs to no option, with the others as its arguments
 abbrev pub command_of : List Text → Options → Option Command

@@ -1,11 +1,13 @@
 -- The options of the command line and what they set (this project's own rule). An option is given once at most.
-use Rattle.std.specs.Prelude.{ℕ, ◌&&◌, ◌||◌, Bool, true, false, List, [], ◌∷◌, Option, Some, None, codes, option_map, option_and_then}
+use Rattle.std.specs.Prelude.{ℕ, ◌&&◌, ◌||◌, Bool, true, false, List, [], ◌∷◌}
+use Rattle.std.specs.Prelude.{Option, Some, None, codes, option_map, option_and_then}
 use Rattle.std.specs.List.{list_any}
 use Rattle.std.specs.Str.{bytes_eq}
+use Rattle.ed_words.specs.Decimals.{number_within}
 use Rattle.ed_words.specs.declared.size.Size.{Size}
 use Rattle.ed_words.specs.declared.size.Size.TheVariants.{Full}
-use Rattle.ed_command.specs.Words.{Text}
-use Rattle.ed_command.specs.Numbers.{number_within, size_named, window_named}
+use Rattle.ed_words.specs.Texts.{Text}
+use Rattle.ed_command.specs.Windows.{size_named, window_named}
 use Rattle.ed_command.specs.declared.command.Settings.{Settings}
 use Rattle.ed_command.specs.declared.command.Window.{Window}
 

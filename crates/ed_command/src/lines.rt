@@ -1,11 +1,12 @@
 ghost use Rattle.std.specs.Prelude.{◌≡◌, ◌≤◌, IfSome, map, option_map};
 ghost use Rattle.ed_command.specs.Held.{options_in};
-ghost use Rattle.ed_command.specs.Lines.{alone, call_of, command_named, command_of, division, one_number, with_division, with_only};
+ghost use Rattle.ed_command.specs.Lines.{alone, call_of, command_named, command_of};
+ghost use Rattle.ed_command.specs.Lines.{division, one_number, with_division, with_only};
 
 use crate::command::{Action, Command};
-use crate::numbers::{number, number_within};
 use crate::options::Options;
 use ed_call::Call;
+use ed_words::{number, number_within};
 
 /// The command of the words that belong to no option, and the options.
 pub(crate) fn command_of(words: &[&str], options: &Options<'_>) -> Option<Command>
@@ -89,7 +90,7 @@ fn demo(arguments: &[&str]) -> Option<Action>
     ensures { result ≡ option_map Action.Demo (one_number 1 112 (map (λ a. a.now) arguments.now)) }
 {
     match arguments {
-        [text] => Some(Action::Demo(number_within(text, 1, 112)?)),
+        [text] => Some(Action::Demo(number_within(text.as_bytes(), 1, 112)?)),
         _ => None,
     }
 }
@@ -125,7 +126,7 @@ fn short(numbers: &[&str]) -> Option<u16>
     ensures { result ≡ one_number 0 65535 (map (λ a. a.now) numbers.now) }
 {
     match numbers {
-        [text] => Some(number_within(text, 0, 65535)? as u16),
+        [text] => Some(number_within(text.as_bytes(), 0, 65535)? as u16),
         _ => None,
     }
 }
@@ -135,7 +136,7 @@ fn with_division(numbers: &[&str]) -> Option<Call>
     ensures { result ≡ with_division (map (λ a. a.now) numbers.now) }
 {
     match numbers {
-        [n, by] => division(number(n), number_within(by, 1, 32767)),
+        [n, by] => division(number(n.as_bytes()), number_within(by.as_bytes(), 1, 32767)),
         _ => None,
     }
 }

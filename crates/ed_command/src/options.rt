@@ -1,14 +1,15 @@
 ghost use Rattle.std.specs.Prelude.{◌≡◌, map, option_map, Some};
 ghost use Rattle.std.specs.List.{list_any};
 ghost use Rattle.std.specs.Str.{bytes_eq};
+ghost use Rattle.ed_words.specs.Decimals.{number_within};
 ghost use Rattle.ed_command.specs.Held.{options_in};
-ghost use Rattle.ed_command.specs.Numbers.{number_within, size_named, window_named};
+ghost use Rattle.ed_command.specs.Windows.{size_named, window_named};
 ghost use Rattle.ed_command.specs.Settings.{has_only, is_none_given, may_be_given, option_value, settings_of};
 ghost use Rattle.ed_command.specs.Settings.{limit_of, post_mortem_of, resumes_of, size_of};
 
 use crate::command::{Settings, Window};
-use crate::numbers::{number_within, size_named, window_named};
-use ed_words::Size;
+use crate::windows::{size_named, window_named};
+use ed_words::{Size, number_within};
 
 /// The values of the four options, as the words give them.
 #[derive(Clone, Copy)]
@@ -82,7 +83,7 @@ fn number_setting(values: &[&str], default: u32, least: u32, most: u32) -> Optio
 {
     match values {
         [] => Some(default),
-        [value] => number_within(value, least, most),
+        [value] => number_within(value.as_bytes(), least, most),
         _ => None,
     }
 }

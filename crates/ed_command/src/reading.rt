@@ -39,7 +39,8 @@ pub fn read_words(alloc: Global, words: &[String]) -> Result<Command, CommandFau
 
 /// The command that was found.
 fn found_command(matches: &ArgMatches<'_>) -> Option<Command>
-    ensures is { result ≡ command_of (found_values matches.now (codes "words")) (options_by (found_values matches.now)) }
+    ensures is { result ≡ command_of (found_values matches.now (codes "words"))
+        (options_by (found_values matches.now)) }
     ensures ranges { IfSome result IsInRange }
 {
     command_of(

@@ -1,9 +1,11 @@
 -- How an input is divided, line by line.
-use Rattle.std.proofs.Common.{◌≡◌, ◌∙◌, ℕ, suc, ◌+◌, ◌-◌, ◌<◌, ◌≤◌, refl, sym, ap, subst, arith, Bool, true, false, List, [], ◌∷◌, ◌++◌, length, take, drop}
+use Rattle.std.proofs.Common.{◌≡◌, ◌∙◌, ℕ, suc, ◌+◌, ◌-◌, ◌<◌, ◌≤◌, refl, sym, ap, subst, arith}
+use Rattle.std.proofs.Common.{Bool, true, false, List, [], ◌∷◌, ◌++◌, length, take, drop}
 use Rattle.std.proofs.Common.{Option, Some, None}
 use Rattle.std.specs.Prelude.{◌==◌, not, position, slice_index_or, if◌then◌else◌}
 use Rattle.std.proofs.lemmas.List.{append-nil, append_assoc, drop_all, length-append, take_at}
-use Rattle.ed_syntax.specs.Lines.{Text, lines_of}
+use Rattle.ed_words.specs.Texts.{Text}
+use Rattle.ed_syntax.specs.Lines.{lines_of}
 use Rattle.ed_stepper.specs.Inputs.{Input, announced, at_line, behind_line, divided, divided_at, first_line, with_front}
 use Rattle.ed_stepper.specs.Private.Fronts.{unended}
 use Rattle.ed_stepper.specs.declared.inputs.TextKind.{TextKind}
@@ -21,7 +23,8 @@ behind_is (b ∷ bs) = by_test (b == 10) (behind_is bs)
     by_test true h = refl
     by_test false h = let s : 1 + unended bs + 1 ≡ suc (unended bs + 1) = omega arith in rw s h
 
-pub behind_ended : (text : Text) (end : ℕ) → position (λ b. b == 10) text ≡ Some end → behind_line text ≡ drop (end + 1) text
+pub behind_ended : (text : Text) (end : ℕ) → position (λ b. b == 10) text ≡ Some end
+    → behind_line text ≡ drop (end + 1) text
 behind_ended text end at =
     behind_is text ∙ ap (λ n. drop (n + 1) text) (sym (found (λ b. b == 10) text end at).0)
 
@@ -55,7 +58,8 @@ pub prefixed_none : (o : Option Input) → prefixed [] o ≡ o
 prefixed_none None = refl
 prefixed_none (Some i) = refl
 
-pub prefixed-append : (before more : Text) (o : Option Input) → prefixed before (prefixed more o) ≡ prefixed (before ++ more) o
+pub prefixed-append : (before more : Text) (o : Option Input)
+    → prefixed before (prefixed more o) ≡ prefixed (before ++ more) o
 prefixed-append before more None = refl
 prefixed-append before more (Some i) =
     ap (λ (script : Text). Some (record i { script = script })) (sym (append_assoc before more i.script))
@@ -72,7 +76,8 @@ skips [] = refl
 skips (b ∷ bs) = by_test (b == 10) (skips bs)
   where
     by_test : (t : Bool) → divided_at false bs ≡ prefixed (line_front bs) (divided (behind_line bs))
-        → with_front b (divided_at t bs) ≡ prefixed (if t then b ∷ [] else b ∷ line_front bs) (divided (if t then bs else behind_line bs))
+        → with_front b (divided_at t bs)
+        ≡ prefixed (if t then b ∷ [] else b ∷ line_front bs) (divided (if t then bs else behind_line bs))
     by_test true h = ap (with_front b) (sym (prefixed_none (divided bs))) ∙ one_front b [] (divided bs)
     by_test false h = ap (with_front b) h ∙ one_front b (line_front bs) (divided (behind_line bs))
 
@@ -99,8 +104,10 @@ first_is text line rest is = ap (λ (lines : List Text). slice_index_or lines 0 
 -- what stands before a rest is the front, by its length
 cut : (front rest whole : Text) → front ++ rest ≡ whole → take (length whole - length rest) whole ≡ front
 cut front rest whole is =
-    let long : length front + length rest ≡ length whole = sym (length-append front rest) ∙ ap (λ (x : Text). length x) is in
-    ap (λ (x : Text). take (length whole - length rest) x) (sym is) ∙ take_at front rest (length whole - length rest) (omega (arith, long))
+    let long : length front + length rest ≡ length whole = sym (length-append front rest)
+    ∙ ap (λ (x : Text). length x) is in
+    ap (λ (x : Text). take (length whole - length rest) x) (sym is)
+    ∙ take_at front rest (length whole - length rest) (omega (arith, long))
 
 -- the bytes before the rest and the rest, and that the division of the rest is that of the input
 pub record Stands (input rest : Text) : Type 0 where
@@ -124,13 +131,15 @@ goes_on input rest after s some none is =
     let before : Text = take (length input - length rest) input in
     let front = line_front rest in
     let rest_is : front ++ after ≡ rest = ap (λ (x : Text). front ++ x) is ∙ front_whole rest in
-    let whole : (before ++ front) ++ after ≡ input = append_assoc before front after ∙ ap (λ (x : Text). before ++ x) rest_is ∙ s.whole in
+    let whole : (before ++ front) ++ after ≡ input = append_assoc before front after
+    ∙ ap (λ (x : Text). before ++ x) rest_is ∙ s.whole in
     let e = cut (before ++ front) after input whole in
     let long = ap (λ (x : Text). length x) whole in
     record {
       few = omega (arith, long, length-append (before ++ front) after);
       whole = ap (λ (x : Text). x ++ after) e ∙ whole;
-      same = s.same ∙ ap (prefixed before) (passes rest some none ∙ ap (λ (x : Text). prefixed front (divided x)) (sym is))
+      same = s.same ∙ ap (prefixed before)
+          (passes rest some none ∙ ap (λ (x : Text). prefixed front (divided x)) (sym is))
           ∙ prefixed-append before front (divided after) ∙ sym (ap (λ (x : Text). prefixed x (divided after)) e);
     }
 

@@ -1,5 +1,6 @@
 -- The orders of a move are the least number at which an end holds.
-use Rattle.std.proofs.Common.{◌≡◌, ◌⊎◌, inl, inr, ℕ, ◌<◌, ◌≤◌, refl, sym, ap, ◌∙◌, arith, Bool, true, false, Option, Some, None, is_some}
+use Rattle.std.proofs.Common.{◌≡◌, ◌⊎◌, inl, inr, ℕ, ◌<◌, ◌≤◌, refl, sym, ap, ◌∙◌}
+use Rattle.std.proofs.Common.{arith, Bool, true, false, Option, Some, None, is_some}
 use Rattle.ed_words.proofs.Numbers.{eq_true}
 use Rattle.ed_machine.specs.State.{State}
 use Rattle.ed_machine.specs.Steps.{least}
@@ -49,7 +50,8 @@ at_most n left k s end e = by_place (grind arith)
     by_place (inr h) = absurd (own_ends n left s (e.first n h))
 
 -- the orders of a move as a function
-pub orders_found : (aim : Aim) (left k : ℕ) (s : State) (end : MoveEnd) → Ends aim left s k end → k ≡ move_orders aim left s
+pub orders_found : (aim : Aim) (left k : ℕ) (s : State) (end : MoveEnd) → Ends aim left s k end
+    → k ≡ move_orders aim left s
 unfolding move_orders
 orders_found aim left k s end e = by_place (split (within_left aim left k s end e))
   where

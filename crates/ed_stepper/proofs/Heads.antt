@@ -1,12 +1,14 @@
 -- The first line of a text, and the first part of a line.
-use Rattle.std.proofs.Common.{◌≡◌, ◌∙◌, ℕ, zero, suc, ◌+◌, ◌-◌, ◌<◌, ◌≤◌, refl, sym, ap, arith, Bool, true, false, not, [], ◌∷◌, ◌++◌}
+use Rattle.std.proofs.Common.{◌≡◌, ◌∙◌, ℕ, zero, suc, ◌+◌, ◌-◌, ◌<◌, ◌≤◌, refl, sym}
+use Rattle.std.proofs.Common.{ap, arith, Bool, true, false, not, [], ◌∷◌, ◌++◌}
 use Rattle.std.proofs.Common.{Option, Some, None, unwrap_or}
 use Rattle.std.proofs.Common.{take, drop, length, get_or, nat_lt}
 use Rattle.std.specs.Prelude.{◌==◌, position, if◌then◌else◌}
 use Rattle.std.specs.List.{position_or_len}
 use Rattle.ed_words.proofs.Numbers.{eq_of, lt_of, lt_true, not_lt_of}
 use Rattle.std.proofs.lemmas.List.{drop_all, length-drop, take_more, take_all}
-use Rattle.ed_syntax.specs.Lines.{Text, lines_of, with_byte}
+use Rattle.ed_words.specs.Texts.{Text}
+use Rattle.ed_syntax.specs.Lines.{lines_of, with_byte}
 use Rattle.ed_syntax.specs.Parts.{is_blank}
 use Rattle.ed_syntax.specs.Private.LineFronts.{has_end, without_return}
 use Rattle.ed_syntax.proofs.Lines.{keeps_end, no_return, takes_ended, takes_last}
@@ -50,7 +52,8 @@ stop_is text (suc k) within =
     pushed : take (suc k) text ≡ take k text ++ get_or text k 0 ∷ []
     pushed = let e : suc k ≡ k + 1 = omega arith in rw e (take_more text k 0 (omega arith))
 
-    by_test : (t : Bool) → (get_or text k 0 == 13) ≡ t → take (if t then k else suc k) text ≡ without_return (take (suc k) text)
+    by_test : (t : Bool) → (get_or text k 0 == 13) ≡ t
+        → take (if t then k else suc k) text ≡ without_return (take (suc k) text)
     by_test true e =
         let thirteen : get_or text k 0 ≡ 13 = eq_of _ _ e in
         rw (pushed, thirteen) (sym (no_return (take k text)))
@@ -98,12 +101,15 @@ none_begun [] e = refl
 none_begun (b ∷ bs) e = rw e refl
 
 -- the part at the front
-part_at : (text : Text) → begins_part text ≡ true → parts_of text ≡ take (solid text) text ∷ parts_of (drop (solid text) text)
+part_at : (text : Text) → begins_part text ≡ true
+    → parts_of text ≡ take (solid text) text ∷ parts_of (drop (solid text) text)
 part_at [] begin = absurd (cc)
 part_at (b ∷ bs) begin = by_test (is_blank b) refl begin (part_at bs)
   where
-    after : (x : Bool) → begins_part bs ≡ x → (begins_part bs ≡ true → parts_of bs ≡ take (solid bs) bs ∷ parts_of (drop (solid bs) bs))
-        → (if x then with_byte b (parts_of bs) else (b ∷ []) ∷ parts_of bs) ≡ (b ∷ take (solid bs) bs) ∷ parts_of (drop (solid bs) bs)
+    after : (x : Bool) → begins_part bs ≡ x
+        → (begins_part bs ≡ true → parts_of bs ≡ take (solid bs) bs ∷ parts_of (drop (solid bs) bs))
+        → (if x then with_byte b (parts_of bs) else (b ∷ []) ∷ parts_of bs) ≡ (b ∷ take (solid bs) bs)
+        ∷ parts_of (drop (solid bs) bs)
     after true e h = ap (with_byte b) (h e)
     after false e h = let z = none_begun bs e in rw z refl
 
@@ -121,16 +127,19 @@ within : (test : ℕ → Bool) (text : Text) → position_or_len test text ≤ l
 within test [] = omega arith
 within test (b ∷ bs) = by_test (test b) (within test bs)
   where
-    by_test : (t : Bool) → position_or_len test bs ≤ length bs → (if not t then 1 + position_or_len test bs else 0) ≤ length (b ∷ bs)
+    by_test : (t : Bool) → position_or_len test bs ≤ length bs
+        → (if not t then 1 + position_or_len test bs else 0) ≤ length (b ∷ bs)
     by_test true h = omega arith
     by_test false h = omega arith
 
 -- a place that is found
-pub found : (test : ℕ → Bool) (text : Text) (i : ℕ) → position test text ≡ Some i → (i ≡ position_or_len test text) × (i < length text)
+pub found : (test : ℕ → Bool) (text : Text) (i : ℕ) → position test text ≡ Some i
+    → (i ≡ position_or_len test text) × (i < length text)
 found test text i is = by_test (nat_lt (position_or_len test text) (length text)) refl is
   where
     by_test : (t : Bool) → nat_lt (position_or_len test text) (length text) ≡ t
-        → (if t then Some (position_or_len test text) else None) ≡ Some i → (i ≡ position_or_len test text) × (i < length text)
+        → (if t then Some (position_or_len test text) else None) ≡ Some i
+        → (i ≡ position_or_len test text) × (i < length text)
     by_test true e h =
         let same : i ≡ position_or_len test text = cc in
         let low = lt_of _ _ e in
@@ -147,7 +156,8 @@ none_found test text is = by_test (nat_lt (position_or_len test text) (length te
     by_test false e h = let high = not_lt_of _ _ e in omega (arith, high, within test text)
 
 -- the place, or the end
-place_or_end : (test : ℕ → Bool) (text : Text) → unwrap_or (position test text) (length text) ≡ position_or_len test text
+place_or_end : (test : ℕ → Bool) (text : Text)
+    → unwrap_or (position test text) (length text) ≡ position_or_len test text
 place_or_end test text = by_option (position test text) refl
   where
     by_option : (o : Option ℕ) → position test text ≡ o → unwrap_or o (length text) ≡ position_or_len test text
@@ -165,7 +175,8 @@ line_ended text end stop at is =
     first_ended text stop (omega (arith, place, low)) (is ∙ ap (stop_of text) place) ∙ ap
     (λ n. take stop text ∷ lines_of (drop (n + 1) text)) (sym place)
 
-pub line_unended : (text : Text) → 0 < length text → position (λ b. b == 10) text ≡ None → lines_of text ≡ text ∷ lines_of []
+pub line_unended : (text : Text) → 0 < length text → position (λ b. b == 10) text ≡ None
+    → lines_of text ≡ text ∷ lines_of []
 line_unended text some none = first_last text some (none_found (λ b. b == 10) text none)
 
 pub no_part : (line : Text) → position (λ b. not (is_blank b)) line ≡ None → parts_of line ≡ []

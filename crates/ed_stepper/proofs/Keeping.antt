@@ -1,5 +1,6 @@
 -- What a session keeps over a move.
-use Rattle.std.proofs.Common.{◌≡◌, ℕ, ◌+◌, ◌-◌, ◌<◌, ◌≤◌, refl, sym, ap, ◌∙◌, subst, arith, true, List, [], ◌⊎◌, inl, inr}
+use Rattle.std.proofs.Common.{◌≡◌, ℕ, ◌+◌, ◌-◌, ◌<◌, ◌≤◌, refl, sym, ap, ◌∙◌}
+use Rattle.std.proofs.Common.{subst, arith, true, List, [], ◌⊎◌, inl, inr}
 use Rattle.ed_machine.specs.State.{State}
 use Rattle.ed_machine.specs.OrderTable.{step}
 use Rattle.ed_machine.specs.Steps.{IsFree, is_obeyed, state_after}
@@ -19,9 +20,14 @@ no_marks start marks is = subst (λ ms. AreMarks start ms) (sym is) none
     none k d h = absurd (omega arith)
 
 -- a walk from where a session stands is a move
-pub moves_so : (aim : Aim) (start machine last : State) (limit done orders at : ℕ) (end : MoveEnd) → machine ≡ state_after done start
+pub moves_so : (aim : Aim) (start machine last : State) (limit done orders at : ℕ) (end : MoveEnd)
+    → machine ≡ state_after done start
     → Ends aim (limit - done) machine orders end → last ≡ state_after orders machine → at ≡ last.counter
-    → Moves aim (record { start = start; limit = limit; done = done }) (record { start = start; limit = limit; done = done + orders })
+    → Moves aim (record { start = start; limit = limit; done = done }) (record {
+      start = start;
+      limit = limit;
+      done = done + orders;
+    })
     (record { at = at; done = done + orders; end = end })
 moves_so aim start machine last limit done orders at end is ends to place =
     let from : Ends aim (limit - done) (state_after done start) orders end =
@@ -32,7 +38,8 @@ moves_so aim start machine last limit done orders at end is ends to place =
       orders_are = orders_found aim (limit - done) orders (state_after done start) end from;
       end_is = end_found aim (limit - done) orders (state_after done start) end from;
       done_is = refl;
-      at_is = place ∙ ap (λ (x : State). x.counter) (to ∙ ap (state_after orders) is ∙ sym (after_sum done orders start));
+      at_is = place ∙ ap (λ (x : State). x.counter)
+          (to ∙ ap (state_after orders) is ∙ sym (after_sum done orders start));
       stand_is = refl;
     }
 
@@ -41,7 +48,8 @@ pub from_mark : (start : State) (m : Mark) (done : ℕ) → IsMark start m → m
     → state_after (done - m.done) m.machine ≡ state_after done start
 from_mark start m done mark low =
     let e : m.done + (done - m.done) ≡ done = omega arith in
-    ap (state_after (done - m.done)) mark.is ∙ sym (after_sum m.done (done - m.done) start) ∙ ap (λ k. state_after k start) e
+    ap (state_after (done - m.done)) mark.is ∙ sym (after_sum m.done (done - m.done) start)
+    ∙ ap (λ k. state_after k start) e
 
 -- orders obeyed, and more after them
 pub free_later : (j k : ℕ) (s : State) → IsFree j s → IsFree k (state_after j s) → IsFree (j + k) s

@@ -3,10 +3,12 @@ use Rattle.std.proofs.Common.{◌≡◌, ◌∙◌, ◌⊎◌, inl, inr, ℕ, �
 use Rattle.std.proofs.Common.{List, [], ◌∷◌, ◌++◌, length, map, append_assoc, append-nil, length-append, nat_eq}
 use Rattle.std.specs.Prelude.{Option, Some, None, IsSome, is_none, unwrap_or}
 use Rattle.ed_words.proofs.Numbers.{not_eq_of}
-use Rattle.ed_syntax.specs.Lines.{Text, lines_of}
+use Rattle.ed_words.specs.Texts.{Text}
+use Rattle.ed_syntax.specs.Lines.{lines_of}
 use Rattle.ed_stepper.specs.Sessions.{Stand}
 use Rattle.ed_stepper.specs.Commands.{command_of}
-use Rattle.ed_stepper.specs.Scripts.{LeftBy, Played, TooFar, after, bad_from, bad_line, behind, commands_of, is_too_far, play, played, writes}
+use Rattle.ed_stepper.specs.Scripts.{LeftBy, Played, TooFar, after, bad_from, bad_line}
+use Rattle.ed_stepper.specs.Scripts.{behind, commands_of, is_too_far, play, played, writes}
 use Rattle.ed_stepper.specs.declared.commands.Command.{Command}
 use Rattle.ed_stepper.specs.declared.commands.Command.TheVariants.{Nothing}
 
@@ -41,12 +43,16 @@ play_more (c ∷ ran) more k s t text is = by_test (is_too_far c s) refl (play_m
     by_test false e before_rest =
         let now : behind (writes c s) rest ≡ whole_play text t = sym (rw e refl) ∙ is in
         let text_is : writes c s ++ rest.text ≡ text = ap (λ (p : Played). p.text) now in
-        let before : rest ≡ whole_play rest.text t = (λ i. record { text = rest.text; stand = (now i).stand; refused = (now i).refused }) in
+        let before : rest ≡ whole_play rest.text t =
+        (λ i. record { text = rest.text; stand = (now i).stand; refused = (now i).refused }) in
         let ih = before_rest rest.text before in
         let count : k + 1 + length ran ≡ k + length (c ∷ ran) = omega arith in
         let end : Played = play (k + length (c ∷ ran)) more t in
         rw e (ap (behind (writes c s)) (ih ∙ ap (λ n. behind rest.text (play n more t)) count)
-        ∙ (λ i. record end { text = (sym (append_assoc (writes c s) rest.text end.text) ∙ ap (λ x. x ++ end.text) text_is) i }))
+        ∙ (λ i. record end {
+          text =
+              (sym (append_assoc (writes c s) rest.text end.text) ∙ ap (λ x. x ++ end.text) text_is) i;
+        }))
 
 -- the lines of a script so far ran whole, and none of the others is bad
 pub record Playing (script : Text) (s : Stand) (line : ℕ) (rest text : Text) (t : Stand) : Type 0 where
@@ -57,7 +63,8 @@ pub record Playing (script : Text) (s : Stand) (line : ℕ) (rest text : Text) (
   pub good : bad_from line (lines_of rest) ≡ None
   pub few : line ≤ 1001
 
-pub playing_first : (script text : Text) (s : Stand) → bad_line script ≡ None → text ≡ [] → Playing script s 1 script text s
+pub playing_first : (script text : Text) (s : Stand) → bad_line script ≡ None → text ≡ []
+    → Playing script s 1 script text s
 playing_first script text s good none = record {
   ran = [];
   whole = refl;
@@ -82,7 +89,8 @@ good_first line bytes rest good = by_test (nat_eq line 1001) (is_none (command_o
     by_test false false e f = record { below = e; some = f; more = sym (rw (e, f) refl) ∙ good }
 
 -- the next line is a command
-pub has_command : (script : Text) (s : Stand) (line : ℕ) (rest text bytes more : Text) (t : Stand) → Playing script s line rest text t
+pub has_command : (script : Text) (s : Stand) (line : ℕ) (rest text bytes more : Text) (t : Stand)
+    → Playing script s line rest text t
     → lines_of rest ≡ bytes ∷ lines_of more → IsSome (command_of bytes)
 has_command script s line rest text bytes more t p is =
     some_of (command_of bytes) (good_first line bytes (lines_of more) (sym (ap (bad_from line) is) ∙ p.good)).some
@@ -92,13 +100,15 @@ has_command script s line rest text bytes more t p is =
     some_of (Some c) e = refl
 
 -- the commands that are left begin with it
-pub begins_with : (rest bytes more : Text) (c : Command) → lines_of rest ≡ bytes ∷ lines_of more → command_of bytes ≡ Some c
+pub begins_with : (rest bytes more : Text) (c : Command) → lines_of rest ≡ bytes ∷ lines_of more
+    → command_of bytes ≡ Some c
     → commands_of rest ≡ c ∷ commands_of more
 begins_with rest bytes more c is command =
     ap (map (λ line. unwrap_or (command_of line) Nothing)) is ∙ ap (λ o. unwrap_or o Nothing ∷ commands_of more) command
 
 -- the next line has run
-pub playing_next : (script : Text) (s : Stand) (line : ℕ) (rest text bytes more grown written : Text) (t u : Stand) (c : Command)
+pub playing_next : (script : Text) (s : Stand) (line : ℕ) (rest text bytes more grown written : Text) (t u : Stand)
+    (c : Command)
     → Playing script s line rest text t → lines_of rest ≡ bytes ∷ lines_of more → command_of bytes ≡ Some c
     → (is_too_far c t ≡ false) × (written ≡ writes c t) × (u ≡ after c t) → grown ≡ text ++ written
     → Playing script s (line + 1) more grown u
@@ -120,7 +130,8 @@ playing_next script s line rest text bytes more grown written t u c p is command
     }
 
 -- all lines have run
-pub playing_done : (script : Text) (s : Stand) (line : ℕ) (rest text : Text) (t : Stand) → Playing script s line rest text t
+pub playing_done : (script : Text) (s : Stand) (line : ℕ) (rest text : Text) (t : Stand)
+    → Playing script s line rest text t
     → rest ≡ [] → played script s ≡ record { text = text; stand = t; refused = None }
 playing_done script s line rest text t p none =
     ap (λ cs. play 1 cs s) (p.whole ∙ ap (λ r. p.ran ++ commands_of r) none) ∙ play_more p.ran [] 1 s t text p.left
@@ -164,4 +175,5 @@ playing_memory script s line rest text bytes more t u c p is command (inl same) 
     subst (λ x. LeftBy script s x) (sym same) (playing_left script s line rest text t p)
 playing_memory script s line rest text bytes more t u c p is command (inr does) =
     playing_left script s (line + 1) more (text ++ writes c t) u
-    (playing_next script s line rest text bytes more (text ++ writes c t) (writes c t) t u c p is command (does.0, refl, does.1) refl)
+    (playing_next script s line rest text bytes more (text ++ writes c t) (writes c t) t u c p is command
+    (does.0, refl, does.1) refl)

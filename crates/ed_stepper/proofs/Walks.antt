@@ -1,5 +1,6 @@
 -- One more order of a move.
-use Rattle.std.proofs.Common.{◌≡◌, ℕ, ◌+◌, ◌<◌, refl, sym, ap, ◌∙◌, arith, add-one, below_more, true, false, Some, None, ◌⊎◌, inl, inr}
+use Rattle.std.proofs.Common.{◌≡◌, ℕ, ◌+◌, ◌<◌, refl, sym, ap, ◌∙◌, arith, add-one}
+use Rattle.std.proofs.Common.{below_more, true, false, Some, None, ◌⊎◌, inl, inr}
 use Rattle.ed_words.proofs.Numbers.{eq_true, eq_false}
 use Rattle.ed_machine.specs.State.{State}
 use Rattle.ed_machine.specs.OrderTable.{step}
@@ -58,7 +59,8 @@ pub record Next (aim : Aim) (left : ℕ) (s : State) (k : ℕ) (m n : State) (tu
   pub stop_is : stopped_after (k + 1) s ≡ is_stop turn
   pub first : (j : ℕ) → j < k + 1 → end_after aim left j s ≡ None
 
-pub next : (aim : Aim) (left k : ℕ) (s m n : State) (turn : Turn) → Walking aim left s k m → k < left → turn ≡ (step m).turn
+pub next : (aim : Aim) (left k : ℕ) (s m n : State) (turn : Turn) → Walking aim left s k m → k < left
+    → turn ≡ (step m).turn
     → n ≡ (step m).state → is_obeyed turn ≡ true → Next aim left s k m n turn
 next aim left k s m n turn w below is to obeyed =
     let same : (step (state_after k s)).turn ≡ turn = ap (λ (x : State). (step x).turn) (sym w.state) ∙ sym is in
@@ -95,10 +97,14 @@ blocks aim left k s m end w below is = record { now = by_next aim left k s m w b
 
 -- it comes to the limit
 pub limits : (aim : Aim) (left : ℕ) (s m : State) → Walking aim left s left m → Ends aim left s left Limit
-limits aim left s m w = let e = eq_true left left refl in record { now = rw (w.quiet, w.going, e) refl; first = w.first }
+limits aim left s m w = let e = eq_true left left refl in record {
+  now = rw (w.quiet, w.going, e) refl;
+  first = w.first;
+}
 
 -- it ends before any order
-pub ends_at_once : (aim : Aim) (left : ℕ) (s : State) (end : MoveEnd) → own_end aim 0 s ≡ Some end → Ends aim left s 0 end
+pub ends_at_once : (aim : Aim) (left : ℕ) (s : State) (end : MoveEnd) → own_end aim 0 s ≡ Some end
+    → Ends aim left s 0 end
 ends_at_once aim left s end own = record { now = rw own refl; first = λ j h. absurd (omega arith) }
 
 -- a turn that neither stops nor is blocked
@@ -107,8 +113,10 @@ quiet_turn t (inl e) = (ap is_obeyed e, ap is_stop e)
 quiet_turn t (inr p) = (ap is_obeyed p.1, ap is_stop p.1)
 
 -- an order that neither stops nor is blocked
-pub taken : (aim : Aim) (left k : ℕ) (s m n : State) (turn : Turn) → Walking aim left s k m → k < left → turn ≡ (step m).turn
-    → n ≡ (step m).state → (turn ≡ Went) ⊎ ((x : ℕ) × (turn ≡ Printed x)) → Next aim left s k m n turn × (is_stop turn ≡ false)
+pub taken : (aim : Aim) (left k : ℕ) (s m n : State) (turn : Turn) → Walking aim left s k m → k < left
+    → turn ≡ (step m).turn
+    → n ≡ (step m).state → (turn ≡ Went) ⊎ ((x : ℕ) × (turn ≡ Printed x))
+    → Next aim left s k m n turn × (is_stop turn ≡ false)
 taken aim left k s m n turn w below is to quiet =
     let q = quiet_turn turn quiet in (next aim left k s m n turn w below is to q.0, q.1)
 

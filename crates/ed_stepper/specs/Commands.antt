@@ -1,15 +1,16 @@
 -- The lines of a script (this project's own rule). The parts of a line stand with one or more blanks between them, and
 -- blanks may stand at either end.
-use Rattle.std.specs.Prelude.{ℕ, ◌&&◌, not, Bool, false, List, [], ◌∷◌, codes, length, nat_le, if◌then◌else◌}
-use Rattle.std.specs.Prelude.{Option, Some, None, option_and_then, option_map}
-use Rattle.std.specs.List.{list_all}
+use Rattle.std.specs.Prelude.{ℕ, not, Bool, false, List, [], ◌∷◌, codes, nat_le, if◌then◌else◌}
+use Rattle.std.specs.Prelude.{Option, Some, None, option_map}
 use Rattle.std.specs.Str.{bytes_eq}
-use Rattle.ed_syntax.specs.Lines.{Text, with_byte}
-use Rattle.ed_syntax.specs.Parts.{is_blank, is_digit}
-use Rattle.ed_syntax.specs.Grammar.{value}
+use Rattle.ed_words.specs.Decimals.{number_within}
+use Rattle.ed_words.specs.Texts.{Text}
+use Rattle.ed_syntax.specs.Lines.{with_byte}
+use Rattle.ed_syntax.specs.Parts.{is_blank}
 use Rattle.ed_stepper.specs.declared.moves.Aim.TheVariants as aims
 use Rattle.ed_stepper.specs.declared.commands.Command.{Command}
-use Rattle.ed_stepper.specs.declared.commands.Command.TheVariants.{Nothing, Move, Back, Trace, Show, Accumulator, Multiplier, LastPrinted}
+use Rattle.ed_stepper.specs.declared.commands.Command.TheVariants.{Nothing, Move, Back, Trace, Show}
+use Rattle.ed_stepper.specs.declared.commands.Command.TheVariants.{Accumulator, Multiplier, LastPrinted}
 
 -- whether a part begins here
 abbrev pub begins_part : Text → Bool
@@ -22,18 +23,6 @@ parts_of [] = []
 parts_of (b ∷ bs) = if is_blank b then parts_of bs
     else if begins_part bs then with_byte b (parts_of bs)
     else (b ∷ []) ∷ parts_of bs
-
--- the number of 1 to 9 decimal digits
-abbrev pub digits : Text → Option ℕ
-digits part = if nat_le 1 (length part) && nat_le (length part) 9 && list_all is_digit part then Some (value part) else None
-
--- a number, where it is one from `least` to `most`
-abbrev pub in_range : ℕ → ℕ → ℕ → Option ℕ
-in_range least most n = if nat_le least n && nat_le n most then Some n else None
-
--- a number from `least` to `most`
-abbrev pub number : ℕ → ℕ → Text → Option ℕ
-number least most part = option_and_then (in_range least most) (digits part)
 
 -- `entry`
 abbrev pub of_one : Text → Option Command
@@ -49,20 +38,20 @@ abbrev pub shown : Text → Option Command
 shown a = if bytes_eq a (codes "acc") then Some Accumulator
     else if bytes_eq a (codes "mult") then Some Multiplier
     else if bytes_eq a (codes "last") then Some LastPrinted
-    else window (number 0 1023 a) (number 0 1023 a)
+    else window (number_within 0 1023 a) (number_within 0 1023 a)
 
 -- `go N`, `to A`, `back N`, `trace N` and what `show` has one part behind it for
 abbrev pub of_two : Text → Text → Option Command
-of_two w a = if bytes_eq w (codes "go") then option_map (λ n. Move (aims.Orders n)) (number 1 100000000 a)
-    else if bytes_eq w (codes "to") then option_map (λ n. Move (aims.Address n)) (number 0 1023 a)
-    else if bytes_eq w (codes "back") then option_map Back (number 0 100000000 a)
-    else if bytes_eq w (codes "trace") then option_map Trace (number 1 10000 a)
+of_two w a = if bytes_eq w (codes "go") then option_map (λ n. Move (aims.Orders n)) (number_within 1 100000000 a)
+    else if bytes_eq w (codes "to") then option_map (λ n. Move (aims.Address n)) (number_within 0 1023 a)
+    else if bytes_eq w (codes "back") then option_map Back (number_within 0 100000000 a)
+    else if bytes_eq w (codes "trace") then option_map Trace (number_within 1 10000 a)
     else if bytes_eq w (codes "show") then shown a
     else None
 
 -- `show A B`
 abbrev pub of_three : Text → Text → Text → Option Command
-of_three w a b = if bytes_eq w (codes "show") then window (number 0 1023 a) (number 0 1023 b) else None
+of_three w a b = if bytes_eq w (codes "show") then window (number_within 0 1023 a) (number_within 0 1023 b) else None
 
 -- the command of the parts of a line; a line without parts does nothing
 abbrev pub of_parts : List Text → Option Command

@@ -1,8 +1,10 @@
 -- The input of the command that runs a script: the script's lines, a line that divides, and a tape's text or a source
 -- (this project's own rule).
-use Rattle.std.specs.Prelude.{◌≡◌, ℕ, ◌==◌, Bool, true, List, [], ◌∷◌, codes, slice_index_or, if◌then◌else◌, Option, Some, None}
+use Rattle.std.specs.Prelude.{◌≡◌, ℕ, ◌==◌, Bool, true, List, [], ◌∷◌, codes}
+use Rattle.std.specs.Prelude.{slice_index_or, if◌then◌else◌, Option, Some, None}
 use Rattle.std.specs.Str.{bytes_eq}
-use Rattle.ed_syntax.specs.Lines.{Text, lines_of}
+use Rattle.ed_words.specs.Texts.{Text}
+use Rattle.ed_syntax.specs.Lines.{lines_of}
 use Rattle.ed_stepper.specs.declared.inputs.Divided.{Divided}
 use Rattle.ed_stepper.specs.declared.inputs.TextKind.{TextKind}
 use Rattle.ed_stepper.specs.declared.inputs.TextKind.TheVariants.{Tape, Source}
@@ -18,7 +20,8 @@ behind_line (b ∷ bs) = if b == 10 then bs else behind_line bs
 
 -- what a line announces, if it divides: it is exactly `tape` or `source`
 abbrev pub announced : Text → Option TextKind
-announced line = if bytes_eq line (codes "tape") then Some Tape else if bytes_eq line (codes "source") then Some Source else None
+announced line = if bytes_eq line (codes "tape") then Some Tape else if bytes_eq line (codes "source")
+    then Some Source else None
 
 -- an input that is divided: the bytes of the script, and the kind and the bytes of the text behind the dividing line
 pub record Input : Type 0 where

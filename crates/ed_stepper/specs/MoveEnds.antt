@@ -1,11 +1,13 @@
 -- Where a move of a session ends (this project's own rules). The ends are tested in this order: a stop, the move's own
 -- end, the limit, an order that can't be obeyed.
-use Rattle.std.specs.Prelude.{ℕ, zero, suc, ◌≡◌, ◌<◌, Bool, true, false, ◌&&◌, nat_eq, if◌then◌else◌, Option, Some, None, is_some, unwrap_or}
+use Rattle.std.specs.Prelude.{ℕ, zero, suc, ◌≡◌, ◌<◌, Bool, true, false, ◌&&◌, nat_eq}
+use Rattle.std.specs.Prelude.{if◌then◌else◌, Option, Some, None, is_some, unwrap_or}
 use Rattle.ed_machine.specs.State.{State}
 use Rattle.ed_machine.specs.OrderTable.{step}
 use Rattle.ed_machine.specs.Steps.{least, state_after}
 use Rattle.ed_machine.specs.declared.turn.Turn.{Turn}
-use Rattle.ed_machine.specs.declared.turn.Turn.TheVariants.{Stopped as TurnStopped, NoOrder as TurnNoOrder, NoTape as TurnNoTape}
+use Rattle.ed_machine.specs.declared.turn.Turn.TheVariants.{Stopped as TurnStopped}
+use Rattle.ed_machine.specs.declared.turn.Turn.TheVariants.{NoOrder as TurnNoOrder, NoTape as TurnNoTape}
 use Rattle.ed_initial.specs.Load.{enters}
 use Rattle.ed_stepper.specs.declared.moves.MoveEnd.{MoveEnd}
 use Rattle.ed_stepper.specs.declared.moves.MoveEnd.TheVariants.{Went, There, Entered, Stopped, NoOrder, NoTape, Limit}

@@ -1,17 +1,20 @@
 -- What a script does, and what it writes (this project's own rules).
-use Rattle.std.specs.Prelude.{ℕ, ◌≡◌, ◌+◌, ◌-◌, ◌==◌, ◌||◌, Bool, false, nat_lt, if◌then◌else◌, List, [], ◌∷◌, ◌++◌, codes, map}
+use Rattle.std.specs.Prelude.{ℕ, ◌≡◌, ◌+◌, ◌-◌, ◌==◌, ◌||◌, Bool, false, nat_lt}
+use Rattle.std.specs.Prelude.{if◌then◌else◌, List, [], ◌∷◌, ◌++◌, codes, map}
 use Rattle.std.specs.Prelude.{Option, Some, None, is_none, unwrap_or, Result, Ok, Err, Vec}
 use Rattle.std.specs.List.{range_with_len}
 use Rattle.std.specs.Fmt.{decimal}
 use Rattle.std.specs.declared.alloc.Global.{Global}
-use Rattle.ed_syntax.specs.Lines.{Text, lines_of}
+use Rattle.ed_words.specs.Texts.{Text}
+use Rattle.ed_syntax.specs.Lines.{lines_of}
 use Rattle.ed_report.specs.Listings.{listing}
 use Rattle.ed_report.specs.Traces.{functions_after, trace_text}
 use Rattle.ed_stepper.specs.MoveEnds.{move_end, move_orders}
 use Rattle.ed_stepper.specs.Sessions.{Stand, left, stands_at}
 use Rattle.ed_stepper.specs.Commands.{command_of}
 use Rattle.ed_stepper.specs.declared.commands.Command.{Command}
-use Rattle.ed_stepper.specs.declared.commands.Command.TheVariants.{Nothing, Move, Back, Trace, Show, Accumulator, Multiplier, LastPrinted}
+use Rattle.ed_stepper.specs.declared.commands.Command.TheVariants.{Nothing, Move, Back, Trace, Show}
+use Rattle.ed_stepper.specs.declared.commands.Command.TheVariants.{Accumulator, Multiplier, LastPrinted}
 use Rattle.ed_stepper.specs.declared.moves.Aim.{Aim}
 use Rattle.ed_stepper.specs.declared.moves.Aim.TheVariants.{Orders}
 use Rattle.ed_stepper.specs.declared.moves.MoveEnd.{MoveEnd}
@@ -45,7 +48,8 @@ end_word ends.Limit = codes "limit"
 
 -- `at A after K: W`, A the counter, K the orders done and W the end of a move
 abbrev pub move_line : ℕ → ℕ → MoveEnd → Text
-move_line at done end = codes "at " ++ decimal at ++ codes " after " ++ decimal done ++ codes ": " ++ end_word end ++ 10 ∷ []
+move_line at done end = codes "at " ++ decimal at ++ codes " after " ++ decimal done ++ codes ": "
+    ++ end_word end ++ 10 ∷ []
 
 -- where a move on leaves a session
 abbrev pub moved : Aim → Stand → Stand
@@ -135,12 +139,13 @@ pub record LeftBy (script : Text) (s t : Stand) : Type 0 where
   pub none_refused : (play 1 ran s).refused ≡ None
   pub stand : (play 1 ran s).stand ≡ t
 
--- what a script answers, and where it leaves the session: its text; its least line that is none, before any line runs; the
--- line that went back too far, behind those before it; or want of memory
+-- what a script answers, and where it leaves the session: its text; its least line that is none, before any line
+-- runs; the line that went back too far, behind those before it; or want of memory
 abbrev pub ScriptEnds : Text → Stand → Result (Vec ℕ Global) ScriptFault → Stand → Type 0
 ScriptEnds script s (Ok text) t =
     (bad_line script ≡ None) × (played script s ≡ record { text = text.items; stand = t; refused = None })
 ScriptEnds script s (Err (BadCommand line)) t = (bad_line script ≡ Some line) × (t ≡ s)
 ScriptEnds script s (Err (BackTooFar line done)) t =
-    (bad_line script ≡ None) × ((played script s).refused ≡ Some (record { line = line; done = done })) × ((played script s).stand ≡ t)
+    (bad_line script ≡ None) × ((played script s).refused ≡ Some (record { line = line; done = done }))
+    × ((played script s).stand ≡ t)
 ScriptEnds script s (Err Memory) t = (bad_line script ≡ None) × LeftBy script s t

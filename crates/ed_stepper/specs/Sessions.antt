@@ -36,6 +36,7 @@ pub record Moves (aim : Aim) (s t : Stand) (m : Moved) : Type 0 where
 -- a move back by n orders, where so many were done; a refusal changes nothing
 abbrev pub MovesBack : ℕ → Stand → Result Moved BackFault → Stand → Type 0
 MovesBack n s (Ok m) t =
-    (n ≤ s.done) × (m.done ≡ s.done - n) × (m.at ≡ (stands_at t).counter) × (m.end ≡ Back) × (t ≡ record s { done = m.done })
+    (n ≤ s.done) × (m.done ≡ s.done - n) × (m.at ≡ (stands_at t).counter) × (m.end ≡ Back)
+    × (t ≡ record s { done = m.done })
 MovesBack n s (Err (TooFar done)) t = (s.done < n) × (done ≡ s.done) × (t ≡ s)
 MovesBack n s (Err Memory) t = (n ≤ s.done) × (t ≡ s)

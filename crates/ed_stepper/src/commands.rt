@@ -1,10 +1,12 @@
 //! The lines of a script, each a command.
 ghost use Rattle.std.specs.Prelude.{◌≡◌, ◌≤◌, IfSome, option_map};
-ghost use Rattle.ed_stepper.specs.Commands.{command_of, digits, number, of_one, of_three, of_two, shown, window};
+ghost use Rattle.ed_words.specs.Decimals.{number_within};
+ghost use Rattle.ed_stepper.specs.Commands.{command_of, of_one, of_three, of_two, shown, window};
 ghost use Rattle.ed_stepper.specs.Private.Commands.{IsInRange};
 
 use crate::fronts::first_part;
 use crate::moves::Aim;
+use ed_words::number_within;
 
 /// What a line of a script does.
 #[derive(Clone, Copy)]
@@ -66,8 +68,8 @@ fn of_two(word: &[u8], argument: &[u8]) -> Option<Command>
     match word {
         b"go" => go(argument),
         b"to" => to(argument),
-        b"back" => number(0, 100_000_000, argument).map(Command::Back),
-        b"trace" => number(1, 10_000, argument).map(Command::Trace),
+        b"back" => number_within(argument, 0, 100_000_000).map(Command::Back),
+        b"trace" => number_within(argument, 1, 10_000).map(Command::Trace),
         b"show" => shown(argument),
         _ => None,
     }
@@ -75,16 +77,16 @@ fn of_two(word: &[u8], argument: &[u8]) -> Option<Command>
 
 /// The command `go`.
 fn go(argument: &[u8]) -> Option<Command>
-    ensures is { result ≡ option_map (λ n. Command.Move (Aim.Orders n)) (number 1 100000000 argument.now) }
+    ensures is { result ≡ option_map (λ n. Command.Move (Aim.Orders n)) (number_within 1 100000000 argument.now) }
     ensures in_range { IfSome result IsInRange }
 {
-    let orders = number(1, 100_000_000, argument)?;
+    let orders = number_within(argument, 1, 100_000_000)?;
     Some(Command::Move(Aim::Orders(u64::from(orders))))
 }
 
 /// The command `to`.
 fn to(argument: &[u8]) -> Option<Command>
-    ensures is { result ≡ option_map (λ n. Command.Move (Aim.Address n)) (number 0 1023 argument.now) }
+    ensures is { result ≡ option_map (λ n. Command.Move (Aim.Address n)) (number_within 0 1023 argument.now) }
     ensures in_range { IfSome result IsInRange }
 {
     let address = address(argument)?;
@@ -132,38 +134,8 @@ fn window(first: Option<u16>, last: Option<u16>) -> Option<Command>
 
 /// The address of a location.
 fn address(part: &[u8]) -> Option<u16>
-    ensures is { result ≡ number 0 1023 part.now }
+    ensures is { result ≡ number_within 0 1023 part.now }
     ensures within { IfSome result (λ n. n ≤ 1023) }
 {
-    Some(number(0, 1023, part)? as u16)
-}
-
-/// A number of 1 to 9 digits from `least` to `most`.
-fn number(least: u32, most: u32, part: &[u8]) -> Option<u32>
-    ensures is { result ≡ number least most part.now }
-    ensures within { IfSome result (λ n. n ≤ most) }
-{
-    let number = digits(part)?;
-    if least <= number && number <= most {
-        Some(number)
-    } else {
-        None
-    }
-}
-
-/// The number of 1 to 9 digits.
-fn digits(part: &[u8]) -> Option<u32>
-    ensures { result ≡ digits part.now }
-{
-    if part.is_empty() || part.len() > 9 {
-        return None;
-    }
-    let mut value: u32 = 0;
-    for byte in part {
-        if !byte.is_ascii_digit() {
-            return None;
-        }
-        value = 10 * value + u32::from(*byte - b'0');
-    }
-    Some(value)
+    Some(number_within(part, 0, 1023)? as u16)
 }

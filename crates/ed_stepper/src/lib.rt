@@ -1,8 +1,8 @@
 //! Sessions: a machine that is moved on by orders and back, and the script that moves it.
 //!
-//! The contract is that a session stands at the state after its orders done, each of them obeyed, after any list of moves,
-//! and that each move ends at the least number of orders at which one of its ends holds. A script's text is exact to the
-//! byte, and so is its least line that is none; an input is divided
+//! The contract is that a session stands at the state after its orders done, each of them obeyed, after any list of
+//! moves, and that each move ends at the least number of orders at which one of its ends holds. A script's text is
+//! exact to the byte, and so is its least line that is none; an input is divided
 //! by its first line that announces a text. Stands on `ed_initial`, `ed_syntax` and `ed_report`.
 #![tactic(auto)]
 

@@ -50,8 +50,8 @@ pub fn bad_line(script: &[u8]) -> Option<u32>
 
 /// Runs a script, and answers what its lines write.
 ///
-/// `BadCommand` comes before any line runs. Else the lines run one after the other, and the session stands where the last
-/// of them left it: `BackTooFar` and `Memory` leave it where the lines before did.
+/// `BadCommand` comes before any line runs. Else the lines run one after the other, and the session stands where the
+/// last of them left it: `BackTooFar` and `Memory` leave it where the lines before did.
 pub fn run_script(
     alloc: Global,
     session: &mut Session,

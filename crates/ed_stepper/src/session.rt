@@ -17,8 +17,8 @@ use std::marker::Model;
 
 /// A machine that is moved on from a start by its orders, and back.
 ///
-/// A copy of the machine is kept each time the orders done reach a multiple of 65,536, so that a way back is short. A copy
-/// for which no memory is found is left out.
+/// A copy of the machine is kept each time the orders done reach a multiple of 65,536, so that a way back is short. A
+/// copy for which no memory is found is left out.
 #[derive(Drop)]
 pub struct Session {
     alloc: Global,
@@ -60,7 +60,8 @@ impl Session {
     /// A session that begins with the machine as it is, and in which so many orders may be done.
     pub fn new(alloc: Global, machine: Machine, limit: u64) -> Result<Session, NewFault>
         requires { machine.orders + limit ≤ 2 ^ 63 }
-        ensures { MatchResult result (λ s. s ≡ record { start = machine; limit = limit; done = 0 }) (λ e. e ≡ NewFault.Memory machine) }
+        ensures { MatchResult result (λ s. s ≡ record { start = machine; limit = limit; done = 0 })
+            (λ e. e ≡ NewFault.Memory machine) }
     {
         match machine.copy() {
             Ok(start) => Ok(Session {

@@ -93,7 +93,8 @@ fn is_at_once(aim: &Aim) -> bool
 
 /// A move's own end after at least one order, if it has come.
 fn own_end(aim: &Aim, orders: u64, at: u16, entered: bool) -> Option<MoveEnd>
-    ensures { (s : State) (k : ℕ) → orders ≡ suc k → at ≡ (state_after orders s).counter → entered ≡ enters (state_after k s)
+    ensures { (s : State) (k : ℕ) → orders ≡ suc k → at ≡ (state_after orders s).counter
+        → entered ≡ enters (state_after k s)
         → result ≡ own_end aim.now orders s }
 {
     match aim {

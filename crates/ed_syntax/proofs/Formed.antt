@@ -2,7 +2,8 @@
 use Rattle.std.proofs.Common.{◌≡◌, subst, ℕ, zero, suc, ◌+◌, ◌-◌, ◌^◌, ◌<◌, ◌≤◌, Bool, true, false}
 use Rattle.std.proofs.Common.{List, [], ◌∷◌, refl, arith, lit<, ℤ, pos, negsuc, length, map, codes, All, ◌≢◌, get_or}
 use Rattle.std.specs.Prelude.{◌==◌, ◌&&◌, not, Option, Some, None, Result}
-use Rattle.std.specs.Prelude.{Ok, Err, IfSome, nat_le, nat_lt, position, option_map, option_and_then, if◌then◌else◌, unsigned_abs}
+use Rattle.std.specs.Prelude.{Ok, Err, IfSome, nat_le, nat_lt, position, option_map}
+use Rattle.std.specs.Prelude.{option_and_then, if◌then◌else◌, unsigned_abs}
 use Rattle.std.specs.Int.{int_rem_euclid}
 use Rattle.std.specs.List.{list_all}
 use Rattle.std.specs.Str.{bytes_eq}
@@ -11,8 +12,9 @@ use Rattle.std.proofs.lemmas.List.{length-map}
 use Rattle.std.proofs.lemmas.List.Elements.{All-cons}
 use Rattle.std.proofs.lemmas.List.Quantifiers.{position-Some}
 use Rattle.ed_codes.specs.Spelling.{letters, row_of}
-use Rattle.ed_syntax.specs.Lines.{Text}
-use Rattle.ed_syntax.specs.Parts.{Part, run, sign, quoted, is_digit, parts_of}
+use Rattle.ed_words.specs.Texts.{Text}
+use Rattle.ed_words.specs.Decimals.{is_digit}
+use Rattle.ed_syntax.specs.Parts.{Part, run, sign, quoted, parts_of}
 use Rattle.ed_syntax.specs.Grammar
 use Rattle.ed_syntax.specs.Programs.{AreNumbered, is_line}
 use Rattle.ed_syntax.proofs.Meaning.{AreRows, IsForm, IsOperand, IsSetting, IsStatement, MayHaveLabel, lines_test}
@@ -26,7 +28,8 @@ use Rattle.ed_syntax.specs.declared.program.Operand.TheVariants as operands
 use Rattle.ed_syntax.specs.declared.program.Statement.{Statement}
 use Rattle.ed_syntax.specs.declared.program.Statement.TheVariants as statements
 use Rattle.ed_syntax.proofs.NameLemmas.{and_both}
-use Rattle.ed_syntax.proofs.Ranges.{Within, FrontWithin, within_map, within_else, within_if, number_within, operand_within, preset_within}
+use Rattle.ed_syntax.proofs.Ranges.{Within, FrontWithin, within_map, within_else, within_if}
+use Rattle.ed_syntax.proofs.Ranges.{number_within, operand_within, preset_within}
 
 -- a statement that may have a label, with its numbers in their ranges
 abbrev pub IsPlaced : Bool → Statement → Type 0
@@ -46,14 +49,16 @@ end_within two (Some (o, rest)) w = by_length o (Grammar.length_end rest) w
     by_length (Some a) None w = tt
     by_length (Some a) (Some l) w = w
 
-missing_within : (two : Bool) (l : Option Bool) → FrontWithin (IsOperand two) (option_map (λ b. (Some (operands.Number 0), b)) l)
+missing_within : (two : Bool) (l : Option Bool)
+    → FrontWithin (IsOperand two) (option_map (λ b. (Some (operands.Number 0), b)) l)
 missing_within two None = tt
 missing_within two (Some l) = omega arith
 
 order_end_within : (two : Bool) (parts : List Part) → FrontWithin (IsOperand two) (Grammar.order_end two parts)
 order_end_within two (sign e ∷ parts) = missing_within two (Grammar.length_end (sign e ∷ parts))
 order_end_within two [] = tt
-order_end_within two (run r ∷ parts) = end_within two (Grammar.operand two (run r ∷ parts)) (operand_within two (run r ∷ parts))
+order_end_within two (run r ∷ parts) =
+    end_within two (Grammar.operand two (run r ∷ parts)) (operand_within two (run r ∷ parts))
 order_end_within two (quoted q ∷ parts) = tt
 
 -- the row of a byte is a code
@@ -81,8 +86,10 @@ order_within : (two : Bool) (b : ℕ) (parts : List Part) → Within (IsPlaced t
 order_within two b parts =
     by_parts (Grammar.function b) (Grammar.order_end two parts) (function_fits b) (order_end_within two parts)
   where
-    by_parts : (f : Option ℕ) (e : Option (Option Operand × Bool)) → IfSome f (λ g. g < 32) → FrontWithin (IsOperand two) e
-        → Within (IsPlaced two) (option_and_then (λ g. option_map (λ p. option_map (λ o. statements.Order g o p.1) p.0) e) f)
+    by_parts : (f : Option ℕ) (e : Option (Option Operand × Bool)) → IfSome f (λ g. g < 32)
+        → FrontWithin (IsOperand two) e
+        → Within (IsPlaced two) (option_and_then
+        (λ g. option_map (λ p. option_map (λ o. statements.Order g o p.1) p.0) e) f)
     by_parts None e fits w = tt
     by_parts (Some f) None fits w = tt
     by_parts (Some f) (Some (None, l)) fits w = tt
@@ -112,7 +119,8 @@ rows_fit : (q : Text) → list_all (λ c. nat_lt c 32) (map (λ b. Grammar.row (
 rows_fit [] = refl
 rows_fit (b ∷ q) = by_row (row_of b) (row_fits b) (rows_fit q)
   where
-    by_row : (o : Option ℕ) → IfSome o (λ c. c < 32) → list_all (λ c. nat_lt c 32) (map (λ b. Grammar.row (row_of b)) q) ≡ true
+    by_row : (o : Option ℕ) → IfSome o (λ c. c < 32)
+        → list_all (λ c. nat_lt c 32) (map (λ b. Grammar.row (row_of b)) q) ≡ true
         → (nat_lt (Grammar.row o) 32 && list_all (λ c. nat_lt c 32) (map (λ b. Grammar.row (row_of b)) q)) ≡ true
     by_row None fits rest = rest
     by_row (Some c) fits rest = let test : nat_lt c 32 ≡ true = grind (arith, nat_tests) in rw test rest
@@ -123,7 +131,8 @@ string_rows_within q = by_test (nat_le 1 (length q)) _ refl
     some : nat_le 1 (length q) ≡ true → AreRows (map (λ b. Grammar.row (row_of b)) q)
     some e =
         let h : 0 < length q = grind (arith, nat_tests) in
-        let same : length (map (λ b. Grammar.row (row_of b)) q) ≡ length q = length-map q (λ b. Grammar.row (row_of b)) in
+        let same : length (map (λ b. Grammar.row (row_of b)) q) ≡ length q =
+        length-map q (λ b. Grammar.row (row_of b)) in
         (omega (arith, same, h), rows_fit q)
 
     by_test : (c d : Bool) → nat_le 1 (length q) ≡ c
@@ -177,7 +186,8 @@ segment_within two (sign b ∷ parts) = tt
 segment_within two (quoted q ∷ parts) = tt
 segment_within two (run r ∷ parts) =
     within_if (IsStatement two) (Grammar.is_name r) _
-    (λ e. within_map IsBase (IsStatement two) (statements.Segment r) (λ base h. (e, h)) (Grammar.base parts) (base_within parts))
+    (λ e. within_map IsBase (IsStatement two) (statements.Segment r) (λ base h. (e, h)) (Grammar.base parts)
+    (base_within parts))
 
 fetch_within : (two : Bool) (parts : List Part) → Within (IsStatement two) (Grammar.fetch two parts)
 fetch_within two [] = tt
@@ -192,7 +202,8 @@ fetch_within two (run r ∷ run a ∷ quoted q ∷ parts) = tt
 fetch_within two (run r ∷ run a ∷ run n ∷ parts) =
     within_if (IsStatement two) (bytes_eq a (codes "as") && (Grammar.is_name r && Grammar.is_name n)) _
     (λ e. let names = and_both _ _ (and_both _ _ e).1 in
-    within_map (All (IsSetting two)) (IsStatement two) (λ ss. statements.Fetch r n (Grammar.array ss)) (λ ss h. (names.0, (names.1, h)))
+    within_map (All (IsSetting two)) (IsStatement two) (λ ss. statements.Fetch r n (Grammar.array ss))
+    (λ ss h. (names.0, (names.1, h)))
     (Grammar.preset two parts) (preset_within two parts))
 
 -- ---- statements by their words
@@ -202,8 +213,10 @@ placed_within two [] = tt
 placed_within two (quoted q ∷ parts) = tt
 placed_within two (sign b ∷ parts) = order_within two b parts
 placed_within two (run w ∷ parts) =
-    within_else (IsPlaced two) (bytes_eq w (codes "word")) _ _ (λ e. word_within two (Grammar.integer 65536 131071 parts))
-    (λ e. within_else (IsPlaced two) (bytes_eq w (codes "text")) _ _ (λ f. text_within two (Grammar.string parts) (string_within parts))
+    within_else (IsPlaced two) (bytes_eq w (codes "word")) _ _
+    (λ e. word_within two (Grammar.integer 65536 131071 parts))
+    (λ e. within_else (IsPlaced two) (bytes_eq w (codes "text")) _ _
+    (λ f. text_within two (Grammar.string parts) (string_within parts))
     (λ f. within_if (IsPlaced two) (two && bytes_eq w (codes "long")) _
     (λ g. long_within two (Grammar.integer 17179869184 34359738367 parts) (and_both two _ g).0)))
 
@@ -220,7 +233,8 @@ statement_within two (run w ∷ parts) =
     within_else (IsStatement two) (bytes_eq w (codes "segment")) _ _ (λ e. segment_within two parts)
     (λ e. within_else (IsStatement two) (bytes_eq w (codes "use")) _ _ (λ f. fetch_within two parts)
     (λ f. within_else (IsStatement two) (bytes_eq w (codes "enter")) _ _ (λ g. enter_within two parts)
-    (λ g. within_else (IsStatement two) (bytes_eq w (codes "data")) _ _ (λ h. rows_within two (Grammar.string parts) (string_within parts))
+    (λ g. within_else (IsStatement two) (bytes_eq w (codes "data")) _ _
+    (λ h. rows_within two (Grammar.string parts) (string_within parts))
     (λ h. unplaced two _ (placed_within two (run w ∷ parts))))))
 
 -- ---- lines
@@ -241,7 +255,8 @@ after_label_within two r (p ∷ parts) h =
     (Grammar.placed two (p ∷ parts)) (placed_within two (p ∷ parts))
 
 labelled_within : (two : Bool) (r : Text) (parts : List Part) → Within (IsFormOf two) (Grammar.labelled two r parts)
-labelled_within two r parts = within_if (IsFormOf two) (Grammar.is_place_name two r) _ (λ e. after_label_within two r parts e)
+labelled_within two r parts =
+    within_if (IsFormOf two) (Grammar.is_place_name two r) _ (λ e. after_label_within two r parts e)
 
 form_within : (two : Bool) (parts : List Part) → Within (IsFormOf two) (Grammar.form two parts)
 form_within two [] = tt
@@ -251,10 +266,12 @@ form_within two (run r ∷ []) = unlabelled_within two (run r ∷ [])
 form_within two (run r ∷ run n ∷ parts) = unlabelled_within two (run r ∷ run n ∷ parts)
 form_within two (run r ∷ quoted q ∷ parts) = unlabelled_within two (run r ∷ quoted q ∷ parts)
 form_within two (run r ∷ sign s ∷ parts) =
-    within_else (IsFormOf two) (s == 58) _ _ (λ e. labelled_within two r parts) (λ e. unlabelled_within two (run r ∷ sign s ∷ parts))
+    within_else (IsFormOf two) (s == 58) _ _ (λ e. labelled_within two r parts)
+    (λ e. unlabelled_within two (run r ∷ sign s ∷ parts))
 
 form_at_within : (two : Bool) (k : ℕ) (parts : List Part) → Within (IsFormOf two) (Grammar.form_at two k parts)
-form_at_within two k parts = within_else (IsFormOf two) (k == 1 && Grammar.is_version_two parts) _ _ (λ e. tt) (λ e. form_within two parts)
+form_at_within two k parts =
+    within_else (IsFormOf two) (k == 1 && Grammar.is_version_two parts) _ _ (λ e. tt) (λ e. form_within two parts)
 
 -- whatever is no fault
 abbrev pub OkWithin : {A E : Type 0} → (A → Type 0) → Result A E → Type 0
@@ -312,7 +329,8 @@ lines_formed two k (line ∷ rest) = by_test (k == 2001) refl (lines_formed two 
     by_test true e h = tt
     by_test false e h = lines_step two k (line_of two k line) (lines_from two (k + 1) rest) e (line_within two k line) h
 
-number_at : (k : ℕ) (lines : List Line) → IsNumberedFrom k lines → (i : ℕ) (d : Line) → i < length lines → (get_or lines i d).number ≡ k + i
+number_at : (k : ℕ) (lines : List Line) → IsNumberedFrom k lines → (i : ℕ) (d : Line) → i < length lines
+    → (get_or lines i d).number ≡ k + i
 number_at k [] h i d below = absurd (omega arith)
 number_at k (l ∷ ls) h zero d below = omega (arith, h.0)
 number_at k (l ∷ ls) h (suc i) d below = omega (arith, number_at (k + 1) ls h.1 i d (omega arith))
@@ -323,7 +341,8 @@ pub record AreLines (two : Bool) (lines : List Line) : Type 0 where
   pub numbered : AreNumbered lines
   pub formed : list_all (is_line two) lines ≡ true
 
-pub program_formed : (two : Bool) (texts : List Text) (lines : List Line) → lines_from two 1 texts ≡ Ok lines → AreLines two lines
+pub program_formed : (two : Bool) (texts : List Text) (lines : List Line) → lines_from two 1 texts ≡ Ok lines
+    → AreLines two lines
 program_formed two texts lines e =
     let h : AreFormed two 1 lines = subst (OkWithin (AreFormed two 1)) e (lines_formed two 1 texts) in
     record {

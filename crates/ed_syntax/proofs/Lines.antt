@@ -4,7 +4,8 @@ use Rattle.std.proofs.Common.{◌∷◌, ◌++◌, refl, sym, ap, take, drop, le
 use Rattle.std.specs.Prelude.{◌==◌, ◌||◌, ◌&&◌}
 use Rattle.std.proofs.lemmas.List.{take_more, length-drop}
 use Rattle.ed_syntax.proofs.Splits.{split_at}
-use Rattle.ed_syntax.specs.Lines.{Text, lines_of, with_byte}
+use Rattle.ed_words.specs.Texts.{Text}
+use Rattle.ed_syntax.specs.Lines.{lines_of, with_byte}
 use Rattle.ed_syntax.specs.Private.LineFronts.{has_end, without_return, TakesLine}
 
 no_end_head : (b : ℕ) (bs : Text) → has_end (b ∷ bs) ≡ false → ((b == 10) ≡ false) × (has_end bs ≡ false)
@@ -29,7 +30,8 @@ one_byte b rest true r e = simp (e, r)
 one_byte b rest false r e = simp (e, r) (ap (with_byte b) (empty_line rest))
 
 -- Up to the first end, and without a carriage return there, stands the first line.
-ended : (front rest : Text) → has_end front ≡ false → lines_of (front ++ 10 ∷ rest) ≡ without_return front ∷ lines_of rest
+ended : (front rest : Text) → has_end front ≡ false
+    → lines_of (front ++ 10 ∷ rest) ≡ without_return front ∷ lines_of rest
 ended [] rest e = empty_line rest
 ended (b ∷ []) rest e = one_byte b rest (b == 13) refl (no_end_head b [] e).0
 ended (b ∷ c ∷ f) rest e =
@@ -74,7 +76,8 @@ takes_ended text line i lt e h is =
     let whole = split_at text i 10 lt h in
     let size : length (drop (i + 1) text) + (i + 1) ≡ length text = omega (arith, length-drop (i + 1) text, lt) in
     record {
-      lines = ap lines_of whole ∙ ended (take i text) (drop (i + 1) text) e ∙ ap (λ (l : Text). l ∷ lines_of (drop (i + 1) text)) (sym is);
+      lines = ap lines_of whole ∙ ended (take i text) (drop (i + 1) text) e
+          ∙ ap (λ (l : Text). l ∷ lines_of (drop (i + 1) text)) (sym is);
       shorter = omega (arith, size);
     }
 
@@ -82,7 +85,8 @@ pub takes_last : (text : Text) → 0 < length text → has_end text ≡ false �
 takes_last [] h e = absurd (omega arith)
 takes_last (b ∷ bs) h e = record { lines = unended b bs e; shorter = omega arith }
 
-pub from_return : (line before : Text) (last : ℕ) → line ≡ before ++ last ∷ [] → last ≡ 13 → before ≡ without_return line
+pub from_return : (line before : Text) (last : ℕ) → line ≡ before ++ last ∷ [] → last ≡ 13
+    → before ≡ without_return line
 from_return line before last e h = sym (ap without_return (e ∙ ap (λ (b : ℕ). before ++ b ∷ []) h) ∙ no_return before)
 
 pub from_other : (line before : Text) (last : ℕ) (c : Bool) → line ≡ before ++ last ∷ [] → (last == 13) ≡ c

@@ -1,5 +1,6 @@
 -- What the tests of a program's lines say.
-use Rattle.std.proofs.Common.{◌≡◌, ℕ, ◌^◌, ◌<◌, ◌≤◌, Bool, true, List, [], ◌∷◌, refl, arith, ℤ, pos, neg_ℤ, ◌≤ℤ◌, length, All, get_or}
+use Rattle.std.proofs.Common.{◌≡◌, ℕ, ◌^◌, ◌<◌, ◌≤◌, Bool, true, List, [], ◌∷◌}
+use Rattle.std.proofs.Common.{refl, arith, ℤ, pos, neg_ℤ, ◌≤ℤ◌, length, All, get_or}
 use Rattle.std.specs.Prelude.{◌&&◌, Option, Some, None, IfSome, nat_le, nat_lt, unsigned_abs}
 use Rattle.std.specs.List.{list_all}
 use Rattle.std.proofs.lemmas.Bool.Decides.{nat_tests}
@@ -7,7 +8,8 @@ use Rattle.std.proofs.lemmas.Int.{ints}
 use Rattle.std.proofs.lemmas.List.Sums.{AllPass-from_list_all}
 use Rattle.std.proofs.lemmas.List.Elements.{All-cons, All-head, All-tail}
 use Rattle.ed_syntax.specs.Grammar.{is_name, is_place_name}
-use Rattle.ed_syntax.specs.Programs.{are_rows, is_base, is_form, is_line, is_operand, is_setting, is_statement, may_have_label}
+use Rattle.ed_syntax.specs.Programs.{are_rows, is_base, is_form, is_line, is_operand}
+use Rattle.ed_syntax.specs.Programs.{is_setting, is_statement, may_have_label}
 use Rattle.ed_syntax.specs.declared.program.Operand.{Operand}
 use Rattle.ed_syntax.specs.declared.program.Operand.TheVariants as operands
 use Rattle.ed_syntax.specs.declared.program.Setting.{Setting}
@@ -88,7 +90,8 @@ setting_test two s h =
 settings_test : (two : Bool) (ss : List Setting) → All (IsSetting two) ss → list_all (is_setting two) ss ≡ true
 settings_test two [] h = refl
 settings_test two (s ∷ ss) h =
-    both _ _ (setting_test two s (All-head (IsSetting two) s ss h)) (settings_test two ss (All-tail (IsSetting two) s ss h))
+    both _ _ (setting_test two s (All-head (IsSetting two) s ss h))
+    (settings_test two ss (All-tail (IsSetting two) s ss h))
 
 base_test : (base : Option ℕ) → IfSome base (λ b. b ≤ 1023) → is_base base ≡ true
 base_test None h = refl
@@ -103,7 +106,8 @@ statement_test two (statements.Order function operand length) h =
     let fits = h.0 in both _ _ (grind (arith, nat_tests)) (operand_test two operand h.1)
 statement_test two (statements.Number value) h = grind (arith, nat_tests)
 statement_test two (statements.Text codes) h = rows_test codes.items h
-statement_test two (statements.Fetch routine name settings) h = both _ _ h.0 (both _ _ h.1.0 (settings_test two settings.items h.1.1))
+statement_test two (statements.Fetch routine name settings) h =
+    both _ _ h.0 (both _ _ h.1.0 (settings_test two settings.items h.1.1))
 statement_test two (statements.Enter name) h = h
 statement_test two (statements.Rows codes) h = rows_test codes.items h
 statement_test two (statements.Long value) h =
@@ -119,13 +123,15 @@ label_test (statements.Fetch routine name settings) h = absurd h
 label_test (statements.Enter name) h = absurd h
 label_test (statements.Rows codes) h = absurd h
 
-form_test : (two : Bool) (label : Option (List ℕ)) (s : Option Statement) → IsForm two label s → is_form two label s ≡ true
+form_test : (two : Bool) (label : Option (List ℕ)) (s : Option Statement) → IsForm two label s
+    → is_form two label s ≡ true
 form_test two None None h = refl
 form_test two None (Some s) h = statement_test two s h
 form_test two (Some label) None h = h
 form_test two (Some label) (Some s) h = both _ _ h.0 (both _ _ (label_test s h.1.0) (statement_test two s h.1.1))
 
-pub lines_test : (two : Bool) (lines : List Line) → All (λ l. IsForm two l.label l.statement) lines → list_all (is_line two) lines ≡ true
+pub lines_test : (two : Bool) (lines : List Line) → All (λ l. IsForm two l.label l.statement) lines
+    → list_all (is_line two) lines ≡ true
 lines_test two [] h = refl
 lines_test two (l ∷ ls) h =
     both _ _ (form_test two l.label l.statement (All-head (λ l. IsForm two l.label l.statement) l ls h))
@@ -148,12 +154,17 @@ setting_fact two s h =
     let ends = and_both (nat_le 21 s.letter) (nat_le s.letter 26) parts.0 in
     let low : nat_le 21 s.letter ≡ true = ends.0 in
     let high : nat_le s.letter 26 ≡ true = ends.1 in
-    record { low = grind (arith, nat_tests); high = grind (arith, nat_tests); operand = operand_fact two s.operand parts.1 }
+    record {
+      low = grind (arith, nat_tests);
+      high = grind (arith, nat_tests);
+      operand = operand_fact two s.operand parts.1;
+    }
 
 settings_fact : (two : Bool) (ss : List Setting) → list_all (is_setting two) ss ≡ true → All (IsSetting two) ss
 settings_fact two [] h = λ k d below. absurd (omega arith)
 settings_fact two (s ∷ ss) h =
-    let parts = and_both _ _ h in All-cons (IsSetting two) s ss (setting_fact two s parts.0) (settings_fact two ss parts.1)
+    let parts = and_both _ _ h
+    in All-cons (IsSetting two) s ss (setting_fact two s parts.0) (settings_fact two ss parts.1)
 
 base_fact : (base : Option ℕ) → is_base base ≡ true → IfSome base (λ b. b ≤ 1023)
 base_fact None h = tt
@@ -195,7 +206,8 @@ label_fact (statements.Enter name) h = absurd (cc)
 label_fact (statements.Rows codes) h = absurd (cc)
 
 -- a line of a program has a form
-pub form_fact : (two : Bool) (label : Option (List ℕ)) (s : Option Statement) → is_form two label s ≡ true → IsForm two label s
+pub form_fact : (two : Bool) (label : Option (List ℕ)) (s : Option Statement) → is_form two label s ≡ true
+    → IsForm two label s
 form_fact two None None h = tt
 form_fact two None (Some s) h = statement_fact two s h
 form_fact two (Some label) None h = h
@@ -205,6 +217,7 @@ form_fact two (Some label) (Some s) h =
     (parts.0, (label_fact s rest.0, statement_fact two s rest.1))
 
 -- each line of a program has a form
-pub line_fact : (two : Bool) (lines : List Line) → list_all (is_line two) lines ≡ true → (k : ℕ) (d : Line) → k < length lines
+pub line_fact : (two : Bool) (lines : List Line) → list_all (is_line two) lines ≡ true → (k : ℕ) (d : Line)
+    → k < length lines
     → IsForm two (get_or lines k d).label (get_or lines k d).statement
 line_fact two lines h k d below = form_fact two _ _ (AllPass-from_list_all (is_line two) lines h k d below)

@@ -21,7 +21,8 @@ and_true x y h k = rw (h, k) refl
 
 pub same_bytes : (b d : List ℕ) (n m : ℕ) → IsPadded b n → IsPadded d m
     → (nat_eq n m && pointwise nat_eq b d) ≡ pointwise nat_eq (take n b) (take m d)
-same_bytes b d n m p q = both_ways (nat_eq n m && pointwise nat_eq b d) (pointwise nat_eq (take n b) (take m d)) onward back
+same_bytes b d n m p q =
+    both_ways (nat_eq n m && pointwise nat_eq b d) (pointwise nat_eq (take n b) (take m d)) onward back
   where
     onward : (nat_eq n m && pointwise nat_eq b d) ≡ true → pointwise nat_eq (take n b) (take m d) ≡ true
     onward h =

@@ -5,7 +5,7 @@ use Rattle.std.specs.List.{list_all}
 use Rattle.std.specs.Str.{IsAscii}
 use Rattle.std.proofs.lemmas.Bool.Decides.{nat_tests}
 use Rattle.std.proofs.lemmas.Str.{IsUtf8-from_ascii}
-use Rattle.ed_syntax.specs.Lines.{Text}
+use Rattle.ed_words.specs.Texts.{Text}
 use Rattle.ed_syntax.specs.Parts.{is_lower, is_run_byte}
 use Rattle.ed_syntax.specs.Grammar.{is_name, is_local_name, is_place_name}
 use Rattle.ed_syntax.specs.Private.Names.{IsNameText}
@@ -23,7 +23,8 @@ run_ascii (b ∷ bs) h zero = run_byte_small b (and_both _ _ h).0
 run_ascii (b ∷ bs) h (suc i) = run_ascii bs (and_both _ _ h).1 i
 
 -- a byte of a run, and up to 15 more
-run_text : (b : ℕ) (bs : Text) → is_run_byte b ≡ true → nat_le (length bs) 15 ≡ true → list_all is_run_byte bs ≡ true → IsNameText (b ∷ bs)
+run_text : (b : ℕ) (bs : Text) → is_run_byte b ≡ true → nat_le (length bs) 15 ≡ true → list_all is_run_byte bs ≡ true
+    → IsNameText (b ∷ bs)
 run_text b bs first few rest =
     let all : list_all is_run_byte (b ∷ bs) ≡ true = simp (first, rest) in
     record {

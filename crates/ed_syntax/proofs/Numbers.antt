@@ -1,10 +1,12 @@
 -- A number only grows by more digits.
-use Rattle.std.proofs.Common.{◌≡◌, ◌∙◌, ◌≤◌, ◌<◌, ℕ, ◌+◌, ◌*◌, ◌-◌, List, [], ◌∷◌, sym, ap, take, drop, length, get_or, false, arith}
+use Rattle.std.proofs.Common.{◌≡◌, ◌∙◌, ◌≤◌, ◌<◌, ℕ, ◌+◌, ◌*◌, ◌-◌, List, [], ◌∷◌}
+use Rattle.std.proofs.Common.{sym, ap, take, drop, length, get_or, false, arith}
 use Rattle.std.specs.Prelude.{fold, None, nat_le}
 use Rattle.std.proofs.lemmas.Bool.Decides.{nat_tests}
 use Rattle.std.proofs.lemmas.List.{take-append-drop}
 use Rattle.std.proofs.lemmas.List.Sums.{fold-append, fold_more}
-use Rattle.ed_syntax.specs.Grammar.{value, up_to}
+use Rattle.ed_words.specs.Decimals.{value}
+use Rattle.ed_syntax.specs.Grammar.{up_to}
 
 abbrev longer : ℕ → ℕ → ℕ
 longer n b = 10 * n + (b - 48)

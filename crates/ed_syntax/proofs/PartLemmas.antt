@@ -6,8 +6,9 @@ use Rattle.std.specs.List.{list_all}
 use Rattle.std.proofs.lemmas.Bool.Decides.{Decides-eqb}
 use Rattle.std.proofs.lemmas.List.{append-nil, take-append-drop, drop_more}
 use Rattle.ed_syntax.proofs.Splits.{split_at}
-use Rattle.ed_syntax.specs.Lines.{Text}
-use Rattle.ed_syntax.specs.Parts.{Part, run, sign, quoted, parts_of, parts_from, is_blank, is_run_byte, begins_run, with_run_byte}
+use Rattle.ed_words.specs.Texts.{Text}
+use Rattle.ed_syntax.specs.Parts.{Part, run, sign, quoted, parts_of, parts_from}
+use Rattle.ed_syntax.specs.Parts.{is_blank, is_run_byte, begins_run, with_run_byte}
 use Rattle.std.specs.Prelude.{Result, Ok, Err}
 use Rattle.std.specs.Borrow.{Bor}
 use Rattle.std.proofs.Common.{◌≤◌, suc, length-append, map}
@@ -19,7 +20,8 @@ use Rattle.ed_syntax.specs.Private.PartFronts.{has_quote, SplitsQuote, SplitsRun
 
 -- a byte that passes a test is none that fails it
 differs : (f : ℕ → Bool) (b k : ℕ) (c : Bool) → (b == k) ≡ c → f b ≡ true → f k ≡ false → (b == k) ≡ false
-differs f b k true e passes other = let same : b ≡ k = (Decides-eqb b k).0 e in let bad : f b ≡ false = ap f same ∙ other in absurd (cc)
+differs f b k true e passes other = let same : b ≡ k = (Decides-eqb b k).0 e in let bad : f b ≡ false =
+    ap f same ∙ other in absurd (cc)
 differs f b k false e passes other = e
 
 is_not : (f : ℕ → Bool) (b k : ℕ) → f b ≡ true → f k ≡ false → (b == k) ≡ false
@@ -31,7 +33,8 @@ blank_parts b bs e =
     let quote : (b == 34) ≡ false = is_not is_blank b 34 e refl in
     simp (comment, quote, e)
 
-run_head : (b : ℕ) (bs : Text) → is_run_byte b ≡ true → parts_of (b ∷ bs) ≡ option_map (with_run_byte b bs) (parts_of bs)
+run_head : (b : ℕ) (bs : Text) → is_run_byte b ≡ true
+    → parts_of (b ∷ bs) ≡ option_map (with_run_byte b bs) (parts_of bs)
 run_head b bs e =
     let comment : (b == 59) ≡ false = is_not is_run_byte b 59 e refl in
     let quote : (b == 34) ≡ false = is_not is_run_byte b 34 e refl in
@@ -39,7 +42,8 @@ run_head b bs e =
     let tab : (b == 9) ≡ false = is_not is_run_byte b 9 e refl in
     simp (comment, quote, space, tab, e)
 
-all_head : (b : ℕ) (bs : Text) → list_all is_run_byte (b ∷ bs) ≡ true → (is_run_byte b ≡ true) × (list_all is_run_byte bs ≡ true)
+all_head : (b : ℕ) (bs : Text) → list_all is_run_byte (b ∷ bs) ≡ true
+    → (is_run_byte b ≡ true) × (list_all is_run_byte bs ≡ true)
 all_head b bs = go (is_run_byte b) (list_all is_run_byte bs)
   where
     go : (c d : Bool) → (c && d) ≡ true → (c ≡ true) × (d ≡ true)
@@ -52,7 +56,8 @@ one_run b rest None e = refl
 one_run b rest (Some ps) e = simp e
 
 more_run : (b c : ℕ) (r rest : Text) (o : Option (List Part)) → is_run_byte c ≡ true
-    → option_map (with_run_byte b ((c ∷ r) ++ rest)) (option_map (λ ps. run (c ∷ r) ∷ ps) o) ≡ option_map (λ ps. run (b ∷ c ∷ r) ∷ ps) o
+    → option_map (with_run_byte b ((c ∷ r) ++ rest)) (option_map (λ ps. run (c ∷ r) ∷ ps) o)
+    ≡ option_map (λ ps. run (b ∷ c ∷ r) ∷ ps) o
 more_run b c r rest None e = refl
 more_run b c r rest (Some ps) e = simp e
 
@@ -88,12 +93,14 @@ quote_parts q (b ∷ bs) rest e =
 pub open_parts : (q text : Text) → has_quote text ≡ false → parts_from (Some q) text ≡ None
 open_parts q [] e = refl
 open_parts q (b ∷ bs) e =
-    let here = no_quote_head b bs e in let other : (b == 34) ≡ false = here.0 in simp other (open_parts (q ++ b ∷ []) bs here.1)
+    let here = no_quote_head b bs e in let other : (b == 34) ≡ false = here.0
+    in simp other (open_parts (q ++ b ∷ []) bs here.1)
 
 has_quote_push : (xs : List ℕ) (b : ℕ) → has_quote xs ≡ false → (b == 34) ≡ false → has_quote (xs ++ b ∷ []) ≡ false
 has_quote_push [] b e h = simp h
 has_quote_push (x ∷ xs) b e h =
-    let here = no_quote_head x xs e in let first : (x == 34) ≡ false = here.0 in simp first (has_quote_push xs b here.1 h)
+    let here = no_quote_head x xs e in let first : (x == 34) ≡ false = here.0
+    in simp first (has_quote_push xs b here.1 h)
 
 pub splits_quote : (text : Text) (i : ℕ) → i < length text → has_quote (take i text) ≡ false → get_or text i 0 ≡ 34
     → SplitsQuote text (take i text) (drop (i + 1) text)
@@ -119,7 +126,8 @@ takes_more line rest (Ok None) e h t = e ∙ t
 takes_more line rest (Err x) e h t = e ∙ t
 
 pub quote_takes : (after inside rest : Text) → SplitsQuote after inside rest
-    → (parts_of (34 ∷ after) ≡ option_map (λ ps. quoted inside ∷ ps) (parts_of rest)) × (length rest < suc (length after))
+    → (parts_of (34 ∷ after) ≡ option_map (λ ps. quoted inside ∷ ps) (parts_of rest))
+    × (length rest < suc (length after))
 quote_takes after inside rest s = (
   ap (parts_from (Some [])) s.whole ∙ quote_parts [] inside rest s.none,
   (let size : length after ≡ length inside + suc (length rest) =
@@ -128,10 +136,12 @@ quote_takes after inside rest s = (
 
 pub run_takes : (line first rest : Text) → begins_run line ≡ true → SplitsRun line first rest
     → (parts_of line ≡ option_map (λ ps. run first ∷ ps) (parts_of rest)) × (length rest < length line)
-run_takes line [] rest b s = absurd (let same : begins_run line ≡ begins_run rest = ap begins_run s.whole in let end = s.end in cc)
+run_takes line [] rest b s =
+    absurd (let same : begins_run line ≡ begins_run rest = ap begins_run s.whole in let end = s.end in cc)
 run_takes line (x ∷ xs) rest b s = (
   ap parts_of s.whole ∙ run_parts x xs rest s.each s.end,
-  (let size : length line ≡ length (x ∷ xs) + length rest = ap length s.whole ∙ length-append (x ∷ xs) rest in omega (arith, size)),
+  (let size : length line ≡ length (x ∷ xs) + length rest = ap length s.whole ∙ length-append (x ∷ xs) rest
+      in omega (arith, size)),
 )
 
 pub more_parts : (line rest after : Text) (ps : List code.Part) (p : code.Part)
@@ -144,5 +154,6 @@ more_parts line rest after ps p e h = e ∙ ap (option_map (λ t. map part ps ++
         ≡ option_map (λ t. map part (ps ++ p ∷ []) ++ t) o
     joined None = refl
     joined (Some t) =
-        let whole = sym (append_assoc (map part ps) (part p ∷ []) t) ∙ ap (λ (l : List Part). l ++ t) (sym (map-append part ps (p ∷ []))) in
+        let whole = sym (append_assoc (map part ps) (part p ∷ []) t)
+        ∙ ap (λ (l : List Part). l ++ t) (sym (map-append part ps (p ∷ []))) in
         ap (λ (l : List Part). Some l) whole

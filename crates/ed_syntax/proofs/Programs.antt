@@ -1,7 +1,8 @@
 -- A program, one line more at a time.
 use Rattle.std.proofs.Common.{◌≡◌, ◌∙◌, ℕ, ◌+◌, Bool, true, false, List, [], ◌∷◌, ◌++◌, refl, sym, ap, append_assoc}
 use Rattle.std.specs.Prelude.{◌==◌, Result, Ok, Err}
-use Rattle.ed_syntax.specs.Lines.{Text, lines_of}
+use Rattle.ed_words.specs.Texts.{Text}
+use Rattle.ed_syntax.specs.Lines.{lines_of}
 use Rattle.ed_syntax.specs.Private.LineFronts.{with_front}
 use Rattle.ed_syntax.specs.Sources.{Fault, and_lines, line_of, lines_from, with_first}
 use Rattle.ed_syntax.specs.declared.fault.SourceCause.{SourceCause}
@@ -12,7 +13,8 @@ use Rattle.ed_syntax.specs.declared.program.Line.{Line}
 abbrev pub numbered : ℕ → Form → Line
 numbered k f = record { number = k; label = f.label; statement = f.statement }
 
-front_more : (xs : List Line) (l : Line) (r : Result (List Line) Fault) → with_front xs (with_first l r) ≡ with_front (xs ++ l ∷ []) r
+front_more : (xs : List Line) (l : Line) (r : Result (List Line) Fault)
+    → with_front xs (with_first l r) ≡ with_front (xs ++ l ∷ []) r
 front_more xs l (Ok ys) = ap (λ (all : List Line). Ok all) (sym (append_assoc xs (l ∷ []) ys))
 front_more xs l (Err e) = refl
 

@@ -1,13 +1,15 @@
 -- What has a form has its numbers in their ranges.
 use Rattle.std.proofs.Common.{◌≡◌, subst, ℕ, zero, suc, ◌≤◌, Bool, true, false, List, [], ◌∷◌, refl, arith, codes, All}
-use Rattle.std.specs.Prelude.{◌==◌, ◌&&◌, ◌||◌, Option, Some, None, IfSome, nat_le, option_map, option_and_then, if◌then◌else◌}
+use Rattle.std.specs.Prelude.{◌==◌, ◌&&◌, ◌||◌, Option, Some, None, IfSome}
+use Rattle.std.specs.Prelude.{nat_le, option_map, option_and_then, if◌then◌else◌}
 use Rattle.std.specs.List.{list_any}
 use Rattle.std.specs.Str.{bytes_eq}
 use Rattle.std.proofs.lemmas.Bool.Decides.{nat_tests, Decides-eqb}
 use Rattle.std.proofs.lemmas.Int.{ints}
 use Rattle.ed_codes.specs.Spelling.{row_of}
-use Rattle.ed_syntax.specs.Lines.{Text}
+use Rattle.ed_words.specs.Texts.{Text}
 use Rattle.ed_syntax.specs.Parts.{Part, run, sign, quoted}
+use Rattle.ed_words.specs.Decimals
 use Rattle.ed_syntax.specs.Grammar
 use Rattle.ed_syntax.proofs.NameLemmas.{and_both}
 use Rattle.ed_syntax.proofs.Meaning.{IsOffset, IsOperand, IsSetting}
@@ -34,7 +36,8 @@ within_map P Q f h None w = tt
 within_map P Q f h (Some None) w = tt
 within_map P Q f h (Some (Some a)) w = h a w
 
-pub within_else : {A : Type 0} (P : A → Type 0) (c : Bool) (o p : Option (Option A)) → (c ≡ true → Within P o) → (c ≡ false → Within P p)
+pub within_else : {A : Type 0} (P : A → Type 0) (c : Bool) (o p : Option (Option A)) → (c ≡ true → Within P o)
+    → (c ≡ false → Within P p)
     → Within P (if c then o else p)
 within_else P true o p h k = h refl
 within_else P false o p h k = k refl
@@ -46,15 +49,16 @@ within_if P c o h = within_else P c o None h (λ e. tt)
 -- ---- numbers
 
 pub up_to_within : (most : ℕ) (digits : Text) → Within (λ n. n ≤ most) (Some (Grammar.up_to most digits))
-up_to_within most digits = by_test (nat_le (Grammar.value digits) most) refl
+up_to_within most digits = by_test (nat_le (Decimals.value digits) most) refl
   where
-    by_test : (c : Bool) → nat_le (Grammar.value digits) most ≡ c
-        → Within (λ n. n ≤ most) (Some (if c then Some (Grammar.value digits) else None))
+    by_test : (c : Bool) → nat_le (Decimals.value digits) most ≡ c
+        → Within (λ n. n ≤ most) (Some (if c then Some (Decimals.value digits) else None))
     by_test true e = grind (arith, nat_tests)
     by_test false e = tt
 
 pub number_within : (most : ℕ) (r : Text) → Within (λ n. n ≤ most) (Grammar.number most r)
-number_within most r = within_if (λ n. n ≤ most) (Grammar.is_number r) (Some (Grammar.up_to most r)) (λ e. up_to_within most r)
+number_within most r = within_if (λ n. n ≤ most) (Grammar.is_number r) (Some (Grammar.up_to most r))
+    (λ e. up_to_within most r)
 
 -- ---- operands
 
@@ -65,7 +69,8 @@ signed_within false n h = record { low = omega (arith, ints); high = omega (arit
 single_within : (two : Bool) (r : Text) → Within (IsOperand two) (Grammar.single two r)
 single_within two r =
     within_else (IsOperand two) (Grammar.is_number r) _ _
-    (λ e. within_map (λ n. n ≤ 32767) (IsOperand two) operands.Number (λ n h. h) (Some (Grammar.up_to 32767 r)) (up_to_within 32767 r))
+    (λ e. within_map (λ n. n ≤ 32767) (IsOperand two) operands.Number (λ n h. h) (Some (Grammar.up_to 32767 r))
+    (up_to_within 32767 r))
     (λ e. within_if (IsOperand two) (Grammar.is_place_name two r) _ (λ f. (f, signed_within false 0 (omega arith))))
 
 joined_within : (two : Bool) (r : Text) (s : ℕ) (n : Text) → Within (IsOperand two) (Grammar.joined two r s n)
@@ -77,17 +82,20 @@ joined_within two r s n =
     (λ f. within_if (IsOperand two) (two && Grammar.is_place_name two n) _
     (λ g. let both = and_both two _ g in (both.0, (e, both.1)))))
 
-pub front_rest : {A B : Type 0} (P : A → Type 0) (b : B) (o : Option (Option A)) → Within P o → FrontWithin P (option_map (λ a. (a, b)) o)
+pub front_rest : {A B : Type 0} (P : A → Type 0) (b : B) (o : Option (Option A)) → Within P o
+    → FrontWithin P (option_map (λ a. (a, b)) o)
 front_rest P b None w = tt
 front_rest P b (Some None) w = tt
 front_rest P b (Some (Some a)) w = w
 
-pub front_else : {A B : Type 0} (P : A → Type 0) (c : Bool) (o p : Option (Option A × B)) → FrontWithin P o → FrontWithin P p
+pub front_else : {A B : Type 0} (P : A → Type 0) (c : Bool) (o p : Option (Option A × B)) → FrontWithin P o
+    → FrontWithin P p
     → FrontWithin P (if c then o else p)
 front_else P true o p h k = h
 front_else P false o p h k = k
 
-joined_front_within : (two : Bool) (r : Text) (s : ℕ) (parts : List Part) → FrontWithin (IsOperand two) (Grammar.joined_front two r s parts)
+joined_front_within : (two : Bool) (r : Text) (s : ℕ) (parts : List Part)
+    → FrontWithin (IsOperand two) (Grammar.joined_front two r s parts)
 joined_front_within two r s [] = tt
 joined_front_within two r s (run n ∷ parts) = front_rest (IsOperand two) parts _ (joined_within two r s n)
 joined_front_within two r s (sign b ∷ parts) = tt
@@ -119,7 +127,8 @@ among : (P : ℕ → Type 0) (xs : List ℕ) (b : ℕ) → EachOf P xs → list_
 among P [] b h e = absurd (cc)
 among P (x ∷ xs) b h e = by_test (x == b) refl e (among P xs b h.1)
   where
-    by_test : (c : Bool) → (x == b) ≡ c → (c || list_any (λ y. y == b) xs) ≡ true → (list_any (λ y. y == b) xs ≡ true → P b) → P b
+    by_test : (c : Bool) → (x == b) ≡ c → (c || list_any (λ y. y == b) xs) ≡ true
+        → (list_any (λ y. y == b) xs ≡ true → P b) → P b
     by_test true f g more = subst P ((Decides-eqb x b).0 f) h.0
     by_test false f g more = more g
 
@@ -152,7 +161,8 @@ letter_within b = by_test (list_any (λ c. c == b) (codes "HNM&LX")) refl
     by_test true e = among (λ c. IfSome (row_of c) IsLetter) (codes "HNM&LX") b each e
     by_test false e = tt
 
-front_setting : (two : Bool) (l : Option ℕ) (o : Option (Option Operand × List Part)) → IfSome l IsLetter → FrontWithin (IsOperand two) o
+front_setting : (two : Bool) (l : Option ℕ) (o : Option (Option Operand × List Part)) → IfSome l IsLetter
+    → FrontWithin (IsOperand two) o
     → FrontWithin (IsSetting two) (option_and_then (λ l. option_map (λ p. (Grammar.lettered l p.0, p.1)) o) l)
 front_setting two None o h w = tt
 front_setting two (Some l) None h w = tt
@@ -167,7 +177,8 @@ setting_within two (sign b ∷ []) = tt
 setting_within two (sign b ∷ run r ∷ parts) = tt
 setting_within two (sign b ∷ quoted q ∷ parts) = tt
 setting_within two (sign b ∷ sign e ∷ parts) =
-    let front = front_setting two (Grammar.setting_letter b) (Grammar.operand two parts) (letter_within b) (operand_within two parts) in
+    let front = front_setting two (Grammar.setting_letter b) (Grammar.operand two parts) (letter_within b)
+    (operand_within two parts) in
     front_else (IsSetting two) (e == 61) _ None front tt
 
 all_none : (two : Bool) → All (IsSetting two) []
@@ -188,9 +199,11 @@ single_setting : (two : Bool) (s : Option Setting) → IfSome s (IsSetting two)
 single_setting two None h = tt
 single_setting two (Some s) h = all_one two s h
 
-and_more_within : (two : Bool) (s : Option Setting) (parts : List Part) (more : List Part → Option (Option (List Setting)))
+and_more_within : (two : Bool) (s : Option Setting) (parts : List Part)
+    (more : List Part → Option (Option (List Setting)))
     → IfSome s (IsSetting two)
-    → ((ps : List Part) → Within (All (IsSetting two)) (more ps)) → Within (All (IsSetting two)) (Grammar.and_more s parts more)
+    → ((ps : List Part) → Within (All (IsSetting two)) (more ps))
+    → Within (All (IsSetting two)) (Grammar.and_more s parts more)
 and_more_within two s [] more h w = single_setting two s h
 and_more_within two s (run r ∷ parts) more h w = tt
 and_more_within two s (quoted q ∷ parts) more h w = tt
@@ -200,7 +213,8 @@ and_more_within two s (sign c ∷ parts) more h w =
 settings_within : (two : Bool) (k : ℕ) (parts : List Part) → Within (All (IsSetting two)) (Grammar.settings two k parts)
 unfolding Grammar.settings
 settings_within two zero parts = tt
-settings_within two (suc k) parts = by_front (Grammar.setting two parts) (setting_within two parts) (settings_within two k)
+settings_within two (suc k) parts =
+    by_front (Grammar.setting two parts) (setting_within two parts) (settings_within two k)
   where
     by_front : (o : Option (Option Setting × List Part)) → FrontWithin (IsSetting two) o
         → ((ps : List Part) → Within (All (IsSetting two)) (Grammar.settings two k ps))
@@ -213,4 +227,5 @@ pub preset_within : (two : Bool) (parts : List Part) → Within (All (IsSetting 
 preset_within two [] = all_none two
 preset_within two (sign b ∷ parts) = tt
 preset_within two (quoted q ∷ parts) = tt
-preset_within two (run w ∷ parts) = within_if (All (IsSetting two)) (bytes_eq w (codes "with")) _ (λ e. settings_within two 6 parts)
+preset_within two (run w ∷ parts) =
+    within_if (All (IsSetting two)) (bytes_eq w (codes "with")) _ (λ e. settings_within two 6 parts)

@@ -17,10 +17,12 @@ pub none_left : (two : Bool) (k : ℕ) (parts : List Part) → k ≡ 0 → setti
 unfolding settings
 none_left two k parts e = rw e refl
 
-pub no_setting : (two : Bool) (k : ℕ) (parts : List Part) → 0 < k → setting two parts ≡ None → settings two k parts ≡ None
+pub no_setting : (two : Bool) (k : ℕ) (parts : List Part) → 0 < k → setting two parts ≡ None
+    → settings two k parts ≡ None
 no_setting two k parts h e = step two k parts h ∙ ap (option_and_then (λ p. and_more p.0 p.1 (settings two (k - 1)))) e
 
-pub first_setting : (two : Bool) (k : ℕ) (parts rest : List Part) (s : Ranged Setting) → 0 < k → setting two parts ≡ Some (s, rest)
+pub first_setting : (two : Bool) (k : ℕ) (parts rest : List Part) (s : Ranged Setting) → 0 < k
+    → setting two parts ≡ Some (s, rest)
     → settings two k parts ≡ and_more s rest (settings two (k - 1))
 first_setting two k parts rest s h e =
     step two k parts h ∙ ap (option_and_then (λ p. and_more p.0 p.1 (settings two (k - 1)))) e

@@ -1,16 +1,18 @@
--- The grammar of the lines of a source (this project's own rule), over the parts of a line. Each definition answers none
--- where the parts don't have its form. What has a form is `Ranged`: it is given where its numbers are in their ranges.
--- The argument `two` says whether the source is of version 2.
-use Rattle.std.specs.Prelude.{ℕ, zero, suc, ◌+◌, ◌*◌, ◌-◌, ◌^◌, ◌==◌, ◌&&◌, ◌||◌, Bool, true, false, ℤ, pos, neg_ℤ, unsigned_abs}
-use Rattle.std.specs.Prelude.{List, [], ◌∷◌, codes, fold, length, map, nat_le, if◌then◌else◌}
+-- The grammar of the lines of a source (this project's own rule), over the parts of a line. Each definition answers
+-- none where the parts don't have its form. What has a form is `Ranged`: it is given where its numbers are in their
+-- ranges. The argument `two` says whether the source is of version 2.
+use Rattle.std.specs.Prelude.{ℕ, zero, suc, ◌^◌, ◌==◌, ◌&&◌, ◌||◌}
+use Rattle.std.specs.Prelude.{Bool, true, false, ℤ, pos, neg_ℤ, unsigned_abs}
+use Rattle.std.specs.Prelude.{List, [], ◌∷◌, codes, length, map, nat_le, if◌then◌else◌}
 use Rattle.std.specs.Prelude.{Option, Some, None, option_map, option_and_then}
 use Rattle.std.specs.Int.{int_rem_euclid}
 use Rattle.std.specs.List.{list_all, list_any}
 use Rattle.std.specs.Str.{bytes_eq}
 use Rattle.ed_codes.specs.Spelling.{row_of}
 use Rattle.arrayvec.specs.ArrayVec.{ArrayVec}
-use Rattle.ed_syntax.specs.Lines.{Text}
-use Rattle.ed_syntax.specs.Parts.{Part, run, sign, quoted, is_lower, is_digit, is_run_byte}
+use Rattle.ed_words.specs.Texts.{Text}
+use Rattle.ed_words.specs.Decimals.{is_digit, value}
+use Rattle.ed_syntax.specs.Parts.{Part, run, sign, quoted, is_lower, is_run_byte}
 use Rattle.ed_syntax.specs.declared.program.Operand.{Operand}
 use Rattle.ed_syntax.specs.declared.program.Operand.TheVariants as operands
 use Rattle.ed_syntax.specs.declared.program.Setting.{Setting}
@@ -46,10 +48,6 @@ is_place_name two r = is_name r || (two && is_local_name r)
 abbrev pub is_number : Text → Bool
 is_number [] = false
 is_number (b ∷ bs) = is_digit b && list_all is_digit bs
-
--- the number that digits spell
-abbrev pub value : Text → ℕ
-value = fold (λ n b. 10 * n + (b - 48)) 0
 
 -- the number that digits spell, where it is at most this
 abbrev pub up_to : ℕ → Text → Ranged ℕ
@@ -150,7 +148,8 @@ order_end two parts = option_and_then (λ p. option_map (λ l. (p.0, l)) (length
 -- an order: a function, an operand that may be missing, and F or D
 abbrev pub order : Bool → ℕ → List Part → Option (Ranged Statement)
 order two b parts =
-    option_and_then (λ f. option_map (λ p. option_map (λ o. statements.Order f o p.1) p.0) (order_end two parts)) (function b)
+    option_and_then (λ f. option_map (λ p. option_map (λ o. statements.Order f o p.1) p.0) (order_end two parts))
+    (function b)
 
 -- ---- settings
 
@@ -175,7 +174,8 @@ both (Some s) (Some more) = Some (s ∷ more)
 both _ _ = None
 
 -- behind a setting: nothing, or a comma (44) and more settings
-abbrev pub and_more : Ranged Setting → List Part → (List Part → Option (Ranged (List Setting))) → Option (Ranged (List Setting))
+abbrev pub and_more : Ranged Setting → List Part → (List Part → Option (Ranged (List Setting)))
+    → Option (Ranged (List Setting))
 and_more s [] more = Some (option_map (λ a. a ∷ []) s)
 and_more s (sign c ∷ parts) more = if c == 44 then option_map (both s) (more parts) else None
 and_more s _ more = None

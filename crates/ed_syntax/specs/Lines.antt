@@ -1,10 +1,7 @@
 -- The lines of a text (this project's own rule). A line ends at a line feed (10); a carriage return (13) just before it
 -- belongs to the end. A last line without an end counts where it isn't empty.
 use Rattle.std.specs.Prelude.{ℕ, ◌==◌, ◌&&◌, List, [], ◌∷◌, if◌then◌else◌}
-
--- bytes
-abbrev pub Text : Type 0
-Text = List ℕ
+use Rattle.ed_words.specs.Texts.{Text}
 
 -- a byte at the front of the first line
 abbrev pub with_byte : ℕ → List Text → List Text

@@ -1,7 +1,9 @@
 -- The parts of a line of a source (this project's own rule). Blanks and tabs may stand between any two parts, and a
 -- comment runs from a `;` outside quotes to the line's end.
-use Rattle.std.specs.Prelude.{ℕ, ◌==◌, ◌||◌, ◌&&◌, Bool, false, List, [], ◌∷◌, ◌++◌, Option, Some, None, nat_le, option_map, if◌then◌else◌}
-use Rattle.ed_syntax.specs.Lines.{Text}
+use Rattle.std.specs.Prelude.{ℕ, ◌==◌, ◌||◌, ◌&&◌, Bool, false, List, [], ◌∷◌, ◌++◌}
+use Rattle.std.specs.Prelude.{Option, Some, None, nat_le, option_map, if◌then◌else◌}
+use Rattle.ed_words.specs.Decimals.{is_digit}
+use Rattle.ed_words.specs.Texts.{Text}
 
 -- a run of lower-case letters, digits and `_`, which is a name, a number or a word of the forms; any other byte, as a
 -- function, a letter or a sign; the bytes between two quotes
@@ -13,10 +15,6 @@ pub data Part : Type 0 where
 -- a lower-case letter
 abbrev pub is_lower : ℕ → Bool
 is_lower b = nat_le 97 b && nat_le b 122
-
--- a decimal digit
-abbrev pub is_digit : ℕ → Bool
-is_digit b = nat_le 48 b && nat_le b 57
 
 -- a byte of a run: a lower-case letter, a digit or `_`
 abbrev pub is_run_byte : ℕ → Bool

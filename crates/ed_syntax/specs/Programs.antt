@@ -36,7 +36,8 @@ is_statement two (statements.Segment name base) = is_name name && is_base base
 is_statement two (statements.Order function operand length) = nat_lt function 32 && is_operand two operand
 is_statement two (statements.Number value) = nat_lt value (2 ^ 17)
 is_statement two (statements.Text codes) = are_rows codes.items
-is_statement two (statements.Fetch routine name settings) = is_name routine && (is_name name && list_all (is_setting two) settings.items)
+is_statement two (statements.Fetch routine name settings) =
+    is_name routine && (is_name name && list_all (is_setting two) settings.items)
 is_statement two (statements.Enter name) = is_name name
 is_statement two (statements.Rows codes) = are_rows codes.items
 is_statement two (statements.Long value) = two && nat_lt value (2 ^ 35)

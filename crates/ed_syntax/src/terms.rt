@@ -1,12 +1,15 @@
 //! Names, numbers and strings.
-ghost use Rattle.std.specs.Prelude.{◌≡◌, ◌∷◌, ◌≤◌, ◌<◌, ◌^◌, true, false, Some, map, length, IfSome, IfNone, option_map};
+ghost use Rattle.std.specs.Prelude.{◌≡◌, ◌∷◌, ◌≤◌, ◌<◌, ◌^◌, true, false, Some};
+ghost use Rattle.std.specs.Prelude.{map, length, IfSome, IfNone, option_map};
 ghost use Rattle.std.specs.List.{list_all};
 ghost use Rattle.std.specs.Str.{bytes_eq};
 ghost use Rattle.ed_codes.specs.Spelling.{row_of};
-ghost use Rattle.ed_syntax.specs.Grammar.{array, integer, is_local_name, is_name, is_number, is_place_name, number, row};
+ghost use Rattle.ed_syntax.specs.Grammar.{array, integer, is_local_name, is_name};
+ghost use Rattle.ed_syntax.specs.Grammar.{is_number, is_place_name, number, row};
 ghost use Rattle.ed_syntax.specs.Grammar.{signed, spells, string, string_rows, up_to};
 ghost use Rattle.ed_syntax.specs.Private.Names.{IsNameText};
-ghost use Rattle.ed_syntax.specs.Parts.{is_digit, is_run_byte};
+ghost use Rattle.ed_words.specs.Decimals.{is_digit};
+ghost use Rattle.ed_syntax.specs.Parts.{is_run_byte};
 ghost use Rattle.ed_syntax.specs.Private.Seen.{part};
 
 use crate::Name;

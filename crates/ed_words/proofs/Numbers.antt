@@ -1,6 +1,7 @@
--- What the tests of numbers mean, both ways: `X_of` reads a test that is true, `not_X_of` one that is false, and `X_true`
--- and `X_false` give what a test answers.
-use Rattle.std.proofs.Common.{◌≡◌, ℕ, ◌<◌, ◌≤◌, ◌≢◌, ◌⊎◌, inl, inr, refl, arith, Bool, true, false, ◌||◌, nat_eq, nat_lt, nat_le, if◌then◌else◌}
+-- What the tests of numbers mean, both ways: `X_of` reads a test that is true, `not_X_of` one that is false, and
+-- `X_true` and `X_false` give what a test answers.
+use Rattle.std.proofs.Common.{◌≡◌, ℕ, ◌<◌, ◌≤◌, ◌≢◌, ◌⊎◌, inl, inr, refl, arith, Bool}
+use Rattle.std.proofs.Common.{true, false, ◌||◌, nat_eq, nat_lt, nat_le, if◌then◌else◌}
 use Rattle.std.proofs.lemmas.Bool.Decides.{nat_tests}
 
 pub eq_of : (a b : ℕ) → nat_eq a b ≡ true → a ≡ b
@@ -44,6 +45,7 @@ or_of true y h = inl refl
 or_of false y h = inr h
 
 -- what holds of both branches of a test holds of the choice
-pub if_means : {A : Type 0} (P : A → Type 0) (b : Bool) (x y : A) → (b ≡ true → P x) → (b ≡ false → P y) → P (if b then x else y)
+pub if_means : {A : Type 0} (P : A → Type 0) (b : Bool) (x y : A) → (b ≡ true → P x) → (b ≡ false → P y)
+    → P (if b then x else y)
 if_means P true x y f g = f refl
 if_means P false x y f g = g refl

@@ -1,14 +1,16 @@
-//! Words: numbers of 17 and 35 binary digits, the fields of an order word, and the size of a store.
+//! Words: numbers of 17 and 35 binary digits, the fields of an order word, the size of a store; and decimal numbers.
 //!
 //! The contract is that fields and halves are exact and inverse to each other. Stands on std alone.
 #![tactic(auto)]
 
+mod decimals;
 mod long;
 mod memory;
 mod order;
 mod size;
 mod word;
 
+pub use decimals::{number, number_within};
 pub use long::{Halves, Long};
 pub use memory::NoMemory;
 pub use order::Order;

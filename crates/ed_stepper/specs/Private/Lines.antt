@@ -7,9 +7,10 @@ use Rattle.ed_stepper.specs.declared.commands.Command.{Command}
 use Rattle.ed_stepper.specs.declared.moves.BackFault.{BackFault}
 use Rattle.ed_stepper.specs.declared.moves.BackFault.TheVariants.{TooFar, Memory}
 
--- the line has run and this is what it writes; it goes back too far and has changed nothing; or memory ran out before it ran
--- or behind it
+-- the line has run and this is what it writes; it goes back too far and has changed nothing; or memory ran out before
+-- it ran or behind it
 abbrev pub LineEnds : Command → Stand → Result (Vec ℕ Global) BackFault → Stand → Type 0
-LineEnds command s (Ok text) t = (is_too_far command s ≡ false) × (text.items ≡ writes command s) × (t ≡ after command s)
+LineEnds command s (Ok text) t = (is_too_far command s ≡ false) × (text.items ≡ writes command s)
+    × (t ≡ after command s)
 LineEnds command s (Err (TooFar done)) t = (is_too_far command s ≡ true) × (done ≡ s.done) × (t ≡ s)
 LineEnds command s (Err Memory) t = (t ≡ s) ⊎ ((is_too_far command s ≡ false) × (t ≡ after command s))

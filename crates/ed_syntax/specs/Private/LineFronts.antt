@@ -1,7 +1,8 @@
 -- What the code takes from the front of a text.
 use Rattle.std.specs.Prelude.{◌≡◌, ◌<◌, ◌==◌, Bool, List, [], ◌∷◌, ◌++◌, length, if◌then◌else◌, Result, Ok, Err}
 use Rattle.std.specs.List.{list_any}
-use Rattle.ed_syntax.specs.Lines.{Text, lines_of}
+use Rattle.ed_words.specs.Texts.{Text}
+use Rattle.ed_syntax.specs.Lines.{lines_of}
 use Rattle.ed_syntax.specs.Sources.{Fault}
 use Rattle.ed_syntax.specs.declared.program.Line.{Line}
 

@@ -1,8 +1,9 @@
 -- What the code takes from the front of a line.
-use Rattle.std.specs.Prelude.{◌≡◌, ◌<◌, ◌==◌, Bool, true, false, [], ◌∷◌, ◌++◌, Option, Some, None, Result, Ok, Err, length, option_map}
+use Rattle.std.specs.Prelude.{◌≡◌, ◌<◌, ◌==◌, Bool, true, false, [], ◌∷◌, ◌++◌}
+use Rattle.std.specs.Prelude.{Option, Some, None, Result, Ok, Err, length, option_map}
 use Rattle.std.specs.Borrow.{Bor}
 use Rattle.std.specs.List.{list_all, list_any}
-use Rattle.ed_syntax.specs.Lines.{Text}
+use Rattle.ed_words.specs.Texts.{Text}
 use Rattle.ed_syntax.specs.Parts.{parts_of, is_run_byte, begins_run, is_blank}
 use Rattle.ed_syntax.specs.Private.Seen.{part}
 use Rattle.ed_syntax.specs.declared.parts.Part.{Part}
@@ -30,6 +31,7 @@ pub record SplitsQuote (text inside rest : Text) : Type 0 where
 
 -- the part at the front, and what is left; no part; or a quote that stays open
 abbrev pub Takes : Text → Result (Option (Part × Bor Text)) OpenQuote → Type 0
-Takes text (Ok (Some p)) = (parts_of text ≡ option_map (λ ps. part p.0 ∷ ps) (parts_of p.1.now)) × (length p.1.now < length text)
+Takes text (Ok (Some p)) = (parts_of text ≡ option_map (λ ps. part p.0 ∷ ps) (parts_of p.1.now))
+    × (length p.1.now < length text)
 Takes text (Ok None) = parts_of text ≡ Some []
 Takes text (Err e) = parts_of text ≡ None

@@ -5,4 +5,5 @@ use Rattle.ed_command.proofs.reading.found_command.Goals as goal
 
 pub returns-clause-ranges : goal.returns-clause-ranges
 returns-clause-ranges c =
-    found_in_range (map (λ w. w.now) c.unwrap_or.result.now) (options_in c.found_options.result) c.command_of.result c.command_of.ensures
+    found_in_range (map (λ w. w.now) c.unwrap_or.result.now) (options_in c.found_options.result) c.command_of.result
+    c.command_of.ensures

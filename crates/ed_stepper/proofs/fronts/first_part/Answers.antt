@@ -1,7 +1,7 @@
 use Rattle.std.proofs.Common.{◌≡◌, ◌-◌, ◌∙◌, sym, ap, take, drop, length, unwrap_or}
 use Rattle.std.specs.Prelude.{position}
 use Rattle.std.proofs.lemmas.List.{take_rest}
-use Rattle.ed_syntax.specs.Lines.{Text}
+use Rattle.ed_words.specs.Texts.{Text}
 use Rattle.ed_syntax.specs.Parts.{is_blank}
 use Rattle.ed_stepper.proofs.Heads.{no_part, part_taken}
 use Rattle.ed_stepper.proofs.fronts.first_part.Goals as goal

@@ -36,7 +36,8 @@ returns-in-Some-clause-ends c =
     let w = c.loop-orders.invariant.walking in
     let t = taken _ _ _ _ _ _ _ w c.loop-orders-test.true c.step.ensures.turn c.step.ensures.state c.in-Went.is in
     let own = c.own_end.ensures c.args.machine.now c.loop-orders.orders (add-one c.loop-orders.orders)
-    (c.counter.ensures.is ∙ ap (λ (x : State). x.counter) t.0.state) (c.is_entering-entered.ensures ∙ ap enters w.state) in
+    (c.counter.ensures.is ∙ ap (λ (x : State). x.counter) t.0.state)
+    (c.is_entering-entered.ensures ∙ ap enters w.state) in
     owns _ _ _ _ _ _ _ _ t.0 t.1 (sym own ∙ c.in-Some.is)
 
 pub returns-in-Some-clause-state : goal.returns-in-Some-clause-state
@@ -61,15 +62,18 @@ loop-orders-preserved c =
     let w = c.loop-orders.invariant.walking in
     let t = taken _ _ _ _ _ _ _ w c.loop-orders-test.true c.step.ensures.turn c.step.ensures.state c.in-Went.is in
     let own = c.own_end.ensures c.args.machine.now c.loop-orders.orders (add-one c.loop-orders.orders)
-    (c.counter.ensures.is ∙ ap (λ (x : State). x.counter) t.0.state) (c.is_entering-entered.ensures ∙ ap enters w.state) in
+    (c.counter.ensures.is ∙ ap (λ (x : State). x.counter) t.0.state)
+    (c.is_entering-entered.ensures ∙ ap enters w.state) in
     record {
       walking = goes_on _ _ _ _ _ _ _ t.0 t.1 (sym own ∙ c.in_default.is);
       count = omega (arith, c.step.ensures.count, c.loop-orders.invariant.count);
       marks = λ start is few are. c.keep.ensures start (after_from _ _ _ _ _ t.0.state is)
-          (omega (arith, c.step.ensures.count, c.loop-orders.invariant.count, few)) (c.loop-orders.invariant.marks start is few are);
+          (omega (arith, c.step.ensures.count, c.loop-orders.invariant.count, few))
+          (c.loop-orders.invariant.marks start is few are);
     }
 
 pub returns-clause-ends : goal.returns-clause-ends
 returns-clause-ends c =
-    let e : c.loop-orders.orders ≡ c.args.left = omega (arith, c.loop-orders-test.false, c.loop-orders.auto.orders-end) in
+    let e : c.loop-orders.orders ≡ c.args.left =
+    omega (arith, c.loop-orders-test.false, c.loop-orders.auto.orders-end) in
     limits _ _ _ _ (rw e at c.loop-orders.invariant.walking)

@@ -7,16 +7,20 @@ use Rattle.ed_syntax.proofs.operands.+settings.Goals as goal
 
 pub settings-returns-then-most-eq0-clause-is : goal.settings-returns-then-most-eq0-clause-is
 settings-returns-then-most-eq0-clause-is t c =
-    ap (option_map (option_map array)) (sym (none_left c.args.two c.args.most (map part c.args.parts.now) c.if-most-eq0.true))
+    ap (option_map (option_map array))
+    (sym (none_left c.args.two c.args.most (map part c.args.parts.now) c.if-most-eq0.true))
 
 pub settings-returns-in-Some-clause-is : goal.settings-returns-in-Some-clause-is
 settings-returns-in-Some-clause-is t c =
-    let front : setting c.args.two (map part c.args.parts.now) ≡ Some (c.in-Some.setting, map part c.in-Some.rest.now) = search rules in
+    let front : setting c.args.two (map part c.args.parts.now)
+    ≡ Some (c.in-Some.setting, map part c.in-Some.rest.now) = search rules in
     let rest = map part c.in-Some.rest.now in
-    let whole = first_setting c.args.two c.args.most (map part c.args.parts.now) rest c.in-Some.setting (omega arith) front in
+    let whole = first_setting c.args.two c.args.most (map part c.args.parts.now) rest c.in-Some.setting
+    (omega arith) front in
     c.and_more.ensures.is ∙ ap (option_map (option_map array)) (sym whole)
 
 pub settings-returns-in-None-clause-is : goal.settings-returns-in-None-clause-is
 settings-returns-in-None-clause-is t c =
     let front : setting c.args.two (map part c.args.parts.now) ≡ None = search rules in
-    ap (option_map (option_map array)) (sym (no_setting c.args.two c.args.most (map part c.args.parts.now) (omega arith) front))
+    ap (option_map (option_map array))
+    (sym (no_setting c.args.two c.args.most (map part c.args.parts.now) (omega arith) front))

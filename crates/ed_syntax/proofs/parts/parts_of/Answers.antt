@@ -7,4 +7,5 @@ loop-part-preserved c =
     let grown : c.push.new.self.items ≡ c.loop-part.parts.items ++ c.in-Ok-Some.part ∷ [] = search rules in
     let takes = rw c.in-Ok-Some.field-0-is at c.in-Ok-Some.ensures in
     let after = c.in-Ok-Some.after.now in
-    rw grown (more_parts c.args.line.now c.loop-part.rest.now after c.loop-part.parts.items c.in-Ok-Some.part c.loop-part.invariant takes.0)
+    rw grown (more_parts c.args.line.now c.loop-part.rest.now after c.loop-part.parts.items c.in-Ok-Some.part
+    c.loop-part.invariant takes.0)

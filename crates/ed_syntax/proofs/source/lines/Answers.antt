@@ -15,7 +15,8 @@ loop-rest-preserved c =
     let grown : c.push.new.self.items ≡ here.found.items ++ numbered here.number form ∷ [] = search rules in
     let says : line_of c.args.two here.number line.0.now ≡ Ok form = search rules in
     record {
-      same = rw grown (program_step c.args.two (lines_of c.args.text.now) here.rest.now line.0.now line.1.now here.number here.found.items
+      same = rw grown (program_step c.args.two (lines_of c.args.text.now) here.rest.now line.0.now line.1.now
+          here.number here.found.items
           here.invariant.same c.split_line.ensures.lines form more says);
       number = omega arith;
     }

@@ -4,6 +4,8 @@ use Rattle.ed_syntax.proofs.terms.up_to.Goals as goal
 
 pub returns-then-value-most-clause-is : goal.returns-then-value-most-clause-is
 returns-then-value-most-clause-is c =
-    let large : c.args.most < 10 * c.loop-digit.value + (get_or c.args.digits.now c.loop-digit.digit-index 0 - 48) = omega arith in
+    let large : c.args.most < 10 * c.loop-digit.value + (get_or c.args.digits.now c.loop-digit.digit-index 0 - 48) =
+    omega arith in
     let same = c.loop-digit.invariant.same in
-    sym (too_large c.args.most c.loop-digit.value c.loop-digit.digit-index c.args.digits.now c.loop-digit-test.true same large)
+    sym (too_large c.args.most c.loop-digit.value c.loop-digit.digit-index c.args.digits.now c.loop-digit-test.true
+    same large)

@@ -1,5 +1,5 @@
 use Rattle.std.proofs.Common.{◌≡◌, ◌≤◌, take}
-use Rattle.ed_syntax.specs.Grammar.{value}
+use Rattle.ed_words.specs.Decimals.{value}
 use Rattle.ed_syntax.proofs.terms.up_to.Given as goal
 
 abbrev pub invariant-loop-digit : goal.invariant-loop-digit
