@@ -1,5 +1,6 @@
 -- Products of signed long words, and sums with them, fit 128 binary digits.
-use Rattle.std.proofs.Common.{◌≡◌, refl, ap, ℕ, ◌+◌, ◌-◌, ◌%◌, ◌^◌, ◌≤◌, arith, ℤ, pos, nat_abs, neg_ℤ, ◌≤ℤ◌, ◌+ℤ◌, ◌-ℤ◌, ◌*ℤ◌, lit<, lit≤}
+use Rattle.std.proofs.Common.{◌≡◌, refl, ap, ℕ, ◌+◌, ◌-◌, ◌%◌, ◌^◌, ◌≤◌, arith, ℤ}
+use Rattle.std.proofs.Common.{pos, nat_abs, neg_ℤ, ◌≤ℤ◌, ◌+ℤ◌, ◌-ℤ◌, ◌*ℤ◌, lit<, lit≤}
 use Rattle.std.proofs.lemmas.Int.{ints, to_z-of_z, fits_signed_mul, unsigned_abs-mul, int_rem_euclid_is}
 use Rattle.std.proofs.Math.Nat.{mul-le-mul}
 use Rattle.std.specs.Prelude.{unsigned_abs}
@@ -18,7 +19,8 @@ widened x within = to_z-of_z w64 x (omega (arith, ints, within.low, within.high)
 
 -- four times a product as it is computed
 abbrev computed : ℤ → ℤ → ℤ
-computed x y = to_z w128 (of_z w128 (pos 4 *ℤ to_z w128 (of_z w128 (to_z w128 (of_z w128 x) *ℤ to_z w128 (of_z w128 y)))))
+computed x y = to_z w128
+    (of_z w128 (pos 4 *ℤ to_z w128 (of_z w128 (to_z w128 (of_z w128 x) *ℤ to_z w128 (of_z w128 y)))))
 
 module _ (x y : ℤ) (left : IsWithin (2 ^ 34) x) (right : IsWithin (2 ^ 34) y) where
   small : nat_abs (x *ℤ y) ≤ 2 ^ 68
@@ -31,7 +33,8 @@ module _ (x y : ℤ) (left : IsWithin (2 ^ 34) x) (right : IsWithin (2 ^ 34) y) 
   pub product_is : computed x y ≡ pos 4 *ℤ (x *ℤ y)
   product_is =
       let first : SFits w128 (x *ℤ y) = omega (arith, ints, small) in
-      let second : SFits w128 (pos 4 *ℤ (x *ℤ y)) = fits_signed_mul w128 (pos 4) (x *ℤ y) 4 (2 ^ 68) (lit≤ tt) small (lit< tt) in
+      let second : SFits w128 (pos 4 *ℤ (x *ℤ y)) =
+      fits_signed_mul w128 (pos 4) (x *ℤ y) 4 (2 ^ 68) (lit≤ tt) small (lit< tt) in
       let x_is = to_z-of_z w128 x (omega (arith, ints, left.low, left.high)) in
       let y_is = to_z-of_z w128 y (omega (arith, ints, right.low, right.high)) in
       rw (x_is, y_is, to_z-of_z w128 (x *ℤ y) first) (to_z-of_z w128 (pos 4 *ℤ (x *ℤ y)) second)
@@ -51,13 +54,15 @@ module _ (a : ℕ) (p : ℤ) (within : IsWithin (2 ^ 70) p) where
     sum_wrapped : modulo71 (pos a +ℤ p) ≡ (a + modulo71 p) % 2 ^ 71
     sum_wrapped =
         let whole : modulo71 (pos a +ℤ p) ≡ (a + n) % 2 ^ 71 =
-        ap unsigned_abs (int_rem_euclid_is (pos a +ℤ p) (pos (2 ^ 71)) (2 ^ 71) 1 (a + n) (lit< tt) refl (omega (arith, ints, is))) in
+        ap unsigned_abs (int_rem_euclid_is (pos a +ℤ p) (pos (2 ^ 71)) (2 ^ 71) 1 (a + n) (lit< tt) refl
+        (omega (arith, ints, is))) in
         rw (whole, wrapped_is) (omega arith)
 
     difference_wrapped : n ≤ 2 ^ 72 → modulo71 (pos a -ℤ p) ≡ (a + 2 ^ 71 - modulo71 p) % 2 ^ 71
     difference_wrapped low =
         let whole : modulo71 (pos a -ℤ p) ≡ (a + 2 ^ 72 - n) % 2 ^ 71 =
-        ap unsigned_abs (int_rem_euclid_is (pos a -ℤ p) (pos (2 ^ 71)) (2 ^ 71) 1 (a + 2 ^ 72 - n) (lit< tt) refl (omega (arith, ints, is, low))) in
+        ap unsigned_abs (int_rem_euclid_is (pos a -ℤ p) (pos (2 ^ 71)) (2 ^ 71) 1 (a + 2 ^ 72 - n) (lit< tt) refl
+        (omega (arith, ints, is, low))) in
         rw (whole, wrapped_is) (omega (arith, low))
 
   -- a product that a call is passed is itself

@@ -29,7 +29,8 @@ negative_core n q t r b h whole =
 
 -- a negative number shifted, on its 71 digits
 pub negative_shifted : (a p : ℕ) → a < 2 ^ 71 → p ≤ 71
-    → (a / 2 ^ p + (2 ^ 71 - 2 ^ 71 / 2 ^ p) < 2 ^ 71) × (a / 2 ^ p + (2 ^ 71 - 2 ^ 71 / 2 ^ p) ≡ 2 ^ 71 - 1 - (2 ^ 71 - 1 - a) / 2 ^ p)
+    → (a / 2 ^ p + (2 ^ 71 - 2 ^ 71 / 2 ^ p) < 2 ^ 71)
+    × (a / 2 ^ p + (2 ^ 71 - 2 ^ 71 / 2 ^ p) ≡ 2 ^ 71 - 1 - (2 ^ 71 - 1 - a) / 2 ^ p)
 negative_shifted a p fits short =
     let b = 2 ^ p in let q = a / b in let t = 2 ^ (71 - p) - 1 - q in
     let parts : q * b + a % b ≡ a = div-add-mod' a b in

@@ -4,8 +4,8 @@ use crate::support::{End, follow};
 use std::process::Abort;
 use std::test::Fail;
 
-/// Orders that bring about an accumulator: 0, one with all 71 digits set, the lowest two digits alone, and a positive and a
-/// negative one of many digits.
+/// Orders that bring about an accumulator: 0, one with all 71 digits set, the lowest two digits alone, and a positive
+/// and a negative one of many digits.
 const ACCUMULATORS: [(&str, u32); 5] = [
     ("", 0),
     ("S90FRFRFRFRF", 5),

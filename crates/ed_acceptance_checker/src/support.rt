@@ -91,8 +91,8 @@ fn guest_acc(machine: &Machine) -> u128 {
     (high << 36) + 4 * middle + (low >> 32)
 }
 
-/// Whether the guest that is checked is as the one alone, outside the routine and the Initial Orders, which end with the
-/// place that they enter.
+/// Whether the guest that is checked is as the one alone, outside the routine and the Initial Orders, which end with
+/// the place that they enter.
 fn agree(checked: &Machine, alone: &Machine) -> bool {
     for a in 56..1024 {
         if BASE <= a && a < BASE + 66 {

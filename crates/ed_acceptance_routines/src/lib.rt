@@ -1,4 +1,5 @@
-//! Tests of the library's routines: what they print, read, divide and take roots of, where they stand, and how many orders they take.
+//! Tests of the library's routines: what they print, read, divide and take roots of, where they stand, and how many
+//! orders they take.
 //!
 //! The contract of this crate is nothing: it has no public item and no code but its tests. Their expected values come
 //! from the numbers themselves, and from counts made by hand, never from the program's own output. Stands on

@@ -7,8 +7,8 @@ use ed_routines::{Back, new_line, print_integer};
 use std::process::Abort;
 use std::test::Fail;
 
-/// Numbers, their decimal digits, and the orders that they take: 78, and 8 for each unit of the digits before the last one,
-/// and 4 for each of these digits.
+/// Numbers, their decimal digits, and the orders that they take: 78, and 8 for each unit of the digits before the
+/// last one, and 4 for each of these digits.
 const NUMBERS: [(u32, &str, u64); 11] = [
     (0, "0", 78),
     (7, "7", 78),

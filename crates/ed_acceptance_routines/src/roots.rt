@@ -61,8 +61,8 @@ fn with_hn(source: u16, target: u16) -> Parameters
     ]
 }
 
-/// The machine in which the routine stands and has just been called with the number 0, by a program that adds 1 to the number
-/// and calls it again, in six orders.
+/// The machine in which the routine stands and has just been called with the number 0, by a program that adds 1 to
+/// the number and calls it again, in six orders.
 fn counting(rt: &impl Abort, alloc: Global, site: &Site) -> Result<Machine, Fail> {
     let Site {
         size,

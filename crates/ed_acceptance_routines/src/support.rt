@@ -89,7 +89,8 @@ pub fn stands_at(machine: &Machine, index: u16, base: u16, h: u16) -> bool
     stands_with(machine, index, base, &with_h(h))
 }
 
-/// Whether the routine with an index stands at a base with these parameters, and is called. No routine stands above 1000 here.
+/// Whether the routine with an index stands at a base with these parameters, and is called. No routine stands above
+/// 1000 here.
 pub fn stands_with(machine: &Machine, index: u16, base: u16, parameters: &Parameters) -> bool
     requires { index < how_many }
     ensures { IsTrue result → Stands index parameters.now base machine.now }
@@ -117,8 +118,8 @@ pub fn text_of(rt: &impl Abort, alloc: Global, routine: Routine) -> Result<Strin
     Ok(text)
 }
 
-/// A machine in which a routine stands and has just been called with the number 0 at h, by a program that adds 1 to the number
-/// and calls it again, within six orders.
+/// A machine in which a routine stands and has just been called with the number 0 at h, by a program that adds 1 to
+/// the number and calls it again, within six orders.
 pub fn counting(
     rt: &impl Abort,
     alloc: Global,

@@ -1,8 +1,8 @@
 //! Tests of sessions, scripts and traces.
 //!
-//! The contract of this crate is nothing: it has no public item and no code but its tests. Their expected values come from
-//! plain runs of `step`, from the description of scripts and from worked examples, never from the program's own output.
-//! Stands on the crates up to the sessions and the traces.
+//! The contract of this crate is nothing: it has no public item and no code but its tests. Their expected values come
+//! from plain runs of `step`, from the description of scripts and from worked examples, never from the program's own
+//! output. Stands on the crates up to the sessions and the traces.
 #![tactic(auto)]
 
 #[cfg(test)]

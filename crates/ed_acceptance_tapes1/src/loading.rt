@@ -79,8 +79,8 @@ fn largest(rt: &impl Abort, alloc: Global, item: &str) -> Result<Vec<Code>, Fail
     rows_of(rt, alloc, tape.as_str())
 }
 
-/// A short program that leaves 1 in the sandwich digit of the pair 0, 1: A 4 F, R D, T 0 D and Z F, and the word 1 of which
-/// half is taken.
+/// A short program that leaves 1 in the sandwich digit of the pair 0, 1: A 4 F, R D, T 0 D and Z F, and the word 1 of
+/// which half is taken.
 const HALVES_A_WORD: [u32; 5] = [114_696, 16_385, 20_481, 53_248, 1];
 
 /// Runs that program.

@@ -96,8 +96,8 @@ fn are_loaded_as_told(rt: &impl Abort, alloc: Global, rows: Vec<Code>) -> Result
     }
 }
 
-/// The first code that makes a difference at a place: the check doesn't answer what is wanted, or the rows are not loaded
-/// as it tells.
+/// The first code that makes a difference at a place: the check doesn't answer what is wanted, or the rows are not
+/// loaded as it tells.
 fn first_difference(rt: &impl Abort, alloc: Global, place: usize) -> Result<Option<u8>, Fail> {
     for number in 0..32 {
         let rows = replaced(rt, alloc, place, Code::new(number).ok_or("no code")?)?;

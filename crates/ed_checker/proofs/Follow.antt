@@ -1,5 +1,6 @@
 -- The routine obeys the guest order by order.
-use Rattle.std.proofs.Common.{◌≡◌, ℕ, zero, suc, ◌+◌, ◌%◌, ◌^◌, ◌<◌, refl, sym, ap, ◌∙◌, subst, arith, lit<, Bool, true, false, nat_lt, nat_le, [], ◌∷◌, ◌++◌, Option, Some, inl, inr}
+use Rattle.std.proofs.Common.{◌≡◌, ℕ, zero, suc, ◌+◌, ◌%◌, ◌^◌, ◌<◌, refl, sym, ap, ◌∙◌, subst, arith, lit<}
+use Rattle.std.proofs.Common.{Bool, true, false, nat_lt, nat_le, [], ◌∷◌, ◌++◌, Option, Some, inl, inr}
 use Rattle.std.proofs.lemmas.Bool.{cases_eq}
 use Rattle.ed_words.specs.Sizes.{within}
 use Rattle.ed_words.specs.Words.{function_of, address_of}
@@ -21,7 +22,15 @@ use Rattle.ed_checker.proofs.Ran.{joined, none, renamed}
 use Rattle.ed_checker.proofs.Turns.{turn, turn_halts, other_planted}
 
 agree_self : (base : ℕ) (s : State) → Agree base s s
-agree_self base s = record { size = refl; words = λ a i. refl; digits = λ a i. refl; acc = refl; multiplier = refl; counter = refl; tape = refl }
+agree_self base s = record {
+  size = refl;
+  words = λ a i. refl;
+  digits = λ a i. refl;
+  acc = refl;
+  multiplier = refl;
+  counter = refl;
+  tape = refl;
+}
 
 agree_trans : (base : ℕ) (s t u : State) → Agree base s t → Agree base t u → Agree base s u
 agree_trans base s t u p q = record {
@@ -45,7 +54,11 @@ module _ (base : ℕ) (even_base : base % 2 ≡ 0) (s t : State) (p : Agree base
       let order : IsAllowedOrder (kind_of_function (function_of (next_word s))) base (next_word s) s.size =
       subst (λ w. IsAllowedOrder (kind_of_function (function_of w)) base w s.size) (sym same_word)
       (subst (λ z. IsAllowedOrder (kind_of_function (function_of x)) base x z) (sym p.size) ok.order) in
-      record { outside = subst (IsOutside base) (sym p.counter) ok.outside; next = rw (p.counter, p.size) ok.next; order = order }
+      record {
+        outside = subst (IsOutside base) (sym p.counter) ok.outside;
+        next = rw (p.counter, p.size) ok.next;
+        order = order;
+      }
 
   -- the order that both obey
   abbrev x : ℕ
@@ -64,20 +77,41 @@ module _ (base : ℕ) (even_base : base % 2 ≡ 0) (s t : State) (p : Agree base
     agree : Agree base a.state b.state
 
   both_jump : (b : Bool) (j : ℕ) → Both (jumped b j s) (jumped b j t)
-  both_jump true j = record { turn = refl; agree = record { size = p.size; words = p.words; digits = p.digits; acc = p.acc; multiplier = p.multiplier; counter = refl; tape = p.tape } }
+  both_jump true j = record {
+    turn = refl;
+    agree = record {
+      size = p.size;
+      words = p.words;
+      digits = p.digits;
+      acc = p.acc;
+      multiplier = p.multiplier;
+      counter = refl;
+      tape = p.tape;
+    };
+  }
   both_jump false j = record {
     turn = refl;
-    agree = record { size = p.size; words = p.words; digits = p.digits; acc = p.acc; multiplier = p.multiplier; counter = λ i. within (p.size i) (p.counter i + 1); tape = p.tape };
+    agree = record {
+      size = p.size;
+      words = p.words;
+      digits = p.digits;
+      acc = p.acc;
+      multiplier = p.multiplier;
+      counter = λ i. within (p.size i) (p.counter i + 1);
+      tape = p.tape;
+    };
   }
 
   place : place_of s x ≡ place_of t x
   place = ap (λ z. within z (address_of x)) p.size
 
   both_E : Both (obey_word (Some E) x s) (obey_word (Some E) x t)
-  both_E = subst (Both (obey_word (Some E) x s)) (λ i. jumped (nat_lt (p.acc i) (2 ^ 70)) (place i) t) (both_jump (nat_lt s.acc (2 ^ 70)) (place_of s x))
+  both_E = subst (Both (obey_word (Some E) x s)) (λ i. jumped (nat_lt (p.acc i) (2 ^ 70)) (place i) t)
+      (both_jump (nat_lt s.acc (2 ^ 70)) (place_of s x))
 
   both_G : Both (obey_word (Some G) x s) (obey_word (Some G) x t)
-  both_G = subst (Both (obey_word (Some G) x s)) (λ i. jumped (nat_le (2 ^ 70) (p.acc i)) (place i) t) (both_jump (nat_le (2 ^ 70) s.acc) (place_of s x))
+  both_G = subst (Both (obey_word (Some G) x s)) (λ i. jumped (nat_le (2 ^ 70) (p.acc i)) (place i) t)
+      (both_jump (nat_le (2 ^ 70) s.acc) (place_of s x))
 
   module _ (a : IsStore s.store) (b : IsStore t.store) where
     alike : Alike base s t
@@ -96,7 +130,8 @@ module _ (base : ℕ) (even_base : base % 2 ≡ 0) (s t : State) (p : Agree base
         → Both (obey_word (kind_of_function (function_of x)) x s) (obey_word (kind_of_function (function_of x)) x t)
     both_planted may h =
         let o = planted base even_base s t alike (kind_of_function (function_of x)) x may allowed.order in
-        let went = ap is_obeyed (o.turn ∙ ap (λ (y : Obeyed). y.turn) (sym (at_t (kind_of_function (function_of x)) refl))) ∙ h in
+        let went = ap is_obeyed (o.turn
+        ∙ ap (λ (y : Obeyed). y.turn) (sym (at_t (kind_of_function (function_of x)) refl))) ∙ h in
         let q = o.alike in
         record {
           turn = o.turn;
@@ -111,10 +146,12 @@ module _ (base : ℕ) (even_base : base % 2 ≡ 0) (s t : State) (p : Agree base
           };
         }
 
-    by_step : (k : Option Kind) → kind_of_function (function_of x) ≡ k → Both (obey_word k x s) (obey_word k x t) → Both (step s) (step t)
+    by_step : (k : Option Kind) → kind_of_function (function_of x) ≡ k → Both (obey_word k x s) (obey_word k x t)
+        → Both (step s) (step t)
     by_step k e h = subst (λ y. Both y (step t)) (sym (at_s k e)) (subst (Both (obey_word k x s)) (sym (at_t k e)) h)
 
-    pub steps : is_obeyed (step t).turn ≡ true → ((step s).turn ≡ (step t).turn) × Agree base (step s).state (step t).state
+    pub steps : is_obeyed (step t).turn ≡ true
+        → ((step s).turn ≡ (step t).turn) × Agree base (step s).state (step t).state
     steps h = (whole.turn, whole.agree)
       where
         whole : Both (step s) (step t)
@@ -124,7 +161,8 @@ module _ (base : ℕ) (even_base : base % 2 ≡ 0) (s t : State) (p : Agree base
               | inr no3 ↦
                   elim (cases_eq (function_of x) 27) [
                     | inl e ↦ by_step (Some G) (ap kind_of_function e) both_G
-                    | inr no27 ↦ by_step (kind_of_function (function_of x)) refl (both_planted (other_planted (function_of x) no3 no27) h)
+                    | inr no27 ↦ by_step (kind_of_function (function_of x)) refl
+                        (both_planted (other_planted (function_of x) no3 no27) h)
                   ]
             ]
 
@@ -169,7 +207,8 @@ module _ (base : ℕ) (m : State) (has : HasGuest base m) where
       let g_sound : IsSound gq = sound_after q g (guest_sound base m has first) in
       let b = steps base has.even (guest base a) gq c.agree ok a_sound.store g_sound.store obeyed in
       let word : next_word (guest base a) ≡ next_word gq = same_word base has.even (guest base a) gq c.agree ok in
-      let t = turn base has.even a a_sound.store (rw c.size has.room) c.stands (allowed base has.even (guest base a) gq c.agree ok)
+      let t = turn base has.even a a_sound.store (rw c.size has.room) c.stands
+      (allowed base has.even (guest base a) gq c.agree ok)
       (ap is_obeyed b.0 ∙ obeyed) in
       let codes : function_of (next_word (guest base a)) ∷ codes_of (step (guest base a)).turn
       ≡ function_of (next_word gq) ∷ codes_of (step gq).turn
@@ -198,7 +237,10 @@ module _ (base : ℕ) (m : State) (has : HasGuest base m) where
     size = refl;
   }
   checks_from (suc q) h =
-      next q (checks_from q (record { allowed = λ j l. h.allowed j (omega arith); obeyed = λ j l. h.obeyed j (omega arith) }))
+      next q (checks_from q (record {
+        allowed = λ j l. h.allowed j (omega arith);
+        obeyed = λ j l. h.obeyed j (omega arith);
+      }))
       (at_first base g (h.allowed 0 (omega arith))) (h.allowed q (omega arith)) (h.obeyed q (omega arith))
 
   first_allowed : (q : ℕ) → IsFollowed base q g → IsAllowed base (state_after q g) → IsAllowed base g
@@ -217,9 +259,11 @@ module _ (base : ℕ) (m : State) (has : HasGuest base m) where
       let g_sound : IsSound gq = sound_after q g (guest_sound base m has (first_allowed q h ok)) in
       let b = steps base has.even (guest base a) gq c.agree ok a_sound.store g_sound.store (ap is_obeyed stop) in
       let word : next_word (guest base a) ≡ next_word gq = same_word base has.even (guest base a) gq c.agree ok in
-      let t = turn_halts base has.even a a_sound.store (rw c.size has.room) c.stands (allowed base has.even (guest base a) gq c.agree ok)
+      let t = turn_halts base has.even a a_sound.store (rw c.size has.room) c.stands
+      (allowed base has.even (guest base a) gq c.agree ok)
       (b.0 ∙ stop) in
-      let to_it = joined c.count t.count (past q g).stops 0 (checked_codes g q) (function_of (next_word (guest base a)) ∷ []) m a t.before
+      let to_it = joined c.count t.count (past q g).stops 0 (checked_codes g q)
+      (function_of (next_word (guest base a)) ∷ []) m a t.before
       c.ran t.ran in
       record {
         last = t.before;

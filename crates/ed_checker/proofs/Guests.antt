@@ -1,5 +1,6 @@
 -- A program each of whose orders keeps below the checking routine can be its guest.
-use Rattle.std.proofs.Common.{◌≡◌, inl, ◌∙◌, ℕ, zero, suc, ◌+◌, ◌%◌, ◌<◌, ◌≤◌, refl, sym, subst, arith, Bool, true, false, Option, Some, None}
+use Rattle.std.proofs.Common.{◌≡◌, inl, ◌∙◌, ℕ, zero, suc, ◌+◌, ◌%◌, ◌<◌, ◌≤◌, refl}
+use Rattle.std.proofs.Common.{sym, subst, arith, Bool, true, false, Option, Some, None}
 use Rattle.std.proofs.Common.{List, [], ◌∷◌, nat_lt, nat_le, ◌^◌}
 use Rattle.ed_words.specs.declared.size.Size.{Size}
 use Rattle.ed_words.specs.Sizes.{locations, within}
@@ -48,7 +49,8 @@ module _ (base : ℕ) (even_base : base % 2 ≡ 0) (z : Size) (room : base + 66 
   by_kind O w f n j = near w (n refl)
 
 -- an order that keeps below the routine, and is followed by a place below it, is allowed
-pub allowed_below : (base : ℕ) → base % 2 ≡ 0 → (kind : Kind) (s : State) → IsOrder base kind s → base + 66 ≤ locations s.size
+pub allowed_below : (base : ℕ) → base % 2 ≡ 0 → (kind : Kind) (s : State) → IsOrder base kind s
+    → base + 66 ≤ locations s.size
     → IsAllowed base s
 allowed_below base even kind s o room = record {
   outside = inl o.counter;

@@ -1,5 +1,6 @@
 -- A machine in which the routine stands, as a state of its paths, and back.
-use Rattle.std.proofs.Common.{◌≡◌, ◌∷◌, inl, inr, ℕ, zero, suc, ◌+◌, ◌-◌, ◌*◌, ◌/◌, ◌%◌, ◌^◌, ◌<◌, ◌≤◌, refl, sym, ap, ◌∙◌, arith, lit<, lit≤}
+use Rattle.std.proofs.Common.{◌≡◌, ◌∷◌, inl, inr, ℕ, zero, suc, ◌+◌, ◌-◌, ◌*◌, ◌/◌, ◌%◌}
+use Rattle.std.proofs.Common.{◌^◌, ◌<◌, ◌≤◌, refl, sym, ap, ◌∙◌, arith, lit<, lit≤}
 use Rattle.std.proofs.Common.{false, true, List, [], Option, length, get_or}
 use Rattle.std.specs.Prelude.{◌==◌}
 use Rattle.std.specs.List.{list_any}
@@ -36,7 +37,8 @@ pub record HasCells (f : Frame 66 30) (w : Work) (s : State) : Type 0 where
   pub words : (j : ℕ) → j < 66 → get_or (cells f.base w) j 0 ≡ get_or s.store.words (f.base + j) 0
   pub digits : (j : ℕ) → j < 3 → get_or (pairs w) j false ≡ get_or s.store.sandwich (f.base / 2 + 30 + j) false
 
-pub opened : (f : Frame 66 30) (even : f.base % 2 ≡ 0) (w : Work) (s : State) (at : ℕ) → HasCells f w s → s.counter ≡ f.base + at
+pub opened : (f : Frame 66 30) (even : f.base % 2 ≡ 0) (w : Work) (s : State) (at : ℕ) → HasCells f w s
+    → s.counter ≡ f.base + at
     → state f (moment f.base (around s) w s.acc at s.last) s.orders ≡ s
 opened f even w s at h counter =
     let b = most f.size in
@@ -65,11 +67,13 @@ check_image b = image check b (0 ∷ [])
 holds_image : (b : ℕ) (s : State) → b ≤ 1024 → HasImage b s → Holds (check_image b) s.store.words b
 holds_image b s low h i l =
     let z : 0 + i ≡ i = omega arith in
-    meets 1 (with_h 0) b (0 ∷ []) low (near_h 0 (lit≤ tt)) (h_is 0) (entry check).working (0, 0, false, 0) (entry check).items 0 i
+    meets 1 (with_h 0) b (0 ∷ []) low (near_h 0 (lit≤ tt)) (h_is 0) (entry check).working (0, 0, false, 0)
+    (entry check).items 0 i
     (short_at s.store (b + i)) refl l
     (λ w. (h i l).has (ap (λ y. list_any (λ p. p == y) (entry check).working) (sym z) ∙ w))
 
-module _ (base : ℕ) (even_base : base % 2 ≡ 0) (s : State) (is_store : IsStore s.store) (room : base + 66 ≤ locations s.size) where
+module _ (base : ℕ) (even_base : base % 2 ≡ 0) (s : State) (is_store : IsStore s.store)
+    (room : base + 66 ≤ locations s.size) where
   abbrev pub frame : Frame 66 30
   frame = record { size = s.size; base = base; top = locations s.size; under = room; fits = omega arith }
 
@@ -113,7 +117,8 @@ module _ (base : ℕ) (even_base : base % 2 ≡ 0) (s : State) (is_store : IsSto
     words = λ j lj.
         let b = most s.size in
         let c = is_store.words_are in
-        let whole = opens (check_image base) s.store.words base (omega arith) (holds_image base s (omega arith) stands.image) in
+        let whole = opens (check_image base) s.store.words base (omega arith)
+        (holds_image base s (omega arith) stands.image) in
         sym (get_own 0 s.store.words base (cells base work) j lj)
         ∙ ap (λ xs. get_or (patched 0 s.store.words base xs) (base + j) 0) (sym filled_is)
         ∙ ap (λ xs. get_or xs (base + j) 0) whole;
@@ -132,7 +137,8 @@ module _ (f : Frame 66 30) (even : f.base % 2 ≡ 0) (o : Around) (w : Work) (ac
   first_word : short_at the_state.store f.base ≡ w.at0
   first_word =
       let z : f.base ≡ f.base + 0 = omega arith in
-      ap (λ x. get_or (patched 0 o.words f.base (cells f.base w)) x 0) z ∙ get_own 0 o.words f.base (cells f.base w) 0 (lit< tt)
+      ap (λ x. get_or (patched 0 o.words f.base (cells f.base w)) x 0) z
+      ∙ get_own 0 o.words f.base (cells f.base w) 0 (lit< tt)
 
   high_is : long_at the_state.store (f.base + 60) ≡ w.high
   high_is = reads f the_moment (pair 60 0 even) refl refl ∙ parted w.high
@@ -162,13 +168,15 @@ module _ (f : Frame 66 30) (even : f.base % 2 ≡ 0) (o : Around) (w : Work) (ac
         let e : f.base + i - f.base ≡ i = omega arith in
         get_own 0 o.words f.base (cells f.base w) i l
         ∙ sym (get_own 0 m.store.words f.base (cells f.base w) i l)
-        ∙ kept check f.base (0 ∷ []) m.store.words (cells f.base w) refl refl (holds_image f.base m (omega arith) h) (f.base + i)
+        ∙ kept check f.base (0 ∷ []) m.store.words (cells f.base w) refl refl (holds_image f.base m (omega arith) h)
+        (f.base + i)
         (record { other = inr (inr (ap (λ x. is_working check x) e ∙ free)) })
         ∙ (h i l).has free;
   }
 
   -- the routine stands at the beginning of a turn
-  pub stands_again : (m : State) → HasImage f.base m → (l : ℕ) → w.middle < 2 ^ 34 → l < 4 → w.low ≡ l * 2 ^ 32 → acc ≡ 0 → at ≡ 0 → CheckerStands f.base the_state
+  pub stands_again : (m : State) → HasImage f.base m → (l : ℕ) → w.middle < 2 ^ 34 → l < 4 → w.low ≡ l * 2 ^ 32
+      → acc ≡ 0 → at ≡ 0 → CheckerStands f.base the_state
   stands_again m old l middle low_fits low none begin = record {
     counter = omega arith;
     acc = none;
@@ -182,16 +190,19 @@ module _ (f : Frame 66 30) (even : f.base % 2 ≡ 0) (o : Around) (w : Work) (ac
 -- outside the routine, a state of its paths is as the state that it was made from
 module _ (f : Frame 66 30) (even : f.base % 2 ≡ 0) (w : Work) (t : State) (same : f.size ≡ t.size)
     (words_are : length t.store.words ≡ 1024) (digits_are : length t.store.sandwich ≡ 512) where
-  word : (a : ℕ) → IsOutside f.base a → get_or (patched 0 t.store.words f.base (cells f.base w)) a 0 ≡ get_or t.store.words a 0
+  word : (a : ℕ) → IsOutside f.base a
+      → get_or (patched 0 t.store.words f.base (cells f.base w)) a 0 ≡ get_or t.store.words a 0
   word a (inl l) = get_below 0 t.store.words f.base (cells f.base w) a l
   word a (inr m) = get_above 0 t.store.words f.base (cells f.base w) a m
 
   digit : (a : ℕ) → IsOutside f.base a
-      → get_or (patched false t.store.sandwich (f.base / 2 + 30) (pairs w)) (a / 2) false ≡ get_or t.store.sandwich (a / 2) false
+      → get_or (patched false t.store.sandwich (f.base / 2 + 30) (pairs w)) (a / 2) false
+      ≡ get_or t.store.sandwich (a / 2) false
   digit a (inl l) = get_below false t.store.sandwich (f.base / 2 + 30) (pairs w) (a / 2) (omega arith)
   digit a (inr m) = get_above false t.store.sandwich (f.base / 2 + 30) (pairs w) (a / 2) (omega arith)
 
-  pub alike_around : (acc at k : ℕ) (last : Option ℕ) → acc ≡ t.acc → Alike f.base (state f (moment f.base (around t) w acc at last) k) t
+  pub alike_around : (acc at k : ℕ) (last : Option ℕ) → acc ≡ t.acc
+      → Alike f.base (state f (moment f.base (around t) w acc at last) k) t
   alike_around acc at k last e =
       let b = most f.size in
       let g = f.fits in

@@ -1,5 +1,6 @@
 -- The routine's paths: the guest's order fetched, the tests, the 71 digits brought back and saved, the guest's counter.
-use Rattle.std.proofs.Common.{◌≡◌, ℕ, ◌+◌, ◌-◌, ◌*◌, ◌/◌, ◌%◌, ◌^◌, ◌<◌, ◌≤◌, refl, arith, lit<, Bool, nat_eq, List, [], ◌∷◌, Option, Some, get_or}
+use Rattle.std.proofs.Common.{◌≡◌, ℕ, ◌+◌, ◌-◌, ◌*◌, ◌/◌, ◌%◌, ◌^◌, ◌<◌, ◌≤◌, refl, arith}
+use Rattle.std.proofs.Common.{lit<, Bool, nat_eq, List, [], ◌∷◌, Option, Some, get_or}
 use Rattle.ed_paths.proofs.Sums.{parted}
 use Rattle.ed_paths.proofs.Frames.{Frame, Moment}
 use Rattle.ed_paths.proofs.Places.{IsOutside, own, out, pair}
@@ -23,21 +24,21 @@ pub record Work : Type 0 where
 abbrev pub cells_with : ℕ → Work → ℕ → ℕ → ℕ → ℕ → ℕ → ℕ → List ℕ
 cells_with b w a60 a61 a62 a63 a64 a65 =
     w.at0 ∷ (28672 + 2 * (b + 40)) ∷ (36864 + 2 * (b + 40)) ∷ (12288 + 2 * (b + 13)) ∷ (49152 + 2 * (b + 53))
-    ∷ (110592 + 2 * (b + 30)) ∷ (49152 + 2 * (b + 55)) ∷ (12288 + 2 * (b + 30)) ∷ (114688 + 2 * (b + 56)) ∷ (20480 + 2 * (b + 58))
-    ∷ (114689 + 2 * (b + 60)) ∷ (110592 + 2 * (b + 26)) ∷ (12288 + 2 * (b + 21)) ∷ (49152 + 2 * (b + 54)) ∷ (110592 + 2 * (b + 30))
-    ∷ (49152 + 2 * (b + 55)) ∷ (12288 + 2 * (b + 30)) ∷ (114688 + 2 * (b + 56)) ∷ (20480 + 2 * (b + 58)) ∷ (114689 + 2 * (b + 60))
-    ∷ (12288 + 2 * (b + 26)) ∷ (20480 + 2 * (b + 59)) ∷ (114688 + 2 * (b + 0)) ∷ (114688 + 2 * (b + 57)) ∷ (20480 + 2 * (b + 0))
-    ∷ (12288 + 2 * (b + 0)) ∷ (20480 + 2 * (b + 59)) ∷ (114688 + 2 * (b + 58)) ∷ (20480 + 2 * (b + 0)) ∷ (12288 + 2 * (b + 0))
-    ∷ (20480 + 2 * (b + 59)) ∷ (114689 + 2 * (b + 64)) ∷ 16384 ∷ 16384 ∷ 16392
-    ∷ (114689 + 2 * (b + 62)) ∷ 16384 ∷ 16384 ∷ 16392 ∷ (114689 + 2 * (b + 60))
-    ∷ w.at40 ∷ (28673 + 2 * (b + 60)) ∷ (49153 + 2 * (b + 60)) ∷ 102400 ∷ 102400
-    ∷ 102528 ∷ (28673 + 2 * (b + 62)) ∷ (49153 + 2 * (b + 62)) ∷ 102400 ∷ 102400
-    ∷ 102528 ∷ (20481 + 2 * (b + 64)) ∷ (12288 + 2 * (b + 22)) ∷ 110592 ∷ 12288
-    ∷ 4096 ∷ 118784 ∷ 2 ∷ w.at58 ∷ w.at59
-    ∷ a60 ∷ a61 ∷ a62 ∷ a63 ∷ a64 ∷ a65 ∷ []
+    ∷ (110592 + 2 * (b + 30)) ∷ (49152 + 2 * (b + 55)) ∷ (12288 + 2 * (b + 30)) ∷ (114688 + 2 * (b + 56))
+    ∷ (20480 + 2 * (b + 58)) ∷ (114689 + 2 * (b + 60)) ∷ (110592 + 2 * (b + 26)) ∷ (12288 + 2 * (b + 21))
+    ∷ (49152 + 2 * (b + 54)) ∷ (110592 + 2 * (b + 30)) ∷ (49152 + 2 * (b + 55)) ∷ (12288 + 2 * (b + 30))
+    ∷ (114688 + 2 * (b + 56)) ∷ (20480 + 2 * (b + 58)) ∷ (114689 + 2 * (b + 60)) ∷ (12288 + 2 * (b + 26))
+    ∷ (20480 + 2 * (b + 59)) ∷ (114688 + 2 * (b + 0)) ∷ (114688 + 2 * (b + 57)) ∷ (20480 + 2 * (b + 0))
+    ∷ (12288 + 2 * (b + 0)) ∷ (20480 + 2 * (b + 59)) ∷ (114688 + 2 * (b + 58)) ∷ (20480 + 2 * (b + 0))
+    ∷ (12288 + 2 * (b + 0)) ∷ (20480 + 2 * (b + 59)) ∷ (114689 + 2 * (b + 64)) ∷ 16384 ∷ 16384 ∷ 16392
+    ∷ (114689 + 2 * (b + 62)) ∷ 16384 ∷ 16384 ∷ 16392 ∷ (114689 + 2 * (b + 60)) ∷ w.at40
+    ∷ (28673 + 2 * (b + 60)) ∷ (49153 + 2 * (b + 60)) ∷ 102400 ∷ 102400 ∷ 102528 ∷ (28673 + 2 * (b + 62))
+    ∷ (49153 + 2 * (b + 62)) ∷ 102400 ∷ 102400 ∷ 102528 ∷ (20481 + 2 * (b + 64)) ∷ (12288 + 2 * (b + 22))
+    ∷ 110592 ∷ 12288 ∷ 4096 ∷ 118784 ∷ 2 ∷ w.at58 ∷ w.at59 ∷ a60 ∷ a61 ∷ a62 ∷ a63 ∷ a64 ∷ a65 ∷ []
 
 abbrev pub cells : ℕ → Work → List ℕ
-cells b w = cells_with b w (w.high % 2 ^ 17) (w.high / 2 ^ 18) (w.middle % 2 ^ 17) (w.middle / 2 ^ 18) (w.low % 2 ^ 17) (w.low / 2 ^ 18)
+cells b w = cells_with b w (w.high % 2 ^ 17) (w.high / 2 ^ 18) (w.middle % 2 ^ 17) (w.middle / 2 ^ 18)
+    (w.low % 2 ^ 17) (w.low / 2 ^ 18)
 
 -- the sandwich digits of its three long words, which are the pairs from the 30th on
 abbrev pub pairs : Work → List Bool
@@ -75,7 +76,8 @@ module _ (f : Frame 66 30) (f_even : f.base % 2 ≡ 0) (o : Around) where
 
   -- places 26 to 29: the guest's counter is the place of a jump
   pub jump : (w : Work) (acc : ℕ) (last : Option ℕ) → w.at58 < 2 ^ 17
-      → Path f 4 (moment f.base o w acc 26 last) [] (moment f.base o (record w { at59 = acc / 2 ^ 54; at0 = w.at58 }) 0 0 last)
+      → Path f 4 (moment f.base o w acc 26 last) []
+      (moment f.base o (record w { at59 = acc / 2 ^ 54; at0 = w.at58 }) 0 0 last)
   jump w acc last h =
       on (T_top 26 (own 59) (acc / 2 ^ 54) refl refl)
       (on (A 27 (own 58) (w.at58 * 2 ^ 54) refl (omega arith))
@@ -83,8 +85,10 @@ module _ (f : Frame 66 30) (f_even : f.base % 2 ≡ 0) (o : Around) where
       (on (E_jumps 29 (own 0) refl (lit< tt)) stay)))
 
   -- places 30 to 39: the accumulator is brought back
-  pub restore : (w : Work) (acc l : ℕ) (last : Option ℕ) → w.low ≡ l * 2 ^ 32 → l < 4 → w.middle < 2 ^ 34 → w.high < 2 ^ 35
-      → Path f 10 (moment f.base o w acc 30 last) [] (moment f.base o (record w { at59 = acc / 2 ^ 54 }) (whole w.high w.middle w.low) 40 last)
+  pub restore : (w : Work) (acc l : ℕ) (last : Option ℕ) → w.low ≡ l * 2 ^ 32 → l < 4 → w.middle < 2 ^ 34
+      → w.high < 2 ^ 35
+      → Path f 10 (moment f.base o w acc 30 last) []
+      (moment f.base o (record w { at59 = acc / 2 ^ 54 }) (whole w.high w.middle w.low) 40 last)
   restore w acc l last is lf mf hf =
       let small : 4 * w.middle + l < 2 ^ 36 = omega arith in
       on (T_top 30 (own 59) (acc / 2 ^ 54) refl refl)
@@ -100,7 +104,8 @@ module _ (f : Frame 66 30) (f_even : f.base % 2 ≡ 0) (o : Around) where
 
   -- places 41 to 52: the accumulator is saved
   pub save : (w : Work) (a : ℕ) (last : Option ℕ) → a < 2 ^ 71
-      → Path f 12 (moment f.base o w a 41 last) [] (moment f.base o (record w { high = high_of a; middle = middle_of a; low = low_of a }) 0 22 last)
+      → Path f 12 (moment f.base o w a 41 last) []
+      (moment f.base o (record w { high = high_of a; middle = middle_of a; low = low_of a }) 0 22 last)
   save w a last h =
       let d : a % 2 ^ 36 < 2 ^ 36 = omega arith in
       let e : a % 4 < 4 = omega arith in
@@ -118,7 +123,8 @@ module _ (f : Frame 66 30) (f_even : f.base % 2 ≡ 0) (o : Around) where
       (on (E_jumps 52 (own 22) refl (lit< tt)) stay)))))))))))
 
   -- places 0 to 2: the guest's order is fetched, planted, and its function printed
-  pub fetch : (w : Work) (c x g : ℕ) (last : Option ℕ) → w.at0 ≡ 114688 + 2 * c → IsOutside f o.words c → get_or o.words c 0 ≡ x → x < 2 ^ 17 → x / 4096 ≡ g
+  pub fetch : (w : Work) (c x g : ℕ) (last : Option ℕ) → w.at0 ≡ 114688 + 2 * c → IsOutside f o.words c
+      → get_or o.words c 0 ≡ x → x < 2 ^ 17 → x / 4096 ≡ g
       → Path f 3 (moment f.base o w 0 0 last) (g ∷ []) (moment f.base o (record w { at40 = x }) (x * 2 ^ 54) 3 (Some g))
   fetch w c x g last is outside word fits e =
       on (A 0 (out c outside) (x * 2 ^ 54) (word_is is) (omega arith))
@@ -160,7 +166,8 @@ module _ (f : Frame 66 30) (f_even : f.base % 2 ≡ 0) (o : Around) where
 
   -- for E and G the place of the jump is made an A order, and the saved accumulator comes to the top
   at_E : (w : Work) (x : ℕ) (last : Option ℕ) → 12288 ≤ x → x < 16384 → w.high < 2 ^ 35
-      → Path f 8 (moment f.base o w (x * 2 ^ 54) 3 last) [] (moment f.base o (record w { at58 = x + 102400 }) (w.high * 2 ^ 36) 20 last)
+      → Path f 8 (moment f.base o w (x * 2 ^ 54) 3 last) []
+      (moment f.base o (record w { at58 = x + 102400 }) (w.high * 2 ^ 36) 20 last)
   at_E w x last low high fits =
       on (E_jumps 3 (own 13) refl (omega arith))
       (on (S 13 (own 54) ((x - 12288) * 2 ^ 54) refl (omega arith, omega arith))
@@ -172,7 +179,8 @@ module _ (f : Frame 66 30) (f_even : f.base % 2 ≡ 0) (o : Around) where
       (on (A 19 (pair 60 0 f_even) (w.high * 2 ^ 36) refl (rw (parted w.high) (omega arith))) stay)))))))
 
   at_G : (w : Work) (x : ℕ) (last : Option ℕ) → 110592 ≤ x → x < 114688 → w.high < 2 ^ 35
-      → Path f 8 (moment f.base o w (x * 2 ^ 54) 3 last) [] (moment f.base o (record w { at58 = x + 4096 }) (w.high * 2 ^ 36) 11 last)
+      → Path f 8 (moment f.base o w (x * 2 ^ 54) 3 last) []
+      (moment f.base o (record w { at58 = x + 4096 }) (w.high * 2 ^ 36) 11 last)
   at_G w x last low high fits =
       on (E_stays 3 (own 13) refl (omega arith))
       (on (S 4 (own 53) ((x - 110592) * 2 ^ 54) refl (omega arith, omega arith))
@@ -185,28 +193,37 @@ module _ (f : Frame 66 30) (f_even : f.base % 2 ≡ 0) (o : Around) where
 
   -- an E or G order of the guest, from place 3 to the beginning of the next turn: the four cases
   pub E_taken : (w : Work) (x : ℕ) (last : Option ℕ) → 12288 ≤ x → x < 16384 → w.high < 2 ^ 34
-      → Path f 13 (moment f.base o w (x * 2 ^ 54) 3 last) [] (moment f.base o (record w { at0 = x + 102400; at58 = x + 102400; at59 = w.high * 2 ^ 36 / 2 ^ 54 }) 0 0 last)
+      → Path f 13 (moment f.base o w (x * 2 ^ 54) 3 last) []
+      (moment f.base o (record w { at0 = x + 102400; at58 = x + 102400; at59 = w.high * 2 ^ 36 / 2 ^ 54 }) 0 0 last)
   E_taken w x last low high fits =
       followed (at_E w x last low high (omega arith))
-      (on (E_jumps 20 (own 26) refl (omega arith)) (jump (record w { at58 = x + 102400 }) (w.high * 2 ^ 36) last (omega arith)))
+      (on (E_jumps 20 (own 26) refl (omega arith))
+      (jump (record w { at58 = x + 102400 }) (w.high * 2 ^ 36) last (omega arith)))
 
-  pub E_passed : (w : Work) (x : ℕ) (last : Option ℕ) → 12288 ≤ x → x < 16384 → 2 ^ 34 ≤ w.high → w.high < 2 ^ 35 → w.at0 + 2 < 2 ^ 17
-      → Path f 14 (moment f.base o w (x * 2 ^ 54) 3 last) [] (moment f.base o (record w { at0 = w.at0 + 2; at58 = x + 102400; at59 = w.high * 2 ^ 36 / 2 ^ 54 }) 0 0 last)
+  pub E_passed : (w : Work) (x : ℕ) (last : Option ℕ) → 12288 ≤ x → x < 16384 → 2 ^ 34 ≤ w.high → w.high < 2 ^ 35
+      → w.at0 + 2 < 2 ^ 17
+      → Path f 14 (moment f.base o w (x * 2 ^ 54) 3 last) []
+      (moment f.base o (record w { at0 = w.at0 + 2; at58 = x + 102400; at59 = w.high * 2 ^ 36 / 2 ^ 54 }) 0 0 last)
   E_passed w x last low high negative fits room =
       followed (at_E w x last low high fits)
       (on (E_stays 20 (own 26) refl (omega arith))
-      (on (T_top 21 (own 59) (w.high * 2 ^ 36 / 2 ^ 54) refl refl) (advance (record w { at58 = x + 102400; at59 = w.high * 2 ^ 36 / 2 ^ 54 }) last room)))
+      (on (T_top 21 (own 59) (w.high * 2 ^ 36 / 2 ^ 54) refl refl)
+      (advance (record w { at58 = x + 102400; at59 = w.high * 2 ^ 36 / 2 ^ 54 }) last room)))
 
   pub G_taken : (w : Work) (x : ℕ) (last : Option ℕ) → 110592 ≤ x → x < 114688 → 2 ^ 34 ≤ w.high → w.high < 2 ^ 35
-      → Path f 13 (moment f.base o w (x * 2 ^ 54) 3 last) [] (moment f.base o (record w { at0 = x + 4096; at58 = x + 4096; at59 = w.high * 2 ^ 36 / 2 ^ 54 }) 0 0 last)
+      → Path f 13 (moment f.base o w (x * 2 ^ 54) 3 last) []
+      (moment f.base o (record w { at0 = x + 4096; at58 = x + 4096; at59 = w.high * 2 ^ 36 / 2 ^ 54 }) 0 0 last)
   G_taken w x last low high negative fits =
       followed (at_G w x last low high fits)
-      (on (G_jumps 11 (own 26) refl (omega arith)) (jump (record w { at58 = x + 4096 }) (w.high * 2 ^ 36) last (omega arith)))
+      (on (G_jumps 11 (own 26) refl (omega arith))
+      (jump (record w { at58 = x + 4096 }) (w.high * 2 ^ 36) last (omega arith)))
 
   pub G_passed : (w : Work) (x : ℕ) (last : Option ℕ) → 110592 ≤ x → x < 114688 → w.high < 2 ^ 34 → w.at0 + 2 < 2 ^ 17
-      → Path f 15 (moment f.base o w (x * 2 ^ 54) 3 last) [] (moment f.base o (record w { at0 = w.at0 + 2; at58 = x + 4096; at59 = w.high * 2 ^ 36 / 2 ^ 54 }) 0 0 last)
+      → Path f 15 (moment f.base o w (x * 2 ^ 54) 3 last) []
+      (moment f.base o (record w { at0 = w.at0 + 2; at58 = x + 4096; at59 = w.high * 2 ^ 36 / 2 ^ 54 }) 0 0 last)
   G_passed w x last low high fits room =
       followed (at_G w x last low high (omega arith))
       (on (G_stays 11 (own 26) refl (omega arith))
       (on (E_jumps 12 (own 21) refl (omega arith))
-      (on (T_top 21 (own 59) (w.high * 2 ^ 36 / 2 ^ 54) refl refl) (advance (record w { at58 = x + 4096; at59 = w.high * 2 ^ 36 / 2 ^ 54 }) last room))))
+      (on (T_top 21 (own 59) (w.high * 2 ^ 36 / 2 ^ 54) refl refl)
+      (advance (record w { at58 = x + 4096; at59 = w.high * 2 ^ 36 / 2 ^ 54 }) last room))))

@@ -1,5 +1,6 @@
 -- What so many orders of the machine come to: where they lead, what they print, and how many of them are stops.
-use Rattle.std.proofs.Common.{◌≡◌, ◌⊎◌, inl, inr, ◌∙◌, ℕ, zero, suc, ◌+◌, ◌-◌, ◌<◌, ◌≤◌, refl, sym, ap, subst, arith, true}
+use Rattle.std.proofs.Common.{◌≡◌, ◌⊎◌, inl, inr, ◌∙◌, ℕ, zero, suc, ◌+◌, ◌-◌}
+use Rattle.std.proofs.Common.{◌<◌, ◌≤◌, refl, sym, ap, subst, arith, true}
 use Rattle.std.proofs.Common.{List, [], ◌++◌, append_assoc, append-nil}
 use Rattle.std.proofs.lemmas.Bool.{cases_lt}
 use Rattle.ed_machine.specs.State.{State}
@@ -24,7 +25,8 @@ past_sum a (suc b) s =
     let e : a + suc b ≡ suc (a + b) = omega arith in
     let p = past a s in
     let q = past b p.state in
-    let z : p.stops + q.stops + stops_of (step q.state).turn ≡ p.stops + (q.stops + stops_of (step q.state).turn) = omega arith in
+    let z : p.stops + q.stops + stops_of (step q.state).turn ≡ p.stops + (q.stops + stops_of (step q.state).turn) =
+    omega arith in
     rw e
     (ap next_past (past_sum a b s)
     ∙ (λ i. record {
@@ -34,7 +36,8 @@ past_sum a (suc b) s =
     }))
 
 -- orders behind orders
-pub joined : (a b n l : ℕ) (cs ds : List ℕ) (s m t : State) → Ran a s cs n m → Ran b m ds l t → Ran (a + b) s (cs ++ ds) (n + l) t
+pub joined : (a b n l : ℕ) (cs ds : List ℕ) (s m t : State) → Ran a s cs n m → Ran b m ds l t
+    → Ran (a + b) s (cs ++ ds) (n + l) t
 joined a b n l cs ds s m t g h = record {
   is = past_sum a b s
       ∙ ap (λ (p : Past). after_past p (past b p.state)) g.is
@@ -56,11 +59,13 @@ pub none : (s : State) → Ran 0 s [] 0 s
 unfolding past
 none s = record { is = refl; free = λ j h. absurd (omega arith) }
 
-pub one : (s t : State) (u : Turn) → step s ≡ record { state = t; turn = u } → is_obeyed u ≡ true → Ran 1 s (codes_of u) (stops_of u) t
+pub one : (s t : State) (u : Turn) → step s ≡ record { state = t; turn = u } → is_obeyed u ≡ true
+    → Ran 1 s (codes_of u) (stops_of u) t
 unfolding past
 one s t u e o = record {
   is = ap (λ (x : Obeyed). record { state = x.state; codes = codes_of x.turn; stops = 0 + stops_of x.turn }) e
-      ∙ (let z : 0 + stops_of u ≡ stops_of u = omega arith in ap (λ n. record { state = t; codes = codes_of u; stops = n }) z);
+      ∙ (let z : 0 + stops_of u ≡ stops_of u = omega arith
+      in ap (λ n. record { state = t; codes = codes_of u; stops = n }) z);
   free = λ j h.
       let e0 : 0 ≡ j = omega arith in
       subst (λ x. is_obeyed (step (state_after x s)).turn ≡ true) e0 (ap (λ (x : Obeyed). is_obeyed x.turn) e ∙ o);

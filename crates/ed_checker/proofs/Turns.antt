@@ -1,5 +1,7 @@
 -- One turn of the routine: it obeys one order of its guest.
-use Rattle.std.proofs.Common.{◌≡◌, ◌≢◌, ℕ, zero, suc, ◌+◌, ◌*◌, ◌/◌, ◌%◌, ◌^◌, ◌<◌, ◌≤◌, refl, sym, ap, ◌∙◌, subst, arith, lit<, lit≤, Bool, true, false, true≢false, nat_eq, nat_lt, nat_le, ◌||◌, ◌&&◌, List, [], ◌∷◌, ◌++◌, append-nil, Option, Some, None, get_or, inl, inr}
+use Rattle.std.proofs.Common.{◌≡◌, ◌≢◌, ℕ, zero, suc, ◌+◌, ◌*◌, ◌/◌, ◌%◌, ◌^◌, ◌<◌, ◌≤◌, refl, sym, ap, ◌∙◌}
+use Rattle.std.proofs.Common.{subst, arith, lit<, lit≤, Bool, true, false, true≢false, nat_eq, nat_lt, nat_le}
+use Rattle.std.proofs.Common.{◌||◌, ◌&&◌, List, [], ◌∷◌, ◌++◌, append-nil, Option, Some, None, get_or, inl, inr}
 use Rattle.std.proofs.lemmas.Bool.{cases_lt, cases_eq, and_parts}
 use Rattle.std.specs.Prelude.{if◌then◌else◌}
 use Rattle.std.proofs.lemmas.Bool.Decides.{nat_tests}
@@ -14,7 +16,8 @@ use Rattle.ed_machine.specs.State.{State}
 use Rattle.ed_machine.specs.OrderTable.{Obeyed, step, next_word, obey_word, done_at, jumped}
 use Rattle.ed_machine.specs.Steps.{codes_of, stops_of, is_obeyed}
 use Rattle.ed_machine.specs.declared.turn.Turn.TheVariants.{Went, Stopped}
-use Rattle.ed_checker.specs.Checker.{IsOutside, CheckerStands, IsAllowed, IsAllowedOrder, IsPlainJump, Agree, guest, turn_orders}
+use Rattle.ed_checker.specs.Checker.{IsOutside, CheckerStands, IsAllowed, IsAllowedOrder}
+use Rattle.ed_checker.specs.Checker.{IsPlainJump, Agree, guest, turn_orders}
 use Rattle.ed_words.proofs.Numbers.{eq_true, eq_false, lt_true, lt_false, le_true, le_false}
 use Rattle.ed_checker.proofs.AccFits.{acc_fits}
 use Rattle.ed_paths.proofs.Frames.{Frame, Beside, state}
@@ -23,12 +26,14 @@ use Rattle.ed_paths.proofs.Paths.{Path, followed, leads}
 use Rattle.ed_paths.proofs.Window.{get_own}
 use Rattle.ed_checker.proofs.Saving.{high_of, middle_of, low_of, saved, middle_fits}
 use Rattle.ed_checker.proofs.Halves.{long_fits}
-use Rattle.ed_checker.proofs.Paths.{Work, Around, cells, pairs, moment, fetch, below_E, above_E, below_G, above_G, restore, save, advance}
+use Rattle.ed_checker.proofs.Paths.{Work, Around, cells, pairs, moment, fetch, below_E}
+use Rattle.ed_checker.proofs.Paths.{above_E, below_G, above_G, restore, save, advance}
 use Rattle.ed_checker.proofs.Paths.{E_taken, E_passed, G_taken, G_passed}
 use Rattle.ed_checker.proofs.Alike.{Alike, Outcome, is_planted, planted}
 use Rattle.ed_checker.specs.Laws.{Ran}
 use Rattle.ed_checker.proofs.Ran.{joined, one, along}
-use Rattle.ed_checker.proofs.Opening.{around, HasCells, opened, frame, work, holds, guest_counter, guest_acc, stands_again, alike_around}
+use Rattle.ed_checker.proofs.Opening.{around, HasCells, opened, frame, work, holds}
+use Rattle.ed_checker.proofs.Opening.{guest_counter, guest_acc, stands_again, alike_around}
 
 -- what a turn does: k orders lead from m to t, where the routine stands again and the guest is past its order
 pub record Turned (base : ℕ) (m : State) : Type 0 where
@@ -36,7 +41,8 @@ pub record Turned (base : ℕ) (m : State) : Type 0 where
   pub count : ℕ
   pub exact : count ≡ turn_orders (guest base m)
   pub most : count ≤ 35
-  pub ran : Ran count m (function_of (next_word (guest base m)) ∷ codes_of (step (guest base m)).turn) (stops_of (step (guest base m)).turn) after
+  pub ran : Ran count m (function_of (next_word (guest base m)) ∷ codes_of (step (guest base m)).turn)
+      (stops_of (step (guest base m)).turn) after
   pub stands : CheckerStands base after
   pub agree : Agree base (guest base after) (step (guest base m)).state
   pub size : after.size ≡ m.size
@@ -61,7 +67,15 @@ pub record Halts (base : ℕ) (m : State) : Type 0 where
 
 -- from states that are alike, and have the same counter
 agree_of : (base : ℕ) (s t : State) → Alike base s t → s.counter ≡ t.counter → Agree base s t
-agree_of base s t q c = record { size = q.size; words = q.words; digits = q.digits; acc = q.acc; multiplier = q.multiplier; counter = c; tape = q.tape }
+agree_of base s t q c = record {
+  size = q.size;
+  words = q.words;
+  digits = q.digits;
+  acc = q.acc;
+  multiplier = q.multiplier;
+  counter = c;
+  tape = q.tape;
+}
 
 -- the kinds of all functions but 3 and 27 are obeyed in the routine's own place
 abbrev all_but : List (Option Kind) → ℕ → Bool
@@ -70,9 +84,11 @@ all_but (k ∷ ks) i = (is_planted k || (nat_eq i 3 || nat_eq i 27)) && all_but 
 
 apart_from : (i : ℕ) (b : Bool) → i ≢ 3 → i ≢ 27 → (b || (nat_eq i 3 || nat_eq i 27)) ≡ true → b ≡ true
 apart_from i true a b h = refl
-apart_from i false a b h = let e : nat_eq i 3 ≡ false = eq_false i 3 a in let d : nat_eq i 27 ≡ false = eq_false i 27 b in rw (e, d) at h
+apart_from i false a b h = let e : nat_eq i 3 ≡ false = eq_false i 3 a in let d : nat_eq i 27 ≡ false =
+    eq_false i 27 b in rw (e, d) at h
 
-planted_at : (ks : List (Option Kind)) (i n : ℕ) → all_but ks i ≡ true → i + n ≢ 3 → i + n ≢ 27 → is_planted (get_or ks n None) ≡ true
+planted_at : (ks : List (Option Kind)) (i n : ℕ) → all_but ks i ≡ true → i + n ≢ 3 → i + n ≢ 27
+    → is_planted (get_or ks n None) ≡ true
 planted_at [] i n h a b = refl
 planted_at (k ∷ ks) i zero h a b =
     let p = and_parts (is_planted k || (nat_eq i 3 || nat_eq i 27)) (all_but ks (i + 1)) h in
@@ -84,9 +100,11 @@ planted_at (k ∷ ks) i (suc n) h a b =
     planted_at ks (i + 1) n p.1 (λ x. a (e ∙ x)) (λ x. b (e ∙ x))
 
 pub other_planted : (n : ℕ) → n ≢ 3 → n ≢ 27 → is_planted (kind_of_function n) ≡ true
-other_planted n a b = let e : 0 + n ≡ n = omega arith in planted_at kinds 0 n refl (λ x. a (sym e ∙ x)) (λ x. b (sym e ∙ x))
+other_planted n a b = let e : 0 + n ≡ n = omega arith
+    in planted_at kinds 0 n refl (λ x. a (sym e ∙ x)) (λ x. b (sym e ∙ x))
 
-module _ (base : ℕ) (even_base : base % 2 ≡ 0) (m : State) (store : IsStore m.store) (room : base + 66 ≤ locations m.size)
+module _ (base : ℕ) (even_base : base % 2 ≡ 0) (m : State) (store : IsStore m.store)
+    (room : base + 66 ≤ locations m.size)
     (stands : CheckerStands base m) (ok : IsAllowed base (guest base m)) where
   abbrev f : Frame 66 30
   f = frame base even_base m store room
@@ -158,7 +176,8 @@ module _ (base : ℕ) (even_base : base % 2 ≡ 0) (m : State) (store : IsStore 
     most : count ≤ 18
     exact : count + 17 ≡ turn_orders g
     at59 : ℕ
-    runs : Path f count (moment base o w0 0 0 m.last) (n ∷ []) (moment base o (record w1 { at59 = at59 }) g.acc 40 (Some n))
+    runs : Path f count (moment base o w0 0 0 m.last) (n ∷ [])
+        (moment base o (record w1 { at59 = at59 }) g.acc 40 (Some n))
 
   restored : (k acc : ℕ) → k ≤ 5 → 3 + (k + 10) + 17 ≡ turn_orders g
       → Path f k (moment base o w1 (x * 2 ^ 54) 3 (Some n)) [] (moment base o w1 acc 30 (Some n)) → Arrives
@@ -167,10 +186,12 @@ module _ (base : ℕ) (even_base : base % 2 ≡ 0) (m : State) (store : IsStore 
     most = omega arith;
     exact = e;
     at59 = acc / 2 ^ 54;
-    runs = followed fetched (followed r (restore f even_base o w1 acc low_count (Some n) low_is low_fits stands.middle high_fits));
+    runs = followed fetched (followed r
+        (restore f even_base o w1 acc low_count (Some n) low_is low_fits stands.middle high_fits));
   }
 
-  by_tests : (a3 a27 b3 b16 b27 : Bool) → nat_eq n 3 ≡ a3 → nat_eq n 27 ≡ a27 → nat_lt n 3 ≡ b3 → nat_lt n 16 ≡ b16 → nat_lt n 27 ≡ b27
+  by_tests : (a3 a27 b3 b16 b27 : Bool) → nat_eq n 3 ≡ a3 → nat_eq n 27 ≡ a27 → nat_lt n 3 ≡ b3 → nat_lt n 16 ≡ b16
+      → nat_lt n 27 ≡ b27
       → turn_orders g
       ≡ (if a3 then (if nat_lt g.acc (2 ^ 70) then 16 else 17)
       else if a27 then (if nat_lt g.acc (2 ^ 70) then 18 else 16)
@@ -185,19 +206,25 @@ module _ (base : ℕ) (even_base : base % 2 ≡ 0) (m : State) (store : IsStore 
       let e3 = eq_false n 3 no3 in
       let e27 = eq_false n 27 no27 in
       elim (cases_lt n 3) [
-        | inl l ↦ restored 3 _ (lit≤ tt) (sym (by_tests false false true _ _ e3 e27 (lt_true n 3 l) refl refl)) (below_E f even_base o w1 x (Some n) (omega arith))
+        | inl l ↦ restored 3 _ (lit≤ tt) (sym (by_tests false false true _ _ e3 e27 (lt_true n 3 l) refl refl))
+            (below_E f even_base o w1 x (Some n) (omega arith))
         | inr g3 ↦
             elim (cases_lt n 16) [
               | inl l ↦
-                  restored 5 _ (lit≤ tt) (sym (by_tests false false false true _ e3 e27 (lt_false n 3 g3) (lt_true n 16 l) refl))
+                  restored 5 _ (lit≤ tt) (sym
+                  (by_tests false false false true _ e3 e27 (lt_false n 3 g3) (lt_true n 16 l) refl))
                   (above_E f even_base o w1 x (Some n) (let h : 4 ≤ n = omega arith in omega arith) (omega arith))
               | inr g16 ↦
                   elim (cases_lt n 27) [
                     | inl l ↦
-                        restored 3 _ (lit≤ tt) (sym (by_tests false false false false true e3 e27 (lt_false n 3 g3) (lt_false n 16 g16) (lt_true n 27 l)))
+                        restored 3 _ (lit≤ tt) (sym
+                        (by_tests false false false false true e3 e27 (lt_false n 3 g3) (lt_false n 16 g16)
+                        (lt_true n 27 l)))
                         (below_G f even_base o w1 x (Some n) (omega arith) (omega arith))
                     | inr g27 ↦
-                        restored 5 _ (lit≤ tt) (sym (by_tests false false false false false e3 e27 (lt_false n 3 g3) (lt_false n 16 g16) (lt_false n 27 g27)))
+                        restored 5 _ (lit≤ tt) (sym
+                        (by_tests false false false false false e3 e27 (lt_false n 3 g3) (lt_false n 16 g16)
+                        (lt_false n 27 g27)))
                         (above_G f even_base o w1 x (Some n) (let h : 28 ≤ n = omega arith in omega arith) x_fits)
                   ]
             ]
@@ -226,7 +253,8 @@ module _ (base : ℕ) (even_base : base % 2 ≡ 0) (m : State) (store : IsStore 
 
     at_m1 : step m1 ≡ r1
     unfolding step
-    at_m1 = ap (λ w. obey_word (kind_of_function (function_of w)) w m1) (get_own 0 m.store.words base (cells base w2) 40 (lit< tt))
+    at_m1 = ap (λ w. obey_word (kind_of_function (function_of w)) w m1)
+        (get_own 0 m.store.words base (cells base w2) 40 (lit< tt))
 
     at_g : step g ≡ obey_word (kind_of_function n) x g
     unfolding step
@@ -234,7 +262,9 @@ module _ (base : ℕ) (even_base : base % 2 ≡ 0) (m : State) (store : IsStore 
 
     result : Outcome base m1 g r1 (obey_word (kind_of_function n) x g)
     result =
-        planted base even_base m1 g (alike_around f even_base w2 g refl store.words_are store.digits_are g.acc 40 (m.orders + to.count) (Some n) refl)
+        planted base even_base m1 g
+        (alike_around f even_base w2 g refl store.words_are store.digits_are g.acc 40 (m.orders + to.count)
+        (Some n) refl)
         (kind_of_function n) x may ok.order
 
     same_turn : r1.turn ≡ (step g).turn
@@ -243,9 +273,11 @@ module _ (base : ℕ) (even_base : base % 2 ≡ 0) (m : State) (store : IsStore 
     -- the guest's order cannot be obeyed
     pub stuck : is_obeyed (step g).turn ≡ false → Stuck base m
     stuck h =
-        let a = alike_around f even_base w2 g refl store.words_are store.digits_are g.acc 40 (m.orders + to.count) (Some n) refl in
+        let a = alike_around f even_base w2 g refl store.words_are store.digits_are g.acc 40 (m.orders + to.count)
+        (Some n) refl in
         let e = guest_acc f even_base o w2 g.acc 40 (Some n) (m.orders + to.count) c at0_is (omega (arith, c_fits)) in
-        let d = guest_counter f even_base o w2 g.acc 40 (Some n) (m.orders + to.count) c at0_is (omega (arith, c_fits)) in
+        let d = guest_counter f even_base o w2 g.acc 40 (Some n) (m.orders + to.count) c at0_is
+        (omega (arith, c_fits)) in
         record {
           after = m1;
           count = to.count;
@@ -253,11 +285,25 @@ module _ (base : ℕ) (even_base : base % 2 ≡ 0) (m : State) (store : IsStore 
           most = omega (arith, to.most);
           ran = reached;
           turn = ap (λ (y : Obeyed). y.turn) at_m1 ∙ same_turn;
-          agree = record { size = a.size; words = a.words; digits = a.digits; acc = e; multiplier = a.multiplier; counter = d; tape = a.tape };
+          agree = record {
+            size = a.size;
+            words = a.words;
+            digits = a.digits;
+            acc = e;
+            multiplier = a.multiplier;
+            counter = d;
+            tape = a.tape;
+          };
         }
 
     pub halted : (step g).turn ≡ Stopped → Halts base m
-    halted h = record { before = m1; count = to.count; most = to.most; ran = reached; turn = ap (λ (y : Obeyed). y.turn) at_m1 ∙ same_turn ∙ h }
+    halted h = record {
+      before = m1;
+      count = to.count;
+      most = to.most;
+      ran = reached;
+      turn = ap (λ (y : Obeyed). y.turn) at_m1 ∙ same_turn ∙ h;
+    }
 
     -- the machine after it
     abbrev m2 : State
@@ -281,14 +327,18 @@ module _ (base : ℕ) (even_base : base % 2 ≡ 0) (m : State) (store : IsStore 
     m1_digit j h = get_own false m.store.sandwich (base / 2 + 30) (pairs w2) j h
 
     a1 : Alike base m1 g
-    a1 = alike_around f even_base w2 g refl store.words_are store.digits_are g.acc 40 (m.orders + to.count) (Some n) refl
+    a1 = alike_around f even_base w2 g refl store.words_are store.digits_are g.acc 40 (m.orders + to.count)
+        (Some n) refl
 
     still : HasCells f w2 m2
     still = record {
       size = sym result.size;
       word_count = result.kept.word_count ∙ a1.word_count ∙ store.words_are;
       digit_count = result.kept.digit_count ∙ a1.digit_count ∙ store.digits_are;
-      words = λ j h. sym (m1_word j h) ∙ sym (result.kept.words (base + j) (record { from = omega arith; below = omega arith }));
+      words = λ j h. sym (m1_word j h) ∙ sym (result.kept.words (base + j) (record {
+        from = omega arith;
+        below = omega arith;
+      }));
       digits = λ j h.
           let e : (base + (60 + 2 * j)) / 2 ≡ base / 2 + 30 + j = omega arith in
           let k = result.kept.digits (base + (60 + 2 * j)) (record { from = omega arith; below = omega arith }) in
@@ -299,32 +349,44 @@ module _ (base : ℕ) (even_base : base % 2 ≡ 0) (m : State) (store : IsStore 
     turned h =
         let went : is_obeyed r1.turn ≡ true = ap is_obeyed same_turn ∙ h in
         let b = most m.size in
-        let next : within m.size (base + 40 + 1) ≡ base + 41 = (let e : base + 40 + 1 ≡ base + 41 = omega arith in ap (within m.size) e ∙ within_below m.size (base + 41) (omega arith)) in
+        let next : within m.size (base + 40 + 1) ≡ base + 41 =
+        (let e : base + 40 + 1 ≡ base + 41 = omega arith in ap (within m.size) e
+        ∙ within_below m.size (base + 41) (omega arith)) in
         let opens = opened f even_base w2 m2 41 still (result.counter went ∙ next) in
         let w3 : Work = record w2 { high = high_of m2.acc; middle = middle_of m2.acc; low = low_of m2.acc } in
         let w4 : Work = record w3 { at0 = w0.at0 + 2 } in
         let o2 : Around = around m2 in
         let at_next : w0.at0 + 2 ≡ 114688 + 2 * (c + 1) = rw at0_is (omega arith) in
-        let runs = followed (save f even_base o2 w2 m2.acc m2.last m2_acc) (advance f even_base o2 w3 m2.last (rw at_next (omega (arith, c_fits)))) in
+        let runs = followed (save f even_base o2 w2 m2.acc m2.last m2_acc)
+        (advance f even_base o2 w3 m2.last (rw at_next (omega (arith, c_fits)))) in
         let m3 : State = state f (moment base o2 w4 0 0 m2.last) (m2.orders + 16) in
         let middle : Ran 1 m1 (codes_of r1.turn) (stops_of r1.turn) m2 = one m1 m2 r1.turn at_m1 went in
         let end : Ran 16 m2 [] 0 m3 = subst (λ s. Ran 16 s [] 0 m3) opens (along (leads runs m2.orders)) in
-        let whole_run = joined to.count 17 0 _ (n ∷ []) _ m m1 m3 reached (joined 1 16 (stops_of r1.turn) 0 (codes_of r1.turn) [] m1 m2 m3 middle end) in
-        let codes : codes_of r1.turn ++ [] ≡ codes_of (step g).turn = append-nil (codes_of r1.turn) ∙ ap codes_of same_turn in
+        let whole_run = joined to.count 17 0 _ (n ∷ []) _ m m1 m3 reached
+        (joined 1 16 (stops_of r1.turn) 0 (codes_of r1.turn) [] m1 m2 m3 middle end) in
+        let codes : codes_of r1.turn ++ [] ≡ codes_of (step g).turn = append-nil (codes_of r1.turn)
+        ∙ ap codes_of same_turn in
         let stops : 0 + (stops_of r1.turn + 0) ≡ stops_of (step g).turn = omega arith ∙ ap stops_of same_turn in
-        let a3 = alike_around f even_base w4 (record m2 { acc = 0 }) (sym result.size) still.word_count still.digit_count 0 0 (m2.orders + 16) m2.last refl in
-        let same : (obey_word (kind_of_function n) x g).state ≡ (step g).state = ap (λ (y : Obeyed). y.state) (sym at_g) in
-        let acc_is : (guest base m3).acc ≡ m2.acc = guest_acc f even_base o2 w4 0 0 m2.last (m2.orders + 16) (c + 1) at_next c_fits ∙ saved m2.acc in
-        let counter_is : (guest base m3).counter ≡ c + 1 = guest_counter f even_base o2 w4 0 0 m2.last (m2.orders + 16) (c + 1) at_next c_fits in
-        let other : (obey_word (kind_of_function n) x g).state.counter ≡ c + 1 = result.other_counter went ∙ within_below m.size (c + 1) ok.next in
+        let a3 = alike_around f even_base w4 (record m2 { acc = 0 }) (sym result.size) still.word_count
+        still.digit_count 0 0 (m2.orders + 16) m2.last refl in
+        let same : (obey_word (kind_of_function n) x g).state ≡ (step g).state =
+        ap (λ (y : Obeyed). y.state) (sym at_g) in
+        let acc_is : (guest base m3).acc ≡ m2.acc =
+        guest_acc f even_base o2 w4 0 0 m2.last (m2.orders + 16) (c + 1) at_next c_fits ∙ saved m2.acc in
+        let counter_is : (guest base m3).counter ≡ c + 1 =
+        guest_counter f even_base o2 w4 0 0 m2.last (m2.orders + 16) (c + 1) at_next c_fits in
+        let other : (obey_word (kind_of_function n) x g).state.counter ≡ c + 1 = result.other_counter went
+        ∙ within_below m.size (c + 1) ok.next in
         let q = result.alike in
         record {
           after = m3;
           count = to.count + 17;
           exact = to.exact;
           most = omega (arith, to.most);
-          ran = subst (λ l. Ran (to.count + 17) m (n ∷ codes_of (step g).turn) l m3) stops (subst (λ cs. Ran (to.count + 17) m (n ∷ cs) (0 + (stops_of r1.turn + 0)) m3) codes whole_run);
-          stands = stands_again f even_base o2 w4 0 0 m2.last (m2.orders + 16) (c + 1) at_next c_fits m stands.image (m2.acc % 4) (middle_fits m2.acc) (omega arith) refl refl refl;
+          ran = subst (λ l. Ran (to.count + 17) m (n ∷ codes_of (step g).turn) l m3) stops
+              (subst (λ cs. Ran (to.count + 17) m (n ∷ cs) (0 + (stops_of r1.turn + 0)) m3) codes whole_run);
+          stands = stands_again f even_base o2 w4 0 0 m2.last (m2.orders + 16) (c + 1) at_next c_fits m stands.image
+              (m2.acc % 4) (middle_fits m2.acc) (omega arith) refl refl refl;
           agree = subst (Agree base (guest base m3)) same (record {
             size = a3.size ∙ q.size;
             words = λ a i. a3.words a i ∙ q.words a i;
@@ -338,12 +400,14 @@ module _ (base : ℕ) (even_base : base % 2 ≡ 0) (m : State) (store : IsStore 
         }
 
   -- an order of the guest that changes its counter alone
-  jump_end : (w : Work) (k d : ℕ) → Path f k (moment base o w0 0 0 m.last) (n ∷ []) (moment base o w 0 0 (Some n)) → k ≡ turn_orders g → k ≤ 35
+  jump_end : (w : Work) (k d : ℕ) → Path f k (moment base o w0 0 0 m.last) (n ∷ []) (moment base o w 0 0 (Some n))
+      → k ≡ turn_orders g → k ≤ 35
       → w.at0 ≡ 114688 + 2 * d → d < 1024 → w.high ≡ w0.high → w.middle ≡ w0.middle → w.low ≡ w0.low
       → step g ≡ record { state = done_at d g; turn = Went } → Turned base m
   jump_end w k d runs exact few at0 fits high middle low is =
       let m3 : State = state f (moment base o w 0 0 (Some n)) (m.orders + k) in
-      let a = alike_around f even_base w (record m { acc = 0 }) refl store.words_are store.digits_are 0 0 (m.orders + k) (Some n) refl in
+      let a = alike_around f even_base w (record m { acc = 0 }) refl store.words_are store.digits_are 0 0
+      (m.orders + k) (Some n) refl in
       let there : Ran k m (n ∷ []) 0 m3 = subst (λ s. Ran k s (n ∷ []) 0 m3) begins (along (leads runs m.orders)) in
       let turn : (step g).turn ≡ Went = ap (λ (y : Obeyed). y.turn) is in
       let e = guest_acc f even_base o w 0 0 (Some n) (m.orders + k) d at0 fits in
@@ -353,7 +417,8 @@ module _ (base : ℕ) (even_base : base % 2 ≡ 0) (m : State) (store : IsStore 
         exact = exact;
         most = few;
         ran = subst (λ u. Ran k m (n ∷ codes_of u) (stops_of u) m3) (sym turn) there;
-        stands = stands_again f even_base o w 0 0 (Some n) (m.orders + k) d at0 fits m stands.image low_count (rw middle stands.middle) low_fits (low ∙ low_is) refl refl;
+        stands = stands_again f even_base o w 0 0 (Some n) (m.orders + k) d at0 fits m stands.image low_count
+            (rw middle stands.middle) low_fits (low ∙ low_is) refl refl;
         agree = subst (Agree base (guest base m3)) (ap (λ (y : Obeyed). y.state) (sym is)) (record {
           size = refl;
           words = a.words;
@@ -416,13 +481,19 @@ module _ (base : ℕ) (even_base : base % 2 ≡ 0) (m : State) (store : IsStore 
       elim (cases_lt w0.high (2 ^ 34)) [
         | inl l ↦
             let t : nat_lt g.acc (2 ^ 70) ≡ true = lt_true g.acc (2 ^ 70) (acc_low l) in
-            jump_end (record w1 { at0 = x + 102400; at58 = x + 102400; at59 = w0.high * 2 ^ 36 / 2 ^ 54 }) 16 (address_of x)
-            (followed fetched (E_taken f even_base o w1 x (Some n) (omega arith) (omega arith) l)) (sym (by_tests true _ _ _ _ (eq_true n 3 e) refl refl refl refl ∙ rw t refl)) (lit≤ tt) (omega arith) (omega (arith, p.below)) refl refl refl
+            jump_end (record w1 { at0 = x + 102400; at58 = x + 102400; at59 = w0.high * 2 ^ 36 / 2 ^ 54 }) 16
+            (address_of x)
+            (followed fetched (E_taken f even_base o w1 x (Some n) (omega arith) (omega arith) l))
+            (sym (by_tests true _ _ _ _ (eq_true n 3 e) refl refl refl refl ∙ rw t refl)) (lit≤ tt) (omega arith)
+            (omega (arith, p.below)) refl refl refl
             (s ∙ rw (t, q) refl)
         | inr h ↦
             let t : nat_lt g.acc (2 ^ 70) ≡ false = lt_false g.acc (2 ^ 70) (acc_high h) in
             jump_end (record w1 { at0 = w0.at0 + 2; at58 = x + 102400; at59 = w0.high * 2 ^ 36 / 2 ^ 54 }) 17 (c + 1)
-            (followed fetched (E_passed f even_base o w1 x (Some n) (omega arith) (omega arith) h high_fits room_next)) (sym (by_tests true _ _ _ _ (eq_true n 3 e) refl refl refl refl ∙ rw t refl)) (lit≤ tt) at_next_is c_fits refl refl refl
+            (followed fetched (E_passed f even_base o w1 x (Some n) (omega arith)
+            (omega arith) h high_fits room_next))
+            (sym (by_tests true _ _ _ _ (eq_true n 3 e) refl refl refl refl ∙ rw t refl))
+            (lit≤ tt) at_next_is c_fits refl refl refl
             (s ∙ rw (t, r) refl)
       ]
 
@@ -440,13 +511,17 @@ module _ (base : ℕ) (even_base : base % 2 ≡ 0) (m : State) (store : IsStore 
             let t : nat_le (2 ^ 70) g.acc ≡ false = le_false (2 ^ 70) g.acc (acc_low l) in
             let u : nat_lt g.acc (2 ^ 70) ≡ true = lt_true g.acc (2 ^ 70) (acc_low l) in
             jump_end (record w1 { at0 = w0.at0 + 2; at58 = x + 4096; at59 = w0.high * 2 ^ 36 / 2 ^ 54 }) 18 (c + 1)
-            (followed fetched (G_passed f even_base o w1 x (Some n) (omega arith) (omega arith) l room_next)) (sym (by_tests false true _ _ _ (ap (λ y. nat_eq y 3) e) (eq_true n 27 e) refl refl refl ∙ rw u refl)) (lit≤ tt) at_next_is c_fits refl refl refl
+            (followed fetched (G_passed f even_base o w1 x (Some n) (omega arith) (omega arith) l room_next))
+            (sym (by_tests false true _ _ _ (ap (λ y. nat_eq y 3) e) (eq_true n 27 e) refl refl refl ∙ rw u refl))
+            (lit≤ tt) at_next_is c_fits refl refl refl
             (s ∙ rw (t, r) refl)
         | inr h ↦
             let t : nat_le (2 ^ 70) g.acc ≡ true = le_true (2 ^ 70) g.acc (acc_high h) in
             let u : nat_lt g.acc (2 ^ 70) ≡ false = lt_false g.acc (2 ^ 70) (acc_high h) in
             jump_end (record w1 { at0 = x + 4096; at58 = x + 4096; at59 = w0.high * 2 ^ 36 / 2 ^ 54 }) 16 (address_of x)
-            (followed fetched (G_taken f even_base o w1 x (Some n) (omega arith) (omega arith) h high_fits)) (sym (by_tests false true _ _ _ (ap (λ y. nat_eq y 3) e) (eq_true n 27 e) refl refl refl ∙ rw u refl)) (lit≤ tt) (omega arith) (omega (arith, p.below)) refl refl refl
+            (followed fetched (G_taken f even_base o w1 x (Some n) (omega arith) (omega arith) h high_fits))
+            (sym (by_tests false true _ _ _ (ap (λ y. nat_eq y 3) e) (eq_true n 27 e) refl refl refl ∙ rw u refl))
+            (lit≤ tt) (omega arith) (omega (arith, p.below)) refl refl refl
             (s ∙ rw (t, q) refl)
       ]
 
@@ -479,19 +554,23 @@ module _ (base : ℕ) (even_base : base % 2 ≡ 0) (m : State) (store : IsStore 
       jump_obeyed false p = refl
 
       obeyed_E : n ≡ 3 → is_obeyed (step g).turn ≡ true
-      obeyed_E e = ap (λ (y : Obeyed). is_obeyed y.turn) (step_at (Some E) (ap kind_of_function e)) ∙ jump_obeyed (nat_lt g.acc (2 ^ 70)) _
+      obeyed_E e = ap (λ (y : Obeyed). is_obeyed y.turn) (step_at (Some E) (ap kind_of_function e))
+          ∙ jump_obeyed (nat_lt g.acc (2 ^ 70)) _
 
       obeyed_G : n ≡ 27 → is_obeyed (step g).turn ≡ true
-      obeyed_G e = ap (λ (y : Obeyed). is_obeyed y.turn) (step_at (Some G) (ap kind_of_function e)) ∙ jump_obeyed (nat_le (2 ^ 70) g.acc) _
+      obeyed_G e = ap (λ (y : Obeyed). is_obeyed y.turn) (step_at (Some G) (ap kind_of_function e))
+          ∙ jump_obeyed (nat_le (2 ^ 70) g.acc) _
 
   -- it stops
   pub turn_halts : (step g).turn ≡ Stopped → Halts base m
   turn_halts h =
       elim (cases_eq n 3) [
-        | inl e ↦ absurd (never (nat_lt g.acc (2 ^ 70)) _ (sym (ap (λ (y : Obeyed). y.turn) (step_at (Some E) (ap kind_of_function e))) ∙ h))
+        | inl e ↦ absurd (never (nat_lt g.acc (2 ^ 70)) _
+            (sym (ap (λ (y : Obeyed). y.turn) (step_at (Some E) (ap kind_of_function e))) ∙ h))
         | inr no3 ↦
             elim (cases_eq n 27) [
-              | inl e ↦ absurd (never (nat_le (2 ^ 70) g.acc) _ (sym (ap (λ (y : Obeyed). y.turn) (step_at (Some G) (ap kind_of_function e))) ∙ h))
+              | inl e ↦ absurd (never (nat_le (2 ^ 70) g.acc) _
+                  (sym (ap (λ (y : Obeyed). y.turn) (step_at (Some G) (ap kind_of_function e))) ∙ h))
               | inr no27 ↦ halted no3 no27 h
             ]
       ]

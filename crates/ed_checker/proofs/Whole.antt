@@ -1,5 +1,7 @@
 -- What a turn does, for a run of the machine that obeys as many orders.
-use Rattle.std.proofs.Common.{◌≡◌, ℕ, ◌+◌, ◌-◌, ◌%◌, ◌^◌, ◌<◌, ◌≤◌, refl, sym, ap, ◌∙◌, subst, arith, lit≤, Bool, true, false, true≢false, nat_lt, nat_le, List, [], ◌∷◌, ◌++◌, length, Option, Some, None, ◌⊎◌, inl, inr}
+use Rattle.std.proofs.Common.{◌≡◌, ℕ, ◌+◌, ◌-◌, ◌%◌, ◌^◌, ◌<◌, ◌≤◌, refl, sym, ap, ◌∙◌, subst}
+use Rattle.std.proofs.Common.{arith, lit≤, Bool, true, false, true≢false, nat_lt, nat_le}
+use Rattle.std.proofs.Common.{List, [], ◌∷◌, ◌++◌, length, Option, Some, None, ◌⊎◌, inl, inr}
 use Rattle.std.specs.Prelude.{if◌then◌else◌}
 use Rattle.ed_words.specs.Sizes.{locations}
 use Rattle.ed_words.specs.Words.{function_of}
@@ -20,7 +22,8 @@ use Rattle.ed_run.proofs.Ends.{ends_once}
 use Rattle.ed_run.proofs.Places.{at_limit, at_block}
 use Rattle.ed_checker.specs.Checker.{CheckerStands, IsAllowed, Agree, guest, turn_orders, is_Z}
 use Rattle.ed_checker.specs.Contract.{ChecksOne, answer_by}
-use Rattle.ed_checker.specs.declared.checking.Checking.TheVariants.{Went as HasGone, Stopped as HasStopped, Blocked as IsBlocked}
+use Rattle.ed_checker.specs.declared.checking.Checking.TheVariants.{Went as HasGone, Stopped as HasStopped}
+use Rattle.ed_checker.specs.declared.checking.Checking.TheVariants.{Blocked as IsBlocked}
 use Rattle.ed_checker.proofs.Turns.{Turned, Stuck, turn, turn_stuck}
 
 pub few_codes : (t : Turn) → length (codes_of t) ≤ 1
@@ -38,7 +41,8 @@ few_stops (NoOrder function) = lit≤ tt
 few_stops NoTape = lit≤ tt
 
 -- a state that no order leaves
-same_state : (k : Option Kind) (w : ℕ) (s : State) → is_obeyed (obey_word k w s).turn ≡ false → ((obey_word k w s).state ≡ s) × (codes_of (obey_word k w s).turn ≡ [])
+same_state : (k : Option Kind) (w : ℕ) (s : State) → is_obeyed (obey_word k w s).turn ≡ false
+    → ((obey_word k w s).state ≡ s) × (codes_of (obey_word k w s).turn ≡ [])
 same_state (Some E) w s h = absurd (by_test (nat_lt s.acc (2 ^ 70)) h)
   where
     by_test : (b : Bool) → is_obeyed (jumped b (place_of s w) s).turn ≡ false → ⊥
@@ -51,7 +55,8 @@ same_state (Some G) w s h = absurd (by_test (nat_le (2 ^ 70) s.acc) h)
     by_test false h = true≢false h
 same_state (Some I) w s h = by_tape s.tape h
   where
-    by_tape : (xs : List ℕ) → is_obeyed (took_row xs w s).turn ≡ false → ((took_row xs w s).state ≡ s) × (codes_of (took_row xs w s).turn ≡ [])
+    by_tape : (xs : List ℕ) → is_obeyed (took_row xs w s).turn ≡ false
+        → ((took_row xs w s).state ≡ s) × (codes_of (took_row xs w s).turn ≡ [])
     by_tape [] h = (refl, refl)
     by_tape (x ∷ xs) h = absurd (true≢false h)
 same_state None w s h = (refl, refl)
@@ -87,14 +92,16 @@ blocked_answer (NoOrder function) n h = refl
 blocked_answer NoTape n h = refl
 
 -- and how a run ends there
-blocked_end : (t : Turn) (full : Bool) → is_obeyed t ≡ false → (e : Ending) × (end_by t full ≡ Some e) × ((e ≡ EndsNoOrder) ⊎ (e ≡ EndsNoTape))
+blocked_end : (t : Turn) (full : Bool) → is_obeyed t ≡ false
+    → (e : Ending) × (end_by t full ≡ Some e) × ((e ≡ EndsNoOrder) ⊎ (e ≡ EndsNoTape))
 blocked_end Went full h = absurd (true≢false h)
 blocked_end (Printed code) full h = absurd (true≢false h)
 blocked_end Stopped full h = absurd (true≢false h)
 blocked_end (NoOrder function) full h = (EndsNoOrder, refl, inl refl)
 blocked_end NoTape full h = (EndsNoTape, refl, inr refl)
 
-module _ (base : ℕ) (even_base : base % 2 ≡ 0) (s t : State) (sheet full : Sheet) (ending : Ending) (store : IsStore s.store) (room : base + 66 ≤ locations s.size)
+module _ (base : ℕ) (even_base : base % 2 ≡ 0) (s t : State) (sheet full : Sheet) (ending : Ending)
+    (store : IsStore s.store) (room : base + 66 ≤ locations s.size)
     (stands : CheckerStands base s) (ok : IsAllowed base (guest base s)) (space : 2 ≤ sheet.room - length sheet.codes)
     (runs : IsRun (turn_orders (guest base s)) 1 s sheet ending t full) where
   abbrev g : State
@@ -110,11 +117,14 @@ module _ (base : ℕ) (even_base : base % 2 ≡ 0) (s t : State) (sheet full : S
 
   -- the run ends at its limit
   abbrev pub Done : Type 0
-  Done = (ending ≡ Limit) × ChecksOne base s t sheet full (if is_Z (kind_of_function (function_of (next_word g))) then HasStopped (turn_orders g) else HasGone (turn_orders g))
+  Done = (ending ≡ Limit) × ChecksOne base s t sheet full
+      (if is_Z (kind_of_function (function_of (next_word g))) then HasStopped (turn_orders g)
+      else HasGone (turn_orders g))
 
   -- or before the blocked order
   abbrev pub Blocks : Type 0
-  Blocks = ((ending ≡ EndsNoOrder) ⊎ (ending ≡ EndsNoTape)) × (17 ≤ turn_orders g) × ChecksOne base s t sheet full (IsBlocked (turn_orders g - 17))
+  Blocks = ((ending ≡ EndsNoOrder) ⊎ (ending ≡ EndsNoTape)) × (17 ≤ turn_orders g)
+      × ChecksOne base s t sheet full (IsBlocked (turn_orders g - 17))
 
   done : is_obeyed (step g).turn ≡ true → Done
   done h =
@@ -127,9 +137,11 @@ module _ (base : ℕ) (even_base : base % 2 ≡ 0) (s t : State) (sheet full : S
       (at_limit r.count 1 space_left s (record { obeyed = r.ran.free; printed = omega (arith, few, printed) })
       (omega (arith, few_stops (step g).turn, stopped))) in
       let u = ends_once (turn_orders g) 1 space_left s runs.orders r.count ending Limit runs.ends e in
-      let there : (past runs.orders s) ≡ record { state = r.after; codes = cs; stops = stops_of (step g).turn } = ap (λ i. past i s) u.0 ∙ r.ran.is in
+      let there : (past runs.orders s) ≡ record { state = r.after; codes = cs; stops = stops_of (step g).turn } =
+      ap (λ i. past i s) u.0 ∙ r.ran.is in
       let state : t ≡ r.after = runs.state_is ∙ ap (λ (p : Past). p.state) there in
-      let answer = answer_of (kind_of_function (function_of (next_word g))) (next_word g) (turn_orders g) g (ap (λ (y : Obeyed). is_obeyed y.turn) (sym at_g) ∙ h) in (
+      let answer = answer_of (kind_of_function (function_of (next_word g))) (next_word g) (turn_orders g) g
+      (ap (λ (y : Obeyed). is_obeyed y.turn) (sym at_g) ∙ h) in (
         u.1,
         record {
           orders = r.count;
@@ -137,7 +149,8 @@ module _ (base : ℕ) (even_base : base % 2 ≡ 0) (s t : State) (sheet full : S
           answer_is = sym ((λ i. answer_by (at_g i).turn (r.exact i)) ∙ answer);
           state_is = state ∙ sym (ap (λ (p : Past). p.state) r.ran.is);
           free = r.ran.free;
-          paper_is = runs.sheet_is ∙ ap (λ (p : Past). record { codes = sheet.codes ++ p.codes; room = sheet.room }) there;
+          paper_is = runs.sheet_is
+              ∙ ap (λ (p : Past). record { codes = sheet.codes ++ p.codes; room = sheet.room }) there;
           guest_is = subst (λ x. Agree base (guest base x) (step g).state) (sym state) r.agree;
           stands = λ i. subst (CheckerStands base) (sym state) r.stands;
           blocked = λ i. absurd (true≢false (sym h ∙ i));
@@ -154,14 +167,17 @@ module _ (base : ℕ) (even_base : base % 2 ≡ 0) (s t : State) (sheet full : S
       let b = blocked_end (step r.after).turn (nat_le space_left (length cs)) (ap is_obeyed r.turn ∙ h) in
       let printed : length (past r.count s).codes ≡ length cs = ap (λ (p : Past). length p.codes) r.ran.is in
       let stopped : (past r.count s).stops ≡ 0 = ap (λ (p : Past). p.stops) r.ran.is in
-      let there_too : end_by (step (past r.count s).state).turn (nat_le space_left (length (past r.count s).codes)) ≡ Some b.0 =
+      let there_too : end_by (step (past r.count s).state).turn (nat_le space_left (length (past r.count s).codes))
+      ≡ Some b.0 =
       ap (λ (p : Past). end_by (step p.state).turn (nat_le space_left (length p.codes))) r.ran.is ∙ b.1 in
       let e = at_block (turn_orders g) 1 space_left r.count s b.0
       (record { obeyed = r.ran.free; printed = omega (arith, printed) }) (omega (arith, stopped)) below there_too in
       let u = ends_once (turn_orders g) 1 space_left s runs.orders r.count ending b.0 runs.ends e in
-      let there : (past runs.orders s) ≡ record { state = r.after; codes = cs; stops = 0 } = ap (λ i. past i s) u.0 ∙ r.ran.is in
+      let there : (past runs.orders s) ≡ record { state = r.after; codes = cs; stops = 0 } = ap (λ i. past i s) u.0
+      ∙ r.ran.is in
       let state : t ≡ r.after = runs.state_is ∙ ap (λ (p : Past). p.state) there in
-      let same = same_state (kind_of_function n) (next_word g) g (ap (λ (y : Obeyed). is_obeyed y.turn) (sym at_g) ∙ h) in
+      let same = same_state (kind_of_function n) (next_word g) g
+      (ap (λ (y : Obeyed). is_obeyed y.turn) (sym at_g) ∙ h) in
       let guest_same : g ≡ (step g).state = sym (ap (λ (y : Obeyed). y.state) at_g ∙ same.0) in
       let no_codes : codes_of (step g).turn ≡ [] = ap (λ (y : Obeyed). codes_of y.turn) at_g ∙ same.1 in
       let by_end : ((b.0 ≡ EndsNoOrder) ⊎ (b.0 ≡ EndsNoTape)) → (ending ≡ EndsNoOrder) ⊎ (ending ≡ EndsNoTape) =
@@ -178,7 +194,8 @@ module _ (base : ℕ) (even_base : base % 2 ≡ 0) (s t : State) (sheet full : S
               runs.sheet_is
               ∙ ap (λ (p : Past). record { codes = sheet.codes ++ p.codes; room = sheet.room }) there
               ∙ ap (λ xs. record { codes = sheet.codes ++ (n ∷ xs); room = sheet.room }) (sym no_codes);
-          guest_is = subst (λ x. Agree base (guest base x) (step g).state) (sym state) (subst (Agree base (guest base r.after)) guest_same r.agree);
+          guest_is = subst (λ x. Agree base (guest base x) (step g).state) (sym state)
+              (subst (Agree base (guest base r.after)) guest_same r.agree);
           stands = λ i. absurd (true≢false (sym i ∙ h));
           blocked = λ i. ap (λ (x : State). (step x).turn) state ∙ r.turn;
         },
@@ -195,13 +212,20 @@ module _ (base : ℕ) (even_base : base % 2 ≡ 0) (s t : State) (sheet full : S
   no_end l (inl e) = let bad : Limit ≡ EndsNoOrder = sym l ∙ e in absurd (cc)
   no_end l (inr e) = let bad : Limit ≡ EndsNoTape = sym l ∙ e in absurd (cc)
 
-  pub when_blocked : ((ending ≡ EndsNoOrder) ⊎ (ending ≡ EndsNoTape)) → (17 ≤ turn_orders g) × ChecksOne base s t sheet full (IsBlocked (turn_orders g - 17))
+  pub when_blocked : ((ending ≡ EndsNoOrder) ⊎ (ending ≡ EndsNoTape))
+      → (17 ≤ turn_orders g) × ChecksOne base s t sheet full (IsBlocked (turn_orders g - 17))
   when_blocked e = elim answered [ inl d ↦ absurd (no_end d.0 e) | inr b ↦ (b.1, b.2) ]
 
-  not_blocked : (ending ≡ EndsNoOrder → ⊥) → (ending ≡ EndsNoTape → ⊥) → ((ending ≡ EndsNoOrder) ⊎ (ending ≡ EndsNoTape)) → ⊥
+  not_blocked : (ending ≡ EndsNoOrder → ⊥) → (ending ≡ EndsNoTape → ⊥)
+      → ((ending ≡ EndsNoOrder) ⊎ (ending ≡ EndsNoTape)) → ⊥
   not_blocked a b (inl e) = a e
   not_blocked a b (inr e) = b e
 
-  pub when_done : (ending ≡ EndsNoOrder → ⊥) → (ending ≡ EndsNoTape → ⊥) → (b : Bool) → is_Z (kind_of_function (function_of (next_word g))) ≡ b
+  pub when_done : (ending ≡ EndsNoOrder → ⊥) → (ending ≡ EndsNoTape → ⊥) → (b : Bool)
+      → is_Z (kind_of_function (function_of (next_word g))) ≡ b
       → ChecksOne base s t sheet full (if b then HasStopped (turn_orders g) else HasGone (turn_orders g))
-  when_done a c b e = elim answered [ inl d ↦ subst (λ b. ChecksOne base s t sheet full (if b then HasStopped (turn_orders g) else HasGone (turn_orders g))) e d.1 | inr x ↦ absurd (not_blocked a c x.0) ]
+  when_done a c b e = elim answered [
+    | inl d ↦ subst (λ b. ChecksOne base s t sheet full
+        (if b then HasStopped (turn_orders g) else HasGone (turn_orders g))) e d.1
+    | inr x ↦ absurd (not_blocked a c x.0)
+  ]

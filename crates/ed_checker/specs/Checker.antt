@@ -1,7 +1,7 @@
--- The checking routine and its guest (a checking routine of this kind is told of by Wilkes, Wheeler and Gill 1951; the text
--- is this project's own). The routine takes 66 places from an even base on. It obeys the orders of another program, its
--- guest, one by one: the guest's store, multiplier and tape are the machine's own, and the routine keeps the guest's
--- counter and accumulator in its places.
+-- The checking routine and its guest (a checking routine of this kind is told of by Wilkes, Wheeler and Gill 1951;
+-- the text is this project's own). The routine takes 66 places from an even base on. It obeys the orders of another
+-- program, its guest, one by one: the guest's store, multiplier and tape are the machine's own, and the routine keeps
+-- the guest's counter and accumulator in its places.
 use Rattle.std.specs.Prelude.{◌≡◌, ◌⊎◌, ℕ, zero, suc, ◌+◌, ◌*◌, ◌/◌, ◌%◌, ◌^◌, ◌<◌, ◌≤◌, nat_eq, nat_lt, if◌then◌else◌}
 use Rattle.std.specs.Prelude.{Bool, true, false, List, [], ◌∷◌, ◌++◌, Option, Some, None, codes}
 use Rattle.ed_words.specs.declared.size.Size.{Size}
@@ -25,8 +25,8 @@ length_of_checker = 66
 abbrev pub IsOutside : ℕ → ℕ → Type 0
 IsOutside base a = (a < base) ⊎ (base + length_of_checker ≤ a)
 
--- the guest: the machine's store, multiplier, tape and size; its counter is the address of the order at the routine's first
--- place, its accumulator is kept in three long locations, nothing was printed and no order is done
+-- the guest: the machine's store, multiplier, tape and size; its counter is the address of the order at the routine's
+-- first place, its accumulator is kept in three long locations, nothing was printed and no order is done
 abbrev pub guest : ℕ → State → State
 guest base s = record s {
   counter = address_of (short_at s.store base);
@@ -35,8 +35,8 @@ guest base s = record s {
   orders = 0;
 }
 
--- two states agree: they differ at most in the words and sandwich digits of the routine's places, the last printed code and
--- the orders done
+-- two states agree: they differ at most in the words and sandwich digits of the routine's places, the last printed
+-- code and the orders done
 pub record Agree (base : ℕ) (s t : State) : Type 0 where
   pub size : s.size ≡ t.size
   pub words : (a : ℕ) → IsOutside base a → short_at s.store a ≡ short_at t.store a
@@ -90,8 +90,8 @@ pub record IsAllowed (base : ℕ) (g : State) : Type 0 where
 abbrev pub check : ℕ
 check = named (codes "check")
 
--- each place of the routine is a working one, or holds its word of the library's text; its parameter H is in the word of a
--- working place alone
+-- each place of the routine is a working one, or holds its word of the library's text; its parameter H is in the word
+-- of a working place alone
 abbrev pub HasImage : ℕ → State → Type 0
 HasImage base s = (i : ℕ) → i < length_of_checker → HasWord check (with_h 0) base s i
 
@@ -110,7 +110,8 @@ pub record CheckerStands (base : ℕ) (s : State) : Type 0 where
 -- the codes that the routine prints for the first q orders of a guest: each order's function, and what the order prints
 unfoldable pub checked_codes : State → ℕ → List ℕ
 checked_codes g zero = []
-checked_codes g (suc q) = checked_codes g q ++ (function_of (next_word (state_after q g)) ∷ codes_of (step (state_after q g)).turn)
+checked_codes g (suc q) = checked_codes g q
+    ++ (function_of (next_word (state_after q g)) ∷ codes_of (step (state_after q g)).turn)
 
 -- the orders that the routine obeys for one order of its guest, which has a function and an accumulator: 35 at the most
 abbrev pub orders_by : ℕ → ℕ → ℕ
@@ -122,6 +123,7 @@ orders_by function acc =
     else if nat_lt function 27 then 33
     else 35
 
+-- how many orders the turn of a guest takes
 abbrev pub turn_orders : State → ℕ
 turn_orders g = orders_by (function_of (next_word g)) g.acc
 

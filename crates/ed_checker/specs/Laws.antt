@@ -18,8 +18,8 @@ pub record IsFollowed (base q : ℕ) (g : State) : Type 0 where
   pub allowed : (j : ℕ) → j < q → IsAllowed base (state_after j g)
   pub obeyed : (j : ℕ) → j < q → is_obeyed (step (state_after j g)).turn ≡ true
 
--- the routine has obeyed q orders of its guest: it has printed their checked codes, it stands again, and its guest agrees
--- with the guest after these orders
+-- the routine has obeyed q orders of its guest: it has printed their checked codes, it stands again, and its guest
+-- agrees with the guest after these orders
 pub record Checked (base q : ℕ) (m : State) : Type 0 where
   pub last : State
   pub count : ℕ
@@ -29,7 +29,8 @@ pub record Checked (base q : ℕ) (m : State) : Type 0 where
   pub agree : Agree base (guest base last) (state_after q (guest base m))
   pub size : last.size ≡ m.size
 
--- the machine comes to a stop, which is the q-th order of the guest, and has then printed the checked codes of the q orders
+-- the machine comes to a stop, which is the q-th order of the guest, and has then printed the checked codes of the q
+-- orders
 pub record ChecksToStop (base q : ℕ) (m : State) : Type 0 where
   pub last : State
   pub count : ℕ
@@ -47,10 +48,11 @@ pub record HasGuest (base : ℕ) (m : State) : Type 0 where
   pub sound : IsSound m
   pub stands : CheckerStands base m
 
--- What holds of every guest: so many of its orders as are allowed and obeyed are checked, and where the next of them is a
--- stop, and the first, the machine comes to it.
+-- What holds of every guest: so many of its orders as are allowed and obeyed are checked, and where the next of them
+-- is a stop, and the first, the machine comes to it.
 pub record CheckerLaw : Type 0 where
   pub checks : (base q : ℕ) (m : State) → HasGuest base m → IsFollowed base q (guest base m) → Checked base q m
-  pub to_stop : (base q : ℕ) (m : State) → HasGuest base m → IsFollowed base q (guest base m) → (past q (guest base m)).stops ≡ 0
+  pub to_stop : (base q : ℕ) (m : State) → HasGuest base m → IsFollowed base q (guest base m)
+      → (past q (guest base m)).stops ≡ 0
       → IsAllowed base (state_after q (guest base m)) → (step (state_after q (guest base m))).turn ≡ Stopped
       → ChecksToStop base (suc q) m

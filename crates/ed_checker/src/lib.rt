@@ -1,4 +1,5 @@
-//! The checking routine: it obeys the orders of another program, its guest, one by one, and prints the function of each.
+//! The checking routine: it obeys the orders of another program, its guest, one by one, and prints the function of
+//! each.
 //!
 //! The contract is that one turn of the routine does to its guest what the order table says of the guest's next order,
 //! in at most 35 orders, and that the routine then stands again. Stands on `ed_machine`, `ed_run`, `ed_library` and

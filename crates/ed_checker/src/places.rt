@@ -7,5 +7,6 @@ pub const HIGH: u16 = 60;
 /// The even place of the long word that holds the 34 digits of the guest's accumulator behind those.
 pub const MIDDLE: u16 = 62;
 
-/// The even place of the long word that holds the two lowest digits of the guest's accumulator, as 0, 1, 2 or 3 times 2^32.
+/// The even place of the long word that holds the two lowest digits of the guest's accumulator, as 0, 1, 2 or 3 times
+/// 2^32.
 pub const LOW: u16 = 64;

@@ -45,7 +45,8 @@ pub fn checker_stands(machine: &Machine, base: u16) -> bool
 /// Whether the first place holds A c F without the spare digit.
 fn fetches(machine: &Machine, base: u16) -> bool
     requires { base ≤ 1023 }
-    ensures { IsTrue result ↔ (short_at machine.now.store base ≡ 114688 + 2 * address_of (short_at machine.now.store base)) }
+    ensures { IsTrue result ↔ (short_at machine.now.store base
+        ≡ 114688 + 2 * address_of (short_at machine.now.store base)) }
 {
     let word = machine.word(base + FETCH);
     word.value() == 114688 + 2 * u32::from(word.order().address)

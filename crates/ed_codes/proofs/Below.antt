@@ -11,7 +11,10 @@ holds_below test (suc n) = test n && holds_below test n
 pub from_below : (test : ℕ → Bool) (n k : ℕ) → holds_below test n ≡ true → k < n → test k ≡ true
 from_below test zero k h l = absurd (omega arith)
 from_below test (suc n) k h l =
-    elim (cases_eq k n) [ inl e ↦ rw e (first (test n) _ h) | inr ne ↦ from_below test n k (rest (test n) _ h) (omega arith) ]
+    elim (cases_eq k n) [
+      | inl e ↦ rw e (first (test n) _ h)
+      | inr ne ↦ from_below test n k (rest (test n) _ h) (omega arith)
+    ]
   where
     first : (x y : Bool) → (x && y) ≡ true → x ≡ true
     first x y h = grind arith

@@ -6,8 +6,10 @@ use Rattle.std.specs.Prelude.{Option, Some, None, ◌==◌, ◌||◌, if◌then�
 use Rattle.std.proofs.lemmas.Bool.Decides.{Decides-eqb}
 use Rattle.std.proofs.lemmas.List.{append-nil, length-append}
 use Rattle.ed_codes.specs.Spelling.{row_of}
-use Rattle.ed_codes.specs.Text.{Spells, none, row, spacing, comment, is_spacing, has_close, HasNoRow, HasOpenComment, StopsAt}
-use Rattle.ed_codes.specs.Reading.{Reading, rows, no_row, open_comment, with_row, row_or_fault, reading_from, reading, IsReadingOf}
+use Rattle.ed_codes.specs.Text.{Spells, none, row, spacing, comment, is_spacing}
+use Rattle.ed_codes.specs.Text.{has_close, HasNoRow, HasOpenComment, StopsAt}
+use Rattle.ed_codes.specs.Reading.{Reading, rows, no_row, open_comment, with_row}
+use Rattle.ed_codes.specs.Reading.{row_or_fault, reading_from, reading, IsReadingOf}
 use Rattle.ed_codes.proofs.Pieces.{spells_append}
 
 -- what the bytes behind a front say: their rows, or the fault of the whole text
@@ -33,7 +35,8 @@ moved_row front rest byte code (open_comment place) e h =
     subst (λ (l : List ℕ). HasOpenComment l place) (append_assoc front (byte ∷ []) rest) h
 
 -- the front is a list of pieces, and a byte stands behind it
-stops : (front rs after : List ℕ) (byte place : ℕ) → place ≡ length front → Spells front rs → StopsAt (front ++ byte ∷ after) place byte after
+stops : (front rs after : List ℕ) (byte place : ℕ) → place ≡ length front → Spells front rs
+    → StopsAt (front ++ byte ∷ after) place byte after
 stops front rs after byte place e s = record {
   rows = rs;
   before = rw e (rw (take-append_seam front (byte ∷ after)) s);
@@ -42,8 +45,10 @@ stops front rs after byte place e s = record {
 
 -- what is claimed of some bytes behind a front of pieces: outside comments, and in one that began behind the front
 record Read (rest : List ℕ) : Type 0 where
-  outside : (front rs : List ℕ) (place : ℕ) → place ≡ length front → Spells front rs → Says front rest (reading_from None place rest)
-  within : (front rs inside : List ℕ) (start place : ℕ) → start ≡ length front → place ≡ start + 1 + length inside → Spells front rs
+  outside : (front rs : List ℕ) (place : ℕ) → place ≡ length front → Spells front rs
+      → Says front rest (reading_from None place rest)
+  within : (front rs inside : List ℕ) (start place : ℕ) → start ≡ length front → place ≡ start + 1 + length inside
+      → Spells front rs
       → has_close inside ≡ false → Says front (91 ∷ inside ++ rest) (reading_from (Some start) place rest)
 
 -- no `]` stands in two lists joined
@@ -84,8 +89,10 @@ outside_byte byte rest front rs place r e s = by_comment (byte == 91) refl
         else row_or_fault (row_of byte) place byte (reading_from None (place + 1) rest))
     by_spacing true is no_comment =
         let front_spells = spells_append front rs (byte ∷ []) [] s (spacing byte [] [] is none) in
-        moved front (byte ∷ []) rest (byte ∷ rest) (reading_from None (place + 1) rest) (append_assoc front (byte ∷ []) rest)
-        (λ codes h. spacing byte rest codes is h) (r.outside (front ++ byte ∷ []) (rs ++ []) (place + 1) next front_spells)
+        moved front (byte ∷ []) rest (byte ∷ rest) (reading_from None (place + 1) rest)
+        (append_assoc front (byte ∷ []) rest)
+        (λ codes h. spacing byte rest codes is h)
+        (r.outside (front ++ byte ∷ []) (rs ++ []) (place + 1) next front_spells)
     by_spacing false is no_comment = by_row (row_of byte) refl no_comment is
 
     by_comment : (t : Bool) → (byte == 91) ≡ t
@@ -116,18 +123,21 @@ within_byte byte rest front rs inside start place r e at s unclosed = by_close (
         let whole : (front ++ piece) ++ rest ≡ front ++ (91 ∷ inside ++ 93 ∷ rest) =
         append_assoc front piece rest ∙ ap (λ (l : List ℕ). front ++ 91 ∷ l) (append_assoc inside (93 ∷ []) rest) in
         moved front piece rest (91 ∷ inside ++ 93 ∷ rest) (reading_from None (place + 1) rest) whole
-        (λ codes h. comment inside rest codes unclosed h) (r.outside (front ++ piece) (rs ++ []) (place + 1) next front_spells)
+        (λ codes h. comment inside rest codes unclosed h)
+        (r.outside (front ++ piece) (rs ++ []) (place + 1) next front_spells)
 
     by_close : (t : Bool) → (byte == 93) ≡ t
         → Says front (91 ∷ inside ++ byte ∷ rest)
         (if t then reading_from None (place + 1) rest else reading_from (Some start) (place + 1) rest)
     by_close true is =
         let here : byte ≡ 93 = (Decides-eqb byte 93).0 is in
-        subst (λ (b : ℕ). Says front (91 ∷ inside ++ b ∷ rest) (reading_from None (place + 1) rest)) (sym here) (closed here)
+        subst (λ (b : ℕ). Says front (91 ∷ inside ++ b ∷ rest) (reading_from None (place + 1) rest)) (sym here)
+        (closed here)
     by_close false is =
         let size = length-append inside (byte ∷ []) in
         let longer : has_close (inside ++ byte ∷ []) ≡ false = no_close inside (byte ∷ []) unclosed (rw is refl) in
-        subst (λ (l : List ℕ). Says front (91 ∷ l) (reading_from (Some start) (place + 1) rest)) (append_assoc inside (byte ∷ []) rest)
+        subst (λ (l : List ℕ). Says front (91 ∷ l) (reading_from (Some start) (place + 1) rest))
+        (append_assoc inside (byte ∷ []) rest)
         (r.within front rs (inside ++ byte ∷ []) start (place + 1) e (omega (arith, at, size)) s longer)
 
 read : (rest : List ℕ) → Read rest
@@ -141,7 +151,8 @@ read [] = record {
 }
 read (byte ∷ rest) = record {
   outside = λ front rs place e s. outside_byte byte rest front rs place (read rest) e s;
-  within = λ front rs inside start place e at s unclosed. within_byte byte rest front rs inside start place (read rest) e at s unclosed;
+  within = λ front rs inside start place e at s unclosed.
+      within_byte byte rest front rs inside start place (read rest) e at s unclosed;
 }
 
 -- the reading of a text says what the text has

@@ -1,5 +1,6 @@
 -- One more piece at the end of a text.
-use Rattle.std.proofs.Common.{◌≡◌, ◌∙◌, ◌<◌, ◌≤◌, ℕ, ◌+◌, suc, zero, Bool, true, false, List, [], ◌∷◌, ◌++◌, refl, sym, ap, subst}
+use Rattle.std.proofs.Common.{◌≡◌, ◌∙◌, ◌<◌, ◌≤◌, ℕ, ◌+◌, suc, zero, Bool, true}
+use Rattle.std.proofs.Common.{false, List, [], ◌∷◌, ◌++◌, refl, sym, ap, subst}
 use Rattle.std.proofs.Common.{append_assoc, take, drop, length, get_or, arith, add-one, nat_lt, cond}
 use Rattle.std.specs.Prelude.{Some, None, ◌==◌, position}
 use Rattle.std.specs.List.{position_or_len}
@@ -17,7 +18,8 @@ pub spells_append : (a x b y : List ℕ) → Spells a x → Spells b y → Spell
 spells_append _ _ b y none t = t
 spells_append _ _ b y (row byte code text rows e s) t =
     row byte code (text ++ b) (rows ++ y) e (spells_append text rows b y s t)
-spells_append _ _ b y (spacing byte text rows e s) t = spacing byte (text ++ b) (rows ++ y) e (spells_append text rows b y s t)
+spells_append _ _ b y (spacing byte text rows e s) t =
+    spacing byte (text ++ b) (rows ++ y) e (spells_append text rows b y s t)
 spells_append _ _ b y (comment inside text rows e s) t =
     let whole = comment inside (text ++ b) (rows ++ y) e (spells_append text rows b y s t) in
     subst (λ (l : List ℕ). Spells (91 ∷ l) (rows ++ y)) (sym (append_assoc inside (93 ∷ text) b)) whole
@@ -49,7 +51,8 @@ no_close_before : (text : List ℕ) (n : ℕ) → n ≤ length text → ((k : �
 no_close_before text zero le other = refl
 no_close_before text (suc n) le other =
     let more = rw add-one at (list_any_more (λ b. b == 93) text n 0 (omega arith)) in
-    let before : has_close (take n text) ≡ false = no_close_before text n (omega arith) (λ k lt. other k (omega arith)) in
+    let before : has_close (take n text) ≡ false =
+    no_close_before text n (omega arith) (λ k lt. other k (omega arith)) in
     let here : (get_or text n 0 == 93) ≡ false = other n (omega arith) in
     more ∙ rw (before, here) refl
 
@@ -72,7 +75,8 @@ opened text i lt opens = drop_more text i 0 lt ∙ ap (λ (b : ℕ). b ∷ drop 
 
 -- the bytes of a comment that begins at the place i and has n bytes inside
 comment_taken : (text : List ℕ) (i n : ℕ) → i < length text → get_or text i 0 ≡ 91 → n < length (drop (i + 1) text)
-    → get_or (drop (i + 1) text) n 0 ≡ 93 → take (i + n + 2) text ≡ take i text ++ (91 ∷ take n (drop (i + 1) text) ++ 93 ∷ [])
+    → get_or (drop (i + 1) text) n 0 ≡ 93
+    → take (i + n + 2) text ≡ take i text ++ (91 ∷ take n (drop (i + 1) text) ++ 93 ∷ [])
 comment_taken text i n lt opens inner closes =
     let after = drop (i + 1) text in
     let closed : take (n + 1) after ≡ take n after ++ 93 ∷ [] =
@@ -90,7 +94,8 @@ past_comment text rows i n lt s opens found =
     let close = position-Some (λ b. b == 93) after n 0 found in
     let is_close : get_or after n 0 ≡ 93 = (Decides-eqb (get_or after n 0) 93).0 close.1 in
     let no_close = no_close_before after n (omega arith) close.2 in
-    no_row_more text rows (91 ∷ take n after ++ 93 ∷ []) i (i + n + 2) (comment_taken text i n lt opens close.0 is_close) s
+    no_row_more text rows (91 ∷ take n after ++ 93 ∷ []) i (i + n + 2)
+    (comment_taken text i n lt opens close.0 is_close) s
     (comment (take n after) [] [] no_close none)
 
 -- a text spells no more rows than it has bytes

@@ -6,9 +6,11 @@ use Rattle.std.specs.declared.alloc.Global.{Global}
 use Rattle.std.proofs.lemmas.Bool.Decides.{Decides-eqb}
 use Rattle.std.proofs.lemmas.List.{append-nil, take-append-drop, length-append, length-take-le, length-drop}
 use Rattle.ed_codes.specs.Spelling.{row_of}
-use Rattle.ed_codes.specs.Text.{Spells, none, row, spacing, comment, is_spacing, has_close, HasNoRow, HasOpenComment, StopsAt}
+use Rattle.ed_codes.specs.Text.{Spells, none, row, spacing, comment, is_spacing}
+use Rattle.ed_codes.specs.Text.{has_close, HasNoRow, HasOpenComment, StopsAt}
 use Rattle.ed_codes.specs.Answer.{ReadsText, Answers}
-use Rattle.ed_codes.specs.Reading.{Reading, rows, no_row, open_comment, with_row, row_or_fault, reading_from, reading, IsReadingOf, HasOneReading}
+use Rattle.ed_codes.specs.Reading.{Reading, rows, no_row, open_comment, with_row, row_or_fault}
+use Rattle.ed_codes.specs.Reading.{reading_from, reading, IsReadingOf, HasOneReading}
 use Rattle.ed_codes.proofs.Every.{every_text}
 use Rattle.ed_codes.specs.declared.code.Code.{Code}
 use Rattle.ed_codes.specs.declared.tape.TextFault.{TextFault}
@@ -109,7 +111,8 @@ open_comment_stays (code ∷ codes) place = ap (with_row code) (open_comment_sta
 spelled_is_read : (text codes : List ℕ) → Spells text codes → reading text ≡ rows codes
 spelled_is_read text codes s = ap reading (sym (append-nil text)) ∙ read_front text codes 0 [] s ∙ rows_stay codes
 
-size_before : (text : List ℕ) (place b : ℕ) (after : List ℕ) → drop place text ≡ b ∷ after → length (take place text) ≡ place
+size_before : (text : List ℕ) (place b : ℕ) (after : List ℕ) → drop place text ≡ b ∷ after
+    → length (take place text) ≡ place
 size_before text place b after e =
     let left : length text - place ≡ suc (length after) = sym (length-drop place text) ∙ ap length e in
     length-take-le place text (omega (arith, left))
@@ -120,7 +123,8 @@ stopped : (text : List ℕ) (place byte : ℕ) (after : List ℕ) (s : StopsAt t
 stopped text place byte after s =
     ap reading (sym (take-append-drop place text) ∙ ap (λ (l : List ℕ). take place text ++ l) s.here)
     ∙ read_front (take place text) s.rows 0 (byte ∷ after) s.before
-    ∙ ap (λ (n : ℕ). with_rows s.rows (reading_from None n (byte ∷ after))) (omega (arith, size_before text place byte after s.here))
+    ∙ ap (λ (n : ℕ). with_rows s.rows (reading_from None n (byte ∷ after)))
+    (omega (arith, size_before text place byte after s.here))
 
 no_row_is_read : (text : List ℕ) (place byte : ℕ) → HasNoRow text place byte → reading text ≡ no_row place byte
 no_row_is_read text place byte h =
@@ -148,7 +152,8 @@ pub has_one_reading : HasOneReading
 has_one_reading = record { every = every_text; only = only_reading }
 
 -- an answer that says what the text has says its reading
-pub answers_reading : (text : List ℕ) (r : Result (Vec Code Global) TextFault) → ReadsText text r → Answers (reading text) r
+pub answers_reading : (text : List ℕ) (r : Result (Vec Code Global) TextFault) → ReadsText text r
+    → Answers (reading text) r
 answers_reading text (Ok v) h = spelled_is_read text v.items h
 answers_reading text (Err (NoRow place byte)) h = no_row_is_read text place byte h
 answers_reading text (Err (OpenComment place)) h = open_is_read text place h

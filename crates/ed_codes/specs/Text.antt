@@ -14,7 +14,8 @@ has_close text = list_any (λ b. b == 93) text
 -- The text is a list of pieces, and these are the codes of the rows that it spells.
 pub data Spells : List ℕ → List ℕ → Type 0 where
   none : Spells [] []
-  row : (byte code : ℕ) (text rows : List ℕ) → row_of byte ≡ Some code → Spells text rows → Spells (byte ∷ text) (code ∷ rows)
+  row : (byte code : ℕ) (text rows : List ℕ) → row_of byte ≡ Some code → Spells text rows
+      → Spells (byte ∷ text) (code ∷ rows)
   spacing : (byte : ℕ) (text rows : List ℕ) → is_spacing byte ≡ true → Spells text rows → Spells (byte ∷ text) rows
   -- from a `[` (91) to the next `]`
   comment : (inside text rows : List ℕ) → has_close inside ≡ false → Spells text rows

@@ -1,5 +1,6 @@
 -- A walk along a path of the listing ends where the path does.
-use Rattle.std.proofs.Common.{◌≡◌, ℕ, zero, suc, ◌+◌, ◌<◌, ◌≤◌, refl, sym, ap, ◌∙◌, subst, arith, inl, inr, ◌⊎◌, Bool, true, false}
+use Rattle.std.proofs.Common.{◌≡◌, ℕ, zero, suc, ◌+◌, ◌<◌, ◌≤◌, refl, sym, ap}
+use Rattle.std.proofs.Common.{◌∙◌, subst, arith, inl, inr, ◌⊎◌, Bool, true, false}
 use Rattle.std.proofs.lemmas.Bool.{cases_lt}
 use Rattle.ed_machine.specs.State.{State}
 use Rattle.ed_machine.specs.OrderTable.{Obeyed, step}
@@ -8,7 +9,8 @@ use Rattle.ed_machine.specs.declared.turn.Turn.TheVariants.{Went}
 use Rattle.ed_initial.specs.declared.resting.Rested.{Rested}
 use Rattle.ed_initial.specs.declared.resting.Rested.TheVariants.{Entered, At, Lost}
 use Rattle.ed_initial.specs.Load.{enters}
-use Rattle.ed_initial.specs.Walks.{Event, Blocks, Enters, Rests, Sounds, Goes, event, event_by, is_rest, IsWalk, WalksTo, IsStray}
+use Rattle.ed_initial.specs.Walks.{Event, Blocks, Enters, Rests, Sounds, Goes, event}
+use Rattle.ed_initial.specs.Walks.{event_by, is_rest, IsWalk, WalksTo, IsStray}
 use Rattle.ed_initial.specs.Walks.{blocked, sounded, too_long, WalkEnds, walked}
 use Rattle.ed_paths.proofs.Frames.{Moment}
 use Rattle.ed_paths.proofs.Paths.{first_state}
@@ -16,11 +18,13 @@ use Rattle.ed_initial.proofs.Paths.{Kept, state, is_calm, Walk, stay, on, ToRest
 use Rattle.ed_initial.proofs.Goes.{along, whole, quiet, passes}
 
 -- what an order of a path does to a walk
-event_of : (s t : State) (jumps rests : Bool) → step s ≡ record { state = t; turn = Went } → enters s ≡ jumps → is_rest t.counter ≡ rests
+event_of : (s t : State) (jumps rests : Bool) → step s ≡ record { state = t; turn = Went } → enters s ≡ jumps
+    → is_rest t.counter ≡ rests
     → event s ≡ event_by true jumps rests true
 event_of s t jumps rests does a b = rw (does, a, b) refl
 
-one_earlier : (j : ℕ) (s t : State) → step s ≡ record { state = t; turn = Went } → state_after (suc j) s ≡ state_after j t
+one_earlier : (j : ℕ) (s t : State) → step s ≡ record { state = t; turn = Went }
+    → state_after (suc j) s ≡ state_after j t
 one_earlier j s t does = first_state j s ∙ ap (λ (x : Obeyed). state_after j x.state) does
 
 walk_along : {f : Kept} {k : ℕ} {r t : Moment} → Walk f k r t → (o : ℕ) → IsWalk k (state f r o)
@@ -86,12 +90,15 @@ enters_at : (s : State) (m : ℕ) → IsWalk m s → event (state_after m s) ≡
 enters_at s m walk last fits (At at k) h =
     absurd (let e = no_other s m walk Enters last fits (λ x. cc) h.before Rests h.walk h.last (λ x. cc) in cc)
 enters_at s m walk last fits (Entered place k) h =
-    let o = settled s m walk Enters last fits (λ x. cc) place k Enters (λ x. cc) h in λ i. Entered (o.place_is i) (o.count i)
+    let o = settled s m walk Enters last fits (λ x. cc) place k Enters (λ x. cc) h
+    in λ i. Entered (o.place_is i) (o.count i)
 enters_at s m walk last fits (Lost k) h = absurd (not_stray s m walk Enters last fits (λ x. cc) k (λ x. cc) (λ x. cc) h)
 
 -- a walk along a path
-pub walks_path : {f : Kept} {k : ℕ} {r t : Moment} → ToRest f k r t → is_rest t.counter ≡ true → k ≤ 17 → (o : ℕ) (u : State) (res : Rested)
-    → WalkEnds (state f r o) res → u ≡ state_after (walked res) (state f r o) → (res ≡ At t.counter k) × (u ≡ state f t (o + k))
+pub walks_path : {f : Kept} {k : ℕ} {r t : Moment} → ToRest f k r t → is_rest t.counter ≡ true → k ≤ 17
+    → (o : ℕ) (u : State) (res : Rested)
+    → WalkEnds (state f r o) res → u ≡ state_after (walked res) (state f r o)
+    → (res ≡ At t.counter k) × (u ≡ state f t (o + k))
 walks_path {f} {t = t} (ends {k = k} {r = r} {m = m} runs last calm) rest most o u res h is =
     let s = state f r o in
     let there = along runs o in
@@ -105,7 +112,8 @@ walks_path {f} {t = t} (ends {k = k} {r = r} {m = m} runs last calm) rest most o
     (a ∙ (λ i. At (place i) (suc k)), is ∙ ap (λ x. state_after (walked x) s) a ∙ end)
 
 -- a walk that enters the program
-pub walks_in : {f : Kept} {k : ℕ} {r m t : Moment} → Walk f k r m → EntersBy f m t → k < 17 → (o : ℕ) (u : State) (res : Rested)
+pub walks_in : {f : Kept} {k : ℕ} {r m t : Moment} → Walk f k r m → EntersBy f m t → k < 17
+    → (o : ℕ) (u : State) (res : Rested)
     → WalkEnds (state f r o) res → u ≡ state_after (walked res) (state f r o)
     → (res ≡ Entered t.counter (suc k)) × (u ≡ state f t (o + suc k))
 unfolding past

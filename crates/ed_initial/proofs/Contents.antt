@@ -11,9 +11,11 @@ use Rattle.ed_words.proofs.Numbers.{eq_false}
 
 get_after : (xs ys : List ℕ) (j : ℕ) → get_or (xs ++ ys) (length xs + j) 0 ≡ get_or ys j 0
 get_after [] ys j = let e : 0 + j ≡ j = omega arith in rw e refl
-get_after (x ∷ xs) ys j = let e : suc (length xs) + j ≡ suc (length xs + j) = omega arith in rw (e, get_after xs ys j) refl
+get_after (x ∷ xs) ys j = let e : suc (length xs) + j ≡ suc (length xs + j) = omega arith
+    in rw (e, get_after xs ys j) refl
 
--- what stands at the place of a code letter is its value: 0 at 41, θ at 42, 1 at 43, and a word of the program after them
+-- what stands at the place of a code letter is its value: 0 at 41, θ at 42, 1 at 43, and a word of the program after
+-- them
 pub value_here : (w : Working) (contents : List ℕ) (c : ℕ) → 17 ≤ c → w.at41 ≡ 0 → w.at43 ≡ 1
     → get_or (patched 0 contents 0 (cells w)) (24 + c) 0 ≡ value_of contents w.at42 c
 unfolding patched
@@ -28,7 +30,8 @@ value_here w contents c low at41 at43 =
                   | inl e ↦ rw e at43
                   | inr no19 ↦
                       let at : 24 + c ≡ 44 + (c - 20) = omega arith in
-                      let word : get_or (cells w ++ drop 44 contents) (44 + (c - 20)) 0 ≡ get_or contents (44 + (c - 20)) 0 =
+                      let word : get_or (cells w ++ drop 44 contents) (44 + (c - 20)) 0
+                      ≡ get_or contents (44 + (c - 20)) 0 =
                       get_after (cells w) (drop 44 contents) (c - 20) ∙ get_or-drop 44 contents (c - 20) 0 in
                       let t17 = eq_false c 17 no17 in
                       let t18 = eq_false c 18 no18 in

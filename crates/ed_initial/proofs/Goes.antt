@@ -1,5 +1,6 @@
 -- From the paths of the listing to steps of the machine.
-use Rattle.std.proofs.Common.{◌≡◌, ℕ, suc, zero, ◌+◌, ◌-◌, ◌<◌, ◌≤◌, ◌^◌, nat_lt, Some, refl, sym, ap, ◌∙◌, subst, arith, inl, inr, ◌⊎◌}
+use Rattle.std.proofs.Common.{◌≡◌, ℕ, suc, zero, ◌+◌, ◌-◌, ◌<◌, ◌≤◌, ◌^◌, nat_lt}
+use Rattle.std.proofs.Common.{Some, refl, sym, ap, ◌∙◌, subst, arith, inl, inr, ◌⊎◌}
 use Rattle.std.proofs.lemmas.Bool.{cases_lt}
 use Rattle.ed_machine.specs.State.{State}
 use Rattle.ed_machine.specs.OrderTable.{Obeyed, step}
@@ -54,7 +55,10 @@ one f kind r t o m q = record {
   quiet = λ j h.
       let e : 0 ≡ j = omega arith in
       let went = ap (λ (x : Obeyed). x.turn) (m.does o) in
-      subst (λ x. GoesOn (state_after x (state f r o))) e (record { went = went; stays = quiet (state f r o) (m.order o) q });
+      subst (λ x. GoesOn (state_after x (state f r o))) e (record {
+        went = went;
+        stays = quiet (state f r o) (m.order o) q;
+      });
 }
 
 pub joined : (a b : ℕ) (s m t : State) → Goes a s m → Goes b m t → Goes (a + b) s t
@@ -77,10 +81,12 @@ along {f} {t = t} (on {k = k} {kind = kind} {r = r} {m = m} first away rest) o =
     let e : o + suc k ≡ o + 1 + k = omega arith in
     let sum : suc k ≡ 1 + k = omega arith in
     let calm = (passes (is_calm kind r.counter) m.counter away).0 in
-    rw (e, sum) (joined 1 k (state f r o) (state f m (o + 1)) (state f t (o + 1 + k)) (one f kind r m o first calm) (along rest (o + 1)))
+    rw (e, sum) (joined 1 k (state f r o) (state f m (o + 1)) (state f t (o + 1 + k)) (one f kind r m o first calm)
+    (along rest (o + 1)))
 
 pub whole : {f : Kept} {k : ℕ} {r t : Moment} → ToRest f k r t → (o : ℕ) → Goes k (state f r o) (state f t (o + k))
 whole {f} {t = t} (ends {k = k} {kind = kind} {r = r} {m = m} runs last calm) o =
     let e : o + suc k ≡ o + k + 1 = omega arith in
     let sum : suc k ≡ k + 1 = omega arith in
-    rw (e, sum) (joined k 1 (state f r o) (state f m (o + k)) (state f t (o + k + 1)) (along runs o) (one f kind m t (o + k) last calm))
+    rw (e, sum) (joined k 1 (state f r o) (state f m (o + k)) (state f t (o + k + 1)) (along runs o)
+    (one f kind m t (o + k) last calm))

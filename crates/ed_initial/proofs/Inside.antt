@@ -1,5 +1,5 @@
--- What the Initial Orders do with a row inside an item is what the notation says of it: from one rest to the next, or to
--- the entry. One lemma for each kind of row.
+-- What the Initial Orders do with a row inside an item is what the notation says of it: from one rest to the next, or
+-- to the entry. One lemma for each kind of row.
 use Rattle.std.proofs.Common.{◌≡◌, ℕ, ◌+◌, ◌*◌, ◌%◌, ◌^◌, ◌<◌, ◌≤◌, refl, sym, ap, subst, arith, lit≤}
 use Rattle.std.proofs.Common.{Bool, true, false, nat_lt, nat_le, List, ◌∷◌}
 use Rattle.ed_words.specs.Words.{digit}
@@ -22,7 +22,8 @@ use Rattle.ed_notation.specs.Reading.{part_word, setting_of, set_by, placed_by, 
 use Rattle.ed_initial.specs.Rests.{Working, Scratch, working, begun, IsNote, IsPartSoFar}
 use Rattle.ed_initial.specs.Entry.{entry_words}
 use Rattle.ed_paths.proofs.Frames.{Moment}
-use Rattle.ed_initial.proofs.Paths.{Kept, Walk, ToRest, moment, Enters as EntersBy, digit_path, mark_path, kay_directive_path}
+use Rattle.ed_initial.proofs.Paths.{Kept, Walk, ToRest, moment, Enters as EntersBy}
+use Rattle.ed_initial.proofs.Paths.{digit_path, mark_path, kay_directive_path}
 use Rattle.ed_initial.proofs.Paths.{kay_theta_path, zed_directive_path}
 use Rattle.ed_initial.proofs.Paths.{zed_theta_path, blank_path, letter_row, placed_path, entry_order}
 use Rattle.ed_words.proofs.Numbers.{not_lt_of, not_le_of, if_means}
@@ -115,7 +116,8 @@ module _ (f : Kept) (ws : List ℕ) (note : Note) (good : IsNote note) (part : P
       record {
         one = 11;
         twenty = 12342;
-        path = subst (λ x. ToRest f 15 (inside f ws part at1 at20 note (x ∷ rows)) (inside f ws marked 11 12342 note rows)) (sym is)
+        path = subst (λ x. ToRest f 15 (inside f ws part at1 at20 note (x ∷ rows))
+            (inside f ws marked 11 12342 note rows)) (sym is)
             (mark_path f w high false (2 * part.number + 1) rows refl (omega arith) (omega arith));
         few = lit≤ tt;
         part_is = record { function = phase.function; number = phase.number; blank = λ h. cc };
@@ -129,12 +131,14 @@ module _ (f : Kept) (ws : List ℕ) (note : Note) (good : IsNote note) (part : P
       → ToRest f k (inside f ws part at1 at20 note (end ∷ rows)) (between f ws (left end) next rows) → Closes next k
   closes next k end is few note_is path = record {
     scratch = left end;
-    path = subst (λ x. ToRest f k (inside f ws part at1 at20 note (x ∷ rows)) (between f ws (left end) next rows)) (sym is) path;
+    path = subst (λ x. ToRest f k (inside f ws part at1 at20 note (x ∷ rows)) (between f ws (left end) next rows))
+        (sym is) path;
     few = few;
     note_is = note_is;
   }
 
-  by_kay_theta : (u : ℕ) → (4096 * part.function + 2 * part.number + note.directive) % 2 ^ 17 ≡ u → c ≡ 14 → digit part.mark ≡ 0
+  by_kay_theta : (u : ℕ) → (4096 * part.function + 2 * part.number + note.directive) % 2 ^ 17 ≡ u → c ≡ 14
+      → digit part.mark ≡ 0
       → 16 ≤ part.function → part.number ≤ 1023 → Closes (record note { theta = u }) 16
   by_kay_theta u sum is none least fits =
       let f32 = phase.function in
@@ -202,7 +206,8 @@ module _ (f : Kept) (ws : List ℕ) (note : Note) (good : IsNote note) (part : P
   abbrev word : ℕ
   word = part_word (over note.placed ws) (setting_of note) part c
 
-  by_letter : (k : Aim) → AimMeans k note.directive → 17 ≤ c → c < 32 → Follows (letter_taken f.size k (setting_of note) word)
+  by_letter : (k : Aim) → AimMeans k note.directive → 17 ≤ c → c < 32
+      → Follows (letter_taken f.size k (setting_of note) word)
   by_letter Places means low code =
       let a = address note.directive in
       if_means Follows (nat_lt a 44) _ _ (λ _. tt) (λ p.
@@ -213,7 +218,8 @@ module _ (f : Kept) (ws : List ℕ) (note : Note) (good : IsNote note) (part : P
       record {
         scratch = begun part c (114736 + 2 * c);
         path = placed_path f w high false c value ((w.at0 + value) % 2 ^ 17) word a rows low code
-            (omega (arith, phase, mark_most part.mark)) (value_here lettered (over note.placed ws) c low refl refl) refl (omega arith)
+            (omega (arith, phase, mark_most part.mark)) (value_here lettered (over note.placed ws) c low refl refl)
+            refl (omega arith)
             (omega (arith, good, means)) above below;
         few = lit≤ tt;
         note_is = omega (arith, good);
@@ -230,9 +236,11 @@ module _ (f : Kept) (ws : List ℕ) (note : Note) (good : IsNote note) (part : P
       let order : note.directive ≡ 12288 + 2 * a = omega (arith, good) in
       record {
         middle = moment f lettered high false (word * 2 ^ 54) 22 rows;
-        runs = letter_row f w high false c value ((w.at0 + value) % 2 ^ 17) word rows low code (omega (arith, phase, mark_most part.mark))
+        runs = letter_row f w high false c value ((w.at0 + value) % 2 ^ 17) word rows low code
+            (omega (arith, phase, mark_most part.mark))
             (value_here lettered (over note.placed ws) c low refl refl) refl (omega arith);
-        last = subst (λ x. EntersBy f (moment f lettered high false (word * 2 ^ 54) 22 rows) (moment f x high false (word * 2 ^ 54) a rows))
+        last = subst (λ x. EntersBy f (moment f lettered high false (word * 2 ^ 54) 22 rows)
+            (moment f x high false (word * 2 ^ 54) a rows))
             (λ i. record lettered { at20 = twenty i; at22 = order i })
             (entry_order f lettered high false word a rows order below positive);
       })))

@@ -1,4 +1,5 @@
--- The induction over the rows of a tape: from any rest, a tape that the notation accepts leads to its entry at its cost.
+-- The induction over the rows of a tape: from any rest, a tape that the notation accepts leads to its entry at its
+-- cost.
 use Rattle.std.proofs.Common.{◌≡◌, ℕ, suc, ◌+◌, ◌*◌, ◌^◌, ◌<◌, refl, subst, arith, lit≤, Bool, true, false, nat_lt}
 use Rattle.std.proofs.Common.{Option, Some, None, List, [], ◌∷◌}
 use Rattle.ed_machine.specs.State.{State}
@@ -11,7 +12,8 @@ use Rattle.ed_notation.specs.declared.cause.TapeCause.TheVariants.{BadRow}
 use Rattle.ed_notation.specs.Items.{row_kind}
 use Rattle.ed_notation.specs.Fold.{Note, over}
 use Rattle.ed_notation.specs.Faults.{Entry}
-use Rattle.ed_notation.specs.Reading.{Verdict, Faulty, Arrived, reading, taken, part_of, setting_of, set_by, placed_by, entry_by}
+use Rattle.ed_notation.specs.Reading.{Verdict, Faulty, Arrived, reading, taken}
+use Rattle.ed_notation.specs.Reading.{part_of, setting_of, set_by, placed_by, entry_by}
 use Rattle.ed_initial.specs.Rests.{Scratch, working, IsNote, IsPartSoFar}
 use Rattle.ed_initial.specs.Entry.{entry_words}
 use Rattle.ed_initial.specs.Load.{enters}
@@ -23,7 +25,8 @@ use Rattle.ed_initial.proofs.Inside.{between, inside, Follows, follows}
 
 -- the machine at the entry, when it has done so many orders
 abbrev pub entered : Kept → List ℕ → Entry → ℕ → State
-entered f ws e orders = state f (moment f (entry_words e) (over e.note.placed ws) false (e.word * 2 ^ 54) e.at e.rest) orders
+entered f ws e orders = state f
+    (moment f (entry_words e) (over e.note.placed ws) false (e.word * 2 ^ 54) e.at e.rest) orders
 
 -- a load goes on from a state, which it came to at a cost, up to an entry
 pub record Reaches (f : Kept) (ws : List ℕ) (first cost : ℕ) (s : State) (e : Entry) : Type 0 where
@@ -36,7 +39,8 @@ pub record Reaches (f : Kept) (ws : List ℕ) (first cost : ℕ) (s : State) (e 
 
 module _ (f : Kept) (ws : List ℕ) (first : ℕ) where
   -- a load that goes on from where a path leads
-  pub prepend : {r t : Moment} {e : Entry} (k cost : ℕ) → ToRest f k r t → Reaches f ws first (cost + k) (state f t (first + (cost + k))) e
+  pub prepend : {r t : Moment} {e : Entry} (k cost : ℕ) → ToRest f k r t
+      → Reaches f ws first (cost + k) (state f t (first + (cost + k))) e
       → Reaches f ws first cost (state f r (first + cost)) e
   prepend {r} {t} {e} k cost path a =
       let sum : first + cost + k ≡ first + (cost + k) = omega arith in
@@ -63,7 +67,8 @@ module _ (f : Kept) (ws : List ℕ) (first : ℕ) where
   -- what is shown of the rows of a tape
   abbrev pub Loads : List ℕ → Type 0
   Loads rows = (w : Scratch) (row cost : ℕ) (note : Note) (p : Option Part) (e : Entry) → IsNote note → IsPhase p
-      → reading f.size ws row cost note p rows ≡ Arrived e → Reaches f ws first cost (state f (rests w note p rows) (first + cost)) e
+      → reading f.size ws row cost note p rows ≡ Arrived e
+      → Reaches f ws first cost (state f (rests w note p rows) (first + cost)) e
 
   entry_same : (a b : Entry) → Arrived a ≡ Arrived b → a ≡ b
   entry_same a b h = cc
@@ -78,13 +83,16 @@ module _ (f : Kept) (ws : List ℕ) (first : ℕ) where
     | Entered at ↦ Arrived (entry_by ws row cost note part c rows at)
   ]
 
-  module _ (rows : List ℕ) (ih : Loads rows) (w : Scratch) (row cost : ℕ) (note : Note) (part : Part) (e : Entry) (c : ℕ)
+  module _ (rows : List ℕ) (ih : Loads rows) (w : Scratch) (row cost : ℕ) (note : Note) (part : Part)
+      (e : Entry) (c : ℕ)
       (good : IsNote note) (phase : IsPartSoFar part) where
-    by_taken : (t : Taken) → Follows f ws note good part phase w.at1 w.at20 c rows t → next row cost note part c rows t ≡ Arrived e
+    by_taken : (t : Taken) → Follows f ws note good part phase w.at1 w.at20 c rows t
+        → next row cost note part c rows t ≡ Arrived e
         → Reaches f ws first cost (state f (inside f ws part w.at1 w.at20 note (c ∷ rows)) (first + cost)) e
     by_taken (Refused cause) o h = cc
     by_taken (Longer longer k) o h =
-        prepend k cost o.path (ih (record w { at1 = o.one; at20 = o.twenty }) (row + 1) (cost + k) note (Some longer) e good o.part_is h)
+        prepend k cost o.path (ih (record w { at1 = o.one; at20 = o.twenty }) (row + 1) (cost + k) note
+        (Some longer) e good o.part_is h)
     by_taken (Ended setting k) o h =
         prepend k cost o.path (ih o.scratch (row + 1) (cost + k) (set_by setting note) None e o.note_is tt h)
     by_taken (Placed at word) o h =
@@ -98,13 +106,15 @@ module _ (f : Kept) (ws : List ℕ) (first : ℕ) where
           middle = state f o.middle (first + cost + 12);
           goes = along o.runs (first + cost);
           enters = o.last.jumps (first + cost + 12);
-          enters_by = subst (λ k. step (state f o.middle (first + cost + 12)) ≡ record { state = entered f ws x k; turn = Went }) sum
+          enters_by = subst (λ k. step (state f o.middle (first + cost + 12))
+              ≡ record { state = entered f ws x k; turn = Went }) sum
               (o.last.does (first + cost + 12));
           cost_is = omega arith;
         } in
         subst (λ y. Reaches f ws first cost (state f here (first + cost)) y) (entry_same x e h) arrives
 
-  by_function : (rows : List ℕ) → Loads rows → (w : Scratch) (row cost : ℕ) (note : Note) (e : Entry) (c : ℕ) → IsNote note → (b : Bool)
+  by_function : (rows : List ℕ) → Loads rows → (w : Scratch) (row cost : ℕ) (note : Note) (e : Entry) (c : ℕ)
+      → IsNote note → (b : Bool)
       → nat_lt c 32 ≡ b
       → elim b [
         | true ↦ reading f.size ws (row + 1) (cost + 6) note (Some (part_of c)) rows
@@ -122,7 +132,8 @@ module _ (f : Kept) (ws : List ℕ) (first : ℕ) where
   unfolding reading
   loads [] w row cost note None e good phase h = cc
   loads [] w row cost note (Some part) e good phase h = cc
-  loads (c ∷ rows) w row cost note None e good phase h = by_function rows (loads rows) w row cost note e c good (nat_lt c 32) refl h
+  loads (c ∷ rows) w row cost note None e good phase h =
+      by_function rows (loads rows) w row cost note e c good (nat_lt c 32) refl h
   loads (c ∷ rows) w row cost note (Some part) e good phase h =
       by_taken rows (loads rows) w row cost note part e c good phase
       (taken f.size (row_kind c) (over note.placed ws) (setting_of note) part c)

@@ -15,7 +15,12 @@ use Rattle.ed_initial.proofs.Inside.{between}
 
 -- what stays during a load from this state
 abbrev pub frame : (s : State) → IsStore s.store → Kept
-frame s store = record { size = s.size; digits = s.store.sandwich; room = omega (arith, store.digits_are); last = s.last }
+frame s store = record {
+  size = s.size;
+  digits = s.store.sandwich;
+  room = omega (arith, store.digits_are);
+  last = s.last;
+}
 
 -- the changing words: those of the listing, and what stood behind it
 abbrev pub listed : List ℕ → Working
@@ -32,7 +37,8 @@ listed ws = record {
 
 abbrev pub begins : (s : State) → IsStore s.store → Moment
 begins s store =
-    let r = moment (frame s store) (listed s.store.words) s.store.words (get_or s.store.sandwich 20 false) s.acc 0 s.tape in
+    let r = moment (frame s store) (listed s.store.words) s.store.words (get_or s.store.sandwich 20 false) s.acc
+    0 s.tape in
     record r { multiplier = s.multiplier }
 
 words_are : (ws : List ℕ) → length ws ≡ 1024 → ((i : ℕ) → i < 41 → get_or ws i 0 ≡ get_or initial_orders i 0)
@@ -76,9 +82,11 @@ first_scratch s = record {
 
 -- the first nine orders
 pub first_path : (s : State) (store : IsStore s.store)
-    → ToRest (frame s store) 9 (begins s store) (between (frame s store) s.store.words (first_scratch s) (opening s.store.words) s.tape)
+    → ToRest (frame s store) 9 (begins s store)
+    (between (frame s store) s.store.words (first_scratch s) (opening s.store.words) s.tape)
 first_path s store =
-    start_path (frame s store) (listed s.store.words) s.store.words (get_or s.store.sandwich 20 false) s.acc s.multiplier s.tape
+    start_path (frame s store) (listed s.store.words) s.store.words (get_or s.store.sandwich 20 false) s.acc
+    s.multiplier s.tape
 
 pub first_note : (ws : List ℕ) → get_or ws 42 0 < 2 ^ 17 → IsNote (opening ws)
 first_note ws h = omega arith

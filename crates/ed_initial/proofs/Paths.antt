@@ -1,6 +1,7 @@
--- What the Initial Orders do with each kind of row, as the paths of their listing: each line is one order, by its cell and
--- what it names, with the number that it leaves.
-use Rattle.std.proofs.Common.{◌≡◌, ℕ, suc, ◌+◌, ◌-◌, ◌*◌, ◌/◌, ◌%◌, ◌^◌, ◌<◌, ◌≤◌, refl, arith, lit<, lit≤, Bool, true, false, not}
+-- What the Initial Orders do with each kind of row, as the paths of their listing: each line is one order, by its
+-- cell and what it names, with the number that it leaves.
+use Rattle.std.proofs.Common.{◌≡◌, ℕ, suc, ◌+◌, ◌-◌, ◌*◌, ◌/◌, ◌%◌, ◌^◌, ◌<◌, ◌≤◌}
+use Rattle.std.proofs.Common.{refl, arith, lit<, lit≤, Bool, true, false, not}
 use Rattle.std.proofs.Common.{◌&&◌, nat_eq, List, [], ◌∷◌, set, get_or, length, Option, Some, inr}
 use Rattle.std.proofs.lemmas.Bool.Decides.{nat_tests}
 use Rattle.ed_words.specs.declared.size.Size.{Size}
@@ -30,7 +31,13 @@ pub record Kept : Type 0 where
 
 -- the 44 words from 0 on, with the digit of the pair 40, 41
 abbrev pub piece : Kept → Frame 44 20
-piece f = record { size = f.size; base = 0; top = locations f.size; under = omega (arith, least f.size); fits = omega arith }
+piece f = record {
+  size = f.size;
+  base = 0;
+  top = locations f.size;
+  under = omega (arith, least f.size);
+  fits = omega arith;
+}
 
 abbrev pub state : Kept → Moment → ℕ → State
 state f r k = piece_state (piece f) r k
@@ -42,12 +49,14 @@ is_calm kind c = not (is_E (Some kind) && nat_eq c 22)
 -- orders one after the other, none of which comes to a rest
 pub data Walk (f : Kept) : ℕ → Moment → Moment → Type 0 where
   stay : {r : Moment} → Walk f 0 r r
-  on : {k : ℕ} {kind : Kind} {r m t : Moment} → Moves (piece f) kind r m → (is_calm kind r.counter && not (is_rest m.counter)) ≡ true
+  on : {k : ℕ} {kind : Kind} {r m t : Moment} → Moves (piece f) kind r m
+      → (is_calm kind r.counter && not (is_rest m.counter)) ≡ true
       → Walk f k m t → Walk f (suc k) r t
 
 -- the same with one order more, which comes to a rest
 pub data ToRest (f : Kept) : ℕ → Moment → Moment → Type 0 where
-  ends : {k : ℕ} {kind : Kind} {r m t : Moment} → Walk f k r m → Moves (piece f) kind m t → is_calm kind m.counter ≡ true
+  ends : {k : ℕ} {kind : Kind} {r m t : Moment} → Walk f k r m → Moves (piece f) kind m t
+      → is_calm kind m.counter ≡ true
       → ToRest f (suc k) r t
 
 -- the order that enters the program
@@ -116,7 +125,8 @@ module _ (f : Kept) (w : Working) (words : List ℕ) (digit40 : Bool) where
       let low : c * 2 ^ 18 % 2 ^ 17 ≡ 0 = omega arith in
       let high : c * 2 ^ 18 / 2 ^ 18 ≡ c = omega arith in
       let middle : c * 2 ^ 18 / 2 ^ 17 % 2 ≡ 0 = omega arith in
-      rw (low, high, middle) at (I {f = piece f} {r = at w 0 34 (c ∷ rest)} 34 (pair 40 0 refl) (c * 2 ^ 18) refl refl refl)
+      rw (low, high, middle) at
+      (I {f = piece f} {r = at w 0 34 (c ∷ rest)} 34 (pair 40 0 refl) (c * 2 ^ 18) refl refl refl)
 
   T_pair : (c : ℕ) (rest : List ℕ) → c < 32
       → Moves (piece f) KindT (moment f (record w { at40 = 0; at41 = c }) words false (c * 2 ^ 48) 37 rest)
@@ -130,7 +140,8 @@ module _ (f : Kept) (w : Working) (words : List ℕ) (digit40 : Bool) where
 
   -- a function row
   pub function_path : (c : ℕ) (rest : List ℕ) → c < 32
-      → ToRest f 6 (at w 0 34 (c ∷ rest)) (moment f (record w { at0 = 0; at40 = 4096 * c; at41 = 0 }) words false 0 9 rest)
+      → ToRest f 6 (at w 0 34 (c ∷ rest))
+      (moment f (record w { at0 = 0; at40 = 4096 * c; at41 = 0 }) words false 0 9 rest)
   function_path c rest h =
       ends (on (I_pair c rest h) refl
       (on (A 35 (pair 40 0 refl) (short c) refl (omega arith)) refl

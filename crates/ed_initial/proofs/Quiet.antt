@@ -1,6 +1,7 @@
--- The loading theorem without a call: from a started machine a well-formed tape leads to the state at the entry in as many
--- orders as it costs, each of which goes on and prints nothing.
-use Rattle.std.proofs.Common.{◌≡◌, ℕ, zero, suc, ◌+◌, ◌*◌, ◌^◌, ◌<◌, ◌≤◌, ◌⊎◌, inl, inr, ap, ◌∙◌, subst, arith, true, false, None, []}
+-- The loading theorem without a call: from a started machine a well-formed tape leads to the state at the entry in as
+-- many orders as it costs, each of which goes on and prints nothing.
+use Rattle.std.proofs.Common.{◌≡◌, ℕ, zero, suc, ◌+◌, ◌*◌, ◌^◌, ◌<◌, ◌≤◌, ◌⊎◌, inl}
+use Rattle.std.proofs.Common.{inr, ap, ◌∙◌, subst, arith, true, false, None, []}
 use Rattle.std.proofs.Common.{refl}
 use Rattle.std.proofs.lemmas.Bool.{cases_lt}
 use Rattle.ed_store.specs.Cells.{IsStore}
@@ -39,12 +40,14 @@ pub record LeadsIn (s : State) (e : Entry) : Type 0 where
   pub went : (j : ℕ) → j < e.cost → (step (state_after j s)).turn ≡ Went
   pub prints_none : (past e.cost s).codes ≡ []
 
-pub leads_in : (s : State) (store : IsStore s.store) (e : Entry) → Reaches (frame s store) s.store.words s.orders 0 s e → LeadsIn s e
+pub leads_in : (s : State) (store : IsStore s.store) (e : Entry)
+    → Reaches (frame s store) s.store.words s.orders 0 s e → LeadsIn s e
 unfolding past
 leads_in s store e a =
     let m = a.steps in
     let there =
-    shown (frame s store) (entry_words e) (over e.note.placed s.store.words) false (e.word * 2 ^ 54) e.at e.rest (s.orders + e.cost) in
+    shown (frame s store) (entry_words e) (over e.note.placed s.store.words) false (e.word * 2 ^ 54) e.at e.rest
+    (s.orders + e.cost) in
     let last : step (state_after m s) ≡ record { state = at_entry s e; turn = Went } =
     ap step a.goes.state ∙ a.enters_by ∙ (λ i. record { state = there i; turn = Went }) in
     let cost : suc m ≡ e.cost = omega (arith, a.cost_is) in
@@ -75,9 +78,11 @@ comes_in s e store started h =
     let set : IsDirective 20568 = omega arith in
     let read : reading s.size ws 0 9 (opening ws) None s.tape ≡ Arrived e =
     (reading_is_rules s.size ws (opening ws) 9 s.tape set).arrived e h.well h.comes in
-    let rest = loads f ws s.orders s.tape (first_scratch s) 0 9 (opening ws) None e (first_note ws (store.fits 42)) tt read in
+    let rest = loads f ws s.orders s.tape (first_scratch s) 0 9 (opening ws) None e
+    (first_note ws (store.fits 42)) tt read in
     let begun : Reaches f ws s.orders 0 (state f (begins s store) (s.orders + 0)) e =
     prepend f ws s.orders 9 0 (first_path s store) rest in
     let zero : s.orders + 0 ≡ s.orders = omega arith in
-    let same : state f (begins s store) (s.orders + 0) ≡ s = ap (state f (begins s store)) zero ∙ opened s store started in
+    let same : state f (begins s store) (s.orders + 0) ≡ s = ap (state f (begins s store)) zero
+    ∙ opened s store started in
     leads_in s store e (subst (λ x. Reaches f ws s.orders 0 x e) same begun)

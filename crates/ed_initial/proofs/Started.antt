@@ -1,4 +1,5 @@
--- A machine that Start has just made stands at the first of the Initial Orders, and a well-formed tape comes to an entry.
+-- A machine that Start has just made stands at the first of the Initial Orders, and a well-formed tape comes to an
+-- entry.
 use Rattle.std.proofs.Common.{ℕ, inl, inr, refl, arith, List, drop}
 use Rattle.std.proofs.Math.ListN.{get_or-append}
 use Rattle.ed_machine.specs.State.{State}
@@ -10,7 +11,10 @@ use Rattle.ed_initial.specs.Listing.{initial_orders}
 use Rattle.ed_initial.specs.Entry.{IsStarted, Comes}
 
 pub is_started : (rows : List ℕ) (s : State) → IsStarted (started initial_orders rows s)
-is_started rows s = record { counter = refl; orders = λ i h. get_or-append initial_orders (drop 41 s.store.words) 0 i h }
+is_started rows s = record {
+  counter = refl;
+  orders = λ i h. get_or-append initial_orders (drop 41 s.store.words) 0 i h;
+}
 
 pub well_comes : (s : State) → WellFormed s.size s.store.words (opening s.store.words) s.tape → (e : Entry) × Comes s e
 well_comes s well =

@@ -1,5 +1,6 @@
 -- The walk from one rest to the next does what the notation says of the row.
-use Rattle.std.proofs.Common.{◌≡◌, ℕ, ◌+◌, ◌<◌, ◌≤◌, refl, sym, ap, ◌∙◌, subst, arith, lit<, lit≤, true, List, ◌∷◌, length, set}
+use Rattle.std.proofs.Common.{◌≡◌, ℕ, ◌+◌, ◌<◌, ◌≤◌, refl, sym, ap, ◌∙◌, subst}
+use Rattle.std.proofs.Common.{arith, lit<, lit≤, true, List, ◌∷◌, length, set}
 use Rattle.std.proofs.lemmas.List.{length-set}
 use Rattle.ed_store.specs.Cells.{IsStore}
 use Rattle.ed_machine.specs.State.{State}
@@ -23,24 +24,28 @@ use Rattle.ed_initial.proofs.Opened.{frame, opened, first_path, first_scratch, s
 use Rattle.ed_initial.proofs.Arrivals.{walks_path, walks_in}
 
 -- a walk from a state that stands at the head of a path
-moved : {f : Kept} {k : ℕ} {a b : Moment} (s t : State) (r : Rested) (orders : ℕ) → WalkEnds s r → t ≡ state_after (walked r) s
+moved : {f : Kept} {k : ℕ} {a b : Moment} (s t : State) (r : Rested) (orders : ℕ) → WalkEnds s r
+    → t ≡ state_after (walked r) s
     → s ≡ state f a orders → ToRest f k a b → is_rest b.counter ≡ true → k ≤ 17
     → (r ≡ At b.counter k) × (t ≡ state f b (orders + k))
 moved s t r orders ends is same path rest few =
     walks_path path rest few orders t r (subst (λ x. WalkEnds x r) same ends) (is ∙ ap (state_after (walked r)) same)
 
 -- the start
-pub from_start : (s t : State) (r : Rested) → IsStore s.store → IsStarted s → WalkEnds s r → t ≡ state_after (walked r) s
+pub from_start : (s t : State) (r : Rested) → IsStore s.store → IsStarted s → WalkEnds s r
+    → t ≡ state_after (walked r) s
     → Between s (opening s.store.words) s.tape 9 r t
 from_start s t r store started ends is =
     let p = moved s t r s.orders ends is (sym (opened s store started)) (first_path s store) refl (lit≤ tt) in
     record { result_is = p.0; scratch = first_scratch s; state_is = p.1 ∙ shown (frame s store) _ _ _ _ _ _ _ }
 
-module _ (o s t : State) (r : Rested) (store : IsStore s.store) (ends : WalkEnds s r) (is : t ≡ state_after (walked r) s) where
+module _ (o s t : State) (r : Rested) (store : IsStore s.store) (ends : WalkEnds s r)
+    (is : t ≡ state_after (walked r) s) where
   -- the opening store has sandwich digits as the machine's has
   has_room : (place : ℕ) (w : Scratch) (note : Note) → s ≡ rest_at place w note o → 20 < length o.store.sandwich
   has_room place w note e =
-      let a : length s.store.sandwich ≡ length (set o.store.sandwich 20 w.digit40) = ap (λ (x : State). length x.store.sandwich) e in
+      let a : length s.store.sandwich ≡ length (set o.store.sandwich 20 w.digit40) =
+      ap (λ (x : State). length x.store.sandwich) e in
       omega (arith, a, length-set o.store.sandwich 20 w.digit40, store.digits_are)
 
   abbrev held : 20 < length o.store.sandwich → Kept
@@ -58,7 +63,8 @@ module _ (o s t : State) (r : Rested) (store : IsStore s.store) (ends : WalkEnds
       let p = moved s t r o.orders ends is same path refl (lit≤ tt) in
       record { result_is = p.0; at1 = w.at1; at20 = w.at20; state_is = p.1 ∙ shown f _ _ _ _ _ _ _ }
 
-  module _ (part : Part) (at1 at20 : ℕ) (note : Note) (c : ℕ) (rows : List ℕ) (good : IsNote note) (phase : IsPartSoFar part) where
+  module _ (part : Part) (at1 at20 : ℕ) (note : Note) (c : ℕ) (rows : List ℕ) (good : IsNote note)
+      (phase : IsPartSoFar part) where
     by_taken : (room : 20 < length o.store.sandwich)
         → s ≡ state (held room) (inside (held room) o.store.words part at1 at20 note (c ∷ rows)) o.orders
         → (k : Taken) → Follows (held room) o.store.words note good part phase at1 at20 c rows k
@@ -79,9 +85,11 @@ module _ (o s t : State) (r : Rested) (store : IsStore s.store) (ends : WalkEnds
         record { result_is = p.0; state_is = p.1 ∙ shown (held room) _ _ _ _ _ _ _ }
 
   -- a row inside an item
-  pub by_row : (part : Part) (at1 at20 : ℕ) (note : Note) (c : ℕ) (rows : List ℕ) → IsNote note → IsPartSoFar part → o.tape ≡ c ∷ rows
+  pub by_row : (part : Part) (at1 at20 : ℕ) (note : Note) (c : ℕ) (rows : List ℕ) → IsNote note → IsPartSoFar part
+      → o.tape ≡ c ∷ rows
       → s ≡ rest9 part at1 at20 note o
-      → DoesRow o note part c rows r t (taken o.size (row_kind c) (over note.placed o.store.words) (setting_of note) part c)
+      → DoesRow o note part c rows r t
+      (taken o.size (row_kind c) (over note.placed o.store.words) (setting_of note) part c)
   by_row part at1 at20 note c rows good phase tape e =
       let room = has_room 9 (begun part at1 at20) note e in
       let f = held room in

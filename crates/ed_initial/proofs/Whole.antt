@@ -27,7 +27,8 @@ cost_fits words start base rows e c =
     omega (arith, most words start base rows e c, c.read_is, all, length-append (rows_of c.last) e.rest)
 
 -- a load that leads to an entry within its bound
-pub ended : (s : State) (e : Entry) (bound : ℕ) (t : State) (r : Loaded) → LeadsIn s e → e.cost ≤ bound → EndsAs s bound r
+pub ended : (s : State) (e : Entry) (bound : ℕ) (t : State) (r : Loaded) → LeadsIn s e → e.cost ≤ bound
+    → EndsAs s bound r
     → t ≡ state_after (orders_of r) s → IsLoaded s e r t
 unfolding past
 ended s e bound t r a fits ends is =
@@ -35,7 +36,8 @@ ended s e bound t r a fits ends is =
     let went : (step (state_after m s)).turn ≡ Went = ap (λ (o : Obeyed). o.turn) a.last in
     let end : (step (state_after m s)).state ≡ at_entry s e = ap (λ (o : Obeyed). o.state) a.last in
     let below : suc m ≤ bound = omega (arith, a.cost_is) in
-    let result : r ≡ Entered (state_after (suc m) s).counter (suc m) = settled s bound m a.quiet went a.enters_is below r ends in
+    let result : r ≡ Entered (state_after (suc m) s).counter (suc m) =
+    settled s bound m a.quiet went a.enters_is below r ends in
     let place : (state_after (suc m) s).counter ≡ e.at = ap (λ (x : State). x.counter) end in
     let cost = a.cost_is in
     record {
@@ -44,7 +46,8 @@ ended s e bound t r a fits ends is =
       silent = a.prints_none;
     }
 
-module _ (s t : State) (r : Loaded) (store : IsStore s.store) (started : IsStarted s) (ends : EndsAs s (17 * length s.tape + 9) r)
+module _ (s t : State) (r : Loaded) (store : IsStore s.store) (started : IsStarted s)
+    (ends : EndsAs s (17 * length s.tape + 9) r)
     (is : t ≡ state_after (orders_of r) s) where
   pub whole_load : (e : Entry) → Comes s e → IsLoaded s e r t
   whole_load e h =
@@ -52,5 +55,6 @@ module _ (s t : State) (r : Loaded) (store : IsStore s.store) (started : IsStart
       (cost_fits s.store.words (opening s.store.words) 9 s.tape e h.comes) ends is
 
   -- where no entry is asked for
-  pub total_load : WellFormed s.size s.store.words (opening s.store.words) s.tape → (e : Entry) × Comes s e × IsLoaded s e r t
+  pub total_load : WellFormed s.size s.store.words (opening s.store.words) s.tape
+      → (e : Entry) × Comes s e × IsLoaded s e r t
   total_load well = let h = well_comes s well in (h.0, h.1, whole_load h.0 h.1)

@@ -27,15 +27,16 @@ pub enum Loaded {
 
 /// Obeys the Initial Orders until they enter the program of the tape.
 ///
-/// It is lost where an order prints, stops or cannot be obeyed before that, or where 17 orders for each row of tape and 9
-/// more were obeyed.
+/// It is lost where an order prints, stops or cannot be obeyed before that, or where 17 orders for each row of tape
+/// and 9 more were obeyed.
 pub fn load(machine: &mut Machine) -> Loaded
     requires started { IsStarted machine.old }
     requires room { machine.old.orders + (17 * length machine.old.tape + 9) ≤ 2 ^ 63 }
     ensures ends { EndsAs machine.old (17 * length machine.old.tape + 9) result }
     ensures state { machine.new ≡ state_after (orders_of result) machine.old }
     ensures loads { (e : Entry) → Comes machine.old e → IsLoaded machine.old e result machine.new }
-    ensures total { WellFormed machine.old.size machine.old.store.words (opening machine.old.store.words) machine.old.tape →
+    ensures total { WellFormed machine.old.size machine.old.store.words (opening machine.old.store.words)
+        machine.old.tape →
         (e : Entry) × Comes machine.old e × IsLoaded machine.old e result machine.new }
 {
     let rows = machine.rows_left().len() as u64;

@@ -8,7 +8,8 @@ ghost use Rattle.ed_notation.specs.Openings.{opening};
 ghost use Rattle.ed_notation.specs.Reading.{part_of, setting_of, taken};
 ghost use Rattle.ed_initial.specs.Entry.{IsStarted};
 ghost use Rattle.ed_initial.specs.Rests.{IsNote, IsPartSoFar, Scratch, rest34, rest9};
-ghost use Rattle.ed_initial.specs.Walks.{BeginsWalk, BreaksNone, Between, DoesItemRow, DoesRow, Inside, WalkEnds, is_rest, part_so_far, walked};
+ghost use Rattle.ed_initial.specs.Walks.{BeginsWalk, BreaksNone, Between, DoesItemRow, DoesRow};
+ghost use Rattle.ed_initial.specs.Walks.{Inside, WalkEnds, is_rest, part_so_far, walked};
 
 use crate::turns::{is_entering, is_obeyed, is_went};
 use ed_machine::Machine;
@@ -39,9 +40,9 @@ pub enum Rested {
 
 /// Obeys orders up to the next rest of the Initial Orders, which come to one with each row of a well-formed tape.
 ///
-/// After each order, in this order: it is `Entered` where an E order at 22 jumped, `At` where the counter is 9 or 34, and
-/// `Lost` where the order printed or stopped, or where it was the seventeenth. An order that cannot be obeyed ends it as
-/// `Lost` too.
+/// After each order, in this order: it is `Entered` where an E order at 22 jumped, `At` where the counter is 9 or 34,
+/// and `Lost` where the order printed or stopped, or where it was the seventeenth. An order that cannot be obeyed
+/// ends it as `Lost` too.
 pub fn to_rest(machine: &mut Machine) -> Rested
     requires begins { BeginsWalk machine.old }
     requires room { machine.old.orders + 17 ≤ 2 ^ 63 }
@@ -51,11 +52,13 @@ pub fn to_rest(machine: &mut Machine) -> Rested
         Between machine.old (opening machine.old.store.words) machine.old.tape 9 result machine.new }
     ensures function { (o : State) (w : Scratch) (note : Note) (c : ℕ) (rows : List ℕ) → IsNote note → c < 32 →
         o.tape ≡ c ∷ rows → machine.old ≡ rest34 w note o → Inside o note (part_of c) rows 6 result machine.new }
-    ensures row { (o : State) (part : Part) (at1 at20 : ℕ) (note : Note) (c : ℕ) (rows : List ℕ) → IsNote note → IsPartSoFar part →
+    ensures row { (o : State) (part : Part) (at1 at20 : ℕ) (note : Note) (c : ℕ) (rows : List ℕ) → IsNote note
+        → IsPartSoFar part →
         o.tape ≡ c ∷ rows → machine.old ≡ rest9 part at1 at20 note o →
         DoesRow o note part c rows result machine.new
         (taken o.size (row_kind c) (over note.placed o.store.words) (setting_of note) part c) }
-    ensures item { (o : State) (b : Begun) (at1 at20 : ℕ) (note : Note) (c : ℕ) (rows : List ℕ) → IsNote note → IsBegun b →
+    ensures item { (o : State) (b : Begun) (at1 at20 : ℕ) (note : Note) (c : ℕ) (rows : List ℕ) → IsNote note
+        → IsBegun b →
         BreaksNone o.size o.store.words note b c → o.tape ≡ c ∷ rows → machine.old ≡ rest9 (part_so_far b) at1 at20 note o →
         DoesItemRow o note b c rows result machine.new }
 {

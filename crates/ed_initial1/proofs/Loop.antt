@@ -57,7 +57,8 @@ begins rows = record {
 
 rows_left : (rows : List ℕ) (row c : ℕ) → row < length rows → c ≡ get_or rows row c
     → drop row rows ≡ c ∷ drop (row + 1) rows
-rows_left rows row c h is = let e : suc row ≡ row + 1 = omega arith in drop-cons rows row c h ∙ (λ i. sym is i ∷ drop (e i) rows)
+rows_left rows row c h is = let e : suc row ≡ row + 1 = omega arith in drop-cons rows row c h
+    ∙ (λ i. sym is i ∷ drop (e i) rows)
 
 at_row : (rows : List ℕ) (row c : ℕ) (before : List Item) (part : Option Begun)
     → Here rows row before part (drop row rows) → row < length rows
@@ -101,7 +102,8 @@ inside rows row ws orders end p s = by_part s.part s.here s.orders_are s.item_is
 pub number_fits : (rows : List ℕ) (row : ℕ) (ws : List ℕ) (orders end : ℕ) (p : Part)
     → StandsAt rows row ws orders end (Some p) → p.number ≤ 32767
 number_fits rows row ws orders end p s =
-    let i = inside rows row ws orders end p s in subst (λ (x : Part). x.number ≤ 32767) (sym i.part_is) i.here.is_part.fits
+    let i = inside rows row ws orders end p s
+    in subst (λ (x : Part). x.number ≤ 32767) (sym i.part_is) i.here.is_part.fits
 
 pub function_row : (rows : List ℕ) (row : ℕ) (ws : List ℕ) (orders end c : ℕ) → StandsAt rows row ws orders end None
     → row < length rows
@@ -135,7 +137,8 @@ function_row rows row ws orders end c s l is small = by_part s.part s.here s.ord
 first_is : (before : List Item) (ws : List ℕ) → ws ≡ words before → (b : Bool) → b ≡ nat_eq (length ws) 0
     → b ≡ is_none before
 first_is [] ws e b h = h ∙ ap (λ x. nat_eq (length x) 0) e
-first_is (i ∷ is) ws e b h = let z = eq_false (suc (length (words is))) 0 (omega arith) in h ∙ ap (λ x. nat_eq (length x) 0) e ∙ z
+first_is (i ∷ is) ws e b h = let z = eq_false (suc (length (words is))) 0 (omega arith) in h
+    ∙ ap (λ x. nat_eq (length x) 0) e ∙ z
 
 module _ (rows : List ℕ) (row : ℕ) (ws : List ℕ) (orders end : ℕ) (p : Part) (c : ℕ)
     (s : StandsAt rows row ws orders end (Some p)) (l : row < length rows)
@@ -149,11 +152,13 @@ module _ (rows : List ℕ) (row : ℕ) (ws : List ℕ) (orders end : ℕ) (p : P
   meant : (t : Taken) → t ≡ taken first p c → TakenMeans i.before i.begun c t
   meant t e =
       subst (λ x. TakenMeans i.before i.begun c x)
-      (sym (e ∙ (λ k. taken (first_is i.before ws i.words_are first empty k) (i.part_is k) c))) (taken_means i.before i.begun c)
+      (sym (e ∙ (λ k. taken (first_is i.before ws i.words_are first empty k) (i.part_is k) c)))
+      (taken_means i.before i.begun c)
 
   pub refused : (cause : Tape1Cause) → Refused cause ≡ taken first p c → IsFault rows row cause
   refused cause e =
-      fault_of rows row cause (faulty rows row i.before (Some i.begun) (c ∷ drop (row + 1) rows) cause here (meant (Refused cause) e))
+      fault_of rows row cause (faulty rows row i.before (Some i.begun) (c ∷ drop (row + 1) rows) cause here
+      (meant (Refused cause) e))
 
   pub made_longer : (n : ℕ) → Longer n ≡ taken first p c
       → StandsAt rows (row + 1) ws (orders + 10) end (Some (record { function = p.function; number = n }))
@@ -173,7 +178,8 @@ module _ (rows : List ℕ) (row : ℕ) (ws : List ℕ) (orders end : ℕ) (p : P
             fits = rw sum m.2;
           };
           rows_are = here.rows_are
-              ∙ ap (λ x. spelled i.before ++ (b.function ∷ x)) (sym (append_assoc b.digits (c ∷ []) (drop (row + 1) rows)));
+              ∙ ap (λ x. spelled i.before ++ (b.function ∷ x))
+              (sym (append_assoc b.digits (c ∷ []) (drop (row + 1) rows)));
           row_is = omega (arith, here.row_is, length-append b.digits (c ∷ []));
         };
         words_are = i.words_are;
@@ -202,7 +208,8 @@ module _ (rows : List ℕ) (row : ℕ) (ws : List ℕ) (orders end : ℕ) (p : P
   end_more (y ∷ ys) b long e n old h k o = rw h o
 
   module _ (long : Bool) (w : ℕ) (e : Ended long ≡ taken first p c)
-      (word_is : w ≡ (4096 * p.function + 2 * p.number + digit long) % 2 ^ 17) (past : ℕ) (past_is : past ≡ (if first then p.number else end)) where
+      (word_is : w ≡ (4096 * p.function + 2 * p.number + digit long) % 2 ^ 17) (past : ℕ)
+      (past_is : past ≡ (if first then p.number else end)) where
     abbrev x : Item
     x = record { begun = i.begun; long = long }
 

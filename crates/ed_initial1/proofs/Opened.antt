@@ -121,7 +121,8 @@ some_digit (d ∷ ds) h = omega arith
 three : (i : Item) (is : List Item) → 32 ≤ number_of i → thirds 12300 (i ∷ is) ≡ 131062 + last_of 0 (digits (i ∷ is))
 three i is h =
     thirds_is 12300 (i ∷ is)
-    ∙ third_last 12300 (digits (i ∷ is)) (omega (arith, some_digit i.begun.digits h, length-append i.begun.digits (digits is)))
+    ∙ third_last 12300 (digits (i ∷ is))
+    (omega (arith, some_digit i.begun.digits h, length-append i.begun.digits (digits is)))
 
 pub closed : (s : State) → HasItsLengths s.store → IsStarted1 s → (e : ℕ) (i : Item) (is : List Item) (rest : List ℕ)
     → IsFirst e i

@@ -80,7 +80,12 @@ pub length_spelled : (is : List Item) (i : Item)
     → length (spelled (is ++ (i ∷ []))) ≡ length (spelled is) + length (rows_of i)
 length_spelled [] i = omega (arith, ap length (append-nil (rows_of i)))
 length_spelled (x ∷ xs) i =
-    omega (arith, length_spelled xs i, length-append (rows_of x) (spelled (xs ++ (i ∷ []))), length-append (rows_of x) (spelled xs))
+    omega (
+      arith,
+      length_spelled xs i,
+      length-append (rows_of x) (spelled (xs ++ (i ∷ []))),
+      length-append (rows_of x) (spelled xs),
+    )
 
 -- what a row of each kind is
 abbrev pub FirstFits : List Item → Begun → Bool → Type 0
@@ -89,7 +94,8 @@ FirstFits (i ∷ is) b long = Unit {0}
 
 abbrev pub TakenMeans : List Item → Begun → ℕ → Taken → Type 0
 TakenMeans before b c (Refused cause) = breaks cause before b c ≡ true
-TakenMeans before b c (Longer next) = (next ≡ 10 * number 0 b.digits + c) × (c < 10) × (10 * number 0 b.digits + c ≤ 32767)
+TakenMeans before b c (Longer next) = (next ≡ 10 * number 0 b.digits + c) × (c < 10)
+    × (10 * number 0 b.digits + c ≤ 32767)
 TakenMeans before b c (Ended long) = (c ≡ ending long) × FirstFits before b long
 
 first_means : (b : Begun) (long : Bool) → is_first b (ending long) ≡ true
@@ -128,7 +134,8 @@ pub taken_means : (before : List Item) (b : Begun) (c : ℕ)
 taken_means before b c =
     let P : Taken → Type 0 = TakenMeans before b c in
     if_means P (nat_lt c 10) _ _
-    (λ d. if_means P (nat_lt 32767 (10 * number 0 b.digits + c)) _ _ (λ n. rw (d, n) refl) (λ n. (refl, lt_of c 10 d, not_lt_of _ _ n)))
+    (λ d. if_means P (nat_lt 32767 (10 * number 0 b.digits + c)) _ _ (λ n. rw (d, n) refl)
+    (λ n. (refl, lt_of c 10 d, not_lt_of _ _ n)))
     (λ d. if_means P (nat_eq c 12) _ _ (λ s. end_means before b c false (eq_of c 12 s)) (λ s.
     if_means P (nat_eq c 25) _ _ (λ l. end_means before b c true (eq_of c 25 l)) (λ l. rw (d, s, l) refl)))
 
@@ -172,7 +179,8 @@ item_more rows row before b c long rest h is =
     ∙ sym (spelled_more before (record { begun = b; long = long }) rest)
 
 pub begins_more : (before : List Item) (b : Begun) (long : Bool) → GoesOn before → FirstFits before b long
-    → BeginsWith (end_of (ended before b long)) (ended before b long) × (31 + length (ended before b long) ≤ end_of (ended before b long))
+    → BeginsWith (end_of (ended before b long)) (ended before b long)
+    × (31 + length (ended before b long) ≤ end_of (ended before b long))
 begins_more [] b long goes first = (first, omega (arith, first))
 begins_more (i ∷ is) b long goes first =
     (goes.0, omega (arith, goes.1, length-append is (record { begun = b; long = long } ∷ [])))
@@ -184,7 +192,8 @@ goes_on_more (i ∷ is) first less = (first, less)
 -- what the rest of the rows comes to, from wherever it is read on
 abbrev Follows : List ℕ → List ℕ → Type 0
 Follows rows rest =
-    (row : ℕ) (before : List Item) (part : Option Begun) → Here rows row before part rest → Holds rows (read row before part rest)
+    (row : ℕ) (before : List Item) (part : Option Begun) → Here rows row before part rest
+    → Holds rows (read row before part rest)
 
 abbrev pub follow : ℕ → List Item → Begun → ℕ → List ℕ → Taken → Verdict
 follow row before b c rest t = elim t [
@@ -244,14 +253,21 @@ sound rows (c ∷ rest) row before None h =
     }))
     (λ large. faulty rows row before None (c ∷ rest) BadRow h (rw large refl))
 sound rows (c ∷ rest) row before (Some b) h =
-    by_taken rows rest (sound rows rest) row before b c h (taken (is_none before) (part_of b) c) (taken_means before b c)
+    by_taken rows rest (sound rows rest) row before b c h (taken (is_none before) (part_of b) c)
+    (taken_means before b c)
 
 -- every tape
 abbrev pub verdict : List ℕ → Verdict
 verdict rows = read 0 [] None rows
 
 pub right : (rows : List ℕ) → Holds rows (verdict rows)
-right rows = sound rows rows 0 [] None (record { good = tt; goes_on = tt; is_part = tt; rows_are = refl; row_is = refl })
+right rows = sound rows rows 0 [] None (record {
+  good = tt;
+  goes_on = tt;
+  is_part = tt;
+  rows_are = refl;
+  row_is = refl;
+})
 
 -- a tape that breaks no rule comes to a whole program
 pub programmed : (rows : List ℕ) → WellFormed rows → (t : Tape) × Comes rows t

@@ -62,7 +62,12 @@ with_word i = with_row (digit i.long) (word i)
 
 -- what an item leaves in the words that change
 abbrev pub left : Working → Item → Working
-left w i = record w { at0 = 4096 * i.begun.function; at1 = number_of i; at2 = ending i.long; at3 = third w.at3 i.begun.digits }
+left w i = record w {
+  at0 = 4096 * i.begun.function;
+  at1 = number_of i;
+  at2 = ending i.long;
+  at3 = third w.at3 i.begun.digits;
+}
 
 -- the words that change at the entry
 abbrev pub final : ℕ → ℕ → ℕ → Item → List Item → Working
@@ -92,7 +97,8 @@ module _ (q : Kept) where
   digit_walk ws w b (d ∷ ds) n x y rest good fits =
       let e : 10 * suc (length ds) ≡ 10 + 10 * length ds = omega arith in
       let now : Working = record w { at1 = n; at2 = x; at3 = y } in
-      rw e (followed (digit_path q now ws b d (10 * n + d) (ds ++ rest) good.0 refl (omega (arith, grows (10 * n + d) ds)))
+      rw e (followed (digit_path q now ws b d (10 * n + d) (ds ++ rest) good.0 refl
+      (omega (arith, grows (10 * n + d) ds)))
       (digit_walk ws w b ds (10 * n + d) d (131062 + d) rest good.1 fits))
 
   -- an item from the rest at 6 to the order at 25
@@ -105,7 +111,8 @@ module _ (q : Kept) where
       let ended : Working = record begun { at1 = number_of i; at2 = last_of w.at2 ds; at3 = third w.at3 ds } in
       followed (function_path q w ws b acc i.begun.function (ds ++ (ending i.long ∷ rest)) good.function)
       (followed (digit_walk ws begun false ds 0 w.at2 w.at3 (ending i.long ∷ rest) good.digits good.fits)
-      (ending_path q ended ws false (digit i.long) (ending i.long) (word i) rest (bit i.long) (end_row i.long) good.fits refl))
+      (ending_path q ended ws false (digit i.long) (ending i.long) (word i) rest (bit i.long)
+      (end_row i.long) good.fits refl))
 
   -- from the order at 26 on to the program
   last_tail : (ws : List ℕ) (w : Working) (b : Bool) (e : ℕ) (rest : List ℕ) → w.at25 + 2 ≡ 20480 + 2 * e
@@ -122,7 +129,8 @@ module _ (q : Kept) where
   back_tail : (ws : List ℕ) (w : Working) (b : Bool) (a e : ℕ) (rest : List ℕ) → w.at25 + 2 ≡ 20480 + 2 * a
       → w.at31 ≡ 20480 + 2 * e
       → a < e → e ≤ 1023
-      → Walk 5 (moment q w ws b 0 26 rest) (moment q (record w { at25 = 20480 + 2 * a }) ws b (short (to_come a e)) 6 rest)
+      → Walk 5 (moment q w ws b 0 26 rest)
+      (moment q (record w { at25 = 20480 + 2 * a }) ws b (short (to_come a e)) 6 rest)
   back_tail ws w b a e rest rises end less most =
       followed (counted q w ws b (20480 + 2 * a) (to_come a e) rest rises (omega arith) (omega arith) (omega arith))
       (goes_back q (record w { at25 = 20480 + 2 * a }) ws b (to_come a e) rest (omega arith))
@@ -146,7 +154,8 @@ module _ (q : Kept) where
       rw c (then (head_walk ws w b acc i after good.0)
       (then (placed q (left w i) ws false (digit i.long) (word i) a after (bit i.long) next low (omega arith))
       (then (back_tail ws' (left w i) false (a + 1) e after (omega arith) end (omega arith) most)
-      (loop ws' w' false (short (to_come (a + 1) e)) (a + 1) e j js rest good.1 refl end (omega arith) (omega arith) most))))
+      (loop ws' w' false (short (to_come (a + 1) e)) (a + 1) e j js rest good.1 refl end (omega arith)
+      (omega arith) most))))
 
   -- all items from the rest at 6 on
   items_path : (ws : List ℕ) (w : Working) (b : Bool) (acc e : ℕ) (i : Item) (is : List Item) (rest : List ℕ)
@@ -169,10 +178,12 @@ module _ (q : Kept) where
       (loop ws w' false (short (to_come 32 e)) 32 e j js rest good.1 refl end (lit≤ tt) (omega arith) most))))
 
   -- the whole tape, from the first order on
-  pub whole_path : (ws : List ℕ) (w : Working) (b : Bool) (acc multiplier e : ℕ) (i : Item) (is : List Item) (rest : List ℕ)
+  pub whole_path : (ws : List ℕ) (w : Working) (b : Bool) (acc multiplier e : ℕ) (i : Item) (is : List Item)
+      (rest : List ℕ)
       → AreItems (i ∷ is) → w.at25 ≡ 20542 → IsFirst e i → 31 + length (i ∷ is) ≡ e
       → ToProgram (4 + costs (i ∷ is))
-      (record (moment q (record w { at0 = 20480; at1 = 86020; at2 = 20480; at3 = 12300 }) ws b acc 0 (tape_of (i ∷ is) rest))
+      (record (moment q (record w { at0 = 20480; at1 = 86020; at2 = 20480; at3 = 12300 }) ws b acc 0
+      (tape_of (i ∷ is) rest))
       { multiplier = multiplier })
       (moment q (final e 12300 (word i) i is) (written ws 32 (words is)) false 0 31 rest)
   whole_path ws w b acc multiplier e i is rest good next first count =

@@ -54,7 +54,8 @@ reads_digits before row b (d ∷ ds) rest good fits =
     let e : row + 1 + length ds ≡ row + suc (length ds) = omega arith in
     ap (λ t. follow row before b d (ds ++ rest) t) (digit_taken before b d good.0 n)
     ∙ reads_digits before (row + 1) (longer b d) ds rest good.1 (rw sum fits)
-    ∙ (λ i. read (e i) before (Some (record { function = b.function; digits = append_assoc b.digits (d ∷ []) ds i })) rest)
+    ∙ (λ i. read (e i) before
+    (Some (record { function = b.function; digits = append_assoc b.digits (d ∷ []) ds i })) rest)
 
 -- behind an item
 abbrev behind : ℕ → List Item → List ℕ → Verdict
@@ -67,7 +68,8 @@ unfolding read more_digits
 begin_reads before row b rest good =
     let e : row + 1 + length b.digits ≡ row + suc (length b.digits) = omega arith in
     rw (lt_true b.function 32 good.function)
-    (reads_digits before (row + 1) (began b.function) b.digits rest good.digits good.fits ∙ (λ i. read (e i) before (Some b) rest))
+    (reads_digits before (row + 1) (began b.function) b.digits rest good.digits good.fits
+    ∙ (λ i. read (e i) before (Some b) rest))
 
 reads_item : (before : List Item) (row : ℕ) (i : Item) (rest : List ℕ) → IsBegun i.begun
     → FirstFits before i.begun i.long
@@ -75,10 +77,12 @@ reads_item : (before : List Item) (row : ℕ) (i : Item) (rest : List ℕ) → I
 unfolding read
 reads_item before row i rest good first =
     let b = i.begun in
-    let e : row + length (begun_rows b) + 1 ≡ row + length (rows_of i) = omega (arith, length-append b.digits (ending i.long ∷ [])) in
+    let e : row + length (begun_rows b) + 1 ≡ row + length (rows_of i) =
+    omega (arith, length-append b.digits (ending i.long ∷ [])) in
     ap (λ x. read row before None x) (append_assoc (begun_rows b) (ending i.long ∷ []) rest)
     ∙ begin_reads before row b (ending i.long ∷ rest) good
-    ∙ ap (λ t. follow (row + length (begun_rows b)) before b (ending i.long) rest t) (end_is_taken before b i.long first)
+    ∙ ap (λ t. follow (row + length (begun_rows b)) before b (ending i.long) rest t)
+    (end_is_taken before b i.long first)
     ∙ ap (λ x. behind x (before ++ (i ∷ [])) rest) e
 
 first_fits : (before : List Item) (i : Item) (is : List Item)
@@ -136,10 +140,12 @@ reads_whole i [] before row rest good first count =
     ∙ rw (eq_true _ _ count) refl
 reads_whole i (j ∷ js) before row rest good first count =
     let same = snoc before i (j ∷ js) in
-    let on = goes_on_by before i (j ∷ js) (omega (arith, length-append before (i ∷ []), length-append before (i ∷ (j ∷ js)))) in
+    let on = goes_on_by before i (j ∷ js)
+    (omega (arith, length-append before (i ∷ []), length-append before (i ∷ (j ∷ js)))) in
     ap (λ x. read row before None x) (append_assoc (rows_of i) (spelled (j ∷ js)) rest)
     ∙ reads_item before row i (spelled (j ∷ js) ++ rest) good.0 (first_fits before i (j ∷ js) first)
-    ∙ rw on (reads_whole j js (before ++ (i ∷ [])) (row + length (rows_of i)) rest good.1 (rw same first) (rw same count)
+    ∙ rw on (reads_whole j js (before ++ (i ∷ [])) (row + length (rows_of i)) rest good.1 (rw same first)
+    (rw same count)
     ∙ (λ k. Whole (record { end = end_of (same k); items = same k; rest = rest })))
 
 -- a fault
@@ -162,7 +168,8 @@ refused before b c FirstWord h =
         → (is_none before && not (is_first b c)) ≡ true
         → taken (is_none before) (part_of b) c ≡ Refused FirstWord
     by_tests true z q r e t = let big = lt_false c 10 (let k = eq_of c 12 q in omega arith) in rw (t, big, q) refl
-    by_tests false true q r e t = let big = lt_false c 10 (let k = eq_of c 25 r in omega arith) in rw (t, big, q, r) refl
+    by_tests false true q r e t = let big = lt_false c 10 (let k = eq_of c 25 r in omega arith)
+        in rw (t, big, q, r) refl
     by_tests false false q r e t = absurd (let k : false ≡ true = rw (q, r) at e in cc)
 
 reads_fault : (row : ℕ) (before : List Item) (part : Option Begun) (rest : List ℕ) (cause : Tape1Cause)
@@ -203,7 +210,8 @@ finds_items : (is : List Item) (e : ℕ) (rest : List ℕ) → AreItems is → B
 finds_items [] e rest good first count = absurd first
 finds_items (i ∷ is) e rest good first count =
     let n : number_of i ≡ e = first.number in
-    reads_whole i is [] 0 rest good (rw n first) (count ∙ sym n) ∙ ap (λ x. Whole (record { end = x; items = i ∷ is; rest = rest })) n
+    reads_whole i is [] 0 rest good (rw n first) (count ∙ sym n)
+    ∙ ap (λ x. Whole (record { end = x; items = i ∷ is; rest = rest })) n
 
 finds_program : (rows : List ℕ) (t : Tape) → Comes rows t → verdict rows ≡ Whole t
 finds_program rows t c = ap (λ x. read 0 [] None x) c.rows_are ∙ finds_items t.items t.end t.rest c.good c.first c.count
@@ -211,7 +219,8 @@ finds_program rows t c = ap (λ x. read 0 [] None x) c.rows_are ∙ finds_items 
 -- a tape that comes to a program breaks no rule; a tape comes to one program, and breaks one rule at one row, at the
 -- most
 pub no_fault : (rows : List ℕ) (t : Tape) → Comes rows t → WellFormed rows
-no_fault rows t c row cause f = let e : Whole t ≡ Faulty row cause = sym (finds_program rows t c) ∙ finds_fault rows row cause f in cc
+no_fault rows t c row cause f = let e : Whole t ≡ Faulty row cause = sym (finds_program rows t c)
+    ∙ finds_fault rows row cause f in cc
 
 one_program : (rows : List ℕ) (t u : Tape) → Comes rows t → Comes rows u → t ≡ u
 one_program rows t u c d = let e : Whole t ≡ Whole u = sym (finds_program rows t c) ∙ finds_program rows u d in cc

@@ -24,7 +24,10 @@ quiet : {k : ℕ} {r t : Moment} → Walk k r t → (done : ℕ) → IsQuiet k (
 quiet stay done j h = absurd (omega arith)
 quiet (on {r = r} first away rest) done zero h =
     subst GoesOn (sym (no_state (state r done)))
-    (record { went = ap (λ (o : Obeyed). o.turn) (first.does done); stays = ap (λ (o : Obeyed). at_31 o.state) (first.does done) ∙ away })
+    (record {
+      went = ap (λ (o : Obeyed). o.turn) (first.does done);
+      stays = ap (λ (o : Obeyed). at_31 o.state) (first.does done) ∙ away;
+    })
 quiet (on {r = r} first away rest) done (suc j) h =
     subst GoesOn (sym (first_state j (state r done) ∙ ap (λ (o : Obeyed). state_after j o.state) (first.does done)))
     (quiet rest (done + 1) j (omega arith))

@@ -22,7 +22,12 @@ use Rattle.ed_initial1.proofs.Reading.{programmed}
 pub costs_fit : (is : List Item) → costs is ≤ 14 * length (spelled is)
 costs_fit [] = omega arith
 costs_fit (i ∷ is) =
-    omega (arith, costs_fit is, length-append (rows_of i) (spelled is), length-append i.begun.digits (ending i.long ∷ []))
+    omega (
+      arith,
+      costs_fit is,
+      length-append (rows_of i) (spelled is),
+      length-append i.begun.digits (ending i.long ∷ []),
+    )
 
 -- the state at the entry of a tape's items
 abbrev entry_of : State → ℕ → List Item → List ℕ → State
@@ -56,14 +61,16 @@ cleared s started e [] rest first = absurd first
 cleared s started e (i ∷ is) rest first =
     clears (entry_of s e (i ∷ is) rest) e started.size refl (first_word e i first) (omega (arith, first.high))
 
-module _ (s u : State) (r : Loaded1) (store : IsStore s.store) (started : IsStarted1 s) (ends : EndsAs s (14 * length s.tape + 4) r)
+module _ (s u : State) (r : Loaded1) (store : IsStore s.store) (started : IsStarted1 s)
+    (ends : EndsAs s (14 * length s.tape + 4) r)
     (is : u ≡ state_after (orders_of r) s) where
   pub whole_load : (t : Tape) → Comes s.tape t → IsLoaded1 s t r u
   whole_load t c =
       let k = 4 + costs t.items in
       let bound = 14 * length s.tape + 4 in
       let g = leads_in s (record { words = store.words_are; sandwich = store.digits_are }) started t c in
-      let rows : length s.tape ≡ length (spelled t.items) + length t.rest = ap length c.rows_are ∙ length-append (spelled t.items) t.rest in
+      let rows : length s.tape ≡ length (spelled t.items) + length t.rest = ap length c.rows_are
+      ∙ length-append (spelled t.items) t.rest in
       let fits : k ≤ bound = omega (arith, costs_fit t.items) in
       let result = settled s (at_entry1 s t) k g bound fits r ends in
       let there : u ≡ at_entry1 s t =

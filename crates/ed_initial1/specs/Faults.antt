@@ -61,7 +61,8 @@ pub record Stands (rows : List ℕ) (row : ℕ) : Type 0 where
 
 -- whether an item is a first word: T e S with e from 32 to 1023
 abbrev pub is_first : Begun → ℕ → Bool
-is_first b c = nat_eq b.function 5 && (nat_eq c 12 && (nat_le 32 (number 0 b.digits) && nat_le (number 0 b.digits) 1023))
+is_first b c = nat_eq b.function 5
+    && (nat_eq c 12 && (nat_le 32 (number 0 b.digits) && nat_le (number 0 b.digits) 1023))
 
 -- whether there are no items
 abbrev pub is_none : List Item → Bool

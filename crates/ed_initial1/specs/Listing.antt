@@ -6,10 +6,13 @@ use Rattle.ed_initial.specs.Listing.{order}
 -- the words in the order of their places, each written as its order
 abbrev pub first_orders : List ℕ
 first_orders =
-    order T 0 S ∷ order H 2 S ∷ order T 0 S ∷ order E 6 S ∷ order P 1 S ∷ order P 5 S ∷ order T 0 S ∷ order I 0 S
-    ∷ order A 0 S ∷ order R 16 S ∷ order T 0 L ∷ order I 2 S ∷ order A 2 S ∷ order subtract 5 S ∷ order E 21 S ∷ order T 3 S
-    ∷ order V 1 S ∷ order left 8 S ∷ order A 2 S ∷ order T 1 S ∷ order E 11 S ∷ order R 4 S ∷ order A 1 S ∷ order left 0 L
-    ∷ order A 0 S ∷ order T 31 S ∷ order A 25 S ∷ order A 4 S ∷ order U 25 S ∷ order subtract 31 S ∷ order G 6 S ∷ []
+    order T 0 S ∷ order H 2 S ∷ order T 0 S ∷ order E 6 S ∷ order P 1 S
+    ∷ order P 5 S ∷ order T 0 S ∷ order I 0 S ∷ order A 0 S ∷ order R 16 S
+    ∷ order T 0 L ∷ order I 2 S ∷ order A 2 S ∷ order subtract 5 S ∷ order E 21 S
+    ∷ order T 3 S ∷ order V 1 S ∷ order left 8 S ∷ order A 2 S ∷ order T 1 S
+    ∷ order E 11 S ∷ order R 4 S ∷ order A 1 S ∷ order left 0 L ∷ order A 0 S
+    ∷ order T 31 S ∷ order A 25 S ∷ order A 4 S ∷ order U 25 S ∷ order subtract 31 S
+    ∷ order G 6 S ∷ []
   where
     -- the codes of the functions; those of S and L have names, since the letters are lengths here
     P : ℕ

@@ -34,7 +34,8 @@ pub fn load1(machine: &mut Machine) -> Loaded1
     ensures ends { EndsAs machine.old (14 * length machine.old.tape + 4) result }
     ensures state { machine.new ≡ state_after (orders_of result) machine.old }
     ensures loads { (t : Tape) → Comes machine.old.tape t → IsLoaded1 machine.old t result machine.new }
-    ensures total { WellFormed machine.old.tape → (t : Tape) × Comes machine.old.tape t × IsLoaded1 machine.old t result machine.new }
+    ensures total { WellFormed machine.old.tape → (t : Tape) × Comes machine.old.tape t
+        × IsLoaded1 machine.old t result machine.new }
 {
     let rows = machine.rows_left().len() as u64;
     // The contract of `word` tells the proof that the store is one.

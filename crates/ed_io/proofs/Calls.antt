@@ -40,5 +40,6 @@ still_at_end (Some x) (Some y) e l = sym l ∙ e
 -- the rest of a text, after n more of its bytes
 pub split_more : (t b r : List ℕ) (n : ℕ) → t ≡ b ++ r → t ≡ (b ++ take n r) ++ take (length r - n) (drop n r)
 split_more t b r n e =
-    e ∙ ap (λ (l : List ℕ). b ++ l) (sym (take-append-drop n r) ∙ ap (λ (l : List ℕ). take n r ++ l) (sym (take_rest r n)))
+    e ∙ ap (λ (l : List ℕ). b ++ l)
+    (sym (take-append-drop n r) ∙ ap (λ (l : List ℕ). take n r ++ l) (sym (take_rest r n)))
     ∙ sym (append_assoc b (take n r) (take (length r - n) (drop n r)))

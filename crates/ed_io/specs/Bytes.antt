@@ -1,6 +1,7 @@
 -- What a read takes from the bytes that a source has left, and what a write adds to those that a sink holds (this
 -- project's own rule). A device that tells its bytes has `Some` list of them, another has `None`.
-use Rattle.std.specs.Prelude.{◌≡◌, ℕ, ◌<◌, ◌≤◌, List, [], ◌++◌, length, take, Option, None, Some, Result, IfOk, MatchResult}
+use Rattle.std.specs.Prelude.{◌≡◌, ℕ, ◌<◌, ◌≤◌, List, [], ◌++◌, length, take}
+use Rattle.std.specs.Prelude.{Option, None, Some, Result, IfOk, MatchResult}
 
 -- the bytes left began with bs and have lost them; whether a source tells its bytes never changes
 abbrev pub Loses : Option (List ℕ) → Option (List ℕ) → List ℕ → Type 0

@@ -2,7 +2,8 @@
 //!
 //! The contract is that of the two traits: which bytes a call takes, and that a failure is one of the device, which
 //! counts it. The devices over memory tell their bytes and fail exactly where their list says; those over std's readers
-//! and writers are the trusted edge, and tell nothing of content. Stands on `ed_words` for the answer of want of memory.
+//! and writers are the trusted edge, and tell nothing of content. Stands on `ed_words` for the answer of want of
+//! memory.
 #![tactic(auto)]
 
 mod device;

@@ -27,7 +27,14 @@ impl Model for MemorySink {
 
     ghost Value = { Page };
 
-    ghost view = { λ s. record { held = s.bytes.items; room = s.room; most = s.most; failing = s.failing.items; call = s.call; faults = s.faults } };
+    ghost view = { λ s. record {
+      held = s.bytes.items;
+      room = s.room;
+      most = s.most;
+      failing = s.failing.items;
+      call = s.call;
+      faults = s.faults;
+    } };
 
     ghost invariant = { λ s. (s.room ≤ vec_capacity s.bytes) × (vec_len s.bytes ≤ s.room) × (0 < s.most) };
 }
@@ -100,11 +107,15 @@ impl Sink for MemorySink {
         ensures some { TakesSome result piece.now }
         ensures bytes { Writes (Some self.old.held) (Some self.new.held) result piece.now }
         ensures cause { HasCause self.old.faults self.new.faults result }
-        ensures fails { IsErr result ↔ (Contains self.old.failing self.old.call ⊎ ((self.old.room ≤ length self.old.held) × (0 < length piece.now))) }
-        ensures count { IfOk result (λ k. k ≡ min self.old.most (min (length piece.now) (self.old.room - length self.old.held))) }
+        ensures fails { IsErr result
+            ↔ (Contains self.old.failing self.old.call
+            ⊎ ((self.old.room ≤ length self.old.held) × (0 < length piece.now))) }
+        ensures count { IfOk result
+            (λ k. k ≡ min self.old.most (min (length piece.now) (self.old.room - length self.old.held))) }
         ensures faults { self.new.faults ≡ faults_after result self.old.faults }
         ensures next { self.new.call ≡ next_count self.old.call }
-        ensures same { (self.new.failing ≡ self.old.failing) × (self.new.most ≡ self.old.most) × (self.new.room ≡ self.old.room) }
+        ensures same { (self.new.failing ≡ self.old.failing) × (self.new.most ≡ self.old.most)
+            × (self.new.room ≡ self.old.room) }
     {
         let fails = self.failing.contains(&self.call);
         self.call = self.call.saturating_add(1);

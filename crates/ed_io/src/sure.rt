@@ -131,7 +131,8 @@ impl Sink for SureSink {
         ensures whole { IfOk result (λ k. k ≡ length piece.now) }
         ensures room { self.new.room ≡ self.old.room }
         ensures kept { self.new.held ≡ take self.old.room (self.old.held ++ piece.now) }
-        ensures over { self.new.is_over ≡ (self.old.is_over || nat_lt self.old.room (length self.old.held + length piece.now)) }
+        ensures over { self.new.is_over
+            ≡ (self.old.is_over || nat_lt self.old.room (length self.old.held + length piece.now)) }
     {
         let free = self.room - self.bytes.len();
         if free < piece.len() {

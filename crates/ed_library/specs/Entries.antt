@@ -14,8 +14,18 @@ pub record Entry : Type 0 where
 -- the routines in order of name
 abbrev pub catalogue : List Entry
 catalogue =
-    record { name = codes "check"; parameters = 21 ∷ []; working = 0 ∷ 40 ∷ 58 ∷ 59 ∷ 60 ∷ 61 ∷ 62 ∷ 63 ∷ 64 ∷ 65 ∷ []; items = CHECK }
-    ∷ record { name = codes "divide"; parameters = 21 ∷ 22 ∷ 23 ∷ []; working = 32 ∷ 35 ∷ 36 ∷ 37 ∷ 38 ∷ 39 ∷ 40 ∷ []; items = DIVIDE }
+    record {
+      name = codes "check";
+      parameters = 21 ∷ [];
+      working = 0 ∷ 40 ∷ 58 ∷ 59 ∷ 60 ∷ 61 ∷ 62 ∷ 63 ∷ 64 ∷ 65 ∷ [];
+      items = CHECK;
+    }
+    ∷ record {
+      name = codes "divide";
+      parameters = 21 ∷ 22 ∷ 23 ∷ [];
+      working = 32 ∷ 35 ∷ 36 ∷ 37 ∷ 38 ∷ 39 ∷ 40 ∷ [];
+      items = DIVIDE;
+    }
     ∷ record { name = codes "newline"; parameters = []; working = 4 ∷ []; items = NEWLINE }
     ∷ record { name = codes "print"; parameters = 21 ∷ []; working = 11 ∷ 38 ∷ 47 ∷ 48 ∷ 49 ∷ 50 ∷ []; items = PRINT }
     ∷ record { name = codes "read"; parameters = 21 ∷ []; working = 19 ∷ 21 ∷ 22 ∷ 23 ∷ []; items = READ }

@@ -23,7 +23,8 @@ is_ready_row letters row = is_spellable (item_of row) && list_any (λ c. c == ro
 abbrev pub are_letters : List ℕ → Bool
 are_letters letters = are_rising letters && list_all is_parameter letters
 
--- whether a routine can be linked: it has items, it changes places of its own text, and its letters and its items are ready
+-- whether a routine can be linked: it has items, it changes places of its own text, and its letters and its items are
+-- ready
 abbrev pub is_ready : Entry → Bool
 is_ready e =
     (nat_lt 0 (length e.items) && list_all (λ p. nat_lt p (length e.items)) e.working)

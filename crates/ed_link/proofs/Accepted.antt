@@ -1,6 +1,7 @@
 -- The tape of an accepted source, row by row.
 use Rattle.std.proofs.Common.{◌≡◌, ℕ, ◌+◌, ◌*◌, refl, sym, ap, ◌∙◌, subst, arith, Bool, true, false, nat_le}
-use Rattle.std.proofs.Common.{Option, Some, None, List, [], ◌∷◌, ◌++◌, length, append_assoc, length-append, if◌then◌else◌}
+use Rattle.std.proofs.Common.{Option, Some, None, List, [], ◌∷◌, ◌++◌, length}
+use Rattle.std.proofs.Common.{append_assoc, length-append, if◌then◌else◌}
 use Rattle.std.specs.Prelude.{reverse, slice_index}
 use Rattle.std.specs.List.{list_all}
 use Rattle.std.proofs.lemmas.List.{append-nil}
@@ -55,7 +56,8 @@ last_item = item 0 0 false 17
 first : (words : List ℕ) → IsDirective 20568
 first words = record { no_1 = omega arith; no_2 = omega arith; no_4 = omega arith; most = omega arith }
 
-module _ (tables : list_all is_ready catalogue ≡ true) (z : Size) (two : Bool) (lines : List Line) (accepted : fault z lines
+module _ (tables : list_all is_ready catalogue ≡ true) (z : Size) (two : Bool) (lines : List Line)
+    (accepted : fault z lines
     ≡ None) (formed : list_all (is_line two) lines ≡ true) (words : List ℕ) (whole : length words ≡ 1024) where
   an_end : Ends z words (homes_of lines) (slice_index words 42) first_spot (opening words) lines
   an_end =
@@ -67,7 +69,8 @@ module _ (tables : list_all is_ready catalogue ≡ true) (z : Size) (two : Bool)
       formed b.0 a.0 refl any (record { base = omega arith; follows = λ h. cc; theta_is = refl })
 
   by_end : Ends z words (homes_of lines) (slice_index words 42) first_spot (opening words) lines
-      → WellFormed z words (opening words) (tape lines) × ComesTo words (opening words) 9 (tape lines) (arrival words lines)
+      → WellFormed z words (opening words) (tape lines)
+      × ComesTo words (opening words) 9 (tape lines) (arrival words lines)
   by_end e =
       let ws = canonicals e.before in
       let w = canonical last_item in
@@ -91,8 +94,10 @@ module _ (tables : list_all is_ready catalogue ≡ true) (z : Size) (two : Bool)
         placed = (e.placed ∙ append-nil (reverse (linked lines))) i;
       } in
       let f = t.folds in
-      let zeds = no_zed-append e.before (last_item ∷ []) (passes_no_zed z words (opening words) e.last e.before e.passes) (refl, tt) in
-      let k : costs [] (opening []) (canonicals (punched lines)) ≡ costs words (opening words) (canonicals (punched lines)) =
+      let zeds = no_zed-append e.before (last_item ∷ [])
+      (passes_no_zed z words (opening words) e.last e.before e.passes) (refl, tt) in
+      let k : costs [] (opening []) (canonicals (punched lines))
+      ≡ costs words (opening words) (canonicals (punched lines)) =
       same_costs [] words (opening []) (opening words) (punched lines) (subst NoZed (sym e.items) zeds) refl in
       let c : costs words (opening words) (canonicals (punched lines))
       ≡ costs words (opening words) ws + costs words (fold words (opening words) (items ws)) (w ∷ []) =
@@ -119,5 +124,6 @@ module _ (tables : list_all is_ready catalogue ≡ true) (z : Size) (two : Bool)
         },
       )
 
-  pub accepted_law : WellFormed z words (opening words) (tape lines) × ComesTo words (opening words) 9 (tape lines) (arrival words lines)
+  pub accepted_law : WellFormed z words (opening words) (tape lines)
+      × ComesTo words (opening words) 9 (tape lines) (arrival words lines)
   accepted_law = by_end an_end

@@ -12,7 +12,8 @@ use Rattle.ed_library.specs.Routines.{find, item_of, places}
 use Rattle.ed_syntax.specs.declared.program.Operand.{Operand}
 use Rattle.ed_syntax.specs.declared.program.Setting.{Setting}
 use Rattle.ed_syntax.specs.declared.program.Statement.{Statement}
-use Rattle.ed_syntax.specs.declared.program.Statement.TheVariants.{Segment, Order, Number, Text, Long, Fetch, Enter, Rows}
+use Rattle.ed_syntax.specs.declared.program.Statement.TheVariants.{Segment, Order, Number, Text}
+use Rattle.ed_syntax.specs.declared.program.Statement.TheVariants.{Long, Fetch, Enter, Rows}
 use Rattle.ed_symbols.specs.declared.homes.Home.{Home}
 use Rattle.ed_symbols.specs.declared.spots.Spot.{Spot}
 use Rattle.ed_symbols.specs.Places.{even, segment_at}
@@ -98,14 +99,16 @@ presets_few homes ts (c ∷ cs) =
     )
 
 -- the 6 parameters and the head of a routine are 14 items
-routine_few : (found : Option ℕ) (n : ℕ) → length (routine_items found) ≤ n → (homes : List Home) (ts : List Setting) (base : ℕ)
+routine_few : (found : Option ℕ) (n : ℕ) → length (routine_items found) ≤ n
+    → (homes : List Home) (ts : List Setting) (base : ℕ)
     → length (use_items homes ts base found) ≤ n + 14
 routine_few found n h homes ts base =
     omega (
       arith,
       presets_few homes ts letters,
       headed_few (routine_items found) true base,
-      length-append (flat_map (λ c. preset_items homes (setting ts c) c) letters) (headed (routine_items found) true base),
+      length-append (flat_map (λ c. preset_items homes (setting ts c) c) letters)
+          (headed (routine_items found) true base),
     )
 
 long_few : (b : Bool) (v w : ℕ) → length (map word_item ((if b then 0 ∷ [] else []) ++ (v ∷ (w ∷ [])))) ≤ 3

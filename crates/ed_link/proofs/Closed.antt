@@ -1,7 +1,8 @@
--- What the catalogue says of a routine that is found: it has an item, its items can be spelled, and its code letters are
--- F, θ, D or its parameters. `tables` is the clause of the catalogue that all its routines are ready.
+-- What the catalogue says of a routine that is found: it has an item, its items can be spelled, and its code letters
+-- are F, θ, D or its parameters. `tables` is the clause of the catalogue that all its routines are ready.
 use Rattle.std.proofs.Common.{◌≡◌, ℕ, suc, ◌+◌, ◌<◌, inl, inr, refl, sym, subst, arith}
-use Rattle.std.proofs.Common.{Bool, true, false, ◌&&◌, nat_lt, nat_le, Option, Some, None, List, [], ◌∷◌, length, is_some}
+use Rattle.std.proofs.Common.{Bool, true, false, ◌&&◌, nat_lt, nat_le, Option}
+use Rattle.std.proofs.Common.{Some, None, List, [], ◌∷◌, length, is_some}
 use Rattle.std.specs.Prelude.{◌==◌, if◌then◌else◌}
 use Rattle.std.specs.List.{list_all, list_any}
 use Rattle.std.specs.Str.{bytes_eq}
@@ -29,10 +30,12 @@ found_by k r n false later more h = let i = more h in omega arith
 -- the same of the whole list
 found_in : (text : List ℕ) (k r : ℕ) (es : List Entry) → find_from text k es ≡ Some r → r < k + length es
 found_in text k r [] h = cc
-found_in text k r (e ∷ es) h = found_by k r (length es) (bytes_eq e.name text) (find_from text (k + 1) es) (found_in text (k + 1) r es) h
+found_in text k r (e ∷ es) h =
+    found_by k r (length es) (bytes_eq e.name text) (find_from text (k + 1) es) (found_in text (k + 1) r es) h
 
 -- what holds of all holds of one that is among them
-one_of : (test : ℕ → Bool) (cs : List ℕ) (c : ℕ) → list_all test cs ≡ true → list_any (λ x. x == c) cs ≡ true → test c ≡ true
+one_of : (test : ℕ → Bool) (cs : List ℕ) (c : ℕ) → list_all test cs ≡ true → list_any (λ x. x == c) cs ≡ true
+    → test c ≡ true
 one_of test [] c h g = cc
 one_of test (x ∷ cs) c h g =
     let p = and_parts (test x) (list_all test cs) h in
@@ -53,7 +56,8 @@ of_ready e h =
     (are_letters e.parameters && list_all (is_ready_row e.parameters) e.items) h in
     let q = and_parts (are_letters e.parameters) (list_all (is_ready_row e.parameters) e.items) p.1 in
     record {
-      some = lt_of _ _ (and_parts (nat_lt 0 (length e.items)) (list_all (λ q. nat_lt q (length e.items)) e.working) p.0).0;
+      some = lt_of _ _ (and_parts (nat_lt 0 (length e.items))
+          (list_all (λ q. nat_lt q (length e.items)) e.working) p.0).0;
       letters = (and_parts (are_rising e.parameters) (list_all is_parameter e.parameters) q.0).1;
       rows = q.1;
     }
@@ -69,7 +73,8 @@ module _ (tables : list_all is_ready catalogue ≡ true) (text : List ℕ) (r : 
 
   pub spelled_item : (place : ℕ) → place < places r → is_spellable (item r place) ≡ true
   spelled_item place h =
-      let row = AllPass-from_list_all (is_ready_row (entry r).parameters) (entry r).items closed.rows place (0, 0, false, 0) h in
+      let row = AllPass-from_list_all (is_ready_row (entry r).parameters) (entry r).items closed.rows place
+      (0, 0, false, 0) h in
       (and_parts (is_spellable (item r place)) _ row).0
 
   pub rows_are_ready : list_all (is_ready_row (entry r).parameters) (entry r).items ≡ true
@@ -80,7 +85,8 @@ module _ (z : Size) (words : List ℕ) (whole : length words ≡ 1024) (homes : 
   operand_of None h = cc
   operand_of (Some x) h = (x, refl)
 
-  known : (letters : List ℕ) (c : ℕ) → list_all (λ p. is_some (setting ts p)) letters ≡ true → list_all is_parameter letters ≡ true
+  known : (letters : List ℕ) (c : ℕ) → list_all (λ p. is_some (setting ts p)) letters ≡ true
+      → list_all is_parameter letters ≡ true
       → list_any (λ x. x == c) (17 ∷ 18 ∷ 19 ∷ letters) ≡ true → IsKnown z words whole homes ts c
   known letters c set range g =
       elim (or_of (17 == c) _ g) [
@@ -97,8 +103,10 @@ module _ (z : Size) (words : List ℕ) (whole : length words ≡ 1024) (homes : 
         ]
       ]
 
-  all_known : (letters : List ℕ) (rows : List (ℕ × ℕ × Bool × ℕ)) → list_all (λ p. is_some (setting ts p)) letters ≡ true
-      → list_all is_parameter letters ≡ true → list_all (is_ready_row letters) rows ≡ true → AreKnown z words whole homes ts rows
+  all_known : (letters : List ℕ) (rows : List (ℕ × ℕ × Bool × ℕ))
+      → list_all (λ p. is_some (setting ts p)) letters ≡ true
+      → list_all is_parameter letters ≡ true → list_all (is_ready_row letters) rows ≡ true
+      → AreKnown z words whole homes ts rows
   all_known letters [] set range h = tt
   all_known letters (row ∷ rows) set range h =
       let p = and_parts (is_ready_row letters row) (list_all (is_ready_row letters) rows) h in
@@ -106,7 +114,8 @@ module _ (z : Size) (words : List ℕ) (whole : length words ≡ 1024) (homes : 
       (known letters row.3 set range q.1, all_known letters rows set range p.1)
 
   -- the code letters of a routine whose parameters are set
-  pub are_known : list_all is_ready catalogue ≡ true → (text : List ℕ) (r : ℕ) → find text ≡ Some r → sets ts (Some r) ≡ true
+  pub are_known : list_all is_ready catalogue ≡ true → (text : List ℕ) (r : ℕ) → find text ≡ Some r
+      → sets ts (Some r) ≡ true
       → AreKnown z words whole homes ts (entry r).items
   are_known tables text r found s =
       let k = closed tables text r found in

@@ -10,7 +10,8 @@ use Rattle.ed_notation.specs.declared.kind.Control.TheVariants.{Directive, Theta
 use Rattle.ed_notation.specs.declared.kind.Aim.{Aim}
 use Rattle.ed_notation.specs.declared.kind.Aim.TheVariants.{Places, Enters, Nowhere, Unset}
 use Rattle.ed_notation.specs.Items.{row_kind, Written, item}
-use Rattle.ed_notation.specs.Fold.{Note, act, acted, with_kay, with_letter, control_of, aim_of, item_word, end_cost, costs}
+use Rattle.ed_notation.specs.Fold.{Note, act, acted, with_kay, with_letter}
+use Rattle.ed_notation.specs.Fold.{control_of, aim_of, item_word, end_cost, costs}
 use Rattle.ed_notation.specs.Spellings.{canonical, canonicals}
 use Rattle.ed_link.proofs.Passes.{Passes}
 
@@ -20,18 +21,21 @@ NoZed [] = Unit {0}
 NoZed (i ∷ is) = (nat_eq i.end 13 ≡ false) × NoZed is
 
 -- items that go on, none of which ends with Z
-pub passes_no_zed : (z : Size) (words : List ℕ) (note last : Note) (is : List Item) → Passes z words note is last → NoZed is
+pub passes_no_zed : (z : Size) (words : List ℕ) (note last : Note) (is : List Item)
+    → Passes z words note is last → NoZed is
 passes_no_zed z words note last [] p = tt
 passes_no_zed z words note last (i ∷ is) p = (p.2, passes_no_zed z words p.0 last is p.3)
 
 -- the directive behind K, a code letter and an item goes by the directive before it alone
-same_kay : (c : Control) (m n : Note) (i : Item) → m.directive ≡ n.directive → (with_kay c m i).directive ≡ (with_kay c n i).directive
+same_kay : (c : Control) (m n : Note) (i : Item) → m.directive ≡ n.directive
+    → (with_kay c m i).directive ≡ (with_kay c n i).directive
 same_kay ThetaByBlank m n i e = e
 same_kay ThetaByG m n i e = e
 same_kay Directive m n i e = refl
 same_kay Neither m n i e = refl
 
-same_letter : (a : Aim) (m n : Note) (v w : ℕ) → m.directive ≡ n.directive → (with_letter a m v).directive ≡ (with_letter a n w).directive
+same_letter : (a : Aim) (m n : Note) (v w : ℕ) → m.directive ≡ n.directive
+    → (with_letter a m v).directive ≡ (with_letter a n w).directive
 same_letter Enters m n v w e = e
 same_letter Places m n v w e = ap (λ d. d + 2) e
 same_letter Nowhere m n v w e = ap (λ d. d + 2) e

@@ -16,7 +16,8 @@ use Rattle.ed_library.specs.Ready.{is_ready}
 use Rattle.ed_library.specs.Routines.{find}
 use Rattle.ed_syntax.specs.declared.program.Setting.{Setting}
 use Rattle.ed_syntax.specs.declared.program.Statement.{Statement}
-use Rattle.ed_syntax.specs.declared.program.Statement.TheVariants.{Segment, Order, Number, Text, Long, Fetch, Enter, Rows}
+use Rattle.ed_syntax.specs.declared.program.Statement.TheVariants.{Segment, Order, Number, Text}
+use Rattle.ed_syntax.specs.declared.program.Statement.TheVariants.{Long, Fetch, Enter, Rows}
 use Rattle.ed_syntax.specs.declared.program.Line.{Line as SourceLine}
 use Rattle.ed_syntax.specs.declared.fault.SourceCause.{SourceCause}
 use Rattle.ed_syntax.specs.declared.fault.SourceFault.{SourceFault}
@@ -29,7 +30,8 @@ use Rattle.ed_symbols.specs.Faults.{or_later, any_operand, enters_unknown, is_un
 use Rattle.ed_symbols.specs.Faults.{cause_of as names_cause, fault_from as names_from}
 use Rattle.ed_link.specs.Linked.{placed_by, placed_from, theta_from, entry_from, enters}
 use Rattle.ed_link.specs.Punch.{item, items_of, punched_from}
-use Rattle.ed_link.specs.Faults.{run_at, reach, meets, has_no_routine, sets, sets_otherwise, is_enter, any_enter, is_misplaced}
+use Rattle.ed_link.specs.Faults.{run_at, reach, meets, has_no_routine, sets}
+use Rattle.ed_link.specs.Faults.{sets_otherwise, is_enter, any_enter, is_misplaced}
 use Rattle.ed_link.specs.Faults.{Past, past_of, cause_of, fault_from}
 use Rattle.ed_words.proofs.Numbers.{le_of}
 use Rattle.ed_words.proofs.SizeLemmas.{most}
@@ -53,7 +55,8 @@ later_of : (n : ℕ) (cause : Option SourceCause) (rest : Option SourceFault) �
 later_of n None rest h = (refl, h)
 later_of n (Some cause) rest h = cc
 
-pub record IsFaultless (z : Size) (homes : List Home) (any : Bool) (past : Past) (l : SourceLine) (s : Spot) : Type 0 where
+pub record IsFaultless (z : Size) (homes : List Home) (any : Bool) (past : Past) (l : SourceLine) (s : Spot) :
+    Type 0 where
   pub low : meets (reach homes l.statement s) (0, 44) ≡ false
   pub parameters : meets (reach homes l.statement s) (44, 56) ≡ false
   pub high : meets (reach homes l.statement s) (locations z, (reach homes l.statement s).1) ≡ false
@@ -66,8 +69,10 @@ pub faultless : (z : Size) (homes : List Home) (any : Bool) (past : Past) (l : S
     → cause_of z homes any past l s ≡ None
     → IsFaultless z homes any past l s
 faultless z homes any past l s h =
-    let a9 = none_of _ _ _ h in let a10 = none_of _ _ _ a9.1 in let a11 = none_of _ _ _ a10.1 in let a12 = none_of _ _ _ a11.1 in
-    let a13 = none_of _ _ _ a12.1 in let a14 = none_of _ _ _ a13.1 in let a15 = none_of _ _ _ a14.1 in let a16 = none_of _ _ _ a15.1 in
+    let a9 = none_of _ _ _ h in let a10 = none_of _ _ _ a9.1 in let a11 = none_of _ _ _ a10.1
+    in let a12 = none_of _ _ _ a11.1 in
+    let a13 = none_of _ _ _ a12.1 in let a14 = none_of _ _ _ a13.1 in let a15 = none_of _ _ _ a14.1
+    in let a16 = none_of _ _ _ a15.1 in
     record { low = a10.0; parameters = a11.0; high = a12.0; routine = a14.0; settings = a15.0; misplaced = a16.0 }
 
 -- places without a fault
@@ -100,7 +105,8 @@ formed_statement : (two : Bool) (n : ℕ) (label : Option (List ℕ)) (st : Opti
     → is_line two (record { number = n; label = label; statement = st }) ≡ true
     → (x : Statement) → st ≡ Some x → is_statement two x ≡ true
 formed_statement two n label None h x e = cc
-formed_statement two n None (Some y) h x e = subst (λ (s : Statement). is_statement two s ≡ true) (same_statement y x e) h
+formed_statement two n None (Some y) h x e =
+    subst (λ (s : Statement). is_statement two s ≡ true) (same_statement y x e) h
 formed_statement two n (Some name) (Some y) h x e =
     subst (λ (s : Statement). is_statement two s ≡ true) (same_statement y x e) (and_second _ _ (and_second _ _ h))
 
@@ -138,7 +144,8 @@ sound_line tables z words homes any two past n label (Some (Text codes)) s forme
 sound_line tables z words homes any two past n label (Some (Long v)) s formed f e =
     fits s.place (even s.place + 2) (locations z) (omega arith) f.low f.parameters f.high
 sound_line tables z words homes any two past n label (Some (Fetch routine name ts)) s formed f e =
-    is_use tables z words homes routine ts.items (even s.place) (find routine) refl f.routine f.settings f.low f.parameters f.high
+    is_use tables z words homes routine ts.items (even s.place) (find routine) refl f.routine f.settings f.low
+    f.parameters f.high
 sound_line tables z words homes any two past n label (Some (Enter name)) s formed f e = cc
 sound_line tables z words homes any two past n label (Some (Rows codes)) s formed f e = tt
 
@@ -160,7 +167,8 @@ misplaced (Some name) h = cc
 -- a line behind `enter` gives nothing
 behind_line : (homes : List Home) (theta : ℕ) (s : Spot) (n : ℕ) (label : Option (List ℕ)) (st : Option Statement)
     (lines : List SourceLine)
-    → is_misplaced true true (record { number = n; label = label; statement = st }) ≡ false → IsBehind homes theta (passed st s) lines
+    → is_misplaced true true (record { number = n; label = label; statement = st }) ≡ false
+    → IsBehind homes theta (passed st s) lines
     → IsBehind homes theta s (record { number = n; label = label; statement = st } ∷ lines)
 behind_line homes theta s n label None lines m b =
     let q = lt_same s.place in record { items = b.items; placed = b.placed; theta_is = rw q b.theta_is }
@@ -175,7 +183,8 @@ behind_line homes theta s n label (Some (Fetch routine name ts)) lines m b = abs
 behind_line homes theta s n label (Some (Enter name)) lines m b = absurd (misplaced label m)
 
 -- so do all lines behind it
-behind : (z : Size) (homes : List Home) (any : Bool) (theta : ℕ) (past : Past) (s : Spot) (lines : List SourceLine) → past.entered ≡ true
+behind : (z : Size) (homes : List Home) (any : Bool) (theta : ℕ) (past : Past) (s : Spot) (lines : List SourceLine)
+    → past.entered ≡ true
     → fault_from z homes any past s lines ≡ None → IsBehind homes theta s lines
 behind z homes any theta past s [] e h = record { items = refl; placed = refl; theta_is = refl }
 behind z homes any theta past s (l ∷ lines) e h =
@@ -186,7 +195,8 @@ behind z homes any theta past s (l ∷ lines) e h =
 
 -- the induction over the lines
 
-pub record Ends (z : Size) (words : List ℕ) (homes : List Home) (theta : ℕ) (s : Spot) (note : Note) (lines : List SourceLine)
+pub record Ends (z : Size) (words : List ℕ) (homes : List Home) (theta : ℕ) (s : Spot) (note : Note)
+    (lines : List SourceLine)
     : Type 0 where
   pub before : List Item
   pub items : punched_from homes s lines ≡ before ++ (item 0 0 false 17 ∷ [])
@@ -199,7 +209,8 @@ pub record Ends (z : Size) (words : List ℕ) (homes : List Home) (theta : ℕ) 
   pub placed : last.placed ≡ reverse (placed_from homes s lines) ++ note.placed
 
 -- a line that is no `enter` leaves the entry to the lines behind it
-entry_later : (homes : List Home) (st : Option Statement) (later : ℕ) → is_enter st ≡ false → enters homes st later ≡ later
+entry_later : (homes : List Home) (st : Option Statement) (later : ℕ) → is_enter st ≡ false
+    → enters homes st later ≡ later
 entry_later homes (Some (Enter name)) later h = cc
 entry_later homes st later h = refl
 
@@ -210,11 +221,13 @@ or_right false y h = h
 -- the place of an `enter` without a fault
 placed_entry : (z : Size) (found : Option ℕ) → is_none found ≡ false → meets (run_at found) (0, 44) ≡ false
     → meets (run_at found) (44, 56) ≡ false
-    → meets (run_at found) (locations z, (run_at found).1) ≡ false → (56 ≤ unwrap_or found 0) × (unwrap_or found 0 + 1 ≤ locations z)
+    → meets (run_at found) (locations z, (run_at found).1) ≡ false
+    → (56 ≤ unwrap_or found 0) × (unwrap_or found 0 + 1 ≤ locations z)
 placed_entry z None e l p h = cc
 placed_entry z (Some q) e l p h = fits q (q + 1) (locations z) (omega arith) l p h
 
-module _ (tables : list_all is_ready catalogue ≡ true) (z : Size) (words : List ℕ) (whole : length words ≡ 1024) (homes : List Home)
+module _ (tables : list_all is_ready catalogue ≡ true) (z : Size) (words : List ℕ) (whole : length words ≡ 1024)
+    (homes : List Home)
     (any two : Bool) where
   -- a line that is no `enter` line
   going : (n : ℕ) (label : Option (List ℕ)) (st : Option Statement) (lines : List SourceLine) (past : Past) (s : Spot)
@@ -246,7 +259,8 @@ module _ (tables : list_all is_ready catalogue ≡ true) (z : Size) (words : Lis
       }
 
   -- the `enter` line
-  entering : (n : ℕ) (label : Option (List ℕ)) (name : List ℕ) (lines : List SourceLine) (past : Past) (s : Spot) (note : Note)
+  entering : (n : ℕ) (label : Option (List ℕ)) (name : List ℕ) (lines : List SourceLine) (past : Past) (s : Spot)
+      (note : Note)
       (theta : ℕ)
       → IsFaultless z homes any past (record { number = n; label = label; statement = Some (Enter name) }) s
       → is_none (place_on homes None name) ≡ false → IsReady theta s note → IsBehind homes theta s lines
@@ -274,7 +288,8 @@ module _ (tables : list_all is_ready catalogue ≡ true) (z : Size) (words : Lis
       → IsFaultless z homes any past (record { number = n; label = label; statement = st }) s
       → enters_unknown homes st ≡ false
       → IsReady theta s note
-      → (is_enter st ≡ false → (next : Note) (t : ℕ) → IsReady t (passed st s) next → Ends z words homes t (passed st s) next lines)
+      → (is_enter st ≡ false → (next : Note) (t : ℕ) → IsReady t (passed st s) next
+      → Ends z words homes t (passed st s) next lines)
       → (is_enter st ≡ true → IsBehind homes theta (passed st s) lines)
       → Ends z words homes theta s note (record { number = n; label = label; statement = st } ∷ lines)
   ends_at n label (Some (Enter name)) lines past s note theta formed f known ready more rest =
@@ -283,7 +298,8 @@ module _ (tables : list_all is_ready catalogue ≡ true) (z : Size) (words : Lis
       going n label st lines past s note theta refl formed f ready (more refl)
 
   pub ends : (lines : List SourceLine) (past : Past) (earlier : List Home) (s : Spot) (note : Note) (theta : ℕ)
-      → list_all (is_line two) lines ≡ true → fault_from z homes any past s lines ≡ None → names_from homes earlier s lines ≡ None
+      → list_all (is_line two) lines ≡ true → fault_from z homes any past s lines ≡ None
+      → names_from homes earlier s lines ≡ None
       → past.entered ≡ false → any_enter lines ≡ true → IsReady theta s note
       → Ends z words homes theta s note lines
   ends [] past earlier s note theta formed h names e any ready = cc
@@ -292,8 +308,11 @@ module _ (tables : list_all is_ready catalogue ≡ true) (z : Size) (words : Lis
       let b = later_of l.number (names_cause homes (defines_again earlier l s) l s) _ names in
       let c6 = none_of _ _ _ b.0 in
       let c7 = none_of _ _ _ c6.1 in
-      ends_at l.number l.label l.statement lines past s note theta (and_first _ _ formed) (faultless z homes any past l s a.0)
-      (or_right (any_operand (is_unknown homes (segment_of l s)) l.statement) (enters_unknown homes l.statement) c7.0) ready
-      (λ g next t r. ends lines (past_of past l s) _ (passed l.statement s) next t (and_second _ _ formed) a.1 b.1 (rw (e, g)
+      ends_at l.number l.label l.statement lines past s note theta (and_first _ _ formed)
+      (faultless z homes any past l s a.0)
+      (or_right (any_operand (is_unknown homes (segment_of l s)) l.statement) (enters_unknown homes l.statement) c7.0)
+      ready
+      (λ g next t r. ends lines (past_of past l s) _ (passed l.statement s) next t
+      (and_second _ _ formed) a.1 b.1 (rw (e, g)
       refl) (rw g at some) r)
       (λ g. behind z homes any theta (past_of past l s) (passed l.statement s) lines (rw (e, g) refl) a.1)

@@ -1,5 +1,6 @@
 -- A table keeps its length; how words are put into it.
-use Rattle.std.proofs.Common.{◌≡◌, ℕ, ◌+◌, ◌<◌, refl, sym, ap, ◌∙◌, arith, Option, Some, None, List, [], ◌∷◌, ◌++◌, length, map, drop, set, get_or}
+use Rattle.std.proofs.Common.{◌≡◌, ℕ, ◌+◌, ◌<◌, refl, sym, ap, ◌∙◌, arith, Option, Some}
+use Rattle.std.proofs.Common.{None, List, [], ◌∷◌, ◌++◌, length, map, drop, set, get_or}
 use Rattle.std.specs.Prelude.{replicate}
 use Rattle.std.proofs.lemmas.List.{length-set, length-replicate, drop_more}
 use Rattle.ed_link.specs.Linked.{laid}
@@ -21,7 +22,8 @@ unfolding empty_table
 empty_length = length-replicate {A = Option ℕ} 1024 None
 
 -- words, and then more words
-pub put_all_append : (table : List (Option ℕ)) (ps qs : List (ℕ × ℕ)) → put_all (put_all table ps) qs ≡ put_all table (ps ++ qs)
+pub put_all_append : (table : List (Option ℕ)) (ps qs : List (ℕ × ℕ))
+    → put_all (put_all table ps) qs ≡ put_all table (ps ++ qs)
 put_all_append table [] qs = refl
 put_all_append table (p ∷ ps) qs = put_all_append (set table p.0 (Some p.1)) ps qs
 
@@ -37,5 +39,6 @@ put_more word rows k d base at put table more whole below here is set_is before 
     let first : put_all table (laid (base + k) (map word (drop k rows)))
     ≡ put_all (set table (base + k) (Some (word (get_or rows k d)))) (laid (base + k + 1) rest) =
     ap (λ (xs : List _). put_all table (laid (base + k) (map word xs))) (drop_more rows k d below) in
-    let same : more ≡ set table (base + k) (Some (word (get_or rows k d))) = set_is ∙ (λ i. set table (here i) (Some (is i))) in
+    let same : more ≡ set table (base + k) (Some (word (get_or rows k d))) =
+    set_is ∙ (λ i. set table (here i) (Some (is i))) in
     (λ i. put_all (same i) (laid (sym next i) rest)) ∙ sym first ∙ before

@@ -16,13 +16,15 @@ use Rattle.ed_library.specs.Routines.{find, item_of}
 use Rattle.ed_library.specs.Images.{item_word}
 use Rattle.ed_syntax.specs.declared.program.Setting.{Setting}
 use Rattle.ed_syntax.specs.declared.program.Statement.{Statement}
-use Rattle.ed_syntax.specs.declared.program.Statement.TheVariants.{Segment, Order, Number, Text, Long, Fetch, Enter, Rows}
+use Rattle.ed_syntax.specs.declared.program.Statement.TheVariants.{Segment, Order, Number, Text}
+use Rattle.ed_syntax.specs.declared.program.Statement.TheVariants.{Long, Fetch, Enter, Rows}
 use Rattle.ed_symbols.specs.declared.homes.Home.{Home}
 use Rattle.ed_symbols.specs.declared.spots.Spot.{Spot}
 use Rattle.ed_symbols.specs.Places.{even, taken as places_of, passed, segment_at}
 use Rattle.ed_link.specs.Linked.{number, long_words, laid, letters, setting, presets, parameters, image}
 use Rattle.ed_link.specs.Linked.{placed_by, first_place}
-use Rattle.ed_link.specs.Punch.{word_item, order_item, goes_by_theta, headed, preset_items, routine_items, use_items, items_of}
+use Rattle.ed_link.specs.Punch.{word_item, order_item, goes_by_theta, headed}
+use Rattle.ed_link.specs.Punch.{preset_items, routine_items, use_items, items_of}
 use Rattle.ed_words.proofs.Numbers.{eq_true, lt_true, lt_false}
 use Rattle.ed_link.proofs.Passes.{Passes, join, at}
 use Rattle.ed_link.proofs.Orders.{split, laid_pass, order_pass, headed_pass, unheaded}
@@ -47,7 +49,8 @@ abbrev pub theta_behind : ℕ → ℕ → Spot → ℕ
 theta_behind theta first next = if nat_lt first next.place then 2 * next.base else theta
 
 -- what the items of a line do
-pub record Line (z : Size) (words : List ℕ) (theta first : ℕ) (next : Spot) (note : Note) (is : List Item) (ps : List (ℕ × ℕ))
+pub record Line (z : Size) (words : List ℕ) (theta first : ℕ) (next : Spot) (note : Note) (is : List Item)
+    (ps : List (ℕ × ℕ))
     : Type 0 where
   pub last : Note
   pub passes : Passes z words note is last
@@ -65,31 +68,40 @@ IsUse z words homes ts base (Some r) =
 abbrev pub IsSound : Size → List ℕ → List Home → Spot → Option Statement → Type 0
 IsSound z words homes s (Some (Order f o long)) = (56 ≤ s.place) × (s.place + 1 ≤ locations z)
 IsSound z words homes s (Some (Number w)) = (56 ≤ s.place) × (s.place + 1 ≤ locations z)
-IsSound z words homes s (Some (Text codes)) = (0 < length codes.items) × (56 ≤ s.place) × (s.place + length codes.items ≤ locations z)
+IsSound z words homes s (Some (Text codes)) = (0 < length codes.items) × (56 ≤ s.place)
+    × (s.place + length codes.items ≤ locations z)
 IsSound z words homes s (Some (Long v)) = (56 ≤ s.place) × (even s.place + 2 ≤ locations z)
 IsSound z words homes s (Some (Fetch routine name ts)) = IsUse z words homes ts.items (even s.place) (find routine)
 IsSound z words homes s (Some (Enter name)) = ⊥
 IsSound z words homes s st = Unit {0}
 
-module _ (z : Size) (words : List ℕ) (whole : length words ≡ 1024) (homes : List Home) (theta : ℕ) (s : Spot) (note : Note)
+module _ (z : Size) (words : List ℕ) (whole : length words ≡ 1024) (homes : List Home) (theta : ℕ) (s : Spot)
+    (note : Note)
     (ready : IsReady theta s note) where
   -- a line of no words
   quiet : Line z words theta s.place s note [] []
   quiet = record {
     last = note;
     passes = refl;
-    ready = record { base = ready.base; follows = ready.follows; theta_is = let e = lt_same s.place in rw e ready.theta_is };
+    ready = record {
+      base = ready.base;
+      follows = ready.follows;
+      theta_is = let e = lt_same s.place in rw e ready.theta_is;
+    };
     placed = refl;
   }
 
   -- a line of words in a segment
   in_segment : (is : List Item) (ws : List ℕ) → 0 < length is → 0 < length ws → s.place + length ws ≤ locations z
-      → Passes z words (at s.place s.base note.placed) is (at (s.place + length ws) s.base (reverse (laid s.place ws) ++ note.placed))
-      → Line z words theta s.place (record s { place = s.place + length ws }) note (headed is (nat_eq s.place s.base) s.base)
+      → Passes z words (at s.place s.base note.placed) is
+      (at (s.place + length ws) s.base (reverse (laid s.place ws) ++ note.placed))
+      → Line z words theta s.place (record s { place = s.place + length ws }) note
+      (headed is (nat_eq s.place s.base) s.base)
       (laid s.place ws)
   in_segment is ws some more high p = record {
     last = at (s.place + length ws) s.base (reverse (laid s.place ws) ++ note.placed);
-    passes = headed_pass z words note _ s.place s.base (nat_eq s.place s.base) is refl (omega arith) some ready.follows p;
+    passes = headed_pass z words note _ s.place s.base (nat_eq s.place s.base) is refl
+        (omega arith) some ready.follows p;
     ready = record {
       base = let b = ready.base in omega arith;
       follows = λ h. (refl, refl);
@@ -99,7 +111,8 @@ module _ (z : Size) (words : List ℕ) (whole : length words ≡ 1024) (homes : 
   }
 
   -- a line of numbers
-  numbered : (ws : List ℕ) → AreSpellable (headed (map word_item ws) (nat_eq s.place s.base) s.base) → 0 < length ws → 56 ≤ s.place
+  numbered : (ws : List ℕ) → AreSpellable (headed (map word_item ws) (nat_eq s.place s.base) s.base) → 0 < length ws
+      → 56 ≤ s.place
       → s.place + length ws ≤ locations z
       → Line z words theta s.place (record s { place = s.place + length ws }) note
       (headed (map word_item ws) (nat_eq s.place s.base) s.base) (laid s.place ws)
@@ -109,7 +122,8 @@ module _ (z : Size) (words : List ℕ) (whole : length words ≡ 1024) (homes : 
 
   use_line : (ts : List Setting) (base : ℕ) (found : Option ℕ) (segments : ℕ) → IsUse z words homes ts base found
       → AreSpellable (use_items homes ts base found)
-      → Line z words theta base (record { place = base + places_of found; base = base; segments = segments; inside = false }) note
+      → Line z words theta base
+      (record { place = base + places_of found; base = base; segments = segments; inside = false }) note
       (use_items homes ts base found) (presets homes ts ++ image homes ts base found)
   use_line ts base None segments is are = absurd is
   use_line ts base (Some r) segments is are =
@@ -143,7 +157,8 @@ module _ (z : Size) (words : List ℕ) (whole : length words ≡ 1024) (homes : 
       let last = at (base + length rows) base (reverse img ++ m.placed) in
       let p = image_pass z words whole homes ts rows base base m.placed (is.3 whole) is.1 is.2 held in
       let l : 0 < length (map item_of rows) = let e = length-map rows item_of in omega (arith, is.0) in
-      let h = headed_pass z words m last base base true (map item_of rows) (eq_same base) (omega (arith, is.0, is.2)) l (λ e. cc) p in
+      let h = headed_pass z words m last base base true (map item_of rows) (eq_same base)
+      (omega (arith, is.0, is.2)) l (λ e. cc) p in
       record {
         last = last;
         passes = join z words note m last js (headed (map item_of rows) true base) a.0.passes h;
@@ -191,7 +206,8 @@ module _ (z : Size) (words : List ℕ) (whole : length words ≡ 1024) (homes : 
   line (Some (Long v)) is are =
       let e = long_spot v in
       let p : s.place + length (long_words s.place v) ≡ even s.place + 2 = ap (λ (x : Spot). x.place) e in
-      subst (λ (x : Spot). Line z words theta s.place x note (items_of homes s (Some (Long v))) (placed_by homes s (Some (Long v))))
+      subst (λ (x : Spot). Line z words theta s.place x note (items_of homes s (Some (Long v)))
+      (placed_by homes s (Some (Long v))))
       e (numbered (long_words s.place v) are (omega (arith, p)) is.0 (omega (arith, p, is.1)))
   line (Some (Fetch routine name ts)) is are = use_line ts.items (even s.place) (find routine) (s.segments + 1) is are
   line (Some (Enter name)) is are = absurd is

@@ -11,7 +11,8 @@ use Rattle.ed_link.proofs.Orders.{placed_more}
 use Rattle.ed_link.proofs.Lengths.{empty_length}
 
 -- one word is put
-one : (t : List (Option ℕ)) (p w a : ℕ) (found : Option ℕ) (b : Bool) → nat_eq p a ≡ b → a < length t → get_or t a None ≡ found
+one : (t : List (Option ℕ)) (p w a : ℕ) (found : Option ℕ) (b : Bool) → nat_eq p a ≡ b → a < length t
+    → get_or t a None ≡ found
     → get_or (set t p (Some w)) a None ≡ (if b then Some w else found)
 one t p w a found true e l h =
     let q = eq_of p a e in
@@ -56,7 +57,8 @@ at (Some w ∷ t) b (suc k) =
     rw n (rw e (at t (b + 1) k))
 
 -- the words by rising place are the map
-pub words_are : (ps : List (ℕ × ℕ)) (a : ℕ) → a < 1024 → word_at (words_from 0 (table_of ps)) a ≡ placed_at (reverse ps) a
+pub words_are : (ps : List (ℕ × ℕ)) (a : ℕ) → a < 1024
+    → word_at (words_from 0 (table_of ps)) a ≡ placed_at (reverse ps) a
 words_are ps a h =
     let e : 0 + a ≡ a = omega arith in
     ap (λ x. word_at (words_from 0 (table_of ps)) x) (sym e) ∙ at (table_of ps) 0 a ∙ table_is ps a h

@@ -29,7 +29,8 @@ use Rattle.ed_link.proofs.Passes.{Passes, join, at, heading}
 
 -- the function of an item that can be spelled
 function_fits : (i : Item) → is_spellable i ≡ true → i.function < 32
-function_fits i h = lt_of _ _ (and_parts (nat_lt i.function 32) (nat_le i.number 32767 && ends (row_kind i.end) (canonical i).begun) h).0
+function_fits i h = lt_of _ _
+    (and_parts (nat_lt i.function 32) (nat_le i.number 32767 && ends (row_kind i.end) (canonical i).begun) h).0
 
 -- items that can be spelled, in two parts
 pub split : (is js : List Item) → AreSpellable (is ++ js) → AreSpellable is × AreSpellable js
@@ -39,9 +40,11 @@ split (i ∷ is) js are = let s = split is js are.1 in ((are.0, s.0), s.1)
 -- words one after the other
 
 word_is : (words : List ℕ) (note : Note) (w : ℕ) (odd : Bool) → nat_eq (w % 2) 1 ≡ odd → w < 2 ^ 17
-    → (item_word words note (word_item w) ≡ w) × (row_kind (word_item w).end ≡ Letter) × (nat_eq (word_item w).end 13 ≡ false)
+    → (item_word words note (word_item w) ≡ w) × (row_kind (word_item w).end ≡ Letter)
+    × (nat_eq (word_item w).end 13 ≡ false)
 word_is words note w true e h = let m : w % 2 ≡ 1 = eq_of _ _ e in (rw e (omega arith), rw e refl, rw e refl)
-word_is words note w false e h = let m : w % 2 ≡ 0 = grind (arith, nat_tests) in (rw e (omega arith), rw e refl, rw e refl)
+word_is words note w false e h = let m : w % 2 ≡ 0 = grind (arith, nat_tests)
+    in (rw e (omega arith), rw e refl, rw e refl)
 
 -- a word is below 2^17
 small : (w : ℕ) → is_spellable (word_item w) ≡ true → w < 2 ^ 17
@@ -54,7 +57,8 @@ placed_more p ps m = sym (ap (λ x. x ++ m) (reverse-append (p ∷ []) ps) ∙ a
 -- words one after the other are placed in a row
 pub laid_pass : (z : Size) (words : List ℕ) (base : ℕ) (ws : List ℕ) (place : ℕ) (placed : List (ℕ × ℕ))
     → AreSpellable (map word_item ws) → 44 ≤ place → place + length ws ≤ locations z
-    → Passes z words (at place base placed) (map word_item ws) (at (place + length ws) base (reverse (laid place ws) ++ placed))
+    → Passes z words (at place base placed) (map word_item ws)
+    (at (place + length ws) base (reverse (laid place ws) ++ placed))
 laid_pass z words base [] place placed are low high = let e : place + 0 ≡ place = omega arith in rw e refl
 laid_pass z words base (w ∷ ws) place placed are low high =
     let k = word_is words (at place base placed) w (nat_eq (w % 2) 1) refl (small w are.0) in
@@ -69,13 +73,16 @@ laid_pass z words base (w ∷ ws) place placed are low high =
 
 -- an order
 
-theta_base : (homes : List Home) (s : Spot) (o : Operand) → goes_by_theta homes s o ≡ true → s.base ≤ number homes (segment_at s) o
+theta_base : (homes : List Home) (s : Spot) (o : Operand) → goes_by_theta homes s o ≡ true
+    → s.base ≤ number homes (segment_at s) o
 theta_base homes s (Number n) h = cc
-theta_base homes s (Label name plus) h = le_of _ _ (and_parts (is_in (segment_at s) (home_of (segment_at s) name homes)) _ h).1
+theta_base homes s (Label name plus) h =
+    le_of _ _ (and_parts (is_in (segment_at s) (home_of (segment_at s) name homes)) _ h).1
 theta_base homes s (Two first second minus) h = cc
 
 -- the word of an order, by θ or by its number
-order_word : (words : List ℕ) (place base : ℕ) (placed : List (ℕ × ℕ)) (b : Bool) (f n : ℕ) (long : Bool) → (b ≡ true → base ≤ n)
+order_word : (words : List ℕ) (place base : ℕ) (placed : List (ℕ × ℕ)) (b : Bool) (f n : ℕ) (long : Bool)
+    → (b ≡ true → base ≤ n)
     → item_word words (at place base placed) (order_item b base f n long) ≡ word_with f n false (digit long)
 order_word words place base placed true f n long h = let l = h refl in omega arith
 order_word words place base placed false f n true h = omega arith
@@ -89,7 +96,8 @@ order_letter false base f n true = (refl, refl)
 order_letter false base f n false = (refl, refl)
 
 -- an order is placed
-pub order_pass : (z : Size) (words : List ℕ) (homes : List Home) (s : Spot) (placed : List (ℕ × ℕ)) (f : ℕ) (o : Operand) (long : Bool)
+pub order_pass : (z : Size) (words : List ℕ) (homes : List Home) (s : Spot) (placed : List (ℕ × ℕ)) (f : ℕ)
+    (o : Operand) (long : Bool)
     → 44 ≤ s.place → s.place < locations z
     → Passes z words (at s.place s.base placed)
     (order_item (goes_by_theta homes s o) s.base f (number homes (segment_at s) o) long ∷ [])
@@ -98,8 +106,10 @@ order_pass z words homes s placed f o long low high =
     let n = number homes (segment_at s) o in
     let b = goes_by_theta homes s o in (
       at (s.place + 1) s.base ((s.place, word_with f n false (digit long)) ∷ placed),
-      placing z words (at s.place s.base placed) (order_item b s.base f n long) s.place (word_with f n false (digit long))
-          (order_letter b s.base f n long).0 refl low high (order_word words s.place s.base placed b f n long (theta_base homes s o)),
+      placing z words (at s.place s.base placed) (order_item b s.base f n long) s.place
+          (word_with f n false (digit long))
+          (order_letter b s.base f n long).0 refl low high
+          (order_word words s.place s.base placed b f n long (theta_base homes s o)),
       (order_letter b s.base f n long).1,
       refl,
     )
@@ -119,7 +129,11 @@ headed_pass z words note last place base true (i ∷ is) e high some follows p =
     (subst (λ (n : ℕ). Passes z words (at n base note.placed) (i ∷ is) last) q p)
 headed_pass z words note last place base false (i ∷ is) e high some follows p =
     let f = follows refl in
-    let n : at place base note.placed ≡ note = λ k. record { directive = sym (f.0) k; theta = sym (f.1) k; placed = note.placed } in
+    let n : at place base note.placed ≡ note = λ k. record {
+      directive = sym (f.0) k;
+      theta = sym (f.1) k;
+      placed = note.placed;
+    } in
     subst (λ (x : Note). Passes z words x (i ∷ is) last) n p
 
 -- items behind a head can be spelled

@@ -21,4 +21,5 @@ all_spellable (i ∷ is) are = and_both _ _ are.0 (all_spellable is are.1)
 -- the test of each item by the test of all
 pub are_spellable : (is : List Item) → list_all is_spellable is ≡ true → AreSpellable is
 are_spellable [] h = tt
-are_spellable (i ∷ is) h = let p = and_parts (is_spellable i) (list_all is_spellable is) h in (p.0, are_spellable is p.1)
+are_spellable (i ∷ is) h = let p = and_parts (is_spellable i) (list_all is_spellable is) h
+    in (p.0, are_spellable is p.1)

@@ -1,5 +1,6 @@
 -- The items of a line without a fault can be spelled.
-use Rattle.std.proofs.Common.{◌≡◌, ℕ, ◌+◌, ◌-◌, ◌*◌, ◌/◌, ◌%◌, ◌^◌, ◌<◌, ◌≤◌, refl, arith, Bool, true, false, ◌&&◌, nat_lt, nat_le, nat_eq}
+use Rattle.std.proofs.Common.{◌≡◌, ℕ, ◌+◌, ◌-◌, ◌*◌, ◌/◌, ◌%◌, ◌^◌, ◌<◌, ◌≤◌, refl}
+use Rattle.std.proofs.Common.{arith, Bool, true, false, ◌&&◌, nat_lt, nat_le, nat_eq}
 use Rattle.std.proofs.Common.{Option, Some, None, List, [], ◌∷◌, ◌++◌, length, map, ℤ, pos, if◌then◌else◌}
 use Rattle.std.specs.Prelude.{◌||◌, int_lt, unsigned_abs}
 use Rattle.std.specs.List.{flat_map, list_all}
@@ -20,13 +21,15 @@ use Rattle.ed_syntax.proofs.Meaning.{statement_fact}
 use Rattle.ed_syntax.specs.declared.program.Operand.{Operand}
 use Rattle.ed_syntax.specs.declared.program.Setting.{Setting}
 use Rattle.ed_syntax.specs.declared.program.Statement.{Statement}
-use Rattle.ed_syntax.specs.declared.program.Statement.TheVariants.{Segment, Order, Number, Text, Long, Fetch, Enter, Rows}
+use Rattle.ed_syntax.specs.declared.program.Statement.TheVariants.{Segment, Order, Number, Text}
+use Rattle.ed_syntax.specs.declared.program.Statement.TheVariants.{Long, Fetch, Enter, Rows}
 use Rattle.ed_symbols.specs.declared.homes.Home.{Home}
 use Rattle.ed_symbols.specs.declared.spots.Spot.{Spot}
 use Rattle.ed_symbols.specs.Places.{even, segment_at}
 use Rattle.ed_symbols.specs.Faults.{value}
 use Rattle.ed_link.specs.Linked.{letters, long_words, number, number_of, setting}
-use Rattle.ed_link.specs.Punch.{ending, goes_by_theta, head, headed, heads, item, items_of, order_item, preset_items, routine_items}
+use Rattle.ed_link.specs.Punch.{ending, goes_by_theta, head, headed, heads, item}
+use Rattle.ed_link.specs.Punch.{items_of, order_item, preset_items, routine_items}
 use Rattle.ed_link.specs.Punch.{use_items, word_item}
 use Rattle.ed_link.proofs.Closed.{rows_are_ready}
 use Rattle.ed_link.proofs.Lines.{IsSound, IsUse}
@@ -43,13 +46,15 @@ head_spelled : (first : Bool) (base : ℕ) → base ≤ 32767 → AreSpellable (
 head_spelled true base few = (spelled 5 base 14 false (omega arith) few refl, (refl, tt))
 head_spelled false base few = tt
 
-headed_spelled : (is : List Item) (first : Bool) (base : ℕ) → base ≤ 32767 → AreSpellable is → AreSpellable (headed is first base)
+headed_spelled : (is : List Item) (first : Bool) (base : ℕ) → base ≤ 32767 → AreSpellable is
+    → AreSpellable (headed is first base)
 headed_spelled [] first base few are = tt
 headed_spelled (i ∷ is) first base few are = joined (heads first base) (i ∷ is) (head_spelled first base few) are
 
 -- ---- words
 
-ending_ends : (b : Bool) (f n : ℕ) (mark : Bool) → ends (row_kind (ending b)) (canonical (item f n mark (ending b))).begun ≡ true
+ending_ends : (b : Bool) (f n : ℕ) (mark : Bool)
+    → ends (row_kind (ending b)) (canonical (item f n mark (ending b))).begun ≡ true
 ending_ends true f n mark = refl
 ending_ends false f n mark = refl
 
@@ -58,7 +63,8 @@ word_spelled w fits =
     spelled (w / 4096) (w % 4096 / 2) (ending (nat_eq (w % 2) 1)) false (omega (arith, fits)) (omega arith)
     (ending_ends (nat_eq (w % 2) 1) (w / 4096) (w % 4096 / 2) false)
 
-text_spelled : (codes : List ℕ) → list_all (λ c. nat_lt c 32) codes ≡ true → AreSpellable (map word_item (map (λ c. 4096 * c) codes))
+text_spelled : (codes : List ℕ) → list_all (λ c. nat_lt c 32) codes ≡ true
+    → AreSpellable (map word_item (map (λ c. 4096 * c) codes))
 text_spelled [] h = tt
 text_spelled (c ∷ codes) h =
     let p = and_parts (nat_lt c 32) (list_all (λ x. nat_lt x 32) codes) h in
@@ -87,7 +93,8 @@ number_few (Some v) = by_test (int_lt v (pos 0) || int_lt (pos 32767) v) refl
     by_test true e = omega arith
     by_test false e = grind (arith, ints)
 
-order_spelled : (theta : Bool) (base f n : ℕ) (long : Bool) → f < 32 → n ≤ 32767 → is_spellable (order_item theta base f n long) ≡ true
+order_spelled : (theta : Bool) (base f n : ℕ) (long : Bool) → f < 32 → n ≤ 32767
+    → is_spellable (order_item theta base f n long) ≡ true
 order_spelled true base f n long low few = spelled f (n - base) 18 long low (omega (arith, few)) refl
 order_spelled false base f n long low few = spelled f n (ending long) false low few (ending_ends long f n false)
 
@@ -115,7 +122,8 @@ rows_spelled own (row ∷ rows) h =
     let p = and_parts (is_ready_row own row) (list_all (is_ready_row own) rows) h in
     ((and_parts (is_spellable (item_of row)) _ p.0).0, rows_spelled own rows p.1)
 
-routine_spelled : list_all is_ready catalogue ≡ true → (z : Size) (words : List ℕ) (homes : List Home) (ts : List Setting) (base : ℕ)
+routine_spelled : list_all is_ready catalogue ≡ true
+    → (z : Size) (words : List ℕ) (homes : List Home) (ts : List Setting) (base : ℕ)
     (text : List ℕ) (found : Option ℕ) → find text ≡ found → IsUse z words homes ts base found
     → (base ≤ 32767) × AreSpellable (routine_items found)
 routine_spelled tables z words homes ts base text None e held = absurd held
@@ -124,7 +132,8 @@ routine_spelled tables z words homes ts base text (Some r) e held =
     let few = held.2 in
     (omega (arith, m, few), rows_spelled (entry r).parameters (entry r).items (rows_are_ready tables text r e))
 
-use_spelled : list_all is_ready catalogue ≡ true → (z : Size) (words : List ℕ) (homes : List Home) (ts : List Setting) (base : ℕ)
+use_spelled : list_all is_ready catalogue ≡ true
+    → (z : Size) (words : List ℕ) (homes : List Home) (ts : List Setting) (base : ℕ)
     (text : List ℕ) (found : Option ℕ) → find text ≡ found → IsUse z words homes ts base found
     → AreSpellable (use_items homes ts base found)
 use_spelled tables z words homes ts base text found e held =
@@ -135,7 +144,8 @@ use_spelled tables z words homes ts base text found e held =
 -- ---- lines
 
 -- a line that is no `enter` line, in a segment that begins at its place or before
-pub line_spelled : list_all is_ready catalogue ≡ true → (two : Bool) (z : Size) (words : List ℕ) (homes : List Home) (s : Spot)
+pub line_spelled : list_all is_ready catalogue ≡ true
+    → (two : Bool) (z : Size) (words : List ℕ) (homes : List Home) (s : Spot)
     (st : Option Statement)
     → ((x : Statement) → st ≡ Some x → is_statement two x ≡ true) → IsSound z words homes s st → s.base ≤ s.place
     → AreSpellable (items_of homes s st)
@@ -148,7 +158,8 @@ line_spelled tables two z words homes s (Some (Fetch routine name ts)) formed so
 line_spelled tables two z words homes s (Some (Order f o long)) formed sound base =
     let fact = statement_fact two (Order f o long) (formed (Order f o long) refl) in
     let m = most z in
-    headed_spelled (order_item (goes_by_theta homes s o) s.base f (number homes (segment_at s) o) long ∷ []) (nat_eq s.place s.base)
+    headed_spelled (order_item (goes_by_theta homes s o) s.base f (number homes (segment_at s) o) long ∷ [])
+    (nat_eq s.place s.base)
     s.base (omega (arith, m, base, sound.1)) (
       order_spelled (goes_by_theta homes s o) s.base f (number homes (segment_at s) o) long fact.0
           (number_few (value homes (segment_at s) o)),
@@ -157,16 +168,19 @@ line_spelled tables two z words homes s (Some (Order f o long)) formed sound bas
 line_spelled tables two z words homes s (Some (Number w)) formed sound base =
     let fact = statement_fact two (Number w) (formed (Number w) refl) in
     let m = most z in
-    headed_spelled (word_item w ∷ []) (nat_eq s.place s.base) s.base (omega (arith, m, base, sound.1)) (word_spelled w fact, tt)
+    headed_spelled (word_item w ∷ []) (nat_eq s.place s.base) s.base (omega (arith, m, base, sound.1))
+    (word_spelled w fact, tt)
 line_spelled tables two z words homes s (Some (Text codes)) formed sound base =
     let fact = statement_fact two (Text codes) (formed (Text codes) refl) in
     let m = most z in
-    headed_spelled (map word_item (map (λ c. 4096 * c) codes.items)) (nat_eq s.place s.base) s.base (omega (arith, m, base, sound.2))
+    headed_spelled (map word_item (map (λ c. 4096 * c) codes.items)) (nat_eq s.place s.base) s.base
+    (omega (arith, m, base, sound.2))
     (text_spelled codes.items fact.1)
 line_spelled tables two z words homes s (Some (Long v)) formed sound base =
     let fact = statement_fact two (Long v) (formed (Long v) refl) in
     let m = most z in
-    headed_spelled (map word_item (long_words s.place v)) (nat_eq s.place s.base) s.base (omega (arith, m, base, sound.1))
+    headed_spelled (map word_item (long_words s.place v)) (nat_eq s.place s.base) s.base
+    (omega (arith, m, base, sound.1))
     (long_spelled (nat_eq (s.place % 2) 1) v fact.1)
 
 -- the item that aims an `enter`

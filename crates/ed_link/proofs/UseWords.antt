@@ -11,9 +11,11 @@ use Rattle.ed_link.specs.Tables.{put_all}
 use Rattle.ed_link.proofs.Lengths.{put_all_append, put_all_length}
 
 -- the parameters and then the routine are the words of the `use`
-pub use_words : (table before behind : List (Option ℕ)) (homes : List Home) (ts : List Setting) (base r : ℕ) (found : Option ℕ)
+pub use_words : (table before behind : List (Option ℕ)) (homes : List Home) (ts : List Setting) (base r : ℕ)
+    (found : Option ℕ)
     (ps : List ℕ)
-    → behind ≡ put_all before (laid base (map (λ row. item_word ps base (item_of row)) (entry r).items)) → ps ≡ parameters homes ts
+    → behind ≡ put_all before (laid base (map (λ row. item_word ps base (item_of row)) (entry r).items))
+    → ps ≡ parameters homes ts
     → before ≡ put_all table (presets homes ts) → Some r ≡ found
     → behind ≡ put_all table (presets homes ts ++ image homes ts base found)
 use_words table before behind homes ts base r found ps h p q f =
@@ -23,10 +25,13 @@ use_words table before behind homes ts base r found ps h p q f =
     ∙ put_all_append table (presets homes ts) (image homes ts base (Some r)))
 
 -- the routine's places are within the table, also behind the parameters
-pub use_fits : (table before : List (Option ℕ)) (ps : List (ℕ × ℕ)) (base r : ℕ) (found : Option ℕ) → before ≡ put_all table ps
-    → Some r ≡ found → (0 < taken found → base + taken found ≤ length table) → 0 < places r → base + places r ≤ length before
+pub use_fits : (table before : List (Option ℕ)) (ps : List (ℕ × ℕ)) (base r : ℕ) (found : Option ℕ)
+    → before ≡ put_all table ps
+    → Some r ≡ found → (0 < taken found → base + taken found ≤ length table) → 0 < places r
+    → base + places r ≤ length before
 use_fits table before ps base r found is f fits some =
     let same : length before ≡ length table = ap (λ (x : List (Option ℕ)). length x) is ∙ put_all_length table ps in
     let most : base + places r ≤ length table =
-    subst (λ (x : Option ℕ). (0 < taken x → base + taken x ≤ length table) → base + places r ≤ length table) f (λ h. h some) fits in
+    subst (λ (x : Option ℕ). (0 < taken x → base + taken x ≤ length table) → base + places r ≤ length table) f
+    (λ h. h some) fits in
     omega (arith, same, most)

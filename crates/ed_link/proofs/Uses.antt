@@ -1,5 +1,6 @@
 -- What the fold does at the items of a `use` line: preset parameters, and a routine's items.
-use Rattle.std.proofs.Common.{◌≡◌, ◌≢◌, ℕ, suc, ◌+◌, ◌-◌, ◌*◌, ◌<◌, ◌≤◌, ◌⊎◌, inl, inr, refl, sym, ap, ◌∙◌, subst, arith}
+use Rattle.std.proofs.Common.{◌≡◌, ◌≢◌, ℕ, suc, ◌+◌, ◌-◌, ◌*◌, ◌<◌, ◌≤◌, ◌⊎◌}
+use Rattle.std.proofs.Common.{inl, inr, refl, sym, ap, ◌∙◌, subst, arith}
 use Rattle.std.proofs.Common.{Bool, true, false, nat_eq, Option, Some, None, List, [], ◌∷◌, ◌++◌, length, map}
 use Rattle.std.proofs.Common.{append_assoc, get_or}
 use Rattle.std.specs.Prelude.{reverse}
@@ -69,7 +70,8 @@ reversed ps qs m = sym (append_assoc (reverse qs) (reverse ps) m) ∙ ap (λ x. 
 module _ (z : Size) (words : List ℕ) (whole : length words ≡ 1024) (homes : List Home) (ts : List Setting) where
   -- the word of a letter that is set stands in its location
   abbrev pub IsHeld : List (ℕ × ℕ) → ℕ → Type 0
-  IsHeld placed c = (o : Operand) → setting ts c ≡ Some o → get_or (over placed words) (24 + c) 0 ≡ 2 * number homes None o
+  IsHeld placed c = (o : Operand) → setting ts c ≡ Some o
+      → get_or (over placed words) (24 + c) 0 ≡ 2 * number homes None o
 
   abbrev pub AreHeld : List (ℕ × ℕ) → List ℕ → Type 0
   AreHeld placed [] = Unit {0}
@@ -91,7 +93,8 @@ module _ (z : Size) (words : List ℕ) (whole : length words ≡ 1024) (homes : 
   put placed c o e h p f =
       let inside : 24 + c < length (over placed words) = omega (arith, length-over placed words) in
       let q : o ≡ p = same_operand o p (sym e ∙ f) in
-      get_or-set_same (over placed words) (24 + c) (2 * number homes None o) 0 inside ∙ ap (λ (x : Operand). 2 * number homes None x) q
+      get_or-set_same (over placed words) (24 + c) (2 * number homes None o) 0 inside
+      ∙ ap (λ (x : Operand). 2 * number homes None x) q
 
   put_other : (placed : List (ℕ × ℕ)) (p w d : ℕ) → 24 + d ≢ p → IsHeld placed d → IsHeld ((p, w) ∷ placed) d
   put_other placed p w d n h o e = get_or-set_other (over placed words) p (24 + d) w 0 n ∙ h o e
@@ -99,22 +102,35 @@ module _ (z : Size) (words : List ℕ) (whole : length words ≡ 1024) (homes : 
   one : (c : ℕ) (found : Option Operand) → setting ts c ≡ found → 20 ≤ c → c < 32 → (note : Note)
       → AreSpellable (preset_items homes found c)
       → (s : Sets note (preset_items homes found c) (preset homes found c)) × IsHeld s.next.placed c
-  one c None e low high note are =
-      (record { next = note; passes = refl; theta = refl; placed = refl; keeps = λ d h. h }, λ o f. let q = sym e ∙ f in cc)
+  one c None e low high note are = (
+    record { next = note; passes = refl; theta = refl; placed = refl; keeps = λ d h. h },
+    λ o f. let q =
+        sym e ∙ f in cc,
+  )
   one c (Some o) e low high note are =
       let n = number homes None o in
       let m : n ≤ 32767 = spelled_number (item 0 n false 17) are.1.0 in
       let l = least z in
       let aimed : Note = record note { directive = 20480 + 2 * (24 + c) } in
       let w : word_in_fold words aimed (item 0 n false 17) ≡ 2 * n = omega arith in
-      let next : Note = record { directive = 20480 + 2 * (24 + c + 1); theta = note.theta; placed = (24 + c, 2 * n) ∷ note.placed } in (
+      let next : Note = record {
+        directive = 20480 + 2 * (24 + c + 1);
+        theta = note.theta;
+        placed = (24 + c, 2 * n)
+            ∷ note.placed;
+      } in (
         record {
           next = next;
           passes = (
             aimed,
             aiming z words note (24 + c) (omega arith),
             refl,
-            (next, placing z words aimed (item 0 n false 17) (24 + c) (2 * n) refl refl (omega arith) (omega arith) w, refl, refl),
+            (
+              next,
+              placing z words aimed (item 0 n false 17) (24 + c) (2 * n) refl refl (omega arith) (omega arith) w,
+              refl,
+              refl,
+            ),
           );
           theta = refl;
           placed = refl;
@@ -131,8 +147,10 @@ module _ (z : Size) (words : List ℕ) (whole : length words ≡ 1024) (homes : 
   AreLetters [] = Unit {0}
   AreLetters (c ∷ cs) = (20 ≤ c) × (c < 32) × AreLetters cs
 
-  pub all : (cs : List ℕ) → AreLetters cs → (note : Note) → AreSpellable (flat_map (λ c. preset_items homes (setting ts c) c) cs)
-      → (s : Sets note (flat_map (λ c. preset_items homes (setting ts c) c) cs) (flat_map (λ c. preset homes (setting ts c) c) cs))
+  pub all : (cs : List ℕ) → AreLetters cs → (note : Note)
+      → AreSpellable (flat_map (λ c. preset_items homes (setting ts c) c) cs)
+      → (s : Sets note (flat_map (λ c. preset_items homes (setting ts c) c) cs)
+      (flat_map (λ c. preset homes (setting ts c) c) cs))
       × AreHeld s.next.placed cs
   all [] are note spelled = (record { next = note; passes = refl; theta = refl; placed = refl; keeps = λ d h. h }, tt)
   all (c ∷ cs) are note spelled =
@@ -208,10 +226,12 @@ module _ (z : Size) (words : List ℕ) (whole : length words ≡ 1024) (homes : 
   AreKnown (row ∷ rows) = IsKnown row.3 × AreKnown rows
 
   -- a routine's items
-  pub image_pass : (rows : List (ℕ × ℕ × Bool × ℕ)) (place base : ℕ) (placed : List (ℕ × ℕ)) → AreKnown rows → 56 ≤ place
+  pub image_pass : (rows : List (ℕ × ℕ × Bool × ℕ)) (place base : ℕ) (placed : List (ℕ × ℕ)) → AreKnown rows
+      → 56 ≤ place
       → place + length rows ≤ locations z → HoldsAll placed
       → Passes z words (at place base placed) (map item_of rows)
-      (at (place + length rows) base (reverse (laid place (map (λ row. item_word (parameters homes ts) base (item_of row))
+      (at (place + length rows) base
+      (reverse (laid place (map (λ row. item_word (parameters homes ts) base (item_of row))
       rows)) ++ placed))
   image_pass [] place base placed are low high h = let e : place + 0 ≡ place = omega arith in rw e refl
   image_pass (row ∷ rows) place base placed are low high h =
@@ -220,9 +240,11 @@ module _ (z : Size) (words : List ℕ) (whole : length words ≡ 1024) (homes : 
       let e : place + suc (length rows) ≡ place + 1 + length rows = omega arith in
       let v : word_in_fold words (at place base placed) (item_of row) ≡ w =
       ap (λ v. word_with row.0 row.1 row.2 v) (value_is base row.3 placed are.0 h) in
-      let r = image_pass rows (place + 1) base ((place, w) ∷ placed) are.1 (omega arith) (omega arith) (still placed place w low h) in (
+      let r = image_pass rows (place + 1) base ((place, w) ∷ placed) are.1 (omega arith) (omega arith)
+      (still placed place w low h) in (
         at (place + 1) base ((place, w) ∷ placed),
-        placing z words (at place base placed) (item_of row) place w (kind_of row.3 are.0).0 refl (omega arith) (omega arith) v,
+        placing z words (at place base placed) (item_of row) place w (kind_of row.3 are.0).0 refl (omega arith)
+            (omega arith) v,
         (kind_of row.3 are.0).1,
         subst (λ (n : Note). Passes z words (at (place + 1) base ((place, w) ∷ placed)) (map item_of rows) n)
             (λ i. at (sym e i) base (placed_more (place, w) (laid (place + 1) ws) placed i)) r,

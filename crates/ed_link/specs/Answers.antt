@@ -2,7 +2,7 @@
 use Rattle.std.specs.Prelude.{◌≡◌, ℕ, ◌<◌, reverse, List, Option, Some, None, Ok}
 use Rattle.ed_words.specs.declared.size.Size.{Size}
 use Rattle.ed_notation.specs.Fold.{placed_at}
-use Rattle.ed_syntax.specs.Lines.{Text}
+use Rattle.ed_words.specs.Texts.{Text}
 use Rattle.ed_syntax.specs.Sources.{program_of}
 use Rattle.ed_syntax.specs.declared.program.Line.{Line}
 use Rattle.ed_syntax.specs.declared.fault.SourceFault.{SourceFault}
@@ -36,4 +36,5 @@ pub record IsLinked (z : Size) (lines : List Line) (k : Linked) : Type 0 where
 -- whatever source has no fault, its tape comes to its linked program, from every store
 abbrev pub EachSourceComes : Type 0
 EachSourceComes =
-    (z : Size) (source : Text) (lines : List Line) → program_of source ≡ Ok lines → fault z lines ≡ None → ComesToLinked z lines
+    (z : Size) (source : Text) (lines : List Line) → program_of source ≡ Ok lines → fault z lines ≡ None
+    → ComesToLinked z lines

@@ -60,21 +60,25 @@ has_no_routine st = false
 -- whether as many letters are set as a routine has parameters, and each of these
 abbrev pub sets : List Setting → Option ℕ → Bool
 sets ts None = true
-sets ts (Some r) = nat_eq (length ts) (length (entry r).parameters) && list_all (λ c. is_some (setting ts c)) (entry r).parameters
+sets ts (Some r) = nat_eq (length ts) (length (entry r).parameters)
+    && list_all (λ c. is_some (setting ts c)) (entry r).parameters
 
 -- S15
 abbrev pub sets_otherwise : Option Statement → Bool
 sets_otherwise (Some (Fetch routine name ts)) = not (sets ts.items (find routine))
 sets_otherwise st = false
 
+-- whether a line is an `enter`
 abbrev pub is_enter : Option Statement → Bool
 is_enter (Some (Enter name)) = true
 is_enter st = false
 
+-- whether a line is a `data`
 abbrev pub is_rows : Option Statement → Bool
 is_rows (Some (Rows codes)) = true
 is_rows st = false
 
+-- whether some line is an `enter`
 abbrev pub any_enter : List Line → Bool
 any_enter [] = false
 any_enter (l ∷ lines) = is_enter l.statement || any_enter lines
@@ -82,7 +86,8 @@ any_enter (l ∷ lines) = is_enter l.statement || any_enter lines
 -- S16: behind the first `enter` any form but `data`, and before it `data`, where there is one
 abbrev pub is_misplaced : Bool → Bool → Line → Bool
 is_misplaced entered any l =
-    if entered then (is_some l.label || is_some l.statement) && not (is_rows l.statement) else any && is_rows l.statement
+    if entered then (is_some l.label || is_some l.statement) && not (is_rows l.statement)
+    else any && is_rows l.statement
 
 -- S17
 abbrev pub has_sandwich : Option Statement → Bool
@@ -94,8 +99,12 @@ pub record Past : Type 0 where
   pub runs : List (ℕ × ℕ)
   pub entered : Bool
 
+-- the same behind a line
 abbrev pub past_of : Past → Line → Spot → Past
-past_of past l s = record { runs = past.runs ++ run_of l.statement s ∷ []; entered = past.entered || is_enter l.statement }
+past_of past l s = record {
+  runs = past.runs ++ run_of l.statement s ∷ [];
+  entered = past.entered || is_enter l.statement;
+}
 
 -- of the faults S9 to S17 of a line the one with the least number
 abbrev pub cause_of : Size → List Home → Bool → Past → Line → Spot → Option SourceCause
@@ -115,12 +124,14 @@ cause_of z homes any past l s =
 abbrev pub fault_from : Size → List Home → Bool → Past → Spot → List Line → Option SourceFault
 fault_from z homes any past s [] = None
 fault_from z homes any past s (l ∷ lines) =
-    or_later l.number (cause_of z homes any past l s) (fault_from z homes any (past_of past l s) (passed l.statement s) lines)
+    or_later l.number (cause_of z homes any past l s)
+    (fault_from z homes any (past_of past l s) (passed l.statement s) lines)
 
 -- S16 where there is no `enter`: at the number of lines plus 1
 abbrev pub missing : Bool → ℕ → Option SourceFault
 missing any n = if any then None else Some (At (n + 1) causes.Enter)
 
+-- the line of a fault
 abbrev pub line_of : SourceFault → ℕ
 line_of (At line cause) = line
 line_of Memory = 0

@@ -10,7 +10,8 @@ use Rattle.ed_library.specs.Images.{item_word}
 use Rattle.ed_syntax.specs.declared.program.Operand.{Operand}
 use Rattle.ed_syntax.specs.declared.program.Setting.{Setting}
 use Rattle.ed_syntax.specs.declared.program.Statement.{Statement}
-use Rattle.ed_syntax.specs.declared.program.Statement.TheVariants.{Segment, Order, Number, Text, Long, Fetch, Enter, Rows}
+use Rattle.ed_syntax.specs.declared.program.Statement.TheVariants.{Segment, Order, Number, Text}
+use Rattle.ed_syntax.specs.declared.program.Statement.TheVariants.{Long, Fetch, Enter, Rows}
 use Rattle.ed_syntax.specs.declared.program.Line.{Line}
 use Rattle.ed_symbols.specs.declared.spots.Spot.{Spot}
 use Rattle.ed_symbols.specs.declared.homes.Home.{Home}
@@ -74,11 +75,13 @@ parameters homes ts = map (λ c. parameter homes (setting ts c)) letters
 -- the words of a routine at a base
 abbrev pub image : List Home → List Setting → ℕ → Option ℕ → List (ℕ × ℕ)
 image homes ts base None = []
-image homes ts base (Some r) = laid base (map (λ row. item_word (parameters homes ts) base (item_of row)) (entry r).items)
+image homes ts base (Some r) =
+    laid base (map (λ row. item_word (parameters homes ts) base (item_of row)) (entry r).items)
 
 -- what a line places: its words, and at a `use` the parameters that it sets and the routine's words
 abbrev pub placed_by : List Home → Spot → Option Statement → List (ℕ × ℕ)
-placed_by homes s (Some (Fetch routine name ts)) = presets homes ts.items ++ image homes ts.items (even s.place) (find routine)
+placed_by homes s (Some (Fetch routine name ts)) = presets homes ts.items
+    ++ image homes ts.items (even s.place) (find routine)
 placed_by homes s st = laid s.place (words_of homes s st)
 
 -- what the lines from a spot on place, one after the other
@@ -91,16 +94,18 @@ abbrev pub enters : List Home → Option Statement → ℕ → ℕ
 enters homes (Some (Enter name)) later = unwrap_or (place_on homes None name) 0
 enters homes st later = later
 
+-- the same of lines
 abbrev pub entry_from : List Home → List Line → ℕ
 entry_from homes [] = 0
 entry_from homes (l ∷ lines) = enters homes l.statement (entry_from homes lines)
 
--- the first place of a line's words, and the place behind them
+-- the first place of a line's words
 abbrev pub first_place : Option Statement → Spot → ℕ
 first_place (Some (Segment name base)) s = (passed (Some (Segment name base)) s).place
 first_place (Some (Fetch routine name ts)) s = even s.place
 first_place st s = s.place
 
+-- the place behind a line's words
 abbrev pub end_place : Option Statement → Spot → ℕ
 end_place st s = (passed st s).place
 
@@ -108,7 +113,8 @@ end_place st s = (passed st s).place
 abbrev pub theta_from : ℕ → Spot → List Line → ℕ
 theta_from theta s [] = theta
 theta_from theta s (l ∷ lines) =
-    theta_from (if nat_lt (first_place l.statement s) (end_place l.statement s) then 2 * (passed l.statement s).base else theta)
+    theta_from
+    (if nat_lt (first_place l.statement s) (end_place l.statement s) then 2 * (passed l.statement s).base else theta)
     (passed l.statement s) lines
 
 -- the rows of the tape behind the program
@@ -116,6 +122,7 @@ abbrev pub rows_of : Option Statement → List ℕ
 rows_of (Some (Rows codes)) = codes.items
 rows_of st = []
 
+-- those of all lines
 abbrev pub after : List Line → List ℕ
 after [] = []
 after (l ∷ lines) = rows_of l.statement ++ after lines

@@ -43,9 +43,11 @@ arrival words lines = record {
 abbrev pub ComesToLinked : Size → List Line → Type 0
 ComesToLinked z lines =
     (words : List ℕ) → length words ≡ 1024
-    → WellFormed z words (opening words) (tape lines) × ComesTo words (opening words) 9 (tape lines) (arrival words lines)
+    → WellFormed z words (opening words) (tape lines)
+    × ComesTo words (opening words) 9 (tape lines) (arrival words lines)
 
--- the text of the rows behind the items: a line where there are any, digits as digits and other rows as letters or signs
+-- the text of the rows behind the items: a line where there are any, digits as digits and other rows as letters or
+-- signs
 abbrev pub after_text : List ℕ → List ℕ
 after_text [] = []
 after_text (c ∷ rows) = line_from true (c ∷ rows)

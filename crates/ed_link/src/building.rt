@@ -85,9 +85,11 @@ fn add_line(
     requires base { spot.base ≤ spot.place }
     requires fits { (reach homes.now statement.now spot).0 < (reach homes.now statement.now spot).1
         → (reach homes.now statement.now spot).1 ≤ 1024 }
-    ensures items { OnOk result (built.new.items.items ≡ built.old.items.items ++ items_of homes.now spot statement.now) }
+    ensures items { OnOk result
+        (built.new.items.items ≡ built.old.items.items ++ items_of homes.now spot statement.now) }
     ensures spellable { AreSpellable built.new.items.items }
-    ensures table { OnOk result (built.new.table.items ≡ put_all built.old.table.items (placed_by homes.now spot statement.now)) }
+    ensures table { OnOk result
+        (built.new.table.items ≡ put_all built.old.table.items (placed_by homes.now spot statement.now)) }
     ensures size { OnOk result (length built.new.table.items ≡ 1024) }
     ensures after { OnOk result (built.new.after.items ≡ built.old.after.items ++ rows_of statement.now) }
     ensures entry { OnOk result ((later : ℕ)
@@ -166,7 +168,8 @@ fn bound_routine(routine: &Name)
 
 /// Before the first line.
 fn start(alloc: Global) -> Result<Built, NoMemory>
-    ensures { IfOk result (λ b. (b.items.items ≡ []) × (b.table.items ≡ empty_table) × (b.entry ≡ None) × (b.after.items ≡ [])) }
+    ensures { IfOk result (λ b. (b.items.items ≡ []) × (b.table.items ≡ empty_table) × (b.entry ≡ None)
+        × (b.after.items ≡ [])) }
 {
     let table = empty_table(alloc)?;
     Ok(Built {

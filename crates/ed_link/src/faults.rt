@@ -190,7 +190,8 @@ pub(crate) fn cause_of(
 ) -> Option<SourceCause>
     requires place { spot.place ≤ 2 ^ 30 }
     requires segments { spot.segments ≤ 2000 }
-    ensures { result ≡ cause_of size homes.now any (record { runs = past.now.runs.items; entered = past.now.entered }) line.now spot }
+    ensures { result ≡ cause_of size homes.now any (record { runs = past.now.runs.items; entered = past.now.entered })
+        line.now spot }
 {
     let reach = reach(homes, &line.statement, spot);
     if is_outside(line, spot) {

@@ -57,12 +57,14 @@ impl Linked {
         }
     }
 
-    /// The text of the tape: a line for each item, and a line of the rows behind them, where there are any. Its rows are
-    /// those of `rows`.
+    /// The text of the tape: a line for each item, and a line of the rows behind them, where there are any. Its rows
+    /// are those of `rows`.
     #[tactic(auto, using(crate::proofs::Spellable::are_spellable, crate::proofs::Texts::both_read))]
     pub fn text(&self) -> Result<Vec<u8>, NoMemory>
-        ensures is { IfOk result (λ v. v.items ≡ text_of (canonicals self.now.items.items) ++ after_text self.now.after.items) }
-        ensures reads { IfOk result (λ v. reading v.items ≡ rows (spelled (canonicals self.now.items.items) ++ self.now.after.items)) }
+        ensures is { IfOk result
+            (λ v. v.items ≡ text_of (canonicals self.now.items.items) ++ after_text self.now.after.items) }
+        ensures reads { IfOk result
+            (λ v. reading v.items ≡ rows (spelled (canonicals self.now.items.items) ++ self.now.after.items)) }
     {
         let mut text = text_of_items(*self.items.allocator(), &self.items)?;
         push_after(&mut text, &self.after)?;

@@ -197,7 +197,8 @@ fn push_preset(
 ) -> Result<(), NoMemory>
     requires spellable { AreSpellable items.old.items }
     requires letter { letter ≤ 26 }
-    ensures items { OnOk result (items.new.items ≡ items.old.items ++ preset_items homes.now (setting settings.now letter) letter) }
+    ensures items { OnOk result
+        (items.new.items ≡ items.old.items ++ preset_items homes.now (setting settings.now letter) letter) }
     ensures spellable { AreSpellable items.new.items }
 {
     match setting(settings, letter) {
@@ -256,7 +257,8 @@ fn push_use(
 ) -> Result<(), NoMemory>
     requires spellable { AreSpellable items.old.items }
     requires base { 0 < taken (find routine.now) → base ≤ 32767 }
-    ensures items { OnOk result (items.new.items ≡ items.old.items ++ use_items homes.now settings.now base (find routine.now)) }
+    ensures items { OnOk result
+        (items.new.items ≡ items.old.items ++ use_items homes.now settings.now base (find routine.now)) }
     ensures spellable { AreSpellable items.new.items }
 {
     push_presets(items, homes, settings, &[21, 22, 23, 24, 25, 26])?;

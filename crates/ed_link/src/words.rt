@@ -88,7 +88,8 @@ fn put_preset(table: &mut Vec<Option<Word>>, homes: &[Home], settings: &[Setting
 fn put_presets(table: &mut Vec<Option<Word>>, homes: &[Home], settings: &[Setting], letters: &[u8])
     requires letters { IsTrue (list_all (λ c. nat_le c 26) letters.now) }
     requires table { 51 ≤ length table.old.items }
-    ensures { table.new.items ≡ put_all table.old.items (flat_map (λ c. preset homes.now (setting settings.now c) c) letters.now) }
+    ensures { table.new.items
+        ≡ put_all table.old.items (flat_map (λ c. preset homes.now (setting settings.now c) c) letters.now) }
 {
     for letter in letters {
         put_preset(table, homes, settings, *letter);
@@ -98,7 +99,8 @@ fn put_presets(table: &mut Vec<Option<Word>>, homes: &[Home], settings: &[Settin
 /// Puts the words of a routine.
 fn put_routine(table: &mut Vec<Option<Word>>, parameters: &Parameters, base: u16, routine: Routine)
     requires { base + places routine ≤ length table.old.items }
-    ensures { table.new.items ≡ put_all table.old.items (laid base (map (λ row. item_word parameters.now base (item_of row))
+    ensures { table.new.items
+        ≡ put_all table.old.items (laid base (map (λ row. item_word parameters.now base (item_of row))
         (entry routine).items)) }
 {
     for place in 0..routine.length() {
@@ -118,7 +120,8 @@ fn put_use(
 )
     requires base { 0 < taken (find routine.now) → base + taken (find routine.now) ≤ length table.old.items }
     requires table { length table.old.items ≡ 1024 }
-    ensures { table.new.items ≡ put_all table.old.items (presets homes.now settings.now ++ image homes.now settings.now base
+    ensures { table.new.items
+        ≡ put_all table.old.items (presets homes.now settings.now ++ image homes.now settings.now base
         (find routine.now)) }
 {
     put_presets(table, homes, settings, &[21, 22, 23, 24, 25, 26]);

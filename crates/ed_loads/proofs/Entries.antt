@@ -30,7 +30,8 @@ use Rattle.ed_link.specs.Tapes.{ComesToLinked, arrival, cost, tape}
 use Rattle.ed_loads.specs.EntryState.{Enters, EachSourceEnters, entry_state, first_state, own_words}
 
 -- words placed over stores that agree from 44 on agree there
-one : (v w : List ℕ) (p x : ℕ) (t : Bool) → nat_lt p 44 ≡ t → drop 44 v ≡ drop 44 w → drop 44 (set v p x) ≡ drop 44 (set w p x)
+one : (v w : List ℕ) (p x : ℕ) (t : Bool) → nat_lt p 44 ≡ t → drop 44 v ≡ drop 44 w
+    → drop 44 (set v p x) ≡ drop 44 (set w p x)
 one v w p x true e h =
     let l : p < 44 = grind (arith, nat_tests) in
     drop-set-lt 44 v p x l ∙ h ∙ sym (drop-set-lt 44 w p x l)
@@ -41,7 +42,8 @@ one v w p x false e h =
     λ u. ap (λ y. drop 44 (set u y x)) (sym q) ∙ drop-set-add 44 u (p - 44) x in
     a v ∙ ap (λ (y : List ℕ). set y (p - 44) x) h ∙ sym (a w)
 
-same_over : (placed : List (ℕ × ℕ)) (v w : List ℕ) → drop 44 v ≡ drop 44 w → drop 44 (over placed v) ≡ drop 44 (over placed w)
+same_over : (placed : List (ℕ × ℕ)) (v w : List ℕ) → drop 44 v ≡ drop 44 w
+    → drop 44 (over placed v) ≡ drop 44 (over placed w)
 same_over [] v w h = h
 same_over (p ∷ placed) v w h = one (over placed v) (over placed w) p.0 p.1 (nat_lt p.0 44) refl (same_over placed v w h)
 
@@ -83,7 +85,8 @@ first_orders : (n : ℕ) → 0 + n ≡ n
 first_orders n = omega arith
 
 entered : (z : Size) (lines : List Line)
-    → at_entry (first_state z (tape lines)) (arrival (first_state z (tape lines)).store.words lines) ≡ entry_state z lines
+    → at_entry (first_state z (tape lines)) (arrival (first_state z (tape lines)).store.words lines)
+    ≡ entry_state z lines
 unfolding first_state
 entered z lines = λ i.
     let high : List ℕ = same_over (reverse (linked lines)) first_words (replicate 1024 0) refl i in
@@ -119,7 +122,8 @@ pub each_source : EachSourceEnters
 each_source z source lines p f = enters z lines (comes_to z source lines p f)
 
 -- what `load` leaves of the machine that is started on the tape of a linked program
-pub loaded : (z : Size) (lines : List Line) (program : Linked) (rows : List ℕ) (s t : State) (r : Loaded) → IsLinked z lines program
+pub loaded : (z : Size) (lines : List Line) (program : Linked) (rows : List ℕ) (s t : State) (r : Loaded)
+    → IsLinked z lines program
     → s ≡ first_state z rows → rows ≡ spelled (canonicals program.items.items) ++ program.after.items
     → ((e : Entry) → Comes s e → IsLoaded s e r t) → t ≡ entry_state z lines
 loaded z lines program rows s t r is begun written load =

@@ -1,6 +1,7 @@
 -- The state in which the program of a source is entered, on a machine that was cleared before Start (what the Initial
 -- Orders of Wilkes, Wheeler and Gill 1951 do with the tape of a linked program).
-use Rattle.std.specs.Prelude.{◌≡◌, ℕ, ◌+◌, ◌*◌, ◌^◌, ◌<◌, ◌≤◌, false, List, [], ◌++◌, None, Ok, drop, length, replicate, reverse}
+use Rattle.std.specs.Prelude.{◌≡◌, ℕ, ◌+◌, ◌*◌, ◌^◌, ◌<◌, ◌≤◌, false, List, []}
+use Rattle.std.specs.Prelude.{◌++◌, None, Ok, drop, length, replicate, reverse}
 use Rattle.ed_words.specs.declared.size.Size.{Size}
 use Rattle.ed_store.specs.Cells.{Cells}
 use Rattle.ed_machine.specs.State.{State, cleared}
@@ -11,7 +12,7 @@ use Rattle.ed_machine.specs.declared.turn.Turn.TheVariants.{Went}
 use Rattle.ed_notation.specs.Fold.{over}
 use Rattle.ed_initial.specs.Listing.{initial_orders}
 use Rattle.ed_initial.specs.Rests.{Working, initial_words}
-use Rattle.ed_syntax.specs.Lines.{Text}
+use Rattle.ed_words.specs.Texts.{Text}
 use Rattle.ed_syntax.specs.Sources.{program_of}
 use Rattle.ed_syntax.specs.declared.program.Line.{Line}
 use Rattle.ed_symbols.specs.Places.{first_spot}
@@ -23,7 +24,8 @@ use Rattle.ed_link.specs.Faults.{fault}
 unfoldable pub first_state : Size → List ℕ → State
 first_state z rows = started initial_orders rows (cleared z)
 
--- the words that the Initial Orders leave in the locations 0, 1, 20, 22 and 40 to 43; the others of 0 to 40 are as listed
+-- the words that the Initial Orders leave in the locations 0, 1, 20, 22 and 40 to 43; the others of 0 to 40 are as
+-- listed
 abbrev pub own_words : List Line → Working
 own_words lines = record {
   at0 = 0;
@@ -57,7 +59,8 @@ entry_state z lines = record {
 }
 
 -- a cleared machine that is started on the punched tape comes to that state after the stated cost, which is at most 17
--- orders a row of the punched items and 9 more; each of these orders neither prints nor stops, so that nothing is printed
+-- orders a row of the punched items and 9 more; each of these orders neither prints nor stops, so that nothing is
+-- printed
 pub record Enters (z : Size) (lines : List Line) : Type 0 where
   pub state_is : state_after (cost lines) (first_state z (tape lines)) ≡ entry_state z lines
   pub silent : (past (cost lines) (first_state z (tape lines))).codes ≡ []
@@ -66,4 +69,5 @@ pub record Enters (z : Size) (lines : List Line) : Type 0 where
 
 -- so it is with every source without a fault
 abbrev pub EachSourceEnters : Type 0
-EachSourceEnters = (z : Size) (source : Text) (lines : List Line) → program_of source ≡ Ok lines → fault z lines ≡ None → Enters z lines
+EachSourceEnters = (z : Size) (source : Text) (lines : List Line) → program_of source ≡ Ok lines
+    → fault z lines ≡ None → Enters z lines

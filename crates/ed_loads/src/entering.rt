@@ -26,7 +26,8 @@ pub fn started(alloc: Global, size: Size, rows: Vec<Code>) -> Result<Machine, No
 
 /// A cleared machine of a size, started on the tape of a linked program and led to its entry by the Initial Orders.
 pub fn enter(alloc: Global, size: Size, linked: &Linked) -> Result<Machine, NoMemory>
-    ensures entry { IfOk result (λ m. (lines : List Line) → IsLinked size lines linked.now → m ≡ entry_state size lines) }
+    ensures entry { IfOk result
+        (λ m. (lines : List Line) → IsLinked size lines linked.now → m ≡ entry_state size lines) }
     ensures law { EachSourceEnters }
 {
     let mut machine = started(alloc, size, linked.rows()?)?;

@@ -11,11 +11,13 @@ jumped_once : (b : Bool) (n : ℕ) (s : State) → (jumped b n s).state.orders �
 jumped_once true n s = refl
 jumped_once false n s = refl
 
-row_once : (rows : List ℕ) (w : ℕ) (s : State) → is_obeyed (took_row rows w s).turn ≡ true → (took_row rows w s).state.orders ≡ s.orders + 1
+row_once : (rows : List ℕ) (w : ℕ) (s : State) → is_obeyed (took_row rows w s).turn ≡ true
+    → (took_row rows w s).state.orders ≡ s.orders + 1
 row_once [] w s is = absurd (cc)
 row_once (row ∷ rows) w s is = refl
 
-once : (k : Option Kind) (w : ℕ) (s : State) → is_obeyed (obey_word k w s).turn ≡ true → (obey_word k w s).state.orders ≡ s.orders + 1
+once : (k : Option Kind) (w : ℕ) (s : State) → is_obeyed (obey_word k w s).turn ≡ true
+    → (obey_word k w s).state.orders ≡ s.orders + 1
 once (Some E) w s is = jumped_once _ (place_of s w) s
 once (Some G) w s is = jumped_once _ (place_of s w) s
 once (Some I) w s is = row_once s.tape w s is
@@ -47,5 +49,6 @@ unfolding past
 counted_after zero s free = omega arith
 counted_after (suc k) s free =
     let before : (state_after k s).orders ≡ s.orders + k = counted_after k s (λ j h. free j (omega arith)) in
-    let here : (step (state_after k s)).state.orders ≡ (state_after k s).orders + 1 = counted_step (state_after k s) (free k (omega arith)) in
+    let here : (step (state_after k s)).state.orders ≡ (state_after k s).orders + 1 =
+    counted_step (state_after k s) (free k (omega arith)) in
     omega (arith, before, here)

@@ -1,5 +1,6 @@
 -- The least number below a bound at which a test holds.
-use Rattle.std.proofs.Common.{◌≡◌, ◌⊎◌, inl, inr, ℕ, zero, suc, ◌+◌, ◌<◌, ◌≤◌, refl, sym, ap, ◌∙◌, arith, Bool, true, false, true≢false}
+use Rattle.std.proofs.Common.{◌≡◌, ◌⊎◌, inl, inr, ℕ, zero, suc, ◌+◌, ◌<◌, ◌≤◌, refl}
+use Rattle.std.proofs.Common.{sym, ap, ◌∙◌, arith, Bool, true, false, true≢false}
 use Rattle.std.specs.Prelude.{if◌then◌else◌}
 use Rattle.ed_machine.specs.Steps.{least}
 
@@ -13,15 +14,18 @@ least_none test (suc n) fails =
     rw (before, here) refl
 
 -- a number at which the test holds first is found
-pub least_found : (test : ℕ → Bool) (n k : ℕ) → test k ≡ true → ((j : ℕ) → j < k → test j ≡ false) → k < n → least test n ≡ k
+pub least_found : (test : ℕ → Bool) (n k : ℕ) → test k ≡ true → ((j : ℕ) → j < k → test j ≡ false) → k < n
+    → least test n ≡ k
 unfolding least
 least_found test zero k holds fails below = absurd (omega arith)
-least_found test (suc n) k holds fails below = by_place (split k n (omega arith)) (λ lower. least_found test n k holds fails lower)
+least_found test (suc n) k holds fails below =
+    by_place (split k n (omega arith)) (λ lower. least_found test n k holds fails lower)
   where
     split : (k n : ℕ) → k ≤ n → (k ≡ n) ⊎ (k < n)
     split k n h = grind arith
 
-    by_place : (k ≡ n) ⊎ (k < n) → (k < n → least test n ≡ k) → (if test (least test n) then least test n else suc n) ≡ k
+    by_place : (k ≡ n) ⊎ (k < n) → (k < n → least test n ≡ k)
+        → (if test (least test n) then least test n else suc n) ≡ k
     by_place (inl is) found =
         let before : least test n ≡ n = least_none test n (λ j h. fails j (omega arith)) in
         let here : test n ≡ true = ap test (sym is) ∙ holds in
@@ -44,7 +48,8 @@ unfolding least
 least_end test zero h = refl
 least_end test (suc n) h = by_test (test (least test n)) refl h
   where
-    by_test : (b : Bool) → test (least test n) ≡ b → test (if b then least test n else suc n) ≡ false → (if b then least test n else suc n) ≡ suc n
+    by_test : (b : Bool) → test (least test n) ≡ b → test (if b then least test n else suc n) ≡ false
+        → (if b then least test n else suc n) ≡ suc n
     by_test true e h = absurd (true≢false (sym e ∙ h))
     by_test false e h = refl
 
@@ -54,7 +59,8 @@ unfolding least
 least_first test zero j h = absurd (omega arith)
 least_first test (suc n) j h = by_test (test (least test n)) refl h (λ below. least_first test n j below)
   where
-    by_place : (j < least test n) ⊎ (j ≡ least test n) → test (least test n) ≡ false → (j < least test n → test j ≡ false)
+    by_place : (j < least test n) ⊎ (j ≡ least test n) → test (least test n) ≡ false
+        → (j < least test n → test j ≡ false)
         → test j ≡ false
     by_place (inl below) e before = before below
     by_place (inr is) e before = ap test is ∙ e
@@ -65,7 +71,8 @@ least_first test (suc n) j h = by_test (test (least test n)) refl h (λ below. l
     by_test false e h before = let k : least test n ≡ n = least_end test n e in by_place (grind arith) e before
 
 -- a test that fails at the first k numbers is found where the test from k on is, and k more
-pub least_on : (test later : ℕ → Bool) (k m : ℕ) → ((j : ℕ) → j < k → test j ≡ false) → ((j : ℕ) → test (k + j) ≡ later j)
+pub least_on : (test later : ℕ → Bool) (k m : ℕ) → ((j : ℕ) → j < k → test j ≡ false)
+    → ((j : ℕ) → test (k + j) ≡ later j)
     → least test (k + m) ≡ k + least later m
 unfolding least
 least_on test later k zero fails same = let z : k + 0 ≡ k = omega arith in rw z (least_none test k fails)

@@ -1,5 +1,6 @@
 -- A step leads from a state within its bounds to another.
-use Rattle.std.proofs.Common.{ℕ, zero, suc, ◌+◌, ◌*◌, ◌/◌, ◌^◌, ◌<◌, ◌∙◌, arith, lit<, Bool, true, false, nat_lt, nat_le, List, [], ◌∷◌, Option, Some, None, get_or, set, pos, negsuc, ℤ}
+use Rattle.std.proofs.Common.{ℕ, zero, suc, ◌+◌, ◌*◌, ◌/◌, ◌^◌, ◌<◌, ◌∙◌, arith, lit<, Bool, true, false}
+use Rattle.std.proofs.Common.{nat_lt, nat_le, List, [], ◌∷◌, Option, Some, None, get_or, set, pos, negsuc, ℤ}
 use Rattle.std.proofs.lemmas.List.{length-set}
 use Rattle.ed_words.specs.Sizes.{locations}
 use Rattle.ed_words.specs.Words.{address_of, is_long, halves_of, joined}
@@ -9,40 +10,41 @@ use Rattle.ed_store.specs.Cells.{Cells, IsStore, even, odd}
 use Rattle.ed_orders.specs.declared.kind.Kind.{Kind}
 use Rattle.ed_orders.specs.declared.kind.Kind.TheVariants.{A, S, H, V, N, T, U, C, R, L, E, G, I, O, F, X, Y, Z}
 use Rattle.ed_machine.specs.State.{State}
-use Rattle.ed_machine.specs.OrderTable.{step, obey_word, read_at, written, written_at, place_of, operand35, done_at, after, jumped, took_row}
+use Rattle.ed_machine.specs.OrderTable.{step, obey_word, read_at, written, written_at}
+use Rattle.ed_machine.specs.OrderTable.{place_of, operand35, done_at, after, jumped, took_row}
 use Rattle.ed_machine.specs.Steps.{past, state_after}
 use Rattle.ed_machine.specs.Sound.{IsSound, StaysSound}
 
 -- the arithmetic of the accumulator gives 71 digits
-modulo71_fits : (z : ℤ) → modulo71 z < 2 ^ 71
+pub modulo71_fits : (z : ℤ) → modulo71 z < 2 ^ 71
 modulo71_fits (pos n) = omega arith
 modulo71_fits (negsuc n) = omega arith
 
-plus71_fits : (a n : ℕ) → plus71 a n < 2 ^ 71
+pub plus71_fits : (a n : ℕ) → plus71 a n < 2 ^ 71
 unfolding plus71
 plus71_fits a n = omega arith
 
-minus71_fits : (a n : ℕ) → minus71 a n < 2 ^ 71
+pub minus71_fits : (a n : ℕ) → minus71 a n < 2 ^ 71
 unfolding minus71
 minus71_fits a n = modulo71_fits _
 
-plus_product_fits : (a m x : ℕ) → plus_product a m x < 2 ^ 71
+pub plus_product_fits : (a m x : ℕ) → plus_product a m x < 2 ^ 71
 unfolding plus_product
 plus_product_fits a m x = modulo71_fits _
 
-minus_product_fits : (a m x : ℕ) → minus_product a m x < 2 ^ 71
+pub minus_product_fits : (a m x : ℕ) → minus_product a m x < 2 ^ 71
 unfolding minus_product
 minus_product_fits a m x = modulo71_fits _
 
-collated_fits : (a m x : ℕ) → collated a m x < 2 ^ 71
+pub collated_fits : (a m x : ℕ) → collated a m x < 2 ^ 71
 unfolding collated
 collated_fits a m x = omega arith
 
-left71_fits : (a p : ℕ) → left71 a p < 2 ^ 71
+pub left71_fits : (a p : ℕ) → left71 a p < 2 ^ 71
 unfolding left71
 left71_fits a p = omega arith
 
-right71_fits : (a p : ℕ) → right71 a p < 2 ^ 71
+pub right71_fits : (a p : ℕ) → right71 a p < 2 ^ 71
 unfolding right71
 right71_fits a p = modulo71_fits _
 
@@ -54,7 +56,8 @@ set_fits (x ∷ xs) zero v (suc i) m z h hv = h (suc i)
 set_fits (x ∷ xs) (suc p) v zero m z h hv = h 0
 set_fits (x ∷ xs) (suc p) v (suc i) m z h hv = set_fits xs p v i m z (λ j. h (suc j)) hv
 
-written_fits : (l : Bool) (c : Cells) (p short long : ℕ) → IsStore c → short < 2 ^ 17 → long < 2 ^ 35 → IsStore (written_at l c p short long)
+written_fits : (l : Bool) (c : Cells) (p short long : ℕ) → IsStore c → short < 2 ^ 17 → long < 2 ^ 35
+    → IsStore (written_at l c p short long)
 written_fits false c p short long h s d = record {
   words_are = length-set c.words p short ∙ h.words_are;
   digits_are = h.digits_are;
@@ -63,14 +66,16 @@ written_fits false c p short long h s d = record {
 written_fits true c p short long h s d =
     let first = set c.words (even p) (halves_of long).even in
     record {
-      words_are = length-set first (odd p) (halves_of long).odd ∙ length-set c.words (even p) (halves_of long).even ∙ h.words_are;
+      words_are = length-set first (odd p) (halves_of long).odd ∙ length-set c.words (even p) (halves_of long).even
+          ∙ h.words_are;
       digits_are = length-set c.sandwich (p / 2) (halves_of long).sandwich ∙ h.digits_are;
       fits = λ i.
           set_fits first (odd p) (halves_of long).odd i (2 ^ 17) (lit< tt)
-          (λ j. set_fits c.words (even p) (halves_of long).even j (2 ^ 17) (lit< tt) h.fits (omega arith)) (omega arith);
+          (λ j. set_fits c.words (even p) (halves_of long).even j (2 ^ 17) (lit< tt) h.fits (omega arith))
+          (omega arith);
     }
 
-joined_fits : (o e : ℕ) (d : Bool) → o < 2 ^ 17 → e < 2 ^ 17 → joined o d e < 2 ^ 35
+pub joined_fits : (o e : ℕ) (d : Bool) → o < 2 ^ 17 → e < 2 ^ 17 → joined o d e < 2 ^ 35
 joined_fits o e true h g = omega arith
 joined_fits o e false h g = omega arith
 
@@ -81,10 +86,24 @@ read_fits false c p h = let x = h.fits p in omega arith
 module _ (s : State) (h : IsSound s) where
   -- a state with one part changed within its bounds
   with_acc : (a : ℕ) → a < 2 ^ 71 → IsSound (record s { acc = a })
-  with_acc a fits = record { store = h.store; acc = fits; multiplier = h.multiplier; counter = h.counter; tape = h.tape; last = h.last }
+  with_acc a fits = record {
+    store = h.store;
+    acc = fits;
+    multiplier = h.multiplier;
+    counter = h.counter;
+    tape = h.tape;
+    last = h.last;
+  }
 
   with_store : (c : Cells) → IsStore c → IsSound (record s { store = c })
-  with_store c is = record { store = is; acc = h.acc; multiplier = h.multiplier; counter = h.counter; tape = h.tape; last = h.last }
+  with_store c is = record {
+    store = is;
+    acc = h.acc;
+    multiplier = h.multiplier;
+    counter = h.counter;
+    tape = h.tape;
+    last = h.last;
+  }
 
   with_multiplier : (m : ℕ) → m < 2 ^ 35 → IsSound (record s { multiplier = m })
   with_multiplier m fits =
@@ -92,14 +111,35 @@ module _ (s : State) (h : IsSound s) where
 
   with_last : (code : ℕ) → code < 32 → IsSound (record s { last = Some code })
   with_last code fits =
-      record { store = h.store; acc = h.acc; multiplier = h.multiplier; counter = h.counter; tape = h.tape; last = fits }
+      record {
+        store = h.store;
+        acc = h.acc;
+        multiplier = h.multiplier;
+        counter = h.counter;
+        tape = h.tape;
+        last = fits;
+      }
 
   with_tape : (rows : List ℕ) → ((i : ℕ) → get_or rows i 0 < 32) → IsSound (record s { tape = rows })
-  with_tape rows fit = record { store = h.store; acc = h.acc; multiplier = h.multiplier; counter = h.counter; tape = fit; last = h.last }
+  with_tape rows fit = record {
+    store = h.store;
+    acc = h.acc;
+    multiplier = h.multiplier;
+    counter = h.counter;
+    tape = fit;
+    last = h.last;
+  }
 
   -- one more order done, with the counter at a place or at the next
   done : (n : ℕ) → n < locations s.size → IsSound (done_at n s)
-  done n below = record { store = h.store; acc = h.acc; multiplier = h.multiplier; counter = below; tape = h.tape; last = h.last }
+  done n below = record {
+    store = h.store;
+    acc = h.acc;
+    multiplier = h.multiplier;
+    counter = below;
+    tape = h.tape;
+    last = h.last;
+  }
 
   went_on : IsSound (done_at (after s) s)
   went_on = done (after s) (within_fits s.size (s.counter + 1))
@@ -110,15 +150,18 @@ module _ (s : State) (h : IsSound s) where
 
   -- a word written, a word read, a row taken
   wrote : (w short long : ℕ) → short < 2 ^ 17 → long < 2 ^ 35 → IsSound (record s { store = written w s short long })
-  wrote w short long fits fit = with_store _ (written_fits (is_long w) s.store (place_of s w) short long h.store fits fit)
+  wrote w short long fits fit =
+      with_store _ (written_fits (is_long w) s.store (place_of s w) short long h.store fits fit)
 
   read : (w : ℕ) → operand35 w s < 2 ^ 35
   read w = read_fits (is_long w) s.store (place_of s w) h.store
 
-top_written : (s : State) (w : ℕ) → IsSound s → IsSound (record s { store = written w s (s.acc / 2 ^ 54) (s.acc / 2 ^ 36) })
+top_written : (s : State) (w : ℕ) → IsSound s
+    → IsSound (record s { store = written w s (s.acc / 2 ^ 54) (s.acc / 2 ^ 36) })
 top_written s w h = let a = h.acc in wrote s h w _ _ (omega arith) (omega arith)
 
-row_taken : (rows : List ℕ) (w : ℕ) (s : State) → IsSound s → ((i : ℕ) → get_or rows i 0 < 32) → IsSound (took_row rows w s).state
+row_taken : (rows : List ℕ) (w : ℕ) (s : State) → IsSound s → ((i : ℕ) → get_or rows i 0 < 32)
+    → IsSound (took_row rows w s).state
 row_taken [] w s h fit = h
 row_taken (row ∷ rows) w s h fit =
     let a : row < 32 = fit 0 in

@@ -1,6 +1,8 @@
--- The order table: what one order does (Wilkes, Wheeler and Gill 1951; that O prints at once, the whole row of F, that X
--- does nothing, and that a long order with an odd address uses the pair that holds it, are this project's own rules).
-use Rattle.std.specs.Prelude.{ℕ, List, [], ◌∷◌, Option, Some, None, unwrap_or, Bool, true, false, ◌+◌, ◌*◌, ◌/◌, ◌^◌, nat_lt, nat_le}
+-- The order table: what one order does (Wilkes, Wheeler and Gill 1951; that O prints at once, the whole row of F,
+-- that X does nothing, and that a long order with an odd address uses the pair that holds it, are this project's own
+-- rules).
+use Rattle.std.specs.Prelude.{ℕ, List, [], ◌∷◌, Option, Some, None, unwrap_or, Bool}
+use Rattle.std.specs.Prelude.{true, false, ◌+◌, ◌*◌, ◌/◌, ◌^◌, nat_lt, nat_le}
 use Rattle.ed_words.specs.Words.{function_of, address_of, is_long}
 use Rattle.ed_words.specs.Sizes.{within}
 use Rattle.ed_acc.specs.Arithmetic.{plus71, minus71, plus_product, minus_product, collated, left71, right71}

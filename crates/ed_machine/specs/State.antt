@@ -24,4 +24,13 @@ pub record State : Type 0 where
 
 -- the state of a cleared machine: 0 everywhere, no tape, nothing printed
 abbrev pub cleared : Size → State
-cleared z = record { size = z; store = cleared_cells; acc = 0; multiplier = 0; counter = 0; tape = []; last = None; orders = 0 }
+cleared z = record {
+  size = z;
+  store = cleared_cells;
+  acc = 0;
+  multiplier = 0;
+  counter = 0;
+  tape = [];
+  last = None;
+  orders = 0;
+}

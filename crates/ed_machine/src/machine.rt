@@ -123,8 +123,8 @@ impl Machine {
     /// Obeys the order at the counter.
     ///
     /// `NoOrder` comes exactly where the word at the counter is no order, `NoTape` exactly where it is an I order and
-    /// no row is left; both change nothing. Two laws of the order table stand with it: steps keep the bounds of a state,
-    /// and steps that are each an order obeyed are counted.
+    /// no row is left; both change nothing. Two laws of the order table stand with it: steps keep the bounds of a
+    /// state, and steps that are each an order obeyed are counted.
     #[inline(always)]
     #[tactic(auto, unfolding(crate::specs::OrderTable::step))]
     pub fn step(&mut self) -> Turn

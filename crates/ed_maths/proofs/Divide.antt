@@ -1,6 +1,7 @@
--- The routine `divide`, by its listing. The long word at place 38 is four times a number that begins as the dividend and
--- ends as the remainder and the quotient side by side.
-use Rattle.std.proofs.Common.{◌≡◌, ◌≢◌, ℕ, zero, suc, ◌+◌, ◌-◌, ◌*◌, ◌/◌, ◌%◌, ◌^◌, ◌<◌, ◌≤◌, refl, arith, lit<, lit≤, Bool, true, false}
+-- The routine `divide`, by its listing. The long word at place 38 is four times a number that begins as the dividend
+-- and ends as the remainder and the quotient side by side.
+use Rattle.std.proofs.Common.{◌≡◌, ◌≢◌, ℕ, zero, suc, ◌+◌, ◌-◌, ◌*◌, ◌/◌, ◌%◌, ◌^◌}
+use Rattle.std.proofs.Common.{◌<◌, ◌≤◌, refl, arith, lit<, lit≤, Bool, true, false}
 use Rattle.std.proofs.Common.{nat_eq, List, [], ◌∷◌, Option, get_or, set, length}
 use Rattle.std.proofs.lemmas.Bool.Decides.{nat_tests}
 use Rattle.std.proofs.lemmas.List.{get_or-set_same, length-set}
@@ -12,7 +13,8 @@ use Rattle.ed_paths.proofs.Shifts.{RF, RD, LD, LF, L2F}
 use Rattle.ed_paths.proofs.Sums.{Remains, parted}
 use Rattle.ed_paths.proofs.Moves.{A, S, T, T_top, U, U_top, R, L, E_jumps, E_stays, G_jumps, G_stays}
 use Rattle.ed_paths.proofs.Paths.{Path, stay, on, followed}
-use Rattle.ed_maths.proofs.Quotient.{bit, next, numbers, quotient, decided, small as small_quotient, hit, hits, hits_ones}
+use Rattle.ed_maths.proofs.Quotient.{bit, next, numbers, quotient, decided}
+use Rattle.ed_maths.proofs.Quotient.{small as small_quotient, hit, hits, hits_ones}
 use Rattle.ed_maths.specs.Quotients.{ones}
 
 -- a long word by its two cells and the digit between
@@ -24,8 +26,8 @@ pub record Long : Type 0 where
 abbrev pub parts : ℕ → Long
 parts v = record { even = v % 2 ^ 17; odd = v / 2 ^ 18; digit = nat_eq (v / 2 ^ 17 % 2) 1 }
 
--- the cells that change: the order that returns, the count of turns, what sets a digit of the quotient, the number, and a
--- spare cell
+-- the cells that change: the order that returns, the count of turns, what sets a digit of the quotient, the number,
+-- and a spare cell
 pub record Work : Type 0 where
   pub at32 : ℕ
   pub at35 : ℕ
@@ -36,15 +38,14 @@ pub record Work : Type 0 where
 -- its words, and the sandwich digits of its two long words
 abbrev pub cells : ℕ → ℕ → ℕ → ℕ → Work → List ℕ
 cells b high low by w =
-    114694 ∷ (20480 + 2 * (b + 32)) ∷ (114688 + 2 * (b + 33)) ∷ 16384 ∷ 16385
-    ∷ (20481 + 2 * (b + 36)) ∷ (114688 + 2 * low) ∷ 16384 ∷ 16385 ∷ (114688 + 2 * high)
-    ∷ (20481 + 2 * (b + 38)) ∷ (49152 + 2 * (b + 34)) ∷ (28672 + 2 * (b + 35)) ∷ (20480 + 2 * (b + 40)) ∷ (114689 + 2 * (b + 38))
-    ∷ 102401 ∷ (49152 + 2 * by) ∷ (12288 + 2 * (b + 20)) ∷ (114688 + 2 * by) ∷ (12288 + 2 * (b + 21))
-    ∷ (114689 + 2 * (b + 36)) ∷ (20481 + 2 * (b + 38)) ∷ (114688 + 2 * (b + 35)) ∷ (114688 + 2 * (b + 33)) ∷ (28672 + 2 * (b + 35))
+    114694 ∷ (20480 + 2 * (b + 32)) ∷ (114688 + 2 * (b + 33)) ∷ 16384 ∷ 16385 ∷ (20481 + 2 * (b + 36))
+    ∷ (114688 + 2 * low) ∷ 16384 ∷ 16385 ∷ (114688 + 2 * high) ∷ (20481 + 2 * (b + 38)) ∷ (49152 + 2 * (b + 34))
+    ∷ (28672 + 2 * (b + 35)) ∷ (20480 + 2 * (b + 40)) ∷ (114689 + 2 * (b + 38)) ∷ 102401 ∷ (49152 + 2 * by)
+    ∷ (12288 + 2 * (b + 20)) ∷ (114688 + 2 * by) ∷ (12288 + 2 * (b + 21)) ∷ (114689 + 2 * (b + 36))
+    ∷ (20481 + 2 * (b + 38)) ∷ (114688 + 2 * (b + 35)) ∷ (114688 + 2 * (b + 33)) ∷ (28672 + 2 * (b + 35))
     ∷ (110592 + 2 * (b + 13)) ∷ (114689 + 2 * (b + 38)) ∷ (28672 + 2 * high) ∷ (49152 + 2 * high) ∷ 102400
-    ∷ 102404 ∷ (20480 + 2 * low) ∷ w.at32 ∷ 1 ∷ 16
-    ∷ w.at35 ∷ w.at36.even ∷ w.at36.odd ∷ w.at38.even ∷ w.at38.odd
-    ∷ w.at40 ∷ []
+    ∷ 102404 ∷ (20480 + 2 * low) ∷ w.at32 ∷ 1 ∷ 16 ∷ w.at35 ∷ w.at36.even ∷ w.at36.odd ∷ w.at38.even
+    ∷ w.at38.odd ∷ w.at40 ∷ []
 
 abbrev pub digits : Work → List Bool
 digits w = w.at36.digit ∷ w.at38.digit ∷ []
@@ -73,10 +74,13 @@ module _ (f : Frame 41 18) (behind : 56 ≤ f.base) (even : f.base % 2 ≡ 0) (h
   abbrev pub work : ℕ → ℕ → ℕ → Work
   work c v spare = record { at32 = 12288 + 2 * (m + 2); at35 = c; at36 = parts 4; at38 = parts v; at40 = spare }
 
-  module _ (d : ℕ) (ws : List ℕ) (away : IsOutside f ws by) (is_by : get_or ws by 0 ≡ d) (positive : 1 ≤ d) (fits : d ≤ 32767) where
+  module _ (d : ℕ) (ws : List ℕ) (away : IsOutside f ws by) (is_by : get_or ws by 0 ≡ d) (positive : 1 ≤ d)
+      (fits : d ≤ 32767) where
     -- a turn that subtracts the divisor, and one that doesn't
-    turn_1 : (c e x spare acc : ℕ) → acc ≡ short c → 65536 * d ≤ 2 * x → x < 65536 * d → c < 2 ^ 17 → (c + 1) % 2 ^ 17 ≡ e
-        → Path f 10 (run ws (work c (4 * x) spare) acc 13) [] (run ws (work e (4 * (2 * x + 1 - 65536 * d)) c) (short e) 25)
+    turn_1 : (c e x spare acc : ℕ) → acc ≡ short c → 65536 * d ≤ 2 * x → x < 65536 * d → c < 2 ^ 17
+        → (c + 1) % 2 ^ 17 ≡ e
+        → Path f 10 (run ws (work c (4 * x) spare) acc 13) []
+        (run ws (work e (4 * (2 * x + 1 - 65536 * d)) c) (short e) 25)
     turn_1 c e x spare acc top one under few is =
         on (T 13 (own 40) c refl top)
         (on (A 14 (pair 38 1 even) (long (4 * x)) refl (whole_long 0 (4 * x) (long (4 * x)) (omega arith)))
@@ -108,7 +112,8 @@ module _ (f : Frame 41 18) (behind : 56 ≤ f.base) (even : f.base % 2 ≡ 0) (h
     cost true = 10
     cost false = 11
 
-    turn : (b : Bool) (c e x spare acc : ℕ) → bit d x ≡ b → acc ≡ short c → x < 65536 * d → c < 2 ^ 17 → (c + 1) % 2 ^ 17 ≡ e
+    turn : (b : Bool) (c e x spare acc : ℕ) → bit d x ≡ b → acc ≡ short c → x < 65536 * d → c < 2 ^ 17
+        → (c + 1) % 2 ^ 17 ≡ e
         → Path f (cost b) (run ws (work c (4 * x) spare) acc 13) [] (run ws (work e (4 * next d b x) c) (short e) 25)
     turn true c e x spare acc t top under few is = turn_1 c e x spare acc top (grind (arith, nat_tests)) under few is
     turn false c e x spare acc t top under few is =
@@ -123,7 +128,8 @@ module _ (f : Frame 41 18) (behind : 56 ≤ f.base) (even : f.base % 2 ≡ 0) (h
     costs (suc k) x = cost (bit d x) + (1 + costs k (next d (bit d x) x))
 
     loop : (k c x spare : ℕ) → c + suc k ≡ 2 ^ 17 → k < 16 → x < 65536 * d
-        → Path f (costs k x) (run ws (work c (4 * x) spare) (short c) 13) [] (run ws (work 0 (4 * numbers d k x) (2 ^ 17 - 1)) 0 26)
+        → Path f (costs k x) (run ws (work c (4 * x) spare) (short c) 13) []
+        (run ws (work 0 (4 * numbers d k x) (2 ^ 17 - 1)) 0 26)
     unfolding numbers costs
     loop zero c x spare count few under =
         let e : c ≡ 2 ^ 17 - 1 = omega arith in
@@ -143,9 +149,12 @@ module _ (f : Frame 41 18) (behind : 56 ≤ f.base) (even : f.base % 2 ≡ 0) (h
     count zero x = let c = cost_is (bit d x) in omega arith
     count (suc k) x = let c = cost_is (bit d x) in let r = count k (next d (bit d x) x) in omega arith
 
-    module _ (h l : ℕ) (is_high : get_or ws high 0 ≡ h) (is_low : get_or ws low 0 ≡ l) (at3 : get_or ws 3 0 ≡ 28676) (room : m + 3 ≤ f.top)
-        (away_high : IsOutside f ws high) (away_low : IsOutside f ws low) (away_then : (v : ℕ) → IsOutside f (set ws high v) high)
-        (away_last : (v : ℕ) → IsOutside f (set ws high v) low) (all : length ws ≡ 1024) (inside : high < 1024) (small : l < 65536)
+    module _ (h l : ℕ) (is_high : get_or ws high 0 ≡ h) (is_low : get_or ws low 0 ≡ l) (at3 : get_or ws 3 0 ≡ 28676)
+        (room : m + 3 ≤ f.top)
+        (away_high : IsOutside f ws high) (away_low : IsOutside f ws low)
+        (away_then : (v : ℕ) → IsOutside f (set ws high v) high)
+        (away_last : (v : ℕ) → IsOutside f (set ws high v) low) (all : length ws ≡ 1024) (inside : high < 1024)
+        (small : l < 65536)
         (less : h < d) where
       opened : (w : Work) → Path f 13 (run ws w (short (114688 + 2 * m)) 0) []
           (run ws (work (2 ^ 17 - 16) (4 * (65536 * h + l)) w.at40) (short (2 ^ 17 - 16)) 13)
@@ -185,7 +194,8 @@ module _ (f : Frame 41 18) (behind : 56 ≤ f.base) (even : f.base % 2 ≡ 0) (h
 
       pub whole : (w : Work) (k : ℕ) → k + ones 16 (n / d) ≡ 212
           → Path f k (run ws w (short (114688 + 2 * m)) 0) []
-          (record (run (set (set ws high (n % d)) low (n / d)) (work 0 (4 * numbers d 15 n) (2 ^ 17 - 1)) 0 0) { counter = m + 2 })
+          (record (run (set (set ws high (n % d)) low (n / d)) (work 0 (4 * numbers d 15 n) (2 ^ 17 - 1)) 0 0)
+          { counter = m + 2 })
       unfolding ones
       whole w k total =
           let e : 65536 * d - 1 + 1 ≡ 65536 * d = omega arith in

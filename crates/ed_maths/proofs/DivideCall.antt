@@ -1,5 +1,6 @@
 -- `divide` from the library's table to what it does.
-use Rattle.std.proofs.Common.{◌≡◌, ◌≢◌, ◌⊎◌, ℕ, zero, suc, ◌+◌, ◌-◌, ◌*◌, ◌/◌, ◌%◌, ◌^◌, ◌<◌, ◌≤◌, refl, sym, ap, ◌∙◌, subst, arith, false, Bool}
+use Rattle.std.proofs.Common.{◌≡◌, ◌≢◌, ◌⊎◌, ℕ, zero, suc, ◌+◌, ◌-◌, ◌*◌, ◌/◌, ◌%◌, ◌^◌}
+use Rattle.std.proofs.Common.{◌<◌, ◌≤◌, refl, sym, ap, ◌∙◌, subst, arith, false, Bool}
 use Rattle.std.proofs.Common.{List, [], ◌∷◌, get_or, set, length, inl, inr}
 use Rattle.std.proofs.lemmas.List.{get_or-set_same, get_or-set_other, length-set}
 use Rattle.ed_words.proofs.SizeLemmas.{most}
@@ -22,7 +23,8 @@ use Rattle.ed_maths.proofs.Quotient.{numbers}
 use Rattle.ed_maths.proofs.Ones.{few_ones}
 use Rattle.ed_maths.proofs.Divide.{Work, cells, digits, run, work, whole}
 
-module _ (b high low by top : ℕ) (s : State) (all : length s.store.words ≡ 1024) (all_digits : length s.store.sandwich ≡ 512)
+module _ (b high low by top : ℕ) (s : State) (all : length s.store.words ≡ 1024)
+    (all_digits : length s.store.sandwich ≡ 512)
     (o : Stands divide (with_hnm high low by) b s) (even : b % 2 ≡ 0) (is : IsDivision b high low by s)
     (within : IsWithin 41 b high top s) (near_low : low < top) (near_by : by < top) where
   abbrev f : Frame 41 18
@@ -103,7 +105,8 @@ module _ (b high low by top : ℕ) (s : State) (all : length s.store.words ≡ 1
 
   -- the words that change, as they are left
   abbrev left : Work
-  left = work f o.low even high low by (caller s) s.multiplier s.tape s.store.sandwich s.last 0 (4 * numbers d 15 n) (2 ^ 17 - 1)
+  left = work f o.low even high low by (caller s) s.multiplier s.tape s.store.sandwich s.last 0 (4 * numbers d 15 n)
+      (2 ^ 17 - 1)
 
   beside_words : (xs : List ℕ) (h : ℕ) → length xs ≡ 1024 → IsOutside divide b h s → Beside xs b 41 h
   beside_words xs h long out =
@@ -126,10 +129,13 @@ module _ (b high low by top : ℕ) (s : State) (all : length s.store.words ≡ 1
       let size = most s.size in
       let below = is.high_outside.below in
       whole f o.low even high low by (caller s) s.multiplier s.tape s.store.sandwich s.last d s.store.words
-      (away s.store.words by all is.by_outside near_by) refl is.positive is.divisor (short_at s.store high) (short_at s.store low) refl refl
-      o.at3 within.back (away s.store.words high all is.high_outside within.near) (away s.store.words low all is.low_outside near_low)
+      (away s.store.words by all is.by_outside near_by) refl is.positive is.divisor (short_at s.store high)
+      (short_at s.store low) refl refl
+      o.at3 within.back (away s.store.words high all is.high_outside within.near)
+      (away s.store.words low all is.low_outside near_low)
       (λ v. away (set s.store.words high v) high (long_set v) is.high_outside within.near)
-      (λ v. away (set s.store.words high v) low (long_set v) is.low_outside near_low) all (omega arith) is.small is.less first
+      (λ v. away (set s.store.words high v) low (long_set v) is.low_outside near_low) all
+      (omega arith) is.small is.less first
       (divide_orders (n / d)) total
 
   abbrev pub last : State
@@ -155,7 +161,8 @@ module _ (b high low by top : ℕ) (s : State) (all : length s.store.words ≡ 1
   leads_to = subst (λ x. Leads (divide_orders (n / d)) x [] last) begins (leads path s.orders)
 
   -- what holds of every order that keeps below the place holds before each of them
-  pub keeps_below : (P : State → Type 0) → ((kind : Kind) (x : State) → IsOrder top kind x → P x) → (j : ℕ) → j < divide_orders (n / d)
+  pub keeps_below : (P : State → Type 0) → ((kind : Kind) (x : State) → IsOrder top kind x → P x) → (j : ℕ)
+      → j < divide_orders (n / d)
       → P (state_after j s)
   keeps_below P order j l = subst (λ x. P (state_after j x)) begins (each P order path s.orders j l)
 

@@ -4,7 +4,8 @@ use Rattle.std.specs.Prelude.{if◌then◌else◌}
 use Rattle.ed_words.proofs.Numbers.{le_of, not_le_of}
 use Rattle.ed_maths.specs.Roots.{IsRoot, root_of, root_up_to}
 
-by_test : (k n below : ℕ) (t : Bool) → nat_le (suc k * suc k) n ≡ t → n < (suc k + 1) * (suc k + 1) → (n < (k + 1) * (k + 1) → IsRoot n below)
+by_test : (k n below : ℕ) (t : Bool) → nat_le (suc k * suc k) n ≡ t → n < (suc k + 1) * (suc k + 1)
+    → (n < (k + 1) * (k + 1) → IsRoot n below)
     → IsRoot n (if t then suc k else below)
 by_test k n below true e low rest = record { square = le_of (suc k * suc k) n e; greatest = low }
 by_test k n below false e low rest =

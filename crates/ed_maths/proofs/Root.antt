@@ -1,5 +1,6 @@
 -- The routine `root`, by its listing: the odd numbers 1, 3, 5 and so on are taken away from the number while they go.
-use Rattle.std.proofs.Common.{◌≡◌, ℕ, zero, suc, ◌+◌, ◌-◌, ◌*◌, ◌^◌, ◌<◌, ◌≤◌, refl, arith, Bool, List, [], ◌∷◌, Option, get_or, set, length, lit<}
+use Rattle.std.proofs.Common.{◌≡◌, ℕ, zero, suc, ◌+◌, ◌-◌, ◌*◌, ◌^◌, ◌<◌, ◌≤◌, refl, arith}
+use Rattle.std.proofs.Common.{Bool, List, [], ◌∷◌, Option, get_or, set, length, lit<}
 use Rattle.ed_words.proofs.SizeLemmas.{most}
 use Rattle.ed_paths.proofs.Frames.{Frame, Moment, short}
 use Rattle.ed_paths.proofs.Places.{IsOutside, early, own, out, any}
@@ -17,10 +18,10 @@ pub record Work : Type 0 where
 abbrev pub cells : ℕ → ℕ → ℕ → Work → List ℕ
 cells b source target w =
     114694 ∷ (20480 + 2 * (b + 18)) ∷ (114688 + 2 * source) ∷ (20480 + 2 * (b + 21)) ∷ (114688 + 2 * (b + 19))
-    ∷ (20480 + 2 * (b + 22)) ∷ (114688 + 2 * (b + 21)) ∷ (49152 + 2 * (b + 22)) ∷ (110592 + 2 * (b + 14)) ∷ (20480 + 2 * (b + 21))
-    ∷ (114688 + 2 * (b + 22)) ∷ (114688 + 2 * (b + 20)) ∷ (20480 + 2 * (b + 22)) ∷ (12288 + 2 * (b + 6)) ∷ (20480 + 2 * (b + 21))
-    ∷ (114688 + 2 * (b + 22)) ∷ 16385 ∷ (20480 + 2 * target) ∷ w.at18 ∷ 1
-    ∷ 2 ∷ w.at21 ∷ w.at22 ∷ []
+    ∷ (20480 + 2 * (b + 22)) ∷ (114688 + 2 * (b + 21)) ∷ (49152 + 2 * (b + 22)) ∷ (110592 + 2 * (b + 14))
+    ∷ (20480 + 2 * (b + 21)) ∷ (114688 + 2 * (b + 22)) ∷ (114688 + 2 * (b + 20)) ∷ (20480 + 2 * (b + 22))
+    ∷ (12288 + 2 * (b + 6)) ∷ (20480 + 2 * (b + 21)) ∷ (114688 + 2 * (b + 22)) ∷ 16385 ∷ (20480 + 2 * target)
+    ∷ w.at18 ∷ 1 ∷ 2 ∷ w.at21 ∷ w.at22 ∷ []
 
 module _ (f : Frame 23 0) (behind : 56 ≤ f.base) (source target m multiplier : ℕ) (tape : List ℕ) (sandwich : List Bool)
     (last : Option ℕ) where
@@ -42,7 +43,8 @@ module _ (f : Frame 23 0) (behind : 56 ≤ f.base) (source target m multiplier :
   rest x o = record { at18 = 12288 + 2 * (m + 2); at21 = x; at22 = o }
 
   module _ (ws : List ℕ) (n : ℕ) (all : length ws ≡ 1024) (at3 : get_or ws 3 0 ≡ 28676) (room : m + 3 ≤ f.top)
-      (is : get_or ws source 0 ≡ n) (small : n < 65536) (away_source : IsOutside f ws source) (away_target : IsOutside f ws target) where
+      (is : get_or ws source 0 ≡ n) (small : n < 65536) (away_source : IsOutside f ws source)
+      (away_target : IsOutside f ws target) where
     opened : (w : Work) → Path f 6 (run ws w (114688 + 2 * m) 0) [] (run ws (rest n 1) 0 6)
     opened w =
         let b = most f.size in let fits = f.fits in
@@ -54,7 +56,8 @@ module _ (f : Frame 23 0) (behind : 56 ≤ f.base) (source target m multiplier :
         (on (T 5 (own 22) _ refl refl) stay)))))
 
     -- an odd number goes
-    turn : (x y o e : ℕ) → y + o ≡ x → x < 65536 → o + 2 ≡ e → Path f 8 (run ws (rest x o) 0 6) [] (run ws (rest y e) 0 6)
+    turn : (x y o e : ℕ) → y + o ≡ x → x < 65536 → o + 2 ≡ e
+        → Path f 8 (run ws (rest x o) 0 6) [] (run ws (rest y e) 0 6)
     turn x y o e less fits next =
         on (A 6 (own 21) (short x) refl (omega arith))
         (on (S 7 (own 22) (short y) refl (omega arith))
@@ -66,7 +69,8 @@ module _ (f : Frame 23 0) (behind : 56 ≤ f.base) (source target m multiplier :
         (on (E_jumps 13 (own 6) refl (lit< tt)) stay)))))))
 
     loop : (j k x : ℕ) → x + k * k ≡ n → (k + j) * (k + j) ≤ n
-        → Path f (8 * j) (run ws (rest x (2 * k + 1)) 0 6) [] (run ws (rest (n - (k + j) * (k + j)) (2 * (k + j) + 1)) 0 6)
+        → Path f (8 * j) (run ws (rest x (2 * k + 1)) 0 6) []
+        (run ws (rest (n - (k + j) * (k + j)) (2 * (k + j) + 1)) 0 6)
     loop zero k x sum fits =
         let a : k + 0 ≡ k = omega arith in
         let b : n - k * k ≡ x = omega arith in
@@ -76,7 +80,8 @@ module _ (f : Frame 23 0) (behind : 56 ≤ f.base) (source target m multiplier :
         let b : 8 * suc j ≡ 8 + 8 * j = omega arith in
         let s : (k + suc j) * (k + suc j) ≡ k * k + (2 * k + 1) + (2 * k * j + j * j + 2 * j) = omega arith in
         let t : (k + 1) * (k + 1) ≡ k * k + (2 * k + 1) = omega arith in
-        rw (b, a) (followed (turn x (x - (2 * k + 1)) (2 * k + 1) (2 * (k + 1) + 1) (omega arith) (omega arith) (omega arith))
+        rw (b, a) (followed (turn x (x - (2 * k + 1)) (2 * k + 1) (2 * (k + 1) + 1) (omega arith) (omega arith)
+        (omega arith))
         (loop j (k + 1) (x - (2 * k + 1)) (omega arith) (rw (← a) fits)))
 
     -- the next one doesn't, and is one more than twice the root

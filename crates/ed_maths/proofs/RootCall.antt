@@ -36,7 +36,8 @@ few n r is small =
     too_large : (k : ℕ) → (256 + k) * (256 + k) < 65536 → ⊥
     too_large k h = let e : (256 + k) * (256 + k) ≡ 65536 + 512 * k + k * k = omega arith in omega arith
 
-module _ (b source target top : ℕ) (s : State) (all : length s.store.words ≡ 1024) (o : Stands root (with_hn source target) b s)
+module _ (b source target top : ℕ) (s : State) (all : length s.store.words ≡ 1024)
+    (o : Stands root (with_hn source target) b s)
     (source_out : IsOutside root b source s) (target_out : IsOutside root b target s) (differ : source ≢ target)
     (within : IsWithin 23 b source top s) (near : target < top) (small : short_at s.store source < 65536) where
   abbrev f : Frame 23 0
@@ -99,10 +100,13 @@ module _ (b source target top : ℕ) (s : State) (all : length s.store.words ≡
     away : (h : ℕ) → IsOutside root b h s → h < top → IsBeside f s.store.words h
     away h out below = record { below = below; beside = beside 23 b h s all out.beside o.fits }
 
-    path : Path f (root_orders r) (at s.store.words first (114688 + 2 * caller s) 0) [] (record (at ws left 0 0) { counter = caller s + 2 })
+    path : Path f (root_orders r) (at s.store.words first (114688 + 2 * caller s) 0) []
+        (record (at ws left 0 0) { counter = caller s + 2 })
     path =
-        whole f o.low source target (caller s) s.multiplier s.tape s.store.sandwich s.last s.store.words (short_at s.store source) all o.at3
-        within.back refl small (away source source_out within.near) (away target target_out near) first r is.square is.greatest
+        whole f o.low source target (caller s) s.multiplier s.tape s.store.sandwich s.last s.store.words
+        (short_at s.store source) all o.at3
+        within.back refl small (away source source_out within.near) (away target target_out near) first r is.square
+        is.greatest
         (few (short_at s.store source) r is small)
 
     abbrev pub last : State
@@ -125,14 +129,16 @@ module _ (b source target top : ℕ) (s : State) (all : length s.store.words ≡
     leads_to = subst (λ x. Leads (root_orders r) x [] last) begins (leads path s.orders)
 
     -- what holds of every order that keeps below the place holds before each of them
-    pub keeps_below : (P : State → Type 0) → ((kind : Kind) (x : State) → IsOrder top kind x → P x) → (j : ℕ) → j < root_orders r
+    pub keeps_below : (P : State → Type 0) → ((kind : Kind) (x : State) → IsOrder top kind x → P x) → (j : ℕ)
+        → j < root_orders r
         → P (state_after j s)
     keeps_below P order j l = subst (λ x. P (state_after j x)) begins (each P order path s.orders j l)
 
     -- a word at no working place stays, and the root stands at its target
     stays : (i : ℕ) → i ≢ target → IsOther root b i → get_or last.store.words i 0 ≡ get_or s.store.words i 0
     stays i other free =
-        kept root b hs ws (cells b source target left) refl refl still i free ∙ get_or-set_other s.store.words target i r 0 other
+        kept root b hs ws (cells b source target left) refl refl still i free
+        ∙ get_or-set_other s.store.words target i r 0 other
       where
         apart : (j : ℕ) → j < 23 → b + j ≢ target
         apart j l e = elim target_out.beside [ inl x ↦ absurd (omega arith) | inr y ↦ absurd (omega arith) ]

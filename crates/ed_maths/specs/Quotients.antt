@@ -1,6 +1,7 @@
--- What `divide` does: a number of 32 binary digits, whose halves stand in two words, is divided by a third (this project's own
--- rule).
-use Rattle.std.specs.Prelude.{◌≡◌, ◌≢◌, ◌⊎◌, ℕ, zero, suc, ◌+◌, ◌-◌, ◌*◌, ◌/◌, ◌%◌, ◌<◌, ◌≤◌, false, List, [], ◌∷◌, codes}
+-- What `divide` does: a number of 32 binary digits, whose halves stand in two words, is divided by a third (this
+-- project's own rule).
+use Rattle.std.specs.Prelude.{◌≡◌, ◌≢◌, ◌⊎◌, ℕ, zero, suc, ◌+◌, ◌-◌, ◌*◌, ◌/◌}
+use Rattle.std.specs.Prelude.{◌%◌, ◌<◌, ◌≤◌, false, List, [], ◌∷◌, codes}
 use Rattle.std.specs.Prelude.{slice_index_or}
 use Rattle.ed_store.specs.Cells.{short_at}
 use Rattle.ed_machine.specs.State.{State}
@@ -8,6 +9,7 @@ use Rattle.ed_routines.specs.Catalogue.{named}
 use Rattle.ed_routines.specs.Standing.{IsOutside, caller}
 use Rattle.ed_routines.specs.Returns.{IsOther}
 
+-- the routine `divide`
 abbrev pub divide : ℕ
 divide = named (codes "divide")
 
@@ -45,8 +47,9 @@ pub record IsDivision (base high low by : ℕ) (s : State) : Type 0 where
 pub record IsOtherPair (base pair : ℕ) : Type 0 where
   pub other : (pair < base / 2 + 18) ⊎ (base / 2 + 20 ≤ pair)
 
--- the quotient stands at the low place and the remainder at the high one; control is behind the call and the accumulator
--- clear; and no other word has changed but the working places, no sandwich digit but of pairs of these, and nothing else
+-- the quotient stands at the low place and the remainder at the high one; control is behind the call and the
+-- accumulator clear; and no other word has changed but the working places, no sandwich digit but of pairs of these,
+-- and nothing else
 pub record Divided (base high low by : ℕ) (s t : State) : Type 0 where
   pub quotient : short_at t.store low ≡ dividend high low s / short_at s.store by
   pub remainder : short_at t.store high ≡ dividend high low s % short_at s.store by
@@ -58,4 +61,5 @@ pub record Divided (base high low by : ℕ) (s t : State) : Type 0 where
         orders = s.orders + divide_orders (dividend high low s / short_at s.store by);
       }
   pub words : (i : ℕ) → i ≢ high → i ≢ low → IsOther divide base i → short_at t.store i ≡ short_at s.store i
-  pub digits : (pair : ℕ) → IsOtherPair base pair → slice_index_or t.store.sandwich pair false ≡ slice_index_or s.store.sandwich pair false
+  pub digits : (pair : ℕ) → IsOtherPair base pair
+      → slice_index_or t.store.sandwich pair false ≡ slice_index_or s.store.sandwich pair false

@@ -2,6 +2,7 @@
 use Rattle.std.specs.Prelude.{ℕ, zero, suc, nat_le, if◌then◌else◌, ◌+◌, ◌*◌, ◌<◌, ◌≤◌, List, [], ◌∷◌, codes}
 use Rattle.ed_routines.specs.Catalogue.{named}
 
+-- the routine `root`
 abbrev pub root : ℕ
 root = named (codes "root")
 

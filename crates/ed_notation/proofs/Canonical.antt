@@ -6,8 +6,10 @@ use Rattle.std.proofs.lemmas.List.{append-nil, drop_all}
 use Rattle.ed_notation.specs.declared.item.Item.{Item}
 use Rattle.ed_notation.specs.declared.kind.RowKind.{RowKind}
 use Rattle.ed_notation.specs.declared.kind.RowKind.TheVariants.{Digit, Mark, Zed, Kay, Blank, Letter, Other}
-use Rattle.ed_notation.specs.Items.{row_kind, ends, number, Written, AreDigits, IsWritten, rows_of, spelled, item, items}
-use Rattle.ed_notation.specs.Spellings.{AreWritten, SpellsAll, NoLeadingZero, AreCanonical, digits_of, canonical, canonicals}
+use Rattle.ed_notation.specs.Items.{row_kind, ends, number, Written, AreDigits}
+use Rattle.ed_notation.specs.Items.{IsWritten, rows_of, spelled, item, items}
+use Rattle.ed_notation.specs.Spellings.{AreWritten, SpellsAll, NoLeadingZero}
+use Rattle.ed_notation.specs.Spellings.{AreCanonical, digits_of, canonical, canonicals}
 use Rattle.ed_notation.specs.Spellings.{is_spellable, AreSpellable, IsSpelling, SpellableIsSpelled}
 use Rattle.ed_notation.proofs.Unique.{no_other}
 use Rattle.ed_words.proofs.Numbers.{le_of, not_le_of, le_true, lt_of, lt_true}
@@ -101,7 +103,10 @@ pub is_written : (i : Item) → is_spellable i ≡ true → IsWritten (canonical
 is_written i h =
     let c = can_be i h in
     let g = digits_are i.number c.number in
-    record { begun = record { function = c.function; digits = g.digits; fits = rw g.number_is c.number }; ended = c.ended }
+    record {
+      begun = record { function = c.function; digits = g.digits; fits = rw g.number_is c.number };
+      ended = c.ended;
+    }
 
 -- and it spells its item
 pub same_item : (i : Item) → is_spellable i ≡ true → item (canonical i) ≡ i
@@ -141,7 +146,8 @@ spelling is h =
     record { written = canonicals is; good = r.good; items_are = r.same; rows_are = refl } in
     record { spells = s; canonical = r.no_zeros; only = λ js p. no_other js is (spelled (canonicals is)) p s }
 
-ends_canonical : (r : RowKind) (f : ℕ) (ds : List ℕ) (m : Bool) → ends r (record { function = f; digits = ds; mark = m }) ≡ true
+ends_canonical : (r : RowKind) (f : ℕ) (ds : List ℕ) (m : Bool)
+    → ends r (record { function = f; digits = ds; mark = m }) ≡ true
     → ends r (record { function = f; digits = digits_of (number 0 ds); mark = m }) ≡ true
 ends_canonical Blank f [] m h = h
 ends_canonical Blank f (d ∷ ds) m h = cc

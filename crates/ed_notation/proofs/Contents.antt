@@ -35,7 +35,8 @@ content_is words l (p ∷ placed) a are =
 abbrev word_where : Bool → ℕ → Option ℕ
 word_where marked word = if marked then Some word else None
 
-word_by : (M : List Bool) (W : List ℕ) (p w a : ℕ) (found : Option ℕ) (t : Bool) → nat_eq p a ≡ t → p < length M → p < length W
+word_by : (M : List Bool) (W : List ℕ) (p w a : ℕ) (found : Option ℕ) (t : Bool) → nat_eq p a ≡ t → p < length M
+    → p < length W
     → word_where (get_or M a false) (get_or W a 0) ≡ found
     → word_where (get_or (set M p true) a false) (get_or (set W p w) a 0) ≡ (if t then Some w else found)
 word_by M W p w a found true e m l h =

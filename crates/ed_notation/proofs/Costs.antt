@@ -38,4 +38,5 @@ all_most words note (w ∷ ws) =
 
 pub most : (words : List ℕ) (start : Note) (base : ℕ) (rows : List ℕ) (e : Entry) → ComesTo words start base rows e
     → e.cost ≤ base + 17 * e.rows
-most words start base rows e c = omega (arith, c.cost_is, c.read_is, all_most words start c.before, one_most e.note c.last)
+most words start base rows e c =
+    omega (arith, c.cost_is, c.read_is, all_most words start c.before, one_most e.note c.last)

@@ -24,7 +24,8 @@ fold-append words note (i ∷ is) js = fold-append words (act words note i) is j
 pub costs-append : (words : List ℕ) (note : Note) (vs ws : List Written)
     → costs words note (vs ++ ws) ≡ costs words note vs + costs words (fold words note (items vs)) ws
 costs-append words note [] ws = omega arith
-costs-append words note (v ∷ vs) ws = let rest = costs-append words (act words note (item v)) vs ws in omega (arith, rest)
+costs-append words note (v ∷ vs) ws = let rest = costs-append words (act words note (item v)) vs ws
+    in omega (arith, rest)
 
 pub AreRead-append : (words : List ℕ) (note : Note) (vs ws : List Written) → AreRead words note vs
     → AreRead words (fold words note (items vs)) ws → AreRead words note (vs ++ ws)

@@ -40,7 +40,8 @@ setting_function f h = record {
   most = grind (arith, nat_tests);
 }
 
-if_control : (P : Control → Type 0) (b : Bool) (x y : Control) → (b ≡ true → P x) → (b ≡ false → P y) → P (if b then x else y)
+if_control : (P : Control → Type 0) (b : Bool) (x y : Control) → (b ≡ true → P x) → (b ≡ false → P y)
+    → P (if b then x else y)
 if_control P true x y f g = f refl
 if_control P false x y f g = g refl
 

@@ -1,5 +1,6 @@
 -- The reader goes over rows that spell items as the fold of the items says, or it finds a fault on the way.
-use Rattle.std.proofs.Common.{◌≡◌, ℕ, suc, ◌+◌, ◌*◌, ◌<◌, ◌≤◌, ◌⊎◌, inl, inr, refl, sym, ap, ◌∙◌, subst, arith, Bool, true}
+use Rattle.std.proofs.Common.{◌≡◌, ℕ, suc, ◌+◌, ◌*◌, ◌<◌, ◌≤◌, ◌⊎◌, inl, inr}
+use Rattle.std.proofs.Common.{refl, sym, ap, ◌∙◌, subst, arith, Bool, true}
 use Rattle.std.proofs.Common.{false, ◌&&◌, nat_lt, nat_eq, Option, Some, None, List, [], ◌∷◌, ◌++◌, length}
 use Rattle.std.proofs.Common.{length-append, append_assoc}
 use Rattle.ed_words.specs.declared.size.Size.{Size}
@@ -10,10 +11,12 @@ use Rattle.ed_notation.specs.declared.reader.Part.{Part}
 use Rattle.ed_notation.specs.declared.reader.Taken.{Taken}
 use Rattle.ed_notation.specs.declared.reader.Taken.TheVariants.{Refused, Longer, Ended, Placed, Entered}
 use Rattle.ed_notation.specs.declared.kind.RowKind.{RowKind}
-use Rattle.ed_notation.specs.Items.{row_kind, Begun, number, is_empty, mark_rows, begun_rows, IsBegun, AreDigits, ends, item_of}
+use Rattle.ed_notation.specs.Items.{row_kind, Begun, number, is_empty, mark_rows}
+use Rattle.ed_notation.specs.Items.{begun_rows, IsBegun, AreDigits, ends, item_of}
 use Rattle.ed_notation.specs.Openings.{IsDirective}
 use Rattle.ed_notation.specs.Fold.{Note, over, address, acted, entering, begun_cost, end_cost}
-use Rattle.ed_notation.specs.Reading.{taken, setting_of, set_by, placed_by, entry_by, reading, Verdict, Faulty, Arrived, part_of}
+use Rattle.ed_notation.specs.Reading.{taken, setting_of, set_by, placed_by, entry_by}
+use Rattle.ed_notation.specs.Reading.{reading, Verdict, Faulty, Arrived, part_of}
 use Rattle.ed_notation.proofs.Rows.{RowLaw, row_law, row_means, as_part, first}
 use Rattle.ed_notation.proofs.Directives.{KeepsDirective, keeps}
 use Rattle.ed_words.proofs.Numbers.{lt_true, lt_false}
@@ -55,7 +58,8 @@ number_le [] n = omega arith
 number_le (d ∷ ds) n = omega (arith, number_le ds (10 * n + d))
 
 -- a function row
-pub function_read : (z : Size) (words : List ℕ) (row cost : ℕ) (note : Note) (f : ℕ) (rows : List ℕ) (t : Bool) → nat_lt f 32 ≡ t
+pub function_read : (z : Size) (words : List ℕ) (row cost : ℕ) (note : Note) (f : ℕ) (rows : List ℕ) (t : Bool)
+    → nat_lt f 32 ≡ t
     → reading z words row cost note None (f ∷ rows)
     ≡ (elim t [ true ↦ reading z words (row + 1) (cost + 6) note (Some (part_of f)) rows | false ↦ Faulty row BadRow ])
 unfolding reading
@@ -71,7 +75,8 @@ function_begins z words row cost note f rows h = function_read z words row cost 
 
 digits_read : (ds rest : List ℕ) (z : Size) (words : List ℕ) (row cost : ℕ) (note : Note) (f n : ℕ) (blank : Bool)
     → AreDigits ds → number n ds ≤ 32767
-    → reading z words row cost note (Some (record { function = f; number = n; mark = false; blank = blank })) (ds ++ rest)
+    → reading z words row cost note (Some (record { function = f; number = n; mark = false; blank = blank }))
+    (ds ++ rest)
     ≡ reading z words (row + length ds) (cost + 9 * length ds) note
     (Some (record { function = f; number = number n ds; mark = false; blank = is_empty ds && blank })) rest
 unfolding reading
@@ -92,7 +97,8 @@ digits_read (d ∷ ds) rest z words row cost note f n blank are fits =
     ap (follow z words row cost note part d (ds ++ rest)) t ∙ rw (r, k) (ih ∙ rw (and-false (is_empty ds)) refl)
 
 mark_read : (z : Size) (words : List ℕ) (row cost : ℕ) (note : Note) (f : ℕ) (ds rest : List ℕ) (m : Bool)
-    → reading z words row cost note (Some (as_part (record { function = f; digits = ds; mark = false }))) (mark_rows m ++ rest)
+    → reading z words row cost note (Some (as_part (record { function = f; digits = ds; mark = false })))
+    (mark_rows m ++ rest)
     ≡ reading z words (row + length (mark_rows m)) (cost + 15 * digit m) note
     (Some (as_part (record { function = f; digits = ds; mark = m }))) rest
 unfolding reading
@@ -110,13 +116,16 @@ begun_read z words row cost note b rest good =
     let f = b.function in
     let ds = b.digits in
     let l = length-append ds (mark_rows b.mark) in
-    let r : row + suc (length (ds ++ mark_rows b.mark)) ≡ row + 1 + length ds + length (mark_rows b.mark) = omega (arith, l) in
-    let k : cost + (6 + 9 * length ds + 15 * digit b.mark) ≡ cost + 6 + 9 * length ds + 15 * digit b.mark = omega arith in
+    let r : row + suc (length (ds ++ mark_rows b.mark)) ≡ row + 1 + length ds + length (mark_rows b.mark) =
+    omega (arith, l) in
+    let k : cost + (6 + 9 * length ds + 15 * digit b.mark) ≡ cost + 6 + 9 * length ds + 15 * digit b.mark =
+    omega arith in
     let row' = row + 1 + length ds in
     let cost' = cost + 6 + 9 * length ds in
     function_begins z words row cost note f ((ds ++ mark_rows b.mark) ++ rest) good.function
     ∙ ap (λ x. reading z words (row + 1) (cost + 6) note (Some (part_of f)) x) (append_assoc ds (mark_rows b.mark) rest)
-    ∙ digits_read ds (mark_rows b.mark ++ rest) z words (row + 1) (cost + 6) note f 0 (nat_eq f 16) good.digits good.fits
+    ∙ digits_read ds (mark_rows b.mark ++ rest) z words (row + 1) (cost + 6) note f 0
+    (nat_eq f 16) good.digits good.fits
     ∙ mark_read z words row' cost' note f ds rest b.mark
     ∙ rw (r, k) refl
 
@@ -172,7 +181,8 @@ module _ (z : Size) (words : List ℕ) (row cost : ℕ) (note : Note) (b : Begun
   arrives (Entered at) h s e n = rw h.1.at_is refl
 
   -- the same of a row that may break a rule
-  pub ended : (t : Taken) → KeepsDirective note t → RowLaw r z words note b c t → ends r b ≡ true → entering r note ≡ false
+  pub ended : (t : Taken) → KeepsDirective note t → RowLaw r z words note b c t → ends r b ≡ true
+      → entering r note ≡ false
       → Goes (after t) (reading z words (row + 1) (cost + end_cost r note) (acted r words note (item_of b c)) None rest)
       (row + 1) (acted r words note (item_of b c)).directive
   ended (Refused cause) u h e n = inr (record { at = row; cause = cause; is = refl; before = omega arith })

@@ -1,5 +1,6 @@
 -- The reader by rows and the rules by items say the same, both ways.
-use Rattle.std.proofs.Common.{◌≡◌, ℕ, Bool, false, if◌then◌else◌, ◌+◌, ◌<◌, ◌≤◌, ◌⊎◌, inl, inr, refl, sym, ap, ◌∙◌, subst}
+use Rattle.std.proofs.Common.{◌≡◌, ℕ, Bool, false, if◌then◌else◌, ◌+◌, ◌<◌}
+use Rattle.std.proofs.Common.{◌≤◌, ◌⊎◌, inl, inr, refl, sym, ap, ◌∙◌, subst}
 use Rattle.std.proofs.Common.{arith, true, None, List, [], ◌∷◌, ◌++◌, length, length-append, append_assoc}
 use Rattle.ed_words.specs.declared.size.Size.{Size}
 use Rattle.ed_notation.specs.declared.cause.TapeCause.{TapeCause}
@@ -7,7 +8,8 @@ use Rattle.ed_notation.specs.declared.kind.RowKind.{RowKind}
 use Rattle.ed_notation.specs.declared.kind.RowKind.TheVariants.{Digit, Mark, Zed, Kay, Blank, Letter, Other}
 use Rattle.ed_notation.specs.Items.{row_kind, begun_rows, rows_of, spelled, item_of, items}
 use Rattle.ed_notation.specs.Openings.{IsDirective}
-use Rattle.ed_notation.specs.Fold.{Note, item_word, address, aim_of, enters_at, entering, fold, begun_cost, end_cost, cost_of}
+use Rattle.ed_notation.specs.Fold.{Note, item_word, address, aim_of, enters_at}
+use Rattle.ed_notation.specs.Fold.{entering, fold, begun_cost, end_cost, cost_of}
 use Rattle.ed_notation.specs.Fold.{costs}
 use Rattle.ed_notation.specs.Faults.{number_of, Entry, Breaks, IsFault, WellFormed, ComesTo}
 use Rattle.ed_notation.specs.Reading.{ReadingIsRules, ReadingAlwaysIsRules, reading, Verdict, Faulty, Arrived, entry_by}
@@ -106,14 +108,24 @@ module _ (z : Size) (words : List ℕ) (start : Note) (base : ℕ) (rows : List 
   kept_set : {v w : Verdict} (n d : ℕ) → ((m : ℕ) → Early answer m → ⊥) → answer ≡ v → Goes v w n d
       → (answer ≡ w) × IsDirective d
   kept_set n d never e (inl h) = (e ∙ h.0, h.1)
-  kept_set n d never e (inr h) = absurd (never n (record { at = h.at; cause = h.cause; is = e ∙ h.is; before = h.before }))
+  kept_set n d never e (inr h) = absurd (never n (record {
+    at = h.at;
+    cause = h.cause;
+    is = e ∙ h.is;
+    before = h.before;
+  }))
 
   no_fault : WellFormed z words start rows → (n : ℕ) → Early answer n → ⊥
   no_fault well n h = well h.at h.cause (faulty_is h.at h.cause h.is).is
 
   kept : {v w : Verdict} (n : ℕ) → WellFormed z words start rows → answer ≡ v → Passes v w n → answer ≡ w
   kept n well e (inl h) = e ∙ h
-  kept n well e (inr h) = absurd (no_fault well n (record { at = h.at; cause = h.cause; is = e ∙ h.is; before = h.before }))
+  kept n well e (inr h) = absurd (no_fault well n (record {
+    at = h.at;
+    cause = h.cause;
+    is = e ∙ h.is;
+    before = h.before;
+  }))
 
   -- where no rule is broken the reader comes to the entry of the items
   pub comes_arrived : (e : Entry) → WellFormed z words start rows → ComesTo words start base rows e → answer ≡ Arrived e
@@ -127,13 +139,15 @@ module _ (z : Size) (words : List ℕ) (start : Note) (base : ℕ) (rows : List 
       let row' = row + length (begun_rows b) in
       let cost' = cost + begun_cost b in
       let m = many z words c.before 0 base start (rows_of w ++ e.rest) set c.are_read in
-      let a = kept_set row note.directive (no_fault well) (ap (λ x. reading z words 0 base start None x) c.rows_are) m in
+      let a = kept_set row note.directive (no_fault well) (ap (λ x. reading z words 0 base start None x) c.rows_are) m
+      in
       let d =
       ap (λ x. reading z words row cost note None x) (append_assoc (begun_rows b) (w.end ∷ []) e.rest)
       ∙ begun_read z words row cost note b (w.end ∷ e.rest) c.is_written.begun in
       let is_entry = rw c.note_is at c.is_entry in
       let t = law z words note b w.end a.1 c.is_written.begun in
-      let f = entered z words row' cost' note b w.end e.rest (seen z words note b w.end) t c.is_written.ended is_entry in
+      let f = entered z words row' cost' note b w.end e.rest (seen z words note b w.end) t c.is_written.ended
+      is_entry in
       let entry = entry_by words row' cost' note (as_part b) w.end e.rest (address note.directive) in
       let h : answer ≡ Arrived entry = kept (row' + 1) well (a.0 ∙ d) f in
       let n : e.note ≡ note = c.note_is in
@@ -146,7 +160,15 @@ module _ (z : Size) (words : List ℕ) (start : Note) (base : ℕ) (rows : List 
       let p4 : entry.rows ≡ e.rows = omega (arith, c.read_is, l) in
       let p5 : entry.note ≡ e.note = sym n in
       let p6 : entry.last ≡ e.last = sym c.last_is in
-      h ∙ (λ i. Arrived (record { at = p1 i; word = p2 i; cost = p3 i; rows = p4 i; note = p5 i; last = p6 i; rest = e.rest }))
+      h ∙ (λ i. Arrived (record {
+        at = p1 i;
+        word = p2 i;
+        cost = p3 i;
+        rows = p4 i;
+        note = p5 i;
+        last = p6 i;
+        rest = e.rest;
+      }))
 
   abbrev Either : Type 0
   Either =

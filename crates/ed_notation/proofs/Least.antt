@@ -1,9 +1,12 @@
 -- The least rule that a row breaks.
-use Rattle.std.proofs.Common.{◌≡◌, ℕ, ◌+◌, ◌-◌, ◌<◌, ◌≤◌, sym, ap, ◌∙◌, refl, arith, lit≤, lit<, Bool, true, false, Option}
+use Rattle.std.proofs.Common.{◌≡◌, ℕ, ◌+◌, ◌-◌, ◌<◌, ◌≤◌, sym, ap, ◌∙◌, refl}
+use Rattle.std.proofs.Common.{arith, lit≤, lit<, Bool, true, false, Option}
 use Rattle.std.proofs.Common.{Some, List, [], ◌∷◌, length, get_or}
 use Rattle.ed_notation.specs.declared.cause.TapeCause.{TapeCause}
-use Rattle.ed_notation.specs.declared.cause.TapeCause.TheVariants.{EndOfTape, BadRow, NumberTooLarge, AfterMark, BadControl}
-use Rattle.ed_notation.specs.declared.cause.TapeCause.TheVariants.{LoaderStore, StoreEnd, NoPlace, EntryNegative, EntryInLoader}
+use Rattle.ed_notation.specs.declared.cause.TapeCause.TheVariants.{EndOfTape, BadRow, NumberTooLarge}
+use Rattle.ed_notation.specs.declared.cause.TapeCause.TheVariants.{AfterMark, BadControl}
+use Rattle.ed_notation.specs.declared.cause.TapeCause.TheVariants.{LoaderStore, StoreEnd, NoPlace}
+use Rattle.ed_notation.specs.declared.cause.TapeCause.TheVariants.{EntryNegative, EntryInLoader}
 use Rattle.ed_notation.specs.Faults.{number_of}
 use Rattle.ed_notation.proofs.Rows.{first_of, causes}
 
@@ -75,7 +78,8 @@ least_in f (c ∷ cs) n k ns l m h =
 
 pub least_of : (f : TapeCause → Bool) (k : TapeCause) → f k ≡ true → Found f causes k
 least_of f k h =
-    let numbered : AreNumbered 1 causes = (refl, (refl, (refl, (refl, (refl, (refl, (refl, (refl, (refl, (refl, tt)))))))))) in
+    let numbered : AreNumbered 1 causes =
+    (refl, (refl, (refl, (refl, (refl, (refl, (refl, (refl, (refl, (refl, tt)))))))))) in
     least_in f causes 1 k numbered (is_number k).least (is_number k).most h
 
 some_is : (a b : TapeCause) → (let x : Option TapeCause = Some a in x) ≡ Some b → a ≡ b

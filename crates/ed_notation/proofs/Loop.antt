@@ -1,6 +1,8 @@
 -- The loop of the check, one lemma a turn.
-use Rattle.std.proofs.Common.{◌≡◌, ℕ, suc, ◌+◌, ◌*◌, ◌<◌, ◌≤◌, refl, sym, ap, ◌∙◌, subst, arith, lit≤, Bool, true, false}
-use Rattle.std.proofs.Common.{Option, Some, None, List, [], ◌∷◌, length, drop, get_or, drop-cons, replicate, slice_index}
+use Rattle.std.proofs.Common.{◌≡◌, ℕ, suc, ◌+◌, ◌*◌, ◌<◌, ◌≤◌, refl, sym, ap}
+use Rattle.std.proofs.Common.{◌∙◌, subst, arith, lit≤, Bool, true, false}
+use Rattle.std.proofs.Common.{Option, Some, None, List, [], ◌∷◌, length, drop}
+use Rattle.std.proofs.Common.{get_or, drop-cons, replicate, slice_index}
 use Rattle.std.proofs.Common.{slice_set}
 use Rattle.std.proofs.lemmas.List.{drop_all}
 use Rattle.ed_words.specs.declared.size.Size.{Size}
@@ -14,7 +16,8 @@ use Rattle.ed_notation.specs.Items.{row_kind}
 use Rattle.ed_notation.specs.Openings.{IsDirective, opening_with}
 use Rattle.ed_notation.specs.Fold.{Note, over}
 use Rattle.ed_notation.specs.Faults.{Entry, IsFault}
-use Rattle.ed_notation.specs.Reading.{taken, setting_of, set_by, placed_by, entry_by, reading, part_of, IsPartial, IsTaken}
+use Rattle.ed_notation.specs.Reading.{taken, setting_of, set_by, placed_by, entry_by}
+use Rattle.ed_notation.specs.Reading.{reading, part_of, IsPartial, IsTaken}
 use Rattle.ed_notation.specs.Checks.{marked, ArePlaces, Arrives}
 use Rattle.ed_notation.proofs.Follow.{follow, function_begins}
 use Rattle.ed_notation.proofs.Laws.{faulty_is, arrived_well, arrived_comes}
@@ -35,7 +38,8 @@ pub record StandsAt (z : Size) (words : List ℕ) (start : Note) (base : ℕ) (r
 
 pub began : (z : Size) (words : List ℕ) (directive theta base : ℕ) (rows : List ℕ) (marks : List Bool)
     → theta ≡ slice_index words 42 → length words ≡ 1024 → marks ≡ replicate 1024 false → IsDirective directive
-    → StandsAt z words (opening_with directive words) base rows 0 base (record { directive = directive; theta = theta }) None
+    → StandsAt z words (opening_with directive words) base rows 0 base
+    (record { directive = directive; theta = theta }) None
     words marks
 began z words directive theta base rows marks t l m o = record {
   note = opening_with directive words;
@@ -50,7 +54,8 @@ began z words directive theta base rows marks t l m o = record {
   cheap = omega arith;
 }
 
-next_row : (rows : List ℕ) (row c : ℕ) → row < length rows → c ≡ get_or rows row c → drop row rows ≡ c ∷ drop (row + 1) rows
+next_row : (rows : List ℕ) (row c : ℕ) → row < length rows → c ≡ get_or rows row c
+    → drop row rows ≡ c ∷ drop (row + 1) rows
 next_row rows row c l e =
     let n : row + 1 ≡ suc row = omega arith in
     rw n (drop-cons rows row c l ∙ ap (λ x. x ∷ drop (suc row) rows) (sym e))
@@ -62,7 +67,8 @@ module _ (z : Size) (words : List ℕ) (start : Note) (base : ℕ) (rows : List 
 
   step : (note : Note) (i : Part) (t : Taken) → row < length rows → c ≡ get_or rows row c
       → taken z (row_kind c) (over note.placed words) (setting_of note) i c ≡ t
-      → reading z words row cost note (Some i) (drop row rows) ≡ follow z words row cost note i c (drop (row + 1) rows) t
+      → reading z words row cost note (Some i) (drop row rows)
+      ≡ follow z words row cost note i c (drop (row + 1) rows) t
   unfolding reading
   step note i t l e h =
       ap (λ x. reading z words row cost note (Some i) x) (next_row rows row c l e)
@@ -91,7 +97,8 @@ module _ (z : Size) (words : List ℕ) (start : Note) (base : ℕ) (rows : List 
   }
 
   module _ (i : Part) (a : At (Some i)) (l : row < length rows) (e : c ≡ get_or rows row c) where
-    pub longer : (j : Part) (k : ℕ) → Longer j k ≡ taken z (row_kind c) contents setting i c → IsTaken setting (Longer j k)
+    pub longer : (j : Part) (k : ℕ) → Longer j k ≡ taken z (row_kind c) contents setting i c
+        → IsTaken setting (Longer j k)
         → StandsAt z words start base rows (row + 1) (cost + k) setting (Some j) contents marks
     longer j k h f = record {
       note = a.note;
@@ -106,7 +113,8 @@ module _ (z : Size) (words : List ℕ) (start : Note) (base : ℕ) (rows : List 
       cheap = omega (arith, a.cheap, f.1);
     }
 
-    pub ended : (s : Setting) (k : ℕ) → Ended s k ≡ taken z (row_kind c) contents setting i c → IsTaken setting (Ended s k)
+    pub ended : (s : Setting) (k : ℕ) → Ended s k ≡ taken z (row_kind c) contents setting i c
+        → IsTaken setting (Ended s k)
         → StandsAt z words start base rows (row + 1) (cost + k) s None contents marks
     ended s k h f = record {
       note = set_by s a.note;
@@ -121,7 +129,8 @@ module _ (z : Size) (words : List ℕ) (start : Note) (base : ℕ) (rows : List 
       cheap = omega (arith, a.cheap, f);
     }
 
-    pub placed : (at word : ℕ) → Placed at word ≡ taken z (row_kind c) contents setting i c → IsTaken setting (Placed at word)
+    pub placed : (at word : ℕ) → Placed at word ≡ taken z (row_kind c) contents setting i c
+        → IsTaken setting (Placed at word)
         → StandsAt z words start base rows (row + 1) (cost + 17)
         (record { directive = setting.directive + 2; theta = setting.theta }) None
         (slice_set contents at word) (slice_set marks at true)
@@ -129,7 +138,8 @@ module _ (z : Size) (words : List ℕ) (start : Note) (base : ℕ) (rows : List 
       note = placed_by at word a.note;
       same = a.same ∙ step a.note i (Placed at word) l e (seen i (Placed at word) a h);
       setting_is =
-          ap (λ (s : Setting). let x : Setting = record { directive = s.directive + 2; theta = s.theta } in x) a.setting_is;
+          ap (λ (s : Setting). let x : Setting = record { directive = s.directive + 2; theta = s.theta } in x)
+          a.setting_is;
       contents_are = ap (λ x. slice_set x at word) a.contents_are;
       marks_are = ap (λ x. slice_set x at true) a.marks_are;
       places = (f.0, a.places);
@@ -146,7 +156,12 @@ module _ (z : Size) (words : List ℕ) (start : Note) (base : ℕ) (rows : List 
         faulty_is z words start base rows a.opened row cause q
 
     pub entered : (at : ℕ) → Entered at ≡ taken z (row_kind c) contents setting i c
-        → Arrives z words start base rows (record { entry = at; orders = cost + 13; rows = row + 1; theta = setting.theta })
+        → Arrives z words start base rows (record {
+          entry = at;
+          orders = cost + 13;
+          rows = row + 1;
+          theta = setting.theta;
+        })
         contents marks
     entered at h =
         let entry : Entry = entry_by words row cost a.note i c (drop (row + 1) rows) at in

@@ -1,17 +1,21 @@
 -- Whatever the items before a row are, the reader comes to the row as the fold has it, or finds a fault before it.
 use Rattle.std.proofs.Common.{◌≡◌, ℕ, ◌+◌, ◌<◌, ◌≤◌, ◌⊎◌, inl, inr, refl, sym, ap, ◌∙◌, arith, lit≤, Bool, true, false}
-use Rattle.std.proofs.Common.{◌&&◌, not, nat_lt, Option, Some, None, List, [], ◌∷◌, ◌++◌, length, length-append, append_assoc}
+use Rattle.std.proofs.Common.{◌&&◌, not, nat_lt, Option, Some, None, List, []}
+use Rattle.std.proofs.Common.{◌∷◌, ◌++◌, length, length-append, append_assoc}
 use Rattle.ed_words.specs.declared.size.Size.{Size}
 use Rattle.ed_notation.specs.declared.cause.TapeCause.{TapeCause}
-use Rattle.ed_notation.specs.declared.cause.TapeCause.TheVariants.{EndOfTape, BadRow, NumberTooLarge, AfterMark, BadControl}
-use Rattle.ed_notation.specs.declared.cause.TapeCause.TheVariants.{LoaderStore, StoreEnd, NoPlace, EntryNegative, EntryInLoader}
+use Rattle.ed_notation.specs.declared.cause.TapeCause.TheVariants.{EndOfTape, BadRow, NumberTooLarge}
+use Rattle.ed_notation.specs.declared.cause.TapeCause.TheVariants.{AfterMark, BadControl}
+use Rattle.ed_notation.specs.declared.cause.TapeCause.TheVariants.{LoaderStore, StoreEnd, NoPlace}
+use Rattle.ed_notation.specs.declared.cause.TapeCause.TheVariants.{EntryNegative, EntryInLoader}
 use Rattle.ed_notation.specs.Items.{row_kind, Begun, Written, begun_rows, rows_of, spelled, IsWritten, item, items}
 use Rattle.ed_notation.specs.Openings.{IsDirective}
 use Rattle.ed_notation.specs.Fold.{Note, act, is_entry, fold, begun_cost, end_cost, cost_of, costs}
 use Rattle.ed_notation.specs.Faults.{number_of, breaks, broken, is_bad_row, part_rows, AreRead, IsPart, Breaks}
 use Rattle.ed_notation.specs.Reading.{reading, Verdict, Faulty}
 use Rattle.ed_notation.proofs.Least.{least_of, one_least}
-use Rattle.ed_notation.proofs.Follow.{seen, seen_keeps, Goes, law, reader_part, part_cost, begun_read, function_read, ended}
+use Rattle.ed_notation.proofs.Follow.{seen, seen_keeps, Goes, law, reader_part}
+use Rattle.ed_notation.proofs.Follow.{part_cost, begun_read, function_read, ended}
 use Rattle.ed_notation.proofs.Follow.{refused, early_later}
 
 -- the causes other than the first have a number of 2 and more
@@ -54,7 +58,8 @@ module _ (z : Size) (words : List ℕ) where
       let l : row' + 1 ≡ row + length (rows_of w) = omega (arith, length-append (begun_rows b) (c ∷ [])) in
       let k : cost' + end_cost (row_kind c) note ≡ cost + cost_of note w = omega arith in
       let t = seen z words note b c in
-      let p = ended z words row' cost' note b c rest t (seen_keeps z words note b c set) (law z words note b c set good.begun)
+      let p = ended z words row' cost' note b c rest t (seen_keeps z words note b c set)
+      (law z words note b c set good.begun)
       good.ended goes in
       rw (sym l, sym k) (carried _ _ _ (row' + 1) (row' + 1) _ e refl p)
 
@@ -66,7 +71,8 @@ module _ (z : Size) (words : List ℕ) where
   pub many : (before : List Written) (row cost : ℕ) (note : Note) (rest : List ℕ) → IsDirective note.directive
       → AreRead words note before
       → Goes (reading z words row cost note None (spelled before ++ rest))
-      (reading z words (row + length (spelled before)) (cost + costs words note before) (fold words note (items before)) None rest)
+      (reading z words (row + length (spelled before)) (cost + costs words note before)
+      (fold words note (items before)) None rest)
       (row + length (spelled before)) (fold words note (items before)).directive
   many [] row cost note rest set are =
       let r : row + 0 ≡ row = omega arith in
@@ -78,7 +84,8 @@ module _ (z : Size) (words : List ℕ) where
       omega (arith, length-append (rows_of w) (spelled ws)) in
       let k : cost + cost_of note w + costs words next ws ≡ cost + costs words note (w ∷ ws) = omega arith in
       let a = one row cost note w (spelled ws ++ rest) set are.0 are.1 in
-      let ih = λ (s : IsDirective next.directive). many ws (row + length (rows_of w)) (cost + cost_of note w) next rest s are.2 in
+      let ih = λ (s : IsDirective next.directive).
+      many ws (row + length (rows_of w)) (cost + cost_of note w) next rest s are.2 in
       let e = ap (λ x. reading z words row cost note None x) (append_assoc (rows_of w) (spelled ws) rest) in
       rw (sym l, sym k) (carried _ _ _ _ _ _ e refl (chained _ _ _ _ _ _ _ (omega arith) a ih))
 
@@ -103,7 +110,11 @@ module _ (z : Size) (words : List ℕ) where
       → Refuses (reading z words row cost note (reader_part part) rest) row cause
   unfolding reading
   broken_here None [] row cost note cause set is h = record { found = EndOfTape; is = refl; least = one_least cause }
-  broken_here (Some b) [] row cost note cause set is h = record { found = EndOfTape; is = refl; least = one_least cause }
+  broken_here (Some b) [] row cost note cause set is h = record {
+    found = EndOfTape;
+    is = refl;
+    least = one_least cause;
+  }
   broken_here None (c ∷ rest) row cost note cause set is h =
       let f = bad_row cause (nat_lt c 32) h in
       record { found = BadRow; is = function_read z words row cost note c rest false f.test; least = f.least }
@@ -130,7 +141,8 @@ module _ (z : Size) (words : List ℕ) where
   no_later v w n row d cause l (inr h) f =
       record { at = h.at; found = h.cause; is = h.is; least = inl (omega (arith, l, h.before)) }
 
-  pub broken_found : (start : Note) (base : ℕ) (rows : List ℕ) (row : ℕ) (cause : TapeCause) → IsDirective start.directive
+  pub broken_found : (start : Note) (base : ℕ) (rows : List ℕ) (row : ℕ) (cause : TapeCause)
+      → IsDirective start.directive
       → Breaks z words start rows row cause → NoLater (reading z words 0 base start None rows) row cause
   broken_found start base rows row cause set b =
       let s = b.stands in
@@ -140,6 +152,7 @@ module _ (z : Size) (words : List ℕ) where
       let cost' = base + costs words start s.before in
       let q = to_part s.part row' cost' note s.rest s.is_part in
       let r = λ (d : IsDirective note.directive).
-      broken_here s.part s.rest (row' + length (part_rows s.part)) (cost' + part_cost s.part) note cause d s.is_part b.breaks in
+      broken_here s.part s.rest (row' + length (part_rows s.part)) (cost' + part_cost s.part) note cause d s.is_part
+      b.breaks in
       let l : row' + length (part_rows s.part) ≡ row = omega (arith, s.row_is) in
       rw (s.rows_are) (no_later _ _ row' row _ cause (omega (arith, s.row_is)) p (λ d. rw (q, sym l) (r d)))

@@ -1,5 +1,6 @@
 -- Items that place words one after the other, as the fold takes them: a segment's words, a routine, a whole tape.
-use Rattle.std.proofs.Common.{◌≡◌, ℕ, zero, suc, ◌+◌, ◌*◌, ◌<◌, ◌≤◌, refl, sym, ap, ◌∙◌, subst, arith, Bool, true, false, ◌&&◌, List, [], ◌∷◌, ◌++◌}
+use Rattle.std.proofs.Common.{◌≡◌, ℕ, zero, suc, ◌+◌, ◌*◌, ◌<◌, ◌≤◌, refl, sym, ap, ◌∙◌}
+use Rattle.std.proofs.Common.{subst, arith, Bool, true, false, ◌&&◌, List, [], ◌∷◌, ◌++◌}
 use Rattle.std.proofs.Common.{length, get_or, set, take, drop}
 use Rattle.std.proofs.lemmas.Bool.{and_parts}
 use Rattle.std.proofs.lemmas.Bool.Decides.{nat_tests}
@@ -40,7 +41,8 @@ code_of c h = grind (arith, nat_tests)
 -- the words that items place, by θ and by what stands below 56, where the values of the letters are
 abbrev pub block : List ℕ → ℕ → List Item → List ℕ
 block contents theta [] = []
-block contents theta (i ∷ is) = word_with i.function i.number i.mark (value_of contents theta i.end) ∷ block contents theta is
+block contents theta (i ∷ is) = word_with i.function i.number i.mark (value_of contents theta i.end)
+    ∷ block contents theta is
 
 -- words placed one after the other from a place on
 abbrev pub laid : ℕ → List ℕ → List (ℕ × ℕ) → List (ℕ × ℕ)
@@ -56,7 +58,8 @@ block_cost (i ∷ is) = begun_cost (canonical i).begun + 17 + block_cost is
 abbrev pub with_block : List ℕ → ℕ → List ℕ → List ℕ
 with_block words a ws = take a words ++ (ws ++ drop (a + length ws) words)
 
-set_block : (xs : List ℕ) (a w : ℕ) (ws : List ℕ) → a < length xs → with_block (set xs a w) (a + 1) ws ≡ with_block xs a (w ∷ ws)
+set_block : (xs : List ℕ) (a w : ℕ) (ws : List ℕ) → a < length xs
+    → with_block (set xs a w) (a + 1) ws ≡ with_block xs a (w ∷ ws)
 set_block [] a w ws h = absurd (omega arith)
 set_block (x ∷ xs) zero w ws h =
     let e : 0 + 1 + length ws ≡ suc (length ws) = omega arith in
@@ -71,7 +74,8 @@ set_block (x ∷ xs) (suc a) w ws h =
 none_laid : (xs : List ℕ) (a : ℕ) → a ≤ length xs → with_block xs a [] ≡ xs
 none_laid xs zero h = refl
 none_laid [] (suc a) h = absurd (omega arith)
-none_laid (x ∷ xs) (suc a) h = let e : suc a + 0 ≡ suc (a + 0) = omega arith in rw e (ap (λ l. x ∷ l) (none_laid xs a (omega arith)))
+none_laid (x ∷ xs) (suc a) h = let e : suc a + 0 ≡ suc (a + 0) = omega arith
+    in rw e (ap (λ l. x ∷ l) (none_laid xs a (omega arith)))
 
 -- words laid one after the other stand so in the store
 pub over_laid : (words : List ℕ) (a : ℕ) (ws : List ℕ) (placed : List (ℕ × ℕ)) → a + length ws ≤ length words
@@ -93,15 +97,16 @@ behind contents note a is = record {
   placed = laid a (block contents note.theta is) note.placed;
 }
 
--- items that place words under T a K, from 56 on, are read without a fault and place their words in a row; `contents` is
--- what stands below 56
+-- items that place words under T a K, from 56 on, are read without a fault and place their words in a row; `contents`
+-- is what stands below 56
 pub placing_all : (z : Size) (words contents : List ℕ) (note : Note) (a : ℕ) (is : List Item) → all_letters is ≡ true
     → note.directive ≡ 20480 + 2 * a → 56 ≤ a → a + length is ≤ locations z
     → ((j : ℕ) → j < 56 → get_or (over note.placed words) j 0 ≡ get_or contents j 0)
     → Reads z words note is (behind contents note a is) (block_cost is)
 placing_all z words contents note a [] h d low fits same =
     let e : a + 0 ≡ a = omega arith in
-    let is : note ≡ behind contents note a [] = rw e (λ k. record { directive = d k; theta = note.theta; placed = note.placed }) in
+    let is : note ≡ behind contents note a [] =
+    rw e (λ k. record { directive = d k; theta = note.theta; placed = note.placed }) in
     subst (λ (n : Note). Reads z words note [] n 0) is (reads_none z words note)
 placing_all z words contents note a (i ∷ is) h d low fits same =
     let p = and_parts (is_spellable i && is_letter (row_kind i.end)) (all_letters is) h in
@@ -109,11 +114,16 @@ placing_all z words contents note a (i ∷ is) h d low fits same =
     let k : row_kind i.end ≡ Letter = letter_of (row_kind i.end) q.1 in
     let below : a < locations z = omega arith in
     let word : ℕ = word_with i.function i.number i.mark (value_of contents note.theta i.end) in
-    let next : Note = record { directive = 20480 + 2 * (a + 1); theta = note.theta; placed = (a, word) ∷ note.placed } in
+    let next : Note = record {
+      directive = 20480 + 2 * (a + 1);
+      theta = note.theta;
+      placed = (a, word) ∷ note.placed;
+    } in
     let value = value_same contents (over note.placed words) note.theta i.end (code_of i.end k) same in
     let word_is : item_word words note i ≡ word = ap (λ v. word_with i.function i.number i.mark v) value in
     let rest = placing_all z words contents next (a + 1) is p.1 refl (omega arith) (omega arith)
     (λ j l. get_or-set_other (over note.placed words) a j word 0 (omega arith) ∙ same j l) in
     let n : a + suc (length is) ≡ a + 1 + length is = omega arith in
     let cost = placing_cost z words note i a k d below in
-    rw (n, sym cost) (reads_one z words note next i is _ _ q.0 (placing z words note i a word k d (omega arith) below word_is) rest)
+    rw (n, sym cost) (reads_one z words note next i is _ _ q.0
+    (placing z words note i a word k d (omega arith) below word_is) rest)

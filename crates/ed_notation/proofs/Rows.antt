@@ -7,8 +7,10 @@ use Rattle.std.proofs.lemmas.List.{append-nil}
 use Rattle.ed_words.specs.declared.size.Size.{Size}
 use Rattle.ed_words.specs.Sizes.{locations}
 use Rattle.ed_notation.specs.declared.cause.TapeCause.{TapeCause}
-use Rattle.ed_notation.specs.declared.cause.TapeCause.TheVariants.{EndOfTape, BadRow, NumberTooLarge, AfterMark, BadControl}
-use Rattle.ed_notation.specs.declared.cause.TapeCause.TheVariants.{LoaderStore, StoreEnd, NoPlace, EntryNegative, EntryInLoader}
+use Rattle.ed_notation.specs.declared.cause.TapeCause.TheVariants.{EndOfTape, BadRow, NumberTooLarge}
+use Rattle.ed_notation.specs.declared.cause.TapeCause.TheVariants.{AfterMark, BadControl}
+use Rattle.ed_notation.specs.declared.cause.TapeCause.TheVariants.{LoaderStore, StoreEnd, NoPlace}
+use Rattle.ed_notation.specs.declared.cause.TapeCause.TheVariants.{EntryNegative, EntryInLoader}
 use Rattle.ed_notation.specs.declared.reader.Part.{Part}
 use Rattle.ed_notation.specs.declared.reader.Taken.{Taken}
 use Rattle.ed_notation.specs.declared.reader.Taken.TheVariants.{Refused, Longer, Ended, Placed, Entered}
@@ -18,8 +20,10 @@ use Rattle.ed_notation.specs.declared.kind.Control.{Control}
 use Rattle.ed_notation.specs.declared.kind.Control.TheVariants.{Directive, ThetaByBlank, ThetaByG, Neither}
 use Rattle.ed_notation.specs.declared.kind.Aim.{Aim}
 use Rattle.ed_notation.specs.declared.kind.Aim.TheVariants.{Places, Enters, Nowhere, Unset}
-use Rattle.ed_notation.specs.Items.{row_kind, Begun, number, is_empty, begun_rows, IsBegun, AreDigits, is_blank, ends, item_of}
-use Rattle.ed_notation.specs.Fold.{Note, over, item_word, address, control_of, aim_of, acted, entering, begun_cost, end_cost}
+use Rattle.ed_notation.specs.Items.{row_kind, Begun, number, is_empty, begun_rows}
+use Rattle.ed_notation.specs.Items.{IsBegun, AreDigits, is_blank, ends, item_of}
+use Rattle.ed_notation.specs.Fold.{Note, over, item_word, address, control_of}
+use Rattle.ed_notation.specs.Fold.{aim_of, acted, entering, begun_cost, end_cost}
 use Rattle.ed_notation.specs.Openings.{IsDirective}
 use Rattle.ed_notation.specs.Faults.{breaks, is_place}
 use Rattle.ed_notation.specs.Reading.{taken, setting_of, set_by, placed_by}
@@ -89,7 +93,8 @@ RowMeans Digit c = c < 10
 RowMeans Mark c = c ≡ 11
 RowMeans r c = Unit {0}
 
-if_means : (P : RowKind → Type 0) (b : Bool) (x y : RowKind) → (b ≡ true → P x) → (b ≡ false → P y) → P (if b then x else y)
+if_means : (P : RowKind → Type 0) (b : Bool) (x y : RowKind) → (b ≡ true → P x) → (b ≡ false → P y)
+    → P (if b then x else y)
 if_means P true x y f g = f refl
 if_means P false x y f g = g refl
 
@@ -130,12 +135,14 @@ not_unset d s =
     if_aim P (nat_eq (d / 4096) 0) _ _ (λ o e. cc) (λ o e.
     omega (arith, differs _ _ h, differs _ _ g, differs _ _ o, s.no_1, s.no_2, s.no_4, s.most))))
 
-module _ (z : Size) (words : List ℕ) (note : Note) (f : ℕ) (ds : List ℕ) (c : ℕ) (set : IsDirective note.directive) where
+module _ (z : Size) (words : List ℕ) (note : Note) (f : ℕ) (ds : List ℕ) (c : ℕ)
+    (set : IsDirective note.directive) where
   abbrev begun : Bool → Begun
   begun m = record { function = f; digits = ds; mark = m }
 
   abbrev Law : RowKind → Bool → Type 0
-  Law r m = RowLaw r z words note (begun m) c (taken z r (over note.placed words) (setting_of note) (as_part (begun m)) c)
+  Law r m = RowLaw r z words note (begun m) c
+      (taken z r (over note.placed words) (setting_of note) (as_part (begun m)) c)
 
   by_digit : (m x : Bool) → IsBegun (begun m) → c < 10 → nat_lt 32767 (10 * number 0 ds + c) ≡ x → Law Digit m
   by_digit true x good h e = refl
@@ -148,7 +155,11 @@ module _ (z : Size) (words : List ℕ) (note : Note) (f : ℕ) (ds : List ℕ) (
         refl,
         record {
           next = record { function = f; digits = ds ++ (c ∷ []); mark = false };
-          good = record { function = good.function; digits = digits_more ds c good.digits h; fits = rw n (not_lt_of _ _ e) };
+          good = record {
+            function = good.function;
+            digits = digits_more ds c good.digits h;
+            fits = rw n (not_lt_of _ _ e);
+          };
           part_is = rw (n, empty_more ds c) refl;
           rows_are = ap (λ x. f ∷ x) (append-nil (ds ++ (c ∷ [])) ∙ ap (λ x. x ++ (c ∷ [])) (sym (append-nil ds)));
           cost_is = omega (arith, l);
@@ -189,7 +200,8 @@ module _ (z : Size) (words : List ℕ) (note : Note) (f : ℕ) (ds : List ℕ) (
       rw (h, e) (rw (h, e) refl, record { ended = refl; goes_on = refl; note_is = rw h refl; cost_is = refl })
 
   by_zed : (m : Bool) (k : Control) (x y : Bool) → control_of f ≡ k
-      → is_place (4096 * f + 2 * number 0 ds + note.theta) ≡ x → nat_le 65536 (2 * number 0 ds + note.theta) ≡ y → Law Zed m
+      → is_place (4096 * f + 2 * number 0 ds + note.theta) ≡ x → nat_le 65536 (2 * number 0 ds + note.theta) ≡ y
+      → Law Zed m
   by_zed true k x y h e g = refl
   by_zed false Neither x y h e g = rw (h, h) refl
   by_zed false ThetaByG x y h e g = rw (h, h) refl
@@ -201,19 +213,36 @@ module _ (z : Size) (words : List ℕ) (note : Note) (f : ℕ) (ds : List ℕ) (
       rw (h, g) (rw (h, g) refl, record { ended = refl; goes_on = refl; note_is = rw h refl; cost_is = refl })
 
   by_letter : (m : Bool) (k : Aim) (x y w : Bool) → aim_of note.directive ≡ k → nat_lt (address note.directive) 44 ≡ x
-      → nat_le (locations z) (address note.directive) ≡ y → nat_le 65536 (item_word words note (item_of (begun m) c)) ≡ w
+      → nat_le (locations z) (address note.directive) ≡ y
+      → nat_le 65536 (item_word words note (item_of (begun m) c)) ≡ w
       → Law Letter m
   by_letter m Nowhere x y w h e g o = rw (h, h) refl
   by_letter m Unset x y w h e g o = absurd (not_unset note.directive set h)
   by_letter m Places true y w h e g o = rw (h, e, h, e) refl
   by_letter m Places false true w h e g o = rw (h, e, g, h, e, g) refl
   by_letter m Places false false w h e g o =
-      rw (h, e, g) (rw (h, e, g) refl, record { ended = refl; goes_on = rw h refl; note_is = rw h refl; cost_is = rw h refl })
+      rw (h, e, g) (
+        rw (h, e, g) refl,
+        record {
+          ended = refl;
+          goes_on = rw h refl;
+          note_is = rw h refl;
+          cost_is = rw h refl;
+        },
+      )
   by_letter m Enters x true w h e g o = rw (h, g, h, g) refl
   by_letter m Enters x false true h e g o = rw (h, g, o, h, g, o) refl
   by_letter m Enters true false false h e g o = rw (h, g, o, e, h, g, o, e) refl
   by_letter m Enters false false false h e g o =
-      rw (h, g, o, e) (rw (h, g, o, e) refl, record { ended = refl; entered = rw h refl; at_is = refl; cost_is = rw h refl })
+      rw (h, g, o, e) (
+        rw (h, g, o, e) refl,
+        record {
+          ended = refl;
+          entered = rw h refl;
+          at_is = refl;
+          cost_is = rw h refl;
+        },
+      )
 
   -- what the reader does at the row is what the rules say
   pub row_law : (m : Bool) → IsBegun (begun m) → (r : RowKind) → RowMeans r c → Law r m

@@ -20,7 +20,8 @@ none_first f [] h = refl
 none_first f (c ∷ cs) h = rw (h c) (none_first f cs h)
 
 module _ (z : Size) (words : List ℕ) where
-  no_rule : (note : Note) (w : Written) → IsSound z words note w → first (row_kind w.end) z words note w.begun w.end ≡ None
+  no_rule : (note : Note) (w : Written) → IsSound z words note w
+      → first (row_kind w.end) z words note w.begun w.end ≡ None
   no_rule note w s = none_first (λ k. breaks k (row_kind w.end) z words note w.begun w.end) causes s
 
   to_end : (row cost : ℕ) (note : Note) (w : Written) (rest : List ℕ) → IsWritten w
@@ -51,7 +52,8 @@ module _ (z : Size) (words : List ℕ) where
   pub many : (before : List Written) (row cost : ℕ) (note : Note) (rest : List ℕ) → IsDirective note.directive
       → AreRead words note before → AreSound z words note before
       → (reading z words row cost note None (spelled before ++ rest)
-      ≡ reading z words (row + length (spelled before)) (cost + costs words note before) (fold words note (items before)) None rest)
+      ≡ reading z words (row + length (spelled before)) (cost + costs words note before)
+      (fold words note (items before)) None rest)
       × IsDirective (fold words note (items before)).directive
   many [] row cost note rest set are sound =
       let r : row + 0 ≡ row = omega arith in
@@ -71,7 +73,8 @@ module _ (z : Size) (words : List ℕ) where
   pub last_read : (row cost : ℕ) (note : Note) (w : Written) (rest : List ℕ) → IsDirective note.directive → IsWritten w
       → is_entry note (item w) ≡ true → IsSound z words note w
       → reading z words row cost note None (rows_of w ++ rest)
-      ≡ Arrived (entry_by words (row + length (begun_rows w.begun)) (cost + begun_cost w.begun) note (as_part w.begun) w.end rest
+      ≡ Arrived (entry_by words (row + length (begun_rows w.begun)) (cost + begun_cost w.begun) note
+      (as_part w.begun) w.end rest
       (address note.directive))
   unfolding reading
   last_read row cost note w rest set good enters sound =
@@ -87,7 +90,8 @@ module _ (z : Size) (words : List ℕ) where
   -- a tape whose items break no rule, up to an entry item, is well formed
   pub sound_well : (start : Note) (before : List Written) (last : Written) (rest : List ℕ) → IsDirective start.directive
       → AreRead words start before → AreSound z words start before → IsWritten last
-      → is_entry (fold words start (items before)) (item last) ≡ true → IsSound z words (fold words start (items before)) last
+      → is_entry (fold words start (items before)) (item last) ≡ true
+      → IsSound z words (fold words start (items before)) last
       → WellFormed z words start (spelled before ++ (rows_of last ++ rest))
   sound_well start before last rest set are sound good enters s =
       let a = many before 0 0 start (rows_of last ++ rest) set are sound in
@@ -126,7 +130,8 @@ module _ (z : Size) (words : List ℕ) where
       let f = e ∙ ap (λ x. spelled before ++ x) (append_assoc (rows_of w) (spelled ws) rest) in
       let s = item_sound start rows before w (spelled ws ++ rest) well are more.0 f in
       let n : fold words start (items after) ≡ act words (fold words start (items before)) (item w) =
-      ap (λ is. fold words start is) (items-append before (w ∷ [])) ∙ fold-append words start (items before) (item w ∷ []) in
+      ap (λ is. fold words start is) (items-append before (w ∷ []))
+      ∙ fold-append words start (items before) (item w ∷ []) in
       let a = AreRead-append words start before (w ∷ []) are (more.0, more.1, tt) in
       let m = subst (λ (x : Note). AreRead words x ws) (sym n) more.2 in
       let t : spelled after ≡ spelled before ++ rows_of w =

@@ -8,17 +8,21 @@ use Rattle.ed_words.specs.declared.size.Size.{Size}
 use Rattle.ed_words.specs.Sizes.{locations}
 use Rattle.ed_notation.specs.declared.item.Item.{Item}
 use Rattle.ed_notation.specs.declared.cause.TapeCause.{TapeCause}
-use Rattle.ed_notation.specs.declared.cause.TapeCause.TheVariants.{EndOfTape, BadRow, NumberTooLarge, AfterMark, BadControl}
-use Rattle.ed_notation.specs.declared.cause.TapeCause.TheVariants.{LoaderStore, StoreEnd, NoPlace, EntryNegative, EntryInLoader}
+use Rattle.ed_notation.specs.declared.cause.TapeCause.TheVariants.{EndOfTape, BadRow, NumberTooLarge}
+use Rattle.ed_notation.specs.declared.cause.TapeCause.TheVariants.{AfterMark, BadControl}
+use Rattle.ed_notation.specs.declared.cause.TapeCause.TheVariants.{LoaderStore, StoreEnd, NoPlace}
+use Rattle.ed_notation.specs.declared.cause.TapeCause.TheVariants.{EntryNegative, EntryInLoader}
 use Rattle.ed_notation.specs.declared.kind.RowKind.{RowKind}
 use Rattle.ed_notation.specs.declared.kind.RowKind.TheVariants.{Letter}
 use Rattle.ed_notation.specs.declared.kind.Aim.TheVariants.{Places, Enters as EntersAt}
 use Rattle.ed_notation.specs.Items.{row_kind, Begun, item, items}
-use Rattle.ed_notation.specs.Fold.{Note, act, aim_of, address, control_of, is_entry, item_word, fold, begun_cost, cost_of, costs}
+use Rattle.ed_notation.specs.Fold.{Note, act, aim_of, address, control_of, is_entry}
+use Rattle.ed_notation.specs.Fold.{item_word, fold, begun_cost, cost_of, costs}
 use Rattle.ed_notation.specs.Faults.{breaks, bad_kay, AreRead, IsSound, AreSound}
 use Rattle.ed_notation.specs.Spellings.{canonical, canonicals, is_spellable}
 use Rattle.ed_notation.proofs.Canonical.{digits_are, is_written, same_item}
-use Rattle.ed_notation.proofs.Cuts.{items-append, fold-append, costs-append, canonicals-append, AreRead-append, AreSound-append}
+use Rattle.ed_notation.proofs.Cuts.{items-append, fold-append, costs-append}
+use Rattle.ed_notation.proofs.Cuts.{canonicals-append, AreRead-append, AreSound-append}
 
 -- an item without π
 abbrev pub plain : ℕ → ℕ → ℕ → Item
@@ -41,14 +45,18 @@ module _ (z : Size) (words : List ℕ) where
   pub reads_none : (note : Note) → Reads note [] note 0
   reads_none note = record { are_read = tt; are_sound = tt; folds = refl; costs_are = refl }
 
-  pub reads_one : (note m : Note) (i : Item) (is : List Item) (next : Note) (cost : ℕ) → is_spellable i ≡ true → Does note i m
+  pub reads_one : (note m : Note) (i : Item) (is : List Item) (next : Note) (cost : ℕ) → is_spellable i ≡ true
+      → Does note i m
       → Reads m is next cost → Reads note (i ∷ is) next (cost_of note (canonical i) + cost)
   reads_one note m i is next cost can d r =
       let it : item (canonical i) ≡ i = same_item i can in
       let e : act words note (item (canonical i)) ≡ m = ap (act words note) it ∙ d.acts in
       record {
-        are_read =
-            (is_written i can, ap (is_entry note) it ∙ d.goes_on, subst (λ (n : Note). AreRead words n (canonicals is)) (sym e) r.are_read);
+        are_read = (
+          is_written i can,
+          ap (is_entry note) it ∙ d.goes_on,
+          subst (λ (n : Note). AreRead words n (canonicals is)) (sym e) r.are_read,
+        );
         are_sound = (d.sound, subst (λ (n : Note). AreSound z words n (canonicals is)) (sym e) r.are_sound);
         folds = ap (λ (n : Note). fold words n (items (canonicals is))) e ∙ r.folds;
         costs_are = ap (λ (n : Note). cost_of note (canonical i) + costs words n (canonicals is)) e
@@ -63,9 +71,11 @@ module _ (z : Size) (words : List ℕ) where
       let e : fold words note (items vs) ≡ m = a.folds in
       let both : canonicals (is ++ js) ≡ vs ++ ws = canonicals-append is js in
       record {
-        are_read = rw both (AreRead-append words note vs ws a.are_read (subst (λ (n : Note). AreRead words n ws) (sym e) b.are_read));
+        are_read = rw both (AreRead-append words note vs ws a.are_read
+            (subst (λ (n : Note). AreRead words n ws) (sym e) b.are_read));
         are_sound =
-            rw both (AreSound-append z words note vs ws a.are_sound (subst (λ (n : Note). AreSound z words n ws) (sym e) b.are_sound));
+            rw both (AreSound-append z words note vs ws a.are_sound
+            (subst (λ (n : Note). AreSound z words n ws) (sym e) b.are_sound));
         folds = ap (λ us. fold words note (items us)) both ∙ ap (fold words note) (items-append vs ws)
             ∙ fold-append words note (items vs) (items ws) ∙ ap (λ (n : Note). fold words n (items ws)) e ∙ b.folds;
         costs_are = ap (costs words note) both ∙ costs-append words note vs ws
@@ -74,14 +84,16 @@ module _ (z : Size) (words : List ℕ) where
       }
 
   -- K breaks no rule where its function sets something and its number is a place
-  pub kay_sound : (note : Note) (f n : ℕ) → bad_kay (control_of f) ≡ false → n ≤ 1023 → IsSound z words note (canonical (plain f n 14))
+  pub kay_sound : (note : Note) (f n : ℕ) → bad_kay (control_of f) ≡ false → n ≤ 1023
+      → IsSound z words note (canonical (plain f n 14))
   kay_sound note f n good few EndOfTape = refl
   kay_sound note f n good few BadRow = refl
   kay_sound note f n good few NumberTooLarge = refl
   kay_sound note f n good few AfterMark = refl
   kay_sound note f n good few BadControl = good
   kay_sound note f n good few LoaderStore = refl
-  kay_sound note f n good few StoreEnd = let l : n ≤ 32767 = omega arith in rw ((digits_are n l).number_is) (lt_false 1023 n few)
+  kay_sound note f n good few StoreEnd = let l : n ≤ 32767 = omega arith
+      in rw ((digits_are n l).number_is) (lt_false 1023 n few)
   kay_sound note f n good few NoPlace = refl
   kay_sound note f n good few EntryNegative = refl
   kay_sound note f n good few EntryInLoader = refl
@@ -91,7 +103,8 @@ module _ (z : Size) (words : List ℕ) where
   aiming note p h = record { goes_on = refl; sound = kay_sound note 5 p refl h; acts = refl }
 
   -- E p K
-  pub aiming_entry : (note : Note) (p : ℕ) → p ≤ 1023 → Does note (plain 3 p 14) (record note { directive = 12288 + 2 * p })
+  pub aiming_entry : (note : Note) (p : ℕ) → p ≤ 1023
+      → Does note (plain 3 p 14) (record note { directive = 12288 + 2 * p })
   aiming_entry note p h = record { goes_on = refl; sound = kay_sound note 3 p refl h; acts = refl }
 
   -- G K under a T directive: θ is twice the place
@@ -122,9 +135,14 @@ module _ (z : Size) (words : List ℕ) where
       of EntryInLoader = rw aim refl
 
   -- a code letter under T p K places its word
-  pub placing : (note : Note) (i : Item) (place w : ℕ) → row_kind i.end ≡ Letter → note.directive ≡ 20480 + 2 * place → 44 ≤ place
+  pub placing : (note : Note) (i : Item) (place w : ℕ) → row_kind i.end ≡ Letter → note.directive ≡ 20480 + 2 * place
+      → 44 ≤ place
       → place < locations z → item_word words note i ≡ w
-      → Does note i (record { directive = 20480 + 2 * (place + 1); theta = note.theta; placed = (place, w) ∷ note.placed })
+      → Does note i (record {
+        directive = 20480 + 2 * (place + 1);
+        theta = note.theta;
+        placed = (place, w) ∷ note.placed;
+      })
   placing note i place w letter d low high is =
       let m = most z in
       let five : note.directive / 4096 ≡ 5 = omega arith in
@@ -139,7 +157,8 @@ module _ (z : Size) (words : List ℕ) where
       }
 
   -- the orders that read a code letter which places a word
-  pub placing_cost : (note : Note) (i : Item) (place : ℕ) → row_kind i.end ≡ Letter → note.directive ≡ 20480 + 2 * place → place < locations z
+  pub placing_cost : (note : Note) (i : Item) (place : ℕ) → row_kind i.end ≡ Letter
+      → note.directive ≡ 20480 + 2 * place → place < locations z
       → cost_of note (canonical i) ≡ begun_cost (canonical i).begun + 17
   placing_cost note i place letter d high =
       let m = most z in
@@ -162,7 +181,8 @@ module _ (z : Size) (words : List ℕ) where
       let a : address note.directive ≡ p = omega arith in
       record {
         enters = rw three refl;
-        sound = λ cause. by_cause (rw three refl) (rw a (lt_false p 44 low)) (rw a (le_false (locations z) p high)) cause;
+        sound = λ cause. by_cause (rw three refl) (rw a (lt_false p 44 low))
+            (rw a (le_false (locations z) p high)) cause;
         place = a;
         word = refl;
       }

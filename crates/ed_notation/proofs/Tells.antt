@@ -88,7 +88,15 @@ module _ (z : Size) (words : List ℕ) where
     offset = length (part_rows part);
     row_is = e;
     breaks = record {
-      stands = record { before = []; part = part; rest = rest; are_read = tt; is_part = is; rows_are = refl; row_is = omega arith };
+      stands = record {
+        before = [];
+        part = part;
+        rest = rest;
+        are_read = tt;
+        is_part = is;
+        rows_are = refl;
+        row_is = omega arith;
+      };
       breaks = h;
     };
   }
@@ -109,7 +117,8 @@ module _ (z : Size) (words : List ℕ) where
       let w : Written = record { begun = b; end = c } in
       let l = length-append (begun_rows b) (c ∷ []) in
       let d = subst (λ (y : Note). IsDirective y.directive) x.note_is set in
-      let ih = told (act words note (item w)) (first + length (rows_of w)) (base + cost_of note w) (row + 1) (cost + n) None d tt
+      let ih = told (act words note (item w)) (first + length (rows_of w)) (base + cost_of note w) (row + 1)
+      (cost + n) None d tt
       (omega (arith, r, l)) (omega (arith, k, x.cost_is)) in
       let e : rows_of w ++ rows ≡ begun_rows b ++ (c ∷ rows) = append_assoc (begun_rows b) (c ∷ []) rows in
       let v = reading z words (row + 1) (cost + n) (act words note (item w)) None rows in
@@ -182,5 +191,6 @@ module _ (z : Size) (words : List ℕ) where
   tells (f ∷ rows) note first base row cost None d is r k =
       by_function f rows note first base row cost (nat_lt f 32) (tells rows) d r k refl
   tells (c ∷ rows) note first base row cost (Some b) d is r k =
-      after_row c rows note first base row cost b (seen z words note b c) (tells rows) d (seen_keeps z words note b c d) is r k
+      after_row c rows note first base row cost b (seen z words note b c) (tells rows) d
+      (seen_keeps z words note b c d) is r k
       (law z words note b c d is)

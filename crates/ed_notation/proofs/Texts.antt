@@ -1,5 +1,6 @@
 -- The text of items spells their rows.
-use Rattle.std.proofs.Common.{◌≡◌, ℕ, ◌+◌, ◌-◌, ◌<◌, ◌≤◌, refl, sym, ap, ◌∙◌, arith, lit<, Bool, true, false, ◌&&◌, nat_eq}
+use Rattle.std.proofs.Common.{◌≡◌, ℕ, ◌+◌, ◌-◌, ◌<◌, ◌≤◌, refl, sym, ap, ◌∙◌}
+use Rattle.std.proofs.Common.{arith, lit<, Bool, true, false, ◌&&◌, nat_eq}
 use Rattle.std.proofs.Common.{nat_lt, nat_le, List, [], ◌∷◌, ◌++◌, length, drop}
 use Rattle.std.specs.Prelude.{Some}
 use Rattle.std.proofs.lemmas.Bool.Decides.{nat_tests}
@@ -12,7 +13,8 @@ use Rattle.ed_codes.proofs.Pieces.{spells_append}
 use Rattle.ed_codes.proofs.Readings.{has_one_reading}
 use Rattle.ed_notation.specs.declared.item.Item.{Item}
 use Rattle.ed_notation.specs.declared.kind.RowKind.{RowKind}
-use Rattle.ed_notation.specs.Items.{row_kind, Begun, Written, mark_rows, begun_rows, rows_of, spelled, AreDigits, IsWritten, ends}
+use Rattle.ed_notation.specs.Items.{row_kind, Begun, Written, mark_rows, begun_rows}
+use Rattle.ed_notation.specs.Items.{rows_of, spelled, AreDigits, IsWritten, ends}
 use Rattle.ed_notation.specs.Spellings.{AreWritten, canonicals, line_from, text_of}
 use Rattle.ed_words.proofs.Numbers.{lt_of, eq_of, if_means}
 

@@ -5,7 +5,8 @@ use Rattle.std.proofs.lemmas.Bool.Decides.{nat_tests}
 use Rattle.std.proofs.lemmas.List.{append-nil}
 use Rattle.ed_notation.specs.declared.item.Item.{Item}
 use Rattle.ed_notation.specs.declared.kind.RowKind.{RowKind}
-use Rattle.ed_notation.specs.Items.{row_kind, Begun, Written, mark_rows, begun_rows, rows_of, spelled, AreDigits, IsWritten}
+use Rattle.ed_notation.specs.Items.{row_kind, Begun, Written, mark_rows, begun_rows}
+use Rattle.ed_notation.specs.Items.{rows_of, spelled, AreDigits, IsWritten}
 use Rattle.ed_notation.specs.Items.{ends, item, items}
 use Rattle.ed_notation.specs.Spellings.{AreWritten, SpellsAll, NoSpellingBeginsAnother}
 use Rattle.ed_words.proofs.Numbers.{eq_of, if_means}
@@ -67,13 +68,15 @@ apart w a =
     ∙ ap (λ x. w.begun.function ∷ x) (append_assoc w.begun.digits (mark_rows w.begun.mark) (w.end ∷ a))
 
 -- the item that the first rows spell is one item
-one_item : (v w : Written) (a b : List ℕ) → IsWritten v → IsWritten w → rows_of v ++ a ≡ rows_of w ++ b → SameItem v w a b
+one_item : (v w : Written) (a b : List ℕ) → IsWritten v → IsWritten w → rows_of v ++ a ≡ rows_of w ++ b
+    → SameItem v w a b
 one_item v w a b p q e =
     let x = sym (apart v a) ∙ e ∙ apart w b in
     let f = head_same _ _ _ _ x in
     let h = ends_high v.begun v.end p.ended in
     let k = ends_high w.begun w.end q.ended in
-    let r = tails v.begun.digits w.begun.digits v.begun.mark w.begun.mark v.end w.end a b p.begun.digits q.begun.digits h k
+    let r = tails v.begun.digits w.begun.digits v.begun.mark w.begun.mark v.end w.end a b p.begun.digits
+    q.begun.digits h k
     (tail_same _ _ _ _ x) in
     record {
       item = λ i. record { begun = record { function = f i; digits = r.digits i; mark = r.mark i }; end = r.end i };

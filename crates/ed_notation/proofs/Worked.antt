@@ -5,7 +5,8 @@ use Rattle.ed_words.specs.declared.size.Size.{Size}
 use Rattle.ed_words.specs.declared.size.Size.TheVariants.{Small, Full}
 use Rattle.ed_codes.specs.Spelling.{row_of}
 use Rattle.ed_notation.specs.declared.cause.TapeCause.{TapeCause}
-use Rattle.ed_notation.specs.declared.cause.TapeCause.TheVariants.{EndOfTape, StoreEnd, NumberTooLarge, LoaderStore, BadRow}
+use Rattle.ed_notation.specs.declared.cause.TapeCause.TheVariants.{EndOfTape, StoreEnd, NumberTooLarge}
+use Rattle.ed_notation.specs.declared.cause.TapeCause.TheVariants.{LoaderStore, BadRow}
 use Rattle.ed_notation.specs.Openings.{IsDirective, opening, opening_with}
 use Rattle.ed_notation.specs.Faults.{IsFault}
 use Rattle.ed_notation.specs.Reading.{reading, Verdict, Faulty, Arrived}

@@ -10,8 +10,8 @@ use Rattle.ed_notation.specs.Openings.{opening_with}
 use Rattle.ed_notation.specs.Faults.{Entry, IsFault, WellFormed, ComesTo, IsSound, AreSound}
 use Rattle.ed_notation.specs.Reports.{Report, word_in}
 
--- the answer for a well-formed tape: no rule is broken at any row, there are items that the first rows spell and that the
--- fold takes without a fault, the last alone an entry item, and the report is what their fold tells
+-- the answer for a well-formed tape: no rule is broken at any row, there are items that the first rows spell and that
+-- the fold takes without a fault, the last alone an entry item, and the report is what their fold tells
 pub record Accepts (z : Size) (words : List ℕ) (start : Note) (base : ℕ) (rows : List ℕ) (r : Report) : Type 0 where
   pub well : WellFormed z words start rows
   pub entry : Entry

@@ -1,13 +1,16 @@
 -- Where a tape is well formed, and where and what its fault is (this project's own rules: what the Initial Orders would
 -- do with such a tape is no notation).
-use Rattle.std.specs.Prelude.{ℕ, ◌≡◌, ◌⊎◌, ◌+◌, ◌*◌, ◌%◌, ◌<◌, ◌≤◌, Bool, true, false, ◌&&◌, ◌||◌, not, nat_eq, nat_lt, nat_le}
+use Rattle.std.specs.Prelude.{ℕ, ◌≡◌, ◌⊎◌, ◌+◌, ◌*◌, ◌%◌, ◌<◌, ◌≤◌, Bool, true}
+use Rattle.std.specs.Prelude.{false, ◌&&◌, ◌||◌, not, nat_eq, nat_lt, nat_le}
 use Rattle.std.specs.Prelude.{Option, Some, None, List, [], ◌∷◌, ◌++◌, length}
 use Rattle.ed_words.specs.declared.size.Size.{Size}
 use Rattle.ed_words.specs.Sizes.{locations}
 use Rattle.ed_notation.specs.declared.item.Item.{Item}
 use Rattle.ed_notation.specs.declared.cause.TapeCause.{TapeCause}
-use Rattle.ed_notation.specs.declared.cause.TapeCause.TheVariants.{EndOfTape, BadRow, NumberTooLarge, AfterMark, BadControl}
-use Rattle.ed_notation.specs.declared.cause.TapeCause.TheVariants.{LoaderStore, StoreEnd, NoPlace, EntryNegative, EntryInLoader}
+use Rattle.ed_notation.specs.declared.cause.TapeCause.TheVariants.{EndOfTape, BadRow, NumberTooLarge}
+use Rattle.ed_notation.specs.declared.cause.TapeCause.TheVariants.{AfterMark, BadControl}
+use Rattle.ed_notation.specs.declared.cause.TapeCause.TheVariants.{LoaderStore, StoreEnd, NoPlace}
+use Rattle.ed_notation.specs.declared.cause.TapeCause.TheVariants.{EntryNegative, EntryInLoader}
 use Rattle.ed_notation.specs.declared.kind.RowKind.{RowKind}
 use Rattle.ed_notation.specs.declared.kind.RowKind.TheVariants.{Digit, Mark, Zed, Kay, Blank, Letter, Other}
 use Rattle.ed_notation.specs.declared.kind.Control.{Control}
@@ -16,7 +19,8 @@ use Rattle.ed_notation.specs.declared.kind.Aim.{Aim}
 use Rattle.ed_notation.specs.declared.kind.Aim.TheVariants.{Places, Nowhere}
 use Rattle.ed_notation.specs.Items.{row_kind, Begun, Written, number, begun_rows, rows_of, spelled, IsBegun, IsWritten}
 use Rattle.ed_notation.specs.Items.{is_blank, item, item_of, items}
-use Rattle.ed_notation.specs.Fold.{Note, item_word, address, control_of, aim_of, enters_at, act, is_entry, fold, costs, cost_of}
+use Rattle.ed_notation.specs.Fold.{Note, item_word, address, control_of, aim_of}
+use Rattle.ed_notation.specs.Fold.{enters_at, act, is_entry, fold, costs, cost_of}
 
 -- the numbers of the rules; of two rules broken at one row the less is the fault
 abbrev pub number_of : TapeCause → ℕ
@@ -74,7 +78,8 @@ breaks BadControl Kay z words note b c = b.mark || bad_kay (control_of b.functio
 breaks BadControl Zed z words note b c = b.mark || bad_zed (control_of b.function)
 breaks LoaderStore Letter z words note b c = places_at (aim_of note.directive) && nat_lt (address note.directive) 44
 breaks StoreEnd Letter z words note b c =
-    (places_at (aim_of note.directive) || enters_at (aim_of note.directive)) && nat_le (locations z) (address note.directive)
+    (places_at (aim_of note.directive) || enters_at (aim_of note.directive))
+    && nat_le (locations z) (address note.directive)
 breaks StoreEnd Kay z words note b c = nat_lt 1023 (number 0 b.digits)
 breaks StoreEnd Zed z words note b c = past_zed (control_of b.function) note (item_of b c)
 breaks NoPlace Letter z words note b c = is_nowhere (aim_of note.directive)
@@ -102,7 +107,8 @@ broken z words note (Some b) (c ∷ rest) cause = breaks cause (row_kind c) z wo
 -- whole items one after the other, none of them an entry item
 abbrev pub AreRead : List ℕ → Note → List Written → Type 0
 AreRead words note [] = Unit {0}
-AreRead words note (w ∷ ws) = IsWritten w × (is_entry note (item w) ≡ false) × AreRead words (act words note (item w)) ws
+AreRead words note (w ∷ ws) = IsWritten w × (is_entry note (item w) ≡ false)
+    × AreRead words (act words note (item w)) ws
 
 -- the rows of a part of an item, none between two items
 abbrev pub part_rows : Option Begun → List ℕ
@@ -125,12 +131,14 @@ pub record Stands (words : List ℕ) (start : Note) (rows : List ℕ) (row : ℕ
   pub row_is : row ≡ length (spelled before) + length (part_rows part)
 
 -- the tape breaks the rule at the row
-pub record Breaks (z : Size) (words : List ℕ) (start : Note) (rows : List ℕ) (row : ℕ) (cause : TapeCause) : Type 0 where
+pub record Breaks (z : Size) (words : List ℕ) (start : Note) (rows : List ℕ) (row : ℕ) (cause : TapeCause) :
+    Type 0 where
   pub stands : Stands words start rows row
   pub breaks : broken z words (fold words start (items stands.before)) stands.part stands.rest cause ≡ true
 
 -- the fault of a tape: the least row at which a rule is broken, and there the rule with the least number
-pub record IsFault (z : Size) (words : List ℕ) (start : Note) (rows : List ℕ) (row : ℕ) (cause : TapeCause) : Type 0 where
+pub record IsFault (z : Size) (words : List ℕ) (start : Note) (rows : List ℕ) (row : ℕ) (cause : TapeCause) :
+    Type 0 where
   pub is : Breaks z words start rows row cause
   pub least : (r : ℕ) (other : TapeCause) → Breaks z words start rows r other
       → (row < r) ⊎ ((row ≡ r) × (number_of cause ≤ number_of other))

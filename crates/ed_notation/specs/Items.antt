@@ -1,7 +1,9 @@
 -- Items of the tape and the rows that spell them (Wilkes, Wheeler and Gill 1951; that a number stays at most 32767, and
 -- that a blank row stands inside no item but a blank pair, are this project's own rules).
--- Rows are whole numbers here. One of 32 or more is no row and breaks a rule wherever it is read; no tape has such a row.
-use Rattle.std.specs.Prelude.{ℕ, ◌≡◌, ◌+◌, ◌*◌, ◌<◌, ◌≤◌, Bool, true, false, ◌&&◌, not, nat_eq, nat_lt, nat_le, if◌then◌else◌}
+-- Rows are whole numbers here. One of 32 or more is no row and breaks a rule wherever it is read; no tape has such a
+-- row.
+use Rattle.std.specs.Prelude.{ℕ, ◌≡◌, ◌+◌, ◌*◌, ◌<◌, ◌≤◌, Bool, true, false}
+use Rattle.std.specs.Prelude.{◌&&◌, not, nat_eq, nat_lt, nat_le, if◌then◌else◌}
 use Rattle.std.specs.Prelude.{List, [], ◌∷◌, ◌++◌}
 use Rattle.ed_notation.specs.declared.item.Item.{Item}
 use Rattle.ed_notation.specs.declared.kind.RowKind.{RowKind}

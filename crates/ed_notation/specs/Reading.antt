@@ -5,8 +5,10 @@ use Rattle.std.specs.Prelude.{if◌then◌else◌, Option, Some, None, List, [],
 use Rattle.ed_words.specs.declared.size.Size.{Size}
 use Rattle.ed_words.specs.Sizes.{locations}
 use Rattle.ed_notation.specs.declared.cause.TapeCause.{TapeCause}
-use Rattle.ed_notation.specs.declared.cause.TapeCause.TheVariants.{EndOfTape, BadRow, NumberTooLarge, AfterMark, BadControl}
-use Rattle.ed_notation.specs.declared.cause.TapeCause.TheVariants.{LoaderStore, StoreEnd, NoPlace, EntryNegative, EntryInLoader}
+use Rattle.ed_notation.specs.declared.cause.TapeCause.TheVariants.{EndOfTape, BadRow, NumberTooLarge}
+use Rattle.ed_notation.specs.declared.cause.TapeCause.TheVariants.{AfterMark, BadControl}
+use Rattle.ed_notation.specs.declared.cause.TapeCause.TheVariants.{LoaderStore, StoreEnd, NoPlace}
+use Rattle.ed_notation.specs.declared.cause.TapeCause.TheVariants.{EntryNegative, EntryInLoader}
 use Rattle.ed_notation.specs.declared.kind.RowKind.{RowKind}
 use Rattle.ed_notation.specs.declared.kind.RowKind.TheVariants.{Digit, Mark, Zed, Kay, Blank, Letter, Other}
 use Rattle.ed_notation.specs.declared.kind.Control.{Control}

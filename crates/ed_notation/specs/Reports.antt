@@ -1,8 +1,8 @@
 -- What a check tells of a well-formed tape.
 use Rattle.std.specs.Prelude.{ℕ, Bool, false, List, Option, Some, None, if◌then◌else◌, slice_index, slice_index_or}
 
--- the address of the entry, the cost in orders, the rows read up to the entry, θ, and of each location whether a word was
--- placed there and which
+-- the address of the entry, the cost in orders, the rows read up to the entry, θ, and of each location whether a word
+-- was placed there and which
 pub record Report : Type 0 where
   pub entry : ℕ
   pub orders : ℕ

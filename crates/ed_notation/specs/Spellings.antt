@@ -1,6 +1,7 @@
 -- Items one after the other, the rows that spell them, and their text (Wilkes, Wheeler and Gill 1951; that a text has a
 -- line for each item is this project's own rule).
-use Rattle.std.specs.Prelude.{ℕ, ◌≡◌, ◌≢◌, ◌/◌, ◌%◌, Bool, true, false, ◌&&◌, nat_le, nat_lt, if◌then◌else◌, List, [], ◌∷◌, ◌++◌}
+use Rattle.std.specs.Prelude.{ℕ, ◌≡◌, ◌≢◌, ◌/◌, ◌%◌, Bool, true, false, ◌&&◌}
+use Rattle.std.specs.Prelude.{nat_le, nat_lt, if◌then◌else◌, List, [], ◌∷◌, ◌++◌}
 use Rattle.ed_codes.specs.Spelling.{byte_of}
 use Rattle.ed_notation.specs.declared.item.Item.{Item}
 use Rattle.ed_notation.specs.Items.{row_kind, ends, Written, IsWritten, rows_of, spelled, items, Spells}
@@ -73,8 +74,8 @@ pub record SpellableIsSpelled (i : Item) : Type 0 where
   pub spelled : is_spellable i ≡ true → (rows : List ℕ) × Spells i rows
   pub spellable : (rows : List ℕ) → Spells i rows → is_spellable i ≡ true
 
--- the bytes of an item's rows from one on and a line feed: the function row is a letter or sign, a digit row a digit, and
--- every other row a letter or sign
+-- the bytes of an item's rows from one on and a line feed: the function row is a letter or sign, a digit row a digit,
+-- and every other row a letter or sign
 abbrev pub line_from : Bool → List ℕ → List ℕ
 line_from as_digit [] = 10 ∷ []
 line_from as_digit (c ∷ rows) = byte_of c as_digit ∷ line_from true rows

@@ -23,8 +23,8 @@ pub fn rows_of_items(alloc: Global, items: &[Item]) -> Result<Vec<Code>, NoMemor
     Ok(rows)
 }
 
-/// The text of these items, a line for each: digit rows as digits, the other rows as letters or signs. Its rows are those
-/// of `rows_of_items`.
+/// The text of these items, a line for each: digit rows as digits, the other rows as letters or signs. Its rows are
+/// those of `rows_of_items`.
 pub fn text_of_items(alloc: Global, items: &[Item]) -> Result<Vec<u8>, NoMemory>
     requires { AreSpellable items.now }
     ensures text { IfOk result (λ v. v.items ≡ text_of (canonicals items.now)) }

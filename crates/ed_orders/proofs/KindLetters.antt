@@ -1,5 +1,6 @@
 -- Each order's function is the code of its letter.
-use Rattle.std.proofs.Common.{◌≡◌, ℕ, ◌<◌, refl, sym, ap, ◌∙◌, [], ◌∷◌, Option, Some, None, unwrap_or, Bool, true, false, nat_eq, nat_lt, lit<}
+use Rattle.std.proofs.Common.{◌≡◌, ℕ, ◌<◌, refl, sym, ap, ◌∙◌, [], ◌∷◌, Option, Some}
+use Rattle.std.proofs.Common.{None, unwrap_or, Bool, true, false, nat_eq, nat_lt, lit<}
 use Rattle.std.specs.Prelude.{slice_index}
 use Rattle.std.proofs.lemmas.List.{get_or_past}
 use Rattle.ed_words.proofs.Numbers.{eq_of, lt_of, not_lt_of}
@@ -66,7 +67,8 @@ from_kind : (f : ℕ) (k : Kind) → kind_of_function f ≡ Some k → f ≡ fun
 from_kind f k e = by_test (nat_lt f 32) refl
   where
     by_test : (b : Bool) → nat_lt f 32 ≡ b → f ≡ function_of_kind k
-    by_test true t = eq_of f _ (sym (ap (has_function f) e) ∙ from_below (λ n. has_function n (kind_of_function n)) 32 f refl (lt_of f 32 t))
+    by_test true t = eq_of f _
+        (sym (ap (has_function f) e) ∙ from_below (λ n. has_function n (kind_of_function n)) 32 f refl (lt_of f 32 t))
     by_test false t = let none = sym (get_or_past kinds f None (not_lt_of f 32 t)) ∙ e in absurd (cc)
 
 -- the function that an order's letter spells is that order's
@@ -75,7 +77,8 @@ from_letter f k e = by_test (nat_lt f 32) refl
   where
     same : row_of (slice_index letters f) ≡ Some (function_of_kind k)
     same =
-        let byte = ap (λ text. slice_index text 0) (sym e ∙ (own k).letter) in ap row_of byte ∙ letter_back (function_of_kind k) (own k).below
+        let byte = ap (λ text. slice_index text 0) (sym e ∙ (own k).letter) in ap row_of byte
+        ∙ letter_back (function_of_kind k) (own k).below
 
     by_test : (b : Bool) → nat_lt f 32 ≡ b → f ≡ function_of_kind k
     by_test true t = ap (λ row. unwrap_or row 0) (sym (letter_back f (lt_of f 32 t)) ∙ same)
@@ -83,5 +86,7 @@ from_letter f k e = by_test (nat_lt f 32) refl
 
 -- a function is an order's exactly where the order's letter spells it
 pub by_letter : FunctionIsByLetter
-by_letter f k =
-    (λ e. (own k).letter ∙ ap (λ n. byte_of n false ∷ []) (sym (from_kind f k e)), λ e. ap kind_of_function (from_letter f k e) ∙ (own k).kind)
+by_letter f k = (
+  λ e. (own k).letter ∙ ap (λ n. byte_of n false ∷ []) (sym (from_kind f k e)),
+  λ e. ap kind_of_function (from_letter f k e) ∙ (own k).kind,
+)

@@ -1,5 +1,6 @@
 -- How far the shift orders shift.
-use Rattle.std.proofs.Common.{◌≡◌, ℕ, zero, suc, ◌+◌, ◌-◌, ◌/◌, ◌%◌, ◌^◌, ◌<◌, ◌≤◌, refl, ap, arith, add-one, Bool, true, false, ◌||◌, not, nat_lt, Option, Some}
+use Rattle.std.proofs.Common.{◌≡◌, ℕ, zero, suc, ◌+◌, ◌-◌, ◌/◌, ◌%◌, ◌^◌, ◌<◌, ◌≤◌, refl, ap}
+use Rattle.std.proofs.Common.{arith, add-one, Bool, true, false, ◌||◌, not, nat_lt, Option, Some}
 use Rattle.std.specs.Int.{w32, trailing_zeros}
 use Rattle.std.proofs.lemmas.Bool.Decides.{nat_tests}
 use Rattle.std.proofs.lemmas.Nat.{mod-pow-add}
@@ -15,7 +16,8 @@ use Rattle.ed_codes.proofs.Below.{from_below}
 -- the places of a number that isn't 0 are those that the law describes
 pub places_are : (w : ℕ) → 0 < w → w < 2 ^ 32 → IsPlaces w (places w)
 unfolding places
-places_are w some fits = by_zeros (trailing_zeros w32 w) (bit_at-trailing_zeros w32 w some fits).1 (bit_at-trailing_zeros w32 w some fits).2
+places_are w some fits =
+    by_zeros (trailing_zeros w32 w) (bit_at-trailing_zeros w32 w some fits).1 (bit_at-trailing_zeros w32 w some fits).2
   where
     by_zeros : (t : ℕ) → w / 2 ^ t % 2 ≡ 1 → ((i : ℕ) → i < t → w / 2 ^ i % 2 ≡ 0) → IsPlaces w (t + 1)
     by_zeros t odd least = let e : t + 1 - 1 ≡ t = omega arith in record { odd = rw e odd; least = rw e least }
@@ -27,7 +29,8 @@ zeros_within zero zero n some h = absurd (omega arith)
 zeros_within zero (suc j) n some h = absurd (omega arith)
 zeros_within (suc k) zero n some h = absurd (omega arith)
 zeros_within (suc k) (suc j) n some h =
-    under_below (n % 2) (count_trailing_zeros k (n / 2)) j (λ e. zeros_within k j (n / 2) (halved n j some e) (omega arith))
+    under_below (n % 2) (count_trailing_zeros k (n / 2)) j
+    (λ e. zeros_within k j (n / 2) (halved n j some e) (omega arith))
   where
     under_below : (d t j : ℕ) → (d ≡ 0 → t < j) → under d t < suc j
     under_below zero t j h = omega (arith, h refl)
@@ -50,7 +53,8 @@ is_shift _ = false
 -- the functions of the orders that shift, 4 and 25, have a digit 1 among their lowest three
 shift_function : (f : ℕ) → f < 32 → is_shift (kind_of_function f) ≡ true → 0 < f % 8
 shift_function f below h =
-    meaning (is_shift (kind_of_function f)) h (from_below (λ k. not (is_shift (kind_of_function k)) || nat_lt 0 (k % 8)) 32 f refl below)
+    meaning (is_shift (kind_of_function f)) h
+    (from_below (λ k. not (is_shift (kind_of_function k)) || nat_lt 0 (k % 8)) 32 f refl below)
   where
     meaning : (b : Bool) → b ≡ true → (not b || nat_lt 0 (f % 8)) ≡ true → 0 < f % 8
     meaning b h t = grind (arith, nat_tests)

@@ -1,6 +1,7 @@
--- The state of the machine as a piece of code sees it: its own words and sandwich digits as a window on the store, and the
--- registers as plain numbers.
-use Rattle.std.proofs.Common.{◌≡◌, ℕ, ◌+◌, ◌*◌, ◌/◌, ◌^◌, ◌<◌, ◌≤◌, refl, arith, Bool, false, ◌⊎◌, inl, inr, List, [], ◌∷◌, Option}
+-- The state of the machine as a piece of code sees it: its own words and sandwich digits as a window on the store,
+-- and the registers as plain numbers.
+use Rattle.std.proofs.Common.{◌≡◌, ℕ, ◌+◌, ◌*◌, ◌/◌, ◌^◌, ◌<◌, ◌≤◌, refl, arith}
+use Rattle.std.proofs.Common.{Bool, false, ◌⊎◌, inl, inr, List, [], ◌∷◌, Option}
 use Rattle.std.proofs.Common.{length, set, get_or}
 use Rattle.ed_words.specs.declared.size.Size.{Size}
 use Rattle.ed_words.specs.Sizes.{locations}

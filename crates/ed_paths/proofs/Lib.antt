@@ -8,4 +8,5 @@ pub mod Moves
 pub mod Leads
 pub mod Paths
 pub mod Standing
+pub mod Zeros
 pub mod Newline

@@ -1,20 +1,24 @@
--- One lemma for each kind of order. A line of a path is a kind, the order's cell, the place that it names and the number that
--- it leaves; `refl`, that the order stands there; and the arithmetic of the number.
+-- One lemma for each kind of order. A line of a path is a kind, the order's cell, the place that it names and the
+-- number that it leaves; `refl`, that the order stands there; and the arithmetic of the number.
 use Rattle.std.proofs.Common.{◌≡◌, ℕ, ◌+◌, ◌*◌, ◌/◌, ◌%◌, ◌^◌, ◌<◌, ◌≤◌, refl, ap, ◌∙◌, Bool, true, false, ◌&&◌, not}
 use Rattle.std.proofs.Common.{unwrap_or, List, ◌∷◌, Some}
 use Rattle.ed_acc.specs.Arithmetic.{right71, plus_product, minus_product, common}
 use Rattle.ed_orders.specs.Kinds.{kind_of_function}
 use Rattle.ed_orders.specs.declared.kind.Kind.{Kind}
-use Rattle.ed_orders.specs.declared.kind.Kind.TheVariants.{A as KindA, S as KindS, H as KindH, V as KindV, N as KindN, T as KindT}
+use Rattle.ed_orders.specs.declared.kind.Kind.TheVariants.{A as KindA, S as KindS, H as KindH}
+use Rattle.ed_orders.specs.declared.kind.Kind.TheVariants.{V as KindV, N as KindN, T as KindT}
 use Rattle.ed_orders.specs.declared.kind.Kind.TheVariants.{U as KindU, C as KindC, R as KindR}
-use Rattle.ed_orders.specs.declared.kind.Kind.TheVariants.{L as KindL, E as KindE, G as KindG, I as KindI, O as KindO, F as KindF}
+use Rattle.ed_orders.specs.declared.kind.Kind.TheVariants.{L as KindL, E as KindE, G as KindG}
+use Rattle.ed_orders.specs.declared.kind.Kind.TheVariants.{I as KindI, O as KindO, F as KindF}
 use Rattle.ed_orders.specs.declared.kind.Kind.TheVariants.{X as KindX, Y as KindY, Z as KindZ}
 use Rattle.ed_machine.specs.OrderTable.{step, took_row}
 use Rattle.ed_machine.specs.declared.turn.Turn.TheVariants.{Went, Printed, Stopped}
-use Rattle.ed_paths.proofs.Sums.{Remains, IsQuotient, AddsProduct, plus71_is, minus71_is, left71_is, right71_is, plus_product_is, collated_is}
+use Rattle.ed_paths.proofs.Sums.{Remains, IsQuotient, AddsProduct, plus71_is, minus71_is}
+use Rattle.ed_paths.proofs.Sums.{left71_is, right71_is, plus_product_is, collated_is}
 use Rattle.ed_words.proofs.Numbers.{lt_true, lt_false, le_true, le_false}
 use Rattle.ed_paths.proofs.Frames.{Frame, Moment, state}
-use Rattle.ed_paths.proofs.Places.{Place, address, is_pair, is_written, value, at_top, fitting, fitted, put, reads, writes}
+use Rattle.ed_paths.proofs.Places.{Place, address, is_pair, is_written, value}
+use Rattle.ed_paths.proofs.Places.{at_top, fitting, fitted, put, reads, writes}
 use Rattle.ed_paths.proofs.Orders.{Does, Stands, Names, named, obeyed, by_place, by_word}
 use Rattle.ed_paths.proofs.Shifts.{IsShift}
 
@@ -45,10 +49,14 @@ module _ {n h : ℕ} {f : Frame n h} {r : Moment} where
   pub S : (i : ℕ) (p : Place f r) (u : ℕ) → Reads i 12 p → Remains r.acc (value f r p * 2 ^ 36) u
       → Moves f KindS r (record r { acc = u; counter = f.base + (i + 1) })
   S i p u e rest = by_place f r i 12 KindS p true Went _ e refl refl refl (λ o k.
-      rw (o.long, o.place, o.is.after, reads f r p o.is.all o.there, minus71_is r.acc (value f r p * 2 ^ 36) u rest) refl)
+      rw (o.long, o.place, o.is.after, reads f r p o.is.all o.there, minus71_is r.acc (value f r p * 2 ^ 36) u rest)
+      refl)
 
   -- H: the multiplier is the number there
-  pub H : (i : ℕ) (p : Place f r) → Reads i 21 p → Moves f KindH r (record r { multiplier = value f r p; counter = f.base + (i + 1) })
+  pub H : (i : ℕ) (p : Place f r) → Reads i 21 p → Moves f KindH r (record r {
+    multiplier = value f r p;
+    counter = f.base + (i + 1);
+  })
   H i p e = by_place f r i 21 KindH p true Went _ e refl refl refl (λ o k.
       rw (o.long, o.place, o.is.after, reads f r p o.is.all o.there) refl)
 
@@ -68,17 +76,25 @@ module _ {n h : ℕ} {f : Frame n h} {r : Moment} where
       rw (o.long, o.place, o.is.after, reads f r p o.is.all o.there, sum) refl)
 
   -- C: the digits that the multiplier and the number there have in common are added
-  pub C : (i : ℕ) (p : Place f r) (y u : ℕ) → Reads i 30 p → common 35 r.multiplier (value f r p) ≡ y → (r.acc + 2 ^ 36 * y) % 2 ^ 71 ≡ u
+  pub C : (i : ℕ) (p : Place f r) (y u : ℕ) → Reads i 30 p → common 35 r.multiplier (value f r p) ≡ y
+      → (r.acc + 2 ^ 36 * y) % 2 ^ 71 ≡ u
       → Moves f KindC r (record r { acc = u; counter = f.base + (i + 1) })
   C i p y u e both sum = by_place f r i 30 KindC p true Went _ e refl refl refl (λ o k.
-      rw (o.long, o.place, o.is.after, reads f r p o.is.all o.there, collated_is r.acc r.multiplier (value f r p) y u both sum) refl)
+      rw (
+        o.long,
+        o.place,
+        o.is.after,
+        reads f r p o.is.all o.there,
+        collated_is r.acc r.multiplier (value f r p) y u both sum,
+      ) refl)
 
-  -- T, U: the digits at the top of the accumulator are written there, and T clears it. `T` and `U` are for one that has that
-  -- number at its top and nothing else: both last arguments may be `refl`, and the number `_`
+  -- T, U: the digits at the top of the accumulator are written there, and T clears it. `T` and `U` are for one that
+  -- has that number at its top and nothing else: both last arguments may be `refl`, and the number `_`
   pub T_top : (i : ℕ) (p : Place f r) (u : ℕ) → Writes i 5 p → fitting f r p (r.acc / 2 ^ 54) (r.acc / 2 ^ 36) ≡ u
       → Moves f KindT r (record (put f r p u) { acc = 0; counter = f.base + (i + 1) })
   T_top i p u e top = by_place f r i 5 KindT p (is_written f r p) Went _ e refl refl refl (λ o k.
-      rw (o.long, o.place, o.is.after, writes f r p (r.acc / 2 ^ 54) (r.acc / 2 ^ 36) o.is.all o.there o.more_is, top) refl)
+      rw (o.long, o.place, o.is.after, writes f r p (r.acc / 2 ^ 54) (r.acc / 2 ^ 36) o.is.all o.there o.more_is, top)
+      refl)
 
   pub T : (i : ℕ) (p : Place f r) (u : ℕ) → Writes i 5 p → r.acc ≡ at_top f r p u
       → Moves f KindT r (record (put f r p u) { acc = 0; counter = f.base + (i + 1) })
@@ -87,23 +103,29 @@ module _ {n h : ℕ} {f : Frame n h} {r : Moment} where
   pub U_top : (i : ℕ) (p : Place f r) (u : ℕ) → Writes i 7 p → fitting f r p (r.acc / 2 ^ 54) (r.acc / 2 ^ 36) ≡ u
       → Moves f KindU r (record (put f r p u) { counter = f.base + (i + 1) })
   U_top i p u e top = by_place f r i 7 KindU p (is_written f r p) Went _ e refl refl refl (λ o k.
-      rw (o.long, o.place, o.is.after, writes f r p (r.acc / 2 ^ 54) (r.acc / 2 ^ 36) o.is.all o.there o.more_is, top) refl)
+      rw (o.long, o.place, o.is.after, writes f r p (r.acc / 2 ^ 54) (r.acc / 2 ^ 36) o.is.all o.there o.more_is, top)
+      refl)
 
   pub U : (i : ℕ) (p : Place f r) (u : ℕ) → Writes i 7 p → r.acc ≡ at_top f r p u
       → Moves f KindU r (record (put f r p u) { counter = f.base + (i + 1) })
   U i p u e is = U_top i p u e (fitted f r p r.acc u is)
 
   -- I: a row is read into there
-  pub I : (i : ℕ) (p : Place f r) {c : ℕ} {rest : List ℕ} (u : ℕ) → Writes i 8 p → r.tape ≡ c ∷ rest → fitting f r p c (c * 2 ^ 18) ≡ u
+  pub I : (i : ℕ) (p : Place f r) {c : ℕ} {rest : List ℕ} (u : ℕ) → Writes i 8 p → r.tape ≡ c ∷ rest
+      → fitting f r p c (c * 2 ^ 18) ≡ u
       → Moves f KindI r (record (put f r p u) { tape = rest; counter = f.base + (i + 1) })
   I i p {c} u e row is = by_place f r i 8 KindI p (is_written f r p) Went _ e refl refl refl (λ o k.
       ap (λ x. took_row x o.w (state f r k)) row
       ∙ rw (o.long, o.place, o.is.after, writes f r p c (c * 2 ^ 18) o.is.all o.there o.more_is, is) refl)
 
-  -- F: the last printed code is written there. It is a step and no line of a path, so that what holds of every path may be
-  -- asked of a program that the checking routine obeys, which has no F
-  pub F : (i : ℕ) (p : Place f r) (u k : ℕ) → Writes i 17 p → fitting f r p (unwrap_or r.last 0 * 4096) (unwrap_or r.last 0 * 2 ^ 30) ≡ u
-      → step (state f r k) ≡ record { state = state f (record (put f r p u) { counter = f.base + (i + 1) }) (k + 1); turn = Went }
+  -- F: the last printed code is written there. It is a step and no line of a path, so that what holds of every path
+  -- may be asked of a program that the checking routine obeys, which has no F
+  pub F : (i : ℕ) (p : Place f r) (u k : ℕ) → Writes i 17 p
+      → fitting f r p (unwrap_or r.last 0 * 4096) (unwrap_or r.last 0 * 2 ^ 30) ≡ u
+      → step (state f r k) ≡ record {
+        state = state f (record (put f r p u) { counter = f.base + (i + 1) }) (k + 1);
+        turn = Went;
+      }
   F i p u k e is =
       let o = named f r i 17 KindF p (is_written f r p) e refl in
       obeyed f r KindF o.w (f.base + (i + 1)) k o.is
@@ -145,22 +167,31 @@ module _ {n h : ℕ} {f : Frame n h} {r : Moment} where
   Y i w u e is sum = by_word f r i w KindY Went _ e (ap kind_of_function is) refl refl refl (λ o k.
       rw (plus71_is r.acc (2 ^ 35) u sum, o.after) refl)
 
-  pub Z : (i w : ℕ) → Stands f r i w true → w / 4096 ≡ 13 → Does f KindZ r Stopped (record r { counter = f.base + (i + 1) })
+  pub Z : (i w : ℕ) → Stands f r i w true → w / 4096 ≡ 13
+      → Does f KindZ r Stopped (record r { counter = f.base + (i + 1) })
   Z i w e is = by_word f r i w KindZ Stopped _ e (ap kind_of_function is) refl refl refl (λ o k. rw o.after refl)
 
   -- E, G: a jump by the accumulator's sign, or none; the order is short
-  pub E_jumps : (i : ℕ) (p : Place f r) → Jumps i 3 p → r.acc < 2 ^ 70 → Moves f KindE r (record r { counter = address f r p })
-  E_jumps i p e low = by_place f r i 3 KindE p (not (is_pair f r p)) Went _ e refl refl (no_both (is_pair f r p)) (λ o k.
+  pub E_jumps : (i : ℕ) (p : Place f r) → Jumps i 3 p → r.acc < 2 ^ 70
+      → Moves f KindE r (record r { counter = address f r p })
+  E_jumps i p e low = by_place f r i 3 KindE p (not (is_pair f r p)) Went _ e refl refl
+      (no_both (is_pair f r p)) (λ o k.
       rw (o.place, lt_true r.acc (2 ^ 70) low) refl)
 
-  pub E_stays : (i : ℕ) (p : Place f r) → Jumps i 3 p → 2 ^ 70 ≤ r.acc → Moves f KindE r (record r { counter = f.base + (i + 1) })
-  E_stays i p e high = by_place f r i 3 KindE p (not (is_pair f r p)) Went _ e refl refl (no_both (is_pair f r p)) (λ o k.
+  pub E_stays : (i : ℕ) (p : Place f r) → Jumps i 3 p → 2 ^ 70 ≤ r.acc
+      → Moves f KindE r (record r { counter = f.base + (i + 1) })
+  E_stays i p e high = by_place f r i 3 KindE p (not (is_pair f r p)) Went _ e refl refl
+      (no_both (is_pair f r p)) (λ o k.
       rw (o.place, lt_false r.acc (2 ^ 70) high, o.is.after) refl)
 
-  pub G_jumps : (i : ℕ) (p : Place f r) → Jumps i 27 p → 2 ^ 70 ≤ r.acc → Moves f KindG r (record r { counter = address f r p })
-  G_jumps i p e high = by_place f r i 27 KindG p (not (is_pair f r p)) Went _ e refl refl (no_both (is_pair f r p)) (λ o k.
+  pub G_jumps : (i : ℕ) (p : Place f r) → Jumps i 27 p → 2 ^ 70 ≤ r.acc
+      → Moves f KindG r (record r { counter = address f r p })
+  G_jumps i p e high = by_place f r i 27 KindG p (not (is_pair f r p)) Went _ e refl refl
+      (no_both (is_pair f r p)) (λ o k.
       rw (o.place, le_true (2 ^ 70) r.acc high) refl)
 
-  pub G_stays : (i : ℕ) (p : Place f r) → Jumps i 27 p → r.acc < 2 ^ 70 → Moves f KindG r (record r { counter = f.base + (i + 1) })
-  G_stays i p e low = by_place f r i 27 KindG p (not (is_pair f r p)) Went _ e refl refl (no_both (is_pair f r p)) (λ o k.
+  pub G_stays : (i : ℕ) (p : Place f r) → Jumps i 27 p → r.acc < 2 ^ 70
+      → Moves f KindG r (record r { counter = f.base + (i + 1) })
+  G_stays i p e low = by_place f r i 27 KindG p (not (is_pair f r p)) Went _ e refl refl
+      (no_both (is_pair f r p)) (λ o k.
       rw (o.place, le_false (2 ^ 70) r.acc low, o.is.after) refl)

@@ -1,5 +1,6 @@
 -- A worked piece: the routine `newline`, five orders and two codes, from its listing to what it does at any base.
-use Rattle.std.proofs.Common.{◌≡◌, ℕ, ◌+◌, ◌*◌, ◌<◌, ◌≤◌, refl, sym, subst, arith, List, [], ◌∷◌, Option, Some, None, get_or, length, lit<}
+use Rattle.std.proofs.Common.{◌≡◌, ℕ, ◌+◌, ◌*◌, ◌<◌, ◌≤◌, refl, sym, subst, arith}
+use Rattle.std.proofs.Common.{List, [], ◌∷◌, Option, Some, None, get_or, length, lit<}
 use Rattle.ed_words.specs.Sizes.{locations}
 use Rattle.ed_words.proofs.SizeLemmas.{most}
 use Rattle.ed_orders.specs.declared.kind.Kind.{Kind}
@@ -58,7 +59,8 @@ module _ (s : State) (b m top : ℕ) (o : IsCalled s b m top) (all : length s.st
   abbrev link : ℕ
   link = 12288 + 2 * (m + 2)
 
-  path : (at4 : ℕ) → Path f 5 (at 0 (short (114688 + 2 * m)) at4 s.last) (18 ∷ 24 ∷ []) (record (at 0 0 link (Some 24)) { counter = m + 2 })
+  path : (at4 : ℕ) → Path f 5 (at 0 (short (114688 + 2 * m)) at4 s.last) (18 ∷ 24 ∷ [])
+      (record (at 0 0 link (Some 24)) { counter = m + 2 })
   path at4 =
       let at3 = o.at3 in
       let size = most s.size in
@@ -94,5 +96,6 @@ module _ (s : State) (b m top : ℕ) (o : IsCalled s b m top) (all : length s.st
       subst (λ x. P (state_after j x)) begins (each P is (path (get_or s.store.words (b + 4) 0)) s.orders j l)
 
   -- each word of the store stays, but for the order that returns
-  pub keeps : (i : ℕ) → (IsWorking (image b) b i → ⊥) → get_or (patched 0 s.store.words b (cells b link)) i 0 ≡ get_or s.store.words i 0
+  pub keeps : (i : ℕ) → (IsWorking (image b) b i → ⊥)
+      → get_or (patched 0 s.store.words b (cells b link)) i 0 ≡ get_or s.store.words i 0
   keeps = unchanged (image b) s.store.words b (cells b link) refl refl o.holds

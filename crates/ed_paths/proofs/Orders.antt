@@ -1,5 +1,6 @@
 -- One order of a piece: the word at its cell, the place that it names, and the step of the machine that it is.
-use Rattle.std.proofs.Common.{◌≡◌, ℕ, ◌+◌, ◌*◌, ◌/◌, ◌%◌, ◌<◌, ◌≤◌, refl, sym, ap, ◌∙◌, subst, true≢false, arith, Bool, true, false, ◌&&◌}
+use Rattle.std.proofs.Common.{◌≡◌, ℕ, ◌+◌, ◌*◌, ◌/◌, ◌%◌, ◌<◌, ◌≤◌, refl, sym, ap}
+use Rattle.std.proofs.Common.{◌∙◌, subst, true≢false, arith, Bool, true, false, ◌&&◌}
 use Rattle.std.proofs.Common.{nat_lt, nat_eq, Some, get_or, length}
 use Rattle.std.proofs.lemmas.Bool.{and_parts}
 use Rattle.std.proofs.lemmas.Bool.Decides.{nat_tests}
@@ -59,7 +60,8 @@ pub word_is : {c v w : ℕ} {a b : Bool} → v ≡ w → ◌≡◌ {A = ℕ × (
 word_is {c} {a = a} {b = b} e = λ i. (c, (e i, (a, b)))
 
 -- that a place is the piece's, where it is known otherwise
-pub there_is : {c w : ℕ} {a b : Bool} → b ≡ true → ◌≡◌ {A = ℕ × (ℕ × (Bool × Bool))} (c, (w, (a, b))) (c, (w, (a, true)))
+pub there_is : {c w : ℕ} {a b : Bool} → b ≡ true
+    → ◌≡◌ {A = ℕ × (ℕ × (Bool × Bool))} (c, (w, (a, b))) (c, (w, (a, true)))
 there_is {c} {w} {a} e = λ i. (c, (w, (a, e i)))
 
 -- the word of an order with no spare digit, by its function and address
@@ -70,7 +72,8 @@ long_by : (g a : ℕ) (long : Bool) → is_long (word_by g long a) ≡ long
 long_by g a true = grind (arith, nat_tests)
 long_by g a false = grind (arith, nat_tests)
 
-fields_by : (g a : ℕ) (long : Bool) → a < 1024 → (function_of (word_by g long a) ≡ g) × (address_of (word_by g long a) ≡ a)
+fields_by : (g a : ℕ) (long : Bool) → a < 1024
+    → (function_of (word_by g long a) ≡ g) × (address_of (word_by g long a) ≡ a)
 fields_by g a true h = (omega arith, omega arith)
 fields_by g a false h = (omega arith, omega arith)
 
@@ -113,7 +116,8 @@ module _ {n h : ℕ} (f : Frame n h) (r : Moment) where
       record {
         here = ap (λ x. get_or (all_words f r) x 0) at ∙ get_own 0 r.words f.base r.cells i inside ∙ ap (λ x. x.1.0) e;
         kind_is = is;
-        after = ap (within f.size) next ∙ within_below f.size (f.base + (i + 1)) (omega (arith, f.under, f.fits, second));
+        after = ap (within f.size) next
+            ∙ within_below f.size (f.base + (i + 1)) (omega (arith, f.under, f.fits, second));
         low = omega (arith, f.under, second, at);
         all = all;
       }
@@ -164,23 +168,28 @@ module _ {n h : ℕ} (f : Frame n h) (r : Moment) where
   -- an order that names a place
   pub by_place : (i g : ℕ) (kind : Kind) (p : Place f r) (more : Bool) (turn : Turn) (t : Moment) → Names i g p more
       → kind_of_function g ≡ Some kind → is_F kind ≡ false → (jumps kind && (more && is_pair f r p)) ≡ false
-      → ((o : Named kind p more (f.base + (i + 1))) (k : ℕ) → obey kind o.w (state f r k) ≡ record { state = state f t (k + 1); turn = turn })
+      → ((o : Named kind p more (f.base + (i + 1))) (k : ℕ)
+      → obey kind o.w (state f r k) ≡ record { state = state f t (k + 1); turn = turn })
       → Does f kind r turn t
   by_place i g kind p more turn t e is no_F short does =
       let o = named i g kind p more e is in
       record {
         does = λ k. obeyed kind o.w (f.base + (i + 1)) k o.is ∙ does o k;
-        order = order_of kind no_F o.is (λ x. o.reaches) (λ x. o.long ∙ short_by (jumps kind) more (is_pair f r p) short x o.more_is);
+        order = order_of kind no_F o.is (λ x. o.reaches)
+            (λ x. o.long ∙ short_by (jumps kind) more (is_pair f r p) short x o.more_is);
       }
 
   -- an order of which the whole word counts
-  pub by_word : (i w : ℕ) (kind : Kind) (turn : Turn) (t : Moment) → Stands i w true → kind_of_function (function_of w) ≡ Some kind
+  pub by_word : (i w : ℕ) (kind : Kind) (turn : Turn) (t : Moment) → Stands i w true
+      → kind_of_function (function_of w) ≡ Some kind
       → names kind ≡ false → jumps kind ≡ false → is_F kind ≡ false
-      → ((o : IsWord kind w (f.base + (i + 1))) (k : ℕ) → obey kind w (state f r k) ≡ record { state = state f t (k + 1); turn = turn })
+      → ((o : IsWord kind w (f.base + (i + 1))) (k : ℕ)
+      → obey kind w (state f r k) ≡ record { state = state f t (k + 1); turn = turn })
       → Does f kind r turn t
   by_word i w kind turn t e is none stays no_F does =
       let o = word i w true kind e is in
       record {
         does = λ k. obeyed kind w (f.base + (i + 1)) k o ∙ does o k;
-        order = order_of kind no_F o (λ x. absurd (true≢false (sym x ∙ none))) (λ x. absurd (true≢false (sym x ∙ stays)));
+        order = order_of kind no_F o (λ x. absurd (true≢false (sym x ∙ none)))
+            (λ x. absurd (true≢false (sym x ∙ stays)));
       }

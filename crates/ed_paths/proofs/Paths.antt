@@ -1,5 +1,6 @@
 -- A path: orders one after the other, and the orders of the machine that it is.
-use Rattle.std.proofs.Common.{◌≡◌, ℕ, zero, suc, ◌+◌, ◌<◌, refl, sym, ap, ◌∙◌, subst, arith, true, List, [], ◌∷◌, ◌++◌, append_assoc}
+use Rattle.std.proofs.Common.{◌≡◌, ℕ, zero, suc, ◌+◌, ◌<◌, refl, sym, ap, ◌∙◌}
+use Rattle.std.proofs.Common.{subst, arith, true, List, [], ◌∷◌, ◌++◌, append_assoc}
 use Rattle.std.proofs.Common.{append-nil}
 use Rattle.ed_orders.specs.declared.kind.Kind.{Kind}
 use Rattle.ed_machine.specs.State.{State}
@@ -11,10 +12,12 @@ use Rattle.ed_paths.proofs.Leads.{Leads, goes_on}
 use Rattle.ed_paths.proofs.Frames.{Frame, Moment, state}
 use Rattle.ed_paths.proofs.Orders.{Does, IsOrder}
 
--- k orders lead from one moment to another and print the codes: each goes on at the next, or prints its code and goes on
+-- k orders lead from one moment to another and print the codes: each goes on at the next, or prints its code and goes
+-- on
 pub data Path {n h : ℕ} (f : Frame n h) : ℕ → Moment → List ℕ → Moment → Type 0 where
   stay : {r : Moment} → Path f 0 r [] r
-  on : {k : ℕ} {kind : Kind} {r m t : Moment} {cs : List ℕ} → Does f kind r Went m → Path f k m cs t → Path f (suc k) r cs t
+  on : {k : ℕ} {kind : Kind} {r m t : Moment} {cs : List ℕ} → Does f kind r Went m → Path f k m cs t
+      → Path f (suc k) r cs t
   prints : {k c : ℕ} {kind : Kind} {r m t : Moment} {cs : List ℕ} → Does f kind r (Printed c) m → Path f k m cs t
       → Path f (suc k) r (c ∷ cs) t
 
@@ -43,10 +46,12 @@ first_codes zero s = sym (append-nil (codes_of (step s).turn))
 first_codes (suc k) s =
     ap (λ x. x ++ codes_of (step (state_after (suc k) s)).turn) (first_codes k s)
     ∙ append_assoc (codes_of (step s).turn) (past k (step s).state).codes (codes_of (step (state_after (suc k) s)).turn)
-    ∙ ap (λ (x : State). codes_of (step s).turn ++ ((past k (step s).state).codes ++ codes_of (step x).turn)) (first_state k s)
+    ∙ ap (λ (x : State). codes_of (step s).turn ++ ((past k (step s).state).codes ++ codes_of (step x).turn))
+    (first_state k s)
 
 -- one order more, at the front
-preceded : (k : ℕ) (s m t : State) (w : Turn) (cs : List ℕ) → step s ≡ record { state = m; turn = w } → goes_on w ≡ true → Leads k m cs t
+preceded : (k : ℕ) (s m t : State) (w : Turn) (cs : List ℕ) → step s ≡ record { state = m; turn = w }
+    → goes_on w ≡ true → Leads k m cs t
     → Leads (suc k) s (codes_of w ++ cs) t
 unfolding past
 preceded k s m t w cs first ok rest =
@@ -77,22 +82,29 @@ pub leads : {n h : ℕ} {f : Frame n h} {k : ℕ} {r t : Moment} {cs : List ℕ}
 leads {f = f} {t = t} stay done = let e : done + 0 ≡ done = omega arith in rw e (none (state f t done))
 leads {f = f} {t = t} (on {k = k} {r = r} {m = m} {cs = cs} first rest) done =
     let e : done + suc k ≡ done + 1 + k = omega arith in
-    rw e (preceded k (state f r done) (state f m (done + 1)) (state f t (done + 1 + k)) _ cs (first.does done) refl (leads rest (done + 1)))
+    rw e (preceded k (state f r done) (state f m (done + 1)) (state f t (done + 1 + k)) _ cs (first.does done) refl
+    (leads rest (done + 1)))
 leads {f = f} {t = t} (prints {k = k} {r = r} {m = m} {cs = cs} first rest) done =
     let e : done + suc k ≡ done + 1 + k = omega arith in
-    rw e (preceded k (state f r done) (state f m (done + 1)) (state f t (done + 1 + k)) _ cs (first.does done) refl (leads rest (done + 1)))
+    rw e (preceded k (state f r done) (state f m (done + 1)) (state f t (done + 1 + k)) _ cs (first.does done) refl
+    (leads rest (done + 1)))
 
 -- what holds before an order of any kind holds before every order of a path
-module _ {n h : ℕ} {f : Frame n h} (P : State → Type 0) (holds : (kind : Kind) (s : State) → IsOrder f.top kind s → P s) where
-  begins : {kind : Kind} {r m : Moment} {turn : Turn} → Does f kind r turn m → (done : ℕ) → P (state_after 0 (state f r done))
-  begins {kind} {r} first done = subst P (sym (no_state (state f r done))) (holds kind (state f r done) (first.order done))
+module _ {n h : ℕ} {f : Frame n h} (P : State → Type 0)
+    (holds : (kind : Kind) (s : State) → IsOrder f.top kind s → P s) where
+  begins : {kind : Kind} {r m : Moment} {turn : Turn} → Does f kind r turn m → (done : ℕ)
+      → P (state_after 0 (state f r done))
+  begins {kind} {r} first done =
+      subst P (sym (no_state (state f r done))) (holds kind (state f r done) (first.order done))
 
-  behind : {kind : Kind} {r m : Moment} {turn : Turn} → Does f kind r turn m → (done j : ℕ) → P (state_after j (state f m (done + 1)))
+  behind : {kind : Kind} {r m : Moment} {turn : Turn} → Does f kind r turn m → (done j : ℕ)
+      → P (state_after j (state f m (done + 1)))
       → P (state_after (suc j) (state f r done))
   behind {r = r} first done j =
       subst P (sym (first_state j (state f r done) ∙ ap (λ (y : Obeyed). state_after j y.state) (first.does done)))
 
-  pub each : {k : ℕ} {r t : Moment} {cs : List ℕ} → Path f k r cs t → (done j : ℕ) → j < k → P (state_after j (state f r done))
+  pub each : {k : ℕ} {r t : Moment} {cs : List ℕ} → Path f k r cs t → (done j : ℕ) → j < k
+      → P (state_after j (state f r done))
   each stay done j l = absurd (omega arith)
   each (on first rest) done zero l = begins first done
   each (on first rest) done (suc j) l = behind first done j (each rest (done + 1) j (omega arith))

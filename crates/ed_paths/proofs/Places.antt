@@ -1,5 +1,6 @@
 -- Where an order of a piece reads, writes or jumps to, and what the store then holds.
-use Rattle.std.proofs.Common.{◌≡◌, ℕ, ◌+◌, ◌-◌, ◌*◌, ◌/◌, ◌%◌, ◌^◌, ◌<◌, ◌≤◌, refl, sym, ap, true≢false, arith, Bool, inl, true, false}
+use Rattle.std.proofs.Common.{◌≡◌, ℕ, ◌+◌, ◌-◌, ◌*◌, ◌/◌, ◌%◌, ◌^◌, ◌<◌, ◌≤◌, refl}
+use Rattle.std.proofs.Common.{sym, ap, true≢false, arith, Bool, inl, true, false}
 use Rattle.std.proofs.Common.{◌&&◌}
 use Rattle.std.proofs.Common.{nat_lt, nat_eq, List, length, get_or, set}
 use Rattle.std.proofs.lemmas.Bool.{and_parts}
@@ -8,7 +9,8 @@ use Rattle.ed_words.specs.Words.{joined}
 use Rattle.ed_machine.specs.OrderTable.{read_at, written_at}
 use Rattle.ed_paths.proofs.Window.{get_own, set_own}
 use Rattle.ed_words.proofs.Numbers.{lt_of, eq_of}
-use Rattle.ed_paths.proofs.Frames.{Frame, Moment, Beside, short, long, all_words, store, some_digits, get_digit, set_digit, get_beside}
+use Rattle.ed_paths.proofs.Frames.{Frame, Moment, Beside, short, long, all_words, store}
+use Rattle.ed_paths.proofs.Frames.{some_digits, get_digit, set_digit, get_beside}
 use Rattle.ed_paths.proofs.Frames.{set_beside}
 
 -- a location outside the piece
@@ -41,8 +43,12 @@ pub record Held : Type 0 where
   pub pairs : List Bool
 
 -- a location below 56 is outside a piece that stands behind the Initial Orders
-pub early : {n h : ℕ} {f : Frame n h} {words : List ℕ} (q : ℕ) → 56 ≤ f.base → q < 56 → length words ≡ 1024 → IsOutside f words q
-early {f = f} q low l all = record { below = omega (arith, low, f.under); beside = inl (omega (arith, low), omega (arith, all)) }
+pub early : {n h : ℕ} {f : Frame n h} {words : List ℕ} (q : ℕ) → 56 ≤ f.base → q < 56 → length words ≡ 1024
+    → IsOutside f words q
+early {f = f} q low l all = record {
+  below = omega (arith, low, f.under);
+  beside = inl (omega (arith, low), omega (arith, all));
+}
 
 module _ {n h : ℕ} (f : Frame n h) (r : Moment) where
   abbrev pub address : Place f r → ℕ
@@ -139,7 +145,11 @@ module _ {n h : ℕ} (f : Frame n h) (r : Moment) where
   paired j p even e =
       let c = and_parts (nat_lt (j + 1) n) (nat_eq j (2 * (h + p)) && nat_lt p (length r.pairs)) e in
       let d = and_parts (nat_eq j (2 * (h + p))) (nat_lt p (length r.pairs)) c.1 in
-      record { second = lt_of (j + 1) n c.0; pair_is = eq_of j (2 * (h + p)) d.0; digit_is = lt_of p (length r.pairs) d.1 }
+      record {
+        second = lt_of (j + 1) n c.0;
+        pair_is = eq_of j (2 * (h + p)) d.0;
+        digit_is = lt_of p (length r.pairs) d.1;
+      }
 
   -- each place that an order names is below the top
   pub near : (p : Place f r) → is_there p ≡ true → address p < f.top
@@ -149,7 +159,8 @@ module _ {n h : ℕ} (f : Frame n h) (r : Moment) where
   near (pair_out q a) e = omega (arith, a.below)
   near (any q b) e = b
 
-  pub reads : (p : Place f r) → length r.cells ≡ n → is_there p ≡ true → read_at (is_pair p) (store f r) (address p) ≡ value p
+  pub reads : (p : Place f r) → length r.cells ≡ n → is_there p ≡ true
+      → read_at (is_pair p) (store f r) (address p) ≡ value p
   reads (own j) all e =
       let inside = lt_of j n e in
       ap (λ x. x * 2 ^ 18) (get_own 0 r.words f.base r.cells j (omega (arith, all)))

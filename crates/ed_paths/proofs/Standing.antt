@@ -1,6 +1,7 @@
--- Where a piece stands in a store: its image, which is its words with none at the places that it works in; the words that
--- it takes over; and what it leaves as it was.
-use Rattle.std.proofs.Common.{◌≡◌, ℕ, zero, suc, ◌+◌, ◌-◌, ◌<◌, ◌≤◌, refl, sym, ap, ◌∙◌, subst, arith, List, [], ◌∷◌, drop, Option, Some}
+-- Where a piece stands in a store: its image, which is its words with none at the places that it works in; the words
+-- that it takes over; and what it leaves as it was.
+use Rattle.std.proofs.Common.{◌≡◌, ℕ, zero, suc, ◌+◌, ◌-◌, ◌<◌, ◌≤◌, refl, sym, ap}
+use Rattle.std.proofs.Common.{◌∙◌, subst, arith, List, [], ◌∷◌, drop, Option, Some}
 use Rattle.std.proofs.Common.{None, length, get_or, inl, inr}
 use Rattle.std.proofs.lemmas.Bool.{cases_lt}
 use Rattle.ed_paths.proofs.Window.{patched, patched_self, get_own, get_below, get_above}
@@ -76,18 +77,22 @@ merged_at (Some y ∷ os) (c ∷ cs) h (suc j) l m = merged_at os cs (ap (drop 1
 merged_at (None ∷ os) (c ∷ cs) h (suc j) l m = merged_at os cs (ap (drop 1) h) j (omega arith) (omega arith)
 
 -- a piece that stood in a store, and whose words are now others at its working places
-module _ (image : List (Option ℕ)) (ws : List ℕ) (b : ℕ) (cs : List ℕ) (long : length cs ≡ length image) (new : merged image cs ≡ cs)
+module _ (image : List (Option ℕ)) (ws : List ℕ) (b : ℕ) (cs : List ℕ) (long : length cs ≡ length image)
+    (new : merged image cs ≡ cs)
     (old : Holds image ws b) where
-  by_entry : (i : ℕ) (o : Option ℕ) → get_or image (i - b) None ≡ o → b ≤ i → i < b + length image → (IsWorking image b i → ⊥)
+  by_entry : (i : ℕ) (o : Option ℕ) → get_or image (i - b) None ≡ o → b ≤ i → i < b + length image
+      → (IsWorking image b i → ⊥)
       → get_or (patched 0 ws b cs) i 0 ≡ get_or ws i 0
   by_entry i None e from below free = absurd (free (record { from = from; below = below; free = e }))
   by_entry i (Some x) e from below free =
       let j : b + (i - b) ≡ i = omega arith in
       let inside : i - b < length cs = omega arith in
-      let was : get_or ws (b + (i - b)) 0 ≡ x = subst (λ o. Meets o (get_or ws (b + (i - b)) 0)) e (old (i - b) (omega arith)) in
+      let was : get_or ws (b + (i - b)) 0 ≡ x =
+      subst (λ o. Meets o (get_or ws (b + (i - b)) 0)) e (old (i - b) (omega arith)) in
       let is : get_or cs (i - b) 0 ≡ x =
       subst (λ o. Meets o (get_or cs (i - b) 0)) e (merged_at image cs new (i - b) (omega arith) inside) in
-      ap (λ p. get_or (patched 0 ws b cs) p 0) (sym j) ∙ get_own 0 ws b cs (i - b) inside ∙ is ∙ sym was ∙ ap (λ p. get_or ws p 0) j
+      ap (λ p. get_or (patched 0 ws b cs) p 0) (sym j) ∙ get_own 0 ws b cs (i - b) inside ∙ is ∙ sym was
+      ∙ ap (λ p. get_or ws p 0) j
 
   -- each word of the store stays, but for the working ones
   pub unchanged : (i : ℕ) → (IsWorking image b i → ⊥) → get_or (patched 0 ws b cs) i 0 ≡ get_or ws i 0

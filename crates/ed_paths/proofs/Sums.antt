@@ -1,5 +1,6 @@
 -- The accumulator's arithmetic in plain numbers, as the lines of a path have it.
-use Rattle.std.proofs.Common.{◌≡◌, ℕ, ◌+◌, ◌-◌, ◌*◌, ◌/◌, ◌%◌, ◌^◌, ◌<◌, sym, ap, ◌∙◌, arith, lit<, lit≤, inl, inr, nat_eq}
+use Rattle.std.proofs.Common.{◌≡◌, ℕ, ◌+◌, ◌-◌, ◌*◌, ◌/◌, ◌%◌, ◌^◌, ◌<◌, sym}
+use Rattle.std.proofs.Common.{ap, ◌∙◌, arith, lit<, lit≤, inl, inr, nat_eq}
 use Rattle.std.proofs.Common.{pos, negsuc, ◌-ℤ◌}
 use Rattle.std.proofs.lemmas.Bool.{cases_lt}
 use Rattle.std.proofs.lemmas.Bool.Decides.{nat_tests}

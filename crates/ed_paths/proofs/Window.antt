@@ -1,5 +1,6 @@
 -- A list with a window of explicit items at a place.
-use Rattle.std.proofs.Common.{◌≡◌, ℕ, zero, suc, ◌+◌, ◌-◌, ◌<◌, ◌≤◌, refl, ap, ◌∙◌, arith, List, [], ◌∷◌, ◌++◌, length, set, get_or, drop}
+use Rattle.std.proofs.Common.{◌≡◌, ℕ, zero, suc, ◌+◌, ◌-◌, ◌<◌, ◌≤◌, refl, ap, ◌∙◌}
+use Rattle.std.proofs.Common.{arith, List, [], ◌∷◌, ◌++◌, length, set, get_or, drop}
 use Rattle.std.proofs.lemmas.List.{length-set, get_or-drop, drop-set-add}
 
 -- the list with `cs` from `base` on; `d` stands where the list is too short
@@ -21,10 +22,12 @@ module _ {A : Type 0} (d : A) where
 
   get_right : (cs ys : List A) (j : ℕ) → get_or (cs ++ ys) (length cs + j) d ≡ get_or ys j d
   get_right [] ys j = let e : 0 + j ≡ j = omega arith in rw e refl
-  get_right (c ∷ cs) ys j = let e : suc (length cs) + j ≡ suc (length cs + j) = omega arith in rw (e, get_right cs ys j) refl
+  get_right (c ∷ cs) ys j = let e : suc (length cs) + j ≡ suc (length cs + j) = omega arith
+      in rw (e, get_right cs ys j) refl
 
   -- inside the window
-  pub get_own : (ws : List A) (b : ℕ) (cs : List A) (j : ℕ) → j < length cs → get_or (patched d ws b cs) (b + j) d ≡ get_or cs j d
+  pub get_own : (ws : List A) (b : ℕ) (cs : List A) (j : ℕ) → j < length cs
+      → get_or (patched d ws b cs) (b + j) d ≡ get_or cs j d
   unfolding patched
   get_own ws zero cs j h = let e : 0 + j ≡ j = omega arith in rw e (get_left cs (drop (length cs) ws) j h)
   get_own [] (suc b) cs j h = let e : suc b + j ≡ suc (b + j) = omega arith in rw e (get_own [] b cs j h)
@@ -33,9 +36,12 @@ module _ {A : Type 0} (d : A) where
   pub set_own : (ws : List A) (b : ℕ) (cs : List A) (j : ℕ) (v : A) → j < length cs
       → set (patched d ws b cs) (b + j) v ≡ patched d ws b (set cs j v)
   unfolding patched
-  set_own ws zero cs j v h = let e : 0 + j ≡ j = omega arith in rw (e, length-set cs j v) (set_left cs (drop (length cs) ws) j v h)
-  set_own [] (suc b) cs j v h = let e : suc b + j ≡ suc (b + j) = omega arith in rw e (ap (λ x. d ∷ x) (set_own [] b cs j v h))
-  set_own (w ∷ ws) (suc b) cs j v h = let e : suc b + j ≡ suc (b + j) = omega arith in rw e (ap (λ x. w ∷ x) (set_own ws b cs j v h))
+  set_own ws zero cs j v h = let e : 0 + j ≡ j = omega arith
+      in rw (e, length-set cs j v) (set_left cs (drop (length cs) ws) j v h)
+  set_own [] (suc b) cs j v h = let e : suc b + j ≡ suc (b + j) = omega arith
+      in rw e (ap (λ x. d ∷ x) (set_own [] b cs j v h))
+  set_own (w ∷ ws) (suc b) cs j v h = let e : suc b + j ≡ suc (b + j) = omega arith
+      in rw e (ap (λ x. w ∷ x) (set_own ws b cs j v h))
 
   -- outside it
   pub get_below : (ws : List A) (b : ℕ) (cs : List A) (p : ℕ) → p < b → get_or (patched d ws b cs) p d ≡ get_or ws p d
@@ -46,11 +52,13 @@ module _ {A : Type 0} (d : A) where
   get_below (w ∷ ws) (suc b) cs zero h = refl
   get_below (w ∷ ws) (suc b) cs (suc p) h = get_below ws b cs p (omega arith)
 
-  pub get_above : (ws : List A) (b : ℕ) (cs : List A) (p : ℕ) → b + length cs ≤ p → get_or (patched d ws b cs) p d ≡ get_or ws p d
+  pub get_above : (ws : List A) (b : ℕ) (cs : List A) (p : ℕ) → b + length cs ≤ p
+      → get_or (patched d ws b cs) p d ≡ get_or ws p d
   unfolding patched
   get_above ws zero cs p h =
       let e : length cs + (p - length cs) ≡ p = omega arith in
-      let r : get_or (cs ++ drop (length cs) ws) (length cs + (p - length cs)) d ≡ get_or ws (length cs + (p - length cs)) d
+      let r : get_or (cs ++ drop (length cs) ws) (length cs + (p - length cs)) d
+      ≡ get_or ws (length cs + (p - length cs)) d
       = get_right cs (drop (length cs) ws) (p - length cs) ∙ get_or-drop (length cs) ws (p - length cs) d in
       rw e at r
   get_above [] (suc b) cs zero h = absurd (omega arith)
@@ -60,7 +68,8 @@ module _ {A : Type 0} (d : A) where
 
   set_right : (cs ys : List A) (j : ℕ) (v : A) → set (cs ++ ys) (length cs + j) v ≡ cs ++ set ys j v
   set_right [] ys j v = let e : 0 + j ≡ j = omega arith in rw e refl
-  set_right (c ∷ cs) ys j v = let e : suc (length cs) + j ≡ suc (length cs + j) = omega arith in rw (e, set_right cs ys j v) refl
+  set_right (c ∷ cs) ys j v = let e : suc (length cs) + j ≡ suc (length cs + j) = omega arith
+      in rw (e, set_right cs ys j v) refl
 
   pub set_below : (ws : List A) (b : ℕ) (cs : List A) (p : ℕ) (v : A) → p < b → p < length ws
       → set (patched d ws b cs) p v ≡ patched d (set ws p v) b cs
@@ -89,12 +98,14 @@ module _ {A : Type 0} (d : A) where
       → ((j : ℕ) → j < length cs → get_or cs j d ≡ get_or ws j d) → cs ++ drop (length cs) ws ≡ ws
   headed [] ws l h = refl
   headed (c ∷ cs) [] l h = absurd (omega arith)
-  headed (c ∷ cs) (w ∷ ws) l h = rw (h 0 (omega arith), headed cs ws (omega arith) (λ j lj. h (suc j) (omega arith))) refl
+  headed (c ∷ cs) (w ∷ ws) l h =
+      rw (h 0 (omega arith), headed cs ws (omega arith) (λ j lj. h (suc j) (omega arith))) refl
 
   pub patched_self : (ws : List A) (b : ℕ) (cs : List A) → b + length cs ≤ length ws
       → ((j : ℕ) → j < length cs → get_or cs j d ≡ get_or ws (b + j) d) → patched d ws b cs ≡ ws
   unfolding patched
-  patched_self ws zero cs l h = headed cs ws (omega arith) (λ j lj. let e : 0 + j ≡ j = omega arith in h j lj ∙ ap (λ x. get_or ws x d) e)
+  patched_self ws zero cs l h =
+      headed cs ws (omega arith) (λ j lj. let e : 0 + j ≡ j = omega arith in h j lj ∙ ap (λ x. get_or ws x d) e)
   patched_self [] (suc b) cs l h = absurd (omega arith)
   patched_self (w ∷ ws) (suc b) cs l h =
       ap (λ x. w ∷ x) (patched_self ws b cs (omega arith) (λ j lj.
@@ -105,7 +116,8 @@ module _ {A : Type 0} (d : A) where
   length_joined (c ∷ cs) [] l = absurd (omega arith)
   length_joined (c ∷ cs) (w ∷ ws) l = ap suc (length_joined cs ws (omega arith))
 
-  pub length_patched : (ws : List A) (b : ℕ) (cs : List A) → b + length cs ≤ length ws → length (patched d ws b cs) ≡ length ws
+  pub length_patched : (ws : List A) (b : ℕ) (cs : List A) → b + length cs ≤ length ws
+      → length (patched d ws b cs) ≡ length ws
   unfolding patched
   length_patched ws zero cs l = length_joined cs ws (omega arith)
   length_patched [] (suc b) cs l = absurd (omega arith)

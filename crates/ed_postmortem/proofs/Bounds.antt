@@ -4,7 +4,8 @@ use Rattle.std.proofs.Common.{List, [], ◌∷◌, ◌++◌, length, get_or, len
 use Rattle.ed_words.proofs.SizeLemmas.{most}
 use Rattle.ed_notation.specs.Spellings.{digit_at, digits_of}
 use Rattle.ed_postmortem.specs.Answers.{PaperIsEnough}
-use Rattle.ed_postmortem.specs.Codes.{before_units, decimal, is_even, length_code, length_orders, number_in, printed_codes, word_codes}
+use Rattle.ed_postmortem.specs.Codes.{before_units, decimal, is_even, length_code}
+use Rattle.ed_postmortem.specs.Codes.{length_orders, number_in, printed_codes, word_codes}
 use Rattle.ed_postmortem.specs.Codes.{word_orders, words_orders}
 use Rattle.ed_postmortem.proofs.Digits.{Digits, began, digits_are, one_shown}
 

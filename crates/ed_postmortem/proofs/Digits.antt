@@ -1,37 +1,11 @@
 -- What the post-mortem prints of a number's digits before its units, and what each digit's printing leaves.
-use Rattle.std.proofs.Common.{◌≡◌, ℕ, zero, suc, ◌+◌, ◌/◌, ◌%◌, ◌<◌, ◌≤◌, refl, ap, sym, ◌∙◌, arith, Bool, true, false, ◌||◌}
+use Rattle.std.proofs.Common.{◌≡◌, ℕ, zero, suc, ◌+◌, ◌/◌, ◌%◌, ◌<◌, ◌≤◌, refl}
+use Rattle.std.proofs.Common.{ap, sym, ◌∙◌, arith, Bool, true, false, ◌||◌}
 use Rattle.std.proofs.Common.{if◌then◌else◌, nat_lt, nat_le, List, [], ◌∷◌, ◌++◌, Option, Some, length, length-append}
 use Rattle.std.proofs.lemmas.Bool.Decides.{nat_tests}
 use Rattle.ed_notation.specs.Spellings.{digit_at}
+use Rattle.ed_paths.proofs.Zeros.{shown, begun}
 use Rattle.ed_postmortem.specs.Codes.{before_units, digit_sum}
-
--- whether a digit was printed, as the number that stands for it
-abbrev pub flag_of : Bool → ℕ
-flag_of true = 4096
-flag_of false = 0
-
--- what is printed of a digit: a zero only where a digit was printed before it
-abbrev pub shown : Bool → ℕ → List ℕ
-shown false zero = []
-shown false (suc q) = suc q ∷ []
-shown true q = q ∷ []
-
--- whether a digit was printed then
-abbrev pub begun : Bool → ℕ → Bool
-begun false zero = false
-begun false (suc q) = true
-begun true q = true
-
--- the word that the accumulator was cleared into
-abbrev pub spared : Bool → ℕ → ℕ
-spared false zero = 126976
-spared false (suc q) = 0
-spared true q = 0
-
--- the last code printed, behind these
-abbrev pub last_of : Option ℕ → List ℕ → Option ℕ
-last_of last [] = last
-last_of last (c ∷ cs) = last_of (Some c) cs
 
 -- what is printed of the digits are the digits shown
 is_begun : (b : Bool) (q : ℕ) → begun b q ≡ (b || nat_lt 0 q)
@@ -68,15 +42,18 @@ began n k = begun (begun (begun false (n / 1000)) (n / 100 % 10)) (n / 10 % 10)
 
 -- what is printed of the three, the sum of their digits, and how many are printed
 pub record Digits (n : ℕ) : Type 0 where
-  pub are : shown false (n / 1000) ++ (shown (began n 1) (n / 100 % 10) ++ shown (began n 2) (n / 10 % 10)) ≡ before_units n
+  pub are : shown false (n / 1000) ++ (shown (began n 1) (n / 100 % 10) ++ shown (began n 2) (n / 10 % 10))
+      ≡ before_units n
   pub sum : n / 1000 + n / 100 % 10 + n / 10 % 10 ≡ digit_sum (before_units n)
-  pub count : length (shown false (n / 1000)) + length (shown (began n 1) (n / 100 % 10)) + length (shown (began n 2) (n / 10 % 10))
+  pub count : length (shown false (n / 1000)) + length (shown (began n 1) (n / 100 % 10))
+      + length (shown (began n 2) (n / 10 % 10))
       ≡ length (before_units n)
 
 pub digits_are : (n : ℕ) → n < 10000 → Digits n
 digits_are n low =
     let begun1 : began n 1 ≡ nat_le 1000 n = is_begun false (n / 1000) ∙ grind (arith, nat_tests) in
-    let begun2 : began n 2 ≡ nat_le 100 n = is_begun (began n 1) (n / 100 % 10) ∙ rw begun1 (grind (arith, nat_tests)) in
+    let begun2 : began n 2 ≡ nat_le 100 n = is_begun (began n 1) (n / 100 % 10)
+    ∙ rw begun1 (grind (arith, nat_tests)) in
     let begun3 : began n 3 ≡ nat_le 10 n = is_begun (began n 2) (n / 10 % 10) ∙ rw begun2 (grind (arith, nat_tests)) in
     let same : n / 1000 % 10 ≡ n / 1000 = omega arith in
     let s1 : shown false (n / 1000) ≡ digit_at 1000 n = is_shown false (n / 1000) ∙ rw (begun1, same) refl in

@@ -50,12 +50,14 @@ behind_are : rows_of_text (codes "T56KGK" ++ (orders ++ codes "E56KPF"))
 behind_are = refl
 
 -- the rows are those of the items
-pub rows_are : (first count : ℕ) → tape_rows first count ≡ spelled (canonicals (before first count)) ++ (rows_of (canonical last) ++ [])
+pub rows_are : (first count : ℕ)
+    → tape_rows first count ≡ spelled (canonicals (before first count)) ++ (rows_of (canonical last) ++ [])
 rows_are first count =
     let f : List ℕ = rows_of (canonical (parameter first)) in
     let c : List ℕ = rows_of (canonical (parameter count)) in
     let rest : List ℕ = spelled (canonicals (aims ++ (listing ++ (enters ++ (last ∷ []))))) in
-    let split : (f ++ (c ++ [])) ++ rest ≡ f ++ (c ++ rest) = append_assoc f (c ++ []) rest ∙ ap (λ x. f ++ x) (append_assoc c [] rest) in
+    let split : (f ++ (c ++ [])) ++ rest ≡ f ++ (c ++ rest) = append_assoc f (c ++ []) rest
+    ∙ ap (λ x. f ++ x) (append_assoc c [] rest) in
     let bs : List Item = before first count in
     let whole : spelled (canonicals (bs ++ (last ∷ []))) ≡ spelled (canonicals bs) ++ (rows_of (canonical last) ++ []) =
     ap spelled (canonicals-append bs (last ∷ [])) ∙ spelled-append (canonicals bs) (canonicals (last ∷ [])) in
@@ -86,15 +88,22 @@ module _ (z : Size) (words : List ℕ) (first count : ℕ) (f_fits : first ≤ 1
       let n2 : Note = record { directive = 20480 + 2 * 46; theta = theta; placed = (45, 2 * first) ∷ [] } in
       let n3 : Note = record { directive = 20480 + 2 * 47; theta = theta; placed = parameters } in
       let n4 : Note = record { directive = 20480 + 2 * 56; theta = theta; placed = parameters } in
-      let r5 = reads_one z words n4 at_head (plain 27 0 14) [] at_head _ refl (setting_theta z words n4 56 (lit≤ tt) refl)
+      let r5 = reads_one z words n4 at_head (plain 27 0 14) [] at_head _ refl
+      (setting_theta z words n4 56 (lit≤ tt) refl)
       (reads_none z words at_head) in
       let r4 = reads_one z words n3 n4 (plain 5 56 14) _ at_head _ refl (aiming z words n3 56 (lit≤ tt)) r5 in
       let r3 = reads_one z words n2 n3 (parameter count) _ at_head _ (parameter_spellable count c_fits)
       (placing z words n2 (parameter count) 46 (2 * count) refl refl (lit≤ tt) (low 46 (lit< tt)) (omega arith)) r4 in
       let r2 = reads_one z words n1 n2 (parameter first) _ at_head _ (parameter_spellable first f_fits)
       (placing z words n1 (parameter first) 45 (2 * first) refl refl (lit≤ tt) (low 45 (lit< tt)) (omega arith)) r3 in
-      let r1 = reads_one z words (opening words) n1 (plain 5 45 14) _ at_head _ refl (aiming z words (opening words) 45 (lit≤ tt)) r2 in
-      record { are_read = r1.are_read; are_sound = r1.are_sound; folds = r1.folds; costs_are = r1.costs_are ∙ omega arith }
+      let r1 = reads_one z words (opening words) n1 (plain 5 45 14) _ at_head _ refl
+      (aiming z words (opening words) 45 (lit≤ tt)) r2 in
+      record {
+        are_read = r1.are_read;
+        are_sound = r1.are_sound;
+        folds = r1.folds;
+        costs_are = r1.costs_are ∙ omega arith;
+      }
 
   -- the words of the post-mortem, as the tape places them
   abbrev pub words_placed : List ℕ
@@ -110,12 +119,14 @@ module _ (z : Size) (words : List ℕ) (first count : ℕ) (f_fits : first ≤ 1
   at_last = record { directive = 12288 + 2 * 56; theta = 112; placed = placed_all }
 
   places : Reads z words at_head listing at_orders (block_cost listing)
-  places = placing_all z words (over parameters words) at_head 56 listing refl refl (lit≤ tt) (omega (arith, least z)) (λ j l. refl)
+  places = placing_all z words (over parameters words) at_head 56 listing refl refl (lit≤ tt) (omega (arith, least z))
+      (λ j l. refl)
 
   -- E 56 K
   entry_set : Reads z words at_orders enters at_last 40
   entry_set =
-      let r = reads_one z words at_orders at_last (plain 3 56 14) [] at_last _ refl (aiming_entry z words at_orders 56 (lit≤ tt))
+      let r = reads_one z words at_orders at_last (plain 3 56 14) [] at_last _ refl
+      (aiming_entry z words at_orders 56 (lit≤ tt))
       (reads_none z words at_last) in
       record { are_read = r.are_read; are_sound = r.are_sound; folds = r.folds; costs_are = r.costs_are }
 
@@ -124,7 +135,8 @@ module _ (z : Size) (words : List ℕ) (first count : ℕ) (f_fits : first ≤ 1
 
   all_read : Reads z words (opening words) (before first count) at_last items_cost
   all_read =
-      reads_both z words (opening words) at_head at_last (plain 5 45 14 ∷ parameter first ∷ parameter count ∷ aims) (listing ++ enters)
+      reads_both z words (opening words) at_head at_last (plain 5 45 14 ∷ parameter first ∷ parameter count ∷ aims)
+      (listing ++ enters)
       _ _ head
       (reads_both z words at_head at_orders at_last listing enters _ _ places entry_set)
 
@@ -160,6 +172,7 @@ module _ (z : Size) (words : List ℕ) (first count : ℕ) (f_fits : first ≤ 1
       let e = entering_at z words at_last 56 refl (lit≤ tt) (low 56 (lit< tt)) in
       let set : IsDirective 20568 = omega arith in
       subst (WellFormed z words (opening words)) (sym (rows_are first count)) (
-      sound_well z words (opening words) (canonicals (before first count)) (canonical last) [] set all_read.are_read all_read.are_sound
+      sound_well z words (opening words) (canonicals (before first count)) (canonical last) [] set all_read.are_read
+      all_read.are_sound
       (is_written last refl) (ap (λ (n : Note). is_entry n last) all_read.folds ∙ e.enters)
       (subst (λ (n : Note). IsSound z words n (canonical last)) (sym all_read.folds) e.sound))

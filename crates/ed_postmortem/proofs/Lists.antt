@@ -9,19 +9,23 @@ unfolding patched
 block_window xs zero cs h = let e : 0 + length cs ≡ length cs = omega arith in rw e refl
 block_window [] (suc a) cs h = absurd (omega arith)
 block_window (x ∷ xs) (suc a) cs h =
-    let e : suc a + length cs ≡ suc (a + length cs) = omega arith in rw e (ap (λ l. x ∷ l) (block_window xs a cs (omega arith)))
+    let e : suc a + length cs ≡ suc (a + length cs) = omega arith
+    in rw e (ap (λ l. x ∷ l) (block_window xs a cs (omega arith)))
 
 -- a window behind the head of a list
 pub behind_head : (xs ys cs : List ℕ) (b : ℕ) → patched 0 (xs ++ ys) (length xs + b) cs ≡ xs ++ patched 0 ys b cs
 unfolding patched
 behind_head [] ys cs b = let e : 0 + b ≡ b = omega arith in rw e refl
-behind_head (x ∷ xs) ys cs b = let e : suc (length xs) + b ≡ suc (length xs + b) = omega arith in rw (e, behind_head xs ys cs b) refl
+behind_head (x ∷ xs) ys cs b = let e : suc (length xs) + b ≡ suc (length xs + b) = omega arith
+    in rw (e, behind_head xs ys cs b) refl
 
-pub drop_window : (n : ℕ) (ys cs : List ℕ) (b : ℕ) → n ≤ length ys → drop n (patched 0 ys (n + b) cs) ≡ patched 0 (drop n ys) b cs
+pub drop_window : (n : ℕ) (ys cs : List ℕ) (b : ℕ) → n ≤ length ys
+    → drop n (patched 0 ys (n + b) cs) ≡ patched 0 (drop n ys) b cs
 unfolding patched
 drop_window zero ys cs b h = let e : 0 + b ≡ b = omega arith in rw e refl
 drop_window (suc n) [] cs b h = absurd (omega arith)
-drop_window (suc n) (y ∷ ys) cs b h = let e : suc n + b ≡ suc (n + b) = omega arith in rw e (drop_window n ys cs b (omega arith))
+drop_window (suc n) (y ∷ ys) cs b h = let e : suc n + b ≡ suc (n + b) = omega arith
+    in rw e (drop_window n ys cs b (omega arith))
 
 -- behind a new head a list is as it was
 pub headed_same : (xs ys : List ℕ) (i : ℕ) → length xs ≤ i → get_or (xs ++ drop (length xs) ys) i 0 ≡ get_or ys i 0

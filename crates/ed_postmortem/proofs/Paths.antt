@@ -1,6 +1,8 @@
 -- The orders of the post-mortem, by their listing: paths that print a word, the loop over the words, and the stop.
-use Rattle.std.proofs.Common.{◌≡◌, ℕ, zero, suc, ◌+◌, ◌-◌, ◌*◌, ◌/◌, ◌%◌, ◌^◌, ◌<◌, ◌≤◌, refl, ap, sym, ◌∙◌, arith, Bool, true, false}
-use Rattle.std.proofs.Common.{nat_lt, nat_eq, List, [], ◌∷◌, ◌++◌, Option, Some, get_or, length, lit<, lit≤, append_assoc, append-nil, inr}
+use Rattle.std.proofs.Common.{◌≡◌, ℕ, zero, suc, ◌+◌, ◌-◌, ◌*◌, ◌/◌, ◌%◌, ◌^◌, ◌<◌}
+use Rattle.std.proofs.Common.{◌≤◌, refl, ap, sym, ◌∙◌, arith, Bool, true, false}
+use Rattle.std.proofs.Common.{nat_lt, nat_eq, List, [], ◌∷◌, ◌++◌, Option, Some, get_or}
+use Rattle.std.proofs.Common.{length, lit<, lit≤, append_assoc, append-nil, inr}
 use Rattle.std.proofs.lemmas.Bool.Decides.{nat_tests}
 use Rattle.ed_words.specs.declared.size.Size.{Size}
 use Rattle.ed_words.specs.Sizes.{locations}
@@ -16,7 +18,8 @@ use Rattle.ed_paths.proofs.Moves.{A, S, T, U, O, H, C, L, Z, E_jumps, E_stays, G
 use Rattle.ed_paths.proofs.Paths.{Path, stay, on, prints, followed}
 use Rattle.ed_postmortem.specs.Codes.{decimal, is_even, length_code, length_orders, number_in, word_codes, word_orders}
 use Rattle.ed_postmortem.specs.Codes.{printed_codes, words_orders}
-use Rattle.ed_postmortem.proofs.Digits.{flag_of, shown, begun, spared, last_of, began, Digits, digits_are}
+use Rattle.ed_paths.proofs.Zeros.{flag_of, shown, begun, spared, last_of}
+use Rattle.ed_postmortem.proofs.Digits.{began, Digits, digits_are}
 
 -- the cells that change
 pub record Work : Type 0 where
@@ -45,12 +48,14 @@ abbrev pub ready : ℕ → ℕ → Work → Work
 ready p c w = record w { at5 = 36864 + 2 * p; at8 = 122880 + 2 * p; at83 = 2 * c }
 
 -- the post-mortem at 56, in a store of these words and sandwich digits around it
-module _ (size : Size) (sandwich : List Bool) (room : 56 + 84 ≤ locations size) (ws tape : List ℕ) (at2 : get_or ws 2 0 ≡ 2)
+module _ (size : Size) (sandwich : List Bool) (room : 56 + 84 ≤ locations size) (ws tape : List ℕ)
+    (at2 : get_or ws 2 0 ≡ 2)
     (all : length ws ≡ 1024) where
   abbrev pub f : Frame 84 0
   f = record { size = size; base = 56; top = locations size; under = room; fits = omega arith }
 
-  -- its words, the short number at the top of the accumulator, the multiplier, the cell of the next order, the last code
+  -- its words, the short number at the top of the accumulator, the multiplier, the cell of the next order, the last
+  -- code
   abbrev pub moment : Work → ℕ → ℕ → ℕ → Option ℕ → Moment
   moment w top m i last = record {
     words = ws;
@@ -64,9 +69,9 @@ module _ (size : Size) (sandwich : List Bool) (room : 56 + 84 ≤ locations size
     last = last;
   }
 
-  -- while the word at p is printed, with c more to come and the odd digit o: the power of ten at cell j, what is left of the
-  -- number, whether a digit was printed, the digit so far, and what the accumulator was cleared into; then the top of the
-  -- accumulator, the cell of the next order and the last code
+  -- while the word at p is printed, with c more to come and the odd digit o: the power of ten at cell j, what is left
+  -- of the number, whether a digit was printed, the digit so far, and what the accumulator was cleared into; then the
+  -- top of the accumulator, the cell of the next order and the last code
   abbrev pub at : (p c o : ℕ) → ℕ → ℕ → ℕ → ℕ → ℕ → ℕ → ℕ → Option ℕ → Moment
   at p c o j v flag count spare top i last = moment (record {
     at5 = 36864 + 2 * p;
@@ -89,7 +94,8 @@ module _ (size : Size) (sandwich : List Bool) (room : 56 + 84 ≤ locations size
   module _ (p c o : ℕ) where
     -- the power is taken away once, and the digit counted
     subtract : (j t d v u flag spare : ℕ) (last : Option ℕ) → Power j t → v ≡ u + t → v < 4096 → d < 9
-        → Path f 8 (at p c o j v flag (4096 * d) spare 0 18 last) [] (at p c o j u flag (4096 * (d + 1)) spare 0 18 last)
+        → Path f 8 (at p c o j v flag (4096 * d) spare 0 18 last) []
+        (at p c o j u flag (4096 * (d + 1)) spare 0 18 last)
     subtract j t d v u flag spare last power sum low few =
         let most = power.most in
         on (A 18 (own 78) (short v) refl (omega arith))
@@ -103,7 +109,8 @@ module _ (size : Size) (sandwich : List Bool) (room : 56 + 84 ≤ locations size
 
     -- and q times
     subtractions : (j t q d v r flag spare : ℕ) (last : Option ℕ) → Power j t → v ≡ q * t + r → v < 4096 → d + q ≤ 9
-        → Path f (8 * q) (at p c o j v flag (4096 * d) spare 0 18 last) [] (at p c o j r flag (4096 * (d + q)) spare 0 18 last)
+        → Path f (8 * q) (at p c o j v flag (4096 * d) spare 0 18 last) []
+        (at p c o j r flag (4096 * (d + q)) spare 0 18 last)
     subtractions j t zero d v r flag spare last power sum low few =
         let e : v ≡ r = omega arith in
         let g : d + 0 ≡ d = omega arith in
@@ -115,7 +122,8 @@ module _ (size : Size) (sandwich : List Bool) (room : 56 + 84 ≤ locations size
         (subtractions j t q (d + 1) (q * t + r) r flag spare last power refl (omega arith) (omega arith)))
 
     -- the next power
-    next : (j u rest flag count spare v : ℕ) (last : Option ℕ) → j < 76 → v < 2 ^ 17 → (2 * j + 2 + (2 ^ 17 - 152)) % 2 ^ 17 ≡ u
+    next : (j u rest flag count spare v : ℕ) (last : Option ℕ) → j < 76 → v < 2 ^ 17
+        → (2 * j + 2 + (2 ^ 17 - 152)) % 2 ^ 17 ≡ u
         → Path f 5 (at p c o j rest flag count spare v 35 last) [] (at p c o (j + 1) rest flag count v u 40 last)
     next j u rest flag count spare v last inside low is =
         on (T 35 (own 82) _ refl refl)
@@ -125,7 +133,8 @@ module _ (size : Size) (sandwich : List Bool) (room : 56 + 84 ≤ locations size
         (on (S 39 (own 70) (short u) refl (omega arith)) stay))))
 
     -- a digit is printed, or left out as a zero that leads
-    print_digit : (j q rest flag spare v : ℕ) (last : Option ℕ) → q ≤ 9 → flag ≤ 4096 → 4096 ≤ 4096 * q + flag → v < 2 ^ 17
+    print_digit : (j q rest flag spare v : ℕ) (last : Option ℕ) → q ≤ 9 → flag ≤ 4096 → 4096 ≤ 4096 * q + flag
+        → v < 2 ^ 17
         → Path f 9 (at p c o j rest flag (4096 * q) spare v 26 last) (q ∷ [])
         (at p c o j rest 4096 (4096 * q) (4096 * q + flag - 4096) 0 35 (Some q))
     print_digit j q rest flag spare v last few low some fits =
@@ -163,14 +172,16 @@ module _ (size : Size) (sandwich : List Bool) (room : 56 + 84 ≤ locations size
         (next j u rest 4096 (4096 * q) (4096 * q + 4096 - 4096) 0 (Some q) inside (lit< tt) is)
 
     -- a digit before the units
-    turn : (j t q u v r spare count top : ℕ) (b : Bool) (last : Option ℕ) → Power j t → v ≡ q * t + r → r < t → v < 4096 → q ≤ 9
+    turn : (j t q u v r spare count top : ℕ) (b : Bool) (last : Option ℕ) → Power j t → v ≡ q * t + r → r < t
+        → v < 4096 → q ≤ 9
         → top < 2 ^ 17 → j < 76 → (2 * j + 2 + (2 ^ 17 - 152)) % 2 ^ 17 ≡ u
         → Path f (15 + 8 * q + 4 * length (shown b q)) (at p c o j v (flag_of b) count spare top 16 last) (shown b q)
         (at p c o (j + 1) r (flag_of (begun b q)) (4096 * q) (spared b q) u 40 (last_of last (shown b q)))
     turn j t q u v r spare count top b last power sum less low few fits inside is =
         let most = power.most in
         let n : 15 + 8 * q + 4 * length (shown b q) ≡ 2 + (8 * q + (3 + (10 + 4 * length (shown b q)))) = omega arith in
-        let first : Path f 2 (at p c o j v (flag_of b) count spare top 16 last) [] (at p c o j v (flag_of b) (4096 * 0) top 0 18 last)
+        let first : Path f 2 (at p c o j v (flag_of b) count spare top 16 last) []
+        (at p c o j v (flag_of b) (4096 * 0) top 0 18 last)
         = on (T 16 (own 82) _ refl refl) (on (T 17 (own 81) 0 refl refl) stay) in
         let last_try : Path f 3 (at p c o j r (flag_of b) (4096 * q) top 0 18 last) []
         (at p c o j r (flag_of b) (4096 * q) top (r + (2 ^ 17 - t)) 26 last)
@@ -181,7 +192,8 @@ module _ (size : Size) (sandwich : List Bool) (room : 56 + 84 ≤ locations size
         let loop : Path f (8 * q) (at p c o j v (flag_of b) (4096 * 0) top 0 18 last) []
         (at p c o j r (flag_of b) (4096 * q) top 0 18 last)
         = rw z at (subtractions j t q 0 v r (flag_of b) top last power sum low (omega arith)) in
-        rw n (followed first (followed loop (followed last_try (show j q u r top (r + (2 ^ 17 - t)) b last inside few (omega arith) is))))
+        rw n (followed first (followed loop
+        (followed last_try (show j q u r top (r + (2 ^ 17 - t)) b last inside few (omega arith) is))))
 
     -- a power is left
     again : (j rest flag count spare u : ℕ) (last : Option ℕ) → 2 ^ 16 ≤ u
@@ -205,13 +217,16 @@ module _ (size : Size) (sandwich : List Bool) (room : 56 + 84 ≤ locations size
 
     -- the length of an even and of an odd word
     length_even : (v flag count spare : ℕ) (last : Option ℕ)
-        → Path f 3 (at p c o 76 v flag count spare 131071 49 last) (17 ∷ []) (at p c o 76 v flag count spare 131071 53 (Some 17))
+        → Path f 3 (at p c o 76 v flag count spare 131071 49 last) (17 ∷ [])
+        (at p c o 76 v flag count spare 131071 53 (Some 17))
     length_even v flag count spare last =
-        on (E_stays 49 (own 52) refl (lit≤ tt)) (prints (O 50 (own 71) 17 refl refl) (on (G_jumps 51 (own 53) refl (lit≤ tt)) stay))
+        on (E_stays 49 (own 52) refl (lit≤ tt))
+        (prints (O 50 (own 71) 17 refl refl) (on (G_jumps 51 (own 53) refl (lit≤ tt)) stay))
 
     length_odd : (v flag count spare : ℕ) (last : Option ℕ)
         → Path f 2 (at p c o 76 v flag count spare 0 49 last) (19 ∷ []) (at p c o 76 v flag count spare 0 53 (Some 19))
-    length_odd v flag count spare last = on (E_jumps 49 (own 52) refl (lit< tt)) (prints (O 52 (own 72) 19 refl refl) stay)
+    length_odd v flag count spare last =
+        on (E_jumps 49 (own 52) refl (lit< tt)) (prints (O 52 (own 72) 19 refl refl) stay)
 
     -- a new line, and the two orders that name the word's place are moved on
     moved_on : (v flag count spare u : ℕ) (last : Option ℕ) → p < 1024
@@ -255,7 +270,8 @@ module _ (size : Size) (sandwich : List Bool) (room : 56 + 84 ≤ locations size
       (on (C 8 (out p away) (v % 4096 * 2 ^ 18) (short (v % 4096)) refl (rw word (common_4095 v fits)) (omega arith))
       (on (T 9 (own 78) _ refl refl)
       (on (H 10 (own 67) refl)
-      (on (C 11 (own 78) (v % 2 * 2 ^ 18) (short (v % 2)) refl (common_1 (v % 4096) (omega arith) ∙ omega arith) (omega arith))
+      (on (C 11 (own 78) (v % 2 * 2 ^ 18) (short (v % 2)) refl (common_1 (v % 4096) (omega arith) ∙ omega arith)
+      (omega arith))
       (on (T 12 (own 79) _ refl refl)
       (on (T 13 (own 80) 0 refl refl)
       (on (A 14 (own 69) (short 49410) refl refl)
@@ -310,7 +326,8 @@ module _ (size : Size) (sandwich : List Bool) (room : 56 + 84 ≤ locations size
       let t1 : ℕ = 15 + 8 * q1 + 4 * length (shown false q1) in
       let t2 : ℕ = 15 + 8 * q2 + 4 * length (shown b1 q2) in
       let t3 : ℕ = 15 + 8 * q3 + 4 * length (shown b2 q3) in
-      let orders : word_orders v ≡ 16 + (t1 + (1 + (t2 + (1 + (t3 + (9 + (1 + length_orders e + 10))))))) = omega (arith, g.sum, g.count) in
+      let orders : word_orders v ≡ 16 + (t1 + (1 + (t2 + (1 + (t3 + (9 + (1 + length_orders e + 10))))))) =
+      omega (arith, g.sum, g.count) in
       let codes : decimal n ++ (15 ∷ length_code e ∷ 18 ∷ 24 ∷ [])
       ≡ shown false q1 ++ (shown b1 q2 ++ (shown b2 q3 ++ (d ∷ 15 ∷ length_code e ∷ 18 ∷ 24 ∷ []))) =
       ap (λ x. (x ++ (d ∷ [])) ++ (15 ∷ length_code e ∷ 18 ∷ 24 ∷ [])) (sym g.are)
@@ -333,16 +350,20 @@ module _ (size : Size) (sandwich : List Bool) (room : 56 + 84 ≤ locations size
         unit = 1 * 2 ^ 18;
         path = rw (orders, codes) (
             followed (opened w c v p m last few away is fits)
-            (followed (turn p c o 73 2000 q1 131068 (v % 4096) r1 w.at82 w.at81 0 false (Some 11) p1 (omega arith) (omega arith) low
+            (followed (turn p c o 73 2000 q1 131068 (v % 4096) r1 w.at82 w.at81 0 false (Some 11) p1 (omega arith)
+            (omega arith) low
             (omega arith) (lit< tt) (lit< tt) refl)
             (followed (again p c o 74 r1 (flag_of b1) (4096 * q1) (spared false q1) 131068 l1 (lit≤ tt))
-            (followed (turn p c o 74 200 q2 131070 r1 r2 (spared false q1) (4096 * q1) 131068 b1 l1 p2 (omega arith) (omega arith)
+            (followed (turn p c o 74 200 q2 131070 r1 r2 (spared false q1) (4096 * q1) 131068 b1 l1 p2 (omega arith)
+            (omega arith)
             (omega arith) (omega arith) (lit< tt) (lit< tt) refl)
             (followed (again p c o 75 r2 (flag_of b2) (4096 * q2) (spared b1 q2) 131070 l2 (lit≤ tt))
-            (followed (turn p c o 75 20 q3 0 r2 (2 * d + o) (spared b1 q2) (4096 * q2) 131070 b2 l2 p3 (omega arith) (omega arith)
+            (followed (turn p c o 75 20 q3 0 r2 (2 * d + o) (spared b1 q2) (4096 * q2) 131070 b2 l2 p3 (omega arith)
+            (omega arith)
             (omega arith) (omega arith) (lit< tt) (lit< tt) refl)
             (followed (units p c o d u (flag_of b3) (4096 * q3) (spared b2 q3) l3 (omega arith) (omega arith) refl)
-            (followed (length_printed p c o (2 * d + o) (flag_of b3) (4096 * d) (spared b2 q3) u e (Some 15) (omega arith) refl refl)
+            (followed (length_printed p c o (2 * d + o) (flag_of b3) (4096 * d) (spared b2 q3) u e (Some 15)
+            (omega arith) refl refl)
             (moved_on p c o (2 * d + o) (flag_of b3) (4096 * d) (spared b2 q3) u (Some (length_code e))
             (omega (arith, away.below, most size)))))))))));
       }
@@ -362,15 +383,18 @@ module _ (size : Size) (sandwich : List Bool) (room : 56 + 84 ≤ locations size
       let away : IsOutside f ws p = record { below = omega arith; beside = inr (omega arith) } in
       let first = word w c (get_or ws p 0) p m last (omega arith) away refl (low p behind) in
       let rest = words c first.work (p + 1) first.unit first.last (omega arith) (omega arith) low in
-      let whole : Path f (word_orders (get_or ws p 0) + words_orders ws (p + 1) c) (moment (ready p (c + 1) w) 0 m 0 last)
+      let whole : Path f (word_orders (get_or ws p 0) + words_orders ws (p + 1) c)
+      (moment (ready p (c + 1) w) 0 m 0 last)
       (word_codes (get_or ws p 0) ++ printed_codes ws (p + 1) c)
       (moment (ready (p + 1 + c) 0 rest.work) 0 rest.unit 0 rest.last) =
-      followed {m = moment (ready (p + 1) c first.work) 0 first.unit 0 first.last} {t = moment (ready (p + 1 + c) 0 rest.work) 0 rest.unit 0 rest.last}
+      followed {m = moment (ready (p + 1) c first.work) 0 first.unit 0 first.last}
+      {t = moment (ready (p + 1 + c) 0 rest.work) 0 rest.unit 0 rest.last}
       first.path rest.path in
       rw (g, e) (record { work = rest.work; last = rest.last; unit = rest.unit; path = whole })
 
   -- no word is left
-  closed : (w : Work) (p m : ℕ) (last : Option ℕ) → Path f 3 (moment (ready p 0 w) 0 m 0 last) [] (moment (ready p 0 w) 131070 m 63 last)
+  closed : (w : Work) (p m : ℕ) (last : Option ℕ)
+      → Path f 3 (moment (ready p 0 w) 0 m 0 last) [] (moment (ready p 0 w) 131070 m 63 last)
   closed w p m last =
       on (A 0 (own 83) (short 0) refl refl)
       (on (S 1 (out 2 (early 2 (lit≤ tt) (lit< tt) all)) (short 131070) refl (omega arith))
@@ -385,7 +409,8 @@ module _ (size : Size) (sandwich : List Bool) (room : 56 + 84 ≤ locations size
     pub work : Work
     pub last_code : Option ℕ
     pub unit : ℕ
-    pub path : Path f (words_orders ws first count + 3) (moment (ready first count w) 0 m 0 last) (printed_codes ws first count)
+    pub path : Path f (words_orders ws first count + 3) (moment (ready first count w) 0 m 0 last)
+        (printed_codes ws first count)
         (moment (ready (first + count) 0 work) 131070 unit 63 last_code)
     pub stops : Does f KindZ (moment (ready (first + count) 0 work) 131070 unit 63 last_code) Stopped
         (moment (ready (first + count) 0 work) 131070 unit 64 last_code)
@@ -398,6 +423,7 @@ module _ (size : Size) (sandwich : List Bool) (room : 56 + 84 ≤ locations size
         work = a.work;
         last_code = a.last;
         unit = a.unit;
-        path = rw (append-nil (printed_codes ws first count)) at (followed a.path (closed a.work (first + count) a.unit a.last));
+        path = rw (append-nil (printed_codes ws first count)) at
+            (followed a.path (closed a.work (first + count) a.unit a.last));
         stops = stops a.work (first + count) a.unit a.last;
       }

@@ -1,5 +1,6 @@
 -- A run from a state whose orders lead to a stop ends there, and prints what these orders print.
-use Rattle.std.proofs.Common.{◌≡◌, ℕ, zero, suc, ◌+◌, ◌-◌, ◌<◌, ◌≤◌, ◌⊎◌, inl, inr, refl, ap, ◌∙◌, arith, true, List, ◌++◌, length}
+use Rattle.std.proofs.Common.{◌≡◌, ℕ, zero, suc, ◌+◌, ◌-◌, ◌<◌, ◌≤◌, ◌⊎◌, inl}
+use Rattle.std.proofs.Common.{inr, refl, ap, ◌∙◌, arith, true, List, ◌++◌, length}
 use Rattle.std.proofs.Common.{append-nil}
 use Rattle.std.proofs.lemmas.Bool.{cases_lt}
 use Rattle.ed_machine.specs.State.{State}
@@ -38,7 +39,8 @@ no_stop Stops h = cc
 no_stop (NoOrder function) h = cc
 no_stop NoTape h = cc
 
-none_stops : (k : ℕ) (s : State) → ((j : ℕ) → j < k → goes_on (step (state_after j s)).turn ≡ true) → (past k s).stops ≡ 0
+none_stops : (k : ℕ) (s : State) → ((j : ℕ) → j < k → goes_on (step (state_after j s)).turn ≡ true)
+    → (past k s).stops ≡ 0
 unfolding past
 none_stops zero s h = refl
 none_stops (suc k) s h =
@@ -47,7 +49,8 @@ none_stops (suc k) s h =
     rw (before, here) refl
 
 -- k orders lead from s to t, and the next one stops the machine and leaves u
-module _ (k : ℕ) (s t u : State) (codes : List ℕ) (l : Leads k s codes t) (last : step t ≡ record { state = u; turn = Stops }) where
+module _ (k : ℕ) (s t u : State) (codes : List ℕ) (l : Leads k s codes t)
+    (last : step t ≡ record { state = u; turn = Stops }) where
   turn_is : (step (state_after k s)).turn ≡ Stops
   turn_is = ap (λ (x : State). (step x).turn) l.state_is ∙ ap (λ (o : Obeyed). o.turn) last
 
@@ -77,8 +80,10 @@ module _ (k : ℕ) (s t u : State) (codes : List ℕ) (l : Leads k s codes t) (l
         obeyed = λ j h. all_obeyed j (cases_lt j k) h;
         printed = rw codes_are roomy;
       } in
-      let ends : EndsAfter limit 0 room s (suc k) Stopped = at_stop limit 0 room k s has (none_stops k s l.goes) fits turn_is in
-      let orders : run.orders ≡ suc k = (ends_once limit 0 room s run.orders (suc k) ending Stopped run.ends ends).0 in (
+      let ends : EndsAfter limit 0 room s (suc k) Stopped =
+      at_stop limit 0 room k s has (none_stops k s l.goes) fits turn_is in
+      let orders : run.orders ≡ suc k =
+      (ends_once limit 0 room s run.orders (suc k) ending Stopped run.ends ends).0 in (
         run.state_is ∙ ap (λ j. state_after j s) orders ∙ behind_stop,
         run.sheet_is ∙ (λ i. record {
           codes = sheet.codes ++ (ap (λ j. (past j s).codes) orders ∙ codes_are) i;

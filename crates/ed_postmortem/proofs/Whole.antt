@@ -1,5 +1,6 @@
 -- The post-mortem from its start to its stop.
-use Rattle.std.proofs.Common.{◌≡◌, ℕ, zero, suc, ◌+◌, ◌-◌, ◌*◌, ◌%◌, ◌^◌, ◌≤◌, refl, sym, ap, ◌∙◌, subst, arith, Bool, false}
+use Rattle.std.proofs.Common.{◌≡◌, ℕ, zero, suc, ◌+◌, ◌-◌, ◌*◌, ◌%◌, ◌^◌, ◌≤◌}
+use Rattle.std.proofs.Common.{refl, sym, ap, ◌∙◌, subst, arith, Bool, false}
 use Rattle.std.proofs.Common.{List, [], ◌++◌, Option, length, get_or, set, drop, inl, inr, length-append}
 use Rattle.std.proofs.lemmas.List.{get_or-set_same, get_or-set_other, length-set, length-drop}
 use Rattle.ed_words.specs.Sizes.{locations}
@@ -40,13 +41,15 @@ codes_same : (count : ℕ) (xs ys : List ℕ) (p : ℕ) → ((i : ℕ) → p ≤
     → printed_codes xs p count ≡ printed_codes ys p count
 unfolding printed_codes
 codes_same zero xs ys p h = refl
-codes_same (suc count) xs ys p h = rw (h p (omega arith), codes_same count xs ys (p + 1) (λ i l. h i (omega arith))) refl
+codes_same (suc count) xs ys p h =
+    rw (h p (omega arith), codes_same count xs ys (p + 1) (λ i l. h i (omega arith))) refl
 
 orders_same : (count : ℕ) (xs ys : List ℕ) (p : ℕ) → ((i : ℕ) → p ≤ i → get_or xs i 0 ≡ get_or ys i 0)
     → words_orders xs p count ≡ words_orders ys p count
 unfolding words_orders
 orders_same zero xs ys p h = refl
-orders_same (suc count) xs ys p h = rw (h p (omega arith), orders_same count xs ys (p + 1) (λ i l. h i (omega arith))) refl
+orders_same (suc count) xs ys p h =
+    rw (h p (omega arith), orders_same count xs ys (p + 1) (λ i l. h i (omega arith))) refl
 
 -- what the orders of the tape cost
 listing_cost : block_cost listing ≡ 3102
@@ -75,7 +78,8 @@ module _ (s : State) (first count : ℕ) (store : IsStore s.store) (range : InRa
   ws = initial_orders ++ drop 41 s.store.words
 
   long : length ws ≡ 1024
-  long = length-append initial_orders (drop 41 s.store.words) ∙ omega (arith, length-drop 41 s.store.words, store.words_are)
+  long = length-append initial_orders (drop 41 s.store.words)
+      ∙ omega (arith, length-drop 41 s.store.words, store.words_are)
 
   abbrev entry : Entry
   entry = tape.entry s.size ws first count f_fits c_fits
@@ -95,8 +99,10 @@ module _ (s : State) (first count : ℕ) (store : IsStore s.store) (range : InRa
     pub after : t ≡ state_after (orders_of r) b
 
   -- the load of a machine that was started on the tape
-  pub loads_so : (m0 m1 : State) (image rows : List ℕ) (r : Loaded) → image ≡ initial_orders → rows ≡ tape_rows first count
-      → m0 ≡ started image rows s → ((e : Entry) → Comes m0 e → IsLoaded m0 e r m1) → m1 ≡ state_after (orders_of r) m0 → LoadsTape m1 r
+  pub loads_so : (m0 m1 : State) (image rows : List ℕ) (r : Loaded) → image ≡ initial_orders
+      → rows ≡ tape_rows first count
+      → m0 ≡ started image rows s → ((e : Entry) → Comes m0 e → IsLoaded m0 e r m1)
+      → m1 ≡ state_after (orders_of r) m0 → LoadsTape m1 r
   loads_so m0 m1 image rows r e h is loads after =
       let same : m0 ≡ b = is ∙ (λ i. started (e i) (h i) s) in
       record {
@@ -106,7 +112,8 @@ module _ (s : State) (first count : ℕ) (store : IsStore s.store) (range : InRa
 
   -- the orders done at the entry
   pub orders_then : (t : State) (r : Loaded) → LoadsTape t r → t.orders ≤ s.orders + 10000
-  orders_then t r l = let e : t.orders ≡ s.orders + entry.cost = ap (λ (x : State). x.orders) l.is.state_is in omega (arith, few_cost)
+  orders_then t r l = let e : t.orders ≡ s.orders + entry.cost = ap (λ (x : State). x.orders) l.is.state_is
+      in omega (arith, few_cost)
 
   -- the two words that the head of the tape places, over the store
   abbrev placed : List ℕ
@@ -148,7 +155,8 @@ module _ (s : State) (first count : ℕ) (store : IsStore s.store) (range : InRa
   at_words =
       let cs : List ℕ = cells (ready first count placed_work) in
       ap (λ x. head ++ drop 44 x)
-      (over_laid ws 56 (block placed 112 listing) (parameters s.size ws first count f_fits c_fits) (omega (arith, long)))
+      (over_laid ws 56 (block placed 112 listing) (parameters s.size ws first count f_fits c_fits)
+      (omega (arith, long)))
       ∙ ap (λ x. head ++ drop 44 x) (block_window placed 56 (block placed 112 listing) (omega (arith, placed_long)))
       ∙ ap (λ x. head ++ drop 44 (patched 0 placed 56 x)) block_is
       ∙ ap (λ x. head ++ x) (drop_window 44 placed cs 12 (omega (arith, placed_long)))
@@ -167,7 +175,8 @@ module _ (s : State) (first count : ℕ) (store : IsStore s.store) (range : InRa
   unit = 20480 * 2 ^ 18
 
   -- the state at the entry, seen as one of the post-mortem's
-  entered : at_entry b entry ≡ state frame (place (ready first count placed_work) 0 unit 0 s.last) (s.orders + entry.cost)
+  entered : at_entry b entry
+      ≡ state frame (place (ready first count placed_work) 0 unit 0 s.last) (s.orders + entry.cost)
   entered = ap (λ (w : List ℕ). record {
     size = s.size;
     store = record { words = w; sandwich = digits };
@@ -189,7 +198,12 @@ module _ (s : State) (first count : ℕ) (store : IsStore s.store) (range : InRa
 
   -- each location behind the post-mortem is left
   far : (i : ℕ) → 140 ≤ i → IsLeft i
-  far i h = record { behind = omega arith; no_45 = λ e. absurd (omega arith); no_46 = λ e. absurd (omega arith); apart = inr (omega arith) }
+  far i h = record {
+    behind = omega arith;
+    no_45 = λ e. absurd (omega arith);
+    no_46 = λ e. absurd (omega arith);
+    apart = inr (omega arith);
+  }
 
   kept_far : (i : ℕ) → first ≤ i → get_or around i 0 ≡ get_or s.store.words i 0
   kept_far i h = let low = range.behind in kept i (far i (omega arith))
@@ -203,7 +217,8 @@ module _ (s : State) (first count : ℕ) (store : IsStore s.store) (range : InRa
   -- all words, and then the stop
   all : PrintsAll s.size digits room around [] refl around_long first count unit placed_work s.last
   all =
-      prints_all s.size digits room around [] refl around_long first count unit placed_work s.last (omega (arith, range.behind))
+      prints_all s.size digits room around [] refl around_long first count unit placed_work s.last
+      (omega (arith, range.behind))
       range.within (λ i h. let e = kept i (far i h) in omega (arith, e, store.fits i))
 
   abbrev k : ℕ
@@ -245,7 +260,8 @@ module _ (s : State) (first count : ℕ) (store : IsStore s.store) (range : InRa
       let at : state_after entry.cost b ≡ begins =
       ap (λ (x : Loaded). state_after (orders_of x) b) (sym l.is.result_is) ∙ sym l.after ∙ here in
       let space : length (printed_codes around first count) ≤ room_of sheet = rw codes_are roomy in
-      let ran = run_stops k begins stands ends (printed_codes around first count) goes stop limit sheet full ending t (omega (arith, few, enough)) space
+      let ran = run_stops k begins stands ends (printed_codes around first count) goes stop limit sheet full ending t
+      (omega (arith, few, enough)) space
       (subst (λ (x : State). IsRun limit 0 x sheet ending t full) here run) in
       let left : t ≡ ends = ran.0 in
       let orders : t.orders ≡ done + k + 1 = ap (λ (x : State). x.orders) left in
@@ -253,7 +269,8 @@ module _ (s : State) (first count : ℕ) (store : IsStore s.store) (range : InRa
       let whole : state_after (entry.cost + suc k) b ≡ ends =
       later_state entry.cost (suc k) b ∙ ap (state_after (suc k)) at
       ∙ behind_stop k begins stands ends (printed_codes around first count) goes stop in
-      let before : state_after (entry.cost + k) b ≡ stands = later_state entry.cost k b ∙ ap (state_after k) at ∙ goes.state_is in (
+      let before : state_after (entry.cost + k) b ≡ stands = later_state entry.cost k b ∙ ap (state_after k) at
+      ∙ goes.state_is in (
         record {
           entry = entry;
           comes = comes;
@@ -263,9 +280,11 @@ module _ (s : State) (first count : ℕ) (store : IsStore s.store) (range : InRa
           last = omega (arith, n);
           stops = ap (λ (x : State). (step x).turn) before ∙ ap (λ (x : Obeyed). x.turn) stop;
           sheet_is = ran.1 ∙ ap (λ (x : List ℕ). record { codes = sheet.codes ++ x; room = sheet.room }) codes_are;
-          words_are = λ i l. ap (λ (x : State). get_or x.store.words i 0) left ∙ left_words i l (ready (first + count) 0 all.work);
+          words_are = λ i l. ap (λ (x : State). get_or x.store.words i 0) left
+              ∙ left_words i l (ready (first + count) 0 all.work);
           digits_are = λ i l.
-              ap (λ (x : State). get_or x.store.sandwich i false) left ∙ get_or-set_other s.store.sandwich 20 i false false l;
+              ap (λ (x : State). get_or x.store.sandwich i false) left
+              ∙ get_or-set_other s.store.sandwich 20 i false false l;
         },
         omega arith,
       )

@@ -1,5 +1,6 @@
 -- What a post-mortem answers and leaves.
-use Rattle.std.specs.Prelude.{ℕ, suc, ◌≡◌, ◌≢◌, ◌⊎◌, ◌+◌, ◌-◌, ◌<◌, ◌≤◌, false, ◌++◌, length, slice_index, slice_index_or, Result, Ok, Err}
+use Rattle.std.specs.Prelude.{ℕ, suc, ◌≡◌, ◌≢◌, ◌⊎◌, ◌+◌, ◌-◌, ◌<◌, ◌≤◌, false, ◌++◌}
+use Rattle.std.specs.Prelude.{length, slice_index, slice_index_or, Result, Ok, Err}
 use Rattle.ed_words.specs.Sizes.{locations}
 use Rattle.ed_machine.specs.State.{State}
 use Rattle.ed_machine.specs.OrderTable.{step}
@@ -66,9 +67,11 @@ abbrev pub Answers : State → Sheet → ℕ → ℕ → Result ℕ PmFault → 
 Answers s sheet first count (Ok n) t full =
     InRange s first count × (needed_of s first count ≤ room_of sheet) × IsPrinted s sheet first count n t full
 Answers s sheet first count (Err InItsOwnStore) t full = (first < 144) × Unchanged s sheet t full
-Answers s sheet first count (Err StoreEnd) t full = (144 ≤ first) × (locations s.size < first + count) × Unchanged s sheet t full
+Answers s sheet first count (Err StoreEnd) t full = (144 ≤ first) × (locations s.size < first + count)
+    × Unchanged s sheet t full
 Answers s sheet first count (Err (PaperFull needed room)) t full =
-    InRange s first count × (needed ≡ needed_of s first count) × (room ≡ room_of sheet) × (room < needed) × Unchanged s sheet t full
+    InRange s first count × (needed ≡ needed_of s first count) × (room ≡ room_of sheet) × (room < needed)
+    × Unchanged s sheet t full
 Answers s sheet first count (Err Memory) t full =
     InRange s first count × (needed_of s first count ≤ room_of sheet) × Unchanged s sheet t full
 

@@ -1,5 +1,6 @@
 -- What the post-mortem prints of a store, and how many orders it obeys for that (this project's own).
-use Rattle.std.specs.Prelude.{ℕ, zero, suc, ◌+◌, ◌*◌, ◌/◌, ◌%◌, Bool, true, false, nat_eq, List, [], ◌∷◌, ◌++◌, length, slice_index}
+use Rattle.std.specs.Prelude.{ℕ, zero, suc, ◌+◌, ◌*◌, ◌/◌, ◌%◌, Bool, true, false}
+use Rattle.std.specs.Prelude.{nat_eq, List, [], ◌∷◌, ◌++◌, length, slice_index}
 use Rattle.ed_notation.specs.Spellings.{digit_at}
 
 -- the number in the address of a word
@@ -38,10 +39,12 @@ abbrev pub word_codes : ℕ → List ℕ
 word_codes word =
     15 ∷ word / 4096 ∷ 11 ∷ (decimal (number_in word) ++ (15 ∷ length_code (is_even word) ∷ 18 ∷ 24 ∷ []))
 
--- the orders that print a word: of its digits before the units, 8 for each one of their sum and 4 for each that is printed
+-- the orders that print a word: of its digits before the units, 8 for each one of their sum and 4 for each that is
+-- printed
 abbrev pub word_orders : ℕ → ℕ
 word_orders word =
-    83 + length_orders (is_even word) + 8 * digit_sum (before_units (number_in word)) + 4 * length (before_units (number_in word))
+    83 + length_orders (is_even word) + 8 * digit_sum (before_units (number_in word))
+    + 4 * length (before_units (number_in word))
 
 -- the codes of the words at so many places from a first one on
 unfoldable pub printed_codes : List ℕ → ℕ → ℕ → List ℕ

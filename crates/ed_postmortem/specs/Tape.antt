@@ -1,5 +1,5 @@
--- The tape of the post-mortem (this project's own). It places its first location at 45 and its count at 46, and its orders
--- from 56 on, and enters them there.
+-- The tape of the post-mortem (this project's own). It places its first location at 45 and its count at 46, and its
+-- orders from 56 on, and enters them there.
 use Rattle.std.specs.Prelude.{ℕ, false, List, [], ◌∷◌, ◌++◌, codes, unwrap_or}
 use Rattle.ed_codes.specs.Spelling.{row_of}
 use Rattle.ed_notation.specs.declared.item.Item.{Item}
@@ -28,7 +28,8 @@ orders =
     ++ (codes "S76@FFDFP1000FP100FP10F@F&FPFPF"
     ++ codes "PFPFPFPN")))))))
 
--- its rows: T 45 K, the first location and the count in their shortest spelling, T 56 K, G K, the orders, E 56 K and P F
+-- its rows: T 45 K, the first location and the count in their shortest spelling, T 56 K, G K, the orders, E 56 K and
+-- P F
 abbrev pub tape_rows : ℕ → ℕ → List ℕ
 tape_rows first count =
     rows_of_text (codes "T45K")

@@ -17,7 +17,8 @@ latest_is [] = refl
 latest_is (code ∷ codes) = ap (λ (s : Shift). shift_after s code) (latest_is codes)
 
 -- the earliest code stands last
-latest_earlier : (shift : Shift) (codes : List ℕ) (code : ℕ) → latest_or shift (codes ++ code ∷ []) ≡ latest_or (shift_after shift code) codes
+latest_earlier : (shift : Shift) (codes : List ℕ) (code : ℕ)
+    → latest_or shift (codes ++ code ∷ []) ≡ latest_or (shift_after shift code) codes
 latest_earlier shift [] code = refl
 latest_earlier shift (c ∷ codes) code = ap (λ (s : Shift). shift_after s c) (latest_earlier shift codes code)
 

@@ -47,7 +47,8 @@ latest_shift (code ∷ codes) = if code == 11 then Figures else if code == 15 th
 -- each code is printed in the shift set by the latest 11 or 15 before it, and in letter shift where there is none
 abbrev pub IsInLatestShift : Type 0
 IsInLatestShift =
-    (before : List ℕ) (code : ℕ) → paper (before ++ code ∷ []) ≡ paper before ++ struck (latest_shift (reverse before)) code
+    (before : List ℕ) (code : ℕ)
+    → paper (before ++ code ∷ []) ≡ paper before ++ struck (latest_shift (reverse before)) code
 
 -- the bytes of a character of the printer's tables: none for 0, two for the pound sign (163), and else the one byte
 abbrev pub bytes_of : ℕ → List ℕ

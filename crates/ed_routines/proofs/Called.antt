@@ -1,5 +1,6 @@
 -- A routine that stands: its image in the store, and which words stay once it has returned.
-use Rattle.std.proofs.Common.{◌≡◌, ◌⊎◌, inl, inr, ℕ, zero, suc, ◌+◌, ◌-◌, ◌*◌, ◌<◌, ◌≤◌, refl, sym, ap, ◌∙◌, arith, Bool, true, false, true≢false}
+use Rattle.std.proofs.Common.{◌≡◌, ◌⊎◌, inl, inr, ℕ, zero, suc, ◌+◌, ◌-◌, ◌*◌, ◌<◌, ◌≤◌}
+use Rattle.std.proofs.Common.{refl, sym, ap, ◌∙◌, arith, true, false, true≢false}
 use Rattle.std.proofs.Common.{List, [], ◌∷◌, Option, drop, length, length-append, get_or}
 use Rattle.std.proofs.lemmas.List.{length-drop}
 use Rattle.std.specs.Prelude.{◌==◌}
@@ -31,18 +32,25 @@ pub record IsWithin (n b h top : ℕ) (s : State) : Type 0 where
 -- and always below the size
 pub within_size : (r b h : ℕ) (parameters : List ℕ) (s : State) → Stands r parameters b s → IsOutside r b h s
     → IsWithin (places r) b h (locations s.size) s
-within_size r b h parameters s o out = record { under = o.fits; near = out.below; back = o.call.room; fits = omega arith }
+within_size r b h parameters s o out = record {
+  under = o.fits;
+  near = out.below;
+  back = o.call.room;
+  fits = omega arith;
+}
 
 -- a window within a list leaves its length
 pub length-patched : {A : Type 0} (d : A) (xs : List A) (b : ℕ) (cs : List A) → b + length cs ≤ length xs
     → length (patched d xs b cs) ≡ length xs
 unfolding patched
-length-patched d xs zero cs l = let e = length-append cs (drop (length cs) xs) in let k = length-drop (length cs) xs in omega arith
+length-patched d xs zero cs l = let e = length-append cs (drop (length cs) xs) in let k = length-drop (length cs) xs
+    in omega arith
 length-patched d [] (suc b) cs l = absurd (omega arith)
 length-patched d (x ∷ xs) (suc b) cs l = ap suc (length-patched d xs b cs (omega arith))
 
 -- a location outside a routine is beside its cells
-pub beside : (n b h : ℕ) (s : State) → length s.store.words ≡ 1024 → (h < b) ⊎ (b + n ≤ h) → b + n ≤ locations s.size → Beside s.store.words b n h
+pub beside : (n b h : ℕ) (s : State) → length s.store.words ≡ 1024 → (h < b) ⊎ (b + n ≤ h) → b + n ≤ locations s.size
+    → Beside s.store.words b n h
 beside n b h s all (inl l) fits =
     let size = most s.size in
     inl (l, omega arith)
@@ -59,7 +67,8 @@ h_is h (suc p) l = absurd (omega arith)
 
 module _ (r b : ℕ) (hs : List ℕ) where
   -- a routine that stands has its image in the store
-  pub holds : (takes : ℕ) (parameters : List ℕ) (s : State) → Stands r parameters b s → ((p : ℕ) → p < takes → get_or hs p 0 ≤ 1023)
+  pub holds : (takes : ℕ) (parameters : List ℕ) (s : State) → Stands r parameters b s
+      → ((p : ℕ) → p < takes → get_or hs p 0 ≤ 1023)
       → ((p : ℕ) → p < takes → get_or parameters p 0 ≡ 2 * get_or hs p 0) → all_plain takes (entry r).items ≡ true
       → Holds (image r b hs) s.store.words b
   holds takes parameters s o near is plain i l =
@@ -91,6 +100,7 @@ module _ (r b : ℕ) (hs : List ℕ) where
           ∙ free)
 
   -- a word that is at no working place stays
-  pub kept : (ws cells : List ℕ) → length cells ≡ length (image r b hs) → merged (image r b hs) cells ≡ cells → Holds (image r b hs) ws b
+  pub kept : (ws cells : List ℕ) → length cells ≡ length (image r b hs) → merged (image r b hs) cells ≡ cells
+      → Holds (image r b hs) ws b
       → (i : ℕ) → IsOther r b i → get_or (patched 0 ws b cells) i 0 ≡ get_or ws i 0
   kept ws cells long new old i o = unchanged (image r b hs) ws b cells long new old i (not_working i o)

@@ -1,5 +1,6 @@
 -- What the digits of a number are.
-use Rattle.std.proofs.Common.{◌≡◌, inl, inr, ℕ, zero, suc, ◌+◌, ◌*◌, ◌/◌, ◌%◌, ◌<◌, ◌≤◌, refl, sym, ap, ◌∙◌, arith, List, []}
+use Rattle.std.proofs.Common.{◌≡◌, inl, inr, ℕ, zero, suc, ◌+◌, ◌*◌, ◌/◌, ◌%◌}
+use Rattle.std.proofs.Common.{◌<◌, ◌≤◌, refl, sym, ap, ◌∙◌, arith, List, []}
 use Rattle.std.proofs.Common.{◌∷◌, ◌++◌, length, length-append, map}
 use Rattle.std.specs.Fmt.{decimal}
 use Rattle.std.proofs.lemmas.Fmt.{decimal_digit, decimal_step}
@@ -46,7 +47,8 @@ module _ (n : ℕ) (small : n < 65536) where
       let d = positive (n / 10 % 10) [] (omega arith) in
       let top : n / 10 ≡ n / 10 % 10 = omega arith in
       rw (a, b, c) (ap (λ x. map (λ d. 48 + d) (x ++ n % 10 ∷ [])) d
-      ∙ sym (one_more n (n / 10 % 10) (n % 10) g small top refl ∙ ap (λ x. x ++ (48 + n % 10) ∷ []) (decimal_digit (n / 10 % 10) (omega arith))))
+      ∙ sym (one_more n (n / 10 % 10) (n % 10) g small top refl
+      ∙ ap (λ x. x ++ (48 + n % 10) ∷ []) (decimal_digit (n / 10 % 10) (omega arith))))
 
   written_3 : 100 ≤ n → n < 1000 → map (λ d. 48 + d) (digits n) ≡ decimal n
   written_3 g l =
@@ -56,7 +58,8 @@ module _ (n : ℕ) (small : n < 65536) where
       let top : n / 10 / 10 ≡ n / 100 % 10 = omega arith in
       rw (a, b) (ap (λ x. map (λ d. 48 + d) (x ++ n % 10 ∷ [])) c
       ∙ sym (one_more n (n / 10) (n % 10) (omega arith) small refl refl
-      ∙ ap (λ x. x ++ (48 + n % 10) ∷ []) (one_more (n / 10) (n / 100 % 10) (n / 10 % 10) (omega arith) (omega arith) top refl
+      ∙ ap (λ x. x ++ (48 + n % 10) ∷ [])
+      (one_more (n / 10) (n / 100 % 10) (n / 10 % 10) (omega arith) (omega arith) top refl
       ∙ ap (λ x. x ++ (48 + n / 10 % 10) ∷ []) (decimal_digit (n / 100 % 10) (omega arith)))))
 
   written_4 : 1000 ≤ n → n < 10000 → map (λ d. 48 + d) (digits n) ≡ decimal n
@@ -68,7 +71,8 @@ module _ (n : ℕ) (small : n < 65536) where
       rw a (ap (λ x. map (λ d. 48 + d) (x ++ n % 10 ∷ [])) b
       ∙ sym (one_more n (n / 10) (n % 10) (omega arith) small refl refl
       ∙ ap (λ x. x ++ (48 + n % 10) ∷ []) (one_more (n / 10) (n / 100) (n / 10 % 10) (omega arith) (omega arith) m refl
-      ∙ ap (λ x. x ++ (48 + n / 10 % 10) ∷ []) (one_more (n / 100) (n / 1000 % 10) (n / 100 % 10) (omega arith) (omega arith) top refl
+      ∙ ap (λ x. x ++ (48 + n / 10 % 10) ∷ [])
+      (one_more (n / 100) (n / 1000 % 10) (n / 100 % 10) (omega arith) (omega arith) top refl
       ∙ ap (λ x. x ++ (48 + n / 100 % 10) ∷ []) (decimal_digit (n / 1000 % 10) (omega arith))))))
 
   written_5 : 10000 ≤ n → map (λ d. 48 + d) (digits n) ≡ decimal n
@@ -80,8 +84,10 @@ module _ (n : ℕ) (small : n < 65536) where
       ap (λ x. map (λ d. 48 + d) (x ++ n % 10 ∷ [])) a
       ∙ sym (one_more n (n / 10) (n % 10) (omega arith) small refl refl
       ∙ ap (λ x. x ++ (48 + n % 10) ∷ []) (one_more (n / 10) (n / 100) (n / 10 % 10) (omega arith) (omega arith) m refl
-      ∙ ap (λ x. x ++ (48 + n / 10 % 10) ∷ []) (one_more (n / 100) (n / 1000) (n / 100 % 10) (omega arith) (omega arith) k refl
-      ∙ ap (λ x. x ++ (48 + n / 100 % 10) ∷ []) (one_more (n / 1000) (n / 10000) (n / 1000 % 10) (omega arith) (omega arith) top refl
+      ∙ ap (λ x. x ++ (48 + n / 10 % 10) ∷ [])
+      (one_more (n / 100) (n / 1000) (n / 100 % 10) (omega arith) (omega arith) k refl
+      ∙ ap (λ x. x ++ (48 + n / 100 % 10) ∷ [])
+      (one_more (n / 1000) (n / 10000) (n / 1000 % 10) (omega arith) (omega arith) top refl
       ∙ ap (λ x. x ++ (48 + n / 1000 % 10) ∷ []) (decimal_digit (n / 10000) (omega arith))))))
 
 pub digits_law : DigitsLaw

@@ -1,7 +1,8 @@
--- The tie between a routine's table in the library and the words that a path speaks of: its image at a base, with none at
--- its working places.
-use Rattle.std.proofs.Common.{◌≡◌, ℕ, zero, suc, ◌+◌, ◌-◌, ◌*◌, ◌<◌, ◌≤◌, refl, sym, ap, ◌∙◌, arith, Bool, true, false}
-use Rattle.std.proofs.Common.{◌&&◌, ◌||◌, nat_eq, nat_le, nat_lt, List, [], ◌∷◌, Option, Some, None, length, get_or, lit≤}
+-- The tie between a routine's table in the library and the words that a path speaks of: its image at a base, with
+-- none at its working places.
+use Rattle.std.proofs.Common.{◌≡◌, ℕ, zero, suc, ◌+◌, ◌-◌, ◌*◌, ◌<◌, ◌≤◌, refl, ap, ◌∙◌, arith, Bool, true, false}
+use Rattle.std.proofs.Common.{◌&&◌, ◌||◌, nat_eq, nat_le, nat_lt, List, []}
+use Rattle.std.proofs.Common.{◌∷◌, Option, Some, None, length, get_or, lit≤}
 use Rattle.std.specs.Prelude.{◌==◌, if◌then◌else◌}
 use Rattle.std.specs.List.{list_any}
 use Rattle.std.proofs.lemmas.Bool.{and_parts}
@@ -25,7 +26,8 @@ row_word b hs row =
     else if nat_le 21 row.3 then 4096 * row.0 + 2 * row.1 + digit row.2 + 2 * get_or hs (row.3 - 21) 0
     else 4096 * row.0 + 2 * row.1 + digit row.2
 
--- a row that ends with F, θ or D, or with one of the so many parameters that the routine takes, and whose word is not reduced
+-- a row that ends with F, θ or D, or with one of the so many parameters that the routine takes, and whose word is not
+-- reduced
 abbrev pub is_plain : ℕ → Row → Bool
 is_plain takes row =
     nat_le (4096 * row.0 + 2 * row.1) 124928
@@ -41,7 +43,8 @@ image_from [] working b hs i = []
 image_from (row ∷ rows) working b hs i =
     (if list_any (λ p. p == i) working then None else Some (row_word b hs row)) ∷ image_from rows working b hs (i + 1)
 
-pub length_image : (rows : List Row) (working : List ℕ) (b : ℕ) (hs : List ℕ) (i : ℕ) → length (image_from rows working b hs i) ≡ length rows
+pub length_image : (rows : List Row) (working : List ℕ) (b : ℕ) (hs : List ℕ) (i : ℕ)
+    → length (image_from rows working b hs i) ≡ length rows
 length_image [] working b hs i = refl
 length_image (row ∷ rows) working b hs i = ap suc (length_image rows working b hs (i + 1))
 
@@ -52,7 +55,9 @@ pub data IsLetter (takes c : ℕ) : Type 0 where
   D : c ≡ 19 → IsLetter takes c
   parameter : 21 ≤ c → c < 21 + takes → IsLetter takes c
 
-letter_of : (takes c : ℕ) → (nat_eq c 17 || (nat_eq c 18 || (nat_eq c 19 || (nat_le 21 c && nat_lt c (21 + takes))))) ≡ true → IsLetter takes c
+letter_of : (takes c : ℕ)
+    → (nat_eq c 17 || (nat_eq c 18 || (nat_eq c 19 || (nat_le 21 c && nat_lt c (21 + takes))))) ≡ true
+    → IsLetter takes c
 letter_of takes c e = by_tests (nat_eq c 17) (nat_eq c 18) (nat_eq c 19) refl refl refl
   where
     by_tests : (p q r : Bool) → nat_eq c 17 ≡ p → nat_eq c 18 ≡ q → nat_eq c 19 ≡ r → IsLetter takes c
@@ -67,7 +72,8 @@ digit_low : (d : Bool) → digit d ≤ 1
 digit_low true = lit≤ tt
 digit_low false = lit≤ tt
 
-module _ (takes : ℕ) (parameters : List ℕ) (b : ℕ) (hs : List ℕ) (low : b ≤ 1024) (near : (p : ℕ) → p < takes → get_or hs p 0 ≤ 1023)
+module _ (takes : ℕ) (parameters : List ℕ) (b : ℕ) (hs : List ℕ) (low : b ≤ 1024)
+    (near : (p : ℕ) → p < takes → get_or hs p 0 ≤ 1023)
     (is : (p : ℕ) → p < takes → get_or parameters p 0 ≡ 2 * get_or hs p 0) where
   by_letter : (f n c : ℕ) (d : Bool) → 4096 * f + 2 * n ≤ 124928 → IsLetter takes c
       → word_with f n d (value_of (parameter_store parameters) (2 * b) c) ≡ row_word b hs (f, n, d, c)
@@ -79,7 +85,8 @@ module _ (takes : ℕ) (parameters : List ℕ) (b : ℕ) (hs : List ℕ) (low : 
       let v : value_of (parameter_store parameters) (2 * b) c ≡ 2 * get_or hs (c - 21) 0 =
       value_of_parameter parameters (2 * b) c from ∙ is (c - 21) (omega arith) in
       let near_c = near (c - 21) (omega arith) in
-      rw (v, eq_false c 18 (λ e. absurd (omega arith)), eq_false c 19 (λ e. absurd (omega arith)), le_true 21 c from) (omega arith)
+      rw (v, eq_false c 18 (λ e. absurd (omega arith)), eq_false c 19 (λ e. absurd (omega arith)), le_true 21 c from)
+      (omega arith)
 
   -- the word that the library gives a row
   pub row_word_is : (row : Row) → is_plain takes row ≡ true → item_word parameters b (item_of row) ≡ row_word b hs row
@@ -88,7 +95,8 @@ module _ (takes : ℕ) (parameters : List ℕ) (b : ℕ) (hs : List ℕ) (low : 
       by_letter row.0 row.1 row.3 row.2 (le_of _ _ p.0) (letter_of takes row.3 p.1)
 
   module _ (working : List ℕ) (none : Row) where
-    here_meets : (t : Bool) (row : Row) (x : ℕ) → is_plain takes row ≡ true → (t ≡ false → x ≡ item_word parameters b (item_of row))
+    here_meets : (t : Bool) (row : Row) (x : ℕ) → is_plain takes row ≡ true
+        → (t ≡ false → x ≡ item_word parameters b (item_of row))
         → Meets (if t then None else Some (row_word b hs row)) x
     here_meets true row x plain e = tt
     here_meets false row x plain e = e refl ∙ row_word_is row plain

@@ -1,5 +1,5 @@
 -- `newline` from the library's table to what it does.
-use Rattle.std.proofs.Common.{◌≡◌, ℕ, ◌+◌, ◌*◌, refl, ap, ◌∙◌, sym, arith, ◌<◌, List, [], ◌∷◌, Some, get_or, length}
+use Rattle.std.proofs.Common.{◌≡◌, ℕ, ◌+◌, ◌*◌, refl, ap, ◌∙◌, arith, ◌<◌, List, [], ◌∷◌, Some, get_or, length}
 use Rattle.ed_words.proofs.SizeLemmas.{most}
 use Rattle.ed_orders.specs.declared.kind.Kind.{Kind}
 use Rattle.ed_machine.specs.State.{State}
@@ -13,7 +13,8 @@ use Rattle.ed_routines.specs.Standing.{Stands, caller}
 use Rattle.ed_routines.specs.Returns.{Keeps, Returned}
 use Rattle.ed_routines.proofs.Called.{IsWithin, holds, kept, length-patched}
 
-module _ (parameters : List ℕ) (b top : ℕ) (s : State) (all : length s.store.words ≡ 1024) (o : Stands newline parameters b s)
+module _ (parameters : List ℕ) (b top : ℕ) (s : State) (all : length s.store.words ≡ 1024)
+    (o : Stands newline parameters b s)
     (within : IsWithin 7 b 0 top s) where
   called : IsCalled s b (caller s) top
   called = record {

@@ -1,5 +1,6 @@
 -- The routine `print`, by its listing.
-use Rattle.std.proofs.Common.{◌≡◌, ℕ, zero, suc, ◌+◌, ◌-◌, ◌*◌, ◌/◌, ◌%◌, ◌^◌, ◌<◌, ◌≤◌, refl, ap, arith, Bool, true, false, nat_lt}
+use Rattle.std.proofs.Common.{◌≡◌, ℕ, zero, suc, ◌+◌, ◌-◌, ◌*◌, ◌/◌, ◌%◌, ◌^◌, ◌<◌}
+use Rattle.std.proofs.Common.{◌≤◌, refl, ap, arith, Bool, true, false, nat_lt}
 use Rattle.std.proofs.Common.{List, [], ◌∷◌, ◌++◌, Option, Some, get_or, length, lit<, lit≤}
 use Rattle.ed_words.proofs.SizeLemmas.{most}
 use Rattle.ed_paths.proofs.Frames.{Frame, Moment, short}
@@ -8,6 +9,7 @@ use Rattle.ed_paths.proofs.Orders.{there_is}
 use Rattle.ed_paths.proofs.Shifts.{LD, L512F}
 use Rattle.ed_paths.proofs.Moves.{A, S, T, U, O, E_jumps, G_jumps, G_stays, L}
 use Rattle.ed_paths.proofs.Paths.{Path, stay, on, prints, followed}
+use Rattle.ed_paths.proofs.Zeros.{flag_of, shown, begun, spared, last_of}
 use Rattle.ed_routines.specs.Digits.{sum, without_zeros}
 use Rattle.ed_routines.proofs.Digits.{tens}
 
@@ -24,41 +26,17 @@ pub record Work : Type 0 where
 -- its words
 abbrev pub cells : ℕ → ℕ → Work → List ℕ
 cells b h w =
-    114694 ∷ (20480 + 2 * (b + 38)) ∷ (36864 + 2 * (b + 39)) ∷ (114688 + 2 * h) ∷ (20480 + 2 * (b + 47)) ∷ (20480 + 2 * (b + 48))
-    ∷ (114688 + 2 * (b + 41)) ∷ (20480 + 2 * (b + 11)) ∷ (20480 + 2 * (b + 50)) ∷ (20480 + 2 * (b + 49))
-    ∷ (114688 + 2 * (b + 47)) ∷ w.at11 ∷ (110592 + 2 * (b + 18)) ∷ (20480 + 2 * (b + 47)) ∷ (114688 + 2 * (b + 49))
-    ∷ (114688 + 2 * (b + 40)) ∷ (20480 + 2 * (b + 49)) ∷ (12288 + 2 * (b + 10)) ∷ (20480 + 2 * (b + 50)) ∷ (114688 + 2 * (b + 49))
-    ∷ (114688 + 2 * (b + 48)) ∷ (49152 + 2 * (b + 40)) ∷ (110592 + 2 * (b + 27)) ∷ (36864 + 2 * (b + 49)) ∷ (20480 + 2 * (b + 50))
-    ∷ (114688 + 2 * (b + 40)) ∷ (20480 + 2 * (b + 48)) ∷ (20480 + 2 * (b + 50)) ∷ (114688 + 2 * (b + 11)) ∷ 114692
-    ∷ (28672 + 2 * (b + 11)) ∷ (49152 + 2 * (b + 42)) ∷ (110592 + 2 * (b + 8)) ∷ (114688 + 2 * (b + 47)) ∷ 103424 ∷ 102401
-    ∷ (20480 + 2 * (b + 49)) ∷ (36864 + 2 * (b + 49)) ∷ w.at38 ∷ 45056
-    ∷ 4096 ∷ (49152 + 2 * (b + 43)) ∷ (49152 + 2 * (b + 47)) ∷ 10000 ∷ 1000 ∷ 100 ∷ 10 ∷ w.at47 ∷ w.at48 ∷ w.at49
-    ∷ w.at50 ∷ []
-
--- the word that says whether a digit was printed
-abbrev pub flag_of : Bool → ℕ
-flag_of true = 4096
-flag_of false = 0
-
--- what is printed of a digit, where one stands before it or not, whether one then does, and what its printing leaves
-abbrev pub shown : Bool → ℕ → List ℕ
-shown false zero = []
-shown false (suc q) = suc q ∷ []
-shown true q = q ∷ []
-
-abbrev pub begun : Bool → ℕ → Bool
-begun false zero = false
-begun false (suc q) = true
-begun true q = true
-
-abbrev pub spared : Bool → ℕ → ℕ
-spared false zero = 126976
-spared false (suc q) = 0
-spared true q = 0
-
-abbrev pub last_of : Option ℕ → List ℕ → Option ℕ
-last_of last [] = last
-last_of last (c ∷ cs) = last_of (Some c) cs
+    114694 ∷ (20480 + 2 * (b + 38)) ∷ (36864 + 2 * (b + 39)) ∷ (114688 + 2 * h) ∷ (20480 + 2 * (b + 47))
+    ∷ (20480 + 2 * (b + 48)) ∷ (114688 + 2 * (b + 41)) ∷ (20480 + 2 * (b + 11)) ∷ (20480 + 2 * (b + 50))
+    ∷ (20480 + 2 * (b + 49)) ∷ (114688 + 2 * (b + 47)) ∷ w.at11 ∷ (110592 + 2 * (b + 18))
+    ∷ (20480 + 2 * (b + 47)) ∷ (114688 + 2 * (b + 49)) ∷ (114688 + 2 * (b + 40)) ∷ (20480 + 2 * (b + 49))
+    ∷ (12288 + 2 * (b + 10)) ∷ (20480 + 2 * (b + 50)) ∷ (114688 + 2 * (b + 49)) ∷ (114688 + 2 * (b + 48))
+    ∷ (49152 + 2 * (b + 40)) ∷ (110592 + 2 * (b + 27)) ∷ (36864 + 2 * (b + 49)) ∷ (20480 + 2 * (b + 50))
+    ∷ (114688 + 2 * (b + 40)) ∷ (20480 + 2 * (b + 48)) ∷ (20480 + 2 * (b + 50)) ∷ (114688 + 2 * (b + 11))
+    ∷ 114692 ∷ (28672 + 2 * (b + 11)) ∷ (49152 + 2 * (b + 42)) ∷ (110592 + 2 * (b + 8))
+    ∷ (114688 + 2 * (b + 47)) ∷ 103424 ∷ 102401 ∷ (20480 + 2 * (b + 49)) ∷ (36864 + 2 * (b + 49)) ∷ w.at38
+    ∷ 45056 ∷ 4096 ∷ (49152 + 2 * (b + 43)) ∷ (49152 + 2 * (b + 47)) ∷ 10000 ∷ 1000 ∷ 100 ∷ 10 ∷ w.at47 ∷ w.at48
+    ∷ w.at49 ∷ w.at50 ∷ []
 
 -- digits without those zeros that lead, with the units
 abbrev pub spelled : Bool → List ℕ → ℕ → List ℕ
@@ -176,8 +154,10 @@ module _ (f : Frame 51 0) (behind : 56 ≤ f.base) (h m multiplier : ℕ) (ws ta
       (on (S 31 (own 42) (short u) refl (omega arith)) stay))))
 
   -- a digit that is printed, and one that isn't
-  print_digit : (j q rest flag spare v : ℕ) (last : Option ℕ) → q ≤ 9 → flag ≤ 4096 → 4096 ≤ 4096 * q + flag → v < 2 ^ 17
-      → Path f 9 (at j rest flag (4096 * q) spare v 18 last) (q ∷ []) (at j rest 4096 (4096 * q) (4096 * q + flag - 4096) 0 27 (Some q))
+  print_digit : (j q rest flag spare v : ℕ) (last : Option ℕ) → q ≤ 9 → flag ≤ 4096 → 4096 ≤ 4096 * q + flag
+      → v < 2 ^ 17
+      → Path f 9 (at j rest flag (4096 * q) spare v 18 last) (q ∷ [])
+      (at j rest 4096 (4096 * q) (4096 * q + flag - 4096) 0 27 (Some q))
   print_digit j q rest flag spare v last few low some fits =
       on (T 18 (own 50) _ refl refl)
       (on (A 19 (own 49) (short (4096 * q)) refl (omega arith))
@@ -199,7 +179,8 @@ module _ (f : Frame 51 0) (behind : 56 ≤ f.base) (h m multiplier : ℕ) (ws ta
       (on (G_jumps 22 (own 27) refl (lit≤ tt)) stay))))
 
   -- from the test of a digit to the test for the next power
-  show : (j q u rest spare v : ℕ) (b : Bool) (last : Option ℕ) → j < 47 → q ≤ 9 → v < 2 ^ 17 → get_or ws 2 0 ≡ 2 → tested j ≡ u
+  show : (j q u rest spare v : ℕ) (b : Bool) (last : Option ℕ) → j < 47 → q ≤ 9 → v < 2 ^ 17 → get_or ws 2 0 ≡ 2
+      → tested j ≡ u
       → Path f (10 + 4 * length (shown b q)) (at j rest (flag_of b) (4096 * q) spare v 18 last) (shown b q)
       (at (j + 1) rest (flag_of (begun b q)) (4096 * q) (spared b q) u 32 (last_of last (shown b q)))
   show j zero u rest spare v false last inside few fits at2 is =
@@ -212,7 +193,8 @@ module _ (f : Frame 51 0) (behind : 56 ≤ f.base) (h m multiplier : ℕ) (ws ta
       (next j u rest 4096 (4096 * q) (4096 * q + 4096 - 4096) 0 (Some q) inside (lit< tt) at2 is)
 
   -- a digit before the units
-  turn : (j p q u v r spare count top : ℕ) (b : Bool) (last : Option ℕ) → Power j p → v ≡ q * p + r → r < p → v < 2 ^ 16 → q ≤ 9
+  turn : (j p q u v r spare count top : ℕ) (b : Bool) (last : Option ℕ) → Power j p → v ≡ q * p + r → r < p
+      → v < 2 ^ 16 → q ≤ 9
       → top < 2 ^ 17 → j < 47 → get_or ws 2 0 ≡ 2 → tested j ≡ u
       → Path f (digit_orders b q) (at j v (flag_of b) count spare top 8 last) (shown b q)
       (at (j + 1) r (flag_of (begun b q)) (4096 * q) (spared b q) u 32 (last_of last (shown b q)))
@@ -227,12 +209,15 @@ module _ (f : Frame 51 0) (behind : 56 ≤ f.base) (h m multiplier : ℕ) (ws ta
       (on (S 11 (own j) (short (r + (2 ^ 17 - p))) (there_is o.own) (rw (o.holds _) (omega arith)))
       (on (G_jumps 12 (own 18) refl (omega arith)) stay)) in
       let z : 0 + q ≡ q = omega arith in
-      let loop : Path f (8 * q) (at j v (flag_of b) (4096 * 0) top 0 10 last) [] (at j r (flag_of b) (4096 * q) top 0 10 last)
+      let loop : Path f (8 * q) (at j v (flag_of b) (4096 * 0) top 0 10 last) []
+      (at j r (flag_of b) (4096 * q) top 0 10 last)
       = rw z at (subtractions j p q 0 v r (flag_of b) top last o sum low (omega arith)) in
-      rw n (followed first (followed loop (followed last_try (show j q u r top (r + (2 ^ 17 - p)) b last inside few (omega arith) at2 is))))
+      rw n (followed first (followed loop
+      (followed last_try (show j q u r top (r + (2 ^ 17 - p)) b last inside few (omega arith) at2 is))))
 
   -- the figure shift is printed, and the number taken
-  opened : (w : Work) (v : ℕ) (last : Option ℕ) → get_or ws 3 0 ≡ 28676 → m + 3 ≤ f.top → IsOutside f ws h → get_or ws h 0 ≡ v
+  opened : (w : Work) (v : ℕ) (last : Option ℕ) → get_or ws 3 0 ≡ 28676 → m + 3 ≤ f.top → IsOutside f ws h
+      → get_or ws h 0 ≡ v
       → v < 2 ^ 16
       → Path f 8 (run w (114688 + 2 * m) 0 last) (11 ∷ []) (at 43 v 0 w.at49 w.at50 0 8 (Some 11))
   opened w v last at3 room away is low =
@@ -265,10 +250,13 @@ module _ (f : Frame 51 0) (behind : 56 ≤ f.base) (h m multiplier : ℕ) (ws ta
       (prints (O 37 (own 49) rest refl (omega arith))
       (on (E_jumps 38 (any (m + 2) there) refl (lit< tt)) stay))))))
 
-  pub whole : (w : Work) (n : ℕ) (last : Option ℕ) → get_or ws 2 0 ≡ 2 → get_or ws 3 0 ≡ 28676 → m + 3 ≤ f.top → IsOutside f ws h
+  pub whole : (w : Work) (n : ℕ) (last : Option ℕ) → get_or ws 2 0 ≡ 2 → get_or ws 3 0 ≡ 28676 → m + 3 ≤ f.top
+      → IsOutside f ws h
       → get_or ws h 0 ≡ n → n < 2 ^ 16
-      → Path f (78 + 8 * sum (tens n) + 4 * shows false (tens n)) (run w (114688 + 2 * m) 0 last) (11 ∷ spelled false (tens n) (n % 10))
-      (record (at 47 (n % 10) (flag_of (begun (before_tens n) (n / 10 % 10))) (4096 * (n % 10)) (spared (before_tens n) (n / 10 % 10)) 0 0
+      → Path f (78 + 8 * sum (tens n) + 4 * shows false (tens n)) (run w (114688 + 2 * m) 0 last)
+      (11 ∷ spelled false (tens n) (n % 10))
+      (record (at 47 (n % 10) (flag_of (begun (before_tens n) (n / 10 % 10))) (4096 * (n % 10))
+      (spared (before_tens n) (n / 10 % 10)) 0 0
       (Some (n % 10))) { counter = m + 2 })
   whole w n last at2 at3 room away is low =
       let q1 : ℕ = n / 10000 in
@@ -288,9 +276,11 @@ module _ (f : Frame 51 0) (behind : 56 ≤ f.base) (h m multiplier : ℕ) (ws ta
       let l3 : Option ℕ = last_of l2 (shown b2 q3) in
       let l4 : Option ℕ = last_of l3 (shown b3 q4) in
       let e : 78 + 8 * sum (tens n) + 4 * shows false (tens n)
-      ≡ 8 + (digit_orders false q1 + (1 + (digit_orders b1 q2 + (1 + (digit_orders b2 q3 + (1 + (digit_orders b3 q4 + 7))))))) = omega arith in
+      ≡ 8 + (digit_orders false q1
+      + (1 + (digit_orders b1 q2 + (1 + (digit_orders b2 q3 + (1 + (digit_orders b3 q4 + 7))))))) = omega arith in
       rw e (followed (opened w n last at3 room away is low)
-      (followed (turn 43 10000 q1 131066 n (n % 10000) w.at50 w.at49 0 false (Some 11) p1 (omega arith) (omega arith) low (omega arith)
+      (followed (turn 43 10000 q1 131066 n (n % 10000) w.at50 w.at49 0 false (Some 11) p1 (omega arith)
+      (omega arith) low (omega arith)
       (lit< tt) (lit< tt) at2 refl)
       (followed (again 44 (n % 10000) (flag_of b1) (4096 * q1) (spared false q1) 131066 l1 (lit≤ tt))
       (followed (turn 44 1000 q2 131068 (n % 10000) (n % 1000) (spared false q1) (4096 * q1) 131066 b1 l1 p2

@@ -19,10 +19,13 @@ use Rattle.ed_routines.specs.Digits.{digits, print_orders, sum}
 use Rattle.ed_routines.specs.Returns.{Keeps, Returned}
 use Rattle.ed_routines.proofs.Called.{IsWithin, image, holds, kept, near_h, h_is, beside, length-patched}
 use Rattle.ed_routines.proofs.Digits.{tens}
-use Rattle.ed_routines.proofs.Print.{Work, cells, run, whole, flag_of, begun, spared, before_tens, spelled, shows, spelled_is}
+use Rattle.ed_paths.proofs.Zeros.{flag_of, begun, spared}
+use Rattle.ed_routines.proofs.Print.{Work, cells, run, whole}
+use Rattle.ed_routines.proofs.Print.{before_tens, spelled, shows, spelled_is}
 use Rattle.ed_routines.proofs.Print.{shows_is, sum_is}
 
-module _ (b h top : ℕ) (s : State) (all : length s.store.words ≡ 1024) (o : Stands print (with_h h) b s) (out : IsOutside print b h s)
+module _ (b h top : ℕ) (s : State) (all : length s.store.words ≡ 1024) (o : Stands print (with_h h) b s)
+    (out : IsOutside print b h s)
     (within : IsWithin 51 b h top s) (small : short_at s.store h < 65536) where
   abbrev n : ℕ
   n = short_at s.store h
@@ -48,7 +51,8 @@ module _ (b h top : ℕ) (s : State) (all : length s.store.words ≡ 1024) (o : 
 
   abbrev moment : Moment
   moment =
-      run f o.low h (caller s) s.multiplier s.store.words s.tape s.store.sandwich all first (114688 + 2 * caller s) 0 s.last
+      run f o.low h (caller s) s.multiplier s.store.words s.tape s.store.sandwich all first
+      (114688 + 2 * caller s) 0 s.last
 
   begins : state f moment s.orders ≡ s
   begins =
@@ -81,7 +85,8 @@ module _ (b h top : ℕ) (s : State) (all : length s.store.words ≡ 1024) (o : 
   }
 
   abbrev end : Moment
-  end = record (run f o.low h (caller s) s.multiplier s.store.words s.tape s.store.sandwich all left 0 0 (Some (n % 10)))
+  end = record (run f o.low h (caller s) s.multiplier s.store.words s.tape s.store.sandwich all left 0 0
+      (Some (n % 10)))
       { counter = caller s + 2 }
 
   path : Path f (print_orders n) moment (11 ∷ digits n) end
@@ -89,7 +94,10 @@ module _ (b h top : ℕ) (s : State) (all : length s.store.words ≡ 1024) (o : 
       let count : 78 + 8 * sum (tens n) + 4 * shows false (tens n) ≡ print_orders n =
       λ i. 78 + 8 * sum_is (tens n) i + 4 * shows_is (tens n) i in
       let codes : 11 ∷ spelled false (tens n) (n % 10) ≡ 11 ∷ digits n = λ i. 11 ∷ spelled_is (tens n) (n % 10) i in
-      let away : IsBeside f s.store.words h = record { below = within.near; beside = beside 51 b h s all out.beside o.fits } in
+      let away : IsBeside f s.store.words h = record {
+        below = within.near;
+        beside = beside 51 b h s all out.beside o.fits;
+      } in
       subst (λ k. Path f k moment (11 ∷ digits n) end) count
       (subst (λ cs. Path f (78 + 8 * sum (tens n) + 4 * shows false (tens n)) moment cs end) codes
       (whole f o.low h (caller s) s.multiplier s.store.words s.tape s.store.sandwich all first n s.last o.at2 o.at3
@@ -115,7 +123,8 @@ module _ (b h top : ℕ) (s : State) (all : length s.store.words ≡ 1024) (o : 
   leads_to = subst (λ x. Leads (print_orders n) x (11 ∷ digits n) last) begins (leads path s.orders)
 
   -- what holds of every order that keeps below the place holds before each of them
-  pub keeps_below : (P : State → Type 0) → ((kind : Kind) (x : State) → IsOrder top kind x → P x) → (j : ℕ) → j < print_orders n
+  pub keeps_below : (P : State → Type 0) → ((kind : Kind) (x : State) → IsOrder top kind x → P x) → (j : ℕ)
+      → j < print_orders n
       → P (state_after j s)
   keeps_below P is j l = subst (λ x. P (state_after j x)) begins (each P is path s.orders j l)
 

@@ -1,5 +1,6 @@
 -- The routine `read`, by its listing.
-use Rattle.std.proofs.Common.{◌≡◌, ℕ, ◌+◌, ◌-◌, ◌*◌, ◌%◌, ◌^◌, ◌<◌, ◌≤◌, refl, arith, Bool, List, [], ◌∷◌, ◌++◌, Option, get_or}
+use Rattle.std.proofs.Common.{◌≡◌, ℕ, ◌+◌, ◌-◌, ◌*◌, ◌%◌, ◌^◌, ◌<◌, ◌≤◌, refl}
+use Rattle.std.proofs.Common.{arith, Bool, List, [], ◌∷◌, ◌++◌, Option, get_or}
 use Rattle.std.proofs.Common.{set, length}
 use Rattle.std.proofs.Common.{lit<}
 use Rattle.ed_words.proofs.SizeLemmas.{most}
@@ -30,7 +31,11 @@ cells b h w =
 -- the cells after digit rows behind a number
 abbrev pub worked : ℕ → List ℕ → Work → Work
 worked n [] w = w
-worked n (d ∷ ds) w = worked (10 * n + d) ds (record w { at21 = (10 * n + d) % 2 ^ 17; at22 = d; at23 = (2 * n) % 2 ^ 17 })
+worked n (d ∷ ds) w = worked (10 * n + d) ds (record w {
+  at21 = (10 * n + d) % 2 ^ 17;
+  at22 = d;
+  at23 = (2 * n) % 2 ^ 17;
+})
 
 -- digit rows
 pub data Digits : List ℕ → Type 0 where
@@ -52,7 +57,8 @@ module _ (f : Frame 24 0) (behind : 56 ≤ f.base) (h m multiplier : ℕ) (sandw
   }
 
   -- a digit row
-  digit : (ws : List ℕ) (w : Work) (c : ℕ) (rest : List ℕ) (v u x : ℕ) → w.at21 ≡ v → v < 2 ^ 17 → c < 10 → (2 * v) % 2 ^ 17 ≡ x
+  digit : (ws : List ℕ) (w : Work) (c : ℕ) (rest : List ℕ) (v u x : ℕ) → w.at21 ≡ v → v < 2 ^ 17 → c < 10
+      → (2 * v) % 2 ^ 17 ≡ x
       → (10 * v + c) % 2 ^ 17 ≡ u
       → Path f 13 (run ws w 0 3 (c ∷ rest)) [] (run ws (record w { at21 = u; at22 = c; at23 = x }) 0 3 rest)
   digit ws w c rest v u x is low d twice sum =
@@ -78,7 +84,8 @@ module _ (f : Frame 24 0) (behind : 56 ≤ f.base) (h m multiplier : ℕ) (sandw
       let first = digit ws w d (ds ++ rest) (n % 2 ^ 17) ((10 * n + d) % 2 ^ 17) ((2 * n) % 2 ^ 17) is
       (omega arith) low (omega arith) (omega arith) in
       rw e (followed first
-      (digits ws (10 * n + d) (record w { at21 = (10 * n + d) % 2 ^ 17; at22 = d; at23 = (2 * n) % 2 ^ 17 }) ds rest ok refl))
+      (digits ws (10 * n + d) (record w { at21 = (10 * n + d) % 2 ^ 17; at22 = d; at23 = (2 * n) % 2 ^ 17 }) ds
+      rest ok refl))
 
   -- the order that returns is made, and the number begins with 0
   abbrev pub opened_work : Work → Work
@@ -94,7 +101,8 @@ module _ (f : Frame 24 0) (behind : 56 ≤ f.base) (h m multiplier : ℕ) (sandw
       (on (T 2 (own 21) _ refl refl) stay))
 
   -- an ending row
-  closed : (ws : List ℕ) (w : Work) (c v : ℕ) (rest : List ℕ) → w.at19 ≡ 12288 + 2 * (m + 2) → w.at21 ≡ v → v < 2 ^ 17 → 10 ≤ c
+  closed : (ws : List ℕ) (w : Work) (c v : ℕ) (rest : List ℕ) → w.at19 ≡ 12288 + 2 * (m + 2) → w.at21 ≡ v
+      → v < 2 ^ 17 → 10 ≤ c
       → c < 32 → IsOutside f ws h → m + 3 ≤ f.top
       → Path f 8 (run ws w 0 3 (c ∷ rest)) []
       (record (run (set ws h v) (record w { at22 = c; at23 = c - 10 }) 0 0 rest) { counter = m + 2 })
@@ -111,9 +119,14 @@ module _ (f : Frame 24 0) (behind : 56 ≤ f.base) (h m multiplier : ℕ) (sandw
 
   link_kept : (n : ℕ) (ds : List ℕ) (w : Work) → (worked n ds w).at19 ≡ w.at19
   link_kept n [] w = refl
-  link_kept n (d ∷ ds) w = link_kept (10 * n + d) ds (record w { at21 = (10 * n + d) % 2 ^ 17; at22 = d; at23 = (2 * n) % 2 ^ 17 })
+  link_kept n (d ∷ ds) w = link_kept (10 * n + d) ds (record w {
+    at21 = (10 * n + d) % 2 ^ 17;
+    at22 = d;
+    at23 = (2 * n) % 2 ^ 17;
+  })
 
-  value_kept : (n : ℕ) (ds : List ℕ) (w : Work) → w.at21 ≡ n % 2 ^ 17 → (worked n ds w).at21 ≡ value_behind n ds % 2 ^ 17
+  value_kept : (n : ℕ) (ds : List ℕ) (w : Work) → w.at21 ≡ n % 2 ^ 17
+      → (worked n ds w).at21 ≡ value_behind n ds % 2 ^ 17
   value_kept n [] w e = e
   value_kept n (d ∷ ds) w e =
       value_kept (10 * n + d) ds (record w { at21 = (10 * n + d) % 2 ^ 17; at22 = d; at23 = (2 * n) % 2 ^ 17 }) refl
@@ -122,7 +135,8 @@ module _ (f : Frame 24 0) (behind : 56 ≤ f.base) (h m multiplier : ℕ) (sandw
   abbrev pub last_work : List ℕ → ℕ → Work → Work
   last_work ds c w = record (worked 0 ds (opened_work w)) { at22 = c; at23 = c - 10 }
 
-  pub whole : (ws : List ℕ) (w : Work) (ds : List ℕ) (c : ℕ) (rest : List ℕ) → length ws ≡ 1024 → get_or ws 3 0 ≡ 28676 → m + 3 ≤ f.top
+  pub whole : (ws : List ℕ) (w : Work) (ds : List ℕ) (c : ℕ) (rest : List ℕ) → length ws ≡ 1024
+      → get_or ws 3 0 ≡ 28676 → m + 3 ≤ f.top
       → Digits ds → 10 ≤ c → c < 32 → IsOutside f ws h
       → Path f (11 + 13 * length ds) (run ws w (114688 + 2 * m) 0 (ds ++ c ∷ rest)) []
       (record (run (set ws h (value ds % 2 ^ 17)) (last_work ds c w) 0 0 rest) { counter = m + 2 })
@@ -135,6 +149,9 @@ module _ (f : Frame 24 0) (behind : 56 ≤ f.base) (h m multiplier : ℕ) (sandw
       (omega arith) end code away room)))
 
   -- the tape that ends
-  pub until_end : (ws : List ℕ) (w : Work) (ds : List ℕ) → length ws ≡ 1024 → get_or ws 3 0 ≡ 28676 → m + 3 ≤ f.top → Digits ds
-      → Path f (3 + 13 * length ds) (run ws w (114688 + 2 * m) 0 (ds ++ [])) [] (run ws (worked 0 ds (opened_work w)) 0 3 [])
-  until_end ws w ds all at3 room ok = followed (opened ws w (ds ++ []) all at3 room) (digits ws 0 (opened_work w) ds [] ok refl)
+  pub until_end : (ws : List ℕ) (w : Work) (ds : List ℕ) → length ws ≡ 1024 → get_or ws 3 0 ≡ 28676 → m + 3 ≤ f.top
+      → Digits ds
+      → Path f (3 + 13 * length ds) (run ws w (114688 + 2 * m) 0 (ds ++ [])) []
+      (run ws (worked 0 ds (opened_work w)) 0 3 [])
+  until_end ws w ds all at3 room ok =
+      followed (opened ws w (ds ++ []) all at3 room) (digits ws 0 (opened_work w) ds [] ok refl)

@@ -1,5 +1,6 @@
 -- `read` from the library's table to what it does.
-use Rattle.std.proofs.Common.{◌≡◌, ◌≢◌, inl, inr, ℕ, ◌+◌, ◌*◌, ◌%◌, ◌^◌, ◌<◌, ◌≤◌, refl, sym, ap, ◌∙◌, subst, arith, true, false, Bool}
+use Rattle.std.proofs.Common.{◌≡◌, ◌≢◌, inl, inr, ℕ, ◌+◌, ◌*◌, ◌%◌, ◌^◌, ◌<◌, ◌≤◌}
+use Rattle.std.proofs.Common.{refl, sym, ap, ◌∙◌, subst, arith, true, false, Bool}
 use Rattle.std.proofs.Common.{List, [], ◌∷◌, ◌++◌, get_or, set, length, length-append, append-nil, drop, nat_lt}
 use Rattle.std.proofs.lemmas.List.{get_or-set_same, get_or-set_other, length-set}
 use Rattle.ed_words.proofs.Numbers.{lt_of, not_lt_of}
@@ -22,7 +23,8 @@ use Rattle.ed_routines.specs.Standing.{Stands, IsOutside, caller}
 use Rattle.ed_routines.specs.Digits.{value, digit_rows, after_digits}
 use Rattle.ed_routines.specs.Returns.{HasRead, IsOther, KeepsBut, Waits}
 use Rattle.ed_routines.proofs.Called.{IsWithin, image, holds, kept, near_h, h_is, beside, length-patched}
-use Rattle.ed_routines.proofs.Read.{Work, Digits, none, more, cells, run, whole, until_end, worked, opened_work, last_work}
+use Rattle.ed_routines.proofs.Read.{Work, Digits, none, more, cells, run, whole}
+use Rattle.ed_routines.proofs.Read.{until_end, worked, opened_work, last_work}
 
 -- a tape is its digit rows and the rows behind them
 pub split : (rows : List ℕ) → rows ≡ digit_rows rows ++ after_digits rows
@@ -83,12 +85,16 @@ has_ending rows other = by_rows (after_digits rows) refl
   where
     by_rows : (a : List ℕ) → after_digits rows ≡ a → a ≡ get_or rows (length (digit_rows rows)) 0 ∷ drop 1 a
     by_rows [] e =
-        absurd (other (sym (ap length (split rows) ∙ ap (λ x. length (digit_rows rows ++ x)) e ∙ ap length (append-nil (digit_rows rows)))))
+        absurd (other (sym (ap length (split rows) ∙ ap (λ x. length (digit_rows rows ++ x)) e
+        ∙ ap length (append-nil (digit_rows rows)))))
     by_rows (c ∷ rest) e =
-        let there : get_or (digit_rows rows ++ c ∷ rest) (length (digit_rows rows)) 0 ≡ c = get_or-length (digit_rows rows) c rest in
-        ap (λ x. x ∷ rest) (sym (ap (λ x. get_or x (length (digit_rows rows)) 0) (split rows ∙ ap (λ x. digit_rows rows ++ x) e) ∙ there))
+        let there : get_or (digit_rows rows ++ c ∷ rest) (length (digit_rows rows)) 0 ≡ c =
+        get_or-length (digit_rows rows) c rest in
+        ap (λ x. x ∷ rest) (sym (ap (λ x. get_or x (length (digit_rows rows)) 0)
+        (split rows ∙ ap (λ x. digit_rows rows ++ x) e) ∙ there))
 
-module _ (b h top : ℕ) (s : State) (all : length s.store.words ≡ 1024) (o : Stands read (with_h h) b s) (out : IsOutside read b h s)
+module _ (b h top : ℕ) (s : State) (all : length s.store.words ≡ 1024) (o : Stands read (with_h h) b s)
+    (out : IsOutside read b h s)
     (within : IsWithin 24 b h top s) where
   abbrev f : Frame 24 0
   f = record { size = s.size; base = b; top = top; under = within.under; fits = within.fits }
@@ -113,7 +119,8 @@ module _ (b h top : ℕ) (s : State) (all : length s.store.words ≡ 1024) (o : 
   abbrev at : List ℕ → Work → ℕ → ℕ → List ℕ → Moment
   at ws w acc place rows = run f o.low h (caller s) s.multiplier s.store.sandwich s.last ws w acc place rows
 
-  begins : (rows : List ℕ) → s.tape ≡ rows → state f (at s.store.words first (114688 + 2 * caller s) 0 rows) s.orders ≡ s
+  begins : (rows : List ℕ) → s.tape ≡ rows
+      → state f (at s.store.words first (114688 + 2 * caller s) 0 rows) s.orders ≡ s
   begins rows tape =
       let size = most s.size in
       let fits = o.fits in
@@ -137,7 +144,8 @@ module _ (b h top : ℕ) (s : State) (all : length s.store.words ≡ 1024) (o : 
   stays : (v : ℕ) (w : Work) (i : ℕ) → i ≢ h → IsOther read b i
       → get_or (patched 0 (set s.store.words h v) b (cells b h w)) i 0 ≡ get_or s.store.words i 0
   stays v w i other free =
-      kept read b (h ∷ []) (set s.store.words h v) (cells b h w) refl refl still i free ∙ get_or-set_other s.store.words h i v 0 other
+      kept read b (h ∷ []) (set s.store.words h v) (cells b h w) refl refl still i free
+      ∙ get_or-set_other s.store.words h i v 0 other
     where
       apart : (j : ℕ) → j < 24 → b + j ≢ h
       apart j l e = elim out.beside [ inl x ↦ absurd (omega arith) | inr y ↦ absurd (omega arith) ]
@@ -147,7 +155,8 @@ module _ (b h top : ℕ) (s : State) (all : length s.store.words ≡ 1024) (o : 
 
   -- the word at h is none of the routine's
   at_h : (ws : List ℕ) (w : Work) → get_or (patched 0 ws b (cells b h w)) h 0 ≡ get_or ws h 0
-  at_h ws w = elim out.beside [ inl l ↦ get_below 0 ws b (cells b h w) h l | inr g ↦ get_above 0 ws b (cells b h w) h g ]
+  at_h ws w = elim out.beside
+      [ inl l ↦ get_below 0 ws b (cells b h w) h l | inr g ↦ get_above 0 ws b (cells b h w) h g ]
 
   away : IsBeside f s.store.words h
   away = record { below = within.near; beside = beside 24 b h s all out.beside o.fits }
@@ -168,7 +177,8 @@ module _ (b h top : ℕ) (s : State) (all : length s.store.words ≡ 1024) (o : 
 
     path : Path f (11 + 13 * length ds) (at s.store.words first (114688 + 2 * caller s) 0 (ds ++ c ∷ rest)) [] end
     path =
-        whole f o.low h (caller s) s.multiplier s.store.sandwich s.last s.store.words first ds c rest all o.at3 within.back
+        whole f o.low h (caller s) s.multiplier s.store.sandwich s.last s.store.words first ds c rest all o.at3
+        within.back
         (are_digits s.tape) (is_ending s.tape c rest e) code away
 
     abbrev pub last : State
@@ -184,18 +194,21 @@ module _ (b h top : ℕ) (s : State) (all : length s.store.words ≡ 1024) (o : 
     all_last =
         let size = most s.size in
         let fits = o.fits in
-        length-patched 0 written b (cells b h left) (let e = length-set s.store.words h (value ds % 2 ^ 17) in omega (arith, e, all, fits))
+        length-patched 0 written b (cells b h left)
+        (let e = length-set s.store.words h (value ds % 2 ^ 17) in omega (arith, e, all, fits))
         ∙ length-set s.store.words h (value ds % 2 ^ 17)
         ∙ all
 
     -- so many orders read the rows and lead behind the call
     pub leads_to : Leads (11 + 13 * length ds) s [] last
-    leads_to = subst (λ x. Leads (11 + 13 * length ds) x [] last) (begins (ds ++ c ∷ rest) rows_are) (leads path s.orders)
+    leads_to = subst (λ x. Leads (11 + 13 * length ds) x [] last) (begins (ds ++ c ∷ rest) rows_are)
+        (leads path s.orders)
 
     -- what holds of every order that keeps below the place holds before each of them
     pub keeps_below : (P : State → Type 0) → ((kind : Kind) (x : State) → IsOrder top kind x → P x) → (j : ℕ)
         → j < 11 + 13 * length ds → P (state_after j s)
-    keeps_below P is j l = subst (λ x. P (state_after j x)) (begins (ds ++ c ∷ rest) rows_are) (each P is path s.orders j l)
+    keeps_below P is j l = subst (λ x. P (state_after j x)) (begins (ds ++ c ∷ rest) rows_are)
+        (each P is path s.orders j l)
 
     module _ (t : State) (is : t ≡ last) where
       pub has_read : HasRead h s t
@@ -239,11 +252,13 @@ module _ (b h top : ℕ) (s : State) (all : length s.store.words ≡ 1024) (o : 
 
     -- so many orders read the rows and lead to the order that waits for one more
     pub leads_to_end : Leads (3 + 13 * length ds) s [] waiting
-    leads_to_end = subst (λ x. Leads (3 + 13 * length ds) x [] waiting) (begins (ds ++ []) rows_are_all) (leads path_to_end s.orders)
+    leads_to_end = subst (λ x. Leads (3 + 13 * length ds) x [] waiting) (begins (ds ++ []) rows_are_all)
+        (leads path_to_end s.orders)
 
     pub keeps_below_to_end : (P : State → Type 0) → ((kind : Kind) (x : State) → IsOrder top kind x → P x) → (j : ℕ)
         → j < 3 + 13 * length ds → P (state_after j s)
-    keeps_below_to_end P is j l = subst (λ x. P (state_after j x)) (begins (ds ++ []) rows_are_all) (each P is path_to_end s.orders j l)
+    keeps_below_to_end P is j l =
+        subst (λ x. P (state_after j x)) (begins (ds ++ []) rows_are_all) (each P is path_to_end s.orders j l)
 
     blocked : (step waiting).turn ≡ NoTape
     blocked =

@@ -1,5 +1,6 @@
 -- A run whose limit is the number of orders that a path has.
-use Rattle.std.proofs.Common.{◌≡◌, ℕ, zero, suc, ◌+◌, ◌-◌, ◌<◌, ◌≤◌, refl, sym, ap, ◌∙◌, arith, true, true≢false, List, ◌++◌, length}
+use Rattle.std.proofs.Common.{◌≡◌, ℕ, zero, suc, ◌+◌, ◌-◌, ◌<◌, ◌≤◌, refl, sym, ap}
+use Rattle.std.proofs.Common.{◌∙◌, arith, true, true≢false, List, ◌++◌, length}
 use Rattle.ed_machine.specs.State.{State}
 use Rattle.ed_machine.specs.OrderTable.{step}
 use Rattle.ed_machine.specs.Steps.{IsFree, past, state_after, stops_of, is_obeyed}
@@ -32,7 +33,8 @@ pub free : {k : ℕ} {s t : State} {codes : List ℕ} → Leads k s codes t → 
 free o j l = obeyed_of _ (o.goes j l)
 
 -- and none of them stops the machine
-pub no_stops : (k : ℕ) (s : State) → ((j : ℕ) → j < k → goes_on (step (state_after j s)).turn ≡ true) → (past k s).stops ≡ 0
+pub no_stops : (k : ℕ) (s : State) → ((j : ℕ) → j < k → goes_on (step (state_after j s)).turn ≡ true)
+    → (past k s).stops ≡ 0
 unfolding past
 no_stops zero s goes = refl
 no_stops (suc k) s goes =
@@ -46,10 +48,12 @@ pub record Ran (s t : State) (sheet full : Sheet) (codes : List ℕ) : Type 0 wh
   pub sheet_is : full ≡ record { codes = sheet.codes ++ codes; room = sheet.room }
 
 pub ran : (k : ℕ) (s t last : State) (sheet full : Sheet) (codes : List ℕ) (ending : Ending) → Leads k s codes t
-    → length sheet.codes + length codes ≤ sheet.room → IsRun k 0 s sheet ending last full → Ran (state_after k s) last sheet full codes
+    → length sheet.codes + length codes ≤ sheet.room → IsRun k 0 s sheet ending last full
+    → Ran (state_after k s) last sheet full codes
 ran k s t last sheet full codes ending o room r =
     let stops = no_stops k s o.goes in
-    let few : length (past k s).codes ≤ sheet.room - length sheet.codes = let e = ap length o.codes_are in omega (arith, e) in
+    let few : length (past k s).codes ≤ sheet.room - length sheet.codes = let e = ap length o.codes_are
+    in omega (arith, e) in
     let has : HasRoom (sheet.room - length sheet.codes) k s = record { obeyed = free o; printed = few } in
     let one = ends_once k 0 (sheet.room - length sheet.codes) s _ _ _ _ r.ends
     (at_limit k 0 (sheet.room - length sheet.codes) s has (omega (arith, stops))) in

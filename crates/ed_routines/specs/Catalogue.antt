@@ -6,12 +6,15 @@ use Rattle.ed_library.specs.Routines.{find}
 abbrev pub named : List ℕ → ℕ
 named name = unwrap_or (find name) 0
 
+-- the routine `newline`
 abbrev pub newline : ℕ
 newline = named (codes "newline")
 
+-- the routine `print`
 abbrev pub print : ℕ
 print = named (codes "print")
 
+-- the routine `read`
 abbrev pub read : ℕ
 read = named (codes "read")
 

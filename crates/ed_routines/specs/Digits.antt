@@ -1,5 +1,6 @@
 -- Decimal digits: how `print` spells a number below 65536, and what `read` makes of digits (this project's own rule).
-use Rattle.std.specs.Prelude.{◌≡◌, ℕ, zero, suc, ◌+◌, ◌*◌, ◌/◌, ◌%◌, ◌<◌, nat_lt, List, [], ◌∷◌, ◌++◌, length, map, if◌then◌else◌}
+use Rattle.std.specs.Prelude.{◌≡◌, ℕ, zero, suc, ◌+◌, ◌*◌, ◌/◌, ◌%◌, ◌<◌, nat_lt}
+use Rattle.std.specs.Prelude.{List, [], ◌∷◌, ◌++◌, length, map, if◌then◌else◌}
 use Rattle.std.specs.Fmt.{decimal}
 
 -- the number that digits spell behind a number, the first one first
@@ -7,6 +8,7 @@ abbrev pub value_behind : ℕ → List ℕ → ℕ
 value_behind n [] = n
 value_behind n (d ∷ ds) = value_behind (10 * n + d) ds
 
+-- the number that digits spell
 abbrev pub value : List ℕ → ℕ
 value ds = value_behind 0 ds
 
@@ -24,6 +26,7 @@ before_units n = without_zeros (n / 10000 ∷ n / 1000 % 10 ∷ n / 100 % 10 ∷
 abbrev pub digits : ℕ → List ℕ
 digits n = before_units n ++ n % 10 ∷ []
 
+-- the sum of digits
 abbrev pub sum : List ℕ → ℕ
 sum [] = 0
 sum (d ∷ ds) = d + sum ds
@@ -37,14 +40,16 @@ pub record DigitsSpell (n : ℕ) : Type 0 where
   pub value_is : value (digits n) ≡ n
   pub written : map (λ d. 48 + d) (digits n) ≡ decimal n
 
+-- so it is of every number below 65536
 abbrev pub DigitsLaw : Type 0
 DigitsLaw = (n : ℕ) → n < 65536 → DigitsSpell n
 
--- the digit rows with which a tape begins, and what is left behind them
+-- the digit rows with which a tape begins
 abbrev pub digit_rows : List ℕ → List ℕ
 digit_rows [] = []
 digit_rows (row ∷ rows) = if nat_lt row 10 then row ∷ digit_rows rows else []
 
+-- what is left of the tape behind them
 abbrev pub after_digits : List ℕ → List ℕ
 after_digits [] = []
 after_digits (row ∷ rows) = if nat_lt row 10 then after_digits rows else row ∷ rows

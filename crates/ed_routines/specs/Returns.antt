@@ -24,8 +24,8 @@ pub record IsAfter (count : ℕ) (s t : State) : Type 0 where
   pub state_is : t ≡ state_after count s
   pub free : IsFree count s
 
--- the routine has returned: the counter is behind the call, the accumulator is clear, and all else but the words is as it
--- was, the rows left and the last printed code being those given
+-- the routine has returned: the counter is behind the call, the accumulator is clear, and all else but the words is
+-- as it was, the rows left and the last printed code being those given
 abbrev pub Returned : ℕ → List ℕ → Option ℕ → State → State → Type 0
 Returned count rows last s t =
     t
@@ -43,9 +43,11 @@ abbrev pub read_by : List ℕ → ℕ → ℕ → ReadBack
 read_by [] k at = NoTape (3 + 13 * k)
 read_by (row ∷ rows) k at = Back at (11 + 13 * k)
 
+-- how `read` ends
 abbrev pub read_back : State → ReadBack
 read_back s = read_by (after_digits s.tape) (length (digit_rows s.tape)) (caller s + 2)
 
+-- the orders that it takes
 abbrev pub orders_of : ReadBack → ℕ
 orders_of (Back at orders) = orders
 orders_of (NoTape orders) = orders

@@ -20,6 +20,7 @@ pub record IsCall (s : State) : Type 0 where
 pub record HasWord (r : ℕ) (parameters : List ℕ) (base : ℕ) (s : State) (i : ℕ) : Type 0 where
   pub has : is_working r i ≡ false → short_at s.store (base + i) ≡ image_word r i base parameters
 
+-- a routine stands at a base, called: its words, the constants at 2 and 3, the counter, and the call in the accumulator
 pub record Stands (r : ℕ) (parameters : List ℕ) (base : ℕ) (s : State) : Type 0 where
   pub low : 56 ≤ base
   pub fits : base + places r ≤ locations s.size

@@ -29,8 +29,8 @@ pub fn new_line(machine: &mut Machine, base: u16, paper: &mut Paper) -> Back
     Back { at, orders: 5 }
 }
 
-/// Runs `print`, which stands at `base` with H = 2h: it prints a figure shift and the decimal digits of the word at `h`,
-/// which is below 65536.
+/// Runs `print`, which stands at `base` with H = 2h: it prints a figure shift and the decimal digits of the word at
+/// `h`, which is below 65536.
 pub fn print_integer(machine: &mut Machine, base: u16, h: u16, paper: &mut Paper) -> Back
     requires stands { Stands print (with_h h) base machine.old }
     requires outside { IsOutside print base h machine.old }
@@ -41,9 +41,11 @@ pub fn print_integer(machine: &mut Machine, base: u16, h: u16, paper: &mut Paper
     ensures orders { result.orders ≡ print_orders (short_at machine.old.store h) }
     ensures few { result.orders ≤ 350 }
     ensures after { IsAfter result.orders machine.old machine.new }
-    ensures returned { Returned result.orders machine.old.tape (Some (short_at machine.old.store h % 10)) machine.old machine.new }
+    ensures returned { Returned result.orders machine.old.tape (Some (short_at machine.old.store h % 10)) machine.old
+        machine.new }
     ensures words { Keeps print base machine.old machine.new }
-    ensures printed { paper.new ≡ record paper.old { codes = paper.old.codes ++ 11 ∷ digits (short_at machine.old.store h) } }
+    ensures printed { paper.new
+        ≡ record paper.old { codes = paper.old.codes ++ 11 ∷ digits (short_at machine.old.store h) } }
     ensures law { DigitsLaw }
 {
     let at = way_back(machine);

@@ -25,8 +25,8 @@ pub enum ReadBack {
     },
 }
 
-/// Runs `read`, which stands at `base` with H = 2h: it reads rows to the first one with a code of 10 or more, and puts the
-/// number of the digits, modulo 2^17, at `h`.
+/// Runs `read`, which stands at `base` with H = 2h: it reads rows to the first one with a code of 10 or more, and
+/// puts the number of the digits, modulo 2^17, at `h`.
 pub fn read_integer(machine: &mut Machine, base: u16, h: u16) -> ReadBack
     requires stands { Stands read (with_h h) base machine.old }
     requires outside { IsOutside read base h machine.old }

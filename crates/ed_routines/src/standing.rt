@@ -9,8 +9,8 @@ use ed_machine::Machine;
 
 /// Whether a routine stands at a base and is called from a place m.
 ///
-/// The counter is the base, each place but the working ones holds its word, 2 and 3 hold 2 and 28676, and the accumulator
-/// holds the order A m F and nothing else, where m + 2 is below the size.
+/// The counter is the base, each place but the working ones holds its word, 2 and 3 hold 2 and 28676, and the
+/// accumulator holds the order A m F and nothing else, where m + 2 is below the size.
 pub fn stands(machine: &Machine, routine: &Routine, base: u16, parameters: &Parameters) -> bool
     requires low { 56 ≤ base }
     requires fits { base + places routine.now ≤ locations machine.now.size }
@@ -35,7 +35,8 @@ fn is_call(machine: &Machine) -> bool
 /// Whether each place of the routine but its working places holds its word.
 pub fn has_image(machine: &Machine, routine: &Routine, base: u16, parameters: &Parameters) -> bool
     requires { base + places routine.now ≤ locations machine.now.size }
-    ensures { IsTrue result ↔ ((i : ℕ) → i < places routine.now → HasWord routine.now parameters.now base machine.now i) }
+    ensures { IsTrue result ↔ ((i : ℕ) → i < places routine.now
+        → HasWord routine.now parameters.now base machine.now i) }
 {
     for place in 0..routine.length() {
         if !has_word(machine, routine, base, place, parameters) {

@@ -1,5 +1,6 @@
 -- A run ends at the least number of orders at which an end holds, and nowhere else.
-use Rattle.std.proofs.Common.{◌≡◌, inl, inr, ℕ, ◌-◌, refl, sym, ap, ◌∙◌, arith, Bool, true, false, true≢false, nat_eq, nat_lt, Option, Some, None, is_some, unwrap_or, length}
+use Rattle.std.proofs.Common.{◌≡◌, inl, inr, ℕ, ◌-◌, refl, sym, ap, ◌∙◌, arith, Bool, true, false}
+use Rattle.std.proofs.Common.{true≢false, nat_eq, nat_lt, Option, Some, None, is_some, unwrap_or, length}
 use Rattle.std.proofs.lemmas.Bool.{cases_lt}
 use Rattle.std.proofs.lemmas.Bool.Decides.{nat_tests}
 use Rattle.ed_machine.specs.State.{State}
@@ -66,7 +67,8 @@ ends_once limit resumes room s j k d e g h =
 
 -- what a run leaves is the function's
 pub run_left : (limit resumes : ℕ) (s : State) (sheet : Sheet) (ending : Ending) (last : State) (full : Sheet)
-    → IsRun limit resumes s sheet ending last full → IsLeft (ran limit resumes (sheet.room - length sheet.codes) s) sheet ending last full
+    → IsRun limit resumes s sheet ending last full
+    → IsLeft (ran limit resumes (sheet.room - length sheet.codes) s) sheet ending last full
 unfolding ran
 run_left limit resumes s sheet ending last full r =
     let room = sheet.room - length sheet.codes in

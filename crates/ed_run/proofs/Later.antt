@@ -1,5 +1,6 @@
 -- A run whose first orders neither print nor stop is the run from the state that they lead to.
-use Rattle.std.proofs.Common.{◌≡◌, ℕ, zero, suc, ◌+◌, ◌-◌, ◌<◌, ◌≤◌, refl, sym, ap, ◌∙◌, arith, Bool, false, nat_eq, nat_lt}
+use Rattle.std.proofs.Common.{◌≡◌, ℕ, zero, suc, ◌+◌, ◌-◌, ◌<◌, ◌≤◌, refl, sym}
+use Rattle.std.proofs.Common.{ap, ◌∙◌, arith, Bool, false, nat_eq, nat_lt}
 use Rattle.std.proofs.Common.{is_some, unwrap_or, []}
 use Rattle.std.proofs.lemmas.Bool.Decides.{nat_tests}
 use Rattle.ed_machine.specs.State.{State}
@@ -27,7 +28,8 @@ quiet_past (suc k) s h =
 past_on : (j k : ℕ) (s : State) → AllWent k s → past (k + j) s ≡ past j (state_after k s)
 unfolding past
 past_on zero k s h = let e : k + 0 ≡ k = omega arith in ap (λ x. past x s) e ∙ quiet_past k s h
-past_on (suc j) k s h = let e : k + suc j ≡ suc (k + j) = omega arith in ap (λ x. past x s) e ∙ ap next_past (past_on j k s h)
+past_on (suc j) k s h = let e : k + suc j ≡ suc (k + j) = omega arith in ap (λ x. past x s) e
+    ∙ ap next_past (past_on j k s h)
 
 eq_shift : (k j limit : ℕ) → k ≤ limit → nat_eq (k + j) limit ≡ nat_eq j (limit - k)
 eq_shift k j limit h = grind (arith, nat_tests)
@@ -44,7 +46,8 @@ ran_later limit resumes room k s h fits =
     let test : ℕ → Bool = λ j. is_some (end_at limit resumes room j (past j s)) in
     let later : ℕ → Bool = λ j. is_some (end_at (limit - k) resumes room j (past j t)) in
     let same = λ (j : ℕ). past_on j k s h in
-    let at : (j : ℕ) → end_at limit resumes room (k + j) (past (k + j) s) ≡ end_at (limit - k) resumes room j (past j t) =
+    let at : (j : ℕ) → end_at limit resumes room (k + j) (past (k + j) s)
+    ≡ end_at (limit - k) resumes room j (past j t) =
     λ j. rw (same j, eq_shift k j limit fits) refl in
     let none : (j : ℕ) → j < k → test j ≡ false = λ j l.
     let went = h j l in

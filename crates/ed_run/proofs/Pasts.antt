@@ -1,5 +1,7 @@
 -- One more order of a run.
-use Rattle.std.proofs.Common.{◌≡◌, ℕ, ◌+◌, ◌-◌, ◌<◌, ◌≤◌, ◌++◌, refl, sym, ap, ◌∙◌, arith, add-one, below_more, Bool, true, false, nat_le, Option, None, [], ◌∷◌, length, append_assoc, append-nil, length-append, ◌⊎◌, inl, inr}
+use Rattle.std.proofs.Common.{◌≡◌, ℕ, ◌+◌, ◌-◌, ◌<◌, ◌≤◌, ◌++◌, refl, sym, ap, ◌∙◌, arith}
+use Rattle.std.proofs.Common.{add-one, below_more, Bool, true, false, nat_le, Option, None, []}
+use Rattle.std.proofs.Common.{◌∷◌, length, append_assoc, append-nil, length-append, ◌⊎◌, inl, inr}
 use Rattle.std.proofs.lemmas.Bool.Decides.{nat_tests}
 use Rattle.ed_words.proofs.Numbers.{lt_true, lt_false, eq_false}
 use Rattle.ed_machine.specs.State.{State}
@@ -24,19 +26,24 @@ by_next limit resumes room k p within below =
     let a = lt_false resumes p.stops within in let b = eq_false k limit (omega arith) in rw (a, b) refl
 
 -- what one order of the program did: the turn, the state and the paper after it, and the stops counted
-pub record Took (m : State) (paper : Sheet) (stops : ℕ) (turn : Turn) (m' : State) (paper' : Sheet) (stops' : ℕ) : Type 0 where
+pub record Took (m : State) (paper : Sheet) (stops : ℕ) (turn : Turn) (m' : State) (paper' : Sheet) (stops' : ℕ) :
+    Type 0 where
   pub turn_is : (step m).turn ≡ turn
   pub state_is : m' ≡ (step m).state
   pub paper_is : paper' ≡ record { codes = paper.codes ++ codes_of turn; room = paper.room }
   pub stops_are : stops' ≡ stops + stops_of turn
 
 -- an order that prints nothing did so
-pub silent : {m m' : State} {paper paper' : Sheet} {stops stops' : ℕ} {turn : Turn} → (step m).turn ≡ turn → m' ≡ (step m).state
+pub silent : {m m' : State} {paper paper' : Sheet} {stops stops' : ℕ} {turn : Turn} → (step m).turn ≡ turn
+    → m' ≡ (step m).state
     → paper' ≡ paper → codes_of turn ≡ [] → stops' ≡ stops + stops_of turn → Took m paper stops turn m' paper' stops'
 silent {paper = paper} {turn = turn} turn_is state_is same none counted = record {
   turn_is = turn_is;
   state_is = state_is;
-  paper_is = same ∙ (λ i. record { codes = (sym (append-nil paper.codes) ∙ ap (λ cs. paper.codes ++ cs) (sym none)) i; room = paper.room });
+  paper_is = same ∙ (λ i. record {
+    codes = (sym (append-nil paper.codes) ∙ ap (λ cs. paper.codes ++ cs) (sym none)) i;
+    room = paper.room;
+  });
   stops_are = counted;
 }
 
@@ -82,7 +89,8 @@ module _ (limit resumes : ℕ) (s : State) (sheet : Sheet) where
       ∙ ap (λ (x : Sheet). x.codes ++ codes_of turn) r.codes
       ∙ append_assoc sheet.codes p.codes (codes_of turn)
       ∙ ap (λ (u : Turn). sheet.codes ++ (p.codes ++ codes_of u)) (sym turn_is) in
-      let room : paper'.room ≡ sheet.room = ap (λ (x : Sheet). x.room) t.paper_is ∙ ap (λ (x : Sheet). x.room) r.codes in
+      let room : paper'.room ≡ sheet.room = ap (λ (x : Sheet). x.room) t.paper_is
+      ∙ ap (λ (x : Sheet). x.room) r.codes in
       rw (past_next k s) (
         t.state_is ∙ ap (λ (x : State). (step x).state) r.state,
         (λ i. record { codes = whole i; room = room i }),
@@ -106,7 +114,8 @@ module _ (limit resumes : ℕ) (s : State) (sheet : Sheet) where
       → end_after k ≡ end_by (step m).turn (is_full paper)
   next_end {k} {m} {paper} {stops} r below =
       by_next limit resumes (sheet.room - length sheet.codes) k (past k s) (omega (arith, r.stops_are, r.within)) below
-      ∙ ap (λ (x : State). end_by (step x).turn (nat_le (sheet.room - length sheet.codes) (length (past k s).codes))) (sym r.state)
+      ∙ ap (λ (x : State). end_by (step x).turn (nat_le (sheet.room - length sheet.codes) (length (past k s).codes)))
+      (sym r.state)
       ∙ ap (λ b. end_by (step m).turn b) (full_is r)
 
   -- no end comes up to an order that does not end the run
@@ -123,7 +132,8 @@ module _ (limit resumes : ℕ) (s : State) (sheet : Sheet) where
       record { state = now.0; codes = now.1; stops_are = now.2; within = within; first = first_after r below free }
 
   -- the run ends with a stop for which no resume is left
-  pub ends_with_stop : {k : ℕ} {m m' : State} {paper paper' : Sheet} {stops stops' : ℕ} → Running k m paper stops → k < limit
+  pub ends_with_stop : {k : ℕ} {m m' : State} {paper paper' : Sheet} {stops stops' : ℕ} → Running k m paper stops
+      → k < limit
       → Took m paper stops Stops m' paper' stops' → resumes < stops' → IsRun limit resumes s sheet Stopped m' paper'
   ends_with_stop {k} {m} {m'} {paper} {paper'} {stops} {stops'} r below t many =
       let now = taken r t in
@@ -137,7 +147,8 @@ module _ (limit resumes : ℕ) (s : State) (sheet : Sheet) where
       }
 
 -- an order that was obeyed ends no run where the paper has room or nothing is printed
-pub none_ends : (turn : Turn) (full : Bool) → is_obeyed turn ≡ true → (full ≡ false) ⊎ (prints turn ≡ false) → end_by turn full ≡ None
+pub none_ends : (turn : Turn) (full : Bool) → is_obeyed turn ≡ true → (full ≡ false) ⊎ (prints turn ≡ false)
+    → end_by turn full ≡ None
 none_ends Went full obeyed either = refl
 none_ends Stops full obeyed either = refl
 none_ends (Printed code) full obeyed (inl room) = rw room refl
@@ -150,4 +161,5 @@ pub pushed : (done : Bool) (old new : Sheet) (code : ℕ)
     → (done ≡ false → old.room ≤ length old.codes) → OnTrue done (new ≡ record old { codes = old.codes ++ code ∷ [] })
     → nat_le old.room (length old.codes) ≡ false → new ≡ record { codes = old.codes ++ code ∷ []; room = old.room }
 pushed true old new code full added room = added
-pushed false old new code full added room = let h : old.room ≤ length old.codes = full refl in absurd (grind (arith, nat_tests))
+pushed false old new code full added room = let h : old.room ≤ length old.codes =
+    full refl in absurd (grind (arith, nat_tests))

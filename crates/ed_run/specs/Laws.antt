@@ -17,9 +17,9 @@ pub record HasRoom (room k : ℕ) (s : State) : Type 0 where
   pub obeyed : IsFree k s
   pub printed : length (past k s).codes ≤ room
 
--- Every run has one ending, at one number of orders. It is at the limit where all orders up to it are obeyed, at the order
--- that can't be obeyed where it comes first, and at the stop for which no resume is left. A run whose first orders neither
--- print nor stop is the run from the state that they lead to, with as many orders less.
+-- Every run has one ending, at one number of orders. It is at the limit where all orders up to it are obeyed, at the
+-- order that can't be obeyed where it comes first, and at the stop for which no resume is left. A run whose first
+-- orders neither print nor stop is the run from the state that they lead to, with as many orders less.
 pub record RunLaw : Type 0 where
   pub ends : (limit resumes room : ℕ) (s : State)
       → EndsAfter limit resumes room s (run_orders limit resumes room s) (ran limit resumes room s).ending
@@ -27,9 +27,12 @@ pub record RunLaw : Type 0 where
       → EndsAfter limit resumes room s j d → EndsAfter limit resumes room s k e → (j ≡ k) × (d ≡ e)
   pub at_limit : (limit resumes room : ℕ) (s : State) → HasRoom room limit s → (past limit s).stops ≤ resumes
       → EndsAfter limit resumes room s limit Limit
-  pub at_block : (limit resumes room k : ℕ) (s : State) (e : Ending) → HasRoom room k s → (past k s).stops ≤ resumes → k < limit
-      → end_by (step (state_after k s)).turn (nat_le room (length (past k s).codes)) ≡ Some e → EndsAfter limit resumes room s k e
-  pub at_stop : (limit resumes room j : ℕ) (s : State) → HasRoom room (suc j) s → (past j s).stops ≡ resumes → suc j ≤ limit
+  pub at_block : (limit resumes room k : ℕ) (s : State) (e : Ending) → HasRoom room k s → (past k s).stops ≤ resumes
+      → k < limit
+      → end_by (step (state_after k s)).turn (nat_le room (length (past k s).codes)) ≡ Some e
+      → EndsAfter limit resumes room s k e
+  pub at_stop : (limit resumes room j : ℕ) (s : State) → HasRoom room (suc j) s → (past j s).stops ≡ resumes
+      → suc j ≤ limit
       → (step (state_after j s)).turn ≡ Stops → EndsAfter limit resumes room s (suc j) Stopped
   pub later : (limit resumes room k : ℕ) (s : State) → AllWent k s → k ≤ limit
       → ran limit resumes room s ≡ ran (limit - k) resumes room (state_after k s)

@@ -1,12 +1,14 @@
 -- A run of the machine: where it ends, how, and what it printed (the order of the ends, the limit, the resumes and the
 -- paper are this project's own rules).
-use Rattle.std.specs.Prelude.{◌≡◌, ℕ, ◌-◌, ◌<◌, Bool, true, false, nat_eq, nat_lt, nat_le, if◌then◌else◌, Option, Some, None, is_some, unwrap_or, List, ◌++◌, length}
+use Rattle.std.specs.Prelude.{◌≡◌, ℕ, ◌-◌, ◌<◌, Bool, true, false, nat_eq, nat_lt, nat_le}
+use Rattle.std.specs.Prelude.{if◌then◌else◌, Option, Some, None, is_some, unwrap_or, List, ◌++◌, length}
 use Rattle.ed_machine.specs.State.{State}
 use Rattle.ed_machine.specs.OrderTable.{step}
 use Rattle.ed_machine.specs.Steps.{Past, least, past}
 use Rattle.ed_machine.specs.Sheet.{Sheet}
 use Rattle.ed_machine.specs.declared.turn.Turn.{Turn}
-use Rattle.ed_machine.specs.declared.turn.Turn.TheVariants.{Went, Printed, Stopped as Stops, NoOrder as IsNoOrder, NoTape as HasNoTape}
+use Rattle.ed_machine.specs.declared.turn.Turn.TheVariants.{Went, Printed, Stopped as Stops}
+use Rattle.ed_machine.specs.declared.turn.Turn.TheVariants.{NoOrder as IsNoOrder, NoTape as HasNoTape}
 use Rattle.ed_machine.specs.declared.ending.Ending.{Ending}
 use Rattle.ed_machine.specs.declared.ending.Ending.TheVariants.{Stopped, Limit, NoOrder, NoTape, PaperFull}
 
@@ -39,7 +41,8 @@ pub record EndsAfter (limit resumes room : ℕ) (s : State) (k : ℕ) (ending : 
   pub first : (j : ℕ) → j < k → end_at limit resumes room j (past j s) ≡ None
 
 -- a run from a state onto a sheet of paper: its ending, the state that it leaves, and the sheet with its codes added
-pub record IsRun (limit resumes : ℕ) (s : State) (sheet : Sheet) (ending : Ending) (last : State) (full : Sheet) : Type 0 where
+pub record IsRun (limit resumes : ℕ) (s : State) (sheet : Sheet) (ending : Ending) (last : State) (full : Sheet) :
+    Type 0 where
   pub orders : ℕ
   pub ends : EndsAfter limit resumes (sheet.room - length sheet.codes) s orders ending
   pub state_is : last ≡ (past orders s).state
@@ -59,7 +62,11 @@ pub record RunEnd : Type 0 where
 unfoldable pub ran : ℕ → ℕ → ℕ → State → RunEnd
 ran limit resumes room s =
     let k = run_orders limit resumes room s in
-    record { ending = unwrap_or (end_at limit resumes room k (past k s)) Limit; state = (past k s).state; codes = (past k s).codes }
+    record {
+      ending = unwrap_or (end_at limit resumes room k (past k s)) Limit;
+      state = (past k s).state;
+      codes = (past k s).codes;
+    }
 
 -- the ending, the state and the sheet with its codes added are those of a run
 pub record IsLeft (r : RunEnd) (sheet : Sheet) (ending : Ending) (last : State) (full : Sheet) : Type 0 where

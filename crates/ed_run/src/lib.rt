@@ -22,7 +22,8 @@ use ed_orders::{Kind, kind_of};
 pub fn run(machine: &mut Machine, limit: u64, resumes: u32, paper: &mut Paper) -> Ending
     requires { machine.old.orders + limit ≤ 2 ^ 63 }
     ensures ends { IsRun limit resumes machine.old paper.old result machine.new paper.new }
-    ensures ran { IsLeft (ran limit resumes (paper.old.room - length paper.old.codes) machine.old) paper.old result machine.new paper.new }
+    ensures ran { IsLeft (ran limit resumes (paper.old.room - length paper.old.codes) machine.old) paper.old result
+        machine.new paper.new }
     ensures law { RunLaw }
 {
     run_orders(machine, limit, resumes, paper)

@@ -1,10 +1,12 @@
 -- Words and digits of packed cells.
-use Rattle.std.proofs.Common.{◌≡◌, ℕ, zero, suc, ◌*◌, ◌/◌, ◌%◌, ◌^◌, ◌<◌, ◌≢◌, refl, sym, ap, ap₂, ◌∙◌, arith, lit<, false, nat_eq, List, [], ◌∷◌, drop, length, get_or, set}
+use Rattle.std.proofs.Common.{◌≡◌, ℕ, zero, suc, ◌*◌, ◌/◌, ◌%◌, ◌^◌, ◌<◌, ◌≢◌, refl, sym, ap, ap₂, ◌∙◌}
+use Rattle.std.proofs.Common.{arith, lit<, false, nat_eq, List, [], ◌∷◌, drop, length, get_or, set}
 use Rattle.std.specs.Prelude.{replicate}
 use Rattle.std.proofs.lemmas.Bool.Decides.{nat_tests}
 use Rattle.std.proofs.lemmas.List.{set-get_or, get_or-set_other, get_or_read, length-replicate}
 use Rattle.ed_words.specs.Words.{digit}
-use Rattle.ed_store.specs.Cells.{Cells, IsStore, cleared_cells, even, odd, short_at, sandwich_at, long_at, with_short, with_long}
+use Rattle.ed_store.specs.Cells.{Cells, IsStore, cleared_cells, even, odd, short_at}
+use Rattle.ed_store.specs.Cells.{sandwich_at, long_at, with_short, with_long}
 use Rattle.ed_store.specs.Packed.{words_of, digits_of, unpacked, ArePacked}
 
 -- two stores with the same words and digits are one
@@ -31,7 +33,8 @@ get_digit (c ∷ cs) zero = refl
 get_digit (c ∷ cs) (suc k) = get_digit cs k
 
 -- a cell written is both words of its pair and its digit written
-set_words : (cs : List ℕ) (k x : ℕ) → words_of (set cs k x) ≡ set (set (words_of cs) (2 * k) (x % 2 ^ 17)) (suc (2 * k)) (x / 2 ^ 18)
+set_words : (cs : List ℕ) (k x : ℕ)
+    → words_of (set cs k x) ≡ set (set (words_of cs) (2 * k) (x % 2 ^ 17)) (suc (2 * k)) (x / 2 ^ 18)
 set_words [] k x = refl
 set_words (c ∷ cs) zero x = refl
 set_words (c ∷ cs) (suc k) x = rw (twice k) (ap (λ ws. c % 2 ^ 17 ∷ c / 2 ^ 18 ∷ ws) (set_words cs k x))
@@ -64,7 +67,8 @@ is_store cs packed = record {
 }
 
 -- the cell that was read for a location
-pub cell_read : (cs : List ℕ) (a at x : ℕ) → ArePacked cs → a < 1024 → at ≡ a / 2 → x ≡ get_or cs at x → x ≡ get_or cs (a / 2) 0
+pub cell_read : (cs : List ℕ) (a at x : ℕ) → ArePacked cs → a < 1024 → at ≡ a / 2 → x ≡ get_or cs at x
+    → x ≡ get_or cs (a / 2) 0
 cell_read cs a at x packed fits is read =
     let here : x ≡ get_or cs (a / 2) x = read ∙ ap (λ k. get_or cs k x) is in
     get_or_read cs (a / 2) x (omega (arith, packed.many)) here 0
@@ -74,7 +78,8 @@ pub short_low : (cs : List ℕ) (a : ℕ) → a % 2 ≡ 0 → short_at (unpacked
 short_low cs a h = let e : a ≡ 2 * (a / 2) = omega arith in ap (λ i. get_or (words_of cs) i 0) e ∙ get_low cs (a / 2)
 
 pub short_high : (cs : List ℕ) (a : ℕ) → a % 2 ≢ 0 → short_at (unpacked cs) a ≡ get_or cs (a / 2) 0 / 2 ^ 18
-short_high cs a h = let e : a ≡ suc (2 * (a / 2)) = omega arith in ap (λ i. get_or (words_of cs) i 0) e ∙ get_high cs (a / 2)
+short_high cs a h = let e : a ≡ suc (2 * (a / 2)) = omega arith in ap (λ i. get_or (words_of cs) i 0) e
+    ∙ get_high cs (a / 2)
 
 -- the sandwich digit of a location's pair from its cell
 pub digit_is : (cs : List ℕ) (a : ℕ) → sandwich_at (unpacked cs) a ≡ nat_eq (get_or cs (a / 2) 0 / 2 ^ 17 % 2) 1
@@ -91,7 +96,8 @@ long_is cs a =
     let cell = get_or cs (a / 2) 0 in
     let low = ap (λ i. get_or (words_of cs) i 0) e ∙ get_low cs (a / 2) in
     let high = ap (λ i. get_or (words_of cs) i 0) o ∙ get_high cs (a / 2) in
-    let middle : digit (get_or (digits_of cs) (a / 2) false) ≡ cell / 2 ^ 17 % 2 = ap digit (get_digit cs (a / 2)) ∙ digit_number (cell / 2 ^ 17) in
+    let middle : digit (get_or (digits_of cs) (a / 2) false) ≡ cell / 2 ^ 17 % 2 = ap digit (get_digit cs (a / 2))
+    ∙ digit_number (cell / 2 ^ 17) in
     omega (arith, low, high, middle)
 
 -- cell k is the long word of the pair of 2k
@@ -103,12 +109,15 @@ pub put_long_is : (cs : List ℕ) (a x : ℕ) → unpacked (set cs (a / 2) x) �
 put_long_is cs a x =
     let e : 2 * (a / 2) ≡ even a = omega arith in
     let o : suc (2 * (a / 2)) ≡ odd a = omega arith in
-    cells_equal _ _ (set_words cs (a / 2) x ∙ ap₂ (λ i j. set (set (words_of cs) i (x % 2 ^ 17)) j (x / 2 ^ 18)) e o) (set_digits cs (a / 2) x)
+    cells_equal _ _ (set_words cs (a / 2) x ∙ ap₂ (λ i j. set (set (words_of cs) i (x % 2 ^ 17)) j (x / 2 ^ 18)) e o)
+    (set_digits cs (a / 2) x)
 
 -- where a cell's sandwich digit is that of the one before, the digits stay
-same_digit : (cs : List ℕ) (k x : ℕ) → x / 2 ^ 17 % 2 ≡ get_or cs k 0 / 2 ^ 17 % 2 → digits_of (set cs k x) ≡ digits_of cs
+same_digit : (cs : List ℕ) (k x : ℕ) → x / 2 ^ 17 % 2 ≡ get_or cs k 0 / 2 ^ 17 % 2
+    → digits_of (set cs k x) ≡ digits_of cs
 same_digit cs k x same =
-    set_digits cs k x ∙ ap (λ n. set (digits_of cs) k (nat_eq n 1)) same ∙ ap (set (digits_of cs) k) (sym (get_digit cs k))
+    set_digits cs k x ∙ ap (λ n. set (digits_of cs) k (nat_eq n 1)) same
+    ∙ ap (set (digits_of cs) k) (sym (get_digit cs k))
     ∙ set-get_or (digits_of cs) k false
 
 -- the lower half of a cell is written: the upper half and the sandwich digit stay
@@ -152,9 +161,11 @@ pub cleared_packed : ArePacked (replicate 512 0)
 cleared_packed = record { many = length-replicate {A = ℕ} 512 0; fits = zeros_fit 512 }
 
 -- a cell is its three parts
-same_cell : (c d : ℕ) → c % 2 ^ 17 ≡ d % 2 ^ 17 → c / 2 ^ 18 ≡ d / 2 ^ 18 → nat_eq (c / 2 ^ 17 % 2) 1 ≡ nat_eq (d / 2 ^ 17 % 2) 1 → c ≡ d
+same_cell : (c d : ℕ) → c % 2 ^ 17 ≡ d % 2 ^ 17 → c / 2 ^ 18 ≡ d / 2 ^ 18
+    → nat_eq (c / 2 ^ 17 % 2) 1 ≡ nat_eq (d / 2 ^ 17 % 2) 1 → c ≡ d
 same_cell c d low high middle =
-    let digit_same : c / 2 ^ 17 % 2 ≡ d / 2 ^ 17 % 2 = sym (digit_number (c / 2 ^ 17)) ∙ ap digit middle ∙ digit_number (d / 2 ^ 17) in
+    let digit_same : c / 2 ^ 17 % 2 ≡ d / 2 ^ 17 % 2 = sym (digit_number (c / 2 ^ 17)) ∙ ap digit middle
+    ∙ digit_number (d / 2 ^ 17) in
     omega (arith, low, high, digit_same)
 
 from_parts : (cs ds : List ℕ) → words_of cs ≡ words_of ds → digits_of cs ≡ digits_of ds → cs ≡ ds

@@ -1,6 +1,7 @@
 -- The store: 1,024 short locations and the 512 sandwich digits between the two of each pair (the number of locations,
 -- and that a short write leaves the sandwich digit, are this project's own rules).
-use Rattle.std.specs.Prelude.{ℕ, ◌+◌, ◌-◌, ◌/◌, ◌%◌, ◌^◌, Bool, false, List, slice_index, slice_index_or, slice_set, replicate, ◌≡◌, ◌<◌, length}
+use Rattle.std.specs.Prelude.{ℕ, ◌+◌, ◌-◌, ◌/◌, ◌%◌, ◌^◌, Bool, false, List, slice_index}
+use Rattle.std.specs.Prelude.{slice_index_or, slice_set, replicate, ◌≡◌, ◌<◌, length}
 use Rattle.ed_words.specs.Words.{joined, halves_of}
 
 -- the words of all locations, and the sandwich digits of all pairs

@@ -1,4 +1,5 @@
--- The store as the code keeps it: 512 cells of 35 digits, each the long word of a pair, seen as words and sandwich digits.
+-- The store as the code keeps it: 512 cells of 35 digits, each the long word of a pair, seen as words and sandwich
+-- digits.
 use Rattle.std.specs.Prelude.{◌≡◌, ℕ, ◌^◌, ◌<◌, Bool, List, [], ◌∷◌, length, slice_index}
 use Rattle.ed_words.specs.Words.{halves_of}
 use Rattle.ed_store.specs.Cells.{Cells}

@@ -1,5 +1,6 @@
 ghost use Rattle.std.specs.Prelude.{◌≡◌, ◌↔◌, ℕ, ◌*◌, ◌<◌, ◌^◌, IsTrue, IfOk, length, replicate, slice_index};
-ghost use Rattle.ed_store.specs.Cells.{Cells, IsStore, cleared_cells, short_at, long_at, sandwich_at, with_short, with_long};
+ghost use Rattle.ed_store.specs.Cells.{Cells, IsStore, cleared_cells, short_at};
+ghost use Rattle.ed_store.specs.Cells.{long_at, sandwich_at, with_short, with_long};
 
 use ed_words::{Long, NoMemory, Word};
 use std::alloc::Global;

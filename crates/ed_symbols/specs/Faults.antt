@@ -33,7 +33,8 @@ with_more plus (Some p) = Some (pos p +ℤ plus)
 abbrev pub value : List Home → Option ℕ → Operand → Option ℤ
 value homes segment (Number n) = Some (pos n)
 value homes segment (Label name plus) = with_more plus (place_on homes segment name)
-value homes segment (Two first second minus) = joined minus (place_on homes segment first) (place_on homes segment second)
+value homes segment (Two first second minus) =
+    joined minus (place_on homes segment first) (place_on homes segment second)
 
 -- whether an operand names what has no place on its line
 abbrev pub is_unknown : List Home → Option ℕ → Operand → Bool
@@ -77,7 +78,8 @@ defines_again earlier l s = is_again earlier (label_home l.label l.statement s)
 
 -- S7: an operand or `enter` names what has no place on the line
 abbrev pub names_unknown : List Home → Line → Spot → Bool
-names_unknown homes l s = any_operand (is_unknown homes (segment_of l s)) l.statement || enters_unknown homes l.statement
+names_unknown homes l s = any_operand (is_unknown homes (segment_of l s)) l.statement
+    || enters_unknown homes l.statement
 
 -- S8: the value of an operand with a name is no address
 abbrev pub reaches_outside : List Home → Line → Spot → Bool

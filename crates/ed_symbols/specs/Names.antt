@@ -18,10 +18,14 @@ label_place _ s = s.place
 -- what the label of a line defines, in the segment of its line
 abbrev pub label_home : Option (List ℕ) → Option Statement → Spot → Option Home
 label_home None statement s = None
-label_home (Some name) statement s = Some (record { name = name; place = label_place statement s; segment = segment_at s })
+label_home (Some name) statement s = Some (record {
+  name = name;
+  place = label_place statement s;
+  segment = segment_at s;
+})
 
--- what a statement defines: a segment's name, which belongs to its segment, and the second name of a `use`, which belongs
--- to none
+-- what a statement defines: a segment's name, which belongs to its segment, and the second name of a `use`, which
+-- belongs to none
 abbrev pub name_home : Option Statement → Spot → Option Home
 name_home (Some (Segment name base)) s =
     Some (record { name = name; place = unwrap_or base s.place; segment = Some (s.segments + 1) })

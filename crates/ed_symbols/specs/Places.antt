@@ -3,7 +3,8 @@ use Rattle.std.specs.Prelude.{ℕ, ◌+◌, ◌%◌, true, false, List, []}
 use Rattle.std.specs.Prelude.{◌∷◌, length, Option, Some, None, unwrap_or, if◌then◌else◌}
 use Rattle.ed_library.specs.Routines.{find, places}
 use Rattle.ed_syntax.specs.declared.program.Statement.{Statement}
-use Rattle.ed_syntax.specs.declared.program.Statement.TheVariants.{Segment, Order, Number, Text, Fetch, Enter, Rows, Long}
+use Rattle.ed_syntax.specs.declared.program.Statement.TheVariants.{Segment, Order, Number, Text}
+use Rattle.ed_syntax.specs.declared.program.Statement.TheVariants.{Fetch, Enter, Rows, Long}
 use Rattle.ed_syntax.specs.declared.program.Line.{Line}
 use Rattle.ed_symbols.specs.declared.spots.Spot.{Spot}
 use Rattle.ed_symbols.specs.declared.spots.Standing.{Standing}
@@ -26,8 +27,8 @@ abbrev pub moved : ℕ → Spot → Spot
 moved n s = record s { place = s.place + n }
 
 -- behind a statement: `segment` sets the place or leaves it, an order and `word` take 1 place, `text` one for each row,
--- `use` the routine's length from an even place on and `long` 2 from an even place on; `segment` and `use` have their base
--- where they begin
+-- `use` the routine's length from an even place on and `long` 2 from an even place on; `segment` and `use` have their
+-- base where they begin
 abbrev pub passed : Option Statement → Spot → Spot
 passed None s = s
 passed (Some (Segment name base)) s =
@@ -36,7 +37,12 @@ passed (Some (Order function operand length)) s = moved 1 s
 passed (Some (Number value)) s = moved 1 s
 passed (Some (Text codes)) s = moved (length codes.items) s
 passed (Some (Fetch routine name settings)) s =
-    record { place = even s.place + taken (find routine); base = even s.place; segments = s.segments + 1; inside = false }
+    record {
+      place = even s.place + taken (find routine);
+      base = even s.place;
+      segments = s.segments + 1;
+      inside = false;
+    }
 passed (Some (Enter name)) s = s
 passed (Some (Rows codes)) s = s
 passed (Some (Long value)) s = record s { place = even s.place + 2 }

@@ -1,7 +1,8 @@
 //! What is wrong with the names of a line.
 ghost use Rattle.std.specs.Prelude.{◌≡◌, ◌<◌, ◌≤◌, ◌^◌, ◌||◌};
 ghost use Rattle.std.specs.List.{list_any};
-ghost use Rattle.ed_symbols.specs.Faults.{any_operand, enters_unknown, is_far, is_outside, is_unknown, joined, operand_of};
+ghost use Rattle.ed_symbols.specs.Faults.{any_operand, enters_unknown, is_far};
+ghost use Rattle.ed_symbols.specs.Faults.{is_outside, is_unknown, joined, operand_of};
 ghost use Rattle.ed_symbols.specs.Faults.{value, with_more, cause_of};
 
 use crate::homes::{Home, find_place};
@@ -80,7 +81,8 @@ fn set_outside(homes: &[Home], segment: Option<u32>, settings: &[Setting]) -> bo
 
 /// Whether an operand of a line, or its `enter`, names what has no place there.
 fn names_unknown(homes: &[Home], segment: Option<u32>, statement: &Option<Statement>) -> bool
-    ensures { result ≡ (any_operand (is_unknown homes.now segment) statement.now || enters_unknown homes.now statement.now) }
+    ensures { result ≡ (any_operand (is_unknown homes.now segment) statement.now
+        || enters_unknown homes.now statement.now) }
 {
     match statement {
         Some(Statement::Order { operand, .. }) => is_unknown(homes, segment, operand),

@@ -1,6 +1,7 @@
 //! Where names are defined.
 ghost use Rattle.std.specs.Prelude.{◌≡◌, ◌++◌, ◌≤◌, ◌^◌, IfOk, OnOk, option_map};
-ghost use Rattle.ed_symbols.specs.Names.{defined, home_of, is_home, is_local, label_home, label_place, listed, name_home};
+ghost use Rattle.ed_symbols.specs.Names.{defined, home_of, is_home, is_local};
+ghost use Rattle.ed_symbols.specs.Names.{label_home, label_place, listed, name_home};
 ghost use Rattle.ed_symbols.specs.Names.{place_on, same_segment};
 ghost use Rattle.ed_symbols.specs.Faults.{defines_again, is_again};
 
@@ -14,8 +15,8 @@ pub struct Home {
     pub name: Name,
     /// The place for which the name stands.
     pub place: u32,
-    /// The number of the segment to which the name belongs: a label to that of its line, a segment's name to its own, and
-    /// the second name of a `use` to none.
+    /// The number of the segment to which the name belongs: a label to that of its line, a segment's name to its own,
+    /// and the second name of a `use` to none.
     pub segment: Option<u32>,
 }
 

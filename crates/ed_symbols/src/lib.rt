@@ -1,8 +1,8 @@
 //! Symbols: the places of a source's lines and names, and the faults of its names.
 //!
-//! The contract is that the answers are those of the definitions: the place before a line by the sums of the words of the
-//! lines before it, the place of a name and the segment to which it belongs by its first definition, and the least fault
-//! by line and then number. Stands on `ed_words`, `ed_codes`, `ed_syntax` and `ed_library`.
+//! The contract is that the answers are those of the definitions: the place before a line by the sums of the words of
+//! the lines before it, the place of a name and the segment to which it belongs by its first definition, and the
+//! least fault by line and then number. Stands on `ed_words`, `ed_codes`, `ed_syntax` and `ed_library`.
 #![tactic(auto)]
 
 mod faults;

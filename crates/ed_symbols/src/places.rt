@@ -110,8 +110,8 @@ impl Places {
         self.standing(line).place
     }
 
-    /// The number of the segment to which a line belongs, if it belongs to one. The line is counted from 1 and is one of
-    /// the program.
+    /// The number of the segment to which a line belongs, if it belongs to one. The line is counted from 1 and is one
+    /// of the program.
     pub fn line_segment(&self, line: u32) -> Option<u32>
         requires from_one { 1 ≤ line }
         requires of_the_program { line ≤ length self.now.standings }

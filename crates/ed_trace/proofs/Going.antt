@@ -1,12 +1,14 @@
 -- One more order of a run whose paper never is full.
-use Rattle.std.proofs.Common.{◌≡◌, ◌⊎◌, inl, inr, ℕ, zero, suc, ◌+◌, ◌<◌, ◌≤◌, refl, sym, ap, ◌∙◌, arith, add-one, below_more}
+use Rattle.std.proofs.Common.{◌≡◌, ◌⊎◌, inl, inr, ℕ, zero, suc, ◌+◌, ◌<◌, ◌≤◌}
+use Rattle.std.proofs.Common.{refl, sym, ap, ◌∙◌, arith, add-one, below_more}
 use Rattle.std.proofs.Common.{Bool, true, false, nat_le, Some, None, length, length-append}
 use Rattle.ed_words.proofs.Numbers.{eq_false, eq_true, le_false, lt_false, lt_true}
 use Rattle.ed_machine.specs.State.{State}
 use Rattle.ed_machine.specs.OrderTable.{step}
 use Rattle.ed_machine.specs.Steps.{codes_of, is_obeyed, past, state_after, stops_of}
 use Rattle.ed_machine.specs.declared.turn.Turn.{Turn}
-use Rattle.ed_machine.specs.declared.turn.Turn.TheVariants.{Went, Printed, Stopped as Stops, NoOrder as IsNoOrder, NoTape as HasNoTape}
+use Rattle.ed_machine.specs.declared.turn.Turn.TheVariants.{Went, Printed, Stopped as Stops}
+use Rattle.ed_machine.specs.declared.turn.Turn.TheVariants.{NoOrder as IsNoOrder, NoTape as HasNoTape}
 use Rattle.ed_machine.specs.declared.ending.Ending.{Ending}
 use Rattle.ed_machine.specs.declared.ending.Ending.TheVariants.{Stopped, Limit}
 use Rattle.ed_run.specs.Run.{EndsAfter, end_at, end_by}
@@ -90,7 +92,8 @@ module _ (limit resumes : ℕ) (s : State) where
   first_more k m stops turn g below is obeyed =
       let room : nat_le limit (length (past k s).codes) ≡ false = le_false _ _ (omega (arith, few_codes k s)) in
       below_more (λ j. end_at limit resumes limit j (past j s) ≡ None) k g.first
-      (by_next k m stops g below ∙ ap (λ t. end_by t (nat_le limit (length (past k s).codes))) (sym is) ∙ obeyed_ends turn _ obeyed room)
+      (by_next k m stops g below ∙ ap (λ t. end_by t (nat_le limit (length (past k s).codes))) (sym is)
+      ∙ obeyed_ends turn _ obeyed room)
 
   pub state_more : (k : ℕ) (m n : State) (stops : ℕ) → Going k m stops → n ≡ (step m).state → n ≡ state_after (k + 1) s
   state_more k m n stops g to = to ∙ ap (λ (x : State). (step x).state) g.state ∙ sym (next_state k s)
@@ -102,8 +105,10 @@ module _ (limit resumes : ℕ) (s : State) where
       ∙ ap (λ (x : State). stops + stops_of (step x).turn) (sym g.state) ∙ ap (λ t. stops + stops_of t) (sym is)
 
   -- the run goes on
-  pub going_on : (k : ℕ) (m n : State) (stops more : ℕ) (turn : Turn) → Going k m stops → k < limit → turn ≡ (step m).turn
-      → n ≡ (step m).state → is_obeyed turn ≡ true → more ≡ stops + stops_of turn → more ≤ resumes → Going (k + 1) n more
+  pub going_on : (k : ℕ) (m n : State) (stops more : ℕ) (turn : Turn) → Going k m stops → k < limit
+      → turn ≡ (step m).turn
+      → n ≡ (step m).state → is_obeyed turn ≡ true → more ≡ stops + stops_of turn → more ≤ resumes
+      → Going (k + 1) n more
   going_on k m n stops more turn g below is to obeyed count within = record {
     state = state_more k m n stops g to;
     stops_are = count ∙ sym (stops_more k m stops turn g is);
@@ -113,11 +118,13 @@ module _ (limit resumes : ℕ) (s : State) where
 
   -- it ends before its next order
   pub blocks : (k : ℕ) (m : State) (stops : ℕ) (ending : Ending) → Going k m stops → k < limit
-      → end_by (step m).turn (nat_le limit (length (past k s).codes)) ≡ Some ending → EndsAfter limit resumes limit s k ending
+      → end_by (step m).turn (nat_le limit (length (past k s).codes)) ≡ Some ending
+      → EndsAfter limit resumes limit s k ending
   blocks k m stops ending g below is = record { now = by_next k m stops g below ∙ is; first = g.first }
 
   -- with a stop for which no resume is left
-  pub stopped : (k : ℕ) (m : State) (stops : ℕ) (turn : Turn) → Going k m stops → k < limit → turn ≡ (step m).turn → turn ≡ Stops
+  pub stopped : (k : ℕ) (m : State) (stops : ℕ) (turn : Turn) → Going k m stops → k < limit → turn ≡ (step m).turn
+      → turn ≡ Stops
       → resumes ≤ stops → EndsAfter limit resumes limit s (k + 1) Stopped
   stopped k m stops turn g below is stop many =
       let n : (past (k + 1) s).stops ≡ stops + 1 = stops_more k m stops turn g is ∙ ap (λ t. stops + stops_of t) stop in

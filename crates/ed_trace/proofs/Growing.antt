@@ -1,5 +1,6 @@
 -- One more letter of a text that grows.
-use Rattle.std.proofs.Common.{◌≡◌, ℕ, zero, suc, ◌+◌, ◌%◌, ◌≢◌, refl, sym, ap, ◌∙◌, subst, arith, Bool, true, false, if◌then◌else◌}
+use Rattle.std.proofs.Common.{◌≡◌, ℕ, zero, suc, ◌+◌, ◌%◌, ◌≢◌, refl, sym, ap}
+use Rattle.std.proofs.Common.{◌∙◌, subst, arith, Bool, true, false, if◌then◌else◌}
 use Rattle.std.proofs.Common.{List, [], ◌∷◌, ◌++◌, length, append_assoc, append-nil, Option}
 use Rattle.std.proofs.lemmas.Bool.Decides.{nat_tests}
 use Rattle.ed_machine.specs.State.{State}
@@ -17,7 +18,8 @@ kept before now held text piece p =
     record { part = p.part; whole = ap (λ t. t ++ piece) p.whole ∙ append_assoc p.part held piece; gains = p.gains }
 
 -- what was held back is written
-pub flushed : (before now after : Option (List ℕ)) (held left text : List ℕ) → Partly before now held text → Gains now after held
+pub flushed : (before now after : Option (List ℕ)) (held left text : List ℕ) → Partly before now held text
+    → Gains now after held
     → left ≡ [] → Partly before after left text
 flushed before now after held left text p g none = record {
   part = text;
@@ -26,7 +28,8 @@ flushed before now after held left text p g none = record {
 }
 
 -- a part of it is written
-pub part_written : (before now after : Option (List ℕ)) (held text : List ℕ) → Partly before now held text → GainsPart now after held
+pub part_written : (before now after : Option (List ℕ)) (held text : List ℕ) → Partly before now held text
+    → GainsPart now after held
     → GainsPart before after text
 part_written before now after held text p g = record {
   part = p.part ++ g.part;
@@ -46,11 +49,13 @@ part_of_longer before after text longer more is g = record {
 }
 
 -- nothing is written yet
-pub nothing_traced : (before : Option (List ℕ)) (held : List ℕ) (s : State) → held ≡ [] → Partly before before held (traced 0 s)
+pub nothing_traced : (before : Option (List ℕ)) (held : List ℕ) (s : State) → held ≡ []
+    → Partly before before held (traced 0 s)
 nothing_traced before held s is =
     record { part = []; whole = ap (letters_from 0) (no_functions s) ∙ sym is; gains = gains_none before }
 
-next_traced : (k : ℕ) (s : State) → traced (k + 1) s ≡ traced k s ++ letter (state_after k s) ∷ line_end (is_full (k + 1))
+next_traced : (k : ℕ) (s : State)
+    → traced (k + 1) s ≡ traced k s ++ letter (state_after k s) ∷ line_end (is_full (k + 1))
 next_traced k s =
     let count : 0 + length (functions_after k s) + 1 ≡ k + 1 = omega (arith, functions_count k s) in
     ap (letters_from 0) (next_functions k s) ∙ letters_more 0 (functions_after k s) _

@@ -1,5 +1,6 @@
 -- The whole trace of a run.
-use Rattle.std.proofs.Common.{◌≡◌, ◌⊎◌, inl, inr, ℕ, ◌+◌, ◌-◌, ◌%◌, ◌<◌, ◌≤◌, sym, ap, ◌∙◌, subst, arith, false, List, [], ◌∷◌, ◌++◌}
+use Rattle.std.proofs.Common.{◌≡◌, ◌⊎◌, inl, inr, ℕ, ◌+◌, ◌-◌, ◌%◌, ◌<◌, ◌≤◌, sym}
+use Rattle.std.proofs.Common.{ap, ◌∙◌, subst, arith, false, List, [], ◌∷◌, ◌++◌}
 use Rattle.std.proofs.Common.{append_assoc, append-nil, Option, Some, None, Result, Ok, Err}
 use Rattle.std.specs.Prelude.{IfOk, MatchResult}
 use Rattle.std.proofs.lemmas.Bool.Decides.{nat_tests}
@@ -18,7 +19,8 @@ use Rattle.ed_trace.proofs.Growing.{more_traced, part_of_longer}
 
 -- the whole trace is that of the orders of the run
 whole_trace : (limit resumes : ℕ) (s : State)
-    → trace_of limit resumes s ≡ traced (run_orders limit resumes limit s) s ++ last_end (run_orders limit resumes limit s)
+    → trace_of limit resumes s ≡ traced (run_orders limit resumes limit s) s
+    ++ last_end (run_orders limit resumes limit s)
 whole_trace limit resumes s =
     let n : ℕ = run_orders limit resumes limit s in ap (λ k. traced n s ++ last_end k) (functions_count n s)
 
@@ -45,7 +47,8 @@ trace_found limit resumes s k ending e =
     ap (λ n. traced n s ++ last_end n) (orders_found limit resumes s k ending e) ∙ sym (whole_trace limit resumes s)
 
 -- a part of the first letters is a part of the whole trace
-pub part_of_whole : (limit resumes : ℕ) (s : State) (before after : Option (List ℕ)) → Breaks limit resumes s before after
+pub part_of_whole : (limit resumes : ℕ) (s : State) (before after : Option (List ℕ))
+    → Breaks limit resumes s before after
     → GainsPart before after (trace_of limit resumes s)
 part_of_whole limit resumes s before after b = by_place (split b.orders (run_orders limit resumes limit s))
   where
@@ -57,7 +60,8 @@ part_of_whole limit resumes s before after b = by_place (split b.orders (run_ord
 
     by_place : (b.orders ≤ n) ⊎ (n < b.orders) → GainsPart before after (trace_of limit resumes s)
     by_place (inr high) =
-        let bad : None ≡ Some (ran limit resumes limit s).ending = sym (b.first n high) ∙ (ran_ends limit resumes limit s).now in
+        let bad : None ≡ Some (ran limit resumes limit s).ending = sym (b.first n high)
+        ∙ (ran_ends limit resumes limit s).now in
         absurd (cc)
     by_place (inl low) =
         let e : b.orders + (n - b.orders) ≡ n = omega arith in
@@ -70,7 +74,8 @@ part_of_whole limit resumes s before after b = by_place (split b.orders (run_ord
 not_full : (n l : ℕ) → l ≡ n % 50 → 0 < l → is_full n ≡ false
 not_full n l is h = grind (arith, nat_tests)
 
-pub line_ended : (r : Result (Unit {0}) Failed) (before after : Option (List ℕ)) (left text : List ℕ) (n l : ℕ) → l ≡ n % 50 → 0 < l
+pub line_ended : (r : Result (Unit {0}) Failed) (before after : Option (List ℕ)) (left text : List ℕ) (n l : ℕ)
+    → l ≡ n % 50 → 0 < l
     → MatchResult r (λ _. Partly before after left (text ++ 10 ∷ [])) (λ _. GainsPart before after (text ++ 10 ∷ []))
     → IfOk r (λ _. left ≡ []) → MatchResult r (λ _. Gains before after (text ++ last_end n))
     (λ _. GainsPart before after (text ++ last_end n))

@@ -1,5 +1,6 @@
 //! A text that grows, of which the last line is held back.
-ghost use Rattle.std.specs.Prelude.{◌≡◌, ◌++◌, ◌∷◌, [], ◌≤◌, ◌+◌, ◌%◌, List, ℕ, Option, length, vec_capacity, vec_len, MatchResult, IfOk, if◌then◌else◌};
+ghost use Rattle.std.specs.Prelude.{◌≡◌, ◌++◌, ◌∷◌, [], ◌≤◌, ◌+◌, ◌%◌, List, ℕ, Option, length};
+ghost use Rattle.std.specs.Prelude.{vec_capacity, vec_len, MatchResult, IfOk, if◌then◌else◌};
 ghost use Rattle.ed_io.specs.Bytes.{Gains, GainsPart};
 ghost use Rattle.ed_io.specs.Causes.{HasCause};
 ghost use Rattle.ed_report.specs.Traces.{last_end, line_end};

@@ -22,8 +22,8 @@ pub enum TraceFault {
     Memory,
 }
 
-/// Runs the machine, with a paper that never is full, and writes the letter or sign of the function of each order, 50 to a
-/// line, each line as it is full. The last line, where it has a letter, ends with a line feed.
+/// Runs the machine, with a paper that never is full, and writes the letter or sign of the function of each order, 50
+/// to a line, each line as it is full. The last line, where it has a letter, ends with a line feed.
 ///
 /// `Failed` comes only where the sink's count of faults rose; a first part of the trace was written then. With `Memory`
 /// nothing was.

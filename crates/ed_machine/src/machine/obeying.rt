@@ -4,7 +4,8 @@ ghost use Rattle.std.specs.Prelude.{◌≡◌, ◌<◌, ◌≤◌, ◌+◌, ◌*
 ghost use Rattle.ed_words.specs.Sizes.{locations, within};
 ghost use Rattle.ed_words.specs.Words.{function_of};
 ghost use Rattle.ed_orders.specs.Kinds.{kind_of_function};
-ghost use Rattle.ed_machine.specs.OrderTable.{after, done_at, jumped, last_code, obey, operand35, place_of, printed, stopped, took_row, written};
+ghost use Rattle.ed_machine.specs.OrderTable.{after, done_at, jumped, last_code, obey, operand35};
+ghost use Rattle.ed_machine.specs.OrderTable.{place_of, printed, stopped, took_row, written};
 
 use super::Machine;
 use crate::Turn;
@@ -115,7 +116,8 @@ impl Machine {
 
     /// Writes the top 17 or 35 digits of the accumulator.
     fn write_top(&mut self, word: Word)
-        ensures { self.new ≡ record self.old { store = written word self.old (self.old.acc / 2 ^ 54) (self.old.acc / 2 ^ 36) } }
+        ensures { self.new ≡ record self.old
+            { store = written word self.old (self.old.acc / 2 ^ 54) (self.old.acc / 2 ^ 36) } }
     {
         let short = self.acc.top_short();
         let long = self.acc.top_long();
@@ -124,7 +126,8 @@ impl Machine {
 
     /// Writes the last printed code, as the function of a word.
     fn write_last(&mut self, word: Word)
-        ensures { self.new ≡ record self.old { store = written word self.old (last_code self.old * 4096) (last_code self.old * 2 ^ 30) } }
+        ensures { self.new ≡ record self.old
+            { store = written word self.old (last_code self.old * 4096) (last_code self.old * 2 ^ 30) } }
     {
         let last = self.last;
         let code = code_or_zero(last);

@@ -6,7 +6,9 @@ use Rattle.ed_machine.specs.declared.turn.Turn.TheVariants.{Went, Printed, Stopp
 use Rattle.ed_run.specs.Run.{end_by, prints}
 use Rattle.ed_run.proofs.Pasts.{is_full, at_first, goes_on, ends_with_stop, none_ends, pushed, silent}
 use Rattle.ed_run.proofs.run_orders.Goals as goal
-use Rattle.ed_run.proofs.run_orders.Goals.{in-Went, in-Printed, in-Stopped+else-stops-resumes, else-is_full-via-then-is_full+else-prints_next, else-is_full-via-else-is_full}
+use Rattle.ed_run.proofs.run_orders.Goals.{in-Went, in-Printed, in-Stopped+else-stops-resumes}
+use Rattle.ed_run.proofs.run_orders.Goals.{else-is_full-via-then-is_full+else-prints_next}
+use Rattle.ed_run.proofs.run_orders.Goals.{else-is_full-via-else-is_full}
 
 pub loop-done-init : goal.loop-done-init
 loop-done-init c = record { running = at_first _ _ _ _; count = omega arith }
@@ -58,7 +60,8 @@ loop-done-preserved c =
                 (record {
                   turn_is = is;
                   state_is = c.step.ensures.state;
-                  paper_is = w.paper-is ∙ pushed w.push.result _ _ _ w.push.ensures.full.0 w.push.ensures.added (room c is);
+                  paper_is = w.paper-is ∙ pushed w.push.result _ _ _ w.push.ensures.full.0 w.push.ensures.added
+                      (room c is);
                   stops_are = omega (arith, w.stops-is);
                 })
                 (goes c _ is refl) (omega (arith, w.stops-is, r.within));

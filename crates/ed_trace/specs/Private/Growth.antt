@@ -32,7 +32,8 @@ pub record Partly (before after : Option (List ℕ)) (held text : List ℕ) : Ty
   pub gains : Gains before after part
 
 -- the run ended so, and its letters have been written but for the last line that is not full
-pub record Traces (limit resumes : ℕ) (s : State) (ending : Ending) (last : State) (before after : Option (List ℕ)) (held : List ℕ) : Type 0 where
+pub record Traces (limit resumes : ℕ) (s : State) (ending : Ending) (last : State) (before after : Option (List ℕ))
+    (held : List ℕ) : Type 0 where
   pub orders : ℕ
   pub ends : EndsAfter limit resumes limit s orders ending
   pub state_is : last ≡ state_after orders s

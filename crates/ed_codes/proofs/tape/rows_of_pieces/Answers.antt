@@ -12,7 +12,8 @@ loop-place-preserved-in-Some c =
     let found = rw take_rest at c.in-Some.ensures.place in
     let within = rw take_rest at c.in-Some.ensures.bound in
     record {
-      spelled = past_comment _ _ _ _ c.loop-place-test.true c.loop-place.invariant.spelled c.if-byte-eq91.true (sym found);
+      spelled = past_comment _ _ _ _ c.loop-place-test.true c.loop-place.invariant.spelled c.if-byte-eq91.true
+          (sym found);
       within = omega (arith, within, length-drop (c.loop-place.place + 1) c.args.text.now);
     }
 

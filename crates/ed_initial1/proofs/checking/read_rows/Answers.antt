@@ -13,7 +13,8 @@ pub returns-in-Refused : goal.returns-in-Refused
 returns-in-Refused c =
     let row = c.index-rows-row in
     refused _ _ _ _ _ c.in-Some.part row.result (rw c.in-Some.is at c.loop-row.invariant) c.loop-row-test.true row.is
-    _ (c.is_empty-first.ensures ∙ ap (λ n. nat_eq n 0) c.loop-row.words.ok.0) c.in-Refused.cause (sym c.in-Refused.is ∙ c.take.ensures)
+    _ (c.is_empty-first.ensures ∙ ap (λ n. nat_eq n 0) c.loop-row.words.ok.0) c.in-Refused.cause
+    (sym c.in-Refused.is ∙ c.take.ensures)
 
 pub returns-then-len-from : goal.returns-then-len-from
 returns-then-len-from c =
@@ -21,7 +22,8 @@ returns-then-len-from c =
     let empty = c.is_empty-first.ensures ∙ ap (λ n. nat_eq n 0) c.loop-row.words.ok.0 in
     let past = c.push.new.self.ok.0 in
     rw (c.new.ensures, c.in-Ok.ensures.items)
-    (made_whole _ _ _ _ _ c.in-Some.part row.result (rw c.in-Some.is at c.loop-row.invariant) c.loop-row-test.true row.is
+    (made_whole _ _ _ _ _ c.in-Some.part row.result (rw c.in-Some.is at c.loop-row.invariant)
+    c.loop-row-test.true row.is
     _ empty c.in-Ended.long c.word_of.result (sym c.in-Ended.is ∙ c.take.ensures) c.word_of.ensures
     c.end_behind-end.result c.end_behind-end.ensures
     (rw (sym c.in-Ok.ensures.items) (omega (arith, c.len.ensures, past, c.from.ensures, c.if-len-from.true))))
@@ -31,11 +33,13 @@ loop-row-preserved c = elim c.match-item.branch [
   | in-None w ↦
       let row = c.index-rows-row in
       rw (w.words-is, w.orders-is, w.end-is, w.item-is, w.begun.ensures.is)
-      (function_row _ _ _ _ _ row.result (rw w.in-None.is at c.loop-row.invariant) c.loop-row-test.true row.is w.begun.ensures.fits)
+      (function_row _ _ _ _ _ row.result (rw w.in-None.is at c.loop-row.invariant) c.loop-row-test.true row.is
+      w.begun.ensures.fits)
   | in-Some+in-Longer w ↦
       let row = c.index-rows-row in
       rw (w.words-is, w.orders-is, w.end-is, w.item-is)
-      (made_longer _ _ _ _ _ w.in-Some.part row.result (rw w.in-Some.is at c.loop-row.invariant) c.loop-row-test.true row.is
+      (made_longer _ _ _ _ _ w.in-Some.part row.result (rw w.in-Some.is at c.loop-row.invariant)
+      c.loop-row-test.true row.is
       _ (c.is_empty-first.ensures ∙ ap (λ n. nat_eq n 0) c.loop-row.words.ok.0) w.in-Longer.number
       (sym w.in-Longer.is ∙ w.take.ensures))
   | in-Some+in-Ended+in-Ok+else-len-from w ↦
@@ -43,10 +47,12 @@ loop-row-preserved c = elim c.match-item.branch [
       let empty = c.is_empty-first.ensures ∙ ap (λ n. nat_eq n 0) c.loop-row.words.ok.0 in
       let past = w.push.new.self.ok.0 in
       rw (w.words-is, w.orders-is, w.end-is, w.item-is, w.in-Ok.ensures.items)
-      (made_ended _ _ _ _ _ w.in-Some.part row.result (rw w.in-Some.is at c.loop-row.invariant) c.loop-row-test.true row.is
+      (made_ended _ _ _ _ _ w.in-Some.part row.result (rw w.in-Some.is at c.loop-row.invariant)
+      c.loop-row-test.true row.is
       _ empty w.in-Ended.long w.word_of.result (sym w.in-Ended.is ∙ w.take.ensures) w.word_of.ensures
       w.end_behind-end.result w.end_behind-end.ensures
-      (rw (sym w.in-Ok.ensures.items) (let off = w.if-len-from.false in omega (arith, w.len.ensures, past, w.from.ensures, off))))
+      (rw (sym w.in-Ok.ensures.items)
+      (let off = w.if-len-from.false in omega (arith, w.len.ensures, past, w.from.ensures, off))))
 ]
 
 pub returns : goal.returns

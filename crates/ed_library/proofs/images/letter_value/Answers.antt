@@ -10,8 +10,10 @@ returns-in-21-to-26-clause-is c =
 
 pub returns-in_default-clause-is : goal.returns-in_default-clause-is
 returns-in_default-clause-is c =
-    sym (value_of_other c.args.parameters.now (2 * c.args.base) c.args.letter c.told-parameters (λ e. omega arith) (λ e. omega arith) (inl (omega arith)))
+    sym (value_of_other c.args.parameters.now (2 * c.args.base) c.args.letter c.told-parameters (λ e. omega arith)
+    (λ e. omega arith) (inl (omega arith)))
 
 pub returns-in_default-2-clause-is : goal.returns-in_default-2-clause-is
 returns-in_default-2-clause-is c =
-    sym (value_of_other c.args.parameters.now (2 * c.args.base) c.args.letter c.told-parameters (λ e. omega arith) (λ e. omega arith) (inr (omega arith)))
+    sym (value_of_other c.args.parameters.now (2 * c.args.base) c.args.letter c.told-parameters (λ e. omega arith)
+    (λ e. omega arith) (inr (omega arith)))

@@ -12,4 +12,5 @@ loop-row-preserved c = (
 )
 
 pub returns-in-Ok-clause-spells : goal.returns-in-Ok-clause-spells
-returns-in-Ok-clause-spells c = c.loop-row.invariant.1 (last_spells c.args.rows.now c.loop-row.row-index c.loop-row-test.false)
+returns-in-Ok-clause-spells c =
+    c.loop-row.invariant.1 (last_spells c.args.rows.now c.loop-row.row-index c.loop-row-test.false)

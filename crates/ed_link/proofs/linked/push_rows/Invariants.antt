@@ -7,4 +7,5 @@ use Rattle.ed_link.proofs.linked.push_rows.Given as goal
 abbrev pub invariant-loop-row : goal.invariant-loop-row
 invariant-loop-row l =
     (l.text.items ++ line_from true (drop l.row-index l.rows) ≡ l.fn.text.items ++ line_from true l.rows)
-    × (Spells (line_from true (drop l.row-index l.rows)) (drop l.row-index l.rows) → Spells (line_from true l.rows) l.rows)
+    × (Spells (line_from true (drop l.row-index l.rows)) (drop l.row-index l.rows)
+    → Spells (line_from true l.rows) l.rows)

@@ -10,5 +10,6 @@ abbrev pub invariant-loop-place : goal.invariant-loop-place
 invariant-loop-place l =
     (put_all l.table.items (laid (l.base + l.place) (map (λ row. item_word l.parameters l.base (item_of row))
     (drop l.place (entry l.routine).items)))
-    ≡ put_all l.fn.table.items (laid l.base (map (λ row. item_word l.parameters l.base (item_of row)) (entry l.routine).items)))
+    ≡ put_all l.fn.table.items
+    (laid l.base (map (λ row. item_word l.parameters l.base (item_of row)) (entry l.routine).items)))
     × (length l.table.items ≡ length l.fn.table.items)

@@ -2,4 +2,7 @@ use Rattle.std.proofs.Common.{◌≡◌, ◌++◌, take, drop}
 use Rattle.ed_machine.proofs.machine.place_image.Given as goal
 
 abbrev pub invariant-loop-i : goal.invariant-loop-i
-invariant-loop-i l = l.store ≡ record { words = take l.i l.image ++ drop l.i l.fn.store.words; sandwich = l.fn.store.sandwich }
+invariant-loop-i l = l.store ≡ record {
+  words = take l.i l.image ++ drop l.i l.fn.store.words;
+  sandwich = l.fn.store.sandwich;
+}

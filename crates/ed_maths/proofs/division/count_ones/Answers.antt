@@ -5,7 +5,8 @@ use Rattle.ed_maths.proofs.division.count_ones.Goals as goal
 
 pub loop-done-preserved : goal.loop-done-preserved
 loop-done-preserved c = record {
-  sum = counted c.loop-done.done c.loop-done.sum c.loop-done.rest c.args.number c.loop-done-test.true c.loop-done.invariant.sum;
+  sum = counted c.loop-done.done c.loop-done.sum c.loop-done.rest c.args.number c.loop-done-test.true
+      c.loop-done.invariant.sum;
   few = let f = c.loop-done.invariant.few in omega arith;
 }
 

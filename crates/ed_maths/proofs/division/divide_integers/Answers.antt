@@ -29,15 +29,19 @@ module _ (c : goal.After-obey_orders) where
 
   within : IsWithin 41 c.args.base c.args.high (locations s.size) s
   within =
-      within_size divide c.args.base c.args.high (with_hnm c.args.high c.args.low c.args.by) s c.requires.stands c.requires.division.high_outside
+      within_size divide c.args.base c.args.high (with_hnm c.args.high c.args.low c.args.by) s c.requires.stands
+      c.requires.division.high_outside
 
   abbrev end : State
-  end = last c.args.base c.args.high c.args.low c.args.by (locations s.size) s c.word.ensures.store.words_are c.word.ensures.store.digits_are
-      c.requires.stands c.requires.even c.requires.division within c.requires.division.low_outside.below c.requires.division.by_outside.below
+  end = last c.args.base c.args.high c.args.low c.args.by (locations s.size) s c.word.ensures.store.words_are
+      c.word.ensures.store.digits_are
+      c.requires.stands c.requires.even c.requires.division within c.requires.division.low_outside.below
+      c.requires.division.by_outside.below
 
   leads : Leads (divide_orders quotient) s [] end
   leads = leads_to c.args.base c.args.high c.args.low c.args.by (locations s.size) s c.word.ensures.store.words_are
-      c.word.ensures.store.digits_are c.requires.stands c.requires.even c.requires.division within c.requires.division.low_outside.below
+      c.word.ensures.store.digits_are c.requires.stands c.requires.even c.requires.division within
+      c.requires.division.low_outside.below
       c.requires.division.by_outside.below
 
   state_is : c.obey_orders.new.machine ≡ state_after (divide_orders quotient) s
@@ -53,4 +57,5 @@ pub returns-clause-divided : goal.returns-clause-divided
 returns-clause-divided c =
     divided c.args.base c.args.high c.args.low c.args.by (locations (s c).size) (s c) c.word.ensures.store.words_are
     c.word.ensures.store.digits_are c.requires.stands c.requires.even c.requires.division (within c)
-    c.requires.division.low_outside.below c.requires.division.by_outside.below c.obey_orders.new.machine (state_is c ∙ (leads c).state_is)
+    c.requires.division.low_outside.below c.requires.division.by_outside.below c.obey_orders.new.machine
+    (state_is c ∙ (leads c).state_is)

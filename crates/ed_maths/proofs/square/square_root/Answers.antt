@@ -25,14 +25,17 @@ module _ (c : goal.After-obey_orders) where
   count = ap (λ x. 14 + 8 * x) c.from.ensures
 
   within : IsWithin 23 c.args.base c.args.source (locations s.size) s
-  within = within_size root c.args.base c.args.source (with_hn c.args.source c.args.target) s c.requires.stands c.requires.source
+  within = within_size root c.args.base c.args.source (with_hn c.args.source c.args.target) s c.requires.stands
+      c.requires.source
 
   abbrev end : State
-  end = last c.args.base c.args.source c.args.target (locations s.size) s c.word.ensures.store.words_are c.requires.stands c.requires.source
+  end = last c.args.base c.args.source c.args.target (locations s.size) s c.word.ensures.store.words_are
+      c.requires.stands c.requires.source
       c.requires.target c.requires.differ within c.requires.target.below c.requires.small r is_root
 
   leads : Leads (root_orders r) s [] end
-  leads = leads_to c.args.base c.args.source c.args.target (locations s.size) s c.word.ensures.store.words_are c.requires.stands c.requires.source
+  leads = leads_to c.args.base c.args.source c.args.target (locations s.size) s c.word.ensures.store.words_are
+      c.requires.stands c.requires.source
       c.requires.target c.requires.differ within c.requires.target.below c.requires.small r is_root
 
   state_is : c.obey_orders.new.machine ≡ state_after (root_orders r) s
@@ -42,7 +45,8 @@ module _ (c : goal.After-obey_orders) where
   there = state_is ∙ leads.state_is
 
   target_is : short_at c.obey_orders.new.machine.store c.args.target ≡ r
-  target_is = root_is c.args.base c.args.source c.args.target (locations s.size) s c.word.ensures.store.words_are c.requires.stands
+  target_is = root_is c.args.base c.args.source c.args.target (locations s.size) s c.word.ensures.store.words_are
+      c.requires.stands
       c.requires.source c.requires.target c.requires.differ within c.requires.target.below c.requires.small r is_root
       c.obey_orders.new.machine there
 
@@ -58,12 +62,16 @@ returns-clause-after c = rw (count c) (record { state_is = state_is c; free = fr
 pub returns-clause-returned : goal.returns-clause-returned
 returns-clause-returned c =
     rw (count c)
-    (returned c.args.base c.args.source c.args.target (locations (s c).size) (s c) c.word.ensures.store.words_are c.requires.stands
-    c.requires.source c.requires.target c.requires.differ (within c) c.requires.target.below c.requires.small (r c) (is_root c)
+    (returned c.args.base c.args.source c.args.target (locations (s c).size) (s c) c.word.ensures.store.words_are
+    c.requires.stands
+    c.requires.source c.requires.target c.requires.differ (within c) c.requires.target.below c.requires.small (r c)
+    (is_root c)
     c.obey_orders.new.machine (there c))
 
 pub returns-clause-words : goal.returns-clause-words
 returns-clause-words c =
-    keeps c.args.base c.args.source c.args.target (locations (s c).size) (s c) c.word.ensures.store.words_are c.requires.stands
-    c.requires.source c.requires.target c.requires.differ (within c) c.requires.target.below c.requires.small (r c) (is_root c)
+    keeps c.args.base c.args.source c.args.target (locations (s c).size) (s c) c.word.ensures.store.words_are
+    c.requires.stands
+    c.requires.source c.requires.target c.requires.differ (within c) c.requires.target.below c.requires.small (r c)
+    (is_root c)
     c.obey_orders.new.machine (there c)

@@ -7,7 +7,8 @@ returns-in-Ok-read_rows-clause-answers c =
     let m = c.read_rows.new.placed in
     let v = c.in-Ok-vec.placed in
     let t = whole m (drop (length m) v.items) v.len (c.read_rows.auto.placed ∙ c.deref_mut.ensures.len) in
-    rw (c.new.ensures, t, ← c.in-Ok.ensures) (accepted _ _ _ _ _ c.in-Ok-read_rows.reached _ _ c.in-Ok-read_rows.ensures)
+    rw (c.new.ensures, t, ← c.in-Ok.ensures)
+    (accepted _ _ _ _ _ c.in-Ok-read_rows.reached _ _ c.in-Ok-read_rows.ensures)
 
 pub returns-in-Ok-read_rows-clause-bound : goal.returns-in-Ok-read_rows-clause-bound
 returns-in-Ok-read_rows-clause-bound c =

@@ -36,4 +36,5 @@ loop-row-preserved c = elim c.match-item.branch [
 ]
 
 pub returns : goal.returns
-returns c = at_end _ _ _ _ _ _ _ _ _ _ _ c.loop-row.invariant (omega (arith, c.loop-row-test.false, c.loop-row.auto.row-end))
+returns c = at_end _ _ _ _ _ _ _ _ _ _ _ c.loop-row.invariant
+    (omega (arith, c.loop-row-test.false, c.loop-row.auto.row-end))

@@ -3,4 +3,5 @@ use Rattle.ed_notation.specs.Spellings.{line_from}
 use Rattle.ed_notation.proofs.spelling.push_line.Given as goal
 
 abbrev pub invariant-loop-i : goal.invariant-loop-i
-invariant-loop-i l = l.text.items ++ line_from (nat_lt 0 l.i) (drop l.i l.rows) ≡ l.fn.text.items ++ line_from false l.rows
+invariant-loop-i l = l.text.items ++ line_from (nat_lt 0 l.i) (drop l.i l.rows) ≡ l.fn.text.items
+    ++ line_from false l.rows

@@ -3,7 +3,8 @@ use Rattle.ed_notation.proofs.Texts.{text_end, text_reads}
 use Rattle.ed_notation.proofs.spelling.text_of_items.Goals as goal
 
 pub returns-clause-reads : goal.returns-clause-reads
-returns-clause-reads c = rw (text_end _ _ _ c.loop-item-test.false c.loop-item.invariant) (text_reads _ (are_written _ c.requires))
+returns-clause-reads c =
+    rw (text_end _ _ _ c.loop-item-test.false c.loop-item.invariant) (text_reads _ (are_written _ c.requires))
 
 pub returns-clause-spelling : goal.returns-clause-spelling
 returns-clause-spelling c = spelling _ c.requires

@@ -17,6 +17,7 @@ pub returns : goal.returns
 returns c =
     omega (
       arith,
-      no_codes c.args.machine.now.store.words (c.args.first + c.loop-done.done) c.loop-done.done c.args.count c.loop-done-test.false,
+      no_codes c.args.machine.now.store.words (c.args.first + c.loop-done.done) c.loop-done.done c.args.count
+          c.loop-done-test.false,
       c.loop-done.invariant.sum,
     )

@@ -9,9 +9,14 @@ run-requires c =
     let s = c.args.machine.now in
     let store = c.word.ensures.store in
     let range = c.requires.range in
-    let loaded = loads_so s c.args.first c.args.count store range c.begin.new.machine c.load.new.machine _ _ c.load.result refl
+    let loaded = loads_so s c.args.first c.args.count store range c.begin.new.machine c.load.new.machine _ _
+    c.load.result refl
     c.requires.rows c.begin.ensures.state c.load.ensures.loads c.load.ensures.state in
-    omega (arith, orders_then s c.args.first c.args.count store range c.load.new.machine c.load.result loaded, c.requires.orders)
+    omega (
+      arith,
+      orders_then s c.args.first c.args.count store range c.load.new.machine c.load.result loaded,
+      c.requires.orders,
+    )
 
 printed_so : (c : After-orders_done)
     → IsPrinted c.args.machine.now c.args.paper.now c.args.first c.args.count
@@ -21,9 +26,11 @@ printed_so c =
     let s = c.args.machine.now in
     let store = c.word.ensures.store in
     let range = c.requires.range in
-    let loaded = loads_so s c.args.first c.args.count store range c.begin.new.machine c.load.new.machine _ _ c.load.result refl
+    let loaded = loads_so s c.args.first c.args.count store range c.begin.new.machine c.load.new.machine _ _
+    c.load.result refl
     c.requires.rows c.begin.ensures.state c.load.ensures.loads c.load.ensures.state in
-    printed s c.args.first c.args.count store range _ c.load.new.machine c.run.new.machine c.args.paper.now c.run.new.paper c.load.result
+    printed s c.args.first c.args.count store range _ c.load.new.machine c.run.new.machine c.args.paper.now
+    c.run.new.paper c.load.result
     c.run.result loaded c.run.ensures.ends (omega arith) c.requires.room
 
 pub overflow_sub-result : goal.overflow_sub-result

@@ -44,11 +44,13 @@ returns-clause-after c = record { state_is = (left c).state_is; free = free (lea
 
 pub returns-clause-returned : goal.returns-clause-returned
 returns-clause-returned c =
-    returned (parameters c) c.args.base (locations (s c).size) (s c) c.word.ensures.store.words_are (stands c) (within c) c.run.new.machine (there c)
+    returned (parameters c) c.args.base (locations (s c).size) (s c) c.word.ensures.store.words_are (stands c)
+    (within c) c.run.new.machine (there c)
 
 pub returns-clause-words : goal.returns-clause-words
 returns-clause-words c =
-    keeps (parameters c) c.args.base (locations (s c).size) (s c) c.word.ensures.store.words_are (stands c) (within c) c.run.new.machine (there c)
+    keeps (parameters c) c.args.base (locations (s c).size) (s c) c.word.ensures.store.words_are (stands c)
+    (within c) c.run.new.machine (there c)
 
 pub returns-clause-printed : goal.returns-clause-printed
 returns-clause-printed c = (left c).sheet_is

@@ -29,17 +29,21 @@ module _ (c : goal.After-run) where
 
   -- the routine's orders, and that the run obeys them
   abbrev end : State
-  end = last c.args.base c.args.h (locations s.size) s c.word.ensures.store.words_are c.requires.stands c.requires.outside within c.requires.small
+  end = last c.args.base c.args.h (locations s.size) s c.word.ensures.store.words_are c.requires.stands
+      c.requires.outside within c.requires.small
 
   leads : Leads (print_orders number) s (11 ∷ digits number) end
-  leads = leads_to c.args.base c.args.h (locations s.size) s c.word.ensures.store.words_are c.requires.stands c.requires.outside within c.requires.small
+  leads = leads_to c.args.base c.args.h (locations s.size) s c.word.ensures.store.words_are c.requires.stands
+      c.requires.outside within c.requires.small
 
-  left : Ran (state_after (print_orders number) s) c.run.new.machine c.args.paper.now c.run.new.paper (11 ∷ digits number)
+  left : Ran (state_after (print_orders number) s) c.run.new.machine c.args.paper.now c.run.new.paper
+      (11 ∷ digits number)
   left =
       let room = c.requires.room in
       let few = few_digits number in
       ran (print_orders number) _ _ _ _ _ _ _ leads (omega arith)
-      (subst (λ k. IsRun k 0 s c.args.paper.now c.run.result c.run.new.machine c.run.new.paper) count c.run.ensures.ends)
+      (subst (λ k. IsRun k 0 s c.args.paper.now c.run.result c.run.new.machine c.run.new.paper) count
+      c.run.ensures.ends)
 
   there : c.run.new.machine ≡ end
   there = left.state_is ∙ leads.state_is
@@ -50,12 +54,14 @@ returns-clause-after c = rw (count c) (record { state_is = (left c).state_is; fr
 pub returns-clause-returned : goal.returns-clause-returned
 returns-clause-returned c =
     rw (count c)
-    (returned c.args.base c.args.h (locations (s c).size) (s c) c.word.ensures.store.words_are c.requires.stands c.requires.outside (within c)
+    (returned c.args.base c.args.h (locations (s c).size) (s c) c.word.ensures.store.words_are c.requires.stands
+    c.requires.outside (within c)
     c.requires.small c.run.new.machine (there c))
 
 pub returns-clause-words : goal.returns-clause-words
 returns-clause-words c =
-    keeps c.args.base c.args.h (locations (s c).size) (s c) c.word.ensures.store.words_are c.requires.stands c.requires.outside (within c)
+    keeps c.args.base c.args.h (locations (s c).size) (s c) c.word.ensures.store.words_are c.requires.stands
+    c.requires.outside (within c)
     c.requires.small c.run.new.machine (there c)
 
 pub returns-clause-printed : goal.returns-clause-printed

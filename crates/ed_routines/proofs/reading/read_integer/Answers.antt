@@ -1,4 +1,5 @@
-use Rattle.std.proofs.Common.{◌≡◌, ◌+◌, ◌*◌, ◌<◌, ℕ, sym, ap, ◌∙◌, refl, subst, arith, List, [], ◌∷◌, get_or, drop, length, ◌≤◌}
+use Rattle.std.proofs.Common.{◌≡◌, ◌+◌, ◌*◌, ◌<◌, ℕ, sym, ap, ◌∙◌, refl, subst}
+use Rattle.std.proofs.Common.{arith, List, [], ◌∷◌, get_or, drop, length, ◌≤◌}
 use Rattle.std.proofs.Common.{slice_index}
 use Rattle.ed_words.specs.Sizes.{locations}
 use Rattle.ed_machine.specs.State.{State}
@@ -8,7 +9,8 @@ use Rattle.ed_routines.specs.Catalogue.{read, with_h}
 use Rattle.ed_routines.specs.Digits.{after_digits, digit_rows}
 use Rattle.ed_routines.specs.Returns.{ReadLeaves, read_by}
 use Rattle.ed_routines.proofs.Called.{IsWithin, within_size}
-use Rattle.ed_routines.proofs.ReadCall.{no_ending, has_ending, few_rows, last, leads_to, has_read, keeps, waiting, leads_to_end}
+use Rattle.ed_routines.proofs.ReadCall.{no_ending, has_ending, few_rows, last, leads_to}
+use Rattle.ed_routines.proofs.ReadCall.{has_read, keeps, waiting, leads_to_end}
 use Rattle.ed_routines.proofs.ReadCall.{waits, keeps_waiting}
 use Rattle.ed_routines.proofs.Runs.{free}
 use Rattle.ed_routines.proofs.reading.read_integer.Goals as goal
@@ -28,8 +30,10 @@ module _ (c : goal.After-obey_orders) where
   end = no_ending s.tape (sym count ∙ c.if-digits-rows.true ∙ ap length c.rows_left-rows.ensures)
 
   leads : Leads (3 + 13 * length (digit_rows s.tape)) s []
-      (waiting c.args.base c.args.h (locations s.size) s c.word.ensures.store.words_are c.requires.stands c.requires.outside within end)
-  leads = leads_to_end c.args.base c.args.h (locations s.size) s c.word.ensures.store.words_are c.requires.stands c.requires.outside within end
+      (waiting c.args.base c.args.h (locations s.size) s c.word.ensures.store.words_are c.requires.stands
+      c.requires.outside within end)
+  leads = leads_to_end c.args.base c.args.h (locations s.size) s c.word.ensures.store.words_are c.requires.stands
+      c.requires.outside within end
 
   state_is : c.obey_orders.new.machine ≡ state_after (3 + 13 * length (digit_rows s.tape)) s
   state_is = c.obey_orders.ensures ∙ ap (λ k. state_after (3 + 13 * k) s) count
@@ -42,13 +46,15 @@ returns-then-digits-rows-clause-after c = rw (count c) (record { state_is = stat
 
 pub returns-then-digits-rows-clause-words : goal.returns-then-digits-rows-clause-words
 returns-then-digits-rows-clause-words c =
-    keeps_waiting c.args.base c.args.h (locations (s c).size) (s c) c.word.ensures.store.words_are c.requires.stands c.requires.outside (within c) (end c)
+    keeps_waiting c.args.base c.args.h (locations (s c).size) (s c) c.word.ensures.store.words_are c.requires.stands
+    c.requires.outside (within c) (end c)
     c.obey_orders.new.machine (state_is c ∙ (leads c).state_is)
 
 pub returns-then-digits-rows-clause-leaves : goal.returns-then-digits-rows-clause-leaves
 returns-then-digits-rows-clause-leaves c =
     subst (λ rows. ReadLeaves rows c.args.base c.args.h (s c) c.obey_orders.new.machine) (sym (end c))
-    (waits c.args.base c.args.h (locations (s c).size) (s c) c.word.ensures.store.words_are c.requires.stands c.requires.outside (within c) (end c)
+    (waits c.args.base c.args.h (locations (s c).size) (s c) c.word.ensures.store.words_are c.requires.stands
+    c.requires.outside (within c) (end c)
     c.obey_orders.new.machine (state_is c ∙ (leads c).state_is))
 
 below_by : (k n all : ℕ) {d : ℕ} → k ≡ d → d ≤ n → (k ≡ n → ⊥) → all ≡ n → k < all
@@ -81,31 +87,44 @@ module _ (c : goal.After-obey_orders-else-digits-rows) where
       let other = c.if-digits-rows.false in
       let k = digits in
       let all : length c.rows_left-rows.result.now ≡ length old.tape = ap length rows in
-      let inside : c.count_digits-digits.result < length c.rows_left-rows.result.now = below_by _ _ _ k few (λ e. other (e ∙ sym all)) all in
-      let same : slice_index c.rows_left-rows.result.now c.count_digits-digits.result ≡ ending = λ i. slice_index (rows i) (k i) in
+      let inside : c.count_digits-digits.result < length c.rows_left-rows.result.now =
+      below_by _ _ _ k few (λ e. other (e ∙ sym all)) all in
+      let same : slice_index c.rows_left-rows.result.now c.count_digits-digits.result ≡ ending =
+      λ i. slice_index (rows i) (k i) in
       subst (λ x. x < 32) same (c.count_digits-digits.ensures.fits inside)
 
   leads_back : Leads (11 + 13 * length (digit_rows old.tape)) old []
-      (last c.args.base c.args.h (locations old.size) old c.word.ensures.store.words_are c.requires.stands c.requires.outside below ending rest behind code)
+      (last c.args.base c.args.h (locations old.size) old c.word.ensures.store.words_are c.requires.stands
+      c.requires.outside below ending rest behind code)
   leads_back =
-      leads_to c.args.base c.args.h (locations old.size) old c.word.ensures.store.words_are c.requires.stands c.requires.outside below ending rest behind code
+      leads_to c.args.base c.args.h (locations old.size) old c.word.ensures.store.words_are c.requires.stands
+      c.requires.outside below ending rest behind code
 
   state_there : c.obey_orders-else-digits-rows.new.machine ≡ state_after (11 + 13 * length (digit_rows old.tape)) old
   state_there = c.obey_orders-else-digits-rows.ensures ∙ ap (λ k. state_after (11 + 13 * k) old) digits
 
 pub returns-else-digits-rows-clause-back : goal.returns-else-digits-rows-clause-back
-returns-else-digits-rows-clause-back c = let e = sym (behind c) in λ i. read_by (e i) (digits c i) (c.way_back-at.ensures i)
+returns-else-digits-rows-clause-back c = let e = sym (behind c)
+    in λ i. read_by (e i) (digits c i) (c.way_back-at.ensures i)
 
 pub returns-else-digits-rows-clause-after : goal.returns-else-digits-rows-clause-after
-returns-else-digits-rows-clause-after c = rw (digits c) (record { state_is = state_there c; free = free (leads_back c) })
+returns-else-digits-rows-clause-after c = rw (digits c) (record {
+  state_is = state_there c;
+  free = free (leads_back c);
+})
 
 pub returns-else-digits-rows-clause-words : goal.returns-else-digits-rows-clause-words
 returns-else-digits-rows-clause-words c =
-    keeps c.args.base c.args.h (locations (old c).size) (old c) c.word.ensures.store.words_are c.requires.stands c.requires.outside (below c)
-    (ending c) (rest c) (behind c) (code c) c.obey_orders-else-digits-rows.new.machine (state_there c ∙ (leads_back c).state_is)
+    keeps c.args.base c.args.h (locations (old c).size) (old c) c.word.ensures.store.words_are c.requires.stands
+    c.requires.outside (below c)
+    (ending c) (rest c) (behind c) (code c) c.obey_orders-else-digits-rows.new.machine
+    (state_there c ∙ (leads_back c).state_is)
 
 pub returns-else-digits-rows-clause-leaves : goal.returns-else-digits-rows-clause-leaves
 returns-else-digits-rows-clause-leaves c =
-    subst (λ rows. ReadLeaves rows c.args.base c.args.h (old c) c.obey_orders-else-digits-rows.new.machine) (sym (behind c))
-    (has_read c.args.base c.args.h (locations (old c).size) (old c) c.word.ensures.store.words_are c.requires.stands c.requires.outside (below c)
-    (ending c) (rest c) (behind c) (code c) c.obey_orders-else-digits-rows.new.machine (state_there c ∙ (leads_back c).state_is))
+    subst (λ rows. ReadLeaves rows c.args.base c.args.h (old c) c.obey_orders-else-digits-rows.new.machine)
+    (sym (behind c))
+    (has_read c.args.base c.args.h (locations (old c).size) (old c) c.word.ensures.store.words_are c.requires.stands
+    c.requires.outside (below c)
+    (ending c) (rest c) (behind c) (code c) c.obey_orders-else-digits-rows.new.machine
+    (state_there c ∙ (leads_back c).state_is))

@@ -16,5 +16,6 @@ one_more r base n parameters s before here i l = by_place (split i n l)
 
 pub loop-place-preserved : goal.loop-place-preserved
 loop-place-preserved c =
-    one_more c.args.routine.now c.args.base c.loop-place.place c.args.parameters.now c.args.machine.now c.loop-place.invariant
+    one_more c.args.routine.now c.args.base c.loop-place.place c.args.parameters.now c.args.machine.now
+    c.loop-place.invariant
     (c.has_word.ensures.0 c.if-not-has_word.false)

@@ -2,7 +2,8 @@ use Rattle.std.proofs.Common.{◌+◌, refl, sym, ap, subst, ◌∙◌, arith, l
 use Rattle.ed_machine.specs.Steps.{stops_of}
 use Rattle.ed_io.specs.Bytes.{GainsPart}
 use Rattle.ed_trace.specs.Private.Growth.{Partly}
-use Rattle.ed_trace.proofs.Going.{going_first, going_on, first_more, state_more, stopped, obeyed_turn, stop_is, no_stop, rises}
+use Rattle.ed_trace.proofs.Going.{going_first, going_on, first_more, state_more}
+use Rattle.ed_trace.proofs.Going.{stopped, obeyed_turn, stop_is, no_stop, rises}
 use Rattle.ed_trace.proofs.Growing.{grows, line_length, nothing_traced}
 use Rattle.ed_trace.proofs.tracing.trace_orders.Goals as goal
 use Rattle.ed_trace.proofs.tracing.trace_orders.Goals.{then-is_stop+else-stops-resumes, else-is_stop}
@@ -21,7 +22,8 @@ pub returns-in-Err : goal.returns-in-Err
 returns-in-Err g c =
     let i = c.loop-done.invariant in
     let o = obeyed_turn _ c.in-Went.is in
-    let text = grows c.loop-done.done c.args.machine.now c.loop-done.machine _ _ i.going.state c.next_letter-letter.ensures refl in
+    let text = grows c.loop-done.done c.args.machine.now c.loop-done.machine _ _ i.going.state
+    c.next_letter-letter.ensures refl in
     let cause = c.in-Err.ensures.cause in
     record {
       trace = record {
@@ -38,12 +40,14 @@ returns-in-Err g c =
 pub returns-then-stops-resumes : goal.returns-then-stops-resumes
 returns-then-stops-resumes g c =
     let i = c.loop-done.invariant in
-    let text = grows c.loop-done.done c.args.machine.now c.loop-done.machine _ _ i.going.state c.next_letter-letter.ensures refl in
+    let text = grows c.loop-done.done c.args.machine.now c.loop-done.machine _ _ i.going.state
+    c.next_letter-letter.ensures refl in
     let stop = stop_is _ (sym c.is_stop.ensures ∙ c.if-is_stop.true) in
     record {
       trace = record {
         orders = c.loop-done.done + 1;
-        ends = stopped _ _ _ _ _ _ _ i.going c.loop-done-test.true c.step-turn.ensures.turn stop (omega (arith, c.if-stops-resumes.true));
+        ends = stopped _ _ _ _ _ _ _ i.going c.loop-done-test.true c.step-turn.ensures.turn stop
+            (omega (arith, c.if-stops-resumes.true));
         state_is = state_more _ _ _ _ _ _ _ i.going c.step-turn.ensures.state;
         partly = subst (λ t. Partly (g.K.Sink.held c.args.out.now) (g.K.Sink.held c.put.new.out) c.put.new.line.items t)
             text (c.in_default.ensures.text _ _ i.partly);
@@ -57,17 +61,20 @@ pub loop-done-preserved : goal.loop-done-preserved
 loop-done-preserved g c =
     let i = c.loop-done.invariant in
     let o = obeyed_turn _ c.in-Went.is in
-    let text = grows c.loop-done.done c.args.machine.now c.loop-done.machine _ _ i.going.state c.next_letter-letter.ensures refl in
+    let text = grows c.loop-done.done c.args.machine.now c.loop-done.machine _ _ i.going.state
+    c.next_letter-letter.ensures refl in
     record {
       going = elim c.if-is_stop.branch [
         | then-is_stop+else-stops-resumes w ↦
             let stop = stop_is _ (sym c.is_stop.ensures ∙ w.if-is_stop.true) in
-            going_on _ _ _ _ _ _ _ _ _ i.going c.loop-done-test.true c.step-turn.ensures.turn c.step-turn.ensures.state o
+            going_on _ _ _ _ _ _ _ _ _ i.going c.loop-done-test.true c.step-turn.ensures.turn
+            c.step-turn.ensures.state o
             (w.stops-is ∙ ap (λ t. c.loop-done.stops + stops_of t) (sym stop))
             (omega (arith, w.stops-is, i.going.within, w.if-stops-resumes.false))
         | else-is_stop w ↦
             let none = no_stop _ (sym c.is_stop.ensures ∙ w.if-is_stop.false) in
-            going_on _ _ _ _ _ _ _ _ _ i.going c.loop-done-test.true c.step-turn.ensures.turn c.step-turn.ensures.state o
+            going_on _ _ _ _ _ _ _ _ _ i.going c.loop-done-test.true c.step-turn.ensures.turn
+            c.step-turn.ensures.state o
             (omega (arith, w.stops-is, none)) (omega (arith, w.stops-is, i.going.within))
       ];
       partly = subst (λ t. Partly (g.K.Sink.held c.args.out.now) (g.K.Sink.held c.put.new.out) c.put.new.line.items t)

@@ -8,14 +8,16 @@ returns-in-Ok-end_line-clause-trace g c =
     let t = c.in-Ok-trace_orders.ensures.trace in (
       ending_found _ _ _ t.orders _ t.ends,
       t.state_is ∙ state_found _ _ _ t.orders _ t.ends,
-      subst (λ text. Gains (g.K.Sink.held c.args.out.now) (g.K.Sink.held c.end_line.new.out) text) (trace_found _ _ _ t.orders _ t.ends)
+      subst (λ text. Gains (g.K.Sink.held c.args.out.now) (g.K.Sink.held c.end_line.new.out) text)
+          (trace_found _ _ _ t.orders _ t.ends)
           (c.in-Ok-end_line.ensures.text _ _ t.orders t.few t.partly),
     )
 
 pub returns-in-Ok-trace_orders-clause-trace : goal.returns-in-Ok-trace_orders-clause-trace
 returns-in-Ok-trace_orders-clause-trace g c =
     let t = c.in-Ok-trace_orders.ensures.trace in
-    subst (λ text. GainsPart (g.K.Sink.held c.args.out.now) (g.K.Sink.held c.end_line.new.out) text) (trace_found _ _ _ t.orders _ t.ends)
+    subst (λ text. GainsPart (g.K.Sink.held c.args.out.now) (g.K.Sink.held c.end_line.new.out) text)
+    (trace_found _ _ _ t.orders _ t.ends)
     (c.in-Err-end_line.ensures.text _ _ t.orders t.few t.partly)
 
 pub returns-clause-trace : goal.returns-clause-trace

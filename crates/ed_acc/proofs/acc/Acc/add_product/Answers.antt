@@ -7,7 +7,11 @@ pub returns : goal.returns
 unfolding plus_product
 returns c =
     let old = c.args.self.now in
-    let within : IsWithin (2 ^ 70) c.product.result = record { low = c.product.ensures.low; high = c.product.ensures.high } in
+    let within : IsWithin (2 ^ 70) c.product.result = record {
+      low = c.product.ensures.low;
+      high = c.product.ensures.high;
+    } in
     let whole : c.add.new.self ≡ modulo71 (pos old +ℤ c.product.result) =
-    rw (c.add.ensures, c.wrapped.ensures.is, passed old c.product.result within) (sym (plus_wrapped old c.product.result within)) in
+    rw (c.add.ensures, c.wrapped.ensures.is, passed old c.product.result within)
+    (sym (plus_wrapped old c.product.result within)) in
     whole ∙ ap (λ p. modulo71 (pos old +ℤ p)) c.product.ensures.is

@@ -7,7 +7,11 @@ pub returns : goal.returns
 unfolding minus_product
 returns c =
     let old = c.args.self.now in
-    let within : IsWithin (2 ^ 70) c.product.result = record { low = c.product.ensures.low; high = c.product.ensures.high } in
+    let within : IsWithin (2 ^ 70) c.product.result = record {
+      low = c.product.ensures.low;
+      high = c.product.ensures.high;
+    } in
     let whole : c.subtract.new.self ≡ modulo71 (pos old -ℤ c.product.result) =
-    rw (c.subtract.ensures, c.wrapped.ensures.is, passed old c.product.result within) (sym (minus_wrapped old c.product.result within)) in
+    rw (c.subtract.ensures, c.wrapped.ensures.is, passed old c.product.result within)
+    (sym (minus_wrapped old c.product.result within)) in
     whole ∙ ap (λ p. modulo71 (pos old -ℤ p)) c.product.ensures.is

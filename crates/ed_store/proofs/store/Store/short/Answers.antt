@@ -10,8 +10,10 @@ returns-clause-is c =
     let cell = cell_read cs c.args.a c.from.result _ c.self.invariant c.requires c.from.ensures c.index-cell.ensures in
     let now = ap (λ (x : Cells). short_at x c.args.a) c.self.view_is in
     elim c.if-a-eq0.branch [
-      | then-a-eq0 w ↦ c.of_number.ensures ∙ w.number-is ∙ ap (λ n. n % 2 ^ 17) cell ∙ sym (short_low cs c.args.a w.if-a-eq0.true) ∙ now
-      | else-a-eq0 w ↦ c.of_number.ensures ∙ w.number-is ∙ ap (λ n. n / 2 ^ 18) cell ∙ sym (short_high cs c.args.a w.if-a-eq0.false) ∙ now
+      | then-a-eq0 w ↦ c.of_number.ensures ∙ w.number-is ∙ ap (λ n. n % 2 ^ 17) cell
+          ∙ sym (short_low cs c.args.a w.if-a-eq0.true) ∙ now
+      | else-a-eq0 w ↦ c.of_number.ensures ∙ w.number-is ∙ ap (λ n. n / 2 ^ 18) cell
+          ∙ sym (short_high cs c.args.a w.if-a-eq0.false) ∙ now
     ]
 
 pub returns-clause-store : goal.returns-clause-store
