@@ -1,5 +1,6 @@
 -- The state of a machine that came back, as the paths see it, and the two orders that plant the directive.
-use Rattle.std.proofs.Common.{◌≡◌, ℕ, suc, ◌+◌, ◌*◌, ◌/◌, ◌^◌, ◌<◌, ◌≤◌, refl, sym, ap, ◌∙◌, arith, lit<, false, Bool, List, ◌∷◌, ◌++◌}
+use Rattle.std.proofs.Common.{◌≡◌, ℕ, suc, ◌+◌, ◌*◌, ◌/◌, ◌^◌, ◌<◌, ◌≤◌, refl, sym}
+use Rattle.std.proofs.Common.{ap, ◌∙◌, arith, lit<, false, Bool, List, ◌∷◌, ◌++◌}
 use Rattle.std.proofs.Common.{length, get_or, drop, take, drop-cons}
 use Rattle.std.proofs.lemmas.List.{set-get_or, get_or-drop, get_or-take, drop-drop, length-drop}
 use Rattle.ed_store.specs.Cells.{IsStore}
@@ -28,7 +29,8 @@ held ws = record {
 }
 
 -- a list from one of its items on
-one_more : (ws : List ℕ) (k w : ℕ) (xs : List ℕ) → k < length ws → get_or ws k 0 ≡ w → xs ≡ drop (suc k) ws → w ∷ xs ≡ drop k ws
+one_more : (ws : List ℕ) (k w : ℕ) (xs : List ℕ) → k < length ws → get_or ws k 0 ≡ w → xs ≡ drop (suc k) ws
+    → w ∷ xs ≡ drop k ws
 one_more ws k w xs l h e = ap (λ x. x ∷ xs) (sym h) ∙ ap (λ x. get_or ws k 0 ∷ x) e ∙ sym (drop-cons ws k 0 l)
 
 -- a list from a stretch of its items on
@@ -50,12 +52,14 @@ held_words s h long =
     let d41 = one_more ws 41 _ _ (omega arith) refl d42 in
     let d40 = one_more ws 40 _ _ (omega arith) refl d41 in
     let cs = take 17 (drop 23 initial_orders) in
-    let d23 = ap (λ x. cs ++ x) d40 ∙ stretch cs ws 23 40 refl (omega arith) (λ j b. h.high (23 + j) (omega arith) (omega arith) ∙ high j b) in
+    let d23 = ap (λ x. cs ++ x) d40
+    ∙ stretch cs ws 23 40 refl (omega arith) (λ j b. h.high (23 + j) (omega arith) (omega arith) ∙ high j b) in
     let d22 = one_more ws 22 _ _ (omega arith) refl d23 in
     let d21 = one_more ws 21 114768 _ (omega arith) (h.middle 21 (omega arith) (omega arith)) d22 in
     let d20 = one_more ws 20 _ _ (omega arith) refl d21 in
     let bs = take 18 (drop 2 initial_orders) in
-    let d2 = ap (λ x. bs ++ x) d20 ∙ stretch bs ws 2 20 refl (omega arith) (λ j b. h.low (2 + j) (omega arith) (omega arith) ∙ low j b) in
+    let d2 = ap (λ x. bs ++ x) d20
+    ∙ stretch bs ws 2 20 refl (omega arith) (λ j b. h.low (2 + j) (omega arith) (omega arith) ∙ low j b) in
     let d1 = one_more ws 1 _ _ (omega arith) refl d2 in
     one_more ws 0 _ _ (omega arith) refl d1
   where
@@ -69,7 +73,8 @@ abbrev pub reopens : (s : State) → IsStore s.store → Moment
 reopens s store =
     moment (frame s store) (held s.store.words) s.store.words (get_or s.store.sandwich 20 false) s.acc 25 s.tape
 
-pub reopened : (s : State) (store : IsStore s.store) → IsReturned s → state (frame s store) (reopens s store) s.orders ≡ s
+pub reopened : (s : State) (store : IsStore s.store) → IsReturned s
+    → state (frame s store) (reopens s store) s.orders ≡ s
 unfolding patched
 reopened s store back =
     let words = held_words s back store.words_are in
@@ -90,7 +95,8 @@ reopened s store back =
     }
 
 -- the two orders: the word at the top of the accumulator is planted at 22
-pub return_path : (f : Kept) (w : Working) (words : List ℕ) (digit40 : Bool) (acc u : ℕ) (tape : List ℕ) → acc / 2 ^ 54 ≡ u
+pub return_path : (f : Kept) (w : Working) (words : List ℕ) (digit40 : Bool) (acc u : ℕ) (tape : List ℕ)
+    → acc / 2 ^ 54 ≡ u
     → ToRest f 2 (moment f w words digit40 acc 25 tape) (moment f (record w { at22 = u }) words digit40 0 34 tape)
 return_path f w words digit40 acc u tape is =
     ends (on (T_top 25 (own 22) u refl is) refl stay) (E_jumps 26 (own 34) refl (lit< tt)) refl

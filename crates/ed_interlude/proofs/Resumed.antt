@@ -1,6 +1,7 @@
--- A load that is taken up again: from a machine that came back a well-formed rest of a tape leads to the state at the entry,
--- by the induction that serves the load of a whole tape.
-use Rattle.std.proofs.Common.{◌≡◌, ◌+◌, ◌*◌, ◌^◌, ◌<◌, refl, ap, ◌∙◌, subst, arith, inl, inr, false, None, get_or, length}
+-- A load that is taken up again: from a machine that came back a well-formed rest of a tape leads to the state at the
+-- entry, by the induction that serves the load of a whole tape.
+use Rattle.std.proofs.Common.{◌≡◌, ◌+◌, ◌*◌, ◌^◌, ◌<◌, refl, ap, ◌∙◌, subst}
+use Rattle.std.proofs.Common.{arith, inl, inr, false, None, get_or, length}
 use Rattle.ed_store.specs.Cells.{IsStore}
 use Rattle.ed_machine.specs.State.{State}
 use Rattle.ed_machine.specs.Steps.{state_after}
@@ -20,7 +21,7 @@ use Rattle.ed_initial.proofs.Whole.{cost_fits, ended}
 use Rattle.ed_interlude.specs.Returned.{IsReturned, IsRestWellFormed, LeavesDirective, ComesBack, directive, reopening}
 use Rattle.ed_interlude.proofs.Reopened.{held, reopens, reopened, return_path}
 
-is_directive : (s : State) → LeavesDirective s → IsDirective (directive s)
+pub is_directive : (s : State) → LeavesDirective s → IsDirective (directive s)
 is_directive s leaves =
     let least = leaves.least in
     let most = leaves.most in
@@ -58,14 +59,18 @@ leads_back s e store back h =
     let set = is_directive s back.leaves in
     let read : reading s.size ws 0 2 (reopening s) None s.tape ≡ Arrived e =
     (reading_is_rules s.size ws (reopening s) 2 s.tape set).arrived e h.well h.comes in
-    let rest = loads f ws s.orders s.tape (left s) 0 2 (reopening s) None e (is_note s back.leaves (store.fits 42)) tt read in
+    let rest = loads f ws s.orders s.tape (left s) 0 2 (reopening s) None e
+    (is_note s back.leaves (store.fits 42)) tt read in
     let path = return_path f (held ws) ws (get_or s.store.sandwich 20 false) s.acc (directive s) s.tape refl in
-    let begun : Reaches f ws s.orders 0 (state f (reopens s store) (s.orders + 0)) e = prepend f ws s.orders 2 0 path rest in
+    let begun : Reaches f ws s.orders 0 (state f (reopens s store) (s.orders + 0)) e =
+    prepend f ws s.orders 2 0 path rest in
     let zero : s.orders + 0 ≡ s.orders = omega arith in
-    let same : state f (reopens s store) (s.orders + 0) ≡ s = ap (state f (reopens s store)) zero ∙ reopened s store back in
+    let same : state f (reopens s store) (s.orders + 0) ≡ s = ap (state f (reopens s store)) zero
+    ∙ reopened s store back in
     leads_in s store e (subst (λ x. Reaches f ws s.orders 0 x e) same begun)
 
-module _ (s t : State) (r : Loaded) (store : IsStore s.store) (back : IsReturned s) (ends : EndsAs s (17 * length s.tape + 2) r)
+module _ (s t : State) (r : Loaded) (store : IsStore s.store) (back : IsReturned s)
+    (ends : EndsAs s (17 * length s.tape + 2) r)
     (is : t ≡ state_after (orders_of r) s) where
   pub resumed_load : (e : Entry) → ComesBack s e → IsLoaded s e r t
   resumed_load e h =

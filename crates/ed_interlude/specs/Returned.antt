@@ -22,8 +22,8 @@ pub record LeavesDirective (s : State) : Type 0 where
   pub least : 20480 ≤ directive s
   pub most : directive s ≤ 20480 + 2 * 1023
 
--- the machine came back: it stands at 25, the Initial Orders and their constants are as they left them, and the directive
--- is in the accumulator
+-- the machine came back: it stands at 25, the Initial Orders and their constants are as they left them, and the
+-- directive is in the accumulator
 pub record IsReturned (s : State) : Type 0 where
   pub counter : s.counter ≡ 25
   pub low : AreListed s.store 2 20

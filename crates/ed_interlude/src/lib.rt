@@ -1,11 +1,12 @@
 //! Interludes: programs that do their work while a tape is read, and go back to the Initial Orders.
 //!
 //! The contract is the loading theorem from a machine that came back: the rows left, if they are well formed under the
-//! directive that the program left, lead to the entry that the notation means. Stands on `ed_notation` and `ed_initial`.
+//! directive that the program left, lead to the entry that the notation means. Stands on `ed_notation` and
+//! `ed_initial`.
 #![tactic(auto)]
 
 mod resuming;
 mod returning;
 
 pub use resuming::{check_rest, resume};
-pub use returning::is_returned;
+pub use returning::{directive, is_returned};

@@ -18,7 +18,8 @@ use std::alloc::Global;
 pub fn check_rest(alloc: Global, machine: &Machine) -> Result<Checked, TapeFault>
     requires returned { IsReturned machine.now }
     requires rows { length machine.now.tape ≤ 2 ^ 32 }
-    ensures answers { Answers machine.now.size machine.now.store.words (reopening machine.now) 2 machine.now.tape result }
+    ensures answers { Answers machine.now.size machine.now.store.words
+        (reopening machine.now) 2 machine.now.tape result }
     ensures bound { IfOk result (λ c. c.orders ≤ 17 * c.rows + 2) }
 {
     check_from(

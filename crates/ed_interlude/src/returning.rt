@@ -36,8 +36,8 @@ pub fn is_returned(machine: &Machine) -> bool
         && are_listed(machine, 23, 40)
 }
 
-/// The word at the top of the accumulator.
-pub(crate) fn directive(machine: &Machine) -> Word
+/// The word at the top of the accumulator, which is the directive that a program leaves where it comes back.
+pub fn directive(machine: &Machine) -> Word
     ensures { result ≡ directive machine.now }
 {
     Word::of_number((machine.acc() >> 54) as u32)

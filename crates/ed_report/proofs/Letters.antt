@@ -1,5 +1,6 @@
 -- Letters of a trace, one after the other.
-use Rattle.std.proofs.Common.{◌≡◌, ◌∙◌, ℕ, zero, suc, ◌+◌, refl, sym, ap, arith, add-one, List, [], ◌∷◌, ◌++◌, length, append_assoc, append-nil, length-append}
+use Rattle.std.proofs.Common.{◌≡◌, ◌∙◌, ℕ, zero, suc, ◌+◌, refl, sym, ap, arith, add-one, List}
+use Rattle.std.proofs.Common.{[], ◌∷◌, ◌++◌, length, append_assoc, append-nil, length-append}
 use Rattle.ed_words.specs.Words.{function_of}
 use Rattle.ed_machine.specs.State.{State}
 use Rattle.ed_machine.specs.OrderTable.{next_word}
@@ -12,7 +13,8 @@ pub letters_more : (n : ℕ) (fs : List ℕ) (f : ℕ)
 letters_more n [] f = let e : n + 0 + 1 ≡ n + 1 = omega arith in rw e (append-nil (letter_of (n + 1) f))
 letters_more n (g ∷ fs) f =
     let e : n + 1 + length fs + 1 ≡ n + length (g ∷ fs) + 1 = omega arith in
-    ap (λ t. letter_of (n + 1) g ++ t) (letters_more (n + 1) fs f ∙ ap (λ k. letters_from (n + 1) fs ++ letter_of k f) e)
+    ap (λ t. letter_of (n + 1) g ++ t)
+    (letters_more (n + 1) fs f ∙ ap (λ k. letters_from (n + 1) fs ++ letter_of k f) e)
     ∙ sym (append_assoc (letter_of (n + 1) g) (letters_from (n + 1) fs) (letter_of (n + length (g ∷ fs) + 1) f))
 
 -- the functions of one order more

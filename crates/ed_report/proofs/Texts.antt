@@ -20,14 +20,16 @@ told (Ok s) (Ok bytes) wrote wanted same taken made = taken ∙ made ∙ same
 told (Err e) (Ok bytes) wrote wanted same taken made = absurd taken
 
 no_order_pieces : (counter orders : ℕ) (text : List ℕ)
-    → codes "no order at " ++ (decimal counter ++ (codes " after " ++ (decimal orders ++ (codes ": " ++ (text ++ 10 ∷ [])))))
+    → codes "no order at " ++ (decimal counter
+    ++ (codes " after " ++ (decimal orders ++ (codes ": " ++ (text ++ 10 ∷ [])))))
     ≡ at_after (codes "no order") counter orders ++ codes ": " ++ text ++ 10 ∷ []
 no_order_pieces counter orders text = simp append_assoc
 
 -- what is written of a run that came to no order is its line
 pub no_order_wrote : (s : State) (counter orders : ℕ) (text : List ℕ) → counter ≡ s.counter → orders ≡ s.orders
     → text ≡ order_text (short_at s.store s.counter)
-    → codes "no order at " ++ (decimal counter ++ (codes " after " ++ (decimal orders ++ (codes ": " ++ (text ++ 10 ∷ [])))))
+    → codes "no order at " ++ (decimal counter
+    ++ (codes " after " ++ (decimal orders ++ (codes ": " ++ (text ++ 10 ∷ [])))))
     ≡ ending_line NoOrder s
 no_order_wrote s counter orders text c o t =
     rw (c, o, t) (no_order_pieces s.counter s.orders (order_text (short_at s.store s.counter)))

@@ -1,4 +1,5 @@
 pub mod Notes
+pub mod Entries
 pub mod Listings
 pub mod FirstNotes
 pub mod Catalogue

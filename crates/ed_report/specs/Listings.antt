@@ -12,7 +12,8 @@ right width n = repeat (width - length (decimal n)) (codes " ") ++ decimal n
 -- a location, its word as a number and as an order, and a line feed
 abbrev pub listing_line : Cells → ℕ → List ℕ
 listing_line store place =
-    right 4 place ++ codes " " ++ right 6 (short_at store place) ++ codes " " ++ order_text (short_at store place) ++ 10 ∷ []
+    right 4 place ++ codes " " ++ right 6 (short_at store place) ++ codes " "
+    ++ order_text (short_at store place) ++ 10 ∷ []
 
 -- a line for each of the locations
 abbrev pub listing : Cells → List ℕ → List ℕ

@@ -7,8 +7,10 @@ use Rattle.ed_codes.specs.declared.tape.TextFault.TheVariants.{NoRow, OpenCommen
 use Rattle.ed_notation.specs.declared.cause.TapeFault.{TapeFault}
 use Rattle.ed_notation.specs.declared.cause.TapeFault.TheVariants.{At, Memory as NoMemoryThere}
 use Rattle.ed_notation.specs.declared.cause.TapeCause.{TapeCause}
-use Rattle.ed_notation.specs.declared.cause.TapeCause.TheVariants.{EndOfTape, BadRow, NumberTooLarge, AfterMark, BadControl}
-use Rattle.ed_notation.specs.declared.cause.TapeCause.TheVariants.{LoaderStore, StoreEnd, NoPlace, EntryNegative, EntryInLoader}
+use Rattle.ed_notation.specs.declared.cause.TapeCause.TheVariants.{EndOfTape, BadRow, NumberTooLarge}
+use Rattle.ed_notation.specs.declared.cause.TapeCause.TheVariants.{AfterMark, BadControl}
+use Rattle.ed_notation.specs.declared.cause.TapeCause.TheVariants.{LoaderStore, StoreEnd, NoPlace}
+use Rattle.ed_notation.specs.declared.cause.TapeCause.TheVariants.{EntryNegative, EntryInLoader}
 use Rattle.ed_syntax.specs.declared.fault.SourceFault.{SourceFault}
 use Rattle.ed_syntax.specs.declared.fault.SourceFault.TheVariants.{At as AtLine, Memory as NoMemoryForIt}
 use Rattle.ed_syntax.specs.declared.fault.SourceCause.{SourceCause}
@@ -44,7 +46,8 @@ rule_line row cause = codes "row " ++ decimal row ++ codes ": " ++ cause_text ca
 
 -- `part P, row R: Nk TEXT`, for a tape that is read in parts: P counts from 1, and R from the tape's first row
 abbrev pub part_line : ℕ → ℕ → TapeCause → List ℕ
-part_line part row cause = codes "part " ++ decimal part ++ codes ", row " ++ decimal row ++ codes ": " ++ cause_text cause ++ 10 ∷ []
+part_line part row cause = codes "part " ++ decimal part ++ codes ", row " ++ decimal row ++ codes ": "
+    ++ cause_text cause ++ 10 ∷ []
 
 -- the line of a tape's fault; want of memory is told by no line of this kind
 abbrev pub tape_fault_line : TapeFault → List ℕ
@@ -86,7 +89,8 @@ bad_command_line line = of_line line (codes "C1 bad command")
 
 -- that of one that goes back too far, with the orders done there
 abbrev pub too_far_line : ℕ → ℕ → List ℕ
-too_far_line line done = codes "line " ++ decimal line ++ codes ": C2 back too far, " ++ decimal done ++ codes " done" ++ 10 ∷ []
+too_far_line line done = codes "line " ++ decimal line ++ codes ": C2 back too far, " ++ decimal done
+    ++ codes " done" ++ 10 ∷ []
 
 -- that of an input that no line divides, with the number of its lines and 1
 abbrev pub no_text_line : ℕ → List ℕ

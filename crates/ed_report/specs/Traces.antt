@@ -1,5 +1,6 @@
 -- The trace of orders: the letter or sign of each order's function, 50 to a line (this project's own rule).
-use Rattle.std.specs.Prelude.{ℕ, zero, suc, ◌+◌, ◌%◌, Bool, true, false, nat_eq, if◌then◌else◌, List, [], ◌∷◌, ◌++◌, length}
+use Rattle.std.specs.Prelude.{ℕ, zero, suc, ◌+◌, ◌%◌, Bool, true, false, nat_eq}
+use Rattle.std.specs.Prelude.{if◌then◌else◌, List, [], ◌∷◌, ◌++◌, length}
 use Rattle.ed_words.specs.Words.{function_of}
 use Rattle.ed_codes.specs.Spelling.{byte_of}
 use Rattle.ed_machine.specs.State.{State}

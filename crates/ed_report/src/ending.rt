@@ -22,7 +22,8 @@ pub fn ending_text(alloc: Global, ending: Ending, machine: &Machine) -> Result<V
     }
 }
 
-/// The same line behind `entered E after N orders, `, for a run that entered its program at `entry` after `cost` orders.
+/// The same line behind `entered E after N orders, `, for a run that entered its program at `entry` after `cost`
+/// orders.
 pub fn entered_text(
     alloc: Global,
     entry: u16,

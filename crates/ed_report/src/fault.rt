@@ -1,6 +1,7 @@
 ghost use Rattle.std.specs.Prelude.{◌≡◌, ◌≢◌, IfOk};
 ghost use Rattle.ed_codes.specs.declared.tape.TextFault.TheVariants.{Memory};
-ghost use Rattle.ed_report.specs.Notes.{cause_text, part_line, rule_line, source_cause_text, source_fault_line, tape_fault_line, text_fault_line};
+ghost use Rattle.ed_report.specs.Notes.{cause_text, part_line, rule_line, source_cause_text};
+ghost use Rattle.ed_report.specs.Notes.{source_fault_line, tape_fault_line, text_fault_line};
 
 use crate::text::bytes_of_text;
 use ed_codes::TextFault;
@@ -36,8 +37,8 @@ pub fn tape_fault(alloc: Global, fault: &TapeFault) -> Result<Vec<u8>, NoMemory>
     }
 }
 
-/// The line that tells of a rule that is broken in a part of a tape, with the parts counted from 1 and the row from 0, from
-/// the tape's first.
+/// The line that tells of a rule that is broken in a part of a tape, with the parts counted from 1 and the row from
+/// 0, from the tape's first.
 pub fn part_fault(
     alloc: Global,
     part: u32,

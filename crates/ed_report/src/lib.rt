@@ -1,11 +1,12 @@
-//! Texts for the outside: what was printed, on one paper or on two, words of a store in lines, the routines of the library,
-//! the letters of orders, and the lines that tell of faults and endings.
+//! Texts for the outside: what was printed, on one paper or on two, words of a store in lines, the routines of the
+//! library, the letters of orders, and the lines that tell of faults, entries and endings.
 //!
-//! The contract is that each text is exact to the byte. Stands on `ed_machine`, `ed_printer`, `ed_notation`, `ed_initial1`,
-//! `ed_library` and `ed_syntax`.
+//! The contract is that each text is exact to the byte. Stands on `ed_machine`, `ed_printer`, `ed_notation`,
+//! `ed_initial1`, `ed_library` and `ed_syntax`.
 #![tactic(auto)]
 
 mod ending;
+mod entry;
 mod fault;
 mod first_fault;
 mod library;
@@ -16,6 +17,7 @@ mod text;
 mod trace;
 
 pub use ending::{ending_text, entered_text};
+pub use entry::{entry_text, returned_text};
 pub use fault::{part_fault, source_fault, tape_fault, text_fault};
 pub use first_fault::tape1_fault;
 pub use library::library_text;

@@ -38,7 +38,8 @@ fn routine_line(alloc: Global, routine: Routine) -> Result<Vec<u8>, NoMemory>
 
 /// The name of a routine, a blank, and how many places it takes.
 fn name_and_length(alloc: Global, routine: Routine) -> Result<Vec<u8>, NoMemory>
-    ensures { IfOk result (λ bytes. bytes.items ≡ (entry routine).name ++ codes " " ++ decimal (length (entry routine).items)) }
+    ensures { IfOk result (λ bytes. bytes.items ≡ (entry routine).name ++ codes " "
+        ++ decimal (length (entry routine).items)) }
 {
     let name = routine.name();
     let places = routine.length();

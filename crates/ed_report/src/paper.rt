@@ -16,7 +16,8 @@ pub fn paper_text(alloc: Global, codes: &[Code]) -> Result<Vec<u8>, NoMemory>
     Ok(bytes)
 }
 
-/// The bytes that a printer at its start gives for two papers: the second is printed in the shift that the first leaves.
+/// The bytes that a printer at its start gives for two papers: the second is printed in the shift that the first
+/// leaves.
 pub fn papers_text(alloc: Global, first: &[Code], second: &[Code]) -> Result<Vec<u8>, NoMemory>
     ensures { IfOk result (λ bytes. bytes.items ≡ paper (first.now ++ second.now)) }
 {
@@ -27,8 +28,8 @@ pub fn papers_text(alloc: Global, first: &[Code], second: &[Code]) -> Result<Vec
     Ok(bytes)
 }
 
-/// Prints codes; whatever codes come after them are printed in the shift that is left. Kept out of the callers, since it
-/// would slow the run of a tape down.
+/// Prints codes; whatever codes come after them are printed in the shift that is left. Kept out of the callers, since
+/// it would slow the run of a tape down.
 #[inline(never)]
 fn strike_all(printer: &mut Printer, bytes: &mut Vec<u8>, codes: &[Code]) -> Result<(), NoMemory>
     ensures { IfOk result (λ _. (rest : List ℕ) →

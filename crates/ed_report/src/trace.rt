@@ -8,8 +8,8 @@ use std::alloc::Global;
 /// How many letters a line of a trace has.
 pub const LETTERS: usize = 50;
 
-/// The trace of the functions of orders: the letter or sign of each, never a digit, 50 to a line. The last line, where it
-/// has a letter, ends with a line feed.
+/// The trace of the functions of orders: the letter or sign of each, never a digit, 50 to a line. The last line,
+/// where it has a letter, ends with a line feed.
 pub fn trace_text(alloc: Global, functions: &[Code]) -> Result<Vec<u8>, NoMemory>
     ensures { IfOk result (λ bytes. bytes.items ≡ trace_text functions.now) }
 {

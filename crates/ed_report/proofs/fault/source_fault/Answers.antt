@@ -4,4 +4,5 @@ use Rattle.ed_report.proofs.fault.source_fault.Goals as goal
 
 pub returns : goal.returns
 returns c =
-    rw c.in-At.is (told _ _ _ _ (rw c.source_cause_text-rule.ensures (simp append_assoc)) c.bytes_of_text.ensures c.format.ensures.ok)
+    rw c.in-At.is (told _ _ _ _ (rw c.source_cause_text-rule.ensures (simp append_assoc)) c.bytes_of_text.ensures
+    c.format.ensures.ok)

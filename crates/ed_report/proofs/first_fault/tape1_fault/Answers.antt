@@ -3,4 +3,5 @@ use Rattle.ed_report.proofs.Texts.{told}
 use Rattle.ed_report.proofs.first_fault.tape1_fault.Goals as goal
 
 pub returns : goal.returns
-returns c = rw c.in-At.is (told _ _ _ _ (rw c.cause1_text-rule.ensures (simp append_assoc)) c.bytes_of_text.ensures c.format.ensures.ok)
+returns c = rw c.in-At.is
+    (told _ _ _ _ (rw c.cause1_text-rule.ensures (simp append_assoc)) c.bytes_of_text.ensures c.format.ensures.ok)

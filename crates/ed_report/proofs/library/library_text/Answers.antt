@@ -1,4 +1,5 @@
-use Rattle.std.proofs.Common.{◌≡◌, ◌∙◌, ℕ, ◌+◌, ◌<◌, Bool, true, false, sym, ap, subst, List, ◌++◌, append_assoc, drop, length, get_or, if◌then◌else◌}
+use Rattle.std.proofs.Common.{◌≡◌, ◌∙◌, ℕ, ◌+◌, ◌<◌, Bool, true, false, sym, ap, subst}
+use Rattle.std.proofs.Common.{List, ◌++◌, append_assoc, drop, length, get_or, if◌then◌else◌}
 use Rattle.std.proofs.lemmas.List.{drop_more}
 use Rattle.ed_library.specs.Entries.{Entry, catalogue, no_entry}
 use Rattle.ed_report.specs.Catalogue.{routine_line, routine_lines}
@@ -10,17 +11,20 @@ taken false whole other more e h = absurd (cc)
 
 -- one line more, of those of some routines
 next : (entries : List Entry) (k : ℕ) (lines line more whole : List ℕ) → k < length entries
-    → line ≡ routine_line (get_or entries k no_entry) → more ≡ lines ++ line → lines ++ routine_lines (drop k entries) ≡ whole
+    → line ≡ routine_line (get_or entries k no_entry) → more ≡ lines ++ line
+    → lines ++ routine_lines (drop k entries) ≡ whole
     → more ++ routine_lines (drop (k + 1) entries) ≡ whole
 next entries k lines line more whole below is grown before =
     let rest = routine_lines (drop (k + 1) entries) in
-    (λ i. (grown ∙ ap (λ (x : List ℕ). lines ++ x) is) i ++ rest) ∙ append_assoc lines (routine_line (get_or entries k no_entry)) rest
+    (λ i. (grown ∙ ap (λ (x : List ℕ). lines ++ x) is) i ++ rest)
+    ∙ append_assoc lines (routine_line (get_or entries k no_entry)) rest
     ∙ sym (ap (λ (x : List Entry). lines ++ routine_lines x) (drop_more entries k no_entry below)) ∙ before
 
 pub loop-index-preserved : goal.loop-index-preserved
 loop-index-preserved c =
     let l = c.loop-index in
-    let below : l.index < length catalogue = subst (λ (n : ℕ). l.index < n) c.catalogue_size-index-end.ensures.is c.loop-index-test.true in
+    let below : l.index < length catalogue =
+    subst (λ (n : ℕ). l.index < n) c.catalogue_size-index-end.ensures.is c.loop-index-test.true in
     let grown = taken _ _ _ _ c.if-is_err.ensures.negation c.extend_from_slice.ensures.items in
     next catalogue l.index l.lines.items c.in_ok-line.line.items c.extend_from_slice.new.self.items _ below
     (c.in_ok-line.ensures ∙ ap (λ (r : ℕ). routine_line (get_or catalogue r no_entry)) c.routine.ensures)

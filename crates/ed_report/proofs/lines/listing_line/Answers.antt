@@ -11,6 +11,8 @@ returns c =
     let word = c.short-word.ensures.is in
     let value = c.value-value.ensures.is ∙ word in
     let four = ap (λ s. styled_decimal s c.args.place) c.laid_out.ensures ∙ in_columns 4 c.args.place in
-    let six = ap (λ s. styled_decimal s c.value-value.result) c.laid_out-2.ensures ∙ in_columns 6 c.value-value.result ∙ ap (right 6) value in
+    let six = ap (λ s. styled_decimal s c.value-value.result) c.laid_out-2.ensures ∙ in_columns 6 c.value-value.result
+    ∙ ap (right 6) value in
     let text = c.as_str-text.ensures.value ∙ c.order_text-order.ensures ∙ ap order_text word in
-    told _ _ _ _ (line_wrote c.args.store.now c.args.place _ _ _ four six text) c.bytes_of_text.ensures c.format.ensures.ok
+    told _ _ _ _ (line_wrote c.args.store.now c.args.place _ _ _ four six text) c.bytes_of_text.ensures
+    c.format.ensures.ok

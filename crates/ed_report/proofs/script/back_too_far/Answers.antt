@@ -5,7 +5,8 @@ use Rattle.ed_report.proofs.Texts.{told}
 use Rattle.ed_report.proofs.script.back_too_far.Goals as goal
 
 pieces : (line done : ℕ)
-    → codes "line " ++ (decimal line ++ (codes ": C2 back too far, " ++ (decimal done ++ (codes " done" ++ 10 ∷ [])))) ≡ too_far_line line done
+    → codes "line " ++ (decimal line ++ (codes ": C2 back too far, " ++ (decimal done ++ (codes " done" ++ 10 ∷ []))))
+    ≡ too_far_line line done
 pieces line done = simp append_assoc
 
 pub returns : goal.returns

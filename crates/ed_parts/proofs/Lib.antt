@@ -1,0 +1,9 @@
+mod Keeping
+mod Homes
+mod Programs
+mod Rows
+mod Parting
+pub mod Tales
+mod Passing
+mod Reached
+mod Runs

@@ -1,0 +1,13 @@
+//! Tapes in parts: programs that go back to the Initial Orders, which then read on.
+//!
+//! The contract is that a sink gains exactly the lines of the entries and returns that the definition tells of a tape,
+//! each as it comes, or a first part of them where a write fails; that the definition tells one thing of every tape;
+//! and that the Initial Orders lead every part to its entry. Stands on `ed_interlude`, `ed_run`, `ed_io` and
+//! `ed_report`.
+#![tactic(auto)]
+
+mod part;
+mod program;
+mod tape;
+
+pub use tape::{PartsEnd, PartsFault, run_parts};

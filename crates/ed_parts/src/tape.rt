@@ -1,0 +1,78 @@
+//! The parts of a tape, one after the other.
+ghost use Rattle.std.specs.Prelude.{◌≡◌, ◌+◌, ◌≤◌, ◌^◌, IfErr, length};
+ghost use Rattle.ed_io.specs.Causes.{Rose};
+ghost use Rattle.ed_parts.specs.Laws.{EachEndIsTheRuns, EachEntryIsReached, EachTapeIsToldOnce};
+ghost use Rattle.ed_parts.specs.Parts.{PartsAnswer};
+
+use crate::part::{Passed, Stage, run_part};
+use ed_io::Sink;
+use ed_machine::{Ending, Machine};
+use ed_notation::TapeCause;
+use std::alloc::Global;
+
+/// How a tape in parts ended.
+#[derive(Clone, Copy, Debug, PartialEq, Eq)]
+pub enum PartsEnd {
+    /// The run ended so.
+    Ended(Ending),
+    /// A part breaks a rule of the notation.
+    Faulty {
+        /// The number of the part, counted from 1.
+        part: u32,
+        /// The row, counted from the tape's first.
+        row: usize,
+        /// The rule.
+        cause: TapeCause,
+    },
+}
+
+/// Why the lines of a tape were not written whole.
+#[derive(Clone, Copy, Debug, PartialEq, Eq)]
+pub enum PartsFault {
+    /// A write failed.
+    Failed,
+    /// No memory was found for a check or a line.
+    Memory,
+}
+
+/// Reads the tape of a machine that stands at Start, whose programs may go back to the Initial Orders, and writes the
+/// line of each entry and of each return as it comes.
+///
+/// At most `limit` orders are obeyed, counted from Start. The machine is left in the state in which the run ended;
+/// where a part has a fault, in that in which the part begins. `Failed` comes only where the sink's count of faults
+/// rose.
+pub fn run_parts<K: Sink>(
+    alloc: Global,
+    machine: &mut Machine,
+    limit: u32,
+    out: &mut K,
+) -> Result<PartsEnd, PartsFault>
+    requires orders { machine.old.orders + limit ≤ 2 ^ 63 }
+    requires rows { length machine.old.tape ≤ 2 ^ 32 }
+    ensures tells { PartsAnswer limit machine.old result machine.new (K.held out.old) (K.held out.new) }
+    ensures later { K.faults out.old ≤ K.faults out.new }
+    ensures cause { IfErr result (λ e. e ≡ PartsFault.Failed → Rose (K.faults out.old) (K.faults out.new)) }
+    ensures law { EachTapeIsToldOnce }
+    ensures reached { EachEntryIsReached }
+    ensures runs { EachEndIsTheRuns }
+{
+    let rows = machine.rows_left().len();
+    let mut number = 1u32;
+    let mut done = 0u64;
+    'parts: loop {
+        let stage = Stage {
+            limit: u64::from(limit),
+            rows,
+            number,
+            done,
+        };
+        match run_part(alloc, stage, machine, out) {
+            Ok(Passed::Over(end)) => return Ok(end),
+            Ok(Passed::Back { done: now }) => {
+                number += 1;
+                done = now;
+            }
+            Err(fault) => return Err(fault),
+        }
+    }
+}
