@@ -1,7 +1,6 @@
 -- A source's program on its way from call to call: which words are still those of its entry.
-use Rattle.std.proofs.Common.{◌≡◌, inl, inr, ℕ, ◌+◌, ◌*◌, ◌<◌, ◌≤◌, refl, ◌∙◌, arith, true, List, length, lit<}
+use Rattle.std.proofs.Common.{◌≡◌, inl, inr, ℕ, ◌+◌, ◌*◌, ◌<◌, ◌≤◌, refl, ◌∙◌, arith, true, List, length}
 use Rattle.std.specs.Prelude.{unwrap_or}
-use Rattle.ed_words.specs.Sizes.{locations}
 use Rattle.ed_words.specs.declared.size.Size.{Size}
 use Rattle.ed_words.proofs.SizeLemmas.{least}
 use Rattle.ed_store.specs.Cells.{short_at}
@@ -14,7 +13,8 @@ use Rattle.ed_sources.proofs.AtEntry.{all_words, has_image, have_places, image_a
 use Rattle.ed_sources.proofs.CalledRoutines.{HasRoutine, IsBeside, Passes}
 use Rattle.ed_sources.proofs.Calling.{IsBefore}
 
--- the program is at m with a clear accumulator, and the words beside those from one location to another are as at its entry
+-- the program is at m with a clear accumulator, and the words beside those from one location to another are as at its
+-- entry
 pub record IsAt (z : Size) (lines : List Line) (t : State) (from to m : ℕ) : Type 0 where
   pub counter : t.counter ≡ m
   pub acc : t.acc ≡ 0
@@ -23,7 +23,8 @@ pub record IsAt (z : Size) (lines : List Line) (t : State) (from to m : ℕ) : T
   pub kept : (i : ℕ) → IsBeside from to i → short_at t.store i ≡ short_at (entry_state z lines).store i
 
 -- as it is at the entry
-pub entered : (z : Size) (lines : List Line) (from to m : ℕ) → (entry_state z lines).counter ≡ m → IsAt z lines (entry_state z lines) from to m
+pub entered : (z : Size) (lines : List Line) (from to m : ℕ) → (entry_state z lines).counter ≡ m
+    → IsAt z lines (entry_state z lines) from to m
 entered z lines from to m counter = record {
   counter = counter;
   acc = refl;
@@ -32,14 +33,17 @@ entered z lines from to m counter = record {
   kept = λ i beside. refl;
 }
 
-module _ (z : Size) (lines : List Line) (fit : have_places (placed lines) ≡ true) (t : State) (from to m : ℕ) (o : IsAt z lines t from to m) where
+module _ (z : Size) (lines : List Line) (fit : have_places (placed lines) ≡ true) (t : State) (from to m : ℕ)
+    (o : IsAt z lines t from to m) where
   -- a word that the source places
-  pub word_there : (i w : ℕ) → IsBeside from to i → 44 ≤ i → i < 1024 → unwrap_or (placed_at (placed lines) i) 0 ≡ w → short_at t.store i ≡ w
+  pub word_there : (i w : ℕ) → IsBeside from to i → 44 ≤ i → i < 1024 → unwrap_or (placed_at (placed lines) i) 0 ≡ w
+      → short_at t.store i ≡ w
   word_there i w beside low high is = o.kept i beside ∙ word_at z lines fit i low high ∙ is
 
   -- the two orders of a call stand there
   pub before : (base : ℕ) → m + 3 ≤ from → 44 ≤ m → from ≤ 512 → base < 512
-      → unwrap_or (placed_at (placed lines) m) 0 ≡ 114688 + 2 * m → unwrap_or (placed_at (placed lines) (m + 1)) 0 ≡ 110592 + 2 * base
+      → unwrap_or (placed_at (placed lines) m) 0 ≡ 114688 + 2 * m
+      → unwrap_or (placed_at (placed lines) (m + 1)) 0 ≡ 110592 + 2 * base
       → IsBefore t m base
   before base inside low near there first second =
       let size = least z in
@@ -54,7 +58,8 @@ module _ (z : Size) (lines : List Line) (fit : have_places (placed lines) ≡ tr
       }
 
   -- a routine stands behind what was changed
-  pub has : (r base : ℕ) (parameters : List ℕ) → has_image (placed lines) r base parameters ≡ true → 56 ≤ base → base + places r ≤ 512
+  pub has : (r base : ℕ) (parameters : List ℕ) → has_image (placed lines) r base parameters ≡ true → 56 ≤ base
+      → base + places r ≤ 512
       → 4 ≤ from → to ≤ base → HasRoutine t r base parameters
   has r base parameters image low high early behind =
       let size = least z in
@@ -64,7 +69,8 @@ module _ (z : Size) (lines : List Line) (fit : have_places (placed lines) ≡ tr
         at2 = o.kept 2 (inl (omega arith));
         at3 = o.kept 3 (inl (omega arith));
         image = λ i l. record {
-          has = λ free. o.kept (base + i) (inr (omega arith)) ∙ (image_at z lines fit r base parameters image (omega arith) high i l).has free;
+          has = λ free. o.kept (base + i) (inr (omega arith))
+              ∙ (image_at z lines fit r base parameters image (omega arith) high i l).has free;
         };
       }
 

@@ -30,12 +30,14 @@ have_places ps = list_all (λ p. nat_lt p.0 1024) ps
 
 are_places : (ps : List (ℕ × ℕ)) → have_places ps ≡ true → ArePlaces ps
 are_places [] h = tt
-are_places (p ∷ ps) h = let q = and_parts (nat_lt p.0 1024) (have_places ps) h in (lt_of p.0 1024 q.0, are_places ps q.1)
+are_places (p ∷ ps) h = let q = and_parts (nat_lt p.0 1024) (have_places ps) h in
+    (lt_of p.0 1024 q.0, are_places ps q.1)
 
 -- whether the words of a routine stand at a base
 abbrev pub has_image : List (ℕ × ℕ) → ℕ → ℕ → List ℕ → Bool
 has_image ps r base parameters =
-    list_all (λ i. nat_eq (unwrap_or (placed_at ps (base + i)) 0) (image_word r i base parameters)) (numbers 0 (places r))
+    list_all (λ i. nat_eq (unwrap_or (placed_at ps (base + i)) 0) (image_word r i base parameters))
+    (numbers 0 (places r))
 
 module _ (z : Size) (lines : List Line) where
   abbrev zeros : List ℕ
@@ -54,10 +56,12 @@ module _ (z : Size) (lines : List Line) where
 
   module _ (fit : have_places (placed lines) ≡ true) where
     -- a word behind those of the Initial Orders
-    pub word_at : (a : ℕ) → 44 ≤ a → a < 1024 → short_at (entry_state z lines).store a ≡ unwrap_or (placed_at (placed lines) a) 0
+    pub word_at : (a : ℕ) → 44 ≤ a → a < 1024
+        → short_at (entry_state z lines).store a ≡ unwrap_or (placed_at (placed lines) a) 0
     word_at a low high =
         let there : 44 + (a - 44) ≡ a = omega arith in
-        get_or-append_right (initial_words (own_words lines)) (drop 44 (over (placed lines) zeros)) 44 a 0 first_words low
+        get_or-append_right (initial_words (own_words lines)) (drop 44 (over (placed lines) zeros)) 44 a 0
+        first_words low
         ∙ get_or-drop 44 (over (placed lines) zeros) (a - 44) 0
         ∙ ap (λ x. get_or (over (placed lines) zeros) x 0) there
         ∙ content_is zeros (length-replicate {A = ℕ} 1024 0) (placed lines) a (are_places (placed lines) fit)
@@ -68,6 +72,7 @@ module _ (z : Size) (lines : List Line) where
     image_at r base parameters test low high i l = record {
       has = λ free. word_at (base + i) (omega arith) (omega arith)
           ∙ eq_of (unwrap_or (placed_at (placed lines) (base + i)) 0) (image_word r i base parameters)
-          (among (λ i. nat_eq (unwrap_or (placed_at (placed lines) (base + i)) 0) (image_word r i base parameters)) 0 (places r) i test
+          (among (λ i. nat_eq (unwrap_or (placed_at (placed lines) (base + i)) 0) (image_word r i base parameters)) 0
+          (places r) i test
           (omega arith) (omega arith));
     }

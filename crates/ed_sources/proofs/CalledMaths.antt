@@ -1,5 +1,5 @@
 -- A call of `divide` and one of `root`, up to what stands behind it.
-use Rattle.std.proofs.Common.{◌≡◌, ◌≢◌, inl, inr, ℕ, ◌+◌, ◌*◌, ◌/◌, ◌%◌, ◌<◌, ◌≤◌, refl, ap, arith, [], length}
+use Rattle.std.proofs.Common.{◌≡◌, ◌≢◌, inl, inr, ℕ, ◌+◌, ◌/◌, ◌%◌, ◌<◌, ◌≤◌, refl, ap, arith, [], length}
 use Rattle.ed_words.specs.Sizes.{locations}
 use Rattle.ed_store.specs.Cells.{short_at}
 use Rattle.ed_machine.specs.State.{State}
@@ -34,7 +34,8 @@ module _ (s : State) (m base : ℕ) (o : IsBefore s m base) where
 
   -- `divide`, whose three words stand before it, those that it writes from one location on
   module _ (high low by from : ℕ) (all_digits : length s.store.sandwich ≡ 512) (even : base % 2 ≡ 0)
-      (has : HasRoutine s divide base (with_hnm high low by)) (is : IsDivision base high low by s) (from_high : from ≤ high)
+      (has : HasRoutine s divide base (with_hnm high low by)) (is : IsDivision base high low by s)
+      (from_high : from ≤ high)
       (from_low : from ≤ low) (high_before : high < base) (low_before : low < base) where
     abbrev d : ℕ
     d = short_at s.store by
@@ -63,7 +64,8 @@ module _ (s : State) (m base : ℕ) (o : IsBefore s m base) where
     within = record { under = has.fits; near = is.high_outside.below; back = back; fits = omega arith }
 
     abbrev end : State
-    end = divide_call.last base high low by (locations s.size) t o.all all_digits there even is_there within is.low_outside.below
+    end = divide_call.last base high low by (locations s.size) t o.all all_digits there even is_there within
+        is.low_outside.below
         is.by_outside.below
 
     divided : Divided base high low by t end
@@ -89,11 +91,14 @@ module _ (s : State) (m base : ℕ) (o : IsBefore s m base) where
     }
       where
         words : (i : ℕ) → IsBeside from (base + 41) i → short_at end.store i ≡ short_at s.store i
-        words i (inl l) = divided.words i (λ e. absurd (omega arith)) (λ e. absurd (omega arith)) (record { other = inl (omega arith) })
-        words i (inr g) = divided.words i (λ e. absurd (omega arith)) (λ e. absurd (omega arith)) (record { other = inr (inl g) })
+        words i (inl l) = divided.words i (λ e. absurd (omega arith)) (λ e. absurd (omega arith))
+            (record { other = inl (omega arith) })
+        words i (inr g) = divided.words i (λ e. absurd (omega arith)) (λ e. absurd (omega arith))
+            (record { other = inr (inl g) })
 
   -- `root`, whose words stand before it
-  module _ (source target r : ℕ) (has : HasRoutine s root base (with_hn source target)) (source_out : IsOutside root base source s)
+  module _ (source target r : ℕ) (has : HasRoutine s root base (with_hn source target))
+      (source_out : IsOutside root base source s)
       (target_out : IsOutside root base target s) (differ : source ≢ target) (small : short_at s.store source < 65536)
       (is_root : IsRoot (short_at s.store source) r) (before : target < base) where
     there_too : Stands root (with_hn source target) base t
@@ -109,11 +114,13 @@ module _ (s : State) (m base : ℕ) (o : IsBefore s m base) where
     within_too = record { under = has.fits; near = source_out.below; back = back; fits = omega arith }
 
     abbrev end_too : State
-    end_too = root_call.last base source target (locations s.size) t o.all there_too source_there target_there differ within_too
+    end_too = root_call.last base source target (locations s.size) t o.all there_too source_there target_there
+        differ within_too
         target_out.below small r is_root
 
     root_there : short_at end_too.store target ≡ r
-    root_there = root_call.root_is base source target (locations s.size) t o.all there_too source_there target_there differ within_too
+    root_there = root_call.root_is base source target (locations s.size) t o.all there_too source_there target_there
+        differ within_too
         target_out.below small r is_root end_too refl
 
     pub takes_root : TakesRoot s m (base + 23) target r
@@ -121,11 +128,13 @@ module _ (s : State) (m base : ℕ) (o : IsBefore s m base) where
       passes = record {
         last = end_too;
         leads = joined (calls s m base o)
-            (root_call.leads_to base source target (locations s.size) t o.all there_too source_there target_there differ within_too
+            (root_call.leads_to base source target (locations s.size) t o.all there_too source_there target_there
+            differ within_too
             target_out.below small r is_root);
         counter = ap (λ x. x + 2) (caller_is s m base o);
         acc = refl;
-        all = root_call.all_last base source target (locations s.size) t o.all there_too source_there target_there differ within_too
+        all = root_call.all_last base source target (locations s.size) t o.all there_too source_there target_there
+            differ within_too
             target_out.below small r is_root;
         size = refl;
         words = words;
@@ -134,7 +143,8 @@ module _ (s : State) (m base : ℕ) (o : IsBefore s m base) where
     }
       where
         stays : (i : ℕ) → i ≢ target → IsOther root base i → short_at end_too.store i ≡ short_at s.store i
-        stays = (root_call.keeps base source target (locations s.size) t o.all there_too source_there target_there differ within_too
+        stays = (root_call.keeps base source target (locations s.size) t o.all there_too source_there target_there
+            differ within_too
             target_out.below small r is_root end_too refl).words
 
         words : (i : ℕ) → IsBeside target (base + 23) i → short_at end_too.store i ≡ short_at s.store i

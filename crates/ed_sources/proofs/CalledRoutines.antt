@@ -35,8 +35,8 @@ pub record HasRoutine (s : State) (r base : ℕ) (parameters : List ℕ) : Type 
 abbrev pub IsBeside : ℕ → ℕ → ℕ → Type 0
 IsBeside from to i = (i < from) ⊎ (to ≤ i)
 
--- the call of a routine at m of a state: so many orders print the codes and lead behind it, and the words beside those from
--- one location to another stay
+-- the call of a routine at m of a state: so many orders print the codes and lead behind it, and the words beside
+-- those from one location to another stay
 pub record Passes (k : ℕ) (s : State) (codes : List ℕ) (m from to : ℕ) : Type 0 where
   pub last : State
   pub leads : Leads k s codes last
@@ -63,7 +63,8 @@ module _ (s : State) (m base : ℕ) (o : IsBefore s m base) where
   back = let e = caller_is s m base o in let room = o.room in omega arith
 
   -- `print`, which prints the number n at h
-  module _ (h n : ℕ) (has : HasRoutine s print base (with_h h)) (out : IsOutside print base h s) (number : short_at s.store h ≡ n)
+  module _ (h n : ℕ) (has : HasRoutine s print base (with_h h)) (out : IsOutside print base h s)
+      (number : short_at s.store h ≡ n)
       (small : n < 65536) where
     there : Stands print (with_h h) base t
     there = stands s m base o print (with_h h) has.low has.fits has.at2 has.at3 has.image
@@ -89,13 +90,15 @@ module _ (s : State) (m base : ℕ) (o : IsBefore s m base) where
         subst (λ x. Passes (2 + print_orders x) s (11 ∷ digits x) m base (base + 51)) number
         (record {
           last = end;
-          leads = joined (calls s m base o) (print_call.leads_to base h (locations s.size) t o.all there outside within low);
+          leads = joined (calls s m base o)
+              (print_call.leads_to base h (locations s.size) t o.all there outside within low);
           counter = ap (λ x. x + 2) (caller_is s m base o);
           acc = refl;
           all = print_call.all_last base h (locations s.size) t o.all there outside within low;
           size = refl;
           words = λ i beside.
-              (print_call.keeps base h (locations s.size) t o.all there outside within low end refl).words i (other i beside);
+              (print_call.keeps base h (locations s.size) t o.all there outside within low end refl).words i
+              (other i beside);
         })
 
   -- `newline`
@@ -104,7 +107,12 @@ module _ (s : State) (m base : ℕ) (o : IsBefore s m base) where
     there_too = stands s m base o newline [] has.low has.fits has.at2 has.at3 has.image
 
     within_too : IsWithin 7 base 0 (locations s.size) t
-    within_too = record { under = has.fits; near = let under = has.fits in omega arith; back = back; fits = omega arith }
+    within_too = record {
+      under = has.fits;
+      near = let under = has.fits in omega arith;
+      back = back;
+      fits = omega arith;
+    }
 
     abbrev end_too : State
     end_too = new_line.last [] base (locations s.size) t o.all there_too within_too
@@ -122,5 +130,6 @@ module _ (s : State) (m base : ℕ) (o : IsBefore s m base) where
       all = new_line.all_last [] base (locations s.size) t o.all there_too within_too;
       size = refl;
       words = λ i beside.
-          (new_line.keeps [] base (locations s.size) t o.all there_too within_too end_too refl).words i (other_too i beside);
+          (new_line.keeps [] base (locations s.size) t o.all there_too within_too end_too refl).words i
+          (other_too i beside);
     }

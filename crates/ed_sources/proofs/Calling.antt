@@ -1,5 +1,6 @@
 -- The two orders that call a routine: A m F at m, and G to its base behind it.
-use Rattle.std.proofs.Common.{◌≡◌, ℕ, zero, suc, ◌+◌, ◌*◌, ◌^◌, ◌<◌, ◌≤◌, refl, sym, ap, ◌∙◌, subst, arith, List, [], ◌∷◌}
+use Rattle.std.proofs.Common.{◌≡◌, ℕ, zero, suc, ◌+◌, ◌*◌, ◌^◌, ◌<◌, ◌≤◌}
+use Rattle.std.proofs.Common.{refl, sym, ap, ◌∙◌, subst, arith, List, [], ◌∷◌}
 use Rattle.std.proofs.Common.{Some, None, get_or, length}
 use Rattle.ed_words.specs.Sizes.{locations}
 use Rattle.ed_words.proofs.SizeLemmas.{most}
@@ -101,7 +102,8 @@ module _ (s : State) (m base : ℕ) (o : IsBefore s m base) where
   pub calls : Leads 2 s [] (called s m base)
   calls =
       subst (λ (t : State). Leads 2 s [] t) ends
-      (subst (λ (x : State). Leads 2 x [] (state f (at (114688 + 2 * m) base) (s.orders + 2))) begins (leads path s.orders))
+      (subst (λ (x : State). Leads 2 x [] (state f (at (114688 + 2 * m) base) (s.orders + 2))) begins
+      (leads path s.orders))
 
   pub caller_is : caller (called s m base) ≡ m
   caller_is = omega arith

@@ -1,31 +1,36 @@
 -- The sources of calls are accepted.
-use Rattle.std.proofs.Common.{◌≡◌, ℕ, ◌*◌, ◌/◌, ◌%◌, ◌<◌, ◌≤◌, arith, true, [], ◌∷◌, refl, subst, lit≤, append_assoc}
+use Rattle.std.proofs.Common.{◌≡◌, ℕ, ◌/◌, ◌%◌, ◌<◌, arith, true, [], ◌∷◌, refl, subst, lit≤, append_assoc}
 use Rattle.std.specs.Prelude.{Ok}
 use Rattle.std.specs.Fmt.{decimal}
 use Rattle.std.specs.List.{list_all}
 use Rattle.ed_call.specs.declared.Call.TheVariants.{Print, Read, NewLine, Divide, Root, Check}
-use Rattle.ed_syntax.specs.Lines.{Text}
+use Rattle.ed_words.specs.Texts.{Text}
 use Rattle.ed_syntax.specs.Sources.{is_line_byte, program_of}
 use Rattle.ed_sources.specs.Accepted.{EachCallIsAccepted, IsDivisible}
-use Rattle.ed_sources.specs.Calls.{divide_source, newline_source, print_source, read_source, root_source, text_of, check_source}
+use Rattle.ed_sources.specs.Calls.{divide_source, newline_source, print_source}
+use Rattle.ed_sources.specs.Calls.{read_source, root_source, text_of, check_source}
 use Rattle.ed_routines.specs.Digits.{digits}
 use Rattle.ed_sources.proofs.Decimals.{are, decimal_is, line_bytes}
-use Rattle.ed_sources.proofs.Faultless.{divide_faultless, newline_faultless, print_faultless, read_faultless, root_faultless, check_faultless}
-use Rattle.ed_sources.proofs.Said.{newline_lines, newline_says, print_lines, print_says, read_lines, read_says, with_end, check_lines, check_says}
+use Rattle.ed_sources.proofs.Faultless.{divide_faultless, newline_faultless, print_faultless}
+use Rattle.ed_sources.proofs.Faultless.{read_faultless, root_faultless, check_faultless}
+use Rattle.ed_sources.proofs.Said.{newline_lines, newline_says, print_lines, print_says}
+use Rattle.ed_sources.proofs.Said.{read_lines, read_says, with_end, check_lines, check_says}
 use Rattle.ed_sources.proofs.SaidMaths.{divide_lines, divide_says, root_lines, root_says}
 use Rattle.ed_sources.proofs.TextLines.{program_is, said_lines}
 
 -- ---- bytes of lines
 
-decimal_plain : (n : ℕ) → n < 65536 → list_all is_line_byte (decimal n) ≡ true
+pub decimal_plain : (n : ℕ) → n < 65536 → list_all is_line_byte (decimal n) ≡ true
 decimal_plain n small =
-    subst (λ (bytes : Text). list_all is_line_byte bytes ≡ true) (decimal_is n small) (line_bytes (digits n) (are n small))
+    subst (λ (bytes : Text). list_all is_line_byte bytes ≡ true) (decimal_is n small)
+    (line_bytes (digits n) (are n small))
 
 print_plain : (n : ℕ) → n < 65536 → list_all (list_all is_line_byte) (print_source n) ≡ true
 print_plain n small = rw (decimal_plain n small) refl
 
 read_plain : (n : ℕ) → n < 65536 → list_all (list_all is_line_byte) (read_source n) ≡ true
-read_plain n small = rw (append_assoc (decimal n) (70 ∷ []) (34 ∷ []), with_end (decimal n) (decimal_plain n small)) refl
+read_plain n small = rw (append_assoc (decimal n) (70 ∷ []) (34 ∷ []), with_end (decimal n) (decimal_plain n small))
+    refl
 
 divide_plain : (high low by : ℕ) → high < 65536 → low < 65536 → by < 65536
     → list_all (list_all is_line_byte) (divide_source high low by) ≡ true
@@ -44,7 +49,8 @@ print_read n small =
     program_is (print_source n) (print_lines n) (print_plain n small) refl (said_lines (print_says n small) (lit≤ tt))
 
 pub read_read : (n : ℕ) → n < 65536 → program_of (text_of (read_source n)) ≡ Ok (read_lines n)
-read_read n small = program_is (read_source n) (read_lines n) (read_plain n small) refl (said_lines (read_says n small) (lit≤ tt))
+read_read n small = program_is (read_source n) (read_lines n) (read_plain n small) refl
+    (said_lines (read_says n small) (lit≤ tt))
 
 pub newline_read : program_of (text_of newline_source) ≡ Ok newline_lines
 newline_read = program_is newline_source newline_lines refl refl (said_lines newline_says (lit≤ tt))
@@ -62,7 +68,8 @@ divide_read n by made =
     (said_lines (divide_says (n / 65536) (n % 65536) by high low small) (lit≤ tt))
 
 pub root_read : (n : ℕ) → n < 65536 → program_of (text_of (root_source n)) ≡ Ok (root_lines n)
-root_read n small = program_is (root_source n) (root_lines n) (root_plain n small) refl (said_lines (root_says n small) (lit≤ tt))
+root_read n small = program_is (root_source n) (root_lines n) (root_plain n small) refl
+    (said_lines (root_says n small) (lit≤ tt))
 
 pub check_read : (n : ℕ) → n < 65536 → program_of (text_of (check_source n)) ≡ Ok (check_lines n)
 check_read n small =

@@ -1,6 +1,7 @@
 -- What the guest of `call check N` prints has room on the paper, and the machine's orders lead to its stop.
-use Rattle.std.proofs.Common.{◌≡◌, inl, inr, ◌∙◌, ℕ, zero, suc, ◌+◌, ◌*◌, ◌/◌, ◌%◌, ◌<◌, ◌≤◌, refl, sym, ap, subst, arith, true, true≢false}
-use Rattle.std.proofs.Common.{List, [], ◌∷◌, ◌++◌, length, length-append}
+use Rattle.std.proofs.Common.{◌≡◌, inl, inr, ℕ, zero, suc, ◌+◌, ◌*◌, ◌/◌, ◌%◌}
+use Rattle.std.proofs.Common.{◌<◌, ◌≤◌, refl, sym, subst, arith, true, true≢false}
+use Rattle.std.proofs.Common.{List, [], ◌∷◌, length, length-append}
 use Rattle.std.proofs.lemmas.Bool.{cases_lt}
 use Rattle.ed_words.specs.declared.size.Size.{Size}
 use Rattle.ed_words.specs.Words.{function_of}
@@ -11,7 +12,7 @@ use Rattle.ed_machine.specs.declared.turn.Turn.{Turn}
 use Rattle.ed_machine.specs.declared.turn.Turn.TheVariants.{Went, Printed, Stopped, NoOrder, NoTape}
 use Rattle.ed_loads.specs.EntryState.{entry_state}
 use Rattle.ed_paths.proofs.Leads.{goes_on}
-use Rattle.ed_routines.specs.Digits.{before_units, print_orders, sum, without_zeros}
+use Rattle.ed_routines.specs.Digits.{print_orders, sum, without_zeros}
 use Rattle.ed_checker.specs.Checker.{checked_codes, guest}
 use Rattle.ed_checker.specs.Laws.{ChecksToStop}
 use Rattle.ed_checker.proofs.Whole.{few_codes}
@@ -27,7 +28,8 @@ goes_of Stopped o e = absurd (omega (arith, e))
 goes_of (NoOrder function) o e = absurd (true≢false (sym o))
 goes_of NoTape o e = absurd (true≢false (sym o))
 
-all_go : (k : ℕ) (s : State) → IsFree k s → (past k s).stops ≡ 0 → (j : ℕ) → j < k → goes_on (step (state_after j s)).turn ≡ true
+all_go : (k : ℕ) (s : State) → IsFree k s → (past k s).stops ≡ 0 → (j : ℕ) → j < k
+    → goes_on (step (state_after j s)).turn ≡ true
 unfolding past
 all_go zero s free none j l = absurd (omega arith)
 all_go (suc k) s free none j l =
@@ -46,7 +48,8 @@ two_each zero g = omega arith
 two_each (suc q) g =
     let before = two_each q g in
     let one = few_codes (step (state_after q g)).turn in
-    let all = length-append (checked_codes g q) (function_of (next_word (state_after q g)) ∷ codes_of (step (state_after q g)).turn) in
+    let all = length-append (checked_codes g q)
+    (function_of (next_word (state_after q g)) ∷ codes_of (step (state_after q g)).turn) in
     omega (arith, before, one, all)
 
 -- `print` takes few orders
@@ -81,7 +84,8 @@ module _ (z : Size) (n : ℕ) (small : n < 65536) where
   pub few_checked : suc check_count ≤ 35 * (3 + print_orders n)
   few_checked = omega (arith, c.most)
 
-  pub check_ends : LeadsToStop check_count (entry_state z (check_lines n)) (checked_codes (guest 112 (entry_state z (check_lines n))) (3 + print_orders n))
+  pub check_ends : LeadsToStop check_count (entry_state z (check_lines n))
+      (checked_codes (guest 112 (entry_state z (check_lines n))) (3 + print_orders n))
   check_ends = record {
     last = c.last;
     leads = record {

@@ -1,39 +1,38 @@
 -- The source of `call check N`: at its entry the checking routine stands, and its guest prints the number and stops.
-use Rattle.std.proofs.Common.{◌≡◌, inl, inr, ◌∙◌, ℕ, zero, suc, ◌+◌, ◌-◌, ◌*◌, ◌/◌, ◌%◌, ◌^◌, ◌<◌, ◌≤◌, refl, sym, ap, subst, arith, lit≤, lit<}
-use Rattle.std.proofs.Common.{Bool, true, false, ◌&&◌, ◌||◌, nat_eq, nat_lt, Some, List, [], ◌∷◌, ◌++◌, length, drop, get_or, set}
+use Rattle.std.proofs.Common.{◌≡◌, inl, inr, ◌∙◌, ℕ, zero, suc, ◌+◌, ◌-◌, ◌%◌}
+use Rattle.std.proofs.Common.{◌^◌, ◌<◌, ◌≤◌, refl, sym, ap, subst, arith, lit≤, lit<}
+use Rattle.std.proofs.Common.{Bool, true, false, ◌&&◌, ◌||◌, nat_eq, nat_lt, Some}
+use Rattle.std.proofs.Common.{List, [], ◌∷◌, ◌++◌, drop, get_or, set}
 use Rattle.std.specs.Prelude.{replicate, unwrap_or}
 use Rattle.std.specs.List.{list_all}
 use Rattle.std.proofs.lemmas.Bool.{and_parts, cases_lt}
 use Rattle.std.proofs.Math.ListN.{get_or-append}
-use Rattle.std.proofs.lemmas.List.{get_or-append_right, get_or-drop, get_or-replicate, length-replicate}
+use Rattle.std.proofs.lemmas.List.{get_or-append_right, get_or-drop, length-replicate}
 use Rattle.ed_words.specs.declared.size.Size.{Size}
 use Rattle.ed_words.specs.Sizes.{locations, within}
-use Rattle.ed_words.specs.Words.{address_of, function_of, is_long}
-use Rattle.ed_words.proofs.Numbers.{eq_of, lt_of, lt_true, or_of}
+use Rattle.ed_words.specs.Words.{address_of, function_of}
+use Rattle.ed_words.proofs.Numbers.{eq_of, lt_of, lt_true}
 use Rattle.ed_words.proofs.SizeLemmas.{least, within_below}
-use Rattle.ed_store.specs.Cells.{IsStore, long_at, short_at}
+use Rattle.ed_store.specs.Cells.{long_at, short_at}
 use Rattle.ed_orders.specs.Kinds.{kind_of_function}
-use Rattle.ed_orders.specs.declared.kind.Kind.{Kind}
 use Rattle.ed_orders.specs.declared.kind.Kind.TheVariants.{A}
 use Rattle.ed_machine.specs.State.{State}
 use Rattle.ed_machine.specs.OrderTable.{next_word, obey_word, step}
 use Rattle.ed_machine.specs.Sound.{IsSound}
-use Rattle.ed_machine.specs.Steps.{is_obeyed, past, state_after}
-use Rattle.ed_machine.specs.declared.turn.Turn.TheVariants.{Stopped}
+use Rattle.ed_machine.specs.Steps.{past, state_after}
 use Rattle.ed_notation.specs.Fold.{over, placed_at}
 use Rattle.ed_initial.specs.Rests.{initial_words}
 use Rattle.ed_library.specs.Images.{image_word, parameter_store}
 use Rattle.ed_library.specs.Routines.{is_working}
 use Rattle.ed_loads.specs.EntryState.{entry_state, own_words}
 use Rattle.ed_paths.proofs.Leads.{Leads}
-use Rattle.ed_paths.proofs.Orders.{IsOrder}
 use Rattle.ed_routines.specs.Catalogue.{print, with_h}
 use Rattle.ed_routines.specs.Digits.{digits, print_orders}
-use Rattle.ed_routines.specs.Standing.{HasWord, IsOutside, Stands}
+use Rattle.ed_routines.specs.Standing.{IsOutside, Stands}
 use Rattle.ed_routines.proofs.Called.{IsWithin}
 use Rattle.ed_routines.proofs.Runs.{free, no_stops}
 use Rattle.ed_routines.proofs.PrintCall as print_call
-use Rattle.ed_checker.specs.Checker.{CheckerStands, HasImage, IsAllowed, IsAllowedOrder, check, checked_codes, guest}
+use Rattle.ed_checker.specs.Checker.{HasImage, IsAllowed, IsAllowedOrder, check, guest}
 use Rattle.ed_checker.specs.Laws.{ChecksToStop, HasGuest, IsFollowed}
 use Rattle.ed_checker.proofs.Follow.{checker_law}
 use Rattle.ed_checker.proofs.Guests.{allowed_below, size_after}
@@ -51,14 +50,16 @@ all_fit [] h i = lit< tt
 all_fit (w ∷ ws) h zero = lt_of w (2 ^ 17) (and_parts _ _ h).0
 all_fit (w ∷ ws) h (suc i) = all_fit ws (and_parts (nat_lt w (2 ^ 17)) _ h).1 i
 
-set_fits : (ws : List ℕ) (p v i : ℕ) → ((j : ℕ) → get_or ws j 0 < 2 ^ 17) → v < 2 ^ 17 → get_or (set ws p v) i 0 < 2 ^ 17
+set_fits : (ws : List ℕ) (p v i : ℕ) → ((j : ℕ) → get_or ws j 0 < 2 ^ 17) → v < 2 ^ 17
+    → get_or (set ws p v) i 0 < 2 ^ 17
 set_fits [] p v i h fits = lit< tt
 set_fits (w ∷ ws) zero v zero h fits = fits
 set_fits (w ∷ ws) zero v (suc i) h fits = h (suc i)
 set_fits (w ∷ ws) (suc p) v zero h fits = h 0
 set_fits (w ∷ ws) (suc p) v (suc i) h fits = set_fits ws p v i (λ j. h (suc j)) fits
 
-over_fits : (ps : List (ℕ × ℕ)) (ws : List ℕ) → list_all (λ p. nat_lt p.1 (2 ^ 17)) ps ≡ true → ((j : ℕ) → get_or ws j 0 < 2 ^ 17)
+over_fits : (ps : List (ℕ × ℕ)) (ws : List ℕ) → list_all (λ p. nat_lt p.1 (2 ^ 17)) ps ≡ true
+    → ((j : ℕ) → get_or ws j 0 < 2 ^ 17)
     → (i : ℕ) → get_or (over ps ws) i 0 < 2 ^ 17
 over_fits [] ws h fits i = fits i
 over_fits (p ∷ ps) ws h fits i =
@@ -85,7 +86,8 @@ module _ (z : Size) (n : ℕ) (small : n < 65536) where
   unfolding parameter_store
   placed_fit =
       let e : nat_lt n (2 ^ 17) ≡ true = lt_true n (2 ^ 17) (omega arith) in
-      let by_value : list_all (λ p. nat_lt p.1 (2 ^ 17)) (placed (check_lines n)) ≡ (nat_lt n (2 ^ 17) && true) = refl in
+      let by_value : list_all (λ p. nat_lt p.1 (2 ^ 17)) (placed (check_lines n))
+      ≡ (nat_lt n (2 ^ 17) && true) = refl in
       by_value ∙ ap (λ b. b && true) e
 
   abbrev front : List ℕ
@@ -100,14 +102,19 @@ module _ (z : Size) (n : ℕ) (small : n < 65536) where
         | inl l ↦ subst (λ x. x < 2 ^ 17) (sym (get_or-append front (drop 44 back) 0 i l)) (all_fit front refl i)
         | inr l ↦
             let e = get_or-append_right front (drop 44 back) 44 i 0 refl l ∙ get_or-drop 44 back (i - 44) 0 in
-            subst (λ x. x < 2 ^ 17) (sym e) (over_fits (placed (check_lines n)) (replicate 1024 0) placed_fit (zeros_fit 1024) (44 + (i - 44)))
+            subst (λ x. x < 2 ^ 17) (sym e)
+            (over_fits (placed (check_lines n)) (replicate 1024 0) placed_fit (zeros_fit 1024) (44 + (i - 44)))
       ]
 
   sound : IsSound m
   sound =
       let size = least z in
       record {
-        store = record { words_are = all_words z (check_lines n); digits_are = length-replicate {A = Bool} 512 false; fits = fits };
+        store = record {
+          words_are = all_words z (check_lines n);
+          digits_are = length-replicate {A = Bool} 512 false;
+          fits = fits;
+        };
         acc = lit< tt;
         multiplier = lit< tt;
         counter = omega arith;
@@ -119,7 +126,8 @@ module _ (z : Size) (n : ℕ) (small : n < 65536) where
 
   abbrev is_there : ℕ → Bool
   is_there i =
-      is_working check i || nat_eq (unwrap_or (placed_at (placed (check_lines n)) (112 + i)) 0) (image_word check i 112 (with_h 0))
+      is_working check i || nat_eq (unwrap_or (placed_at (placed (check_lines n)) (112 + i)) 0)
+      (image_word check i 112 (with_h 0))
 
   all_there : list_all is_there (numbers 0 66) ≡ true
   unfolding parameter_store
@@ -130,7 +138,8 @@ module _ (z : Size) (n : ℕ) (small : n < 65536) where
     has = λ working.
         let there : is_there i ≡ true = among is_there 0 66 i all_there (omega arith) (omega arith) in
         word (112 + i) (omega arith) (omega arith)
-        ∙ eq_of (unwrap_or (placed_at (placed (check_lines n)) (112 + i)) 0) (image_word check i 112 (with_h 0)) (rw working at there);
+        ∙ eq_of (unwrap_or (placed_at (placed (check_lines n)) (112 + i)) 0) (image_word check i 112 (with_h 0))
+        (rw working at there);
   }
 
   fetch : short_at m.store 112 ≡ 114800
@@ -225,7 +234,8 @@ module _ (z : Size) (n : ℕ) (small : n < 65536) where
   end = print_call.last 60 59 112 t (all_words z (check_lines n)) there outside within_routine low
 
   leads : Leads (2 + count) g ([] ++ (11 ∷ digits (short_at t.store 59))) end
-  leads = joined (calls g 56 60 before) (print_call.leads_to 60 59 112 t (all_words z (check_lines n)) there outside within_routine low)
+  leads = joined (calls g 56 60 before)
+      (print_call.leads_to 60 59 112 t (all_words z (check_lines n)) there outside within_routine low)
 
   end_counter : end.counter ≡ 58
   end_counter = ap (λ x. x + 2) (caller_is g 56 60 before)
@@ -233,7 +243,8 @@ module _ (z : Size) (n : ℕ) (small : n < 65536) where
   end_word : next_word end ≡ 53248
   end_word =
       ap (λ x. get_or end.store.words x 0) end_counter
-      ∙ (print_call.keeps 60 59 112 t (all_words z (check_lines n)) there outside within_routine low end refl).words 58 (record { other = inl (lit< tt) })
+      ∙ (print_call.keeps 60 59 112 t (all_words z (check_lines n)) there outside within_routine low end refl).words
+      58 (record { other = inl (lit< tt) })
       ∙ word 58 (lit≤ tt) (lit< tt)
 
   -- ---- each of its orders is allowed
@@ -250,7 +261,8 @@ module _ (z : Size) (n : ℕ) (small : n < 65536) where
       record {
         outside = inl (rw counter_is (lit< tt));
         next = rw counter_is (omega arith);
-        order = subst (λ w. IsAllowedOrder (kind_of_function (function_of w)) 112 w z) (sym first_word) (inl (below 56 (lit< tt)));
+        order = subst (λ w. IsAllowedOrder (kind_of_function (function_of w)) 112 w z) (sym first_word)
+            (inl (below 56 (lit< tt)));
       }
 
   abbrev second : State
@@ -295,7 +307,8 @@ module _ (z : Size) (n : ℕ) (small : n < 65536) where
   each (suc zero) l = subst (IsAllowed 112) (sym second_is) second_allowed
   each (suc (suc i)) l =
       let e : suc (suc i) ≡ 2 + i = omega arith in
-      subst (IsAllowed 112) (sym (ap (λ x. state_after x g) e ∙ state_behind i 2 g ∙ ap (state_after i) third)) (of_print i (omega arith))
+      subst (IsAllowed 112) (sym (ap (λ x. state_after x g) e ∙ state_behind i 2 g ∙ ap (state_after i) third))
+      (of_print i (omega arith))
 
   followed : IsFollowed 112 (2 + count) g
   followed = record { allowed = each; obeyed = free leads }
@@ -314,7 +327,8 @@ module _ (z : Size) (n : ℕ) (small : n < 65536) where
 
   pub checks : ChecksToStop 112 (suc (2 + count)) m
   checks =
-      checker_law.to_stop 112 (2 + count) m has_guest followed (no_stops (2 + count) g leads.goes) (subst (IsAllowed 112) (sym at_end) end_allowed)
+      checker_law.to_stop 112 (2 + count) m has_guest followed (no_stops (2 + count) g leads.goes)
+      (subst (IsAllowed 112) (sym at_end) end_allowed)
       (ap (λ (x : State). (step x).turn) at_end ∙ stop_at end end_word)
 
   pub checks_print : ChecksToStop 112 (3 + print_orders n) m

@@ -1,5 +1,6 @@
 -- The digits of a number in a source: as a word of it, and as rows of its tape.
-use Rattle.std.proofs.Common.{◌≡◌, ◌∙◌, inl, inr, ℕ, zero, suc, ◌+◌, ◌-◌, ◌*◌, ◌/◌, ◌%◌, ◌<◌, ◌≤◌, Bool, true, List, [], ◌∷◌, ◌++◌}
+use Rattle.std.proofs.Common.{◌≡◌, ◌∙◌, inl, inr, ℕ, zero, suc, ◌+◌, ◌-◌, ◌*◌}
+use Rattle.std.proofs.Common.{◌/◌, ◌%◌, ◌<◌, ◌≤◌, Bool, true, List, [], ◌∷◌, ◌++◌}
 use Rattle.std.proofs.Common.{refl, ap, subst, arith, length, length-append, map, nat_lt, nat_eq}
 use Rattle.std.specs.Prelude.{◌&&◌, ◌==◌, not, fold}
 use Rattle.std.specs.Fmt.{decimal}
@@ -10,8 +11,8 @@ use Rattle.std.proofs.lemmas.List.{length-map}
 use Rattle.ed_words.proofs.Numbers.{eq_of, lt_of}
 use Rattle.ed_codes.specs.Spelling.{row_of}
 use Rattle.ed_syntax.specs.Grammar.{row, spells}
-use Rattle.ed_syntax.specs.Grammar as grammar
-use Rattle.ed_syntax.specs.Parts.{is_digit, is_run_byte}
+use Rattle.ed_words.specs.Decimals.{is_digit, value as spelled_value}
+use Rattle.ed_syntax.specs.Parts.{is_run_byte}
 use Rattle.ed_syntax.specs.Sources.{is_line_byte}
 use Rattle.ed_routines.specs.Digits.{before_units, digits, value_behind, without_zeros}
 use Rattle.ed_routines.proofs.Digits.{digits_law, few_digits, tens}
@@ -23,7 +24,7 @@ are_digits ds = list_all (λ d. nat_lt d 10) ds
 abbrev pub written : List ℕ → List ℕ
 written ds = map (λ d. 48 + d) ds
 
-both : (x y : Bool) → x ≡ true → y ≡ true → (x && y) ≡ true
+pub both : (x y : Bool) → x ≡ true → y ≡ true → (x && y) ≡ true
 both x y h k = grind arith
 
 -- n numbers from k on
@@ -41,7 +42,8 @@ among test k (suc n) d h low high =
     ]
 
 -- a test that the ten digits pass is passed by all digits
-each_passes : (test : ℕ → Bool) → list_all test (numbers 0 10) ≡ true → (ds : List ℕ) → are_digits ds ≡ true → list_all test ds ≡ true
+each_passes : (test : ℕ → Bool) → list_all test (numbers 0 10) ≡ true → (ds : List ℕ) → are_digits ds ≡ true
+    → list_all test ds ≡ true
 each_passes test ten [] h = refl
 each_passes test ten (d ∷ ds) h =
     let p = and_parts (nat_lt d 10) (are_digits ds) h in
@@ -49,7 +51,8 @@ each_passes test ten (d ∷ ds) h =
     both (test d) (list_all test ds) (among test 0 10 d ten (omega arith) (omega arith)) (each_passes test ten ds p.1)
 
 -- and by their bytes
-all_written : (test : ℕ → Bool) (ds : List ℕ) → list_all (λ d. test (48 + d)) ds ≡ true → list_all test (written ds) ≡ true
+all_written : (test : ℕ → Bool) (ds : List ℕ) → list_all (λ d. test (48 + d)) ds ≡ true
+    → list_all test (written ds) ≡ true
 all_written test [] h = refl
 all_written test (d ∷ ds) h =
     let p = and_parts (test (48 + d)) (list_all (λ d. test (48 + d)) ds) h in
@@ -73,7 +76,8 @@ module _ (ds : List ℕ) (are : are_digits ds ≡ true) where
   no_quotes = all_written (λ b. not (b == 34)) ds (each_passes (λ d. not (48 + d == 34)) refl ds are)
 
 -- their rows are the digits
-rows_from : (ds : List ℕ) → list_all (λ d. nat_eq (row (row_of (48 + d))) d) ds ≡ true → map (λ b. row (row_of b)) (written ds) ≡ ds
+rows_from : (ds : List ℕ) → list_all (λ d. nat_eq (row (row_of (48 + d))) d) ds ≡ true
+    → map (λ b. row (row_of b)) (written ds) ≡ ds
 rows_from [] h = refl
 rows_from (d ∷ ds) h =
     let p = and_parts (nat_eq (row (row_of (48 + d))) d) (list_all (λ d. nat_eq (row (row_of (48 + d))) d) ds) h in
@@ -120,7 +124,7 @@ module _ (n : ℕ) (small : n < 65536) where
   pub decimal_is : written (digits n) ≡ decimal n
   decimal_is = (digits_law n small).written
 
-  pub value_is : grammar.value (written (digits n)) ≡ n
+  pub value_is : spelled_value (written (digits n)) ≡ n
   value_is = value_from 0 (digits n) ∙ (digits_law n small).value_is
 
   pub few_bytes : length (written (digits n)) ≤ 5

@@ -1,5 +1,6 @@
 -- The source that divides a number and prints the quotient and the remainder, from its entry to its stop.
-use Rattle.std.proofs.Common.{◌≡◌, inl, inr, ℕ, ◌+◌, ◌*◌, ◌/◌, ◌%◌, ◌<◌, ◌≤◌, refl, ap, ◌∙◌, subst, arith, true, false, Bool, List, [], ◌∷◌, ◌++◌}
+use Rattle.std.proofs.Common.{◌≡◌, inl, ℕ, ◌+◌, ◌*◌, ◌/◌, ◌%◌, ◌<◌, ◌≤◌, refl}
+use Rattle.std.proofs.Common.{◌∙◌, subst, arith, true, false, Bool, [], ◌∷◌, ◌++◌}
 use Rattle.std.proofs.Common.{length, lit≤, lit<}
 use Rattle.std.proofs.lemmas.List.{length-replicate}
 use Rattle.std.proofs.Math.Nat.{div-lt_iff_lt-mul, mod-lt}
@@ -19,7 +20,7 @@ use Rattle.ed_sources.proofs.CalledMaths.{Divides, divides}
 use Rattle.ed_sources.proofs.CalledRoutines.{HasRoutine, Passes, newline_passes, print_passes, stopped}
 use Rattle.ed_sources.proofs.Calling.{IsBefore}
 use Rattle.ed_sources.proofs.SaidMaths.{divide_lines}
-use Rattle.ed_sources.proofs.Stops.{LeadsToStop, behind, joined}
+use Rattle.ed_sources.proofs.Stops.{LeadsToStop, behind}
 
 -- the quotient and the remainder of a division in range are below 65536
 pub quotient_low : (n by : ℕ) → 1 ≤ by → n < 65536 * by → n / by < 65536
@@ -28,7 +29,8 @@ quotient_low n by positive less = let some : 0 < by = omega arith in (div-lt_iff
 pub remainder_low : (n by : ℕ) → 1 ≤ by → by ≤ 32767 → n % by < 65536
 remainder_low n by positive fits = let some : 0 < by = omega arith in let low = mod-lt n some in omega arith
 
-module _ (z : Size) (high low by : ℕ) (positive : 1 ≤ by) (fits : by ≤ 32767) (less : high < by) (small : low < 65536) where
+module _ (z : Size) (high low by : ℕ) (positive : 1 ≤ by) (fits : by ≤ 32767) (less : high < by)
+    (small : low < 65536) where
   abbrev s : State
   s = entry_state z (divide_lines high low by)
 
@@ -46,10 +48,12 @@ module _ (z : Size) (high low by : ℕ) (positive : 1 ≤ by) (fits : by ≤ 327
   divide_image = refl
 
   before_divide : IsBefore s 56 68
-  before_divide = before z (divide_lines high low by) refl s 65 68 56 at 68 (lit≤ tt) (lit≤ tt) (lit≤ tt) (lit< tt) refl refl
+  before_divide = before z (divide_lines high low by) refl s 65 68 56 at 68 (lit≤ tt) (lit≤ tt) (lit≤ tt)
+      (lit< tt) refl refl
 
   has_divide : HasRoutine s divide 68 (with_hnm 65 66 67)
-  has_divide = has z (divide_lines high low by) refl s 65 68 56 at divide 68 (with_hnm 65 66 67) divide_image (lit≤ tt) (lit≤ tt) (lit≤ tt) (lit≤ tt)
+  has_divide = has z (divide_lines high low by) refl s 65 68 56 at divide 68 (with_hnm 65 66 67) divide_image
+      (lit≤ tt) (lit≤ tt) (lit≤ tt) (lit≤ tt)
 
   -- its three words, which the entry state has
   at_high : short_at s.store 65 ≡ high
@@ -81,7 +85,8 @@ module _ (z : Size) (high low by : ℕ) (positive : 1 ≤ by) (fits : by ≤ 327
   digits_long = length-replicate {A = Bool} 512 false
 
   division : Divides s 56 65 109 65 66 67
-  division = divides s 56 68 before_divide 65 66 67 65 digits_long refl has_divide is_division (lit≤ tt) (lit≤ tt) (lit< tt) (lit< tt)
+  division = divides s 56 68 before_divide 65 66 67 65 digits_long refl has_divide is_division (lit≤ tt) (lit≤ tt)
+      (lit< tt) (lit< tt)
 
   abbrev takes : Passes (2 + divide_orders (dividend 65 66 s / short_at s.store 67)) s [] 56 65 109
   takes = division.passes
@@ -108,15 +113,18 @@ module _ (z : Size) (high low by : ℕ) (positive : 1 ≤ by) (fits : by ≤ 327
   prints =
       let size = least z in
       print_passes takes.last 58 110
-      (before z (divide_lines high low by) refl takes.last 65 109 58 at_print 110 (lit≤ tt) (lit≤ tt) (lit≤ tt) (lit< tt) refl refl) 66 (n / by)
-      (has z (divide_lines high low by) refl takes.last 65 109 58 at_print print 110 (with_h 66) print_image (lit≤ tt) (lit≤ tt) (lit≤ tt) (lit≤ tt))
+      (before z (divide_lines high low by) refl takes.last 65 109 58 at_print 110 (lit≤ tt) (lit≤ tt) (lit≤ tt)
+      (lit< tt) refl refl) 66 (n / by)
+      (has z (divide_lines high low by) refl takes.last 65 109 58 at_print print 110 (with_h 66) print_image (lit≤ tt)
+      (lit≤ tt) (lit≤ tt) (lit≤ tt))
       (record { below = rw at_print.size (omega arith); beside = inl (lit< tt) }) quotient
       (quotient_low n by positive (omega arith))
 
   -- ---- `newline`
 
   at_newline : IsAt z (divide_lines high low by) prints.last 65 161 60
-  at_newline = passed z (divide_lines high low by) refl takes.last 65 109 58 at_print _ 110 161 (11 ∷ digits (n / by)) prints (lit≤ tt) (lit≤ tt)
+  at_newline = passed z (divide_lines high low by) refl takes.last 65 109 58 at_print _ 110 161
+      (11 ∷ digits (n / by)) prints (lit≤ tt) (lit≤ tt)
 
   newline_image : has_image (placed (divide_lines high low by)) newline 162 [] ≡ true
   unfolding parameter_store
@@ -125,13 +133,16 @@ module _ (z : Size) (high low by : ℕ) (positive : 1 ≤ by) (fits : by ≤ 327
   feeds : Passes 7 prints.last (18 ∷ 24 ∷ []) 60 162 169
   feeds =
       newline_passes prints.last 60 162
-      (before z (divide_lines high low by) refl prints.last 65 161 60 at_newline 162 (lit≤ tt) (lit≤ tt) (lit≤ tt) (lit< tt) refl refl)
-      (has z (divide_lines high low by) refl prints.last 65 161 60 at_newline newline 162 [] newline_image (lit≤ tt) (lit≤ tt) (lit≤ tt) (lit≤ tt))
+      (before z (divide_lines high low by) refl prints.last 65 161 60 at_newline 162 (lit≤ tt) (lit≤ tt) (lit≤ tt)
+      (lit< tt) refl refl)
+      (has z (divide_lines high low by) refl prints.last 65 161 60 at_newline newline 162 [] newline_image (lit≤ tt)
+      (lit≤ tt) (lit≤ tt) (lit≤ tt))
 
   -- ---- `print`, of the remainder
 
   at_last : IsAt z (divide_lines high low by) feeds.last 65 169 62
-  at_last = passed z (divide_lines high low by) refl prints.last 65 161 60 at_newline 7 162 169 (18 ∷ 24 ∷ []) feeds (lit≤ tt) (lit≤ tt)
+  at_last = passed z (divide_lines high low by) refl prints.last 65 161 60 at_newline 7 162 169 (18 ∷ 24 ∷ []) feeds
+      (lit≤ tt) (lit≤ tt)
 
   last_image : has_image (placed (divide_lines high low by)) print 170 (with_h 65) ≡ true
   unfolding parameter_store
@@ -145,12 +156,17 @@ module _ (z : Size) (high low by : ℕ) (positive : 1 ≤ by) (fits : by ≤ 327
       let size = least z in
       stopped
       (print_passes feeds.last 62 170
-      (before z (divide_lines high low by) refl feeds.last 65 169 62 at_last 170 (lit≤ tt) (lit≤ tt) (lit≤ tt) (lit< tt) refl refl) 65 (n % by)
-      (has z (divide_lines high low by) refl feeds.last 65 169 62 at_last print 170 (with_h 65) last_image (lit≤ tt) (lit≤ tt) (lit≤ tt) (lit≤ tt))
-      (record { below = rw at_last.size (omega arith); beside = inl (lit< tt) }) still (remainder_low n by positive fits))
-      (inl (lit< tt)) (word_there z (divide_lines high low by) refl feeds.last 65 169 62 at_last 64 53248 (inl (lit< tt)) (lit≤ tt) (lit< tt) refl)
+      (before z (divide_lines high low by) refl feeds.last 65 169 62 at_last 170 (lit≤ tt) (lit≤ tt) (lit≤ tt)
+      (lit< tt) refl refl) 65 (n % by)
+      (has z (divide_lines high low by) refl feeds.last 65 169 62 at_last print 170 (with_h 65) last_image (lit≤ tt)
+      (lit≤ tt) (lit≤ tt) (lit≤ tt))
+      (record { below = rw at_last.size (omega arith); beside = inl (lit< tt) }) still
+      (remainder_low n by positive fits))
+      (inl (lit< tt)) (word_there z (divide_lines high low by) refl feeds.last 65 169 62 at_last 64 53248
+      (inl (lit< tt)) (lit≤ tt) (lit< tt) refl)
 
-  pub divide_ends : LeadsToStop (2 + divide_orders (n / by) + (2 + print_orders (n / by) + (7 + (2 + print_orders (n % by))))) s
+  pub divide_ends : LeadsToStop
+      (2 + divide_orders (n / by) + (2 + print_orders (n / by) + (7 + (2 + print_orders (n % by))))) s
       (11 ∷ digits (n / by) ++ 18 ∷ 24 ∷ 11 ∷ digits (n % by))
   divide_ends =
       let count : dividend 65 66 s / short_at s.store 67 ≡ n / by = λ i. number i / at_by i in
@@ -165,6 +181,8 @@ pub call_ends : (z : Size) (n by : ℕ) → IsDivisible n by
 call_ends z n by made =
     let whole : 65536 * (n / 65536) + n % 65536 ≡ n = omega arith in
     let less = made.less in
-    subst (λ x. LeadsToStop (2 + divide_orders (x / by) + (2 + print_orders (x / by) + (7 + (2 + print_orders (x % by)))))
-    (entry_state z (divide_lines (n / 65536) (n % 65536) by)) (11 ∷ digits (x / by) ++ 18 ∷ 24 ∷ 11 ∷ digits (x % by))) whole
+    subst (λ x. LeadsToStop (2 + divide_orders (x / by)
+    + (2 + print_orders (x / by) + (7 + (2 + print_orders (x % by)))))
+    (entry_state z (divide_lines (n / 65536) (n % 65536) by))
+    (11 ∷ digits (x / by) ++ 18 ∷ 24 ∷ 11 ∷ digits (x % by))) whole
     (divide_ends z (n / 65536) (n % 65536) by made.positive made.divisor (omega arith) (omega arith))

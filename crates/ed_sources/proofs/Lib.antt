@@ -2,8 +2,13 @@ mod TextLines
 mod Decimals
 pub mod Said
 pub mod SaidMaths
+pub mod SaidDemo
 pub mod Faultless
+mod DemoTexts
+mod DemoNames
+mod DemoFaultless
 pub mod CallsAccepted
+pub mod DemoAccepted
 pub mod Stops
 mod Calling
 mod CalledRoutines

@@ -1,5 +1,6 @@
 -- What the teleprinter makes of the digits of a number.
-use Rattle.std.proofs.Common.{◌≡◌, ◌∙◌, ℕ, zero, suc, ◌+◌, ◌<◌, refl, sym, ap, arith, true, nat_lt, List, [], ◌∷◌, ◌++◌, append-nil}
+use Rattle.std.proofs.Common.{◌≡◌, ◌∙◌, ℕ, zero, suc, ◌+◌, ◌<◌, refl, sym, ap}
+use Rattle.std.proofs.Common.{arith, true, nat_lt, List, [], ◌∷◌, ◌++◌, append-nil}
 use Rattle.std.specs.Fmt.{decimal}
 use Rattle.std.proofs.lemmas.Bool.{and_parts}
 use Rattle.ed_words.proofs.Numbers.{lt_of}
@@ -21,7 +22,8 @@ digit_struck (suc (suc (suc (suc (suc (suc (suc (suc zero)))))))) rest l = refl
 digit_struck (suc (suc (suc (suc (suc (suc (suc (suc (suc zero))))))))) rest l = refl
 digit_struck (suc (suc (suc (suc (suc (suc (suc (suc (suc (suc d)))))))))) rest l = absurd (omega arith)
 
-digits_struck : (ds rest : List ℕ) → are_digits ds ≡ true → paper_from Figures (ds ++ rest) ≡ written ds ++ paper_from Figures rest
+digits_struck : (ds rest : List ℕ) → are_digits ds ≡ true
+    → paper_from Figures (ds ++ rest) ≡ written ds ++ paper_from Figures rest
 digits_struck [] rest h = refl
 digits_struck (d ∷ ds) rest h =
     let p = and_parts (nat_lt d 10) (are_digits ds) h in
@@ -29,7 +31,8 @@ digits_struck (d ∷ ds) rest h =
 
 -- behind a figure shift they are the number in decimal, whatever is printed behind them
 shown : (n : ℕ) → n < 65536 → (rest : List ℕ) → paper (11 ∷ digits n ++ rest) ≡ decimal n ++ paper_from Figures rest
-shown n small rest = digits_struck (digits n) rest (are n small) ∙ ap (λ (x : List ℕ). x ++ paper_from Figures rest) (decimal_is n small)
+shown n small rest = digits_struck (digits n) rest (are n small)
+    ∙ ap (λ (x : List ℕ). x ++ paper_from Figures rest) (decimal_is n small)
 
 pub digits_printed : (n : ℕ) → n < 65536 → paper (11 ∷ digits n) ≡ decimal n
 digits_printed n small =

@@ -91,4 +91,5 @@ module _ (z : Size) where
 
   pub newline_ends : LeadsToStop 7 s0 (18 ∷ 24 ∷ [])
   newline_ends =
-      stopped (newline_passes s0 56 60 before_newline has_newline) (inl (lit< tt)) (word_at z newline_lines refl 58 (lit≤ tt) (lit< tt))
+      stopped (newline_passes s0 56 60 before_newline has_newline) (inl (lit< tt))
+      (word_at z newline_lines refl 58 (lit≤ tt) (lit< tt))

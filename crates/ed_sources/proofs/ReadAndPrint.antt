@@ -74,7 +74,12 @@ module _ (z : Size) (n : ℕ) (small : n < 65536) where
   out = let size = least z in record { below = omega arith; beside = inl (lit< tt) }
 
   within : IsWithin 24 62 61 (locations z) t
-  within = let size = least z in record { under = omega arith; near = omega arith; back = omega arith; fits = omega arith }
+  within = let size = least z in record {
+    under = omega arith;
+    near = omega arith;
+    back = omega arith;
+    fits = omega arith;
+  }
 
   tape_is : t.tape ≡ digits n ++ 17 ∷ []
   tape_is = append-nil (digits n ++ 17 ∷ [])
@@ -89,16 +94,19 @@ module _ (z : Size) (n : ℕ) (small : n < 65536) where
   u = read_call.last 62 61 (locations z) t (all_words z (read_lines n)) there out within 17 [] ends_with (lit< tt)
 
   reads : Leads (11 + 13 * length (digit_rows t.tape)) t [] u
-  reads = read_call.leads_to 62 61 (locations z) t (all_words z (read_lines n)) there out within 17 [] ends_with (lit< tt)
+  reads = read_call.leads_to 62 61 (locations z) t (all_words z (read_lines n)) there out within 17 []
+      ends_with (lit< tt)
 
   -- a word that `read` leaves as it was
   kept : (i : ℕ) → i ≢ 61 → IsOther read 62 i → short_at u.store i ≡ short_at s.store i
   kept =
-      (read_call.keeps 62 61 (locations z) t (all_words z (read_lines n)) there out within 17 [] ends_with (lit< tt) u refl).words
+      (read_call.keeps 62 61 (locations z) t (all_words z (read_lines n)) there out within 17 [] ends_with
+      (lit< tt) u refl).words
 
   number : short_at u.store 61 ≡ n
   number =
-      (read_call.has_read 62 61 (locations z) t (all_words z (read_lines n)) there out within 17 [] ends_with (lit< tt) u refl).number
+      (read_call.has_read 62 61 (locations z) t (all_words z (read_lines n)) there out within 17 [] ends_with
+      (lit< tt) u refl).number
       ∙ ap (λ (x : List ℕ). value x % 2 ^ 17) rows
       ∙ ap (λ x. x % 2 ^ 17) (digits_law n small).value_is
       ∙ (let e : n % 2 ^ 17 ≡ n = omega (arith, small) in e)
@@ -114,9 +122,12 @@ module _ (z : Size) (n : ℕ) (small : n < 65536) where
       record {
         counter = refl;
         acc = refl;
-        first = caller_there 58 (lit< tt) (λ e. omega (arith, e)) ∙ word_at z (read_lines n) refl 58 (lit≤ tt) (lit< tt);
-        second = caller_there 59 (lit< tt) (λ e. omega (arith, e)) ∙ word_at z (read_lines n) refl 59 (lit≤ tt) (lit< tt);
-        all = read_call.all_last 62 61 (locations z) t (all_words z (read_lines n)) there out within 17 [] ends_with (lit< tt);
+        first = caller_there 58 (lit< tt) (λ e. omega (arith, e))
+            ∙ word_at z (read_lines n) refl 58 (lit≤ tt) (lit< tt);
+        second = caller_there 59 (lit< tt) (λ e. omega (arith, e))
+            ∙ word_at z (read_lines n) refl 59 (lit≤ tt) (lit< tt);
+        all = read_call.all_last 62 61 (locations z) t (all_words z (read_lines n)) there out within 17 []
+            ends_with (lit< tt);
         room = omega arith;
         there = omega arith;
       }
@@ -139,8 +150,10 @@ module _ (z : Size) (n : ℕ) (small : n < 65536) where
   prints =
       let size = least z in
       stopped
-      (print_passes u 58 86 before_print 61 n has_print (record { below = omega arith; beside = inl (lit< tt) }) number small)
-      (inl (lit< tt)) (caller_there 60 (lit< tt) (λ e. omega (arith, e)) ∙ word_at z (read_lines n) refl 60 (lit≤ tt) (lit< tt))
+      (print_passes u 58 86 before_print 61 n has_print (record { below = omega arith; beside = inl (lit< tt) })
+      number small)
+      (inl (lit< tt)) (caller_there 60 (lit< tt) (λ e. omega (arith, e))
+      ∙ word_at z (read_lines n) refl 60 (lit≤ tt) (lit< tt))
 
   pub read_ends : LeadsToStop (2 + (11 + 13 * length (digits n)) + (2 + print_orders n)) s (11 ∷ digits n)
   read_ends =

@@ -1,5 +1,5 @@
 -- The source that takes a square root and prints it, from its entry to its stop.
-use Rattle.std.proofs.Common.{◌≡◌, inl, inr, ℕ, ◌+◌, ◌*◌, ◌<◌, refl, ap, ◌∙◌, arith, true, [], ◌∷◌, lit≤, lit<}
+use Rattle.std.proofs.Common.{◌≡◌, inl, ℕ, ◌+◌, ◌<◌, refl, arith, true, [], ◌∷◌, lit≤, lit<}
 use Rattle.ed_words.specs.declared.size.Size.{Size}
 use Rattle.ed_words.proofs.SizeLemmas.{least}
 use Rattle.ed_store.specs.Cells.{short_at}
@@ -42,7 +42,8 @@ module _ (z : Size) (n : ℕ) (small : n < 65536) where
   before_root = before z (root_lines n) refl s 62 64 56 at 64 (lit≤ tt) (lit≤ tt) (lit≤ tt) (lit< tt) refl refl
 
   has_root : HasRoutine s root 64 (with_hn 61 62)
-  has_root = has z (root_lines n) refl s 62 64 56 at root 64 (with_hn 61 62) root_image (lit≤ tt) (lit≤ tt) (lit≤ tt) (lit≤ tt)
+  has_root = has z (root_lines n) refl s 62 64 56 at root 64 (with_hn 61 62) root_image (lit≤ tt) (lit≤ tt)
+      (lit≤ tt) (lit≤ tt)
 
   number : short_at s.store 61 ≡ n
   number = word_there z (root_lines n) refl s 62 64 56 at 61 n (inl (lit< tt)) (lit≤ tt) (lit< tt) refl
@@ -54,7 +55,8 @@ module _ (z : Size) (n : ℕ) (small : n < 65536) where
   taken =
       let size = least z in
       takes_root s 56 64 before_root 61 62 r has_root (record { below = omega arith; beside = inl (lit< tt) })
-      (record { below = omega arith; beside = inl (lit< tt) }) (λ e. omega (arith, e)) (rw number small) is_root (lit< tt)
+      (record { below = omega arith; beside = inl (lit< tt) }) (λ e. omega (arith, e))
+      (rw number small) is_root (lit< tt)
 
   abbrev takes : Passes (2 + root_orders r) s [] 56 62 87
   takes = taken.passes
@@ -69,11 +71,13 @@ module _ (z : Size) (n : ℕ) (small : n < 65536) where
   print_image = refl
 
   before_print : IsBefore takes.last 58 88
-  before_print = before z (root_lines n) refl takes.last 62 87 58 at_print 88 (lit≤ tt) (lit≤ tt) (lit≤ tt) (lit< tt) refl refl
+  before_print = before z (root_lines n) refl takes.last 62 87 58 at_print 88 (lit≤ tt) (lit≤ tt) (lit≤ tt)
+      (lit< tt) refl refl
 
   has_print : HasRoutine takes.last print 88 (with_h 62)
   has_print =
-      has z (root_lines n) refl takes.last 62 87 58 at_print print 88 (with_h 62) print_image (lit≤ tt) (lit≤ tt) (lit≤ tt) (lit≤ tt)
+      has z (root_lines n) refl takes.last 62 87 58 at_print print 88 (with_h 62) print_image (lit≤ tt) (lit≤ tt)
+      (lit≤ tt) (lit≤ tt)
 
   prints : LeadsToStop (2 + print_orders r) takes.last (11 ∷ digits r)
   prints =
@@ -81,7 +85,8 @@ module _ (z : Size) (n : ℕ) (small : n < 65536) where
       stopped
       (print_passes takes.last 58 88 before_print 62 r has_print
       (record { below = rw at_print.size (omega arith); beside = inl (lit< tt) }) taken.root_is (root_small n small))
-      (inl (lit< tt)) (word_there z (root_lines n) refl takes.last 62 87 58 at_print 60 53248 (inl (lit< tt)) (lit≤ tt) (lit< tt) refl)
+      (inl (lit< tt)) (word_there z (root_lines n) refl takes.last 62 87 58 at_print 60 53248 (inl (lit< tt))
+      (lit≤ tt) (lit< tt) refl)
 
   pub root_ends : LeadsToStop (2 + root_orders r + (2 + print_orders r)) s (11 ∷ digits r)
   root_ends = behind takes.leads prints

@@ -1,6 +1,8 @@
 -- What the lines of the sources of calls say.
-use Rattle.std.proofs.Common.{◌≡◌, ◌∙◌, ℕ, ◌+◌, ◌<◌, ◌≤◌, Bool, true, false, List, [], ◌∷◌, ◌++◌, refl, sym, ap, subst, arith}
-use Rattle.std.proofs.Common.{true≢false, append_assoc, append-nil, length, length-append, map, codes, pos, nat_le, lit≤}
+use Rattle.std.proofs.Common.{◌≡◌, ◌∙◌, ℕ, ◌+◌, ◌<◌, ◌≤◌, Bool, true, false}
+use Rattle.std.proofs.Common.{List, [], ◌∷◌, ◌++◌, refl, sym, ap, subst, arith}
+use Rattle.std.proofs.Common.{true≢false, append_assoc, append-nil, length}
+use Rattle.std.proofs.Common.{length-append, map, codes, pos, nat_le, lit≤}
 use Rattle.std.specs.Prelude.{◌==◌, not, Option, Some, None, Ok}
 use Rattle.std.specs.Fmt.{decimal}
 use Rattle.std.specs.List.{list_all}
@@ -8,9 +10,11 @@ use Rattle.std.proofs.lemmas.Bool.{and_parts}
 use Rattle.std.proofs.lemmas.List.{length-map, map-append}
 use Rattle.ed_words.proofs.Numbers.{le_true, lt_false}
 use Rattle.ed_codes.specs.Spelling.{row_of}
-use Rattle.ed_syntax.specs.Lines.{Text}
-use Rattle.ed_syntax.specs.Parts.{run, sign, quoted, is_digit, is_run_byte, parts_from, parts_of}
-use Rattle.ed_syntax.specs.Grammar.{array, form_at, is_number, row, settings, spells, value}
+use Rattle.ed_words.specs.Texts.{Text}
+use Rattle.ed_words.specs.Decimals.{is_digit}
+use Rattle.ed_syntax.specs.Parts.{Part, run, sign, quoted, is_run_byte, parts_from, parts_of}
+use Rattle.ed_words.specs.Decimals.{value}
+use Rattle.ed_syntax.specs.Grammar.{array, form_at, is_number, row, settings, spells}
 use Rattle.ed_syntax.specs.Sources.{is_line_byte, line_of}
 use Rattle.ed_syntax.specs.declared.program.Line.{Line}
 use Rattle.ed_syntax.specs.declared.program.Operand.TheVariants as operands
@@ -19,7 +23,8 @@ use Rattle.ed_syntax.specs.declared.program.Statement.TheVariants as statements
 use Rattle.ed_syntax.proofs.PartLemmas.{run_parts}
 use Rattle.ed_sources.specs.Calls.{check_source, newline_source, number_line, print_source, read_source}
 use Rattle.ed_sources.proofs.TextLines.{Says, ends, says, by_parts}
-use Rattle.ed_sources.proofs.Decimals.{are, are_digits, decimal_is, digit_bytes, few_bytes, line_bytes, no_quotes, row_bytes}
+use Rattle.ed_sources.proofs.Decimals.{are, are_digits, decimal_is, digit_bytes}
+use Rattle.ed_sources.proofs.Decimals.{few_bytes, line_bytes, no_quotes, row_bytes}
 use Rattle.ed_sources.proofs.Decimals.{rows_are, run_bytes, some_digit, value_is, written}
 use Rattle.ed_routines.specs.Digits.{digits}
 
@@ -39,7 +44,8 @@ stop = statements.Order 13 (operands.Number 0) false
 -- `use` with H set to the place `value`
 abbrev pub use_on_value : Text → Text → Statement
 use_on_value routine name =
-    statements.Fetch routine name (array (record { letter = 21; operand = operands.Label (codes "value") (pos 0) } ∷ []))
+    statements.Fetch routine name
+    (array (record { letter = 21; operand = operands.Label (codes "value") (pos 0) } ∷ []))
 
 abbrev pub print_lines : ℕ → List Line
 print_lines n =
@@ -117,68 +123,86 @@ check_used = refl
 
 -- ---- the line with the number
 
-number_parts : (bytes : Text) → 0 < length bytes → list_all is_run_byte bytes ≡ true → parts_of bytes ≡ Some (run bytes ∷ [])
+pub number_parts : (bytes : Text) → 0 < length bytes → list_all is_run_byte bytes ≡ true
+    → parts_of bytes ≡ Some (run bytes ∷ [])
 number_parts [] some h = absurd (omega arith)
 number_parts (b ∷ r) some h = ap parts_of (sym (append-nil (b ∷ r))) ∙ run_parts b r [] h refl
 
-a_number : (bytes : Text) → 0 < length bytes → list_all is_digit bytes ≡ true → is_number bytes ≡ true
+pub a_number : (bytes : Text) → 0 < length bytes → list_all is_digit bytes ≡ true → is_number bytes ≡ true
 a_number [] some h = absurd (omega arith)
 a_number (b ∷ r) some h = h
 
--- what the front of a line `label: word N` makes of it, whatever bytes stand behind
-pub record IsWordFront (k : ℕ) (front label : Text) : Type 0 where
+-- what the front of a line makes of it that ends with `word N`, whatever bytes stand behind: its label and the parts
+-- before `word`
+pub record IsWordFront (k : ℕ) (front : Text) (label : Option Text) (before : List Part) : Type 0 where
   pub plain : (bytes : Text) → list_all is_line_byte bytes ≡ true → list_all is_line_byte (front ++ bytes) ≡ true
   pub short : length front ≤ 20
   pub parts : (bytes : Text) → parts_of bytes ≡ Some (run bytes ∷ [])
-      → parts_of (front ++ bytes) ≡ Some (run label ∷ sign 58 ∷ run (codes "word") ∷ run bytes ∷ [])
-  pub form : (bytes : Text) (n : ℕ) → is_number bytes ≡ true → nat_le (value bytes) 131071 ≡ true → value bytes ≡ n → n < 65536
-      → form_at false k (run label ∷ sign 58 ∷ run (codes "word") ∷ run bytes ∷ [])
-      ≡ Some (Some (record { label = Some label; statement = Some (statements.Number n) }))
+      → parts_of (front ++ bytes) ≡ Some (before ++ run (codes "word") ∷ run bytes ∷ [])
+  pub form : (bytes : Text) (n : ℕ) → is_number bytes ≡ true → nat_le (value bytes) 131071 ≡ true → value bytes ≡ n
+      → n < 65536
+      → form_at false k (before ++ run (codes "word") ∷ run bytes ∷ [])
+      ≡ Some (Some (record { label = label; statement = Some (statements.Number n) }))
 
-module _ (k : ℕ) (front label : Text) (is_front : IsWordFront k front label) where
-  word_line : (bytes : Text) (n : ℕ) → list_all is_line_byte bytes ≡ true → length bytes ≤ 5 → parts_of bytes ≡ Some (run bytes ∷ [])
+-- the parts of a label
+abbrev pub label_parts : Text → List Part
+label_parts label = run label ∷ sign 58 ∷ []
+
+module _ (k : ℕ) (front : Text) (label : Option Text) (before : List Part)
+    (is_front : IsWordFront k front label before) where
+  word_line : (bytes : Text) (n : ℕ) → list_all is_line_byte bytes ≡ true → length bytes ≤ 5
+      → parts_of bytes ≡ Some (run bytes ∷ [])
       → is_number bytes ≡ true → value bytes ≡ n → n < 65536
-      → line_of false k (front ++ bytes) ≡ Ok (record { label = Some label; statement = Some (statements.Number n) })
+      → line_of false k (front ++ bytes) ≡ Ok (record { label = label; statement = Some (statements.Number n) })
   word_line bytes n plain few parts number is small =
       let long = length-append front bytes in
       let short = is_front.short in
-      by_parts k (front ++ bytes) (run label ∷ sign 58 ∷ run (codes "word") ∷ run bytes ∷ []) _ _ (is_front.plain bytes plain)
+      by_parts k (front ++ bytes) (before ++ run (codes "word") ∷ run bytes ∷ []) _ _ (is_front.plain bytes plain)
       (lt_false 120 (length (front ++ bytes)) (omega (arith, long, few)))
       (is_front.parts bytes parts)
       (is_front.form bytes n number (le_true (value bytes) 131071 (omega (arith, is, small))) is small)
 
   pub word_says : (n : ℕ) → n < 65536
-      → line_of false k (front ++ decimal n) ≡ Ok (record { label = Some label; statement = Some (statements.Number n) })
+      → line_of false k (front ++ decimal n) ≡ Ok (record { label = label; statement = Some (statements.Number n) })
   word_says n small =
       let ds : List ℕ = digits n in
       let few = few_bytes n small in
       let some : 0 < length (written ds) = let e = some_digit n in omega (arith, length-map ds (λ d. 48 + d), e) in
-      subst (λ (bytes : Text). line_of false k (front ++ bytes) ≡ Ok (record { label = Some label; statement = Some (statements.Number n) }))
+      subst (λ (bytes : Text). line_of false k (front ++ bytes) ≡ Ok (record {
+        label = label;
+        statement = Some (statements.Number n);
+      }))
       (decimal_is n small)
-      (word_line (written ds) n (line_bytes ds (are n small)) few (number_parts (written ds) some (run_bytes ds (are n small)))
+      (word_line (written ds) n (line_bytes ds (are n small)) few
+      (number_parts (written ds) some (run_bytes ds (are n small)))
       (a_number (written ds) some (digit_bytes ds (are n small))) (value_is n small) small)
 
-value_front : IsWordFront 5 (codes "value: word ") (codes "value")
+value_front : IsWordFront 5 (codes "value: word ") (Some (codes "value")) (label_parts (codes "value"))
 value_front = record {
   plain = λ bytes h. h;
   short = lit≤ tt;
   parts = λ bytes h. rw h refl;
   form = λ bytes n number in_range is small.
-      rw (number, in_range, is) (ap (λ m. Some (Some (record { label = Some (codes "value"); statement = Some (statements.Number m) })))
+      rw (number, in_range, is) (ap (λ m. Some (Some (record {
+        label = Some (codes "value");
+        statement = Some (statements.Number m);
+      })))
       (omega (arith, small)));
 }
 
 print_number : (n : ℕ) → n < 65536
     → line_of false 5 (codes "value: word " ++ decimal n)
     ≡ Ok (record { label = Some (codes "value"); statement = Some (statements.Number n) })
-print_number = word_says 5 (codes "value: word ") (codes "value") value_front
+print_number = word_says 5 (codes "value: word ") (Some (codes "value")) (label_parts (codes "value")) value_front
 
 pub print_says : (n : ℕ) → n < 65536 → Says 1 (print_source n) (print_lines n)
-print_says n small = says refl (says refl (says refl (says refl (says (print_number n small) (says print_used (says refl ends))))))
+print_says n small = says refl
+    (says refl (says refl (says refl (says (print_number n small) (says print_used (says refl ends))))))
 
 pub check_says : (n : ℕ) → n < 65536 → Says 1 (check_source n) (check_lines n)
 check_says n small =
-    says refl (says refl (says refl (says refl (says (print_number n small) (says print_used (says check_used (says refl ends)))))))
+    says refl (says refl (says refl
+    (says refl (says (print_number n small) (says print_used (says check_used (says refl ends)))))))
 
 pub newline_says : Says 1 newline_source newline_lines
 newline_says = says refl (says refl (says refl (says refl (says refl (says refl ends)))))
@@ -200,13 +224,15 @@ quoted_digits q (d ∷ ds) h =
     not_true true e = absurd (true≢false (sym e))
 
 -- the same, and behind them F
-with_F : (test : ℕ → Bool) (bytes : Text) → list_all test bytes ≡ true → test 70 ≡ true → list_all test (bytes ++ 70 ∷ []) ≡ true
+with_F : (test : ℕ → Bool) (bytes : Text) → list_all test bytes ≡ true → test 70 ≡ true
+    → list_all test (bytes ++ 70 ∷ []) ≡ true
 with_F test [] h k = rw k refl
 with_F test (b ∷ bytes) h k =
     let p = and_parts (test b) (list_all test bytes) h in rw (p.0, with_F test bytes p.1 k) refl
 
 -- and the quote behind them
-pub with_end : (bytes : Text) → list_all is_line_byte bytes ≡ true → list_all is_line_byte (bytes ++ 70 ∷ 34 ∷ []) ≡ true
+pub with_end : (bytes : Text) → list_all is_line_byte bytes ≡ true
+    → list_all is_line_byte (bytes ++ 70 ∷ 34 ∷ []) ≡ true
 with_end [] h = refl
 with_end (b ∷ bytes) h =
     let p = and_parts (is_line_byte b) (list_all is_line_byte bytes) h in rw (p.0, with_end bytes p.1) refl
@@ -222,16 +248,21 @@ rows_line ds are few =
     let long = length-append bytes (70 ∷ []) in
     let some = le_true 1 (length quote) (omega (arith, long)) in
     let fits = le_true (length quote) 120 (omega (arith, long, few)) in
-    let spelled : list_all (λ b. spells (row_of b)) quote ≡ true = with_F (λ b. spells (row_of b)) bytes (row_bytes ds are) refl in
+    let spelled : list_all (λ b. spells (row_of b)) quote ≡ true =
+    with_F (λ b. spells (row_of b)) bytes (row_bytes ds are) refl in
     let rows : map (λ b. row (row_of b)) quote ≡ ds ++ 17 ∷ [] =
     map-append (λ b. row (row_of b)) bytes (70 ∷ []) ∙ ap (λ (x : List ℕ). x ++ 17 ∷ []) (rows_are ds are) in
     by_parts 11 (codes "data " ++ 34 ∷ bytes ++ 70 ∷ 34 ∷ []) (run (codes "data") ∷ quoted quote ∷ []) _ _ plain
     (lt_false 120 _ (omega (arith, all_long, few)))
     (rw (quoted_digits [] ds (no_quotes ds are)) refl)
-    (rw (some, fits, spelled) (ap (λ (x : List ℕ). Some (Some (record { label = None; statement = Some (statements.Rows (array x)) }))) rows))
+    (rw (some, fits, spelled)
+    (ap (λ (x : List ℕ). Some (Some (record { label = None; statement = Some (statements.Rows (array x)) }))) rows))
 
 read_number : (n : ℕ) → n < 65536
-    → line_of false 11 (number_line n) ≡ Ok (record { label = None; statement = Some (statements.Rows (array (digits n ++ 17 ∷ []))) })
+    → line_of false 11 (number_line n) ≡ Ok (record {
+      label = None;
+      statement = Some (statements.Rows (array (digits n ++ 17 ∷ [])));
+    })
 read_number n small =
     ap (λ (t : Text). line_of false 11 (codes "data " ++ 34 ∷ t)) (append_assoc (decimal n) (70 ∷ []) (34 ∷ []))
     ∙ subst (λ (bytes : Text). line_of false 11 (codes "data " ++ 34 ∷ bytes ++ 70 ∷ 34 ∷ [])
@@ -240,5 +271,6 @@ read_number n small =
 
 pub read_says : (n : ℕ) → n < 65536 → Says 1 (read_source n) (read_lines n)
 read_says n small =
-    says refl (says refl (says refl (says refl (says refl (says refl (says refl (says read_used (says print_used_too (says refl
+    says refl (says refl (says refl
+    (says refl (says refl (says refl (says refl (says read_used (says print_used_too (says refl
     (says (read_number n small) ends))))))))))

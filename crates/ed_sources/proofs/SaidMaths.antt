@@ -1,7 +1,7 @@
 -- What the lines of the sources of `call divide` and `call root` say.
 use Rattle.std.proofs.Common.{◌≡◌, ℕ, ◌<◌, false, List, [], ◌∷◌, refl, ap, arith, lit≤, codes, pos}
 use Rattle.std.specs.Prelude.{Some, None, Ok}
-use Rattle.ed_syntax.specs.Lines.{Text}
+use Rattle.ed_words.specs.Texts.{Text}
 use Rattle.ed_syntax.specs.Grammar.{array, settings}
 use Rattle.ed_syntax.specs.Sources.{line_of}
 use Rattle.ed_syntax.specs.declared.program.Line.{Line}
@@ -10,7 +10,7 @@ use Rattle.ed_syntax.specs.declared.program.Setting.{Setting}
 use Rattle.ed_syntax.specs.declared.program.Statement.{Statement}
 use Rattle.ed_syntax.specs.declared.program.Statement.TheVariants as statements
 use Rattle.ed_sources.specs.Calls.{divide_source, root_source}
-use Rattle.ed_sources.proofs.Said.{IsWordFront, order, said, stop, word_says}
+use Rattle.ed_sources.proofs.Said.{IsWordFront, label_parts, order, said, stop, word_says}
 use Rattle.ed_sources.proofs.TextLines.{Says, ends, says}
 
 -- a parameter set to a place
@@ -22,12 +22,13 @@ use_with routine name parameters = statements.Fetch routine name (array paramete
 
 -- the statements that use a routine
 abbrev use_divide : Statement
-use_divide = use_with (codes "divide") (codes "v") (at_place 21 (codes "hi") ∷ at_place 22 (codes "lo") ∷ at_place 23 (codes "by") ∷ [])
+use_divide = use_with (codes "divide") (codes "v")
+    (at_place 21 (codes "hi") ∷ at_place 22 (codes "lo") ∷ at_place 23 (codes "by") ∷ [])
 
 abbrev use_root : Statement
 use_root = use_with (codes "root") (codes "v") (at_place 21 (codes "of") ∷ at_place 22 (codes "is") ∷ [])
 
-abbrev use_print : Text → Text → Statement
+abbrev pub use_print : Text → Text → Statement
 use_print name place = use_with (codes "print") name (at_place 21 place ∷ [])
 
 abbrev pub divide_lines : ℕ → ℕ → ℕ → List Line
@@ -67,7 +68,8 @@ root_lines n =
     ∷ said 11 None (statements.Enter (codes "main"))
     ∷ []
 
-divide_used : line_of false 14 (codes "use divide as v with H=hi, N=lo, M=by") ≡ Ok (record { label = None; statement = Some use_divide })
+divide_used : line_of false 14 (codes "use divide as v with H=hi, N=lo, M=by")
+    ≡ Ok (record { label = None; statement = Some use_divide })
 unfolding settings
 divide_used = refl
 
@@ -81,7 +83,10 @@ print_high_used : line_of false 17 (codes "use print as r with H=hi")
 unfolding settings
 print_high_used = refl
 
-root_used : line_of false 9 (codes "use root as v with H=of, N=is") ≡ Ok (record { label = None; statement = Some use_root })
+root_used : line_of false 9 (codes "use root as v with H=of, N=is") ≡ Ok (record {
+  label = None;
+  statement = Some use_root;
+})
 unfolding settings
 root_used = refl
 
@@ -92,56 +97,69 @@ print_root_used = refl
 
 -- the lines with the numbers
 
-hi_front : IsWordFront 11 (codes "hi: word ") (codes "hi")
+hi_front : IsWordFront 11 (codes "hi: word ") (Some (codes "hi")) (label_parts (codes "hi"))
 hi_front = record {
   plain = λ bytes h. h;
   short = lit≤ tt;
   parts = λ bytes h. rw h refl;
   form = λ bytes n number in_range is small.
-      rw (number, in_range, is) (ap (λ m. Some (Some (record { label = Some (codes "hi"); statement = Some (statements.Number m) })))
+      rw (number, in_range, is) (ap (λ m. Some (Some (record {
+        label = Some (codes "hi");
+        statement = Some (statements.Number m);
+      })))
       (omega (arith, small)));
 }
 
-lo_front : IsWordFront 12 (codes "lo: word ") (codes "lo")
+lo_front : IsWordFront 12 (codes "lo: word ") (Some (codes "lo")) (label_parts (codes "lo"))
 lo_front = record {
   plain = λ bytes h. h;
   short = lit≤ tt;
   parts = λ bytes h. rw h refl;
   form = λ bytes n number in_range is small.
-      rw (number, in_range, is) (ap (λ m. Some (Some (record { label = Some (codes "lo"); statement = Some (statements.Number m) })))
+      rw (number, in_range, is) (ap (λ m. Some (Some (record {
+        label = Some (codes "lo");
+        statement = Some (statements.Number m);
+      })))
       (omega (arith, small)));
 }
 
-by_front : IsWordFront 13 (codes "by: word ") (codes "by")
+by_front : IsWordFront 13 (codes "by: word ") (Some (codes "by")) (label_parts (codes "by"))
 by_front = record {
   plain = λ bytes h. h;
   short = lit≤ tt;
   parts = λ bytes h. rw h refl;
   form = λ bytes n number in_range is small.
-      rw (number, in_range, is) (ap (λ m. Some (Some (record { label = Some (codes "by"); statement = Some (statements.Number m) })))
+      rw (number, in_range, is) (ap (λ m. Some (Some (record {
+        label = Some (codes "by");
+        statement = Some (statements.Number m);
+      })))
       (omega (arith, small)));
 }
 
-of_front : IsWordFront 7 (codes "of: word ") (codes "of")
+of_front : IsWordFront 7 (codes "of: word ") (Some (codes "of")) (label_parts (codes "of"))
 of_front = record {
   plain = λ bytes h. h;
   short = lit≤ tt;
   parts = λ bytes h. rw h refl;
   form = λ bytes n number in_range is small.
-      rw (number, in_range, is) (ap (λ m. Some (Some (record { label = Some (codes "of"); statement = Some (statements.Number m) })))
+      rw (number, in_range, is) (ap (λ m. Some (Some (record {
+        label = Some (codes "of");
+        statement = Some (statements.Number m);
+      })))
       (omega (arith, small)));
 }
 
-pub divide_says : (high low by : ℕ) → high < 65536 → low < 65536 → by < 65536 → Says 1 (divide_source high low by) (divide_lines high low by)
+pub divide_says : (high low by : ℕ) → high < 65536 → low < 65536 → by < 65536
+    → Says 1 (divide_source high low by) (divide_lines high low by)
 divide_says high low by h l b =
     says refl (says refl (says refl (says refl (says refl (says refl (says refl (says refl (says refl (says refl
-    (says (word_says 11 (codes "hi: word ") (codes "hi") hi_front high h)
-    (says (word_says 12 (codes "lo: word ") (codes "lo") lo_front low l)
-    (says (word_says 13 (codes "by: word ") (codes "by") by_front by b)
+    (says (word_says 11 (codes "hi: word ") (Some (codes "hi")) (label_parts (codes "hi")) hi_front high h)
+    (says (word_says 12 (codes "lo: word ") (Some (codes "lo")) (label_parts (codes "lo")) lo_front low l)
+    (says (word_says 13 (codes "by: word ") (Some (codes "by")) (label_parts (codes "by")) by_front by b)
     (says divide_used (says print_low_used (says refl (says print_high_used (says refl ends)))))))))))))))))
 
 pub root_says : (n : ℕ) → n < 65536 → Says 1 (root_source n) (root_lines n)
 root_says n small =
     says refl (says refl (says refl (says refl (says refl (says refl
-    (says (word_says 7 (codes "of: word ") (codes "of") of_front n small)
+    (says (word_says 7 (codes "of: word ") (Some (codes "of")) (label_parts (codes "of")) of_front n small)
     (says refl (says root_used (says print_root_used (says refl ends))))))))))

@@ -1,5 +1,6 @@
 -- Orders that lead to a stop, and the run that they are.
-use Rattle.std.proofs.Common.{◌≡◌, ◌∙◌, inl, inr, ℕ, zero, suc, ◌+◌, ◌-◌, ◌<◌, ◌≤◌, sym, ap, arith, true, List, ◌++◌, length}
+use Rattle.std.proofs.Common.{◌≡◌, ◌∙◌, inl, inr, ℕ, zero, suc, ◌+◌, ◌-◌, ◌<◌}
+use Rattle.std.proofs.Common.{◌≤◌, sym, ap, arith, true, List, ◌++◌, length}
 use Rattle.std.proofs.Common.{append_assoc, append-nil}
 use Rattle.std.proofs.lemmas.Bool.{cases_lt}
 use Rattle.ed_machine.specs.State.{State}
@@ -32,12 +33,14 @@ codes_behind (suc j) k s =
     let e : k + suc j ≡ suc (k + j) = omega arith in
     ap (λ x. (past x s).codes) e
     ∙ (λ i. codes_behind j k s i ++ codes_of (step (state_behind j k s i)).turn)
-    ∙ append_assoc (past k s).codes (past j (state_after k s)).codes (codes_of (step (state_after j (state_after k s))).turn)
+    ∙ append_assoc (past k s).codes (past j (state_after k s)).codes
+    (codes_of (step (state_after j (state_after k s))).turn)
 
 pub joined : {a b : ℕ} {s t u : State} {cs ds : List ℕ} → Leads a s cs t → Leads b t ds u → Leads (a + b) s (cs ++ ds) u
 joined {a} {b} {s} {t} {u} {cs} {ds} first second = record {
   state_is = state_behind b a s ∙ ap (state_after b) first.state_is ∙ second.state_is;
-  codes_are = codes_behind b a s ∙ (λ i. first.codes_are i ++ (past b (first.state_is i)).codes) ∙ ap (λ x. cs ++ x) second.codes_are;
+  codes_are = codes_behind b a s ∙ (λ i. first.codes_are i ++ (past b (first.state_is i)).codes)
+      ∙ ap (λ x. cs ++ x) second.codes_are;
   goes = goes;
 }
   where
@@ -48,7 +51,8 @@ joined {a} {b} {s} {t} {u} {cs} {ds} first second = record {
           | inr behind ↦
               let e : j ≡ a + (j - a) = omega arith in
               ap (λ x. goes_on (step (state_after x s)).turn) e
-              ∙ ap (λ (x : State). goes_on (step x).turn) (state_behind (j - a) a s ∙ ap (state_after (j - a)) first.state_is)
+              ∙ ap (λ (x : State). goes_on (step x).turn)
+              (state_behind (j - a) a s ∙ ap (state_after (j - a)) first.state_is)
               ∙ second.goes (j - a) (omega arith)
         ]
 
@@ -61,11 +65,13 @@ pub record LeadsToStop (k : ℕ) (s : State) (codes : List ℕ) : Type 0 where
   pub stops : (step last).turn ≡ Stops
 
 -- the same behind other orders
-pub behind : {a b : ℕ} {s t : State} {cs ds : List ℕ} → Leads a s cs t → LeadsToStop b t ds → LeadsToStop (a + b) s (cs ++ ds)
+pub behind : {a b : ℕ} {s t : State} {cs ds : List ℕ} → Leads a s cs t → LeadsToStop b t ds
+    → LeadsToStop (a + b) s (cs ++ ds)
 behind first o = record { last = o.last; leads = joined first o.leads; stops = o.stops }
 
 -- a run without resumes whose limit they keep, and whose paper has room for the codes, ends there
-pub ran_to_stop : (limit room k : ℕ) (s : State) (codes : List ℕ) → LeadsToStop k s codes → length codes ≤ room → suc k ≤ limit
+pub ran_to_stop : (limit room k : ℕ) (s : State) (codes : List ℕ) → LeadsToStop k s codes → length codes ≤ room
+    → suc k ≤ limit
     → ((ran limit 0 room s).codes ≡ codes) × ((ran limit 0 room s).ending ≡ Stopped)
 unfolding past ran
 ran_to_stop limit room k s codes o fits less =
@@ -75,9 +81,11 @@ ran_to_stop limit room k s codes o fits less =
     let obeyed : IsFree (suc k) s = λ j l.
     elim (cases_lt j k) [
       | inl below ↦ free o.leads j below
-      | inr here ↦ let e : j ≡ k = omega arith in ap (λ x. is_obeyed (step (state_after x s)).turn) e ∙ ap is_obeyed turn
+      | inr here ↦ let e : j ≡ k = omega arith in ap (λ x. is_obeyed (step (state_after x s)).turn) e
+          ∙ ap is_obeyed turn
     ] in
-    let few : length (past (suc k) s).codes ≤ room = let n = ap (λ (x : List ℕ). length x) all in omega (arith, n, fits) in
+    let few : length (past (suc k) s).codes ≤ room = let n = ap (λ (x : List ℕ). length x) all in
+    omega (arith, n, fits) in
     let has : HasRoom room (suc k) s = record { obeyed = obeyed; printed = few } in
     let at = at_stop limit 0 room k s has (no_stops k s o.leads.goes) less turn in
     let once = ends_once limit 0 room s _ _ _ _ (ran_ends limit 0 room s) at in

@@ -1,12 +1,14 @@
 -- The lines of a text that is made of lines, and what they say one after the other.
-use Rattle.std.proofs.Common.{◌≡◌, ◌∙◌, ◌≤◌, ℕ, ◌+◌, arith, Bool, true, false, true≢false, List, [], ◌∷◌, ◌++◌, refl, sym, ap, append_assoc}
+use Rattle.std.proofs.Common.{◌≡◌, ◌∙◌, ◌≤◌, ℕ, ◌+◌, arith, Bool, true, false, true≢false}
+use Rattle.std.proofs.Common.{List, [], ◌∷◌, ◌++◌, refl, sym, ap, append_assoc}
 use Rattle.std.proofs.Common.{length, nat_lt}
 use Rattle.std.specs.Prelude.{◌==◌, Option, Some, Ok, Err, if◌then◌else◌}
 use Rattle.std.specs.List.{list_all}
 use Rattle.std.proofs.lemmas.Bool.{and_parts}
 use Rattle.std.proofs.lemmas.Bool.Decides.{Decides-eqb}
 use Rattle.ed_words.proofs.Numbers.{eq_false}
-use Rattle.ed_syntax.specs.Lines.{Text, lines_of, with_byte}
+use Rattle.ed_words.specs.Texts.{Text}
+use Rattle.ed_syntax.specs.Lines.{lines_of, with_byte}
 use Rattle.ed_syntax.specs.Parts.{Part, parts_of}
 use Rattle.ed_syntax.specs.Grammar.{form_at}
 use Rattle.ed_syntax.specs.Sources.{and_lines, is_line_byte, is_two, line_of, lines_from, program_of}
@@ -30,7 +32,8 @@ byte_before b c bs inside =
     simp (feed, return)
 
 -- the first line
-first_line : (front rest : Text) → list_all is_line_byte front ≡ true → lines_of (front ++ 10 ∷ rest) ≡ front ∷ lines_of rest
+first_line : (front rest : Text) → list_all is_line_byte front ≡ true
+    → lines_of (front ++ 10 ∷ rest) ≡ front ∷ lines_of rest
 first_line [] [] h = refl
 first_line [] (c ∷ rest) h = refl
 first_line (b ∷ []) rest h =
@@ -50,7 +53,8 @@ lines_back (line ∷ lines) h =
     ∙ ap (λ (ls : List Text). line ∷ ls) (lines_back lines p.1)
 
 -- so the program of such a text is that of its lines
-pub program_is : (lines : List Text) (program : List Line) → list_all (list_all is_line_byte) lines ≡ true → is_two lines ≡ false
+pub program_is : (lines : List Text) (program : List Line) → list_all (list_all is_line_byte) lines ≡ true
+    → is_two lines ≡ false
     → lines_from false 1 lines ≡ Ok program → program_of (text_of lines) ≡ Ok program
 program_is lines program plain one says =
     let back = lines_back lines plain in
@@ -59,7 +63,8 @@ program_is lines program plain one says =
 -- what lines from a number on say, one after the other
 pub data Says : ℕ → List Text → List Line → Type 0 where
   ends : {k : ℕ} → Says k [] []
-  says : {k : ℕ} {line : Text} {lines : List Text} {label : Option Text} {statement : Option Statement} {program : List Line}
+  says : {k : ℕ} {line : Text} {lines : List Text} {label : Option Text} {statement : Option Statement}
+      {program : List Line}
       → line_of false k line ≡ Ok (record { label = label; statement = statement }) → Says (k + 1) lines program
       → Says k (line ∷ lines) (record { number = k; label = label; statement = statement } ∷ program)
 
@@ -69,7 +74,8 @@ pub said_lines : {k : ℕ} {lines : List Text} {program : List Line} → Says k 
 said_lines ends few = refl
 said_lines {k} (says {line = line} {lines = lines} here behind) few =
     let within : (k == 2001) ≡ false = eq_false k 2001 (omega (arith, few)) in
-    ap (λ (t : Bool). if t then Err (record { line = k; cause = TooManyLines }) else and_lines k (line_of false k line) (lines_from false (k + 1) lines))
+    ap (λ (t : Bool). if t then Err (record { line = k; cause = TooManyLines })
+    else and_lines k (line_of false k line) (lines_from false (k + 1) lines))
     within
     ∙ (λ i. and_lines k (here i) (said_lines behind (omega (arith, few)) i))
 

@@ -3,7 +3,7 @@ use Rattle.std.specs.Prelude.{ℕ, ◌/◌, ◌%◌, List, [], ◌∷◌, ◌++�
 use Rattle.std.specs.Fmt.{decimal}
 use Rattle.ed_call.specs.declared.Call.{Call}
 use Rattle.ed_call.specs.declared.Call.TheVariants.{Print, Read, NewLine, Divide, Root, Check}
-use Rattle.ed_syntax.specs.Lines.{Text}
+use Rattle.ed_words.specs.Texts.{Text}
 
 -- a text of lines, each with its line feed (10)
 abbrev pub text_of : List Text → Text
@@ -52,8 +52,8 @@ newline_source =
     ∷ codes "enter main"
     ∷ []
 
--- `call divide N D`, by the halves of N and D: `divide` leaves the quotient at `lo`, which is printed, and the remainder at
--- `hi`, which is printed on a line of its own
+-- `call divide N D`, by the halves of N and D: `divide` leaves the quotient at `lo`, which is printed, and the
+-- remainder at `hi`, which is printed on a line of its own
 abbrev pub divide_source : ℕ → ℕ → ℕ → List Text
 divide_source high low by =
     codes "segment main"
@@ -92,7 +92,8 @@ root_source n =
     ∷ codes "enter main"
     ∷ []
 
--- `call check N`: the checking routine obeys a guest that prints the number, and prints the function of each of its orders
+-- `call check N`: the checking routine obeys a guest that prints the number, and prints the function of each of its
+-- orders
 abbrev pub check_source : ℕ → List Text
 check_source n =
     codes "segment main"

@@ -1,2 +1,3 @@
 pub mod Calls
+pub mod Demo
 pub mod Accepted

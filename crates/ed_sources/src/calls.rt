@@ -1,5 +1,6 @@
 ghost use Rattle.std.specs.Prelude.{◌≡◌, ◌/◌, ◌%◌, ℕ, IfOk};
-ghost use Rattle.ed_sources.specs.Calls.{call_text, check_source, divide_source, newline_source, print_source, read_source, root_source, text_of};
+ghost use Rattle.ed_sources.specs.Calls.{call_text, check_source, divide_source, newline_source};
+ghost use Rattle.ed_sources.specs.Calls.{print_source, read_source, root_source, text_of};
 ghost use Rattle.ed_sources.specs.Accepted.{EachCallIsAccepted};
 
 use ed_call::Call;

@@ -1,9 +1,12 @@
-//! The sources that the program makes: those of the calls of a library routine.
+//! The sources that the program makes: those of the calls of a library routine, and a large one from a number.
 //!
-//! The contract is that each text is exact to the byte, that it is an accepted source on a store of either size, whatever
-//! its numbers are, and what its run prints. Stands on `ed_call`, `ed_loads` and `ed_routines`.
+//! The contract is that each text is exact to the byte, that it is an accepted source whatever its numbers are (that
+//! of a call on a store of either size), and what the run of a call prints. Stands on `ed_call`, `ed_loads` and
+//! `ed_routines`.
 #![tactic(auto)]
 
 mod calls;
+mod demo;
 
 pub use calls::call_source;
+pub use demo::demo_source;

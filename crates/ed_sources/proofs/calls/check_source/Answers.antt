@@ -1,13 +1,14 @@
 use Rattle.std.proofs.Common.{◌≡◌, [], ◌∷◌, ◌++◌, ap, sym, append_assoc, codes}
 use Rattle.std.specs.Fmt.{decimal}
-use Rattle.ed_syntax.specs.Lines.{Text}
+use Rattle.ed_words.specs.Texts.{Text}
 use Rattle.ed_sources.specs.Calls.{text_of}
 use Rattle.ed_report.proofs.Texts.{told}
 use Rattle.ed_sources.proofs.calls.check_source.Goals as goal
 
 -- the text before the number's digits, and that behind them
 abbrev front : Text
-front = text_of (codes "segment main" ∷ codes "here: A here F" ∷ codes "G p F" ∷ codes "Z F" ∷ []) ++ codes "value: word "
+front = text_of (codes "segment main" ∷ codes "here: A here F" ∷ codes "G p F" ∷ codes "Z F" ∷ [])
+    ++ codes "value: word "
 
 abbrev back : Text
 back = text_of (codes "use print as p with H=value" ∷ codes "use check as c with H=main" ∷ codes "enter c" ∷ [])

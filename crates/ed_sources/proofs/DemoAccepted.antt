@@ -1,0 +1,76 @@
+-- The source of `demo` is accepted.
+use Rattle.std.proofs.Common.{◌≡◌, ◌∙◌, ℕ, zero, suc, ◌+◌, ◌*◌, ◌<◌, ◌≤◌, codes, true, [], ◌∷◌, ◌++◌, refl}
+use Rattle.std.proofs.Common.{arith, length, length-append}
+use Rattle.std.specs.Prelude.{Ok}
+use Rattle.std.specs.Fmt.{decimal}
+use Rattle.std.specs.List.{list_all}
+use Rattle.std.proofs.lemmas.List.Folds.{list_all-append}
+use Rattle.ed_sources.proofs.Decimals.{both}
+use Rattle.ed_syntax.specs.Sources.{is_line_byte, program_of}
+use Rattle.ed_sources.specs.Accepted.{EachDemoIsAccepted}
+use Rattle.ed_sources.specs.Demo.{adding, behind, demo_source, demo_text, next, segments, word_lines, word_of}
+use Rattle.ed_sources.proofs.CallsAccepted.{decimal_plain}
+use Rattle.ed_sources.proofs.DemoFaultless.{demo_faultless}
+use Rattle.ed_sources.proofs.SaidDemo.{demo_lines, demo_says}
+use Rattle.ed_sources.proofs.TextLines.{program_is, said_lines}
+
+-- ---- bytes of lines
+
+words_plain : (n x : ℕ) → list_all (list_all is_line_byte) (word_lines n x) ≡ true
+words_plain zero x = refl
+words_plain (suc n) x =
+    let number = decimal_plain (word_of (next x)) (omega arith) in
+    let rest = words_plain n (next x) in
+    rw (number, rest) refl
+
+segments_plain : (n k x : ℕ) → k + n ≤ 65536 → list_all (list_all is_line_byte) (segments n k x) ≡ true
+segments_plain zero k x few = refl
+segments_plain (suc n) k x few =
+    let number = decimal_plain k (omega arith) in
+    let rest : list_all (list_all is_line_byte) (word_lines 8 x ++ segments n (k + 1) (behind 8 x)) ≡ true =
+    list_all-append (list_all is_line_byte) (word_lines 8 x) (segments n (k + 1) (behind 8 x))
+    ∙ both _ _ (words_plain 8 x) (segments_plain n (k + 1) (behind 8 x) (omega arith)) in
+    rw (number, rest) refl
+
+adding_plain : (words : ℕ) → words < 65536 → list_all (list_all is_line_byte) (adding words) ≡ true
+adding_plain words small =
+    let stop : list_all is_line_byte (decimal words ++ codes " F") ≡ true =
+    list_all-append is_line_byte (decimal words) (codes " F") ∙ both _ _ (decimal_plain words small) refl in
+    rw stop refl
+
+demo_plain : (n : ℕ) → n ≤ 112 → list_all (list_all is_line_byte) (demo_source n) ≡ true
+demo_plain n few =
+    list_all-append (list_all is_line_byte) (adding (8 * n)) (segments n 1 n ++ codes "enter main" ∷ [])
+    ∙ both _ _ (adding_plain (8 * n) (omega arith))
+    (list_all-append (list_all is_line_byte) (segments n 1 n) (codes "enter main" ∷ [])
+    ∙ both _ _ (segments_plain n 1 n (omega arith)) refl)
+
+-- ---- how many lines there are
+
+words_count : (n x : ℕ) → length (word_lines n x) ≡ n
+words_count zero x = refl
+words_count (suc n) x = let e = words_count n (next x) in omega (arith, e)
+
+segments_count : (n k x : ℕ) → length (segments n k x) ≡ 9 * n
+segments_count zero k x = refl
+segments_count (suc n) k x =
+    let words = words_count 8 x in
+    let rest = segments_count n (k + 1) (behind 8 x) in
+    omega (arith, words, rest, length-append (word_lines 8 x) (segments n (k + 1) (behind 8 x)))
+
+-- ---- what the source is read as
+
+pub demo_read : (n : ℕ) → n ≤ 112 → program_of (demo_text n) ≡ Ok (demo_lines n)
+unfolding demo_text
+demo_read n few =
+    let count = segments_count n 1 n in
+    let long = length-append (segments n 1 n) (codes "enter main" ∷ []) in
+    program_is (demo_source n) (demo_lines n) (demo_plain n few) refl
+    (said_lines (demo_says n few) (omega (arith, count, long)))
+
+pub demos_accepted : EachDemoIsAccepted
+demos_accepted z n some few fits = record {
+  lines = demo_lines n;
+  reads = demo_read n few;
+  faultless = demo_faultless z n some few fits;
+}

@@ -1,0 +1,216 @@
+-- The source of `demo` has no fault of meaning, as far as its words are within the store.
+use Rattle.std.proofs.Common.{◌≡◌, ◌∙◌, ℕ, zero, suc, ◌+◌, ◌*◌, ◌≤◌, Bool, true, false, List, [], ◌∷◌, ◌++◌}
+use Rattle.std.proofs.Common.{refl, sym, ap, subst, arith}
+use Rattle.std.proofs.Common.{codes, length, nat_le, nat_lt}
+use Rattle.std.specs.Prelude.{max, min, Option, None}
+use Rattle.std.specs.List.{list_all, list_any}
+use Rattle.std.proofs.lemmas.Bool.{and_parts}
+use Rattle.std.proofs.lemmas.List.Folds.{list_all-append}
+use Rattle.ed_words.proofs.Numbers.{le_of, le_true, lt_false}
+use Rattle.ed_words.specs.Sizes.{locations}
+use Rattle.ed_words.specs.declared.size.Size.{Size}
+use Rattle.ed_words.specs.declared.size.Size.TheVariants.{Small, Full}
+use Rattle.ed_words.specs.Texts.{Text}
+use Rattle.ed_syntax.specs.declared.fault.SourceCause.{SourceCause}
+use Rattle.ed_syntax.specs.declared.fault.SourceFault.{SourceFault}
+use Rattle.ed_syntax.specs.declared.program.Line.{Line}
+use Rattle.ed_syntax.specs.declared.program.Statement.TheVariants as statements
+use Rattle.ed_symbols.specs.declared.spots.Spot.{Spot}
+use Rattle.ed_symbols.specs.declared.homes.Home.{Home}
+use Rattle.ed_symbols.specs.Faults.{or_later, resolved}
+use Rattle.ed_symbols.specs.Names.{homes_from}
+use Rattle.ed_symbols.specs.Places.{first_spot}
+use Rattle.ed_link.specs.Faults.{Past, any_enter, cause_of, fault, fault_from, meets, missing, sooner}
+use Rattle.ed_link.specs.Linked.{homes_of}
+use Rattle.ed_sources.specs.Demo.{behind, next, word_of}
+use Rattle.ed_sources.proofs.Decimals.{decimal_is}
+use Rattle.ed_sources.proofs.DemoNames.{enter_named, first_free, first_homes, program_named, segments_named}
+use Rattle.ed_sources.proofs.DemoNames.{words_named}
+use Rattle.ed_sources.proofs.SaidDemo.{adding_lines, demo_lines, enter_line, name, segment_forms, segment_line}
+use Rattle.ed_sources.proofs.SaidDemo.{word_forms}
+use Rattle.ed_sources.proofs.Said.{said}
+
+-- ---- places
+
+-- the places of lines, from the first to the one behind the last, are below one
+abbrev are_below : ℕ → List (ℕ × ℕ) → Bool
+are_below p runs = list_all (λ r. nat_le r.1 p) runs
+
+below_more : (p q : ℕ) (runs : List (ℕ × ℕ)) → p ≤ q → are_below p runs ≡ true → are_below q runs ≡ true
+below_more p q [] l h = refl
+below_more p q (r ∷ runs) l h =
+    let s = and_parts (nat_le r.1 p) (are_below p runs) h in
+    let under = le_of r.1 p s.0 in
+    let first : nat_le r.1 q ≡ true = le_true r.1 q (omega arith) in
+    let rest = below_more p q runs l s.1 in
+    rw (first, rest) refl
+
+-- and so are those of one line more
+one_more : (p a q : ℕ) (runs : List (ℕ × ℕ)) → p ≤ q → are_below p runs ≡ true
+    → are_below q (runs ++ (a, q) ∷ []) ≡ true
+one_more p a q runs l h =
+    let before = below_more p q runs l h in
+    let last : nat_le q q ≡ true = le_true q q (omega arith) in
+    list_all-append (λ r. nat_le r.1 q) runs ((a, q) ∷ []) ∙ rw (before, last) refl
+
+-- places from there on are other ones
+apart : (p b : ℕ) (runs : List (ℕ × ℕ)) → are_below p runs ≡ true → list_any (λ run. meets (p, b) run) runs ≡ false
+apart p b [] h = refl
+apart p b (r ∷ runs) h =
+    let s = and_parts (nat_le r.1 p) (are_below p runs) h in
+    let under = le_of r.1 p s.0 in
+    let none : nat_lt (max p r.0) (min b r.1) ≡ false = lt_false (max p r.0) (min b r.1) (omega arith) in
+    let rest = apart p b runs s.1 in
+    rw (none, rest) refl
+
+-- a line, and those behind it
+none_later : (l : ℕ) (cause : Option SourceCause) (later : Option SourceFault) → cause ≡ None → later ≡ None
+    → or_later l cause later ≡ None
+none_later l cause later here there = ap (λ (c : Option SourceCause). or_later l c later) here ∙ there
+
+-- a spot inside a segment
+abbrev spot : ℕ → ℕ → ℕ → Spot
+spot place base segments = record { place = place; base = base; segments = segments; inside = true }
+
+-- lines before any `enter`
+abbrev past : List (ℕ × ℕ) → Past
+past runs = record { runs = runs; entered = false }
+
+-- the places of so many lines of one word
+abbrev one_by_one : ℕ → ℕ → List (ℕ × ℕ)
+one_by_one zero p = []
+one_by_one (suc n) p = (p, p + 1) ∷ one_by_one n (p + 1)
+
+-- those of the program and of the line of the first segment
+abbrev first_runs : List (ℕ × ℕ)
+first_runs = (56, 56) ∷ one_by_one 16 56 ++ (72, 123) ∷ (123, 123) ∷ []
+
+-- ---- no line has one of the faults S9 to S17
+
+module _ (z : Size) (rest_homes : List Home) where
+  abbrev homes : List Home
+  homes = first_homes ++ rest_homes
+
+  word_sound : (l w p b g : ℕ) (runs : List (ℕ × ℕ)) → 56 ≤ p → p + 1 ≤ locations z → are_below p runs ≡ true
+      → cause_of z homes true (past runs) (said l None (statements.Number w)) (spot p b g) ≡ None
+  word_sound l w p b g runs low fits below =
+      let loader : nat_lt (max p 0) (min (p + 1) 44) ≡ false = lt_false (max p 0) (min (p + 1) 44) (omega arith) in
+      let parameters : nat_lt (max p 44) (min (p + 1) 56) ≡ false =
+      lt_false (max p 44) (min (p + 1) 56) (omega arith) in
+      let store : nat_lt (max p (locations z)) (min (p + 1) (p + 1)) ≡ false =
+      lt_false (max p (locations z)) (min (p + 1) (p + 1)) (omega arith) in
+      let others = apart p (p + 1) runs below in
+      rw (loader, parameters, store, others) refl
+
+  segment_sound : (l p b g : ℕ) (n : Text) (runs : List (ℕ × ℕ)) → are_below p runs ≡ true
+      → cause_of z homes true (past runs) (segment_line l n) (spot p b g) ≡ None
+  segment_sound l p b g n runs below =
+      let loader : nat_lt (max p 0) (min p 44) ≡ false = lt_false (max p 0) (min p 44) (omega arith) in
+      let parameters : nat_lt (max p 44) (min p 56) ≡ false = lt_false (max p 44) (min p 56) (omega arith) in
+      let store : nat_lt (max p (locations z)) (min p p) ≡ false =
+      lt_false (max p (locations z)) (min p p) (omega arith) in
+      let others = apart p p runs below in
+      rw (loader, parameters, store, others) refl
+
+  words_sound : (n l x p b g : ℕ) (runs : List (ℕ × ℕ)) (rest : List Line) → 56 ≤ p → p + n ≤ locations z
+      → are_below p runs ≡ true
+      → ((more : List (ℕ × ℕ)) → are_below (p + n) more ≡ true
+      → fault_from z homes true (past more) (spot (p + n) b g) rest ≡ None)
+      → fault_from z homes true (past runs) (spot p b g) (word_forms n l x ++ rest) ≡ None
+  words_sound zero l x p b g runs rest low fits below behind_them =
+      let e : p + 0 ≡ p = omega arith in
+      subst (λ q. fault_from z homes true (past runs) (spot q b g) rest ≡ None) e
+      (behind_them runs (subst (λ q. are_below q runs ≡ true) (sym e) below))
+  words_sound (suc n) l x p b g runs rest low fits below behind_them =
+      let e : p + suc n ≡ p + 1 + n = omega arith in
+      none_later l _ _ (word_sound l (word_of (next x)) p b g runs low (omega arith) below)
+      (words_sound n (l + 1) (next x) (p + 1) b g (runs ++ (p, p + 1) ∷ []) rest (omega arith) (omega arith)
+      (one_more p p (p + 1) runs (omega arith) below)
+      (λ more under. subst (λ q. fault_from z homes true (past more) (spot q b g) rest ≡ None) e
+      (behind_them more (subst (λ q. are_below q more ≡ true) (sym e) under))))
+
+  segments_sound : (n k l x p b g : ℕ) (runs : List (ℕ × ℕ)) (rest : List Line) → 56 ≤ p → p + 8 * n ≤ locations z
+      → are_below p runs ≡ true
+      → ((more : List (ℕ × ℕ)) (q c h : ℕ) → are_below q more ≡ true
+      → fault_from z homes true (past more) (spot q c h) rest ≡ None)
+      → fault_from z homes true (past runs) (spot p b g) (segment_forms n k l x ++ rest) ≡ None
+  segments_sound zero k l x p b g runs rest low fits below behind_them = behind_them runs p b g below
+  segments_sound (suc n) k l x p b g runs rest low fits below behind_them =
+      none_later l _ _ (segment_sound l p b g (name k) runs below)
+      (words_sound 8 (l + 1) x p p (g + 1) (runs ++ (p, p) ∷ [])
+      (segment_forms n (k + 1) (l + 9) (behind 8 x) ++ rest) low (omega arith)
+      (one_more p p p runs (omega arith) below)
+      (λ more under. segments_sound n (k + 1) (l + 9) (behind 8 x) (p + 8) p (g + 1) more rest (omega arith)
+      (omega arith) under behind_them))
+
+  enter_sound : (l q b g : ℕ) (runs : List (ℕ × ℕ)) → are_below q runs ≡ true
+      → fault_from z homes true (past runs) (spot q b g) (enter_line l ∷ []) ≡ None
+  enter_sound l q b g runs below =
+      let store : nat_lt (max 56 (locations z)) (min 57 57) ≡ false = within z in
+      let others = apart q q runs below in
+      rw (store, others) refl
+    where
+      within : (z : Size) → nat_lt (max 56 (locations z)) (min 57 57) ≡ false
+      within Small = refl
+      within Full = refl
+
+program_sound : (z : Size) (rest_homes : List Home) (words : ℕ) (rest : List Line)
+    → fault_from z (first_homes ++ rest_homes) true (past first_runs) (spot 123 123 3) rest ≡ None
+    → fault_from z (first_homes ++ rest_homes) true (past []) first_spot
+    (adding_lines words ++ segment_line 19 (codes "s1") ∷ rest) ≡ None
+program_sound Small rest_homes words rest behind_it = behind_it
+program_sound Full rest_homes words rest behind_it = behind_it
+
+-- ---- the whole source
+
+segments_enter : (n k l x : ℕ) (rest : List Line) → any_enter (segment_forms n k l x ++ rest) ≡ any_enter rest
+segments_enter zero k l x rest = refl
+segments_enter (suc n) k l x rest = segments_enter n (k + 1) (l + 9) (behind 8 x) rest
+
+-- the lines behind those of the program and of the first segment's line, where n segments more follow
+abbrev lines_behind : ℕ → ℕ → ℕ → List Line
+lines_behind n x l = word_forms 8 20 x ++ segment_forms n 2 28 (behind 8 x) ++ enter_line l ∷ []
+
+abbrev lines_with : Text → ℕ → ℕ → ℕ → ℕ → List Line
+lines_with first words n x l = adding_lines words ++ segment_line 19 first ∷ lines_behind n x l
+
+module _ (z : Size) (words n x l : ℕ) (few : n ≤ 111) (near : words ≤ 900) (fits : 131 + 8 * n ≤ locations z) where
+  abbrev lines : List Line
+  lines = lines_with (codes "s1") words n x l
+
+  abbrev rest_homes : List Home
+  rest_homes = homes_from (spot 123 123 3) (lines_behind n x l)
+
+  named : (resolved lines).fault ≡ None
+  named =
+      program_named rest_homes words (lines_behind n x l) near
+      (words_named rest_homes 8 20 x first_homes (spot 123 123 3)
+      (segment_forms n 2 28 (behind 8 x) ++ enter_line l ∷ [])
+      (λ t. segments_named rest_homes n 2 28 (behind 8 x) first_homes t (enter_line l ∷ [])
+      (omega (arith, few)) first_free
+      (λ e s. enter_named rest_homes l e s)))
+
+  sound : fault_from z (homes_of lines) true (past []) first_spot lines ≡ None
+  sound =
+      program_sound z rest_homes words (lines_behind n x l)
+      (words_sound z rest_homes 8 20 x 123 123 3 first_runs (segment_forms n 2 28 (behind 8 x) ++ enter_line l ∷ [])
+      (omega arith) (omega (arith, fits)) refl
+      (λ more under. segments_sound z rest_homes n 2 28 (behind 8 x) 131 123 3 more (enter_line l ∷ [])
+      (omega arith) fits under
+      (λ runs q c h below. enter_sound z rest_homes l q c h runs below)))
+
+  entered : any_enter lines ≡ true
+  entered = segments_enter n 2 28 (behind 8 x) (enter_line l ∷ [])
+
+  pub lines_faultless : fault z lines ≡ None
+  lines_faultless =
+      (λ i. sooner (named i) (sooner (fault_from z (homes_of lines) (entered i) (past []) first_spot lines)
+      (missing (entered i) (length lines))))
+      ∙ ap (λ (f : Option SourceFault). sooner None (sooner f None)) sound
+
+pub demo_faultless : (z : Size) (n : ℕ) → 1 ≤ n → n ≤ 112 → 123 + 8 * n ≤ locations z → fault z (demo_lines n) ≡ None
+demo_faultless z zero some few fits = absurd (omega arith)
+demo_faultless z (suc n) some few fits =
+    let first : codes "s1" ≡ name 1 = ap (λ (t : Text). 115 ∷ t) (decimal_is 1 (omega arith)) in
+    subst (λ (t : Text). fault z (lines_with t (8 * suc n) n (suc n) (19 + 9 * suc n)) ≡ None) first
+    (lines_faultless z (8 * suc n) n (suc n) (19 + 9 * suc n) (omega arith) (omega arith) (omega arith))

@@ -1,0 +1,139 @@
+-- The names that the source of `demo` defines are different, and each operand has a place.
+use Rattle.std.proofs.Common.{◌≡◌, ◌≢◌, ◌∙◌, ℕ, zero, suc, ◌+◌, ◌<◌, ◌≤◌, Bool, true, false, true≢false, List}
+use Rattle.std.proofs.Common.{[], ◌∷◌, ◌++◌}
+use Rattle.std.proofs.Common.{refl, sym, ap, subst, arith, append-nil, codes, nat_lt}
+use Rattle.std.specs.Prelude.{not, Option, Some, None}
+use Rattle.std.specs.Fmt.{decimal}
+use Rattle.std.specs.List.{list_all}
+use Rattle.std.specs.Str.{bytes_eq}
+use Rattle.std.proofs.lemmas.Bool.{and_parts}
+use Rattle.std.proofs.lemmas.List.Folds.{list_all-append}
+use Rattle.std.proofs.lemmas.Slice.Eq.{bytes_eq-Decides}
+use Rattle.ed_words.proofs.Numbers.{lt_false}
+use Rattle.ed_words.specs.Texts.{Text}
+use Rattle.ed_words.specs.Decimals.{value}
+use Rattle.ed_syntax.specs.declared.program.Line.{Line}
+use Rattle.ed_symbols.specs.declared.spots.Spot.{Spot}
+use Rattle.ed_symbols.specs.declared.homes.Home.{Home}
+use Rattle.ed_symbols.specs.Faults.{fault_from}
+use Rattle.ed_symbols.specs.Names.{home_of}
+use Rattle.ed_symbols.specs.Places.{first_spot}
+use Rattle.ed_routines.specs.Digits.{digits}
+use Rattle.ed_sources.specs.Demo.{behind, next}
+use Rattle.ed_sources.proofs.Decimals.{among, decimal_is, value_is, written}
+use Rattle.ed_sources.proofs.SaidDemo.{adding_lines, enter_line, name, segment_forms, segment_line, word_forms}
+
+-- ---- homes without a name
+
+abbrev pub has_none : Text → List Home → Bool
+has_none n homes = list_all (λ h. not (bytes_eq h.name n)) homes
+
+not_true : (t : Bool) → not t ≡ true → t ≡ false
+not_true false e = refl
+not_true true e = absurd (true≢false (sym e))
+
+no_home : (segment : Option ℕ) (n : Text) (homes : List Home) → has_none n homes ≡ true → home_of segment n homes ≡ None
+no_home segment n [] e = refl
+no_home segment n (h ∷ homes) e =
+    let p = and_parts (not (bytes_eq h.name n)) (has_none n homes) e in
+    let other : bytes_eq h.name n ≡ false = not_true (bytes_eq h.name n) p.0 in
+    rw other (no_home segment n homes p.1)
+
+-- ---- the names of segments
+
+written_name : ℕ → Text
+written_name k = 115 ∷ written (digits k)
+
+abbrev value_behind_s : Text → ℕ
+value_behind_s [] = 0
+value_behind_s (b ∷ bs) = value bs
+
+names_differ : (i j : ℕ) → i < 65536 → j < 65536 → i ≢ j → bytes_eq (name i) (name j) ≡ false
+names_differ i j small other differ = by_test (bytes_eq (name i) (name j)) refl
+  where
+    value_of : (k : ℕ) → k < 65536 → value (decimal k) ≡ k
+    value_of k low = sym (ap value (decimal_is k low)) ∙ value_is k low
+
+    by_test : (t : Bool) → bytes_eq (name i) (name j) ≡ t → bytes_eq (name i) (name j) ≡ false
+    by_test false e = e
+    by_test true e =
+        let same : name i ≡ name j = (bytes_eq-Decides (name i) (name j)).0 e in
+        absurd (differ (sym (value_of i small) ∙ ap value_behind_s same ∙ value_of j other))
+
+-- what the program's lines and the first segment define
+abbrev home : Text → ℕ → Home
+home name place = record { name = name; place = place; segment = Some 1 }
+
+abbrev pub first_homes : List Home
+first_homes =
+    home (codes "main") 56
+    ∷ home (codes "loop") 56
+    ∷ home (codes "add") 58
+    ∷ home (codes "here") 66
+    ∷ home (codes "stop") 69
+    ∷ home (codes "junk") 70
+    ∷ home (codes "total") 71
+    ∷ record { name = codes "p"; place = 72; segment = None }
+    ∷ record { name = codes "s1"; place = 123; segment = Some 3 }
+    ∷ []
+
+-- none of these homes has the name of a segment from the one with this number on
+abbrev pub IsFree : ℕ → List Home → Type 0
+IsFree k homes = (j : ℕ) → k ≤ j → j ≤ 112 → has_none (name j) homes ≡ true
+
+pub first_free : IsFree 2 first_homes
+first_free j low high =
+    subst (λ (bytes : Text). has_none (115 ∷ bytes) first_homes ≡ true) (decimal_is j (omega arith))
+    (among (λ j. has_none (115 ∷ written (digits j)) first_homes) 2 111 j refl low (omega arith))
+
+more_free : (k : ℕ) (homes : List Home) (h : Home) → h.name ≡ name k → k ≤ 112 → IsFree k homes
+    → IsFree (k + 1) (homes ++ h ∷ [])
+more_free k homes h is few free j low high =
+    let before : has_none (name j) homes ≡ true = free j (omega arith) high in
+    let other : bytes_eq h.name (name j) ≡ false =
+    ap (λ (n : Text). bytes_eq n (name j)) is ∙ names_differ k j (omega arith) (omega arith) (omega arith) in
+    list_all-append (λ h. not (bytes_eq h.name (name j))) homes (h ∷ []) ∙ rw (before, other) refl
+
+-- ---- no line has one of the faults S6 to S8
+
+module _ (rest_homes : List Home) where
+  abbrev homes : List Home
+  homes = first_homes ++ rest_homes
+
+  pub words_named : (n l x : ℕ) (earlier : List Home) (s : Spot) (rest : List Line)
+      → ((t : Spot) → fault_from homes earlier t rest ≡ None)
+      → fault_from homes earlier s (word_forms n l x ++ rest) ≡ None
+  words_named zero l x earlier s rest behind = behind s
+  words_named (suc n) l x earlier s rest behind =
+      subst (λ (e : List Home). fault_from homes e (record s { place = s.place + 1 })
+      (word_forms n (l + 1) (next x) ++ rest) ≡ None)
+      (sym (append-nil earlier)) (words_named n (l + 1) (next x) earlier (record s { place = s.place + 1 }) rest behind)
+
+  pub segments_named : (n k l x : ℕ) (earlier : List Home) (s : Spot) (rest : List Line) → k + n ≤ 113
+      → IsFree k earlier
+      → ((e : List Home) (t : Spot) → fault_from homes e t rest ≡ None)
+      → fault_from homes earlier s (segment_forms n k l x ++ rest) ≡ None
+  segments_named zero k l x earlier s rest few free behind_them = behind_them earlier s
+  segments_named (suc n) k l x earlier s rest few free behind_them =
+      let own : Home = record { name = name k; place = s.place; segment = Some (s.segments + 1) } in
+      let more = more_free k earlier own refl (omega arith) free in
+      let none : home_of (Some (s.segments + 1)) (name k) earlier ≡ None =
+      no_home (Some (s.segments + 1)) (name k) earlier (free k (omega arith) (omega arith)) in
+      let nil = append-nil earlier in
+      let new : home_of (Some (s.segments + 1)) (name k) (earlier ++ []) ≡ None =
+      ap (home_of (Some (s.segments + 1)) (name k)) nil ∙ none in
+      rw new (words_named 8 (l + 1) x (earlier ++ own ∷ [])
+      (record { place = s.place; base = s.place; segments = s.segments + 1; inside = true })
+      (segment_forms n (k + 1) (l + 9) (behind 8 x) ++ rest)
+      (λ t. segments_named n (k + 1) (l + 9) (behind 8 x) (earlier ++ own ∷ []) t rest (omega arith) more behind_them))
+
+  pub enter_named : (l : ℕ) (earlier : List Home) (s : Spot) → fault_from homes earlier s (enter_line l ∷ []) ≡ None
+  enter_named l earlier s = refl
+
+  pub program_named : (words : ℕ) (rest : List Line) → words ≤ 900
+      → fault_from homes first_homes (record { place = 123; base = 123; segments = 3; inside = true }) rest ≡ None
+      → fault_from homes [] first_spot (adding_lines words ++ segment_line 19 (codes "s1") ∷ rest) ≡ None
+  program_named words rest few behind_it =
+      let positive : nat_lt (123 + words) 0 ≡ false = lt_false (123 + words) 0 (omega arith) in
+      let near : nat_lt 1023 (123 + words) ≡ false = lt_false 1023 (123 + words) (omega arith) in
+      rw (positive, near) behind_it

@@ -1,0 +1,12 @@
+use Rattle.std.proofs.Common.{◌≡◌, ◌++◌, ◌+◌, ◌-◌, ◌<◌}
+use Rattle.ed_sources.specs.Calls.{text_of}
+use Rattle.ed_sources.specs.Demo.{segments}
+use Rattle.ed_sources.proofs.demo.push_segments.Given as goal
+
+-- the text so far, and then the segments that are left, whose words are those of the numbers behind this one
+abbrev pub invariant-loop-done : goal.invariant-loop-done
+invariant-loop-done l = record {
+  low : l.number < 65536;
+  text : l.text.items ++ text_of (segments (l.n - l.done) (l.done + 1) l.number)
+      ≡ l.initial.text.items ++ text_of (segments l.n 1 l.n);
+}

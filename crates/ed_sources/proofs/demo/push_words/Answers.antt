@@ -1,0 +1,30 @@
+use Rattle.std.proofs.Common.{◌≡◌, ◌+◌, ◌-◌, suc, arith}
+use Rattle.ed_sources.proofs.DemoTexts.{no_word, one_behind, one_word}
+use Rattle.ed_sources.proofs.demo.push_words.Goals as goal
+
+pub loop-word-preserved : goal.loop-word-preserved
+loop-word-preserved c =
+    let l = c.loop-word in
+    let inside = c.loop-word-test.true in
+    let less : 8 - l._word ≡ suc (8 - (l._word + 1)) = omega (arith, inside) in
+    let is = c.next-number.ensures in
+    record {
+      low = omega (arith, is);
+      last = one_behind _ _ l.number _ _ less is l.invariant.last;
+      text = one_word _ _ l.number _ l.text.items _ _ _ _ less is c.in_ok-line.ensures c.deref.ensures.value
+          c.in_ok-push.ensures l.invariant.text;
+    }
+
+pub returns-clause-last : goal.returns-clause-last
+returns-clause-last c =
+    let l = c.loop-word in
+    let outside = c.loop-word-test.false in
+    let none : 8 - l._word ≡ 0 = omega (arith, outside) in
+    (no_word _ l.number _ l.text.items _ none l.invariant.last l.invariant.text).0
+
+pub returns-clause-text : goal.returns-clause-text
+returns-clause-text c =
+    let l = c.loop-word in
+    let outside = c.loop-word-test.false in
+    let none : 8 - l._word ≡ 0 = omega (arith, outside) in
+    (no_word _ l.number _ l.text.items _ none l.invariant.last l.invariant.text).1

@@ -1,0 +1,96 @@
+ghost use Rattle.std.specs.Prelude.{◌≡◌, ◌++◌, ◌<◌, ◌≤◌, codes, IfOk};
+ghost use Rattle.std.specs.Fmt.{decimal};
+ghost use Rattle.ed_sources.specs.Accepted.{EachDemoIsAccepted};
+ghost use Rattle.ed_sources.specs.Calls.{text_of};
+ghost use Rattle.ed_sources.specs.Demo.{adding, behind, demo_text, next, segments, word_lines, word_of};
+
+use ed_report::bytes_of_text;
+use ed_words::NoMemory;
+use std::alloc::Global;
+
+/// The source of a program that adds up the words of `n` segments and prints the sum. Each segment has 8 words, and all
+/// come from one sequence of numbers, which begins behind `n`.
+pub fn demo_source(alloc: Global, n: u32) -> Result<Vec<u8>, NoMemory>
+    requires some { 1 ≤ n }
+    requires few { n ≤ 112 }
+    ensures is { IfOk result (λ bytes. bytes.items ≡ demo_text n) }
+    ensures law { EachDemoIsAccepted }
+{
+    let mut text = adding(alloc, 8 * n)?;
+    push_segments(alloc, &mut text, n)?;
+    push(&mut text, b"enter main\n")?;
+    Ok(text)
+}
+
+/// The program that adds up so many words and prints the sum.
+fn adding(alloc: Global, words: u32) -> Result<Vec<u8>, NoMemory>
+    ensures { IfOk result (λ bytes. bytes.items ≡ text_of (adding words)) }
+{
+    bytes_of_text(format!(in alloc;
+        "segment main\nloop: T junk F\nA total F\nadd: A s1 F\nT total F\nA add F\nA 2 F\nU add F\nS stop F\nG loop F\n\
+        T junk F\nhere: A here F\nG p F\nZ F\nstop: A s1+{words} F\njunk: P F\ntotal: P F\n\
+        use print as p with H=total\n"
+    ))
+}
+
+/// Adds `n` segments to a source.
+fn push_segments(alloc: Global, text: &mut Vec<u8>, n: u32) -> Result<(), NoMemory>
+    requires { n ≤ 112 }
+    ensures { IfOk result (λ _. text.new.items ≡ text.old.items ++ text_of (segments n 1 n)) }
+{
+    let mut number = n;
+    for done in 0..n {
+        let line = segment_line(alloc, done + 1)?;
+        push(text, &line)?;
+        number = push_words(alloc, text, number)?;
+    }
+    Ok(())
+}
+
+/// The line with which a segment begins.
+fn segment_line(alloc: Global, k: u32) -> Result<Vec<u8>, NoMemory>
+    ensures { IfOk result (λ bytes. bytes.items ≡ codes "segment s" ++ decimal k ++ codes "\n") }
+{
+    bytes_of_text(format!(in alloc; "segment s{k}\n"))
+}
+
+/// Adds the 8 words of the numbers behind one to a source, and answers the last of these numbers.
+fn push_words(alloc: Global, text: &mut Vec<u8>, before: u32) -> Result<u32, NoMemory>
+    requires { before < 65536 }
+    ensures last { IfOk result (λ last. last ≡ behind 8 before) }
+    ensures text { IfOk result (λ _. text.new.items ≡ text.old.items ++ text_of (word_lines 8 before)) }
+{
+    let mut number = before;
+    for _word in 0..8u32 {
+        number = next(number);
+        let line = word_line(alloc, number)?;
+        push(text, &line)?;
+    }
+    Ok(number)
+}
+
+/// The line of the word of a number of the sequence.
+fn word_line(alloc: Global, number: u32) -> Result<Vec<u8>, NoMemory>
+    ensures { IfOk result (λ bytes. bytes.items ≡ codes "word " ++ decimal (word_of number) ++ codes "\n") }
+{
+    let word = number / 1024;
+    bytes_of_text(format!(in alloc; "word {word}\n"))
+}
+
+/// What follows a number in the sequence.
+fn next(number: u32) -> u32
+    requires { number < 65536 }
+    ensures { result ≡ next number }
+{
+    (1105 * number + 12345) % 65536
+}
+
+/// Adds bytes to a source.
+fn push(text: &mut Vec<u8>, bytes: &[u8]) -> Result<(), NoMemory>
+    ensures { IfOk result (λ _. text.new.items ≡ text.old.items ++ bytes.now) }
+{
+    match text.extend_from_slice(bytes) {
+        Ok(()) => Ok(()),
+        Err(_) => Err(NoMemory),
+    }
+}
