@@ -1,18 +1,19 @@
 -- A call is the run of its source, from the state at its entry.
-use Rattle.std.proofs.Common.{◌≡◌, ◌∙◌, ℕ, suc, ◌+◌, ◌-◌, ◌*◌, ◌/◌, ◌%◌, ◌<◌, ◌≤◌, refl, sym, ap, subst, arith, lit≤, List, [], ◌∷◌, ◌++◌}
+use Rattle.std.proofs.Common.{◌≡◌, ◌∙◌, ℕ, suc, ◌+◌, ◌-◌, ◌*◌, ◌/◌, ◌%◌, ◌≤◌, refl}
+use Rattle.std.proofs.Common.{sym, ap, subst, arith, lit≤, List, [], ◌∷◌, ◌++◌}
 use Rattle.std.proofs.Common.{length, length-append}
 use Rattle.std.specs.Prelude.{None, Result, Ok, Err, IfOk}
 use Rattle.std.proofs.lemmas.List.{append-nil}
 use Rattle.ed_words.specs.declared.memory.NoMemory.{NoMemory}
 use Rattle.ed_call.specs.declared.Call.{Call}
 use Rattle.ed_call.specs.declared.Call.TheVariants.{Print, Read, NewLine, Divide, Root, Check}
-use Rattle.ed_sources.specs.Accepted.{IsAccepted}
 use Rattle.ed_sources.specs.Calls.{call_text}
 use Rattle.ed_syntax.specs.declared.program.Line.{Line}
 use Rattle.ed_syntax.specs.Sources.{program_of}
 use Rattle.ed_link.specs.Faults.{fault}
 use Rattle.ed_sources.proofs.CallsAccepted.{divide_read, newline_read, print_read, read_read, root_read, check_read}
-use Rattle.ed_sources.proofs.Faultless.{divide_faultless, newline_faultless, print_faultless, read_faultless, root_faultless, check_faultless}
+use Rattle.ed_sources.proofs.Faultless.{divide_faultless, newline_faultless, print_faultless}
+use Rattle.ed_sources.proofs.Faultless.{read_faultless, root_faultless, check_faultless}
 use Rattle.ed_sources.proofs.Said.{newline_lines, print_lines, read_lines, check_lines}
 use Rattle.ed_sources.proofs.Papers.{digits_printed, lines_printed}
 use Rattle.ed_sources.proofs.SaidMaths.{divide_lines, root_lines}
@@ -34,8 +35,9 @@ use Rattle.ed_link.specs.Tapes.{cost}
 use Rattle.ed_loads.specs.EntryState.{entry_state}
 use Rattle.ed_report.specs.Notes.{entered}
 use Rattle.ed_command.specs.declared.command.Settings.{Settings}
-use Rattle.ed_top.specs.Outcome.{Text, Outcome}
-use Rattle.ed_top.specs.Calls.{CallRuns, EachCallRuns, call_orders, call_outcome, call_prints, made_outcome}
+use Rattle.ed_words.specs.Texts.{Text}
+use Rattle.ed_top.specs.Outcome.{Outcome}
+use Rattle.ed_top.specs.Calls.{CallRuns, EachCallRuns, call_orders, call_prints, made_outcome}
 use Rattle.ed_top.specs.Headline.{RunsFromEntry}
 use Rattle.ed_top.specs.Runs.{paper_room, ran_outcome, status_of, with_post_mortem}
 use Rattle.ed_top.specs.Sources.{of_source, run_outcome}
@@ -49,26 +51,18 @@ pub made_gives : (s : Settings) (text input : Text) (r : Result Reply NoMemory) 
 made_gives s text input (Err e) is replies = tt
 made_gives s text input (Ok reply) is replies = subst (Gives reply) (sym replies.1 ∙ ap (made_outcome s) is) replies.2
 
--- and so it is of the call
-pub call_gives : (s : Settings) (call made : Call) (r : Result Reply NoMemory) → call ≡ made
-    → call_outcome made s ≡ made_outcome s (call_text made) → IfOk r (λ reply. Gives reply (made_outcome s (call_text call)))
-    → IfOk r (λ reply. Gives reply (call_outcome call s))
-call_gives s call made (Err e) is outcome gives = tt
-call_gives s call made (Ok reply) is outcome gives =
-    subst (Gives reply) (ap (λ (c : Call). made_outcome s (call_text c)) is ∙ sym outcome ∙ ap (λ (c : Call). call_outcome c s) (sym is)) gives
-
 -- no post-mortem prints nothing
 nothing_behind : (r : RunEnd) → with_post_mortem None r ≡ r
 nothing_behind r = ap (λ (codes : List ℕ). record r { codes = codes }) (append-nil r.codes)
 
 -- a call whose source is accepted, and which comes to its stop behind its codes
-runs : (s : Settings) (call : Call) (lines : List Line) (k : ℕ) (codes : List ℕ) → call_outcome call s ≡ made_outcome s (call_text call)
+runs : (s : Settings) (call : Call) (lines : List Line) (k : ℕ) (codes : List ℕ)
     → program_of (call_text call) ≡ Ok lines → fault s.size lines ≡ None
     → LeadsToStop k (entry_state s.size lines) codes → length codes ≤ 1000000 → suc k ≤ call_orders call
     → paper codes ≡ call_prints s.size lines call → CallRuns s call
-runs s call lines k codes is reads faultless stops few count text =
+runs s call lines k codes reads faultless stops few count text =
     let entry : RunsFromEntry s lines = headline s (call_text call) lines reads faultless in
-    let answers = is ∙ accepted_is s.size (run_outcome s) (program_of (call_text call)) lines reads faultless in
+    let answers = accepted_is s.size (run_outcome s) (program_of (call_text call)) lines reads faultless in
     record {
       lines = lines;
       reads = reads;
@@ -76,11 +70,13 @@ runs s call lines k codes is reads faultless stops few count text =
       from_entry = entry;
       prints = λ none plain fits.
           let left : ℕ = s.limit - cost lines in
-          let ended = ran_to_stop left paper_room k (entry_state s.size lines) codes stops few (omega (arith, fits, count)) in
+          let ended = ran_to_stop left paper_room k (entry_state s.size lines) codes stops few
+          (omega (arith, fits, count)) in
           let same = answers ∙ entry.runs (omega (arith, fits))
           ∙ (λ i. ran_outcome (entered (entry_of lines) (cost lines))
           (with_post_mortem (plain i) (ran left (none i) paper_room (entry_state s.size lines))))
-          ∙ ap (ran_outcome (entered (entry_of lines) (cost lines))) (nothing_behind (ran left 0 paper_room (entry_state s.size lines))) in
+          ∙ ap (ran_outcome (entered (entry_of lines) (cost lines)))
+          (nothing_behind (ran left 0 paper_room (entry_state s.size lines))) in
           record {
             out_is = ap (λ (o : Outcome). o.out) same ∙ ap paper ended.0 ∙ text;
             status_is = ap (λ (o : Outcome). o.status) same ∙ ap status_of ended.1;
@@ -90,14 +86,16 @@ runs s call lines k codes is reads faultless stops few count text =
 pub each_call_runs : EachCallRuns
 each_call_runs s (Print n) small =
     let few = few_digits n in
-    runs s (Print n) (print_lines n) (2 + print_orders n) (11 ∷ digits n) refl (print_read n small) (print_faultless s.size n)
+    runs s (Print n) (print_lines n) (2 + print_orders n) (11 ∷ digits n) (print_read n small)
+    (print_faultless s.size n)
     (print_ends s.size n small) (omega arith) (omega arith) (digits_printed n small)
 each_call_runs s (Read n) small =
     let few = few_digits n in
-    runs s (Read n) (read_lines n) (2 + (11 + 13 * length (digits n)) + (2 + print_orders n)) (11 ∷ digits n) refl (read_read n small)
+    runs s (Read n) (read_lines n) (2 + (11 + 13 * length (digits n)) + (2 + print_orders n)) (11 ∷ digits n)
+    (read_read n small)
     (read_faultless s.size n) (read_ends s.size n small) (omega arith) (omega arith) (digits_printed n small)
 each_call_runs s NewLine made =
-    runs s NewLine newline_lines 7 (18 ∷ 24 ∷ []) refl newline_read (newline_faultless s.size)
+    runs s NewLine newline_lines 7 (18 ∷ 24 ∷ []) newline_read (newline_faultless s.size)
     (newline_ends s.size) (lit≤ tt) (lit≤ tt) refl
 each_call_runs s (Divide n by) made =
     let few = few_digits (n / by) in
@@ -108,15 +106,16 @@ each_call_runs s (Divide n by) made =
     let less = made.less in
     runs s (Divide n by) (divide_lines (n / 65536) (n % 65536) by)
     (2 + divide_orders (n / by) + (2 + print_orders (n / by) + (7 + (2 + print_orders (n % by)))))
-    (11 ∷ digits (n / by) ++ 18 ∷ 24 ∷ 11 ∷ digits (n % by)) refl (divide_read n by made)
+    (11 ∷ digits (n / by) ++ 18 ∷ 24 ∷ 11 ∷ digits (n % by)) (divide_read n by made)
     (divide_faultless s.size (n / 65536) (n % 65536) by) (call_ends s.size n by made) (omega arith) (omega arith)
     (lines_printed (n / by) (n % by) (quotient_low n by positive less) (remainder_low n by positive divisor))
 each_call_runs s (Root n) small =
     let few = few_digits (root_of n) in
-    runs s (Root n) (root_lines n) (2 + root_orders (root_of n) + (2 + print_orders (root_of n))) (11 ∷ digits (root_of n)) refl
+    runs s (Root n) (root_lines n) (2 + root_orders (root_of n) + (2 + print_orders (root_of n)))
+    (11 ∷ digits (root_of n))
     (root_read n small) (root_faultless s.size n) (root_ends s.size n small) (omega arith) (omega arith)
     (digits_printed (root_of n) (root_small n small))
 each_call_runs s (Check n) small =
     runs s (Check n) (check_lines n) (check_count s.size n small)
-    (checked_codes (guest 112 (entry_state s.size (check_lines n))) (3 + print_orders n)) refl (check_read n small)
+    (checked_codes (guest 112 (entry_state s.size (check_lines n))) (3 + print_orders n)) (check_read n small)
     (check_faultless s.size n) (check_ends s.size n small) (room_for_codes n _ small) (few_checked s.size n small) refl

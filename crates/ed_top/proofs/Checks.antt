@@ -15,7 +15,7 @@ use Rattle.ed_notation.proofs.Laws.{reading_is_rules}
 use Rattle.ed_report.specs.Notes.{rule_line, tape_fault_line}
 use Rattle.ed_command.specs.declared.command.Settings.{Settings}
 use Rattle.ed_top.specs.Outcome.{Outcome, done, refused}
-use Rattle.ed_top.specs.Entries.{entry_line}
+use Rattle.ed_report.specs.Entries.{entry_line}
 use Rattle.ed_top.specs.Output.{IsChecked, first_note}
 use Rattle.ed_top.specs.Private.Stages.{Gives}
 use Rattle.ed_top.specs.declared.reply.Reply.{Reply}
@@ -28,11 +28,19 @@ first_directive = record { no_1 = λ e. cc; no_2 = λ e. cc; no_4 = λ e. cc; mo
 has_checked : (s : Settings) (codes : List ℕ) → (o : Outcome) × IsChecked s codes o
 has_checked s codes = by_case (reading_is_rules s.size cleared_cells.words first_note 9 codes first_directive).either
   where
-    by_case : (WellFormed s.size cleared_cells.words first_note codes × ((e : Entry) × ComesTo cleared_cells.words first_note 9 codes e))
+    by_case : (WellFormed s.size cleared_cells.words first_note codes
+        × ((e : Entry) × ComesTo cleared_cells.words first_note 9 codes e))
         ⊎ ((row : ℕ) × (cause : TapeCause) × IsFault s.size cleared_cells.words first_note codes row cause)
         → (o : Outcome) × IsChecked s codes o
-    by_case (inl (well, (entry, comes))) =
-        (done (entry_line entry.at entry.cost entry.rows), inl (record { well = well; entry = entry; comes = comes; outcome = refl }))
+    by_case (inl (well, (entry, comes))) = (
+      done (entry_line entry.at entry.cost entry.rows),
+      inl (record {
+        well = well;
+        entry = entry;
+        comes = comes;
+        outcome = refl;
+      }),
+    )
     by_case (inr (row, cause, fault)) =
         (refused (rule_line row cause), inr (record { row = row; cause = cause; fault = fault; outcome = refl }))
 
@@ -43,10 +51,12 @@ entry_of is = cc
 row_of : {r q : ℕ} {a b : TapeCause} → Faulty r a ≡ Faulty q b → (r ≡ q) × (a ≡ b)
 row_of is = (cc, cc)
 
-checked_once : (s : Settings) (codes : List ℕ) (o other : Outcome) → IsChecked s codes o → IsChecked s codes other → o ≡ other
+checked_once : (s : Settings) (codes : List ℕ) (o other : Outcome) → IsChecked s codes o → IsChecked s codes other
+    → o ≡ other
 checked_once s codes o other (inl a) (inl b) =
     let law = reading_is_rules s.size cleared_cells.words first_note 9 codes first_directive in
-    let same : a.entry ≡ b.entry = entry_of (sym (law.arrived a.entry a.well a.comes) ∙ law.arrived b.entry b.well b.comes) in
+    let same : a.entry ≡ b.entry =
+    entry_of (sym (law.arrived a.entry a.well a.comes) ∙ law.arrived b.entry b.well b.comes) in
     sym a.outcome ∙ ap (λ (e : Entry). done (entry_line e.at e.cost e.rows)) same ∙ b.outcome
 checked_once s codes o other (inl a) (inr b) = absurd (a.well b.row b.cause b.fault.is)
 checked_once s codes o other (inr a) (inl b) = absurd (b.well a.row a.cause a.fault.is)
@@ -59,7 +69,8 @@ pub checked_one : (s : Settings) → HasOne (IsChecked s)
 checked_one s = record { some = has_checked s; once = checked_once s }
 
 -- the reply to a well-formed tape
-pub entry_found : (s : Settings) (codes : List ℕ) (store : Cells) (r : Report) (at orders count : ℕ) (given : Result Reply NoMemory)
+pub entry_found : (s : Settings) (codes : List ℕ) (store : Cells) (r : Report) (at orders count : ℕ)
+    (given : Result Reply NoMemory)
     → store ≡ cleared_cells → checks.Accepts s.size store.words (opening store.words) 9 codes r
     → at ≡ r.entry → orders ≡ r.orders → count ≡ r.rows
     → IfOk given (λ reply. Gives reply (done (entry_line at orders count)))
@@ -69,8 +80,11 @@ entry_found s codes store r at orders count (Ok reply) is accepts a o n gives =
     let f : checks.Accepts s.size cleared_cells.words (opening cleared_cells.words) 9 codes r =
     subst (λ (c : Cells). checks.Accepts s.size c.words (opening c.words) 9 codes r) is accepts in
     let told : done (entry_line f.entry.at f.entry.cost f.entry.rows) ≡ done (entry_line at orders count) =
-    λ i. done (entry_line (sym (a ∙ f.entry_is) i) (sym (o ∙ f.orders_are) i) (sym (n ∙ f.rows_are) i)) in
-    (done (entry_line at orders count), inl (record { well = f.well; entry = f.entry; comes = f.comes; outcome = told }), gives)
+    λ i. done (entry_line (sym (a ∙ f.entry_is) i) (sym (o ∙ f.orders_are) i) (sym (n ∙ f.rows_are) i)) in (
+      done (entry_line at orders count),
+      inl (record { well = f.well; entry = f.entry; comes = f.comes; outcome = told }),
+      gives,
+    )
 
 -- the reply to a tape with a fault
 pub fault_found : (s : Settings) (codes : List ℕ) (store : Cells) (fault : TapeFault) (given : Result Reply NoMemory)

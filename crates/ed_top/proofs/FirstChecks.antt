@@ -9,7 +9,7 @@ use Rattle.ed_initial1.specs.declared.cause.Tape1Fault.{Tape1Fault}
 use Rattle.ed_initial1.specs.declared.cause.Tape1Fault.TheVariants.{At, Memory}
 use Rattle.ed_initial1.proofs.Unique.{one_verdict}
 use Rattle.ed_report.specs.FirstNotes.{rule1_line, tape1_fault_line}
-use Rattle.ed_top.specs.Entries.{entry_line}
+use Rattle.ed_report.specs.Entries.{entry_line}
 use Rattle.ed_top.specs.FirstOrders.{IsChecked1}
 use Rattle.ed_top.specs.Outcome.{Outcome, done, refused}
 use Rattle.ed_top.specs.Private.Stages.{Gives}
@@ -51,7 +51,8 @@ program_found codes r orders count (Err e) a o n gives = tt
 program_found codes r orders count (Ok reply) a o n gives =
     let cost : orders ≡ (report1 a.tape).orders = o ∙ ap (λ (x : Report1). x.orders) a.report_is in
     let read : count ≡ (report1 a.tape).rows = n ∙ ap (λ (x : Report1). x.rows) a.report_is in
-    let outcome : told a.tape ≡ done (entry_line 31 orders count) = λ i. done (entry_line 31 (sym cost i) (sym read i)) in
+    let outcome : told a.tape ≡ done (entry_line 31 orders count) =
+    λ i. done (entry_line 31 (sym cost i) (sym read i)) in
     (done (entry_line 31 orders count), inl (record { tape = a.tape; comes = a.comes; outcome = outcome }), gives)
 
 -- the reply to a tape with a fault

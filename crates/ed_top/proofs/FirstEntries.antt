@@ -53,6 +53,7 @@ runs_from_31 s codes t c =
       silent = r.silent;
       runs = λ fits.
           ap (ran_outcome [])
-          (ran_later s.limit s.resumes paper_room k first went fits ∙ ap (ran (s.limit - k) s.resumes paper_room) there);
+          (ran_later s.limit s.resumes paper_room k first went fits
+          ∙ ap (ran (s.limit - k) s.resumes paper_room) there);
       short = λ below. ap paper (silent s.limit s.resumes paper_room k first went below);
     }

@@ -14,7 +14,7 @@ use Rattle.ed_link.specs.Tapes.{cost, tape}
 use Rattle.ed_loads.specs.EntryState.{Enters, entry_state, first_state}
 use Rattle.ed_report.specs.Notes.{entered}
 use Rattle.ed_command.specs.declared.command.Settings.{Settings}
-use Rattle.ed_top.specs.Outcome.{Text}
+use Rattle.ed_words.specs.Texts.{Text}
 use Rattle.ed_top.specs.Runs.{paper_room, post_mortem_codes, ran_outcome, run_of, with_post_mortem}
 use Rattle.ed_top.specs.Sources.{entered_before}
 use Rattle.ed_top.specs.Headline.{RunsFromEntry}
@@ -25,7 +25,8 @@ use Rattle.ed_top.proofs.Keeping.{run_follows}
 le_true : (a b : ℕ) → a ≤ b → nat_le a b ≡ true
 le_true a b h = grind (arith, nat_tests)
 
-reached : (lines : List Line) (s : State) → cost lines ≤ s.orders → entered_before lines s ≡ entered (entry_of lines) (cost lines)
+reached : (lines : List Line) (s : State) → cost lines ≤ s.orders
+    → entered_before lines s ≡ entered (entry_of lines) (cost lines)
 reached lines s h =
     ap (λ (b : Bool). if b then entered (entry_of lines) (cost lines) else []) (le_true (cost lines) s.orders h)
 
@@ -51,9 +52,11 @@ runs_from_entry s lines enters = record {
       let later : run_of s (tape lines) ≡ from =
       ran_later s.limit s.resumes paper_room (cost lines) (first_state s.size (tape lines)) enters.went fits
       ∙ ap (ran (s.limit - cost lines) s.resumes paper_room) enters.state_is in
-      let kept : cost lines ≤ from.state.orders = (run_follows (s.limit - cost lines) s.resumes paper_room (entry_state s.size lines)).later in
+      let kept : cost lines ≤ from.state.orders =
+      (run_follows (s.limit - cost lines) s.resumes paper_room (entry_state s.size lines)).later in
       ap (λ (r : RunEnd). ran_outcome (entered_before lines r.state) (with_post_mortem s.post_mortem r)) later
-      ∙ ap (λ (before : Text). ran_outcome before (with_post_mortem s.post_mortem from)) (reached lines from.state kept);
+      ∙ ap (λ (before : Text). ran_outcome before (with_post_mortem s.post_mortem from))
+      (reached lines from.state kept);
   short = λ below.
       let none = silent s.limit s.resumes paper_room (cost lines) (first_state s.size (tape lines)) enters.went below in
       ap (λ codes. paper (codes ++ post_mortem_codes s.post_mortem (run_of s (tape lines)).state)) none;

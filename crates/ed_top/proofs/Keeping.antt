@@ -98,7 +98,8 @@ unfolding first_state
 first_size z rows s is = ap (λ (t : State). t.size) is
 
 -- and with no more orders done than the limit
-pub ran_orders : (limit resumes room : ℕ) (s last : State) → s.orders ≡ 0 → last ≡ (ran limit resumes room s).state → last.orders ≤ limit
+pub ran_orders : (limit resumes room : ℕ) (s last : State) → s.orders ≡ 0 → last ≡ (ran limit resumes room s).state
+    → last.orders ≤ limit
 ran_orders limit resumes room s last none e =
     let f = run_follows limit resumes room s in
     let same = ap (λ (t : State). t.orders) e in

@@ -1,11 +1,13 @@
 pub mod Replies
 pub mod Checks
 mod FirstChecks
+mod InParts
 mod FirstEntries
 mod Keeping
 mod FromEntry
 mod Sources
 mod CallRuns
+mod DemoRuns
 pub mod OneOutcome
 pub mod Endings
 mod Writing

@@ -8,10 +8,12 @@ use Rattle.ed_syntax.specs.Sources.{program_of}
 use Rattle.ed_report.specs.Catalogue.{library_text}
 use Rattle.ed_command.specs.declared.command.Settings.{Settings}
 use Rattle.ed_command.specs.declared.command.Action.{Action}
-use Rattle.ed_command.specs.declared.command.Action.TheVariants.{Tape, CheckTape, Run, Punch, Listing, Call as CallOf, Library}
-use Rattle.ed_command.specs.declared.command.Action.TheVariants.{Tape1, CheckTape1, Step, Trace}
-use Rattle.ed_top.specs.Outcome.{Text, Outcome, done, too_long_outcome, usage_outcome}
+use Rattle.ed_command.specs.declared.command.Action.TheVariants.{Tape, CheckTape, Run, Punch, Listing, Library, Demo}
+use Rattle.ed_command.specs.declared.command.Action.TheVariants.{Call as CallOf, Tape1, CheckTape1, Step, Trace, Parts}
+use Rattle.ed_words.specs.Texts.{Text}
+use Rattle.ed_top.specs.Outcome.{Outcome, done, too_long_outcome, usage_outcome}
 use Rattle.ed_top.specs.Calls.{call_outcome}
+use Rattle.ed_top.specs.Demos.{demo_outcome}
 use Rattle.ed_top.specs.Answer.{HasOneOutcome, OfReading, WithinLimit, exactly, known, of_input, of_rows}
 use Rattle.ed_top.specs.FirstOrders.{tape1_outcome}
 use Rattle.ed_top.specs.Output.{EachLineHasOneOutcome, answer, tape_outcome}
@@ -21,13 +23,15 @@ use Rattle.ed_top.specs.Traces.{trace_outcome}
 use Rattle.ed_top.proofs.Replies.{HasOne, exactly_one, text_outcome}
 use Rattle.ed_top.proofs.Checks.{checked_one}
 use Rattle.ed_top.proofs.FirstChecks.{checked1_one}
+use Rattle.ed_top.proofs.InParts.{parts_one}
 
 known_once : (due : Outcome) → HasOneOutcome (known due)
 known_once due = record { some = λ input. (due, refl); once = λ input o other p q. sym p ∙ q }
 
 -- ---- the text of a tape
 
-text_once : (answers : List ℕ → Outcome → Type 0) (r : Reading) (o other : Outcome) → HasOne answers → OfReading answers r o
+text_once : (answers : List ℕ → Outcome → Type 0) (r : Reading) (o other : Outcome) → HasOne answers
+    → OfReading answers r o
     → OfReading answers r other → o ≡ other
 text_once answers (rows codes) o other one p q = one.once codes o other p q
 text_once answers (no_row place byte) o other one p q = sym p ∙ q
@@ -46,7 +50,8 @@ some_within answers input o a = by_length (split (length input))
     by_length (inr many) = (too_long_outcome, inr (many, refl))
 
 within_once : (answers : Text → Outcome → Type 0) (input : Text) (o other : Outcome)
-    → (answers input o → answers input other → o ≡ other) → WithinLimit answers input o → WithinLimit answers input other → o ≡ other
+    → (answers input o → answers input other → o ≡ other) → WithinLimit answers input o
+    → WithinLimit answers input other → o ≡ other
 within_once answers input o other once (inl p) (inl q) = once p.1 q.1
 within_once answers input o other once (inl p) (inr q) = absurd (omega (arith, p.0, q.0))
 within_once answers input o other once (inr p) (inl q) = absurd (omega (arith, p.0, q.0))
@@ -55,9 +60,11 @@ within_once answers input o other once (inr p) (inr q) = sym p.1 ∙ q.1
 rows_once : (answers : List ℕ → Outcome → Type 0) → HasOne answers → HasOneOutcome (of_rows answers)
 rows_once answers one = record {
   some = λ input.
-      let t = text_outcome answers one (reading input) in some_within (λ input. OfReading answers (reading input)) input t.0 t.1;
+      let t = text_outcome answers one (reading input) in
+      some_within (λ input. OfReading answers (reading input)) input t.0 t.1;
   once = λ input o other.
-      within_once (λ input. OfReading answers (reading input)) input o other (text_once answers (reading input) o other one);
+      within_once (λ input. OfReading answers (reading input)) input o other
+      (text_once answers (reading input) o other one);
 }
 
 -- ---- a source
@@ -82,11 +89,12 @@ answer_once Punch s = source_once s.size punch_outcome
 answer_once Listing s = source_once s.size listing_outcome
 answer_once (CallOf call) s = known_once (call_outcome call s)
 answer_once Library s = known_once (done library_text)
+answer_once (Demo n) s = known_once (demo_outcome n s)
 answer_once Tape1 s = rows_once _ (exactly_one (tape1_outcome s))
 answer_once CheckTape1 s = rows_once _ checked1_one
 answer_once Step s = input_once (step_outcome s)
 answer_once Trace s = rows_once _ (exactly_one (trace_outcome s))
-answer_once _ s = known_once usage_outcome
+answer_once Parts s = rows_once _ (parts_one s)
 
 pub line_once : EachLineHasOneOutcome
 line_once None = known_once usage_outcome

@@ -5,7 +5,8 @@ use Rattle.ed_words.specs.declared.memory.NoMemory.{NoMemory}
 use Rattle.ed_codes.specs.Reading.{Reading, rows, no_row, open_comment, reading}
 use Rattle.ed_codes.specs.declared.tape.TextFault.TheVariants.{NoRow, OpenComment}
 use Rattle.ed_report.specs.Notes.{text_fault_line}
-use Rattle.ed_top.specs.Outcome.{Text, Outcome, refused}
+use Rattle.ed_words.specs.Texts.{Text}
+use Rattle.ed_top.specs.Outcome.{Outcome, refused}
 use Rattle.ed_top.specs.Answer.{of_rows, exactly, OfReading}
 use Rattle.ed_top.specs.Clause.{Device, Wrote, WrotePart}
 use Rattle.ed_top.specs.Private.Stages.{Gives, RefusesText, Replies}
@@ -20,26 +21,32 @@ pub exactly_one : (f : List ℕ → Outcome) → HasOne (exactly f)
 exactly_one f = record { some = λ codes. (f codes, refl); once = λ codes o other p q. sym p ∙ q }
 
 -- so every text has one
-pub text_outcome : (answers : List ℕ → Outcome → Type 0) → HasOne answers → (q : Reading) → (o : Outcome) × OfReading answers q o × Unit {0}
+pub text_outcome : (answers : List ℕ → Outcome → Type 0) → HasOne answers → (q : Reading)
+    → (o : Outcome) × OfReading answers q o × Unit {0}
 text_outcome answers one (rows codes) = let h = one.some codes in (h.0, h.1, tt)
 text_outcome answers one (no_row place byte) = (refused (text_fault_line (NoRow place byte)), refl, tt)
 text_outcome answers one (open_comment place) = (refused (text_fault_line (OpenComment place)), refl, tt)
 
 -- the reply to a text's rows is the reply to the text
-at_reading : (answers : List ℕ → Outcome → Type 0) (q : Reading) (codes : List ℕ) (o : Outcome) → q ≡ rows codes → answers codes o
+at_reading : (answers : List ℕ → Outcome → Type 0) (q : Reading) (codes : List ℕ) (o : Outcome) → q ≡ rows codes
+    → answers codes o
     → OfReading answers q o
 at_reading answers q codes o is a = subst (λ (r : Reading). OfReading answers r o) (sym is) a
 
 -- where the rows have one outcome
-pub rows_replied : (answers : List ℕ → Outcome → Type 0) (input : Text) (codes : List ℕ) (r : Result Reply NoMemory) → HasOne answers
-    → reading input ≡ rows codes → IfOk r (λ reply. (o : Outcome) × answers codes o × Gives reply o) → Replies (of_rows answers) input r
-rows_replied answers input codes (Ok reply) one is gives = (gives.0, at_reading answers (reading input) codes gives.0 is gives.1, gives.2)
+pub rows_replied : (answers : List ℕ → Outcome → Type 0) (input : Text) (codes : List ℕ) (r : Result Reply NoMemory)
+    → HasOne answers
+    → reading input ≡ rows codes → IfOk r (λ reply. (o : Outcome) × answers codes o × Gives reply o)
+    → Replies (of_rows answers) input r
+rows_replied answers input codes (Ok reply) one is gives =
+    (gives.0, at_reading answers (reading input) codes gives.0 is gives.1, gives.2)
 rows_replied answers input codes (Err e) one is gives = text_outcome answers one (reading input)
 
 -- where a function gives it
 pub exactly_replied : (f : List ℕ → Outcome) (input : Text) (codes : List ℕ) (r : Result Reply NoMemory)
     → reading input ≡ rows codes → IfOk r (λ reply. Gives reply (f codes)) → Replies (of_rows (exactly f)) input r
-exactly_replied f input codes (Ok reply) is gives = (f codes, at_reading (exactly f) (reading input) codes (f codes) is refl, gives)
+exactly_replied f input codes (Ok reply) is gives =
+    (f codes, at_reading (exactly f) (reading input) codes (f codes) is refl, gives)
 exactly_replied f input codes (Err e) is gives = text_outcome (exactly f) (exactly_one f) (reading input)
 
 -- the refusal of a text is the reply to it

@@ -1,5 +1,6 @@
 -- From what is made of a source to the outcome of an input.
-use Rattle.std.proofs.Common.{◌≡◌, ◌≢◌, ◌∙◌, ◌<◌, ◌+◌, ℕ, zero, suc, refl, sym, ap, subst, arith, Option, Some, None, List, [], ◌∷◌, ◌++◌, length, map}
+use Rattle.std.proofs.Common.{◌≡◌, ◌≢◌, ◌∙◌, ◌<◌, ◌+◌, ℕ, zero, suc, refl, sym, ap, subst}
+use Rattle.std.proofs.Common.{arith, Option, Some, None, List, [], ◌∷◌, ◌++◌, length, map}
 use Rattle.std.specs.Prelude.{Result, Ok, Err, IfOk, All}
 use Rattle.ed_words.specs.declared.size.Size.{Size}
 use Rattle.ed_words.specs.declared.memory.NoMemory.{NoMemory}
@@ -27,9 +28,9 @@ use Rattle.ed_loads.specs.EntryState.{entry_state, entry_store}
 use Rattle.ed_loads.proofs.Entries.{each_source}
 use Rattle.ed_report.specs.Listings.{listing}
 use Rattle.ed_report.specs.Notes.{ending_line, source_fault_line}
-use Rattle.ed_command.specs.declared.command.Settings.{Settings}
 use Rattle.ed_command.specs.declared.command.Window.{Window}
-use Rattle.ed_top.specs.Outcome.{Text, Outcome, done, refused}
+use Rattle.ed_words.specs.Texts.{Text}
+use Rattle.ed_top.specs.Outcome.{Outcome, done, refused}
 use Rattle.ed_top.specs.Answer.{exactly, of_input}
 use Rattle.ed_top.specs.Runs.{post_mortem_codes, ran_outcome, status_of, with_post_mortem}
 use Rattle.ed_top.specs.Sources.{listing_outcome, of_program, of_source, punch_outcome, unless_faulty}
@@ -40,14 +41,16 @@ use Rattle.ed_top.proofs.FromEntry.{runs_from_entry}
 
 -- ---- what is made of a source
 
-pub accepted_is : (z : Size) (accepted : List Line → Outcome) (program : Result (List Line) Fault) (lines : List Line) → program ≡ Ok lines
+pub accepted_is : (z : Size) (accepted : List Line → Outcome) (program : Result (List Line) Fault) (lines : List Line)
+    → program ≡ Ok lines
     → fault z lines ≡ None → of_program z accepted program ≡ accepted lines
 accepted_is z accepted program lines p f =
     ap (of_program z accepted) p ∙ ap (λ (x : Option SourceFault). unless_faulty x (accepted lines)) f
 
 -- a fault of form
 pub refused_form : (z : Size) (program : Result (List Line) Fault) (f : SourceFault) (r : Result Reply NoMemory)
-    → form.IsFaultOf program f → IfOk r (λ reply. Gives reply (refused (source_fault_line f))) → IfOk r (λ reply. f ≢ Memory)
+    → form.IsFaultOf program f → IfOk r (λ reply. Gives reply (refused (source_fault_line f)))
+    → IfOk r (λ reply. f ≢ Memory)
     → LinksSource z program (Err r)
 refused_form z program f (Err e) is gives told = tt
 refused_form z program Memory (Ok reply) is gives told = absurd (told refl)
@@ -55,8 +58,10 @@ refused_form z program (At line cause) (Ok reply) is gives told =
     λ accepted. subst (Gives reply) (sym (ap (of_program z accepted) is)) gives
 
 -- a fault of meaning
-pub refused_meaning : (z : Size) (program : Result (List Line) Fault) (lines : List Line) (f : SourceFault) (r : Result Reply NoMemory)
-    → program ≡ Ok lines → meaning.IsFaultOf (fault z lines) f → IfOk r (λ reply. Gives reply (refused (source_fault_line f)))
+pub refused_meaning : (z : Size) (program : Result (List Line) Fault) (lines : List Line) (f : SourceFault)
+    (r : Result Reply NoMemory)
+    → program ≡ Ok lines → meaning.IsFaultOf (fault z lines) f
+    → IfOk r (λ reply. Gives reply (refused (source_fault_line f)))
     → IfOk r (λ reply. f ≢ Memory) → LinksSource z program (Err r)
 refused_meaning z program lines f (Err e) p is gives told = tt
 refused_meaning z program lines Memory (Ok reply) p is gives told = absurd (told refl)
@@ -66,7 +71,8 @@ refused_meaning z program lines (At line cause) (Ok reply) p is gives told =
 
 -- ---- the outcome of an input
 
-pub input_replied : (f : Text → Outcome) (input : Text) (r : Result Reply NoMemory) → IfOk r (λ reply. Gives reply (f input))
+pub input_replied : (f : Text → Outcome) (input : Text) (r : Result Reply NoMemory)
+    → IfOk r (λ reply. Gives reply (f input))
     → Replies (of_input (exactly f)) input r
 input_replied f input (Ok reply) gives = (f input, refl, gives)
 input_replied f input (Err e) gives = (f input, refl, tt)
@@ -74,7 +80,8 @@ input_replied f input (Err e) gives = (f input, refl, tt)
 -- of an accepted source
 pub linked_replied : (z : Size) (accepted : List Line → Outcome) (input : Text) (k : Linked) (r : Result Reply NoMemory)
     → LinksSource z (program_of input) (Ok k)
-    → IfOk r (λ reply. (lines : List Line) → IsLinked z lines k → Gives reply (accepted lines)) → Replies (of_source z accepted) input r
+    → IfOk r (λ reply. (lines : List Line) → IsLinked z lines k → Gives reply (accepted lines))
+    → Replies (of_source z accepted) input r
 linked_replied z accepted input k (Err e) l g = (of_program z accepted (program_of input), refl, tt)
 linked_replied z accepted input k (Ok reply) l g = (
   of_program z accepted (program_of input),
@@ -95,9 +102,14 @@ headline s source lines p f = runs_from_entry s lines (each_source s.size source
 
 -- ---- the reply of a run
 
-pub ran_gives : (window : Option Window) (before note : Text) (r : RunEnd) (ending : Ending) (state : State) (codes : List ℕ) (reply : Reply)
+pub ran_gives : (window : Option Window) (before note : Text) (r : RunEnd) (ending : Ending) (state : State)
+    (codes : List ℕ) (reply : Reply)
     → ending ≡ r.ending → state ≡ r.state → codes ≡ r.codes → note ≡ before ++ ending_line ending state
-    → Gives reply (record { out = paper (codes ++ post_mortem_codes window state); note = note; status = status_of ending })
+    → Gives reply (record {
+      out = paper (codes ++ post_mortem_codes window state);
+      note = note;
+      status = status_of ending;
+    })
     → Gives reply (ran_outcome before (with_post_mortem window r))
 ran_gives window before note r ending state codes reply e s c n gives =
     let line : note ≡ before ++ ending_line r.ending r.state = n ∙ (λ i. before ++ ending_line (e i) (s i)) in
@@ -117,7 +129,8 @@ punch_gives z k (Ok reply) gives = λ lines is.
     subst (Gives reply) (λ i. done (text_of (canonicals (is.items i)) ++ after_text (is.after i))) gives
 
 -- the places of words by rising place are below the end of their table
-below : (n : ℕ) (table : List (Option ℕ)) → All (λ a. a < n + length table) (map (λ (p : Placed). p.place) (words_from n table))
+below : (n : ℕ) (table : List (Option ℕ))
+    → All (λ a. a < n + length table) (map (λ (p : Placed). p.place) (words_from n table))
 below n [] k d h = absurd (omega (arith, h))
 below n (None ∷ ws) k d h = let r = below (n + 1) ws k d h in omega (arith, r)
 below n (Some w ∷ ws) zero d h = omega arith
@@ -128,14 +141,18 @@ pub places_below : (z : Size) (lines : List Line) (k : Linked) (places : List �
 places_below z lines k places is e =
     let table = table_of (linked lines) in
     let size : length table ≡ 1024 = put_all_length empty_table (linked lines) ∙ empty_length in
-    let same : places ≡ map (λ (p : Placed). p.place) (words_from 0 table) = e ∙ ap (map (λ (p : Placed). p.place)) is.words in
+    let same : places ≡ map (λ (p : Placed). p.place) (words_from 0 table) =
+    e ∙ ap (map (λ (p : Placed). p.place)) is.words in
     subst (λ (xs : List ℕ). All (λ a. a < 1024) xs) (sym same)
     (λ i d h. let b = below 0 table i d h in omega (arith, b, size))
 
-pub listing_gives : (z : Size) (lines : List Line) (k : Linked) (reply : Reply) (m : State) (store : Cells) (places : List ℕ) (out : Text)
-    → IsLinked z lines k → m ≡ entry_state z lines → store ≡ m.store → places ≡ map (λ (p : Placed). p.place) k.words.items
+pub listing_gives : (z : Size) (lines : List Line) (k : Linked) (reply : Reply) (m : State) (store : Cells)
+    (places : List ℕ) (out : Text)
+    → IsLinked z lines k → m ≡ entry_state z lines → store ≡ m.store
+    → places ≡ map (λ (p : Placed). p.place) k.words.items
     → out ≡ listing store places → Gives reply (done out) → Gives reply (listing_outcome lines)
 listing_gives z lines k reply m store places out is entry s p o gives =
     let at : store ≡ entry_store lines = s ∙ ap (λ (x : State). x.store) entry in
-    let all : places ≡ map (λ (p : Placed). p.place) (words_from 0 (table_of (linked lines))) = p ∙ ap (map (λ (p : Placed). p.place)) is.words in
+    let all : places ≡ map (λ (p : Placed). p.place) (words_from 0 (table_of (linked lines))) =
+    p ∙ ap (map (λ (p : Placed). p.place)) is.words in
     subst (λ (t : Text). Gives reply (done t)) (o ∙ (λ i. listing (at i) (all i))) gives

@@ -1,9 +1,10 @@
 -- From what a command wrote on `out` to the outcome of a tape's text.
 use Rattle.std.proofs.Common.{◌≡◌, ◌∙◌, ◌<◌, ℕ, List, [], refl, sym, ap, subst}
-use Rattle.std.specs.Prelude.{Result, Ok, Err}
+use Rattle.std.specs.Prelude.{Result, Ok, Err, IfOk}
 use Rattle.ed_words.specs.declared.memory.NoMemory.{NoMemory}
 use Rattle.ed_codes.specs.Reading.{Reading, rows, reading}
-use Rattle.ed_top.specs.Outcome.{Text, Outcome}
+use Rattle.ed_words.specs.Texts.{Text}
+use Rattle.ed_top.specs.Outcome.{Outcome}
 use Rattle.ed_top.specs.Answer.{Answer, OfReading, exactly, known, of_input, of_rows}
 use Rattle.ed_top.specs.Clause.{Device, Wrote, WrotePart}
 use Rattle.ed_top.specs.Private.Stages.{Carried, ForInput, Gives, Replies, WritesReply}
@@ -19,7 +20,8 @@ for_more (known o) input P Q more p = more o p
 for_more (of_input answers) input P Q more p = (p.0, p.1, more p.0 p.2)
 
 -- a reply that was written is carried out
-pub reply_carried : (answer : Answer) (input : Text) (reply : Result Reply NoMemory) (out : Device) (r : Result Rest Stop)
+pub reply_carried : (answer : Answer) (input : Text) (reply : Result Reply NoMemory) (out : Device)
+    (r : Result Rest Stop)
     → Replies answer input reply → WritesReply reply out r → Carried answer input out r
 reply_carried answer input (Ok reply) out (Ok rest) replies w = (
   low answer replies,
@@ -38,10 +40,24 @@ reply_carried answer input (Ok reply) out (Err Failed) replies w =
 reply_carried answer input (Ok reply) out (Err Memory) replies w = absurd w
 reply_carried answer input (Err e) out (Ok rest) replies w = absurd w
 reply_carried answer input (Err e) out (Err Failed) replies w = absurd w
-reply_carried answer input (Err e) out (Err Memory) replies w = for_more answer input _ _ (λ o u. none_written out o.out w) replies
+reply_carried answer input (Err e) out (Err Memory) replies w =
+    for_more answer input _ _ (λ o u. none_written out o.out w) replies
+
+-- and so is a reply with the outcome of a command that reads no input
+pub known_carried : (answer : Answer) (due : Outcome) (input : Text) (reply : Result Reply NoMemory) (out : Device)
+    (r : Result Rest Stop) → answer ≡ known due → IfOk reply (λ reply. Gives reply due) → WritesReply reply out r
+    → Carried answer input out r
+known_carried answer due input reply out r is gives w =
+    subst (λ (a : Answer). Carried a input out r) (sym is)
+    (reply_carried (known due) input reply out r (replied reply gives) w)
+  where
+    replied : (reply : Result Reply NoMemory) → IfOk reply (λ reply. Gives reply due) → Replies (known due) input reply
+    replied (Ok reply) gives = gives
+    replied (Err e) gives = tt
 
 -- what was written of the rows as it came is that of the text
-pub rows_carried : (f : List ℕ → Outcome) (input : Text) (codes : List ℕ) (out : Device) (r : Result Rest Stop) → reading input ≡ rows codes
+pub rows_carried : (f : List ℕ → Outcome) (input : Text) (codes : List ℕ) (out : Device) (r : Result Rest Stop)
+    → reading input ≡ rows codes
     → Carried (known (f codes)) [] out r → Carried (of_rows (exactly f)) input out r
 rows_carried f input codes out r is = by_result r
   where
@@ -52,3 +68,19 @@ rows_carried f input codes out r is = by_result r
     by_result (Ok rest) c = (c.0, (f codes, at, c.1))
     by_result (Err Failed) c = (c.0, (f codes, at, c.1))
     by_result (Err Memory) c = (f codes, at, c)
+
+-- the same where it is a relation that says which outcome rows have
+pub rows_carried_by : (answers : List ℕ → Outcome → Type 0) (input : Text) (codes : List ℕ) (out : Device)
+    (r : Result Rest Stop)
+    → reading input ≡ rows codes → Carried (of_input (λ _. answers codes)) [] out r
+    → Carried (of_rows answers) input out r
+rows_carried_by answers input codes out r is = by_result r
+  where
+    at : (o : Outcome) → answers codes o → OfReading answers (reading input) o
+    at o a = subst (λ (q : Reading). OfReading answers q o) (sym is) a
+
+    by_result : (r : Result Rest Stop) → Carried (of_input (λ _. answers codes)) [] out r
+        → Carried (of_rows answers) input out r
+    by_result (Ok rest) c = (c.0, (c.1.0, at c.1.0 c.1.1, c.1.2))
+    by_result (Err Failed) c = (c.0, (c.1.0, at c.1.0 c.1.1, c.1.2))
+    by_result (Err Memory) c = (c.0, at c.0 c.1, c.2)

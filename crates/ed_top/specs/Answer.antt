@@ -1,9 +1,11 @@
--- What a command answers: one outcome, where it reads no input, or to each input its outcome (this project's own rules).
+-- What a command answers: one outcome, where it reads no input, or to each input its outcome (this project's own
+-- rules).
 use Rattle.std.specs.Prelude.{◌≡◌, ◌⊎◌, ℕ, ◌≤◌, ◌<◌, Bool, true, false, List, length}
 use Rattle.ed_codes.specs.Reading.{Reading, rows, no_row, open_comment, reading}
 use Rattle.ed_codes.specs.declared.tape.TextFault.TheVariants.{NoRow, OpenComment}
 use Rattle.ed_report.specs.Notes.{text_fault_line}
-use Rattle.ed_top.specs.Outcome.{Text, Outcome, refused, too_long_outcome}
+use Rattle.ed_words.specs.Texts.{Text}
+use Rattle.ed_top.specs.Outcome.{Outcome, refused, too_long_outcome}
 
 -- no input is read, or one is, and then this says which outcome an input of at most 262,144 bytes has
 pub data Answer : Type 1 where
@@ -31,7 +33,8 @@ reads_input (of_input answers) = true
 
 -- the outcome of an input that has at most 262,144 bytes, or of one that is too long
 abbrev pub WithinLimit : (Text → Outcome → Type 0) → Text → Outcome → Type 0
-WithinLimit answers input o = ((length input ≤ 262144) × answers input o) ⊎ ((262144 < length input) × (too_long_outcome ≡ o))
+WithinLimit answers input o = ((length input ≤ 262144) × answers input o)
+    ⊎ ((262144 < length input) × (too_long_outcome ≡ o))
 
 -- the outcome that is due to an input
 abbrev pub IsDue : Answer → Text → Outcome → Type 0

@@ -16,7 +16,8 @@ use Rattle.ed_words.specs.declared.size.Size.{Size}
 use Rattle.ed_sources.specs.Accepted.{IsMade}
 use Rattle.ed_sources.specs.Calls.{call_text}
 use Rattle.ed_command.specs.declared.command.Settings.{Settings}
-use Rattle.ed_top.specs.Outcome.{Text, Outcome}
+use Rattle.ed_words.specs.Texts.{Text}
+use Rattle.ed_top.specs.Outcome.{Outcome}
 use Rattle.ed_top.specs.Sources.{of_program, run_outcome}
 use Rattle.ed_top.specs.Headline.{RunsFromEntry}
 
@@ -26,19 +27,15 @@ made_outcome s text = of_program s.size (run_outcome s) (program_of text)
 
 -- `call`: the run of its source
 abbrev pub call_outcome : Call → Settings → Outcome
-call_outcome (Print n) s = made_outcome s (call_text (Print n))
-call_outcome (Read n) s = made_outcome s (call_text (Read n))
-call_outcome NewLine s = made_outcome s (call_text NewLine)
-call_outcome (Divide n by) s = made_outcome s (call_text (Divide n by))
-call_outcome (Root n) s = made_outcome s (call_text (Root n))
-call_outcome (Check n) s = made_outcome s (call_text (Check n))
+call_outcome call s = made_outcome s (call_text call)
 
 -- where the checking routine stands in the source of `call check`
 abbrev pub check_base : ℕ
 check_base = 112
 
--- what a call prints whose source has these lines: the decimal digits of its number, a carriage return and a line feed, the
--- digits of a quotient and of a remainder on two lines, or those of a root; and `check` the checked codes of the guest's orders up to its Z, which are the two that call `print`, those of `print`, and Z
+-- what a call prints whose source has these lines: the decimal digits of its number, a carriage return and a line
+-- feed, the digits of a quotient and of a remainder on two lines, or those of a root; and `check` the checked codes
+-- of the guest's orders up to its Z, which are the two that call `print`, those of `print`, and Z
 abbrev pub call_prints : Size → List Line → Call → Text
 call_prints z lines (Print n) = decimal n
 call_prints z lines (Read n) = decimal n
@@ -61,14 +58,16 @@ pub record Printed (text : Text) (o : Outcome) : Type 0 where
   pub out_is : o.out ≡ text
   pub status_is : o.status ≡ 0
 
--- the source of a call is read as these lines, what is answered is their run, and it is the run from the state at their entry
+-- the source of a call is read as these lines, what is answered is their run, and it is the run from the state at
+-- their entry
 pub record CallRuns (s : Settings) (call : Call) : Type 0 where
   pub lines : List Line
   pub reads : program_of (call_text call) ≡ Ok lines
   pub answers : call_outcome call s ≡ run_outcome s lines
   pub from_entry : RunsFromEntry s lines
   -- and where the limit is not below the orders that it takes, it prints what is said of it
-  pub prints : s.resumes ≡ 0 → s.post_mortem ≡ None → cost lines + call_orders call ≤ s.limit → Printed (call_prints s.size lines call) (call_outcome call s)
+  pub prints : s.resumes ≡ 0 → s.post_mortem ≡ None → cost lines + call_orders call ≤ s.limit
+      → Printed (call_prints s.size lines call) (call_outcome call s)
 
 -- so it is of each call
 abbrev pub EachCallRuns : Type 0

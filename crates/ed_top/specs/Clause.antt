@@ -3,7 +3,8 @@
 use Rattle.std.specs.Prelude.{◌≡◌, ◌≢◌, ◌⊎◌, ℕ, true, [], drop, Option, Some}
 use Rattle.ed_io.specs.Bytes.{Gains, GainsPart}
 use Rattle.ed_io.specs.Causes.{Rose}
-use Rattle.ed_top.specs.Outcome.{Text, Outcome, read_fault, no_memory}
+use Rattle.ed_words.specs.Texts.{Text}
+use Rattle.ed_top.specs.Outcome.{Outcome, read_fault, no_memory}
 use Rattle.ed_top.specs.Answer.{Answer, known, of_input, reads_input, WithinLimit}
 
 -- a device before and after the call: the bytes that it tells, if it tells them, and its count of faults
@@ -15,7 +16,12 @@ pub record Device : Type 0 where
 
 -- a device seen by what it tells and what it counts
 abbrev pub device : {D : Type 0} → (D → Option Text) → (D → ℕ) → D → D → Device
-device bytes faults old new = record { before = bytes old; after = bytes new; faults_before = faults old; faults_after = faults new }
+device bytes faults old new = record {
+  before = bytes old;
+  after = bytes new;
+  faults_before = faults old;
+  faults_after = faults new;
+}
 
 -- the device's count of faults rose
 abbrev pub Failing : Device → Type 0
@@ -71,7 +77,8 @@ pub record BrokeNote (answer : Answer) (source out note : Device) : Type 0 where
 pub record ProgramEnded (answer : Answer) (source out note : Device) (status : ℕ) : Type 0 where
   -- neither a fault nor want of memory: exactly the outcome that is due
   pub finished : status ≢ 8 → status ≢ 9 → status ≢ 10
-      → Lost source (most_read answer) × ForDue answer source (λ o. (status ≡ o.status) × Wrote out o.out × Wrote note o.note)
+      → Lost source (most_read answer)
+      × ForDue answer source (λ o. (status ≡ o.status) × Wrote out o.out × Wrote note o.note)
   -- 8: a read failed; nothing is on `out` and its line on `note`
   pub read : status ≡ 8 → (reads_input answer ≡ true) × Failing source × Wrote out [] × Wrote note read_fault
   -- 9: a write failed, and nothing was written after it on either sink

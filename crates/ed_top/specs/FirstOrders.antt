@@ -12,7 +12,7 @@ use Rattle.ed_report.specs.FirstNotes.{rule1_line}
 use Rattle.ed_command.specs.declared.command.Settings.{Settings}
 use Rattle.ed_top.specs.Outcome.{Outcome, done, refused}
 use Rattle.ed_top.specs.Runs.{paper_room, ran_outcome}
-use Rattle.ed_top.specs.Entries.{entry_line}
+use Rattle.ed_report.specs.Entries.{entry_line}
 
 -- a cleared machine of full size, started on rows with Initial Orders 1
 unfoldable pub first_state1 : List ℕ → State

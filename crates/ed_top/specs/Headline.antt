@@ -1,4 +1,5 @@
--- What is shown of every source that is accepted: its tape leads to the state at the entry, and the run is that from there.
+-- What is shown of every source that is accepted: its tape leads to the state at the entry, and the run is that from
+-- there.
 use Rattle.std.specs.Prelude.{◌≡◌, ◌-◌, ◌<◌, ◌≤◌, List, None, Ok}
 use Rattle.ed_run.specs.Run.{ran}
 use Rattle.ed_syntax.specs.declared.program.Line.{Line}
@@ -10,14 +11,14 @@ use Rattle.ed_loads.specs.EntryState.{Enters, entry_state}
 use Rattle.ed_printer.specs.Paper.{paper}
 use Rattle.ed_report.specs.Notes.{entered}
 use Rattle.ed_command.specs.declared.command.Settings.{Settings}
-use Rattle.ed_top.specs.Outcome.{Text}
+use Rattle.ed_words.specs.Texts.{Text}
 use Rattle.ed_top.specs.Runs.{paper_room, post_mortem_codes, ran_outcome, run_of, with_post_mortem}
 use Rattle.ed_top.specs.Sources.{run_outcome}
 
--- the punched tape leads a cleared machine of the size to the state at the entry, at its cost and with nothing printed; and
--- what `run` answers, with a limit not below the cost, is the run from that state with the limit less the cost, and before
--- its ending the entry and the cost; with a lower limit the run prints nothing. A post-mortem is in both cases that of the
--- state in which the run ended
+-- the punched tape leads a cleared machine of the size to the state at the entry, at its cost and with nothing
+-- printed; and what `run` answers, with a limit not below the cost, is the run from that state with the limit less
+-- the cost, and before its ending the entry and the cost; with a lower limit the run prints nothing. A post-mortem is
+-- in both cases that of the state in which the run ended
 pub record RunsFromEntry (s : Settings) (lines : List Line) : Type 0 where
   pub enters : Enters s.size lines
   pub runs : cost lines ≤ s.limit → run_outcome s lines
@@ -29,4 +30,5 @@ pub record RunsFromEntry (s : Settings) (lines : List Line) : Type 0 where
 -- so it is of every source without a fault, whatever the limit, the resumes, the size and the post-mortem
 abbrev pub Headline : Type 0
 Headline =
-    (s : Settings) (source : Text) (lines : List Line) → program_of source ≡ Ok lines → fault s.size lines ≡ None → RunsFromEntry s lines
+    (s : Settings) (source : Text) (lines : List Line) → program_of source ≡ Ok lines → fault s.size lines ≡ None
+    → RunsFromEntry s lines

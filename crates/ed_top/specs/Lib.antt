@@ -2,13 +2,14 @@ pub mod Outcome
 pub mod Answer
 pub mod Runs
 pub mod Traces
+pub mod Parts
 pub mod Sources
 pub mod Scripts
-pub mod Entries
 pub mod FirstOrders
 pub mod FirstEntry
 pub mod Headline
 pub mod Calls
+pub mod Demos
 pub mod Output
 pub mod Clause
 pub mod Private

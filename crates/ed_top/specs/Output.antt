@@ -11,13 +11,15 @@ use Rattle.ed_report.specs.Notes.{rule_line}
 use Rattle.ed_command.specs.declared.command.Command.{Command}
 use Rattle.ed_command.specs.declared.command.Settings.{Settings}
 use Rattle.ed_command.specs.declared.command.Action.{Action}
-use Rattle.ed_command.specs.declared.command.Action.TheVariants.{Tape, CheckTape, Run, Punch, Listing, Call as CallOf, Library}
-use Rattle.ed_command.specs.declared.command.Action.TheVariants.{Tape1, CheckTape1, Step, Trace}
+use Rattle.ed_command.specs.declared.command.Action.TheVariants.{Tape, CheckTape, Run, Punch, Listing, Library, Demo}
+use Rattle.ed_command.specs.declared.command.Action.TheVariants.{Call as CallOf, Tape1, CheckTape1, Step, Trace, Parts}
+use Rattle.ed_report.specs.Entries.{entry_line}
 use Rattle.ed_top.specs.Outcome.{Outcome, done, refused, usage_outcome}
 use Rattle.ed_top.specs.Answer.{Answer, HasOneOutcome, exactly, known, of_input, of_rows}
 use Rattle.ed_top.specs.Calls.{call_outcome}
-use Rattle.ed_top.specs.Entries.{entry_line}
+use Rattle.ed_top.specs.Demos.{demo_outcome}
 use Rattle.ed_top.specs.FirstOrders.{IsChecked1, tape1_outcome}
+use Rattle.ed_top.specs.Parts.{IsInParts}
 use Rattle.ed_top.specs.Runs.{ran_outcome, run_of, with_post_mortem}
 use Rattle.ed_top.specs.Scripts.{step_outcome}
 use Rattle.ed_top.specs.Traces.{trace_outcome}
@@ -55,7 +57,7 @@ IsChecked s codes o = OfWellFormed s.size codes o ⊎ OfFaulty s.size codes o
 
 -- ---- commands
 
--- what each command answers; one that has no answer yet tells the usage
+-- what each command answers
 abbrev pub answer : Action → Settings → Answer
 answer Tape s = of_rows (exactly (tape_outcome s))
 answer CheckTape s = of_rows (IsChecked s)
@@ -64,11 +66,12 @@ answer Punch s = of_source s.size punch_outcome
 answer Listing s = of_source s.size listing_outcome
 answer (CallOf call) s = known (call_outcome call s)
 answer Library s = known (done library_text)
+answer (Demo n) s = known (demo_outcome n s)
 answer Tape1 s = of_rows (exactly (tape1_outcome s))
 answer CheckTape1 s = of_rows IsChecked1
 answer Step s = of_input (exactly (step_outcome s))
 answer Trace s = of_rows (exactly (trace_outcome s))
-answer _ s = known usage_outcome
+answer Parts s = of_rows (IsInParts s)
 
 -- what the program answers to the command of a line of words, or to words that are none
 abbrev pub output : Option Command → Answer

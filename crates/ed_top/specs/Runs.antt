@@ -10,7 +10,8 @@ use Rattle.ed_loads.specs.EntryState.{first_state}
 use Rattle.ed_report.specs.Notes.{ending_line}
 use Rattle.ed_command.specs.declared.command.Settings.{Settings}
 use Rattle.ed_command.specs.declared.command.Window.{Window}
-use Rattle.ed_top.specs.Outcome.{Text, Outcome}
+use Rattle.ed_words.specs.Texts.{Text}
+use Rattle.ed_top.specs.Outcome.{Outcome}
 
 -- the status of a run's ending
 abbrev pub status_of : Ending → ℕ
@@ -39,4 +40,8 @@ with_post_mortem window r = record r { codes = r.codes ++ post_mortem_codes wind
 
 -- a run that ended: the teleprinter's bytes, the line of the ending behind what stands before it, and its status
 abbrev pub ran_outcome : Text → RunEnd → Outcome
-ran_outcome before r = record { out = paper r.codes; note = before ++ ending_line r.ending r.state; status = status_of r.ending }
+ran_outcome before r = record {
+  out = paper r.codes;
+  note = before ++ ending_line r.ending r.state;
+  status = status_of r.ending;
+}

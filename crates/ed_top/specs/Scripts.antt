@@ -1,6 +1,5 @@
 -- What `step` answers (this project's own rules).
 use Rattle.std.specs.Prelude.{ℕ, ◌+◌, List, length, Option, Some, None}
-use Rattle.ed_machine.specs.State.{State}
 use Rattle.ed_codes.specs.Reading.{Reading, rows, no_row, open_comment, reading}
 use Rattle.ed_codes.specs.declared.tape.TextFault.TheVariants.{NoRow, OpenComment}
 use Rattle.ed_syntax.specs.Lines.{lines_of}
@@ -14,7 +13,8 @@ use Rattle.ed_stepper.specs.Sessions.{Stand}
 use Rattle.ed_stepper.specs.declared.inputs.TextKind.{TextKind}
 use Rattle.ed_stepper.specs.declared.inputs.TextKind.TheVariants as kinds
 use Rattle.ed_command.specs.declared.command.Settings.{Settings}
-use Rattle.ed_top.specs.Outcome.{Text, Outcome, done, refused}
+use Rattle.ed_words.specs.Texts.{Text}
+use Rattle.ed_top.specs.Outcome.{Outcome, done, refused}
 use Rattle.ed_top.specs.Sources.{of_program}
 
 -- a script that was played: its text; nothing of it where a line went back too far
@@ -22,6 +22,7 @@ abbrev pub told : Option TooFar → Text → Outcome
 told None text = done text
 told (Some t) text = refused (too_far_line t.line t.done)
 
+-- what is told of a script that was played
 abbrev pub played_outcome : Played → Outcome
 played_outcome p = told p.refused p.text
 

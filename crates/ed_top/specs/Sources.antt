@@ -16,7 +16,8 @@ use Rattle.ed_loads.specs.EntryState.{entry_store}
 use Rattle.ed_report.specs.Listings.{listing}
 use Rattle.ed_report.specs.Notes.{entered, source_fault_line}
 use Rattle.ed_command.specs.declared.command.Settings.{Settings}
-use Rattle.ed_top.specs.Outcome.{Text, Outcome, done, refused}
+use Rattle.ed_words.specs.Texts.{Text}
+use Rattle.ed_top.specs.Outcome.{Outcome, done, refused}
 use Rattle.ed_top.specs.Answer.{Answer, exactly, of_input}
 use Rattle.ed_top.specs.Runs.{ran_outcome, run_of, with_post_mortem}
 
@@ -25,8 +26,8 @@ abbrev pub unless_faulty : Option SourceFault → Outcome → Outcome
 unless_faulty None o = o
 unless_faulty (Some f) o = refused (source_fault_line f)
 
--- what is answered to a source for a machine of a size: the refusal for its fault of form; where it has none, that for its
--- fault of meaning; and where it has none either, what a function gives for its lines
+-- what is answered to a source for a machine of a size: the refusal for its fault of form; where it has none, that
+-- for its fault of meaning; and where it has none either, what a function gives for its lines
 abbrev pub of_program : Size → (List Line → Outcome) → Result (List Line) Fault → Outcome
 of_program z accepted (Err f) = refused (source_fault_line (At f.line f.cause))
 of_program z accepted (Ok lines) = unless_faulty (fault z lines) (accepted lines)
@@ -35,8 +36,8 @@ of_program z accepted (Ok lines) = unless_faulty (fault z lines) (accepted lines
 abbrev pub of_source : Size → (List Line → Outcome) → Answer
 of_source z accepted = of_input (exactly (λ input. of_program z accepted (program_of input)))
 
--- what stands before the line of an ending: where the run obeyed the orders that the tape costs up to its entry, the entry
--- and these orders
+-- what stands before the line of an ending: where the run obeyed the orders that the tape costs up to its entry, the
+-- entry and these orders
 abbrev pub entered_before : List Line → State → Text
 entered_before lines s = if nat_le (cost lines) s.orders then entered (entry_of lines) (cost lines) else []
 

@@ -3,7 +3,7 @@ ghost use Rattle.ed_report.specs.Notes.{tape_fault_line};
 ghost use Rattle.ed_top.specs.Answer.{of_rows};
 ghost use Rattle.ed_top.specs.Private.Stages.{Gives, Replies};
 ghost use Rattle.ed_top.specs.Outcome.{Outcome, done, refused};
-ghost use Rattle.ed_top.specs.Entries.{entry_line};
+ghost use Rattle.ed_report.specs.Entries.{entry_line};
 ghost use Rattle.ed_top.specs.Output.{IsChecked};
 
 use crate::reply::{Reply, refusal};
@@ -11,7 +11,7 @@ use crate::rows::rows_of;
 use ed_codes::Code;
 use ed_command::Settings;
 use ed_notation::{TapeFault, check};
-use ed_report::tape_fault;
+use ed_report::{entry_text, tape_fault};
 use ed_store::Store;
 use ed_words::NoMemory;
 use std::alloc::Global;
@@ -53,12 +53,9 @@ fn fault_reply(alloc: Global, fault: &TapeFault) -> Result<Reply, NoMemory>
 pub fn entry_reply(alloc: Global, entry: u16, orders: u64, rows: usize) -> Result<Reply, NoMemory>
     ensures { IfOk result (λ reply. Gives reply (done (entry_line entry orders rows))) }
 {
-    match format!(in alloc; "entry {entry} after {orders} orders, {rows} rows\n") {
-        Ok(line) => Ok(Reply {
-            out: line.into_bytes(),
-            note: Vec::new(alloc),
-            status: 0,
-        }),
-        Err(_) => Err(NoMemory),
-    }
+    Ok(Reply {
+        out: entry_text(alloc, entry, orders, rows)?,
+        note: Vec::new(alloc),
+        status: 0,
+    })
 }

@@ -7,10 +7,11 @@ ghost use Rattle.ed_top.specs.Output.{answer};
 
 use crate::calls::call_routine;
 use crate::check::check_tape;
+use crate::demo::demo;
 use crate::devices::{Rest, Stop, write};
 use crate::first_orders::{check_tape1, tape1};
 use crate::library::list_library;
-use crate::reply::usage;
+use crate::parts::parts;
 use crate::source::{list, punch, run};
 use crate::step::step;
 use crate::tape::tape;
@@ -25,8 +26,8 @@ pub fn reads_input(command: Command) -> bool
 {
     match command.action {
         Action::Tape | Action::CheckTape | Action::Run | Action::Punch | Action::Listing => true,
-        Action::Tape1 | Action::CheckTape1 | Action::Trace | Action::Step => true,
-        _ => false,
+        Action::Tape1 | Action::CheckTape1 | Action::Trace | Action::Step | Action::Parts => true,
+        Action::Call(_) | Action::Library | Action::Demo(_) => false,
     }
 }
 
@@ -39,7 +40,8 @@ pub fn carry_out<K: Sink>(
 ) -> Result<Rest, Stop>
     requires few { length input.now ≤ 262144 }
     requires ranges { IsInRange command }
-    ensures { Carried (answer command.action command.settings) input.now (device K.held K.faults out.old out.new) result }
+    ensures { Carried (answer command.action command.settings) input.now
+        (device K.held K.faults out.old out.new) result }
 {
     let settings = command.settings;
     match command.action {
@@ -50,10 +52,11 @@ pub fn carry_out<K: Sink>(
         Action::Listing => write(out, list(alloc, settings, input)),
         Action::Call(call) => write(out, call_routine(alloc, settings, call)),
         Action::Library => write(out, list_library(alloc)),
+        Action::Demo(n) => write(out, demo(alloc, settings, n)),
         Action::Tape1 => write(out, tape1(alloc, settings, input)),
         Action::CheckTape1 => write(out, check_tape1(alloc, input)),
         Action::Step => write(out, step(alloc, settings, input)),
         Action::Trace => trace(alloc, settings, input, out),
-        _ => write(out, usage(alloc)),
+        Action::Parts => parts(alloc, settings, input, out),
     }
 }

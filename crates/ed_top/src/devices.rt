@@ -70,7 +70,8 @@ fn within_limit(input: Vec<u8>) -> Result<Vec<u8>, InputStop>
 /// Reads to the end of the input, or one byte more than the limit.
 fn read_all<S: Source>(alloc: Global, source: &mut S) -> Result<Vec<u8>, InputStop>
     ensures bytes { IfOk result (λ v. Loses (S.left source.old) (S.left source.new) v.items) }
-    ensures end { IfOk result (λ v. (length v.items ≡ 262145) ⊎ ((length v.items < 262145) × IsAtEnd (S.left source.new))) }
+    ensures end { IfOk result
+        (λ v. (length v.items ≡ 262145) ⊎ ((length v.items < 262145) × IsAtEnd (S.left source.new))) }
     ensures later { S.faults source.old ≤ S.faults source.new }
     ensures cause { IfErr result
         (λ e. (e ≡ InputStop.Memory) ⊎ ((e ≡ InputStop.Failed) × Rose (S.faults source.old) (S.faults source.new))) }

@@ -2,16 +2,18 @@
 //!
 //! The contract of [`edsac`] is exact for every list of words and every input, over any source and any two sinks: the
 //! status and both texts are those of the definition, and the answers for a fault or for want of memory come with their
-//! cause and with what was written. The definition gives each input one outcome, which is a clause too; and so is that an
-//! accepted source is run from the state that its linked program means. Stands on all crates below.
+//! cause and with what was written. The definition gives each input one outcome, which is a clause too; and so is
+//! that an accepted source is run from the state that its linked program means. Stands on all crates below.
 #![tactic(auto)]
 
 mod calls;
 mod check;
 mod commands;
+mod demo;
 mod devices;
 mod first_orders;
 mod library;
+mod parts;
 mod program;
 mod reply;
 mod rows;
@@ -21,5 +23,5 @@ mod step;
 mod tape;
 mod trace;
 
-pub use ed_sources::call_source;
+pub use ed_sources::{call_source, demo_source};
 pub use program::edsac;

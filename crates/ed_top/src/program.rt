@@ -3,6 +3,7 @@ ghost use Rattle.ed_command.specs.Lines.{line_of};
 ghost use Rattle.ed_command.specs.Ranges.{IsInRange};
 ghost use Rattle.ed_top.specs.Calls.{EachCallRuns};
 ghost use Rattle.ed_top.specs.Clause.{ProgramEnded, device};
+ghost use Rattle.ed_top.specs.Demos.{EachDemoRuns};
 ghost use Rattle.ed_top.specs.FirstEntry.{EachProgramRunsFrom31};
 ghost use Rattle.ed_top.specs.Headline.{Headline};
 ghost use Rattle.ed_top.specs.Output.{EachLineHasOneOutcome, answer, output};
@@ -39,6 +40,7 @@ pub fn edsac<S: Source, K: Sink, L: Sink>(
     ensures law { EachLineHasOneOutcome }
     ensures headline { Headline }
     ensures calls { EachCallRuns }
+    ensures demos { EachDemoRuns }
     ensures first_orders { EachProgramRunsFrom31 }
 {
     match read_words(alloc, words) {

@@ -1,8 +1,6 @@
-ghost use Rattle.std.specs.Prelude.{IfOk};
 ghost use Rattle.ed_top.specs.Private.Stages.{Gives};
-ghost use Rattle.ed_top.specs.Outcome.{refused, usage_outcome};
+ghost use Rattle.ed_top.specs.Outcome.{refused};
 
-use ed_words::NoMemory;
 use std::alloc::Global;
 
 /// The line that is told where the words are no line of a command.
@@ -26,19 +24,4 @@ pub fn refusal(alloc: Global, line: Vec<u8>) -> Reply
         note: line,
         status: 3,
     }
-}
-
-/// The reply to a command that has no answer yet.
-pub fn usage(alloc: Global) -> Result<Reply, NoMemory>
-    ensures { IfOk result (λ reply. Gives reply usage_outcome) }
-{
-    let mut note = Vec::new(alloc);
-    if note.extend_from_slice(USAGE).is_err() {
-        return Err(NoMemory);
-    }
-    Ok(Reply {
-        out: Vec::new(alloc),
-        note,
-        status: 2,
-    })
 }

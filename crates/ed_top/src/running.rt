@@ -66,7 +66,12 @@ pub fn run_machine(alloc: Global, settings: Settings, mut machine: Machine) -> R
 
 /// The reply of a run, with its note.
 pub fn ran_reply(alloc: Global, ran: &Ran, note: Vec<u8>) -> Result<Reply, NoMemory>
-    ensures { IfOk result (λ reply. Gives reply (record { out = paper ran.now.paper.codes; note = note.items; status = status_of ran.now.ending })) }
+    ensures { IfOk result (λ reply.
+        Gives reply (record {
+          out = paper ran.now.paper.codes;
+          note = note.items;
+          status = status_of ran.now.ending;
+        })) }
 {
     Ok(Reply {
         out: paper_text(alloc, ran.paper.codes())?,
@@ -75,8 +80,8 @@ pub fn ran_reply(alloc: Global, ran: &Ran, note: Vec<u8>) -> Result<Reply, NoMem
     })
 }
 
-/// The reply of a run with the post-mortem that is asked for behind it, printed in the shift that the run leaves; its orders
-/// count against no limit.
+/// The reply of a run with the post-mortem that is asked for behind it, printed in the shift that the run leaves; its
+/// orders count against no limit.
 pub fn post_mortem_reply(
     alloc: Global,
     settings: Settings,

@@ -79,7 +79,8 @@ fn source_refusal(alloc: Global, fault: &SourceFault) -> Result<Reply, NoMemory>
 /// Runs the tape of a linked program.
 fn run_linked(alloc: Global, settings: Settings, linked: &Linked) -> Result<Reply, NoMemory>
     requires { AreSettingsInRange settings }
-    ensures { IfOk result (λ reply. (lines : List Line) → IsLinked settings.size lines linked.now → Gives reply (run_outcome settings lines)) }
+    ensures { IfOk result (λ reply. (lines : List Line) → IsLinked settings.size lines linked.now
+        → Gives reply (run_outcome settings lines)) }
 {
     let cost = enter(alloc, settings.size, linked)?.orders_done();
     let ran = run_rows(alloc, settings, linked.rows()?)?;
@@ -112,7 +113,8 @@ pub fn done(alloc: Global, out: Vec<u8>) -> Reply
 
 /// The tape of a linked program.
 fn punch_linked(alloc: Global, linked: &Linked) -> Result<Reply, NoMemory>
-    ensures { IfOk result (λ reply. Gives reply (done (text_of (canonicals linked.now.items.items) ++ after_text linked.now.after.items))) }
+    ensures { IfOk result (λ reply.
+        Gives reply (done (text_of (canonicals linked.now.items.items) ++ after_text linked.now.after.items))) }
 {
     Ok(done(alloc, linked.text()?))
 }
@@ -120,7 +122,8 @@ fn punch_linked(alloc: Global, linked: &Linked) -> Result<Reply, NoMemory>
 /// The places of a linked program, with the words of the store at entry.
 fn list_linked(alloc: Global, size: Size, linked: &Linked) -> Result<Reply, NoMemory>
     requires { (lines : List Line) × IsLinked size lines linked.now }
-    ensures { IfOk result (λ reply. (lines : List Line) → IsLinked size lines linked.now → Gives reply (listing_outcome lines)) }
+    ensures { IfOk result (λ reply. (lines : List Line) → IsLinked size lines linked.now
+        → Gives reply (listing_outcome lines)) }
 {
     let machine = enter(alloc, size, linked)?;
     let places = places_of(alloc, &linked.words)?;

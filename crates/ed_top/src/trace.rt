@@ -22,7 +22,8 @@ pub fn trace<K: Sink>(
     input: &[u8],
     out: &mut K,
 ) -> Result<Rest, Stop>
-    ensures { Carried (of_rows (exactly (trace_outcome settings))) input.now (device K.held K.faults out.old out.new) result }
+    ensures { Carried (of_rows (exactly (trace_outcome settings))) input.now
+        (device K.held K.faults out.old out.new) result }
 {
     match rows_of(alloc, input) {
         Ok(rows) => trace_rows(alloc, settings, rows, out),

@@ -1,7 +1,7 @@
 //! The program `edsac`: its words, standard input, standard output as `out` and standard error as `note`.
 //!
-//! What it does is the contract of `ed_top::edsac`; this file only hands over the arguments and the streams. Arguments of
-//! which one is no text are no line, and are handed over as no words at all, which are none either.
+//! What it does is the contract of `ed_top::edsac`; this file only hands over the arguments and the streams.
+//! Arguments of which one is no text are no line, and are handed over as no words at all, which are none either.
 #![tactic(auto)]
 
 use ed_io::{StdSink, StdSource};

@@ -1,6 +1,6 @@
 -- How the stages of the program stand to the outcome that is due: the input, what a command replies or writes, and the
 -- last line.
-use Rattle.std.specs.Prelude.{◌≡◌, ◌≢◌, ℕ, ◌<◌, ◌≤◌, Bool, true, false, List, [], length, None, Result, Ok, Err, Vec}
+use Rattle.std.specs.Prelude.{◌≡◌, ◌≢◌, ℕ, ◌<◌, ◌≤◌, Bool, true, false, List, [], length, Result, Ok, Err, Vec}
 use Rattle.std.specs.declared.alloc.Global.{Global}
 use Rattle.ed_words.specs.declared.memory.NoMemory.{NoMemory}
 use Rattle.ed_codes.specs.Reading.{Reading, rows, no_row, open_comment}
@@ -13,7 +13,8 @@ use Rattle.ed_link.specs.Answers.{IsLinked}
 use Rattle.ed_link.specs.declared.linked.Linked.{Linked}
 use Rattle.ed_io.specs.Bytes.{IsAtEnd, Loses}
 use Rattle.ed_report.specs.Notes.{text_fault_line}
-use Rattle.ed_top.specs.Outcome.{Text, Outcome, refused}
+use Rattle.ed_words.specs.Texts.{Text}
+use Rattle.ed_top.specs.Outcome.{Outcome, refused}
 use Rattle.ed_top.specs.Answer.{Answer, known, of_input}
 use Rattle.ed_top.specs.Sources.{of_program}
 use Rattle.ed_top.specs.declared.running.Ran.{Ran}
@@ -30,7 +31,8 @@ use Rattle.ed_top.specs.declared.devices.Stop.TheVariants.{Failed, Memory}
 -- nothing, where none is read, and the source is as it was; or the whole of it, where it is not too long
 abbrev pub HasInput : Bool → Device → Result (Vec ℕ Global) InputStop → Type 0
 HasInput false source (Ok v) = (length v.items ≤ 262144) × (source.after ≡ source.before)
-HasInput true source (Ok v) = (length v.items ≤ 262144) × Loses source.before source.after v.items × IsAtEnd source.after
+HasInput true source (Ok v) = (length v.items ≤ 262144) × Loses source.before source.after v.items
+    × IsAtEnd source.after
 HasInput reads source (Err input.Failed) = (reads ≡ true) × Failing source
 HasInput reads source (Err input.Memory) = Unit {0}
 HasInput reads source (Err input.TooLong) =
@@ -43,7 +45,8 @@ abbrev pub ForInput : Answer → Text → (Outcome → Type 0) → Type 0
 ForInput (known due) input P = P due
 ForInput (of_input answers) input P = (o : Outcome) × answers input o × P o
 
--- both texts and the status of a reply are those of the outcome; no reply has the status of a fault or of want of memory
+-- both texts and the status of a reply are those of the outcome; no reply has the status of a fault or of want of
+-- memory
 pub record Gives (reply : Reply) (o : Outcome) : Type 0 where
   pub out_is : reply.out.items ≡ o.out
   pub note_is : reply.note.items ≡ o.note
@@ -68,8 +71,8 @@ pub record IsRan (r : RunEnd) (ran : Ran) : Type 0 where
   pub state_is : ran.machine ≡ r.state
   pub codes_are : ran.paper.codes ≡ r.codes
 
--- the linked program of a source without a fault, or the reply that refuses the source, whatever would be answered where it
--- is accepted
+-- the linked program of a source without a fault, or the reply that refuses the source, whatever would be answered
+-- where it is accepted
 abbrev pub LinksSource : Size → Result (List Line) Fault → Result Linked (Result Reply NoMemory) → Type 0
 LinksSource z program (Ok k) = (lines : List Line) × (program ≡ Ok lines) × IsLinked z lines k
 LinksSource z program (Err (Ok reply)) = (accepted : List Line → Outcome) → Gives reply (of_program z accepted program)
@@ -83,13 +86,15 @@ pub record IsToTell (out : Device) (line : Text) (status : ℕ) (o : Outcome) : 
 
 -- a command was carried out on an input as far as `out` goes
 abbrev pub Carried : Answer → Text → Device → Result Rest Stop → Type 0
-Carried answer input out (Ok rest) = (rest.status < 8) × ForInput answer input (IsToTell out rest.note.items rest.status)
+Carried answer input out (Ok rest) = (rest.status < 8)
+    × ForInput answer input (IsToTell out rest.note.items rest.status)
 Carried answer input out (Err Failed) = Failing out × ForInput answer input (λ o. WrotePart out o.out)
 Carried answer input out (Err Memory) = ForInput answer input (λ o. WrotePart out o.out)
 
 -- a reply was written on `out`
 abbrev pub WritesReply : Result Reply NoMemory → Device → Result Rest Stop → Type 0
-WritesReply (Ok reply) out (Ok rest) = Wrote out reply.out.items × (rest.note ≡ reply.note) × (rest.status ≡ reply.status)
+WritesReply (Ok reply) out (Ok rest) = Wrote out reply.out.items × (rest.note ≡ reply.note)
+    × (rest.status ≡ reply.status)
 WritesReply (Ok reply) out (Err Failed) = Failing out × WrotePart out reply.out.items
 WritesReply (Ok reply) out (Err Memory) = ⊥
 WritesReply (Err e) out (Ok rest) = ⊥

@@ -15,4 +15,5 @@ returns-in-Ok c =
     c.deref.ensures.value c.check_rows.ensures)
 
 pub returns-in-Err : goal.returns-in-Err
-returns-in-Err c = refusal_replied (IsChecked c.args.settings) c.args.input.now _ (checked_one c.args.settings) c.in-Err.ensures.is
+returns-in-Err c = refusal_replied (IsChecked c.args.settings) c.args.input.now _ (checked_one c.args.settings)
+    c.in-Err.ensures.is

@@ -12,6 +12,7 @@ use Rattle.ed_top.specs.Clause.{Device, ProgramEnded, device}
 use Rattle.ed_io.proofs.Calls.{gains_none}
 use Rattle.ed_top.proofs.Endings.{none_due, with_due, with_no_memory}
 use Rattle.ed_top.proofs.CallRuns.{each_call_runs}
+use Rattle.ed_top.proofs.DemoRuns.{each_demo_runs}
 use Rattle.ed_top.proofs.FirstEntries.{runs_from_31}
 use Rattle.ed_top.proofs.OneOutcome.{line_once}
 use Rattle.ed_top.proofs.Sources.{headline}
@@ -30,13 +31,15 @@ usage_line words Memory is answers = absurd (cc)
 
 pub returns-in-Ok-clause-ended : goal.returns-in-Ok-clause-ended
 returns-in-Ok-clause-ended g c =
-    by_line (line_of (map string_bytes c.args.words.now)) (Some c.in-Ok.command) _ _ _ _ c.in-Ok.ensures.is c.run_command.ensures
+    by_line (line_of (map string_bytes c.args.words.now)) (Some c.in-Ok.command) _ _ _ _ c.in-Ok.ensures.is
+    c.run_command.ensures
 
 pub returns-in-Err-Usage-clause-ended : goal.returns-in-Err-Usage-clause-ended
 returns-in-Err-Usage-clause-ended g c =
     let source = device g.S.Source.left g.S.Source.faults c.args.source.now c.args.source.now in
     let out = device g.K.Sink.held g.K.Sink.faults c.args.out.now c.args.out.now in
-    by_line (line_of (map string_bytes c.args.words.now)) None _ _ _ _ (usage_line _ _ c.in-Err-Usage.field-0-is c.in-Err-Usage.ensures.is)
+    by_line (line_of (map string_bytes c.args.words.now)) None _ _ _ _
+    (usage_line _ _ c.in-Err-Usage.field-0-is c.in-Err-Usage.ensures.is)
     (with_due (known usage_outcome) source out _ usage_outcome.note 2 _ (λ e. cc) (λ e. cc) (λ bytes told. told)
     (record { wrote = gains_none out.before; note_is = refl; status_is = refl }) c.tell.ensures)
 
@@ -45,7 +48,8 @@ returns-in-Err-Memory-clause-ended g c =
     let line = line_of (map string_bytes c.args.words.now) in
     let source = device g.S.Source.left g.S.Source.faults c.args.source.now c.args.source.now in
     let out = device g.K.Sink.held g.K.Sink.faults c.args.out.now c.args.out.now in
-    with_no_memory (output line) source out _ _ (none_due (output line) source out (line_once line) (gains_none out.before))
+    with_no_memory (output line) source out _ _
+    (none_due (output line) source out (line_once line) (gains_none out.before))
     c.tell-in-Err-Memory.ensures
 
 pub returns-in-Ok-clause-law : goal.returns-in-Ok-clause-law
@@ -74,6 +78,15 @@ returns-in-Err-Usage-clause-calls g c = each_call_runs
 
 pub returns-in-Err-Memory-clause-calls : goal.returns-in-Err-Memory-clause-calls
 returns-in-Err-Memory-clause-calls g c = each_call_runs
+
+pub returns-in-Ok-clause-demos : goal.returns-in-Ok-clause-demos
+returns-in-Ok-clause-demos g c = each_demo_runs
+
+pub returns-in-Err-Usage-clause-demos : goal.returns-in-Err-Usage-clause-demos
+returns-in-Err-Usage-clause-demos g c = each_demo_runs
+
+pub returns-in-Err-Memory-clause-demos : goal.returns-in-Err-Memory-clause-demos
+returns-in-Err-Memory-clause-demos g c = each_demo_runs
 
 pub returns-in-Ok-clause-first_orders : goal.returns-in-Ok-clause-first_orders
 returns-in-Ok-clause-first_orders g c = runs_from_31

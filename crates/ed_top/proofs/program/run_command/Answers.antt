@@ -2,7 +2,7 @@ use Rattle.std.proofs.Common.{subst}
 use Rattle.std.specs.Prelude.{Ok}
 use Rattle.ed_top.specs.declared.devices.InputStop.TheVariants as input
 use Rattle.ed_top.specs.declared.devices.Stop.TheVariants as stop
-use Rattle.ed_top.specs.Outcome.{Text}
+use Rattle.ed_words.specs.Texts.{Text}
 use Rattle.ed_top.specs.Private.Stages.{ForInput, IsToTell, TellsLine}
 use Rattle.ed_top.specs.Output.{answer}
 use Rattle.ed_top.specs.Clause.{WrotePart, device}
@@ -18,7 +18,8 @@ returns-in-Err-Failed g c =
     let source = device g.S.Source.left g.S.Source.faults c.args.source.now c.input_of.new.source in
     let out = device g.K.Sink.held g.K.Sink.faults c.args.out.now c.args.out.now in
     with_read_fault a source out _ _
-    (stop_by a source c.reads_input.result c.in-Err-Failed.field-0 input.Failed c.reads_input.ensures c.in-Err-Failed.field-0-is
+    (stop_by a source c.reads_input.result c.in-Err-Failed.field-0 input.Failed c.reads_input.ensures
+    c.in-Err-Failed.field-0-is
     c.in-Err-Failed.ensures)
     (gains_none out.before) c.tell.ensures
 
@@ -37,7 +38,8 @@ returns-in-Err-TooLong g c =
     let source = device g.S.Source.left g.S.Source.faults c.args.source.now c.input_of.new.source in
     let out = device g.K.Sink.held g.K.Sink.faults c.args.out.now c.args.out.now in
     with_long a source out _ _
-    (stop_by a source c.reads_input.result c.in-Err-TooLong.field-0 input.TooLong c.reads_input.ensures c.in-Err-TooLong.field-0-is
+    (stop_by a source c.reads_input.result c.in-Err-TooLong.field-0 input.TooLong c.reads_input.ensures
+    c.in-Err-TooLong.field-0-is
     c.in-Err-TooLong.ensures)
     (gains_none out.before) c.tell-in-Err-TooLong.ensures
 
@@ -51,8 +53,10 @@ returns-in-Ok-carry_out g c =
     with_rest a source out note c.in-Ok.input rest _
     (input_by a source c.reads_input.result (Ok c.in-Ok.input) c.reads_input.ensures c.in-Ok.ensures)
     c.in-Ok-carry_out.ensures.0
-    (subst (λ (t : Text). ForInput a t (IsToTell out rest.note.items rest.status)) c.deref.ensures.value c.in-Ok-carry_out.ensures.1)
-    (subst (λ (t : Text). TellsLine note t rest.status c.tell-in-Ok-carry_out.result) c.deref-in-Ok-carry_out.ensures.value
+    (subst (λ (t : Text). ForInput a t (IsToTell out rest.note.items rest.status)) c.deref.ensures.value
+    c.in-Ok-carry_out.ensures.1)
+    (subst (λ (t : Text). TellsLine note t rest.status c.tell-in-Ok-carry_out.result)
+    c.deref-in-Ok-carry_out.ensures.value
     c.tell-in-Ok-carry_out.ensures)
 
 pub returns-in-Err-Failed-carry_out : goal.returns-in-Err-Failed-carry_out

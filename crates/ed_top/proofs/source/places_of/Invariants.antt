@@ -4,4 +4,5 @@ use Rattle.ed_top.proofs.source.places_of.Given as goal
 
 abbrev pub invariant-loop-placed : goal.invariant-loop-placed
 invariant-loop-placed l =
-    l.places.items ++ map (λ (p : Placed). p.place) (drop l.placed-index l.words) ≡ map (λ (p : Placed). p.place) l.words
+    l.places.items ++ map (λ (p : Placed). p.place) (drop l.placed-index l.words)
+    ≡ map (λ (p : Placed). p.place) l.words

@@ -5,7 +5,8 @@ use Rattle.ed_top.proofs.Writing.{reply_carried, rows_carried}
 use Rattle.ed_top.proofs.trace.trace.Goals as goal
 
 pub returns-in-Ok : goal.returns-in-Ok
-returns-in-Ok g c = rows_carried (trace_outcome c.args.settings) c.args.input.now _ _ _ c.in-Ok.ensures.is c.trace_rows.ensures
+returns-in-Ok g c = rows_carried (trace_outcome c.args.settings) c.args.input.now _ _ _ c.in-Ok.ensures.is
+    c.trace_rows.ensures
 
 pub returns-in-Err : goal.returns-in-Err
 returns-in-Err g c =

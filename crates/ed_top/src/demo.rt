@@ -1,0 +1,21 @@
+ghost use Rattle.std.specs.Prelude.{IfOk};
+ghost use Rattle.ed_command.specs.Ranges.{AreSettingsInRange, IsFromTo};
+ghost use Rattle.ed_top.specs.Demos.{demo_outcome};
+ghost use Rattle.ed_top.specs.Private.Stages.{Gives};
+
+use crate::reply::Reply;
+use crate::source::run;
+use ed_command::Settings;
+use ed_sources::demo_source;
+use ed_words::NoMemory;
+use std::alloc::Global;
+
+/// `demo`: the run of the large source that a number makes.
+pub fn demo(alloc: Global, settings: Settings, n: u32) -> Result<Reply, NoMemory>
+    requires number { IsFromTo 1 112 n }
+    requires ranges { AreSettingsInRange settings }
+    ensures { IfOk result (λ reply. Gives reply (demo_outcome n settings)) }
+{
+    let source = demo_source(alloc, n)?;
+    run(alloc, settings, &source)
+}

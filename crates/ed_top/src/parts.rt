@@ -1,0 +1,83 @@
+ghost use Rattle.std.specs.Prelude.{◌≡◌, ◌<◌, ◌≤◌, ◌^◌, [], List, ℕ, IfOk, length};
+ghost use Rattle.ed_top.specs.Answer.{of_input, of_rows};
+ghost use Rattle.ed_top.specs.Clause.{device};
+ghost use Rattle.ed_top.specs.Parts.{IsInParts, end_note, end_status};
+ghost use Rattle.ed_top.specs.Private.Stages.{Carried};
+
+use crate::devices::{Rest, Stop, write};
+use crate::rows::rows_of;
+use crate::running::status_of;
+use ed_codes::Code;
+use ed_command::Settings;
+use ed_io::Sink;
+use ed_loads::started;
+use ed_machine::Machine;
+use ed_parts::{PartsEnd, PartsFault, run_parts};
+use ed_report::{ending_text, part_fault};
+use ed_words::NoMemory;
+use std::alloc::Global;
+
+/// `parts`: the entries and returns of a text's rows, whose programs may go back to the Initial Orders, each line
+/// written as it comes.
+pub fn parts<K: Sink>(
+    alloc: Global,
+    settings: Settings,
+    input: &[u8],
+    out: &mut K,
+) -> Result<Rest, Stop>
+    requires { length input.now ≤ 2 ^ 32 }
+    ensures { Carried (of_rows (IsInParts settings)) input.now (device K.held K.faults out.old out.new) result }
+{
+    match rows_of(alloc, input) {
+        Ok(rows) => read_parts(alloc, settings, rows, out),
+        Err(refusal) => write(out, refusal),
+    }
+}
+
+/// Reads rows in parts.
+fn read_parts<K: Sink>(
+    alloc: Global,
+    settings: Settings,
+    rows: Vec<Code>,
+    out: &mut K,
+) -> Result<Rest, Stop>
+    requires { length rows.items ≤ 2 ^ 32 }
+    ensures { Carried (of_input (λ _. IsInParts settings rows.items)) []
+        (device K.held K.faults out.old out.new) result }
+{
+    let Ok(mut machine) = started(alloc, settings.size, rows) else {
+        return Err(Stop::Memory);
+    };
+    match run_parts(alloc, &mut machine, settings.limit, out) {
+        Ok(end) => match end_text(alloc, end, &machine) {
+            Ok(note) => Ok(Rest {
+                note,
+                status: end_status(end),
+            }),
+            Err(_) => Err(Stop::Memory),
+        },
+        Err(PartsFault::Failed) => Err(Stop::Failed),
+        Err(PartsFault::Memory) => Err(Stop::Memory),
+    }
+}
+
+/// The line on how a tape in parts ended.
+fn end_text(alloc: Global, end: PartsEnd, machine: &Machine) -> Result<Vec<u8>, NoMemory>
+    ensures { IfOk result (λ note. note.items ≡ end_note end machine.now) }
+{
+    match end {
+        PartsEnd::Ended(ending) => ending_text(alloc, ending, machine),
+        PartsEnd::Faulty { part, row, cause } => part_fault(alloc, part, row, cause),
+    }
+}
+
+/// The status of that.
+fn end_status(end: PartsEnd) -> u8
+    ensures is { result ≡ end_status end }
+    ensures low { result < 8 }
+{
+    match end {
+        PartsEnd::Ended(ending) => status_of(ending),
+        PartsEnd::Faulty { .. } => 3,
+    }
+}
