@@ -9,11 +9,12 @@ use std::process::Abort;
 use std::test::Fail;
 
 /// A run: its command, its input, and the two texts that it writes where no call fails.
-struct Run {
-    command: &'static str,
-    input: &'static str,
-    out: &'static str,
-    note: &'static str,
+#[derive(Clone, Copy)]
+pub struct Run {
+    pub command: &'static str,
+    pub input: &'static str,
+    pub out: &'static str,
+    pub note: &'static str,
 }
 
 const TAPE: Run = Run {
@@ -49,17 +50,17 @@ const CALLS: u64 = 100;
 
 /// What a run of the program came to.
 #[derive(Drop)]
-struct Outcome {
-    status: u8,
-    out: Vec<u8>,
-    note: Vec<u8>,
+pub struct Outcome {
+    pub status: u8,
+    pub out: Vec<u8>,
+    pub note: Vec<u8>,
     /// How many calls failed, of all three devices.
-    faults: u64,
+    pub faults: u64,
 }
 
-/// Runs the program with its input in pieces of 7 bytes and its texts in pieces of 3, where these calls of the input, of
-/// out and of note fail.
-fn outcome_of(
+/// Runs the program with its input in pieces of 7 bytes and its texts in pieces of 3, where these calls of the input,
+/// of out and of note fail.
+pub fn outcome_of(
     alloc: Global,
     run: &Run,
     reads: &[u64],
@@ -69,8 +70,8 @@ fn outcome_of(
     let words = words_of(alloc, run.command)?;
     let input = run.input.as_bytes().to_vec(alloc)?;
     let mut source = MemorySource::in_pieces(input, reads.to_vec(alloc)?, 7);
-    let mut out = MemorySink::in_pieces(alloc, 100, writes.to_vec(alloc)?, 3)?;
-    let mut note = MemorySink::in_pieces(alloc, 100, notes.to_vec(alloc)?, 3)?;
+    let mut out = MemorySink::in_pieces(alloc, 200, writes.to_vec(alloc)?, 3)?;
+    let mut note = MemorySink::in_pieces(alloc, 200, notes.to_vec(alloc)?, 3)?;
     let status = edsac(alloc, &words, &mut source, &mut out, &mut note);
     let faults = source.faults().saturating_add(out.faults());
     Ok(Outcome {

@@ -12,6 +12,8 @@ mod check_tape;
 #[cfg(test)]
 mod checks;
 #[cfg(test)]
+mod demo;
+#[cfg(test)]
 mod devices;
 #[cfg(test)]
 mod faults;
@@ -21,6 +23,8 @@ mod first_orders;
 mod lines;
 #[cfg(test)]
 mod linking;
+#[cfg(test)]
+mod parts;
 #[cfg(test)]
 mod post_mortems;
 #[cfg(test)]

@@ -65,6 +65,12 @@ fn words_that_are_no_line_read_nothing(rt: HostRuntime) -> Result<(), Fail> {
         "call divide 5 0",
         "call divide 5 32768",
         "call root 65536",
+        "demo",
+        "demo 0",
+        "demo 113",
+        "demo 1 2",
+        "demo 1 --resume 1",
+        "demo 1 --store 512",
     ] {
         let answer = answer_of(rt.alloc(), line, PRINTS_A.as_bytes())?;
         assert_eq!(rt; answer.status, 2, "{line}");

@@ -1,0 +1,86 @@
+//! The large source from a number, and the sources of calls, to the byte.
+
+use crate::support::answer_of;
+use ed_call::Call;
+use ed_top::{call_source, demo_source};
+use std::test::Fail;
+
+/// The source of `demo 1`.
+const FIRST: &str =
+    "segment main\nloop: T junk F\nA total F\nadd: A s1 F\nT total F\nA add F\nA 2 F\nU add F\n\
+    S stop F\nG loop F\nT junk F\nhere: A here F\nG p F\nZ F\nstop: A s1+8 F\njunk: P F\ntotal: P F\n\
+    use print as p with H=total\nsegment s1\nword 13\nword 61\nword 10\nword 63\nword 61\nword 55\nword 54\nword 22\n\
+    enter main\n";
+
+/// The sum of the words of `n` segments, from the sequence by itself.
+fn sum_of(n: u32) -> u32 {
+    let mut number = n;
+    let mut sum = 0u32;
+    for _ in 0..n.saturating_mul(8) {
+        number = number.wrapping_mul(1105).wrapping_add(12345) & 0xffff;
+        sum = sum.wrapping_add(number >> 10);
+    }
+    sum
+}
+
+#[test]
+fn sources_to_the_byte(rt: HostRuntime) -> Result<(), Fail> {
+    let alloc = rt.alloc();
+    let source = demo_source(alloc, 1)?;
+    assert_eq!(rt; source.as_slice(), FIRST.as_bytes());
+    let source = demo_source(alloc, 112)?;
+    assert!(rt; source.ends_with(b"\nenter main\n"));
+    assert_eq!(rt; source.iter().filter(|byte| **byte == b'\n').count(), 1027);
+    let source = call_source(alloc, &Call::Print(4096))?;
+    let wanted =
+        "segment main\nhere: A here F\nG p F\nZ F\nvalue: word 4096\nuse print as p with H=value\nenter main\n";
+    assert_eq!(rt; source.as_slice(), wanted.as_bytes());
+    Ok(())
+}
+
+#[test]
+fn the_source_is_one_that_run_takes(rt: HostRuntime) -> Result<(), Fail> {
+    let alloc = rt.alloc();
+    let answer = answer_of(alloc, "run", FIRST.as_bytes())?;
+    assert_eq!(rt; answer.status, 0);
+    assert_eq!(rt; answer.out.as_slice(), b"339".as_slice());
+    let last = demo_source(alloc, 48)?;
+    let answer = answer_of(alloc, "run --store 512", &last)?;
+    assert_eq!(rt; answer.status, 0);
+    let longer = demo_source(alloc, 49)?;
+    let answer = answer_of(alloc, "run --store 512", &longer)?;
+    assert_eq!(rt; answer.status, 3);
+    assert_eq!(rt;
+        answer.note.as_slice(),
+        b"line 457: S12 store end\n".as_slice()
+    );
+    Ok(())
+}
+
+#[test]
+fn sums_of_words(rt: HostRuntime) -> Result<(), Fail> {
+    let alloc = rt.alloc();
+    assert_eq!(rt; sum_of(1), 339);
+    for n in [1, 2, 3, 17, 48, 49, 100, 111, 112] {
+        let answer = answer_of(alloc, format!(in alloc; "demo {n}")?.as_str(), b"no source")?;
+        let sum = sum_of(n);
+        assert_eq!(rt; answer.status, 0, "demo {n}");
+        assert_eq!(rt;
+            answer.out.as_slice(),
+            format!(in alloc; "{sum}")?.as_bytes(),
+            "demo {n}"
+        );
+        assert!(rt; answer.note.starts_with(b"entered 56 after "), "demo {n}");
+        assert_eq!(rt; answer.unread, 9, "demo {n}");
+    }
+    Ok(())
+}
+
+#[test]
+fn a_demo_ends_at_its_limit(rt: HostRuntime) -> Result<(), Fail> {
+    let answer = answer_of(rt.alloc(), "demo 1 --limit 100", b"")?;
+    assert_eq!(rt; answer.status, 4);
+    assert!(rt; answer.out.is_empty());
+    assert!(rt; answer.note.starts_with(b"limit at "));
+    Ok(())
+}
