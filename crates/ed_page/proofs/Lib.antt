@@ -1,0 +1,4 @@
+mod Replies
+mod Endings
+mod Places
+mod Written

@@ -1,0 +1,109 @@
+-- From what was written into buffers to the cause of an answer.
+use Rattle.std.proofs.Common.{◌≡◌, ◌≤◌, ℕ, refl, subst, sym, arith, Option, List, length}
+use Rattle.std.specs.Prelude.{IfSome, Ok}
+use Rattle.ed_machine.specs.State.{State}
+use Rattle.ed_words.specs.Texts.{Text}
+use Rattle.ed_top.specs.Outcome.{Outcome}
+use Rattle.ed_top.specs.Answer.{Answer}
+use Rattle.ed_page.specs.Answers.{Buffers, HasRoom, IsShown, Tells, TextBuffers}
+use Rattle.ed_page.specs.Pictures.{Pictures}
+use Rattle.ed_page.specs.Private.Stages.{Draws, Gives, IsWritten, IsWrittenOut}
+use Rattle.ed_page.specs.declared.running.Shown.{Shown}
+use Rattle.ed_page.specs.declared.told.Told.{Told}
+
+-- the buffers of two texts have room where they have it for what is told
+has_room : (o : Outcome) (told : Told) (out note : List ℕ) → Gives told o → length told.out.items ≤ length out
+    → length told.note.items ≤ length note → HasRoom o out note
+has_room o told out note g out_fits note_fits = record {
+  out_fits = subst (λ (t : Text). length t ≤ length out) g.out_is out_fits;
+  note_fits = subst (λ (t : Text). length t ≤ length note) g.note_is note_fits;
+}
+
+-- and only there
+told_room : (o : Outcome) (told : Told) (out note : List ℕ) → Gives told o → HasRoom o out note
+    → (length told.out.items ≤ length out) × (length told.note.items ≤ length note)
+told_room o told out note g room = (
+  subst (λ (t : Text). length t ≤ length out) (sym g.out_is) room.out_fits,
+  subst (λ (t : Text). length t ≤ length note) (sym g.note_is) room.note_fits,
+)
+
+-- what is told was written
+pub told_written : (o : Outcome) (told : Told) (before after : TextBuffers) → Gives told o
+    → length told.out.items ≤ length before.out
+    → length told.note.items ≤ length before.note
+    → Tells o after.out after.note after.lengths.out after.lengths.note told.status
+    → IsWrittenOut o before after told.status
+told_written o told before after g out_fits note_fits t = record {
+  no_room = λ e room. absurd (omega (arith, g.low, e));
+  kept = λ e. absurd (omega (arith, g.low, e));
+  shown = λ not12. (has_room o told before.out before.note g out_fits note_fits, t);
+}
+
+-- there was no room
+pub told_nowhere : (o : Outcome) (told : Told) (before : TextBuffers) → Gives told o
+    → ((length told.out.items ≤ length before.out) × (length told.note.items ≤ length before.note) → ⊥)
+    → IsWrittenOut o before before 12
+told_nowhere o told before g none = record {
+  no_room = λ e room. none (told_room o told before.out before.note g room);
+  kept = λ e. refl;
+  shown = λ not12. absurd (not12 refl);
+}
+
+-- a picture was written
+pub picture_written : (o : Outcome) (told : Told) (machine : Option State) (before after : Buffers) → Gives told o
+    → length before.words ≡ 1024 → length before.digits ≡ 512 → length told.out.items ≤ length before.paper
+    → length told.note.items ≤ length before.note
+    → Tells o after.paper after.note after.registers.printed after.registers.noted told.status
+    → IfSome machine (λ m. Pictures m after.words after.digits after.registers)
+    → IsWritten o machine before after told.status
+picture_written o told machine before after g words digits out_fits note_fits t pictures = record {
+  no_room = λ e room. absurd (omega (arith, g.low, e));
+  kept = λ e. absurd (omega (arith, g.low, e));
+  shown = λ not12. (
+    record {
+      words_are = words;
+      digits_are = digits;
+      texts = has_room o told before.paper before.note g out_fits note_fits;
+    },
+    record { told = t; state = pictures },
+  );
+}
+
+-- there was no room for it
+pub picture_nowhere : (o : Outcome) (told : Told) (machine : Option State) (before : Buffers) → Gives told o
+    → (length before.words ≡ 1024 → length before.digits ≡ 512
+    → (length told.out.items ≤ length before.paper) × (length told.note.items ≤ length before.note) → ⊥)
+    → IsWritten o machine before before 12
+picture_nowhere o told machine before g none = record {
+  no_room = λ e room. none room.words_are room.digits_are (told_room o told before.paper before.note g room.texts);
+  kept = λ e. refl;
+  shown = λ not12. absurd (not12 refl);
+}
+
+-- what was drawn of a text is shown
+pub drawn_shown : (wanted : Answer) (Ends : Text → State → Type 0) (text : Text) (left : Shown)
+    (before after : Buffers) (answer : ℕ)
+    → Draws wanted Ends text (Ok left)
+    → ((o : Outcome) → Gives left.told o → IsWritten o left.machine before after answer)
+    → IsShown wanted Ends text before after answer
+drawn_shown wanted Ends text left before after answer drawn written not10 =
+    let o = drawn.0 in
+    let is = written o drawn.2 in (
+      o,
+      drawn.1,
+      record {
+        no_room = is.no_room;
+        kept = is.kept;
+        shown = λ not12.
+            let both = is.shown not12 in (
+              both.0,
+              record {
+                told = both.1.told;
+                state = λ few m ends.
+                    subst (λ (x : Option State). IfSome x (λ s. Pictures s after.words after.digits after.registers))
+                    (drawn.3 few m ends)
+                    both.1.state;
+              },
+            );
+      },
+    )

@@ -1,0 +1,41 @@
+-- What the buffers of a picture hold: the words and digits of a store, and the registers (this project's own rules).
+use Rattle.std.specs.Prelude.{◌≡◌, ℕ, ◌*◌, ◌/◌, ◌%◌, ◌^◌, ◌<◌, Bool, true, false}
+use Rattle.std.specs.Prelude.{if◌then◌else◌, List, length, slice_index, None}
+use Rattle.ed_words.specs.declared.size.Size.{Size}
+use Rattle.ed_words.specs.declared.size.Size.TheVariants.{Small, Full}
+use Rattle.ed_store.specs.Cells.{Cells, short_at, sandwich_at}
+use Rattle.ed_machine.specs.State.{State}
+use Rattle.ed_command.specs.declared.command.Settings.{Settings}
+use Rattle.ed_page.specs.declared.writing.Registers.{Registers}
+
+-- 512 locations or 1,024
+abbrev pub size_of : Bool → Size
+size_of true = Small
+size_of false = Full
+
+-- the settings of a run that is shown: so many orders at the most, so many resumes, and no post-mortem
+abbrev pub asked : Bool → ℕ → ℕ → Settings
+asked small orders resumes = record { limit = orders; resumes = resumes; size = size_of small; post_mortem = None }
+
+-- a digit as a number
+abbrev pub digit : Bool → ℕ
+digit b = if b then 1 else 0
+
+-- the words of all locations, and the sandwich digits of all pairs
+pub record PicturesStore (c : Cells) (words digits : List ℕ) : Type 0 where
+  pub words_are : (a : ℕ) → a < 1024 → slice_index words a ≡ short_at c a
+  pub digits_are : (k : ℕ) → k < 512 → slice_index digits k ≡ digit (sandwich_at c (2 * k))
+
+-- the registers of a state, the accumulator in two parts
+pub record PicturesRegisters (s : State) (r : Registers) : Type 0 where
+  pub acc_low : r.acc_low ≡ s.acc % 2 ^ 36
+  pub acc_high : r.acc_high ≡ s.acc / 2 ^ 36
+  pub multiplier : r.multiplier ≡ s.multiplier
+  pub orders : r.orders ≡ s.orders
+  pub rows_left : r.rows_left ≡ length s.tape
+  pub counter : r.counter ≡ s.counter
+
+-- a state
+pub record Pictures (s : State) (words digits : List ℕ) (r : Registers) : Type 0 where
+  pub store : PicturesStore s.store words digits
+  pub registers : PicturesRegisters s r

@@ -1,0 +1,20 @@
+//! What a web page shows of the machine: pictures of the run of a tape or of a source after so many orders from Start,
+//! the rows of tapes, the listing of a source, and the texts of rows and orders.
+//!
+//! The exports keep no state. Their contract is that each answer is the program's own to the same text, with its texts
+//! at the heads of the caller's buffers, and that each other answer has its cause. Stands on `ed_run`, `ed_loads` and
+//! `ed_report`, and on `ed_top` for what the program answers.
+#![tactic(auto)]
+
+mod pictures;
+mod running;
+mod signs;
+mod sources;
+mod texts;
+mod told;
+mod writing;
+
+pub use pictures::{page_source, page_tape};
+pub use signs::{page_letter, page_order};
+pub use texts::{page_listing, page_source_rows, page_tape_rows};
+pub use writing::{Lengths, Registers};

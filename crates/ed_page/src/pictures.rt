@@ -1,0 +1,142 @@
+ghost use Rattle.std.specs.Prelude.{◌≡◌, IfSome, length};
+ghost use Rattle.ed_command.specs.declared.command.Action.TheVariants.{Run, Tape};
+ghost use Rattle.ed_top.specs.Outcome.{Outcome};
+ghost use Rattle.ed_top.specs.Output.{answer};
+ghost use Rattle.ed_page.specs.Answers.{IsShown, SourceEnds, TapeEnds, picture_buffers};
+ghost use Rattle.ed_page.specs.Pictures.{Pictures, asked};
+ghost use Rattle.ed_page.specs.Private.Stages.{Draws, Gives, IsWritten};
+
+use crate::running::{Shown, asked, run_linked, run_tape};
+use crate::sources::{linked_of, rows_of};
+use crate::told::{NO_MEMORY, NO_ROOM, Told, is_too_long};
+use crate::writing::{Lengths, Registers, no_registers, registers_of, write_store};
+use ed_command::Settings;
+use ed_machine::Machine;
+use ed_words::NoMemory;
+use std::alloc::Global;
+
+/// Shows the machine after `orders` orders from Start on a tape's text, or where its run ended before. Each Z up to so
+/// many `resumes` lets the run go on.
+///
+/// It writes 1,024 words, 512 sandwich digits, the teleprinter's text, the program's note and the registers, and
+/// answers the program's status: 0, 4, 5, 6 or 7 by the ending of the run, 3 where the text is refused, 11 where it is
+/// too long and 10 where no memory was found. It answers 12, and writes nothing, where a buffer has the wrong length:
+/// 1,024 and 512, and for each text as many bytes as it has.
+#[unsafe(no_mangle)]
+pub extern "C" fn page_tape(
+    alloc: Global,
+    text: &[u8],
+    small: bool,
+    orders: u32,
+    resumes: u32,
+    words: &mut [u32],
+    digits: &mut [u8],
+    paper: &mut [u8],
+    note: &mut [u8],
+    registers: &mut Registers,
+) -> u32
+    ensures { let s = asked small orders resumes in IsShown (answer Tape s) (TapeEnds s) text.now
+        (picture_buffers words.old digits.old paper.old note.old registers.old)
+        (picture_buffers words.new digits.new paper.new note.new registers.new) result }
+{
+    match tape_shown(alloc, asked(small, orders, resumes), text) {
+        Ok(shown) => show(&shown, words, digits, paper, note, registers),
+        Err(NoMemory) => NO_MEMORY,
+    }
+}
+
+/// Shows the machine after `orders` orders from Start on the tape of a source, as `page_tape` does; a source with a
+/// fault is refused.
+#[unsafe(no_mangle)]
+pub extern "C" fn page_source(
+    alloc: Global,
+    text: &[u8],
+    small: bool,
+    orders: u32,
+    resumes: u32,
+    words: &mut [u32],
+    digits: &mut [u8],
+    paper: &mut [u8],
+    note: &mut [u8],
+    registers: &mut Registers,
+) -> u32
+    ensures { let s = asked small orders resumes in IsShown (answer Run s) (SourceEnds s) text.now
+        (picture_buffers words.old digits.old paper.old note.old registers.old)
+        (picture_buffers words.new digits.new paper.new note.new registers.new) result }
+{
+    match source_shown(alloc, asked(small, orders, resumes), text) {
+        Ok(shown) => show(&shown, words, digits, paper, note, registers),
+        Err(NoMemory) => NO_MEMORY,
+    }
+}
+
+/// What is shown of a tape's text.
+fn tape_shown(alloc: Global, settings: Settings, text: &[u8]) -> Result<Shown, NoMemory>
+    requires { settings.post_mortem ≡ None }
+    ensures { Draws (answer Tape settings) (TapeEnds settings) text.now result }
+{
+    if is_too_long(text) {
+        return Ok(Shown::refused(Told::too_long(alloc)?));
+    }
+    match rows_of(alloc, text) {
+        Ok(rows) => run_tape(alloc, settings, rows),
+        Err(told) => Ok(Shown::refused(told?)),
+    }
+}
+
+/// What is shown of a source.
+fn source_shown(alloc: Global, settings: Settings, text: &[u8]) -> Result<Shown, NoMemory>
+    requires { settings.post_mortem ≡ None }
+    ensures { Draws (answer Run settings) (SourceEnds settings) text.now result }
+{
+    if is_too_long(text) {
+        return Ok(Shown::refused(Told::too_long(alloc)?));
+    }
+    match linked_of(alloc, settings.size, text) {
+        Ok(linked) => run_linked(alloc, settings, &linked),
+        Err(told) => Ok(Shown::refused(told?)),
+    }
+}
+
+/// Writes what is shown into buffers, where they have their lengths.
+fn show(
+    shown: &Shown,
+    words: &mut [u32],
+    digits: &mut [u8],
+    paper: &mut [u8],
+    note: &mut [u8],
+    registers: &mut Registers,
+) -> u32
+    ensures { (o : Outcome) → Gives shown.now.told o → IsWritten o shown.now.machine
+        (picture_buffers words.old digits.old paper.old note.old registers.old)
+        (picture_buffers words.new digits.new paper.new note.new registers.new) result }
+{
+    if words.len() != 1024 || digits.len() != 512 || !shown.told.fits(paper, note) {
+        return NO_ROOM;
+    }
+    let lengths = shown.told.write(paper, note);
+    *registers = write_machine(&shown.machine, lengths, words, digits);
+    shown.told.status
+}
+
+/// Writes the store of a machine, where there is one, and gives its registers.
+fn write_machine(
+    machine: &Option<Machine>,
+    lengths: Lengths,
+    words: &mut [u32],
+    digits: &mut [u8],
+) -> Registers
+    requires words { length words.old ≡ 1024 }
+    requires digits { length digits.old ≡ 512 }
+    ensures state { IfSome machine.now (λ m. Pictures m words.new digits.new result) }
+    ensures printed { result.printed ≡ lengths.out }
+    ensures noted { result.noted ≡ lengths.note }
+{
+    match machine {
+        Some(machine) => {
+            write_store(machine, words, digits);
+            registers_of(machine, lengths)
+        }
+        None => no_registers(lengths),
+    }
+}

@@ -1,0 +1,168 @@
+ghost use Rattle.std.specs.Prelude.{◌≡◌, IfOk, List, map};
+ghost use Rattle.ed_syntax.specs.declared.program.Line.{Line};
+ghost use Rattle.ed_link.specs.Answers.{IsLinked};
+ghost use Rattle.ed_command.specs.declared.command.Action.TheVariants.{Listing};
+ghost use Rattle.ed_top.specs.Answer.{exactly, of_rows};
+ghost use Rattle.ed_top.specs.Outcome.{Outcome, done};
+ghost use Rattle.ed_top.specs.Output.{answer};
+ghost use Rattle.ed_top.specs.Sources.{listing_outcome, of_source};
+ghost use Rattle.ed_page.specs.Answers.{IsTold, source_rows, text_buffers};
+ghost use Rattle.ed_page.specs.Pictures.{asked, size_of};
+ghost use Rattle.ed_page.specs.Private.Stages.{Gives, IsWrittenOut, Replies};
+
+use crate::running::size_of;
+use crate::sources::{linked_of, rows_of};
+use crate::told::{NO_MEMORY, NO_ROOM, Told, is_too_long};
+use crate::writing::Lengths;
+use ed_codes::Code;
+use ed_link::{Linked, Placed};
+use ed_loads::enter;
+use ed_report::listing;
+use ed_words::{NoMemory, Size};
+use std::alloc::Global;
+
+/// Writes the codes of the rows of a tape's text, and answers 0; or writes the program's note, and answers 3 where the
+/// text is refused and 11 where it is too long. It answers 10 where no memory was found, and 12, with nothing written,
+/// where a buffer has no room.
+#[unsafe(no_mangle)]
+pub extern "C" fn page_tape_rows(
+    alloc: Global,
+    text: &[u8],
+    rows: &mut [u8],
+    note: &mut [u8],
+    lengths: &mut Lengths,
+) -> u32
+    ensures { IsTold (of_rows (exactly done)) text.now (text_buffers rows.old note.old lengths.old)
+        (text_buffers rows.new note.new lengths.new) result }
+{
+    match tape_rows(alloc, text) {
+        Ok(told) => tell(&told, rows, note, lengths),
+        Err(NoMemory) => NO_MEMORY,
+    }
+}
+
+/// Writes the codes of the rows of a source's tape, as `page_tape_rows` does.
+#[unsafe(no_mangle)]
+pub extern "C" fn page_source_rows(
+    alloc: Global,
+    text: &[u8],
+    small: bool,
+    rows: &mut [u8],
+    note: &mut [u8],
+    lengths: &mut Lengths,
+) -> u32
+    ensures { IsTold (of_source (size_of small) source_rows) text.now (text_buffers rows.old note.old lengths.old)
+        (text_buffers rows.new note.new lengths.new) result }
+{
+    match source_rows(alloc, size_of(small), text) {
+        Ok(told) => tell(&told, rows, note, lengths),
+        Err(NoMemory) => NO_MEMORY,
+    }
+}
+
+/// Writes the listing of a source, as `page_tape_rows` writes rows.
+#[unsafe(no_mangle)]
+pub extern "C" fn page_listing(
+    alloc: Global,
+    text: &[u8],
+    small: bool,
+    listing: &mut [u8],
+    note: &mut [u8],
+    lengths: &mut Lengths,
+) -> u32
+    ensures { IsTold (answer Listing (asked small 0 0)) text.now (text_buffers listing.old note.old lengths.old)
+        (text_buffers listing.new note.new lengths.new) result }
+{
+    match source_listing(alloc, size_of(small), text) {
+        Ok(told) => tell(&told, listing, note, lengths),
+        Err(NoMemory) => NO_MEMORY,
+    }
+}
+
+/// Writes what is told into two buffers, where they have room.
+fn tell(told: &Told, out: &mut [u8], note: &mut [u8], lengths: &mut Lengths) -> u32
+    ensures { (o : Outcome) → Gives told.now o → IsWrittenOut o (text_buffers out.old note.old lengths.old)
+        (text_buffers out.new note.new lengths.new) result }
+{
+    if !told.fits(out, note) {
+        return NO_ROOM;
+    }
+    *lengths = told.write(out, note);
+    told.status
+}
+
+/// What is told of the rows of a tape's text.
+fn tape_rows(alloc: Global, text: &[u8]) -> Result<Told, NoMemory>
+    ensures { Replies (of_rows (exactly done)) text.now result }
+{
+    if is_too_long(text) {
+        return Told::too_long(alloc);
+    }
+    match rows_of(alloc, text) {
+        Ok(rows) => Ok(Told::done(alloc, bytes_of_rows(alloc, &rows)?)),
+        Err(told) => told,
+    }
+}
+
+/// What is told of the rows of a source's tape.
+fn source_rows(alloc: Global, size: Size, text: &[u8]) -> Result<Told, NoMemory>
+    ensures { Replies (of_source size source_rows) text.now result }
+{
+    if is_too_long(text) {
+        return Told::too_long(alloc);
+    }
+    match linked_of(alloc, size, text) {
+        Ok(linked) => Ok(Told::done(alloc, bytes_of_rows(alloc, &linked.rows()?)?)),
+        Err(told) => told,
+    }
+}
+
+/// What is told of the listing of a source.
+fn source_listing(alloc: Global, size: Size, text: &[u8]) -> Result<Told, NoMemory>
+    ensures { Replies (of_source size listing_outcome) text.now result }
+{
+    if is_too_long(text) {
+        return Told::too_long(alloc);
+    }
+    match linked_of(alloc, size, text) {
+        Ok(linked) => list_linked(alloc, size, &linked),
+        Err(told) => told,
+    }
+}
+
+/// The places of a linked program, with the words of the store at entry.
+fn list_linked(alloc: Global, size: Size, linked: &Linked) -> Result<Told, NoMemory>
+    requires { (lines : List Line) × IsLinked size lines linked.now }
+    ensures { IfOk result (λ told. (lines : List Line) → IsLinked size lines linked.now
+        → Gives told (listing_outcome lines)) }
+{
+    let machine = enter(alloc, size, linked)?;
+    let places = places_of(alloc, &linked.words)?;
+    Ok(Told::done(alloc, listing(alloc, machine.store(), &places)?))
+}
+
+/// The places of words.
+fn places_of(alloc: Global, words: &[Placed]) -> Result<Vec<u16>, NoMemory>
+    ensures { IfOk result (λ v. v.items ≡ map (λ p. p.place) words.now) }
+{
+    let mut places = Vec::new(alloc);
+    for placed in words {
+        if places.push(placed.place).is_err() {
+            return Err(NoMemory);
+        }
+    }
+    Ok(places)
+}
+
+/// The codes of rows as bytes.
+fn bytes_of_rows(alloc: Global, rows: &[Code]) -> Result<Vec<u8>, NoMemory>
+    ensures { IfOk result (λ v. v.items ≡ rows.now) }
+{
+    let mut bytes = Vec::new(alloc);
+    for row in rows {
+        if bytes.push(row.value()).is_err() {
+            return Err(NoMemory);
+        }
+    }
+    Ok(bytes)
+}

@@ -1,0 +1,96 @@
+ghost use Rattle.std.specs.Prelude.{◌≡◌, ◌≤◌, IfOk, IsTrue, ◌↔◌, length, nat_lt};
+ghost use Rattle.ed_top.specs.Outcome.{Outcome, done, refused, too_long_outcome};
+ghost use Rattle.ed_page.specs.Answers.{HasRoom, Tells};
+ghost use Rattle.ed_page.specs.Private.Stages.{Gives};
+
+use crate::writing::{Lengths, write_text};
+use ed_words::NoMemory;
+use std::alloc::Global;
+
+/// How many bytes a text may have.
+const TEXT_ROOM: usize = 262_144;
+
+/// What is told of a longer one.
+const TOO_LONG: &[u8] = b"input too long\n";
+
+/// The answer where no memory was found.
+pub const NO_MEMORY: u32 = 10;
+
+/// The answer where a buffer has no room.
+pub const NO_ROOM: u32 = 12;
+
+/// What the program answers to a text: its two texts and its status.
+#[derive(Drop)]
+pub struct Told {
+    pub out: Vec<u8>,
+    pub note: Vec<u8>,
+    pub status: u32,
+}
+
+impl Told {
+    /// What is told where a command is finished, with a text on `out`.
+    pub fn done(alloc: Global, out: Vec<u8>) -> Told
+        ensures { Gives result (done out.items) }
+    {
+        Told {
+            out,
+            note: Vec::new(alloc),
+            status: 0,
+        }
+    }
+
+    /// What is told where a text is refused with a line.
+    pub fn refusal(alloc: Global, line: Vec<u8>) -> Told
+        ensures { Gives result (refused line.items) }
+    {
+        Told {
+            out: Vec::new(alloc),
+            note: line,
+            status: 3,
+        }
+    }
+
+    /// What is told of a text that is too long.
+    pub fn too_long(alloc: Global) -> Result<Told, NoMemory>
+        ensures { IfOk result (λ told. Gives told too_long_outcome) }
+    {
+        let mut note = Vec::new(alloc);
+        if note.extend_from_slice(TOO_LONG).is_err() {
+            return Err(NoMemory);
+        }
+        Ok(Told {
+            out: Vec::new(alloc),
+            note,
+            status: 11,
+        })
+    }
+
+    /// Whether two buffers have room for the texts.
+    pub fn fits(&self, out: &[u8], note: &[u8]) -> bool
+        ensures { IsTrue result ↔ ((length self.now.out.items ≤ length out.now)
+            × (length self.now.note.items ≤ length note.now)) }
+    {
+        self.out.len() <= out.len() && self.note.len() <= note.len()
+    }
+
+    /// Writes the texts at the heads of two buffers, and answers their lengths.
+    pub fn write(&self, out: &mut [u8], note: &mut [u8]) -> Lengths
+        requires out { length self.now.out.items ≤ length out.old }
+        requires note { length self.now.note.items ≤ length note.old }
+        ensures { (o : Outcome) → Gives self.now o → Tells o out.new note.new result.out result.note self.now.status }
+    {
+        write_text(&self.out, out);
+        write_text(&self.note, note);
+        Lengths {
+            out: self.out.len() as u64,
+            note: self.note.len() as u64,
+        }
+    }
+}
+
+/// Whether a text has more bytes than the program takes.
+pub fn is_too_long(text: &[u8]) -> bool
+    ensures { result ≡ nat_lt 262144 (length text.now) }
+{
+    TEXT_ROOM < text.len()
+}

@@ -1,0 +1,108 @@
+ghost use Rattle.std.specs.Prelude.{◌≡◌, ℕ, ◌*◌, ◌<◌, ◌≤◌, length, slice_index, take};
+ghost use Rattle.ed_store.specs.Cells.{short_at, sandwich_at};
+ghost use Rattle.ed_page.specs.Pictures.{PicturesStore, PicturesRegisters, digit};
+
+use ed_machine::Machine;
+
+/// The lengths of two texts in their buffers.
+#[repr(C)]
+#[derive(Clone, Copy, Debug, PartialEq, Eq)]
+pub struct Lengths {
+    pub out: u64,
+    pub note: u64,
+}
+
+/// The registers of a machine, how much of its tape there is, and the lengths of the texts of a picture. Where no run
+/// is shown all but the lengths are 0.
+#[repr(C)]
+#[derive(Clone, Copy, Debug, PartialEq, Eq)]
+pub struct Registers {
+    /// The low 36 digits of the accumulator.
+    pub acc_low: u64,
+    /// The high 35.
+    pub acc_high: u64,
+    pub multiplier: u64,
+    /// How many orders were done.
+    pub orders: u64,
+    /// How many rows of the tape are left.
+    pub rows_left: u64,
+    /// The location of the next order.
+    pub counter: u64,
+    /// How many bytes the teleprinter's text has.
+    pub printed: u64,
+    /// How many bytes the note has.
+    pub noted: u64,
+}
+
+/// Writes every word and sandwich digit of the store.
+pub fn write_store(machine: &Machine, words: &mut [u32], digits: &mut [u8])
+    requires words { length words.old ≡ 1024 }
+    requires digits { length digits.old ≡ 512 }
+    ensures { PicturesStore machine.now.store words.new digits.new }
+{
+    write_words(machine, words);
+    write_digits(machine, digits);
+}
+
+/// Writes every word.
+fn write_words(machine: &Machine, words: &mut [u32])
+    requires { length words.old ≡ 1024 }
+    ensures { (a : ℕ) → a < 1024 → slice_index words.new a ≡ short_at machine.now.store a }
+{
+    for a in 0..1024u16 {
+        words[usize::from(a)] = machine.word(a).value();
+    }
+}
+
+/// Writes every sandwich digit.
+fn write_digits(machine: &Machine, digits: &mut [u8])
+    requires { length digits.old ≡ 512 }
+    ensures { (k : ℕ) → k < 512 → slice_index digits.new k ≡ digit (sandwich_at machine.now.store (2 * k)) }
+{
+    for k in 0..512u16 {
+        digits[usize::from(k)] = u8::from(machine.sandwich(2 * k));
+    }
+}
+
+/// Writes a text at the head of a buffer.
+pub fn write_text(text: &[u8], buffer: &mut [u8])
+    requires { length text.now ≤ length buffer.old }
+    ensures { take (length text.now) buffer.new ≡ text.now }
+{
+    buffer[..text.len()].copy_from_slice(text);
+}
+
+/// The registers of a machine, with the lengths of two texts.
+pub fn registers_of(machine: &Machine, lengths: Lengths) -> Registers
+    ensures registers { PicturesRegisters machine.now result }
+    ensures printed { result.printed ≡ lengths.out }
+    ensures noted { result.noted ≡ lengths.note }
+{
+    Registers {
+        acc_low: (machine.acc() & 0xF_FFFF_FFFF) as u64,
+        acc_high: (machine.acc() >> 36) as u64,
+        multiplier: machine.multiplier().value(),
+        orders: machine.orders_done(),
+        rows_left: machine.rows_left().len() as u64,
+        counter: u64::from(machine.counter()),
+        printed: lengths.out,
+        noted: lengths.note,
+    }
+}
+
+/// Registers of no machine, with the lengths of two texts.
+pub fn no_registers(lengths: Lengths) -> Registers
+    ensures printed { result.printed ≡ lengths.out }
+    ensures noted { result.noted ≡ lengths.note }
+{
+    Registers {
+        acc_low: 0,
+        acc_high: 0,
+        multiplier: 0,
+        orders: 0,
+        rows_left: 0,
+        counter: 0,
+        printed: lengths.out,
+        noted: lengths.note,
+    }
+}

@@ -1,0 +1,169 @@
+'use strict';
+// Compares the compiled machine with the program, picture by picture: on the tapes and sources of a folder, and on two
+// hundred more that are made from a stated sequence.
+//   node page/compare.js MODULE PROGRAM FOLDER      (with --experimental-wasm-memory64 before node 24, for 64-bit memories)
+const fs = require('fs');
+const path = require('path');
+const { spawnSync } = require('child_process');
+const { Machine } = require('./machine.js');
+
+const [file, edsac, folder] = process.argv.slice(2);
+const machine = new Machine(new WebAssembly.Module(fs.readFileSync(file)));
+const seen = new Map();
+let pictures = 0, wrong = 0;
+
+function program(words, input) {
+    const ran = spawnSync(edsac, words, { input, maxBuffer: 1 << 26 });
+    return { status: ran.status, out: ran.stdout.toString('utf8'), note: ran.stderr.toString('utf8') };
+}
+
+function same(what, got, wanted) {
+    if (got !== wanted) {
+        wrong++;
+        console.log(`WRONG ${what}: ${JSON.stringify(got).slice(0, 300)} and not ${JSON.stringify(wanted).slice(0, 300)}`);
+    }
+}
+
+const storeOf = (small) => ['--store', small ? '512' : '1024'];
+
+// What the program tells of a run that ends after so many orders, beside the picture there.
+function compareRun(name, text, orders, resumes) {
+    const options = ['--limit', String(orders), '--resume', String(resumes), ...storeOf(text.small)];
+    const told = program([text.kind === 'source' ? 'run' : 'tape', ...options], text.text);
+    const shown = machine.picture(text, orders, resumes);
+    pictures++;
+    seen.set(shown.ending, (seen.get(shown.ending) || 0) + 1);
+    const what = `${name} after ${orders}`;
+    same(`${what}: status`, shown.status, told.status);
+    same(`${what}: note`, shown.note, told.note);
+    same(`${what}: paper`, shown.paper || '', told.out);
+    same(`${what}: blocks in use`, Number(machine.exports.blocks()), 0);
+    return shown;
+}
+
+// The whole state after so many orders, beside what the program's sessions show.
+function compareStates(name, text, counts) {
+    const script = counts.map((count, i) => `go ${count - (i ? counts[i - 1] : 0)}\nshow 0 ${text.small ? 511 : 1023}\nshow acc\nshow mult\n`).join('');
+    if (text.small) {
+        return; // a session has the whole store
+    }
+    const told = program(['step', '--limit', '10000000'], `${script}${text.kind}\n${text.text}`);
+    const moves = told.out.split(/^(?=at )/m);
+    same(`${name}: moves`, moves.length, counts.length);
+    moves.forEach((move, i) => {
+        const lines = move.trimEnd().split('\n');
+        const shown = machine.picture(text, counts[i]);
+        const what = `${name} after ${counts[i]}`;
+        const [, counter, orders] = lines[0].match(/^at (\d+) after (\d+): /) || [];
+        same(`${what}: counter`, shown.counter, Number(counter));
+        same(`${what}: orders`, shown.orders, Number(orders));
+        const store = Array.from(shown.words, (word, place) => `${String(place).padStart(4)} ${String(word).padStart(6)} ${machine.order(word)}`);
+        same(`${what}: store`, store.join('\n'), lines.slice(1, 1025).join('\n'));
+        same(`${what}: accumulator`, `acc ${shown.acc}`, lines[1025]);
+        same(`${what}: multiplier`, `mult ${shown.multiplier}`, lines[1026]);
+        pictures++;
+    });
+}
+
+// The rows of the tape, and the listing.
+function compareTexts(name, text) {
+    const rows = machine.rows(text);
+    if (text.kind === 'tape') {
+        const told = program(['tape', '--limit', '1'], text.text);
+        const isRefused = [3, 11].includes(told.status);
+        same(`${name}: rows`, rows.status, isRefused ? told.status : 0);
+        same(`${name}: note of the rows`, rows.note, isRefused ? told.note : '');
+        same(`${name}: letters`, [...rows.out].map((code) => machine.letter(code)).join(''), isRefused ? '' : lettersOf(text.text));
+        return;
+    }
+    const punched = program(['punch', ...storeOf(text.small)], text.text);
+    same(`${name}: rows`, rows.status, punched.status);
+    same(`${name}: note of the rows`, rows.note, punched.note);
+    same(`${name}: punched`, [...rows.out].join(' '), [...machine.rows({ kind: 'tape', text: punched.out }).out].join(' '));
+    const listed = program(['listing', ...storeOf(text.small)], text.text);
+    const listing = machine.listing(text);
+    same(`${name}: listing`, new TextDecoder().decode(listing.out), listed.out);
+    same(`${name}: note of the listing`, `${listing.status} ${listing.note}`, `${listed.status} ${listed.note}`);
+}
+
+// The letters that a tape's text spells: digits stand for the letters of the same codes.
+const lettersOf = (text) => text.replace(/\[[^\]]*\]/g, '').replace(/\s/g, '').replace(/\d/g, (digit) => 'PQWERTYUIO'[digit]);
+
+// ---- texts made from a sequence: x becomes 1103515245 x + 12345 modulo 2^31, and its high bits are taken
+
+function sequence(seed) {
+    let x = seed;
+    return (below) => {
+        x = Number((1103515245n * BigInt(x) + 12345n) % 2147483648n);
+        return Math.floor((x / 2147483648) * below);
+    };
+}
+
+const LETTERS = 'PQWERTYUIOJ#SZK*.F@D!HNM&LXGABCV';
+const ORDERS = 'ASHVNTUCRLEGIOFXYZ';
+
+function madeTape(next) {
+    if (next(4) === 0) {
+        return Array.from({ length: 1 + next(60) }, () => LETTERS[next(32)]).join('') + (next(5) ? '' : '?');
+    }
+    const items = Array.from({ length: 3 + next(20) }, () => `${ORDERS[next(18)]}${next(3) ? next(24) : ''}${'@@@FD'[next(5)]}`);
+    return `T64K GK ${items.join(' ')} EZPF ${LETTERS[next(32)]}${LETTERS[next(32)]}`;
+}
+
+function madeSource(next) {
+    const lines = ['segment main'];
+    const names = ['one', 'two', 'three'];
+    names.forEach((name) => {
+        for (let i = next(5); i > 0; i--) {
+            lines.push(`${ORDERS[next(18)]} ${next(2) ? next(100) : names[next(3)]} ${'FD'[next(2)]}`);
+        }
+        lines.push(`${name}: ${['Z F', 'P 1 F', 'word -3', 'text "*AB"'][next(4)]}`);
+    });
+    if (next(3) === 0) {
+        const faults = ['one: Z F', 'A nowhere F', 'segment low at 20', 'A 40000 F', 'what', 'use sine as s', 'word 999999', 'long -1'];
+        lines.splice(next(lines.length), 0, faults[next(faults.length)]);
+    }
+    if (next(4)) {
+        lines.push('use newline as n');
+    }
+    lines.push(next(12) ? 'enter main' : '', next(4) ? 'data "12F"' : '');
+    return lines.join('\n');
+}
+
+// ---- all of them
+
+function compareAll(name, text, furthest) {
+    compareTexts(name, text);
+    const last = compareRun(name, text, furthest, 0);
+    if (last.words === undefined) {
+        return;
+    }
+    const end = last.orders;
+    const some = [1, 9, 40, 193, Math.floor(end / 3), Math.floor(end / 2), end - 1, end, end + 1].filter((count) => count > 0 && count <= furthest);
+    [...new Set(some)].forEach((count) => compareRun(name, text, count, 0));
+    compareRun(name, text, furthest, 2);
+    const counts = [...new Set(some.filter((count) => count <= end))].sort((a, b) => a - b);
+    compareStates(name, text, counts);
+}
+
+for (const name of fs.readdirSync(folder).sort()) {
+    const kind = { '.tape': 'tape', '.edsac': 'source' }[path.extname(name)];
+    if (kind) {
+        const text = fs.readFileSync(path.join(folder, name), 'utf8');
+        compareAll(name, { kind, text, small: false }, 400000);
+        compareAll(`${name} in the small store`, { kind, text, small: true }, 20000);
+    }
+}
+for (let seed = 1; seed <= 200; seed++) {
+    const next = sequence(seed);
+    const kind = seed % 2 ? 'tape' : 'source';
+    compareAll(`made ${kind} ${seed}`, { kind, text: kind === 'tape' ? madeTape(next) : madeSource(next), small: next(5) === 0 }, 3000);
+}
+compareTexts('too long', { kind: 'tape', text: ' '.repeat(262145), small: false });
+same('too long', machine.picture({ kind: 'tape', text: ' '.repeat(262145), small: false }, 1).note, program(['tape'], ' '.repeat(262145)).note);
+for (const ending of ['stopped', 'limit', 'no order', 'no tape', 'refused']) {
+    same(`some run ends with ${ending}`, seen.has(ending), true);
+}
+console.log(`${path.basename(file)}: ${pictures} pictures compared with the program, ${wrong} differences; endings `
+    + [...seen].map(([ending, count]) => `${ending} ${count}`).join(', '));
+process.exit(wrong ? 1 : 0);

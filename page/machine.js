@@ -1,0 +1,134 @@
+'use strict';
+// The machine of the page: it hands texts and numbers to the compiled code, and reads what that wrote. No order is obeyed
+// here, and no row or printed code is read here.
+const ENDINGS = {
+    0: 'stopped', 3: 'refused', 4: 'limit', 5: 'no order', 6: 'no tape', 7: 'paper full',
+    10: 'no memory', 11: 'too long', 12: 'no room',
+};
+const ROOMS = ['text', 'rows', 'words', 'digits', 'paper', 'note', 'registers', 'lengths', 'listing', 'order'];
+
+// Whether this browser has memories of 64-bit addresses: a module with such a memory and nothing else is valid.
+function hasWideMemories() {
+    return WebAssembly.validate(Uint8Array.of(0, 97, 115, 109, 1, 0, 0, 0, 5, 3, 1, 4, 1));
+}
+
+class Machine {
+    constructor(module) {
+        this.module = module;
+        this.begin();
+    }
+
+    begin() {
+        this.exports = new WebAssembly.Instance(this.module, {}).exports;
+        this.orders = new Map();
+        this.rooms = {};
+        ROOMS.forEach((name, kind) => {
+            this.rooms[name] = { at: BigInt(this.exports.room(kind)), items: this.exports.room_items(kind) };
+        });
+    }
+
+    // So many bytes of a room.
+    bytes(name, count) {
+        return new Uint8Array(this.exports.memory.buffer, Number(this.rooms[name].at), count);
+    }
+
+    // A list of numbers in a room.
+    numbers(name, Numbers) {
+        return new Numbers(this.exports.memory.buffer, Number(this.rooms[name].at), Number(this.rooms[name].items));
+    }
+
+    // A call of the compiled code, with rooms by their names, each of them an address and a length.
+    call(name, ...given) {
+        const words = given.flatMap((word) => {
+            if (typeof word !== 'string') {
+                return [word];
+            }
+            const { at, items } = this.rooms[word];
+            return word === 'registers' || word === 'lengths' ? [at] : [at, items];
+        });
+        try {
+            return this.exports[name](...words);
+        } catch (fault) {
+            this.begin(); // memory that a call left half way is not used again
+            throw fault;
+        }
+    }
+
+    // Writes a text for the next call, and gives its address and length.
+    put(text) {
+        const bytes = new TextEncoder().encode(text).subarray(0, Number(this.rooms.text.items));
+        this.bytes('text', bytes.length).set(bytes);
+        return [this.rooms.text.at, BigInt(bytes.length)];
+    }
+
+    // The text of so many bytes of a room.
+    text(name, count) {
+        return new TextDecoder().decode(this.bytes(name, count));
+    }
+
+    // What a call tells that writes one text or a note.
+    told(status, room) {
+        const [out, note] = this.numbers('lengths', BigUint64Array);
+        return { status, ending: ENDINGS[status], out: status === 0 ? this.bytes(room, Number(out)).slice() : new Uint8Array(0),
+            note: status < 12 && status !== 10 ? this.text('note', Number(note)) : '' };
+    }
+
+    // The codes of the rows of a tape's text, or of the tape of a source.
+    rows(program) {
+        const [at, length] = this.put(program.text);
+        const status = program.kind === 'source'
+            ? this.call('page_source_rows', at, length, program.small ? 1 : 0, 'rows', 'note', 'lengths')
+            : this.call('page_tape_rows', at, length, 'rows', 'note', 'lengths');
+        return this.told(status, 'rows');
+    }
+
+    // The listing of a source.
+    listing(program) {
+        const [at, length] = this.put(program.text);
+        const status = this.call('page_listing', at, length, program.small ? 1 : 0, 'listing', 'note', 'lengths');
+        return this.told(status, 'listing');
+    }
+
+    // The letter or sign of a code.
+    letter(code) {
+        return String.fromCharCode(this.call('page_letter', code));
+    }
+
+    // The text of an order word.
+    order(word) {
+        if (!this.orders.has(word)) {
+            this.orders.set(word, this.text('order', Number(this.call('page_order', word, 'order'))));
+        }
+        return this.orders.get(word);
+    }
+
+    // The machine after so many orders from Start, or where its run ended before.
+    picture(program, orders, resumes = 0) {
+        const [at, length] = this.put(program.text);
+        const status = this.call(program.kind === 'source' ? 'page_source' : 'page_tape', at, length, program.small ? 1 : 0,
+            orders, resumes, 'words', 'digits', 'paper', 'note', 'registers');
+        if (status === 10 || status === 12) {
+            return { status, ending: ENDINGS[status], note: '' };
+        }
+        const [accLow, accHigh, multiplier, done, rowsLeft, counter, printed, noted] = this.numbers('registers', BigUint64Array);
+        const note = this.text('note', Number(noted));
+        if (status === 3 || status === 11) {
+            return { status, ending: ENDINGS[status], note };
+        }
+        return {
+            status, ending: ENDINGS[status], note,
+            words: this.numbers('words', Uint32Array).slice(),
+            digits: this.bytes('digits', 512).slice(),
+            paper: this.text('paper', Number(printed)),
+            acc: (accHigh << 36n) | accLow,
+            multiplier,
+            orders: Number(done),
+            rowsLeft: Number(rowsLeft),
+            counter: Number(counter),
+        };
+    }
+}
+
+if (typeof module !== 'undefined') {
+    module.exports = { Machine, hasWideMemories };
+}
