@@ -1,4 +1,5 @@
-[Prints the digits from 9 down to 0, in figure shift, and stops.]
+[Prints the digits from 9 down to 0, in figure shift, and stops.
+ Look for: the digit at 8, which is the function of a word and not a number, and the E at 6, which goes back.]
 T64K GK
 O11@        [0: figure shift]
 T10@        [1: clear the accumulator]
