@@ -1,6 +1,6 @@
 -- A test that holds of each number below a bound, computed once.
 use Rattle.std.proofs.Common.{◌≡◌, ℕ, zero, suc, ◌<◌, arith, Bool, true, ◌&&◌, inl, inr}
-use Rattle.std.proofs.lemmas.Bool.{cases_eq}
+use Rattle.std.proofs.lemmas.Bool.{and_parts, cases_eq}
 
 -- the test holds of each number below n
 abbrev pub holds_below : (ℕ → Bool) → ℕ → Bool
@@ -12,12 +12,6 @@ pub from_below : (test : ℕ → Bool) (n k : ℕ) → holds_below test n ≡ tr
 from_below test zero k h l = absurd (omega arith)
 from_below test (suc n) k h l =
     elim (cases_eq k n) [
-      | inl e ↦ rw e (first (test n) _ h)
-      | inr ne ↦ from_below test n k (rest (test n) _ h) (omega arith)
+      | inl e ↦ rw e (and_parts (test n) _ h).0
+      | inr ne ↦ from_below test n k (and_parts (test n) _ h).1 (omega arith)
     ]
-  where
-    first : (x y : Bool) → (x && y) ≡ true → x ≡ true
-    first x y h = grind arith
-
-    rest : (x y : Bool) → (x && y) ≡ true → y ≡ true
-    rest x y h = grind arith

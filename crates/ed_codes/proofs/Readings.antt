@@ -1,14 +1,15 @@
 -- What is spelled is read, and each fault is.
 use Rattle.std.proofs.Common.{◌≡◌, ◌∙◌, ℕ, ◌+◌, ◌-◌, suc, Bool, true, false, List, [], ◌∷◌, ◌++◌, refl, sym, ap}
 use Rattle.std.proofs.Common.{append_assoc, take, drop, length, arith}
-use Rattle.std.specs.Prelude.{Option, Some, None, ◌==◌, ◌||◌, is_some, Result, Ok, Err, Vec}
+use Rattle.std.specs.Prelude.{Option, Some, None, ◌==◌, is_some, Result, Ok, Err, Vec}
 use Rattle.std.specs.declared.alloc.Global.{Global}
 use Rattle.std.proofs.lemmas.Bool.Decides.{Decides-eqb}
 use Rattle.std.proofs.lemmas.List.{append-nil, take-append-drop, length-append, length-take-le, length-drop}
+use Rattle.std.proofs.lemmas.Bool.{or_parts}
 use Rattle.ed_codes.specs.Spelling.{row_of}
 use Rattle.ed_codes.specs.Text.{Spells, none, row, spacing, comment, is_spacing}
 use Rattle.ed_codes.specs.Text.{has_close, HasNoRow, HasOpenComment, StopsAt}
-use Rattle.ed_codes.specs.Answer.{ReadsText, Answers}
+use Rattle.ed_codes.specs.Answer.{ReadsText, AnswersText}
 use Rattle.ed_codes.specs.Reading.{Reading, rows, no_row, open_comment, with_row, row_or_fault}
 use Rattle.ed_codes.specs.Reading.{reading_from, reading, IsReadingOf, HasOneReading}
 use Rattle.ed_codes.proofs.Every.{every_text}
@@ -52,11 +53,7 @@ spacing_byte b place bs h = let no_comment = other_byte is_spacing b 91 h refl i
 -- ---- a comment
 
 no_close_head : (x : ℕ) (xs : List ℕ) → has_close (x ∷ xs) ≡ false → ((x == 93) ≡ false) × (has_close xs ≡ false)
-no_close_head x xs = by_first (x == 93) (has_close xs)
-  where
-    by_first : (c d : Bool) → (c || d) ≡ false → (c ≡ false) × (d ≡ false)
-    by_first true d e = absurd (cc)
-    by_first false d e = (refl, e)
+no_close_head x xs = or_parts (x == 93) (has_close xs)
 
 skipped : (start place : ℕ) (inside rest : List ℕ) → has_close inside ≡ false
     → reading_from (Some start) place (inside ++ 93 ∷ rest) ≡ reading_from None (place + length inside + 1) rest
@@ -153,7 +150,7 @@ has_one_reading = record { every = every_text; only = only_reading }
 
 -- an answer that says what the text has says its reading
 pub answers_reading : (text : List ℕ) (r : Result (Vec Code Global) TextFault) → ReadsText text r
-    → Answers (reading text) r
+    → AnswersText (reading text) r
 answers_reading text (Ok v) h = spelled_is_read text v.items h
 answers_reading text (Err (NoRow place byte)) h = no_row_is_read text place byte h
 answers_reading text (Err (OpenComment place)) h = open_is_read text place h

@@ -15,8 +15,8 @@ ReadsText text (Err (OpenComment place)) = HasOpenComment text place
 ReadsText text (Err Memory) = Unit {0}
 
 -- the answer is the reading
-abbrev pub Answers : Reading → Result (Vec Code Global) TextFault → Type 0
-Answers r (Ok v) = r ≡ rows v.items
-Answers r (Err (NoRow place byte)) = r ≡ no_row place byte
-Answers r (Err (OpenComment place)) = r ≡ open_comment place
-Answers r (Err Memory) = Unit {0}
+abbrev pub AnswersText : Reading → Result (Vec Code Global) TextFault → Type 0
+AnswersText r (Ok v) = r ≡ rows v.items
+AnswersText r (Err (NoRow place byte)) = r ≡ no_row place byte
+AnswersText r (Err (OpenComment place)) = r ≡ open_comment place
+AnswersText r (Err Memory) = Unit {0}

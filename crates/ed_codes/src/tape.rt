@@ -1,7 +1,7 @@
 ghost use Rattle.std.specs.Prelude.{◌≡◌, ◌<◌, ◌==◌, length, IfSome, position};
 ghost use Rattle.ed_codes.specs.Text.{is_spacing};
 ghost use Rattle.ed_codes.specs.Reading.{HasOneReading, reading};
-ghost use Rattle.ed_codes.specs.Answer.{Answers, ReadsText};
+ghost use Rattle.ed_codes.specs.Answer.{AnswersText, ReadsText};
 
 use crate::{Code, row_of_byte};
 use std::alloc::Global;
@@ -40,7 +40,7 @@ fn comment_length(after: &[u8]) -> Option<usize>
 /// neither does a comment, which goes from a `[` to the next `]`.
 pub fn tape_of_text(alloc: Global, text: &[u8]) -> Result<Vec<Code>, TextFault>
     ensures spelled { ReadsText text.now result }
-    ensures exact { Answers (reading text.now) result }
+    ensures exact { AnswersText (reading text.now) result }
     ensures law { HasOneReading }
 {
     rows_of_pieces(alloc, text)

@@ -11,13 +11,13 @@ written_image (x ∷ xs) [] i h k = absurd (omega arith)
 written_image (x ∷ xs) (y ∷ ys) zero h k = refl
 written_image (x ∷ xs) (y ∷ ys) (suc i) h k = ap (λ zs. x ∷ zs) (written_image xs ys i (omega arith) (omega arith))
 
-pub image_step : (xs ws : List ℕ) (sand : List Bool) (i x : ℕ) (s t : Cells)
+pub image_step : (xs ws : List ℕ) {sand : List Bool} {i x : ℕ} {s t : Cells}
     → s ≡ record { words = take i xs ++ drop i ws; sandwich = sand } → IsStore s
     → x ≡ get_or xs i x → i < length xs → i < 1024 → t ≡ with_short s i x → t ≡ record {
       words = take (i + 1) xs ++ drop (i + 1) ws;
       sandwich = sand;
     }
-image_step xs ws sand i x s t e store read h below is =
+image_step xs ws {sand} {i} {x} e store read h below is =
     let total : length (take i xs ++ drop i ws) ≡ 1024 = ap (λ (c : Cells). length c.words) (sym e) ∙ store.words_are in
     let room : i < length ws =
     omega (arith, total, length-append (take i xs) (drop i ws), length-take i xs, length-drop i ws) in

@@ -4,6 +4,16 @@ use Rattle.std.proofs.Common.{sym, ap, ◌∙◌, arith, Bool, true, false, true
 use Rattle.std.specs.Prelude.{if◌then◌else◌}
 use Rattle.ed_machine.specs.Steps.{least}
 
+-- the number that is found is the bound at the most
+pub least_below : (test : ℕ → Bool) (n : ℕ) → least test n ≤ n
+unfolding least
+least_below test zero = omega arith
+least_below test (suc n) = by_test (test (least test n)) (least_below test n)
+  where
+    by_test : (b : Bool) → least test n ≤ n → (if b then least test n else suc n) ≤ suc n
+    by_test true h = omega arith
+    by_test false h = omega arith
+
 -- no number below n is found where the test fails at each
 pub least_none : (test : ℕ → Bool) (n : ℕ) → ((j : ℕ) → j < n → test j ≡ false) → least test n ≡ n
 unfolding least

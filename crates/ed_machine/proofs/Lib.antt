@@ -1,4 +1,6 @@
 pub mod Counts
 pub mod Images
+pub mod Keeping
 pub mod LeastNumbers
 pub mod SoundSteps
+pub mod Steps

@@ -30,6 +30,11 @@ is_obeyed Stopped = true
 is_obeyed (NoOrder function) = false
 is_obeyed NoTape = false
 
+-- whether a turn is a stop
+abbrev pub is_stop : Turn → Bool
+is_stop Stopped = true
+is_stop turn = false
+
 -- where a number of orders led: the state, the codes printed on the way, and how many of the orders were stops
 pub record Past : Type 0 where
   pub state : State

@@ -5,8 +5,8 @@ use Rattle.ed_words.specs.Words.{function_of, is_long}
 use Rattle.ed_codes.specs.Spelling.{letters}
 
 -- the number of a word's text: its spare digit and address as one number
-abbrev pub number_of : ℕ → ℕ
-number_of w = w / 2 % 2048
+abbrev pub text_number : ℕ → ℕ
+text_number w = w / 2 % 2048
 
 -- a number in decimal, and nothing for 0
 abbrev pub number_text : ℕ → List ℕ
@@ -18,4 +18,4 @@ length_text w = if is_long w then codes "D" else codes "F"
 
 -- the letter or sign of the function, the number, and the length
 abbrev pub order_text : ℕ → List ℕ
-order_text w = slice_index letters (function_of w) ∷ number_text (number_of w) ++ length_text w
+order_text w = slice_index letters (function_of w) ∷ number_text (text_number w) ++ length_text w

@@ -61,6 +61,23 @@ state f r k = record {
   orders = k;
 }
 
+-- a state is another one that has its accumulator, tape, last code and orders, where the rest is the same
+pub same_state : (s : State) {size : Size} {words : List ℕ} {digits : List Bool} {multiplier counter : ℕ}
+    → size ≡ s.size → words ≡ s.store.words → digits ≡ s.store.sandwich → multiplier ≡ s.multiplier
+    → counter ≡ s.counter
+    → record s {
+      size = size;
+      store = record { words = words; sandwich = digits };
+      multiplier = multiplier;
+      counter = counter;
+    } ≡ s
+same_state s z w d m c = λ i. record s {
+  size = z i;
+  store = record { words = w i; sandwich = d i };
+  multiplier = m i;
+  counter = c i;
+}
+
 -- a place of a list that a window of so many items at a base leaves alone
 abbrev pub Beside : {A : Type 0} → List A → ℕ → ℕ → ℕ → Type 0
 Beside xs base count i = ((i < base) × (i < length xs)) ⊎ (base + count ≤ i)

@@ -1,10 +1,10 @@
 -- Where orders lead that neither stop the machine nor are blocked: what a path says of the machine.
-use Rattle.std.proofs.Common.{◌≡◌, ℕ, ◌<◌, Bool, true, false, List}
+use Rattle.std.proofs.Common.{◌≡◌, ℕ, zero, suc, ◌<◌, refl, sym, arith, Bool, true, false, true≢false, List}
 use Rattle.ed_machine.specs.State.{State}
 use Rattle.ed_machine.specs.OrderTable.{step}
-use Rattle.ed_machine.specs.Steps.{past, state_after}
+use Rattle.ed_machine.specs.Steps.{IsFree, past, state_after, stops_of, is_obeyed}
 use Rattle.ed_machine.specs.declared.turn.Turn.{Turn}
-use Rattle.ed_machine.specs.declared.turn.Turn.TheVariants.{Went, Printed}
+use Rattle.ed_machine.specs.declared.turn.Turn.TheVariants.{Went, Printed, Stopped, NoOrder, NoTape}
 
 -- whether a turn neither stops the machine nor is blocked
 abbrev pub goes_on : Turn → Bool
@@ -17,3 +17,32 @@ pub record Leads (k : ℕ) (s : State) (codes : List ℕ) (t : State) : Type 0 w
   pub state_is : state_after k s ≡ t
   pub codes_are : (past k s).codes ≡ codes
   pub goes : (j : ℕ) → j < k → goes_on (step (state_after j s)).turn ≡ true
+
+-- a turn that goes on is an order obeyed, and no stop
+pub obeyed_of : (turn : Turn) → goes_on turn ≡ true → is_obeyed turn ≡ true
+obeyed_of Went e = refl
+obeyed_of (Printed code) e = refl
+obeyed_of Stopped e = absurd (true≢false (sym e))
+obeyed_of (NoOrder function) e = absurd (true≢false (sym e))
+obeyed_of NoTape e = absurd (true≢false (sym e))
+
+no_stop : (turn : Turn) → goes_on turn ≡ true → stops_of turn ≡ 0
+no_stop Went e = refl
+no_stop (Printed code) e = refl
+no_stop Stopped e = absurd (true≢false (sym e))
+no_stop (NoOrder function) e = refl
+no_stop NoTape e = refl
+
+-- such orders are obeyed
+pub free : {k : ℕ} {s t : State} {codes : List ℕ} → Leads k s codes t → IsFree k s
+free o j l = obeyed_of _ (o.goes j l)
+
+-- and none of them stops the machine
+pub no_stops : (k : ℕ) (s : State) → ((j : ℕ) → j < k → goes_on (step (state_after j s)).turn ≡ true)
+    → (past k s).stops ≡ 0
+unfolding past
+no_stops zero s goes = refl
+no_stops (suc k) s goes =
+    let before = no_stops k s (λ j l. goes j (omega arith)) in
+    let here = no_stop (step (state_after k s)).turn (goes k (omega arith)) in
+    omega (arith, before, here)

@@ -43,12 +43,12 @@ module _ {n h : ℕ} {f : Frame n h} {r : Moment} where
   -- A, S: the number there is added, taken away
   pub A : (i : ℕ) (p : Place f r) (u : ℕ) → Reads i 28 p → (r.acc + value f r p * 2 ^ 36) % 2 ^ 71 ≡ u
       → Moves f KindA r (record r { acc = u; counter = f.base + (i + 1) })
-  A i p u e sum = by_place f r i 28 KindA p true Went _ e refl refl refl (λ o k.
+  A i p u e sum = by_place i 28 p true e refl refl (λ o k.
       rw (o.long, o.place, o.is.after, reads f r p o.is.all o.there, plus71_is r.acc (value f r p * 2 ^ 36) u sum) refl)
 
   pub S : (i : ℕ) (p : Place f r) (u : ℕ) → Reads i 12 p → Remains r.acc (value f r p * 2 ^ 36) u
       → Moves f KindS r (record r { acc = u; counter = f.base + (i + 1) })
-  S i p u e rest = by_place f r i 12 KindS p true Went _ e refl refl refl (λ o k.
+  S i p u e rest = by_place i 12 p true e refl refl (λ o k.
       rw (o.long, o.place, o.is.after, reads f r p o.is.all o.there, minus71_is r.acc (value f r p * 2 ^ 36) u rest)
       refl)
 
@@ -57,13 +57,13 @@ module _ {n h : ℕ} {f : Frame n h} {r : Moment} where
     multiplier = value f r p;
     counter = f.base + (i + 1);
   })
-  H i p e = by_place f r i 21 KindH p true Went _ e refl refl refl (λ o k.
+  H i p e = by_place i 21 p true e refl refl (λ o k.
       rw (o.long, o.place, o.is.after, reads f r p o.is.all o.there) refl)
 
   -- V, N: the product is added, taken away; V in plain numbers where both are positive
   pub V_signed : (i : ℕ) (p : Place f r) (u : ℕ) → Reads i 31 p → plus_product r.acc r.multiplier (value f r p) ≡ u
       → Moves f KindV r (record r { acc = u; counter = f.base + (i + 1) })
-  V_signed i p u e sum = by_place f r i 31 KindV p true Went _ e refl refl refl (λ o k.
+  V_signed i p u e sum = by_place i 31 p true e refl refl (λ o k.
       rw (o.long, o.place, o.is.after, reads f r p o.is.all o.there, sum) refl)
 
   pub V : (i : ℕ) (p : Place f r) (u : ℕ) → Reads i 31 p → AddsProduct r.acc r.multiplier (value f r p) u
@@ -72,14 +72,14 @@ module _ {n h : ℕ} {f : Frame n h} {r : Moment} where
 
   pub N : (i : ℕ) (p : Place f r) (u : ℕ) → Reads i 22 p → minus_product r.acc r.multiplier (value f r p) ≡ u
       → Moves f KindN r (record r { acc = u; counter = f.base + (i + 1) })
-  N i p u e sum = by_place f r i 22 KindN p true Went _ e refl refl refl (λ o k.
+  N i p u e sum = by_place i 22 p true e refl refl (λ o k.
       rw (o.long, o.place, o.is.after, reads f r p o.is.all o.there, sum) refl)
 
   -- C: the digits that the multiplier and the number there have in common are added
   pub C : (i : ℕ) (p : Place f r) (y u : ℕ) → Reads i 30 p → common 35 r.multiplier (value f r p) ≡ y
       → (r.acc + 2 ^ 36 * y) % 2 ^ 71 ≡ u
       → Moves f KindC r (record r { acc = u; counter = f.base + (i + 1) })
-  C i p y u e both sum = by_place f r i 30 KindC p true Went _ e refl refl refl (λ o k.
+  C i p y u e both sum = by_place i 30 p true e refl refl (λ o k.
       rw (
         o.long,
         o.place,
@@ -92,7 +92,7 @@ module _ {n h : ℕ} {f : Frame n h} {r : Moment} where
   -- has that number at its top and nothing else: both last arguments may be `refl`, and the number `_`
   pub T_top : (i : ℕ) (p : Place f r) (u : ℕ) → Writes i 5 p → fitting f r p (r.acc / 2 ^ 54) (r.acc / 2 ^ 36) ≡ u
       → Moves f KindT r (record (put f r p u) { acc = 0; counter = f.base + (i + 1) })
-  T_top i p u e top = by_place f r i 5 KindT p (is_written f r p) Went _ e refl refl refl (λ o k.
+  T_top i p u e top = by_place i 5 p (is_written f r p) e refl refl (λ o k.
       rw (o.long, o.place, o.is.after, writes f r p (r.acc / 2 ^ 54) (r.acc / 2 ^ 36) o.is.all o.there o.more_is, top)
       refl)
 
@@ -102,7 +102,7 @@ module _ {n h : ℕ} {f : Frame n h} {r : Moment} where
 
   pub U_top : (i : ℕ) (p : Place f r) (u : ℕ) → Writes i 7 p → fitting f r p (r.acc / 2 ^ 54) (r.acc / 2 ^ 36) ≡ u
       → Moves f KindU r (record (put f r p u) { counter = f.base + (i + 1) })
-  U_top i p u e top = by_place f r i 7 KindU p (is_written f r p) Went _ e refl refl refl (λ o k.
+  U_top i p u e top = by_place i 7 p (is_written f r p) e refl refl (λ o k.
       rw (o.long, o.place, o.is.after, writes f r p (r.acc / 2 ^ 54) (r.acc / 2 ^ 36) o.is.all o.there o.more_is, top)
       refl)
 
@@ -114,7 +114,7 @@ module _ {n h : ℕ} {f : Frame n h} {r : Moment} where
   pub I : (i : ℕ) (p : Place f r) {c : ℕ} {rest : List ℕ} (u : ℕ) → Writes i 8 p → r.tape ≡ c ∷ rest
       → fitting f r p c (c * 2 ^ 18) ≡ u
       → Moves f KindI r (record (put f r p u) { tape = rest; counter = f.base + (i + 1) })
-  I i p {c} u e row is = by_place f r i 8 KindI p (is_written f r p) Went _ e refl refl refl (λ o k.
+  I i p {c} u e row is = by_place i 8 p (is_written f r p) e refl refl (λ o k.
       ap (λ x. took_row x o.w (state f r k)) row
       ∙ rw (o.long, o.place, o.is.after, writes f r p c (c * 2 ^ 18) o.is.all o.there o.more_is, is) refl)
 
@@ -127,7 +127,7 @@ module _ {n h : ℕ} {f : Frame n h} {r : Moment} where
         turn = Went;
       }
   F i p u k e is =
-      let o = named f r i 17 KindF p (is_written f r p) e refl in
+      let o = named f r i 17 p (is_written f r p) e refl in
       obeyed f r KindF o.w (f.base + (i + 1)) k o.is
       ∙ rw (
         o.long,
@@ -140,13 +140,13 @@ module _ {n h : ℕ} {f : Frame n h} {r : Moment} where
   -- O: the code there is printed
   pub O : (i : ℕ) (p : Place f r) (c : ℕ) → Reads i 9 p → value f r p / 2 ^ 30 ≡ c
       → Does f KindO r (Printed c) (record r { last = Some c; counter = f.base + (i + 1) })
-  O i p c e is = by_place f r i 9 KindO p true (Printed c) _ e refl refl refl (λ o k.
+  O i p c e is = by_place i 9 p true e refl refl (λ o k.
       rw (o.long, o.place, o.is.after, reads f r p o.is.all o.there, is) refl)
 
   -- R, L: the accumulator is shifted; R in plain numbers where it is positive
   pub R_signed : (i : ℕ) {w p : ℕ} → IsShift 4 w p → (u : ℕ) → Stands f r i w true → right71 r.acc p ≡ u
       → Moves f KindR r (record r { acc = u; counter = f.base + (i + 1) })
-  R_signed i {w} s u e is = by_word f r i w KindR Went _ e (ap kind_of_function s.function_is) refl refl refl (λ o k.
+  R_signed i {w} s u e is = by_word i w e (ap kind_of_function s.function_is) refl (λ o k.
       rw (s.places_are, is, o.after) refl)
 
   pub R : (i : ℕ) {w p : ℕ} → IsShift 4 w p → (u : ℕ) → Stands f r i w true → IsQuotient r.acc p u
@@ -155,43 +155,39 @@ module _ {n h : ℕ} {f : Frame n h} {r : Moment} where
 
   pub L : (i : ℕ) {w p : ℕ} → IsShift 25 w p → (u : ℕ) → Stands f r i w true → r.acc * 2 ^ p % 2 ^ 71 ≡ u
       → Moves f KindL r (record r { acc = u; counter = f.base + (i + 1) })
-  L i {w} {p} s u e is = by_word f r i w KindL Went _ e (ap kind_of_function s.function_is) refl refl refl (λ o k.
+  L i {w} {p} s u e is = by_word i w e (ap kind_of_function s.function_is) refl (λ o k.
       rw (s.places_are, left71_is r.acc p u is, o.after) refl)
 
   -- X: nothing; Y: rounding; Z: the stop, which ends a path
   pub X : (i w : ℕ) → Stands f r i w true → w / 4096 ≡ 26 → Moves f KindX r (record r { counter = f.base + (i + 1) })
-  X i w e is = by_word f r i w KindX Went _ e (ap kind_of_function is) refl refl refl (λ o k. rw o.after refl)
+  X i w e is = by_word i w e (ap kind_of_function is) refl (λ o k. rw o.after refl)
 
   pub Y : (i w u : ℕ) → Stands f r i w true → w / 4096 ≡ 6 → (r.acc + 2 ^ 35) % 2 ^ 71 ≡ u
       → Moves f KindY r (record r { acc = u; counter = f.base + (i + 1) })
-  Y i w u e is sum = by_word f r i w KindY Went _ e (ap kind_of_function is) refl refl refl (λ o k.
+  Y i w u e is sum = by_word i w e (ap kind_of_function is) refl (λ o k.
       rw (plus71_is r.acc (2 ^ 35) u sum, o.after) refl)
 
   pub Z : (i w : ℕ) → Stands f r i w true → w / 4096 ≡ 13
       → Does f KindZ r Stopped (record r { counter = f.base + (i + 1) })
-  Z i w e is = by_word f r i w KindZ Stopped _ e (ap kind_of_function is) refl refl refl (λ o k. rw o.after refl)
+  Z i w e is = by_word i w e (ap kind_of_function is) refl (λ o k. rw o.after refl)
 
   -- E, G: a jump by the accumulator's sign, or none; the order is short
   pub E_jumps : (i : ℕ) (p : Place f r) → Jumps i 3 p → r.acc < 2 ^ 70
       → Moves f KindE r (record r { counter = address f r p })
-  E_jumps i p e low = by_place f r i 3 KindE p (not (is_pair f r p)) Went _ e refl refl
-      (no_both (is_pair f r p)) (λ o k.
+  E_jumps i p e low = by_place i 3 p (not (is_pair f r p)) e refl (no_both (is_pair f r p)) (λ o k.
       rw (o.place, lt_true r.acc (2 ^ 70) low) refl)
 
   pub E_stays : (i : ℕ) (p : Place f r) → Jumps i 3 p → 2 ^ 70 ≤ r.acc
       → Moves f KindE r (record r { counter = f.base + (i + 1) })
-  E_stays i p e high = by_place f r i 3 KindE p (not (is_pair f r p)) Went _ e refl refl
-      (no_both (is_pair f r p)) (λ o k.
+  E_stays i p e high = by_place i 3 p (not (is_pair f r p)) e refl (no_both (is_pair f r p)) (λ o k.
       rw (o.place, lt_false r.acc (2 ^ 70) high, o.is.after) refl)
 
   pub G_jumps : (i : ℕ) (p : Place f r) → Jumps i 27 p → 2 ^ 70 ≤ r.acc
       → Moves f KindG r (record r { counter = address f r p })
-  G_jumps i p e high = by_place f r i 27 KindG p (not (is_pair f r p)) Went _ e refl refl
-      (no_both (is_pair f r p)) (λ o k.
+  G_jumps i p e high = by_place i 27 p (not (is_pair f r p)) e refl (no_both (is_pair f r p)) (λ o k.
       rw (o.place, le_true (2 ^ 70) r.acc high) refl)
 
   pub G_stays : (i : ℕ) (p : Place f r) → Jumps i 27 p → r.acc < 2 ^ 70
       → Moves f KindG r (record r { counter = f.base + (i + 1) })
-  G_stays i p e low = by_place f r i 27 KindG p (not (is_pair f r p)) Went _ e refl refl
-      (no_both (is_pair f r p)) (λ o k.
+  G_stays i p e low = by_place i 27 p (not (is_pair f r p)) e refl (no_both (is_pair f r p)) (λ o k.
       rw (o.place, le_false (2 ^ 70) r.acc low, o.is.after) refl)

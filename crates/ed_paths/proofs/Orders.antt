@@ -1,8 +1,8 @@
 -- One order of a piece: the word at its cell, the place that it names, and the step of the machine that it is.
 use Rattle.std.proofs.Common.{◌≡◌, ℕ, ◌+◌, ◌*◌, ◌/◌, ◌%◌, ◌<◌, ◌≤◌, refl, sym, ap}
-use Rattle.std.proofs.Common.{◌∙◌, subst, true≢false, arith, Bool, true, false, ◌&&◌}
+use Rattle.std.proofs.Common.{◌∙◌, subst, true≢false, arith, Bool, true, false, ◌&&◌, ◌||◌}
 use Rattle.std.proofs.Common.{nat_lt, nat_eq, Some, get_or, length}
-use Rattle.std.proofs.lemmas.Bool.{and_parts}
+use Rattle.std.proofs.lemmas.Bool.{and_parts, or_parts}
 use Rattle.std.proofs.lemmas.Bool.Decides.{nat_tests}
 use Rattle.ed_words.specs.Sizes.{locations, within}
 use Rattle.ed_words.specs.Words.{function_of, address_of, is_long, is_spare, digit}
@@ -81,6 +81,15 @@ plain_by : (g a : ℕ) (long : Bool) → a < 1024 → is_spare (word_by g long a
 plain_by g a true h = let e : (4096 * g + 1 + 2 * a) / 2048 % 2 ≡ 0 = omega arith in rw e refl
 plain_by g a false h = let e : (4096 * g + 0 + 2 * a) / 2048 % 2 ≡ 0 = omega arith in rw e refl
 
+-- a kind that names no place neither jumps nor is F
+stays : (kind : Kind) → names kind ≡ false → (jumps kind ≡ false) × (is_F kind ≡ false)
+stays R e = (refl, refl)
+stays L e = (refl, refl)
+stays X e = (refl, refl)
+stays Y e = (refl, refl)
+stays Z e = (refl, refl)
+stays kind e = absurd (true≢false e)
+
 -- an order that jumps does so at a short place
 short_by : (a b c : Bool) → (a && (b && c)) ≡ false → a ≡ true → b ≡ true → c ≡ false
 short_by a b c e x y = grind arith
@@ -136,9 +145,9 @@ module _ {n h : ℕ} (f : Frame n h) (r : Moment) where
     pub more_is : more ≡ true
     pub reaches : IsNear f.top w
 
-  pub named : (i g : ℕ) (kind : Kind) (p : Place f r) (more : Bool) → Names i g p more → kind_of_function g ≡ Some kind
+  pub named : (i g : ℕ) {kind : Kind} (p : Place f r) (more : Bool) → Names i g p more → kind_of_function g ≡ Some kind
       → Named kind p more (f.base + (i + 1))
-  named i g kind p more e is =
+  named i g {kind} p more e is =
       let w : ℕ = 4096 * g + digit (is_pair f r p) + 2 * address f r p in
       let tests = and_parts more (is_there f r p) (ap (λ x. x.1.1.1) e) in
       let below = near f r p tests.1 in
@@ -165,31 +174,32 @@ module _ {n h : ℕ} (f : Frame n h) (r : Moment) where
     no_F = no_F;
   }
 
-  -- an order that names a place
-  pub by_place : (i g : ℕ) (kind : Kind) (p : Place f r) (more : Bool) (turn : Turn) (t : Moment) → Names i g p more
-      → kind_of_function g ≡ Some kind → is_F kind ≡ false → (jumps kind && (more && is_pair f r p)) ≡ false
-      → ((o : Named kind p more (f.base + (i + 1))) (k : ℕ)
+module _ {n h : ℕ} {f : Frame n h} {r : Moment} {kind : Kind} {turn : Turn} {t : Moment} where
+  -- an order that names a place, and is no F; where it jumps it is short
+  pub by_place : (i g : ℕ) (p : Place f r) (more : Bool) → Names f r i g p more → kind_of_function g ≡ Some kind
+      → (is_F kind || (jumps kind && (more && is_pair f r p))) ≡ false
+      → ((o : Named f r kind p more (f.base + (i + 1))) (k : ℕ)
       → obey kind o.w (state f r k) ≡ record { state = state f t (k + 1); turn = turn })
       → Does f kind r turn t
-  by_place i g kind p more turn t e is no_F short does =
-      let o = named i g kind p more e is in
+  by_place i g p more e is fine does =
+      let o = named f r i g p more e is in
+      let x = or_parts (is_F kind) (jumps kind && (more && is_pair f r p)) fine in
       record {
-        does = λ k. obeyed kind o.w (f.base + (i + 1)) k o.is ∙ does o k;
-        order = order_of kind no_F o.is (λ x. o.reaches)
-            (λ x. o.long ∙ short_by (jumps kind) more (is_pair f r p) short x o.more_is);
+        does = λ k. obeyed f r kind o.w (f.base + (i + 1)) k o.is ∙ does o k;
+        order = order_of f r kind x.0 o.is (λ y. o.reaches)
+            (λ y. o.long ∙ short_by (jumps kind) more (is_pair f r p) x.1 y o.more_is);
       }
 
   -- an order of which the whole word counts
-  pub by_word : (i w : ℕ) (kind : Kind) (turn : Turn) (t : Moment) → Stands i w true
-      → kind_of_function (function_of w) ≡ Some kind
-      → names kind ≡ false → jumps kind ≡ false → is_F kind ≡ false
-      → ((o : IsWord kind w (f.base + (i + 1))) (k : ℕ)
+  pub by_word : (i w : ℕ) → Stands f r i w true → kind_of_function (function_of w) ≡ Some kind → names kind ≡ false
+      → ((o : IsWord f r kind w (f.base + (i + 1))) (k : ℕ)
       → obey kind w (state f r k) ≡ record { state = state f t (k + 1); turn = turn })
       → Does f kind r turn t
-  by_word i w kind turn t e is none stays no_F does =
-      let o = word i w true kind e is in
+  by_word i w e is none does =
+      let o = word f r i w true kind e is in
+      let x = stays kind none in
       record {
-        does = λ k. obeyed kind w (f.base + (i + 1)) k o ∙ does o k;
-        order = order_of kind no_F o (λ x. absurd (true≢false (sym x ∙ none)))
-            (λ x. absurd (true≢false (sym x ∙ stays)));
+        does = λ k. obeyed f r kind w (f.base + (i + 1)) k o ∙ does o k;
+        order = order_of f r kind x.1 o (λ y. absurd (true≢false (sym y ∙ none)))
+            (λ y. absurd (true≢false (sym y ∙ x.0)));
       }

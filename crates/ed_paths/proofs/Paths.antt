@@ -50,11 +50,11 @@ first_codes (suc k) s =
     (first_state k s)
 
 -- one order more, at the front
-preceded : (k : ℕ) (s m t : State) (w : Turn) (cs : List ℕ) → step s ≡ record { state = m; turn = w }
+preceded : {k : ℕ} {s m t : State} {w : Turn} {cs : List ℕ} → step s ≡ record { state = m; turn = w }
     → goes_on w ≡ true → Leads k m cs t
     → Leads (suc k) s (codes_of w ++ cs) t
 unfolding past
-preceded k s m t w cs first ok rest =
+preceded {k} {s} {m} {w = w} {cs} first ok rest =
     let a : (step s).state ≡ m = ap (λ (o : Obeyed). o.state) first in
     let b : (step s).turn ≡ w = ap (λ (o : Obeyed). o.turn) first in
     record {
@@ -80,14 +80,12 @@ none s = record { state_is = refl; codes_are = refl; goes = λ j h. absurd (omeg
 pub leads : {n h : ℕ} {f : Frame n h} {k : ℕ} {r t : Moment} {cs : List ℕ} → Path f k r cs t
     → (done : ℕ) → Leads k (state f r done) cs (state f t (done + k))
 leads {f = f} {t = t} stay done = let e : done + 0 ≡ done = omega arith in rw e (none (state f t done))
-leads {f = f} {t = t} (on {k = k} {r = r} {m = m} {cs = cs} first rest) done =
+leads (on {k = k} first rest) done =
     let e : done + suc k ≡ done + 1 + k = omega arith in
-    rw e (preceded k (state f r done) (state f m (done + 1)) (state f t (done + 1 + k)) _ cs (first.does done) refl
-    (leads rest (done + 1)))
-leads {f = f} {t = t} (prints {k = k} {r = r} {m = m} {cs = cs} first rest) done =
+    rw e (preceded (first.does done) refl (leads rest (done + 1)))
+leads (prints {k = k} first rest) done =
     let e : done + suc k ≡ done + 1 + k = omega arith in
-    rw e (preceded k (state f r done) (state f m (done + 1)) (state f t (done + 1 + k)) _ cs (first.does done) refl
-    (leads rest (done + 1)))
+    rw e (preceded (first.does done) refl (leads rest (done + 1)))
 
 -- what holds before an order of any kind holds before every order of a path
 module _ {n h : ℕ} {f : Frame n h} (P : State → Type 0)

@@ -20,7 +20,8 @@ module _ {A : Type 0} (d : A) where
   set_left (c ∷ cs) ys zero v h = refl
   set_left (c ∷ cs) ys (suc j) v h = ap (λ x. c ∷ x) (set_left cs ys j v (omega arith))
 
-  get_right : (cs ys : List A) (j : ℕ) → get_or (cs ++ ys) (length cs + j) d ≡ get_or ys j d
+  -- behind a front
+  pub get_right : (cs ys : List A) (j : ℕ) → get_or (cs ++ ys) (length cs + j) d ≡ get_or ys j d
   get_right [] ys j = let e : 0 + j ≡ j = omega arith in rw e refl
   get_right (c ∷ cs) ys j = let e : suc (length cs) + j ≡ suc (length cs + j) = omega arith
       in rw (e, get_right cs ys j) refl

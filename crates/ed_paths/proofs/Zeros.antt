@@ -1,5 +1,8 @@
 -- Digits that a piece prints one by one without those zeros that lead, as the print routine and the post-mortem do.
-use Rattle.std.proofs.Common.{ℕ, zero, suc, Bool, true, false, List, [], ◌∷◌, Option, Some}
+use Rattle.std.proofs.Common.{◌≡◌, ℕ, zero, suc, ◌+◌, ◌*◌, ◌<◌, ◌≤◌, arith, Bool, true, false}
+use Rattle.std.proofs.Common.{List, [], ◌∷◌, Option, Some}
+use Rattle.ed_paths.proofs.Frames.{Frame, Moment}
+use Rattle.ed_paths.proofs.Paths.{Path, stay, followed}
 
 -- whether a digit was printed, as the word that says so
 abbrev pub flag_of : Bool → ℕ
@@ -28,3 +31,22 @@ spared true q = 0
 abbrev pub last_of : Option ℕ → List ℕ → Option ℕ
 last_of last [] = last
 last_of last (c ∷ cs) = last_of (Some c) cs
+
+-- a power is taken away as often as it goes, where eight orders take it away once and count the digit: the moments are
+-- those with what is left of the number and the digit so far
+pub taken_away : {n h : ℕ} {f : Frame n h} (moments : ℕ → ℕ → Moment) (power bound : ℕ)
+    → ((u d : ℕ) → u + power < bound → d < 9 → Path f 8 (moments (u + power) d) [] (moments u (d + 1)))
+    → (q d r : ℕ) → (q * power + r < bound) × (d + q ≤ 9)
+    → Path f (8 * q) (moments (q * power + r) d) [] (moments r (d + q))
+taken_away moments power bound once zero d r few =
+    let e : 0 * power + r ≡ r = omega arith in
+    let g : d + 0 ≡ d = omega arith in
+    rw (e, g) stay
+taken_away moments power bound once (suc q) d r few =
+    let low = few.0 in
+    let most = few.1 in
+    let e : 8 * suc q ≡ 8 + 8 * q = omega arith in
+    let g : d + suc q ≡ d + 1 + q = omega arith in
+    let s : suc q * power + r ≡ q * power + r + power = omega arith in
+    rw (e, g, s) (followed (once (q * power + r) d (omega arith) (omega arith))
+    (taken_away moments power bound once q (d + 1) r (omega arith, omega arith)))

@@ -45,9 +45,9 @@ ran_ends limit resumes room s =
     }
 
 -- two ends of one run are the same
-pub ends_once : (limit resumes room : ℕ) (s : State) (j k : ℕ) (d e : Ending)
+pub ends_once : {limit resumes room : ℕ} {s : State} {j k : ℕ} {d e : Ending}
     → EndsAfter limit resumes room s j d → EndsAfter limit resumes room s k e → (j ≡ k) × (d ≡ e)
-ends_once limit resumes room s j k d e g h =
+ends_once {limit} {resumes} {room} {s} {j} {k} {d} {e} g h =
     elim (cases_lt j k) [
       | inl l ↦ absurd (none_some d (sym (h.first j l) ∙ g.now))
       | inr m ↦
@@ -66,13 +66,13 @@ ends_once limit resumes room s j k d e g h =
     some_is d e h = cc
 
 -- what a run leaves is the function's
-pub run_left : (limit resumes : ℕ) (s : State) (sheet : Sheet) (ending : Ending) (last : State) (full : Sheet)
+pub run_left : {limit resumes : ℕ} {s : State} {sheet : Sheet} {ending : Ending} {last : State} {full : Sheet}
     → IsRun limit resumes s sheet ending last full
     → IsLeft (ran limit resumes (sheet.room - length sheet.codes) s) sheet ending last full
 unfolding ran
-run_left limit resumes s sheet ending last full r =
+run_left {limit} {resumes} {s} {sheet} r =
     let room = sheet.room - length sheet.codes in
-    let one = ends_once limit resumes room s _ _ _ _ (ran_ends limit resumes room s) r.ends in
+    let one = ends_once (ran_ends limit resumes room s) r.ends in
     let k = one.0 in
     record {
       ending_is = sym one.1;

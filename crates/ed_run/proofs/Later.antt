@@ -25,6 +25,10 @@ quiet_past (suc k) s h =
     let turn = h k (omega arith) in
     rw (c, n, turn) refl
 
+-- none of them is a stop
+pub quiet_stops : (k : ℕ) (s : State) → AllWent k s → (past k s).stops ≡ 0
+quiet_stops k s h = ap (λ (p : Past). p.stops) (quiet_past k s h)
+
 past_on : (j k : ℕ) (s : State) → AllWent k s → past (k + j) s ≡ past j (state_after k s)
 unfolding past
 past_on zero k s h = let e : k + 0 ≡ k = omega arith in ap (λ x. past x s) e ∙ quiet_past k s h

@@ -1,23 +1,20 @@
 -- One more order of a run.
 use Rattle.std.proofs.Common.{◌≡◌, ℕ, ◌+◌, ◌-◌, ◌<◌, ◌≤◌, ◌++◌, refl, sym, ap, ◌∙◌, arith}
-use Rattle.std.proofs.Common.{add-one, below_more, Bool, true, false, nat_le, Option, None, []}
+use Rattle.std.proofs.Common.{below_more, Bool, true, false, nat_le, Option, None, []}
 use Rattle.std.proofs.Common.{◌∷◌, length, append_assoc, append-nil, length-append, ◌⊎◌, inl, inr}
 use Rattle.std.proofs.lemmas.Bool.Decides.{nat_tests}
 use Rattle.ed_words.proofs.Numbers.{lt_true, lt_false, eq_false}
 use Rattle.ed_machine.specs.State.{State}
 use Rattle.ed_machine.specs.OrderTable.{step}
 use Rattle.std.specs.Bool.{OnTrue}
-use Rattle.ed_machine.specs.Steps.{Past, codes_of, is_obeyed, stops_of, next_past, past}
+use Rattle.ed_machine.specs.Steps.{Past, codes_of, is_obeyed, stops_of, past}
 use Rattle.ed_machine.specs.Sheet.{Sheet}
 use Rattle.ed_machine.specs.declared.turn.Turn.{Turn}
 use Rattle.ed_machine.specs.declared.turn.Turn.TheVariants.{Went, Printed, Stopped as Stops, NoOrder, NoTape}
 use Rattle.ed_machine.specs.declared.ending.Ending.{Ending}
 use Rattle.ed_machine.specs.declared.ending.Ending.TheVariants.{Stopped}
+use Rattle.ed_machine.proofs.Steps.{past_next}
 use Rattle.ed_run.specs.Run.{end_by, end_at, prints, IsRun}
-
-past_next : (k : ℕ) (s : State) → past (k + 1) s ≡ next_past (past k s)
-unfolding past
-past_next k s = rw add-one refl
 
 -- a run with a resume left and orders left ends as its next order says
 by_next : (limit resumes room k : ℕ) (p : Past) → p.stops ≤ resumes → k < limit
@@ -75,13 +72,15 @@ module _ (limit resumes : ℕ) (s : State) (sheet : Sheet) where
     first = λ j l. absurd (omega arith);
   }
 
-  -- where the program then stands
-  taken : {k : ℕ} {m m' : State} {paper paper' : Sheet} {stops stops' : ℕ} {turn : Turn}
-      → Running k m paper stops → Took m paper stops turn m' paper' stops'
+-- so many orders of it have been obeyed
+module _ {limit resumes : ℕ} {s : State} {sheet : Sheet} {k : ℕ} {m : State} {paper : Sheet} {stops : ℕ}
+    (r : Running limit resumes s sheet k m paper stops) where
+  -- where the program stands after one order more
+  taken : {m' : State} {paper' : Sheet} {stops' : ℕ} {turn : Turn} → Took m paper stops turn m' paper' stops'
       → (m' ≡ (past (k + 1) s).state)
       × (paper' ≡ record { codes = sheet.codes ++ (past (k + 1) s).codes; room = sheet.room })
       × (stops' ≡ (past (k + 1) s).stops)
-  taken {k} {m} {m'} {paper} {paper'} {stops} {stops'} {turn} r t =
+  taken {paper' = paper'} {turn = turn} t =
       let p = past k s in
       let turn_is : (step p.state).turn ≡ turn = ap (λ (x : State). (step x).turn) (sym r.state) ∙ t.turn_is in
       let whole : paper'.codes ≡ sheet.codes ++ (p.codes ++ codes_of (step p.state).turn) =
@@ -98,9 +97,8 @@ module _ (limit resumes : ℕ) (s : State) (sheet : Sheet) where
       )
 
   -- the room left for the codes of a run is what is left of the sheet's
-  full_is : {k : ℕ} {m : State} {paper : Sheet} {stops : ℕ} → Running k m paper stops
-      → nat_le (sheet.room - length sheet.codes) (length (past k s).codes) ≡ is_full paper
-  full_is {k} {m} {paper} {stops} r =
+  full_is : nat_le (sheet.room - length sheet.codes) (length (past k s).codes) ≡ is_full paper
+  full_is =
       let codes : length paper.codes ≡ length sheet.codes + length (past k s).codes =
       ap (λ (x : Sheet). length x.codes) r.codes ∙ length-append sheet.codes (past k s).codes in
       let room : paper.room ≡ sheet.room = ap (λ (x : Sheet). x.room) r.codes in
@@ -110,38 +108,37 @@ module _ (limit resumes : ℕ) (s : State) (sheet : Sheet) where
       moved a b c = grind (arith, nat_tests)
 
   -- how the next order ends the run, seen from the program
-  next_end : {k : ℕ} {m : State} {paper : Sheet} {stops : ℕ} → Running k m paper stops → k < limit
-      → end_after k ≡ end_by (step m).turn (is_full paper)
-  next_end {k} {m} {paper} {stops} r below =
+  next_end : k < limit → end_after limit resumes s sheet k ≡ end_by (step m).turn (is_full paper)
+  next_end below =
       by_next limit resumes (sheet.room - length sheet.codes) k (past k s) (omega (arith, r.stops_are, r.within)) below
       ∙ ap (λ (x : State). end_by (step x).turn (nat_le (sheet.room - length sheet.codes) (length (past k s).codes)))
       (sym r.state)
-      ∙ ap (λ b. end_by (step m).turn b) (full_is r)
+      ∙ ap (λ b. end_by (step m).turn b) full_is
 
   -- no end comes up to an order that does not end the run
-  first_after : {k : ℕ} {m : State} {paper : Sheet} {stops : ℕ} → Running k m paper stops → k < limit
-      → end_by (step m).turn (is_full paper) ≡ None → (j : ℕ) → j < k + 1 → end_after j ≡ None
-  first_after {k} r below free = below_more (λ j. end_after j ≡ None) k r.first (next_end r below ∙ free)
+  first_after : k < limit → end_by (step m).turn (is_full paper) ≡ None → (j : ℕ) → j < k + 1
+      → end_after limit resumes s sheet j ≡ None
+  first_after below free =
+      below_more (λ j. end_after limit resumes s sheet j ≡ None) k r.first (next_end below ∙ free)
 
   -- the run goes on after an order that does not end it
-  pub goes_on : {k : ℕ} {m m' : State} {paper paper' : Sheet} {stops stops' : ℕ} {turn : Turn}
-      → Running k m paper stops → k < limit → Took m paper stops turn m' paper' stops'
-      → end_by (step m).turn (is_full paper) ≡ None → stops' ≤ resumes → Running (k + 1) m' paper' stops'
-  goes_on r below t free within =
-      let now = taken r t in
-      record { state = now.0; codes = now.1; stops_are = now.2; within = within; first = first_after r below free }
+  pub goes_on : {m' : State} {paper' : Sheet} {stops' : ℕ} {turn : Turn} → k < limit
+      → Took m paper stops turn m' paper' stops' → end_by (step m).turn (is_full paper) ≡ None → stops' ≤ resumes
+      → Running limit resumes s sheet (k + 1) m' paper' stops'
+  goes_on below t free within =
+      let now = taken t in
+      record { state = now.0; codes = now.1; stops_are = now.2; within = within; first = first_after below free }
 
   -- the run ends with a stop for which no resume is left
-  pub ends_with_stop : {k : ℕ} {m m' : State} {paper paper' : Sheet} {stops stops' : ℕ} → Running k m paper stops
-      → k < limit
+  pub ends_with_stop : {m' : State} {paper' : Sheet} {stops' : ℕ} → k < limit
       → Took m paper stops Stops m' paper' stops' → resumes < stops' → IsRun limit resumes s sheet Stopped m' paper'
-  ends_with_stop {k} {m} {m'} {paper} {paper'} {stops} {stops'} r below t many =
-      let now = taken r t in
+  ends_with_stop {stops' = stops'} below t many =
+      let now = taken t in
       let free : end_by (step m).turn (is_full paper) ≡ None = ap (λ (u : Turn). end_by u (is_full paper)) t.turn_is in
       let a = lt_true resumes (past (k + 1) s).stops (omega (arith, many, now.2)) in
       record {
         orders = k + 1;
-        ends = record { now = rw a refl; first = first_after r below free };
+        ends = record { now = rw a refl; first = first_after below free };
         state_is = now.0;
         sheet_is = now.1;
       }

@@ -1,15 +1,16 @@
 -- Where a run ends whose orders are obeyed as far as it goes.
-use Rattle.std.proofs.Common.{◌≡◌, ℕ, zero, suc, ◌+◌, ◌-◌, ◌<◌, ◌≤◌, refl, sym, ap}
+use Rattle.std.proofs.Common.{◌≡◌, ℕ, suc, ◌+◌, ◌-◌, ◌<◌, ◌≤◌, refl, sym, ap}
 use Rattle.std.proofs.Common.{◌∙◌, arith, Bool, true, false, true≢false, nat_le}
 use Rattle.std.proofs.Common.{length, length-append, Some, None}
 use Rattle.ed_words.proofs.Numbers.{lt_true, lt_false, eq_true, eq_false, le_of}
 use Rattle.ed_machine.specs.State.{State}
 use Rattle.ed_machine.specs.OrderTable.{step}
-use Rattle.ed_machine.specs.Steps.{past, state_after, codes_of, stops_of, is_obeyed}
+use Rattle.ed_machine.specs.Steps.{Past, past, state_after, codes_of, stops_of, is_obeyed}
 use Rattle.ed_machine.specs.declared.turn.Turn.{Turn}
 use Rattle.ed_machine.specs.declared.turn.Turn.TheVariants.{Went, Printed, Stopped as Stops, NoOrder, NoTape}
 use Rattle.ed_machine.specs.declared.ending.Ending.{Ending}
 use Rattle.ed_machine.specs.declared.ending.Ending.TheVariants.{Stopped, Limit}
+use Rattle.ed_machine.proofs.Steps.{past_sum}
 use Rattle.ed_run.specs.Run.{end_by, end_at, EndsAfter}
 use Rattle.ed_run.specs.Laws.{HasRoom}
 
@@ -26,13 +27,12 @@ next_stops j s = refl
 -- codes and stops never get fewer
 grows : (j d : ℕ) (s : State)
     → ((past j s).stops ≤ (past (j + d) s).stops) × (length (past j s).codes ≤ length (past (j + d) s).codes)
-grows j zero s = let e : j + 0 ≡ j = omega arith in rw e (omega arith, omega arith)
-grows j (suc d) s =
-    let e : j + suc d ≡ suc (j + d) = omega arith in
-    let before = grows j d s in
-    let stops = before.0 in
-    let codes = before.1 in
-    rw e (omega (arith, stops, next_stops (j + d) s), omega (arith, codes, next_codes (j + d) s))
+grows j d s =
+    let later = past d (state_after j s) in
+    let stops : (past (j + d) s).stops ≡ (past j s).stops + later.stops = ap (λ (p : Past). p.stops) (past_sum j d s) in
+    let codes : length (past (j + d) s).codes ≡ length (past j s).codes + length later.codes =
+    ap (λ (p : Past). length p.codes) (past_sum j d s) ∙ length-append (past j s).codes later.codes in
+    (omega (arith, stops), omega (arith, codes))
 
 -- an order that is obeyed ends nothing where it prints nothing or has room
 goes_by : (turn : Turn) (full : Bool) → is_obeyed turn ≡ true → (full ≡ true → length (codes_of turn) ≡ 0)
@@ -45,10 +45,9 @@ goes_by (NoOrder function) full o h = absurd (true≢false (sym o))
 goes_by NoTape full o h = absurd (true≢false (sym o))
 
 -- no end comes before an order that is obeyed and has room, where resumes are left
-not_before : (limit resumes room k : ℕ) (s : State) → HasRoom room k s → (j : ℕ) → j < k → k ≤ limit
-    → (past j s).stops ≤ resumes
-    → end_at limit resumes room j (past j s) ≡ None
-not_before limit resumes room k s r j l below few =
+not_before : (limit resumes : ℕ) {room k : ℕ} {s : State} → HasRoom room k s → k ≤ limit → (j : ℕ) → j < k
+    → (past j s).stops ≤ resumes → end_at limit resumes room j (past j s) ≡ None
+not_before limit resumes {room} {k} {s} r below j l few =
     let whole : suc j + (k - suc j) ≡ k = omega arith in
     let more = (grows (suc j) (k - suc j) s).1 in
     let most : length (past (suc j) s).codes ≤ length (past k s).codes = rw whole at more in
@@ -64,31 +63,29 @@ was_few k j n s l h =
     let most : (past j s).stops ≤ (past k s).stops = rw whole at more in
     omega (arith, most, h)
 
-pub at_limit : (limit resumes room : ℕ) (s : State) → HasRoom room limit s → (past limit s).stops ≤ resumes
+pub at_limit : (limit resumes : ℕ) {room : ℕ} {s : State} → HasRoom room limit s → (past limit s).stops ≤ resumes
     → EndsAfter limit resumes room s limit Limit
-at_limit limit resumes room s r few = record {
+at_limit limit resumes {s = s} r few = record {
   now = rw (lt_false resumes (past limit s).stops few, eq_true limit limit refl) refl;
-  first = λ j l. not_before limit resumes room limit s r j l (omega arith)
-      (was_few limit j resumes s (omega arith) few);
+  first = λ j l. not_before limit resumes r (omega arith) j l (was_few limit j resumes s (omega arith) few);
 }
 
-pub at_block : (limit resumes room k : ℕ) (s : State) (e : Ending) → HasRoom room k s → (past k s).stops ≤ resumes
-    → k < limit
+pub at_block : (limit resumes : ℕ) {room k : ℕ} {s : State} {e : Ending} → HasRoom room k s
+    → (past k s).stops ≤ resumes → k < limit
     → end_by (step (state_after k s)).turn (nat_le room (length (past k s).codes)) ≡ Some e
     → EndsAfter limit resumes room s k e
-at_block limit resumes room k s e r few l h = record {
+at_block limit resumes {k = k} {s = s} r few l h = record {
   now = rw (lt_false resumes (past k s).stops few, eq_false k limit (omega arith)) h;
-  first = λ j m. not_before limit resumes room k s r j m (omega arith) (was_few k j resumes s (omega arith) few);
+  first = λ j m. not_before limit resumes r (omega arith) j m (was_few k j resumes s (omega arith) few);
 }
 
-pub at_stop : (limit resumes room j : ℕ) (s : State) → HasRoom room (suc j) s → (past j s).stops ≡ resumes
+pub at_stop : (limit resumes : ℕ) {room j : ℕ} {s : State} → HasRoom room (suc j) s → (past j s).stops ≡ resumes
     → suc j ≤ limit
     → (step (state_after j s)).turn ≡ Stops → EndsAfter limit resumes room s (suc j) Stopped
-at_stop limit resumes room j s r few l stop =
+at_stop limit resumes {j = j} {s = s} r few l stop =
     let more : (past (suc j) s).stops ≡ (past j s).stops + 1 = next_stops j s
     ∙ ap (λ (t : Turn). (past j s).stops + stops_of t) stop in
     record {
       now = rw (lt_true resumes (past (suc j) s).stops (omega (arith, few, more))) refl;
-      first = λ i m. not_before limit resumes room (suc j) s r i m l
-          (was_few j i resumes s (omega arith) (omega (arith, few)));
+      first = λ i m. not_before limit resumes r l i m (was_few j i resumes s (omega arith) (omega (arith, few)));
     }

@@ -7,7 +7,7 @@ use Rattle.std.proofs.lemmas.List.{set-get_or, get_or-set_other, get_or_read, le
 use Rattle.ed_words.specs.Words.{digit}
 use Rattle.ed_store.specs.Cells.{Cells, IsStore, cleared_cells, even, odd, short_at}
 use Rattle.ed_store.specs.Cells.{sandwich_at, long_at, with_short, with_long}
-use Rattle.ed_store.specs.Packed.{words_of, digits_of, unpacked, ArePacked}
+use Rattle.ed_store.specs.Packed.{cell_words, sandwich_digits, unpacked, ArePacked}
 
 -- two stores with the same words and digits are one
 cells_equal : (a b : Cells) → a.words ≡ b.words → a.sandwich ≡ b.sandwich → a ≡ b
@@ -17,42 +17,43 @@ twice : (k : ℕ) → 2 * suc k ≡ suc (suc (2 * k))
 twice k = omega arith
 
 -- what stands at a place of the words and of the digits
-get_low : (cs : List ℕ) (k : ℕ) → get_or (words_of cs) (2 * k) 0 ≡ get_or cs k 0 % 2 ^ 17
+get_low : (cs : List ℕ) (k : ℕ) → get_or (cell_words cs) (2 * k) 0 ≡ get_or cs k 0 % 2 ^ 17
 get_low [] k = refl
 get_low (c ∷ cs) zero = refl
 get_low (c ∷ cs) (suc k) = rw (twice k) (get_low cs k)
 
-get_high : (cs : List ℕ) (k : ℕ) → get_or (words_of cs) (suc (2 * k)) 0 ≡ get_or cs k 0 / 2 ^ 18
+get_high : (cs : List ℕ) (k : ℕ) → get_or (cell_words cs) (suc (2 * k)) 0 ≡ get_or cs k 0 / 2 ^ 18
 get_high [] k = refl
 get_high (c ∷ cs) zero = refl
 get_high (c ∷ cs) (suc k) = rw (twice k) (get_high cs k)
 
-get_digit : (cs : List ℕ) (k : ℕ) → get_or (digits_of cs) k false ≡ nat_eq (get_or cs k 0 / 2 ^ 17 % 2) 1
+get_digit : (cs : List ℕ) (k : ℕ) → get_or (sandwich_digits cs) k false ≡ nat_eq (get_or cs k 0 / 2 ^ 17 % 2) 1
 get_digit [] k = refl
 get_digit (c ∷ cs) zero = refl
 get_digit (c ∷ cs) (suc k) = get_digit cs k
 
 -- a cell written is both words of its pair and its digit written
 set_words : (cs : List ℕ) (k x : ℕ)
-    → words_of (set cs k x) ≡ set (set (words_of cs) (2 * k) (x % 2 ^ 17)) (suc (2 * k)) (x / 2 ^ 18)
+    → cell_words (set cs k x) ≡ set (set (cell_words cs) (2 * k) (x % 2 ^ 17)) (suc (2 * k)) (x / 2 ^ 18)
 set_words [] k x = refl
 set_words (c ∷ cs) zero x = refl
 set_words (c ∷ cs) (suc k) x = rw (twice k) (ap (λ ws. c % 2 ^ 17 ∷ c / 2 ^ 18 ∷ ws) (set_words cs k x))
 
-set_digits : (cs : List ℕ) (k x : ℕ) → digits_of (set cs k x) ≡ set (digits_of cs) k (nat_eq (x / 2 ^ 17 % 2) 1)
+set_digits : (cs : List ℕ) (k x : ℕ)
+    → sandwich_digits (set cs k x) ≡ set (sandwich_digits cs) k (nat_eq (x / 2 ^ 17 % 2) 1)
 set_digits [] k x = refl
 set_digits (c ∷ cs) zero x = refl
 set_digits (c ∷ cs) (suc k) x = ap (λ ds. nat_eq (c / 2 ^ 17 % 2) 1 ∷ ds) (set_digits cs k x)
 
-length-words : (cs : List ℕ) → length (words_of cs) ≡ 2 * length cs
+length-words : (cs : List ℕ) → length (cell_words cs) ≡ 2 * length cs
 length-words [] = refl
 length-words (c ∷ cs) = omega (arith, length-words cs)
 
-length-digits : (cs : List ℕ) → length (digits_of cs) ≡ length cs
+length-digits : (cs : List ℕ) → length (sandwich_digits cs) ≡ length cs
 length-digits [] = refl
 length-digits (c ∷ cs) = ap suc (length-digits cs)
 
-words_fit : (cs : List ℕ) → ((k : ℕ) → get_or cs k 0 < 2 ^ 35) → (i : ℕ) → get_or (words_of cs) i 0 < 2 ^ 17
+words_fit : (cs : List ℕ) → ((k : ℕ) → get_or cs k 0 < 2 ^ 35) → (i : ℕ) → get_or (cell_words cs) i 0 < 2 ^ 17
 words_fit [] h i = lit< tt
 words_fit (c ∷ cs) h zero = omega arith
 words_fit (c ∷ cs) h (suc zero) = omega (arith, h 0)
@@ -75,10 +76,10 @@ cell_read cs a at x packed fits is read =
 
 -- a location's word from the cell of its pair
 pub short_low : (cs : List ℕ) (a : ℕ) → a % 2 ≡ 0 → short_at (unpacked cs) a ≡ get_or cs (a / 2) 0 % 2 ^ 17
-short_low cs a h = let e : a ≡ 2 * (a / 2) = omega arith in ap (λ i. get_or (words_of cs) i 0) e ∙ get_low cs (a / 2)
+short_low cs a h = let e : a ≡ 2 * (a / 2) = omega arith in ap (λ i. get_or (cell_words cs) i 0) e ∙ get_low cs (a / 2)
 
 pub short_high : (cs : List ℕ) (a : ℕ) → a % 2 ≢ 0 → short_at (unpacked cs) a ≡ get_or cs (a / 2) 0 / 2 ^ 18
-short_high cs a h = let e : a ≡ suc (2 * (a / 2)) = omega arith in ap (λ i. get_or (words_of cs) i 0) e
+short_high cs a h = let e : a ≡ suc (2 * (a / 2)) = omega arith in ap (λ i. get_or (cell_words cs) i 0) e
     ∙ get_high cs (a / 2)
 
 -- the sandwich digit of a location's pair from its cell
@@ -94,9 +95,9 @@ long_is cs a =
     let e : even a ≡ 2 * (a / 2) = omega arith in
     let o : odd a ≡ suc (2 * (a / 2)) = omega arith in
     let cell = get_or cs (a / 2) 0 in
-    let low = ap (λ i. get_or (words_of cs) i 0) e ∙ get_low cs (a / 2) in
-    let high = ap (λ i. get_or (words_of cs) i 0) o ∙ get_high cs (a / 2) in
-    let middle : digit (get_or (digits_of cs) (a / 2) false) ≡ cell / 2 ^ 17 % 2 = ap digit (get_digit cs (a / 2))
+    let low = ap (λ i. get_or (cell_words cs) i 0) e ∙ get_low cs (a / 2) in
+    let high = ap (λ i. get_or (cell_words cs) i 0) o ∙ get_high cs (a / 2) in
+    let middle : digit (get_or (sandwich_digits cs) (a / 2) false) ≡ cell / 2 ^ 17 % 2 = ap digit (get_digit cs (a / 2))
     ∙ digit_number (cell / 2 ^ 17) in
     omega (arith, low, high, middle)
 
@@ -109,28 +110,28 @@ pub put_long_is : (cs : List ℕ) (a x : ℕ) → unpacked (set cs (a / 2) x) �
 put_long_is cs a x =
     let e : 2 * (a / 2) ≡ even a = omega arith in
     let o : suc (2 * (a / 2)) ≡ odd a = omega arith in
-    cells_equal _ _ (set_words cs (a / 2) x ∙ ap₂ (λ i j. set (set (words_of cs) i (x % 2 ^ 17)) j (x / 2 ^ 18)) e o)
+    cells_equal _ _ (set_words cs (a / 2) x ∙ ap₂ (λ i j. set (set (cell_words cs) i (x % 2 ^ 17)) j (x / 2 ^ 18)) e o)
     (set_digits cs (a / 2) x)
 
 -- where a cell's sandwich digit is that of the one before, the digits stay
 same_digit : (cs : List ℕ) (k x : ℕ) → x / 2 ^ 17 % 2 ≡ get_or cs k 0 / 2 ^ 17 % 2
-    → digits_of (set cs k x) ≡ digits_of cs
+    → sandwich_digits (set cs k x) ≡ sandwich_digits cs
 same_digit cs k x same =
-    set_digits cs k x ∙ ap (λ n. set (digits_of cs) k (nat_eq n 1)) same
-    ∙ ap (set (digits_of cs) k) (sym (get_digit cs k))
-    ∙ set-get_or (digits_of cs) k false
+    set_digits cs k x ∙ ap (λ n. set (sandwich_digits cs) k (nat_eq n 1)) same
+    ∙ ap (set (sandwich_digits cs) k) (sym (get_digit cs k))
+    ∙ set-get_or (sandwich_digits cs) k false
 
 -- the lower half of a cell is written: the upper half and the sandwich digit stay
 pub put_low_is : (cs : List ℕ) (a x w : ℕ) → a % 2 ≡ 0 → x % 2 ^ 17 ≡ w → x / 2 ^ 17 ≡ get_or cs (a / 2) 0 / 2 ^ 17
     → unpacked (set cs (a / 2) x) ≡ with_short (unpacked cs) a w
 put_low_is cs a x w h low rest =
-    let k = a / 2 in let ws = words_of cs in
+    let k = a / 2 in let ws = cell_words cs in
     let place : 2 * k ≡ a = omega arith in
     let other : suc (2 * k) ≢ 2 * k = omega arith in
     let upper : x / 2 ^ 18 ≡ get_or cs k 0 / 2 ^ 18 = omega arith in
     let same : x / 2 ^ 18 ≡ get_or (set ws (2 * k) w) (suc (2 * k)) 0 =
     upper ∙ sym (get_high cs k) ∙ sym (get_or-set_other ws (2 * k) (suc (2 * k)) w 0 other) in
-    let words : words_of (set cs k x) ≡ set ws a w =
+    let words : cell_words (set cs k x) ≡ set ws a w =
     set_words cs k x ∙ ap₂ (λ v u. set (set ws (2 * k) v) (suc (2 * k)) u) low same
     ∙ set-get_or (set ws (2 * k) w) (suc (2 * k)) 0 ∙ ap (λ i. set ws i w) place in
     cells_equal _ _ words (same_digit cs k x (omega arith))
@@ -139,11 +140,11 @@ put_low_is cs a x w h low rest =
 pub put_high_is : (cs : List ℕ) (a x w : ℕ) → a % 2 ≢ 0 → x / 2 ^ 18 ≡ w → x % 2 ^ 18 ≡ get_or cs (a / 2) 0 % 2 ^ 18
     → unpacked (set cs (a / 2) x) ≡ with_short (unpacked cs) a w
 put_high_is cs a x w h high rest =
-    let k = a / 2 in let ws = words_of cs in
+    let k = a / 2 in let ws = cell_words cs in
     let place : suc (2 * k) ≡ a = omega arith in
     let lower : x % 2 ^ 17 ≡ get_or cs k 0 % 2 ^ 17 = omega arith in
     let middle : x / 2 ^ 17 % 2 ≡ get_or cs k 0 / 2 ^ 17 % 2 = omega arith in
-    let words : words_of (set cs k x) ≡ set ws a w =
+    let words : cell_words (set cs k x) ≡ set ws a w =
     set_words cs k x ∙ ap₂ (λ v u. set (set ws (2 * k) v) (suc (2 * k)) u) (lower ∙ sym (get_low cs k)) high
     ∙ ap (λ vs. set vs (suc (2 * k)) w) (set-get_or ws (2 * k) 0) ∙ ap (λ i. set ws i w) place in
     cells_equal _ _ words (same_digit cs k x middle)
@@ -168,7 +169,7 @@ same_cell c d low high middle =
     ∙ digit_number (d / 2 ^ 17) in
     omega (arith, low, high, digit_same)
 
-from_parts : (cs ds : List ℕ) → words_of cs ≡ words_of ds → digits_of cs ≡ digits_of ds → cs ≡ ds
+from_parts : (cs ds : List ℕ) → cell_words cs ≡ cell_words ds → sandwich_digits cs ≡ sandwich_digits ds → cs ≡ ds
 from_parts [] [] w d = refl
 from_parts [] (y ∷ ys) w d = absurd (cc)
 from_parts (x ∷ xs) [] w d = absurd (cc)

@@ -5,18 +5,18 @@ use Rattle.ed_words.specs.Words.{halves_of}
 use Rattle.ed_store.specs.Cells.{Cells}
 
 -- the words of the cells: those of the even and of the odd location of each pair
-abbrev pub words_of : List ℕ → List ℕ
-words_of [] = []
-words_of (cell ∷ cells) = (halves_of cell).even ∷ (halves_of cell).odd ∷ words_of cells
+abbrev pub cell_words : List ℕ → List ℕ
+cell_words [] = []
+cell_words (cell ∷ cells) = (halves_of cell).even ∷ (halves_of cell).odd ∷ cell_words cells
 
 -- the sandwich digits of the cells
-abbrev pub digits_of : List ℕ → List Bool
-digits_of [] = []
-digits_of (cell ∷ cells) = (halves_of cell).sandwich ∷ digits_of cells
+abbrev pub sandwich_digits : List ℕ → List Bool
+sandwich_digits [] = []
+sandwich_digits (cell ∷ cells) = (halves_of cell).sandwich ∷ sandwich_digits cells
 
 -- the store that the cells are
 abbrev pub unpacked : List ℕ → Cells
-unpacked cells = record { words = words_of cells; sandwich = digits_of cells }
+unpacked cells = record { words = cell_words cells; sandwich = sandwich_digits cells }
 
 -- what each list of cells meets
 pub record ArePacked (cells : List ℕ) : Type 0 where

@@ -4,14 +4,14 @@ use Rattle.ed_run.proofs.Places.{at_limit, at_block, at_stop}
 use Rattle.ed_run.proofs.run.Goals as goal
 
 pub returns-clause-ran : goal.returns-clause-ran
-returns-clause-ran c = run_left _ _ _ _ _ _ _ c.run_orders.ensures
+returns-clause-ran c = run_left c.run_orders.ensures
 
 pub returns-clause-law : goal.returns-clause-law
 returns-clause-law c = record {
   ends = ran_ends;
-  once = ends_once;
-  at_limit = at_limit;
-  at_block = at_block;
-  at_stop = at_stop;
+  once = λ limit resumes room s j k d e. ends_once;
+  at_limit = λ limit resumes room s. at_limit limit resumes;
+  at_block = λ limit resumes room k s e. at_block limit resumes;
+  at_stop = λ limit resumes room j s. at_stop limit resumes;
   later = ran_later;
 }

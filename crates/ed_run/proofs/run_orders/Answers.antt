@@ -15,7 +15,7 @@ loop-done-init c = record { running = at_first _ _ _ _; count = omega arith }
 
 pub returns-then-stops-resumes : goal.returns-then-stops-resumes
 returns-then-stops-resumes c =
-    ends_with_stop _ _ _ _ c.loop-done.invariant.running c.loop-done-test.true
+    ends_with_stop c.loop-done.invariant.running c.loop-done-test.true
     (silent (sym c.step.ensures.turn ∙ c.in-Stopped.is) c.step.ensures.state refl refl refl)
     (omega arith)
 
@@ -48,7 +48,7 @@ loop-done-preserved c =
       | in-Went w ↦
           let is = sym c.step.ensures.turn ∙ w.in-Went.is in
           record {
-            running = goes_on _ _ _ _ r c.loop-done-test.true
+            running = goes_on r c.loop-done-test.true
                 (silent is c.step.ensures.state w.paper-is refl (omega (arith, w.stops-is)))
                 (goes c Went is refl) (omega (arith, w.stops-is, r.within));
             count = omega (arith, c.step.ensures.count, c.loop-done.invariant.count);
@@ -56,7 +56,7 @@ loop-done-preserved c =
       | in-Printed w ↦
           let is = sym c.step.ensures.turn ∙ w.in-Printed.is in
           record {
-            running = goes_on _ _ _ _ r c.loop-done-test.true
+            running = goes_on r c.loop-done-test.true
                 (record {
                   turn_is = is;
                   state_is = c.step.ensures.state;
@@ -70,7 +70,7 @@ loop-done-preserved c =
       | in-Stopped+else-stops-resumes w ↦
           let is = sym c.step.ensures.turn ∙ w.in-Stopped.is in
           record {
-            running = goes_on _ _ _ _ r c.loop-done-test.true
+            running = goes_on r c.loop-done-test.true
                 (silent is c.step.ensures.state w.paper-is refl (omega (arith, w.stops-is)))
                 (goes c Stopped is refl) (omega (arith, w.stops-is, r.within, w.if-stops-resumes.false));
             count = omega (arith, c.step.ensures.count, c.loop-done.invariant.count);

@@ -4,7 +4,6 @@ use Rattle.ed_machine.proofs.machine.place_image.Goals as goal
 
 pub loop-i-preserved : goal.loop-i-preserved
 loop-i-preserved c =
-    image_step c.args.image.now c.args.store.now.words c.args.store.now.sandwich c.loop-i.i c.index-image-i.result
-    c.loop-i.store c.put_short.new.self
+    image_step c.args.image.now c.args.store.now.words
     c.loop-i.invariant c.put_short.ensures.store c.index-image-i.is c.loop-i-test.true
     (omega arith) c.put_short.ensures.is

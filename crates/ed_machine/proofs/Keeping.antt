@@ -1,0 +1,90 @@
+-- What orders keep: the size of a machine, no row more on its tape, and how many orders are done in them.
+use Rattle.std.proofs.Common.{◌≡◌, ◌∙◌, ℕ, zero, suc, ◌+◌, ◌≤◌, Bool, true, false, true≢false, refl, sym, ap, arith}
+use Rattle.std.proofs.Common.{Option, Some, None, List, [], ◌∷◌, length}
+use Rattle.ed_orders.specs.declared.kind.Kind.{Kind}
+use Rattle.ed_orders.specs.declared.kind.Kind.TheVariants.{A, S, H, V, N, T, U, C, R, L, E, G, I, O, F, X, Y, Z}
+use Rattle.ed_machine.specs.State.{State}
+use Rattle.ed_machine.specs.OrderTable.{Obeyed, blocked, jumped, obey_word, place_of, step, took_row}
+use Rattle.ed_machine.specs.Steps.{is_obeyed, past, state_after}
+use Rattle.ed_machine.specs.declared.turn.Turn.{Turn}
+
+-- a state that a number of orders at the most lead to
+pub record Follows (most : ℕ) (s t : State) : Type 0 where
+  pub size_is : t.size ≡ s.size
+  pub fewer : length t.tape ≤ length s.tape
+  pub later : s.orders ≤ t.orders
+  pub soon : t.orders ≤ s.orders + most
+
+-- what one order leaves, and that it is counted where it was obeyed
+pub record Leaves (s : State) (o : Obeyed) : Type 0 where
+  pub follows : Follows 1 s o.state
+  pub count : is_obeyed o.turn ≡ true → o.state.orders ≡ s.orders + 1
+
+-- one order more is done
+one_more : (s : State) (o : Obeyed) → o.state.size ≡ s.size → length o.state.tape ≤ length s.tape
+    → o.state.orders ≡ s.orders + 1 → Leaves s o
+one_more s o size rows orders = record {
+  follows = record { size_is = size; fewer = rows; later = omega arith; soon = omega arith };
+  count = λ obeyed. orders;
+}
+
+-- one that reads no row
+reads_none : (s : State) (o : Obeyed) → o.state.size ≡ s.size → o.state.tape ≡ s.tape → o.state.orders ≡ s.orders + 1
+    → Leaves s o
+reads_none s o size tape orders = let e = ap length tape in one_more s o size (omega arith) orders
+
+-- none is
+none_more : (s : State) (turn : Turn) → is_obeyed turn ≡ false → Leaves s (blocked turn s)
+none_more s turn not_obeyed = record {
+  follows = record { size_is = refl; fewer = omega arith; later = omega arith; soon = omega arith };
+  count = λ obeyed. absurd (true≢false (sym obeyed ∙ not_obeyed));
+}
+
+jump_leaves : (b : Bool) (n : ℕ) (s : State) → Leaves s (jumped b n s)
+jump_leaves true n s = reads_none s _ refl refl refl
+jump_leaves false n s = reads_none s _ refl refl refl
+
+row_leaves : (rows : List ℕ) (w : ℕ) (s : State) → s.tape ≡ rows → Leaves s (took_row rows w s)
+row_leaves [] w s is = none_more s _ refl
+row_leaves (row ∷ rows) w s is =
+    let e : length s.tape ≡ length (row ∷ rows) = ap length is in one_more s _ refl (omega arith) refl
+
+word_leaves : (k : Option Kind) (w : ℕ) (s : State) → Leaves s (obey_word k w s)
+word_leaves (Some E) w s = jump_leaves _ (place_of s w) s
+word_leaves (Some G) w s = jump_leaves _ (place_of s w) s
+word_leaves (Some I) w s = row_leaves s.tape w s refl
+word_leaves (Some A) w s = reads_none s _ refl refl refl
+word_leaves (Some S) w s = reads_none s _ refl refl refl
+word_leaves (Some H) w s = reads_none s _ refl refl refl
+word_leaves (Some V) w s = reads_none s _ refl refl refl
+word_leaves (Some N) w s = reads_none s _ refl refl refl
+word_leaves (Some T) w s = reads_none s _ refl refl refl
+word_leaves (Some U) w s = reads_none s _ refl refl refl
+word_leaves (Some C) w s = reads_none s _ refl refl refl
+word_leaves (Some R) w s = reads_none s _ refl refl refl
+word_leaves (Some L) w s = reads_none s _ refl refl refl
+word_leaves (Some O) w s = reads_none s _ refl refl refl
+word_leaves (Some F) w s = reads_none s _ refl refl refl
+word_leaves (Some X) w s = reads_none s _ refl refl refl
+word_leaves (Some Y) w s = reads_none s _ refl refl refl
+word_leaves (Some Z) w s = reads_none s _ refl refl refl
+word_leaves None w s = none_more s _ refl
+
+-- one step
+pub step_leaves : (s : State) → Leaves s (step s)
+unfolding step
+step_leaves s = word_leaves _ _ s
+
+-- any number of them
+pub steps_follow : (k : ℕ) (s : State) → Follows k s (state_after k s)
+unfolding past
+steps_follow zero s = record { size_is = refl; fewer = omega arith; later = omega arith; soon = omega arith }
+steps_follow (suc k) s =
+    let before = steps_follow k s in
+    let here = (step_leaves (state_after k s)).follows in
+    record {
+      size_is = here.size_is ∙ before.size_is;
+      fewer = omega (arith, before.fewer, here.fewer);
+      later = omega (arith, before.later, here.later);
+      soon = omega (arith, before.soon, here.soon);
+    }
