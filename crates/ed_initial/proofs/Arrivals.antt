@@ -36,63 +36,64 @@ walk_along {f} (on {kind = kind} {r = r} {m = m} first away rest) o zero h =
 walk_along {f} (on {r = r} {m = m} first away rest) o (suc j) h =
     ap event (one_earlier j (state f r o) (state f m (o + 1)) (first.does o)) ∙ walk_along rest (o + 1) j (omega arith)
 
--- a walk whose first order that does not go on is known ends there
-module _ (s : State) (m : ℕ) (walk : IsWalk m s) (what : Event) (last : event (state_after m s) ≡ what) (fits : m < 17)
-    (not_goes : what ≡ Goes → ⊥) where
+-- the first order of a walk that does not go on
+record IsLast (s : State) (m : ℕ) (what : Event) : Type 0 where
+  walk : IsWalk m s
+  last : event (state_after m s) ≡ what
+  fits : m < 17
+  not_goes : what ≡ Goes → ⊥
+
+-- where it is known, the walk ends there
+module _ {s : State} {m : ℕ} {what : Event} (f : IsLast s m what) where
   not_past : (k : ℕ) → IsWalk k s → k ≤ m
-  not_past k h = elim (cases_lt m k) [ inl l ↦ absurd (not_goes (sym last ∙ h m l)) | inr g ↦ g ]
+  not_past k h = elim (cases_lt m k) [ inl l ↦ absurd (f.not_goes (sym f.last ∙ h m l)) | inr g ↦ g ]
 
   -- each order up to the last goes on
   event_up_to : (k : ℕ) → k ≤ m → (event (state_after k s) ≡ Goes) ⊎ (event (state_after k s) ≡ what)
   event_up_to k h =
       elim (cases_lt k m) [
-        | inl l ↦ inl (walk k l)
-        | inr g ↦ let e : m ≡ k = omega arith in inr (subst (λ j. event (state_after j s) ≡ what) e last)
+        | inl l ↦ inl (f.walk k l)
+        | inr g ↦ let e : m ≡ k = omega arith in inr (subst (λ j. event (state_after j s) ≡ what) e f.last)
       ]
 
   -- an end of another kind is none
-  no_other : (k : ℕ) (other : Event) → IsWalk k s → event (state_after k s) ≡ other → (other ≡ Goes → ⊥) → what ≡ other
-  no_other k other h e not_going =
+  no_other : (k : ℕ) {other : Event} → IsWalk k s → event (state_after k s) ≡ other → (other ≡ Goes → ⊥)
+      → what ≡ other
+  no_other k h e not_going =
       elim (event_up_to k (not_past k h)) [ inl g ↦ absurd (not_going (sym e ∙ g)) | inr g ↦ sym g ∙ e ]
 
-  same_place : (k : ℕ) (other : Event) → IsWalk k s → event (state_after k s) ≡ other → (other ≡ Goes → ⊥) → k ≡ m
-  same_place k other h e not_going =
+  same_place : (k : ℕ) {other : Event} → IsWalk k s → event (state_after k s) ≡ other → (other ≡ Goes → ⊥) → k ≡ m
+  same_place k h e not_going =
       let first = not_past k h in
-      elim (cases_lt k m) [ inl l ↦ absurd (not_going (sym e ∙ walk k l)) | inr g ↦ omega arith ]
+      elim (cases_lt k m) [ inl l ↦ absurd (not_going (sym e ∙ f.walk k l)) | inr g ↦ omega arith ]
 
-  pub record Settled (place k : ℕ) : Type 0 where
-    pub count : k ≡ suc m
-    pub place_is : place ≡ (state_after (suc m) s).counter
+  record Settled (place k : ℕ) : Type 0 where
+    count : k ≡ suc m
+    place_is : place ≡ (state_after (suc m) s).counter
 
-  pub settled : (place k : ℕ) (other : Event) → (other ≡ Goes → ⊥) → WalksTo other s place k → Settled place k
-  settled place k other not_going h =
-      let same = same_place h.before other h.walk h.last not_going in
-      let count : k ≡ suc m = h.count ∙ ap suc same in
+  settled : {place k : ℕ} {other : Event} → WalksTo other s place k → (other ≡ Goes → ⊥) → Settled place k
+  settled {k = k} h not_going =
+      let count : k ≡ suc m = h.count ∙ ap suc (same_place h.before h.walk h.last not_going) in
       record { count = count; place_is = h.place_is ∙ ap (λ j. (state_after j s).counter) count }
 
-  pub not_stray : (k : ℕ) → (what ≡ Blocks → ⊥) → (what ≡ Sounds → ⊥) → IsStray s k → ⊥
-  not_stray k a b (blocked less h e) = a (no_other k Blocks h e (λ x. cc))
-  not_stray k a b (sounded before count less h e) = b (no_other before Sounds h e (λ x. cc))
-  not_stray k a b (too_long e h) = omega (arith, not_past k h)
+  not_stray : {k : ℕ} → IsStray s k → (what ≡ Blocks → ⊥) → (what ≡ Sounds → ⊥) → ⊥
+  not_stray {k} (blocked less h e) a b = a (no_other k h e (λ x. cc))
+  not_stray (sounded before count less h e) a b = b (no_other before h e (λ x. cc))
+  not_stray {k} (too_long e h) a b = let fits = f.fits in omega (arith, not_past k h)
 
 -- a walk that comes to a rest after so many orders
-rests_at : (s : State) (m : ℕ) → IsWalk m s → event (state_after m s) ≡ Rests → m < 17 → (r : Rested) → WalkEnds s r
+rests_at : {s : State} {m : ℕ} → IsLast s m Rests → (r : Rested) → WalkEnds s r
     → r ≡ At (state_after (suc m) s).counter (suc m)
-rests_at s m walk last fits (Entered at k) h =
-    absurd (let e = no_other s m walk Rests last fits (λ x. cc) h.before Enters h.walk h.last (λ x. cc) in cc)
-rests_at s m walk last fits (At place k) h =
-    let o = settled s m walk Rests last fits (λ x. cc) place k Rests (λ x. cc) h in λ i. At (o.place_is i) (o.count i)
-rests_at s m walk last fits (Lost k) h = absurd (not_stray s m walk Rests last fits (λ x. cc) k (λ x. cc) (λ x. cc) h)
+rests_at f (Entered at k) h = absurd (let e = no_other f h.before h.walk h.last (λ x. cc) in cc)
+rests_at f (At place k) h = let o = settled f h (λ x. cc) in λ i. At (o.place_is i) (o.count i)
+rests_at f (Lost k) h = absurd (not_stray f h (λ x. cc) (λ x. cc))
 
 -- a walk that enters the program after so many orders
-enters_at : (s : State) (m : ℕ) → IsWalk m s → event (state_after m s) ≡ Enters → m < 17 → (r : Rested) → WalkEnds s r
+enters_at : {s : State} {m : ℕ} → IsLast s m Enters → (r : Rested) → WalkEnds s r
     → r ≡ Entered (state_after (suc m) s).counter (suc m)
-enters_at s m walk last fits (At at k) h =
-    absurd (let e = no_other s m walk Enters last fits (λ x. cc) h.before Rests h.walk h.last (λ x. cc) in cc)
-enters_at s m walk last fits (Entered place k) h =
-    let o = settled s m walk Enters last fits (λ x. cc) place k Enters (λ x. cc) h
-    in λ i. Entered (o.place_is i) (o.count i)
-enters_at s m walk last fits (Lost k) h = absurd (not_stray s m walk Enters last fits (λ x. cc) k (λ x. cc) (λ x. cc) h)
+enters_at f (At at k) h = absurd (let e = no_other f h.before h.walk h.last (λ x. cc) in cc)
+enters_at f (Entered place k) h = let o = settled f h (λ x. cc) in λ i. Entered (o.place_is i) (o.count i)
+enters_at f (Lost k) h = absurd (not_stray f h (λ x. cc) (λ x. cc))
 
 -- a walk along a path
 pub walks_path : {f : Kept} {k : ℕ} {r t : Moment} → ToRest f k r t → is_rest t.counter ≡ true → k ≤ 17
@@ -107,7 +108,8 @@ walks_path {f} {t = t} (ends {k = k} {r = r} {m = m} runs last calm) rest most o
     ∙ event_of (state f m (o + k)) (state f t (o + k + 1)) false true (last.does (o + k))
     (quiet (state f m (o + k)) (last.order (o + k)) calm) rest in
     let end : state_after (suc k) s ≡ state f t (o + suc k) = (whole (ends runs last calm) o).state in
-    let a : res ≡ At (state_after (suc k) s).counter (suc k) = rests_at s k (walk_along runs o) e (omega arith) res h in
+    let a : res ≡ At (state_after (suc k) s).counter (suc k) =
+    rests_at (record { walk = walk_along runs o; last = e; fits = omega arith; not_goes = λ x. cc }) res h in
     let place : (state_after (suc k) s).counter ≡ t.counter = ap (λ (x : State). x.counter) end in
     (a ∙ (λ i. At (place i) (suc k)), is ∙ ap (λ x. state_after (walked x) s) a ∙ end)
 
@@ -127,6 +129,7 @@ walks_in {f} {k} {r} {m} {t} runs last few o u res h is =
     let sum : o + k + 1 ≡ o + suc k = omega arith in
     let end : state_after (suc k) s ≡ state f t (o + suc k) =
     ap (λ (x : State). (step x).state) there.state ∙ ap (λ (x : Obeyed). x.state) does ∙ ap (state f t) sum in
-    let a : res ≡ Entered (state_after (suc k) s).counter (suc k) = enters_at s k (walk_along runs o) e few res h in
+    let a : res ≡ Entered (state_after (suc k) s).counter (suc k) =
+    enters_at (record { walk = walk_along runs o; last = e; fits = few; not_goes = λ x. cc }) res h in
     let place : (state_after (suc k) s).counter ≡ t.counter = ap (λ (x : State). x.counter) end in
     (a ∙ (λ i. Entered (place i) (suc k)), is ∙ ap (λ x. state_after (walked x) s) a ∙ end)

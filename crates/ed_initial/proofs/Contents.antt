@@ -1,18 +1,13 @@
 -- The words from 44 on, and the value of a code letter in the store.
-use Rattle.std.proofs.Common.{◌≡◌, ℕ, suc, ◌+◌, ◌-◌, ◌≤◌, refl, ◌∙◌, arith, inl}
-use Rattle.std.proofs.Common.{inr, List, [], ◌∷◌, ◌++◌, length, get_or, drop}
+use Rattle.std.proofs.Common.{◌≡◌, ℕ, ◌+◌, ◌-◌, ◌≤◌, refl, ◌∙◌, arith, inl}
+use Rattle.std.proofs.Common.{inr, List, ◌++◌, get_or, drop}
 use Rattle.std.proofs.lemmas.Bool.{cases_eq}
 use Rattle.std.proofs.lemmas.List.{get_or-drop}
 use Rattle.ed_notation.specs.Fold.{value_of}
-use Rattle.ed_paths.proofs.Window.{patched}
+use Rattle.ed_paths.proofs.Window.{patched, get_right}
 use Rattle.ed_initial.specs.Rests.{Working}
 use Rattle.ed_initial.proofs.Paths.{cells}
 use Rattle.ed_words.proofs.Numbers.{eq_false}
-
-get_after : (xs ys : List ℕ) (j : ℕ) → get_or (xs ++ ys) (length xs + j) 0 ≡ get_or ys j 0
-get_after [] ys j = let e : 0 + j ≡ j = omega arith in rw e refl
-get_after (x ∷ xs) ys j = let e : suc (length xs) + j ≡ suc (length xs + j) = omega arith
-    in rw (e, get_after xs ys j) refl
 
 -- what stands at the place of a code letter is its value: 0 at 41, θ at 42, 1 at 43, and a word of the program after
 -- them
@@ -32,7 +27,7 @@ value_here w contents c low at41 at43 =
                       let at : 24 + c ≡ 44 + (c - 20) = omega arith in
                       let word : get_or (cells w ++ drop 44 contents) (44 + (c - 20)) 0
                       ≡ get_or contents (44 + (c - 20)) 0 =
-                      get_after (cells w) (drop 44 contents) (c - 20) ∙ get_or-drop 44 contents (c - 20) 0 in
+                      get_right 0 (cells w) (drop 44 contents) (c - 20) ∙ get_or-drop 44 contents (c - 20) 0 in
                       let t17 = eq_false c 17 no17 in
                       let t18 = eq_false c 18 no18 in
                       let t19 = eq_false c 19 no19 in

@@ -1,12 +1,13 @@
 -- From the paths of the listing to steps of the machine.
-use Rattle.std.proofs.Common.{◌≡◌, ℕ, suc, zero, ◌+◌, ◌-◌, ◌<◌, ◌≤◌, ◌^◌, nat_lt}
+use Rattle.std.proofs.Common.{◌≡◌, ℕ, suc, ◌+◌, ◌-◌, ◌<◌, ◌≤◌, ◌^◌, nat_lt}
 use Rattle.std.proofs.Common.{Some, refl, sym, ap, ◌∙◌, subst, arith, inl, inr, ◌⊎◌}
 use Rattle.std.proofs.lemmas.Bool.{cases_lt}
 use Rattle.ed_machine.specs.State.{State}
-use Rattle.ed_machine.specs.OrderTable.{Obeyed, step}
+use Rattle.ed_machine.specs.OrderTable.{Obeyed}
+use Rattle.ed_machine.proofs.Steps.{after_sum}
 use Rattle.ed_machine.specs.Steps.{state_after, past}
 use Rattle.std.proofs.Common.{Bool, true, false, ◌&&◌, not, nat_eq}
-use Rattle.std.proofs.lemmas.Bool.{and_parts}
+use Rattle.std.proofs.lemmas.Bool.{and_parts, not-true}
 use Rattle.ed_orders.specs.declared.kind.Kind.{Kind}
 use Rattle.ed_paths.proofs.Frames.{Moment}
 use Rattle.ed_paths.proofs.Orders.{IsOrder}
@@ -20,28 +21,18 @@ both_not true true c h = cc
 both_not true false c h = refl
 both_not false b c h = refl
 
-not_so : (b : Bool) → not b ≡ true → b ≡ false
-not_so true h = cc
-not_so false h = refl
-
 -- an order that is quiet does not enter
 pub quiet : {top : ℕ} {kind : Kind} (s : State) → IsOrder top kind s → is_calm kind s.counter ≡ true → enters s ≡ false
 quiet {kind = kind} s o h = rw o.kind_is (both_not (nat_eq s.counter 22) (is_E (Some kind)) (nat_lt s.acc (2 ^ 70)) h)
 
 -- one that goes on comes to no rest
 pub passes : (q : Bool) (place : ℕ) → (q && not (is_rest place)) ≡ true → (q ≡ true) × (is_rest place ≡ false)
-passes q place h = let p = and_parts q (not (is_rest place)) h in (p.0, not_so (is_rest place) p.1)
+passes q place h = let p = and_parts q (not (is_rest place)) h in (p.0, not-true (is_rest place) p.1)
 
 -- k orders that go on lead from one state to another
 pub record Goes (k : ℕ) (s t : State) : Type 0 where
   pub state : state_after k s ≡ t
   pub quiet : IsQuiet k s
-
-pub after_sum : (a b : ℕ) (s : State) → state_after (a + b) s ≡ state_after b (state_after a s)
-unfolding past
-after_sum a zero s = let e : a + 0 ≡ a = omega arith in rw e refl
-after_sum a (suc b) s =
-    let e : a + suc b ≡ suc (a + b) = omega arith in rw e (ap (λ (x : State). (step x).state) (after_sum a b s))
 
 pub none : (s : State) → Goes 0 s s
 unfolding past

@@ -25,10 +25,10 @@ use Rattle.ed_paths.proofs.Frames.{Moment}
 use Rattle.ed_initial.proofs.Paths.{Kept, Walk, ToRest, moment, Enters as EntersBy}
 use Rattle.ed_initial.proofs.Paths.{digit_path, mark_path, kay_directive_path}
 use Rattle.ed_initial.proofs.Paths.{kay_theta_path, zed_directive_path}
-use Rattle.ed_initial.proofs.Paths.{zed_theta_path, blank_path, letter_row, placed_path, entry_order}
+use Rattle.ed_initial.proofs.Paths.{zed_theta_path, blank_path, IsLetter, letter_row, placed_path, entry_order}
 use Rattle.ed_words.proofs.Numbers.{not_lt_of, not_le_of, if_means}
-use Rattle.ed_initial.proofs.Tests.{RowMeans, row_means, ControlMeans, control_means, AimMeans, aim_means}
-use Rattle.ed_initial.proofs.Tests.{is_place_means}
+use Rattle.ed_notation.proofs.Tests.{RowMeans, row_means, ControlMeans, control_means, AimMeans, aim_means}
+use Rattle.ed_notation.proofs.Tests.{is_place_means}
 use Rattle.ed_initial.proofs.Contents.{value_here}
 
 -- the two rests
@@ -43,8 +43,20 @@ abbrev pub entered : Kept → List ℕ → Part → Note → ℕ → ℕ → ℕ
 entered f ws part note c at word rows =
     moment f (entry_words (entry_by ws 0 0 note part c rows at)) (over note.placed ws) false (word * 2 ^ 54) at rows
 
-module _ (f : Kept) (ws : List ℕ) (note : Note) (good : IsNote note) (part : Part) (phase : IsPartSoFar part)
-    (at1 at20 c : ℕ) (rows : List ℕ) where
+-- a rest inside an item, with the row that comes next
+pub record AtRow : Type 0 where
+  pub kept : Kept
+  pub words : List ℕ
+  pub note : Note
+  pub part : Part
+  pub at1 : ℕ
+  pub at20 : ℕ
+  pub code : ℕ
+  pub rows : List ℕ
+
+module _ (row : AtRow) where
+  open row use {kept as f, words as ws, note, part, at1, at20, code as c, rows}
+
   abbrev here : Moment
   here = inside f ws part at1 at20 note (c ∷ rows)
 
@@ -77,6 +89,12 @@ module _ (f : Kept) (ws : List ℕ) (note : Note) (good : IsNote note) (part : P
   Follows (Placed at word) = Closes (placed_by at word note) 17
   Follows (Entered at) = Arrives at (part_word (over note.placed ws) (setting_of note) part c)
 
+module _ (row : AtRow) (good : IsNote row.note) (phase : IsPartSoFar row.part) where
+  open row use {kept as f, words as ws, note, part, at1, at20, code as c, rows}
+
+  abbrev After : Taken → Type 0
+  After t = Follows row t
+
   abbrev w : Working
   w = working (begun part at1 at20) note
 
@@ -90,17 +108,16 @@ module _ (f : Kept) (ws : List ℕ) (note : Note) (good : IsNote note) (part : P
   unmarked : part.mark ≡ false → digit part.mark ≡ 0
   unmarked h = ap digit h
 
-  by_digit : c < 10 → Follows (digit_taken part c)
+  by_digit : c < 10 → After (digit_taken part c)
   by_digit small =
-      if_means Follows part.mark _ _ (λ _. tt) (λ m.
-      if_means Follows (nat_lt 32767 (10 * part.number + c)) _ _ (λ _. tt) (λ n.
+      if_means After part.mark _ _ (λ _. tt) (λ m.
+      if_means After (nat_lt 32767 (10 * part.number + c)) _ _ (λ _. tt) (λ n.
       let none = unmarked m in
       let fits : 10 * part.number + c ≤ 32767 = not_lt_of _ _ n in
       record {
         one = c;
         twenty = at20;
-        path = digit_path f w high false c (2 * (10 * part.number + c) + digit part.mark) rows small
-            (omega arith) (omega arith) (omega arith);
+        path = digit_path f w high false small (omega arith) (omega arith) (omega arith);
         few = lit≤ tt;
         part_is = record { function = phase.function; number = fits; blank = λ h. cc };
       }))
@@ -108,9 +125,9 @@ module _ (f : Kept) (ws : List ℕ) (note : Note) (good : IsNote note) (part : P
   abbrev marked : Part
   marked = record part { mark = true; blank = false }
 
-  by_mark : c ≡ 11 → Follows (mark_taken part)
+  by_mark : c ≡ 11 → After (mark_taken part)
   by_mark is =
-      if_means Follows part.mark _ _ (λ _. tt) (λ m.
+      if_means After part.mark _ _ (λ _. tt) (λ m.
       let none = unmarked m in
       let n = phase.number in
       record {
@@ -118,7 +135,7 @@ module _ (f : Kept) (ws : List ℕ) (note : Note) (good : IsNote note) (part : P
         twenty = 12342;
         path = subst (λ x. ToRest f 15 (inside f ws part at1 at20 note (x ∷ rows))
             (inside f ws marked 11 12342 note rows)) (sym is)
-            (mark_path f w high false (2 * part.number + 1) rows refl (omega arith) (omega arith));
+            (mark_path f w high false refl (omega arith) (omega arith));
         few = lit≤ tt;
         part_is = record { function = phase.function; number = phase.number; blank = λ h. cc };
       })
@@ -128,7 +145,7 @@ module _ (f : Kept) (ws : List ℕ) (note : Note) (good : IsNote note) (part : P
   left end = begun part end (12320 + 2 * end)
 
   abbrev closes : (next : Note) (k end : ℕ) → c ≡ end → k ≤ 17 → IsNote next
-      → ToRest f k (inside f ws part at1 at20 note (end ∷ rows)) (between f ws (left end) next rows) → Closes next k
+      → ToRest f k (inside f ws part at1 at20 note (end ∷ rows)) (between f ws (left end) next rows) → Closes row next k
   closes next k end is few note_is path = record {
     scratch = left end;
     path = subst (λ x. ToRest f k (inside f ws part at1 at20 note (x ∷ rows)) (between f ws (left end) next rows))
@@ -139,37 +156,37 @@ module _ (f : Kept) (ws : List ℕ) (note : Note) (good : IsNote note) (part : P
 
   by_kay_theta : (u : ℕ) → (4096 * part.function + 2 * part.number + note.directive) % 2 ^ 17 ≡ u → c ≡ 14
       → digit part.mark ≡ 0
-      → 16 ≤ part.function → part.number ≤ 1023 → Closes (record note { theta = u }) 16
+      → 16 ≤ part.function → part.number ≤ 1023 → Closes row (record note { theta = u }) 16
   by_kay_theta u sum is none least fits =
       let f32 = phase.function in
       closes (record note { theta = u }) 16 14 is (lit≤ tt) (omega (arith, good))
-      (kay_theta_path f w high false (4096 * part.function + 2 * part.number) u rows
-      (omega arith) (omega arith) (omega arith) (omega arith) sum)
+      (kay_theta_path f w high false (4096 * part.function + 2 * part.number) (omega arith)
+      (omega arith, omega arith, omega arith) sum)
 
-  by_kay : (k : Control) → ControlMeans k part.function → c ≡ 14 → Follows (kay_taken k (setting_of note) part)
+  by_kay : (k : Control) → ControlMeans k part.function → c ≡ 14 → After (kay_taken k (setting_of note) part)
   by_kay Directive means is =
-      if_means Follows part.mark _ _ (λ _. tt) (λ m.
-      if_means Follows (nat_lt 1023 part.number) _ _ (λ _. tt) (λ n.
+      if_means After part.mark _ _ (λ _. tt) (λ m.
+      if_means After (nat_lt 1023 part.number) _ _ (λ _. tt) (λ n.
       let none = unmarked m in
       let fits : part.number ≤ 1023 = not_lt_of _ _ n in
       let u = 4096 * part.function + 2 * part.number in
       closes (record note { directive = u }) 16 14 is (lit≤ tt) (omega (arith, good))
       (kay_directive_path f w high false u rows (omega arith) (omega arith))))
   by_kay ThetaByBlank means is =
-      if_means Follows part.mark _ _ (λ _. tt) (λ m.
-      if_means Follows (nat_lt 1023 part.number) _ _ (λ _. tt) (λ n.
+      if_means After part.mark _ _ (λ _. tt) (λ m.
+      if_means After (nat_lt 1023 part.number) _ _ (λ _. tt) (λ n.
       by_kay_theta _ refl is (unmarked m) (omega arith) (not_lt_of _ _ n)))
   by_kay ThetaByG means is =
-      if_means Follows part.mark _ _ (λ _. tt) (λ m.
-      if_means Follows (nat_lt 1023 part.number) _ _ (λ _. tt) (λ n.
+      if_means After part.mark _ _ (λ _. tt) (λ m.
+      if_means After (nat_lt 1023 part.number) _ _ (λ _. tt) (λ n.
       by_kay_theta _ refl is (unmarked m) (omega arith) (not_lt_of _ _ n)))
-  by_kay Neither means is = if_means Follows part.mark _ _ (λ _. tt) (λ _. tt)
+  by_kay Neither means is = if_means After part.mark _ _ (λ _. tt) (λ _. tt)
 
-  by_zed : (k : Control) → ControlMeans k part.function → c ≡ 13 → Follows (zed_taken k (setting_of note) part)
+  by_zed : (k : Control) → ControlMeans k part.function → c ≡ 13 → After (zed_taken k (setting_of note) part)
   by_zed Directive means is =
       let u = 4096 * part.function + 2 * part.number + note.theta in
-      if_means Follows part.mark _ _ (λ _. tt) (λ m.
-      if_means Follows (is_place u) _ _ (λ p.
+      if_means After part.mark _ _ (λ _. tt) (λ m.
+      if_means After (is_place u) _ _ (λ p.
       let none = unmarked m in
       let place = is_place_means u p in
       let even = place.even in
@@ -178,18 +195,18 @@ module _ (f : Kept) (ws : List ℕ) (note : Note) (good : IsNote note) (part : P
       (zed_directive_path f w high false u rows (omega arith) (omega arith))) (λ _. tt))
   by_zed ThetaByBlank means is =
       let u = (65536 + 2 * part.number + note.theta + note.directive) % 2 ^ 17 in
-      if_means Follows part.mark _ _ (λ _. tt) (λ m.
-      if_means Follows (nat_le 65536 (2 * part.number + note.theta)) _ _ (λ _. tt) (λ n.
+      if_means After part.mark _ _ (λ _. tt) (λ m.
+      if_means After (nat_le 65536 (2 * part.number + note.theta)) _ _ (λ _. tt) (λ n.
       let none = unmarked m in
       let fits : 2 * part.number + note.theta < 65536 = not_le_of _ _ n in
       closes (record note { theta = u }) 17 13 is (lit≤ tt) (omega (arith, good))
-      (zed_theta_path f w high false u rows (omega arith) (omega arith) (omega arith))))
-  by_zed ThetaByG means is = if_means Follows part.mark _ _ (λ _. tt) (λ _. tt)
-  by_zed Neither means is = if_means Follows part.mark _ _ (λ _. tt) (λ _. tt)
+      (zed_theta_path f w high false (omega arith) (omega arith) (omega arith))))
+  by_zed ThetaByG means is = if_means After part.mark _ _ (λ _. tt) (λ _. tt)
+  by_zed Neither means is = if_means After part.mark _ _ (λ _. tt) (λ _. tt)
 
-  by_blank : c ≡ 16 → Follows (blank_taken (setting_of note) part)
+  by_blank : c ≡ 16 → After (blank_taken (setting_of note) part)
   by_blank is =
-      if_means Follows part.blank _ _ (λ b.
+      if_means After part.blank _ _ (λ b.
       let new = phase.blank b in
       let none = unmarked new.1 in
       let zero = new.0 in
@@ -206,29 +223,36 @@ module _ (f : Kept) (ws : List ℕ) (note : Note) (good : IsNote note) (part : P
   abbrev word : ℕ
   word = part_word (over note.placed ws) (setting_of note) part c
 
+  letter : 17 ≤ c → c < 32 → IsLetter f w high false c value ((w.at0 + value) % 2 ^ 17) word
+  letter low code = record {
+    low = low;
+    most = code;
+    fits = omega (arith, phase, mark_most part.mark);
+    value = value_here lettered (over note.placed ws) c low refl refl;
+    sum = refl;
+    is = omega arith;
+  }
+
   by_letter : (k : Aim) → AimMeans k note.directive → 17 ≤ c → c < 32
-      → Follows (letter_taken f.size k (setting_of note) word)
+      → After (letter_taken f.size k (setting_of note) word)
   by_letter Places means low code =
       let a = address note.directive in
-      if_means Follows (nat_lt a 44) _ _ (λ _. tt) (λ p.
-      if_means Follows (nat_le (locations f.size) a) _ _ (λ _. tt) (λ q.
+      if_means After (nat_lt a 44) _ _ (λ _. tt) (λ p.
+      if_means After (nat_le (locations f.size) a) _ _ (λ _. tt) (λ q.
       let above : 44 ≤ a = not_lt_of _ _ p in
       let below : a < locations f.size = not_le_of _ _ q in
       let last : a < 1024 = omega (arith, most f.size) in
       record {
         scratch = begun part c (114736 + 2 * c);
-        path = placed_path f w high false c value ((w.at0 + value) % 2 ^ 17) word a rows low code
-            (omega (arith, phase, mark_most part.mark)) (value_here lettered (over note.placed ws) c low refl refl)
-            refl (omega arith)
-            (omega (arith, good, means)) above below;
+        path = placed_path f w high false a (letter low code) (omega (arith, good, means)) (above, below);
         few = lit≤ tt;
         note_is = omega (arith, good);
       }))
   by_letter Enters means low code =
       let a = address note.directive in
-      if_means Follows (nat_le (locations f.size) a) _ _ (λ _. tt) (λ p.
-      if_means Follows (nat_le 65536 word) _ _ (λ _. tt) (λ q.
-      if_means Follows (nat_lt a 44) _ _ (λ _. tt) (λ r.
+      if_means After (nat_le (locations f.size) a) _ _ (λ _. tt) (λ p.
+      if_means After (nat_le 65536 word) _ _ (λ _. tt) (λ q.
+      if_means After (nat_lt a 44) _ _ (λ _. tt) (λ r.
       let below : a < locations f.size = not_le_of _ _ p in
       let last : a < 1024 = omega (arith, most f.size) in
       let positive : word < 65536 = not_le_of _ _ q in
@@ -236,18 +260,16 @@ module _ (f : Kept) (ws : List ℕ) (note : Note) (good : IsNote note) (part : P
       let order : note.directive ≡ 12288 + 2 * a = omega (arith, good) in
       record {
         middle = moment f lettered high false (word * 2 ^ 54) 22 rows;
-        runs = letter_row f w high false c value ((w.at0 + value) % 2 ^ 17) word rows low code
-            (omega (arith, phase, mark_most part.mark))
-            (value_here lettered (over note.placed ws) c low refl refl) refl (omega arith);
+        runs = letter_row f w high false (letter low code);
         last = subst (λ x. EntersBy f (moment f lettered high false (word * 2 ^ 54) 22 rows)
             (moment f x high false (word * 2 ^ 54) a rows))
             (λ i. record lettered { at20 = twenty i; at22 = order i })
-            (entry_order f lettered high false word a rows order below positive);
+            (entry_order f lettered high false word order below positive);
       })))
   by_letter Nowhere means low code = tt
   by_letter Unset means low code = tt
 
-  by_row : (r : RowKind) → RowMeans r c → Follows (taken f.size r (over note.placed ws) (setting_of note) part c)
+  by_row : (r : RowKind) → RowMeans r c → After (taken f.size r (over note.placed ws) (setting_of note) part c)
   by_row Digit means = by_digit means
   by_row Mark means = by_mark means
   by_row Zed means = by_zed (control_of part.function) (control_means part.function) means
@@ -257,5 +279,5 @@ module _ (f : Kept) (ws : List ℕ) (note : Note) (good : IsNote note) (part : P
   by_row Other means = tt
 
   -- every row
-  pub follows : Follows (taken f.size (row_kind c) (over note.placed ws) (setting_of note) part c)
+  pub follows : After (taken f.size (row_kind c) (over note.placed ws) (setting_of note) part c)
   follows = by_row (row_kind c) (row_means c)

@@ -2,7 +2,6 @@ pub mod Runs
 mod Steps
 pub mod Paths
 pub mod Goes
-mod Tests
 mod Contents
 pub mod Inside
 pub mod Loads

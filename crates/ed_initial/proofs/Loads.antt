@@ -11,9 +11,10 @@ use Rattle.ed_notation.specs.declared.reader.Taken.TheVariants.{Refused, Longer,
 use Rattle.ed_notation.specs.declared.cause.TapeCause.TheVariants.{BadRow}
 use Rattle.ed_notation.specs.Items.{row_kind}
 use Rattle.ed_notation.specs.Fold.{Note, over}
-use Rattle.ed_notation.specs.Faults.{Entry}
-use Rattle.ed_notation.specs.Reading.{Verdict, Faulty, Arrived, reading, taken}
+use Rattle.ed_notation.specs.Faults.{TapeEntry}
+use Rattle.ed_notation.specs.Reading.{Faulty, Arrived, reading_on, taken}
 use Rattle.ed_notation.specs.Reading.{part_of, setting_of, set_by, placed_by, entry_by}
+use Rattle.ed_notation.proofs.Follow.{Reader, reads, passed, follow}
 use Rattle.ed_initial.specs.Rests.{Scratch, working, IsNote, IsPartSoFar}
 use Rattle.ed_initial.specs.Entry.{entry_words}
 use Rattle.ed_initial.specs.Load.{enters}
@@ -21,15 +22,15 @@ use Rattle.ed_paths.proofs.Frames.{Moment}
 use Rattle.ed_initial.proofs.Paths.{Kept, state, ToRest, moment, function_path}
 use Rattle.ed_initial.proofs.Goes.{Goes, joined, along, whole}
 use Rattle.ed_words.proofs.Numbers.{lt_of}
-use Rattle.ed_initial.proofs.Inside.{between, inside, Follows, follows}
+use Rattle.ed_initial.proofs.Inside.{between, inside, AtRow, Follows, follows}
 
 -- the machine at the entry, when it has done so many orders
-abbrev pub entered : Kept → List ℕ → Entry → ℕ → State
+abbrev pub entered : Kept → List ℕ → TapeEntry → ℕ → State
 entered f ws e orders = state f
     (moment f (entry_words e) (over e.note.placed ws) false (e.word * 2 ^ 54) e.at e.rest) orders
 
 -- a load goes on from a state, which it came to at a cost, up to an entry
-pub record Reaches (f : Kept) (ws : List ℕ) (first cost : ℕ) (s : State) (e : Entry) : Type 0 where
+pub record Reaches (f : Kept) (ws : List ℕ) (first cost : ℕ) (s : State) (e : TapeEntry) : Type 0 where
   pub steps : ℕ
   pub middle : State
   pub goes : Goes steps s middle
@@ -37,9 +38,16 @@ pub record Reaches (f : Kept) (ws : List ℕ) (first cost : ℕ) (s : State) (e 
   pub enters_by : step middle ≡ record { state = entered f ws e (first + e.cost); turn = Went }
   pub cost_is : cost + suc steps ≡ e.cost
 
+-- where a load rests: what the rest leaves open, the rows read and the orders done, and the state of the notation
+pub record Rest : Type 0 where
+  pub scratch : Scratch
+  pub row : ℕ
+  pub cost : ℕ
+  pub note : Note
+
 module _ (f : Kept) (ws : List ℕ) (first : ℕ) where
   -- a load that goes on from where a path leads
-  pub prepend : {r t : Moment} {e : Entry} (k cost : ℕ) → ToRest f k r t
+  pub prepend : {r t : Moment} {e : TapeEntry} (k cost : ℕ) → ToRest f k r t
       → Reaches f ws first (cost + k) (state f t (first + (cost + k))) e
       → Reaches f ws first cost (state f r (first + cost)) e
   prepend {r} {t} {e} k cost path a =
@@ -59,82 +67,91 @@ module _ (f : Kept) (ws : List ℕ) (first : ℕ) where
   IsPhase None = Unit {0}
   IsPhase (Some part) = IsPartSoFar part
 
-  -- at rest between two items, or inside one
-  abbrev rests : Scratch → Note → Option Part → List ℕ → Moment
-  rests w note None rows = between f ws w note rows
-  rests w note (Some part) rows = inside f ws part w.at1 w.at20 note rows
+  -- the reader there
+  abbrev reader : Rest → Reader
+  reader r = record { size = f.size; words = ws; row = r.row; cost = r.cost; note = r.note }
+
+  -- between two items, or inside one
+  abbrev rests : Rest → Option Part → List ℕ → Moment
+  rests r None rows = between f ws r.scratch r.note rows
+  rests r (Some part) rows = inside f ws part r.scratch.at1 r.scratch.at20 r.note rows
 
   -- what is shown of the rows of a tape
-  abbrev pub Loads : List ℕ → Type 0
-  Loads rows = (w : Scratch) (row cost : ℕ) (note : Note) (p : Option Part) (e : Entry) → IsNote note → IsPhase p
-      → reading f.size ws row cost note p rows ≡ Arrived e
-      → Reaches f ws first cost (state f (rests w note p rows) (first + cost)) e
+  abbrev Loads : List ℕ → Type 0
+  Loads rows = (r : Rest) (p : Option Part) (e : TapeEntry) → IsNote r.note → IsPhase p
+      → reads (reader r) p rows ≡ Arrived e
+      → Reaches f ws first r.cost (state f (rests r p rows) (first + r.cost)) e
 
-  entry_same : (a b : Entry) → Arrived a ≡ Arrived b → a ≡ b
+  entry_same : (a b : TapeEntry) → Arrived a ≡ Arrived b → a ≡ b
   entry_same a b h = cc
 
-  -- what the notation says after a row inside an item
-  abbrev next : ℕ → ℕ → Note → Part → ℕ → List ℕ → Taken → Verdict
-  next row cost note part c rows t = elim t [
-    | Refused cause ↦ Faulty row cause
-    | Longer longer k ↦ reading f.size ws (row + 1) (cost + k) note (Some longer) rows
-    | Ended setting k ↦ reading f.size ws (row + 1) (cost + k) (set_by setting note) None rows
-    | Placed at word ↦ reading f.size ws (row + 1) (cost + 17) (placed_by at word note) None rows
-    | Entered at ↦ Arrived (entry_by ws row cost note part c rows at)
-  ]
-
-  module _ (rows : List ℕ) (ih : Loads rows) (w : Scratch) (row cost : ℕ) (note : Note) (part : Part)
-      (e : Entry) (c : ℕ)
-      (good : IsNote note) (phase : IsPartSoFar part) where
-    by_taken : (t : Taken) → Follows f ws note good part phase w.at1 w.at20 c rows t
-        → next row cost note part c rows t ≡ Arrived e
-        → Reaches f ws first cost (state f (inside f ws part w.at1 w.at20 note (c ∷ rows)) (first + cost)) e
-    by_taken (Refused cause) o h = cc
-    by_taken (Longer longer k) o h =
-        prepend k cost o.path (ih (record w { at1 = o.one; at20 = o.twenty }) (row + 1) (cost + k) note
-        (Some longer) e good o.part_is h)
-    by_taken (Ended setting k) o h =
-        prepend k cost o.path (ih o.scratch (row + 1) (cost + k) (set_by setting note) None e o.note_is tt h)
-    by_taken (Placed at word) o h =
-        prepend 17 cost o.path (ih o.scratch (row + 1) (cost + 17) (placed_by at word note) None e o.note_is tt h)
-    by_taken (Entered at) o h =
-        let here = inside f ws part w.at1 w.at20 note (c ∷ rows) in
-        let x : Entry = entry_by ws row cost note part c rows at in
-        let sum : first + cost + 12 + 1 ≡ first + (cost + 13) = omega arith in
-        let arrives : Reaches f ws first cost (state f here (first + cost)) x = record {
-          steps = 12;
-          middle = state f o.middle (first + cost + 12);
-          goes = along o.runs (first + cost);
-          enters = o.last.jumps (first + cost + 12);
-          enters_by = subst (λ k. step (state f o.middle (first + cost + 12))
-              ≡ record { state = entered f ws x k; turn = Went }) sum
-              (o.last.does (first + cost + 12));
-          cost_is = omega arith;
-        } in
-        subst (λ y. Reaches f ws first cost (state f here (first + cost)) y) (entry_same x e h) arrives
-
-  by_function : (rows : List ℕ) → Loads rows → (w : Scratch) (row cost : ℕ) (note : Note) (e : Entry) (c : ℕ)
-      → IsNote note → (b : Bool)
+  by_function : (rows : List ℕ) → Loads rows → (r : Rest) (c : ℕ) {e : TapeEntry} → IsNote r.note → {b : Bool}
       → nat_lt c 32 ≡ b
       → elim b [
-        | true ↦ reading f.size ws (row + 1) (cost + 6) note (Some (part_of c)) rows
-        | false ↦ Faulty row BadRow
-      ] ≡ Arrived e → Reaches f ws first cost (state f (between f ws w note (c ∷ rows)) (first + cost)) e
-  by_function rows ih w row cost note e c good true t h =
+        | true ↦ reads (passed (reader r) 1 6 r.note) (Some (part_of c)) rows
+        | false ↦ Faulty r.row BadRow
+      ] ≡ Arrived e → Reaches f ws first r.cost (state f (rests r None (c ∷ rows)) (first + r.cost)) e
+  by_function rows ih r c {e} good {b = true} t h =
       let small : c < 32 = lt_of c 32 t in
       let begins : IsPartSoFar (part_of c) = record { function = small; number = lit≤ tt; blank = λ b. (refl, refl) } in
-      prepend 6 cost (function_path f (working w note) (over note.placed ws) w.digit40 c rows small)
-      (ih w (row + 1) (cost + 6) note (Some (part_of c)) e good begins h)
-  by_function rows ih w row cost note e c good false t h = cc
+      let after : Rest = record { scratch = r.scratch; row = r.row + 1; cost = r.cost + 6; note = r.note } in
+      let path = function_path f (working r.scratch r.note) (over r.note.placed ws) r.scratch.digit40 c rows small in
+      prepend 6 r.cost path (ih after (Some (part_of c)) e good begins h)
+  by_function rows ih r c good {b = false} t h = cc
 
-  -- every tape
-  pub loads : (rows : List ℕ) → Loads rows
-  unfolding reading
-  loads [] w row cost note None e good phase h = cc
-  loads [] w row cost note (Some part) e good phase h = cc
-  loads (c ∷ rows) w row cost note None e good phase h =
-      by_function rows (loads rows) w row cost note e c good (nat_lt c 32) refl h
-  loads (c ∷ rows) w row cost note (Some part) e good phase h =
-      by_taken rows (loads rows) w row cost note part e c good phase
-      (taken f.size (row_kind c) (over note.placed ws) (setting_of note) part c)
-      (follows f ws note good part phase w.at1 w.at20 c rows) h
+  -- every tape, from every rest
+  loads_on : (rows : List ℕ) → Loads rows
+  unfolding reading_on
+  loads_on [] r None e good phase h = cc
+  loads_on [] r (Some part) e good phase h = cc
+  loads_on (c ∷ rows) r None e good phase h = by_function rows (loads_on rows) r c good refl h
+  loads_on (c ∷ rows) r (Some part) e good phase h =
+      by_taken (loads_on rows) (taken f.size (row_kind c) (over r.note.placed ws) (setting_of r.note) part c)
+      (follows row good phase) h
+    where
+      row : AtRow
+      row = record {
+        kept = f;
+        words = ws;
+        note = r.note;
+        part = part;
+        at1 = r.scratch.at1;
+        at20 = r.scratch.at20;
+        code = c;
+        rows = rows;
+      }
+
+      behind : Scratch → ℕ → Note → Rest
+      behind scratch k note = record { scratch = scratch; row = r.row + 1; cost = r.cost + k; note = note }
+
+      by_taken : Loads rows → (t : Taken) → Follows row t → follow (reader r) part c rows t ≡ Arrived e
+          → Reaches f ws first r.cost (state f (rests r (Some part) (c ∷ rows)) (first + r.cost)) e
+      by_taken ih (Refused cause) o h = cc
+      by_taken ih (Longer longer k) o h =
+          prepend k r.cost o.path (ih (behind (record r.scratch { at1 = o.one; at20 = o.twenty }) k r.note)
+          (Some longer) e good o.part_is h)
+      by_taken ih (Ended setting k) o h =
+          prepend k r.cost o.path (ih (behind o.scratch k (set_by setting r.note)) None e o.note_is tt h)
+      by_taken ih (Placed place word) o h =
+          prepend 17 r.cost o.path (ih (behind o.scratch 17 (placed_by place word r.note)) None e o.note_is tt h)
+      by_taken ih (Entered place) o h =
+          let here = rests r (Some part) (c ∷ rows) in
+          let x : TapeEntry = entry_by ws r.row r.cost r.note part c rows place in
+          let sum : first + r.cost + 12 + 1 ≡ first + (r.cost + 13) = omega arith in
+          let arrives : Reaches f ws first r.cost (state f here (first + r.cost)) x = record {
+            steps = 12;
+            middle = state f o.middle (first + r.cost + 12);
+            goes = along o.runs (first + r.cost);
+            enters = o.last.jumps (first + r.cost + 12);
+            enters_by = subst (λ k. step (state f o.middle (first + r.cost + 12))
+                ≡ record { state = entered f ws x k; turn = Went }) sum
+                (o.last.does (first + r.cost + 12));
+            cost_is = omega arith;
+          } in
+          subst (λ y. Reaches f ws first r.cost (state f here (first + r.cost)) y) (entry_same x e h) arrives
+
+  -- and from a rest between two items
+  pub loads : (rows : List ℕ) (r : Rest) {e : TapeEntry} → IsNote r.note
+      → reading_on f.size ws r.row r.cost r.note None rows ≡ Arrived e
+      → Reaches f ws first r.cost (state f (rests r None rows) (first + r.cost)) e
+  loads rows r {e} good h = loads_on rows r None e good tt h

@@ -8,7 +8,7 @@ use Rattle.ed_notation.specs.Openings.{opening}
 use Rattle.ed_initial.specs.Listing.{initial_orders}
 use Rattle.ed_initial.specs.Rests.{Working, Scratch, IsNote}
 use Rattle.ed_initial.specs.Entry.{IsStarted}
-use Rattle.ed_paths.proofs.Frames.{Moment}
+use Rattle.ed_paths.proofs.Frames.{Moment, same_state}
 use Rattle.ed_paths.proofs.Window.{patched, patched_one, headed}
 use Rattle.ed_initial.proofs.Paths.{Kept, state, ToRest, cells, moment, start_path}
 use Rattle.ed_initial.proofs.Inside.{between}
@@ -57,17 +57,7 @@ opened s store started =
     let digits =
     patched_one false s.store.sandwich 20 (get_or s.store.sandwich 20 false) (omega (arith, store.digits_are))
     ∙ set-get_or s.store.sandwich 20 false in
-    let counter : 0 ≡ s.counter = sym started.counter in
-    λ i. record {
-      size = s.size;
-      store = record { words = words i; sandwich = digits i };
-      acc = s.acc;
-      multiplier = s.multiplier;
-      counter = counter i;
-      tape = s.tape;
-      last = s.last;
-      orders = s.orders;
-    }
+    same_state s refl words digits refl (sym started.counter)
 
 -- what the first rest leaves open
 abbrev pub first_scratch : State → Scratch

@@ -151,9 +151,9 @@ module _ (f : Kept) (w : Working) (words : List ℕ) (digit40 : Bool) where
       (T 8 (own 0) 0 refl refl) refl
 
   -- a digit row
-  pub digit_path : (c u : ℕ) (rest : List ℕ) → c < 10 → w.at0 < 2 ^ 16 → 2 * (c + 5 * w.at0) ≡ u → u < 2 ^ 16
+  pub digit_path : {c u : ℕ} {rest : List ℕ} → c < 10 → w.at0 < 2 ^ 16 → 2 * (c + 5 * w.at0) ≡ u → u < 2 ^ 16
       → ToRest f 9 (at w 0 9 (c ∷ rest)) (at (record w { at0 = u; at1 = c }) 0 9 rest)
-  digit_path c u rest h small is fits =
+  digit_path {c} {u} h small is fits =
       ends (on (I 9 (own 1) c refl refl refl) refl
       (on (A 10 (own 1) (short c) refl (omega arith)) refl
       (on (S 11 (own 39) (short (c + (2 ^ 17 - 11))) refl (omega arith)) refl
@@ -190,9 +190,9 @@ module _ (f : Kept) (w : Working) (words : List ℕ) (digit40 : Bool) where
       (on (E_jumps 20 (any (16 + c) (omega arith)) (word_is order) (omega arith)) (away c low most) stay))))))
 
   -- π
-  pub mark_path : (u : ℕ) (rest : List ℕ) → w.at43 ≡ 1 → w.at0 + 1 ≡ u → u < 2 ^ 16
+  pub mark_path : {u : ℕ} {rest : List ℕ} → w.at43 ≡ 1 → w.at0 + 1 ≡ u → u < 2 ^ 16
       → ToRest f 15 (at w 0 9 (11 ∷ rest)) (at (record w { at0 = u; at1 = 11; at20 = 12342 }) 0 9 rest)
-  mark_path u rest one is fits =
+  mark_path {u} {rest} one is fits =
       ends (followed (control_row 11 rest (lit≤ tt) (lit< tt) (omega arith))
       (on (A 27 (own 43) (short u) refl (omega arith)) refl
       (on (E_jumps 28 (own 8) refl (omega arith)) refl stay)))
@@ -209,11 +209,13 @@ module _ (f : Kept) (w : Working) (words : List ℕ) (digit40 : Bool) where
       (E_jumps 26 (own 34) refl (lit< tt)) refl
 
   -- K of θ
-  pub kay_theta_path : (x u : ℕ) (rest : List ℕ) → w.at0 < 2 ^ 16 → w.at0 + w.at40 ≡ x → 2 ^ 16 ≤ x → x < 2 ^ 17
-      → (x + w.at22) % 2 ^ 17 ≡ u
+  pub kay_theta_path : (x : ℕ) {u : ℕ} {rest : List ℕ} → w.at0 + w.at40 ≡ x
+      → (w.at0 < 2 ^ 16) × (2 ^ 16 ≤ x) × (x < 2 ^ 17) → (x + w.at22) % 2 ^ 17 ≡ u
       → ToRest f 16 (at w 0 9 (14 ∷ rest)) (at (record w { at1 = 14; at20 = 12348; at42 = u }) 0 34 rest)
-  kay_theta_path x u rest small sum low fits is =
-      ends (followed (control_row 14 rest (lit≤ tt) (lit< tt) small)
+  kay_theta_path x {u} {rest} sum range is =
+      let low = range.1 in
+      let fits = range.2 in
+      ends (followed (control_row 14 rest (lit≤ tt) (lit< tt) range.0)
       (on (A 30 (own 40) (short x) refl (omega arith)) refl
       (on (E_stays 31 (own 25) refl (omega arith)) refl
       (on (A 32 (own 22) (short u) refl (omega arith)) refl stay))))
@@ -231,10 +233,10 @@ module _ (f : Kept) (w : Working) (words : List ℕ) (digit40 : Bool) where
       (E_jumps 26 (own 34) refl (lit< tt)) refl
 
   -- Z of θ
-  pub zed_theta_path : (u : ℕ) (rest : List ℕ) → w.at40 ≡ 65536 → w.at0 + w.at42 < 2 ^ 16
+  pub zed_theta_path : {u : ℕ} {rest : List ℕ} → w.at40 ≡ 65536 → w.at0 + w.at42 < 2 ^ 16
       → (65536 + w.at0 + w.at42 + w.at22) % 2 ^ 17 ≡ u
       → ToRest f 17 (at w 0 9 (13 ∷ rest)) (at (record w { at1 = 13; at20 = 12346; at42 = u }) 0 34 rest)
-  zed_theta_path u rest blank fits is =
+  zed_theta_path {u} {rest} blank fits is =
       ends (followed (control_row 13 rest (lit≤ tt) (lit< tt) (omega arith))
       (on (A 29 (own 42) (short (w.at0 + w.at42)) refl (omega arith)) refl
       (on (A 30 (own 40) (short (65536 + w.at0 + w.at42)) refl (omega arith)) refl
@@ -254,15 +256,28 @@ module _ (f : Kept) (w : Working) (words : List ℕ) (digit40 : Bool) where
   abbrev pub lettered : ℕ → Working
   lettered c = record w { at1 = c; at20 = 114736 + 2 * c }
 
-  -- a code letter c, up to the order at 22: the value y of the letter is added to the item so far, and the function
-  pub letter_row : (c y x u : ℕ) (rest : List ℕ) → 17 ≤ c → c < 32 → w.at0 < 2 ^ 17
-      → get_or (all_words (piece f) (at (lettered c) 0 0 [])) (24 + c) 0 ≡ y
-      → (w.at0 + y) % 2 ^ 17 ≡ x → (x + w.at40) % 2 ^ 17 ≡ u
+  -- a code letter c: its value is y, the item so far with it is x, and with the function u
+  pub record IsLetter (c y x u : ℕ) : Type 0 where
+    pub low : 17 ≤ c
+    pub most : c < 32
+    pub fits : w.at0 < 2 ^ 17
+    pub value : get_or (all_words (piece f) (at (lettered c) 0 0 [])) (24 + c) 0 ≡ y
+    pub sum : (w.at0 + y) % 2 ^ 17 ≡ x
+    pub is : (x + w.at40) % 2 ^ 17 ≡ u
+
+  -- it is read up to the order at 22
+  pub letter_row : {c y x u : ℕ} {rest : List ℕ} → IsLetter c y x u
       → Walk f 12 (at w 0 9 (c ∷ rest)) (at (lettered c) (short u) 22 rest)
-  letter_row c y x u rest low most fits value sum is =
+  letter_row {c} {x = x} {u} {rest} h =
       let least = least f.size in
       let order : 114736 + 2 * c ≡ 114688 + 2 * (24 + c) = omega arith in
+      let most = h.most in
       let below : 24 + c < locations f.size = omega arith in
+      let low = h.low in
+      let fits = h.fits in
+      let value = h.value in
+      let sum = h.sum in
+      let is = h.is in
       followed (ending_row c rest (omega arith) most)
       (on (E_jumps 15 (own 17) refl (omega arith)) refl
       (on (A 17 (own 35) (short (114736 + 2 * c)) refl (omega arith)) refl
@@ -271,15 +286,16 @@ module _ (f : Kept) (w : Working) (words : List ℕ) (digit40 : Bool) where
       (on (A 20 (any (24 + c) below) (short x) (word_is order) (omega arith)) refl
       (on (A 21 (own 40) (short u) refl (omega arith)) refl stay))))))
 
-  -- a code letter that places a word
-  pub placed_path : (c y x u a : ℕ) (rest : List ℕ) → 17 ≤ c → c < 32 → w.at0 < 2 ^ 17
-      → get_or (all_words (piece f) (at (lettered c) 0 0 [])) (24 + c) 0 ≡ y
-      → (w.at0 + y) % 2 ^ 17 ≡ x → (x + w.at40) % 2 ^ 17 ≡ u → w.at22 ≡ 20480 + 2 * a → 44 ≤ a → a < locations f.size
+  -- it places a word
+  pub placed_path : {c y x u : ℕ} (a : ℕ) {rest : List ℕ} → IsLetter c y x u → w.at22 ≡ 20480 + 2 * a
+      → (44 ≤ a) × (a < locations f.size)
       → ToRest f 17 (at w 0 9 (c ∷ rest))
       (moment f (record (lettered c) { at22 = w.at22 + 2 }) (set words a u) digit40 0 34 rest)
-  placed_path c y x u a rest low most fits value sum is order above below =
+  placed_path {u = u} a h order range =
+      let above = range.0 in
+      let below = range.1 in
       let b = most_locations f.size in
-      ends (followed (letter_row c y x u rest low most fits value sum is)
+      ends (followed (letter_row h)
       (on (T 22 (out a (record { below = below; beside = inr above })) u (word_is order) refl) refl
       (on (A 23 (own 22) (short w.at22) refl (omega arith)) refl
       (on (A 24 (own 2) (short (w.at22 + 2)) refl (omega arith)) refl
@@ -287,9 +303,9 @@ module _ (f : Kept) (w : Working) (words : List ℕ) (digit40 : Bool) where
       (E_jumps 26 (own 34) refl (lit< tt)) refl
 
   -- the code letter of the entry item
-  pub entry_order : (u a : ℕ) (rest : List ℕ) → w.at22 ≡ 12288 + 2 * a → a < locations f.size → u < 2 ^ 16
+  pub entry_order : (u : ℕ) {a : ℕ} {rest : List ℕ} → w.at22 ≡ 12288 + 2 * a → a < locations f.size → u < 2 ^ 16
       → Enters f (at w (short u) 22 rest) (at w (short u) a rest)
-  entry_order u a rest order below low =
+  entry_order u {a} {rest} order below low =
       let m : Moves (piece f) KindE (at w (short u) 22 rest) (at w (short u) a rest) =
       E_jumps 22 (any a below) (word_is order) (omega arith) in
       record { does = m.does; jumps = λ k. rw ((m.order k).kind_is, lt_true (short u) (2 ^ 70) (omega arith)) refl }

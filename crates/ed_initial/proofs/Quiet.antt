@@ -11,13 +11,13 @@ use Rattle.ed_machine.specs.Steps.{state_after, past}
 use Rattle.ed_machine.specs.declared.turn.Turn.TheVariants.{Went}
 use Rattle.ed_notation.specs.Fold.{over}
 use Rattle.ed_notation.specs.Openings.{IsDirective, opening}
-use Rattle.ed_notation.specs.Faults.{Entry}
-use Rattle.ed_notation.specs.Reading.{reading, Arrived}
+use Rattle.ed_notation.specs.Faults.{TapeEntry}
+use Rattle.ed_notation.specs.Reading.{reading_on, Arrived}
 use Rattle.ed_notation.proofs.Laws.{reading_is_rules}
 use Rattle.ed_initial.specs.Entry.{IsStarted, Comes, at_entry, entry_words}
 use Rattle.ed_initial.specs.Load.{enters, IsQuiet}
 use Rattle.ed_initial.proofs.Paths.{state}
-use Rattle.ed_initial.proofs.Loads.{Reaches, prepend, loads}
+use Rattle.ed_initial.proofs.Loads.{Reaches, Rest, prepend, loads}
 use Rattle.ed_initial.proofs.Opened.{frame, begins, opened, first_path, first_scratch, first_note, shown}
 
 -- orders that only go on print nothing
@@ -30,7 +30,7 @@ silent (suc k) s h =
     rw (earlier, turn) refl
 
 -- orders that go on, and one more that enters the program, lead to the state at the entry
-pub record LeadsIn (s : State) (e : Entry) : Type 0 where
+pub record LeadsIn (s : State) (e : TapeEntry) : Type 0 where
   pub before : ℕ
   pub cost_is : suc before ≡ e.cost
   pub quiet : IsQuiet before s
@@ -40,7 +40,7 @@ pub record LeadsIn (s : State) (e : Entry) : Type 0 where
   pub went : (j : ℕ) → j < e.cost → (step (state_after j s)).turn ≡ Went
   pub prints_none : (past e.cost s).codes ≡ []
 
-pub leads_in : (s : State) (store : IsStore s.store) (e : Entry)
+pub leads_in : (s : State) (store : IsStore s.store) (e : TapeEntry)
     → Reaches (frame s store) s.store.words s.orders 0 s e → LeadsIn s e
 unfolding past
 leads_in s store e a =
@@ -71,15 +71,15 @@ leads_in s store e a =
         subst (λ k. (step (state_after k s)).turn ≡ Went) same (ap (λ (o : Obeyed). o.turn) last)
 
 -- from a started machine
-pub comes_in : (s : State) (e : Entry) → IsStore s.store → IsStarted s → Comes s e → LeadsIn s e
+pub comes_in : (s : State) (e : TapeEntry) → IsStore s.store → IsStarted s → Comes s e → LeadsIn s e
 comes_in s e store started h =
     let ws = s.store.words in
     let f = frame s store in
     let set : IsDirective 20568 = omega arith in
-    let read : reading s.size ws 0 9 (opening ws) None s.tape ≡ Arrived e =
+    let read : reading_on s.size ws 0 9 (opening ws) None s.tape ≡ Arrived e =
     (reading_is_rules s.size ws (opening ws) 9 s.tape set).arrived e h.well h.comes in
-    let rest = loads f ws s.orders s.tape (first_scratch s) 0 9 (opening ws) None e
-    (first_note ws (store.fits 42)) tt read in
+    let first : Rest = record { scratch = first_scratch s; row = 0; cost = 9; note = opening ws } in
+    let rest = loads f ws s.orders s.tape first (first_note ws (store.fits 42)) read in
     let begun : Reaches f ws s.orders 0 (state f (begins s store) (s.orders + 0)) e =
     prepend f ws s.orders 9 0 (first_path s store) rest in
     let zero : s.orders + 0 ≡ s.orders = omega arith in

@@ -5,7 +5,7 @@ use Rattle.std.proofs.Math.ListN.{get_or-append}
 use Rattle.ed_machine.specs.State.{State}
 use Rattle.ed_machine.specs.Start.{started}
 use Rattle.ed_notation.specs.Openings.{IsDirective, opening}
-use Rattle.ed_notation.specs.Faults.{Entry, WellFormed}
+use Rattle.ed_notation.specs.Faults.{TapeEntry, WellFormed}
 use Rattle.ed_notation.proofs.Laws.{reading_is_rules}
 use Rattle.ed_initial.specs.Listing.{initial_orders}
 use Rattle.ed_initial.specs.Entry.{IsStarted, Comes}
@@ -16,7 +16,8 @@ is_started rows s = record {
   orders = λ i h. get_or-append initial_orders (drop 41 s.store.words) 0 i h;
 }
 
-pub well_comes : (s : State) → WellFormed s.size s.store.words (opening s.store.words) s.tape → (e : Entry) × Comes s e
+pub well_comes : (s : State) → WellFormed s.size s.store.words (opening s.store.words) s.tape → (e : TapeEntry)
+    × Comes s e
 well_comes s well =
     let set : IsDirective 20568 = omega arith in
     elim (reading_is_rules s.size s.store.words (opening s.store.words) 9 s.tape set).either [

@@ -19,82 +19,107 @@ use Rattle.ed_initial.specs.Entry.{IsStarted}
 use Rattle.ed_initial.specs.Walks.{WalkEnds, walked, Between, Inside, DoesRow, is_rest}
 use Rattle.ed_paths.proofs.Frames.{Moment}
 use Rattle.ed_initial.proofs.Paths.{Kept, state, ToRest, function_path}
-use Rattle.ed_initial.proofs.Inside.{between, inside, Follows, follows}
+use Rattle.ed_initial.proofs.Inside.{between, inside, AtRow, Follows, follows}
 use Rattle.ed_initial.proofs.Opened.{frame, opened, first_path, first_scratch, shown}
 use Rattle.ed_initial.proofs.Arrivals.{walks_path, walks_in}
 
--- a walk from a state that stands at the head of a path
-moved : {f : Kept} {k : ℕ} {a b : Moment} (s t : State) (r : Rested) (orders : ℕ) → WalkEnds s r
-    → t ≡ state_after (walked r) s
+-- a walk from a state: how it ended, and in which state
+pub record IsWalked (s t : State) (r : Rested) : Type 0 where
+  pub store : IsStore s.store
+  pub ends : WalkEnds s r
+  pub is : t ≡ state_after (walked r) s
+
+pub walk_of : {s t : State} {r : Rested} → IsStore s.store → WalkEnds s r → t ≡ state_after (walked r) s
+    → IsWalked s t r
+walk_of store ends is = record { store = store; ends = ends; is = is }
+
+-- from a state that stands at the head of a path
+moved : {f : Kept} {k : ℕ} {a b : Moment} {s t : State} {r : Rested} (orders : ℕ) → IsWalked s t r
     → s ≡ state f a orders → ToRest f k a b → is_rest b.counter ≡ true → k ≤ 17
     → (r ≡ At b.counter k) × (t ≡ state f b (orders + k))
-moved s t r orders ends is same path rest few =
-    walks_path path rest few orders t r (subst (λ x. WalkEnds x r) same ends) (is ∙ ap (state_after (walked r)) same)
+moved {t = t} {r} orders w same path rest few =
+    walks_path path rest few orders t r (subst (λ x. WalkEnds x r) same w.ends)
+    (w.is ∙ ap (state_after (walked r)) same)
 
 -- the start
-pub from_start : (s t : State) (r : Rested) → IsStore s.store → IsStarted s → WalkEnds s r
-    → t ≡ state_after (walked r) s
+pub from_start : {s t : State} {r : Rested} → IsWalked s t r → IsStarted s
     → Between s (opening s.store.words) s.tape 9 r t
-from_start s t r store started ends is =
-    let p = moved s t r s.orders ends is (sym (opened s store started)) (first_path s store) refl (lit≤ tt) in
+from_start {s} w started =
+    let store = w.store in
+    let p = moved s.orders w (sym (opened s store started)) (first_path s store) refl (lit≤ tt) in
     record { result_is = p.0; scratch = first_scratch s; state_is = p.1 ∙ shown (frame s store) _ _ _ _ _ _ _ }
 
-module _ (o s t : State) (r : Rested) (store : IsStore s.store) (ends : WalkEnds s r)
-    (is : t ≡ state_after (walked r) s) where
+module _ (o : State) {s t : State} {r : Rested} (w : IsWalked s t r) where
   -- the opening store has sandwich digits as the machine's has
-  has_room : (place : ℕ) (w : Scratch) (note : Note) → s ≡ rest_at place w note o → 20 < length o.store.sandwich
-  has_room place w note e =
-      let a : length s.store.sandwich ≡ length (set o.store.sandwich 20 w.digit40) =
+  has_room : (place : ℕ) (scratch : Scratch) (note : Note) → s ≡ rest_at place scratch note o
+      → 20 < length o.store.sandwich
+  has_room place scratch note e =
+      let a : length s.store.sandwich ≡ length (set o.store.sandwich 20 scratch.digit40) =
       ap (λ (x : State). length x.store.sandwich) e in
-      omega (arith, a, length-set o.store.sandwich 20 w.digit40, store.digits_are)
+      omega (arith, a, length-set o.store.sandwich 20 scratch.digit40, w.store.digits_are)
 
   abbrev held : 20 < length o.store.sandwich → Kept
   held room = record { size = o.size; digits = o.store.sandwich; room = room; last = o.last }
 
   -- a function row
-  pub by_function : (w : Scratch) (note : Note) (c : ℕ) (rows : List ℕ) → IsNote note → c < 32 → o.tape ≡ c ∷ rows
-      → s ≡ rest34 w note o → Inside o note (part_of c) rows 6 r t
-  by_function w note c rows good small tape e =
-      let f = held (has_room 34 w note e) in
+  pub by_function : (scratch : Scratch) {note : Note} (c : ℕ) {rows : List ℕ} → IsNote note → c < 32
+      → o.tape ≡ c ∷ rows → s ≡ rest34 scratch note o → Inside o note (part_of c) rows 6 r t
+  by_function scratch {note} c {rows} good small tape e =
+      let f = held (has_room 34 scratch note e) in
       let ws = o.store.words in
-      let same : s ≡ state f (between f ws w note (c ∷ rows)) o.orders =
-      e ∙ (λ i. rest34 w note (record o { tape = tape i })) ∙ sym (shown f _ _ _ _ _ _ _) in
-      let path = function_path f (working w note) (over note.placed ws) w.digit40 c rows small in
-      let p = moved s t r o.orders ends is same path refl (lit≤ tt) in
-      record { result_is = p.0; at1 = w.at1; at20 = w.at20; state_is = p.1 ∙ shown f _ _ _ _ _ _ _ }
-
-  module _ (part : Part) (at1 at20 : ℕ) (note : Note) (c : ℕ) (rows : List ℕ) (good : IsNote note)
-      (phase : IsPartSoFar part) where
-    by_taken : (room : 20 < length o.store.sandwich)
-        → s ≡ state (held room) (inside (held room) o.store.words part at1 at20 note (c ∷ rows)) o.orders
-        → (k : Taken) → Follows (held room) o.store.words note good part phase at1 at20 c rows k
-        → DoesRow o note part c rows r t k
-    by_taken room same (Refused cause) h = tt
-    by_taken room same (Longer next k) h =
-        let p = moved s t r o.orders ends is same h.path refl h.few in
-        record { result_is = p.0; at1 = h.one; at20 = h.twenty; state_is = p.1 ∙ shown (held room) _ _ _ _ _ _ _ }
-    by_taken room same (Ended setting k) h =
-        let p = moved s t r o.orders ends is same h.path refl h.few in
-        record { result_is = p.0; scratch = h.scratch; state_is = p.1 ∙ shown (held room) _ _ _ _ _ _ _ }
-    by_taken room same (Placed at word) h =
-        let p = moved s t r o.orders ends is same h.path refl h.few in
-        record { result_is = p.0; scratch = h.scratch; state_is = p.1 ∙ shown (held room) _ _ _ _ _ _ _ }
-    by_taken room same (Entered at) h =
-        let here = subst (λ x. WalkEnds x r) same ends in
-        let p = walks_in h.runs h.last (lit< tt) o.orders t r here (is ∙ ap (state_after (walked r)) same) in
-        record { result_is = p.0; state_is = p.1 ∙ shown (held room) _ _ _ _ _ _ _ }
+      let same : s ≡ state f (between f ws scratch note (c ∷ rows)) o.orders =
+      e ∙ (λ i. rest34 scratch note (record o { tape = tape i })) ∙ sym (shown f _ _ _ _ _ _ _) in
+      let path = function_path f (working scratch note) (over note.placed ws) scratch.digit40 c rows small in
+      let p = moved o.orders w same path refl (lit≤ tt) in
+      record {
+        result_is = p.0;
+        at1 = scratch.at1;
+        at20 = scratch.at20;
+        state_is = p.1 ∙ shown f _ _ _ _ _ _ _;
+      }
 
   -- a row inside an item
-  pub by_row : (part : Part) (at1 at20 : ℕ) (note : Note) (c : ℕ) (rows : List ℕ) → IsNote note → IsPartSoFar part
-      → o.tape ≡ c ∷ rows
-      → s ≡ rest9 part at1 at20 note o
+  pub by_row : {part : Part} (at1 at20 : ℕ) {note : Note} {c : ℕ} {rows : List ℕ} → IsNote note → IsPartSoFar part
+      → o.tape ≡ c ∷ rows → s ≡ rest9 part at1 at20 note o
       → DoesRow o note part c rows r t
       (taken o.size (row_kind c) (over note.placed o.store.words) (setting_of note) part c)
-  by_row part at1 at20 note c rows good phase tape e =
-      let room = has_room 9 (begun part at1 at20) note e in
-      let f = held room in
-      let same : s ≡ state f (inside f o.store.words part at1 at20 note (c ∷ rows)) o.orders =
-      e ∙ (λ i. rest9 part at1 at20 note (record o { tape = tape i })) ∙ sym (shown f _ _ _ _ _ _ _) in
-      by_taken part at1 at20 note c rows good phase room same
-      (taken o.size (row_kind c) (over note.placed o.store.words) (setting_of note) part c)
-      (follows f o.store.words note good part phase at1 at20 c rows)
+  by_row {part} at1 at20 {note} {c} {rows} good phase tape e =
+      by_taken (taken o.size (row_kind c) (over note.placed o.store.words) (setting_of note) part c)
+      (follows row good phase)
+    where
+      room : 20 < length o.store.sandwich
+      room = has_room 9 (begun part at1 at20) note e
+
+      f : Kept
+      f = held room
+
+      row : AtRow
+      row = record {
+        kept = f;
+        words = o.store.words;
+        note = note;
+        part = part;
+        at1 = at1;
+        at20 = at20;
+        code = c;
+        rows = rows;
+      }
+
+      same : s ≡ state f (inside f o.store.words part at1 at20 note (c ∷ rows)) o.orders
+      same = e ∙ (λ i. rest9 part at1 at20 note (record o { tape = tape i })) ∙ sym (shown f _ _ _ _ _ _ _)
+
+      by_taken : (k : Taken) → Follows row k → DoesRow o note part c rows r t k
+      by_taken (Refused cause) h = tt
+      by_taken (Longer next k) h =
+          let p = moved o.orders w same h.path refl h.few in
+          record { result_is = p.0; at1 = h.one; at20 = h.twenty; state_is = p.1 ∙ shown f _ _ _ _ _ _ _ }
+      by_taken (Ended setting k) h =
+          let p = moved o.orders w same h.path refl h.few in
+          record { result_is = p.0; scratch = h.scratch; state_is = p.1 ∙ shown f _ _ _ _ _ _ _ }
+      by_taken (Placed at word) h =
+          let p = moved o.orders w same h.path refl h.few in
+          record { result_is = p.0; scratch = h.scratch; state_is = p.1 ∙ shown f _ _ _ _ _ _ _ }
+      by_taken (Entered at) h =
+          let here = subst (λ x. WalkEnds x r) same w.ends in
+          let p = walks_in h.runs h.last (lit< tt) o.orders t r here (w.is ∙ ap (state_after (walked r)) same) in
+          record { result_is = p.0; state_is = p.1 ∙ shown f _ _ _ _ _ _ _ }

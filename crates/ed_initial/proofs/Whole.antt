@@ -8,7 +8,7 @@ use Rattle.ed_machine.specs.declared.turn.Turn.TheVariants.{Went}
 use Rattle.ed_notation.specs.Items.{rows_of, spelled}
 use Rattle.ed_notation.specs.Fold.{Note}
 use Rattle.ed_notation.specs.Openings.{opening}
-use Rattle.ed_notation.specs.Faults.{Entry, WellFormed, ComesTo}
+use Rattle.ed_notation.specs.Faults.{TapeEntry, WellFormed, ComesTo}
 use Rattle.ed_notation.proofs.Costs.{most}
 use Rattle.ed_initial.specs.declared.loading.Loaded.{Loaded}
 use Rattle.ed_initial.specs.declared.loading.Loaded.TheVariants.{Entered}
@@ -19,7 +19,8 @@ use Rattle.ed_initial.proofs.Started.{well_comes}
 use Rattle.ed_initial.proofs.Quiet.{LeadsIn, comes_in}
 
 -- no tape costs more than 17 orders a row
-pub cost_fits : (words : List ℕ) (start : Note) (base : ℕ) (rows : List ℕ) (e : Entry) → ComesTo words start base rows e
+pub cost_fits : (words : List ℕ) (start : Note) (base : ℕ) (rows : List ℕ) (e : TapeEntry)
+    → ComesTo words start base rows e
     → e.cost ≤ 17 * length rows + base
 cost_fits words start base rows e c =
     let all : length rows ≡ length (spelled c.before) + length (rows_of c.last ++ e.rest) =
@@ -27,17 +28,16 @@ cost_fits words start base rows e c =
     omega (arith, most words start base rows e c, c.read_is, all, length-append (rows_of c.last) e.rest)
 
 -- a load that leads to an entry within its bound
-pub ended : (s : State) (e : Entry) (bound : ℕ) (t : State) (r : Loaded) → LeadsIn s e → e.cost ≤ bound
-    → EndsAs s bound r
-    → t ≡ state_after (orders_of r) s → IsLoaded s e r t
+pub ended : {s : State} {e : TapeEntry} (bound : ℕ) {t : State} {r : Loaded} → LeadsIn s e → e.cost ≤ bound
+    → EndsAs s bound r → t ≡ state_after (orders_of r) s → IsLoaded s e r t
 unfolding past
-ended s e bound t r a fits ends is =
+ended {s} {e} bound {r = r} a fits ends is =
     let m = a.before in
     let went : (step (state_after m s)).turn ≡ Went = ap (λ (o : Obeyed). o.turn) a.last in
     let end : (step (state_after m s)).state ≡ at_entry s e = ap (λ (o : Obeyed). o.state) a.last in
     let below : suc m ≤ bound = omega (arith, a.cost_is) in
     let result : r ≡ Entered (state_after (suc m) s).counter (suc m) =
-    settled s bound m a.quiet went a.enters_is below r ends in
+    settled s bound m a.quiet went a.enters_is below ends in
     let place : (state_after (suc m) s).counter ≡ e.at = ap (λ (x : State). x.counter) end in
     let cost = a.cost_is in
     record {
@@ -49,12 +49,12 @@ ended s e bound t r a fits ends is =
 module _ (s t : State) (r : Loaded) (store : IsStore s.store) (started : IsStarted s)
     (ends : EndsAs s (17 * length s.tape + 9) r)
     (is : t ≡ state_after (orders_of r) s) where
-  pub whole_load : (e : Entry) → Comes s e → IsLoaded s e r t
+  pub whole_load : (e : TapeEntry) → Comes s e → IsLoaded s e r t
   whole_load e h =
-      ended s e (17 * length s.tape + 9) t r (comes_in s e store started h)
+      ended (17 * length s.tape + 9) (comes_in s e store started h)
       (cost_fits s.store.words (opening s.store.words) 9 s.tape e h.comes) ends is
 
   -- where no entry is asked for
   pub total_load : WellFormed s.size s.store.words (opening s.store.words) s.tape
-      → (e : Entry) × Comes s e × IsLoaded s e r t
+      → (e : TapeEntry) × Comes s e × IsLoaded s e r t
   total_load well = let h = well_comes s well in (h.0, h.1, whole_load h.0 h.1)

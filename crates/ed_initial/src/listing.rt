@@ -1,5 +1,5 @@
 ghost use Rattle.std.specs.Prelude.{◌≡◌, ◌<◌};
-ghost use Rattle.ed_initial.specs.Listing.{initial_orders, order};
+ghost use Rattle.ed_initial.specs.Listing.{initial_orders, listed_order};
 
 use ed_words::{Order, Word};
 
@@ -39,7 +39,7 @@ const D: bool = true;
 pub fn order(function: u8, address: u16, length: bool) -> Word
     requires function { function < 32 }
     requires address { address < 1024 }
-    ensures { result ≡ order function address length }
+    ensures { result ≡ listed_order function address length }
 {
     Word::of_order(Order {
         function,

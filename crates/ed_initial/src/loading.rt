@@ -1,6 +1,6 @@
 ghost use Rattle.std.specs.Prelude.{◌≡◌, ◌+◌, ◌*◌, ◌^◌, ◌≤◌, length};
 ghost use Rattle.ed_machine.specs.Steps.{state_after};
-ghost use Rattle.ed_notation.specs.Faults.{Entry, WellFormed};
+ghost use Rattle.ed_notation.specs.Faults.{TapeEntry, WellFormed};
 ghost use Rattle.ed_notation.specs.Openings.{opening};
 ghost use Rattle.ed_initial.specs.Entry.{IsStarted, Comes, IsLoaded};
 ghost use Rattle.ed_initial.specs.Load.{EndsAs, orders_of};
@@ -34,10 +34,10 @@ pub fn load(machine: &mut Machine) -> Loaded
     requires room { machine.old.orders + (17 * length machine.old.tape + 9) ≤ 2 ^ 63 }
     ensures ends { EndsAs machine.old (17 * length machine.old.tape + 9) result }
     ensures state { machine.new ≡ state_after (orders_of result) machine.old }
-    ensures loads { (e : Entry) → Comes machine.old e → IsLoaded machine.old e result machine.new }
+    ensures loads { (e : TapeEntry) → Comes machine.old e → IsLoaded machine.old e result machine.new }
     ensures total { WellFormed machine.old.size machine.old.store.words (opening machine.old.store.words)
         machine.old.tape →
-        (e : Entry) × Comes machine.old e × IsLoaded machine.old e result machine.new }
+        (e : TapeEntry) × Comes machine.old e × IsLoaded machine.old e result machine.new }
 {
     let rows = machine.rows_left().len() as u64;
     // The contract of `word` tells the proof that the store is one.

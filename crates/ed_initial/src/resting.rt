@@ -58,9 +58,8 @@ pub fn to_rest(machine: &mut Machine) -> Rested
         DoesRow o note part c rows result machine.new
         (taken o.size (row_kind c) (over note.placed o.store.words) (setting_of note) part c) }
     ensures item { (o : State) (b : Begun) (at1 at20 : ℕ) (note : Note) (c : ℕ) (rows : List ℕ) → IsNote note
-        → IsBegun b →
-        BreaksNone o.size o.store.words note b c → o.tape ≡ c ∷ rows → machine.old ≡ rest9 (part_so_far b) at1 at20 note o →
-        DoesItemRow o note b c rows result machine.new }
+        → IsBegun b → BreaksNone o.size o.store.words note b c → o.tape ≡ c ∷ rows
+        → machine.old ≡ rest9 (part_so_far b) at1 at20 note o → DoesItemRow o note b c rows result machine.new }
 {
     // The contract of `word` tells the proof that the store is one.
     let _ = machine.word(0);

@@ -2,7 +2,7 @@
 use Rattle.std.proofs.Common.{◌≡◌, ℕ, suc, ◌+◌, ◌*◌, ◌%◌, ◌^◌, ◌<◌, ◌≤◌, ◌≢◌, refl, sym, ap, ◌∙◌, subst, arith, Bool}
 use Rattle.std.proofs.Common.{nat_eq}
 use Rattle.std.proofs.Common.{if◌then◌else◌, Option, Some, None, List, [], ◌∷◌, ◌++◌, length, length-append}
-use Rattle.std.proofs.Common.{append_assoc, lit≤, get_or, drop, drop-cons}
+use Rattle.std.proofs.Common.{append_assoc, lit≤, get_or, drop}
 use Rattle.std.proofs.Math.ListN.{drop_of_length-le}
 use Rattle.ed_words.proofs.Numbers.{eq_false}
 use Rattle.ed_words.specs.Words.{digit}
@@ -11,34 +11,35 @@ use Rattle.ed_initial1.specs.declared.cause.Tape1Cause.TheVariants.{EndOfTape}
 use Rattle.ed_initial1.specs.declared.reader.Part.{Part}
 use Rattle.ed_initial1.specs.declared.reader.Taken.{Taken}
 use Rattle.ed_initial1.specs.declared.reader.Taken.TheVariants.{Refused, Longer, Ended}
-use Rattle.ed_initial1.specs.Reading.{taken}
+use Rattle.ed_initial1.specs.Reading.{taken1}
 use Rattle.ed_initial1.specs.Checks.{Accepts1}
-use Rattle.ed_notation.specs.Items.{number}
-use Rattle.ed_initial1.specs.Items.{Begun, Item, ending, spelled, AreItems, word, words, costs, cost_of}
-use Rattle.ed_initial1.specs.Faults.{Tape, Comes, is_none, IsFault, BeginsWith}
+use Rattle.ed_notation.specs.Items.{digits_number}
+use Rattle.ed_notation.proofs.Rows.{number_more, digits_more}
+use Rattle.ed_notation.proofs.Loop.{next_row}
+use Rattle.ed_initial1.specs.Items.{Begun1, Item1, ending_row, spelled1, AreItems, word1, words, costs1, cost_of1}
+use Rattle.ed_initial1.specs.Faults.{Tape, Comes1, is_none, IsFault1, BeginsWith}
 use Rattle.ed_initial1.proofs.Reading.{Here, part_of, longer, began, ended, end_of, faulty, TakenMeans, taken_means}
-use Rattle.ed_initial1.proofs.Reading.{item_more, begins_more, goes_on_more, items_more, length_spelled, digits_more}
-use Rattle.ed_initial1.proofs.Reading.{number_more}
+use Rattle.ed_initial1.proofs.Reading.{item_more, begins_more, goes_on_more, items_more, length_spelled}
 use Rattle.ed_initial1.proofs.Unique.{no_fault, fault_of}
 use Rattle.ed_initial1.proofs.Opened.{length_words}
 use Rattle.ed_initial1.proofs.Whole.{costs_fit}
 
 -- the orders of a part of an item
-abbrev part_cost : Option Begun → ℕ
+abbrev part_cost : Option Begun1 → ℕ
 part_cost None = 0
 part_cost (Some b) = 5 + 10 * length b.digits
 
-abbrev item_of : Option Begun → Option Part
+abbrev item_of : Option Begun1 → Option Part
 item_of None = None
 item_of (Some b) = Some (part_of b)
 
 -- the loop before a row: what was read so far
 pub record StandsAt (rows : List ℕ) (row : ℕ) (ws : List ℕ) (orders end : ℕ) (item : Option Part) : Type 0 where
-  pub before : List Item
-  pub part : Option Begun
+  pub before : List Item1
+  pub part : Option Begun1
   pub here : Here rows row before part (drop row rows)
   pub words_are : ws ≡ words before
-  pub orders_are : orders ≡ 4 + costs before + part_cost part
+  pub orders_are : orders ≡ 4 + costs1 before + part_cost part
   pub end_is : end ≡ end_of before
   pub item_is : item ≡ item_of part
   pub few : orders ≤ 14 * row + 4
@@ -55,23 +56,18 @@ begins rows = record {
   few = lit≤ tt;
 }
 
-rows_left : (rows : List ℕ) (row c : ℕ) → row < length rows → c ≡ get_or rows row c
-    → drop row rows ≡ c ∷ drop (row + 1) rows
-rows_left rows row c h is = let e : suc row ≡ row + 1 = omega arith in drop-cons rows row c h
-    ∙ (λ i. sym is i ∷ drop (e i) rows)
-
-at_row : (rows : List ℕ) (row c : ℕ) (before : List Item) (part : Option Begun)
+at_row : (rows : List ℕ) (row c : ℕ) (before : List Item1) (part : Option Begun1)
     → Here rows row before part (drop row rows) → row < length rows
     → c ≡ get_or rows row c → Here rows row before part (c ∷ drop (row + 1) rows)
-at_row rows row c before part h l is = subst (λ x. Here rows row before part x) (rows_left rows row c l is) h
+at_row rows row c before part h l is = subst (λ x. Here rows row before part x) (next_row rows row c l is) h
 
 -- inside an item
 pub record Inside (rows : List ℕ) (row : ℕ) (ws : List ℕ) (orders end : ℕ) (p : Part) : Type 0 where
-  pub before : List Item
-  pub begun : Begun
+  pub before : List Item1
+  pub begun : Begun1
   pub here : Here rows row before (Some begun) (drop row rows)
   pub words_are : ws ≡ words before
-  pub orders_are : orders ≡ 4 + costs before + (5 + 10 * length begun.digits)
+  pub orders_are : orders ≡ 4 + costs1 before + (5 + 10 * length begun.digits)
   pub end_is : end ≡ end_of before
   pub part_is : p ≡ part_of begun
   pub few : orders ≤ 14 * row + 4
@@ -83,8 +79,8 @@ pub inside : (rows : List ℕ) (row : ℕ) (ws : List ℕ) (orders end : ℕ) (p
     → StandsAt rows row ws orders end (Some p) → Inside rows row ws orders end p
 inside rows row ws orders end p s = by_part s.part s.here s.orders_are s.item_is
   where
-    by_part : (part : Option Begun) → Here rows row s.before part (drop row rows)
-        → orders ≡ 4 + costs s.before + part_cost part
+    by_part : (part : Option Begun1) → Here rows row s.before part (drop row rows)
+        → orders ≡ 4 + costs1 s.before + part_cost part
         → Some p ≡ item_of part → Inside rows row ws orders end p
     by_part None h o i = absurd (cc)
     by_part (Some b) h o i =
@@ -99,20 +95,13 @@ inside rows row ws orders end p s = by_part s.part s.here s.orders_are s.item_is
           few = s.few;
         }
 
-pub number_fits : (rows : List ℕ) (row : ℕ) (ws : List ℕ) (orders end : ℕ) (p : Part)
-    → StandsAt rows row ws orders end (Some p) → p.number ≤ 32767
-number_fits rows row ws orders end p s =
-    let i = inside rows row ws orders end p s
-    in subst (λ (x : Part). x.number ≤ 32767) (sym i.part_is) i.here.is_part.fits
-
-pub function_row : (rows : List ℕ) (row : ℕ) (ws : List ℕ) (orders end c : ℕ) → StandsAt rows row ws orders end None
-    → row < length rows
-    → c ≡ get_or rows row c → c < 32
+pub function_row : {rows : List ℕ} {row : ℕ} {ws : List ℕ} {orders end c : ℕ} → StandsAt rows row ws orders end None
+    → row < length rows → c ≡ get_or rows row c → c < 32
     → StandsAt rows (row + 1) ws (orders + 5) end (Some (record { function = c; number = 0 }))
-function_row rows row ws orders end c s l is small = by_part s.part s.here s.orders_are s.item_is
+function_row {rows} {row} {ws} {orders} {end} {c} s l is small = by_part s.part s.here s.orders_are s.item_is
   where
-    by_part : (part : Option Begun) → Here rows row s.before part (drop row rows)
-        → orders ≡ 4 + costs s.before + part_cost part
+    by_part : (part : Option Begun1) → Here rows row s.before part (drop row rows)
+        → orders ≡ 4 + costs1 s.before + part_cost part
         → None ≡ item_of part → StandsAt rows (row + 1) ws (orders + 5) end (Some (record { function = c; number = 0 }))
     by_part (Some b) h o i = absurd (cc)
     by_part None h o i =
@@ -134,38 +123,53 @@ function_row rows row ws orders end c s l is small = by_part s.part s.here s.ord
           few = omega (arith, s.few);
         }
 
-first_is : (before : List Item) (ws : List ℕ) → ws ≡ words before → (b : Bool) → b ≡ nat_eq (length ws) 0
+first_is : (before : List Item1) (ws : List ℕ) → ws ≡ words before → (b : Bool) → b ≡ nat_eq (length ws) 0
     → b ≡ is_none before
 first_is [] ws e b h = h ∙ ap (λ x. nat_eq (length x) 0) e
 first_is (i ∷ is) ws e b h = let z = eq_false (suc (length (words is))) 0 (omega arith) in h
     ∙ ap (λ x. nat_eq (length x) 0) e ∙ z
 
-module _ (rows : List ℕ) (row : ℕ) (ws : List ℕ) (orders end : ℕ) (p : Part) (c : ℕ)
+-- an item more
+words_more : (is : List Item1) (x : Item1) → words (is ++ (x ∷ [])) ≡ words is ++ (word1 x ∷ [])
+words_more [] x = refl
+words_more (y ∷ ys) x = ap (λ k. word1 y ∷ k) (words_more ys x)
+
+costs_more : (is : List Item1) (x : Item1) → costs1 (is ++ (x ∷ [])) ≡ costs1 is + cost_of1 x
+costs_more [] x = omega arith
+costs_more (y ∷ ys) x = omega (arith, costs_more ys x)
+
+end_more : (before : List Item1) (b : Begun1) (long : Bool) {e : Bool} {n old : ℕ} → e ≡ is_none before
+    → n ≡ digits_number 0 b.digits → old ≡ end_of before → (if e then n else old) ≡ end_of (ended before b long)
+end_more [] b long h k o = rw h k
+end_more (y ∷ ys) b long h k o = rw h o
+
+-- a row inside an item
+module _ {rows : List ℕ} {row : ℕ} {ws : List ℕ} {orders end : ℕ} {p : Part} {c : ℕ}
     (s : StandsAt rows row ws orders end (Some p)) (l : row < length rows)
-    (is : c ≡ get_or rows row c) (first : Bool) (empty : first ≡ nat_eq (length ws) 0) where
+    (is : c ≡ get_or rows row c) {first : Bool} (empty : first ≡ nat_eq (length ws) 0) where
   abbrev i : Inside rows row ws orders end p
   i = inside rows row ws orders end p s
 
   abbrev here : Here rows row i.before (Some i.begun) (c ∷ drop (row + 1) rows)
   here = at_row rows row c i.before (Some i.begun) i.here l is
 
-  meant : (t : Taken) → t ≡ taken first p c → TakenMeans i.before i.begun c t
+  meant : (t : Taken) → t ≡ taken1 first p c → TakenMeans i.before i.begun c t
   meant t e =
       subst (λ x. TakenMeans i.before i.begun c x)
-      (sym (e ∙ (λ k. taken (first_is i.before ws i.words_are first empty k) (i.part_is k) c)))
+      (sym (e ∙ (λ k. taken1 (first_is i.before ws i.words_are first empty k) (i.part_is k) c)))
       (taken_means i.before i.begun c)
 
-  pub refused : (cause : Tape1Cause) → Refused cause ≡ taken first p c → IsFault rows row cause
-  refused cause e =
+  pub refused : {cause : Tape1Cause} → Refused cause ≡ taken1 first p c → IsFault1 rows row cause
+  refused {cause} e =
       fault_of rows row cause (faulty rows row i.before (Some i.begun) (c ∷ drop (row + 1) rows) cause here
       (meant (Refused cause) e))
 
-  pub made_longer : (n : ℕ) → Longer n ≡ taken first p c
+  pub made_longer : {n : ℕ} → Longer n ≡ taken1 first p c
       → StandsAt rows (row + 1) ws (orders + 10) end (Some (record { function = p.function; number = n }))
-  made_longer n e =
+  made_longer {n} e =
       let b = i.begun in
       let m = meant (Longer n) e in
-      let sum = number_more 0 b.digits c in
+      let sum = number_more b.digits 0 c in
       record {
         before = i.before;
         part = Some (longer b c);
@@ -178,7 +182,7 @@ module _ (rows : List ℕ) (row : ℕ) (ws : List ℕ) (orders end : ℕ) (p : P
             fits = rw sum m.2;
           };
           rows_are = here.rows_are
-              ∙ ap (λ x. spelled i.before ++ (b.function ∷ x))
+              ∙ ap (λ x. spelled1 i.before ++ (b.function ∷ x))
               (sym (append_assoc b.digits (c ∷ []) (drop (row + 1) rows)));
           row_is = omega (arith, here.row_is, length-append b.digits (c ∷ []));
         };
@@ -189,37 +193,22 @@ module _ (rows : List ℕ) (row : ℕ) (ws : List ℕ) (orders end : ℕ) (p : P
         few = omega (arith, i.few);
       }
 
-  -- an item more
-  abbrev all : Bool → List Item
+  abbrev all : Bool → List Item1
   all long = ended i.before i.begun long
 
-  words_more : (is : List Item) (x : Item) → words (is ++ (x ∷ [])) ≡ words is ++ (word x ∷ [])
-  words_more [] x = refl
-  words_more (y ∷ ys) x = ap (λ k. word y ∷ k) (words_more ys x)
-
-  costs_more : (is : List Item) (x : Item) → costs (is ++ (x ∷ [])) ≡ costs is + cost_of x
-  costs_more [] x = omega arith
-  costs_more (y ∷ ys) x = omega (arith, costs_more ys x)
-
-  end_more : (before : List Item) (b : Begun) (long e : Bool) (n old : ℕ) → e ≡ is_none before → n ≡ number 0 b.digits
-      → old ≡ end_of before
-      → (if e then n else old) ≡ end_of (ended before b long)
-  end_more [] b long e n old h k o = rw h k
-  end_more (y ∷ ys) b long e n old h k o = rw h o
-
-  module _ (long : Bool) (w : ℕ) (e : Ended long ≡ taken first p c)
-      (word_is : w ≡ (4096 * p.function + 2 * p.number + digit long) % 2 ^ 17) (past : ℕ)
+  module _ {long : Bool} (e : Ended long ≡ taken1 first p c) {w : ℕ}
+      (word_is : w ≡ (4096 * p.function + 2 * p.number + digit long) % 2 ^ 17) {past : ℕ}
       (past_is : past ≡ (if first then p.number else end)) where
-    abbrev x : Item
+    abbrev x : Item1
     x = record { begun = i.begun; long = long }
 
     is_end : past ≡ end_of (all long)
     is_end =
         past_is
-        ∙ end_more i.before i.begun long first p.number end (first_is i.before ws i.words_are first empty)
+        ∙ end_more i.before i.begun long (first_is i.before ws i.words_are first empty)
         (ap (λ (q : Part). q.number) i.part_is) i.end_is
 
-    w_is : w ≡ word x
+    w_is : w ≡ word1 x
     w_is = word_is ∙ ap (λ (q : Part). (4096 * q.function + 2 * q.number + digit long) % 2 ^ 17) i.part_is
 
     ws_are : ws ++ (w ∷ []) ≡ words (all long)
@@ -228,20 +217,20 @@ module _ (rows : List ℕ) (row : ℕ) (ws : List ℕ) (orders end : ℕ) (p : P
     length_is : length (ws ++ (w ∷ [])) ≡ length (all long)
     length_is = ap length ws_are ∙ length_words (all long)
 
-    costs_are : orders + 14 ≡ 4 + costs (all long)
+    costs_are : orders + 14 ≡ 4 + costs1 (all long)
     costs_are = omega (arith, i.orders_are, costs_more i.before x)
 
     m : TakenMeans i.before i.begun c (Ended long)
     m = meant (Ended long) e
 
-    rows_are : rows ≡ spelled (all long) ++ drop (row + 1) rows
-    rows_are = item_more rows row i.before i.begun c long (drop (row + 1) rows) here m.0
+    rows_are : rows ≡ spelled1 (all long) ++ drop (row + 1) rows
+    rows_are = item_more long here m.0
 
     good : AreItems (all long)
     good = items_more i.before x here.good here.is_part
 
-    row_is : row + 1 ≡ length (spelled (all long))
-    row_is = omega (arith, here.row_is, length_spelled i.before x, length-append i.begun.digits (ending long ∷ []))
+    row_is : row + 1 ≡ length (spelled1 (all long))
+    row_is = omega (arith, here.row_is, length_spelled i.before x, length-append i.begun.digits (ending_row long ∷ []))
 
     begin : BeginsWith (end_of (all long)) (all long) × (31 + length (all long) ≤ end_of (all long))
     begin = begins_more i.before i.begun long here.goes_on m.1
@@ -270,7 +259,7 @@ module _ (rows : List ℕ) (row : ℕ) (ws : List ℕ) (orders end : ℕ) (p : P
     made_whole at =
         let t : Tape = record { end = end_of (all long); items = all long; rest = drop (row + 1) rows } in
         let count : 31 + length (all long) ≡ end_of (all long) = omega (arith, length_is, is_end, at) in
-        let c : Comes rows t = record { rows_are = rows_are; good = good; first = begin.0; count = count } in
+        let c : Comes1 rows t = record { rows_are = rows_are; good = good; first = begin.0; count = count } in
         record {
           well = no_fault rows t c;
           tape = t;
@@ -279,10 +268,9 @@ module _ (rows : List ℕ) (row : ℕ) (ws : List ℕ) (orders end : ℕ) (p : P
           most = omega (arith, costs_fit (all long), costs_are, row_is);
         }
 
-pub at_end : (rows : List ℕ) (row : ℕ) (ws : List ℕ) (orders end : ℕ) (item : Option Part)
-    → StandsAt rows row ws orders end item → row ≡ length rows
-    → IsFault rows row EndOfTape
-at_end rows row ws orders end item s e =
+pub at_end : {rows : List ℕ} {row : ℕ} {ws : List ℕ} {orders end : ℕ} {item : Option Part}
+    → StandsAt rows row ws orders end item → row ≡ length rows → IsFault1 rows row EndOfTape
+at_end {rows} {row} s e =
     let none : drop row rows ≡ [] = none_left rows row e in
     fault_of rows row EndOfTape
     (faulty rows row s.before s.part [] EndOfTape (subst (λ x. Here rows row s.before s.part x) none s.here) refl)

@@ -11,11 +11,11 @@ use Rattle.ed_store.specs.Cells.{Cells, with_short}
 use Rattle.ed_orders.specs.Kinds.{kind_of_function}
 use Rattle.ed_machine.specs.State.{State}
 use Rattle.ed_machine.specs.OrderTable.{step, next_word, obey_word}
-use Rattle.ed_notation.specs.Items.{number}
-use Rattle.ed_paths.proofs.Frames.{Moment}
+use Rattle.ed_notation.specs.Items.{digits_number}
+use Rattle.ed_paths.proofs.Frames.{Moment, same_state}
 use Rattle.ed_paths.proofs.Window.{patched, patched_one, headed}
 use Rattle.ed_initial1.specs.Listing.{first_orders}
-use Rattle.ed_initial1.specs.Items.{Item, number_of, words, word, costs, digits, last_of, IsFirst}
+use Rattle.ed_initial1.specs.Items.{Item1, item_number, words, word1, costs1, item_digits, last_of, IsFirst}
 use Rattle.ed_initial1.specs.Entry.{IsStarted1, at_entry1}
 use Rattle.ed_initial1.proofs.Paths.{Working, Kept, cells, moment}
 use Rattle.ed_initial1.proofs.Rests.{third, thirds, written, final}
@@ -54,18 +54,7 @@ opened s store started =
     let digits =
     patched_one false s.store.sandwich 0 (get_or s.store.sandwich 0 false) (omega (arith, store.sandwich))
     ∙ set-get_or s.store.sandwich 0 false in
-    let size = sym started.size in
-    let counter : 0 ≡ s.counter = sym started.counter in
-    λ i. record {
-      size = size i;
-      store = record { words = words i; sandwich = digits i };
-      acc = s.acc;
-      multiplier = s.multiplier;
-      counter = counter i;
-      tape = s.tape;
-      last = s.last;
-      orders = s.orders;
-    }
+    same_state s (sym started.size) words digits refl (sym started.counter)
 
 -- words placed from a location on
 length_written : (ws : List ℕ) (a : ℕ) (vs : List ℕ) → length (written ws a vs) ≡ length ws
@@ -93,7 +82,7 @@ behind ws a (v ∷ vs) h =
     ∙ ap (λ y. v ∷ (vs ++ y)) (drop-set-lt (a + 1 + length vs) ws a v (omega arith))
     ∙ ap (λ n. v ∷ (vs ++ drop n ws)) (sym sum)
 
-pub length_words : (is : List Item) → length (words is) ≡ length is
+pub length_words : (is : List Item1) → length (words is) ≡ length is
 length_words [] = refl
 length_words (i ∷ is) = ap suc (length_words is)
 
@@ -102,9 +91,9 @@ third_append : (y : ℕ) (xs ys : List ℕ) → third y (xs ++ ys) ≡ third (th
 third_append y [] ys = refl
 third_append y (x ∷ xs) ys = third_append (131062 + x) xs ys
 
-thirds_is : (y : ℕ) (is : List Item) → thirds y is ≡ third y (digits is)
+thirds_is : (y : ℕ) (is : List Item1) → thirds y is ≡ third y (item_digits is)
 thirds_is y [] = refl
-thirds_is y (i ∷ is) = thirds_is (third y i.begun.digits) is ∙ sym (third_append y i.begun.digits (digits is))
+thirds_is y (i ∷ is) = thirds_is (third y i.begun.digits) is ∙ sym (third_append y i.begun.digits (item_digits is))
 
 third_after : (d : ℕ) (ds : List ℕ) → third (131062 + d) ds ≡ 131062 + last_of d ds
 third_after d [] = refl
@@ -114,24 +103,24 @@ third_last : (y : ℕ) (ds : List ℕ) → 1 ≤ length ds → third y ds ≡ 13
 third_last y [] h = absurd (omega arith)
 third_last y (d ∷ ds) h = third_after d ds
 
-some_digit : (ds : List ℕ) → 32 ≤ number 0 ds → 1 ≤ length ds
+some_digit : (ds : List ℕ) → 32 ≤ digits_number 0 ds → 1 ≤ length ds
 some_digit [] h = absurd (omega arith)
 some_digit (d ∷ ds) h = omega arith
 
-three : (i : Item) (is : List Item) → 32 ≤ number_of i → thirds 12300 (i ∷ is) ≡ 131062 + last_of 0 (digits (i ∷ is))
+three : (i : Item1) (is : List Item1) → 32 ≤ item_number i
+    → thirds 12300 (i ∷ is) ≡ 131062 + last_of 0 (item_digits (i ∷ is))
 three i is h =
     thirds_is 12300 (i ∷ is)
-    ∙ third_last 12300 (digits (i ∷ is))
-    (omega (arith, some_digit i.begun.digits h, length-append i.begun.digits (digits is)))
+    ∙ third_last 12300 (item_digits (i ∷ is))
+    (omega (arith, some_digit i.begun.digits h, length-append i.begun.digits (item_digits is)))
 
-pub closed : (s : State) → HasItsLengths s.store → IsStarted1 s → (e : ℕ) (i : Item) (is : List Item) (rest : List ℕ)
-    → IsFirst e i
-    → 31 + length (i ∷ is) ≡ e
-    → state (moment (kept s) (final e 12300 (word i) i is) (written s.store.words 32 (words is)) false 0 31 rest)
-    (s.orders + (4 + costs (i ∷ is)))
+pub closed : {s : State} → HasItsLengths s.store → IsStarted1 s → {e : ℕ} {i : Item1} (is : List Item1)
+    (rest : List ℕ) → IsFirst e i → 31 + length (i ∷ is) ≡ e
+    → state (moment (kept s) (final e 12300 (word1 i) i is) (written s.store.words 32 (words is)) false 0 31 rest)
+    (s.orders + (4 + costs1 (i ∷ is)))
     ≡ at_entry1 s (record { end = e; items = i ∷ is; rest = rest })
 unfolding patched
-closed s store started e i is rest first count =
+closed {s} store started {e} {i} is rest first count =
     let ws = s.store.words in
     let t = three i is (omega (arith, first)) in
     let all = store.words in
@@ -140,7 +129,7 @@ closed s store started e i is rest first count =
     behind ws 32 (words is) (omega (arith, first.high)) ∙ ap (λ n. words is ++ drop n ws) last in
     let ds = patched_one false s.store.sandwich 0 false (omega (arith, store.sandwich)) in
     let size = sym started.size in
-    let f = final e 12300 (word i) i is in
+    let f = final e 12300 (word1 i) i is in
     λ k. record {
       size = size k;
       store = record { words = cells (record f { at3 = t k }) ++ d k; sandwich = ds k };
@@ -149,18 +138,18 @@ closed s store started e i is rest first count =
       counter = 31;
       tape = rest;
       last = s.last;
-      orders = s.orders + (4 + costs (i ∷ is));
+      orders = s.orders + (4 + costs1 (i ∷ is));
     }
 
 -- T e S with the accumulator 0 clears location e
 pub clears : (u : State) (e : ℕ) → u.size ≡ Full → u.acc ≡ 0 → next_word u ≡ 20480 + 2 * e → e < 1024
     → (step u).state.store ≡ with_short u.store e 0
 unfolding step
-clears u e size acc word fits =
+clears u e size acc word1 fits =
     let function : function_of (20480 + 2 * e) ≡ 5 = omega arith in
     let address : address_of (20480 + 2 * e) ≡ e = omega arith in
     let short : is_long (20480 + 2 * e) ≡ false = (let even : (20480 + 2 * e) % 2 ≡ 0 = omega arith in rw even refl) in
     let place : within u.size (address_of (20480 + 2 * e)) ≡ e =
     ap (λ z. within z (address_of (20480 + 2 * e))) size ∙ ap (within Full) address ∙ within_below Full e fits in
-    ap (λ w. (obey_word (kind_of_function (function_of w)) w u).state.store) word
+    ap (λ w. (obey_word (kind_of_function (function_of w)) w u).state.store) word1
     ∙ rw (function, short, place, acc) refl

@@ -6,6 +6,8 @@ use Rattle.std.proofs.Common.{inr, nat_eq, List, [], ◌∷◌, set, Option}
 use Rattle.ed_words.specs.declared.size.Size.TheVariants.{Full}
 use Rattle.ed_orders.specs.declared.kind.Kind.{Kind}
 use Rattle.ed_orders.specs.declared.kind.Kind.TheVariants.{T as KindT}
+use Rattle.ed_words.specs.Words.{digit}
+use Rattle.ed_initial1.specs.Items.{Item1, ending_row, word1}
 use Rattle.ed_paths.proofs.Frames.{Frame, Moment, short}
 use Rattle.ed_paths.proofs.Places.{own, out, pair}
 use Rattle.ed_paths.proofs.Orders.{word_is}
@@ -76,6 +78,18 @@ moment q w words digit0 acc counter tape = record {
 abbrev pub with_row : ℕ → ℕ → ℕ
 with_row l u = u * 2 ^ 54 + (2 + 5 * l) * 2 ^ 51
 
+-- the same of an item's word
+abbrev pub with_word : Item1 → ℕ
+with_word i = with_row (digit i.long) (word1 i)
+
+bit : (b : Bool) → digit b < 2
+bit true = lit< tt
+bit false = lit< tt
+
+end_row : (b : Bool) → ending_row b ≡ 12 + 13 * digit b
+end_row true = refl
+end_row false = refl
+
 module _ (q : Kept) (w : Working) (words : List ℕ) (digit0 : Bool) where
   abbrev at : Working → ℕ → ℕ → List ℕ → Moment
   at now acc counter tape = moment q now words digit0 acc counter tape
@@ -116,9 +130,9 @@ module _ (q : Kept) (w : Working) (words : List ℕ) (digit0 : Bool) where
       (on (T_pair c rest h) refl stay))))
 
   -- a digit row
-  pub digit_path : (c u : ℕ) (rest : List ℕ) → c < 10 → 10 * w.at1 + c ≡ u → u ≤ 32767
+  pub digit_path : {c : ℕ} (u : ℕ) {rest : List ℕ} → c < 10 → 10 * w.at1 + c ≡ u → u ≤ 32767
       → Walk 10 (at w 0 11 (c ∷ rest)) (at (record w { at1 = u; at2 = c; at3 = 131062 + c }) 0 11 rest)
-  digit_path c u rest h is fits =
+  digit_path {c} u h is fits =
       on (I 11 (own 2) c refl refl refl) refl
       (on (A 12 (own 2) (short c) refl (omega arith)) refl
       (on (S 13 (own 5) (short (131062 + c)) refl (omega arith)) refl
@@ -130,11 +144,17 @@ module _ (q : Kept) (w : Working) (words : List ℕ) (digit0 : Bool) where
       (on (T 19 (own 1) _ refl refl) refl
       (on (E_jumps 20 (own 11) refl (lit< tt)) refl stay)))))))))
 
-  -- an ending row, 12 or 25 by its length digit l, up to the order that places the word u
-  pub ending_path : (l c u : ℕ) (rest : List ℕ) → l < 2 → c ≡ 12 + 13 * l → w.at1 ≤ 32767
-      → (w.at0 + 2 * w.at1 + l) % 2 ^ 17 ≡ u
-      → Walk 8 (at w 0 11 (c ∷ rest)) (at (record w { at2 = c }) (with_row l u) 25 rest)
-  ending_path l c u rest bit row small is =
+  -- the ending row of an item, up to the order that places its word
+  pub ending_path : (i : Item1) {rest : List ℕ} → w.at1 ≤ 32767
+      → (w.at0 + 2 * w.at1 + digit i.long) % 2 ^ 17 ≡ word1 i
+      → Walk 8 (at w 0 11 (ending_row i.long ∷ rest))
+      (at (record w { at2 = ending_row i.long }) (with_word i) 25 rest)
+  ending_path i small is =
+      let l = digit i.long in
+      let c = ending_row i.long in
+      let u = word1 i in
+      let low = bit i.long in
+      let row = end_row i.long in
       on (I 11 (own 2) c refl refl refl) refl
       (on (A 12 (own 2) (short c) refl (omega arith)) refl
       (on (S 13 (own 5) (short (2 + 13 * l)) refl (omega arith)) refl
@@ -144,22 +164,27 @@ module _ (q : Kept) (w : Working) (words : List ℕ) (digit0 : Bool) where
       (on (L 23 LD (with_row l (2 * w.at1 + l)) refl (omega arith)) refl
       (on (A 24 (own 0) (with_row l u) refl (omega arith)) refl stay)))))))
 
-  -- the order at 25 places a word at 31
-  pub first_placed : (l u : ℕ) (rest : List ℕ) → l < 2 → w.at25 ≡ 20542
-      → Walk 1 (at w (with_row l u) 25 rest) (at (record w { at31 = u }) 0 26 rest)
-  first_placed l u rest bit here = on (T_top 25 (own 31) u (word_is here) (omega arith)) refl stay
+  -- the order at 25 places it at 31
+  pub first_placed : (i : Item1) {rest : List ℕ} → w.at25 ≡ 20542
+      → Walk 1 (at w (with_word i) 25 rest) (at (record w { at31 = word1 i }) 0 26 rest)
+  first_placed i here =
+      let low = bit i.long in on (T_top 25 (own 31) (word1 i) (word_is here) (omega arith)) refl stay
 
   -- or at a place a behind it
-  pub placed : (l u a : ℕ) (rest : List ℕ) → l < 2 → w.at25 ≡ 20480 + 2 * a → 32 ≤ a → a < 1024
-      → Walk 1 (at w (with_row l u) 25 rest) (moment q w (set words a u) digit0 0 26 rest)
-  placed l u a rest bit here low high =
-      on (T_top 25 (out a (record { below = high; beside = inr low })) u (word_is here) (omega arith)) refl stay
+  pub placed : (i : Item1) (a : ℕ) {rest : List ℕ} → w.at25 ≡ 20480 + 2 * a → (32 ≤ a) × (a < 1024)
+      → Walk 1 (at w (with_word i) 25 rest) (moment q w (set words a (word1 i)) digit0 0 26 rest)
+  placed i a here range =
+      let low = bit i.long in
+      on (T_top 25 (out a (record { below = range.1; beside = inr range.0 })) (word1 i) (word_is here) (omega arith))
+      refl stay
 
   -- the order at 25 becomes the next one, and is compared with the first word
-  pub counted : (next u : ℕ) (rest : List ℕ) → w.at25 + 2 ≡ next → next < 2 ^ 17 → u < 2 ^ 17
+  pub counted : {next : ℕ} (u : ℕ) {rest : List ℕ} → w.at25 + 2 ≡ next → (next < 2 ^ 17) × (u < 2 ^ 17)
       → (u + w.at31) % 2 ^ 17 ≡ next
       → Walk 4 (at w 0 26 rest) (at (record w { at25 = next }) (short u) 30 rest)
-  counted next u rest rises fits small is =
+  counted {next} u rises range is =
+      let fits = range.0 in
+      let small = range.1 in
       on (A 26 (own 25) (short w.at25) refl (omega arith)) refl
       (on (A 27 (own 4) (short next) refl (omega arith)) refl
       (on (U 28 (own 25) next refl refl) refl

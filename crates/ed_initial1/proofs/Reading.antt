@@ -5,49 +5,51 @@ use Rattle.std.proofs.Common.{if◌then◌else◌, Option, Some, None, List, [],
 use Rattle.std.proofs.Common.{append_assoc, append-nil, lit≤}
 use Rattle.std.proofs.lemmas.Bool.{and_parts}
 use Rattle.ed_words.proofs.Numbers.{lt_of, not_lt_of, eq_of, not_eq_of, le_of, if_means}
-use Rattle.ed_notation.specs.Items.{number, AreDigits}
+use Rattle.ed_notation.specs.Items.{digits_number}
+use Rattle.ed_notation.proofs.Rows.{number_more, digits_more}
 use Rattle.ed_initial1.specs.declared.cause.Tape1Cause.{Tape1Cause}
 use Rattle.ed_initial1.specs.declared.cause.Tape1Cause.TheVariants.{EndOfTape, BadRow, FirstWord}
 use Rattle.ed_initial1.specs.declared.reader.Part.{Part}
 use Rattle.ed_initial1.specs.declared.reader.Taken.{Taken}
 use Rattle.ed_initial1.specs.declared.reader.Taken.TheVariants.{Refused, Longer, Ended}
-use Rattle.ed_initial1.specs.Reading.{taken, end_taken}
-use Rattle.ed_initial1.specs.Items.{Begun, Item, number_of, ending, begun_rows, rows_of, spelled, IsBegun, AreItems}
+use Rattle.ed_initial1.specs.Reading.{taken1, end_taken}
+use Rattle.ed_initial1.specs.Items.{Begun1, Item1, item_number, ending_row, begun_rows1, rows_of1, spelled1, IsBegun1}
+use Rattle.ed_initial1.specs.Items.{AreItems}
 use Rattle.ed_initial1.specs.Items.{IsFirst}
-use Rattle.ed_initial1.specs.Faults.{Tape, Comes, BeginsWith, GoesOn, part_rows, IsPart, is_first, is_none, ends}
-use Rattle.ed_initial1.specs.Faults.{breaks, broken}
-use Rattle.ed_initial1.specs.Faults.{Breaks, WellFormed}
+use Rattle.ed_initial1.specs.Faults.{Tape, Comes1, BeginsWith, IsLoading, part_rows1, IsPart1, is_first, is_none, ends1}
+use Rattle.ed_initial1.specs.Faults.{breaks1, broken1}
+use Rattle.ed_initial1.specs.Faults.{Breaks1, WellFormed1}
 
 -- an item so far, as the plain program has it
-abbrev pub part_of : Begun → Part
-part_of b = record { function = b.function; number = number 0 b.digits }
+abbrev pub part_of : Begun1 → Part
+part_of b = record { function = b.function; number = digits_number 0 b.digits }
 
 -- an item so far with a digit row more, and one begun by a function row
-abbrev pub longer : Begun → ℕ → Begun
+abbrev pub longer : Begun1 → ℕ → Begun1
 longer b c = record { function = b.function; digits = b.digits ++ (c ∷ []) }
 
-abbrev pub began : ℕ → Begun
+abbrev pub began : ℕ → Begun1
 began c = record { function = c; digits = [] }
 
-abbrev pub ended : List Item → Begun → Bool → List Item
+abbrev pub ended : List Item1 → Begun1 → Bool → List Item1
 ended before b long = before ++ (record { begun = b; long = long } ∷ [])
 
 -- the place e of T e S, and whether the items reach up to it
-abbrev pub end_of : List Item → ℕ
+abbrev pub end_of : List Item1 → ℕ
 end_of [] = 0
-end_of (i ∷ is) = number_of i
+end_of (i ∷ is) = item_number i
 
-abbrev pub reaches_end : List Item → Bool
+abbrev pub reaches_end : List Item1 → Bool
 reaches_end is = nat_eq (31 + length is) (end_of is)
 
 pub data Verdict : Type 0 where
   Faulty : ℕ → Tape1Cause → Verdict
   Whole : Tape → Verdict
 
-unfoldable pub read : ℕ → List Item → Option Begun → List ℕ → Verdict
+unfoldable pub read : ℕ → List Item1 → Option Begun1 → List ℕ → Verdict
 read row before part [] = Faulty row EndOfTape
 read row before None (c ∷ rest) = if nat_lt c 32 then read (row + 1) before (Some (began c)) rest else Faulty row BadRow
-read row before (Some b) (c ∷ rest) = elim (taken (is_none before) (part_of b) c) [
+read row before (Some b) (c ∷ rest) = elim (taken1 (is_none before) (part_of b) c) [
   | Refused cause ↦ Faulty row cause
   | Longer next ↦ read (row + 1) before (Some (longer b c)) rest
   | Ended long ↦ if reaches_end (ended before b long)
@@ -55,105 +57,97 @@ read row before (Some b) (c ∷ rest) = elim (taken (is_none before) (part_of b)
       else read (row + 1) (ended before b long) None rest
 ]
 
--- one row more at the end
-pub number_more : (n : ℕ) (ds : List ℕ) (c : ℕ) → number n (ds ++ (c ∷ [])) ≡ 10 * number n ds + c
-number_more n [] c = refl
-number_more n (d ∷ ds) c = number_more (10 * n + d) ds c
-
-pub digits_more : (ds : List ℕ) (c : ℕ) → AreDigits ds → c < 10 → AreDigits (ds ++ (c ∷ []))
-digits_more [] c good h = (h, tt)
-digits_more (d ∷ ds) c good h = (good.0, digits_more ds c good.1 h)
-
-pub items_more : (is : List Item) (i : Item) → AreItems is → IsBegun i.begun → AreItems (is ++ (i ∷ []))
+-- one item more at the end
+pub items_more : (is : List Item1) (i : Item1) → AreItems is → IsBegun1 i.begun → AreItems (is ++ (i ∷ []))
 items_more [] i good h = (h, tt)
 items_more (x ∷ xs) i good h = (good.0, items_more xs i good.1 h)
 
-spelled_more : (is : List Item) (i : Item) (rest : List ℕ)
-    → spelled (is ++ (i ∷ [])) ++ rest ≡ spelled is ++ (rows_of i ++ rest)
-spelled_more [] i rest = ap (λ x. x ++ rest) (append-nil (rows_of i))
+spelled_more : (is : List Item1) (i : Item1) (rest : List ℕ)
+    → spelled1 (is ++ (i ∷ [])) ++ rest ≡ spelled1 is ++ (rows_of1 i ++ rest)
+spelled_more [] i rest = ap (λ x. x ++ rest) (append-nil (rows_of1 i))
 spelled_more (x ∷ xs) i rest =
-    append_assoc (rows_of x) (spelled (xs ++ (i ∷ []))) rest
-    ∙ ap (λ y. rows_of x ++ y) (spelled_more xs i rest)
-    ∙ sym (append_assoc (rows_of x) (spelled xs) (rows_of i ++ rest))
+    append_assoc (rows_of1 x) (spelled1 (xs ++ (i ∷ []))) rest
+    ∙ ap (λ y. rows_of1 x ++ y) (spelled_more xs i rest)
+    ∙ sym (append_assoc (rows_of1 x) (spelled1 xs) (rows_of1 i ++ rest))
 
-pub length_spelled : (is : List Item) (i : Item)
-    → length (spelled (is ++ (i ∷ []))) ≡ length (spelled is) + length (rows_of i)
-length_spelled [] i = omega (arith, ap length (append-nil (rows_of i)))
+pub length_spelled : (is : List Item1) (i : Item1)
+    → length (spelled1 (is ++ (i ∷ []))) ≡ length (spelled1 is) + length (rows_of1 i)
+length_spelled [] i = omega (arith, ap length (append-nil (rows_of1 i)))
 length_spelled (x ∷ xs) i =
     omega (
       arith,
       length_spelled xs i,
-      length-append (rows_of x) (spelled (xs ++ (i ∷ []))),
-      length-append (rows_of x) (spelled xs),
+      length-append (rows_of1 x) (spelled1 (xs ++ (i ∷ []))),
+      length-append (rows_of1 x) (spelled1 xs),
     )
 
 -- what a row of each kind is
-abbrev pub FirstFits : List Item → Begun → Bool → Type 0
-FirstFits [] b long = IsFirst (number 0 b.digits) (record { begun = b; long = long })
+abbrev pub FirstFits : List Item1 → Begun1 → Bool → Type 0
+FirstFits [] b long = IsFirst (digits_number 0 b.digits) (record { begun = b; long = long })
 FirstFits (i ∷ is) b long = Unit {0}
 
-abbrev pub TakenMeans : List Item → Begun → ℕ → Taken → Type 0
-TakenMeans before b c (Refused cause) = breaks cause before b c ≡ true
-TakenMeans before b c (Longer next) = (next ≡ 10 * number 0 b.digits + c) × (c < 10)
-    × (10 * number 0 b.digits + c ≤ 32767)
-TakenMeans before b c (Ended long) = (c ≡ ending long) × FirstFits before b long
+abbrev pub TakenMeans : List Item1 → Begun1 → ℕ → Taken → Type 0
+TakenMeans before b c (Refused cause) = breaks1 cause before b c ≡ true
+TakenMeans before b c (Longer next) = (next ≡ 10 * digits_number 0 b.digits + c) × (c < 10)
+    × (10 * digits_number 0 b.digits + c ≤ 32767)
+TakenMeans before b c (Ended long) = (c ≡ ending_row long) × FirstFits before b long
 
-first_means : (b : Begun) (long : Bool) → is_first b (ending long) ≡ true
-    → IsFirst (number 0 b.digits) (record { begun = b; long = long })
+first_means : (b : Begun1) (long : Bool) → is_first b (ending_row long) ≡ true
+    → IsFirst (digits_number 0 b.digits) (record { begun = b; long = long })
 first_means b long h =
     let p = and_parts (nat_eq b.function 5) _ h in
-    let q = and_parts (nat_eq (ending long) 12) _ p.1 in
-    let r = and_parts (nat_le 32 (number 0 b.digits)) _ q.1 in
+    let q = and_parts (nat_eq (ending_row long) 12) _ p.1 in
+    let r = and_parts (nat_le 32 (digits_number 0 b.digits)) _ q.1 in
     record {
       function = eq_of b.function 5 p.0;
       short = is_short long q.0;
       number = refl;
-      low = le_of 32 (number 0 b.digits) r.0;
-      high = le_of (number 0 b.digits) 1023 r.1;
+      low = le_of 32 (digits_number 0 b.digits) r.0;
+      high = le_of (digits_number 0 b.digits) 1023 r.1;
     }
   where
-    is_short : (long : Bool) → nat_eq (ending long) 12 ≡ true → long ≡ false
+    is_short : (long : Bool) → nat_eq (ending_row long) 12 ≡ true → long ≡ false
     is_short false h = refl
     is_short true h = absurd (cc)
 
-end_means : (before : List Item) (b : Begun) (c : ℕ) (long : Bool) → c ≡ ending long
+end_means : (before : List Item1) (b : Begun1) (c : ℕ) (long : Bool) → c ≡ ending_row long
     → TakenMeans before b c (end_taken (is_none before) (part_of b) c long)
 end_means [] b c long row = by_test (is_first b c) refl
   where
-    ends_it : (long : Bool) → ends (ending long) ≡ true
+    ends_it : (long : Bool) → ends1 (ending_row long) ≡ true
     ends_it false = refl
     ends_it true = refl
 
     by_test : (t : Bool) → is_first b c ≡ t → TakenMeans [] b c (if not t then Refused FirstWord else Ended long)
     by_test true h = (row, first_means b long (ap (is_first b) (sym row) ∙ h))
-    by_test false h = let e : ends c ≡ true = ap ends row ∙ ends_it long in rw (e, h) refl
+    by_test false h = let e : ends1 c ≡ true = ap ends1 row ∙ ends_it long in rw (e, h) refl
 end_means (i ∷ is) b c long row = (row, tt)
 
-pub taken_means : (before : List Item) (b : Begun) (c : ℕ)
-    → TakenMeans before b c (taken (is_none before) (part_of b) c)
+pub taken_means : (before : List Item1) (b : Begun1) (c : ℕ)
+    → TakenMeans before b c (taken1 (is_none before) (part_of b) c)
 taken_means before b c =
     let P : Taken → Type 0 = TakenMeans before b c in
     if_means P (nat_lt c 10) _ _
-    (λ d. if_means P (nat_lt 32767 (10 * number 0 b.digits + c)) _ _ (λ n. rw (d, n) refl)
+    (λ d. if_means P (nat_lt 32767 (10 * digits_number 0 b.digits + c)) _ _ (λ n. rw (d, n) refl)
     (λ n. (refl, lt_of c 10 d, not_lt_of _ _ n)))
     (λ d. if_means P (nat_eq c 12) _ _ (λ s. end_means before b c false (eq_of c 12 s)) (λ s.
     if_means P (nat_eq c 25) _ _ (λ l. end_means before b c true (eq_of c 25 l)) (λ l. rw (d, s, l) refl)))
 
 -- a row as it is read
-pub record Here (rows : List ℕ) (row : ℕ) (before : List Item) (part : Option Begun) (rest : List ℕ) : Type 0 where
+pub record Here (rows : List ℕ) (row : ℕ) (before : List Item1) (part : Option Begun1) (rest : List ℕ) : Type 0 where
   pub good : AreItems before
-  pub goes_on : GoesOn before
-  pub is_part : IsPart part
-  pub rows_are : rows ≡ spelled before ++ (part_rows part ++ rest)
-  pub row_is : row ≡ length (spelled before) + length (part_rows part)
+  pub goes_on : IsLoading before
+  pub is_part : IsPart1 part
+  pub rows_are : rows ≡ spelled1 before ++ (part_rows1 part ++ rest)
+  pub row_is : row ≡ length (spelled1 before) + length (part_rows1 part)
 
 abbrev pub Holds : List ℕ → Verdict → Type 0
-Holds rows (Faulty row cause) = Breaks rows row cause
-Holds rows (Whole t) = Comes rows t
+Holds rows (Faulty row cause) = Breaks1 rows row cause
+Holds rows (Whole t) = Comes1 rows t
 
-pub faulty : (rows : List ℕ) (row : ℕ) (before : List Item) (part : Option Begun) (rest : List ℕ) (cause : Tape1Cause)
+pub faulty : (rows : List ℕ) (row : ℕ) (before : List Item1) (part : Option Begun1) (rest : List ℕ) (cause : Tape1Cause)
     → Here rows row before part rest
-    → broken before part rest cause ≡ true → Breaks rows row cause
+    → broken1 before part rest cause ≡ true → Breaks1 rows row cause
 faulty rows row before part rest cause h is = record {
   stands = record {
     before = before;
@@ -169,33 +163,32 @@ faulty rows row before part rest cause h is = record {
 }
 
 -- behind an item more
-pub item_more : (rows : List ℕ) (row : ℕ) (before : List Item) (b : Begun) (c : ℕ) (long : Bool) (rest : List ℕ)
-    → Here rows row before (Some b) (c ∷ rest)
-    → c ≡ ending long → rows ≡ spelled (ended before b long) ++ rest
-item_more rows row before b c long rest h is =
+pub item_more : {rows : List ℕ} {row : ℕ} {before : List Item1} {b : Begun1} {c : ℕ} (long : Bool) {rest : List ℕ}
+    → Here rows row before (Some b) (c ∷ rest) → c ≡ ending_row long → rows ≡ spelled1 (ended before b long) ++ rest
+item_more {before = before} {b} long {rest} h is =
     h.rows_are
-    ∙ ap (λ x. spelled before ++ (begun_rows b ++ (x ∷ rest))) is
-    ∙ ap (λ x. spelled before ++ x) (sym (append_assoc (begun_rows b) (ending long ∷ []) rest))
+    ∙ ap (λ x. spelled1 before ++ (begun_rows1 b ++ (x ∷ rest))) is
+    ∙ ap (λ x. spelled1 before ++ x) (sym (append_assoc (begun_rows1 b) (ending_row long ∷ []) rest))
     ∙ sym (spelled_more before (record { begun = b; long = long }) rest)
 
-pub begins_more : (before : List Item) (b : Begun) (long : Bool) → GoesOn before → FirstFits before b long
+pub begins_more : (before : List Item1) (b : Begun1) (long : Bool) → IsLoading before → FirstFits before b long
     → BeginsWith (end_of (ended before b long)) (ended before b long)
     × (31 + length (ended before b long) ≤ end_of (ended before b long))
 begins_more [] b long goes first = (first, omega (arith, first))
 begins_more (i ∷ is) b long goes first =
     (goes.0, omega (arith, goes.1, length-append is (record { begun = b; long = long } ∷ [])))
 
-pub goes_on_more : (is : List Item) → BeginsWith (end_of is) is → 31 + length is < end_of is → GoesOn is
+pub goes_on_more : (is : List Item1) → BeginsWith (end_of is) is → 31 + length is < end_of is → IsLoading is
 goes_on_more [] first less = absurd first
 goes_on_more (i ∷ is) first less = (first, less)
 
 -- what the rest of the rows comes to, from wherever it is read on
 abbrev Follows : List ℕ → List ℕ → Type 0
 Follows rows rest =
-    (row : ℕ) (before : List Item) (part : Option Begun) → Here rows row before part rest
+    (row : ℕ) (before : List Item1) (part : Option Begun1) → Here rows row before part rest
     → Holds rows (read row before part rest)
 
-abbrev pub follow : ℕ → List Item → Begun → ℕ → List ℕ → Taken → Verdict
+abbrev pub follow : ℕ → List Item1 → Begun1 → ℕ → List ℕ → Taken → Verdict
 follow row before b c rest t = elim t [
   | Refused cause ↦ Faulty row cause
   | Longer next ↦ read (row + 1) before (Some (longer b c)) rest
@@ -204,25 +197,26 @@ follow row before b c rest t = elim t [
       else read (row + 1) (ended before b long) None rest
 ]
 
-by_taken : (rows rest : List ℕ) → Follows rows rest → (row : ℕ) (before : List Item) (b : Begun) (c : ℕ)
-    → Here rows row before (Some b) (c ∷ rest)
-    → (t : Taken) → TakenMeans before b c t → Holds rows (follow row before b c rest t)
-by_taken rows rest ih row before b c h (Refused cause) m = faulty rows row before (Some b) (c ∷ rest) cause h m
-by_taken rows rest ih row before b c h (Longer next) m = ih (row + 1) before (Some (longer b c)) (record {
+by_taken : {rows rest : List ℕ} → Follows rows rest → {row : ℕ} {before : List Item1} {b : Begun1} {c : ℕ}
+    → Here rows row before (Some b) (c ∷ rest) → (t : Taken) → TakenMeans before b c t
+    → Holds rows (follow row before b c rest t)
+by_taken {rows} {rest} ih {row} {before} {b} {c} h (Refused cause) m =
+    faulty rows row before (Some b) (c ∷ rest) cause h m
+by_taken {rest = rest} ih {row} {before} {b} {c} h (Longer next) m = ih (row + 1) before (Some (longer b c)) (record {
   good = h.good;
   goes_on = h.goes_on;
   is_part = record {
     function = h.is_part.function;
     digits = digits_more b.digits c h.is_part.digits m.1;
-    fits = rw (number_more 0 b.digits c) m.2;
+    fits = rw (number_more b.digits 0 c) m.2;
   };
-  rows_are = h.rows_are ∙ ap (λ x. spelled before ++ (b.function ∷ x)) (sym (append_assoc b.digits (c ∷ []) rest));
+  rows_are = h.rows_are ∙ ap (λ x. spelled1 before ++ (b.function ∷ x)) (sym (append_assoc b.digits (c ∷ []) rest));
   row_is = omega (arith, h.row_is, length-append b.digits (c ∷ []));
 })
-by_taken rows rest ih row before b c h (Ended long) m =
+by_taken {rows} ih {row} {before} {b} h (Ended long) m =
     let is = ended before b long in
     let good = items_more before (record { begun = b; long = long }) h.good h.is_part in
-    let rows_are = item_more rows row before b c long rest h m.0 in
+    let rows_are = item_more long h m.0 in
     let begins = begins_more before b long h.goes_on m.1 in
     if_means (Holds rows) (reaches_end is) _ _
     (λ e. record { rows_are = rows_are; good = good; first = begins.0; count = eq_of _ _ e })
@@ -235,7 +229,7 @@ by_taken rows rest ih row before b c h (Ended long) m =
         arith,
         h.row_is,
         length_spelled before (record { begun = b; long = long }),
-        length-append b.digits (ending long ∷ []),
+        length-append b.digits (ending_row long ∷ []),
       );
     }))
 
@@ -253,8 +247,7 @@ sound rows (c ∷ rest) row before None h =
     }))
     (λ large. faulty rows row before None (c ∷ rest) BadRow h (rw large refl))
 sound rows (c ∷ rest) row before (Some b) h =
-    by_taken rows rest (sound rows rest) row before b c h (taken (is_none before) (part_of b) c)
-    (taken_means before b c)
+    by_taken (sound rows rest) h (taken1 (is_none before) (part_of b) c) (taken_means before b c)
 
 -- every tape
 abbrev pub verdict : List ℕ → Verdict
@@ -270,9 +263,9 @@ right rows = sound rows rows 0 [] None (record {
 })
 
 -- a tape that breaks no rule comes to a whole program
-pub programmed : (rows : List ℕ) → WellFormed rows → (t : Tape) × Comes rows t
+pub programmed : (rows : List ℕ) → WellFormed1 rows → (t : Tape) × Comes1 rows t
 programmed rows well = by_verdict (verdict rows) (right rows)
   where
-    by_verdict : (v : Verdict) → Holds rows v → (t : Tape) × Comes rows t
+    by_verdict : (v : Verdict) → Holds rows v → (t : Tape) × Comes1 rows t
     by_verdict (Faulty row cause) h = absurd (well row cause h)
     by_verdict (Whole t) h = (t, h)

@@ -8,7 +8,7 @@ use Rattle.ed_machine.specs.declared.turn.Turn.TheVariants.{Went}
 use Rattle.ed_initial.specs.Load.{is_went}
 use Rattle.ed_initial1.specs.declared.loading.Loaded1.{Loaded1}
 use Rattle.ed_initial1.specs.declared.loading.Loaded1.TheVariants.{Entered, Lost}
-use Rattle.ed_initial1.specs.Load.{at_31, IsQuiet, IsLost, ran_out, blocked, sounded, EndsAs}
+use Rattle.ed_initial1.specs.Load.{at_31, IsQuiet1, IsLost1, ran_out, blocked, sounded, EndsAs1}
 use Rattle.ed_initial1.proofs.Walks.{Reaches}
 
 module _ (s t : State) (k : ℕ) (r : Reaches k s t) where
@@ -18,7 +18,7 @@ module _ (s t : State) (k : ℕ) (r : Reaches k s t) where
   enters : at_31 (step (state_after m s)).state ≡ true
   enters = ap (λ (o : Obeyed). at_31 o.state) r.last ∙ r.at
 
-  not_past : (j : ℕ) → IsQuiet j s → j ≤ m
+  not_past : (j : ℕ) → IsQuiet1 j s → j ≤ m
   not_past j h = elim (cases_lt m j) [ inl l ↦ absurd (true≢false (sym enters ∙ (h m l).stays)) | inr g ↦ g ]
 
   -- each order up to the last one went
@@ -31,13 +31,13 @@ module _ (s t : State) (k : ℕ) (r : Reaches k s t) where
             subst (λ j. (step (state_after j s)).turn ≡ Went) e (ap (λ (o : Obeyed). o.turn) r.last)
       ]
 
-  not_lost : (bound j : ℕ) → k ≤ bound → IsLost s bound j → ⊥
+  not_lost : (bound j : ℕ) → k ≤ bound → IsLost1 s bound j → ⊥
   not_lost bound j fits (ran_out e q) = omega (arith, not_past j q, r.count)
   not_lost bound j fits (blocked less q h) = true≢false (sym (ap is_obeyed (went j (not_past j q))) ∙ h)
   not_lost bound j fits (sounded before e less q obeyed h stays) =
       true≢false (sym (ap is_went (went before (not_past before q))) ∙ h)
 
-  pub settled : (bound : ℕ) → k ≤ bound → (x : Loaded1) → EndsAs s bound x → x ≡ Entered k
+  pub settled : (bound : ℕ) → k ≤ bound → (x : Loaded1) → EndsAs1 s bound x → x ≡ Entered k
   settled bound fits (Entered j) h =
       let b = h.before in
       let first : b ≤ m = not_past b h.quiet in

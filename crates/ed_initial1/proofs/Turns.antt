@@ -7,19 +7,20 @@ use Rattle.ed_codes.specs.declared.code.Code.{Code}
 use Rattle.ed_machine.specs.declared.turn.Turn.{Turn}
 use Rattle.ed_machine.specs.declared.turn.Turn.TheVariants.{Went, Printed, Stopped}
 use Rattle.ed_initial.specs.Load.{is_went}
-use Rattle.ed_initial1.specs.Load.{at_31, GoesOn, IsQuiet, IsLost, sounded}
+use Rattle.ed_initial1.specs.Load.{at_31, GoesOn1, IsQuiet1, IsLost1, sounded}
 
 -- it goes on
-pub more_quiet : (k : ℕ) (s t u : State) → IsQuiet k s → t ≡ state_after k s → u ≡ (step t).state → (step t).turn ≡ Went
-    → at_31 u ≡ false → IsQuiet (k + 1) s
-more_quiet k s t u quiet e is went stays =
-    below_more (λ j. GoesOn (state_after j s)) k quiet
-    (subst GoesOn e (record { went = went; stays = subst (λ (x : State). at_31 x ≡ false) is stays }))
+pub more_quiet : (k : ℕ) (s : State) {t u : State} → IsQuiet1 k s → t ≡ state_after k s → u ≡ (step t).state
+    → (step t).turn ≡ Went → at_31 u ≡ false → IsQuiet1 (k + 1) s
+more_quiet k s quiet e is went stays =
+    below_more (λ j. GoesOn1 (state_after j s)) k quiet
+    (subst GoesOn1 e (record { went = went; stays = subst (λ (x : State). at_31 x ≡ false) is stays }))
 
 -- it prints or stops, and does not come to 31
-pub sounded_now : (k bound : ℕ) (s t u : State) → k + 1 ≤ bound → IsQuiet k s → t ≡ state_after k s → u ≡ (step t).state
-    → is_obeyed (step t).turn ≡ true → is_went (step t).turn ≡ false → at_31 u ≡ false → IsLost s bound (k + 1)
-sounded_now k bound s t u most quiet e is obeyed h stays =
+pub sounded_now : (k : ℕ) {bound : ℕ} {s t u : State} → k + 1 ≤ bound → IsQuiet1 k s → t ≡ state_after k s
+    → u ≡ (step t).state
+    → is_obeyed (step t).turn ≡ true → is_went (step t).turn ≡ false → at_31 u ≡ false → IsLost1 s bound (k + 1)
+sounded_now k most quiet e is obeyed h stays =
     sounded k (add-one k) most quiet (subst (λ (x : State). is_obeyed (step x).turn ≡ true) e obeyed)
     (subst (λ (x : State). is_went (step x).turn ≡ false) e h)
     (subst (λ (x : State). at_31 (step x).state ≡ false) e (subst (λ (x : State). at_31 x ≡ false) is stays))

@@ -4,53 +4,57 @@ use Rattle.std.proofs.Common.{◌⊎◌, inl, inr, ◌≡◌, ℕ, suc, ◌+◌,
 use Rattle.std.proofs.Common.{false, ◌&&◌, not, nat_eq, nat_lt}
 use Rattle.std.proofs.Common.{if◌then◌else◌, Option, Some, None, List, [], ◌∷◌, ◌++◌, length, length-append}
 use Rattle.std.proofs.Common.{append_assoc, append-nil}
-use Rattle.std.proofs.lemmas.Bool.{and_parts}
+use Rattle.std.proofs.lemmas.Bool.{and_parts, not-true}
 use Rattle.ed_words.proofs.Numbers.{eq_of, eq_true, eq_false, lt_true, lt_false, le_true}
-use Rattle.ed_notation.specs.Items.{number, AreDigits}
+use Rattle.ed_notation.specs.Items.{digits_number, AreDigits}
 use Rattle.ed_initial1.specs.declared.cause.Tape1Cause.{Tape1Cause}
 use Rattle.ed_initial1.specs.declared.cause.Tape1Cause.TheVariants.{EndOfTape, BadRow, NumberTooLarge, FirstWord}
 use Rattle.ed_initial1.specs.declared.reader.Taken.TheVariants.{Refused, Longer, Ended}
-use Rattle.ed_initial1.specs.Reading.{taken}
-use Rattle.ed_initial1.specs.Items.{Begun, Item, number_of, ending, begun_rows, rows_of, spelled, IsBegun, AreItems}
+use Rattle.ed_initial1.specs.Reading.{taken1}
+use Rattle.ed_initial1.specs.Items.{Begun1, Item1, item_number, ending_row, begun_rows1, rows_of1, spelled1, IsBegun1}
+use Rattle.ed_initial1.specs.Items.{AreItems}
 use Rattle.ed_initial1.specs.Items.{IsFirst}
-use Rattle.ed_initial1.specs.Faults.{Tape, Comes, BeginsWith, GoesOn, part_rows, IsPart, is_first, is_none, ends}
-use Rattle.ed_initial1.specs.Faults.{breaks, broken}
-use Rattle.ed_initial1.specs.Faults.{rule, Breaks, IsFault, WellFormed}
-use Rattle.ed_initial1.proofs.Rests.{grows}
+use Rattle.ed_initial1.specs.Faults.{Tape, Comes1, BeginsWith, IsLoading, part_rows1, IsPart1, is_first, is_none, ends1}
+use Rattle.ed_initial1.specs.Faults.{breaks1, broken1}
+use Rattle.ed_initial1.specs.Faults.{rule, Breaks1, IsFault1, WellFormed1}
+use Rattle.ed_notation.proofs.Rows.{number_more}
+use Rattle.ed_notation.proofs.Follow.{number_le}
 use Rattle.ed_initial1.specs.Checks.{EachTapeHasOneVerdict}
 use Rattle.ed_initial1.proofs.Reading.{Verdict, Faulty, Whole, Holds, right, read, verdict, follow, part_of, longer}
-use Rattle.ed_initial1.proofs.Reading.{began, end_of, reaches_end, FirstFits, number_more}
+use Rattle.ed_initial1.proofs.Reading.{began, end_of, reaches_end, FirstFits}
 
-digit_taken : (before : List Item) (b : Begun) (c : ℕ) → c < 10 → 10 * number 0 b.digits + c ≤ 32767
-    → taken (is_none before) (part_of b) c ≡ Longer (10 * number 0 b.digits + c)
-digit_taken before b c h fits = rw (lt_true c 10 h, lt_false 32767 (10 * number 0 b.digits + c) fits) refl
+digit_taken : (before : List Item1) (b : Begun1) (c : ℕ) → c < 10 → 10 * digits_number 0 b.digits + c ≤ 32767
+    → taken1 (is_none before) (part_of b) c ≡ Longer (10 * digits_number 0 b.digits + c)
+digit_taken before b c h fits = rw (lt_true c 10 h, lt_false 32767 (10 * digits_number 0 b.digits + c) fits) refl
 
-is_first_of : (b : Begun) (long : Bool) → IsFirst (number 0 b.digits) (record { begun = b; long = long })
-    → is_first b (ending long) ≡ true
+is_first_of : (b : Begun1) (long : Bool) → IsFirst (digits_number 0 b.digits) (record { begun = b; long = long })
+    → is_first b (ending_row long) ≡ true
 is_first_of b true f = absurd (let s = f.short in cc)
 is_first_of b false f =
-    let n = number 0 b.digits in rw (eq_true b.function 5 f.function, le_true 32 n f.low, le_true n 1023 f.high) refl
+    let n = digits_number 0 b.digits in rw
+    (eq_true b.function 5 f.function, le_true 32 n f.low, le_true n 1023 f.high) refl
 
-end_is_taken : (before : List Item) (b : Begun) (long : Bool) → FirstFits before b long
-    → taken (is_none before) (part_of b) (ending long) ≡ Ended long
+end_is_taken : (before : List Item1) (b : Begun1) (long : Bool) → FirstFits before b long
+    → taken1 (is_none before) (part_of b) (ending_row long) ≡ Ended long
 end_is_taken [] b false f = rw (is_first_of b false f) refl
 end_is_taken [] b true f = rw (is_first_of b true f) refl
 end_is_taken (i ∷ is) b false f = refl
 end_is_taken (i ∷ is) b true f = refl
 
-more_digits : Begun → List ℕ → Begun
+more_digits : Begun1 → List ℕ → Begun1
 more_digits b ds = record { function = b.function; digits = b.digits ++ ds }
 
-reads_digits : (before : List Item) (row : ℕ) (b : Begun) (ds rest : List ℕ) → AreDigits ds
-    → number (number 0 b.digits) ds ≤ 32767
+reads_digits : (before : List Item1) (row : ℕ) (b : Begun1) (ds rest : List ℕ) → AreDigits ds
+    → digits_number (digits_number 0 b.digits) ds ≤ 32767
     → read row before (Some b) (ds ++ rest) ≡ read (row + length ds) before (Some (more_digits b ds)) rest
 unfolding read more_digits
 reads_digits before row b [] rest good fits =
     let e : row ≡ row + 0 = omega arith in
     (λ i. read (e i) before (Some (record { function = b.function; digits = sym (append-nil b.digits) i })) rest)
 reads_digits before row b (d ∷ ds) rest good fits =
-    let n : 10 * number 0 b.digits + d ≤ 32767 = omega (arith, grows (10 * number 0 b.digits + d) ds) in
-    let sum : number 0 (b.digits ++ (d ∷ [])) ≡ 10 * number 0 b.digits + d = number_more 0 b.digits d in
+    let n : 10 * digits_number 0 b.digits + d ≤ 32767 =
+    omega (arith, number_le ds (10 * digits_number 0 b.digits + d)) in
+    let sum : digits_number 0 (b.digits ++ (d ∷ [])) ≡ 10 * digits_number 0 b.digits + d = number_more b.digits 0 d in
     let e : row + 1 + length ds ≡ row + suc (length ds) = omega arith in
     ap (λ t. follow row before b d (ds ++ rest) t) (digit_taken before b d good.0 n)
     ∙ reads_digits before (row + 1) (longer b d) ds rest good.1 (rw sum fits)
@@ -58,12 +62,12 @@ reads_digits before row b (d ∷ ds) rest good fits =
     (Some (record { function = b.function; digits = append_assoc b.digits (d ∷ []) ds i })) rest)
 
 -- behind an item
-abbrev behind : ℕ → List Item → List ℕ → Verdict
+abbrev behind : ℕ → List Item1 → List ℕ → Verdict
 behind row is rest =
     if reaches_end is then Whole (record { end = end_of is; items = is; rest = rest }) else read row is None rest
 
-begin_reads : (before : List Item) (row : ℕ) (b : Begun) (rest : List ℕ) → IsBegun b
-    → read row before None (begun_rows b ++ rest) ≡ read (row + length (begun_rows b)) before (Some b) rest
+begin_reads : (before : List Item1) (row : ℕ) (b : Begun1) (rest : List ℕ) → IsBegun1 b
+    → read row before None (begun_rows1 b ++ rest) ≡ read (row + length (begun_rows1 b)) before (Some b) rest
 unfolding read more_digits
 begin_reads before row b rest good =
     let e : row + 1 + length b.digits ≡ row + suc (length b.digits) = omega arith in
@@ -71,49 +75,50 @@ begin_reads before row b rest good =
     (reads_digits before (row + 1) (began b.function) b.digits rest good.digits good.fits
     ∙ (λ i. read (e i) before (Some b) rest))
 
-reads_item : (before : List Item) (row : ℕ) (i : Item) (rest : List ℕ) → IsBegun i.begun
+reads_item : (before : List Item1) (row : ℕ) (i : Item1) (rest : List ℕ) → IsBegun1 i.begun
     → FirstFits before i.begun i.long
-    → read row before None (rows_of i ++ rest) ≡ behind (row + length (rows_of i)) (before ++ (i ∷ [])) rest
+    → read row before None (rows_of1 i ++ rest) ≡ behind (row + length (rows_of1 i)) (before ++ (i ∷ [])) rest
 unfolding read
 reads_item before row i rest good first =
     let b = i.begun in
-    let e : row + length (begun_rows b) + 1 ≡ row + length (rows_of i) =
-    omega (arith, length-append b.digits (ending i.long ∷ [])) in
-    ap (λ x. read row before None x) (append_assoc (begun_rows b) (ending i.long ∷ []) rest)
-    ∙ begin_reads before row b (ending i.long ∷ rest) good
-    ∙ ap (λ t. follow (row + length (begun_rows b)) before b (ending i.long) rest t)
+    let e : row + length (begun_rows1 b) + 1 ≡ row + length (rows_of1 i) =
+    omega (arith, length-append b.digits (ending_row i.long ∷ [])) in
+    ap (λ x. read row before None x) (append_assoc (begun_rows1 b) (ending_row i.long ∷ []) rest)
+    ∙ begin_reads before row b (ending_row i.long ∷ rest) good
+    ∙ ap (λ t. follow (row + length (begun_rows1 b)) before b (ending_row i.long) rest t)
     (end_is_taken before b i.long first)
     ∙ ap (λ x. behind x (before ++ (i ∷ [])) rest) e
 
-first_fits : (before : List Item) (i : Item) (is : List Item)
+first_fits : (before : List Item1) (i : Item1) (is : List Item1)
     → BeginsWith (end_of (before ++ (i ∷ is))) (before ++ (i ∷ is)) → FirstFits before i.begun i.long
 first_fits [] i is h = h
 first_fits (x ∷ xs) i is h = tt
 
-end_same : (before : List Item) (i : Item) (is : List Item) → end_of (before ++ (i ∷ [])) ≡ end_of (before ++ (i ∷ is))
+end_same : (before : List Item1) (i : Item1) (is : List Item1)
+    → end_of (before ++ (i ∷ [])) ≡ end_of (before ++ (i ∷ is))
 end_same [] i is = refl
 end_same (x ∷ xs) i is = refl
 
-goes_on_by : (before : List Item) (i : Item) (is : List Item)
+goes_on_by : (before : List Item1) (i : Item1) (is : List Item1)
     → 31 + length (before ++ (i ∷ [])) < end_of (before ++ (i ∷ is))
     → reaches_end (before ++ (i ∷ [])) ≡ false
 goes_on_by before i is h = eq_false _ _ (omega (arith, h, end_same before i is))
 
-begins_of : (is : List Item) → GoesOn is → BeginsWith (end_of is) is ⊎ (is ≡ [])
+begins_of : (is : List Item1) → IsLoading is → BeginsWith (end_of is) is ⊎ (is ≡ [])
 begins_of [] h = inr refl
 begins_of (i ∷ is) h = inl h.0
 
-snoc : (before : List Item) (i : Item) (is : List Item) → (before ++ (i ∷ [])) ++ is ≡ before ++ (i ∷ is)
+snoc : (before : List Item1) (i : Item1) (is : List Item1) → (before ++ (i ∷ [])) ++ is ≡ before ++ (i ∷ is)
 snoc before i is = append_assoc before (i ∷ []) is
 
-less_of : (is : List Item) (i : Item) (js : List Item) → GoesOn (is ++ (i ∷ js))
+less_of : (is : List Item1) (i : Item1) (js : List Item1) → IsLoading (is ++ (i ∷ js))
     → BeginsWith (end_of (is ++ (i ∷ js))) (is ++ (i ∷ js)) × (31 + length (is ++ (i ∷ js)) < end_of (is ++ (i ∷ js)))
 less_of [] i js h = h
 less_of (x ∷ xs) i js h = h
 
 -- items behind which loading goes on
-reads_all : (is before : List Item) (row : ℕ) (rest : List ℕ) → AreItems is → GoesOn (before ++ is)
-    → read row before None (spelled is ++ rest) ≡ read (row + length (spelled is)) (before ++ is) None rest
+reads_all : (is before : List Item1) (row : ℕ) (rest : List ℕ) → AreItems is → IsLoading (before ++ is)
+    → read row before None (spelled1 is ++ rest) ≡ read (row + length (spelled1 is)) (before ++ is) None rest
 reads_all [] before row rest good goes =
     let e : row ≡ row + 0 = omega arith in (λ i. read (e i) (sym (append-nil before) i) None rest)
 reads_all (i ∷ is) before row rest good goes =
@@ -121,59 +126,59 @@ reads_all (i ∷ is) before row rest good goes =
     let short : length (before ++ (i ∷ [])) ≤ length (before ++ (i ∷ is)) =
     omega (arith, length-append before (i ∷ []), length-append before (i ∷ is)) in
     let on = goes_on_by before i is (omega (arith, l.1)) in
-    let e : row + length (rows_of i) + length (spelled is) ≡ row + length (rows_of i ++ spelled is) =
-    omega (arith, length-append (rows_of i) (spelled is)) in
-    ap (λ x. read row before None x) (append_assoc (rows_of i) (spelled is) rest)
-    ∙ reads_item before row i (spelled is ++ rest) good.0 (first_fits before i is l.0)
-    ∙ rw on (reads_all is (before ++ (i ∷ [])) (row + length (rows_of i)) rest good.1 (rw (snoc before i is) goes)
+    let e : row + length (rows_of1 i) + length (spelled1 is) ≡ row + length (rows_of1 i ++ spelled1 is) =
+    omega (arith, length-append (rows_of1 i) (spelled1 is)) in
+    ap (λ x. read row before None x) (append_assoc (rows_of1 i) (spelled1 is) rest)
+    ∙ reads_item before row i (spelled1 is ++ rest) good.0 (first_fits before i is l.0)
+    ∙ rw on (reads_all is (before ++ (i ∷ [])) (row + length (rows_of1 i)) rest good.1 (rw (snoc before i is) goes)
     ∙ (λ k. read (e k) (snoc before i is k) None rest))
 
 -- items that come to a program
-reads_whole : (i : Item) (is before : List Item) (row : ℕ) (rest : List ℕ) → AreItems (i ∷ is)
+reads_whole : (i : Item1) (is before : List Item1) (row : ℕ) (rest : List ℕ) → AreItems (i ∷ is)
     → BeginsWith (end_of (before ++ (i ∷ is))) (before ++ (i ∷ is))
     → 31 + length (before ++ (i ∷ is)) ≡ end_of (before ++ (i ∷ is))
-    → read row before None (spelled (i ∷ is) ++ rest)
+    → read row before None (spelled1 (i ∷ is) ++ rest)
     ≡ Whole (record { end = end_of (before ++ (i ∷ is)); items = before ++ (i ∷ is); rest = rest })
 reads_whole i [] before row rest good first count =
-    ap (λ x. read row before None (x ++ rest)) (append-nil (rows_of i))
+    ap (λ x. read row before None (x ++ rest)) (append-nil (rows_of1 i))
     ∙ reads_item before row i rest good.0 (first_fits before i [] first)
     ∙ rw (eq_true _ _ count) refl
 reads_whole i (j ∷ js) before row rest good first count =
     let same = snoc before i (j ∷ js) in
     let on = goes_on_by before i (j ∷ js)
     (omega (arith, length-append before (i ∷ []), length-append before (i ∷ (j ∷ js)))) in
-    ap (λ x. read row before None x) (append_assoc (rows_of i) (spelled (j ∷ js)) rest)
-    ∙ reads_item before row i (spelled (j ∷ js) ++ rest) good.0 (first_fits before i (j ∷ js) first)
-    ∙ rw on (reads_whole j js (before ++ (i ∷ [])) (row + length (rows_of i)) rest good.1 (rw same first)
+    ap (λ x. read row before None x) (append_assoc (rows_of1 i) (spelled1 (j ∷ js)) rest)
+    ∙ reads_item before row i (spelled1 (j ∷ js) ++ rest) good.0 (first_fits before i (j ∷ js) first)
+    ∙ rw on (reads_whole j js (before ++ (i ∷ [])) (row + length (rows_of1 i)) rest good.1 (rw same first)
     (rw same count)
     ∙ (λ k. Whole (record { end = end_of (same k); items = same k; rest = rest })))
 
 -- a fault
-refused : (before : List Item) (b : Begun) (c : ℕ) (cause : Tape1Cause) → breaks cause before b c ≡ true
-    → taken (is_none before) (part_of b) c ≡ Refused cause
+refused : (before : List Item1) (b : Begun1) (c : ℕ) (cause : Tape1Cause) → breaks1 cause before b c ≡ true
+    → taken1 (is_none before) (part_of b) c ≡ Refused cause
 refused before b c EndOfTape h = absurd (cc)
 refused before b c BadRow h = by_tests (nat_lt c 10) (nat_eq c 12) (nat_eq c 25) refl refl refl
   where
     by_tests : (x y z : Bool) → nat_lt c 10 ≡ x → nat_eq c 12 ≡ y → nat_eq c 25 ≡ z
-        → taken (is_none before) (part_of b) c ≡ Refused BadRow
+        → taken1 (is_none before) (part_of b) c ≡ Refused BadRow
     by_tests true y z p q r = absurd (let k : false ≡ true = rw p at h in cc)
     by_tests false true z p q r = absurd (let k : false ≡ true = rw (p, q) at h in cc)
     by_tests false false true p q r = absurd (let k : false ≡ true = rw (p, q, r) at h in cc)
     by_tests false false false p q r = rw (p, q, r) refl
 refused before b c NumberTooLarge h = let p = and_parts (nat_lt c 10) _ h in rw (p.0, p.1) refl
 refused before b c FirstWord h =
-    let p = and_parts (ends c) _ h in by_tests (nat_eq c 12) (nat_eq c 25) refl refl p.0 p.1
+    let p = and_parts (ends1 c) _ h in by_tests (nat_eq c 12) (nat_eq c 25) refl refl p.0 p.1
   where
-    by_tests : (y z : Bool) → nat_eq c 12 ≡ y → nat_eq c 25 ≡ z → ends c ≡ true
+    by_tests : (y z : Bool) → nat_eq c 12 ≡ y → nat_eq c 25 ≡ z → ends1 c ≡ true
         → (is_none before && not (is_first b c)) ≡ true
-        → taken (is_none before) (part_of b) c ≡ Refused FirstWord
+        → taken1 (is_none before) (part_of b) c ≡ Refused FirstWord
     by_tests true z q r e t = let big = lt_false c 10 (let k = eq_of c 12 q in omega arith) in rw (t, big, q) refl
     by_tests false true q r e t = let big = lt_false c 10 (let k = eq_of c 25 r in omega arith)
         in rw (t, big, q, r) refl
     by_tests false false q r e t = absurd (let k : false ≡ true = rw (q, r) at e in cc)
 
-reads_fault : (row : ℕ) (before : List Item) (part : Option Begun) (rest : List ℕ) (cause : Tape1Cause)
-    → broken before part rest cause ≡ true
+reads_fault : (row : ℕ) (before : List Item1) (part : Option Begun1) (rest : List ℕ) (cause : Tape1Cause)
+    → broken1 before part rest cause ≡ true
     → read row before part rest ≡ Faulty row cause
 unfolding read
 reads_fault row before part [] EndOfTape h = refl
@@ -181,59 +186,55 @@ reads_fault row before part [] BadRow h = absurd (cc)
 reads_fault row before part [] NumberTooLarge h = absurd (cc)
 reads_fault row before part [] FirstWord h = absurd (cc)
 reads_fault row before None (c ∷ rest) EndOfTape h = absurd (cc)
-reads_fault row before None (c ∷ rest) BadRow h = rw (no_row (nat_lt c 32) h) refl
-  where
-    no_row : (b : Bool) → not b ≡ true → b ≡ false
-    no_row true h = absurd (cc)
-    no_row false h = refl
+reads_fault row before None (c ∷ rest) BadRow h = rw (not-true (nat_lt c 32) h) refl
 reads_fault row before None (c ∷ rest) NumberTooLarge h = absurd (cc)
 reads_fault row before None (c ∷ rest) FirstWord h = absurd (cc)
 reads_fault row before (Some b) (c ∷ rest) cause h = ap (λ t. follow row before b c rest t) (refused before b c cause h)
 
-reads_part : (before : List Item) (row : ℕ) (part : Option Begun) (rest : List ℕ) → IsPart part
-    → read row before None (part_rows part ++ rest) ≡ read (row + length (part_rows part)) before part rest
+reads_part : (before : List Item1) (row : ℕ) (part : Option Begun1) (rest : List ℕ) → IsPart1 part
+    → read row before None (part_rows1 part ++ rest) ≡ read (row + length (part_rows1 part)) before part rest
 reads_part before row None rest good = let e : row ≡ row + 0 = omega arith in ap (λ x. read x before None rest) e
 reads_part before row (Some b) rest good = begin_reads before row b rest good
 
-finds_fault : (rows : List ℕ) (row : ℕ) (cause : Tape1Cause) → Breaks rows row cause → verdict rows ≡ Faulty row cause
+finds_fault : (rows : List ℕ) (row : ℕ) (cause : Tape1Cause) → Breaks1 rows row cause → verdict rows ≡ Faulty row cause
 finds_fault rows row cause f =
     let s = f.stands in
-    let e : 0 + length (spelled s.before) + length (part_rows s.part) ≡ row = omega (arith, s.row_is) in
+    let e : 0 + length (spelled1 s.before) + length (part_rows1 s.part) ≡ row = omega (arith, s.row_is) in
     ap (λ x. read 0 [] None x) s.rows_are
-    ∙ reads_all s.before [] 0 (part_rows s.part ++ s.rest) s.good s.goes_on
-    ∙ reads_part s.before (0 + length (spelled s.before)) s.part s.rest s.is_part
+    ∙ reads_all s.before [] 0 (part_rows1 s.part ++ s.rest) s.good s.goes_on
+    ∙ reads_part s.before (0 + length (spelled1 s.before)) s.part s.rest s.is_part
     ∙ ap (λ x. read x s.before s.part s.rest) e
     ∙ reads_fault row s.before s.part s.rest cause f.breaks
 
-finds_items : (is : List Item) (e : ℕ) (rest : List ℕ) → AreItems is → BeginsWith e is → 31 + length is ≡ e
-    → read 0 [] None (spelled is ++ rest) ≡ Whole (record { end = e; items = is; rest = rest })
+finds_items : (is : List Item1) (e : ℕ) (rest : List ℕ) → AreItems is → BeginsWith e is → 31 + length is ≡ e
+    → read 0 [] None (spelled1 is ++ rest) ≡ Whole (record { end = e; items = is; rest = rest })
 finds_items [] e rest good first count = absurd first
 finds_items (i ∷ is) e rest good first count =
-    let n : number_of i ≡ e = first.number in
+    let n : item_number i ≡ e = first.number in
     reads_whole i is [] 0 rest good (rw n first) (count ∙ sym n)
     ∙ ap (λ x. Whole (record { end = x; items = i ∷ is; rest = rest })) n
 
-finds_program : (rows : List ℕ) (t : Tape) → Comes rows t → verdict rows ≡ Whole t
+finds_program : (rows : List ℕ) (t : Tape) → Comes1 rows t → verdict rows ≡ Whole t
 finds_program rows t c = ap (λ x. read 0 [] None x) c.rows_are ∙ finds_items t.items t.end t.rest c.good c.first c.count
 
 -- a tape that comes to a program breaks no rule; a tape comes to one program, and breaks one rule at one row, at the
 -- most
-pub no_fault : (rows : List ℕ) (t : Tape) → Comes rows t → WellFormed rows
+pub no_fault : (rows : List ℕ) (t : Tape) → Comes1 rows t → WellFormed1 rows
 no_fault rows t c row cause f = let e : Whole t ≡ Faulty row cause = sym (finds_program rows t c)
     ∙ finds_fault rows row cause f in cc
 
-one_program : (rows : List ℕ) (t u : Tape) → Comes rows t → Comes rows u → t ≡ u
+one_program : (rows : List ℕ) (t u : Tape) → Comes1 rows t → Comes1 rows u → t ≡ u
 one_program rows t u c d = let e : Whole t ≡ Whole u = sym (finds_program rows t c) ∙ finds_program rows u d in cc
 
-one_broken : (rows : List ℕ) (r q : ℕ) (a b : Tape1Cause) → Breaks rows r a → Breaks rows q b → (r ≡ q) × (a ≡ b)
+one_broken : (rows : List ℕ) (r q : ℕ) (a b : Tape1Cause) → Breaks1 rows r a → Breaks1 rows q b → (r ≡ q) × (a ≡ b)
 one_broken rows r q a b f g =
     let e : Faulty r a ≡ Faulty q b = sym (finds_fault rows r a f) ∙ finds_fault rows q b g in (cc, cc)
 
-one_fault : (rows : List ℕ) (r q : ℕ) (a b : Tape1Cause) → IsFault rows r a → IsFault rows q b → (r ≡ q) × (a ≡ b)
+one_fault : (rows : List ℕ) (r q : ℕ) (a b : Tape1Cause) → IsFault1 rows r a → IsFault1 rows q b → (r ≡ q) × (a ≡ b)
 one_fault rows r q a b f g = one_broken rows r q a b f.is g.is
 
 -- so what is broken is the fault
-pub fault_of : (rows : List ℕ) (row : ℕ) (cause : Tape1Cause) → Breaks rows row cause → IsFault rows row cause
+pub fault_of : (rows : List ℕ) (row : ℕ) (cause : Tape1Cause) → Breaks1 rows row cause → IsFault1 rows row cause
 fault_of rows row cause f = record {
   is = f;
   least = λ r other g.
@@ -252,6 +253,6 @@ one_verdict rows = record {
 }
   where
     by_verdict : (v : Verdict) → Holds rows v
-        → ((t : Tape) × Comes rows t) ⊎ ((row : ℕ) × (cause : Tape1Cause) × IsFault rows row cause)
+        → ((t : Tape) × Comes1 rows t) ⊎ ((row : ℕ) × (cause : Tape1Cause) × IsFault1 rows row cause)
     by_verdict (Whole t) h = inl (t, h)
     by_verdict (Faulty row cause) h = inr (row, cause, fault_of rows row cause h)

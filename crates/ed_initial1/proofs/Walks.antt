@@ -7,7 +7,7 @@ use Rattle.ed_machine.specs.declared.turn.Turn.TheVariants.{Went}
 use Rattle.ed_paths.proofs.Frames.{Moment, state as piece_state}
 use Rattle.ed_paths.proofs.Paths.{Path, stay as path_stays, on as path_on, followed as paths_followed, leads, no_state}
 use Rattle.ed_paths.proofs.Paths.{first_state}
-use Rattle.ed_initial1.specs.Load.{GoesOn, IsQuiet, at_31}
+use Rattle.ed_initial1.specs.Load.{GoesOn1, IsQuiet1, at_31}
 use Rattle.ed_initial1.proofs.Paths.{piece, Walk, stay, on, ToProgram, ends}
 
 -- the machine at a moment of a load, after k orders
@@ -20,23 +20,23 @@ path_of stay = path_stays
 path_of (on first away rest) = path_on first (path_of rest)
 
 -- each of its orders goes on
-quiet : {k : ℕ} {r t : Moment} → Walk k r t → (done : ℕ) → IsQuiet k (state r done)
+quiet : {k : ℕ} {r t : Moment} → Walk k r t → (done : ℕ) → IsQuiet1 k (state r done)
 quiet stay done j h = absurd (omega arith)
 quiet (on {r = r} first away rest) done zero h =
-    subst GoesOn (sym (no_state (state r done)))
+    subst GoesOn1 (sym (no_state (state r done)))
     (record {
       went = ap (λ (o : Obeyed). o.turn) (first.does done);
       stays = ap (λ (o : Obeyed). at_31 o.state) (first.does done) ∙ away;
     })
 quiet (on {r = r} first away rest) done (suc j) h =
-    subst GoesOn (sym (first_state j (state r done) ∙ ap (λ (o : Obeyed). state_after j o.state) (first.does done)))
+    subst GoesOn1 (sym (first_state j (state r done) ∙ ap (λ (o : Obeyed). state_after j o.state) (first.does done)))
     (quiet rest (done + 1) j (omega arith))
 
 -- all orders but the last go on, the last one comes to 31, and none of them prints
 pub record Reaches (k : ℕ) (s t : State) : Type 0 where
   pub before : ℕ
   pub count : k ≡ suc before
-  pub quiet : IsQuiet before s
+  pub quiet : IsQuiet1 before s
   pub last : step (state_after before s) ≡ record { state = t; turn = Went }
   pub at : at_31 t ≡ true
   pub silent : (past k s).codes ≡ []

@@ -2,79 +2,81 @@
 -- at the entry.
 use Rattle.std.proofs.Common.{◌≡◌, ℕ, ◌+◌, ◌*◌, ◌≤◌, refl, sym, ap, ◌∙◌, subst, arith, List, [], ◌∷◌, ◌++◌, length}
 use Rattle.std.proofs.Common.{length-append}
-use Rattle.std.proofs.Common.{false, get_or}
+use Rattle.std.proofs.Common.{false}
 use Rattle.ed_store.specs.Cells.{IsStore, with_short}
 use Rattle.ed_machine.specs.State.{State}
 use Rattle.ed_machine.specs.OrderTable.{step}
 use Rattle.ed_machine.specs.Steps.{state_after}
 use Rattle.ed_initial1.specs.declared.loading.Loaded1.{Loaded1}
-use Rattle.ed_initial1.specs.Items.{Item, AreItems, spelled, rows_of, ending, costs}
-use Rattle.ed_initial1.specs.Faults.{Tape, Comes, BeginsWith, WellFormed}
+use Rattle.ed_initial1.specs.Items.{Item1, AreItems, spelled1, rows_of1, ending_row, word1, words, costs1}
+use Rattle.ed_initial1.proofs.Paths.{ToProgram, moment}
+use Rattle.ed_initial1.specs.Faults.{Tape, Comes1, BeginsWith, WellFormed1}
 use Rattle.ed_initial1.specs.Entry.{IsStarted1, IsLoaded1, at_entry1}
-use Rattle.ed_initial1.specs.Load.{EndsAs, orders_of}
-use Rattle.ed_initial1.proofs.Rests.{tape_of, tape_is, whole_path, first_word}
+use Rattle.ed_initial1.specs.Load.{EndsAs1, orders_of1}
+use Rattle.ed_initial1.proofs.Rests.{tape_of, tape_is, written, final, whole_path, first_word}
 use Rattle.ed_initial1.proofs.Walks.{state, Reaches, reaches}
 use Rattle.ed_initial1.proofs.Opened.{HasItsLengths, kept, listed, begins, opened, closed, clears}
 use Rattle.ed_initial1.proofs.Settled.{settled, comes}
 use Rattle.ed_initial1.proofs.Reading.{programmed}
 
 -- no tape costs more than 14 orders a row
-pub costs_fit : (is : List Item) → costs is ≤ 14 * length (spelled is)
+pub costs_fit : (is : List Item1) → costs1 is ≤ 14 * length (spelled1 is)
 costs_fit [] = omega arith
 costs_fit (i ∷ is) =
     omega (
       arith,
       costs_fit is,
-      length-append (rows_of i) (spelled is),
-      length-append i.begun.digits (ending i.long ∷ []),
+      length-append (rows_of1 i) (spelled1 is),
+      length-append i.begun.digits (ending_row i.long ∷ []),
     )
 
 -- the state at the entry of a tape's items
-abbrev entry_of : State → ℕ → List Item → List ℕ → State
+abbrev entry_of : State → ℕ → List Item1 → List ℕ → State
 entry_of s e is rest = at_entry1 s (record { end = e; items = is; rest = rest })
 
-reached : (s : State) → HasItsLengths s.store → IsStarted1 s → (e : ℕ) (is : List Item) (rest : List ℕ)
-    → s.tape ≡ spelled is ++ rest → AreItems is
-    → BeginsWith e is → 31 + length is ≡ e → Reaches (4 + costs is) s (entry_of s e is rest)
-reached s store started e [] rest rows good first count = absurd first
-reached s store started e (i ∷ is) rest rows good first count =
+reached : {s : State} → HasItsLengths s.store → IsStarted1 s → {e : ℕ} (is : List Item1) (rest : List ℕ)
+    → s.tape ≡ spelled1 is ++ rest → AreItems is → BeginsWith e is → 31 + length is ≡ e
+    → Reaches (4 + costs1 is) s (entry_of s e is rest)
+reached store started [] rest rows good first count = absurd first
+reached {s} store started {e} (i ∷ is) rest rows good first count =
     let ws = s.store.words in
-    let b = get_or s.store.sandwich 0 false in
-    let k = 4 + costs (i ∷ is) in
-    let path = whole_path (kept s) ws (listed ws) b s.acc s.multiplier e i is rest good refl first count in
+    let k = 4 + costs1 (i ∷ is) in
+    let path : ToProgram k (begins s (tape_of (i ∷ is) rest))
+    (moment (kept s) (final e 12300 (word1 i) i is) (written ws 32 (words is)) false 0 31 rest) =
+    whole_path (kept s) (listed ws) i is good refl first count in
     let tape : tape_of (i ∷ is) rest ≡ s.tape = sym (tape_is (i ∷ is) rest) ∙ sym rows in
     let start : state (begins s (tape_of (i ∷ is) rest)) s.orders ≡ s =
     ap (λ x. state (begins s x) s.orders) tape ∙ opened s store started in
-    let end = closed s store started e i is rest first count in
+    let end = closed store started is rest first count in
     subst (λ x. Reaches k x (entry_of s e (i ∷ is) rest)) start
     (subst (λ x. Reaches k (state (begins s (tape_of (i ∷ is) rest)) s.orders) x) end (reaches path s.orders))
 
 -- the same of a tape
-pub leads_in : (s : State) → HasItsLengths s.store → IsStarted1 s → (t : Tape) → Comes s.tape t
-    → Reaches (4 + costs t.items) s (at_entry1 s t)
-leads_in s store started t c = reached s store started t.end t.items t.rest c.rows_are c.good c.first c.count
+pub leads_in : (s : State) → HasItsLengths s.store → IsStarted1 s → (t : Tape) → Comes1 s.tape t
+    → Reaches (4 + costs1 t.items) s (at_entry1 s t)
+leads_in s store started t c = reached store started t.items t.rest c.rows_are c.good c.first c.count
 
 -- the first order of the program clears location e
-cleared : (s : State) → IsStarted1 s → (e : ℕ) (is : List Item) (rest : List ℕ) → BeginsWith e is
+cleared : (s : State) → IsStarted1 s → (e : ℕ) (is : List Item1) (rest : List ℕ) → BeginsWith e is
     → (step (entry_of s e is rest)).state.store ≡ with_short (entry_of s e is rest).store e 0
 cleared s started e [] rest first = absurd first
 cleared s started e (i ∷ is) rest first =
     clears (entry_of s e (i ∷ is) rest) e started.size refl (first_word e i first) (omega (arith, first.high))
 
 module _ (s u : State) (r : Loaded1) (store : IsStore s.store) (started : IsStarted1 s)
-    (ends : EndsAs s (14 * length s.tape + 4) r)
-    (is : u ≡ state_after (orders_of r) s) where
-  pub whole_load : (t : Tape) → Comes s.tape t → IsLoaded1 s t r u
+    (ends : EndsAs1 s (14 * length s.tape + 4) r)
+    (is : u ≡ state_after (orders_of1 r) s) where
+  pub whole_load : (t : Tape) → Comes1 s.tape t → IsLoaded1 s t r u
   whole_load t c =
-      let k = 4 + costs t.items in
+      let k = 4 + costs1 t.items in
       let bound = 14 * length s.tape + 4 in
       let g = leads_in s (record { words = store.words_are; sandwich = store.digits_are }) started t c in
-      let rows : length s.tape ≡ length (spelled t.items) + length t.rest = ap length c.rows_are
-      ∙ length-append (spelled t.items) t.rest in
+      let rows : length s.tape ≡ length (spelled1 t.items) + length t.rest = ap length c.rows_are
+      ∙ length-append (spelled1 t.items) t.rest in
       let fits : k ≤ bound = omega (arith, costs_fit t.items) in
       let result = settled s (at_entry1 s t) k g bound fits r ends in
       let there : u ≡ at_entry1 s t =
-      is ∙ ap (λ x. state_after (orders_of x) s) result ∙ comes s (at_entry1 s t) k g in
+      is ∙ ap (λ x. state_after (orders_of1 x) s) result ∙ comes s (at_entry1 s t) k g in
       record {
         result_is = result;
         state_is = there;
@@ -84,5 +86,5 @@ module _ (s u : State) (r : Loaded1) (store : IsStore s.store) (started : IsStar
       }
 
   -- where no program is asked for
-  pub total_load : WellFormed s.tape → (t : Tape) × Comes s.tape t × IsLoaded1 s t r u
+  pub total_load : WellFormed1 s.tape → (t : Tape) × Comes1 s.tape t × IsLoaded1 s t r u
   total_load well = let p = programmed s.tape well in (p.0, p.1, whole_load p.0 p.1)

@@ -5,8 +5,8 @@ use Rattle.std.specs.Prelude.{length, slice_index, if◌then◌else◌}
 use Rattle.ed_initial1.specs.declared.cause.Tape1Cause.{Tape1Cause}
 use Rattle.ed_initial1.specs.declared.cause.Tape1Fault.{Tape1Fault}
 use Rattle.ed_initial1.specs.declared.cause.Tape1Fault.TheVariants.{At, Memory}
-use Rattle.ed_initial1.specs.Items.{spelled, words, costs}
-use Rattle.ed_initial1.specs.Faults.{Tape, Comes, IsFault, WellFormed}
+use Rattle.ed_initial1.specs.Items.{spelled1, words, costs1}
+use Rattle.ed_initial1.specs.Faults.{Tape, Comes1, IsFault1, WellFormed1}
 
 -- the cost in orders, the rows read up to the end of the last item, the place e, and the words of 31 to e - 1
 pub record Report1 : Type 0 where
@@ -16,38 +16,38 @@ pub record Report1 : Type 0 where
   pub words : List ℕ
 
 -- the word that the tape places at a location, none outside 31 to e - 1
-abbrev pub word_at : Report1 → ℕ → Option ℕ
-word_at r a = if nat_le 31 a && nat_lt a r.end then Some (slice_index r.words (a - 31)) else None
+abbrev pub placed_word : Report1 → ℕ → Option ℕ
+placed_word r a = if nat_le 31 a && nat_lt a r.end then Some (slice_index r.words (a - 31)) else None
 
 -- what a check tells of the tape that the rows come to
 abbrev pub report1 : Tape → Report1
 report1 t = record {
-  orders = 4 + costs t.items;
-  rows = length (spelled t.items);
+  orders = 4 + costs1 t.items;
+  rows = length (spelled1 t.items);
   end = t.end;
   words = words t.items;
 }
 
 -- the answer for a tape without a fault: what it comes to, and that it costs no more than 14 orders a row and 4
 pub record Accepts1 (rows : List ℕ) (r : Report1) : Type 0 where
-  pub well : WellFormed rows
+  pub well : WellFormed1 rows
   pub tape : Tape
-  pub comes : Comes rows tape
+  pub comes : Comes1 rows tape
   pub report_is : r ≡ report1 tape
   pub most : r.orders ≤ 14 * r.rows + 4
 
 -- the answer is that for a tape without a fault, or the fault, or that no memory was found
 abbrev pub Answers1 : List ℕ → Result Report1 Tape1Fault → Type 0
 Answers1 rows (Ok r) = Accepts1 rows r
-Answers1 rows (Err (At row cause)) = IsFault rows row cause
+Answers1 rows (Err (At row cause)) = IsFault1 rows row cause
 Answers1 rows (Err Memory) = Unit {0}
 
 -- a tape comes to a whole program or has a fault; to one program and one fault at the most, and not to both
 pub record HasOneVerdict (rows : List ℕ) : Type 0 where
-  pub some : ((t : Tape) × Comes rows t) ⊎ ((row : ℕ) × (cause : Tape1Cause) × IsFault rows row cause)
-  pub program : (t u : Tape) → Comes rows t → Comes rows u → t ≡ u
-  pub fault : (r q : ℕ) (a b : Tape1Cause) → IsFault rows r a → IsFault rows q b → (r ≡ q) × (a ≡ b)
-  pub apart : (t : Tape) → Comes rows t → WellFormed rows
+  pub some : ((t : Tape) × Comes1 rows t) ⊎ ((row : ℕ) × (cause : Tape1Cause) × IsFault1 rows row cause)
+  pub program : (t u : Tape) → Comes1 rows t → Comes1 rows u → t ≡ u
+  pub fault : (r q : ℕ) (a b : Tape1Cause) → IsFault1 rows r a → IsFault1 rows q b → (r ≡ q) × (a ≡ b)
+  pub apart : (t : Tape) → Comes1 rows t → WellFormed1 rows
 
 -- so it is with every tape
 abbrev pub EachTapeHasOneVerdict : Type 0

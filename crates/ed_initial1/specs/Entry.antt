@@ -9,7 +9,7 @@ use Rattle.ed_machine.specs.Steps.{past}
 use Rattle.ed_initial1.specs.declared.loading.Loaded1.{Loaded1}
 use Rattle.ed_initial1.specs.declared.loading.Loaded1.TheVariants.{Entered}
 use Rattle.ed_initial1.specs.Listing.{first_orders}
-use Rattle.ed_initial1.specs.Items.{Item, number_of, ending, words, costs, digits, last_of}
+use Rattle.ed_initial1.specs.Items.{Item1, item_number, ending_row, words, costs1, item_digits, last_of}
 use Rattle.ed_initial1.specs.Faults.{Tape}
 
 -- the machine is of full size and stands at the first of the 31 orders
@@ -19,11 +19,11 @@ pub record IsStarted1 (s : State) : Type 0 where
   pub orders : (i : ℕ) → i < 31 → short_at s.store i ≡ slice_index first_orders i
 
 -- an item that stands for none
-abbrev pub no_item : Item
+abbrev pub no_item : Item1
 no_item = record { begun = record { function = 0; digits = [] }; long = false }
 
 -- the last item of a tape
-abbrev pub last_item : Tape → Item
+abbrev pub last_item : Tape → Item1
 last_item t = last_of no_item t.items
 
 -- the locations 0 to 30: the listing, but for five words that the orders have changed
@@ -31,9 +31,9 @@ abbrev pub left_orders : Tape → List ℕ
 left_orders t =
     slice_set (slice_set (slice_set (slice_set (slice_set first_orders
     0 (4096 * (last_item t).begun.function))
-    1 (number_of (last_item t)))
-    2 (ending (last_item t).long))
-    3 (131062 + last_of 0 (digits t.items)))
+    1 (item_number (last_item t)))
+    2 (ending_row (last_item t).long))
+    3 (131062 + last_of 0 (item_digits t.items)))
     25 (20480 + 2 * t.end)
 
 -- the state at the entry: `s` is the state in which the load began
@@ -49,13 +49,13 @@ at_entry1 s t = record {
   counter = 31;
   tape = t.rest;
   last = s.last;
-  orders = s.orders + (4 + costs t.items);
+  orders = s.orders + (4 + costs1 t.items);
 }
 
 -- the program is entered after the orders that the tape costs, in the state at the entry, and no code was printed; the
 -- order at 31, which is T e S, then clears location e
 pub record IsLoaded1 (s : State) (t : Tape) (r : Loaded1) (u : State) : Type 0 where
-  pub result_is : r ≡ Entered (4 + costs t.items)
+  pub result_is : r ≡ Entered (4 + costs1 t.items)
   pub state_is : u ≡ at_entry1 s t
-  pub silent : (past (4 + costs t.items) s).codes ≡ []
+  pub silent : (past (4 + costs1 t.items) s).codes ≡ []
   pub clears : (step u).state.store ≡ with_short u.store t.end 0

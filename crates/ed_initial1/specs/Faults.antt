@@ -3,10 +3,10 @@
 use Rattle.std.specs.Prelude.{ℕ, ◌≡◌, ◌⊎◌, ◌+◌, ◌*◌, ◌<◌, ◌≤◌, Bool, true, false, ◌&&◌, ◌||◌, not, nat_eq, nat_lt}
 use Rattle.std.specs.Prelude.{nat_le}
 use Rattle.std.specs.Prelude.{Option, Some, None, List, [], ◌∷◌, ◌++◌, length}
-use Rattle.ed_notation.specs.Items.{number}
+use Rattle.ed_notation.specs.Items.{digits_number}
 use Rattle.ed_initial1.specs.declared.cause.Tape1Cause.{Tape1Cause}
 use Rattle.ed_initial1.specs.declared.cause.Tape1Cause.TheVariants.{EndOfTape, BadRow, NumberTooLarge, FirstWord}
-use Rattle.ed_initial1.specs.Items.{Begun, Item, number_of, begun_rows, spelled, IsBegun, AreItems, IsFirst}
+use Rattle.ed_initial1.specs.Items.{Begun1, Item1, item_number, begun_rows1, spelled1, IsBegun1, AreItems, IsFirst}
 
 -- the numbers of the rules; of two rules broken at one row the less is the fault
 abbrev pub rule : Tape1Cause → ℕ
@@ -18,94 +18,94 @@ rule FirstWord = 4
 -- what is read of a tape: the place that T e S names, the items, and the rows left behind them
 pub record Tape : Type 0 where
   pub end : ℕ
-  pub items : List Item
+  pub items : List Item1
   pub rest : List ℕ
 
 -- the first of the items is T e S
-abbrev pub BeginsWith : ℕ → List Item → Type 0
+abbrev pub BeginsWith : ℕ → List Item1 → Type 0
 BeginsWith e [] = ⊥
 BeginsWith e (i ∷ is) = IsFirst e i
 
 -- the rows come to a whole program: items of which the first is T e S, one for each of the locations 31 to e - 1
-pub record Comes (rows : List ℕ) (t : Tape) : Type 0 where
-  pub rows_are : rows ≡ spelled t.items ++ t.rest
+pub record Comes1 (rows : List ℕ) (t : Tape) : Type 0 where
+  pub rows_are : rows ≡ spelled1 t.items ++ t.rest
   pub good : AreItems t.items
   pub first : BeginsWith t.end t.items
   pub count : 31 + length t.items ≡ t.end
 
 -- whole items behind which loading goes on: none, or the first is T e S and they do not reach e - 1
-abbrev pub GoesOn : List Item → Type 0
-GoesOn [] = Unit {0}
-GoesOn (i ∷ is) = IsFirst (number_of i) i × (31 + length (i ∷ is) < number_of i)
+abbrev pub IsLoading : List Item1 → Type 0
+IsLoading [] = Unit {0}
+IsLoading (i ∷ is) = IsFirst (item_number i) i × (31 + length (i ∷ is) < item_number i)
 
 -- the rows of a part of an item, none between two items
-abbrev pub part_rows : Option Begun → List ℕ
-part_rows None = []
-part_rows (Some b) = begun_rows b
+abbrev pub part_rows1 : Option Begun1 → List ℕ
+part_rows1 None = []
+part_rows1 (Some b) = begun_rows1 b
 
 -- a part of an item is so far without a fault
-abbrev pub IsPart : Option Begun → Type 0
-IsPart None = Unit {0}
-IsPart (Some b) = IsBegun b
+abbrev pub IsPart1 : Option Begun1 → Type 0
+IsPart1 None = Unit {0}
+IsPart1 (Some b) = IsBegun1 b
 
 -- a row as it is read: behind whole items and a part of its own item, while loading goes on
-pub record Stands (rows : List ℕ) (row : ℕ) : Type 0 where
-  pub before : List Item
-  pub part : Option Begun
+pub record IsRead1 (rows : List ℕ) (row : ℕ) : Type 0 where
+  pub before : List Item1
+  pub part : Option Begun1
   pub rest : List ℕ
   pub good : AreItems before
-  pub goes_on : GoesOn before
-  pub is_part : IsPart part
-  pub rows_are : rows ≡ spelled before ++ (part_rows part ++ rest)
-  pub row_is : row ≡ length (spelled before) + length (part_rows part)
+  pub goes_on : IsLoading before
+  pub is_part : IsPart1 part
+  pub rows_are : rows ≡ spelled1 before ++ (part_rows1 part ++ rest)
+  pub row_is : row ≡ length (spelled1 before) + length (part_rows1 part)
 
 -- whether an item is a first word: T e S with e from 32 to 1023
-abbrev pub is_first : Begun → ℕ → Bool
+abbrev pub is_first : Begun1 → ℕ → Bool
 is_first b c = nat_eq b.function 5
-    && (nat_eq c 12 && (nat_le 32 (number 0 b.digits) && nat_le (number 0 b.digits) 1023))
+    && (nat_eq c 12 && (nat_le 32 (digits_number 0 b.digits) && nat_le (digits_number 0 b.digits) 1023))
 
 -- whether there are no items
-abbrev pub is_none : List Item → Bool
+abbrev pub is_none : List Item1 → Bool
 is_none [] = true
 is_none (i ∷ is) = false
 
 -- whether a row ends an item
-abbrev pub ends : ℕ → Bool
-ends c = nat_eq c 12 || nat_eq c 25
+abbrev pub ends1 : ℕ → Bool
+ends1 c = nat_eq c 12 || nat_eq c 25
 
 -- whether the row c breaks the rule behind a part of an item: one line for each rule
-abbrev pub breaks : Tape1Cause → List Item → Begun → ℕ → Bool
-breaks EndOfTape before b c = false
-breaks BadRow before b c = not (nat_lt c 10) && not (ends c)
-breaks NumberTooLarge before b c = nat_lt c 10 && nat_lt 32767 (10 * number 0 b.digits + c)
-breaks FirstWord before b c = ends c && (is_none before && not (is_first b c))
+abbrev pub breaks1 : Tape1Cause → List Item1 → Begun1 → ℕ → Bool
+breaks1 EndOfTape before b c = false
+breaks1 BadRow before b c = not (nat_lt c 10) && not (ends1 c)
+breaks1 NumberTooLarge before b c = nat_lt c 10 && nat_lt 32767 (10 * digits_number 0 b.digits + c)
+breaks1 FirstWord before b c = ends1 c && (is_none before && not (is_first b c))
 
 -- whether the rule is the first one, that the rows go on
-abbrev pub is_end_of_tape : Tape1Cause → Bool
-is_end_of_tape EndOfTape = true
-is_end_of_tape cause = false
+abbrev pub is_end_of_tape1 : Tape1Cause → Bool
+is_end_of_tape1 EndOfTape = true
+is_end_of_tape1 cause = false
 
 -- whether the rule is the second one, on rows that stand in no item
-abbrev pub is_bad_row : Tape1Cause → Bool
-is_bad_row BadRow = true
-is_bad_row cause = false
+abbrev pub is_bad_row1 : Tape1Cause → Bool
+is_bad_row1 BadRow = true
+is_bad_row1 cause = false
 
 -- whether the rule is broken where so much has been read and these rows are left
-abbrev pub broken : List Item → Option Begun → List ℕ → Tape1Cause → Bool
-broken before part [] cause = is_end_of_tape cause
-broken before None (c ∷ rest) cause = is_bad_row cause && not (nat_lt c 32)
-broken before (Some b) (c ∷ rest) cause = breaks cause before b c
+abbrev pub broken1 : List Item1 → Option Begun1 → List ℕ → Tape1Cause → Bool
+broken1 before part [] cause = is_end_of_tape1 cause
+broken1 before None (c ∷ rest) cause = is_bad_row1 cause && not (nat_lt c 32)
+broken1 before (Some b) (c ∷ rest) cause = breaks1 cause before b c
 
 -- the tape breaks the rule at the row
-pub record Breaks (rows : List ℕ) (row : ℕ) (cause : Tape1Cause) : Type 0 where
-  pub stands : Stands rows row
-  pub breaks : broken stands.before stands.part stands.rest cause ≡ true
+pub record Breaks1 (rows : List ℕ) (row : ℕ) (cause : Tape1Cause) : Type 0 where
+  pub stands : IsRead1 rows row
+  pub breaks : broken1 stands.before stands.part stands.rest cause ≡ true
 
 -- the fault of a tape: the least row at which a rule is broken, and there the rule with the least number
-pub record IsFault (rows : List ℕ) (row : ℕ) (cause : Tape1Cause) : Type 0 where
-  pub is : Breaks rows row cause
-  pub least : (r : ℕ) (other : Tape1Cause) → Breaks rows r other → (row < r) ⊎ ((row ≡ r) × (rule cause ≤ rule other))
+pub record IsFault1 (rows : List ℕ) (row : ℕ) (cause : Tape1Cause) : Type 0 where
+  pub is : Breaks1 rows row cause
+  pub least : (r : ℕ) (other : Tape1Cause) → Breaks1 rows r other → (row < r) ⊎ ((row ≡ r) × (rule cause ≤ rule other))
 
 -- a tape is well formed: no rule is broken at any row
-abbrev pub WellFormed : List ℕ → Type 0
-WellFormed rows = (row : ℕ) (cause : Tape1Cause) → Breaks rows row cause → ⊥
+abbrev pub WellFormed1 : List ℕ → Type 0
+WellFormed1 rows = (row : ℕ) (cause : Tape1Cause) → Breaks1 rows row cause → ⊥

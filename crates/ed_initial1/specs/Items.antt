@@ -3,73 +3,73 @@
 -- a rule wherever it is read; no tape has such a row.
 use Rattle.std.specs.Prelude.{ℕ, ◌≡◌, ◌+◌, ◌*◌, ◌%◌, ◌^◌, ◌<◌, ◌≤◌, Bool, true, false, List, [], ◌∷◌, ◌++◌, length}
 use Rattle.ed_words.specs.Words.{digit}
-use Rattle.ed_notation.specs.Items.{number, AreDigits}
+use Rattle.ed_notation.specs.Items.{digits_number, AreDigits}
 
 -- an item as far as it has been punched: its function row and its digit rows
-pub record Begun : Type 0 where
+pub record Begun1 : Type 0 where
   pub function : ℕ
   pub digits : List ℕ
 
 -- a whole item, ended by L where it is long and by S where it is not
-pub record Item : Type 0 where
-  pub begun : Begun
+pub record Item1 : Type 0 where
+  pub begun : Begun1
   pub long : Bool
 
 -- the number of an item
-abbrev pub number_of : Item → ℕ
-number_of i = number 0 i.begun.digits
+abbrev pub item_number : Item1 → ℕ
+item_number i = digits_number 0 i.begun.digits
 
 -- the ending row: S is the row 12, and L is the row 25
-abbrev pub ending : Bool → ℕ
-ending false = 12
-ending true = 25
+abbrev pub ending_row : Bool → ℕ
+ending_row false = 12
+ending_row true = 25
 
 -- the rows of an item before its ending row
-abbrev pub begun_rows : Begun → List ℕ
-begun_rows b = b.function ∷ b.digits
+abbrev pub begun_rows1 : Begun1 → List ℕ
+begun_rows1 b = b.function ∷ b.digits
 
 -- the rows of an item
-abbrev pub rows_of : Item → List ℕ
-rows_of i = begun_rows i.begun ++ (ending i.long ∷ [])
+abbrev pub rows_of1 : Item1 → List ℕ
+rows_of1 i = begun_rows1 i.begun ++ (ending_row i.long ∷ [])
 
 -- the rows of items one after the other
-abbrev pub spelled : List Item → List ℕ
-spelled [] = []
-spelled (i ∷ is) = rows_of i ++ spelled is
+abbrev pub spelled1 : List Item1 → List ℕ
+spelled1 [] = []
+spelled1 (i ∷ is) = rows_of1 i ++ spelled1 is
 
 -- a function row and digit rows whose number is small enough
-pub record IsBegun (b : Begun) : Type 0 where
+pub record IsBegun1 (b : Begun1) : Type 0 where
   pub function : b.function < 32
   pub digits : AreDigits b.digits
-  pub fits : number 0 b.digits ≤ 32767
+  pub fits : digits_number 0 b.digits ≤ 32767
 
 -- each item begins as an item may
-abbrev pub AreItems : List Item → Type 0
+abbrev pub AreItems : List Item1 → Type 0
 AreItems [] = Unit {0}
-AreItems (i ∷ is) = IsBegun i.begun × AreItems is
+AreItems (i ∷ is) = IsBegun1 i.begun × AreItems is
 
 -- the word of an item
-abbrev pub word : Item → ℕ
-word i = (4096 * i.begun.function + 2 * number_of i + digit i.long) % 2 ^ 17
+abbrev pub word1 : Item1 → ℕ
+word1 i = (4096 * i.begun.function + 2 * item_number i + digit i.long) % 2 ^ 17
 
 -- the words of items
-abbrev pub words : List Item → List ℕ
+abbrev pub words : List Item1 → List ℕ
 words [] = []
-words (i ∷ is) = word i ∷ words is
+words (i ∷ is) = word1 i ∷ words is
 
 -- the orders that read an item: 5 for its function row, 10 for a digit row, 14 for its ending row
-abbrev pub cost_of : Item → ℕ
-cost_of i = 5 + 10 * length i.begun.digits + 14
+abbrev pub cost_of1 : Item1 → ℕ
+cost_of1 i = 5 + 10 * length i.begun.digits + 14
 
 -- the orders that read items one after the other
-abbrev pub costs : List Item → ℕ
-costs [] = 0
-costs (i ∷ is) = cost_of i + costs is
+abbrev pub costs1 : List Item1 → ℕ
+costs1 [] = 0
+costs1 (i ∷ is) = cost_of1 i + costs1 is
 
 -- the digit rows of items
-abbrev pub digits : List Item → List ℕ
-digits [] = []
-digits (i ∷ is) = i.begun.digits ++ digits is
+abbrev pub item_digits : List Item1 → List ℕ
+item_digits [] = []
+item_digits (i ∷ is) = i.begun.digits ++ item_digits is
 
 -- the last of some things, and one before them where there are none
 abbrev pub last_of : {A : Type 0} → A → List A → A
@@ -77,9 +77,9 @@ last_of a [] = a
 last_of a (x ∷ xs) = last_of x xs
 
 -- the item is T e S with e from 32 to 1023: the words go to 31 up to e - 1
-pub record IsFirst (e : ℕ) (i : Item) : Type 0 where
+pub record IsFirst (e : ℕ) (i : Item1) : Type 0 where
   pub function : i.begun.function ≡ 5
   pub short : i.long ≡ false
-  pub number : number_of i ≡ e
+  pub number : item_number i ≡ e
   pub low : 32 ≤ e
   pub high : e ≤ 1023

@@ -14,38 +14,38 @@ abbrev pub at_31 : State → Bool
 at_31 s = nat_eq s.counter 31
 
 -- an order of a load that goes on: it neither prints nor stops, and the counter does not come to 31
-pub record GoesOn (s : State) : Type 0 where
+pub record GoesOn1 (s : State) : Type 0 where
   pub went : (step s).turn ≡ Went
   pub stays : at_31 (step s).state ≡ false
 
 -- each of the first k orders goes on
-abbrev pub IsQuiet : ℕ → State → Type 0
-IsQuiet k s = (j : ℕ) → j < k → GoesOn (state_after j s)
+abbrev pub IsQuiet1 : ℕ → State → Type 0
+IsQuiet1 k s = (j : ℕ) → j < k → GoesOn1 (state_after j s)
 
 -- the last of k orders is the first that comes to 31
-pub record IsEntered (s : State) (bound k : ℕ) : Type 0 where
+pub record IsEntered1 (s : State) (bound k : ℕ) : Type 0 where
   pub before : ℕ
   pub count : k ≡ suc before
   pub most : k ≤ bound
-  pub quiet : IsQuiet before s
+  pub quiet : IsQuiet1 before s
   pub obeyed : is_obeyed (step (state_after before s)).turn ≡ true
   pub enters : at_31 (step (state_after before s)).state ≡ true
 
 -- the load is lost after k orders: all orders that it may take went on, the next one cannot be obeyed, or the last one
 -- printed or stopped and did not come to 31
-pub data IsLost (s : State) (bound k : ℕ) : Type 0 where
-  ran_out : k ≡ bound → IsQuiet k s → IsLost s bound k
-  blocked : k < bound → IsQuiet k s → is_obeyed (step (state_after k s)).turn ≡ false → IsLost s bound k
-  sounded : (before : ℕ) → k ≡ suc before → k ≤ bound → IsQuiet before s
+pub data IsLost1 (s : State) (bound k : ℕ) : Type 0 where
+  ran_out : k ≡ bound → IsQuiet1 k s → IsLost1 s bound k
+  blocked : k < bound → IsQuiet1 k s → is_obeyed (step (state_after k s)).turn ≡ false → IsLost1 s bound k
+  sounded : (before : ℕ) → k ≡ suc before → k ≤ bound → IsQuiet1 before s
       → is_obeyed (step (state_after before s)).turn ≡ true → is_went (step (state_after before s)).turn ≡ false
-      → at_31 (step (state_after before s)).state ≡ false → IsLost s bound k
+      → at_31 (step (state_after before s)).state ≡ false → IsLost1 s bound k
 
 -- how a load from a state ends that takes a number of orders at the most
-abbrev pub EndsAs : State → ℕ → Loaded1 → Type 0
-EndsAs s bound (Entered orders) = IsEntered s bound orders
-EndsAs s bound (Lost orders) = IsLost s bound orders
+abbrev pub EndsAs1 : State → ℕ → Loaded1 → Type 0
+EndsAs1 s bound (Entered orders) = IsEntered1 s bound orders
+EndsAs1 s bound (Lost orders) = IsLost1 s bound orders
 
 -- the orders of a load
-abbrev pub orders_of : Loaded1 → ℕ
-orders_of (Entered orders) = orders
-orders_of (Lost orders) = orders
+abbrev pub orders_of1 : Loaded1 → ℕ
+orders_of1 (Entered orders) = orders
+orders_of1 (Lost orders) = orders

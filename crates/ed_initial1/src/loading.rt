@@ -1,8 +1,8 @@
 ghost use Rattle.std.specs.Prelude.{◌≡◌, ◌+◌, ◌*◌, ◌^◌, ◌≤◌, length};
 ghost use Rattle.ed_machine.specs.Steps.{state_after};
-ghost use Rattle.ed_initial1.specs.Faults.{Tape, Comes, WellFormed};
+ghost use Rattle.ed_initial1.specs.Faults.{Tape, Comes1, WellFormed1};
 ghost use Rattle.ed_initial1.specs.Entry.{IsStarted1, IsLoaded1};
-ghost use Rattle.ed_initial1.specs.Load.{EndsAs, orders_of};
+ghost use Rattle.ed_initial1.specs.Load.{EndsAs1, orders_of1};
 
 use ed_machine::{Machine, Turn};
 
@@ -31,10 +31,10 @@ pub enum Loaded1 {
 pub fn load1(machine: &mut Machine) -> Loaded1
     requires started { IsStarted1 machine.old }
     requires room { machine.old.orders + (14 * length machine.old.tape + 4) ≤ 2 ^ 63 }
-    ensures ends { EndsAs machine.old (14 * length machine.old.tape + 4) result }
-    ensures state { machine.new ≡ state_after (orders_of result) machine.old }
-    ensures loads { (t : Tape) → Comes machine.old.tape t → IsLoaded1 machine.old t result machine.new }
-    ensures total { WellFormed machine.old.tape → (t : Tape) × Comes machine.old.tape t
+    ensures ends { EndsAs1 machine.old (14 * length machine.old.tape + 4) result }
+    ensures state { machine.new ≡ state_after (orders_of1 result) machine.old }
+    ensures loads { (t : Tape) → Comes1 machine.old.tape t → IsLoaded1 machine.old t result machine.new }
+    ensures total { WellFormed1 machine.old.tape → (t : Tape) × Comes1 machine.old.tape t
         × IsLoaded1 machine.old t result machine.new }
 {
     let rows = machine.rows_left().len() as u64;
@@ -46,8 +46,8 @@ pub fn load1(machine: &mut Machine) -> Loaded1
 /// Obeys orders, `bound` of them at the most, until the counter is 31 or the load is lost.
 fn obey_orders(machine: &mut Machine, bound: u64) -> Loaded1
     requires { machine.old.orders + bound ≤ 2 ^ 63 }
-    ensures ends { EndsAs machine.old bound result }
-    ensures state { machine.new ≡ state_after (orders_of result) machine.old }
+    ensures ends { EndsAs1 machine.old bound result }
+    ensures state { machine.new ≡ state_after (orders_of1 result) machine.old }
 {
     for orders in 0..bound {
         match machine.step() {

@@ -1,5 +1,5 @@
 -- The state of a machine that came back, as the paths see it, and the two orders that plant the directive.
-use Rattle.std.proofs.Common.{◌≡◌, ℕ, suc, ◌+◌, ◌*◌, ◌/◌, ◌^◌, ◌<◌, ◌≤◌, refl, sym}
+use Rattle.std.proofs.Common.{◌≡◌, ℕ, suc, ◌+◌, ◌/◌, ◌^◌, ◌<◌, ◌≤◌, refl, sym}
 use Rattle.std.proofs.Common.{ap, ◌∙◌, arith, lit<, false, Bool, List, ◌∷◌, ◌++◌}
 use Rattle.std.proofs.Common.{length, get_or, drop, take, drop-cons}
 use Rattle.std.proofs.lemmas.List.{set-get_or, get_or-drop, get_or-take, drop-drop, length-drop}
@@ -7,7 +7,7 @@ use Rattle.ed_store.specs.Cells.{IsStore}
 use Rattle.ed_machine.specs.State.{State}
 use Rattle.ed_initial.specs.Listing.{initial_orders}
 use Rattle.ed_initial.specs.Rests.{Working}
-use Rattle.ed_paths.proofs.Frames.{Moment}
+use Rattle.ed_paths.proofs.Frames.{Moment, same_state}
 use Rattle.ed_paths.proofs.Window.{patched, patched_one, headed}
 use Rattle.ed_paths.proofs.Places.{own}
 use Rattle.ed_paths.proofs.Moves.{T_top, E_jumps}
@@ -81,18 +81,7 @@ reopened s store back =
     let digits =
     patched_one false s.store.sandwich 20 (get_or s.store.sandwich 20 false) (omega (arith, store.digits_are))
     ∙ set-get_or s.store.sandwich 20 false in
-    let counter : 25 ≡ s.counter = sym back.counter in
-    let multiplier : 20480 * 2 ^ 18 ≡ s.multiplier = sym back.multiplier in
-    λ i. record {
-      size = s.size;
-      store = record { words = words i; sandwich = digits i };
-      acc = s.acc;
-      multiplier = multiplier i;
-      counter = counter i;
-      tape = s.tape;
-      last = s.last;
-      orders = s.orders;
-    }
+    same_state s refl words digits (sym back.multiplier) (sym back.counter)
 
 -- the two orders: the word at the top of the accumulator is planted at 22
 pub return_path : (f : Kept) (w : Working) (words : List ℕ) (digit40 : Bool) (acc u : ℕ) (tape : List ℕ)

@@ -5,7 +5,7 @@ use Rattle.ed_store.specs.Cells.{Cells, short_at}
 use Rattle.ed_machine.specs.State.{State}
 use Rattle.ed_notation.specs.Fold.{Note}
 use Rattle.ed_notation.specs.Openings.{opening_with}
-use Rattle.ed_notation.specs.Faults.{Entry, WellFormed, ComesTo}
+use Rattle.ed_notation.specs.Faults.{TapeEntry, WellFormed, ComesTo}
 use Rattle.ed_initial.specs.Listing.{initial_orders}
 
 -- the locations from `first` up to `end`, itself left out, hold the Initial Orders
@@ -42,6 +42,6 @@ abbrev pub IsRestWellFormed : State → Type 0
 IsRestWellFormed s = WellFormed s.size s.store.words (reopening s) s.tape
 
 -- and they come to an entry at its cost: 2 orders, and then its items
-pub record ComesBack (s : State) (e : Entry) : Type 0 where
+pub record ComesBack (s : State) (e : TapeEntry) : Type 0 where
   pub well : IsRestWellFormed s
   pub comes : ComesTo s.store.words (reopening s) 2 s.tape e

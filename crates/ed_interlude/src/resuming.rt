@@ -1,7 +1,7 @@
 ghost use Rattle.std.specs.Prelude.{◌≡◌, ◌+◌, ◌*◌, ◌^◌, ◌≤◌, IfOk, length};
 ghost use Rattle.ed_machine.specs.Steps.{state_after};
-ghost use Rattle.ed_notation.specs.Faults.{Entry};
-ghost use Rattle.ed_notation.specs.Checks.{Answers};
+ghost use Rattle.ed_notation.specs.Faults.{TapeEntry};
+ghost use Rattle.ed_notation.specs.Checks.{AnswersCheck};
 ghost use Rattle.ed_initial.specs.Entry.{IsLoaded};
 ghost use Rattle.ed_initial.specs.Load.{EndsAs, orders_of};
 ghost use Rattle.ed_interlude.specs.Returned.{ComesBack, IsRestWellFormed, IsReturned, reopening};
@@ -18,7 +18,7 @@ use std::alloc::Global;
 pub fn check_rest(alloc: Global, machine: &Machine) -> Result<Checked, TapeFault>
     requires returned { IsReturned machine.now }
     requires rows { length machine.now.tape ≤ 2 ^ 32 }
-    ensures answers { Answers machine.now.size machine.now.store.words
+    ensures answers { AnswersCheck machine.now.size machine.now.store.words
         (reopening machine.now) 2 machine.now.tape result }
     ensures bound { IfOk result (λ c. c.orders ≤ 17 * c.rows + 2) }
 {
@@ -40,9 +40,9 @@ pub fn resume(machine: &mut Machine) -> Loaded
     requires room { machine.old.orders + (17 * length machine.old.tape + 2) ≤ 2 ^ 63 }
     ensures ends { EndsAs machine.old (17 * length machine.old.tape + 2) result }
     ensures state { machine.new ≡ state_after (orders_of result) machine.old }
-    ensures loads { (e : Entry) → ComesBack machine.old e → IsLoaded machine.old e result machine.new }
+    ensures loads { (e : TapeEntry) → ComesBack machine.old e → IsLoaded machine.old e result machine.new }
     ensures total { IsRestWellFormed machine.old →
-        (e : Entry) × ComesBack machine.old e × IsLoaded machine.old e result machine.new }
+        (e : TapeEntry) × ComesBack machine.old e × IsLoaded machine.old e result machine.new }
 {
     let rows = machine.rows_left().len() as u64;
     // The contract of `word` tells the proof that the store is one.

@@ -8,7 +8,7 @@ use Rattle.ed_notation.specs.declared.cause.TapeFault.{TapeFault}
 use Rattle.ed_notation.specs.declared.cause.TapeFault.TheVariants.{At, Memory}
 use Rattle.ed_notation.specs.Fold.{Note}
 use Rattle.ed_notation.specs.Openings.{opening_with}
-use Rattle.ed_notation.specs.Checks.{Accepts, Answers, Arrives, Reads}
+use Rattle.ed_notation.specs.Checks.{Accepts, AnswersCheck, Arrives, ReadsCopy}
 use Rattle.ed_notation.specs.Reports.{Report}
 use Rattle.ed_notation.proofs.Contents.{word_is}
 use Rattle.ed_notation.proofs.Costs.{most}
@@ -28,16 +28,15 @@ report_of r contents marks = record {
 pub whole : (m xs : List Bool) (n : ℕ) → length m ≡ n → take n (m ++ xs) ≡ m
 whole m xs n l = ap (λ k. take k (m ++ xs)) (sym l) ∙ take-append_seam m xs
 
-module _ (z : Size) (words : List ℕ) (start : Note) (base : ℕ) (rows : List ℕ) (r : Reached)
-    (contents : List ℕ) (marks : List Bool) where
-  pub accepted : Arrives z words start base rows r contents marks
-      → Accepts z words start base rows (report_of r contents marks)
-  accepted a = record {
+module _ {z : Size} {words : List ℕ} {start : Note} {base : ℕ} {rows : List ℕ} {r : Reached} {contents : List ℕ}
+    {marks : List Bool} (a : Arrives z words start base rows r contents marks) where
+  pub accepted : Accepts z words start base rows (report_of r contents marks)
+  accepted = record {
     well = a.well;
     entry = a.entry;
     comes = a.comes;
-    sound = (well_sound z words start base rows a.entry a.well a.comes).0;
-    last_sound = (well_sound z words start base rows a.entry a.well a.comes).1;
+    sound = (well_sound a.well a.comes).0;
+    last_sound = (well_sound a.well a.comes).1;
     entry_is = a.entry_is;
     orders_are = a.orders_are;
     rows_are = a.rows_are;
@@ -45,21 +44,13 @@ module _ (z : Size) (words : List ℕ) (start : Note) (base : ℕ) (rows : List 
     map_is = λ i h. rw (a.contents_are, a.marks_are) (word_is words a.locations_are a.entry.note.placed i h a.places);
   }
 
-  pub bounded : Arrives z words start base rows r contents marks → r.orders ≤ 17 * r.rows + base
-  bounded a = omega (arith, a.orders_are, a.rows_are, most words start base rows a.entry a.comes)
-
-fault_answered : (z : Size) (words : List ℕ) (directive base : ℕ) (rows : List ℕ) (f : TapeFault) (contents : List ℕ)
-    (marks : List Bool)
-    → Reads z words directive base rows (Err f) contents marks
-    → Answers z words (opening_with directive words) base rows (Err f)
-fault_answered z words directive base rows (At row cause) contents marks h = h
-fault_answered z words directive base rows Memory contents marks h = tt
+  pub bounded : r.orders ≤ 17 * r.rows + base
+  bounded = omega (arith, a.orders_are, a.rows_are, most words start base rows a.entry a.comes)
 
 -- a fault over a copy of the store is the answer over the store
-pub refused : (z : Size) (store copy : Cells) (directive base : ℕ) (rows : List ℕ) (f : TapeFault) (contents : List ℕ)
-    (marks : List Bool)
-    → copy ≡ store → Reads z copy.words directive base rows (Err f) contents marks
-    → Answers z store.words (opening_with directive store.words) base rows (Err f)
-refused z store copy directive base rows f contents marks same h =
-    subst (λ (s : Cells). Answers z s.words (opening_with directive s.words) base rows (Err f)) same
-    (fault_answered z copy.words directive base rows f contents marks h)
+pub refused : (z : Size) {store copy : Cells} (directive base : ℕ) (rows : List ℕ) (f : TapeFault)
+    (left : List ℕ × List Bool) → copy ≡ store → ReadsCopy z copy.words directive base rows (Err f) left.0 left.1
+    → AnswersCheck z store.words (opening_with directive store.words) base rows (Err f)
+refused z directive base rows Memory left same h = tt
+refused z directive base rows (At row cause) left same h =
+    subst (λ (s : Cells). AnswersCheck z s.words (opening_with directive s.words) base rows (Err (At row cause))) same h

@@ -6,82 +6,56 @@ use Rattle.std.proofs.lemmas.List.{append-nil, drop_all}
 use Rattle.ed_notation.specs.declared.item.Item.{Item}
 use Rattle.ed_notation.specs.declared.kind.RowKind.{RowKind}
 use Rattle.ed_notation.specs.declared.kind.RowKind.TheVariants.{Digit, Mark, Zed, Kay, Blank, Letter, Other}
-use Rattle.ed_notation.specs.Items.{row_kind, ends, number, Written, AreDigits}
+use Rattle.ed_notation.specs.Items.{row_kind, ends, digits_number, Written, AreDigits}
 use Rattle.ed_notation.specs.Items.{IsWritten, rows_of, spelled, item, items}
 use Rattle.ed_notation.specs.Spellings.{AreWritten, SpellsAll, NoLeadingZero}
 use Rattle.ed_notation.specs.Spellings.{AreCanonical, digits_of, canonical, canonicals}
 use Rattle.ed_notation.specs.Spellings.{is_spellable, AreSpellable, IsSpelling, SpellableIsSpelled}
 use Rattle.ed_notation.proofs.Unique.{no_other}
 use Rattle.ed_words.proofs.Numbers.{le_of, not_le_of, le_true, lt_of, lt_true}
-use Rattle.std.proofs.lemmas.Bool.{and_parts}
+use Rattle.std.proofs.lemmas.Bool.{and_from, and_parts}
 
 -- the digits of a number, without a leading zero
 pub record AreDigitsOf (n : ℕ) (ds : List ℕ) : Type 0 where
   pub digits : AreDigits ds
-  pub number_is : number 0 ds ≡ n
+  pub number_is : digits_number 0 ds ≡ n
   pub no_zero : NoLeadingZero ds
 
-by_tests : (n : ℕ) (a b c d e : Bool) → n ≤ 32767 → nat_le 10000 n ≡ a → nat_le 1000 n ≡ b → nat_le 100 n ≡ c
+by_tests : {n : ℕ} {a b c d e : Bool} → n ≤ 32767 → nat_le 10000 n ≡ a → nat_le 1000 n ≡ b → nat_le 100 n ≡ c
     → nat_le 10 n ≡ d → nat_le 1 n ≡ e → AreDigitsOf n (digits_of n)
-by_tests n true b c d e h p q r s t =
+by_tests {n} {a = true} h p q r s t =
     let p' = le_of _ _ p in
     let q' = le_true 1000 n (omega (arith, p')) in
     let r' = le_true 100 n (omega (arith, p')) in
     let s' = le_true 10 n (omega (arith, p')) in
     let t' = le_true 1 n (omega (arith, p')) in
-    rw (p, q', r', s', t') (record {
-      digits = (omega arith, (omega arith, (omega arith, (omega arith, (omega arith, tt)))));
-      number_is = omega (arith, h);
-      no_zero = omega (arith, p', h);
-    })
-by_tests n false true c d e h p q r s t =
+    rw (p, q', r', s', t') (omega (arith, p', h))
+by_tests {n} {a = false} {b = true} h p q r s t =
     let p' = not_le_of _ _ p in
     let q' = le_of _ _ q in
     let r' = le_true 100 n (omega (arith, q')) in
     let s' = le_true 10 n (omega (arith, q')) in
     let t' = le_true 1 n (omega (arith, q')) in
-    rw (p, q, r', s', t') (record {
-      digits = (omega arith, (omega arith, (omega arith, (omega arith, tt))));
-      number_is = omega (arith, p');
-      no_zero = omega (arith, p', q');
-    })
-by_tests n false false true d e h p q r s t =
+    rw (p, q, r', s', t') (omega (arith, p', q'))
+by_tests {n} {a = false} {b = false} {c = true} h p q r s t =
     let q' = not_le_of _ _ q in
     let r' = le_of _ _ r in
     let s' = le_true 10 n (omega (arith, r')) in
     let t' = le_true 1 n (omega (arith, r')) in
-    rw (p, q, r, s', t') (record {
-      digits = (omega arith, (omega arith, (omega arith, tt)));
-      number_is = omega (arith, q');
-      no_zero = omega (arith, q', r');
-    })
-by_tests n false false false true e h p q r s t =
+    rw (p, q, r, s', t') (omega (arith, q', r'))
+by_tests {n} {a = false} {b = false} {c = false} {d = true} h p q r s t =
     let r' = not_le_of _ _ r in
     let s' = le_of _ _ s in
     let t' = le_true 1 n (omega (arith, s')) in
-    rw (p, q, r, s, t') (record {
-      digits = (omega arith, (omega arith, tt));
-      number_is = omega (arith, r');
-      no_zero = omega (arith, r', s');
-    })
-by_tests n false false false false true h p q r s t =
-    let s' = not_le_of _ _ s in
-    let t' = le_of _ _ t in
-    rw (p, q, r, s, t) (record {
-      digits = (omega arith, tt);
-      number_is = omega (arith, s');
-      no_zero = omega (arith, s', t');
-    })
-by_tests n false false false false false h p q r s t =
-    let t' = not_le_of _ _ t in
-    rw (p, q, r, s, t) (record { digits = tt; number_is = omega (arith, t'); no_zero = tt })
+    rw (p, q, r, s, t') (omega (arith, r', s'))
+by_tests {a = false} {b = false} {c = false} {d = false} {e = true} h p q r s t =
+    rw (p, q, r, s, t) (omega (arith, not_le_of _ _ s, le_of _ _ t))
+by_tests {a = false} {b = false} {c = false} {d = false} {e = false} h p q r s t =
+    rw (p, q, r, s, t) (omega (arith, not_le_of _ _ t))
 
 -- the digits of a number are its digits
 pub digits_are : (n : ℕ) → n ≤ 32767 → AreDigitsOf n (digits_of n)
-digits_are n h = by_tests n _ _ _ _ _ h refl refl refl refl refl
-
-and_both : (x y : Bool) → x ≡ true → y ≡ true → (x && y) ≡ true
-and_both x y h k = grind arith
+digits_are n h = by_tests h refl refl refl refl refl
 
 record CanBeSpelled (i : Item) : Type 0 where
   function : i.function < 32
@@ -134,10 +108,6 @@ all_spelled (i ∷ is) h =
 pub are_written : (is : List Item) → AreSpellable is → AreWritten (canonicals is)
 are_written is h = (all_spelled is h).good
 
--- the canonical spellings of items spell these items
-pub same_items : (is : List Item) → AreSpellable is → items (canonicals is) ≡ is
-same_items is h = (all_spelled is h).same
-
 -- the rows that the items' canonical spellings make
 pub spelling : (is : List Item) → AreSpellable is → IsSpelling is (spelled (canonicals is))
 spelling is h =
@@ -148,7 +118,7 @@ spelling is h =
 
 ends_canonical : (r : RowKind) (f : ℕ) (ds : List ℕ) (m : Bool)
     → ends r (record { function = f; digits = ds; mark = m }) ≡ true
-    → ends r (record { function = f; digits = digits_of (number 0 ds); mark = m }) ≡ true
+    → ends r (record { function = f; digits = digits_of (digits_number 0 ds); mark = m }) ≡ true
 ends_canonical Blank f [] m h = h
 ends_canonical Blank f (d ∷ ds) m h = cc
 ends_canonical Zed f ds m h = refl
@@ -162,7 +132,7 @@ spelled_can_be : (w : Written) → IsWritten w → is_spellable (item w) ≡ tru
 spelled_can_be w good =
     let b = w.begun in
     let ended = ends_canonical (row_kind w.end) b.function b.digits b.mark good.ended in
-    and_both _ _ (lt_true _ _ good.begun.function) (and_both _ _ (le_true _ _ good.begun.fits) ended)
+    and_from _ _ (lt_true _ _ good.begun.function) (and_from _ _ (le_true _ _ good.begun.fits) ended)
 
 -- what can be spelled is what is spelled
 pub spellable_law : (i : Item) → SpellableIsSpelled i

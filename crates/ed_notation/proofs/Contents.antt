@@ -19,39 +19,44 @@ length-marked (p ∷ placed) = length-set (marked placed) p.0 true ∙ length-ma
 differs : (a b : ℕ) → nat_eq a b ≡ false → b ≢ a
 differs a b h = grind (arith, nat_tests)
 
-content_by : (W : List ℕ) (p w a x : ℕ) (found : Option ℕ) (t : Bool) → nat_eq p a ≡ t → p < length W
-    → get_or W a 0 ≡ unwrap_or found x → get_or (set W p w) a 0 ≡ unwrap_or (if t then Some w else found) x
-content_by W p w a x found true e l h = rw (sym (eq_of p a e)) (get_or-set_same W p w 0 l)
-content_by W p w a x found false e l h = get_or-set_other W p a w 0 (differs p a e) ∙ h
-
 -- the content of a location
 pub content_is : ContentIsMapOrStore
 content_is words l [] a are = refl
-content_is words l (p ∷ placed) a are =
-    let inside : p.0 < length (over placed words) = omega (arith, are.0, length-over placed words, l) in
-    content_by (over placed words) p.0 p.1 a (get_or words a 0) (placed_at placed a) (nat_eq p.0 a) refl inside
-    (content_is words l placed a are.1)
+content_is words l (p ∷ placed) a are = by_test (nat_eq p.0 a) refl (content_is words l placed a are.1)
+  where
+    W : List ℕ
+    W = over placed words
+
+    by_test : (t : Bool) → nat_eq p.0 a ≡ t → get_or W a 0 ≡ unwrap_or (placed_at placed a) (get_or words a 0)
+        → get_or (set W p.0 p.1) a 0 ≡ unwrap_or (if t then Some p.1 else placed_at placed a) (get_or words a 0)
+    by_test true e h =
+        let inside : p.0 < length W = omega (arith, are.0, length-over placed words, l) in
+        rw (sym (eq_of p.0 a e)) (get_or-set_same W p.0 p.1 0 inside)
+    by_test false e h = get_or-set_other W p.0 a p.1 0 (differs p.0 a e) ∙ h
 
 abbrev word_where : Bool → ℕ → Option ℕ
 word_where marked word = if marked then Some word else None
-
-word_by : (M : List Bool) (W : List ℕ) (p w a : ℕ) (found : Option ℕ) (t : Bool) → nat_eq p a ≡ t → p < length M
-    → p < length W
-    → word_where (get_or M a false) (get_or W a 0) ≡ found
-    → word_where (get_or (set M p true) a false) (get_or (set W p w) a 0) ≡ (if t then Some w else found)
-word_by M W p w a found true e m l h =
-    let q = sym (eq_of p a e) in
-    rw (q, get_or-set_same M p true false m, get_or-set_same W p w 0 l) refl
-word_by M W p w a found false e m l h =
-    let d = differs p a e in
-    rw (get_or-set_other M p a true false d, get_or-set_other W p a w 0 d) h
 
 -- the word placed at a location, as marks and contents tell it
 pub word_is : (words : List ℕ) → length words ≡ 1024 → (placed : List (ℕ × ℕ)) (a : ℕ) → a < 1024 → ArePlaces placed
     → word_where (get_or (marked placed) a false) (get_or (over placed words) a 0) ≡ placed_at placed a
 word_is words l [] a h are = rw (get_or-replicate 1024 a false false h) refl
-word_is words l (p ∷ placed) a h are =
-    let m : p.0 < length (marked placed) = omega (arith, are.0, length-marked placed) in
-    let inside : p.0 < length (over placed words) = omega (arith, are.0, length-over placed words, l) in
-    word_by (marked placed) (over placed words) p.0 p.1 a (placed_at placed a) (nat_eq p.0 a) refl m inside
-    (word_is words l placed a h are.1)
+word_is words l (p ∷ placed) a h are = by_test (nat_eq p.0 a) refl (word_is words l placed a h are.1)
+  where
+    M : List Bool
+    M = marked placed
+
+    W : List ℕ
+    W = over placed words
+
+    by_test : (t : Bool) → nat_eq p.0 a ≡ t → word_where (get_or M a false) (get_or W a 0) ≡ placed_at placed a
+        → word_where (get_or (set M p.0 true) a false) (get_or (set W p.0 p.1) a 0)
+        ≡ (if t then Some p.1 else placed_at placed a)
+    by_test true e h =
+        let m : p.0 < length M = omega (arith, are.0, length-marked placed) in
+        let inside : p.0 < length W = omega (arith, are.0, length-over placed words, l) in
+        let q = sym (eq_of p.0 a e) in
+        rw (q, get_or-set_same M p.0 true false m, get_or-set_same W p.0 p.1 0 inside) refl
+    by_test false e h =
+        let d = differs p.0 a e in
+        rw (get_or-set_other M p.0 a true false d, get_or-set_other W p.0 a p.1 0 d) h

@@ -3,23 +3,18 @@ use Rattle.std.proofs.Common.{ℕ, ◌+◌, ◌*◌, ◌≤◌, arith, lit≤, B
 use Rattle.std.proofs.Common.{length-append}
 use Rattle.ed_words.specs.Words.{digit}
 use Rattle.ed_notation.specs.declared.kind.RowKind.{RowKind}
-use Rattle.ed_notation.specs.declared.kind.RowKind.TheVariants.{Digit, Mark, Zed, Kay, Blank, Letter, Other}
+use Rattle.ed_notation.specs.declared.kind.RowKind.TheVariants.{Letter}
 use Rattle.ed_notation.specs.Items.{row_kind, Written, mark_rows, begun_rows, rows_of, spelled, item}
 use Rattle.ed_notation.specs.Fold.{Note, act, aim_of, enters_at, end_cost, cost_of, costs}
-use Rattle.ed_notation.specs.Faults.{Entry, ComesTo}
+use Rattle.ed_notation.specs.Faults.{TapeEntry, ComesTo}
 
 if_most : (b : Bool) → (if b then 13 else 17) ≤ 17
 if_most true = lit≤ tt
 if_most false = lit≤ tt
 
 end_most : (r : RowKind) (note : Note) → end_cost r note ≤ 17
-end_most Digit note = lit≤ tt
-end_most Mark note = lit≤ tt
-end_most Zed note = lit≤ tt
-end_most Kay note = lit≤ tt
-end_most Blank note = lit≤ tt
-end_most Other note = lit≤ tt
 end_most Letter note = if_most (enters_at (aim_of note.directive))
+end_most r note = lit≤ tt
 
 mark_most : (m : Bool) → 15 * digit m ≤ 17 * length (mark_rows m)
 mark_most true = lit≤ tt
@@ -36,7 +31,7 @@ all_most words note [] = lit≤ tt
 all_most words note (w ∷ ws) =
     omega (arith, one_most note w, all_most words (act words note (item w)) ws, length-append (rows_of w) (spelled ws))
 
-pub most : (words : List ℕ) (start : Note) (base : ℕ) (rows : List ℕ) (e : Entry) → ComesTo words start base rows e
+pub most : (words : List ℕ) (start : Note) (base : ℕ) (rows : List ℕ) (e : TapeEntry) → ComesTo words start base rows e
     → e.cost ≤ base + 17 * e.rows
 most words start base rows e c =
     omega (arith, c.cost_is, c.read_is, all_most words start c.before, one_most e.note c.last)

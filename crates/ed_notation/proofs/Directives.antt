@@ -1,7 +1,6 @@
 -- The directive is a P, an E or a T at every row that the reader comes to.
-use Rattle.std.proofs.Common.{◌≡◌, ◌≢◌, ℕ, ◌+◌, ◌*◌, ◌≤◌, refl, arith, Bool, true, false, ◌||◌, nat_eq}
+use Rattle.std.proofs.Common.{◌≡◌, ◌≢◌, ℕ, ◌+◌, ◌*◌, ◌≤◌, refl, subst, arith, Bool, true, false}
 use Rattle.std.proofs.Common.{nat_lt, nat_le, if◌then◌else◌, List}
-use Rattle.std.proofs.lemmas.Bool.Decides.{nat_tests}
 use Rattle.ed_words.specs.declared.size.Size.{Size}
 use Rattle.ed_words.specs.Sizes.{locations}
 use Rattle.ed_words.proofs.SizeLemmas.{most}
@@ -19,6 +18,7 @@ use Rattle.ed_notation.specs.Openings.{IsDirective}
 use Rattle.ed_notation.specs.Faults.{is_place}
 use Rattle.ed_notation.specs.Reading.{taken, setting_of, kay_sets, zed_sets, letter_taken}
 use Rattle.ed_words.proofs.Numbers.{not_lt_of, not_le_of}
+use Rattle.ed_notation.proofs.Tests.{ControlMeans, control_means, is_place_means}
 
 -- what a row does leaves a directive
 abbrev pub KeepsDirective : Note → Taken → Type 0
@@ -32,33 +32,13 @@ record IsSetting (f : ℕ) : Type 0 where
   no_4 : f ≢ 4
   most : f ≤ 5
 
-setting_function : (f : ℕ) → (nat_eq f 0 || (nat_eq f 3 || nat_eq f 5)) ≡ true → IsSetting f
-setting_function f h = record {
-  no_1 = grind (arith, nat_tests);
-  no_2 = grind (arith, nat_tests);
-  no_4 = grind (arith, nat_tests);
-  most = grind (arith, nat_tests);
-}
-
-if_control : (P : Control → Type 0) (b : Bool) (x y : Control) → (b ≡ true → P x) → (b ≡ false → P y)
-    → P (if b then x else y)
-if_control P true x y f g = f refl
-if_control P false x y f g = g refl
-
 sets_directive : (f : ℕ) → control_of f ≡ Directive → IsSetting f
-sets_directive f =
-    let P : Control → Type 0 = λ k. k ≡ Directive → IsSetting f in
-    if_control P (nat_eq f 0 || (nat_eq f 3 || nat_eq f 5)) _ _ (λ h e. setting_function f h) (λ h.
-    if_control P (nat_eq f 16) _ _ (λ h e. cc) (λ h.
-    if_control P (nat_eq f 27) _ _ (λ h e. cc) (λ h e. cc)))
+sets_directive f e =
+    let means : ControlMeans Directive f = subst (λ (k : Control). ControlMeans k f) e (control_means f) in
+    omega (arith, means)
 
 place_directive : (x : ℕ) → is_place x ≡ true → IsDirective x
-place_directive x h = record {
-  no_1 = grind (arith, nat_tests);
-  no_2 = grind (arith, nat_tests);
-  no_4 = grind (arith, nat_tests);
-  most = grind (arith, nat_tests);
-}
+place_directive x h = let range = (is_place_means x h).range in omega (arith, range)
 
 module _ (z : Size) (words : List ℕ) (note : Note) (i : Part) (c : ℕ) (d : IsDirective note.directive) where
   keep_if : (b : Bool) (x y : Taken) → (b ≡ true → KeepsDirective note x) → (b ≡ false → KeepsDirective note y)

@@ -2,7 +2,7 @@
 use Rattle.std.proofs.Common.{◌≡◌, ℕ, suc, ◌+◌, ◌*◌, ◌<◌, ◌≤◌, ◌⊎◌, inl, inr}
 use Rattle.std.proofs.Common.{refl, sym, ap, ◌∙◌, subst, arith, Bool, true}
 use Rattle.std.proofs.Common.{false, ◌&&◌, nat_lt, nat_eq, Option, Some, None, List, [], ◌∷◌, ◌++◌, length}
-use Rattle.std.proofs.Common.{length-append, append_assoc}
+use Rattle.std.proofs.Common.{length-append, append_assoc, true≢false}
 use Rattle.ed_words.specs.declared.size.Size.{Size}
 use Rattle.ed_words.specs.Words.{digit}
 use Rattle.ed_notation.specs.declared.cause.TapeCause.{TapeCause}
@@ -11,25 +11,59 @@ use Rattle.ed_notation.specs.declared.reader.Part.{Part}
 use Rattle.ed_notation.specs.declared.reader.Taken.{Taken}
 use Rattle.ed_notation.specs.declared.reader.Taken.TheVariants.{Refused, Longer, Ended, Placed, Entered}
 use Rattle.ed_notation.specs.declared.kind.RowKind.{RowKind}
-use Rattle.ed_notation.specs.Items.{row_kind, Begun, number, is_empty, mark_rows}
-use Rattle.ed_notation.specs.Items.{begun_rows, IsBegun, AreDigits, ends, item_of}
+use Rattle.ed_notation.specs.Items.{row_kind, Begun, Written, digits_number, is_empty, mark_rows}
+use Rattle.ed_notation.specs.Items.{begun_rows, rows_of, IsBegun, IsWritten, AreDigits, ends, item, item_of}
 use Rattle.ed_notation.specs.Openings.{IsDirective}
-use Rattle.ed_notation.specs.Fold.{Note, over, address, acted, entering, begun_cost, end_cost}
+use Rattle.ed_notation.specs.Fold.{Note, over, address, act, acted, entering, begun_cost, end_cost, cost_of}
+use Rattle.ed_notation.specs.Faults.{part_rows}
 use Rattle.ed_notation.specs.Reading.{taken, setting_of, set_by, placed_by, entry_by}
-use Rattle.ed_notation.specs.Reading.{reading, Verdict, Faulty, Arrived, part_of}
-use Rattle.ed_notation.proofs.Rows.{RowLaw, row_law, row_means, as_part, first}
+use Rattle.ed_notation.specs.Reading.{reading_on, Verdict, Faulty, Arrived, part_of}
+use Rattle.ed_notation.proofs.Rows.{RowLaw, row_law_of, as_part, first}
 use Rattle.ed_notation.proofs.Directives.{KeepsDirective, keeps}
 use Rattle.ed_words.proofs.Numbers.{lt_true, lt_false}
 use Rattle.std.proofs.Math.Bool.{and-false}
 
+-- where the reader stands: the store that it reads for, the rows and orders behind it, and the state of the notation
+pub record Reader : Type 0 where
+  pub size : Size
+  pub words : List ℕ
+  pub row : ℕ
+  pub cost : ℕ
+  pub note : Note
+
+-- what it comes to from there
+abbrev pub reads : Reader → Option Part → List ℕ → Verdict
+reads p part rows = reading_on p.size p.words p.row p.cost p.note part rows
+
+-- so many rows and orders further, in this state
+abbrev pub passed : Reader → ℕ → ℕ → Note → Reader
+passed p rows orders note = record {
+  size = p.size;
+  words = p.words;
+  row = p.row + rows;
+  cost = p.cost + orders;
+  note = note;
+}
+
+-- behind an item, and inside one
+abbrev pub behind : Reader → Written → Reader
+behind p w = passed p (length (rows_of w)) (cost_of p.note w) (act p.words p.note (item w))
+
+abbrev pub part_cost : Option Begun → ℕ
+part_cost None = 0
+part_cost (Some b) = begun_cost b
+
+abbrev pub inside : Reader → Option Begun → Reader
+inside p part = passed p (length (part_rows part)) (part_cost part) p.note
+
 -- what follows a row inside an item
-abbrev pub follow : Size → List ℕ → ℕ → ℕ → Note → Part → ℕ → List ℕ → Taken → Verdict
-follow z words row cost note part c rows t = elim t [
-  | Refused cause ↦ Faulty row cause
-  | Longer longer k ↦ reading z words (row + 1) (cost + k) note (Some longer) rows
-  | Ended setting k ↦ reading z words (row + 1) (cost + k) (set_by setting note) None rows
-  | Placed at word ↦ reading z words (row + 1) (cost + 17) (placed_by at word note) None rows
-  | Entered at ↦ Arrived (entry_by words row cost note part c rows at)
+abbrev pub follow : Reader → Part → ℕ → List ℕ → Taken → Verdict
+follow p part c rows t = elim t [
+  | Refused cause ↦ Faulty p.row cause
+  | Longer longer k ↦ reads (passed p 1 k p.note) (Some longer) rows
+  | Ended setting k ↦ reads (passed p 1 k (set_by setting p.note)) None rows
+  | Placed at word ↦ reads (passed p 1 17 (placed_by at word p.note)) None rows
+  | Entered at ↦ Arrived (entry_by p.words p.row p.cost p.note part c rows at)
 ]
 
 -- what a row is taken for, over the words placed so far
@@ -39,7 +73,7 @@ seen z words note b c = taken z (row_kind c) (over note.placed words) (setting_o
 -- it is what the rules say
 pub law : (z : Size) (words : List ℕ) (note : Note) (b : Begun) (c : ℕ) → IsDirective note.directive → IsBegun b
     → RowLaw (row_kind c) z words note b c (seen z words note b c)
-law z words note b c set good = row_law z words note b.function b.digits c set b.mark good (row_kind c) (row_means c)
+law z words note b c set good = row_law_of z words note c set b good
 
 pub seen_keeps : (z : Size) (words : List ℕ) (note : Note) (b : Begun) (c : ℕ) → IsDirective note.directive
     → KeepsDirective note (seen z words note b c)
@@ -49,85 +83,85 @@ abbrev pub reader_part : Option Begun → Option Part
 reader_part None = None
 reader_part (Some b) = Some (as_part b)
 
-abbrev pub part_cost : Option Begun → ℕ
-part_cost None = 0
-part_cost (Some b) = begun_cost b
-
-number_le : (ds : List ℕ) (n : ℕ) → n ≤ number n ds
+-- a number with more digits is no less
+pub number_le : (ds : List ℕ) (n : ℕ) → n ≤ digits_number n ds
 number_le [] n = omega arith
 number_le (d ∷ ds) n = omega (arith, number_le ds (10 * n + d))
 
 -- a function row
-pub function_read : (z : Size) (words : List ℕ) (row cost : ℕ) (note : Note) (f : ℕ) (rows : List ℕ) (t : Bool)
-    → nat_lt f 32 ≡ t
-    → reading z words row cost note None (f ∷ rows)
-    ≡ (elim t [ true ↦ reading z words (row + 1) (cost + 6) note (Some (part_of f)) rows | false ↦ Faulty row BadRow ])
-unfolding reading
-function_read z words row cost note f rows t h =
+pub function_read : (p : Reader) (f : ℕ) (rows : List ℕ) {t : Bool} → nat_lt f 32 ≡ t
+    → reads p None (f ∷ rows)
+    ≡ (elim t [ true ↦ reads (passed p 1 6 p.note) (Some (part_of f)) rows | false ↦ Faulty p.row BadRow ])
+unfolding reading_on
+function_read p f rows h =
     ap (λ (x : Bool). elim x as (λ y. Verdict) [
-      | true ↦ reading z words (row + 1) (cost + 6) note (Some (part_of f)) rows
-      | false ↦ Faulty row BadRow
+      | true ↦ reads (passed p 1 6 p.note) (Some (part_of f)) rows
+      | false ↦ Faulty p.row BadRow
     ]) h
 
-pub function_begins : (z : Size) (words : List ℕ) (row cost : ℕ) (note : Note) (f : ℕ) (rows : List ℕ) → f < 32
-    → reading z words row cost note None (f ∷ rows) ≡ reading z words (row + 1) (cost + 6) note (Some (part_of f)) rows
-function_begins z words row cost note f rows h = function_read z words row cost note f rows true (lt_true f 32 h)
+pub function_begins : (p : Reader) (f : ℕ) (rows : List ℕ) → f < 32
+    → reads p None (f ∷ rows) ≡ reads (passed p 1 6 p.note) (Some (part_of f)) rows
+function_begins p f rows h = function_read p f rows (lt_true f 32 h)
 
-digits_read : (ds rest : List ℕ) (z : Size) (words : List ℕ) (row cost : ℕ) (note : Note) (f n : ℕ) (blank : Bool)
-    → AreDigits ds → number n ds ≤ 32767
-    → reading z words row cost note (Some (record { function = f; number = n; mark = false; blank = blank }))
-    (ds ++ rest)
-    ≡ reading z words (row + length ds) (cost + 9 * length ds) note
-    (Some (record { function = f; number = number n ds; mark = false; blank = is_empty ds && blank })) rest
-unfolding reading
-digits_read [] rest z words row cost note f n blank are fits =
-    let r : row + 0 ≡ row = omega arith in
-    let k : cost + 0 ≡ cost = omega arith in
+-- digit rows
+digits_read : (p : Reader) (ds rest : List ℕ) (f n : ℕ) (blank : Bool) → AreDigits ds → digits_number n ds ≤ 32767
+    → reads p (Some (record { function = f; number = n; mark = false; blank = blank })) (ds ++ rest)
+    ≡ reads (passed p (length ds) (9 * length ds) p.note)
+    (Some (record { function = f; number = digits_number n ds; mark = false; blank = is_empty ds && blank })) rest
+unfolding reading_on
+digits_read p [] rest f n blank are fits =
+    let r : p.row + 0 ≡ p.row = omega arith in
+    let k : p.cost + 0 ≡ p.cost = omega arith in
     rw (r, k) refl
-digits_read (d ∷ ds) rest z words row cost note f n blank are fits =
+digits_read p (d ∷ ds) rest f n blank are fits =
     let small : 10 * n + d ≤ 32767 = omega (arith, fits, number_le ds (10 * n + d)) in
-    let r : row + suc (length ds) ≡ row + 1 + length ds = omega arith in
-    let k : cost + 9 * suc (length ds) ≡ cost + 9 + 9 * length ds = omega arith in
+    let r : p.row + suc (length ds) ≡ p.row + 1 + length ds = omega arith in
+    let k : p.cost + 9 * suc (length ds) ≡ p.cost + 9 + 9 * length ds = omega arith in
     let a = lt_true d 10 are.0 in
     let b = lt_false 32767 (10 * n + d) small in
     let part : Part = record { function = f; number = n; mark = false; blank = blank } in
-    let longer : Part = record { function = f; number = 10 * n + d; mark = false; blank = false } in
-    let t : taken z (row_kind d) (over note.placed words) (setting_of note) part d ≡ Longer longer 9 = rw (a, b) refl in
-    let ih = digits_read ds rest z words (row + 1) (cost + 9) note f (10 * n + d) false are.1 fits in
-    ap (follow z words row cost note part d (ds ++ rest)) t ∙ rw (r, k) (ih ∙ rw (and-false (is_empty ds)) refl)
+    let t : taken p.size (row_kind d) (over p.note.placed p.words) (setting_of p.note) part d
+    ≡ Longer (record { function = f; number = 10 * n + d; mark = false; blank = false }) 9 = rw (a, b) refl in
+    let ih = digits_read (passed p 1 9 p.note) ds rest f (10 * n + d) false are.1 fits in
+    ap (follow p part d (ds ++ rest)) t ∙ rw (r, k) (ih ∙ rw (and-false (is_empty ds)) refl)
 
-mark_read : (z : Size) (words : List ℕ) (row cost : ℕ) (note : Note) (f : ℕ) (ds rest : List ℕ) (m : Bool)
-    → reading z words row cost note (Some (as_part (record { function = f; digits = ds; mark = false })))
-    (mark_rows m ++ rest)
-    ≡ reading z words (row + length (mark_rows m)) (cost + 15 * digit m) note
+-- a mark, or none
+mark_read : (p : Reader) (f : ℕ) (ds rest : List ℕ) (m : Bool)
+    → reads p (Some (as_part (record { function = f; digits = ds; mark = false }))) (mark_rows m ++ rest)
+    ≡ reads (passed p (length (mark_rows m)) (15 * digit m) p.note)
     (Some (as_part (record { function = f; digits = ds; mark = m }))) rest
-unfolding reading
-mark_read z words row cost note f ds rest false =
-    let r : row + 0 ≡ row = omega arith in
-    let k : cost + 0 ≡ cost = omega arith in
+unfolding reading_on
+mark_read p f ds rest false =
+    let r : p.row + 0 ≡ p.row = omega arith in
+    let k : p.cost + 0 ≡ p.cost = omega arith in
     rw (r, k) refl
-mark_read z words row cost note f ds rest true = rw (and-false (is_empty ds)) refl
+mark_read p f ds rest true = rw (and-false (is_empty ds)) refl
 
 -- the rows of an item before its ending
-pub begun_read : (z : Size) (words : List ℕ) (row cost : ℕ) (note : Note) (b : Begun) (rest : List ℕ) → IsBegun b
-    → reading z words row cost note None (begun_rows b ++ rest)
-    ≡ reading z words (row + length (begun_rows b)) (cost + begun_cost b) note (Some (as_part b)) rest
-begun_read z words row cost note b rest good =
+pub begun_read : (p : Reader) (b : Begun) (rest : List ℕ) → IsBegun b
+    → reads p None (begun_rows b ++ rest) ≡ reads (inside p (Some b)) (Some (as_part b)) rest
+begun_read p b rest good =
     let f = b.function in
     let ds = b.digits in
     let l = length-append ds (mark_rows b.mark) in
-    let r : row + suc (length (ds ++ mark_rows b.mark)) ≡ row + 1 + length ds + length (mark_rows b.mark) =
+    let r : p.row + suc (length (ds ++ mark_rows b.mark)) ≡ p.row + 1 + length ds + length (mark_rows b.mark) =
     omega (arith, l) in
-    let k : cost + (6 + 9 * length ds + 15 * digit b.mark) ≡ cost + 6 + 9 * length ds + 15 * digit b.mark =
+    let k : p.cost + (6 + 9 * length ds + 15 * digit b.mark) ≡ p.cost + 6 + 9 * length ds + 15 * digit b.mark =
     omega arith in
-    let row' = row + 1 + length ds in
-    let cost' = cost + 6 + 9 * length ds in
-    function_begins z words row cost note f ((ds ++ mark_rows b.mark) ++ rest) good.function
-    ∙ ap (λ x. reading z words (row + 1) (cost + 6) note (Some (part_of f)) x) (append_assoc ds (mark_rows b.mark) rest)
-    ∙ digits_read ds (mark_rows b.mark ++ rest) z words (row + 1) (cost + 6) note f 0
-    (nat_eq f 16) good.digits good.fits
-    ∙ mark_read z words row' cost' note f ds rest b.mark
+    let q : Reader = passed p 1 6 p.note in
+    let q' : Reader = passed q (length ds) (9 * length ds) p.note in
+    function_begins p f ((ds ++ mark_rows b.mark) ++ rest) good.function
+    ∙ ap (λ x. reads q (Some (part_of f)) x) (append_assoc ds (mark_rows b.mark) rest)
+    ∙ digits_read q ds (mark_rows b.mark ++ rest) f 0 (nat_eq f 16) good.digits good.fits
+    ∙ mark_read q' f ds rest b.mark
     ∙ rw (r, k) refl
+
+-- the rows of a whole item, up to the ending one
+pub to_end : (p : Reader) (w : Written) (rest : List ℕ) → IsWritten w
+    → reads p None (rows_of w ++ rest) ≡ reads (inside p (Some w.begun)) (Some (as_part w.begun)) (w.end ∷ rest)
+to_end p w rest good =
+    ap (λ x. reads p None x) (append_assoc (begun_rows w.begun) (w.end ∷ []) rest)
+    ∙ begun_read p w.begun (w.end ∷ rest) good.begun
 
 -- a fault before a row
 pub record Early (v : Verdict) (row : ℕ) : Type 0 where
@@ -136,8 +170,8 @@ pub record Early (v : Verdict) (row : ℕ) : Type 0 where
   pub is : v ≡ Faulty at cause
   pub before : at < row
 
-pub early_later : (v w : Verdict) (n m : ℕ) → v ≡ w → n ≤ m → Early w n → Early v m
-early_later v w n m e l r = record { at = r.at; cause = r.cause; is = e ∙ r.is; before = omega (arith, l, r.before) }
+pub early_later : {v w : Verdict} {n m : ℕ} → v ≡ w → n ≤ m → Early w n → Early v m
+early_later e l r = record { at = r.at; cause = r.cause; is = e ∙ r.is; before = omega (arith, l, r.before) }
 
 -- the verdicts are one, or there is a fault before the row
 abbrev pub Passes : Verdict → Verdict → ℕ → Type 0
@@ -147,63 +181,105 @@ Passes v w row = (v ≡ w) ⊎ Early v row
 abbrev pub Goes : Verdict → Verdict → ℕ → ℕ → Type 0
 Goes v w row d = ((v ≡ w) × IsDirective d) ⊎ Early v row
 
-no_test : (x : Bool) → x ≡ true → x ≡ false → ⊥
-no_test x e e' = cc
+-- the ending row of an item
+module _ (p : Reader) (w : Written) (rest : List ℕ) where
+  abbrev b : Begun
+  b = w.begun
 
-module _ (z : Size) (words : List ℕ) (row cost : ℕ) (note : Note) (b : Begun) (c : ℕ) (rest : List ℕ) where
-  abbrev after : Taken → Verdict
-  after t = follow z words row cost note (as_part b) c rest t
+  abbrev c : ℕ
+  c = w.end
+
+  abbrev here : Verdict
+  here = reads p (Some (as_part b)) (c ∷ rest)
+
+  abbrev next : Taken → Verdict
+  next t = follow p (as_part b) c rest t
 
   abbrev r : RowKind
   r = row_kind c
 
-  -- a row that breaks no rule and ends an item that is no entry item
-  pub goes_on : (t : Taken) → KeepsDirective note t → RowLaw r z words note b c t → first r z words note b c ≡ None
-      → ends r b ≡ true → entering r note ≡ false
-      → (after t ≡ reading z words (row + 1) (cost + end_cost r note) (acted r words note (item_of b c)) None rest)
-      × IsDirective (acted r words note (item_of b c)).directive
-  goes_on (Refused cause) u h s e n = let q : Some cause ≡ None = sym h ∙ s in absurd (cc)
-  goes_on (Longer i k) u h s e n = absurd (no_test (ends r b) e h.1)
-  goes_on (Ended m k) u h s e n =
+  abbrev first_broken : Option TapeCause
+  first_broken = first r p.size p.words p.note b c
+
+  abbrev pub closed : Reader
+  closed = passed p 1 (end_cost r p.note) (acted r p.words p.note (item_of b c))
+
+  abbrev arrived : Verdict
+  arrived = Arrived (entry_by p.words p.row p.cost p.note (as_part b) c rest (address p.note.directive))
+
+  abbrev Law : Taken → Type 0
+  Law t = RowLaw r p.size p.words p.note b c t
+
+  goes_by : (t : Taken) → KeepsDirective p.note t → Law t → first_broken ≡ None → ends r b ≡ true
+      → entering r p.note ≡ false → (next t ≡ reads closed None rest) × IsDirective closed.note.directive
+  goes_by (Refused cause) u h s e n = let q : Some cause ≡ None = sym h ∙ s in absurd (cc)
+  goes_by (Longer i k) u h s e n = absurd (true≢false (sym e ∙ h.1))
+  goes_by (Ended m k) u h s e n =
       (rw (h.1.note_is, h.1.cost_is) refl, subst (λ (x : Note). IsDirective x.directive) h.1.note_is u)
-  goes_on (Placed at word) u h s e n =
+  goes_by (Placed at word) u h s e n =
       (rw (h.1.note_is, sym h.1.cost_is) refl, subst (λ (x : Note). IsDirective x.directive) h.1.note_is u)
-  goes_on (Entered at) u h s e n = absurd (no_test (entering r note) h.1.entered n)
+  goes_by (Entered at) u h s e n = absurd (true≢false (sym h.1.entered ∙ n))
 
-  -- a row that breaks no rule and ends the entry item
-  pub arrives : (t : Taken) → RowLaw r z words note b c t → first r z words note b c ≡ None → ends r b ≡ true
-      → entering r note ≡ true
-      → after t ≡ Arrived (entry_by words row cost note (as_part b) c rest (address note.directive))
-  arrives (Refused cause) h s e n = let q : Some cause ≡ None = sym h ∙ s in absurd (cc)
-  arrives (Longer i k) h s e n = absurd (no_test (ends r b) e h.1)
-  arrives (Ended m k) h s e n = absurd (no_test (entering r note) n h.1.goes_on)
-  arrives (Placed at word) h s e n = absurd (no_test (entering r note) n h.1.goes_on)
-  arrives (Entered at) h s e n = rw h.1.at_is refl
+  arrives_by : (t : Taken) → Law t → first_broken ≡ None → ends r b ≡ true → entering r p.note ≡ true
+      → next t ≡ arrived
+  arrives_by (Refused cause) h s e n = let q : Some cause ≡ None = sym h ∙ s in absurd (cc)
+  arrives_by (Longer i k) h s e n = absurd (true≢false (sym e ∙ h.1))
+  arrives_by (Ended m k) h s e n = absurd (true≢false (sym n ∙ h.1.goes_on))
+  arrives_by (Placed at word) h s e n = absurd (true≢false (sym n ∙ h.1.goes_on))
+  arrives_by (Entered at) h s e n = rw h.1.at_is refl
 
-  -- the same of a row that may break a rule
-  pub ended : (t : Taken) → KeepsDirective note t → RowLaw r z words note b c t → ends r b ≡ true
-      → entering r note ≡ false
-      → Goes (after t) (reading z words (row + 1) (cost + end_cost r note) (acted r words note (item_of b c)) None rest)
-      (row + 1) (acted r words note (item_of b c)).directive
-  ended (Refused cause) u h e n = inr (record { at = row; cause = cause; is = refl; before = omega arith })
-  ended (Longer i k) u h e n = inl (goes_on (Longer i k) u h h.0 e n)
-  ended (Ended m k) u h e n = inl (goes_on (Ended m k) u h h.0 e n)
-  ended (Placed at word) u h e n = inl (goes_on (Placed at word) u h h.0 e n)
-  ended (Entered at) u h e n = inl (goes_on (Entered at) u h h.0 e n)
+  ended_by : (t : Taken) → KeepsDirective p.note t → Law t → ends r b ≡ true → entering r p.note ≡ false
+      → Goes (next t) (reads closed None rest) closed.row closed.note.directive
+  ended_by (Refused cause) u h e n = inr (record { at = p.row; cause = cause; is = refl; before = omega arith })
+  ended_by (Longer i k) u h e n = inl (goes_by (Longer i k) u h h.0 e n)
+  ended_by (Ended m k) u h e n = inl (goes_by (Ended m k) u h h.0 e n)
+  ended_by (Placed at word) u h e n = inl (goes_by (Placed at word) u h h.0 e n)
+  ended_by (Entered at) u h e n = inl (goes_by (Entered at) u h h.0 e n)
 
-  pub entered : (t : Taken) → RowLaw r z words note b c t → ends r b ≡ true → entering r note ≡ true
-      → Passes (after t) (Arrived (entry_by words row cost note (as_part b) c rest (address note.directive))) (row + 1)
-  entered (Refused cause) h e n = inr (record { at = row; cause = cause; is = refl; before = omega arith })
-  entered (Longer i k) h e n = inl (arrives (Longer i k) h h.0 e n)
-  entered (Ended m k) h e n = inl (arrives (Ended m k) h h.0 e n)
-  entered (Placed at word) h e n = inl (arrives (Placed at word) h h.0 e n)
-  entered (Entered at) h e n = inl (arrives (Entered at) h h.0 e n)
+  entered_by : (t : Taken) → Law t → ends r b ≡ true → entering r p.note ≡ true → Passes (next t) arrived (p.row + 1)
+  entered_by (Refused cause) h e n = inr (record { at = p.row; cause = cause; is = refl; before = omega arith })
+  entered_by (Longer i k) h e n = inl (arrives_by (Longer i k) h h.0 e n)
+  entered_by (Ended m k) h e n = inl (arrives_by (Ended m k) h h.0 e n)
+  entered_by (Placed at word) h e n = inl (arrives_by (Placed at word) h h.0 e n)
+  entered_by (Entered at) h e n = inl (arrives_by (Entered at) h h.0 e n)
 
-  -- a row that breaks a rule
-  pub refused : (t : Taken) (cause : TapeCause) → RowLaw r z words note b c t → first r z words note b c ≡ Some cause
-      → after t ≡ Faulty row cause
-  refused (Refused k) cause h e = let q : Some k ≡ Some cause = sym h ∙ e in let s : k ≡ cause = cc in rw s refl
-  refused (Longer i k) cause h e = let q : None ≡ Some cause = sym h.0 ∙ e in cc
-  refused (Ended m k) cause h e = let q : None ≡ Some cause = sym h.0 ∙ e in cc
-  refused (Placed at word) cause h e = let q : None ≡ Some cause = sym h.0 ∙ e in cc
-  refused (Entered at) cause h e = let q : None ≡ Some cause = sym h.0 ∙ e in cc
+  refused_by : (t : Taken) {cause : TapeCause} → Law t → first_broken ≡ Some cause → next t ≡ Faulty p.row cause
+  refused_by (Refused k) {cause} h e =
+      let q : Some k ≡ Some cause = sym h ∙ e in let s : k ≡ cause = cc in rw s refl
+  refused_by (Longer i k) {cause} h e = let q : None ≡ Some cause = sym h.0 ∙ e in cc
+  refused_by (Ended m k) {cause} h e = let q : None ≡ Some cause = sym h.0 ∙ e in cc
+  refused_by (Placed at word) {cause} h e = let q : None ≡ Some cause = sym h.0 ∙ e in cc
+  refused_by (Entered at) {cause} h e = let q : None ≡ Some cause = sym h.0 ∙ e in cc
+
+  module _ (set : IsDirective p.note.directive) where
+    abbrev t : Taken
+    t = seen p.size p.words p.note b c
+
+    is_law : IsBegun b → Law t
+    is_law good = law p.size p.words p.note b c set good
+
+    -- it breaks no rule and ends an item that is no entry item
+    pub goes_on : IsWritten w → first_broken ≡ None → entering r p.note ≡ false
+        → (here ≡ reads closed None rest) × IsDirective closed.note.directive
+    unfolding reading_on
+    goes_on good s n = goes_by t (seen_keeps p.size p.words p.note b c set) (is_law good.begun) s good.ended n
+
+    -- it breaks no rule and ends the entry item
+    pub arrives : IsWritten w → first_broken ≡ None → entering r p.note ≡ true → here ≡ arrived
+    unfolding reading_on
+    arrives good s n = arrives_by t (is_law good.begun) s good.ended n
+
+    -- the same of a row that may break a rule
+    pub ended : IsWritten w → entering r p.note ≡ false
+        → Goes here (reads closed None rest) closed.row closed.note.directive
+    unfolding reading_on
+    ended good n = ended_by t (seen_keeps p.size p.words p.note b c set) (is_law good.begun) good.ended n
+
+    pub entered : IsWritten w → entering r p.note ≡ true → Passes here arrived (p.row + 1)
+    unfolding reading_on
+    entered good n = entered_by t (is_law good.begun) good.ended n
+
+    -- it breaks a rule
+    pub refused : IsBegun b → {cause : TapeCause} → first_broken ≡ Some cause → here ≡ Faulty p.row cause
+    unfolding reading_on
+    refused good e = refused_by t (is_law good) e

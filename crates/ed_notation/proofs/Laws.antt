@@ -1,43 +1,43 @@
 -- The reader by rows and the rules by items say the same, both ways.
 use Rattle.std.proofs.Common.{◌≡◌, ℕ, Bool, false, if◌then◌else◌, ◌+◌, ◌<◌}
 use Rattle.std.proofs.Common.{◌≤◌, ◌⊎◌, inl, inr, refl, sym, ap, ◌∙◌, subst}
-use Rattle.std.proofs.Common.{arith, true, None, List, [], ◌∷◌, ◌++◌, length, length-append, append_assoc}
+use Rattle.std.proofs.Common.{arith, true, None, Some, List, [], ◌∷◌, ◌++◌, length-append}
 use Rattle.ed_words.specs.declared.size.Size.{Size}
 use Rattle.ed_notation.specs.declared.cause.TapeCause.{TapeCause}
 use Rattle.ed_notation.specs.declared.kind.RowKind.{RowKind}
-use Rattle.ed_notation.specs.declared.kind.RowKind.TheVariants.{Digit, Mark, Zed, Kay, Blank, Letter, Other}
-use Rattle.ed_notation.specs.Items.{row_kind, begun_rows, rows_of, spelled, item_of, items}
+use Rattle.ed_notation.specs.declared.kind.RowKind.TheVariants.{Letter}
+use Rattle.ed_notation.specs.Items.{row_kind, begun_rows, rows_of, item_of}
 use Rattle.ed_notation.specs.Openings.{IsDirective}
 use Rattle.ed_notation.specs.Fold.{Note, item_word, address, aim_of, enters_at}
-use Rattle.ed_notation.specs.Fold.{entering, fold, begun_cost, end_cost, cost_of}
-use Rattle.ed_notation.specs.Fold.{costs}
-use Rattle.ed_notation.specs.Faults.{number_of, Entry, Breaks, IsFault, WellFormed, ComesTo}
-use Rattle.ed_notation.specs.Reading.{ReadingIsRules, ReadingAlwaysIsRules, reading, Verdict, Faulty, Arrived, entry_by}
+use Rattle.ed_notation.specs.Fold.{entering, end_cost, cost_of}
+use Rattle.ed_notation.specs.Faults.{cause_number, TapeEntry, Breaks, IsFault, WellFormed, ComesTo}
+use Rattle.ed_notation.specs.Reading.{ReadingIsRules, ReadingAlwaysIsRules, reading_on, Verdict, Faulty, Arrived}
+use Rattle.ed_notation.specs.Reading.{entry_by}
 use Rattle.ed_notation.proofs.Rows.{as_part}
 use Rattle.ed_notation.proofs.Least.{same}
-use Rattle.ed_notation.proofs.Follow.{seen, law, Early, Passes, Goes, begun_read, entered}
-use Rattle.ed_notation.proofs.Passes.{many, broken_found}
+use Rattle.ed_notation.proofs.Follow.{Reader, reads, inside, to_end, Early, Passes, Goes, entered}
+use Rattle.ed_notation.proofs.Passes.{behind_all, many, broken_found}
 use Rattle.ed_notation.proofs.Tells.{Tells, TellsFault, TellsEntry, tells}
 
-row_same : (a b : ℕ) (k l : TapeCause) → Faulty a k ≡ Faulty b l → a ≡ b
-row_same a b k l e = cc
+row_same : {a b : ℕ} {k l : TapeCause} → Faulty a k ≡ Faulty b l → a ≡ b
+row_same e = cc
 
-cause_same : (a b : ℕ) (k l : TapeCause) → Faulty a k ≡ Faulty b l → k ≡ l
-cause_same a b k l e = cc
+cause_same : {a b : ℕ} {k l : TapeCause} → Faulty a k ≡ Faulty b l → k ≡ l
+cause_same e = cc
 
-not_both : (a : ℕ) (k : TapeCause) (e : Entry) → Faulty a k ≡ Arrived e → ⊥
-not_both a k e h = cc
+not_both : {a : ℕ} {k : TapeCause} {e : TapeEntry} → Faulty a k ≡ Arrived e → ⊥
+not_both h = cc
 
 record IsSame (a b : ℕ) (k l : TapeCause) : Type 0 where
   rows : a ≡ b
   causes : k ≡ l
 
-sorted : (a b : ℕ) (k l : TapeCause) → (a < b) ⊎ ((a ≡ b) × (number_of k ≤ number_of l))
-    → (b < a) ⊎ ((b ≡ a) × (number_of l ≤ number_of k)) → IsSame a b k l
-sorted a b k l (inl h) (inl g) = absurd (omega (arith, h, g))
-sorted a b k l (inl h) (inr g) = absurd (omega (arith, h, g.0))
-sorted a b k l (inr h) (inl g) = absurd (omega (arith, h.0, g))
-sorted a b k l (inr h) (inr g) = record { rows = h.0; causes = same k l (omega (arith, h.1, g.1)) }
+sorted : {a b : ℕ} {k l : TapeCause} → (a < b) ⊎ ((a ≡ b) × (cause_number k ≤ cause_number l))
+    → (b < a) ⊎ ((b ≡ a) × (cause_number l ≤ cause_number k)) → IsSame a b k l
+sorted (inl h) (inl g) = absurd (omega (arith, h, g))
+sorted (inl h) (inr g) = absurd (omega (arith, h, g.0))
+sorted (inr h) (inl g) = absurd (omega (arith, h.0, g))
+sorted {k = k} {l} (inr h) (inr g) = record { rows = h.0; causes = same k l (omega (arith, h.1, g.1)) }
 
 -- the ending row of an entry item costs 13
 if_thirteen : (b : Bool) → b ≡ true → ◌≡◌ {A = ℕ} (if b then 13 else 17) 13
@@ -46,110 +46,88 @@ if_thirteen false h = cc
 
 entry_ends : (r : RowKind) (note : Note) → entering r note ≡ true → end_cost r note ≡ 13
 entry_ends Letter note h = if_thirteen (enters_at (aim_of note.directive)) h
-entry_ends Digit note h = cc
-entry_ends Mark note h = cc
-entry_ends Zed note h = cc
-entry_ends Kay note h = cc
-entry_ends Blank note h = cc
-entry_ends Other note h = cc
+entry_ends r note h = cc
 
 module _ (z : Size) (words : List ℕ) (start : Note) (base : ℕ) (rows : List ℕ) (set : IsDirective start.directive) where
   abbrev pub answer : Verdict
-  answer = reading z words 0 base start None rows
+  answer = reading_on z words 0 base start None rows
 
-  told : Tells z words start 0 base rows answer
-  told = tells z words rows start 0 base 0 base None set tt refl (omega arith)
+  abbrev here : Reader
+  here = record { size = z; words = words; row = 0; cost = base; note = start }
 
-  moved : (a : ℕ) (row : ℕ) (cause : TapeCause) → row ≡ 0 + a → Breaks z words start rows a cause
+  told : Tells here rows answer
+  told = let none : base + 0 ≡ base = omega arith in rw none at (tells rows here None set tt)
+
+  moved : {a row : ℕ} {cause : TapeCause} → row ≡ 0 + a → Breaks z words start rows a cause
       → Breaks z words start rows row cause
-  moved a row cause e b = let q : a ≡ row = omega (arith, e) in subst (λ x. Breaks z words start rows x cause) q b
+  moved {a} {row} {cause} e b = let q : a ≡ row = omega (arith, e) in subst (λ x. Breaks z words start rows x cause) q b
 
   -- a fault that the reader finds is the fault
-  pub faulty_is : (row : ℕ) (cause : TapeCause) → answer ≡ Faulty row cause → IsFault z words start rows row cause
-  faulty_is row cause e =
-      let t : TellsFault z words start 0 rows row cause = subst (λ v. Tells z words start 0 base rows v) e told in
+  pub faulty_is : {row : ℕ} {cause : TapeCause} → answer ≡ Faulty row cause → IsFault z words start rows row cause
+  faulty_is {row} {cause} e =
+      let t : TellsFault here rows row cause = subst (λ v. Tells here rows v) e told in
       record {
-        is = moved t.offset row cause t.row_is t.breaks;
+        is = moved t.row_is t.breaks;
         least = λ r other b.
-            let f = broken_found z words start base rows r other set b in
+            let f = broken_found base set b in
             let h = sym f.is ∙ e in
-            let p = row_same f.at row f.found cause h in
-            let q = cause_same f.at row f.found cause h in
-            rw (sym p, sym q) f.least;
+            rw (sym (row_same h), sym (cause_same h)) f.least;
       }
 
   -- where the reader comes to an entry, no rule is broken
-  pub arrived_well : (e : Entry) → answer ≡ Arrived e → WellFormed z words start rows
-  arrived_well e h row cause b =
-      let f = broken_found z words start base rows row cause set b in
-      not_both f.at f.found e (sym f.is ∙ h)
+  pub arrived_well : {e : TapeEntry} → answer ≡ Arrived e → WellFormed z words start rows
+  arrived_well h row cause b = let f = broken_found base set b in not_both (sym f.is ∙ h)
 
   -- and the entry is that of the items
-  pub arrived_comes : (e : Entry) → answer ≡ Arrived e → ComesTo words start base rows e
-  arrived_comes e h =
-      let t : TellsEntry z words start 0 base rows e = subst (λ v. Tells z words start 0 base rows v) h told in
+  pub arrived_comes : {e : TapeEntry} → answer ≡ Arrived e → ComesTo words start base rows e
+  arrived_comes {e} h =
+      let t : TellsEntry here rows e = subst (λ v. Tells here rows v) h told in
       let q : t.read ≡ e.rows = omega (arith, t.rows_are) in
       subst (λ x. ComesTo words start base rows (record e { rows = x })) q t.comes
 
   if_faulty : (v : Verdict) (row : ℕ) (cause : TapeCause)
       → ((r : ℕ) (c : TapeCause) → v ≡ Faulty r c → IsFault z words start rows r c)
-      → ((e : Entry) → v ≡ Arrived e → WellFormed z words start rows)
+      → ((e : TapeEntry) → v ≡ Arrived e → WellFormed z words start rows)
       → IsFault z words start rows row cause → v ≡ Faulty row cause
   if_faulty (Faulty r c) row cause f g h =
       let o = f r c refl in
-      let s = sorted r row c cause (o.least row cause h.is) (h.least r c o.is) in
+      let s : IsSame r row c cause = sorted (o.least row cause h.is) (h.least r c o.is) in
       rw (s.rows, s.causes) refl
   if_faulty (Arrived e) row cause f g h = absurd (g e refl row cause h.is)
 
   -- the fault is what the reader finds
   pub fault_found : (row : ℕ) (cause : TapeCause) → IsFault z words start rows row cause → answer ≡ Faulty row cause
-  fault_found row cause h = if_faulty answer row cause faulty_is arrived_well h
+  fault_found row cause h = if_faulty answer row cause (λ r c e. faulty_is e) (λ e a. arrived_well a) h
 
-  kept_set : {v w : Verdict} (n d : ℕ) → ((m : ℕ) → Early answer m → ⊥) → answer ≡ v → Goes v w n d
+  kept_set : {v w : Verdict} {n d : ℕ} → ((m : ℕ) → Early answer m → ⊥) → answer ≡ v → Goes v w n d
       → (answer ≡ w) × IsDirective d
-  kept_set n d never e (inl h) = (e ∙ h.0, h.1)
-  kept_set n d never e (inr h) = absurd (never n (record {
-    at = h.at;
-    cause = h.cause;
-    is = e ∙ h.is;
-    before = h.before;
-  }))
+  kept_set never e (inl h) = (e ∙ h.0, h.1)
+  kept_set {n = n} never e (inr h) =
+      absurd (never n (record { at = h.at; cause = h.cause; is = e ∙ h.is; before = h.before }))
 
   no_fault : WellFormed z words start rows → (n : ℕ) → Early answer n → ⊥
-  no_fault well n h = well h.at h.cause (faulty_is h.at h.cause h.is).is
+  no_fault well n h = well h.at h.cause (faulty_is h.is).is
 
-  kept : {v w : Verdict} (n : ℕ) → WellFormed z words start rows → answer ≡ v → Passes v w n → answer ≡ w
-  kept n well e (inl h) = e ∙ h
-  kept n well e (inr h) = absurd (no_fault well n (record {
-    at = h.at;
-    cause = h.cause;
-    is = e ∙ h.is;
-    before = h.before;
-  }))
+  kept : {v w : Verdict} {n : ℕ} → WellFormed z words start rows → answer ≡ v → Passes v w n → answer ≡ w
+  kept well e (inl h) = e ∙ h
+  kept {n = n} well e (inr h) =
+      absurd (no_fault well n (record { at = h.at; cause = h.cause; is = e ∙ h.is; before = h.before }))
 
   -- where no rule is broken the reader comes to the entry of the items
-  pub comes_arrived : (e : Entry) → WellFormed z words start rows → ComesTo words start base rows e → answer ≡ Arrived e
-  unfolding reading
+  pub comes_arrived : (e : TapeEntry) → WellFormed z words start rows → ComesTo words start base rows e
+      → answer ≡ Arrived e
   comes_arrived e well c =
       let w = c.last in
       let b = w.begun in
-      let note = fold words start (items c.before) in
-      let row = 0 + length (spelled c.before) in
-      let cost = base + costs words start c.before in
-      let row' = row + length (begun_rows b) in
-      let cost' = cost + begun_cost b in
-      let m = many z words c.before 0 base start (rows_of w ++ e.rest) set c.are_read in
-      let a = kept_set row note.directive (no_fault well) (ap (λ x. reading z words 0 base start None x) c.rows_are) m
-      in
-      let d =
-      ap (λ x. reading z words row cost note None x) (append_assoc (begun_rows b) (w.end ∷ []) e.rest)
-      ∙ begun_read z words row cost note b (w.end ∷ e.rest) c.is_written.begun in
+      let p : Reader = behind_all here c.before in
+      let q : Reader = inside p (Some b) in
+      let note = p.note in
+      let a = kept_set (no_fault well) (ap (λ x. reads here None x) c.rows_are)
+      (many c.before here (rows_of w ++ e.rest) set c.are_read) in
       let is_entry = rw c.note_is at c.is_entry in
-      let t = law z words note b w.end a.1 c.is_written.begun in
-      let f = entered z words row' cost' note b w.end e.rest (seen z words note b w.end) t c.is_written.ended
-      is_entry in
-      let entry = entry_by words row' cost' note (as_part b) w.end e.rest (address note.directive) in
-      let h : answer ≡ Arrived entry = kept (row' + 1) well (a.0 ∙ d) f in
+      let f = entered q w e.rest a.1 c.is_written is_entry in
+      let entry = entry_by words q.row q.cost note (as_part b) w.end e.rest (address note.directive) in
+      let h : answer ≡ Arrived entry = kept well (a.0 ∙ to_end p w e.rest c.is_written) f in
       let n : e.note ≡ note = c.note_is in
       let l = length-append (begun_rows b) (w.end ∷ []) in
       let p1 : entry.at ≡ e.at = ap (λ (x : Note). address x.directive) (sym n) ∙ sym c.at_is in
@@ -172,19 +150,19 @@ module _ (z : Size) (words : List ℕ) (start : Note) (base : ℕ) (rows : List 
 
   abbrev Either : Type 0
   Either =
-      (WellFormed z words start rows × ((e : Entry) × ComesTo words start base rows e))
+      (WellFormed z words start rows × ((e : TapeEntry) × ComesTo words start base rows e))
       ⊎ ((row : ℕ) × (cause : TapeCause) × IsFault z words start rows row cause)
 
   by_answer : (v : Verdict) → answer ≡ v → Either
-  by_answer (Faulty row cause) h = inr (row, cause, faulty_is row cause h)
-  by_answer (Arrived e) h = inl (arrived_well e h, (e, arrived_comes e h))
+  by_answer (Faulty row cause) h = inr (row, cause, faulty_is h)
+  by_answer (Arrived e) h = inl (arrived_well h, (e, arrived_comes h))
 
   is_rules : ReadingIsRules z words start base rows
   is_rules = record {
-    faulty = faulty_is;
+    faulty = λ row cause h. faulty_is h;
     found = fault_found;
-    well = arrived_well;
-    comes = arrived_comes;
+    well = λ e h. arrived_well h;
+    comes = λ e h. arrived_comes h;
     arrived = comes_arrived;
     either = by_answer answer refl;
   }

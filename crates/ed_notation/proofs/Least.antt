@@ -1,79 +1,57 @@
 -- The least rule that a row breaks.
 use Rattle.std.proofs.Common.{◌≡◌, ℕ, ◌+◌, ◌-◌, ◌<◌, ◌≤◌, sym, ap, ◌∙◌, refl}
-use Rattle.std.proofs.Common.{arith, lit≤, lit<, Bool, true, false, Option}
+use Rattle.std.proofs.Common.{true≢false, arith, lit≤, lit<, Bool, true, false, Option}
 use Rattle.std.proofs.Common.{Some, List, [], ◌∷◌, length, get_or}
 use Rattle.ed_notation.specs.declared.cause.TapeCause.{TapeCause}
-use Rattle.ed_notation.specs.declared.cause.TapeCause.TheVariants.{EndOfTape, BadRow, NumberTooLarge}
-use Rattle.ed_notation.specs.declared.cause.TapeCause.TheVariants.{AfterMark, BadControl}
-use Rattle.ed_notation.specs.declared.cause.TapeCause.TheVariants.{LoaderStore, StoreEnd, NoPlace}
-use Rattle.ed_notation.specs.declared.cause.TapeCause.TheVariants.{EntryNegative, EntryInLoader}
-use Rattle.ed_notation.specs.Faults.{number_of}
+use Rattle.ed_notation.specs.declared.cause.TapeCause.TheVariants.{EndOfTape}
+use Rattle.ed_notation.specs.Faults.{cause_number}
 use Rattle.ed_notation.proofs.Rows.{first_of, causes}
 
 -- the cause of a number
 abbrev named : ℕ → TapeCause
 named n = get_or causes (n - 1) EndOfTape
 
-named_is : (c : TapeCause) → named (number_of c) ≡ c
+named_is : (c : TapeCause) → named (cause_number c) ≡ c
 named_is EndOfTape = refl
-named_is BadRow = refl
-named_is NumberTooLarge = refl
-named_is AfterMark = refl
-named_is BadControl = refl
-named_is LoaderStore = refl
-named_is StoreEnd = refl
-named_is NoPlace = refl
-named_is EntryNegative = refl
-named_is EntryInLoader = refl
+named_is c = refl
 
 -- causes of one number are one
-pub same : (a b : TapeCause) → number_of a ≡ number_of b → a ≡ b
+pub same : (a b : TapeCause) → cause_number a ≡ cause_number b → a ≡ b
 same a b e = sym (named_is a) ∙ ap named e ∙ named_is b
 
 record IsNumber (n : ℕ) : Type 0 where
   least : 1 ≤ n
   most : n < 11
 
-is_number : (c : TapeCause) → IsNumber (number_of c)
+is_number : (c : TapeCause) → IsNumber (cause_number c)
 is_number EndOfTape = record { least = lit≤ tt; most = lit< tt }
-is_number BadRow = record { least = lit≤ tt; most = lit< tt }
-is_number NumberTooLarge = record { least = lit≤ tt; most = lit< tt }
-is_number AfterMark = record { least = lit≤ tt; most = lit< tt }
-is_number BadControl = record { least = lit≤ tt; most = lit< tt }
-is_number LoaderStore = record { least = lit≤ tt; most = lit< tt }
-is_number StoreEnd = record { least = lit≤ tt; most = lit< tt }
-is_number NoPlace = record { least = lit≤ tt; most = lit< tt }
-is_number EntryNegative = record { least = lit≤ tt; most = lit< tt }
-is_number EntryInLoader = record { least = lit≤ tt; most = lit< tt }
+is_number c = record { least = lit≤ tt; most = lit< tt }
 
-pub one_least : (c : TapeCause) → 1 ≤ number_of c
+pub one_least : (c : TapeCause) → 1 ≤ cause_number c
 one_least c = (is_number c).least
 
 -- the numbers of the list run up from n
 abbrev AreNumbered : ℕ → List TapeCause → Type 0
 AreNumbered n [] = Unit {0}
-AreNumbered n (c ∷ cs) = (number_of c ≡ n) × AreNumbered (n + 1) cs
+AreNumbered n (c ∷ cs) = (cause_number c ≡ n) × AreNumbered (n + 1) cs
 
 -- the first cause for which the test is true has a number no greater
 pub record Found (f : TapeCause → Bool) (cs : List TapeCause) (k : TapeCause) : Type 0 where
   pub found : TapeCause
   pub is : first_of f cs ≡ Some found
-  pub least : number_of found ≤ number_of k
+  pub least : cause_number found ≤ cause_number k
 
 split : (f : TapeCause → Bool) (c : TapeCause) (cs : List TapeCause) (k : TapeCause) (x : Bool) → f c ≡ x
-    → (x ≡ true → number_of c ≤ number_of k) → (x ≡ false → Found f cs k) → Found f (c ∷ cs) k
+    → (x ≡ true → cause_number c ≤ cause_number k) → (x ≡ false → Found f cs k) → Found f (c ∷ cs) k
 split f c cs k true e g h = record { found = c; is = rw e refl; least = g refl }
 split f c cs k false e g h = let r = h refl in record { found = r.found; is = rw e r.is; least = r.least }
 
-absurd_test : (x : Bool) → x ≡ true → x ≡ false → ⊥
-absurd_test x e e' = cc
-
-least_in : (f : TapeCause → Bool) (cs : List TapeCause) (n : ℕ) (k : TapeCause) → AreNumbered n cs → n ≤ number_of k
-    → number_of k < n + length cs → f k ≡ true → Found f cs k
+least_in : (f : TapeCause → Bool) (cs : List TapeCause) (n : ℕ) (k : TapeCause) → AreNumbered n cs → n ≤ cause_number k
+    → cause_number k < n + length cs → f k ≡ true → Found f cs k
 least_in f [] n k ns l m h = absurd (omega (arith, l, m))
 least_in f (c ∷ cs) n k ns l m h =
     split f c cs k (f c) refl (λ e. omega (arith, ns.0, l)) (λ e.
-    let differs : number_of c ≡ number_of k → ⊥ = λ q. absurd_test (f c) (ap f (same c k q) ∙ h) e in
+    let differs : cause_number c ≡ cause_number k → ⊥ = λ q. true≢false (sym (ap f (same c k q) ∙ h) ∙ e) in
     least_in f cs (n + 1) k ns.1 (omega (arith, ns.0, l, differs)) (omega (arith, m)) h)
 
 pub least_of : (f : TapeCause → Bool) (k : TapeCause) → f k ≡ true → Found f causes k

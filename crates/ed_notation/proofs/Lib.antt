@@ -1,3 +1,4 @@
+pub mod Tests
 pub mod Rows
 pub mod Directives
 pub mod Least
@@ -10,6 +11,7 @@ pub mod Costs
 pub mod Contents
 pub mod Answered
 pub mod Unique
+pub mod Verdicts
 pub mod Canonical
 pub mod Texts
 pub mod Cuts

@@ -9,7 +9,7 @@ use Rattle.ed_words.specs.declared.size.Size.{Size}
 use Rattle.ed_words.specs.Sizes.{locations}
 use Rattle.ed_notation.specs.declared.item.Item.{Item}
 use Rattle.ed_notation.specs.declared.kind.RowKind.{RowKind}
-use Rattle.ed_notation.specs.declared.kind.RowKind.TheVariants.{Digit, Mark, Zed, Kay, Blank, Letter, Other}
+use Rattle.ed_notation.specs.declared.kind.RowKind.TheVariants.{Letter}
 use Rattle.ed_notation.specs.Items.{row_kind}
 use Rattle.ed_notation.specs.Fold.{Note, over, value_of, word_with, item_word, begun_cost}
 use Rattle.ed_notation.specs.Spellings.{canonical, is_spellable}
@@ -28,12 +28,7 @@ all_letters (i ∷ is) = (is_spellable i && is_letter (row_kind i.end)) && all_l
 
 letter_of : (k : RowKind) → is_letter k ≡ true → k ≡ Letter
 letter_of Letter h = refl
-letter_of Digit h = cc
-letter_of Mark h = cc
-letter_of Zed h = cc
-letter_of Kay h = cc
-letter_of Blank h = cc
-letter_of Other h = cc
+letter_of kind h = cc
 
 code_of : (c : ℕ) → row_kind c ≡ Letter → c < 32
 code_of c h = grind (arith, nat_tests)
@@ -99,16 +94,16 @@ behind contents note a is = record {
 
 -- items that place words under T a K, from 56 on, are read without a fault and place their words in a row; `contents`
 -- is what stands below 56
-pub placing_all : (z : Size) (words contents : List ℕ) (note : Note) (a : ℕ) (is : List Item) → all_letters is ≡ true
-    → note.directive ≡ 20480 + 2 * a → 56 ≤ a → a + length is ≤ locations z
+pub placing_all : {z : Size} {words : List ℕ} (contents : List ℕ) {note : Note} (a : ℕ) (is : List Item)
+    → all_letters is ≡ true → note.directive ≡ 20480 + 2 * a → 56 ≤ a → a + length is ≤ locations z
     → ((j : ℕ) → j < 56 → get_or (over note.placed words) j 0 ≡ get_or contents j 0)
     → Reads z words note is (behind contents note a is) (block_cost is)
-placing_all z words contents note a [] h d low fits same =
+placing_all {z} {words} contents {note} a [] h d low fits same =
     let e : a + 0 ≡ a = omega arith in
     let is : note ≡ behind contents note a [] =
     rw e (λ k. record { directive = d k; theta = note.theta; placed = note.placed }) in
     subst (λ (n : Note). Reads z words note [] n 0) is (reads_none z words note)
-placing_all z words contents note a (i ∷ is) h d low fits same =
+placing_all {z} {words} contents {note} a (i ∷ is) h d low fits same =
     let p = and_parts (is_spellable i && is_letter (row_kind i.end)) (all_letters is) h in
     let q = and_parts (is_spellable i) (is_letter (row_kind i.end)) p.0 in
     let k : row_kind i.end ≡ Letter = letter_of (row_kind i.end) q.1 in
@@ -121,9 +116,9 @@ placing_all z words contents note a (i ∷ is) h d low fits same =
     } in
     let value = value_same contents (over note.placed words) note.theta i.end (code_of i.end k) same in
     let word_is : item_word words note i ≡ word = ap (λ v. word_with i.function i.number i.mark v) value in
-    let rest = placing_all z words contents next (a + 1) is p.1 refl (omega arith) (omega arith)
+    let rest : Reads z words next is (behind contents next (a + 1) is) (block_cost is) =
+    placing_all contents {note = next} (a + 1) is p.1 refl (omega arith) (omega arith)
     (λ j l. get_or-set_other (over note.placed words) a j word 0 (omega arith) ∙ same j l) in
     let n : a + suc (length is) ≡ a + 1 + length is = omega arith in
     let cost = placing_cost z words note i a k d below in
-    rw (n, sym cost) (reads_one z words note next i is _ _ q.0
-    (placing z words note i a word k d (omega arith) below word_is) rest)
+    rw (n, sym cost) (reads_one z words i q.0 (placing z words a k d (omega arith) below word_is) rest)

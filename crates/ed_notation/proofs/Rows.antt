@@ -1,8 +1,7 @@
 -- What the reader does at a row inside an item, in the words of the rules.
-use Rattle.std.proofs.Common.{◌≢◌, ◌≡◌, ℕ, ◌+◌, ◌*◌, ◌/◌, ◌<◌, refl, sym, ap, ◌∙◌, arith, Bool, true, false}
-use Rattle.std.proofs.Common.{◌&&◌, nat_eq, nat_lt, nat_le, if◌then◌else◌, Option, Some, None, List, [], ◌∷◌, ◌++◌}
+use Rattle.std.proofs.Common.{◌≡◌, ℕ, ◌+◌, ◌*◌, ◌/◌, ◌<◌, refl, sym, ap, ◌∙◌, arith, Bool, true, false}
+use Rattle.std.proofs.Common.{nat_eq, nat_lt, nat_le, Option, Some, None, List, [], ◌∷◌, ◌++◌}
 use Rattle.std.proofs.Common.{length-append}
-use Rattle.std.proofs.lemmas.Bool.Decides.{nat_tests}
 use Rattle.std.proofs.lemmas.List.{append-nil}
 use Rattle.ed_words.specs.declared.size.Size.{Size}
 use Rattle.ed_words.specs.Sizes.{locations}
@@ -20,14 +19,15 @@ use Rattle.ed_notation.specs.declared.kind.Control.{Control}
 use Rattle.ed_notation.specs.declared.kind.Control.TheVariants.{Directive, ThetaByBlank, ThetaByG, Neither}
 use Rattle.ed_notation.specs.declared.kind.Aim.{Aim}
 use Rattle.ed_notation.specs.declared.kind.Aim.TheVariants.{Places, Enters, Nowhere, Unset}
-use Rattle.ed_notation.specs.Items.{row_kind, Begun, number, is_empty, begun_rows}
-use Rattle.ed_notation.specs.Items.{IsBegun, AreDigits, is_blank, ends, item_of}
+use Rattle.ed_notation.specs.Items.{row_kind, Begun, digits_number, is_empty, begun_rows}
+use Rattle.ed_notation.specs.Items.{IsBegun, AreDigits, is_blank_row, ends, item_of}
 use Rattle.ed_notation.specs.Fold.{Note, over, item_word, address, control_of}
 use Rattle.ed_notation.specs.Fold.{aim_of, acted, entering, begun_cost, end_cost}
 use Rattle.ed_notation.specs.Openings.{IsDirective}
 use Rattle.ed_notation.specs.Faults.{breaks, is_place}
 use Rattle.ed_notation.specs.Reading.{taken, setting_of, set_by, placed_by}
-use Rattle.ed_words.proofs.Numbers.{lt_of, not_lt_of, eq_of}
+use Rattle.ed_words.proofs.Numbers.{not_lt_of, not_eq_of, if_means}
+use Rattle.ed_notation.proofs.Tests.{RowMeans, row_means}
 use Rattle.std.proofs.Math.Bool.{and-false}
 
 abbrev first_if : Bool → TapeCause → Option TapeCause → Option TapeCause
@@ -53,9 +53,9 @@ first r z words note b c = first_of (λ k. breaks k r z words note b c) causes
 abbrev pub as_part : Begun → Part
 as_part b = record {
   function = b.function;
-  number = number 0 b.digits;
+  number = digits_number 0 b.digits;
   mark = b.mark;
-  blank = is_blank b;
+  blank = is_blank_row b;
 }
 
 -- the row is one more of the item's rows before its ending
@@ -88,27 +88,8 @@ RowLaw r z words note b c (Placed at word) =
     (first r z words note b c ≡ None) × EndsItem r words note b c (placed_by at word note) 17
 RowLaw r z words note b c (Entered at) = (first r z words note b c ≡ None) × IsEntry r note b at
 
-abbrev pub RowMeans : RowKind → ℕ → Type 0
-RowMeans Digit c = c < 10
-RowMeans Mark c = c ≡ 11
-RowMeans r c = Unit {0}
-
-if_means : (P : RowKind → Type 0) (b : Bool) (x y : RowKind) → (b ≡ true → P x) → (b ≡ false → P y)
-    → P (if b then x else y)
-if_means P true x y f g = f refl
-if_means P false x y f g = g refl
-
-pub row_means : (c : ℕ) → RowMeans (row_kind c) c
-row_means c =
-    let P : RowKind → Type 0 = λ r. RowMeans r c in
-    if_means P (nat_lt c 10) _ _ (λ h. lt_of c 10 h) (λ h.
-    if_means P (nat_eq c 11) _ _ (λ h. eq_of c 11 h) (λ h.
-    if_means P (nat_eq c 13) _ _ (λ h. tt) (λ h.
-    if_means P (nat_eq c 14) _ _ (λ h. tt) (λ h.
-    if_means P (nat_eq c 16) _ _ (λ h. tt) (λ h.
-    if_means P (nat_le 17 c && nat_lt c 32) _ _ (λ h. tt) (λ h. tt))))))
-
-number_more : (ds : List ℕ) (n c : ℕ) → number n (ds ++ (c ∷ [])) ≡ 10 * number n ds + c
+-- one digit row more
+pub number_more : (ds : List ℕ) (n c : ℕ) → digits_number n (ds ++ (c ∷ [])) ≡ 10 * digits_number n ds + c
 number_more [] n c = refl
 number_more (d ∷ ds) n c = number_more ds (10 * n + d) c
 
@@ -116,140 +97,138 @@ empty_more : (ds : List ℕ) (c : ℕ) → is_empty (ds ++ (c ∷ [])) ≡ false
 empty_more [] c = refl
 empty_more (d ∷ ds) c = refl
 
-digits_more : (ds : List ℕ) (c : ℕ) → AreDigits ds → c < 10 → AreDigits (ds ++ (c ∷ []))
+pub digits_more : (ds : List ℕ) (c : ℕ) → AreDigits ds → c < 10 → AreDigits (ds ++ (c ∷ []))
 digits_more [] c h k = (k, tt)
 digits_more (d ∷ ds) c h k = (h.0, digits_more ds c h.1 k)
-
-if_aim : (P : Aim → Type 0) (b : Bool) (x y : Aim) → (b ≡ true → P x) → (b ≡ false → P y) → P (if b then x else y)
-if_aim P true x y f g = f refl
-if_aim P false x y f g = g refl
-
-differs : (a b : ℕ) → nat_eq a b ≡ false → a ≢ b
-differs a b h = grind (arith, nat_tests)
 
 not_unset : (d : ℕ) → IsDirective d → aim_of d ≡ Unset → ⊥
 not_unset d s =
     let P : Aim → Type 0 = λ a. a ≡ Unset → ⊥ in
-    if_aim P (nat_eq (d / 4096) 5) _ _ (λ h e. cc) (λ h.
-    if_aim P (nat_eq (d / 4096) 3) _ _ (λ g e. cc) (λ g.
-    if_aim P (nat_eq (d / 4096) 0) _ _ (λ o e. cc) (λ o e.
-    omega (arith, differs _ _ h, differs _ _ g, differs _ _ o, s.no_1, s.no_2, s.no_4, s.most))))
+    if_means P (nat_eq (d / 4096) 5) _ _ (λ h e. cc) (λ h.
+    if_means P (nat_eq (d / 4096) 3) _ _ (λ g e. cc) (λ g.
+    if_means P (nat_eq (d / 4096) 0) _ _ (λ o e. cc) (λ o e.
+    omega (arith, not_eq_of _ _ h, not_eq_of _ _ g, not_eq_of _ _ o, s.no_1, s.no_2, s.no_4, s.most))))
 
-module _ (z : Size) (words : List ℕ) (note : Note) (f : ℕ) (ds : List ℕ) (c : ℕ)
-    (set : IsDirective note.directive) where
-  abbrev begun : Bool → Begun
-  begun m = record { function = f; digits = ds; mark = m }
+module _ (z : Size) (words : List ℕ) (note : Note) (c : ℕ) (set : IsDirective note.directive) where
+  module _ (f : ℕ) (ds : List ℕ) where
+    abbrev begun : Bool → Begun
+    begun m = record { function = f; digits = ds; mark = m }
 
-  abbrev Law : RowKind → Bool → Type 0
-  Law r m = RowLaw r z words note (begun m) c
-      (taken z r (over note.placed words) (setting_of note) (as_part (begun m)) c)
+    abbrev Law : RowKind → Bool → Type 0
+    Law r m = RowLaw r z words note (begun m) c
+        (taken z r (over note.placed words) (setting_of note) (as_part (begun m)) c)
 
-  by_digit : (m x : Bool) → IsBegun (begun m) → c < 10 → nat_lt 32767 (10 * number 0 ds + c) ≡ x → Law Digit m
-  by_digit true x good h e = refl
-  by_digit false true good h e = rw (e, e) refl
-  by_digit false false good h e =
-      let n = number_more ds 0 c in
-      let l = length-append ds (c ∷ []) in
-      rw e (
-        rw e refl,
-        refl,
-        record {
-          next = record { function = f; digits = ds ++ (c ∷ []); mark = false };
-          good = record {
-            function = good.function;
-            digits = digits_more ds c good.digits h;
-            fits = rw n (not_lt_of _ _ e);
-          };
-          part_is = rw (n, empty_more ds c) refl;
-          rows_are = ap (λ x. f ∷ x) (append-nil (ds ++ (c ∷ [])) ∙ ap (λ x. x ++ (c ∷ [])) (sym (append-nil ds)));
-          cost_is = omega (arith, l);
-        },
-      )
+    by_digit : (m x : Bool) → IsBegun (begun m) → c < 10 → nat_lt 32767 (10 * digits_number 0 ds + c) ≡ x → Law Digit m
+    by_digit true x good h e = refl
+    by_digit false true good h e = rw (e, e) refl
+    by_digit false false good h e =
+        let n = number_more ds 0 c in
+        let l = length-append ds (c ∷ []) in
+        rw e (
+          rw e refl,
+          refl,
+          record {
+            next = record { function = f; digits = ds ++ (c ∷ []); mark = false };
+            good = record {
+              function = good.function;
+              digits = digits_more ds c good.digits h;
+              fits = rw n (not_lt_of _ _ e);
+            };
+            part_is = rw (n, empty_more ds c) refl;
+            rows_are = ap (λ x. f ∷ x) (append-nil (ds ++ (c ∷ [])) ∙ ap (λ x. x ++ (c ∷ [])) (sym (append-nil ds)));
+            cost_is = omega (arith, l);
+          },
+        )
 
-  by_mark : (m : Bool) → IsBegun (begun m) → c ≡ 11 → Law Mark m
-  by_mark true good e = refl
-  by_mark false good e = (
-    refl,
-    refl,
-    record {
-      next = record { function = f; digits = ds; mark = true };
-      good = record { function = good.function; digits = good.digits; fits = good.fits };
-      part_is = rw (and-false (is_empty ds)) refl;
-      rows_are =
-          let mark = ap (λ x. ds ++ (x ∷ [])) (sym e) in
-          ap (λ x. f ∷ x) (mark ∙ ap (λ x. x ++ (c ∷ [])) (sym (append-nil ds)));
-      cost_is = omega arith;
-    },
-  )
+    by_mark : (m : Bool) → IsBegun (begun m) → c ≡ 11 → Law Mark m
+    by_mark true good e = refl
+    by_mark false good e = (
+      refl,
+      refl,
+      record {
+        next = record { function = f; digits = ds; mark = true };
+        good = record { function = good.function; digits = good.digits; fits = good.fits };
+        part_is = rw (and-false (is_empty ds)) refl;
+        rows_are =
+            let mark = ap (λ x. ds ++ (x ∷ [])) (sym e) in
+            ap (λ x. f ∷ x) (mark ∙ ap (λ x. x ++ (c ∷ [])) (sym (append-nil ds)));
+        cost_is = omega arith;
+      },
+    )
 
-  by_blank : (m x : Bool) → is_blank (begun m) ≡ x → Law Blank m
-  by_blank m true e = rw e (rw e refl, record { ended = e; goes_on = refl; note_is = refl; cost_is = refl })
-  by_blank m false e = rw (e, e) refl
+    by_blank : (m x : Bool) → is_blank_row (begun m) ≡ x → Law Blank m
+    by_blank m true e = rw e (rw e refl, record { ended = e; goes_on = refl; note_is = refl; cost_is = refl })
+    by_blank m false e = rw (e, e) refl
 
-  by_kay : (m : Bool) (k : Control) (x : Bool) → control_of f ≡ k → nat_lt 1023 (number 0 ds) ≡ x → Law Kay m
-  by_kay true k x h e = refl
-  by_kay false Neither x h e = rw (h, h) refl
-  by_kay false Directive true h e = rw (h, e, h, e) refl
-  by_kay false ThetaByBlank true h e = rw (h, e, h, e) refl
-  by_kay false ThetaByG true h e = rw (h, e, h, e) refl
-  by_kay false Directive false h e =
-      rw (h, e) (rw (h, e) refl, record { ended = refl; goes_on = refl; note_is = rw h refl; cost_is = refl })
-  by_kay false ThetaByBlank false h e =
-      rw (h, e) (rw (h, e) refl, record { ended = refl; goes_on = refl; note_is = rw h refl; cost_is = refl })
-  by_kay false ThetaByG false h e =
-      rw (h, e) (rw (h, e) refl, record { ended = refl; goes_on = refl; note_is = rw h refl; cost_is = refl })
+    by_kay : (m : Bool) (k : Control) (x : Bool) → control_of f ≡ k → nat_lt 1023 (digits_number 0 ds) ≡ x → Law Kay m
+    by_kay true k x h e = refl
+    by_kay false Neither x h e = rw (h, h) refl
+    by_kay false Directive true h e = rw (h, e, h, e) refl
+    by_kay false ThetaByBlank true h e = rw (h, e, h, e) refl
+    by_kay false ThetaByG true h e = rw (h, e, h, e) refl
+    by_kay false Directive false h e =
+        rw (h, e) (rw (h, e) refl, record { ended = refl; goes_on = refl; note_is = rw h refl; cost_is = refl })
+    by_kay false ThetaByBlank false h e =
+        rw (h, e) (rw (h, e) refl, record { ended = refl; goes_on = refl; note_is = rw h refl; cost_is = refl })
+    by_kay false ThetaByG false h e =
+        rw (h, e) (rw (h, e) refl, record { ended = refl; goes_on = refl; note_is = rw h refl; cost_is = refl })
 
-  by_zed : (m : Bool) (k : Control) (x y : Bool) → control_of f ≡ k
-      → is_place (4096 * f + 2 * number 0 ds + note.theta) ≡ x → nat_le 65536 (2 * number 0 ds + note.theta) ≡ y
-      → Law Zed m
-  by_zed true k x y h e g = refl
-  by_zed false Neither x y h e g = rw (h, h) refl
-  by_zed false ThetaByG x y h e g = rw (h, h) refl
-  by_zed false Directive false y h e g = rw (h, e, h, e) refl
-  by_zed false Directive true y h e g =
-      rw (h, e) (rw (h, e) refl, record { ended = refl; goes_on = refl; note_is = rw h refl; cost_is = refl })
-  by_zed false ThetaByBlank x true h e g = rw (h, g, h, g) refl
-  by_zed false ThetaByBlank x false h e g =
-      rw (h, g) (rw (h, g) refl, record { ended = refl; goes_on = refl; note_is = rw h refl; cost_is = refl })
+    by_zed : (m : Bool) (k : Control) (x y : Bool) → control_of f ≡ k
+        → is_place (4096 * f + 2 * digits_number 0 ds + note.theta) ≡ x
+        → nat_le 65536 (2 * digits_number 0 ds + note.theta) ≡ y
+        → Law Zed m
+    by_zed true k x y h e g = refl
+    by_zed false Neither x y h e g = rw (h, h) refl
+    by_zed false ThetaByG x y h e g = rw (h, h) refl
+    by_zed false Directive false y h e g = rw (h, e, h, e) refl
+    by_zed false Directive true y h e g =
+        rw (h, e) (rw (h, e) refl, record { ended = refl; goes_on = refl; note_is = rw h refl; cost_is = refl })
+    by_zed false ThetaByBlank x true h e g = rw (h, g, h, g) refl
+    by_zed false ThetaByBlank x false h e g =
+        rw (h, g) (rw (h, g) refl, record { ended = refl; goes_on = refl; note_is = rw h refl; cost_is = refl })
 
-  by_letter : (m : Bool) (k : Aim) (x y w : Bool) → aim_of note.directive ≡ k → nat_lt (address note.directive) 44 ≡ x
-      → nat_le (locations z) (address note.directive) ≡ y
-      → nat_le 65536 (item_word words note (item_of (begun m) c)) ≡ w
-      → Law Letter m
-  by_letter m Nowhere x y w h e g o = rw (h, h) refl
-  by_letter m Unset x y w h e g o = absurd (not_unset note.directive set h)
-  by_letter m Places true y w h e g o = rw (h, e, h, e) refl
-  by_letter m Places false true w h e g o = rw (h, e, g, h, e, g) refl
-  by_letter m Places false false w h e g o =
-      rw (h, e, g) (
-        rw (h, e, g) refl,
-        record {
-          ended = refl;
-          goes_on = rw h refl;
-          note_is = rw h refl;
-          cost_is = rw h refl;
-        },
-      )
-  by_letter m Enters x true w h e g o = rw (h, g, h, g) refl
-  by_letter m Enters x false true h e g o = rw (h, g, o, h, g, o) refl
-  by_letter m Enters true false false h e g o = rw (h, g, o, e, h, g, o, e) refl
-  by_letter m Enters false false false h e g o =
-      rw (h, g, o, e) (
-        rw (h, g, o, e) refl,
-        record {
-          ended = refl;
-          entered = rw h refl;
-          at_is = refl;
-          cost_is = rw h refl;
-        },
-      )
+    by_letter : (m : Bool) {k : Aim} {x y w : Bool} → aim_of note.directive ≡ k → nat_lt (address note.directive) 44 ≡ x
+        → nat_le (locations z) (address note.directive) ≡ y
+        → nat_le 65536 (item_word words note (item_of (begun m) c)) ≡ w
+        → Law Letter m
+    by_letter m {k = Nowhere} h e g o = rw (h, h) refl
+    by_letter m {k = Unset} h e g o = absurd (not_unset note.directive set h)
+    by_letter m {k = Places} {x = true} h e g o = rw (h, e, h, e) refl
+    by_letter m {k = Places} {x = false} {y = true} h e g o = rw (h, e, g, h, e, g) refl
+    by_letter m {k = Places} {x = false} {y = false} h e g o =
+        rw (h, e, g) (
+          rw (h, e, g) refl,
+          record {
+            ended = refl;
+            goes_on = rw h refl;
+            note_is = rw h refl;
+            cost_is = rw h refl;
+          },
+        )
+    by_letter m {k = Enters} {y = true} h e g o = rw (h, g, h, g) refl
+    by_letter m {k = Enters} {y = false} {w = true} h e g o = rw (h, g, o, h, g, o) refl
+    by_letter m {k = Enters} {x = true} {y = false} {w = false} h e g o = rw (h, g, o, e, h, g, o, e) refl
+    by_letter m {k = Enters} {x = false} {y = false} {w = false} h e g o =
+        rw (h, g, o, e) (
+          rw (h, g, o, e) refl,
+          record {
+            ended = refl;
+            entered = rw h refl;
+            at_is = refl;
+            cost_is = rw h refl;
+          },
+        )
 
-  -- what the reader does at the row is what the rules say
-  pub row_law : (m : Bool) → IsBegun (begun m) → (r : RowKind) → RowMeans r c → Law r m
-  row_law m good Digit h = by_digit m _ good h refl
-  row_law m good Mark h = by_mark m good h
-  row_law m good Zed h = by_zed m _ _ _ refl refl refl
-  row_law m good Kay h = by_kay m _ _ refl refl
-  row_law m good Blank h = by_blank m _ refl
-  row_law m good Letter h = by_letter m _ _ _ _ refl refl refl refl
-  row_law m good Other h = refl
+    row_law : (m : Bool) → IsBegun (begun m) → (r : RowKind) → RowMeans r c → Law r m
+    row_law m good Digit h = by_digit m _ good h refl
+    row_law m good Mark h = by_mark m good h
+    row_law m good Zed h = by_zed m _ _ _ refl refl refl
+    row_law m good Kay h = by_kay m _ _ refl refl
+    row_law m good Blank h = by_blank m _ refl
+    row_law m good Letter h = by_letter m refl refl refl refl
+    row_law m good Other h = refl
+
+  -- what the reader does at a row is what the rules say
+  pub row_law_of : (b : Begun) → IsBegun b → RowLaw (row_kind c) z words note b c
+      (taken z (row_kind c) (over note.placed words) (setting_of note) (as_part b) c)
+  row_law_of b good = row_law b.function b.digits b.mark good (row_kind c) (row_means c)

@@ -8,9 +8,7 @@ use Rattle.ed_words.specs.declared.size.Size.{Size}
 use Rattle.ed_words.specs.Sizes.{locations}
 use Rattle.ed_notation.specs.declared.item.Item.{Item}
 use Rattle.ed_notation.specs.declared.cause.TapeCause.{TapeCause}
-use Rattle.ed_notation.specs.declared.cause.TapeCause.TheVariants.{EndOfTape, BadRow, NumberTooLarge}
-use Rattle.ed_notation.specs.declared.cause.TapeCause.TheVariants.{AfterMark, BadControl}
-use Rattle.ed_notation.specs.declared.cause.TapeCause.TheVariants.{LoaderStore, StoreEnd, NoPlace}
+use Rattle.ed_notation.specs.declared.cause.TapeCause.TheVariants.{BadControl, LoaderStore, StoreEnd, NoPlace}
 use Rattle.ed_notation.specs.declared.cause.TapeCause.TheVariants.{EntryNegative, EntryInLoader}
 use Rattle.ed_notation.specs.declared.kind.RowKind.{RowKind}
 use Rattle.ed_notation.specs.declared.kind.RowKind.TheVariants.{Letter}
@@ -18,7 +16,7 @@ use Rattle.ed_notation.specs.declared.kind.Aim.TheVariants.{Places, Enters as En
 use Rattle.ed_notation.specs.Items.{row_kind, Begun, item, items}
 use Rattle.ed_notation.specs.Fold.{Note, act, aim_of, address, control_of, is_entry}
 use Rattle.ed_notation.specs.Fold.{item_word, fold, begun_cost, cost_of, costs}
-use Rattle.ed_notation.specs.Faults.{breaks, bad_kay, AreRead, IsSound, AreSound}
+use Rattle.ed_notation.specs.Faults.{breaks, bad_kay, AreRead, EndsSound, AreSound}
 use Rattle.ed_notation.specs.Spellings.{canonical, canonicals, is_spellable}
 use Rattle.ed_notation.proofs.Canonical.{digits_are, is_written, same_item}
 use Rattle.ed_notation.proofs.Cuts.{items-append, fold-append, costs-append}
@@ -32,7 +30,7 @@ module _ (z : Size) (words : List ℕ) where
   -- an item that is no entry item is read without a fault, and leaves this state
   pub record Does (note : Note) (i : Item) (next : Note) : Type 0 where
     pub goes_on : is_entry note i ≡ false
-    pub sound : IsSound z words note (canonical i)
+    pub sound : EndsSound z words note (canonical i)
     pub acts : act words note i ≡ next
 
   -- items are read so one after the other, at this cost
@@ -45,10 +43,9 @@ module _ (z : Size) (words : List ℕ) where
   pub reads_none : (note : Note) → Reads note [] note 0
   reads_none note = record { are_read = tt; are_sound = tt; folds = refl; costs_are = refl }
 
-  pub reads_one : (note m : Note) (i : Item) (is : List Item) (next : Note) (cost : ℕ) → is_spellable i ≡ true
-      → Does note i m
-      → Reads m is next cost → Reads note (i ∷ is) next (cost_of note (canonical i) + cost)
-  reads_one note m i is next cost can d r =
+  pub reads_one : {note m : Note} (i : Item) {is : List Item} {next : Note} {cost : ℕ} → is_spellable i ≡ true
+      → Does note i m → Reads m is next cost → Reads note (i ∷ is) next (cost_of note (canonical i) + cost)
+  reads_one {note} {m} i {is} can d r =
       let it : item (canonical i) ≡ i = same_item i can in
       let e : act words note (item (canonical i)) ≡ m = ap (act words note) it ∙ d.acts in
       record {
@@ -63,9 +60,9 @@ module _ (z : Size) (words : List ℕ) where
             ∙ ap (λ k. cost_of note (canonical i) + k) r.costs_are;
       }
 
-  pub reads_both : (note m next : Note) (is js : List Item) (c d : ℕ) → Reads note is m c → Reads m js next d
+  pub reads_both : {note m next : Note} {is js : List Item} {c d : ℕ} → Reads note is m c → Reads m js next d
       → Reads note (is ++ js) next (c + d)
-  reads_both note m next is js c d a b =
+  reads_both {note} {m} {is} {js} {c} a b =
       let vs = canonicals is in
       let ws = canonicals js in
       let e : fold words note (items vs) ≡ m = a.folds in
@@ -85,18 +82,11 @@ module _ (z : Size) (words : List ℕ) where
 
   -- K breaks no rule where its function sets something and its number is a place
   pub kay_sound : (note : Note) (f n : ℕ) → bad_kay (control_of f) ≡ false → n ≤ 1023
-      → IsSound z words note (canonical (plain f n 14))
-  kay_sound note f n good few EndOfTape = refl
-  kay_sound note f n good few BadRow = refl
-  kay_sound note f n good few NumberTooLarge = refl
-  kay_sound note f n good few AfterMark = refl
+      → EndsSound z words note (canonical (plain f n 14))
   kay_sound note f n good few BadControl = good
-  kay_sound note f n good few LoaderStore = refl
   kay_sound note f n good few StoreEnd = let l : n ≤ 32767 = omega arith
       in rw ((digits_are n l).number_is) (lt_false 1023 n few)
-  kay_sound note f n good few NoPlace = refl
-  kay_sound note f n good few EntryNegative = refl
-  kay_sound note f n good few EntryInLoader = refl
+  kay_sound note f n good few cause = refl
 
   -- T p K
   pub aiming : (note : Note) (p : ℕ) → p ≤ 1023 → Does note (plain 5 p 14) (record note { directive = 20480 + 2 * p })
@@ -117,33 +107,28 @@ module _ (z : Size) (words : List ℕ) where
   }
 
   -- a code letter breaks no rule under a directive that aims into the store, above the loader
-  letter_rule : (r : RowKind) → r ≡ Letter → (note : Note) (b : Begun) (c : ℕ) → aim_of note.directive ≡ Places
+  letter_rule : {r : RowKind} → r ≡ Letter → (note : Note) (b : Begun) (c : ℕ) → aim_of note.directive ≡ Places
       → nat_lt (address note.directive) 44 ≡ false → nat_le (locations z) (address note.directive) ≡ false
       → (cause : TapeCause) → breaks cause r z words note b c ≡ false
-  letter_rule r e note b c aim low high cause = subst (λ x. breaks cause x z words note b c ≡ false) (sym e) (of cause)
+  letter_rule e note b c aim low high cause = subst (λ x. breaks cause x z words note b c ≡ false) (sym e) (of cause)
     where
       of : (k : TapeCause) → breaks k Letter z words note b c ≡ false
-      of EndOfTape = refl
-      of BadRow = refl
-      of NumberTooLarge = refl
-      of AfterMark = refl
-      of BadControl = refl
       of LoaderStore = rw aim low
       of StoreEnd = rw aim high
       of NoPlace = rw aim refl
       of EntryNegative = rw aim refl
       of EntryInLoader = rw aim refl
+      of k = refl
 
   -- a code letter under T p K places its word
-  pub placing : (note : Note) (i : Item) (place w : ℕ) → row_kind i.end ≡ Letter → note.directive ≡ 20480 + 2 * place
-      → 44 ≤ place
-      → place < locations z → item_word words note i ≡ w
+  pub placing : {note : Note} {i : Item} (place : ℕ) {w : ℕ} → row_kind i.end ≡ Letter
+      → note.directive ≡ 20480 + 2 * place → 44 ≤ place → place < locations z → item_word words note i ≡ w
       → Does note i (record {
         directive = 20480 + 2 * (place + 1);
         theta = note.theta;
         placed = (place, w) ∷ note.placed;
       })
-  placing note i place w letter d low high is =
+  placing {note} {i} place letter d low high is =
       let m = most z in
       let five : note.directive / 4096 ≡ 5 = omega arith in
       let aim : aim_of note.directive ≡ Places = rw five refl in
@@ -151,7 +136,7 @@ module _ (z : Size) (words : List ℕ) where
       let n : note.directive + 2 ≡ 20480 + 2 * (place + 1) = omega arith in
       record {
         goes_on = rw (letter, aim) refl;
-        sound = letter_rule (row_kind i.end) letter note (canonical i).begun i.end aim
+        sound = letter_rule letter note (canonical i).begun i.end aim
             (rw a (lt_false place 44 low)) (rw a (le_false (locations z) place high));
         acts = rw (letter, aim, a, is, n) refl;
       }
@@ -169,7 +154,7 @@ module _ (z : Size) (words : List ℕ) where
   -- the entry item P F
   pub record Enters (note : Note) (p : ℕ) : Type 0 where
     pub enters : is_entry note (plain 0 0 17) ≡ true
-    pub sound : IsSound z words note (canonical (plain 0 0 17))
+    pub sound : EndsSound z words note (canonical (plain 0 0 17))
     pub place : address note.directive ≡ p
     pub word : item_word words note (plain 0 0 17) ≡ 0
 
@@ -190,13 +175,9 @@ module _ (z : Size) (words : List ℕ) where
       by_cause : aim_of note.directive ≡ EntersAt → nat_lt (address note.directive) 44 ≡ false
           → nat_le (locations z) (address note.directive) ≡ false → (c : TapeCause)
           → breaks c (row_kind 17) z words note (canonical (plain 0 0 17)).begun 17 ≡ false
-      by_cause aim l h EndOfTape = refl
-      by_cause aim l h BadRow = refl
-      by_cause aim l h NumberTooLarge = refl
-      by_cause aim l h AfterMark = refl
-      by_cause aim l h BadControl = refl
       by_cause aim l h LoaderStore = rw aim refl
       by_cause aim l h StoreEnd = rw aim h
       by_cause aim l h NoPlace = rw aim refl
       by_cause aim l h EntryNegative = rw aim refl
       by_cause aim l h EntryInLoader = rw aim l
+      by_cause aim l h c = refl

@@ -1,6 +1,6 @@
 -- The text of items spells their rows.
 use Rattle.std.proofs.Common.{◌≡◌, ℕ, ◌+◌, ◌-◌, ◌<◌, ◌≤◌, refl, sym, ap, ◌∙◌}
-use Rattle.std.proofs.Common.{arith, lit<, Bool, true, false, ◌&&◌, nat_eq}
+use Rattle.std.proofs.Common.{arith, lit<, Bool, true, false}
 use Rattle.std.proofs.Common.{nat_lt, nat_le, List, [], ◌∷◌, ◌++◌, length, drop}
 use Rattle.std.specs.Prelude.{Some}
 use Rattle.std.proofs.lemmas.Bool.Decides.{nat_tests}
@@ -13,10 +13,12 @@ use Rattle.ed_codes.proofs.Pieces.{spells_append}
 use Rattle.ed_codes.proofs.Readings.{has_one_reading}
 use Rattle.ed_notation.specs.declared.item.Item.{Item}
 use Rattle.ed_notation.specs.declared.kind.RowKind.{RowKind}
+use Rattle.ed_notation.specs.declared.kind.RowKind.TheVariants.{Digit, Mark, Other}
 use Rattle.ed_notation.specs.Items.{row_kind, Begun, Written, mark_rows, begun_rows}
 use Rattle.ed_notation.specs.Items.{rows_of, spelled, AreDigits, IsWritten, ends}
 use Rattle.ed_notation.specs.Spellings.{AreWritten, canonicals, line_from, text_of}
-use Rattle.ed_words.proofs.Numbers.{lt_of, eq_of, if_means}
+use Rattle.ed_words.proofs.Numbers.{lt_of}
+use Rattle.ed_notation.proofs.Tests.{RowMeans, row_means}
 
 -- ---- bytes
 
@@ -54,19 +56,15 @@ mark_codes : (m : Bool) → AreCodes (mark_rows m)
 mark_codes true = (lit< tt, tt)
 mark_codes false = tt
 
-letter_low : (c : ℕ) → (nat_le 17 c && nat_lt c 32) ≡ true → c < 32
-letter_low c h = grind (arith, nat_tests)
-
 -- an ending row is a code
 end_code : (b : Begun) (c : ℕ) → ends (row_kind c) b ≡ true → c < 32
-end_code b c =
-    let P : RowKind → Type 0 = λ r. ends r b ≡ true → c < 32 in
-    if_means P (nat_lt c 10) _ _ (λ h e. cc) (λ h.
-    if_means P (nat_eq c 11) _ _ (λ h e. cc) (λ h.
-    if_means P (nat_eq c 13) _ _ (λ h e. omega (arith, eq_of c 13 h)) (λ h.
-    if_means P (nat_eq c 14) _ _ (λ h e. omega (arith, eq_of c 14 h)) (λ h.
-    if_means P (nat_eq c 16) _ _ (λ h e. omega (arith, eq_of c 16 h)) (λ h.
-    if_means P (nat_le 17 c && nat_lt c 32) _ _ (λ h e. letter_low c h) (λ h e. cc))))))
+end_code b c = by_kind (row_kind c) (row_means c)
+  where
+    by_kind : (r : RowKind) → RowMeans r c → ends r b ≡ true → c < 32
+    by_kind Digit means h = cc
+    by_kind Mark means h = cc
+    by_kind Other means h = cc
+    by_kind r means h = omega (arith, means)
 
 row_codes : (w : Written) → IsWritten w → AreCodes (rows_of w)
 row_codes w good =

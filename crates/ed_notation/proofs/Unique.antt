@@ -1,35 +1,31 @@
 -- No spelling of an item begins another one's.
-use Rattle.std.proofs.Common.{◌≡◌, ℕ, ◌≤◌, refl, sym, ap, ◌∙◌, arith, Bool, true, false, ◌&&◌, nat_eq, nat_lt}
-use Rattle.std.proofs.Common.{nat_le, List, [], ◌∷◌, ◌++◌, append_assoc}
-use Rattle.std.proofs.lemmas.Bool.Decides.{nat_tests}
+use Rattle.std.proofs.Common.{◌≡◌, ℕ, ◌≤◌, refl, sym, ap, ◌∙◌, arith, Bool, true, false}
+use Rattle.std.proofs.Common.{List, [], ◌∷◌, ◌++◌, append_assoc}
 use Rattle.std.proofs.lemmas.List.{append-nil}
 use Rattle.ed_notation.specs.declared.item.Item.{Item}
 use Rattle.ed_notation.specs.declared.kind.RowKind.{RowKind}
+use Rattle.ed_notation.specs.declared.kind.RowKind.TheVariants.{Digit, Mark, Other}
 use Rattle.ed_notation.specs.Items.{row_kind, Begun, Written, mark_rows, begun_rows}
 use Rattle.ed_notation.specs.Items.{rows_of, spelled, AreDigits, IsWritten}
 use Rattle.ed_notation.specs.Items.{ends, item, items}
 use Rattle.ed_notation.specs.Spellings.{AreWritten, SpellsAll, NoSpellingBeginsAnother}
-use Rattle.ed_words.proofs.Numbers.{eq_of, if_means}
-
-letter_high : (c : ℕ) → (nat_le 17 c && nat_lt c 32) ≡ true → 17 ≤ c
-letter_high c h = grind (arith, nat_tests)
+use Rattle.ed_notation.proofs.Tests.{RowMeans, row_means}
 
 -- an ending row is 13 at least
 ends_high : (b : Begun) (c : ℕ) → ends (row_kind c) b ≡ true → 13 ≤ c
-ends_high b c =
-    let P : RowKind → Type 0 = λ r. ends r b ≡ true → 13 ≤ c in
-    if_means P (nat_lt c 10) _ _ (λ h e. cc) (λ h.
-    if_means P (nat_eq c 11) _ _ (λ h e. cc) (λ h.
-    if_means P (nat_eq c 13) _ _ (λ h e. omega (arith, eq_of c 13 h)) (λ h.
-    if_means P (nat_eq c 14) _ _ (λ h e. omega (arith, eq_of c 14 h)) (λ h.
-    if_means P (nat_eq c 16) _ _ (λ h e. omega (arith, eq_of c 16 h)) (λ h.
-    if_means P (nat_le 17 c && nat_lt c 32) _ _ (λ h e. omega (arith, letter_high c h)) (λ h e. cc))))))
+ends_high b c = by_kind (row_kind c) (row_means c)
+  where
+    by_kind : (r : RowKind) → RowMeans r c → ends r b ≡ true → 13 ≤ c
+    by_kind Digit means h = cc
+    by_kind Mark means h = cc
+    by_kind Other means h = cc
+    by_kind r means h = omega (arith, means)
 
-head_same : (a b : ℕ) (xs ys : List ℕ) → a ∷ xs ≡ b ∷ ys → a ≡ b
-head_same a b xs ys e = cc
+head_same : {a b : ℕ} {xs ys : List ℕ} → a ∷ xs ≡ b ∷ ys → a ≡ b
+head_same e = cc
 
-tail_same : (a b : ℕ) (xs ys : List ℕ) → a ∷ xs ≡ b ∷ ys → xs ≡ ys
-tail_same a b xs ys e = cc
+tail_same : {a b : ℕ} {xs ys : List ℕ} → a ∷ xs ≡ b ∷ ys → xs ≡ ys
+tail_same e = cc
 
 record Same (ds ds' : List ℕ) (m m' : Bool) (e e' : ℕ) (a a' : List ℕ) : Type 0 where
   digits : ds ≡ ds'
@@ -38,24 +34,23 @@ record Same (ds ds' : List ℕ) (m m' : Bool) (e e' : ℕ) (a a' : List ℕ) : T
   rest : a ≡ a'
 
 -- the rows behind a function row
-tails : (ds ds' : List ℕ) (m m' : Bool) (e e' : ℕ) (a a' : List ℕ) → AreDigits ds → AreDigits ds' → 13 ≤ e → 13 ≤ e'
+tails : {ds ds' : List ℕ} {m m' : Bool} {e e' : ℕ} {a a' : List ℕ} → AreDigits ds → AreDigits ds' → 13 ≤ e → 13 ≤ e'
     → ds ++ (mark_rows m ++ (e ∷ a)) ≡ ds' ++ (mark_rows m' ++ (e' ∷ a')) → Same ds ds' m m' e e' a a'
-tails [] [] true true e e' a a' p q h k x =
-    let t = tail_same _ _ _ _ x in
-    record { digits = refl; mark = refl; end = head_same _ _ _ _ t; rest = tail_same _ _ _ _ t }
-tails [] [] true false e e' a a' p q h k x = absurd (omega (arith, k, head_same _ _ _ _ x))
-tails [] [] false true e e' a a' p q h k x = absurd (omega (arith, h, head_same _ _ _ _ x))
-tails [] [] false false e e' a a' p q h k x =
-    record { digits = refl; mark = refl; end = head_same _ _ _ _ x; rest = tail_same _ _ _ _ x }
-tails [] (d ∷ ds') true m' e e' a a' p q h k x = absurd (omega (arith, q.0, head_same _ _ _ _ x))
-tails [] (d ∷ ds') false m' e e' a a' p q h k x = absurd (omega (arith, q.0, h, head_same _ _ _ _ x))
-tails (d ∷ ds) [] m true e e' a a' p q h k x = absurd (omega (arith, p.0, head_same _ _ _ _ x))
-tails (d ∷ ds) [] m false e e' a a' p q h k x = absurd (omega (arith, p.0, k, head_same _ _ _ _ x))
-tails (d ∷ ds) (d' ∷ ds') m m' e e' a a' p q h k x =
-    let r = tails ds ds' m m' e e' a a' p.1 q.1 h k (tail_same _ _ _ _ x) in
-    let y = head_same _ _ _ _ x in
-    let z = r.digits in
-    record { digits = cc; mark = r.mark; end = r.end; rest = r.rest }
+tails {ds = []} {ds' = []} {m = true} {m' = true} p q h k x =
+    let t = tail_same x in
+    record { digits = refl; mark = refl; end = head_same t; rest = tail_same t }
+tails {ds = []} {ds' = []} {m = true} {m' = false} p q h k x = absurd (omega (arith, k, head_same x))
+tails {ds = []} {ds' = []} {m = false} {m' = true} p q h k x = absurd (omega (arith, h, head_same x))
+tails {ds = []} {ds' = []} {m = false} {m' = false} p q h k x =
+    record { digits = refl; mark = refl; end = head_same x; rest = tail_same x }
+tails {ds = []} {ds' = (d ∷ ds')} {m = true} p q h k x = absurd (omega (arith, q.0, head_same x))
+tails {ds = []} {ds' = (d ∷ ds')} {m = false} p q h k x = absurd (omega (arith, q.0, h, head_same x))
+tails {ds = (d ∷ ds)} {ds' = []} {m' = true} p q h k x = absurd (omega (arith, p.0, head_same x))
+tails {ds = (d ∷ ds)} {ds' = []} {m' = false} p q h k x = absurd (omega (arith, p.0, k, head_same x))
+tails {ds = (d ∷ ds)} {ds' = (d' ∷ ds')} p q h k x =
+    let r = tails p.1 q.1 h k (tail_same x) in
+    let y = head_same x in
+    record { digits = λ i. y i ∷ r.digits i; mark = r.mark; end = r.end; rest = r.rest }
 
 record SameItem (v w : Written) (a b : List ℕ) : Type 0 where
   item : v ≡ w
@@ -72,12 +67,10 @@ one_item : (v w : Written) (a b : List ℕ) → IsWritten v → IsWritten w → 
     → SameItem v w a b
 one_item v w a b p q e =
     let x = sym (apart v a) ∙ e ∙ apart w b in
-    let f = head_same _ _ _ _ x in
+    let f = head_same x in
     let h = ends_high v.begun v.end p.ended in
     let k = ends_high w.begun w.end q.ended in
-    let r = tails v.begun.digits w.begun.digits v.begun.mark w.begun.mark v.end w.end a b p.begun.digits
-    q.begun.digits h k
-    (tail_same _ _ _ _ x) in
+    let r = tails p.begun.digits q.begun.digits h k (tail_same x) in
     record {
       item = λ i. record { begun = record { function = f i; digits = r.digits i; mark = r.mark i }; end = r.end i };
       rest = r.rest;

@@ -9,7 +9,7 @@ use Rattle.ed_notation.specs.declared.cause.TapeCause.TheVariants.{EndOfTape, St
 use Rattle.ed_notation.specs.declared.cause.TapeCause.TheVariants.{LoaderStore, BadRow}
 use Rattle.ed_notation.specs.Openings.{IsDirective, opening, opening_with}
 use Rattle.ed_notation.specs.Faults.{IsFault}
-use Rattle.ed_notation.specs.Reading.{reading, Verdict, Faulty, Arrived}
+use Rattle.ed_notation.specs.Reading.{reading_on, Verdict, Faulty, Arrived}
 use Rattle.ed_notation.proofs.Laws.{faulty_is}
 
 abbrev zeros : List ℕ
@@ -26,74 +26,58 @@ first_is = record { no_1 = omega arith; no_2 = omega arith; no_4 = omega arith; 
 abbrev IsRefused : Size → List ℕ → ℕ → TapeCause → Type 0
 IsRefused z text row cause = IsFault z zeros (opening zeros) (tape text) row cause
 
-past_the_end : IsRefused Full (codes "T1023KPFPF") 9 StoreEnd
-unfolding reading
-past_the_end = faulty_is Full zeros (opening zeros) 9 (tape (codes "T1023KPFPF")) first_is 9 StoreEnd refl
-
-past_the_half : IsRefused Small (codes "T511KPFPF") 8 StoreEnd
-unfolding reading
-past_the_half = faulty_is Small zeros (opening zeros) 9 (tape (codes "T511KPFPF")) first_is 8 StoreEnd refl
-
-no_entry : IsRefused Full (codes "T511KPFPF") 9 EndOfTape
-unfolding reading
-no_entry = faulty_is Full zeros (opening zeros) 9 (tape (codes "T511KPFPF")) first_is 9 EndOfTape refl
-
-too_large : IsRefused Full (codes "P32768F") 5 NumberTooLarge
-unfolding reading
-too_large = faulty_is Full zeros (opening zeros) 9 (tape (codes "P32768F")) first_is 5 NumberTooLarge refl
-
-in_the_loader : IsRefused Full (codes "T20KPF") 5 LoaderStore
-unfolding reading
-in_the_loader = faulty_is Full zeros (opening zeros) 9 (tape (codes "T20KPF")) first_is 5 LoaderStore refl
-
-blanks_apart : IsRefused Full (codes ".0.") 2 BadRow
-unfolding reading
-blanks_apart = faulty_is Full zeros (opening zeros) 9 (tape (codes ".0.")) first_is 2 BadRow refl
-
 -- the reading of a whole tape, and of the rest of one
-abbrev whole : List ℕ → Verdict
-whole text = reading Full zeros 0 9 (opening zeros) None (tape text)
+abbrev whole : Size → List ℕ → Verdict
+whole z text = reading_on z zeros 0 9 (opening zeros) None (tape text)
 
 abbrev rest : ℕ → List ℕ → Verdict
-rest directive text = reading Full zeros 0 2 (opening_with directive zeros) None (tape text)
+rest directive text = reading_on Full zeros 0 2 (opening_with directive zeros) None (tape text)
 
--- its entry, orders and rows
+refused : (z : Size) (text : List ℕ) {row : ℕ} {cause : TapeCause} → whole z text ≡ Faulty row cause
+    → IsRefused z text row cause
+refused z text h = faulty_is z zeros (opening zeros) 9 (tape text) first_is h
+
+-- faulty tapes
+faults :
+    -- past the end of a store, and of a half
+    IsRefused Full (codes "T1023KPFPF") 9 StoreEnd
+    × IsRefused Small (codes "T511KPFPF") 8 StoreEnd
+    -- no entry
+    × IsRefused Full (codes "T511KPFPF") 9 EndOfTape
+    -- a number too large, and a word for the loader's place
+    × IsRefused Full (codes "P32768F") 5 NumberTooLarge
+    × IsRefused Full (codes "T20KPF") 5 LoaderStore
+    -- blanks that are no pair
+    × IsRefused Full (codes ".0.") 2 BadRow
+unfolding reading_on
+faults = (
+  refused Full (codes "T1023KPFPF") refl,
+  refused Small (codes "T511KPFPF") refl,
+  refused Full (codes "T511KPFPF") refl,
+  refused Full (codes "P32768F") refl,
+  refused Full (codes "T20KPF") refl,
+  refused Full (codes ".0.") refl,
+)
+
+-- the entry, orders and rows of a tape
 abbrev entered : Verdict → List ℕ
 entered (Faulty row cause) = []
 entered (Arrived e) = e.at ∷ e.cost ∷ e.rows ∷ []
 
-three_words : entered (whole (codes "T64KGKO2@ZFAFEZPF")) ≡ 64 ∷ 191 ∷ 17 ∷ []
-unfolding reading
-three_words = refl
-
-largest_number : entered (whole (codes "T64KP32767DE64KPF")) ≡ 64 ∷ 176 ∷ 17 ∷ []
-unfolding reading
-largest_number = refl
-
-with_a_mark : entered (whole (codes "T64KGKA2#@EZPF")) ≡ 64 ∷ 160 ∷ 14 ∷ []
-unfolding reading
-with_a_mark = refl
-
-with_a_parameter : entered (whole (codes "T45KP100FT64KA1HE64KPF")) ≡ 64 ∷ 230 ∷ 22 ∷ []
-unfolding reading
-with_a_parameter = refl
-
-replaced_directive : entered (whole (codes "T20KT64KPFE64KPF")) ≡ 64 ∷ 171 ∷ 16 ∷ []
-unfolding reading
-replaced_directive = refl
-
-two_blanks : entered (whole (codes "..PKT64KGKO2@ZFAFEZPF")) ≡ 64 ∷ 233 ∷ 21 ∷ []
-unfolding reading
-two_blanks = refl
-
-three_blanks : entered (whole (codes "...PKT64KGKO2@ZFAFEZPF")) ≡ 64 ∷ 242 ∷ 22 ∷ []
-unfolding reading
-three_blanks = refl
-
-blanks_under_a_place : entered (whole (codes "T64K..PZGKO2@ZFAFEZPF")) ≡ 64 ∷ 234 ∷ 21 ∷ []
-unfolding reading
-blanks_under_a_place = refl
-
-rest_of_a_tape : entered (rest 20880 (codes "GKZFE200KPF")) ≡ 200 ∷ 115 ∷ 11 ∷ []
-unfolding reading
-rest_of_a_tape = refl
+-- tapes that enter
+entries :
+    -- three words; the largest number; a mark; a parameter
+    (entered (whole Full (codes "T64KGKO2@ZFAFEZPF")) ≡ 64 ∷ 191 ∷ 17 ∷ [])
+    × (entered (whole Full (codes "T64KP32767DE64KPF")) ≡ 64 ∷ 176 ∷ 17 ∷ [])
+    × (entered (whole Full (codes "T64KGKA2#@EZPF")) ≡ 64 ∷ 160 ∷ 14 ∷ [])
+    × (entered (whole Full (codes "T45KP100FT64KA1HE64KPF")) ≡ 64 ∷ 230 ∷ 22 ∷ [])
+    -- a directive in place of another
+    × (entered (whole Full (codes "T20KT64KPFE64KPF")) ≡ 64 ∷ 171 ∷ 16 ∷ [])
+    -- two blanks, three, and two under a place
+    × (entered (whole Full (codes "..PKT64KGKO2@ZFAFEZPF")) ≡ 64 ∷ 233 ∷ 21 ∷ [])
+    × (entered (whole Full (codes "...PKT64KGKO2@ZFAFEZPF")) ≡ 64 ∷ 242 ∷ 22 ∷ [])
+    × (entered (whole Full (codes "T64K..PZGKO2@ZFAFEZPF")) ≡ 64 ∷ 234 ∷ 21 ∷ [])
+    -- the rest of a tape
+    × (entered (rest 20880 (codes "GKZFE200KPF")) ≡ 200 ∷ 115 ∷ 11 ∷ [])
+unfolding reading_on
+entries = (refl, refl, refl, refl, refl, refl, refl, refl, refl)

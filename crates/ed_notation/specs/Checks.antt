@@ -7,17 +7,17 @@ use Rattle.ed_notation.specs.declared.cause.TapeFault.{TapeFault}
 use Rattle.ed_notation.specs.declared.cause.TapeFault.TheVariants.{At, Memory}
 use Rattle.ed_notation.specs.Fold.{Note, placed_at, over}
 use Rattle.ed_notation.specs.Openings.{opening_with}
-use Rattle.ed_notation.specs.Faults.{Entry, IsFault, WellFormed, ComesTo, IsSound, AreSound}
+use Rattle.ed_notation.specs.Faults.{TapeEntry, IsFault, WellFormed, ComesTo, EndsSound, AreSound}
 use Rattle.ed_notation.specs.Reports.{Report, word_in}
 
 -- the answer for a well-formed tape: no rule is broken at any row, there are items that the first rows spell and that
 -- the fold takes without a fault, the last alone an entry item, and the report is what their fold tells
 pub record Accepts (z : Size) (words : List ℕ) (start : Note) (base : ℕ) (rows : List ℕ) (r : Report) : Type 0 where
   pub well : WellFormed z words start rows
-  pub entry : Entry
+  pub entry : TapeEntry
   pub comes : ComesTo words start base rows entry
   pub sound : AreSound z words start comes.before
-  pub last_sound : IsSound z words entry.note comes.last
+  pub last_sound : EndsSound z words entry.note comes.last
   pub entry_is : r.entry ≡ entry.at
   pub orders_are : r.orders ≡ entry.cost
   pub rows_are : r.rows ≡ entry.rows
@@ -25,10 +25,10 @@ pub record Accepts (z : Size) (words : List ℕ) (start : Note) (base : ℕ) (ro
   pub map_is : (a : ℕ) → a < 1024 → word_in r a ≡ placed_at entry.note.placed a
 
 -- the answer is that for a well-formed tape, or the fault, or that no memory was found
-abbrev pub Answers : Size → List ℕ → Note → ℕ → List ℕ → Result Report TapeFault → Type 0
-Answers z words start base rows (Ok r) = Accepts z words start base rows r
-Answers z words start base rows (Err (At row cause)) = IsFault z words start rows row cause
-Answers z words start base rows (Err Memory) = Unit {0}
+abbrev pub AnswersCheck : Size → List ℕ → Note → ℕ → List ℕ → Result Report TapeFault → Type 0
+AnswersCheck z words start base rows (Ok r) = Accepts z words start base rows r
+AnswersCheck z words start base rows (Err (At row cause)) = IsFault z words start rows row cause
+AnswersCheck z words start base rows (Err Memory) = Unit {0}
 
 -- where words were placed
 abbrev pub marked : List (ℕ × ℕ) → List Bool
@@ -50,7 +50,7 @@ ContentIsMapOrStore =
 pub record Arrives (z : Size) (words : List ℕ) (start : Note) (base : ℕ) (rows : List ℕ) (r : Reached)
     (contents : List ℕ) (marks : List Bool) : Type 0 where
   pub well : WellFormed z words start rows
-  pub entry : Entry
+  pub entry : TapeEntry
   pub comes : ComesTo words start base rows entry
   pub entry_is : r.entry ≡ entry.at
   pub orders_are : r.orders ≡ entry.cost
@@ -62,9 +62,9 @@ pub record Arrives (z : Size) (words : List ℕ) (start : Note) (base : ℕ) (ro
   pub locations_are : length words ≡ 1024
 
 -- the answer of a reading over a copy of the store, with what it leaves there
-abbrev pub Reads : Size → List ℕ → ℕ → ℕ → List ℕ → Result Reached TapeFault → List ℕ → List Bool → Type 0
-Reads z words directive base rows (Ok r) contents marks =
+abbrev pub ReadsCopy : Size → List ℕ → ℕ → ℕ → List ℕ → Result Reached TapeFault → List ℕ → List Bool → Type 0
+ReadsCopy z words directive base rows (Ok r) contents marks =
     Arrives z words (opening_with directive words) base rows r contents marks
-Reads z words directive base rows (Err (At row cause)) contents marks =
+ReadsCopy z words directive base rows (Err (At row cause)) contents marks =
     IsFault z words (opening_with directive words) rows row cause
-Reads z words directive base rows (Err Memory) contents marks = ⊥
+ReadsCopy z words directive base rows (Err Memory) contents marks = ⊥

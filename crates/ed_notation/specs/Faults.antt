@@ -17,23 +17,24 @@ use Rattle.ed_notation.specs.declared.kind.Control.{Control}
 use Rattle.ed_notation.specs.declared.kind.Control.TheVariants.{Directive, ThetaByBlank, ThetaByG, Neither}
 use Rattle.ed_notation.specs.declared.kind.Aim.{Aim}
 use Rattle.ed_notation.specs.declared.kind.Aim.TheVariants.{Places, Nowhere}
-use Rattle.ed_notation.specs.Items.{row_kind, Begun, Written, number, begun_rows, rows_of, spelled, IsBegun, IsWritten}
-use Rattle.ed_notation.specs.Items.{is_blank, item, item_of, items}
+use Rattle.ed_notation.specs.Items.{row_kind, Begun, Written, digits_number, begun_rows, rows_of, spelled, IsBegun}
+use Rattle.ed_notation.specs.Items.{IsWritten}
+use Rattle.ed_notation.specs.Items.{is_blank_row, item, item_of, items}
 use Rattle.ed_notation.specs.Fold.{Note, item_word, address, control_of, aim_of}
 use Rattle.ed_notation.specs.Fold.{enters_at, act, is_entry, fold, costs, cost_of}
 
 -- the numbers of the rules; of two rules broken at one row the less is the fault
-abbrev pub number_of : TapeCause → ℕ
-number_of EndOfTape = 1
-number_of BadRow = 2
-number_of NumberTooLarge = 3
-number_of AfterMark = 4
-number_of BadControl = 5
-number_of LoaderStore = 6
-number_of StoreEnd = 7
-number_of NoPlace = 8
-number_of EntryNegative = 9
-number_of EntryInLoader = 10
+abbrev pub cause_number : TapeCause → ℕ
+cause_number EndOfTape = 1
+cause_number BadRow = 2
+cause_number NumberTooLarge = 3
+cause_number AfterMark = 4
+cause_number BadControl = 5
+cause_number LoaderStore = 6
+cause_number StoreEnd = 7
+cause_number NoPlace = 8
+cause_number EntryNegative = 9
+cause_number EntryInLoader = 10
 
 -- an order P, E or T with no length digit and an address below 1024
 abbrev pub is_place : ℕ → Bool
@@ -70,8 +71,8 @@ is_nowhere aim = false
 -- whether the row c, of this kind, breaks the rule behind the rows of b: one line for each case of a rule
 abbrev pub breaks : TapeCause → RowKind → Size → List ℕ → Note → Begun → ℕ → Bool
 breaks BadRow Other z words note b c = true
-breaks BadRow Blank z words note b c = not (is_blank b)
-breaks NumberTooLarge Digit z words note b c = not b.mark && nat_lt 32767 (10 * number 0 b.digits + c)
+breaks BadRow Blank z words note b c = not (is_blank_row b)
+breaks NumberTooLarge Digit z words note b c = not b.mark && nat_lt 32767 (10 * digits_number 0 b.digits + c)
 breaks AfterMark Digit z words note b c = b.mark
 breaks AfterMark Mark z words note b c = b.mark
 breaks BadControl Kay z words note b c = b.mark || bad_kay (control_of b.function)
@@ -80,7 +81,7 @@ breaks LoaderStore Letter z words note b c = places_at (aim_of note.directive) &
 breaks StoreEnd Letter z words note b c =
     (places_at (aim_of note.directive) || enters_at (aim_of note.directive))
     && nat_le (locations z) (address note.directive)
-breaks StoreEnd Kay z words note b c = nat_lt 1023 (number 0 b.digits)
+breaks StoreEnd Kay z words note b c = nat_lt 1023 (digits_number 0 b.digits)
 breaks StoreEnd Zed z words note b c = past_zed (control_of b.function) note (item_of b c)
 breaks NoPlace Letter z words note b c = is_nowhere (aim_of note.directive)
 breaks EntryNegative Letter z words note b c =
@@ -121,7 +122,7 @@ IsPart None = Unit {0}
 IsPart (Some b) = IsBegun b
 
 -- a row as it is read: behind whole items, none of them an entry item, and a part of its own item
-pub record Stands (words : List ℕ) (start : Note) (rows : List ℕ) (row : ℕ) : Type 0 where
+pub record IsRead (words : List ℕ) (start : Note) (rows : List ℕ) (row : ℕ) : Type 0 where
   pub before : List Written
   pub part : Option Begun
   pub rest : List ℕ
@@ -133,7 +134,7 @@ pub record Stands (words : List ℕ) (start : Note) (rows : List ℕ) (row : ℕ
 -- the tape breaks the rule at the row
 pub record Breaks (z : Size) (words : List ℕ) (start : Note) (rows : List ℕ) (row : ℕ) (cause : TapeCause) :
     Type 0 where
-  pub stands : Stands words start rows row
+  pub stands : IsRead words start rows row
   pub breaks : broken z words (fold words start (items stands.before)) stands.part stands.rest cause ≡ true
 
 -- the fault of a tape: the least row at which a rule is broken, and there the rule with the least number
@@ -141,7 +142,7 @@ pub record IsFault (z : Size) (words : List ℕ) (start : Note) (rows : List ℕ
     Type 0 where
   pub is : Breaks z words start rows row cause
   pub least : (r : ℕ) (other : TapeCause) → Breaks z words start rows r other
-      → (row < r) ⊎ ((row ≡ r) × (number_of cause ≤ number_of other))
+      → (row < r) ⊎ ((row ≡ r) × (cause_number cause ≤ cause_number other))
 
 -- a tape is well formed: no rule is broken at any row
 abbrev pub WellFormed : Size → List ℕ → Note → List ℕ → Type 0
@@ -149,7 +150,7 @@ WellFormed z words start rows = (row : ℕ) (cause : TapeCause) → Breaks z wor
 
 -- the entry that a tape comes to: its address, the entry item and its word, the cost in orders and the rows read up to
 -- it, the state of the notation there, and the rows that are left
-pub record Entry : Type 0 where
+pub record TapeEntry : Type 0 where
   pub at : ℕ
   pub word : ℕ
   pub cost : ℕ
@@ -160,7 +161,7 @@ pub record Entry : Type 0 where
 
 -- the first rows of the tape spell items of which the last alone is an entry item, and the entry is what their fold
 -- tells; `base` is the cost before the first row
-pub record ComesTo (words : List ℕ) (start : Note) (base : ℕ) (rows : List ℕ) (e : Entry) : Type 0 where
+pub record ComesTo (words : List ℕ) (start : Note) (base : ℕ) (rows : List ℕ) (e : TapeEntry) : Type 0 where
   pub before : List Written
   pub last : Written
   pub are_read : AreRead words start before
@@ -175,10 +176,10 @@ pub record ComesTo (words : List ℕ) (start : Note) (base : ℕ) (rows : List �
   pub read_is : e.rows ≡ length (spelled before) + length (rows_of last)
 
 -- an item breaks no rule at its ending row
-abbrev pub IsSound : Size → List ℕ → Note → Written → Type 0
-IsSound z words note w = (cause : TapeCause) → breaks cause (row_kind w.end) z words note w.begun w.end ≡ false
+abbrev pub EndsSound : Size → List ℕ → Note → Written → Type 0
+EndsSound z words note w = (cause : TapeCause) → breaks cause (row_kind w.end) z words note w.begun w.end ≡ false
 
 -- none of the items breaks a rule at its ending row: the fold takes them without a fault
 abbrev pub AreSound : Size → List ℕ → Note → List Written → Type 0
 AreSound z words note [] = Unit {0}
-AreSound z words note (w ∷ ws) = IsSound z words note w × AreSound z words (act words note (item w)) ws
+AreSound z words note (w ∷ ws) = EndsSound z words note w × AreSound z words (act words note (item w)) ws

@@ -32,9 +32,9 @@ pub record Written : Type 0 where
   pub end : ℕ
 
 -- the number n with these digits behind it
-abbrev pub number : ℕ → List ℕ → ℕ
-number n [] = n
-number n (d ∷ ds) = number (10 * n + d) ds
+abbrev pub digits_number : ℕ → List ℕ → ℕ
+digits_number n [] = n
+digits_number n (d ∷ ds) = digits_number (10 * n + d) ds
 
 -- whether there are no digit rows
 abbrev pub is_empty : List ℕ → Bool
@@ -68,18 +68,18 @@ AreDigits (d ∷ ds) = (d < 10) × AreDigits ds
 pub record IsBegun (b : Begun) : Type 0 where
   pub function : b.function < 32
   pub digits : AreDigits b.digits
-  pub fits : number 0 b.digits ≤ 32767
+  pub fits : digits_number 0 b.digits ≤ 32767
 
 -- whether it is a function row 16 and no more
-abbrev pub is_blank : Begun → Bool
-is_blank b = is_empty b.digits && (not b.mark && nat_eq b.function 16)
+abbrev pub is_blank_row : Begun → Bool
+is_blank_row b = is_empty b.digits && (not b.mark && nat_eq b.function 16)
 
 -- whether a row of this kind ends the item: Z, K, a code letter, or the second blank of a blank pair
 abbrev pub ends : RowKind → Begun → Bool
 ends Zed b = true
 ends Kay b = true
 ends Letter b = true
-ends Blank b = is_blank b
+ends Blank b = is_blank_row b
 ends kind b = false
 
 -- the rows are those of an item
@@ -89,7 +89,7 @@ pub record IsWritten (w : Written) : Type 0 where
 
 -- the item of the rows before an ending and of the ending row
 abbrev pub item_of : Begun → ℕ → Item
-item_of b c = record { function = b.function; number = number 0 b.digits; mark = b.mark; end = c }
+item_of b c = record { function = b.function; number = digits_number 0 b.digits; mark = b.mark; end = c }
 
 -- the item that rows spell; a blank pair is the item of function 16, number 0, no mark and ending 16
 abbrev pub item : Written → Item
@@ -101,7 +101,7 @@ items [] = []
 items (w ∷ ws) = item w ∷ items ws
 
 -- the rows spell the item
-pub record Spells (i : Item) (rows : List ℕ) : Type 0 where
+pub record SpellsItem (i : Item) (rows : List ℕ) : Type 0 where
   pub written : Written
   pub good : IsWritten written
   pub item_is : item written ≡ i

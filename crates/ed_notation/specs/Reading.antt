@@ -22,7 +22,7 @@ use Rattle.ed_notation.specs.declared.reader.Taken.TheVariants.{Refused, Longer,
 use Rattle.ed_notation.specs.Items.{row_kind}
 use Rattle.ed_notation.specs.Fold.{Note, over, value_of, word_with, address, control_of, aim_of}
 use Rattle.ed_notation.specs.Openings.{IsDirective}
-use Rattle.ed_notation.specs.Faults.{is_place, Entry, IsFault, WellFormed, ComesTo}
+use Rattle.ed_notation.specs.Faults.{is_place, TapeEntry, IsFault, WellFormed, ComesTo}
 
 -- a digit row
 abbrev pub digit_taken : Part → ℕ → Taken
@@ -101,7 +101,7 @@ taken z Other contents setting part c = Refused BadRow
 -- what a tape comes to
 pub data Verdict : Type 0 where
   Faulty : ℕ → TapeCause → Verdict
-  Arrived : Entry → Verdict
+  Arrived : TapeEntry → Verdict
 
 -- an item of which the function row alone has been read
 abbrev pub part_of : ℕ → Part
@@ -124,7 +124,7 @@ placed_by at word note = record {
 }
 
 -- the entry at a row c that ends the entry item
-abbrev pub entry_by : List ℕ → ℕ → ℕ → Note → Part → ℕ → List ℕ → ℕ → Entry
+abbrev pub entry_by : List ℕ → ℕ → ℕ → Note → Part → ℕ → List ℕ → ℕ → TapeEntry
 entry_by words row cost note part c rest at = record {
   at = at;
   word = part_word (over note.placed words) (setting_of note) part c;
@@ -136,19 +136,19 @@ entry_by words row cost note part c rest at = record {
 }
 
 -- the reading of the rows from a row on, between two items or inside one
-unfoldable pub reading : Size → List ℕ → ℕ → ℕ → Note → Option Part → List ℕ → Verdict
-reading z words row cost note part [] = Faulty row EndOfTape
-reading z words row cost note None (f ∷ rows) =
+unfoldable pub reading_on : Size → List ℕ → ℕ → ℕ → Note → Option Part → List ℕ → Verdict
+reading_on z words row cost note part [] = Faulty row EndOfTape
+reading_on z words row cost note None (f ∷ rows) =
     elim (nat_lt f 32) [
-      | true ↦ reading z words (row + 1) (cost + 6) note (Some (part_of f)) rows
+      | true ↦ reading_on z words (row + 1) (cost + 6) note (Some (part_of f)) rows
       | false ↦ Faulty row BadRow
     ]
-reading z words row cost note (Some part) (c ∷ rows) =
+reading_on z words row cost note (Some part) (c ∷ rows) =
     elim (taken z (row_kind c) (over note.placed words) (setting_of note) part c) [
       | Refused cause ↦ Faulty row cause
-      | Longer longer k ↦ reading z words (row + 1) (cost + k) note (Some longer) rows
-      | Ended setting k ↦ reading z words (row + 1) (cost + k) (set_by setting note) None rows
-      | Placed at word ↦ reading z words (row + 1) (cost + 17) (placed_by at word note) None rows
+      | Longer longer k ↦ reading_on z words (row + 1) (cost + k) note (Some longer) rows
+      | Ended setting k ↦ reading_on z words (row + 1) (cost + k) (set_by setting note) None rows
+      | Placed at word ↦ reading_on z words (row + 1) (cost + 17) (placed_by at word note) None rows
       | Entered at ↦ Arrived (entry_by words row cost note part c rows at)
     ]
 
@@ -167,16 +167,16 @@ IsTaken setting (Entered at) = at < 1024
 
 -- the reading and the rules over items say the same of every tape, from every opening state
 pub record ReadingIsRules (z : Size) (words : List ℕ) (start : Note) (base : ℕ) (rows : List ℕ) : Type 0 where
-  pub faulty : (row : ℕ) (cause : TapeCause) → reading z words 0 base start None rows ≡ Faulty row cause
+  pub faulty : (row : ℕ) (cause : TapeCause) → reading_on z words 0 base start None rows ≡ Faulty row cause
       → IsFault z words start rows row cause
   pub found : (row : ℕ) (cause : TapeCause) → IsFault z words start rows row cause
-      → reading z words 0 base start None rows ≡ Faulty row cause
-  pub well : (e : Entry) → reading z words 0 base start None rows ≡ Arrived e → WellFormed z words start rows
-  pub comes : (e : Entry) → reading z words 0 base start None rows ≡ Arrived e → ComesTo words start base rows e
-  pub arrived : (e : Entry) → WellFormed z words start rows → ComesTo words start base rows e
-      → reading z words 0 base start None rows ≡ Arrived e
+      → reading_on z words 0 base start None rows ≡ Faulty row cause
+  pub well : (e : TapeEntry) → reading_on z words 0 base start None rows ≡ Arrived e → WellFormed z words start rows
+  pub comes : (e : TapeEntry) → reading_on z words 0 base start None rows ≡ Arrived e → ComesTo words start base rows e
+  pub arrived : (e : TapeEntry) → WellFormed z words start rows → ComesTo words start base rows e
+      → reading_on z words 0 base start None rows ≡ Arrived e
   -- every tape is well formed and comes to an entry, or has a fault
-  pub either : (WellFormed z words start rows × ((e : Entry) × ComesTo words start base rows e))
+  pub either : (WellFormed z words start rows × ((e : TapeEntry) × ComesTo words start base rows e))
       ⊎ ((row : ℕ) × (cause : TapeCause) × IsFault z words start rows row cause)
 
 -- that holds from every opening state whose directive is an order P, E or T

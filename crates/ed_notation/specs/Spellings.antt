@@ -4,7 +4,7 @@ use Rattle.std.specs.Prelude.{ℕ, ◌≡◌, ◌≢◌, ◌/◌, ◌%◌, Bool,
 use Rattle.std.specs.Prelude.{nat_le, nat_lt, if◌then◌else◌, List, [], ◌∷◌, ◌++◌}
 use Rattle.ed_codes.specs.Spelling.{byte_of}
 use Rattle.ed_notation.specs.declared.item.Item.{Item}
-use Rattle.ed_notation.specs.Items.{row_kind, ends, Written, IsWritten, rows_of, spelled, items, Spells}
+use Rattle.ed_notation.specs.Items.{row_kind, ends, Written, IsWritten, rows_of, spelled, items, SpellsItem}
 
 -- all of them are rows of items
 abbrev pub AreWritten : List Written → Type 0
@@ -67,12 +67,12 @@ pub record IsSpelling (is : List Item) (rows : List ℕ) : Type 0 where
 -- no spelling of an item is a proper prefix of a spelling of an item, and no rows spell two items
 abbrev pub NoSpellingBeginsAnother : Type 0
 NoSpellingBeginsAnother =
-    (i j : Item) (rows more : List ℕ) → Spells i rows → Spells j (rows ++ more) → (i ≡ j) × (more ≡ [])
+    (i j : Item) (rows more : List ℕ) → SpellsItem i rows → SpellsItem j (rows ++ more) → (i ≡ j) × (more ≡ [])
 
 -- the items that can be spelled are those that rows spell
 pub record SpellableIsSpelled (i : Item) : Type 0 where
-  pub spelled : is_spellable i ≡ true → (rows : List ℕ) × Spells i rows
-  pub spellable : (rows : List ℕ) → Spells i rows → is_spellable i ≡ true
+  pub spelled : is_spellable i ≡ true → (rows : List ℕ) × SpellsItem i rows
+  pub spellable : (rows : List ℕ) → SpellsItem i rows → is_spellable i ≡ true
 
 -- the bytes of an item's rows from one on and a line feed: the function row is a letter or sign, a digit row a digit,
 -- and every other row a letter or sign

@@ -1,7 +1,7 @@
 ghost use Rattle.std.specs.Prelude.{◌≡◌, ◌+◌, ◌*◌, ◌%◌, ◌≤◌, ◌^◌, IfOk, false, length, replicate};
 ghost use Rattle.ed_notation.specs.Openings.{IsDirective, opening, opening_with};
 ghost use Rattle.ed_notation.specs.Reading.{ReadingAlwaysIsRules};
-ghost use Rattle.ed_notation.specs.Checks.{Answers, ContentIsMapOrStore, Reads};
+ghost use Rattle.ed_notation.specs.Checks.{AnswersCheck, ContentIsMapOrStore, ReadsCopy};
 
 use crate::cause::{TapeCause, TapeFault};
 use crate::checked::Checked;
@@ -23,7 +23,7 @@ const THETA: u16 = 42;
 /// Whether a whole tape is well formed from a store, for a machine of this size: what it comes to, or its fault.
 pub fn check(alloc: Global, size: Size, store: &Store, rows: &[Code]) -> Result<Checked, TapeFault>
     requires { length rows.now ≤ 2 ^ 32 }
-    ensures answers { Answers size store.now.words (opening store.now.words) 9 rows.now result }
+    ensures answers { AnswersCheck size store.now.words (opening store.now.words) 9 rows.now result }
     ensures bound { IfOk result (λ c. c.orders ≤ 17 * c.rows + 9) }
     ensures program { ReadingAlwaysIsRules }
     ensures contents { ContentIsMapOrStore }
@@ -44,7 +44,7 @@ pub fn check_from(
     requires least { 20480 ≤ directive }
     requires most { directive ≤ 22526 }
     requires rows { length rows.now ≤ 2 ^ 32 }
-    ensures answers { Answers size store.now.words (opening_with directive store.now.words) 2 rows.now result }
+    ensures answers { AnswersCheck size store.now.words (opening_with directive store.now.words) 2 rows.now result }
     ensures bound { IfOk result (λ c. c.orders ≤ 17 * c.rows + 2) }
 {
     check_opened(alloc, size, store, directive, 2, rows)
@@ -62,7 +62,7 @@ fn check_opened(
     requires directive { IsDirective directive }
     requires base { base ≤ 9 }
     requires rows { length rows.now ≤ 2 ^ 32 }
-    ensures answers { Answers size store.now.words (opening_with directive store.now.words) base rows.now result }
+    ensures answers { AnswersCheck size store.now.words (opening_with directive store.now.words) base rows.now result }
     ensures bound { IfOk result (λ c. c.orders ≤ 17 * c.rows + base) }
 {
     let Ok(mut contents) = store.copy() else {
@@ -90,7 +90,7 @@ fn read_rows(
     requires base { base ≤ 9 }
     requires rows { length rows.now ≤ 2 ^ 32 }
     requires placed { placed.old ≡ replicate 1024 false }
-    ensures { Reads size contents.old.words directive base rows.now result contents.new.words placed.new }
+    ensures { ReadsCopy size contents.old.words directive base rows.now result contents.new.words placed.new }
 {
     let mut setting = Setting {
         directive,

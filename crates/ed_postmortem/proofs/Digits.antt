@@ -1,11 +1,11 @@
 -- What the post-mortem prints of a number's digits before its units, and what each digit's printing leaves.
 use Rattle.std.proofs.Common.{◌≡◌, ℕ, zero, suc, ◌+◌, ◌/◌, ◌%◌, ◌<◌, ◌≤◌, refl}
 use Rattle.std.proofs.Common.{ap, sym, ◌∙◌, arith, Bool, true, false, ◌||◌}
-use Rattle.std.proofs.Common.{if◌then◌else◌, nat_lt, nat_le, List, [], ◌∷◌, ◌++◌, Option, Some, length, length-append}
+use Rattle.std.proofs.Common.{if◌then◌else◌, nat_lt, nat_le, List, [], ◌∷◌, ◌++◌, length, length-append}
 use Rattle.std.proofs.lemmas.Bool.Decides.{nat_tests}
 use Rattle.ed_notation.specs.Spellings.{digit_at}
 use Rattle.ed_paths.proofs.Zeros.{shown, begun}
-use Rattle.ed_postmortem.specs.Codes.{before_units, digit_sum}
+use Rattle.ed_postmortem.specs.Codes.{digits_before_units, digit_sum}
 
 -- what is printed of the digits are the digits shown
 is_begun : (b : Bool) (q : ℕ) → begun b q ≡ (b || nat_lt 0 q)
@@ -43,11 +43,11 @@ began n k = begun (begun (begun false (n / 1000)) (n / 100 % 10)) (n / 10 % 10)
 -- what is printed of the three, the sum of their digits, and how many are printed
 pub record Digits (n : ℕ) : Type 0 where
   pub are : shown false (n / 1000) ++ (shown (began n 1) (n / 100 % 10) ++ shown (began n 2) (n / 10 % 10))
-      ≡ before_units n
-  pub sum : n / 1000 + n / 100 % 10 + n / 10 % 10 ≡ digit_sum (before_units n)
+      ≡ digits_before_units n
+  pub sum : n / 1000 + n / 100 % 10 + n / 10 % 10 ≡ digit_sum (digits_before_units n)
   pub count : length (shown false (n / 1000)) + length (shown (began n 1) (n / 100 % 10))
       + length (shown (began n 2) (n / 10 % 10))
-      ≡ length (before_units n)
+      ≡ length (digits_before_units n)
 
 pub digits_are : (n : ℕ) → n < 10000 → Digits n
 digits_are n low =

@@ -10,7 +10,7 @@ use Rattle.ed_notation.specs.declared.item.Item.{Item}
 use Rattle.ed_notation.specs.Items.{rows_of, spelled}
 use Rattle.ed_notation.specs.Fold.{Note, over, is_entry}
 use Rattle.ed_notation.specs.Openings.{opening, IsDirective}
-use Rattle.ed_notation.specs.Faults.{Entry, WellFormed, ComesTo, IsSound}
+use Rattle.ed_notation.specs.Faults.{TapeEntry, WellFormed, ComesTo, EndsSound}
 use Rattle.ed_notation.specs.Spellings.{canonical, canonicals, digits_of, is_spellable}
 use Rattle.ed_notation.proofs.Canonical.{is_written}
 use Rattle.ed_notation.proofs.Cuts.{spelled-append, canonicals-append}
@@ -18,7 +18,7 @@ use Rattle.ed_notation.proofs.Sound.{sound_well}
 use Rattle.ed_notation.proofs.Steps.{Reads, plain, reads_none, reads_one, reads_both}
 use Rattle.ed_notation.proofs.Steps.{aiming, aiming_entry, setting_theta, placing, entering_at}
 use Rattle.ed_notation.proofs.Placing.{placing_all, block, laid, block_cost}
-use Rattle.ed_postmortem.specs.Tape.{orders, parameter, rows_of_text, tape_rows}
+use Rattle.ed_postmortem.specs.Tape.{orders, count_item, rows_of_text, tape_rows}
 
 -- the items that rows without a π spell; of one that has begun, its function and its number so far
 abbrev parsed : Option (ℕ × ℕ) → List ℕ → List Item
@@ -40,7 +40,7 @@ enters = plain 3 56 14 ∷ []
 
 -- all items but the last
 abbrev before : ℕ → ℕ → List Item
-before first count = plain 5 45 14 ∷ parameter first ∷ parameter count ∷ (aims ++ (listing ++ enters))
+before first count = plain 5 45 14 ∷ count_item first ∷ count_item count ∷ (aims ++ (listing ++ enters))
 
 abbrev last : Item
 last = plain 0 0 17
@@ -53,8 +53,8 @@ behind_are = refl
 pub rows_are : (first count : ℕ)
     → tape_rows first count ≡ spelled (canonicals (before first count)) ++ (rows_of (canonical last) ++ [])
 rows_are first count =
-    let f : List ℕ = rows_of (canonical (parameter first)) in
-    let c : List ℕ = rows_of (canonical (parameter count)) in
+    let f : List ℕ = rows_of (canonical (count_item first)) in
+    let c : List ℕ = rows_of (canonical (count_item count)) in
     let rest : List ℕ = spelled (canonicals (aims ++ (listing ++ (enters ++ (last ∷ []))))) in
     let split : (f ++ (c ++ [])) ++ rest ≡ f ++ (c ++ rest) = append_assoc f (c ++ []) rest
     ∙ ap (λ x. f ++ x) (append_assoc c [] rest) in
@@ -65,7 +65,7 @@ rows_are first count =
     ∙ ap (λ x. rows_of_text (codes "T45K") ++ x) split
     ∙ whole
 
-parameter_spellable : (n : ℕ) → n ≤ 1024 → is_spellable (parameter n) ≡ true
+parameter_spellable : (n : ℕ) → n ≤ 1024 → is_spellable (count_item n) ≡ true
 parameter_spellable n h = rw (le_true n 32767 (omega arith)) refl
 
 module _ (z : Size) (words : List ℕ) (first count : ℕ) (f_fits : first ≤ 1024) (c_fits : count ≤ 1024) where
@@ -80,7 +80,7 @@ module _ (z : Size) (words : List ℕ) (first count : ℕ) (f_fits : first ≤ 1
   low a h = omega (arith, least z)
 
   -- T 45 K, the parameters, T 56 K and G K
-  head : Reads z words (opening words) (plain 5 45 14 ∷ parameter first ∷ parameter count ∷ aims) at_head
+  head : Reads z words (opening words) (plain 5 45 14 ∷ count_item first ∷ count_item count ∷ aims) at_head
       (148 + 9 * (length (digits_of first) + length (digits_of count)))
   head =
       let theta : ℕ = (opening words).theta in
@@ -88,15 +88,15 @@ module _ (z : Size) (words : List ℕ) (first count : ℕ) (f_fits : first ≤ 1
       let n2 : Note = record { directive = 20480 + 2 * 46; theta = theta; placed = (45, 2 * first) ∷ [] } in
       let n3 : Note = record { directive = 20480 + 2 * 47; theta = theta; placed = parameters } in
       let n4 : Note = record { directive = 20480 + 2 * 56; theta = theta; placed = parameters } in
-      let r5 = reads_one z words n4 at_head (plain 27 0 14) [] at_head _ refl
+      let r5 = reads_one z words (plain 27 0 14) refl
       (setting_theta z words n4 56 (lit≤ tt) refl)
       (reads_none z words at_head) in
-      let r4 = reads_one z words n3 n4 (plain 5 56 14) _ at_head _ refl (aiming z words n3 56 (lit≤ tt)) r5 in
-      let r3 = reads_one z words n2 n3 (parameter count) _ at_head _ (parameter_spellable count c_fits)
-      (placing z words n2 (parameter count) 46 (2 * count) refl refl (lit≤ tt) (low 46 (lit< tt)) (omega arith)) r4 in
-      let r2 = reads_one z words n1 n2 (parameter first) _ at_head _ (parameter_spellable first f_fits)
-      (placing z words n1 (parameter first) 45 (2 * first) refl refl (lit≤ tt) (low 45 (lit< tt)) (omega arith)) r3 in
-      let r1 = reads_one z words (opening words) n1 (plain 5 45 14) _ at_head _ refl
+      let r4 = reads_one z words (plain 5 56 14) refl (aiming z words n3 56 (lit≤ tt)) r5 in
+      let r3 = reads_one z words (count_item count) (parameter_spellable count c_fits)
+      (placing z words 46 refl refl (lit≤ tt) (low 46 (lit< tt)) (omega arith)) r4 in
+      let r2 = reads_one z words (count_item first) (parameter_spellable first f_fits)
+      (placing z words 45 refl refl (lit≤ tt) (low 45 (lit< tt)) (omega arith)) r3 in
+      let r1 = reads_one z words (plain 5 45 14) refl
       (aiming z words (opening words) 45 (lit≤ tt)) r2 in
       record {
         are_read = r1.are_read;
@@ -119,13 +119,13 @@ module _ (z : Size) (words : List ℕ) (first count : ℕ) (f_fits : first ≤ 1
   at_last = record { directive = 12288 + 2 * 56; theta = 112; placed = placed_all }
 
   places : Reads z words at_head listing at_orders (block_cost listing)
-  places = placing_all z words (over parameters words) at_head 56 listing refl refl (lit≤ tt) (omega (arith, least z))
+  places = placing_all (over parameters words) 56 listing refl refl (lit≤ tt) (omega (arith, least z))
       (λ j l. refl)
 
   -- E 56 K
   entry_set : Reads z words at_orders enters at_last 40
   entry_set =
-      let r = reads_one z words at_orders at_last (plain 3 56 14) [] at_last _ refl
+      let r = reads_one z words (plain 3 56 14) refl
       (aiming_entry z words at_orders 56 (lit≤ tt))
       (reads_none z words at_last) in
       record { are_read = r.are_read; are_sound = r.are_sound; folds = r.folds; costs_are = r.costs_are }
@@ -135,12 +135,9 @@ module _ (z : Size) (words : List ℕ) (first count : ℕ) (f_fits : first ≤ 1
 
   all_read : Reads z words (opening words) (before first count) at_last items_cost
   all_read =
-      reads_both z words (opening words) at_head at_last (plain 5 45 14 ∷ parameter first ∷ parameter count ∷ aims)
-      (listing ++ enters)
-      _ _ head
-      (reads_both z words at_head at_orders at_last listing enters _ _ places entry_set)
+      reads_both z words head (reads_both z words places entry_set)
 
-  abbrev pub entry : Entry
+  abbrev pub entry : TapeEntry
   entry = record {
     at = 56;
     word = 0;
@@ -172,7 +169,6 @@ module _ (z : Size) (words : List ℕ) (first count : ℕ) (f_fits : first ≤ 1
       let e = entering_at z words at_last 56 refl (lit≤ tt) (low 56 (lit< tt)) in
       let set : IsDirective 20568 = omega arith in
       subst (WellFormed z words (opening words)) (sym (rows_are first count)) (
-      sound_well z words (opening words) (canonicals (before first count)) (canonical last) [] set all_read.are_read
-      all_read.are_sound
+      sound_well (canonicals (before first count)) [] set all_read.are_read all_read.are_sound
       (is_written last refl) (ap (λ (n : Note). is_entry n last) all_read.folds ∙ e.enters)
-      (subst (λ (n : Note). IsSound z words n (canonical last)) (sym all_read.folds) e.sound))
+      (subst (λ (n : Note). EndsSound z words n (canonical last)) (sym all_read.folds) e.sound))

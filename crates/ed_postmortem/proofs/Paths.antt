@@ -18,7 +18,7 @@ use Rattle.ed_paths.proofs.Moves.{A, S, T, U, O, H, C, L, Z, E_jumps, E_stays, G
 use Rattle.ed_paths.proofs.Paths.{Path, stay, on, prints, followed}
 use Rattle.ed_postmortem.specs.Codes.{decimal, is_even, length_code, length_orders, number_in, word_codes, word_orders}
 use Rattle.ed_postmortem.specs.Codes.{printed_codes, words_orders}
-use Rattle.ed_paths.proofs.Zeros.{flag_of, shown, begun, spared, last_of}
+use Rattle.ed_paths.proofs.Zeros.{flag_of, shown, begun, spared, last_of, taken_away}
 use Rattle.ed_postmortem.proofs.Digits.{began, Digits, digits_are}
 
 -- the cells that change
@@ -48,9 +48,18 @@ abbrev pub ready : ℕ → ℕ → Work → Work
 ready p c w = record w { at5 = 36864 + 2 * p; at8 = 122880 + 2 * p; at83 = 2 * c }
 
 -- the post-mortem at 56, in a store of these words and sandwich digits around it
-module _ (size : Size) (sandwich : List Bool) (room : 56 + 84 ≤ locations size) (ws tape : List ℕ)
-    (at2 : get_or ws 2 0 ≡ 2)
-    (all : length ws ≡ 1024) where
+pub record Given : Type 0 where
+  pub size : Size
+  pub sandwich : List Bool
+  pub room : 56 + 84 ≤ locations size
+  pub ws : List ℕ
+  pub tape : List ℕ
+  pub at2 : get_or ws 2 0 ≡ 2
+  pub all : length ws ≡ 1024
+
+module _ (given : Given) where
+  open given use {size, sandwich, room, ws, tape, at2, all}
+
   abbrev pub f : Frame 84 0
   f = record { size = size; base = 56; top = locations size; under = room; fits = omega arith }
 
@@ -69,36 +78,55 @@ module _ (size : Size) (sandwich : List Bool) (room : 56 + 84 ≤ locations size
     last = last;
   }
 
-  -- while the word at p is printed, with c more to come and the odd digit o: the power of ten at cell j, what is left
-  -- of the number, whether a digit was printed, the digit so far, and what the accumulator was cleared into; then the
-  -- top of the accumulator, the cell of the next order and the last code
-  abbrev pub at : (p c o : ℕ) → ℕ → ℕ → ℕ → ℕ → ℕ → ℕ → ℕ → Option ℕ → Moment
-  at p c o j v flag count spare top i last = moment (record {
-    at5 = 36864 + 2 * p;
-    at8 = 122880 + 2 * p;
-    at19 = 49152 + 2 * (56 + j);
-    at78 = v;
-    at79 = o;
-    at80 = flag;
-    at81 = count;
-    at82 = spare;
-    at83 = 2 * c;
-  }) top (1 * 2 ^ 18) i last
-
-  -- cell j holds twice a power of ten
-  record Power (j t : ℕ) : Type 0 where
+  -- cell j holds twice a power of ten; the tests for it and for the next power leave these numbers
+  record Power (j t before after : ℕ) : Type 0 where
     holds : (w : Work) → get_or (cells w) j 0 ≡ t
     own : nat_lt j 84 ≡ true
     most : t ≤ 2000
+    inside : j < 76
+    low : before < 2 ^ 17
+    next_is : (2 * j + 2 + (2 ^ 17 - 152)) % 2 ^ 17 ≡ after
 
-  module _ (p c o : ℕ) where
+  -- so many orders print the codes of words, and go on before the word at p with c words left
+  record Prints (k : ℕ) (r : Moment) (cs : List ℕ) (p c : ℕ) : Type 0 where
+    pub work : Work
+    pub last : Option ℕ
+    pub unit : ℕ
+    pub path : Path f k r cs (moment (ready p c work) 0 unit 0 last)
+
+  -- the word at p, with c more to come
+  module _ (p c : ℕ) where
+    abbrev v : ℕ
+    v = get_or ws p 0
+
+    -- its odd digit
+    abbrev o : ℕ
+    o = v % 2
+
+    -- while it is printed: the power of ten at cell j, what is left of the number, whether a digit was printed, the
+    -- digit so far, and what the accumulator was cleared into; then the top of the accumulator, the cell of the next
+    -- order and the last code
+    abbrev at : ℕ → ℕ → ℕ → ℕ → ℕ → ℕ → ℕ → Option ℕ → Moment
+    at j left flag count spare top i last = moment (record {
+      at5 = 36864 + 2 * p;
+      at8 = 122880 + 2 * p;
+      at19 = 49152 + 2 * (56 + j);
+      at78 = left;
+      at79 = o;
+      at80 = flag;
+      at81 = count;
+      at82 = spare;
+      at83 = 2 * c;
+    }) top (1 * 2 ^ 18) i last
+
     -- the power is taken away once, and the digit counted
-    subtract : (j t d v u flag spare : ℕ) (last : Option ℕ) → Power j t → v ≡ u + t → v < 4096 → d < 9
-        → Path f 8 (at p c o j v flag (4096 * d) spare 0 18 last) []
-        (at p c o j u flag (4096 * (d + 1)) spare 0 18 last)
-    subtract j t d v u flag spare last power sum low few =
+    subtract : {j t before after flag spare : ℕ} {last : Option ℕ} → Power j t before after → (u d : ℕ) → u + t < 4096
+        → d < 9
+        → Path f 8 (at j (u + t) flag (4096 * d) spare 0 18 last) []
+        (at j u flag (4096 * (d + 1)) spare 0 18 last)
+    subtract {j} {t} power u d low few =
         let most = power.most in
-        on (A 18 (own 78) (short v) refl (omega arith))
+        on (A 18 (own 78) (short (u + t)) refl (omega arith))
         (on (S 19 (own j) (short u) (there_is power.own) (rw (power.holds _) (omega arith)))
         (on (G_stays 20 (own 26) refl (omega arith))
         (on (T 21 (own 78) _ refl refl)
@@ -107,37 +135,26 @@ module _ (size : Size) (sandwich : List Bool) (room : 56 + 84 ≤ locations size
         (on (T 24 (own 81) _ refl refl)
         (on (E_jumps 25 (own 18) refl (lit< tt)) stay)))))))
 
-    -- and q times
-    subtractions : (j t q d v r flag spare : ℕ) (last : Option ℕ) → Power j t → v ≡ q * t + r → v < 4096 → d + q ≤ 9
-        → Path f (8 * q) (at p c o j v flag (4096 * d) spare 0 18 last) []
-        (at p c o j r flag (4096 * (d + q)) spare 0 18 last)
-    subtractions j t zero d v r flag spare last power sum low few =
-        let e : v ≡ r = omega arith in
-        let g : d + 0 ≡ d = omega arith in
-        rw (e, g) stay
-    subtractions j t (suc q) d v r flag spare last power sum low few =
-        let e : 8 * suc q ≡ 8 + 8 * q = omega arith in
-        let g : d + suc q ≡ d + 1 + q = omega arith in
-        rw (e, g) (followed (subtract j t d v (q * t + r) flag spare last power (omega arith) low (omega arith))
-        (subtractions j t q (d + 1) (q * t + r) r flag spare last power refl (omega arith) (omega arith)))
-
     -- the next power
-    next : (j u rest flag count spare v : ℕ) (last : Option ℕ) → j < 76 → v < 2 ^ 17
-        → (2 * j + 2 + (2 ^ 17 - 152)) % 2 ^ 17 ≡ u
-        → Path f 5 (at p c o j rest flag count spare v 35 last) [] (at p c o (j + 1) rest flag count v u 40 last)
-    next j u rest flag count spare v last inside low is =
+    next : {j t before after rest flag count spare : ℕ} {last : Option ℕ} (top : ℕ) → Power j t before after
+        → top < 2 ^ 17
+        → Path f 5 (at j rest flag count spare top 35 last) [] (at (j + 1) rest flag count top after 40 last)
+    next {j} {after = after} top power low =
+        let is = power.next_is in
+        let inside = power.inside in
+        let second = at2 in
         on (T 35 (own 82) _ refl refl)
         (on (A 36 (own 19) (short (49152 + 2 * (56 + j))) refl (omega arith))
         (on (A 37 (out 2 (early 2 (lit≤ tt) (lit< tt) all)) (short (49152 + 2 * (56 + (j + 1)))) refl (omega arith))
         (on (U 38 (own 19) (49152 + 2 * (56 + (j + 1))) refl (omega arith))
-        (on (S 39 (own 70) (short u) refl (omega arith)) stay))))
+        (on (S 39 (own 70) (short after) refl (omega arith)) stay))))
 
     -- a digit is printed, or left out as a zero that leads
-    print_digit : (j q rest flag spare v : ℕ) (last : Option ℕ) → q ≤ 9 → flag ≤ 4096 → 4096 ≤ 4096 * q + flag
-        → v < 2 ^ 17
-        → Path f 9 (at p c o j rest flag (4096 * q) spare v 26 last) (q ∷ [])
-        (at p c o j rest 4096 (4096 * q) (4096 * q + flag - 4096) 0 35 (Some q))
-    print_digit j q rest flag spare v last few low some fits =
+    print_digit : {rest spare : ℕ} {last : Option ℕ} (j q flag top : ℕ) → q ≤ 9 → flag ≤ 4096
+        → 4096 ≤ 4096 * q + flag → top < 2 ^ 17
+        → Path f 9 (at j rest flag (4096 * q) spare top 26 last) (q ∷ [])
+        (at j rest 4096 (4096 * q) (4096 * q + flag - 4096) 0 35 (Some q))
+    print_digit j q flag top few low some fits =
         on (T 26 (own 82) _ refl refl)
         (on (A 27 (own 81) (short (4096 * q)) refl (omega arith))
         (on (A 28 (own 80) (short (4096 * q + flag)) refl (omega arith))
@@ -148,9 +165,9 @@ module _ (size : Size) (sandwich : List Bool) (room : 56 + 84 ≤ locations size
         (on (A 33 (own 68) (short 4096) refl refl)
         (on (T 34 (own 80) _ refl refl) stay))))))))
 
-    skip_digit : (j rest spare v : ℕ) (last : Option ℕ) → v < 2 ^ 17
-        → Path f 5 (at p c o j rest 0 0 spare v 26 last) [] (at p c o j rest 0 0 v 126976 35 last)
-    skip_digit j rest spare v last fits =
+    skip_digit : {rest spare : ℕ} {last : Option ℕ} (j top : ℕ) → top < 2 ^ 17
+        → Path f 5 (at j rest 0 0 spare top 26 last) [] (at j rest 0 0 top 126976 35 last)
+    skip_digit j top fits =
         on (T 26 (own 82) _ refl refl)
         (on (A 27 (own 81) (short 0) refl refl)
         (on (A 28 (own 80) (short 0) refl refl)
@@ -158,53 +175,53 @@ module _ (size : Size) (sandwich : List Bool) (room : 56 + 84 ≤ locations size
         (on (G_jumps 30 (own 35) refl (lit≤ tt)) stay))))
 
     -- from the test of a digit to the test for the next power
-    show : (j q u rest spare v : ℕ) (b : Bool) (last : Option ℕ) → j < 76 → q ≤ 9 → v < 2 ^ 17
-        → (2 * j + 2 + (2 ^ 17 - 152)) % 2 ^ 17 ≡ u
-        → Path f (10 + 4 * length (shown b q)) (at p c o j rest (flag_of b) (4096 * q) spare v 26 last) (shown b q)
-        (at p c o (j + 1) rest (flag_of (begun b q)) (4096 * q) (spared b q) u 40 (last_of last (shown b q)))
-    show j zero u rest spare v false last inside few fits is =
-        followed (skip_digit j rest spare v last fits) (next j u rest 0 0 v 126976 last inside (lit< tt) is)
-    show j (suc q) u rest spare v false last inside few fits is =
-        followed (print_digit j (suc q) rest 0 spare v last few (lit≤ tt) (omega arith) fits)
-        (next j u rest 4096 (4096 * suc q) (4096 * suc q + 0 - 4096) 0 (Some (suc q)) inside (lit< tt) is)
-    show j q u rest spare v true last inside few fits is =
-        followed (print_digit j q rest 4096 spare v last few (lit≤ tt) (omega arith) fits)
-        (next j u rest 4096 (4096 * q) (4096 * q + 4096 - 4096) 0 (Some q) inside (lit< tt) is)
+    show : {j t before after rest spare : ℕ} {last : Option ℕ} (q top : ℕ) (b : Bool) → Power j t before after
+        → q ≤ 9 → top < 2 ^ 17
+        → Path f (10 + 4 * length (shown b q)) (at j rest (flag_of b) (4096 * q) spare top 26 last) (shown b q)
+        (at (j + 1) rest (flag_of (begun b q)) (4096 * q) (spared b q) after 40 (last_of last (shown b q)))
+    show {j} zero top false power few fits = followed (skip_digit j top fits) (next 126976 power (lit< tt))
+    show {j} (suc q) top false power few fits =
+        followed (print_digit j (suc q) 0 top few (lit≤ tt) (omega arith) fits) (next 0 power (lit< tt))
+    show {j} q top true power few fits =
+        followed (print_digit j q 4096 top few (lit≤ tt) (omega arith) fits) (next 0 power (lit< tt))
 
     -- a digit before the units
-    turn : (j t q u v r spare count top : ℕ) (b : Bool) (last : Option ℕ) → Power j t → v ≡ q * t + r → r < t
-        → v < 4096 → q ≤ 9
-        → top < 2 ^ 17 → j < 76 → (2 * j + 2 + (2 ^ 17 - 152)) % 2 ^ 17 ≡ u
-        → Path f (15 + 8 * q + 4 * length (shown b q)) (at p c o j v (flag_of b) count spare top 16 last) (shown b q)
-        (at p c o (j + 1) r (flag_of (begun b q)) (4096 * q) (spared b q) u 40 (last_of last (shown b q)))
-    turn j t q u v r spare count top b last power sum less low few fits inside is =
+    turn : {j t before after left spare count : ℕ} {last : Option ℕ} (q r : ℕ) (b : Bool) → Power j t before after
+        → (left ≡ q * t + r) × (r < t) → left < 4096 → q ≤ 9
+        → Path f (15 + 8 * q + 4 * length (shown b q)) (at j left (flag_of b) count spare before 16 last) (shown b q)
+        (at (j + 1) r (flag_of (begun b q)) (4096 * q) (spared b q) after 40 (last_of last (shown b q)))
+    turn {j} {t} {before} {after} {left} {spare} {count} {last} q r b power parts low few =
         let most = power.most in
+        let fits = power.low in
+        let sum = parts.0 in
+        let less = parts.1 in
         let n : 15 + 8 * q + 4 * length (shown b q) ≡ 2 + (8 * q + (3 + (10 + 4 * length (shown b q)))) = omega arith in
-        let first : Path f 2 (at p c o j v (flag_of b) count spare top 16 last) []
-        (at p c o j v (flag_of b) (4096 * 0) top 0 18 last)
+        let first : Path f 2 (at j left (flag_of b) count spare before 16 last) []
+        (at j left (flag_of b) (4096 * 0) before 0 18 last)
         = on (T 16 (own 82) _ refl refl) (on (T 17 (own 81) 0 refl refl) stay) in
-        let last_try : Path f 3 (at p c o j r (flag_of b) (4096 * q) top 0 18 last) []
-        (at p c o j r (flag_of b) (4096 * q) top (r + (2 ^ 17 - t)) 26 last)
+        let last_try : Path f 3 (at j r (flag_of b) (4096 * q) before 0 18 last) []
+        (at j r (flag_of b) (4096 * q) before (r + (2 ^ 17 - t)) 26 last)
         = on (A 18 (own 78) (short r) refl (omega arith))
         (on (S 19 (own j) (short (r + (2 ^ 17 - t))) (there_is power.own) (rw (power.holds _) (omega arith)))
         (on (G_jumps 20 (own 26) refl (omega arith)) stay)) in
         let z : 0 + q ≡ q = omega arith in
-        let loop : Path f (8 * q) (at p c o j v (flag_of b) (4096 * 0) top 0 18 last) []
-        (at p c o j r (flag_of b) (4096 * q) top 0 18 last)
-        = rw z at (subtractions j t q 0 v r (flag_of b) top last power sum low (omega arith)) in
+        let loop : Path f (8 * q) (at j left (flag_of b) (4096 * 0) before 0 18 last) []
+        (at j r (flag_of b) (4096 * q) before 0 18 last)
+        = rw sum (rw z at (taken_away (λ u d. at j u (flag_of b) (4096 * d) before 0 18 last) t 4096 (subtract power)
+        q 0 r (omega arith, omega arith))) in
         rw n (followed first (followed loop
-        (followed last_try (show j q u r top (r + (2 ^ 17 - t)) b last inside few (omega arith) is))))
+        (followed last_try (show q (r + (2 ^ 17 - t)) b power few (omega arith)))))
 
     -- a power is left
-    again : (j rest flag count spare u : ℕ) (last : Option ℕ) → 2 ^ 16 ≤ u
-        → Path f 1 (at p c o j rest flag count spare u 40 last) [] (at p c o j rest flag count spare u 16 last)
-    again j rest flag count spare u last high = on (G_jumps 40 (own 16) refl (omega arith)) stay
+    again : {rest flag count spare : ℕ} {last : Option ℕ} (j u : ℕ) → 2 ^ 16 ≤ u
+        → Path f 1 (at j rest flag count spare u 40 last) [] (at j rest flag count spare u 16 last)
+    again j u high = on (G_jumps 40 (own 16) refl (omega arith)) stay
 
     -- the units, and the code before the length
-    units : (d u flag count spare : ℕ) (last : Option ℕ) → d ≤ 9 → o < 2 → (o + (2 ^ 17 - 1)) % 2 ^ 17 ≡ u
-        → Path f 9 (at p c o 76 (2 * d + o) flag count spare 0 40 last) (d ∷ 15 ∷ [])
-        (at p c o 76 (2 * d + o) flag (4096 * d) spare u 49 (Some 15))
-    units d u flag count spare last few bit is =
+    units : {flag count spare : ℕ} {last : Option ℕ} (d u : ℕ) → d ≤ 9 → o < 2 → (o + (2 ^ 17 - 1)) % 2 ^ 17 ≡ u
+        → Path f 9 (at 76 (2 * d + o) flag count spare 0 40 last) (d ∷ 15 ∷ [])
+        (at 76 (2 * d + o) flag (4096 * d) spare u 49 (Some 15))
+    units d u few bit is =
         on (G_stays 40 (own 16) refl (lit< tt))
         (on (A 41 (own 78) (short (2 * d + o)) refl (omega arith))
         (on (S 42 (own 79) (short (2 * d)) refl (omega arith))
@@ -216,33 +233,48 @@ module _ (size : Size) (sandwich : List Bool) (room : 56 + 84 ≤ locations size
         (on (S 48 (own 67) (short u) refl (omega arith)) stay))))))))
 
     -- the length of an even and of an odd word
-    length_even : (v flag count spare : ℕ) (last : Option ℕ)
-        → Path f 3 (at p c o 76 v flag count spare 131071 49 last) (17 ∷ [])
-        (at p c o 76 v flag count spare 131071 53 (Some 17))
-    length_even v flag count spare last =
+    length_even : {left flag count spare : ℕ} {last : Option ℕ}
+        → Path f 3 (at 76 left flag count spare 131071 49 last) (17 ∷ [])
+        (at 76 left flag count spare 131071 53 (Some 17))
+    length_even =
         on (E_stays 49 (own 52) refl (lit≤ tt))
         (prints (O 50 (own 71) 17 refl refl) (on (G_jumps 51 (own 53) refl (lit≤ tt)) stay))
 
-    length_odd : (v flag count spare : ℕ) (last : Option ℕ)
-        → Path f 2 (at p c o 76 v flag count spare 0 49 last) (19 ∷ []) (at p c o 76 v flag count spare 0 53 (Some 19))
-    length_odd v flag count spare last =
+    length_odd : {left flag count spare : ℕ} {last : Option ℕ}
+        → Path f 2 (at 76 left flag count spare 0 49 last) (19 ∷ []) (at 76 left flag count spare 0 53 (Some 19))
+    length_odd =
         on (E_jumps 49 (own 52) refl (lit< tt)) (prints (O 52 (own 72) 19 refl refl) stay)
 
+    -- by whether the word is even
+    length_printed : {left flag count spare : ℕ} {last : Option ℕ} (u : ℕ) (e : Bool) → o < 2 → nat_eq o 0 ≡ e
+        → (o + (2 ^ 17 - 1)) % 2 ^ 17 ≡ u
+        → Path f (1 + length_orders e) (at 76 left flag count spare u 49 last) (length_code e ∷ [])
+        (at 76 left flag count spare u 53 (Some (length_code e)))
+    length_printed u true bit is sum =
+        let z : o ≡ 0 = grind (arith, nat_tests) in
+        let u : u ≡ 131071 = omega arith in
+        rw u length_even
+    length_printed u false bit is sum =
+        let z : o ≡ 1 = grind (arith, nat_tests) in
+        let u : u ≡ 0 = omega arith in
+        rw u length_odd
+
     -- a new line, and the two orders that name the word's place are moved on
-    moved_on : (v flag count spare u : ℕ) (last : Option ℕ) → p < 1024
-        → Path f 10 (at p c o 76 v flag count spare u 53 last) (18 ∷ 24 ∷ [])
+    moved_on : {left flag count spare : ℕ} {last : Option ℕ} (u : ℕ) → p < 1024
+        → Path f 10 (at 76 left flag count spare u 53 last) (18 ∷ 24 ∷ [])
         (moment (record {
           at5 = 36864 + 2 * (p + 1);
           at8 = 122880 + 2 * (p + 1);
           at19 = 49152 + 2 * (56 + 76);
-          at78 = v;
+          at78 = left;
           at79 = o;
           at80 = flag;
           at81 = count;
           at82 = u;
           at83 = 2 * c;
         }) 0 (1 * 2 ^ 18) 0 (Some 24))
-    moved_on v flag count spare u last low =
+    moved_on u low =
+        let second = at2 in
         prints (O 53 (own 76) 18 refl refl)
         (prints (O 54 (own 77) 24 refl refl)
         (on (T 55 (own 82) _ refl refl)
@@ -254,119 +286,90 @@ module _ (size : Size) (sandwich : List Bool) (room : 56 + 84 ≤ locations size
         (on (T 61 (own 8) _ refl refl)
         (on (E_jumps 62 (own 0) refl (lit< tt)) stay)))))))))
 
-  -- the count is tested, and the function of the word at p is printed; its number and its length are kept
-  opened : (w : Work) (c v p m : ℕ) (last : Option ℕ) → c < 1024 → IsOutside f ws p → get_or ws p 0 ≡ v → v < 2 ^ 17
-      → Path f 16 (moment (ready p (c + 1) w) 0 m 0 last) (15 ∷ v / 4096 ∷ 11 ∷ [])
-      (at p c (v % 2) 73 (v % 4096) 0 w.at81 w.at82 0 16 (Some 11))
-  opened w c v p m last few away word fits =
-      on (A 0 (own 83) (short (2 * (c + 1))) refl (omega arith))
-      (on (S 1 (out 2 (early 2 (lit≤ tt) (lit< tt) all)) (short (2 * c)) refl (omega arith))
-      (on (G_stays 2 (own 63) refl (omega arith))
-      (on (T 3 (own 83) _ refl refl)
-      (prints (O 4 (own 64) 15 refl refl)
-      (prints (O 5 (out p away) (v / 4096) refl (omega arith))
-      (prints (O 6 (own 65) 11 refl refl)
-      (on (H 7 (own 66) refl)
-      (on (C 8 (out p away) (v % 4096 * 2 ^ 18) (short (v % 4096)) refl (rw word (common_4095 v fits)) (omega arith))
-      (on (T 9 (own 78) _ refl refl)
-      (on (H 10 (own 67) refl)
-      (on (C 11 (own 78) (v % 2 * 2 ^ 18) (short (v % 2)) refl (common_1 (v % 4096) (omega arith) ∙ omega arith)
-      (omega arith))
-      (on (T 12 (own 79) _ refl refl)
-      (on (T 13 (own 80) 0 refl refl)
-      (on (A 14 (own 69) (short 49410) refl refl)
-      (on (T 15 (own 19) _ refl refl) stay)))))))))))))))
+    -- the count is tested, and the function of the word at p is printed; its number and its length are kept
+    opened : (w : Work) (m : ℕ) (last : Option ℕ) → c < 1024 → IsOutside f ws p → v < 2 ^ 17
+        → Path f 16 (moment (ready p (c + 1) w) 0 m 0 last) (15 ∷ v / 4096 ∷ 11 ∷ [])
+        (at 73 (v % 4096) 0 w.at81 w.at82 0 16 (Some 11))
+    opened w m last few away fits =
+        let second = at2 in
+        on (A 0 (own 83) (short (2 * (c + 1))) refl (omega arith))
+        (on (S 1 (out 2 (early 2 (lit≤ tt) (lit< tt) all)) (short (2 * c)) refl (omega arith))
+        (on (G_stays 2 (own 63) refl (omega arith))
+        (on (T 3 (own 83) _ refl refl)
+        (prints (O 4 (own 64) 15 refl refl)
+        (prints (O 5 (out p away) (v / 4096) refl (omega arith))
+        (prints (O 6 (own 65) 11 refl refl)
+        (on (H 7 (own 66) refl)
+        (on (C 8 (out p away) (v % 4096 * 2 ^ 18) (short (v % 4096)) refl (common_4095 v fits) (omega arith))
+        (on (T 9 (own 78) _ refl refl)
+        (on (H 10 (own 67) refl)
+        (on (C 11 (own 78) (v % 2 * 2 ^ 18) (short (v % 2)) refl (common_1 (v % 4096) (omega arith) ∙ omega arith)
+        (omega arith))
+        (on (T 12 (own 79) _ refl refl)
+        (on (T 13 (own 80) 0 refl refl)
+        (on (A 14 (own 69) (short 49410) refl refl)
+        (on (T 15 (own 19) _ refl refl) stay)))))))))))))))
 
-  -- what is printed of a word's length, by whether it is even
-  length_printed : (p c o v flag count spare u : ℕ) (e : Bool) (last : Option ℕ) → o < 2 → nat_eq o 0 ≡ e
-      → (o + (2 ^ 17 - 1)) % 2 ^ 17 ≡ u
-      → Path f (1 + length_orders e) (at p c o 76 v flag count spare u 49 last) (length_code e ∷ [])
-      (at p c o 76 v flag count spare u 53 (Some (length_code e)))
-  length_printed p c o v flag count spare u true last bit is sum =
-      let z : o ≡ 0 = grind (arith, nat_tests) in
-      let u : u ≡ 131071 = omega arith in
-      rw u (length_even p c o v flag count spare last)
-  length_printed p c o v flag count spare u false last bit is sum =
-      let z : o ≡ 1 = grind (arith, nat_tests) in
-      let u : u ≡ 0 = omega arith in
-      rw u (length_odd p c o v flag count spare last)
-
-  -- so many orders print the codes of words, and go on before the word at p with c words left
-  record Prints (k : ℕ) (r : Moment) (cs : List ℕ) (p c : ℕ) : Type 0 where
-    pub work : Work
-    pub last : Option ℕ
-    pub unit : ℕ
-    pub path : Path f k r cs (moment (ready p c work) 0 unit 0 last)
-
-  -- a word
-  word : (w : Work) (c v p m : ℕ) (last : Option ℕ) → c < 1024 → IsOutside f ws p → get_or ws p 0 ≡ v → v < 2 ^ 17
-      → Prints (word_orders v) (moment (ready p (c + 1) w) 0 m 0 last) (word_codes v) (p + 1) c
-  word w c v p m last few away is fits =
-      let n : ℕ = number_in v in
-      let o : ℕ = v % 2 in
-      let q1 : ℕ = n / 1000 in
-      let q2 : ℕ = n / 100 % 10 in
-      let q3 : ℕ = n / 10 % 10 in
-      let d : ℕ = n % 10 in
-      let r1 : ℕ = 2 * (n % 1000) + o in
-      let r2 : ℕ = 2 * (n % 100) + o in
-      let e : Bool = is_even v in
-      let u : ℕ = (o + (2 ^ 17 - 1)) % 2 ^ 17 in
-      let b1 : Bool = began n 1 in
-      let b2 : Bool = began n 2 in
-      let b3 : Bool = began n 3 in
-      let p1 : Power 73 2000 = record { holds = λ w. refl; own = refl; most = lit≤ tt } in
-      let p2 : Power 74 200 = record { holds = λ w. refl; own = refl; most = lit≤ tt } in
-      let p3 : Power 75 20 = record { holds = λ w. refl; own = refl; most = lit≤ tt } in
-      let l1 : Option ℕ = last_of (Some 11) (shown false q1) in
-      let l2 : Option ℕ = last_of l1 (shown b1 q2) in
-      let l3 : Option ℕ = last_of l2 (shown b2 q3) in
-      let low : v % 4096 < 4096 = omega arith in
-      let g : Digits n = digits_are n (omega arith) in
-      let t1 : ℕ = 15 + 8 * q1 + 4 * length (shown false q1) in
-      let t2 : ℕ = 15 + 8 * q2 + 4 * length (shown b1 q2) in
-      let t3 : ℕ = 15 + 8 * q3 + 4 * length (shown b2 q3) in
-      let orders : word_orders v ≡ 16 + (t1 + (1 + (t2 + (1 + (t3 + (9 + (1 + length_orders e + 10))))))) =
-      omega (arith, g.sum, g.count) in
-      let codes : decimal n ++ (15 ∷ length_code e ∷ 18 ∷ 24 ∷ [])
-      ≡ shown false q1 ++ (shown b1 q2 ++ (shown b2 q3 ++ (d ∷ 15 ∷ length_code e ∷ 18 ∷ 24 ∷ []))) =
-      ap (λ x. (x ++ (d ∷ [])) ++ (15 ∷ length_code e ∷ 18 ∷ 24 ∷ [])) (sym g.are)
-      ∙ append_assoc (shown false q1 ++ (shown b1 q2 ++ shown b2 q3)) (d ∷ []) _
-      ∙ append_assoc (shown false q1) (shown b1 q2 ++ shown b2 q3) _
-      ∙ ap (λ x. shown false q1 ++ x) (append_assoc (shown b1 q2) (shown b2 q3) _) in
-      record {
-        work = record {
-          at5 = 0;
-          at8 = 0;
-          at19 = 49152 + 2 * (56 + 76);
-          at78 = 2 * d + o;
-          at79 = o;
-          at80 = flag_of b3;
-          at81 = 4096 * d;
-          at82 = u;
-          at83 = 0;
-        };
-        last = Some 24;
-        unit = 1 * 2 ^ 18;
-        path = rw (orders, codes) (
-            followed (opened w c v p m last few away is fits)
-            (followed (turn p c o 73 2000 q1 131068 (v % 4096) r1 w.at82 w.at81 0 false (Some 11) p1 (omega arith)
-            (omega arith) low
-            (omega arith) (lit< tt) (lit< tt) refl)
-            (followed (again p c o 74 r1 (flag_of b1) (4096 * q1) (spared false q1) 131068 l1 (lit≤ tt))
-            (followed (turn p c o 74 200 q2 131070 r1 r2 (spared false q1) (4096 * q1) 131068 b1 l1 p2 (omega arith)
-            (omega arith)
-            (omega arith) (omega arith) (lit< tt) (lit< tt) refl)
-            (followed (again p c o 75 r2 (flag_of b2) (4096 * q2) (spared b1 q2) 131070 l2 (lit≤ tt))
-            (followed (turn p c o 75 20 q3 0 r2 (2 * d + o) (spared b1 q2) (4096 * q2) 131070 b2 l2 p3 (omega arith)
-            (omega arith)
-            (omega arith) (omega arith) (lit< tt) (lit< tt) refl)
-            (followed (units p c o d u (flag_of b3) (4096 * q3) (spared b2 q3) l3 (omega arith) (omega arith) refl)
-            (followed (length_printed p c o (2 * d + o) (flag_of b3) (4096 * d) (spared b2 q3) u e (Some 15)
-            (omega arith) refl refl)
-            (moved_on p c o (2 * d + o) (flag_of b3) (4096 * d) (spared b2 q3) u (Some (length_code e))
-            (omega (arith, away.below, most size)))))))))));
-      }
+    -- a word
+    word : (w : Work) (m : ℕ) (last : Option ℕ) → c < 1024 → IsOutside f ws p → v < 2 ^ 17
+        → Prints (word_orders v) (moment (ready p (c + 1) w) 0 m 0 last) (word_codes v) (p + 1) c
+    word w m last few away fits =
+        let n : ℕ = number_in v in
+        let q1 : ℕ = n / 1000 in
+        let q2 : ℕ = n / 100 % 10 in
+        let q3 : ℕ = n / 10 % 10 in
+        let d : ℕ = n % 10 in
+        let r1 : ℕ = 2 * (n % 1000) + o in
+        let r2 : ℕ = 2 * (n % 100) + o in
+        let e : Bool = is_even v in
+        let u : ℕ = (o + (2 ^ 17 - 1)) % 2 ^ 17 in
+        let b1 : Bool = began n 1 in
+        let b2 : Bool = began n 2 in
+        let b3 : Bool = began n 3 in
+        let p1 : Power 73 2000 0 131068 =
+        record { holds = λ w. refl; own = refl; most = lit≤ tt; inside = lit< tt; low = lit< tt; next_is = refl } in
+        let p2 : Power 74 200 131068 131070 =
+        record { holds = λ w. refl; own = refl; most = lit≤ tt; inside = lit< tt; low = lit< tt; next_is = refl } in
+        let p3 : Power 75 20 131070 0 =
+        record { holds = λ w. refl; own = refl; most = lit≤ tt; inside = lit< tt; low = lit< tt; next_is = refl } in
+        let low : v % 4096 < 4096 = omega arith in
+        let g : Digits n = digits_are n (omega arith) in
+        let t1 : ℕ = 15 + 8 * q1 + 4 * length (shown false q1) in
+        let t2 : ℕ = 15 + 8 * q2 + 4 * length (shown b1 q2) in
+        let t3 : ℕ = 15 + 8 * q3 + 4 * length (shown b2 q3) in
+        let orders : word_orders v ≡ 16 + (t1 + (1 + (t2 + (1 + (t3 + (9 + (1 + length_orders e + 10))))))) =
+        omega (arith, g.sum, g.count) in
+        let codes : decimal n ++ (15 ∷ length_code e ∷ 18 ∷ 24 ∷ [])
+        ≡ shown false q1 ++ (shown b1 q2 ++ (shown b2 q3 ++ (d ∷ 15 ∷ length_code e ∷ 18 ∷ 24 ∷ []))) =
+        ap (λ x. (x ++ (d ∷ [])) ++ (15 ∷ length_code e ∷ 18 ∷ 24 ∷ [])) (sym g.are)
+        ∙ append_assoc (shown false q1 ++ (shown b1 q2 ++ shown b2 q3)) (d ∷ []) _
+        ∙ append_assoc (shown false q1) (shown b1 q2 ++ shown b2 q3) _
+        ∙ ap (λ x. shown false q1 ++ x) (append_assoc (shown b1 q2) (shown b2 q3) _) in
+        record {
+          work = record {
+            at5 = 0;
+            at8 = 0;
+            at19 = 49152 + 2 * (56 + 76);
+            at78 = 2 * d + o;
+            at79 = o;
+            at80 = flag_of b3;
+            at81 = 4096 * d;
+            at82 = u;
+            at83 = 0;
+          };
+          last = Some 24;
+          unit = 1 * 2 ^ 18;
+          path = rw (orders, codes) (
+              followed (opened w m last few away fits)
+              (followed (turn q1 r1 false p1 (omega arith, omega arith) low (omega arith))
+              (followed (again 74 131068 (lit≤ tt))
+              (followed (turn q2 r2 b1 p2 (omega arith, omega arith) (omega arith) (omega arith))
+              (followed (again 75 131070 (lit≤ tt))
+              (followed (turn q3 (2 * d + o) b2 p3 (omega arith, omega arith) (omega arith) (omega arith))
+              (followed (units d u (omega arith) (omega arith) refl)
+              (followed (length_printed u e (omega arith) refl refl)
+              (moved_on u (omega (arith, away.below, most size)))))))))));
+        }
 
   -- all words: the loop
   words : (c : ℕ) (w : Work) (p m : ℕ) (last : Option ℕ) → 140 ≤ p → p + c ≤ locations size
@@ -381,7 +384,7 @@ module _ (size : Size) (sandwich : List Bool) (room : 56 + 84 ≤ locations size
       let e : suc c ≡ c + 1 = omega arith in
       let g : p + suc c ≡ p + 1 + c = omega arith in
       let away : IsOutside f ws p = record { below = omega arith; beside = inr (omega arith) } in
-      let first = word w c (get_or ws p 0) p m last (omega arith) away refl (low p behind) in
+      let first = word p c w m last (omega arith) away (low p behind) in
       let rest = words c first.work (p + 1) first.unit first.last (omega arith) (omega arith) low in
       let whole : Path f (word_orders (get_or ws p 0) + words_orders ws (p + 1) c)
       (moment (ready p (c + 1) w) 0 m 0 last)
@@ -396,6 +399,7 @@ module _ (size : Size) (sandwich : List Bool) (room : 56 + 84 ≤ locations size
   closed : (w : Work) (p m : ℕ) (last : Option ℕ)
       → Path f 3 (moment (ready p 0 w) 0 m 0 last) [] (moment (ready p 0 w) 131070 m 63 last)
   closed w p m last =
+      let second = at2 in
       on (A 0 (own 83) (short 0) refl refl)
       (on (S 1 (out 2 (early 2 (lit≤ tt) (lit< tt) all)) (short 131070) refl (omega arith))
       (on (G_jumps 2 (own 63) refl (lit≤ tt)) stay))
@@ -415,9 +419,10 @@ module _ (size : Size) (sandwich : List Bool) (room : 56 + 84 ≤ locations size
     pub stops : Does f KindZ (moment (ready (first + count) 0 work) 131070 unit 63 last_code) Stopped
         (moment (ready (first + count) 0 work) 131070 unit 64 last_code)
 
-  pub prints_all : (first count m : ℕ) (w : Work) (last : Option ℕ) → 140 ≤ first → first + count ≤ locations size
+  pub prints_all : {m : ℕ} {w : Work} {last : Option ℕ} (first count : ℕ) → 140 ≤ first
+      → first + count ≤ locations size
       → ((i : ℕ) → 140 ≤ i → get_or ws i 0 < 2 ^ 17) → PrintsAll first count m w last
-  prints_all first count m w last behind fits low =
+  prints_all {m} {w} {last} first count behind fits low =
       let a = words count w first m last behind fits low in
       record {
         work = a.work;

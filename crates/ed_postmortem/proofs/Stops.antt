@@ -1,55 +1,24 @@
 -- A run from a state whose orders lead to a stop ends there, and prints what these orders print.
-use Rattle.std.proofs.Common.{◌≡◌, ℕ, zero, suc, ◌+◌, ◌-◌, ◌<◌, ◌≤◌, ◌⊎◌, inl}
-use Rattle.std.proofs.Common.{inr, refl, ap, ◌∙◌, arith, true, List, ◌++◌, length}
+use Rattle.std.proofs.Common.{◌≡◌, ℕ, suc, ◌-◌, ◌<◌, ◌≤◌, ◌⊎◌, inl}
+use Rattle.std.proofs.Common.{inr, ap, ◌∙◌, arith, true, List, ◌++◌, length}
 use Rattle.std.proofs.Common.{append-nil}
 use Rattle.std.proofs.lemmas.Bool.{cases_lt}
 use Rattle.ed_machine.specs.State.{State}
 use Rattle.ed_machine.specs.OrderTable.{Obeyed, step}
 use Rattle.ed_machine.specs.Sheet.{Sheet}
-use Rattle.ed_machine.specs.Steps.{past, state_after, codes_of, stops_of, is_obeyed}
+use Rattle.ed_machine.specs.Steps.{past, state_after, codes_of, is_obeyed}
 use Rattle.ed_machine.specs.declared.ending.Ending.{Ending}
 use Rattle.ed_machine.specs.declared.ending.Ending.TheVariants.{Stopped}
 use Rattle.ed_machine.specs.declared.turn.Turn.{Turn}
-use Rattle.ed_machine.specs.declared.turn.Turn.TheVariants.{Went, Printed, Stopped as Stops, NoOrder, NoTape}
+use Rattle.ed_machine.specs.declared.turn.Turn.TheVariants.{Stopped as Stops}
 use Rattle.ed_run.specs.Run.{EndsAfter, IsRun}
 use Rattle.ed_run.specs.Laws.{HasRoom}
 use Rattle.ed_run.proofs.Ends.{ends_once}
 use Rattle.ed_run.proofs.Places.{at_stop}
-use Rattle.ed_paths.proofs.Leads.{Leads, goes_on}
-
--- orders after orders
-pub later_state : (j k : ℕ) (s : State) → state_after (j + k) s ≡ state_after k (state_after j s)
-unfolding past
-later_state j zero s = let e : j + 0 ≡ j = omega arith in rw e refl
-later_state j (suc k) s =
-    let e : j + suc k ≡ suc (j + k) = omega arith in rw e (ap (λ (x : State). (step x).state) (later_state j k s))
-
--- a turn that goes on is an order obeyed, and no stop
-obeyed : (turn : Turn) → goes_on turn ≡ true → is_obeyed turn ≡ true
-obeyed Went h = refl
-obeyed (Printed code) h = refl
-obeyed Stops h = cc
-obeyed (NoOrder function) h = cc
-obeyed NoTape h = cc
-
-no_stop : (turn : Turn) → goes_on turn ≡ true → stops_of turn ≡ 0
-no_stop Went h = refl
-no_stop (Printed code) h = refl
-no_stop Stops h = cc
-no_stop (NoOrder function) h = cc
-no_stop NoTape h = cc
-
-none_stops : (k : ℕ) (s : State) → ((j : ℕ) → j < k → goes_on (step (state_after j s)).turn ≡ true)
-    → (past k s).stops ≡ 0
-unfolding past
-none_stops zero s h = refl
-none_stops (suc k) s h =
-    let before = none_stops k s (λ j l. h j (omega arith)) in
-    let here = no_stop (step (state_after k s)).turn (h k (omega arith)) in
-    rw (before, here) refl
+use Rattle.ed_paths.proofs.Leads.{Leads, free, no_stops}
 
 -- k orders lead from s to t, and the next one stops the machine and leaves u
-module _ (k : ℕ) (s t u : State) (codes : List ℕ) (l : Leads k s codes t)
+module _ {k : ℕ} {s t u : State} {codes : List ℕ} (l : Leads k s codes t)
     (last : step t ≡ record { state = u; turn = Stops }) where
   turn_is : (step (state_after k s)).turn ≡ Stops
   turn_is = ap (λ (x : State). (step x).turn) l.state_is ∙ ap (λ (o : Obeyed). o.turn) last
@@ -65,25 +34,25 @@ module _ (k : ℕ) (s t u : State) (codes : List ℕ) (l : Leads k s codes t)
       ap (λ (turn : Turn). (past k s).codes ++ codes_of turn) turn_is ∙ append-nil (past k s).codes ∙ l.codes_are
 
   all_obeyed : (j : ℕ) → (j < k) ⊎ (k ≤ j) → j < suc k → is_obeyed (step (state_after j s)).turn ≡ true
-  all_obeyed j (inl below) h = obeyed (step (state_after j s)).turn (l.goes j below)
+  all_obeyed j (inl below) h = free l j below
   all_obeyed j (inr above) h =
       let e : j ≡ k = omega arith in
       ap (λ i. is_obeyed (step (state_after i s)).turn) e ∙ ap is_obeyed turn_is
 
   -- where a run from there with no resume ends
-  pub run_stops : (limit : ℕ) (sheet full : Sheet) (ending : Ending) (left : State) → suc k ≤ limit
-      → length codes ≤ sheet.room - length sheet.codes → IsRun limit 0 s sheet ending left full
+  pub run_stops : {limit : ℕ} {sheet full : Sheet} {ending : Ending} {left : State}
+      → IsRun limit 0 s sheet ending left full → suc k ≤ limit → length codes ≤ sheet.room - length sheet.codes
       → (left ≡ u) × (full ≡ record { codes = sheet.codes ++ codes; room = sheet.room })
-  run_stops limit sheet full ending left fits roomy run =
+  run_stops {limit} {sheet} {ending = ending} run fits roomy =
       let room : ℕ = sheet.room - length sheet.codes in
       let has : HasRoom room (suc k) s = record {
         obeyed = λ j h. all_obeyed j (cases_lt j k) h;
         printed = rw codes_are roomy;
       } in
       let ends : EndsAfter limit 0 room s (suc k) Stopped =
-      at_stop limit 0 room k s has (none_stops k s l.goes) fits turn_is in
+      at_stop limit 0 has (no_stops k s l.goes) fits turn_is in
       let orders : run.orders ≡ suc k =
-      (ends_once limit 0 room s run.orders (suc k) ending Stopped run.ends ends).0 in (
+      (ends_once run.ends ends).0 in (
         run.state_is ∙ ap (λ j. state_after j s) orders ∙ behind_stop,
         run.sheet_is ∙ (λ i. record {
           codes = sheet.codes ++ (ap (λ j. (past j s).codes) orders ∙ codes_are) i;

@@ -14,7 +14,7 @@ use Rattle.ed_machine.specs.Start.{started}
 use Rattle.ed_machine.specs.declared.ending.Ending.{Ending}
 use Rattle.ed_machine.specs.declared.turn.Turn.TheVariants.{Stopped}
 use Rattle.ed_notation.specs.Fold.{over}
-use Rattle.ed_notation.specs.Faults.{Entry}
+use Rattle.ed_notation.specs.Faults.{TapeEntry}
 use Rattle.ed_notation.proofs.Placing.{block, block_cost, over_laid}
 use Rattle.ed_initial.specs.Listing.{initial_orders}
 use Rattle.ed_initial.specs.Entry.{Comes, IsLoaded, at_entry, entry_words}
@@ -24,17 +24,18 @@ use Rattle.ed_initial.specs.declared.loading.Loaded.{Loaded}
 use Rattle.ed_run.specs.Run.{IsRun}
 use Rattle.ed_paths.proofs.Frames.{Frame, Moment, state}
 use Rattle.ed_paths.proofs.Leads.{Leads}
+use Rattle.ed_machine.proofs.Steps.{after_sum}
 use Rattle.ed_paths.proofs.Paths.{leads}
 use Rattle.ed_paths.proofs.Window.{patched, get_below, get_above}
-use Rattle.ed_postmortem.specs.Answers.{IsLeft, InRange, IsPrinted, begun_on, needed_of, room_of}
+use Rattle.ed_postmortem.specs.Answers.{IsUntouched, InRange, IsPrinted, begun_on, needed_of, room_of}
 use Rattle.ed_postmortem.specs.Codes.{printed_codes, words_orders}
 use Rattle.ed_postmortem.specs.Tape.{tape_rows}
 use Rattle.ed_postmortem.proofs.Entry.{listing, parameters}
 use Rattle.ed_postmortem.proofs.Entry as tape
 use Rattle.ed_postmortem.proofs.Bounds.{all_few, few_digits}
 use Rattle.ed_postmortem.proofs.Lists.{block_window, behind_head, drop_window, headed_same}
-use Rattle.ed_postmortem.proofs.Paths.{Work, cells, ready, f, moment, PrintsAll, prints_all}
-use Rattle.ed_postmortem.proofs.Stops.{later_state, behind_stop, run_stops}
+use Rattle.ed_postmortem.proofs.Paths.{Given, Work, cells, ready, f, moment, PrintsAll, prints_all}
+use Rattle.ed_postmortem.proofs.Stops.{behind_stop, run_stops}
 
 -- what is printed, and in how many orders, depends on the words alone from the first one on
 codes_same : (count : ℕ) (xs ys : List ℕ) (p : ℕ) → ((i : ℕ) → p ≤ i → get_or xs i 0 ≡ get_or ys i 0)
@@ -59,7 +60,7 @@ listing_cost = refl
 abbrev placed_work : Work
 placed_work = record { at5 = 0; at8 = 0; at19 = 49410; at78 = 0; at79 = 0; at80 = 0; at81 = 0; at82 = 0; at83 = 0 }
 
-module _ (s : State) (first count : ℕ) (store : IsStore s.store) (range : InRange s first count) where
+module _ {s : State} {first count : ℕ} (store : IsStore s.store) (range : InRange s first count) where
   -- the machine started on the tape
   abbrev b : State
   b = begun_on s first count
@@ -81,7 +82,7 @@ module _ (s : State) (first count : ℕ) (store : IsStore s.store) (range : InRa
   long = length-append initial_orders (drop 41 s.store.words)
       ∙ omega (arith, length-drop 41 s.store.words, store.words_are)
 
-  abbrev entry : Entry
+  abbrev entry : TapeEntry
   entry = tape.entry s.size ws first count f_fits c_fits
 
   few_cost : entry.cost ≤ 10000
@@ -99,11 +100,10 @@ module _ (s : State) (first count : ℕ) (store : IsStore s.store) (range : InRa
     pub after : t ≡ state_after (orders_of r) b
 
   -- the load of a machine that was started on the tape
-  pub loads_so : (m0 m1 : State) (image rows : List ℕ) (r : Loaded) → image ≡ initial_orders
-      → rows ≡ tape_rows first count
-      → m0 ≡ started image rows s → ((e : Entry) → Comes m0 e → IsLoaded m0 e r m1)
+  pub loads_so : {m0 m1 : State} {image rows : List ℕ} {r : Loaded} → image ≡ initial_orders
+      → rows ≡ tape_rows first count → m0 ≡ started image rows s → ((e : TapeEntry) → Comes m0 e → IsLoaded m0 e r m1)
       → m1 ≡ state_after (orders_of r) m0 → LoadsTape m1 r
-  loads_so m0 m1 image rows r e h is loads after =
+  loads_so {m0} {m1} {r = r} e h is loads after =
       let same : m0 ≡ b = is ∙ (λ i. started (e i) (h i) s) in
       record {
         is = subst (λ (x : State). Comes x entry → IsLoaded x entry r m1) same (loads entry) comes;
@@ -111,8 +111,8 @@ module _ (s : State) (first count : ℕ) (store : IsStore s.store) (range : InRa
       }
 
   -- the orders done at the entry
-  pub orders_then : (t : State) (r : Loaded) → LoadsTape t r → t.orders ≤ s.orders + 10000
-  orders_then t r l = let e : t.orders ≡ s.orders + entry.cost = ap (λ (x : State). x.orders) l.is.state_is
+  pub orders_then : {t : State} {r : Loaded} → LoadsTape t r → t.orders ≤ s.orders + 10000
+  orders_then {t} l = let e : t.orders ≡ s.orders + entry.cost = ap (λ (x : State). x.orders) l.is.state_is
       in omega (arith, few_cost)
 
   -- the two words that the head of the tape places, over the store
@@ -165,11 +165,22 @@ module _ (s : State) (first count : ℕ) (store : IsStore s.store) (range : InRa
   abbrev digits : List Bool
   digits = set s.store.sandwich 20 false
 
+  abbrev given : Given
+  given = record {
+    size = s.size;
+    sandwich = digits;
+    room = room;
+    ws = around;
+    tape = [];
+    at2 = refl;
+    all = around_long;
+  }
+
   abbrev frame : Frame 84 0
-  frame = f s.size digits room around [] refl around_long
+  frame = f given
 
   abbrev place : Work → ℕ → ℕ → ℕ → Option ℕ → Moment
-  place = moment s.size digits room around [] refl around_long
+  place = moment given
 
   abbrev unit : ℕ
   unit = 20480 * 2 ^ 18
@@ -189,7 +200,7 @@ module _ (s : State) (first count : ℕ) (store : IsStore s.store) (range : InRa
   }) at_words
 
   -- a word that is left, in the store around the post-mortem
-  kept : (i : ℕ) → IsLeft i → get_or around i 0 ≡ get_or s.store.words i 0
+  kept : (i : ℕ) → IsUntouched i → get_or around i 0 ≡ get_or s.store.words i 0
   kept i l =
       headed_same head placed i (omega (arith, l.behind))
       ∙ get_or-set_other (set ws 45 (2 * first)) 46 i (2 * count) 0 l.no_46
@@ -197,7 +208,7 @@ module _ (s : State) (first count : ℕ) (store : IsStore s.store) (range : InRa
       ∙ headed_same initial_orders s.store.words i (omega (arith, l.behind))
 
   -- each location behind the post-mortem is left
-  far : (i : ℕ) → 140 ≤ i → IsLeft i
+  far : (i : ℕ) → 140 ≤ i → IsUntouched i
   far i h = record {
     behind = omega arith;
     no_45 = λ e. absurd (omega arith);
@@ -208,18 +219,18 @@ module _ (s : State) (first count : ℕ) (store : IsStore s.store) (range : InRa
   kept_far : (i : ℕ) → first ≤ i → get_or around i 0 ≡ get_or s.store.words i 0
   kept_far i h = let low = range.behind in kept i (far i (omega arith))
 
-  left_words : (i : ℕ) → IsLeft i → (w : Work) → get_or (patched 0 around 56 (cells w)) i 0 ≡ get_or s.store.words i 0
+  left_words : (i : ℕ) → IsUntouched i → (w : Work)
+      → get_or (patched 0 around 56 (cells w)) i 0 ≡ get_or s.store.words i 0
   left_words i l w = elim l.apart [
     | inl below ↦ get_below 0 around 56 (cells w) i below ∙ kept i l
     | inr above ↦ get_above 0 around 56 (cells w) i (omega arith) ∙ kept i l
   ]
 
   -- all words, and then the stop
-  all : PrintsAll s.size digits room around [] refl around_long first count unit placed_work s.last
+  all : PrintsAll given first count unit placed_work s.last
   all =
-      prints_all s.size digits room around [] refl around_long first count unit placed_work s.last
-      (omega (arith, range.behind))
-      range.within (λ i h. let e = kept i (far i h) in omega (arith, e, store.fits i))
+      prints_all given first count (omega (arith, range.behind)) range.within
+      (λ i h. let e = kept i (far i h) in omega (arith, e, store.fits i))
 
   abbrev k : ℕ
   k = words_orders around first count + 3
@@ -252,24 +263,24 @@ module _ (s : State) (first count : ℕ) (store : IsStore s.store) (range : InRa
   few = omega (arith, all_few count around first, range.within, range.behind, most s.size)
 
   -- the load and the run print the words
-  pub printed : (limit : ℕ) (loaded t : State) (sheet full : Sheet) (r : Loaded) (ending : Ending) → LoadsTape loaded r
+  pub printed : {limit : ℕ} {loaded t : State} {sheet full : Sheet} {r : Loaded} {ending : Ending} → LoadsTape loaded r
       → IsRun limit 0 loaded sheet ending t full → 230000 ≤ limit → needed_of s first count ≤ room_of sheet
       → IsPrinted s sheet first count (t.orders - s.orders) t full × (s.orders ≤ t.orders)
-  printed limit loaded t sheet full r ending l run enough roomy =
+  printed {limit} {loaded} {t} {sheet} {full} {r} {ending} l run enough roomy =
       let here : loaded ≡ begins = l.is.state_is ∙ entered in
       let at : state_after entry.cost b ≡ begins =
       ap (λ (x : Loaded). state_after (orders_of x) b) (sym l.is.result_is) ∙ sym l.after ∙ here in
       let space : length (printed_codes around first count) ≤ room_of sheet = rw codes_are roomy in
-      let ran = run_stops k begins stands ends (printed_codes around first count) goes stop limit sheet full ending t
-      (omega (arith, few, enough)) space
-      (subst (λ (x : State). IsRun limit 0 x sheet ending t full) here run) in
+      let from : IsRun limit 0 begins sheet ending t full =
+      subst (λ (x : State). IsRun limit 0 x sheet ending t full) here run in
+      let ran = run_stops goes stop from (omega (arith, few, enough)) space in
       let left : t ≡ ends = ran.0 in
       let orders : t.orders ≡ done + k + 1 = ap (λ (x : State). x.orders) left in
       let n : t.orders - s.orders ≡ entry.cost + suc k = omega arith in
       let whole : state_after (entry.cost + suc k) b ≡ ends =
-      later_state entry.cost (suc k) b ∙ ap (state_after (suc k)) at
-      ∙ behind_stop k begins stands ends (printed_codes around first count) goes stop in
-      let before : state_after (entry.cost + k) b ≡ stands = later_state entry.cost k b ∙ ap (state_after k) at
+      after_sum entry.cost (suc k) b ∙ ap (state_after (suc k)) at
+      ∙ behind_stop goes stop in
+      let before : state_after (entry.cost + k) b ≡ stands = after_sum entry.cost k b ∙ ap (state_after k) at
       ∙ goes.state_is in (
         record {
           entry = entry;

@@ -8,7 +8,7 @@ use Rattle.ed_machine.specs.Start.{started}
 use Rattle.ed_machine.specs.Steps.{state_after}
 use Rattle.ed_machine.specs.Sheet.{Sheet}
 use Rattle.ed_machine.specs.declared.turn.Turn.TheVariants.{Stopped}
-use Rattle.ed_notation.specs.Faults.{Entry}
+use Rattle.ed_notation.specs.Faults.{TapeEntry}
 use Rattle.ed_initial.specs.Entry.{Comes}
 use Rattle.ed_initial.specs.Listing.{initial_orders}
 use Rattle.ed_postmortem.specs.Codes.{printed_codes, printing_orders}
@@ -21,7 +21,7 @@ abbrev pub begun_on : State → ℕ → ℕ → State
 begun_on s first count = started initial_orders (tape_rows first count) s
 
 -- a location that a post-mortem leaves as it was: none of 0 to 43, 45, 46 and 56 to 139
-pub record IsLeft (i : ℕ) : Type 0 where
+pub record IsUntouched (i : ℕ) : Type 0 where
   pub behind : 43 < i
   pub no_45 : i ≢ 45
   pub no_46 : i ≢ 46
@@ -35,7 +35,7 @@ pub record InRange (s : State) (first count : ℕ) : Type 0 where
 -- the words were printed, in n orders
 pub record IsPrinted (s : State) (sheet : Sheet) (first count n : ℕ) (t : State) (full : Sheet) : Type 0 where
   -- the tape is well formed from the store, and comes to an entry at its cost
-  pub entry : Entry
+  pub entry : TapeEntry
   pub comes : Comes (begun_on s first count) entry
   -- the orders are that cost and those that print
   pub orders_are : n ≡ entry.cost + printing_orders s.store.words first count
@@ -47,7 +47,7 @@ pub record IsPrinted (s : State) (sheet : Sheet) (first count n : ℕ) (t : Stat
   -- the paper has gained the codes of the words that the store held at the call
   pub sheet_is : full ≡ record { codes = sheet.codes ++ printed_codes s.store.words first count; room = sheet.room }
   -- every other word is as it was, and every sandwich digit but that of the pair 40, 41
-  pub words_are : (i : ℕ) → IsLeft i → slice_index t.store.words i ≡ slice_index s.store.words i
+  pub words_are : (i : ℕ) → IsUntouched i → slice_index t.store.words i ≡ slice_index s.store.words i
   pub digits_are : (i : ℕ) → i ≢ 20 → slice_index_or t.store.sandwich i false ≡ slice_index_or s.store.sandwich i false
 
 -- nothing has changed
@@ -63,16 +63,16 @@ abbrev pub needed_of : State → ℕ → ℕ → ℕ
 needed_of s first count = length (printed_codes s.store.words first count)
 
 -- the answers and their causes, in the order of the tests
-abbrev pub Answers : State → Sheet → ℕ → ℕ → Result ℕ PmFault → State → Sheet → Type 0
-Answers s sheet first count (Ok n) t full =
+abbrev pub AnswersPrinting : State → Sheet → ℕ → ℕ → Result ℕ PmFault → State → Sheet → Type 0
+AnswersPrinting s sheet first count (Ok n) t full =
     InRange s first count × (needed_of s first count ≤ room_of sheet) × IsPrinted s sheet first count n t full
-Answers s sheet first count (Err InItsOwnStore) t full = (first < 144) × Unchanged s sheet t full
-Answers s sheet first count (Err StoreEnd) t full = (144 ≤ first) × (locations s.size < first + count)
+AnswersPrinting s sheet first count (Err InItsOwnStore) t full = (first < 144) × Unchanged s sheet t full
+AnswersPrinting s sheet first count (Err StoreEnd) t full = (144 ≤ first) × (locations s.size < first + count)
     × Unchanged s sheet t full
-Answers s sheet first count (Err (PaperFull needed room)) t full =
+AnswersPrinting s sheet first count (Err (PaperFull needed room)) t full =
     InRange s first count × (needed ≡ needed_of s first count) × (room ≡ room_of sheet) × (room < needed)
     × Unchanged s sheet t full
-Answers s sheet first count (Err Memory) t full =
+AnswersPrinting s sheet first count (Err Memory) t full =
     InRange s first count × (needed_of s first count ≤ room_of sheet) × Unchanged s sheet t full
 
 -- a paper of 9,680 codes is enough for all words that can be printed at once, on a machine of either size

@@ -8,12 +8,12 @@ abbrev pub number_in : ℕ → ℕ
 number_in word = word % 4096 / 2
 
 -- the decimal digits of a number below 10000 before its units, none for those zeros that lead
-abbrev pub before_units : ℕ → List ℕ
-before_units n = digit_at 1000 n ++ (digit_at 100 n ++ digit_at 10 n)
+abbrev pub digits_before_units : ℕ → List ℕ
+digits_before_units n = digit_at 1000 n ++ (digit_at 100 n ++ digit_at 10 n)
 
 -- its decimal digits without leading zeros; 0 is one digit
 abbrev pub decimal : ℕ → List ℕ
-decimal n = before_units n ++ (n % 10 ∷ [])
+decimal n = digits_before_units n ++ (n % 10 ∷ [])
 
 -- the sum of digits
 abbrev pub digit_sum : List ℕ → ℕ
@@ -43,8 +43,8 @@ word_codes word =
 -- printed
 abbrev pub word_orders : ℕ → ℕ
 word_orders word =
-    83 + length_orders (is_even word) + 8 * digit_sum (before_units (number_in word))
-    + 4 * length (before_units (number_in word))
+    83 + length_orders (is_even word) + 8 * digit_sum (digits_before_units (number_in word))
+    + 4 * length (digits_before_units (number_in word))
 
 -- the codes of the words at so many places from a first one on
 unfoldable pub printed_codes : List ℕ → ℕ → ℕ → List ℕ

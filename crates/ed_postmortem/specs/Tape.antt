@@ -12,8 +12,8 @@ rows_of_text [] = []
 rows_of_text (byte ∷ text) = unwrap_or (row_of byte) 0 ∷ rows_of_text text
 
 -- the item P n F, which places twice the number n
-abbrev pub parameter : ℕ → Item
-parameter n = record { function = 0; number = n; mark = false; end = 17 }
+abbrev pub count_item : ℕ → Item
+count_item n = record { function = 0; number = n; mark = false; end = 17 }
 
 -- its orders and numbers, ten places a line
 abbrev pub orders : List ℕ
@@ -33,5 +33,5 @@ orders =
 abbrev pub tape_rows : ℕ → ℕ → List ℕ
 tape_rows first count =
     rows_of_text (codes "T45K")
-    ++ (spelled (canonicals (parameter first ∷ parameter count ∷ []))
+    ++ (spelled (canonicals (count_item first ∷ count_item count ∷ []))
     ++ rows_of_text (codes "T56KGK" ++ (orders ++ codes "E56KPF")))

@@ -1,5 +1,5 @@
 ghost use Rattle.std.specs.Prelude.{◌≡◌, ◌+◌, ◌^◌, ◌≤◌, length};
-ghost use Rattle.ed_postmortem.specs.Answers.{Answers, InRange, IsPrinted, PaperIsEnough, needed_of, room_of};
+ghost use Rattle.ed_postmortem.specs.Answers.{AnswersPrinting, InRange, IsPrinted, PaperIsEnough, needed_of, room_of};
 ghost use Rattle.ed_postmortem.specs.Codes.{printed_codes, word_codes};
 ghost use Rattle.ed_postmortem.specs.Tape.{tape_rows};
 
@@ -32,7 +32,7 @@ pub fn post_mortem(
     paper: &mut Paper,
 ) -> Result<u64, PmFault>
     requires { machine.old.orders + 300000 ≤ 2 ^ 63 }
-    ensures answers { Answers machine.old paper.old first count result machine.new paper.new }
+    ensures answers { AnswersPrinting machine.old paper.old first count result machine.new paper.new }
     ensures law { PaperIsEnough }
 {
     if first < FIRST {

@@ -1,5 +1,5 @@
 ghost use Rattle.std.specs.Prelude.{◌≡◌, ◌≤◌, ◌++◌, IfOk};
-ghost use Rattle.ed_postmortem.specs.Tape.{parameter, rows_of_text, tape_rows};
+ghost use Rattle.ed_postmortem.specs.Tape.{count_item, rows_of_text, tape_rows};
 
 use ed_codes::{Code, row_of_byte};
 use ed_notation::{Item, rows_of_items};
@@ -38,7 +38,7 @@ pub(crate) fn tape(alloc: Global, first: u16, count: u16) -> Result<Vec<Code>, N
 
 /// The item that places twice a number.
 fn parameter(number: u16) -> Item
-    ensures { result ≡ parameter number }
+    ensures { result ≡ count_item number }
 {
     Item {
         function: Code::new(0).unwrap(),

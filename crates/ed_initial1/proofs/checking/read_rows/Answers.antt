@@ -1,6 +1,6 @@
 use Rattle.std.proofs.Common.{◌≡◌, length, arith, sym, ap, ◌∙◌, subst, nat_eq}
 use Rattle.ed_initial1.proofs.Loop.{begins, refused, function_row, made_longer, made_ended, made_whole, at_end}
-use Rattle.ed_initial1.specs.Faults.{IsFault}
+use Rattle.ed_initial1.specs.Faults.{IsFault1}
 use Rattle.ed_initial1.specs.declared.cause.Tape1Cause.TheVariants.{EndOfTape}
 use Rattle.ed_initial1.proofs.checking.read_rows.Goals.{in-None, in-Some+in-Longer}
 use Rattle.ed_initial1.proofs.checking.read_rows.Goals.{in-Some+in-Ended+in-Ok+else-len-from}
@@ -12,8 +12,8 @@ loop-row-init c = rw c.new-words.ensures.items (begins c.args.rows.now)
 pub returns-in-Refused : goal.returns-in-Refused
 returns-in-Refused c =
     let row = c.index-rows-row in
-    refused _ _ _ _ _ c.in-Some.part row.result (rw c.in-Some.is at c.loop-row.invariant) c.loop-row-test.true row.is
-    _ (c.is_empty-first.ensures ∙ ap (λ n. nat_eq n 0) c.loop-row.words.ok.0) c.in-Refused.cause
+    refused (rw c.in-Some.is at c.loop-row.invariant) c.loop-row-test.true row.is
+    (c.is_empty-first.ensures ∙ ap (λ n. nat_eq n 0) c.loop-row.words.ok.0)
     (sym c.in-Refused.is ∙ c.take.ensures)
 
 pub returns-then-len-from : goal.returns-then-len-from
@@ -22,10 +22,8 @@ returns-then-len-from c =
     let empty = c.is_empty-first.ensures ∙ ap (λ n. nat_eq n 0) c.loop-row.words.ok.0 in
     let past = c.push.new.self.ok.0 in
     rw (c.new.ensures, c.in-Ok.ensures.items)
-    (made_whole _ _ _ _ _ c.in-Some.part row.result (rw c.in-Some.is at c.loop-row.invariant)
-    c.loop-row-test.true row.is
-    _ empty c.in-Ended.long c.word_of.result (sym c.in-Ended.is ∙ c.take.ensures) c.word_of.ensures
-    c.end_behind-end.result c.end_behind-end.ensures
+    (made_whole (rw c.in-Some.is at c.loop-row.invariant) c.loop-row-test.true row.is empty
+    (sym c.in-Ended.is ∙ c.take.ensures) c.word_of.ensures c.end_behind-end.ensures
     (rw (sym c.in-Ok.ensures.items) (omega (arith, c.len.ensures, past, c.from.ensures, c.if-len-from.true))))
 
 pub loop-row-preserved : goal.loop-row-preserved
@@ -33,24 +31,21 @@ loop-row-preserved c = elim c.match-item.branch [
   | in-None w ↦
       let row = c.index-rows-row in
       rw (w.words-is, w.orders-is, w.end-is, w.item-is, w.begun.ensures.is)
-      (function_row _ _ _ _ _ row.result (rw w.in-None.is at c.loop-row.invariant) c.loop-row-test.true row.is
+      (function_row (rw w.in-None.is at c.loop-row.invariant) c.loop-row-test.true row.is
       w.begun.ensures.fits)
   | in-Some+in-Longer w ↦
       let row = c.index-rows-row in
       rw (w.words-is, w.orders-is, w.end-is, w.item-is)
-      (made_longer _ _ _ _ _ w.in-Some.part row.result (rw w.in-Some.is at c.loop-row.invariant)
-      c.loop-row-test.true row.is
-      _ (c.is_empty-first.ensures ∙ ap (λ n. nat_eq n 0) c.loop-row.words.ok.0) w.in-Longer.number
+      (made_longer (rw w.in-Some.is at c.loop-row.invariant) c.loop-row-test.true row.is
+      (c.is_empty-first.ensures ∙ ap (λ n. nat_eq n 0) c.loop-row.words.ok.0)
       (sym w.in-Longer.is ∙ w.take.ensures))
   | in-Some+in-Ended+in-Ok+else-len-from w ↦
       let row = c.index-rows-row in
       let empty = c.is_empty-first.ensures ∙ ap (λ n. nat_eq n 0) c.loop-row.words.ok.0 in
       let past = w.push.new.self.ok.0 in
       rw (w.words-is, w.orders-is, w.end-is, w.item-is, w.in-Ok.ensures.items)
-      (made_ended _ _ _ _ _ w.in-Some.part row.result (rw w.in-Some.is at c.loop-row.invariant)
-      c.loop-row-test.true row.is
-      _ empty w.in-Ended.long w.word_of.result (sym w.in-Ended.is ∙ w.take.ensures) w.word_of.ensures
-      w.end_behind-end.result w.end_behind-end.ensures
+      (made_ended (rw w.in-Some.is at c.loop-row.invariant) c.loop-row-test.true row.is empty
+      (sym w.in-Ended.is ∙ w.take.ensures) w.word_of.ensures w.end_behind-end.ensures
       (rw (sym w.in-Ok.ensures.items)
       (let off = w.if-len-from.false in omega (arith, w.len.ensures, past, w.from.ensures, off))))
 ]
@@ -59,4 +54,4 @@ pub returns : goal.returns
 returns c =
     let l = c.loop-row in
     let e : l.row ≡ length c.args.rows.now = omega (arith, c.loop-row-test.false, c.loop-row.auto.row-end) in
-    subst (λ n. IsFault c.args.rows.now n EndOfTape) e (at_end _ _ _ _ _ _ l.invariant e)
+    subst (λ n. IsFault1 c.args.rows.now n EndOfTape) e (at_end l.invariant e)

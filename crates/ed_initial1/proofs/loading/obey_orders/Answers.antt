@@ -3,37 +3,37 @@ use Rattle.ed_machine.specs.OrderTable.{step}
 use Rattle.ed_machine.specs.Steps.{is_obeyed}
 use Rattle.ed_machine.specs.declared.turn.Turn.TheVariants.{Went}
 use Rattle.ed_initial.specs.Load.{is_went}
-use Rattle.ed_initial.proofs.Runs.{no_steps, next_state}
+use Rattle.ed_machine.proofs.Steps.{next_state}
+use Rattle.ed_initial.proofs.Runs.{no_orders}
 use Rattle.ed_initial1.proofs.Turns.{more_quiet, sounded_now, sounds}
 use Rattle.ed_initial1.proofs.loading.obey_orders.Goals as goal
 
 pub loop-orders-init : goal.loop-orders-init
-loop-orders-init c =
-    record { quiet = λ j h. absurd (omega arith); state = no_steps c.args.machine.now; count = omega arith }
+loop-orders-init c = no_orders c.args.machine.now (λ j h. absurd (omega arith))
 
 pub returns-then-counter-eq-ENTRY-clause-state : goal.returns-then-counter-eq-ENTRY-clause-state
-returns-then-counter-eq-ENTRY-clause-state c = next_state _ _ _ _ c.loop-orders.invariant.state c.step.ensures.state
+returns-then-counter-eq-ENTRY-clause-state c = next_state _ _ c.loop-orders.invariant.state c.step.ensures.state
 
 pub returns-in-Printed-clause-ends : goal.returns-in-Printed-clause-ends
 returns-in-Printed-clause-ends c =
     let l = c.loop-orders.invariant in
     let turn = sym c.step.ensures.turn in
     let h = sounds c.step.result c.in-Printed.is in
-    sounded_now _ _ _ _ _ (omega arith) l.quiet l.state c.step.ensures.state
+    sounded_now _ (omega arith) l.went l.state c.step.ensures.state
     (ap is_obeyed turn ∙ h.0) (ap is_went turn ∙ h.1) (search rules)
 
 pub returns-in-Printed-clause-state : goal.returns-in-Printed-clause-state
-returns-in-Printed-clause-state c = next_state _ _ _ _ c.loop-orders.invariant.state c.step.ensures.state
+returns-in-Printed-clause-state c = next_state _ _ c.loop-orders.invariant.state c.step.ensures.state
 
 pub returns-then-counter-eq-ENTRY-2-clause-state : goal.returns-then-counter-eq-ENTRY-2-clause-state
-returns-then-counter-eq-ENTRY-2-clause-state c = next_state _ _ _ _ c.loop-orders.invariant.state c.step.ensures.state
+returns-then-counter-eq-ENTRY-2-clause-state c = next_state _ _ c.loop-orders.invariant.state c.step.ensures.state
 
 pub loop-orders-preserved : goal.loop-orders-preserved
 loop-orders-preserved c =
     let l = c.loop-orders.invariant in
     let went : (step c.loop-orders.machine).turn ≡ Went = sym c.step.ensures.turn ∙ c.in-Went.is in
     record {
-      quiet = more_quiet _ _ _ c.step.new.self l.quiet l.state c.step.ensures.state went (search rules);
-      state = next_state _ _ _ _ l.state c.step.ensures.state;
+      went = more_quiet _ _ l.went l.state c.step.ensures.state went (search rules);
+      state = next_state _ _ l.state c.step.ensures.state;
       count = search rules;
     }

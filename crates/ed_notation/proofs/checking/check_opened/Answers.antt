@@ -8,14 +8,13 @@ returns-in-Ok-read_rows-clause-answers c =
     let v = c.in-Ok-vec.placed in
     let t = whole m (drop (length m) v.items) v.len (c.read_rows.auto.placed ∙ c.deref_mut.ensures.len) in
     rw (c.new.ensures, t, ← c.in-Ok.ensures)
-    (accepted _ _ _ _ _ c.in-Ok-read_rows.reached _ _ c.in-Ok-read_rows.ensures)
+    (accepted c.in-Ok-read_rows.ensures)
 
 pub returns-in-Ok-read_rows-clause-bound : goal.returns-in-Ok-read_rows-clause-bound
 returns-in-Ok-read_rows-clause-bound c =
-    rw c.new.ensures (bounded _ _ _ _ _ c.in-Ok-read_rows.reached _ _ c.in-Ok-read_rows.ensures)
+    rw c.new.ensures (bounded c.in-Ok-read_rows.ensures)
 
 pub returns-in-Err-clause-answers : goal.returns-in-Err-clause-answers
 returns-in-Err-clause-answers c =
-    refused c.args.size c.args.store.now c.in-Ok.contents c.args.directive c.args.base c.args.rows.now c.in-Err.fault
-    c.read_rows.new.contents.words c.read_rows.new.placed
-    c.in-Ok.ensures c.in-Err.ensures
+    refused c.args.size c.args.directive c.args.base c.args.rows.now c.in-Err.fault
+    (c.read_rows.new.contents.words, c.read_rows.new.placed) c.in-Ok.ensures c.in-Err.ensures

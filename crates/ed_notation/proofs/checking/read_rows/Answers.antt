@@ -5,36 +5,35 @@ use Rattle.ed_notation.proofs.checking.read_rows.Goals as goal
 
 pub loop-row-init : goal.loop-row-init
 loop-row-init c =
-    began _ _ _ _ _ _ _ c.short.ensures.is c.short.ensures.store.words_are c.requires.placed c.requires.directive
+    began c.short.ensures.is c.short.ensures.store.words_are c.requires.placed c.requires.directive
 
 pub returns-in-Refused : goal.returns-in-Refused
 returns-in-Refused c =
-    refused _ _ _ _ _ _ _ _ _ _ c.index-rows-row.result c.in-Some.part (rw c.in-Some.is at c.loop-row.invariant)
-    c.loop-row-test.true c.index-rows-row.is _ c.in-Refused.ensures.is
+    refused c.in-Some.part (rw c.in-Some.is at c.loop-row.invariant)
+    c.loop-row-test.true c.index-rows-row.is c.in-Refused.ensures.is
 
 pub returns-in-Entered : goal.returns-in-Entered
 returns-in-Entered c =
-    entered _ _ _ _ _ _ _ _ _ _ c.index-rows-row.result c.in-Some.part (rw c.in-Some.is at c.loop-row.invariant)
-    c.loop-row-test.true c.index-rows-row.is _ c.in-Entered.ensures.is
+    entered c.in-Some.part (rw c.in-Some.is at c.loop-row.invariant)
+    c.loop-row-test.true c.index-rows-row.is c.in-Entered.ensures.is
 
 pub loop-row-preserved : goal.loop-row-preserved
 loop-row-preserved c = elim c.match-item.branch [
   | in-None w ↦ rw (w.orders-is, w.setting-is, w.item-is, w.contents-is, w.placed-is, w.begun.ensures.is)
-      (function_row _ _ _ _ _ _ _ _ _ _ c.index-rows-row.result (rw w.in-None.is at c.loop-row.invariant)
+      (function_row (rw w.in-None.is at c.loop-row.invariant)
       c.loop-row-test.true c.index-rows-row.is w.begun.ensures.fits)
   | in-Some+in-Longer w ↦ rw (w.orders-is, w.setting-is, w.item-is, w.contents-is, w.placed-is)
-      (longer _ _ _ _ _ _ _ _ _ _ c.index-rows-row.result w.in-Some.part (rw w.in-Some.is at c.loop-row.invariant)
-      c.loop-row-test.true c.index-rows-row.is _ _ w.in-Longer.ensures.is w.in-Longer.ensures.fits)
+      (longer w.in-Some.part (rw w.in-Some.is at c.loop-row.invariant)
+      c.loop-row-test.true c.index-rows-row.is w.in-Longer.ensures.is w.in-Longer.ensures.fits)
   | in-Some+in-Ended w ↦ rw (w.orders-is, w.setting-is, w.item-is, w.contents-is, w.placed-is)
-      (ended _ _ _ _ _ _ _ _ _ _ c.index-rows-row.result w.in-Some.part (rw w.in-Some.is at c.loop-row.invariant)
-      c.loop-row-test.true c.index-rows-row.is _ _ w.in-Ended.ensures.is w.in-Ended.ensures.fits)
+      (ended w.in-Some.part (rw w.in-Some.is at c.loop-row.invariant)
+      c.loop-row-test.true c.index-rows-row.is w.in-Ended.ensures.is w.in-Ended.ensures.fits)
   | in-Some+in-Placed w ↦
       rw (w.orders-is, w.setting-is, w.item-is, w.contents-is, w.placed-is)
       (rw (w.put_short.ensures.is, w.moved_on-setting.ensures, w.from.ensures)
-      (placed _ _ _ _ _ _ _ _ _ _ c.index-rows-row.result w.in-Some.part (rw w.in-Some.is at c.loop-row.invariant)
-      c.loop-row-test.true c.index-rows-row.is _ _ w.in-Placed.ensures.is w.in-Placed.ensures.fits))
+      (placed w.in-Some.part (rw w.in-Some.is at c.loop-row.invariant)
+      c.loop-row-test.true c.index-rows-row.is w.in-Placed.ensures.is w.in-Placed.ensures.fits))
 ]
 
 pub returns : goal.returns
-returns c = at_end _ _ _ _ _ _ _ _ _ _ _ c.loop-row.invariant
-    (omega (arith, c.loop-row-test.false, c.loop-row.auto.row-end))
+returns c = at_end c.loop-row.invariant (omega (arith, c.loop-row-test.false, c.loop-row.auto.row-end))

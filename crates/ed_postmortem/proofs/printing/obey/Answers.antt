@@ -6,32 +6,22 @@ use Rattle.ed_postmortem.proofs.printing.obey.Goals.{After-orders_done}
 
 pub run-requires : goal.run-requires
 run-requires c =
-    let s = c.args.machine.now in
     let store = c.word.ensures.store in
     let range = c.requires.range in
-    let loaded = loads_so s c.args.first c.args.count store range c.begin.new.machine c.load.new.machine _ _
-    c.load.result refl
-    c.requires.rows c.begin.ensures.state c.load.ensures.loads c.load.ensures.state in
-    omega (
-      arith,
-      orders_then s c.args.first c.args.count store range c.load.new.machine c.load.result loaded,
-      c.requires.orders,
-    )
+    let loaded = loads_so store range refl c.requires.rows c.begin.ensures.state c.load.ensures.loads
+    c.load.ensures.state in
+    omega (arith, orders_then store range loaded, c.requires.orders)
 
 printed_so : (c : After-orders_done)
     → IsPrinted c.args.machine.now c.args.paper.now c.args.first c.args.count
     (c.run.new.machine.orders - c.args.machine.now.orders) c.run.new.machine c.run.new.paper
     × (c.args.machine.now.orders ≤ c.run.new.machine.orders)
 printed_so c =
-    let s = c.args.machine.now in
     let store = c.word.ensures.store in
     let range = c.requires.range in
-    let loaded = loads_so s c.args.first c.args.count store range c.begin.new.machine c.load.new.machine _ _
-    c.load.result refl
-    c.requires.rows c.begin.ensures.state c.load.ensures.loads c.load.ensures.state in
-    printed s c.args.first c.args.count store range _ c.load.new.machine c.run.new.machine c.args.paper.now
-    c.run.new.paper c.load.result
-    c.run.result loaded c.run.ensures.ends (omega arith) c.requires.room
+    let loaded = loads_so store range refl c.requires.rows c.begin.ensures.state c.load.ensures.loads
+    c.load.ensures.state in
+    printed store range loaded c.run.ensures.ends (omega arith) c.requires.room
 
 pub overflow_sub-result : goal.overflow_sub-result
 overflow_sub-result c = omega (arith, (printed_so c).1, c.orders_done-before.ensures, c.orders_done.ensures)

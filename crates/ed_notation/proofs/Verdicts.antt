@@ -1,0 +1,23 @@
+-- A list of rows comes to one entry, or has one fault.
+use Rattle.std.proofs.Common.{◌≡◌, ℕ, sym, ◌∙◌, List}
+use Rattle.ed_words.specs.declared.size.Size.{Size}
+use Rattle.ed_notation.specs.Fold.{Note}
+use Rattle.ed_notation.specs.Faults.{ComesTo, IsFault, TapeEntry, WellFormed}
+use Rattle.ed_notation.specs.Reading.{Arrived, Faulty, ReadingIsRules}
+use Rattle.ed_notation.specs.declared.cause.TapeCause.{TapeCause}
+
+entry_of : {e f : TapeEntry} → Arrived e ≡ Arrived f → e ≡ f
+entry_of is = cc
+
+row_of : {r q : ℕ} {a b : TapeCause} → Faulty r a ≡ Faulty q b → (r ≡ q) × (a ≡ b)
+row_of is = (cc, cc)
+
+module _ {z : Size} {words : List ℕ} {start : Note} {base : ℕ} {rows : List ℕ}
+    (law : ReadingIsRules z words start base rows) where
+  pub entry_once : {e f : TapeEntry} → WellFormed z words start rows → ComesTo words start base rows e
+      → ComesTo words start base rows f → e ≡ f
+  entry_once {e} {f} well a b = entry_of (sym (law.arrived e well a) ∙ law.arrived f well b)
+
+  pub fault_once : {row other : ℕ} {cause rule : TapeCause} → IsFault z words start rows row cause
+      → IsFault z words start rows other rule → (row ≡ other) × (cause ≡ rule)
+  fault_once {row} {other} {cause} {rule} a b = row_of (sym (law.found row cause a) ∙ law.found other rule b)
