@@ -5,14 +5,14 @@ use Rattle.ed_library.specs.declared.tables.TheConstants.{CHECK, DIVIDE, NEWLINE
 
 -- what the catalogue says of a routine: its name, the letters of its preset parameters, the places of its own text that
 -- it changes, and its items, each a function, a number, whether a π stands behind the number, and an ending row
-pub record Entry : Type 0 where
+pub record Routine : Type 0 where
   pub name : List ℕ
   pub parameters : List ℕ
   pub working : List ℕ
   pub items : List (ℕ × ℕ × Bool × ℕ)
 
 -- the routines in order of name
-abbrev pub catalogue : List Entry
+abbrev pub catalogue : List Routine
 catalogue =
     record {
       name = codes "check";
@@ -37,9 +37,9 @@ abbrev pub how_many : ℕ
 how_many = length catalogue
 
 -- what stands for a routine that the catalogue hasn't
-abbrev pub no_entry : Entry
+abbrev pub no_entry : Routine
 no_entry = record { name = []; parameters = []; working = []; items = [] }
 
 -- what the catalogue says of a routine
-abbrev pub entry : ℕ → Entry
+abbrev pub entry : ℕ → Routine
 entry r = slice_index_or catalogue r no_entry

@@ -2,8 +2,8 @@
 use Rattle.std.specs.Prelude.{ℕ, ◌==◌, Bool, true, false, ◌&&◌, nat_le, nat_lt, List, [], ◌∷◌, length, if◌then◌else◌}
 use Rattle.std.specs.List.{list_all, list_any}
 use Rattle.ed_notation.specs.Spellings.{is_spellable}
-use Rattle.ed_library.specs.Entries.{Entry}
-use Rattle.ed_library.specs.Routines.{item_of}
+use Rattle.ed_library.specs.Entries.{Routine}
+use Rattle.ed_library.specs.Routines.{table_item}
 
 -- whether a code is the letter of a preset parameter: H, N, M, &, L or X
 abbrev pub is_parameter : ℕ → Bool
@@ -17,7 +17,7 @@ are_rising (a ∷ b ∷ cs) = nat_lt a b && are_rising (b ∷ cs)
 
 -- whether an item can be spelled, and ends with F, θ, D or one of these letters
 abbrev pub is_ready_row : List ℕ → (ℕ × ℕ × Bool × ℕ) → Bool
-is_ready_row letters row = is_spellable (item_of row) && list_any (λ c. c == row.3) (17 ∷ 18 ∷ 19 ∷ letters)
+is_ready_row letters row = is_spellable (table_item row) && list_any (λ c. c == row.3) (17 ∷ 18 ∷ 19 ∷ letters)
 
 -- whether the letters of a routine are those of parameters, in rising order
 abbrev pub are_letters : List ℕ → Bool
@@ -25,7 +25,7 @@ are_letters letters = are_rising letters && list_all is_parameter letters
 
 -- whether a routine can be linked: it has items, it changes places of its own text, and its letters and its items are
 -- ready
-abbrev pub is_ready : Entry → Bool
+abbrev pub is_ready : Routine → Bool
 is_ready e =
     (nat_lt 0 (length e.items) && list_all (λ p. nat_lt p (length e.items)) e.working)
     && (are_letters e.parameters && list_all (is_ready_row e.parameters) e.items)
@@ -38,7 +38,7 @@ comes_before (a ∷ more) [] = false
 comes_before (a ∷ more) (b ∷ bs) = if a == b then comes_before more bs else nat_lt a b
 
 -- whether routines stand in order of name, no name twice
-abbrev pub are_ordered : List Entry → Bool
+abbrev pub are_ordered : List Routine → Bool
 are_ordered [] = true
 are_ordered (e ∷ []) = true
 are_ordered (e ∷ f ∷ es) = comes_before e.name f.name && are_ordered (f ∷ es)

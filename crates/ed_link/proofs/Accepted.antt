@@ -10,7 +10,7 @@ use Rattle.ed_notation.specs.declared.item.Item.{Item}
 use Rattle.ed_notation.specs.Items.{rows_of, spelled, item as item_in, items, IsWritten}
 use Rattle.ed_notation.specs.Fold.{Note, is_entry, item_word, fold, cost_of, costs, address}
 use Rattle.ed_notation.specs.Openings.{IsDirective, opening}
-use Rattle.ed_notation.specs.Faults.{IsSound, WellFormed, ComesTo}
+use Rattle.ed_notation.specs.Faults.{EndsSound, WellFormed, ComesTo}
 use Rattle.ed_notation.specs.Spellings.{canonical, canonicals}
 use Rattle.ed_notation.proofs.Canonical.{is_written}
 use Rattle.ed_notation.proofs.Cuts.{spelled-append, costs-append, canonicals-append}
@@ -21,12 +21,12 @@ use Rattle.ed_syntax.specs.declared.program.Line.{Line}
 use Rattle.ed_syntax.specs.declared.fault.SourceFault.{SourceFault}
 use Rattle.ed_syntax.specs.Programs.{is_line}
 use Rattle.ed_symbols.specs.Places.{first_spot}
-use Rattle.ed_link.specs.Linked.{homes_of, linked, after, entry_of, theta_from}
-use Rattle.ed_link.specs.Punch.{item, punched}
-use Rattle.ed_link.specs.Faults.{any_enter, missing, sooner, fault, line_of}
+use Rattle.ed_link.specs.Linked.{homes_of, linked, data_behind, entry_of, theta_from}
+use Rattle.ed_link.specs.Punch.{item_with, punched}
+use Rattle.ed_link.specs.Faults.{any_enter, missing, sooner, fault, fault_line}
 use Rattle.ed_link.specs.Tapes.{punched_rows, tape, arrival}
 use Rattle.ed_link.proofs.Passes.{taken}
-use Rattle.ed_link.proofs.Inductions.{Ends, ends}
+use Rattle.ed_link.proofs.Inductions.{AreFaultless, Ends, ends}
 use Rattle.ed_link.proofs.Costs.{NoZed, passes_no_zed, same_costs}
 
 no_zed-append : (is js : List Item) → NoZed is → NoZed js → NoZed (is ++ js)
@@ -37,7 +37,7 @@ no_zed-append (i ∷ is) js p q = (p.0, no_zed-append is js p.1 q)
 none_of : (a b : Option SourceFault) → sooner a b ≡ None → (a ≡ None) × (b ≡ None)
 none_of None b h = (refl, h)
 none_of (Some a) None h = cc
-none_of (Some a) (Some b) h = by_test (nat_le (line_of a) (line_of b)) h
+none_of (Some a) (Some b) h = by_test (nat_le (fault_line a) (fault_line b)) h
   where
     by_test : (t : Bool) → ◌≡◌ {A = Option SourceFault} (if t then Some a else Some b) None
         → (◌≡◌ {A = Option SourceFault} (Some a) None) × (◌≡◌ {A = Option SourceFault} (Some b) None)
@@ -50,7 +50,7 @@ there_is true n h = refl
 there_is false n h = cc
 
 abbrev last_item : Item
-last_item = item 0 0 false 17
+last_item = item_with 0 0 false 17
 
 -- the directive before the first item
 first : (words : List ℕ) → IsDirective 20568
@@ -64,9 +64,9 @@ module _ (tables : list_all is_ready catalogue ≡ true) (z : Size) (two : Bool)
       let a = none_of _ _ accepted in
       let b = none_of _ _ a.1 in
       let any = there_is (any_enter lines) (length lines) b.1 in
-      ends tables z words whole (homes_of lines) (any_enter lines) two lines (record { runs = []; entered = false })
-      [] first_spot (opening words) (slice_index words 42)
-      formed b.0 a.0 refl any (record { base = omega arith; follows = λ h. cc; theta_is = refl })
+      let are : AreFaultless z (homes_of lines) (any_enter lines) two (record { runs = []; entered = false }) []
+      first_spot lines = record { formed = formed; sound = b.0; named = a.0; before = refl; enter = any } in
+      ends tables whole two lines are (record { base = omega arith; follows = λ h. cc; theta_is = refl })
 
   by_end : Ends z words (homes_of lines) (slice_index words 42) first_spot (opening words) lines
       → WellFormed z words (opening words) (tape lines)
@@ -74,14 +74,14 @@ module _ (tables : list_all is_ready catalogue ≡ true) (z : Size) (two : Bool)
   by_end e =
       let ws = canonicals e.before in
       let w = canonical last_item in
-      let t = (taken z words (opening words) e.last e.before e.spelled e.passes).1 in
+      let t = (taken e.passes e.spelled).1 in
       let good : IsWritten w = is_written last_item refl in
       let cut : canonicals (punched lines) ≡ ws ++ (w ∷ []) = ap (λ is. canonicals is) e.items
       ∙ canonicals-append e.before (last_item ∷ []) in
       let rows : punched_rows lines ≡ spelled ws ++ rows_of w =
       ap (λ x. spelled x) cut ∙ spelled-append ws (w ∷ []) ∙ ap (λ x. spelled ws ++ x) (append-nil (rows_of w)) in
-      let all : tape lines ≡ spelled ws ++ (rows_of w ++ after lines) =
-      ap (λ x. x ++ after lines) rows ∙ append_assoc (spelled ws) (rows_of w) (after lines) in
+      let all : tape lines ≡ spelled ws ++ (rows_of w ++ data_behind lines) =
+      ap (λ x. x ++ data_behind lines) rows ∙ append_assoc (spelled ws) (rows_of w) (data_behind lines) in
       let note : Note = record {
         directive = 12288 + 2 * entry_of lines;
         theta = theta_from (slice_index words 42)
@@ -94,8 +94,7 @@ module _ (tables : list_all is_ready catalogue ≡ true) (z : Size) (two : Bool)
         placed = (e.placed ∙ append-nil (reverse (linked lines))) i;
       } in
       let f = t.folds in
-      let zeds = no_zed-append e.before (last_item ∷ [])
-      (passes_no_zed z words (opening words) e.last e.before e.passes) (refl, tt) in
+      let zeds = no_zed-append e.before (last_item ∷ []) (passes_no_zed e.passes) (refl, tt) in
       let k : costs [] (opening []) (canonicals (punched lines))
       ≡ costs words (opening words) (canonicals (punched lines)) =
       same_costs [] words (opening []) (opening words) (punched lines) (subst NoZed (sym e.items) zeds) refl in
@@ -105,9 +104,9 @@ module _ (tables : list_all is_ready catalogue ≡ true) (z : Size) (two : Bool)
       let d : costs words (fold words (opening words) (items ws)) (w ∷ [])
       ≡ cost_of note w + 0 = ap (λ (n : Note). cost_of n w + 0) (f ∙ last_is) in (
         subst (λ x. WellFormed z words (opening words) x) (sym all)
-            (sound_well z words (opening words) ws w (after lines) (first words) t.are_read t.are_sound good
+            (sound_well ws (data_behind lines) (first words) t.are_read t.are_sound good
             (ap (λ (n : Note). is_entry n (item_in w)) f ∙ e.enters.enters)
-            (subst (λ (n : Note). IsSound z words n w) (sym f) e.enters.sound)),
+            (subst (λ (n : Note). EndsSound z words n w) (sym f) e.enters.sound)),
         record {
           before = ws;
           last = w;

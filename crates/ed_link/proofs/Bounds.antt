@@ -8,7 +8,7 @@ use Rattle.ed_notation.specs.declared.item.Item.{Item}
 use Rattle.ed_notation.specs.Items.{mark_rows, rows_of, begun_rows, spelled}
 use Rattle.ed_notation.specs.Spellings.{canonical, canonicals, digit_at, digits_of}
 use Rattle.ed_library.specs.Entries.{entry}
-use Rattle.ed_library.specs.Routines.{find, item_of, places}
+use Rattle.ed_library.specs.Routines.{find, table_item, place_count}
 use Rattle.ed_syntax.specs.declared.program.Operand.{Operand}
 use Rattle.ed_syntax.specs.declared.program.Setting.{Setting}
 use Rattle.ed_syntax.specs.declared.program.Statement.{Statement}
@@ -16,8 +16,8 @@ use Rattle.ed_syntax.specs.declared.program.Statement.TheVariants.{Segment, Orde
 use Rattle.ed_syntax.specs.declared.program.Statement.TheVariants.{Long, Fetch, Enter, Rows}
 use Rattle.ed_symbols.specs.declared.homes.Home.{Home}
 use Rattle.ed_symbols.specs.declared.spots.Spot.{Spot}
-use Rattle.ed_symbols.specs.Places.{even, segment_at}
-use Rattle.ed_link.specs.Linked.{letters, long_words, number, rows_of as data_of, setting}
+use Rattle.ed_symbols.specs.Places.{even_from, segment_at}
+use Rattle.ed_link.specs.Linked.{parameter_letters, long_words, operand_number, data_rows as data_of, set_to}
 use Rattle.ed_link.specs.Punch.{goes_by_theta, heads, headed, order_item, items_of, preset_items, routine_items}
 use Rattle.ed_link.specs.Punch.{use_items, word_item}
 use Rattle.ed_link.specs.Private.Building.{IsFew}
@@ -88,14 +88,14 @@ preset_few homes (Some o) c = lit≤ tt
 
 -- a parameter is 2 items
 presets_few : (homes : List Home) (ts : List Setting) (cs : List ℕ)
-    → length (flat_map (λ c. preset_items homes (setting ts c) c) cs) ≤ 2 * length cs
+    → length (flat_map (λ c. preset_items homes (set_to ts c) c) cs) ≤ 2 * length cs
 presets_few homes ts [] = lit≤ tt
 presets_few homes ts (c ∷ cs) =
     omega (
       arith,
-      preset_few homes (setting ts c) c,
+      preset_few homes (set_to ts c) c,
       presets_few homes ts cs,
-      length-append (preset_items homes (setting ts c) c) (flat_map (λ c. preset_items homes (setting ts c) c) cs),
+      length-append (preset_items homes (set_to ts c) c) (flat_map (λ c. preset_items homes (set_to ts c) c) cs),
     )
 
 -- the 6 parameters and the head of a routine are 14 items
@@ -105,9 +105,9 @@ routine_few : (found : Option ℕ) (n : ℕ) → length (routine_items found) �
 routine_few found n h homes ts base =
     omega (
       arith,
-      presets_few homes ts letters,
+      presets_few homes ts parameter_letters,
       headed_few (routine_items found) true base,
-      length-append (flat_map (λ c. preset_items homes (setting ts c) c) letters)
+      length-append (flat_map (λ c. preset_items homes (set_to ts c) c) parameter_letters)
           (headed (routine_items found) true base),
     )
 
@@ -122,7 +122,7 @@ items_few homes s (Some (Segment name base)) h = lit≤ tt
 items_few homes s (Some (Order f o long)) h = omega (
   arith,
   headed_few (order_item (goes_by_theta homes s o)
-      s.base f (number homes (segment_at s) o) long ∷ []) (nat_eq s.place s.base) s.base,
+      s.base f (operand_number homes (segment_at s) o) long ∷ []) (nat_eq s.place s.base) s.base,
 )
 items_few homes s (Some (Number w)) h = omega (arith, headed_few (word_item w ∷ []) (nat_eq s.place s.base) s.base)
 items_few homes s (Some (Text codes)) h =
@@ -143,7 +143,7 @@ items_few homes s (Some (Long v)) h =
       long_few (nat_eq (s.place % 2) 1) (v % 2 ^ 17) (v / 2 ^ 18),
     )
 items_few homes s (Some (Fetch routine name ts)) h =
-    let r = routine_few (find routine) 128 h homes ts.items (even s.place) in omega (arith, r)
+    let r = routine_few (find routine) 128 h homes ts.items (even_from s.place) in omega (arith, r)
 items_few homes s (Some (Enter name)) h = lit≤ tt
 items_few homes s (Some (Rows codes)) h = lit≤ tt
 
@@ -159,9 +159,9 @@ data_few (Some (Fetch routine name ts)) h = lit≤ tt
 data_few (Some (Enter name)) h = lit≤ tt
 data_few (Some (Rows codes)) h = h
 
-pub found_few : (found : Option ℕ) (r : ℕ) → Some r ≡ found → places r ≤ 128 → length (routine_items found) ≤ 128
+pub found_few : (found : Option ℕ) (r : ℕ) → Some r ≡ found → place_count r ≤ 128 → length (routine_items found) ≤ 128
 found_few found r e h =
-    let l : length (routine_items (Some r)) ≤ 128 = omega (arith, h, length-map (entry r).items item_of) in
+    let l : length (routine_items (Some r)) ≤ 128 = omega (arith, h, length-map (entry r).items table_item) in
     subst (λ (x : Option ℕ). length (routine_items x) ≤ 128) e l
 
 pub none_few : (found : Option ℕ) → found ≡ None → length (routine_items found) ≤ 128

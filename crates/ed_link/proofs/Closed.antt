@@ -9,15 +9,13 @@ use Rattle.std.specs.Str.{bytes_eq}
 use Rattle.std.proofs.lemmas.Bool.{and_parts}
 use Rattle.std.proofs.lemmas.List.Sums.{AllPass-from_list_all}
 use Rattle.ed_words.proofs.Numbers.{eq_of, le_of, lt_of, or_of}
-use Rattle.ed_words.specs.declared.size.Size.{Size}
 use Rattle.ed_notation.specs.Spellings.{is_spellable}
-use Rattle.ed_library.specs.Entries.{Entry, catalogue, entry, no_entry}
+use Rattle.ed_library.specs.Entries.{Routine, catalogue, entry, no_entry}
 use Rattle.ed_library.specs.Ready.{is_ready, is_ready_row, is_parameter, are_letters, are_rising}
-use Rattle.ed_library.specs.Routines.{find, find_from, item_of, item, places}
+use Rattle.ed_library.specs.Routines.{find, find_from, table_item, routine_item, place_count}
 use Rattle.ed_syntax.specs.declared.program.Operand.{Operand}
 use Rattle.ed_syntax.specs.declared.program.Setting.{Setting}
-use Rattle.ed_symbols.specs.declared.homes.Home.{Home}
-use Rattle.ed_link.specs.Linked.{setting}
+use Rattle.ed_link.specs.Linked.{set_to}
 use Rattle.ed_link.specs.Faults.{sets}
 use Rattle.ed_link.proofs.Uses.{IsKnown, AreKnown}
 
@@ -28,7 +26,7 @@ found_by k r n true later more h = let q : k ≡ r = cc in omega arith
 found_by k r n false later more h = let i = more h in omega arith
 
 -- the same of the whole list
-found_in : (text : List ℕ) (k r : ℕ) (es : List Entry) → find_from text k es ≡ Some r → r < k + length es
+found_in : (text : List ℕ) (k r : ℕ) (es : List Routine) → find_from text k es ≡ Some r → r < k + length es
 found_in text k r [] h = cc
 found_in text k r (e ∷ es) h =
     found_by k r (length es) (bytes_eq e.name text) (find_from text (k + 1) es) (found_in text (k + 1) r es) h
@@ -44,13 +42,13 @@ one_of test (x ∷ cs) c h g =
       | inr e ↦ one_of test cs c p.1 e
     ]
 
-record IsClosed (e : Entry) : Type 0 where
+record IsClosed (e : Routine) : Type 0 where
   some : 0 < length e.items
   letters : list_all is_parameter e.parameters ≡ true
   rows : list_all (is_ready_row e.parameters) e.items ≡ true
 
 -- what it means that a routine is ready
-of_ready : (e : Entry) → is_ready e ≡ true → IsClosed e
+of_ready : (e : Routine) → is_ready e ≡ true → IsClosed e
 of_ready e h =
     let p = and_parts (nat_lt 0 (length e.items) && list_all (λ q. nat_lt q (length e.items)) e.working)
     (are_letters e.parameters && list_all (is_ready_row e.parameters) e.items) h in
@@ -71,23 +69,23 @@ module _ (tables : list_all is_ready catalogue ≡ true) (text : List ℕ) (r : 
   pub some_items : 0 < length (entry r).items
   some_items = closed.some
 
-  pub spelled_item : (place : ℕ) → place < places r → is_spellable (item r place) ≡ true
+  pub spelled_item : (place : ℕ) → place < place_count r → is_spellable (routine_item r place) ≡ true
   spelled_item place h =
       let row = AllPass-from_list_all (is_ready_row (entry r).parameters) (entry r).items closed.rows place
       (0, 0, false, 0) h in
-      (and_parts (is_spellable (item r place)) _ row).0
+      (and_parts (is_spellable (routine_item r place)) _ row).0
 
   pub rows_are_ready : list_all (is_ready_row (entry r).parameters) (entry r).items ≡ true
   rows_are_ready = closed.rows
 
-module _ (z : Size) (words : List ℕ) (whole : length words ≡ 1024) (homes : List Home) (ts : List Setting) where
+module _ (ts : List Setting) where
   operand_of : (o : Option Operand) → is_some o ≡ true → (x : Operand) × (o ≡ Some x)
   operand_of None h = cc
   operand_of (Some x) h = (x, refl)
 
-  known : (letters : List ℕ) (c : ℕ) → list_all (λ p. is_some (setting ts p)) letters ≡ true
+  known : (letters : List ℕ) (c : ℕ) → list_all (λ p. is_some (set_to ts p)) letters ≡ true
       → list_all is_parameter letters ≡ true
-      → list_any (λ x. x == c) (17 ∷ 18 ∷ 19 ∷ letters) ≡ true → IsKnown z words whole homes ts c
+      → list_any (λ x. x == c) (17 ∷ 18 ∷ 19 ∷ letters) ≡ true → IsKnown ts c
   known letters c set range g =
       elim (or_of (17 == c) _ g) [
         | inl e ↦ inl (sym (eq_of 17 c e))
@@ -97,26 +95,26 @@ module _ (z : Size) (words : List ℕ) (whole : length words ≡ 1024) (homes : 
             | inl e ↦ inr (inr (inl (sym (eq_of 19 c e))))
             | inr g3 ↦
                 let p = and_parts (nat_le 21 c) (nat_le c 26) (one_of is_parameter letters c range g3) in
-                let o = operand_of (setting ts c) (one_of (λ x. is_some (setting ts x)) letters c set g3) in
+                let o = operand_of (set_to ts c) (one_of (λ x. is_some (set_to ts x)) letters c set g3) in
                 inr (inr (inr (record { low = le_of 21 c p.0; high = le_of c 26 p.1; operand = o.0; is_set = o.1 })))
           ]
         ]
       ]
 
   all_known : (letters : List ℕ) (rows : List (ℕ × ℕ × Bool × ℕ))
-      → list_all (λ p. is_some (setting ts p)) letters ≡ true
+      → list_all (λ p. is_some (set_to ts p)) letters ≡ true
       → list_all is_parameter letters ≡ true → list_all (is_ready_row letters) rows ≡ true
-      → AreKnown z words whole homes ts rows
+      → AreKnown ts rows
   all_known letters [] set range h = tt
   all_known letters (row ∷ rows) set range h =
       let p = and_parts (is_ready_row letters row) (list_all (is_ready_row letters) rows) h in
-      let q = and_parts (is_spellable (item_of row)) _ p.0 in
+      let q = and_parts (is_spellable (table_item row)) _ p.0 in
       (known letters row.3 set range q.1, all_known letters rows set range p.1)
 
   -- the code letters of a routine whose parameters are set
   pub are_known : list_all is_ready catalogue ≡ true → (text : List ℕ) (r : ℕ) → find text ≡ Some r
       → sets ts (Some r) ≡ true
-      → AreKnown z words whole homes ts (entry r).items
+      → AreKnown ts (entry r).items
   are_known tables text r found s =
       let k = closed tables text r found in
       all_known (entry r).parameters (entry r).items (and_parts _ _ s).1 k.letters k.rows

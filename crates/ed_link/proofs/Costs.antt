@@ -13,7 +13,7 @@ use Rattle.ed_notation.specs.Items.{row_kind, Written, item}
 use Rattle.ed_notation.specs.Fold.{Note, act, acted, with_kay, with_letter}
 use Rattle.ed_notation.specs.Fold.{control_of, aim_of, item_word, end_cost, costs}
 use Rattle.ed_notation.specs.Spellings.{canonical, canonicals}
-use Rattle.ed_link.proofs.Passes.{Passes}
+use Rattle.ed_link.proofs.Passes.{Passes, stays, goes}
 
 -- no item ends with Z
 abbrev pub NoZed : List Item → Type 0
@@ -21,10 +21,10 @@ NoZed [] = Unit {0}
 NoZed (i ∷ is) = (nat_eq i.end 13 ≡ false) × NoZed is
 
 -- items that go on, none of which ends with Z
-pub passes_no_zed : (z : Size) (words : List ℕ) (note last : Note) (is : List Item)
-    → Passes z words note is last → NoZed is
-passes_no_zed z words note last [] p = tt
-passes_no_zed z words note last (i ∷ is) p = (p.2, passes_no_zed z words p.0 last is p.3)
+pub passes_no_zed : {z : Size} {words : List ℕ} {note last : Note} {is : List Item} → Passes z words note is last
+    → NoZed is
+passes_no_zed stays = tt
+passes_no_zed (goes d e p) = (e, passes_no_zed p)
 
 -- the directive behind K, a code letter and an item goes by the directive before it alone
 same_kay : (c : Control) (m n : Note) (i : Item) → m.directive ≡ n.directive

@@ -1,11 +1,10 @@
 -- A source that is linked has no fault, and its tape comes to its linked program.
-use Rattle.std.proofs.Common.{◌≡◌, refl, sym, ap, ◌∙◌, subst, Bool, true, Option, None, List, length}
+use Rattle.std.proofs.Common.{◌≡◌, refl, ap, ◌∙◌, subst, Bool, true, None, List, length}
 use Rattle.std.specs.List.{list_all}
 use Rattle.ed_words.specs.declared.size.Size.{Size}
 use Rattle.ed_library.specs.Entries.{catalogue}
 use Rattle.ed_library.specs.Ready.{is_ready}
 use Rattle.ed_syntax.specs.declared.program.Line.{Line}
-use Rattle.ed_syntax.specs.declared.fault.SourceFault.{SourceFault}
 use Rattle.ed_syntax.specs.Programs.{is_line}
 use Rattle.ed_symbols.specs.declared.homes.Home.{Home}
 use Rattle.ed_symbols.specs.Places.{first_spot}
@@ -24,22 +23,18 @@ use Rattle.ed_link.specs.Private.Building.{first_past, IsBuilt, IsFinished}
 use Rattle.ed_link.proofs.Accepted.{accepted_law}
 
 -- what the code has made of lines without a fault is what linking answers of them
-pub finished : (z : Size) (two : Bool) (lines : List Line) (homes : List Home) (any : Bool)
-    (names lost : Option SourceFault)
-    (b : Built) (k : Linked)
+pub finished : {z : Size} {lines : List Line} {homes : List Home} {any : Bool} {b : Built} {k : Linked} (two : Bool)
     → list_all is_ready catalogue ≡ true → list_all (is_line two) lines ≡ true
-    → homes ≡ homes_of lines → any ≡ any_enter lines → names ≡ (resolved lines).fault
-    → lost ≡ missing any (length lines)
-    → names ≡ None → lost ≡ None → IsBuilt z homes any lines b → IsFinished homes b k → IsLinked z lines k
-finished z two lines homes any names lost b k tables formed h a n g no_names not_gone built f =
-    let e0 : (resolved lines).fault ≡ None = sym n ∙ no_names in
+    → homes ≡ homes_of lines → any ≡ any_enter lines
+    → ((resolved lines).fault ≡ None) × (missing any (length lines) ≡ None)
+    → IsBuilt z homes any lines b → IsFinished homes b k → IsLinked z lines k
+finished {z} {lines} {homes} {any} {b} {k} two tables formed h a none built f =
     let e1 : fault_from z (homes_of lines) (any_enter lines) first_past first_spot lines ≡ None =
     subst (λ (x : List Home). fault_from z x (any_enter lines) first_past first_spot lines ≡ None) h
     (subst (λ (x : Bool). fault_from z homes x first_past first_spot lines ≡ None) a built.accepted) in
     let e2 : missing (any_enter lines) (length lines) ≡ None =
-    subst (λ (x : Bool). missing x (length lines) ≡ None) a (sym g
-    ∙ not_gone) in
-    let accepted : fault z lines ≡ None = rw (e0, e1, e2) refl in
+    subst (λ (x : Bool). missing x (length lines) ≡ None) a none.1 in
+    let accepted : fault z lines ≡ None = rw (none.0, e1, e2) refl in
     let items : b.items.items ≡ punched_from (homes_of lines) first_spot lines =
     built.items ∙ ap (λ (x : List Home). punched_from x first_spot lines) h in
     let words : k.words.items ≡ words_from 0 (table_of (linked lines)) =

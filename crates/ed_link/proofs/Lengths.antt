@@ -1,5 +1,5 @@
 -- A table keeps its length; how words are put into it.
-use Rattle.std.proofs.Common.{◌≡◌, ℕ, ◌+◌, ◌<◌, refl, sym, ap, ◌∙◌, arith, Option, Some}
+use Rattle.std.proofs.Common.{◌≡◌, ℕ, ◌+◌, ◌<◌, refl, sym, ap, ◌∙◌, arith, Bool, false, Option, Some}
 use Rattle.std.proofs.Common.{None, List, [], ◌∷◌, ◌++◌, length, map, drop, set, get_or}
 use Rattle.std.specs.Prelude.{replicate}
 use Rattle.std.proofs.lemmas.List.{length-set, length-replicate, drop_more}
@@ -27,18 +27,16 @@ pub put_all_append : (table : List (Option ℕ)) (ps qs : List (ℕ × ℕ))
 put_all_append table [] qs = refl
 put_all_append table (p ∷ ps) qs = put_all_append (set table p.0 (Some p.1)) ps qs
 
--- one word more of those that stand one after the other
-pub put_more : {Row : Type 0} (word : Row → ℕ) (rows : List Row) (k : ℕ) (d : Row) (base at put : ℕ)
-    (table more whole : List (Option ℕ))
-    → k < length rows → at ≡ base + k → put ≡ word (get_or rows k d) → more ≡ set table at (Some put)
+-- one row's word more of those that stand one after the other
+pub put_more : {more whole : List (Option ℕ)} (word : ℕ × ℕ × Bool × ℕ → ℕ) (rows : List (ℕ × ℕ × Bool × ℕ))
+    (k base : ℕ) (table : List (Option ℕ))
+    → k < length rows → more ≡ set table (base + k) (Some (word (get_or rows k (0, 0, false, 0))))
     → put_all table (laid (base + k) (map word (drop k rows))) ≡ whole
     → put_all more (laid (base + (k + 1)) (map word (drop (k + 1) rows))) ≡ whole
-put_more word rows k d base at put table more whole below here is set_is before =
+put_more word rows k base table below same before =
     let next : base + k + 1 ≡ base + (k + 1) = omega arith in
     let rest = map word (drop (k + 1) rows) in
     let first : put_all table (laid (base + k) (map word (drop k rows)))
-    ≡ put_all (set table (base + k) (Some (word (get_or rows k d)))) (laid (base + k + 1) rest) =
-    ap (λ (xs : List _). put_all table (laid (base + k) (map word xs))) (drop_more rows k d below) in
-    let same : more ≡ set table (base + k) (Some (word (get_or rows k d))) =
-    set_is ∙ (λ i. set table (here i) (Some (is i))) in
+    ≡ put_all (set table (base + k) (Some (word (get_or rows k (0, 0, false, 0))))) (laid (base + k + 1) rest) =
+    ap (λ (xs : List _). put_all table (laid (base + k) (map word xs))) (drop_more rows k (0, 0, false, 0) below) in
     (λ i. put_all (same i) (laid (sym next i) rest)) ∙ sym first ∙ before

@@ -10,6 +10,7 @@ pub mod Inductions
 pub mod Costs
 pub mod Accepted
 pub mod Lengths
+pub mod Places
 pub mod UseWords
 pub mod Bounds
 pub mod LineLoop

@@ -12,21 +12,22 @@ use Rattle.ed_notation.specs.declared.item.Item.{Item}
 use Rattle.ed_notation.specs.Fold.{Note, word_with}
 use Rattle.ed_notation.specs.Spellings.{AreSpellable}
 use Rattle.ed_library.specs.Entries.{entry}
-use Rattle.ed_library.specs.Routines.{find, item_of}
-use Rattle.ed_library.specs.Images.{item_word}
+use Rattle.ed_library.specs.Routines.{find, table_item}
+use Rattle.ed_library.specs.Images.{routine_word}
 use Rattle.ed_syntax.specs.declared.program.Setting.{Setting}
 use Rattle.ed_syntax.specs.declared.program.Statement.{Statement}
 use Rattle.ed_syntax.specs.declared.program.Statement.TheVariants.{Segment, Order, Number, Text}
 use Rattle.ed_syntax.specs.declared.program.Statement.TheVariants.{Long, Fetch, Enter, Rows}
 use Rattle.ed_symbols.specs.declared.homes.Home.{Home}
 use Rattle.ed_symbols.specs.declared.spots.Spot.{Spot}
-use Rattle.ed_symbols.specs.Places.{even, taken as places_of, passed, segment_at}
-use Rattle.ed_link.specs.Linked.{number, long_words, laid, letters, setting, presets, parameters, image}
-use Rattle.ed_link.specs.Linked.{placed_by, first_place}
+use Rattle.ed_symbols.specs.Places.{even_from, routine_places as places_of, passed, segment_at}
+use Rattle.ed_link.specs.Linked.{operand_number, long_words, laid, parameter_letters, set_to, presets, parameters}
+use Rattle.ed_link.specs.Linked.{image}
+use Rattle.ed_link.specs.Linked.{placed_by_line, first_place}
 use Rattle.ed_link.specs.Punch.{word_item, order_item, goes_by_theta, headed}
 use Rattle.ed_link.specs.Punch.{preset_items, routine_items, use_items, items_of}
 use Rattle.ed_words.proofs.Numbers.{eq_true, lt_true, lt_false}
-use Rattle.ed_link.proofs.Passes.{Passes, join, at}
+use Rattle.ed_link.proofs.Passes.{Passes, stays, join, at}
 use Rattle.ed_link.proofs.Orders.{split, laid_pass, order_pass, headed_pass, unheaded}
 use Rattle.ed_link.proofs.Uses.{AreKnown, all, holds, image_pass, reversed}
 
@@ -58,31 +59,38 @@ pub record Line (z : Size) (words : List ℕ) (theta first : ℕ) (next : Spot) 
   pub placed : last.placed ≡ reverse ps ++ note.placed
 
 -- what a `use` needs
-abbrev pub IsUse : Size → List ℕ → List Home → List Setting → ℕ → Option ℕ → Type 0
-IsUse z words homes ts base None = ⊥
-IsUse z words homes ts base (Some r) =
-    (0 < length (entry r).items) × (56 ≤ base) × (base + length (entry r).items ≤ locations z)
-    × ((whole : length words ≡ 1024) → AreKnown z words whole homes ts (entry r).items)
+abbrev pub IsUse : Size → List Setting → ℕ → Option ℕ → Type 0
+IsUse z ts base None = ⊥
+IsUse z ts base (Some r) = (0 < length (entry r).items) × (56 ≤ base) × (base + length (entry r).items ≤ locations z)
+    × AreKnown ts (entry r).items
 
 -- what a line needs that is no `enter` line
-abbrev pub IsSound : Size → List ℕ → List Home → Spot → Option Statement → Type 0
-IsSound z words homes s (Some (Order f o long)) = (56 ≤ s.place) × (s.place + 1 ≤ locations z)
-IsSound z words homes s (Some (Number w)) = (56 ≤ s.place) × (s.place + 1 ≤ locations z)
-IsSound z words homes s (Some (Text codes)) = (0 < length codes.items) × (56 ≤ s.place)
+abbrev pub IsSound : Size → Spot → Option Statement → Type 0
+IsSound z s (Some (Order f o long)) = (56 ≤ s.place) × (s.place + 1 ≤ locations z)
+IsSound z s (Some (Number w)) = (56 ≤ s.place) × (s.place + 1 ≤ locations z)
+IsSound z s (Some (Text codes)) = (0 < length codes.items) × (56 ≤ s.place)
     × (s.place + length codes.items ≤ locations z)
-IsSound z words homes s (Some (Long v)) = (56 ≤ s.place) × (even s.place + 2 ≤ locations z)
-IsSound z words homes s (Some (Fetch routine name ts)) = IsUse z words homes ts.items (even s.place) (find routine)
-IsSound z words homes s (Some (Enter name)) = ⊥
-IsSound z words homes s st = Unit {0}
+IsSound z s (Some (Long v)) = (56 ≤ s.place) × (even_from s.place + 2 ≤ locations z)
+IsSound z s (Some (Fetch routine name ts)) = IsUse z ts.items (even_from s.place) (find routine)
+IsSound z s (Some (Enter name)) = ⊥
+IsSound z s st = Unit {0}
 
-module _ (z : Size) (words : List ℕ) (whole : length words ≡ 1024) (homes : List Home) (theta : ℕ) (s : Spot)
-    (note : Note)
-    (ready : IsReady theta s note) where
+-- where a `long` leaves the place
+long_spot : (s : Spot) (v : ℕ) → record s { place = s.place + length (long_words s.place v) } ≡ passed (Some (Long v)) s
+long_spot s v = λ i. record s { place = by_test (nat_eq (s.place % 2) 1) refl i }
+  where
+    by_test : (t : Bool) → nat_eq (s.place % 2) 1 ≡ t
+        → s.place + length ((if t then 0 ∷ [] else []) ++ (v % 2 ^ 17 ∷ (v / 2 ^ 18 ∷ []))) ≡ even_from s.place + 2
+    by_test true e = let q : s.place % 2 ≡ 1 = grind (arith, nat_tests) in omega arith
+    by_test false e = let q : s.place % 2 ≡ 0 = grind (arith, nat_tests) in omega arith
+
+module _ {z : Size} {words : List ℕ} {theta : ℕ} {s : Spot} {note : Note} (ready : IsReady theta s note)
+    (whole : length words ≡ 1024) (homes : List Home) where
   -- a line of no words
   quiet : Line z words theta s.place s note [] []
   quiet = record {
     last = note;
-    passes = refl;
+    passes = stays;
     ready = record {
       base = ready.base;
       follows = ready.follows;
@@ -100,8 +108,7 @@ module _ (z : Size) (words : List ℕ) (whole : length words ≡ 1024) (homes : 
       (laid s.place ws)
   in_segment is ws some more high p = record {
     last = at (s.place + length ws) s.base (reverse (laid s.place ws) ++ note.placed);
-    passes = headed_pass z words note _ s.place s.base (nat_eq s.place s.base) is refl
-        (omega arith) some ready.follows p;
+    passes = headed_pass s.place s.base (nat_eq s.place s.base) refl (omega arith) some ready.follows p;
     ready = record {
       base = let b = ready.base in omega arith;
       follows = λ h. (refl, refl);
@@ -118,9 +125,9 @@ module _ (z : Size) (words : List ℕ) (whole : length words ≡ 1024) (homes : 
       (headed (map word_item ws) (nat_eq s.place s.base) s.base) (laid s.place ws)
   numbered ws are some low high =
       in_segment (map word_item ws) ws (let l = length-map ws word_item in omega arith) some high
-      (laid_pass z words s.base ws s.place note.placed (unheaded (map word_item ws) _ _ are) (omega arith) high)
+      (laid_pass s.base ws s.place (unheaded (map word_item ws) _ _ are) (omega arith) high)
 
-  use_line : (ts : List Setting) (base : ℕ) (found : Option ℕ) (segments : ℕ) → IsUse z words homes ts base found
+  use_line : (ts : List Setting) (base : ℕ) (found : Option ℕ) (segments : ℕ) → IsUse z ts base found
       → AreSpellable (use_items homes ts base found)
       → Line z words theta base
       (record { place = base + places_of found; base = base; segments = segments; inside = false }) note
@@ -128,40 +135,19 @@ module _ (z : Size) (words : List ℕ) (whole : length words ≡ 1024) (homes : 
   use_line ts base None segments is are = absurd is
   use_line ts base (Some r) segments is are =
       let rows = (entry r).items in
-      let js = flat_map (λ c. preset_items homes (setting ts c) c) letters in
+      let js = flat_map (λ c. preset_items homes (set_to ts c) c) parameter_letters in
       let sp = split js (headed (routine_items (Some r)) true base) are in
-      let a = all z words whole homes ts letters (
-        omega arith,
-        omega arith,
-        (
-          omega arith,
-          omega arith,
-          (
-            omega arith,
-            omega arith,
-            (
-              omega arith,
-              omega arith,
-              (
-                omega arith,
-                omega arith,
-                (omega arith, omega arith, tt),
-              ),
-            ),
-          ),
-        ),
-      ) note sp.0 in
+      let a = all {z = z} {words = words} whole homes ts parameter_letters refl note sp.0 in
       let m = a.0.next in
-      let held = holds z words whole homes ts m.placed a.1 in
-      let img = laid base (map (λ row. item_word (parameters homes ts) base (item_of row)) rows) in
+      let held = holds words homes ts m.placed a.1 in
+      let img = laid base (map (λ row. routine_word (parameters homes ts) base (table_item row)) rows) in
       let last = at (base + length rows) base (reverse img ++ m.placed) in
-      let p = image_pass z words whole homes ts rows base base m.placed (is.3 whole) is.1 is.2 held in
-      let l : 0 < length (map item_of rows) = let e = length-map rows item_of in omega (arith, is.0) in
-      let h = headed_pass z words m last base base true (map item_of rows) (eq_same base)
-      (omega (arith, is.0, is.2)) l (λ e. cc) p in
+      let p = image_pass {z = z} rows base base is.3 is.1 is.2 held in
+      let l : 0 < length (map table_item rows) = let e = length-map rows table_item in omega (arith, is.0) in
+      let h = headed_pass {z = z} {note = m} base base true (eq_same base) (omega (arith, is.0, is.2)) l (λ e. cc) p in
       record {
         last = last;
-        passes = join z words note m last js (headed (map item_of rows) true base) a.0.passes h;
+        passes = join a.0.passes h;
         ready = record {
           base = omega arith;
           follows = λ e. (refl, refl);
@@ -170,20 +156,12 @@ module _ (z : Size) (words : List ℕ) (whole : length words ≡ 1024) (homes : 
         placed = ap (λ x. reverse img ++ x) a.0.placed ∙ reversed (presets homes ts) img note.placed;
       }
 
-  long_spot : (v : ℕ) → record s { place = s.place + length (long_words s.place v) } ≡ passed (Some (Long v)) s
-  long_spot v = λ i. record s { place = by_test (nat_eq (s.place % 2) 1) refl i }
-    where
-      by_test : (t : Bool) → nat_eq (s.place % 2) 1 ≡ t
-          → s.place + length ((if t then 0 ∷ [] else []) ++ (v % 2 ^ 17 ∷ (v / 2 ^ 18 ∷ []))) ≡ even s.place + 2
-      by_test true e = let q : s.place % 2 ≡ 1 = grind (arith, nat_tests) in omega arith
-      by_test false e = let q : s.place % 2 ≡ 0 = grind (arith, nat_tests) in omega arith
-
-  pub line : (st : Option Statement) → IsSound z words homes s st → AreSpellable (items_of homes s st)
-      → Line z words theta (first_place st s) (passed st s) note (items_of homes s st) (placed_by homes s st)
+  pub line : (st : Option Statement) → IsSound z s st → AreSpellable (items_of homes s st)
+      → Line z words theta (first_place st s) (passed st s) note (items_of homes s st) (placed_by_line homes s st)
   line None is are = quiet
   line (Some (Segment name base)) is are = record {
     last = note;
-    passes = refl;
+    passes = stays;
     ready = record {
       base = omega arith;
       follows = λ h. let e = eq_same (unwrap_or base s.place) in let q = sym e ∙ h in cc;
@@ -192,23 +170,25 @@ module _ (z : Size) (words : List ℕ) (whole : length words ≡ 1024) (homes : 
     placed = refl;
   }
   line (Some (Order f o long)) is are =
-      let w = word_with f (number homes (segment_at s) o) false (digit long) in
-      in_segment (order_item (goes_by_theta homes s o) s.base f (number homes (segment_at s) o) long ∷ []) (w ∷ [])
+      let w = word_with f (operand_number homes (segment_at s) o) false (digit long) in
+      in_segment (order_item (goes_by_theta homes s o) s.base f (operand_number homes (segment_at s) o) long ∷ [])
+      (w ∷ [])
       (omega arith) (omega arith) is.1
-      (order_pass z words homes s note.placed f o long (omega (arith, is.0)) (omega (arith, is.1)))
+      (order_pass homes s f o long (omega (arith, is.0)) (omega (arith, is.1)))
   line (Some (Number w)) is are = numbered (w ∷ []) are (omega arith) is.0 is.1
   line (Some (Text codes)) is are =
       let l = length-map codes.items (λ c. 4096 * c) in
       subst (λ (x : Spot). Line z words theta s.place x note (items_of homes s (Some (Text codes)))
-      (placed_by homes s (Some (Text codes))))
+      (placed_by_line homes s (Some (Text codes))))
       (λ i. record s { place = s.place + l i })
       (numbered (map (λ c. 4096 * c) codes.items) are (omega (arith, l, is.0)) is.1 (omega (arith, l, is.2)))
   line (Some (Long v)) is are =
-      let e = long_spot v in
-      let p : s.place + length (long_words s.place v) ≡ even s.place + 2 = ap (λ (x : Spot). x.place) e in
+      let e = long_spot s v in
+      let p : s.place + length (long_words s.place v) ≡ even_from s.place + 2 = ap (λ (x : Spot). x.place) e in
       subst (λ (x : Spot). Line z words theta s.place x note (items_of homes s (Some (Long v)))
-      (placed_by homes s (Some (Long v))))
+      (placed_by_line homes s (Some (Long v))))
       e (numbered (long_words s.place v) are (omega (arith, p)) is.0 (omega (arith, p, is.1)))
-  line (Some (Fetch routine name ts)) is are = use_line ts.items (even s.place) (find routine) (s.segments + 1) is are
+  line (Some (Fetch routine name ts)) is are =
+      use_line ts.items (even_from s.place) (find routine) (s.segments + 1) is are
   line (Some (Enter name)) is are = absurd is
   line (Some (Rows codes)) is are = quiet

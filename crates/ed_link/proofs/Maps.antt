@@ -11,13 +11,13 @@ use Rattle.ed_link.proofs.Orders.{placed_more}
 use Rattle.ed_link.proofs.Lengths.{empty_length}
 
 -- one word is put
-one : (t : List (Option ℕ)) (p w a : ℕ) (found : Option ℕ) (b : Bool) → nat_eq p a ≡ b → a < length t
+one : {found : Option ℕ} (t : List (Option ℕ)) (p w a : ℕ) (b : Bool) → nat_eq p a ≡ b → a < length t
     → get_or t a None ≡ found
     → get_or (set t p (Some w)) a None ≡ (if b then Some w else found)
-one t p w a found true e l h =
+one t p w a true e l h =
     let q = eq_of p a e in
     ap (λ x. get_or (set t x (Some w)) a None) q ∙ get_or-set_same t a (Some w) None l
-one t p w a found false e l h = get_or-set_other t p a (Some w) None (λ q. not_eq_of p a e (sym q)) ∙ h
+one t p w a false e l h = get_or-set_other t p a (Some w) None (λ q. not_eq_of p a e (sym q)) ∙ h
 
 -- words are put
 put_is : (ps m : List (ℕ × ℕ)) (t : List (Option ℕ)) (a : ℕ) → a < length t → get_or t a None ≡ placed_at m a
@@ -25,7 +25,7 @@ put_is : (ps m : List (ℕ × ℕ)) (t : List (Option ℕ)) (a : ℕ) → a < le
 put_is [] m t a l h = h
 put_is (p ∷ ps) m t a l h =
     let l2 : a < length (set t p.0 (Some p.1)) = omega (arith, length-set t p.0 (Some p.1)) in
-    put_is ps (p ∷ m) (set t p.0 (Some p.1)) a l2 (one t p.0 p.1 a (placed_at m a) (nat_eq p.0 a) refl l h)
+    put_is ps (p ∷ m) (set t p.0 (Some p.1)) a l2 (one t p.0 p.1 a (nat_eq p.0 a) refl l h)
     ∙ ap (λ x. placed_at x a) (placed_more p ps m)
 
 -- the empty table has no word

@@ -20,12 +20,12 @@ use Rattle.ed_symbols.specs.declared.homes.Home.{Home}
 use Rattle.ed_symbols.specs.declared.spots.Spot.{Spot}
 use Rattle.ed_symbols.specs.Places.{segment_at}
 use Rattle.ed_symbols.specs.Names.{home_of}
-use Rattle.ed_link.specs.Linked.{number, laid}
-use Rattle.ed_link.specs.Punch.{word_item, order_item, goes_by_theta, is_in, head, headed}
+use Rattle.ed_link.specs.Linked.{operand_number, laid}
+use Rattle.ed_link.specs.Punch.{word_item, order_item, goes_by_theta, is_in, headed}
 use Rattle.ed_notation.proofs.Steps.{placing}
 use Rattle.ed_words.proofs.Numbers.{lt_of, le_of, eq_of}
 use Rattle.ed_words.proofs.SizeLemmas.{most}
-use Rattle.ed_link.proofs.Passes.{Passes, join, at, heading}
+use Rattle.ed_link.proofs.Passes.{Passes, stays, goes, join, at, heading}
 
 -- the function of an item that can be spelled
 function_fits : (i : Item) → is_spellable i ≡ true → i.function < 32
@@ -55,38 +55,27 @@ pub placed_more : (p : ℕ × ℕ) (ps m : List (ℕ × ℕ)) → reverse ps ++ 
 placed_more p ps m = sym (ap (λ x. x ++ m) (reverse-append (p ∷ []) ps) ∙ append_assoc (reverse ps) (p ∷ []) m)
 
 -- words one after the other are placed in a row
-pub laid_pass : (z : Size) (words : List ℕ) (base : ℕ) (ws : List ℕ) (place : ℕ) (placed : List (ℕ × ℕ))
+pub laid_pass : {z : Size} {words : List ℕ} {placed : List (ℕ × ℕ)} (base : ℕ) (ws : List ℕ) (place : ℕ)
     → AreSpellable (map word_item ws) → 44 ≤ place → place + length ws ≤ locations z
     → Passes z words (at place base placed) (map word_item ws)
     (at (place + length ws) base (reverse (laid place ws) ++ placed))
-laid_pass z words base [] place placed are low high = let e : place + 0 ≡ place = omega arith in rw e refl
-laid_pass z words base (w ∷ ws) place placed are low high =
+laid_pass base [] place are low high = let e : place + 0 ≡ place = omega arith in rw e stays
+laid_pass {z} {words} {placed} base (w ∷ ws) place are low high =
     let k = word_is words (at place base placed) w (nat_eq (w % 2) 1) refl (small w are.0) in
     let e : place + suc (length ws) ≡ place + 1 + length ws = omega arith in
-    let r = laid_pass z words base ws (place + 1) ((place, w) ∷ placed) are.1 (omega arith) (omega arith) in (
-      at (place + 1) base ((place, w) ∷ placed),
-      placing z words (at place base placed) (word_item w) place w k.1 refl low (omega arith) k.0,
-      k.2,
-      subst (λ (n : Note). Passes z words (at (place + 1) base ((place, w) ∷ placed)) (map word_item ws) n)
-          (λ i. at (sym e i) base (placed_more (place, w) (laid (place + 1) ws) placed i)) r,
-    )
+    let r = laid_pass {placed = (place, w) ∷ placed} base ws (place + 1) are.1 (omega arith) (omega arith) in
+    goes (placing z words place k.1 refl low (omega arith) k.0) k.2
+    (subst (λ (n : Note). Passes z words (at (place + 1) base ((place, w) ∷ placed)) (map word_item ws) n)
+    (λ i. at (sym e i) base (placed_more (place, w) (laid (place + 1) ws) placed i)) r)
 
 -- an order
 
 theta_base : (homes : List Home) (s : Spot) (o : Operand) → goes_by_theta homes s o ≡ true
-    → s.base ≤ number homes (segment_at s) o
+    → s.base ≤ operand_number homes (segment_at s) o
 theta_base homes s (Number n) h = cc
 theta_base homes s (Label name plus) h =
     le_of _ _ (and_parts (is_in (segment_at s) (home_of (segment_at s) name homes)) _ h).1
 theta_base homes s (Two first second minus) h = cc
-
--- the word of an order, by θ or by its number
-order_word : (words : List ℕ) (place base : ℕ) (placed : List (ℕ × ℕ)) (b : Bool) (f n : ℕ) (long : Bool)
-    → (b ≡ true → base ≤ n)
-    → item_word words (at place base placed) (order_item b base f n long) ≡ word_with f n false (digit long)
-order_word words place base placed true f n long h = let l = h refl in omega arith
-order_word words place base placed false f n true h = omega arith
-order_word words place base placed false f n false h = omega arith
 
 -- it ends with a code letter
 order_letter : (b : Bool) (base f n : ℕ) (long : Bool)
@@ -96,38 +85,38 @@ order_letter false base f n true = (refl, refl)
 order_letter false base f n false = (refl, refl)
 
 -- an order is placed
-pub order_pass : (z : Size) (words : List ℕ) (homes : List Home) (s : Spot) (placed : List (ℕ × ℕ)) (f : ℕ)
+pub order_pass : {z : Size} {words : List ℕ} {placed : List (ℕ × ℕ)} (homes : List Home) (s : Spot) (f : ℕ)
     (o : Operand) (long : Bool)
     → 44 ≤ s.place → s.place < locations z
     → Passes z words (at s.place s.base placed)
-    (order_item (goes_by_theta homes s o) s.base f (number homes (segment_at s) o) long ∷ [])
-    (at (s.place + 1) s.base ((s.place, word_with f (number homes (segment_at s) o) false (digit long)) ∷ placed))
-order_pass z words homes s placed f o long low high =
-    let n = number homes (segment_at s) o in
-    let b = goes_by_theta homes s o in (
-      at (s.place + 1) s.base ((s.place, word_with f n false (digit long)) ∷ placed),
-      placing z words (at s.place s.base placed) (order_item b s.base f n long) s.place
-          (word_with f n false (digit long))
-          (order_letter b s.base f n long).0 refl low high
-          (order_word words s.place s.base placed b f n long (theta_base homes s o)),
-      (order_letter b s.base f n long).1,
-      refl,
-    )
+    (order_item (goes_by_theta homes s o) s.base f (operand_number homes (segment_at s) o) long ∷ [])
+    (at (s.place + 1) s.base ((s.place, word_with f (operand_number homes (segment_at s) o) false (digit long)) ∷
+    placed))
+order_pass {z} {words} {placed} homes s f o long low high =
+    let n = operand_number homes (segment_at s) o in
+    let b = goes_by_theta homes s o in
+    let letter = order_letter b s.base f n long in
+    goes (placing z words s.place letter.0 refl low high (its_word n b long (theta_base homes s o))) letter.1 stays
+  where
+    -- its word, by θ or by its number
+    its_word : (n : ℕ) (b long : Bool) → (b ≡ true → s.base ≤ n)
+        → item_word words (at s.place s.base placed) (order_item b s.base f n long) ≡ word_with f n false (digit long)
+    its_word n true long h = let l = h refl in omega arith
+    its_word n false true h = omega arith
+    its_word n false false h = omega arith
 
 -- items behind the head of their segment
 
-pub headed_pass : (z : Size) (words : List ℕ) (note last : Note) (place base : ℕ) (first : Bool) (is : List Item)
+pub headed_pass : {z : Size} {words : List ℕ} {note last : Note} {is : List Item} (place base : ℕ) (first : Bool)
     → nat_eq place base ≡ first → place < locations z → 0 < length is
     → (first ≡ false → (note.directive ≡ 20480 + 2 * place) × (note.theta ≡ 2 * base))
     → Passes z words (at place base note.placed) is last → Passes z words note (headed is first base) last
-headed_pass z words note last place base first [] e high some follows p = absurd (omega arith)
-headed_pass z words note last place base true (i ∷ is) e high some follows p =
+headed_pass {is = []} place base first e high some follows p = absurd (omega arith)
+headed_pass {z} {words} {note} {last} {is = i ∷ is} place base true e high some follows p =
     let m = most z in
     let q : place ≡ base = eq_of _ _ e in
-    let h = heading z words note base (omega arith) in
-    join z words note (at base base note.placed) last (head base) (i ∷ is) h
-    (subst (λ (n : ℕ). Passes z words (at n base note.placed) (i ∷ is) last) q p)
-headed_pass z words note last place base false (i ∷ is) e high some follows p =
+    join (heading base (omega arith)) (subst (λ (n : ℕ). Passes z words (at n base note.placed) (i ∷ is) last) q p)
+headed_pass {z} {words} {note} {last} {is = i ∷ is} place base false e high some follows p =
     let f = follows refl in
     let n : at place base note.placed ≡ note = λ k. record {
       directive = sym (f.0) k;

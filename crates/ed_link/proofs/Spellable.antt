@@ -1,7 +1,7 @@
 -- One more item that can be spelled.
-use Rattle.std.proofs.Common.{◌≡◌, Bool, true, ◌&&◌, List, [], ◌∷◌, ◌++◌, refl, arith}
+use Rattle.std.proofs.Common.{◌≡◌, true, List, [], ◌∷◌, ◌++◌, refl}
 use Rattle.std.specs.List.{list_all}
-use Rattle.std.proofs.lemmas.Bool.{and_parts}
+use Rattle.std.proofs.lemmas.Bool.{and_from, and_parts}
 use Rattle.ed_notation.specs.declared.item.Item.{Item}
 use Rattle.ed_notation.specs.Spellings.{AreSpellable, is_spellable}
 
@@ -10,13 +10,10 @@ pub more : (is : List Item) (i : Item) → AreSpellable is → is_spellable i �
 more [] i are h = (h, tt)
 more (j ∷ is) i are h = (are.0, more is i are.1 h)
 
-and_both : (x y : Bool) → x ≡ true → y ≡ true → (x && y) ≡ true
-and_both x y h k = grind arith
-
 -- the test of all items by the test of each
 pub all_spellable : (is : List Item) → AreSpellable is → list_all is_spellable is ≡ true
 all_spellable [] are = refl
-all_spellable (i ∷ is) are = and_both _ _ are.0 (all_spellable is are.1)
+all_spellable (i ∷ is) are = and_from _ _ are.0 (all_spellable is are.1)
 
 -- the test of each item by the test of all
 pub are_spellable : (is : List Item) → list_all is_spellable is ≡ true → AreSpellable is

@@ -1,7 +1,7 @@
 -- The items of a line without a fault can be spelled.
 use Rattle.std.proofs.Common.{◌≡◌, ℕ, ◌+◌, ◌-◌, ◌*◌, ◌/◌, ◌%◌, ◌^◌, ◌<◌, ◌≤◌, refl}
-use Rattle.std.proofs.Common.{arith, Bool, true, false, ◌&&◌, nat_lt, nat_le, nat_eq}
-use Rattle.std.proofs.Common.{Option, Some, None, List, [], ◌∷◌, ◌++◌, length, map, ℤ, pos, if◌then◌else◌}
+use Rattle.std.proofs.Common.{arith, Bool, true, false, nat_lt, nat_le, nat_eq}
+use Rattle.std.proofs.Common.{Option, Some, None, List, [], ◌∷◌, ◌++◌, map, ℤ, pos, if◌then◌else◌}
 use Rattle.std.specs.Prelude.{◌||◌, int_lt, unsigned_abs}
 use Rattle.std.specs.List.{flat_map, list_all}
 use Rattle.std.proofs.lemmas.Bool.{and_parts}
@@ -15,27 +15,27 @@ use Rattle.ed_notation.specs.Items.{ends, row_kind}
 use Rattle.ed_notation.specs.Spellings.{AreSpellable, canonical, is_spellable}
 use Rattle.ed_library.specs.Entries.{catalogue, entry}
 use Rattle.ed_library.specs.Ready.{is_ready, is_ready_row}
-use Rattle.ed_library.specs.Routines.{find, item_of}
-use Rattle.ed_syntax.specs.Programs.{is_statement}
-use Rattle.ed_syntax.proofs.Meaning.{statement_fact}
+use Rattle.ed_library.specs.Routines.{find, table_item}
+use Rattle.ed_syntax.proofs.Meaning.{IsStatement}
 use Rattle.ed_syntax.specs.declared.program.Operand.{Operand}
 use Rattle.ed_syntax.specs.declared.program.Setting.{Setting}
 use Rattle.ed_syntax.specs.declared.program.Statement.{Statement}
-use Rattle.ed_syntax.specs.declared.program.Statement.TheVariants.{Segment, Order, Number, Text}
-use Rattle.ed_syntax.specs.declared.program.Statement.TheVariants.{Long, Fetch, Enter, Rows}
+use Rattle.ed_syntax.specs.declared.program.Statement.TheVariants.{Order, Number, Text}
+use Rattle.ed_syntax.specs.declared.program.Statement.TheVariants.{Long, Fetch, Enter}
 use Rattle.ed_symbols.specs.declared.homes.Home.{Home}
 use Rattle.ed_symbols.specs.declared.spots.Spot.{Spot}
-use Rattle.ed_symbols.specs.Places.{even, segment_at}
-use Rattle.ed_symbols.specs.Faults.{value}
-use Rattle.ed_link.specs.Linked.{letters, long_words, number, number_of, setting}
-use Rattle.ed_link.specs.Punch.{ending, goes_by_theta, head, headed, heads, item}
+use Rattle.ed_symbols.specs.Places.{even_from, segment_at}
+use Rattle.ed_symbols.specs.Faults.{operand_value}
+use Rattle.ed_link.specs.Linked.{parameter_letters, long_words, operand_number, order_number, set_to}
+use Rattle.ed_link.specs.Punch.{ending, goes_by_theta, headed, heads, item_with}
 use Rattle.ed_link.specs.Punch.{items_of, order_item, preset_items, routine_items}
 use Rattle.ed_link.specs.Punch.{use_items, word_item}
 use Rattle.ed_link.proofs.Closed.{rows_are_ready}
 use Rattle.ed_link.proofs.Lines.{IsSound, IsUse}
 
-spelled : (f n e : ℕ) (mark : Bool) → f < 32 → n ≤ 32767 → ends (row_kind e) (canonical (item f n mark e)).begun ≡ true
-    → is_spellable (item f n mark e) ≡ true
+spelled : (f n e : ℕ) (mark : Bool) → f < 32 → n ≤ 32767
+    → ends (row_kind e) (canonical (item_with f n mark e)).begun ≡ true
+    → is_spellable (item_with f n mark e) ≡ true
 spelled f n e mark low few ended = rw ended (grind (arith, nat_tests))
 
 pub joined : (is js : List Item) → AreSpellable is → AreSpellable js → AreSpellable (is ++ js)
@@ -54,7 +54,7 @@ headed_spelled (i ∷ is) first base few are = joined (heads first base) (i ∷ 
 -- ---- words
 
 ending_ends : (b : Bool) (f n : ℕ) (mark : Bool)
-    → ends (row_kind (ending b)) (canonical (item f n mark (ending b))).begun ≡ true
+    → ends (row_kind (ending b)) (canonical (item_with f n mark (ending b))).begun ≡ true
 ending_ends true f n mark = refl
 ending_ends false f n mark = refl
 
@@ -85,7 +85,7 @@ long_spelled false v fits = halves_spelled v fits
 -- ---- orders and parameters
 
 -- the number of a value is one that an order holds
-number_few : (o : Option ℤ) → number_of o ≤ 32767
+number_few : (o : Option ℤ) → order_number o ≤ 32767
 number_few None = omega arith
 number_few (Some v) = by_test (int_lt v (pos 0) || int_lt (pos 32767) v) refl
   where
@@ -102,87 +102,82 @@ preset_spelled : (homes : List Home) (o : Option Operand) (c : ℕ) → c ≤ 26
 preset_spelled homes None c h = tt
 preset_spelled homes (Some o) c h = (
   spelled 5 (24 + c) 14 false (omega arith) (omega (arith, h)) refl,
-  (spelled 0 (number homes None o) 17 false (omega arith) (number_few (value homes None o)) refl, tt),
+  (spelled 0 (operand_number homes None o) 17 false (omega arith) (number_few (operand_value homes None o)) refl, tt),
 )
 
 presets_spelled : (homes : List Home) (ts : List Setting) (cs : List ℕ) → list_all (λ c. nat_le c 26) cs ≡ true
-    → AreSpellable (flat_map (λ c. preset_items homes (setting ts c) c) cs)
+    → AreSpellable (flat_map (λ c. preset_items homes (set_to ts c) c) cs)
 presets_spelled homes ts [] h = tt
 presets_spelled homes ts (c ∷ cs) h =
     let p = and_parts (nat_le c 26) (list_all (λ x. nat_le x 26) cs) h in
-    joined (preset_items homes (setting ts c) c) (flat_map (λ x. preset_items homes (setting ts x) x) cs)
-    (preset_spelled homes (setting ts c) c (le_of c 26 p.0)) (presets_spelled homes ts cs p.1)
+    joined (preset_items homes (set_to ts c) c) (flat_map (λ x. preset_items homes (set_to ts x) x) cs)
+    (preset_spelled homes (set_to ts c) c (le_of c 26 p.0)) (presets_spelled homes ts cs p.1)
 
 -- ---- routines
 
 rows_spelled : (own : List ℕ) (rows : List (ℕ × ℕ × Bool × ℕ)) → list_all (is_ready_row own) rows ≡ true
-    → AreSpellable (map item_of rows)
+    → AreSpellable (map table_item rows)
 rows_spelled own [] h = tt
 rows_spelled own (row ∷ rows) h =
     let p = and_parts (is_ready_row own row) (list_all (is_ready_row own) rows) h in
-    ((and_parts (is_spellable (item_of row)) _ p.0).0, rows_spelled own rows p.1)
+    ((and_parts (is_spellable (table_item row)) _ p.0).0, rows_spelled own rows p.1)
 
 routine_spelled : list_all is_ready catalogue ≡ true
-    → (z : Size) (words : List ℕ) (homes : List Home) (ts : List Setting) (base : ℕ)
-    (text : List ℕ) (found : Option ℕ) → find text ≡ found → IsUse z words homes ts base found
-    → (base ≤ 32767) × AreSpellable (routine_items found)
-routine_spelled tables z words homes ts base text None e held = absurd held
-routine_spelled tables z words homes ts base text (Some r) e held =
+    → (z : Size) (ts : List Setting) (base : ℕ) (text : List ℕ) (found : Option ℕ) → find text ≡ found
+    → IsUse z ts base found → (base ≤ 32767) × AreSpellable (routine_items found)
+routine_spelled tables z ts base text None e held = absurd held
+routine_spelled tables z ts base text (Some r) e held =
     let m = most z in
     let few = held.2 in
     (omega (arith, m, few), rows_spelled (entry r).parameters (entry r).items (rows_are_ready tables text r e))
 
-use_spelled : list_all is_ready catalogue ≡ true
-    → (z : Size) (words : List ℕ) (homes : List Home) (ts : List Setting) (base : ℕ)
-    (text : List ℕ) (found : Option ℕ) → find text ≡ found → IsUse z words homes ts base found
-    → AreSpellable (use_items homes ts base found)
-use_spelled tables z words homes ts base text found e held =
-    let r = routine_spelled tables z words homes ts base text found e held in
-    joined (flat_map (λ c. preset_items homes (setting ts c) c) letters) (headed (routine_items found) true base)
-    (presets_spelled homes ts letters refl) (headed_spelled (routine_items found) true base r.0 r.1)
+use_spelled : (homes : List Home) (ts : List Setting) (base : ℕ) (found : Option ℕ)
+    → (base ≤ 32767) × AreSpellable (routine_items found) → AreSpellable (use_items homes ts base found)
+use_spelled homes ts base found r =
+    joined (flat_map (λ c. preset_items homes (set_to ts c) c) parameter_letters)
+    (headed (routine_items found) true base)
+    (presets_spelled homes ts parameter_letters refl) (headed_spelled (routine_items found) true base r.0 r.1)
 
 -- ---- lines
 
 -- a line that is no `enter` line, in a segment that begins at its place or before
 pub line_spelled : list_all is_ready catalogue ≡ true
-    → (two : Bool) (z : Size) (words : List ℕ) (homes : List Home) (s : Spot)
-    (st : Option Statement)
-    → ((x : Statement) → st ≡ Some x → is_statement two x ≡ true) → IsSound z words homes s st → s.base ≤ s.place
+    → (z : Size) (homes : List Home) (s : Spot) (st : Option Statement)
+    → ((x : Statement) → st ≡ Some x → (two : Bool) × IsStatement two x) → IsSound z s st → s.base ≤ s.place
     → AreSpellable (items_of homes s st)
-line_spelled tables two z words homes s None formed sound base = tt
-line_spelled tables two z words homes s (Some (Segment name at)) formed sound base = tt
-line_spelled tables two z words homes s (Some (Rows codes)) formed sound base = tt
-line_spelled tables two z words homes s (Some (Enter name)) formed sound base = absurd sound
-line_spelled tables two z words homes s (Some (Fetch routine name ts)) formed sound base =
-    use_spelled tables z words homes ts.items (even s.place) routine (find routine) refl sound
-line_spelled tables two z words homes s (Some (Order f o long)) formed sound base =
-    let fact = statement_fact two (Order f o long) (formed (Order f o long) refl) in
+line_spelled tables z homes s (Some (Enter name)) formed sound base = absurd sound
+line_spelled tables z homes s (Some (Fetch routine name ts)) formed sound base =
+    use_spelled homes ts.items (even_from s.place) (find routine)
+    (routine_spelled tables z ts.items (even_from s.place) routine (find routine) refl sound)
+line_spelled tables z homes s (Some (Order f o long)) formed sound base =
+    let fact = (formed (Order f o long) refl).1 in
     let m = most z in
-    headed_spelled (order_item (goes_by_theta homes s o) s.base f (number homes (segment_at s) o) long ∷ [])
+    headed_spelled (order_item (goes_by_theta homes s o) s.base f (operand_number homes (segment_at s) o) long ∷ [])
     (nat_eq s.place s.base)
     s.base (omega (arith, m, base, sound.1)) (
-      order_spelled (goes_by_theta homes s o) s.base f (number homes (segment_at s) o) long fact.0
-          (number_few (value homes (segment_at s) o)),
+      order_spelled (goes_by_theta homes s o) s.base f (operand_number homes (segment_at s) o) long fact.0
+          (number_few (operand_value homes (segment_at s) o)),
       tt,
     )
-line_spelled tables two z words homes s (Some (Number w)) formed sound base =
-    let fact = statement_fact two (Number w) (formed (Number w) refl) in
+line_spelled tables z homes s (Some (Number w)) formed sound base =
+    let fact = (formed (Number w) refl).1 in
     let m = most z in
     headed_spelled (word_item w ∷ []) (nat_eq s.place s.base) s.base (omega (arith, m, base, sound.1))
     (word_spelled w fact, tt)
-line_spelled tables two z words homes s (Some (Text codes)) formed sound base =
-    let fact = statement_fact two (Text codes) (formed (Text codes) refl) in
+line_spelled tables z homes s (Some (Text codes)) formed sound base =
+    let fact = (formed (Text codes) refl).1 in
     let m = most z in
     headed_spelled (map word_item (map (λ c. 4096 * c) codes.items)) (nat_eq s.place s.base) s.base
     (omega (arith, m, base, sound.2))
     (text_spelled codes.items fact.1)
-line_spelled tables two z words homes s (Some (Long v)) formed sound base =
-    let fact = statement_fact two (Long v) (formed (Long v) refl) in
+line_spelled tables z homes s (Some (Long v)) formed sound base =
+    let fact = (formed (Long v) refl).1 in
     let m = most z in
     headed_spelled (map word_item (long_words s.place v)) (nat_eq s.place s.base) s.base
     (omega (arith, m, base, sound.1))
     (long_spelled (nat_eq (s.place % 2) 1) v fact.1)
+line_spelled tables z homes s st formed sound base = tt
 
 -- the item that aims an `enter`
-pub aiming_spelled : (place : ℕ) → place ≤ 32767 → AreSpellable (item 3 place false 14 ∷ [])
+pub aiming_spelled : (place : ℕ) → place ≤ 32767 → AreSpellable (item_with 3 place false 14 ∷ [])
 aiming_spelled place few = (spelled 3 place 14 false (omega arith) few refl, tt)

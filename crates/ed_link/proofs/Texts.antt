@@ -32,10 +32,10 @@ pub last_spells : (cs : List ℕ) (k : ℕ) → length cs ≤ k → Spells (line
 last_spells cs k h = rw (drop_all k cs h) (spacing 10 [] [] refl none)
 
 -- one row more
-pub one_spells : (cs : List ℕ) (k c byte : ℕ) → k < length cs → c ≡ get_or cs k c → byte ≡ byte_of c true
+pub one_spells : {c byte : ℕ} (cs : List ℕ) (k : ℕ) → k < length cs → c ≡ get_or cs k c → byte ≡ byte_of c true
     → row_of byte ≡ Some c
     → Spells (line_from true (drop (k + 1) cs)) (drop (k + 1) cs) → Spells (line_from true (drop k cs)) (drop k cs)
-one_spells cs k c byte below is spelled back s =
+one_spells {c} cs k below is spelled back s =
     let e : drop k cs ≡ c ∷ drop (k + 1) cs =
     subst (λ x. drop k cs ≡ x ∷ drop (k + 1) cs) (sym is) (drop_more cs k c below) in
     let b : row_of (byte_of c true) ≡ Some c = rw spelled at back in

@@ -1,37 +1,39 @@
 -- The words of a `use`, by what the code puts.
 use Rattle.std.proofs.Common.{◌≡◌, ℕ, ◌+◌, ◌<◌, ◌≤◌, ap, ◌∙◌, subst, arith, Option, Some, List, ◌++◌, length, map}
 use Rattle.ed_library.specs.Entries.{entry}
-use Rattle.ed_library.specs.Routines.{item_of, places}
-use Rattle.ed_library.specs.Images.{item_word}
+use Rattle.ed_library.specs.Routines.{table_item, place_count}
+use Rattle.ed_library.specs.Images.{routine_word}
 use Rattle.ed_syntax.specs.declared.program.Setting.{Setting}
 use Rattle.ed_symbols.specs.declared.homes.Home.{Home}
-use Rattle.ed_symbols.specs.Places.{taken}
+use Rattle.ed_symbols.specs.Places.{routine_places}
 use Rattle.ed_link.specs.Linked.{image, laid, parameters, presets}
 use Rattle.ed_link.specs.Tables.{put_all}
 use Rattle.ed_link.proofs.Lengths.{put_all_append, put_all_length}
 
 -- the parameters and then the routine are the words of the `use`
-pub use_words : (table before behind : List (Option ℕ)) (homes : List Home) (ts : List Setting) (base r : ℕ)
-    (found : Option ℕ)
-    (ps : List ℕ)
-    → behind ≡ put_all before (laid base (map (λ row. item_word ps base (item_of row)) (entry r).items))
+pub use_words : {before behind : List (Option ℕ)} {r : ℕ} {found : Option ℕ} {ps : List ℕ} (table : List (Option ℕ))
+    (homes : List Home) (ts : List Setting) (base : ℕ)
+    → behind ≡ put_all before (laid base (map (λ row. routine_word ps base (table_item row)) (entry r).items))
     → ps ≡ parameters homes ts
     → before ≡ put_all table (presets homes ts) → Some r ≡ found
     → behind ≡ put_all table (presets homes ts ++ image homes ts base found)
-use_words table before behind homes ts base r found ps h p q f =
+use_words {before} {behind} {r} {ps = ps} table homes ts base h p q f =
     subst (λ (x : Option ℕ). behind ≡ put_all table (presets homes ts ++ image homes ts base x)) f
-    (h ∙ ap (λ (x : List ℕ). put_all before (laid base (map (λ row. item_word x base (item_of row)) (entry r).items))) p
+    (h ∙ ap (λ (x : List ℕ). put_all before
+    (laid base (map (λ row. routine_word x base (table_item row)) (entry r).items))) p
     ∙ ap (λ (x : List (Option ℕ)). put_all x (image homes ts base (Some r))) q
     ∙ put_all_append table (presets homes ts) (image homes ts base (Some r)))
 
 -- the routine's places are within the table, also behind the parameters
-pub use_fits : (table before : List (Option ℕ)) (ps : List (ℕ × ℕ)) (base r : ℕ) (found : Option ℕ)
+pub use_fits : {before : List (Option ℕ)} {r : ℕ} {found : Option ℕ} (table : List (Option ℕ)) (ps : List (ℕ × ℕ))
+    (base : ℕ)
     → before ≡ put_all table ps
-    → Some r ≡ found → (0 < taken found → base + taken found ≤ length table) → 0 < places r
-    → base + places r ≤ length before
-use_fits table before ps base r found is f fits some =
+    → Some r ≡ found → (0 < routine_places found → base + routine_places found ≤ length table) → 0 < place_count r
+    → base + place_count r ≤ length before
+use_fits {before} {r} table ps base is f fits some =
     let same : length before ≡ length table = ap (λ (x : List (Option ℕ)). length x) is ∙ put_all_length table ps in
-    let most : base + places r ≤ length table =
-    subst (λ (x : Option ℕ). (0 < taken x → base + taken x ≤ length table) → base + places r ≤ length table) f
+    let most : base + place_count r ≤ length table =
+    subst (λ (x : Option ℕ). (0 < routine_places x → base + routine_places x ≤ length table)
+    → base + place_count r ≤ length table) f
     (λ h. h some) fits in
     omega (arith, same, most)

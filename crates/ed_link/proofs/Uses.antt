@@ -1,12 +1,13 @@
 -- What the fold does at the items of a `use` line: preset parameters, and a routine's items.
 use Rattle.std.proofs.Common.{◌≡◌, ◌≢◌, ℕ, suc, ◌+◌, ◌-◌, ◌*◌, ◌<◌, ◌≤◌, ◌⊎◌}
 use Rattle.std.proofs.Common.{inl, inr, refl, sym, ap, ◌∙◌, subst, arith}
-use Rattle.std.proofs.Common.{Bool, true, false, nat_eq, Option, Some, None, List, [], ◌∷◌, ◌++◌, length, map}
+use Rattle.std.proofs.Common.{Bool, true, false, ◌&&◌, nat_eq, nat_le, nat_lt}
+use Rattle.std.proofs.Common.{Option, Some, None, List, [], ◌∷◌, ◌++◌, length, map}
 use Rattle.std.proofs.Common.{append_assoc, get_or}
 use Rattle.std.specs.Prelude.{reverse}
-use Rattle.std.specs.List.{flat_map}
+use Rattle.std.specs.List.{flat_map, list_all}
 use Rattle.std.proofs.lemmas.List.{reverse-append, get_or-set_same, get_or-set_other}
-use Rattle.std.proofs.lemmas.Bool.{cases_eq}
+use Rattle.std.proofs.lemmas.Bool.{and_parts, cases_eq}
 use Rattle.std.proofs.lemmas.Bool.Decides.{nat_tests}
 use Rattle.ed_words.specs.declared.size.Size.{Size}
 use Rattle.ed_words.specs.Sizes.{locations}
@@ -16,39 +17,39 @@ use Rattle.ed_notation.specs.Items.{row_kind}
 use Rattle.ed_notation.specs.Fold.{Note, over, value_of, word_with, item_word as word_in_fold}
 use Rattle.ed_notation.specs.Spellings.{is_spellable, AreSpellable}
 use Rattle.ed_notation.proofs.Contents.{length-over}
-use Rattle.ed_library.specs.Routines.{item_of}
-use Rattle.ed_library.specs.Images.{item_word, parameter_store}
+use Rattle.ed_library.specs.Routines.{table_item}
+use Rattle.ed_library.specs.Images.{routine_word, parameter_store}
 use Rattle.ed_library.proofs.Letters.{value_of_parameter}
 use Rattle.ed_syntax.specs.declared.program.Operand.{Operand}
 use Rattle.ed_syntax.specs.declared.program.Setting.{Setting}
 use Rattle.ed_symbols.specs.declared.homes.Home.{Home}
-use Rattle.ed_link.specs.Linked.{number, laid, letters, setting, preset, parameter, parameters}
-use Rattle.ed_link.specs.Punch.{item, preset_items}
-use Rattle.ed_words.proofs.Numbers.{eq_false}
+use Rattle.ed_link.specs.Linked.{operand_number, laid, parameter_letters, set_to, preset, parameter, parameters}
+use Rattle.ed_link.specs.Punch.{item_with, preset_items}
+use Rattle.ed_words.proofs.Numbers.{eq_false, le_of, lt_of}
 use Rattle.ed_words.proofs.SizeLemmas.{least}
 use Rattle.ed_notation.proofs.Steps.{aiming, placing}
-use Rattle.ed_link.proofs.Passes.{Passes, join, at}
+use Rattle.ed_link.proofs.Passes.{Passes, stays, goes, join, at}
 use Rattle.ed_link.proofs.Orders.{split, placed_more}
 
 -- a fact of each letter of a parameter
-pub six : (P : ℕ → Type 0) → P 21 → P 22 → P 23 → P 24 → P 25 → P 26 → (c : ℕ) → 21 ≤ c → c ≤ 26 → P c
-six P p1 p2 p3 p4 p5 p6 c l h =
+pub six : (P : ℕ → Type 0) → P 21 × P 22 × P 23 × P 24 × P 25 × P 26 → (c : ℕ) → 21 ≤ c → c ≤ 26 → P c
+six P p c l h =
     elim (cases_eq c 21) [
-      | inl e ↦ subst P (sym e) p1
+      | inl e ↦ subst P (sym e) p.0
       | inr n1 ↦
           elim (cases_eq c 22) [
-            | inl e ↦ subst P (sym e) p2
+            | inl e ↦ subst P (sym e) p.1
             | inr n2 ↦
                 elim (cases_eq c 23) [
-                  | inl e ↦ subst P (sym e) p3
+                  | inl e ↦ subst P (sym e) p.2
                   | inr n3 ↦
                       elim (cases_eq c 24) [
-                        | inl e ↦ subst P (sym e) p4
+                        | inl e ↦ subst P (sym e) p.3
                         | inr n4 ↦
                             elim (cases_eq c 25) [
-                              | inl e ↦ subst P (sym e) p5
+                              | inl e ↦ subst P (sym e) p.4
                               | inr n5 ↦
-                                  let e : c ≡ 26 = omega arith in subst P (sym e) p6
+                                  let e : c ≡ 26 = omega arith in subst P (sym e) p.5
                             ]
                       ]
                 ]
@@ -57,7 +58,7 @@ six P p1 p2 p3 p4 p5 p6 c l h =
 
 -- the letter of a parameter is a code letter
 pub letter_kind : (c : ℕ) → 21 ≤ c → c ≤ 26 → row_kind c ≡ Letter
-letter_kind c l h = six (λ x. row_kind x ≡ Letter) refl refl refl refl refl refl c l h
+letter_kind c l h = six (λ x. row_kind x ≡ Letter) (refl, refl, refl, refl, refl, refl) c l h
 
 -- the number of an item that can be spelled
 spelled_number : (i : Item) → is_spellable i ≡ true → i.number ≤ 32767
@@ -67,103 +68,109 @@ spelled_number i h = grind (arith, nat_tests)
 pub reversed : (ps qs m : List (ℕ × ℕ)) → reverse qs ++ (reverse ps ++ m) ≡ reverse (ps ++ qs) ++ m
 reversed ps qs m = sym (append_assoc (reverse qs) (reverse ps) m) ∙ ap (λ x. x ++ m) (sym (reverse-append ps qs))
 
-module _ (z : Size) (words : List ℕ) (whole : length words ≡ 1024) (homes : List Home) (ts : List Setting) where
+-- ---- preset parameters
+
+module _ (words : List ℕ) (homes : List Home) (ts : List Setting) where
   -- the word of a letter that is set stands in its location
   abbrev pub IsHeld : List (ℕ × ℕ) → ℕ → Type 0
-  IsHeld placed c = (o : Operand) → setting ts c ≡ Some o
-      → get_or (over placed words) (24 + c) 0 ≡ 2 * number homes None o
+  IsHeld placed c = (o : Operand) → set_to ts c ≡ Some o
+      → get_or (over placed words) (24 + c) 0 ≡ 2 * operand_number homes None o
 
   abbrev pub AreHeld : List (ℕ × ℕ) → List ℕ → Type 0
   AreHeld placed [] = Unit {0}
   AreHeld placed (c ∷ cs) = IsHeld placed c × AreHeld placed cs
 
+  -- so does that of every letter of a parameter
+  pub record HoldsAll (placed : List (ℕ × ℕ)) : Type 0 where
+    pub held : (c : ℕ) → 21 ≤ c → c ≤ 26 → IsHeld placed c
+
+  pub holds : (placed : List (ℕ × ℕ)) → AreHeld placed parameter_letters → HoldsAll placed
+  holds placed h = record {
+    held = six (λ c. IsHeld placed c) (h.0, h.1.0, h.1.1.0, h.1.1.1.0, h.1.1.1.1.0, h.1.1.1.1.1.0);
+  }
+
+  put_other : {p : ℕ} (placed : List (ℕ × ℕ)) (w d : ℕ) → 24 + d ≢ p → IsHeld placed d → IsHeld ((p, w) ∷ placed) d
+  put_other {p} placed w d n h o e = get_or-set_other (over placed words) p (24 + d) w 0 n ∙ h o e
+
+  still : (placed : List (ℕ × ℕ)) (p w : ℕ) → 56 ≤ p → HoldsAll placed → HoldsAll ((p, w) ∷ placed)
+  still placed p w high h = record { held = λ c l m. put_other {p = p} placed w c (omega arith) (h.held c l m) }
+
   -- parameters are set
-  pub record Sets (note : Note) (is : List Item) (ps : List (ℕ × ℕ)) : Type 0 where
+  pub record Sets (z : Size) (note : Note) (is : List Item) (ps : List (ℕ × ℕ)) : Type 0 where
     pub next : Note
     pub passes : Passes z words note is next
     pub theta : next.theta ≡ note.theta
     pub placed : next.placed ≡ reverse ps ++ note.placed
     pub keeps : (d : ℕ) → IsHeld note.placed d → IsHeld next.placed d
 
-  same_operand : (a b : Operand) → Some a ≡ Some b → a ≡ b
-  same_operand a b e = cc
+-- whether each code is from 20 to 31
+abbrev pub are_letters : List ℕ → Bool
+are_letters cs = list_all (λ c. nat_le 20 c && nat_lt c 32) cs
 
-  put : (placed : List (ℕ × ℕ)) (c : ℕ) (o : Operand) → setting ts c ≡ Some o → c < 32
-      → IsHeld ((24 + c, 2 * number homes None o) ∷ placed) c
-  put placed c o e h p f =
-      let inside : 24 + c < length (over placed words) = omega (arith, length-over placed words) in
-      let q : o ≡ p = same_operand o p (sym e ∙ f) in
-      get_or-set_same (over placed words) (24 + c) (2 * number homes None o) 0 inside
-      ∙ ap (λ (x : Operand). 2 * number homes None x) q
+same_operand : (a b : Operand) → Some a ≡ Some b → a ≡ b
+same_operand a b e = cc
 
-  put_other : (placed : List (ℕ × ℕ)) (p w d : ℕ) → 24 + d ≢ p → IsHeld placed d → IsHeld ((p, w) ∷ placed) d
-  put_other placed p w d n h o e = get_or-set_other (over placed words) p (24 + d) w 0 n ∙ h o e
-
-  one : (c : ℕ) (found : Option Operand) → setting ts c ≡ found → 20 ≤ c → c < 32 → (note : Note)
+module _ {z : Size} {words : List ℕ} (whole : length words ≡ 1024) (homes : List Home) (ts : List Setting) where
+  one : (c : ℕ) (found : Option Operand) → set_to ts c ≡ found → 20 ≤ c → c < 32 → (note : Note)
       → AreSpellable (preset_items homes found c)
-      → (s : Sets note (preset_items homes found c) (preset homes found c)) × IsHeld s.next.placed c
+      → (s : Sets words homes ts z note (preset_items homes found c) (preset homes found c))
+      × IsHeld words homes ts s.next.placed c
   one c None e low high note are = (
-    record { next = note; passes = refl; theta = refl; placed = refl; keeps = λ d h. h },
+    record { next = note; passes = stays; theta = refl; placed = refl; keeps = λ d h. h },
     λ o f. let q =
         sym e ∙ f in cc,
   )
   one c (Some o) e low high note are =
-      let n = number homes None o in
-      let m : n ≤ 32767 = spelled_number (item 0 n false 17) are.1.0 in
+      let n = operand_number homes None o in
+      let m : n ≤ 32767 = spelled_number (item_with 0 n false 17) are.1.0 in
       let l = least z in
       let aimed : Note = record note { directive = 20480 + 2 * (24 + c) } in
-      let w : word_in_fold words aimed (item 0 n false 17) ≡ 2 * n = omega arith in
+      let w : word_in_fold words aimed (item_with 0 n false 17) ≡ 2 * n = omega arith in
       let next : Note = record {
         directive = 20480 + 2 * (24 + c + 1);
         theta = note.theta;
         placed = (24 + c, 2 * n)
             ∷ note.placed;
-      } in (
+      } in
+      let here : IsHeld words homes ts next.placed c = λ p f.
+      let inside : 24 + c < length (over note.placed words) = omega (arith, length-over note.placed words) in
+      get_or-set_same (over note.placed words) (24 + c) (2 * n) 0 inside
+      ∙ ap (λ (x : Operand). 2 * operand_number homes None x) (same_operand o p (sym e ∙ f)) in (
         record {
           next = next;
-          passes = (
-            aimed,
-            aiming z words note (24 + c) (omega arith),
-            refl,
-            (
-              next,
-              placing z words aimed (item 0 n false 17) (24 + c) (2 * n) refl refl (omega arith) (omega arith) w,
-              refl,
-              refl,
-            ),
-          );
+          passes = goes (aiming z words note (24 + c) (omega arith)) refl (goes
+              (placing z words (24 + c) refl refl (omega arith) (omega arith) w)
+              refl stays);
           theta = refl;
           placed = refl;
           keeps = λ d h.
               elim (cases_eq d c) [
-                | inl q ↦ subst (λ x. IsHeld next.placed x) (sym q) (put note.placed c o e high)
-                | inr q ↦ put_other note.placed (24 + c) (2 * n) d (omega arith) h
+                | inl q ↦ subst (λ x. IsHeld words homes ts next.placed x) (sym q) here
+                | inr q ↦ put_other words homes ts {p = 24 + c} note.placed (2 * n) d (omega arith) h
               ];
         },
-        put note.placed c o e high,
+        here,
       )
 
-  abbrev pub AreLetters : List ℕ → Type 0
-  AreLetters [] = Unit {0}
-  AreLetters (c ∷ cs) = (20 ≤ c) × (c < 32) × AreLetters cs
-
-  pub all : (cs : List ℕ) → AreLetters cs → (note : Note)
-      → AreSpellable (flat_map (λ c. preset_items homes (setting ts c) c) cs)
-      → (s : Sets note (flat_map (λ c. preset_items homes (setting ts c) c) cs)
-      (flat_map (λ c. preset homes (setting ts c) c) cs))
-      × AreHeld s.next.placed cs
-  all [] are note spelled = (record { next = note; passes = refl; theta = refl; placed = refl; keeps = λ d h. h }, tt)
+  pub all : (cs : List ℕ) → are_letters cs ≡ true → (note : Note)
+      → AreSpellable (flat_map (λ c. preset_items homes (set_to ts c) c) cs)
+      → (s : Sets words homes ts z note (flat_map (λ c. preset_items homes (set_to ts c) c) cs)
+      (flat_map (λ c. preset homes (set_to ts c) c) cs))
+      × AreHeld words homes ts s.next.placed cs
+  all [] are note spelled = (record { next = note; passes = stays; theta = refl; placed = refl; keeps = λ d h. h }, tt)
   all (c ∷ cs) are note spelled =
-      let is = preset_items homes (setting ts c) c in
-      let js = flat_map (λ c. preset_items homes (setting ts c) c) cs in
-      let ps = preset homes (setting ts c) c in
-      let qs = flat_map (λ c. preset homes (setting ts c) c) cs in
+      let is = preset_items homes (set_to ts c) c in
+      let js = flat_map (λ c. preset_items homes (set_to ts c) c) cs in
+      let ps = preset homes (set_to ts c) c in
+      let qs = flat_map (λ c. preset homes (set_to ts c) c) cs in
       let sp = split is js spelled in
-      let a = one c (setting ts c) refl are.0 are.1 note sp.0 in
-      let b = all cs are.2 a.0.next sp.1 in (
+      let letters = and_parts (nat_le 20 c && nat_lt c 32) (are_letters cs) are in
+      let range = and_parts (nat_le 20 c) (nat_lt c 32) letters.0 in
+      let a = one c (set_to ts c) refl (le_of 20 c range.0) (lt_of c 32 range.1) note sp.0 in
+      let b = all cs letters.1 a.0.next sp.1 in (
         record {
           next = b.0.next;
-          passes = join z words note a.0.next b.0.next is js a.0.passes b.0.passes;
+          passes = join a.0.passes b.0.passes;
           theta = b.0.theta ∙ a.0.theta;
           placed = b.0.placed ∙ ap (λ m. reverse qs ++ m) a.0.placed ∙ reversed ps qs note.placed;
           keeps = λ d h. b.0.keeps d (a.0.keeps d h);
@@ -171,81 +178,73 @@ module _ (z : Size) (words : List ℕ) (whole : length words ≡ 1024) (homes : 
         (b.0.keeps c a.1, b.1),
       )
 
-  -- the same of every letter of a parameter
-  abbrev pub HoldsAll : List (ℕ × ℕ) → Type 0
-  HoldsAll placed = (c : ℕ) → 21 ≤ c → c ≤ 26 → IsHeld placed c
+-- ---- the items of a routine
 
-  pub holds : (placed : List (ℕ × ℕ)) → AreHeld placed letters → HoldsAll placed
-  holds placed h c l m = six (λ x. IsHeld placed x) h.0 h.1.0 h.1.1.0 h.1.1.1.0 h.1.1.1.1.0 h.1.1.1.1.1.0 c l m
+-- a code letter of a routine: F, θ, D or a parameter that is set
+pub record IsPreset (ts : List Setting) (c : ℕ) : Type 0 where
+  pub low : 21 ≤ c
+  pub high : c ≤ 26
+  pub operand : Operand
+  pub is_set : set_to ts c ≡ Some operand
 
-  still : (placed : List (ℕ × ℕ)) (p w : ℕ) → 56 ≤ p → HoldsAll placed → HoldsAll ((p, w) ∷ placed)
-  still placed p w high h c l m = put_other placed p w c (omega arith) (h c l m)
+abbrev pub IsKnown : List Setting → ℕ → Type 0
+IsKnown ts c = (c ≡ 17) ⊎ ((c ≡ 18) ⊎ ((c ≡ 19) ⊎ IsPreset ts c))
 
-  -- a code letter of a routine: F, θ, D or a parameter that is set
-  pub record IsPreset (c : ℕ) : Type 0 where
-    pub low : 21 ≤ c
-    pub high : c ≤ 26
-    pub operand : Operand
-    pub is_set : setting ts c ≡ Some operand
+abbrev pub AreKnown : List Setting → List (ℕ × ℕ × Bool × ℕ) → Type 0
+AreKnown ts [] = Unit {0}
+AreKnown ts (row ∷ rows) = IsKnown ts row.3 × AreKnown ts rows
 
-  abbrev pub IsKnown : ℕ → Type 0
-  IsKnown c = (c ≡ 17) ⊎ ((c ≡ 18) ⊎ ((c ≡ 19) ⊎ IsPreset c))
+kind_of : (ts : List Setting) (c : ℕ) → IsKnown ts c → (row_kind c ≡ Letter) × (nat_eq c 13 ≡ false)
+kind_of ts c (inl e) = rw e (refl, refl)
+kind_of ts c (inr (inl e)) = rw e (refl, refl)
+kind_of ts c (inr (inr (inl e))) = rw e (refl, refl)
+kind_of ts c (inr (inr (inr k))) = (letter_kind c k.low k.high, eq_false c 13 (let l = k.low in omega arith))
 
-  kind_of : (c : ℕ) → IsKnown c → (row_kind c ≡ Letter) × (nat_eq c 13 ≡ false)
-  kind_of c (inl e) = rw e (refl, refl)
-  kind_of c (inr (inl e)) = rw e (refl, refl)
-  kind_of c (inr (inr (inl e))) = rw e (refl, refl)
-  kind_of c (inr (inr (inr k))) = (letter_kind c k.low k.high, eq_false c 13 (let l = k.low in omega arith))
+-- the word of a letter's parameter
+parameter_is : (homes : List Home) (ts : List Setting) (c : ℕ) → 21 ≤ c → c ≤ 26
+    → get_or (parameters homes ts) (c - 21) 0 ≡ parameter homes (set_to ts c)
+parameter_is homes ts c l h =
+    six (λ x. get_or (parameters homes ts) (x - 21) 0 ≡ parameter homes (set_to ts x))
+    (refl, refl, refl, refl, refl, refl) c l h
 
-  -- the word of a letter's parameter
-  parameter_is : (c : ℕ) → 21 ≤ c → c ≤ 26 → get_or (parameters homes ts) (c - 21) 0 ≡ parameter homes (setting ts c)
-  parameter_is c l h = six (λ x. get_or (parameters homes ts) (x - 21) 0
-      ≡ parameter homes (setting ts x)) refl refl refl refl refl refl c l h
+-- the value of a letter of a parameter is what stands in its location
+content : (contents : List ℕ) (theta c : ℕ) → 21 ≤ c → value_of contents theta c ≡ get_or contents (24 + c) 0
+content contents theta c l =
+    let a = eq_false c 17 (omega arith) in
+    let b = eq_false c 18 (omega arith) in
+    let d = eq_false c 19 (omega arith) in
+    rw (a, b, d) refl
 
-  -- the value of a letter of a parameter is what stands in its location
-  content : (contents : List ℕ) (theta c : ℕ) → 21 ≤ c → value_of contents theta c ≡ get_or contents (24 + c) 0
-  content contents theta c l =
-      let a = eq_false c 17 (omega arith) in
-      let b = eq_false c 18 (omega arith) in
-      let d = eq_false c 19 (omega arith) in
-      rw (a, b, d) refl
+-- a code letter of a routine has the same value over the store with the parameters of this use
+value_is : {words : List ℕ} {homes : List Home} {ts : List Setting} {placed : List (ℕ × ℕ)} (base c : ℕ) → IsKnown ts c
+    → HoldsAll words homes ts placed
+    → value_of (over placed words) (2 * base) c ≡ value_of (parameter_store (parameters homes ts)) (2 * base) c
+value_is base c (inl e) h = rw e refl
+value_is base c (inr (inl e)) h = rw e refl
+value_is base c (inr (inr (inl e))) h = rw e refl
+value_is {words} {homes} {ts} {placed} base c (inr (inr (inr k))) h =
+    content (over placed words) (2 * base) c k.low ∙ h.held c k.low k.high k.operand k.is_set
+    ∙ sym (value_of_parameter (parameters homes ts) (2 * base) c k.low ∙ parameter_is homes ts c k.low k.high
+    ∙ ap (λ (x : Option Operand). parameter homes x) k.is_set)
 
-  -- a code letter of a routine has the same value over the store with the parameters of this use
-  value_is : (base c : ℕ) (placed : List (ℕ × ℕ)) → IsKnown c → HoldsAll placed
-      → value_of (over placed words) (2 * base) c ≡ value_of (parameter_store (parameters homes ts)) (2 * base) c
-  value_is base c placed (inl e) h = rw e refl
-  value_is base c placed (inr (inl e)) h = rw e refl
-  value_is base c placed (inr (inr (inl e))) h = rw e refl
-  value_is base c placed (inr (inr (inr k))) h =
-      content (over placed words) (2 * base) c k.low ∙ h c k.low k.high k.operand k.is_set
-      ∙ sym (value_of_parameter (parameters homes ts) (2 * base) c k.low ∙ parameter_is c k.low k.high
-      ∙ ap (λ (x : Option Operand). parameter homes x) k.is_set)
-
-  abbrev pub AreKnown : List (ℕ × ℕ × Bool × ℕ) → Type 0
-  AreKnown [] = Unit {0}
-  AreKnown (row ∷ rows) = IsKnown row.3 × AreKnown rows
-
-  -- a routine's items
-  pub image_pass : (rows : List (ℕ × ℕ × Bool × ℕ)) (place base : ℕ) (placed : List (ℕ × ℕ)) → AreKnown rows
-      → 56 ≤ place
-      → place + length rows ≤ locations z → HoldsAll placed
-      → Passes z words (at place base placed) (map item_of rows)
-      (at (place + length rows) base
-      (reverse (laid place (map (λ row. item_word (parameters homes ts) base (item_of row))
-      rows)) ++ placed))
-  image_pass [] place base placed are low high h = let e : place + 0 ≡ place = omega arith in rw e refl
-  image_pass (row ∷ rows) place base placed are low high h =
-      let w = item_word (parameters homes ts) base (item_of row) in
-      let ws = map (λ row. item_word (parameters homes ts) base (item_of row)) rows in
-      let e : place + suc (length rows) ≡ place + 1 + length rows = omega arith in
-      let v : word_in_fold words (at place base placed) (item_of row) ≡ w =
-      ap (λ v. word_with row.0 row.1 row.2 v) (value_is base row.3 placed are.0 h) in
-      let r = image_pass rows (place + 1) base ((place, w) ∷ placed) are.1 (omega arith) (omega arith)
-      (still placed place w low h) in (
-        at (place + 1) base ((place, w) ∷ placed),
-        placing z words (at place base placed) (item_of row) place w (kind_of row.3 are.0).0 refl (omega arith)
-            (omega arith) v,
-        (kind_of row.3 are.0).1,
-        subst (λ (n : Note). Passes z words (at (place + 1) base ((place, w) ∷ placed)) (map item_of rows) n)
-            (λ i. at (sym e i) base (placed_more (place, w) (laid (place + 1) ws) placed i)) r,
-      )
+-- a routine's items
+pub image_pass : {z : Size} {words : List ℕ} {homes : List Home} {ts : List Setting} {placed : List (ℕ × ℕ)}
+    (rows : List (ℕ × ℕ × Bool × ℕ)) (place base : ℕ) → AreKnown ts rows → 56 ≤ place
+    → place + length rows ≤ locations z → HoldsAll words homes ts placed
+    → Passes z words (at place base placed) (map table_item rows)
+    (at (place + length rows) base
+    (reverse (laid place (map (λ row. routine_word (parameters homes ts) base (table_item row)) rows)) ++ placed))
+image_pass [] place base are low high h = let e : place + 0 ≡ place = omega arith in rw e stays
+image_pass {z} {words} {homes} {ts} {placed} (row ∷ rows) place base are low high h =
+    let w = routine_word (parameters homes ts) base (table_item row) in
+    let ws = map (λ row. routine_word (parameters homes ts) base (table_item row)) rows in
+    let e : place + suc (length rows) ≡ place + 1 + length rows = omega arith in
+    let v : word_in_fold words (at place base placed) (table_item row) ≡ w =
+    ap (λ v. word_with row.0 row.1 row.2 v) (value_is base row.3 are.0 h) in
+    let kind = kind_of ts row.3 are.0 in
+    let r = image_pass {z = z} {placed = (place, w) ∷ placed} rows (place + 1) base are.1 (omega arith) (omega arith)
+    (still words homes ts placed place w low h) in
+    goes (placing z words place kind.0 refl (omega arith) (omega arith) v)
+    kind.1
+    (subst (λ (n : Note). Passes z words (at (place + 1) base ((place, w) ∷ placed)) (map table_item rows) n)
+    (λ i. at (sym e i) base (placed_more (place, w) (laid (place + 1) ws) placed i)) r)

@@ -8,7 +8,7 @@ use Rattle.ed_syntax.specs.declared.program.Line.{Line}
 use Rattle.ed_syntax.specs.declared.fault.SourceFault.{SourceFault}
 use Rattle.ed_syntax.specs.declared.fault.SourceFault.TheVariants.{At, Memory}
 use Rattle.ed_link.specs.declared.linked.Linked.{Linked}
-use Rattle.ed_link.specs.Linked.{after, homes_of, entry_of, linked}
+use Rattle.ed_link.specs.Linked.{data_behind, homes_of, entry_of, linked}
 use Rattle.ed_link.specs.Punch.{punched}
 use Rattle.ed_link.specs.Faults.{fault}
 use Rattle.ed_link.specs.Tables.{table_of, word_at, words_from}
@@ -16,9 +16,9 @@ use Rattle.ed_link.specs.Labels.{labels}
 use Rattle.ed_link.specs.Tapes.{ComesToLinked}
 
 -- a fault is the one of the definition, or memory ran out
-abbrev pub IsFaultOf : Option SourceFault → SourceFault → Type 0
-IsFaultOf wanted (At k c) = wanted ≡ Some (At k c)
-IsFaultOf wanted Memory = Unit {0}
+abbrev pub IsMeaningFault : Option SourceFault → SourceFault → Type 0
+IsMeaningFault wanted (At k c) = wanted ≡ Some (At k c)
+IsMeaningFault wanted Memory = Unit {0}
 
 -- the linked program of a source without a fault, and its tape
 pub record IsLinked (z : Size) (lines : List Line) (k : Linked) : Type 0 where
@@ -28,7 +28,7 @@ pub record IsLinked (z : Size) (lines : List Line) (k : Linked) : Type 0 where
   -- they are the map of the linked program
   pub map : (a : ℕ) → a < 1024 → word_at k.words.items a ≡ placed_at (reverse (linked lines)) a
   pub entry : k.entry ≡ entry_of lines
-  pub after : k.after.items ≡ after lines
+  pub after : k.after.items ≡ data_behind lines
   pub labels : k.labels.items ≡ labels (homes_of lines)
   -- the tape comes to the linked program, from every store
   pub loads : ComesToLinked z lines

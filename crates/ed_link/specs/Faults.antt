@@ -20,11 +20,11 @@ use Rattle.ed_symbols.specs.declared.homes.Home.{Home}
 use Rattle.ed_symbols.specs.Places.{passed, first_spot}
 use Rattle.ed_symbols.specs.Names.{place_on}
 use Rattle.ed_symbols.specs.Faults.{or_later, resolved}
-use Rattle.ed_link.specs.Linked.{first_place, end_place, setting, homes_of}
+use Rattle.ed_link.specs.Linked.{first_place, end_place, set_to, homes_of}
 
 -- the places of a line's words, from the first to the one behind the last
-abbrev pub run_of : Option Statement → Spot → ℕ × ℕ
-run_of st s = (first_place st s, end_place st s)
+abbrev pub word_run : Option Statement → Spot → ℕ × ℕ
+word_run st s = (first_place st s, end_place st s)
 
 -- the one place of a name
 abbrev pub run_at : Option ℕ → ℕ × ℕ
@@ -34,7 +34,7 @@ run_at (Some p) = (p, p + 1)
 -- the places that a line needs: those of its words, and at `enter` that of its name
 abbrev pub reach : List Home → Option Statement → Spot → ℕ × ℕ
 reach homes (Some (Enter name)) s = run_at (place_on homes None name)
-reach homes st s = run_of st s
+reach homes st s = word_run st s
 
 -- whether one of these places is from a place on and below another
 abbrev pub meets : ℕ × ℕ → ℕ × ℕ → Bool
@@ -61,7 +61,7 @@ has_no_routine st = false
 abbrev pub sets : List Setting → Option ℕ → Bool
 sets ts None = true
 sets ts (Some r) = nat_eq (length ts) (length (entry r).parameters)
-    && list_all (λ c. is_some (setting ts c)) (entry r).parameters
+    && list_all (λ c. is_some (set_to ts c)) (entry r).parameters
 
 -- S15
 abbrev pub sets_otherwise : Option Statement → Bool
@@ -95,25 +95,25 @@ has_sandwich (Some (Long v)) = (halves_of v).sandwich
 has_sandwich st = false
 
 -- what the lines before a line leave: the places of their words, and whether one is an `enter`
-pub record Past : Type 0 where
+pub record LinesBefore : Type 0 where
   pub runs : List (ℕ × ℕ)
   pub entered : Bool
 
 -- the same behind a line
-abbrev pub past_of : Past → Line → Spot → Past
+abbrev pub past_of : LinesBefore → Line → Spot → LinesBefore
 past_of past l s = record {
-  runs = past.runs ++ run_of l.statement s ∷ [];
+  runs = past.runs ++ word_run l.statement s ∷ [];
   entered = past.entered || is_enter l.statement;
 }
 
 -- of the faults S9 to S17 of a line the one with the least number
-abbrev pub cause_of : Size → List Home → Bool → Past → Line → Spot → Option SourceCause
+abbrev pub cause_of : Size → List Home → Bool → LinesBefore → Line → Spot → Option SourceCause
 cause_of z homes any past l s =
     if is_outside l s then Some causes.OutsideSegment
     else if meets (reach homes l.statement s) (0, 44) then Some causes.LoaderStore
     else if meets (reach homes l.statement s) (44, 56) then Some causes.ParameterStore
     else if meets (reach homes l.statement s) (locations z, (reach homes l.statement s).1) then Some causes.StoreEnd
-    else if list_any (λ run. meets (run_of l.statement s) run) past.runs then Some causes.Overlap
+    else if list_any (λ run. meets (word_run l.statement s) run) past.runs then Some causes.Overlap
     else if has_no_routine l.statement then Some causes.NoSuchRoutine
     else if sets_otherwise l.statement then Some causes.Parameters
     else if is_misplaced past.entered any l then Some causes.Enter
@@ -121,7 +121,7 @@ cause_of z homes any past l s =
     else None
 
 -- the fault of the least line from a spot on that has one of S9 to S17
-abbrev pub fault_from : Size → List Home → Bool → Past → Spot → List Line → Option SourceFault
+abbrev pub fault_from : Size → List Home → Bool → LinesBefore → Spot → List Line → Option SourceFault
 fault_from z homes any past s [] = None
 fault_from z homes any past s (l ∷ lines) =
     or_later l.number (cause_of z homes any past l s)
@@ -132,15 +132,15 @@ abbrev pub missing : Bool → ℕ → Option SourceFault
 missing any n = if any then None else Some (At (n + 1) causes.Enter)
 
 -- the line of a fault
-abbrev pub line_of : SourceFault → ℕ
-line_of (At line cause) = line
-line_of Memory = 0
+abbrev pub fault_line : SourceFault → ℕ
+fault_line (At line cause) = line
+fault_line Memory = 0
 
 -- the fault of the lesser line; of two on one line the first
 abbrev pub sooner : Option SourceFault → Option SourceFault → Option SourceFault
 sooner None b = b
 sooner (Some a) None = Some a
-sooner (Some a) (Some b) = if nat_le (line_of a) (line_of b) then Some a else Some b
+sooner (Some a) (Some b) = if nat_le (fault_line a) (fault_line b) then Some a else Some b
 
 -- the fault of a source on a machine of a size: that of the least line, and there the least number
 abbrev pub fault : Size → List Line → Option SourceFault

@@ -5,8 +5,8 @@ use Rattle.std.specs.List.{flat_map}
 use Rattle.ed_words.specs.Words.{digit}
 use Rattle.ed_notation.specs.Fold.{word_with}
 use Rattle.ed_library.specs.Entries.{entry}
-use Rattle.ed_library.specs.Routines.{find, item_of}
-use Rattle.ed_library.specs.Images.{item_word}
+use Rattle.ed_library.specs.Routines.{find, table_item}
+use Rattle.ed_library.specs.Images.{routine_word}
 use Rattle.ed_syntax.specs.declared.program.Operand.{Operand}
 use Rattle.ed_syntax.specs.declared.program.Setting.{Setting}
 use Rattle.ed_syntax.specs.declared.program.Statement.{Statement}
@@ -15,30 +15,30 @@ use Rattle.ed_syntax.specs.declared.program.Statement.TheVariants.{Long, Fetch, 
 use Rattle.ed_syntax.specs.declared.program.Line.{Line}
 use Rattle.ed_symbols.specs.declared.spots.Spot.{Spot}
 use Rattle.ed_symbols.specs.declared.homes.Home.{Home}
-use Rattle.ed_symbols.specs.Places.{even, passed, segment_at, first_spot}
+use Rattle.ed_symbols.specs.Places.{even_from, passed, segment_at, first_spot}
 use Rattle.ed_symbols.specs.Names.{place_on, homes_from}
-use Rattle.ed_symbols.specs.Faults.{value}
+use Rattle.ed_symbols.specs.Faults.{operand_value}
 
 -- a value as the number of an order; 0 for none and for one that no order holds, which an accepted source hasn't
-abbrev pub number_of : Option ℤ → ℕ
-number_of None = 0
-number_of (Some v) = if int_lt v (pos 0) || int_lt (pos 32767) v then 0 else unsigned_abs v
+abbrev pub order_number : Option ℤ → ℕ
+order_number None = 0
+order_number (Some v) = if int_lt v (pos 0) || int_lt (pos 32767) v then 0 else unsigned_abs v
 
 -- the number of an operand on a line of a segment
-abbrev pub number : List Home → Option ℕ → Operand → ℕ
-number homes segment o = number_of (value homes segment o)
+abbrev pub operand_number : List Home → Option ℕ → Operand → ℕ
+operand_number homes segment o = order_number (operand_value homes segment o)
 
 -- the words of a `long` from a place on: 0 at a place that it leaves, and then the even and the odd half
 abbrev pub long_words : ℕ → ℕ → List ℕ
 long_words place v = (if nat_eq (place % 2) 1 then 0 ∷ [] else []) ++ v % 2 ^ 17 ∷ v / 2 ^ 18 ∷ []
 
 -- the words of a line of a segment
-abbrev pub words_of : List Home → Spot → Option Statement → List ℕ
-words_of homes s (Some (Order f o long)) = word_with f (number homes (segment_at s) o) false (digit long) ∷ []
-words_of homes s (Some (Number w)) = w ∷ []
-words_of homes s (Some (Text codes)) = map (λ c. 4096 * c) codes.items
-words_of homes s (Some (Long v)) = long_words s.place v
-words_of homes s _ = []
+abbrev pub line_words : List Home → Spot → Option Statement → List ℕ
+line_words homes s (Some (Order f o long)) = word_with f (operand_number homes (segment_at s) o) false (digit long) ∷ []
+line_words homes s (Some (Number w)) = w ∷ []
+line_words homes s (Some (Text codes)) = map (λ c. 4096 * c) codes.items
+line_words homes s (Some (Long v)) = long_words s.place v
+line_words homes s _ = []
 
 -- words and their places, from a place on
 abbrev pub laid : ℕ → List ℕ → List (ℕ × ℕ)
@@ -46,63 +46,63 @@ laid place [] = []
 laid place (w ∷ ws) = (place, w) ∷ laid (place + 1) ws
 
 -- the codes of the letters of parameters, H N M & L X; their words stand in the locations 45 to 50
-abbrev pub letters : List ℕ
-letters = 21 ∷ 22 ∷ 23 ∷ 24 ∷ 25 ∷ 26 ∷ []
+abbrev pub parameter_letters : List ℕ
+parameter_letters = 21 ∷ 22 ∷ 23 ∷ 24 ∷ 25 ∷ 26 ∷ []
 
 -- what a letter is set to
-abbrev pub setting : List Setting → ℕ → Option Operand
-setting [] c = None
-setting (t ∷ ts) c = if nat_eq t.letter c then Some t.operand else setting ts c
+abbrev pub set_to : List Setting → ℕ → Option Operand
+set_to [] c = None
+set_to (t ∷ ts) c = if nat_eq t.letter c then Some t.operand else set_to ts c
 
 -- the word of a parameter, if it is set
 abbrev pub preset : List Home → Option Operand → ℕ → List (ℕ × ℕ)
 preset homes None c = []
-preset homes (Some o) c = (24 + c, 2 * number homes None o) ∷ []
+preset homes (Some o) c = (24 + c, 2 * operand_number homes None o) ∷ []
 
 -- the parameters that a `use` sets
 abbrev pub presets : List Home → List Setting → List (ℕ × ℕ)
-presets homes ts = flat_map (λ c. preset homes (setting ts c) c) letters
+presets homes ts = flat_map (λ c. preset homes (set_to ts c) c) parameter_letters
 
 -- the word of a letter, 0 where it isn't set
 abbrev pub parameter : List Home → Option Operand → ℕ
 parameter homes None = 0
-parameter homes (Some o) = 2 * number homes None o
+parameter homes (Some o) = 2 * operand_number homes None o
 
 -- the six words of a routine's parameters
 abbrev pub parameters : List Home → List Setting → List ℕ
-parameters homes ts = map (λ c. parameter homes (setting ts c)) letters
+parameters homes ts = map (λ c. parameter homes (set_to ts c)) parameter_letters
 
 -- the words of a routine at a base
 abbrev pub image : List Home → List Setting → ℕ → Option ℕ → List (ℕ × ℕ)
 image homes ts base None = []
 image homes ts base (Some r) =
-    laid base (map (λ row. item_word (parameters homes ts) base (item_of row)) (entry r).items)
+    laid base (map (λ row. routine_word (parameters homes ts) base (table_item row)) (entry r).items)
 
 -- what a line places: its words, and at a `use` the parameters that it sets and the routine's words
-abbrev pub placed_by : List Home → Spot → Option Statement → List (ℕ × ℕ)
-placed_by homes s (Some (Fetch routine name ts)) = presets homes ts.items
-    ++ image homes ts.items (even s.place) (find routine)
-placed_by homes s st = laid s.place (words_of homes s st)
+abbrev pub placed_by_line : List Home → Spot → Option Statement → List (ℕ × ℕ)
+placed_by_line homes s (Some (Fetch routine name ts)) = presets homes ts.items
+    ++ image homes ts.items (even_from s.place) (find routine)
+placed_by_line homes s st = laid s.place (line_words homes s st)
 
 -- what the lines from a spot on place, one after the other
 abbrev pub placed_from : List Home → Spot → List Line → List (ℕ × ℕ)
 placed_from homes s [] = []
-placed_from homes s (l ∷ lines) = placed_by homes s l.statement ++ placed_from homes (passed l.statement s) lines
+placed_from homes s (l ∷ lines) = placed_by_line homes s l.statement ++ placed_from homes (passed l.statement s) lines
 
 -- the place of the first `enter` line's name, 0 where there is none
-abbrev pub enters : List Home → Option Statement → ℕ → ℕ
-enters homes (Some (Enter name)) later = unwrap_or (place_on homes None name) 0
-enters homes st later = later
+abbrev pub entered_place : List Home → Option Statement → ℕ → ℕ
+entered_place homes (Some (Enter name)) later = unwrap_or (place_on homes None name) 0
+entered_place homes st later = later
 
 -- the same of lines
 abbrev pub entry_from : List Home → List Line → ℕ
 entry_from homes [] = 0
-entry_from homes (l ∷ lines) = enters homes l.statement (entry_from homes lines)
+entry_from homes (l ∷ lines) = entered_place homes l.statement (entry_from homes lines)
 
 -- the first place of a line's words
 abbrev pub first_place : Option Statement → Spot → ℕ
 first_place (Some (Segment name base)) s = (passed (Some (Segment name base)) s).place
-first_place (Some (Fetch routine name ts)) s = even s.place
+first_place (Some (Fetch routine name ts)) s = even_from s.place
 first_place st s = s.place
 
 -- the place behind a line's words
@@ -118,14 +118,14 @@ theta_from theta s (l ∷ lines) =
     (passed l.statement s) lines
 
 -- the rows of the tape behind the program
-abbrev pub rows_of : Option Statement → List ℕ
-rows_of (Some (Rows codes)) = codes.items
-rows_of st = []
+abbrev pub data_rows : Option Statement → List ℕ
+data_rows (Some (Rows codes)) = codes.items
+data_rows st = []
 
 -- those of all lines
-abbrev pub after : List Line → List ℕ
-after [] = []
-after (l ∷ lines) = rows_of l.statement ++ after lines
+abbrev pub data_behind : List Line → List ℕ
+data_behind [] = []
+data_behind (l ∷ lines) = data_rows l.statement ++ data_behind lines
 
 -- what the names of a source stand for
 abbrev pub homes_of : List Line → List Home

@@ -6,10 +6,10 @@ use Rattle.ed_symbols.specs.Places.{first_spot}
 use Rattle.ed_notation.specs.Items.{spelled}
 use Rattle.ed_notation.specs.Fold.{costs}
 use Rattle.ed_notation.specs.Openings.{opening}
-use Rattle.ed_notation.specs.Faults.{Entry, WellFormed, ComesTo}
+use Rattle.ed_notation.specs.Faults.{TapeEntry, WellFormed, ComesTo}
 use Rattle.ed_notation.specs.Spellings.{canonicals, line_from}
-use Rattle.ed_link.specs.Linked.{linked, entry_of, theta_from, after}
-use Rattle.ed_link.specs.Punch.{item, punched}
+use Rattle.ed_link.specs.Linked.{linked, entry_of, theta_from, data_behind}
+use Rattle.ed_link.specs.Punch.{item_with, punched}
 
 -- the rows of the punched items
 abbrev pub punched_rows : List Line → List ℕ
@@ -17,14 +17,14 @@ punched_rows lines = spelled (canonicals (punched lines))
 
 -- the rows of the whole tape
 abbrev pub tape : List Line → List ℕ
-tape lines = punched_rows lines ++ after lines
+tape lines = punched_rows lines ++ data_behind lines
 
 -- the orders that read the tape up to the entry, 9 at the start among them
 abbrev pub cost : List Line → ℕ
 cost lines = 9 + costs [] (opening []) (canonicals (punched lines))
 
 -- the entry to which the tape comes from a store
-abbrev pub arrival : List ℕ → List Line → Entry
+abbrev pub arrival : List ℕ → List Line → TapeEntry
 arrival words lines = record {
   at = entry_of lines;
   word = 0;
@@ -35,8 +35,8 @@ arrival words lines = record {
     theta = theta_from (slice_index words 42) first_spot lines;
     placed = reverse (linked lines);
   };
-  last = item 0 0 false 17;
-  rest = after lines;
+  last = item_with 0 0 false 17;
+  rest = data_behind lines;
 }
 
 -- from every store the tape is well formed and comes to that entry

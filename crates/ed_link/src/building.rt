@@ -4,8 +4,8 @@ ghost use Rattle.std.specs.Prelude.{length, unwrap_or, ℕ};
 ghost use Rattle.ed_notation.specs.Spellings.{AreSpellable};
 ghost use Rattle.ed_library.specs.Routines.{find};
 ghost use Rattle.ed_link.specs.Private.Building.{BuildIs, IsFew};
-ghost use Rattle.ed_link.specs.Faults.{is_enter, reach, run_of};
-ghost use Rattle.ed_link.specs.Linked.{enters, placed_by, rows_of};
+ghost use Rattle.ed_link.specs.Faults.{is_enter, reach, word_run};
+ghost use Rattle.ed_link.specs.Linked.{entered_place, placed_by_line, data_rows};
 ghost use Rattle.ed_link.specs.Punch.{items_of, routine_items};
 ghost use Rattle.ed_link.specs.Tables.{empty_table, put_all};
 
@@ -34,7 +34,7 @@ fn push_codes(rows: &mut Vec<Code>, codes: &[Code]) -> Result<(), NoMemory>
 
 /// Adds the rows of a `data` line.
 fn push_rows(rows: &mut Vec<Code>, statement: &Option<Statement>) -> Result<(), NoMemory>
-    ensures { OnOk result (rows.new.items ≡ rows.old.items ++ rows_of statement.now) }
+    ensures { OnOk result (rows.new.items ≡ rows.old.items ++ data_rows statement.now) }
 {
     match statement {
         Some(Statement::Rows { codes }) => push_codes(rows, codes),
@@ -61,7 +61,7 @@ fn with_entry(
 ) -> Option<u16>
     requires fits { (reach homes.now statement.now spot).0 < (reach homes.now statement.now spot).1
         → (reach homes.now statement.now spot).1 ≤ 1024 }
-    ensures { (later : ℕ) → unwrap_or result later ≡ unwrap_or entry (enters homes.now statement.now later) }
+    ensures { (later : ℕ) → unwrap_or result later ≡ unwrap_or entry (entered_place homes.now statement.now later) }
 {
     if entry.is_some() {
         return entry;
@@ -89,11 +89,11 @@ fn add_line(
         (built.new.items.items ≡ built.old.items.items ++ items_of homes.now spot statement.now) }
     ensures spellable { AreSpellable built.new.items.items }
     ensures table { OnOk result
-        (built.new.table.items ≡ put_all built.old.table.items (placed_by homes.now spot statement.now)) }
+        (built.new.table.items ≡ put_all built.old.table.items (placed_by_line homes.now spot statement.now)) }
     ensures size { OnOk result (length built.new.table.items ≡ 1024) }
-    ensures after { OnOk result (built.new.after.items ≡ built.old.after.items ++ rows_of statement.now) }
+    ensures after { OnOk result (built.new.after.items ≡ built.old.after.items ++ data_rows statement.now) }
     ensures entry { OnOk result ((later : ℕ)
-        → unwrap_or built.new.entry later ≡ unwrap_or built.old.entry (enters homes.now statement.now later)) }
+        → unwrap_or built.new.entry later ≡ unwrap_or built.old.entry (entered_place homes.now statement.now later)) }
 {
     push_line(&mut built.items, homes, spot, statement)?;
     push_rows(&mut built.after, statement)?;
@@ -106,7 +106,7 @@ fn add_line(
 fn pass_line(past: &mut Past, spot: Spot, statement: &Option<Statement>) -> Result<(), NoMemory>
     requires place { spot.place ≤ 2 ^ 30 }
     requires segments { spot.segments ≤ 2000 }
-    ensures runs { OnOk result (past.new.runs.items ≡ past.old.runs.items ++ run_of statement.now spot ∷ []) }
+    ensures runs { OnOk result (past.new.runs.items ≡ past.old.runs.items ++ word_run statement.now spot ∷ []) }
     ensures entered { OnOk result (past.new.entered ≡ (past.old.entered || is_enter statement.now)) }
 {
     if past.runs.push(run_of(statement, spot)).is_err() {

@@ -3,11 +3,11 @@ ghost use Rattle.std.specs.Prelude.{◌≡◌, ◌≤◌, ◌<◌, ◌^◌, ◌+
 ghost use Rattle.std.specs.List.{list_any, list_all};
 ghost use Rattle.ed_words.specs.Sizes.{locations};
 ghost use Rattle.ed_library.specs.Routines.{find};
-ghost use Rattle.ed_link.specs.Linked.{first_place, end_place, setting};
+ghost use Rattle.ed_link.specs.Linked.{first_place, end_place, set_to};
 ghost use Rattle.ed_link.specs.Faults.{any_enter, cause_of, has_no_routine, has_sandwich, is_enter, is_in_segment};
 ghost use Rattle.ed_link.specs.Faults.{is_misplaced, is_outside};
-ghost use Rattle.ed_link.specs.Faults.{is_rows, meets, reach, run_at, run_of, sets, sets_otherwise};
-ghost use Rattle.ed_link.specs.Faults.{line_of, missing, sooner};
+ghost use Rattle.ed_link.specs.Faults.{is_rows, meets, reach, run_at, word_run, sets, sets_otherwise};
+ghost use Rattle.ed_link.specs.Faults.{fault_line, missing, sooner};
 
 use crate::operands::setting;
 use ed_codes::Code;
@@ -33,7 +33,7 @@ pub(crate) fn first_place(statement: &Option<Statement>, spot: Spot) -> u32
 pub(crate) fn run_of(statement: &Option<Statement>, spot: Spot) -> (u64, u64)
     requires place { spot.place ≤ 2 ^ 30 }
     requires segments { spot.segments ≤ 2000 }
-    ensures { result ≡ run_of statement.now spot }
+    ensures { result ≡ word_run statement.now spot }
 {
     (
         u64::from(first_place(statement, spot)),
@@ -104,7 +104,7 @@ fn has_no_routine(statement: &Option<Statement>) -> bool
 
 /// Whether each of some letters is set.
 fn are_set(settings: &[Setting], letters: &[Code]) -> bool
-    ensures { result ≡ list_all (λ c. is_some (setting settings.now c)) letters.now }
+    ensures { result ≡ list_all (λ c. is_some (set_to settings.now c)) letters.now }
 {
     for letter in letters {
         if setting(settings, letter.value()).is_none() {
@@ -257,7 +257,7 @@ pub(crate) fn sooner_than(fault: Option<SourceFault>, other: SourceFault) -> Sou
 
 /// The line of a fault.
 fn line_of(fault: SourceFault) -> u32
-    ensures { result ≡ line_of fault }
+    ensures { result ≡ fault_line fault }
 {
     match fault {
         SourceFault::At { line, .. } => line,

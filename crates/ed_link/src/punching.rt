@@ -4,14 +4,14 @@ ghost use Rattle.std.specs.Prelude.{unwrap_or, length, false, true, None};
 ghost use Rattle.std.specs.List.{flat_map, list_all};
 ghost use Rattle.ed_notation.specs.Spellings.{AreSpellable, is_spellable};
 ghost use Rattle.ed_library.specs.Entries.{entry};
-ghost use Rattle.ed_library.specs.Routines.{item_of, places};
+ghost use Rattle.ed_library.specs.Routines.{table_item, place_count};
 ghost use Rattle.ed_symbols.specs.Names.{place_on};
 ghost use Rattle.ed_symbols.specs.Places.{segment_at};
-ghost use Rattle.ed_library.specs.Routines.{find, item as item_at};
-ghost use Rattle.ed_symbols.specs.Places.{passed, taken};
+ghost use Rattle.ed_library.specs.Routines.{find, routine_item as item_at};
+ghost use Rattle.ed_symbols.specs.Places.{passed, routine_places};
 ghost use Rattle.ed_link.specs.Faults.{reach};
-ghost use Rattle.ed_link.specs.Linked.{number, long_words, setting, letters, words_of};
-ghost use Rattle.ed_link.specs.Punch.{ending, head, headed, heads, item, items_of, order_item, goes_by_theta};
+ghost use Rattle.ed_link.specs.Linked.{operand_number, long_words, set_to, parameter_letters, line_words};
+ghost use Rattle.ed_link.specs.Punch.{ending, head, headed, heads, item_with, items_of, order_item, goes_by_theta};
 ghost use Rattle.ed_link.specs.Punch.{preset_items, routine_items, use_items, word_item, word_items};
 
 use crate::operands::{goes_by_theta, number, setting};
@@ -52,7 +52,7 @@ fn push_control(items: &mut Vec<Item>, function: u8, number: u16) -> Result<(), 
     requires spellable { AreSpellable items.old.items }
     requires function { function < 32 }
     requires number { number ≤ 32767 }
-    ensures items { OnOk result (items.new.items ≡ items.old.items ++ item function number false 14 ∷ []) }
+    ensures items { OnOk result (items.new.items ≡ items.old.items ++ item_with function number false 14 ∷ []) }
     ensures spellable { AreSpellable items.new.items }
 {
     push(
@@ -75,7 +75,8 @@ fn push_number(
 ) -> Result<(), NoMemory>
     requires spellable { AreSpellable items.old.items }
     requires number { number ≤ 32767 }
-    ensures items { OnOk result (items.new.items ≡ items.old.items ++ item function number false (ending length) ∷ []) }
+    ensures items { OnOk result (items.new.items
+        ≡ items.old.items ++ item_with function number false (ending length) ∷ []) }
     ensures spellable { AreSpellable items.new.items }
 {
     let _ = function.value();
@@ -129,7 +130,7 @@ fn push_order(
     requires base { spot.base ≤ 32767 }
     ensures items { OnOk result (items.new.items
         ≡ items.old.items ++ order_item (goes_by_theta homes.now spot operand.now)
-        spot.base function (number homes.now (segment_at spot) operand.now) length ∷ []) }
+        spot.base function (operand_number homes.now (segment_at spot) operand.now) length ∷ []) }
     ensures spellable { AreSpellable items.new.items }
 {
     let number = number(homes, spot.segment(), operand);
@@ -198,7 +199,7 @@ fn push_preset(
     requires spellable { AreSpellable items.old.items }
     requires letter { letter ≤ 26 }
     ensures items { OnOk result
-        (items.new.items ≡ items.old.items ++ preset_items homes.now (setting settings.now letter) letter) }
+        (items.new.items ≡ items.old.items ++ preset_items homes.now (set_to settings.now letter) letter) }
     ensures spellable { AreSpellable items.new.items }
 {
     match setting(settings, letter) {
@@ -225,7 +226,7 @@ fn push_presets(
     requires spellable { AreSpellable items.old.items }
     requires letters { IsTrue (list_all (λ c. nat_le c 26) letters.now) }
     ensures items { OnOk result (items.new.items
-        ≡ items.old.items ++ flat_map (λ c. preset_items homes.now (setting settings.now c) c) letters.now) }
+        ≡ items.old.items ++ flat_map (λ c. preset_items homes.now (set_to settings.now c) c) letters.now) }
     ensures spellable { AreSpellable items.new.items }
 {
     for letter in letters {
@@ -237,8 +238,8 @@ fn push_presets(
 /// Adds the items of a routine.
 fn push_routine(items: &mut Vec<Item>, routine: Routine) -> Result<(), NoMemory>
     requires spellable { AreSpellable items.old.items }
-    requires spelled { (place : ℕ) → place < places routine → is_spellable (item_at routine place) ≡ true }
-    ensures items { OnOk result (items.new.items ≡ items.old.items ++ map item_of (entry routine).items) }
+    requires spelled { (place : ℕ) → place < place_count routine → is_spellable (item_at routine place) ≡ true }
+    ensures items { OnOk result (items.new.items ≡ items.old.items ++ map table_item (entry routine).items) }
     ensures spellable { AreSpellable items.new.items }
 {
     for place in 0..routine.length() {
@@ -256,7 +257,7 @@ fn push_use(
     routine: &Name,
 ) -> Result<(), NoMemory>
     requires spellable { AreSpellable items.old.items }
-    requires base { 0 < taken (find routine.now) → base ≤ 32767 }
+    requires base { 0 < routine_places (find routine.now) → base ≤ 32767 }
     ensures items { OnOk result
         (items.new.items ≡ items.old.items ++ use_items homes.now settings.now base (find routine.now)) }
     ensures spellable { AreSpellable items.new.items }

@@ -5,13 +5,14 @@ ghost use Rattle.std.specs.List.{flat_map, list_all};
 ghost use Rattle.ed_words.specs.Words.{digit};
 ghost use Rattle.ed_notation.specs.Fold.{word_with};
 ghost use Rattle.ed_library.specs.Entries.{entry};
-ghost use Rattle.ed_library.specs.Images.{item_word};
-ghost use Rattle.ed_library.specs.Routines.{find, item_of, places};
-ghost use Rattle.ed_symbols.specs.Places.{segment_at, even, taken};
-ghost use Rattle.ed_link.specs.Linked.{image, laid, long_words, number, parameters, placed_by, preset, presets};
-ghost use Rattle.ed_link.specs.Linked.{setting, words_of};
+ghost use Rattle.ed_library.specs.Images.{routine_word};
+ghost use Rattle.ed_library.specs.Routines.{find, table_item, place_count};
+ghost use Rattle.ed_symbols.specs.Places.{segment_at, even_from, routine_places};
+ghost use Rattle.ed_link.specs.Linked.{image, laid, long_words, operand_number, parameters, placed_by_line, preset};
+ghost use Rattle.ed_link.specs.Linked.{presets};
+ghost use Rattle.ed_link.specs.Linked.{set_to, line_words};
 ghost use Rattle.ed_link.specs.Faults.{reach};
-ghost use Rattle.ed_link.specs.Tables.{put_all, with_word, words_from};
+ghost use Rattle.ed_link.specs.Tables.{put_all, place_word, words_from};
 
 use crate::linked::Placed;
 use crate::operands::{number, parameters, setting};
@@ -32,7 +33,8 @@ fn put(table: &mut Vec<Option<Word>>, place: u32, word: Word)
 
 /// The word of an order.
 fn order_word(homes: &[Home], spot: Spot, function: Code, operand: &Operand, length: bool) -> Word
-    ensures { result ≡ word_with function (number homes.now (segment_at spot) operand.now) false (digit length) }
+    ensures { result
+        ≡ word_with function (operand_number homes.now (segment_at spot) operand.now) false (digit length) }
 {
     let number = u32::from(number(homes, spot.segment(), operand));
     let sum = 4096 * u32::from(function.value()) + 2 * number + u32::from(length);
@@ -76,7 +78,7 @@ fn put_long(table: &mut Vec<Option<Word>>, place: u32, value: Long)
 fn put_preset(table: &mut Vec<Option<Word>>, homes: &[Home], settings: &[Setting], letter: u8)
     requires letter { letter ≤ 26 }
     requires table { 51 ≤ length table.old.items }
-    ensures { table.new.items ≡ put_all table.old.items (preset homes.now (setting settings.now letter) letter) }
+    ensures { table.new.items ≡ put_all table.old.items (preset homes.now (set_to settings.now letter) letter) }
 {
     if let Some(operand) = setting(settings, letter) {
         let word = 2 * u32::from(number(homes, None, &operand));
@@ -89,7 +91,7 @@ fn put_presets(table: &mut Vec<Option<Word>>, homes: &[Home], settings: &[Settin
     requires letters { IsTrue (list_all (λ c. nat_le c 26) letters.now) }
     requires table { 51 ≤ length table.old.items }
     ensures { table.new.items
-        ≡ put_all table.old.items (flat_map (λ c. preset homes.now (setting settings.now c) c) letters.now) }
+        ≡ put_all table.old.items (flat_map (λ c. preset homes.now (set_to settings.now c) c) letters.now) }
 {
     for letter in letters {
         put_preset(table, homes, settings, *letter);
@@ -98,9 +100,9 @@ fn put_presets(table: &mut Vec<Option<Word>>, homes: &[Home], settings: &[Settin
 
 /// Puts the words of a routine.
 fn put_routine(table: &mut Vec<Option<Word>>, parameters: &Parameters, base: u16, routine: Routine)
-    requires { base + places routine ≤ length table.old.items }
+    requires { base + place_count routine ≤ length table.old.items }
     ensures { table.new.items
-        ≡ put_all table.old.items (laid base (map (λ row. item_word parameters.now base (item_of row))
+        ≡ put_all table.old.items (laid base (map (λ row. routine_word parameters.now base (table_item row))
         (entry routine).items)) }
 {
     for place in 0..routine.length() {
@@ -118,7 +120,8 @@ fn put_use(
     base: u32,
     routine: &Name,
 )
-    requires base { 0 < taken (find routine.now) → base + taken (find routine.now) ≤ length table.old.items }
+    requires base { 0 < routine_places (find routine.now)
+        → base + routine_places (find routine.now) ≤ length table.old.items }
     requires table { length table.old.items ≡ 1024 }
     ensures { table.new.items
         ≡ put_all table.old.items (presets homes.now settings.now ++ image homes.now settings.now base
@@ -143,7 +146,7 @@ pub(crate) fn put_line(
     requires place { spot.place ≤ 2 ^ 30 }
     requires fits { (reach homes.now statement.now spot).0 < (reach homes.now statement.now spot).1
         → (reach homes.now statement.now spot).1 ≤ 1024 }
-    ensures is { table.new.items ≡ put_all table.old.items (placed_by homes.now spot statement.now) }
+    ensures is { table.new.items ≡ put_all table.old.items (placed_by_line homes.now spot statement.now) }
     ensures length { length table.new.items ≡ 1024 }
 {
     match statement {

@@ -11,7 +11,7 @@ use Rattle.ed_words.proofs.Numbers.{lt_of}
 use Rattle.ed_store.specs.Cells.{IsStore}
 use Rattle.ed_machine.specs.State.{State, cleared}
 use Rattle.ed_notation.specs.Fold.{over}
-use Rattle.ed_notation.specs.Faults.{Entry}
+use Rattle.ed_notation.specs.Faults.{TapeEntry}
 use Rattle.ed_notation.specs.Items.{spelled}
 use Rattle.ed_notation.specs.Spellings.{canonicals}
 use Rattle.ed_notation.proofs.Costs.{most}
@@ -24,7 +24,7 @@ use Rattle.ed_initial.proofs.Quiet.{LeadsIn, comes_in}
 use Rattle.ed_syntax.specs.declared.program.Line.{Line}
 use Rattle.ed_link.specs.declared.linked.Linked.{Linked}
 use Rattle.ed_link.specs.Answers.{IsLinked}
-use Rattle.ed_link.specs.Linked.{linked, entry_of, after}
+use Rattle.ed_link.specs.Linked.{linked, entry_of, data_behind}
 use Rattle.ed_link.proofs.EachSource.{each_source as comes_to}
 use Rattle.ed_link.specs.Tapes.{ComesToLinked, arrival, cost, tape}
 use Rattle.ed_loads.specs.EntryState.{Enters, EachSourceEnters, entry_state, first_state, own_words}
@@ -62,7 +62,8 @@ first_length =
       length-replicate {A = ℕ} 1024 0,
     )
 
-all_fit : (ws : List ℕ) → list_all (λ w. nat_lt w (2 ^ 17)) ws ≡ true → (i : ℕ) → slice_index ws i < 2 ^ 17
+-- words that pass the test are below 2^17, and so is what stands behind the last
+pub all_fit : (ws : List ℕ) → list_all (λ w. nat_lt w (2 ^ 17)) ws ≡ true → (i : ℕ) → slice_index ws i < 2 ^ 17
 all_fit [] h i = lit≤ tt
 all_fit (w ∷ ws) h zero = lt_of w (2 ^ 17) (and_parts _ _ h).0
 all_fit (w ∷ ws) h (suc i) = all_fit ws (and_parts (nat_lt w (2 ^ 17)) _ h).1 i
@@ -97,7 +98,7 @@ entered z lines = λ i.
       acc = 0;
       multiplier = 20480 * 2 ^ 18;
       counter = entry_of lines;
-      tape = after lines;
+      tape = data_behind lines;
       last = None;
       orders = k;
     }
@@ -122,11 +123,11 @@ pub each_source : EachSourceEnters
 each_source z source lines p f = enters z lines (comes_to z source lines p f)
 
 -- what `load` leaves of the machine that is started on the tape of a linked program
-pub loaded : (z : Size) (lines : List Line) (program : Linked) (rows : List ℕ) (s t : State) (r : Loaded)
+pub loaded : {z : Size} {lines : List Line} {program : Linked} {rows : List ℕ} {s t : State} {r : Loaded}
     → IsLinked z lines program
     → s ≡ first_state z rows → rows ≡ spelled (canonicals program.items.items) ++ program.after.items
-    → ((e : Entry) → Comes s e → IsLoaded s e r t) → t ≡ entry_state z lines
-loaded z lines program rows s t r is begun written load =
+    → ((e : TapeEntry) → Comes s e → IsLoaded s e r t) → t ≡ entry_state z lines
+loaded {z} {lines} {rows = rows} {s} is begun written load =
     let tape_is : rows ≡ tape lines = written ∙ (λ i. spelled (canonicals (is.items i)) ++ is.after i) in
     let first : s ≡ first_state z (tape lines) = begun ∙ ap (first_state z) tape_is in
     let e = arrival (first_state z (tape lines)).store.words lines in

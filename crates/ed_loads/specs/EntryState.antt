@@ -16,7 +16,7 @@ use Rattle.ed_words.specs.Texts.{Text}
 use Rattle.ed_syntax.specs.Sources.{program_of}
 use Rattle.ed_syntax.specs.declared.program.Line.{Line}
 use Rattle.ed_symbols.specs.Places.{first_spot}
-use Rattle.ed_link.specs.Linked.{linked, entry_of, theta_from, after}
+use Rattle.ed_link.specs.Linked.{linked, entry_of, theta_from, data_behind}
 use Rattle.ed_link.specs.Tapes.{cost, punched_rows, tape}
 use Rattle.ed_link.specs.Faults.{fault}
 
@@ -53,7 +53,7 @@ entry_state z lines = record {
   acc = 0;
   multiplier = 20480 * 2 ^ 18;
   counter = entry_of lines;
-  tape = after lines;
+  tape = data_behind lines;
   last = None;
   orders = cost lines;
 }

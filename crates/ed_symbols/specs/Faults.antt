@@ -20,9 +20,9 @@ use Rattle.ed_symbols.specs.declared.spots.Standing.{Standing}
 use Rattle.ed_symbols.specs.declared.homes.Home.{Home}
 
 -- the sum or the difference of two places
-abbrev pub joined : Bool → Option ℕ → Option ℕ → Option ℤ
-joined minus (Some a) (Some b) = Some (if minus then pos a -ℤ pos b else pos a +ℤ pos b)
-joined minus _ b = None
+abbrev pub sum_of_places : Bool → Option ℕ → Option ℕ → Option ℤ
+sum_of_places minus (Some a) (Some b) = Some (if minus then pos a -ℤ pos b else pos a +ℤ pos b)
+sum_of_places minus _ b = None
 
 -- a place with a number added to it
 abbrev pub with_more : ℤ → Option ℕ → Option ℤ
@@ -30,15 +30,15 @@ with_more plus None = None
 with_more plus (Some p) = Some (pos p +ℤ plus)
 
 -- the value of an operand on a line of this segment; none where a name of it has no place there
-abbrev pub value : List Home → Option ℕ → Operand → Option ℤ
-value homes segment (Number n) = Some (pos n)
-value homes segment (Label name plus) = with_more plus (place_on homes segment name)
-value homes segment (Two first second minus) =
-    joined minus (place_on homes segment first) (place_on homes segment second)
+abbrev pub operand_value : List Home → Option ℕ → Operand → Option ℤ
+operand_value homes segment (Number n) = Some (pos n)
+operand_value homes segment (Label name plus) = with_more plus (place_on homes segment name)
+operand_value homes segment (Two first second minus) =
+    sum_of_places minus (place_on homes segment first) (place_on homes segment second)
 
 -- whether an operand names what has no place on its line
 abbrev pub is_unknown : List Home → Option ℕ → Operand → Bool
-is_unknown homes segment o = is_none (value homes segment o)
+is_unknown homes segment o = is_none (operand_value homes segment o)
 
 -- whether a number is no address of the full store, 0 to 1023
 abbrev pub is_far : Option ℤ → Bool
@@ -46,10 +46,10 @@ is_far None = false
 is_far (Some v) = int_lt v (pos 0) || int_lt (pos 1023) v
 
 -- whether an operand with a name has a value that is no address
-abbrev pub is_outside : List Home → Option ℕ → Operand → Bool
-is_outside homes segment (Number n) = false
-is_outside homes segment (Label name plus) = is_far (value homes segment (Label name plus))
-is_outside homes segment (Two first second minus) = is_far (value homes segment (Two first second minus))
+abbrev pub is_no_address : List Home → Option ℕ → Operand → Bool
+is_no_address homes segment (Number n) = false
+is_no_address homes segment (Label name plus) = is_far (operand_value homes segment (Label name plus))
+is_no_address homes segment (Two first second minus) = is_far (operand_value homes segment (Two first second minus))
 
 -- the operand of a setting
 abbrev pub operand_of : Setting → Operand
@@ -83,11 +83,11 @@ names_unknown homes l s = any_operand (is_unknown homes (segment_of l s)) l.stat
 
 -- S8: the value of an operand with a name is no address
 abbrev pub reaches_outside : List Home → Line → Spot → Bool
-reaches_outside homes l s = any_operand (is_outside homes (segment_of l s)) l.statement
+reaches_outside homes l s = any_operand (is_no_address homes (segment_of l s)) l.statement
 
 -- the fault of a line with the least number, by whether it defines a name again
-abbrev pub cause_of : List Home → Bool → Line → Spot → Option SourceCause
-cause_of homes again l s =
+abbrev pub naming_cause : List Home → Bool → Line → Spot → Option SourceCause
+naming_cause homes again l s =
     if again then Some LabelTwice
     else if names_unknown homes l s then Some LabelUnknown
     else if reaches_outside homes l s then Some AddressRange
@@ -99,11 +99,11 @@ or_later line None later = later
 or_later line (Some cause) later = Some (At line cause)
 
 -- the fault of the least line from a spot on that has one
-abbrev pub fault_from : List Home → List Home → Spot → List Line → Option SourceFault
-fault_from homes earlier s [] = None
-fault_from homes earlier s (l ∷ lines) =
-    or_later l.number (cause_of homes (defines_again earlier l s) l s)
-    (fault_from homes (earlier ++ defined l s) (passed l.statement s) lines)
+abbrev pub naming_fault_from : List Home → List Home → Spot → List Line → Option SourceFault
+naming_fault_from homes earlier s [] = None
+naming_fault_from homes earlier s (l ∷ lines) =
+    or_later l.number (naming_cause homes (defines_again earlier l s) l s)
+    (naming_fault_from homes (earlier ++ defined l s) (passed l.statement s) lines)
 
 -- what the names of a source come to: where each line stands, what is defined, and the least fault
 pub record Resolved : Type 0 where
@@ -116,5 +116,5 @@ abbrev pub resolved : List Line → Resolved
 resolved lines = record {
   standings = standings_from first_spot lines;
   homes = homes_from first_spot lines;
-  fault = fault_from (homes_from first_spot lines) [] first_spot lines;
+  fault = naming_fault_from (homes_from first_spot lines) [] first_spot lines;
 }

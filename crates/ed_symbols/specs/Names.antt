@@ -6,13 +6,13 @@ use Rattle.std.specs.Str.{bytes_eq}
 use Rattle.ed_syntax.specs.declared.program.Statement.{Statement}
 use Rattle.ed_syntax.specs.declared.program.Statement.TheVariants.{Segment, Fetch, Long}
 use Rattle.ed_syntax.specs.declared.program.Line.{Line}
-use Rattle.ed_symbols.specs.Places.{even, passed, segment_at}
+use Rattle.ed_symbols.specs.Places.{even_from, passed, segment_at}
 use Rattle.ed_symbols.specs.declared.spots.Spot.{Spot}
 use Rattle.ed_symbols.specs.declared.homes.Home.{Home}
 
 -- the place for which the label of a line stands: at `long` it is even
 abbrev pub label_place : Option Statement → Spot → ℕ
-label_place (Some (Long value)) s = even s.place
+label_place (Some (Long value)) s = even_from s.place
 label_place _ s = s.place
 
 -- what the label of a line defines, in the segment of its line
@@ -29,7 +29,8 @@ label_home (Some name) statement s = Some (record {
 abbrev pub name_home : Option Statement → Spot → Option Home
 name_home (Some (Segment name base)) s =
     Some (record { name = name; place = unwrap_or base s.place; segment = Some (s.segments + 1) })
-name_home (Some (Fetch routine name settings)) s = Some (record { name = name; place = even s.place; segment = None })
+name_home (Some (Fetch routine name settings)) s =
+    Some (record { name = name; place = even_from s.place; segment = None })
 name_home _ s = None
 
 -- none or one
@@ -66,9 +67,9 @@ home_of segment name [] = None
 home_of segment name (h ∷ homes) = if is_home segment name h then Some h else home_of segment name homes
 
 -- the place of a definition
-abbrev pub place_of : Home → ℕ
-place_of h = h.place
+abbrev pub home_place : Home → ℕ
+home_place h = h.place
 
 -- the place of a name on a line of this segment, if it has one there
 abbrev pub place_on : List Home → Option ℕ → List ℕ → Option ℕ
-place_on homes segment name = option_map place_of (home_of segment name homes)
+place_on homes segment name = option_map home_place (home_of segment name homes)

@@ -1,7 +1,7 @@
 -- Places of lines: where a line stands, by the words of the lines before it (this project's own rule).
 use Rattle.std.specs.Prelude.{ℕ, ◌+◌, ◌%◌, true, false, List, []}
 use Rattle.std.specs.Prelude.{◌∷◌, length, Option, Some, None, unwrap_or, if◌then◌else◌}
-use Rattle.ed_library.specs.Routines.{find, places}
+use Rattle.ed_library.specs.Routines.{find, place_count}
 use Rattle.ed_syntax.specs.declared.program.Statement.{Statement}
 use Rattle.ed_syntax.specs.declared.program.Statement.TheVariants.{Segment, Order, Number, Text}
 use Rattle.ed_syntax.specs.declared.program.Statement.TheVariants.{Fetch, Enter, Rows, Long}
@@ -10,21 +10,21 @@ use Rattle.ed_symbols.specs.declared.spots.Spot.{Spot}
 use Rattle.ed_symbols.specs.declared.spots.Standing.{Standing}
 
 -- a place, raised by 1 where it is odd
-abbrev pub even : ℕ → ℕ
-even p = p + p % 2
+abbrev pub even_from : ℕ → ℕ
+even_from p = p + p % 2
 
 -- the places that a routine takes, and 0 for one that isn't in the catalogue
-abbrev pub taken : Option ℕ → ℕ
-taken None = 0
-taken (Some r) = places r
+abbrev pub routine_places : Option ℕ → ℕ
+routine_places None = 0
+routine_places (Some r) = place_count r
 
 -- before the first line: place 56, outside every segment
 abbrev pub first_spot : Spot
 first_spot = record { place = 56; base = 56; segments = 0; inside = false }
 
 -- the place moves on by some words
-abbrev pub moved : ℕ → Spot → Spot
-moved n s = record s { place = s.place + n }
+abbrev pub moved_on : ℕ → Spot → Spot
+moved_on n s = record s { place = s.place + n }
 
 -- behind a statement: `segment` sets the place or leaves it, an order and `word` take 1 place, `text` one for each row,
 -- `use` the routine's length from an even place on and `long` 2 from an even place on; `segment` and `use` have their
@@ -33,19 +33,19 @@ abbrev pub passed : Option Statement → Spot → Spot
 passed None s = s
 passed (Some (Segment name base)) s =
     record { place = unwrap_or base s.place; base = unwrap_or base s.place; segments = s.segments + 1; inside = true }
-passed (Some (Order function operand length)) s = moved 1 s
-passed (Some (Number value)) s = moved 1 s
-passed (Some (Text codes)) s = moved (length codes.items) s
+passed (Some (Order function operand length)) s = moved_on 1 s
+passed (Some (Number value)) s = moved_on 1 s
+passed (Some (Text codes)) s = moved_on (length codes.items) s
 passed (Some (Fetch routine name settings)) s =
     record {
-      place = even s.place + taken (find routine);
-      base = even s.place;
+      place = even_from s.place + routine_places (find routine);
+      base = even_from s.place;
       segments = s.segments + 1;
       inside = false;
     }
 passed (Some (Enter name)) s = s
 passed (Some (Rows codes)) s = s
-passed (Some (Long value)) s = record s { place = even s.place + 2 }
+passed (Some (Long value)) s = record s { place = even_from s.place + 2 }
 
 -- the segment of a spot: its number where the last `segment` or `use` line was a `segment`
 abbrev pub segment_at : Spot → Option ℕ

@@ -2,8 +2,8 @@
 ghost use Rattle.std.specs.Prelude.{◌≡◌, ◌<◌, ◌≤◌, ◌^◌, ◌||◌};
 ghost use Rattle.std.specs.List.{list_any};
 ghost use Rattle.ed_symbols.specs.Faults.{any_operand, enters_unknown, is_far};
-ghost use Rattle.ed_symbols.specs.Faults.{is_outside, is_unknown, joined, operand_of};
-ghost use Rattle.ed_symbols.specs.Faults.{value, with_more, cause_of};
+ghost use Rattle.ed_symbols.specs.Faults.{is_no_address, is_unknown, sum_of_places, operand_of};
+ghost use Rattle.ed_symbols.specs.Faults.{operand_value, with_more, naming_cause};
 
 use crate::homes::{Home, find_place};
 use crate::spots::Spot;
@@ -11,7 +11,7 @@ use ed_syntax::{Line, Operand, Setting, SourceCause, Statement};
 
 /// The value of an operand on a line of a segment.
 pub fn value(homes: &[Home], segment: Option<u32>, operand: &Operand) -> Option<i64>
-    ensures { result ≡ value homes.now segment operand.now }
+    ensures { result ≡ operand_value homes.now segment operand.now }
 {
     match operand {
         Operand::Number(number) => Some(i64::from(*number)),
@@ -44,7 +44,7 @@ fn is_unknown(homes: &[Home], segment: Option<u32>, operand: &Operand) -> bool
 
 /// Whether an operand with a name has a value that is no address.
 fn is_outside(homes: &[Home], segment: Option<u32>, operand: &Operand) -> bool
-    ensures { result ≡ is_outside homes.now segment operand.now }
+    ensures { result ≡ is_no_address homes.now segment operand.now }
 {
     match operand {
         Operand::Number(_) => false,
@@ -69,7 +69,7 @@ fn set_unknown(homes: &[Home], segment: Option<u32>, settings: &[Setting]) -> bo
 
 /// Whether the operand of a setting has a value that is no address.
 fn set_outside(homes: &[Home], segment: Option<u32>, settings: &[Setting]) -> bool
-    ensures { result ≡ list_any (λ t. is_outside homes.now segment (operand_of t)) settings.now }
+    ensures { result ≡ list_any (λ t. is_no_address homes.now segment (operand_of t)) settings.now }
 {
     for setting in settings {
         if is_outside(homes, segment, &setting.operand) {
@@ -94,7 +94,7 @@ fn names_unknown(homes: &[Home], segment: Option<u32>, statement: &Option<Statem
 
 /// Whether the value of an operand of a line is no address.
 fn reaches_outside(homes: &[Home], segment: Option<u32>, statement: &Option<Statement>) -> bool
-    ensures { result ≡ any_operand (is_outside homes.now segment) statement.now }
+    ensures { result ≡ any_operand (is_no_address homes.now segment) statement.now }
 {
     match statement {
         Some(Statement::Order { operand, .. }) => is_outside(homes, segment, operand),
@@ -107,7 +107,7 @@ fn reaches_outside(homes: &[Home], segment: Option<u32>, statement: &Option<Stat
 pub(crate) fn cause_of(homes: &[Home], again: bool, line: &Line, spot: Spot) -> Option<SourceCause>
     requires place { spot.place ≤ 2 ^ 30 }
     requires segments { spot.segments ≤ 2000 }
-    ensures { result ≡ cause_of homes.now again line.now spot }
+    ensures { result ≡ naming_cause homes.now again line.now spot }
 {
     let segment = spot.passed(&line.statement).segment();
     if again {

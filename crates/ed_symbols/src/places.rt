@@ -1,5 +1,5 @@
 ghost use Rattle.std.specs.Prelude.{◌≡◌, ◌-◌, ◌≤◌, IfOk, None, [], length};
-ghost use Rattle.ed_symbols.specs.Faults.{fault_from, resolved};
+ghost use Rattle.ed_symbols.specs.Faults.{naming_fault_from, resolved};
 ghost use Rattle.ed_symbols.specs.Names.{home_of, homes_from, place_on};
 ghost use Rattle.ed_symbols.specs.Places.{first_spot, standings_from};
 ghost use Rattle.ed_symbols.specs.Readers.{line_place, line_segment, standing_at};
@@ -53,7 +53,7 @@ fn find_fault(
     homes: &[Home],
     program: &Program,
 ) -> Result<Option<SourceFault>, NoMemory>
-    ensures { IfOk result (λ fault. fault ≡ fault_from homes.now [] first_spot program.now.lines.items) }
+    ensures { IfOk result (λ fault. fault ≡ naming_fault_from homes.now [] first_spot program.now.lines.items) }
 {
     let mut earlier = Vec::new(alloc);
     let mut spot = Spot::first();

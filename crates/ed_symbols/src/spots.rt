@@ -1,7 +1,7 @@
 //! Where a line stands.
 ghost use Rattle.std.specs.Prelude.{◌≡◌, ◌+◌, ◌≤◌, ◌^◌, unwrap_or};
 ghost use Rattle.ed_library.specs.Routines.{find};
-ghost use Rattle.ed_symbols.specs.Places.{even, first_spot, passed, segment_at, standing, taken};
+ghost use Rattle.ed_symbols.specs.Places.{even_from, first_spot, passed, segment_at, standing, routine_places};
 
 use ed_library::find;
 use ed_syntax::{Line, Name, Statement};
@@ -29,7 +29,7 @@ pub(crate) struct Standing {
 /// A place, raised by 1 where it is odd.
 pub fn even(place: u32) -> u32
     requires { place ≤ 2 ^ 30 }
-    ensures is { result ≡ even place }
+    ensures is { result ≡ even_from place }
     ensures near { result ≤ place + 1 }
 {
     place + place % 2
@@ -37,7 +37,7 @@ pub fn even(place: u32) -> u32
 
 /// The places that a routine takes.
 fn taken(routine: &Name) -> u32
-    ensures is { result ≡ taken (find routine.now) }
+    ensures is { result ≡ routine_places (find routine.now) }
     ensures few { result ≤ 65535 }
 {
     match find(routine.text()) {

@@ -11,10 +11,11 @@ use Rattle.std.proofs.lemmas.Bool.Decides.{nat_tests, Decides-eqb}
 use Rattle.std.proofs.lemmas.List.{length-map}
 use Rattle.std.proofs.lemmas.List.Elements.{All-cons}
 use Rattle.std.proofs.lemmas.List.Quantifiers.{position-Some}
+use Rattle.std.proofs.lemmas.Bool.{and_parts}
 use Rattle.ed_codes.specs.Spelling.{letters, row_of}
 use Rattle.ed_words.specs.Texts.{Text}
 use Rattle.ed_words.specs.Decimals.{is_digit}
-use Rattle.ed_syntax.specs.Parts.{Part, run, sign, quoted, parts_of}
+use Rattle.ed_syntax.specs.Parts.{LinePart, run, sign, quoted, parts_of}
 use Rattle.ed_syntax.specs.Grammar
 use Rattle.ed_syntax.specs.Programs.{AreNumbered, is_line}
 use Rattle.ed_syntax.proofs.Meaning.{AreRows, IsForm, IsOperand, IsSetting, IsStatement, MayHaveLabel, lines_test}
@@ -27,7 +28,6 @@ use Rattle.ed_syntax.specs.declared.program.Operand.{Operand}
 use Rattle.ed_syntax.specs.declared.program.Operand.TheVariants as operands
 use Rattle.ed_syntax.specs.declared.program.Statement.{Statement}
 use Rattle.ed_syntax.specs.declared.program.Statement.TheVariants as statements
-use Rattle.ed_syntax.proofs.NameLemmas.{and_both}
 use Rattle.ed_syntax.proofs.Ranges.{Within, FrontWithin, within_map, within_else, within_if}
 use Rattle.ed_syntax.proofs.Ranges.{number_within, operand_within, preset_within}
 
@@ -37,7 +37,7 @@ IsPlaced two s = MayHaveLabel s × IsStatement two s
 
 -- ---- orders
 
-end_within : (two : Bool) (o : Option (Option Operand × List Part)) → FrontWithin (IsOperand two) o
+end_within : (two : Bool) (o : Option (Option Operand × List LinePart)) → FrontWithin (IsOperand two) o
     → FrontWithin (IsOperand two) (option_and_then (λ p. option_map (λ l. (p.0, l)) (Grammar.length_end p.1)) o)
 end_within two None w = tt
 end_within two (Some (o, rest)) w = by_length o (Grammar.length_end rest) w
@@ -54,7 +54,7 @@ missing_within : (two : Bool) (l : Option Bool)
 missing_within two None = tt
 missing_within two (Some l) = omega arith
 
-order_end_within : (two : Bool) (parts : List Part) → FrontWithin (IsOperand two) (Grammar.order_end two parts)
+order_end_within : (two : Bool) (parts : List LinePart) → FrontWithin (IsOperand two) (Grammar.order_end two parts)
 order_end_within two (sign e ∷ parts) = missing_within two (Grammar.length_end (sign e ∷ parts))
 order_end_within two [] = tt
 order_end_within two (run r ∷ parts) =
@@ -82,7 +82,7 @@ function_fits b = by_test (is_digit b)
     by_test true = tt
     by_test false = row_fits b
 
-order_within : (two : Bool) (b : ℕ) (parts : List Part) → Within (IsPlaced two) (Grammar.order two b parts)
+order_within : (two : Bool) (b : ℕ) (parts : List LinePart) → Within (IsPlaced two) (Grammar.order two b parts)
 order_within two b parts =
     by_parts (Grammar.function b) (Grammar.order_end two parts) (function_fits b) (order_end_within two parts)
   where
@@ -141,7 +141,7 @@ string_rows_within q = by_test (nat_le 1 (length q)) _ refl
     by_test true false e = tt
     by_test true true e = some e
 
-string_within : (parts : List Part) → IfSome (Grammar.string parts) AreRows
+string_within : (parts : List LinePart) → IfSome (Grammar.string parts) AreRows
 string_within [] = tt
 string_within (run r ∷ parts) = tt
 string_within (sign b ∷ parts) = tt
@@ -158,7 +158,7 @@ rows_within : (two : Bool) (o : Option (List ℕ)) → IfSome o AreRows
 rows_within two None w = tt
 rows_within two (Some rows) w = w
 
-enter_within : (two : Bool) (parts : List Part) → Within (IsStatement two) (Grammar.enter parts)
+enter_within : (two : Bool) (parts : List LinePart) → Within (IsStatement two) (Grammar.enter parts)
 enter_within two [] = tt
 enter_within two (sign b ∷ parts) = tt
 enter_within two (quoted q ∷ parts) = tt
@@ -168,7 +168,7 @@ enter_within two (run r ∷ []) = within_if (IsStatement two) (Grammar.is_name r
 abbrev IsBase : Option ℕ → Type 0
 IsBase base = IfSome base (λ b. b ≤ 1023)
 
-base_within : (parts : List Part) → Within IsBase (Grammar.base parts)
+base_within : (parts : List LinePart) → Within IsBase (Grammar.base parts)
 base_within [] = tt
 base_within (sign b ∷ parts) = tt
 base_within (quoted q ∷ parts) = tt
@@ -178,9 +178,9 @@ base_within (run a ∷ quoted q ∷ parts) = tt
 base_within (run a ∷ run n ∷ p ∷ parts) = tt
 base_within (run a ∷ run n ∷ []) =
     within_if IsBase (bytes_eq a (codes "at")) _
-    (λ e. within_map (λ k. k ≤ 1023) IsBase Some (λ k h. h) (Grammar.number 1023 n) (number_within 1023 n))
+    (λ e. within_map (λ k. k ≤ 1023) IsBase Some (λ k h. h) (Grammar.number_up_to 1023 n) (number_within 1023 n))
 
-segment_within : (two : Bool) (parts : List Part) → Within (IsStatement two) (Grammar.segment parts)
+segment_within : (two : Bool) (parts : List LinePart) → Within (IsStatement two) (Grammar.segment parts)
 segment_within two [] = tt
 segment_within two (sign b ∷ parts) = tt
 segment_within two (quoted q ∷ parts) = tt
@@ -189,7 +189,7 @@ segment_within two (run r ∷ parts) =
     (λ e. within_map IsBase (IsStatement two) (statements.Segment r) (λ base h. (e, h)) (Grammar.base parts)
     (base_within parts))
 
-fetch_within : (two : Bool) (parts : List Part) → Within (IsStatement two) (Grammar.fetch two parts)
+fetch_within : (two : Bool) (parts : List LinePart) → Within (IsStatement two) (Grammar.fetch two parts)
 fetch_within two [] = tt
 fetch_within two (sign b ∷ parts) = tt
 fetch_within two (quoted q ∷ parts) = tt
@@ -201,14 +201,14 @@ fetch_within two (run r ∷ run a ∷ sign b ∷ parts) = tt
 fetch_within two (run r ∷ run a ∷ quoted q ∷ parts) = tt
 fetch_within two (run r ∷ run a ∷ run n ∷ parts) =
     within_if (IsStatement two) (bytes_eq a (codes "as") && (Grammar.is_name r && Grammar.is_name n)) _
-    (λ e. let names = and_both _ _ (and_both _ _ e).1 in
+    (λ e. let names = and_parts _ _ (and_parts _ _ e).1 in
     within_map (All (IsSetting two)) (IsStatement two) (λ ss. statements.Fetch r n (Grammar.array ss))
     (λ ss h. (names.0, (names.1, h)))
-    (Grammar.preset two parts) (preset_within two parts))
+    (Grammar.with_settings two parts) (preset_within two parts))
 
 -- ---- statements by their words
 
-placed_within : (two : Bool) (parts : List Part) → Within (IsPlaced two) (Grammar.placed two parts)
+placed_within : (two : Bool) (parts : List LinePart) → Within (IsPlaced two) (Grammar.placed two parts)
 placed_within two [] = tt
 placed_within two (quoted q ∷ parts) = tt
 placed_within two (sign b ∷ parts) = order_within two b parts
@@ -218,14 +218,14 @@ placed_within two (run w ∷ parts) =
     (λ e. within_else (IsPlaced two) (bytes_eq w (codes "text")) _ _
     (λ f. text_within two (Grammar.string parts) (string_within parts))
     (λ f. within_if (IsPlaced two) (two && bytes_eq w (codes "long")) _
-    (λ g. long_within two (Grammar.integer 17179869184 34359738367 parts) (and_both two _ g).0)))
+    (λ g. long_within two (Grammar.integer 17179869184 34359738367 parts) (and_parts two _ g).0)))
 
 unplaced : (two : Bool) (o : Option (Option Statement)) → Within (IsPlaced two) o → Within (IsStatement two) o
 unplaced two None w = tt
 unplaced two (Some None) w = tt
 unplaced two (Some (Some s)) w = w.1
 
-statement_within : (two : Bool) (parts : List Part) → Within (IsStatement two) (Grammar.statement two parts)
+statement_within : (two : Bool) (parts : List LinePart) → Within (IsStatement two) (Grammar.statement two parts)
 statement_within two [] = tt
 statement_within two (quoted q ∷ parts) = tt
 statement_within two (sign b ∷ parts) = unplaced two _ (placed_within two (sign b ∷ parts))
@@ -242,23 +242,23 @@ statement_within two (run w ∷ parts) =
 abbrev pub IsFormOf : Bool → Form → Type 0
 IsFormOf two f = IsForm two f.label f.statement
 
-unlabelled_within : (two : Bool) (parts : List Part) → Within (IsFormOf two) (Grammar.unlabelled two parts)
+unlabelled_within : (two : Bool) (parts : List LinePart) → Within (IsFormOf two) (Grammar.unlabelled two parts)
 unlabelled_within two parts =
     within_map (IsStatement two) (IsFormOf two) (λ s. record { label = None; statement = Some s }) (λ s h. h)
     (Grammar.statement two parts) (statement_within two parts)
 
-after_label_within : (two : Bool) (r : Text) (parts : List Part) → Grammar.is_place_name two r ≡ true
+after_label_within : (two : Bool) (r : Text) (parts : List LinePart) → Grammar.is_place_name two r ≡ true
     → Within (IsFormOf two) (Grammar.after_label two r parts)
 after_label_within two r [] h = h
 after_label_within two r (p ∷ parts) h =
     within_map (IsPlaced two) (IsFormOf two) (λ s. record { label = Some r; statement = Some s }) (λ s k. (h, k))
     (Grammar.placed two (p ∷ parts)) (placed_within two (p ∷ parts))
 
-labelled_within : (two : Bool) (r : Text) (parts : List Part) → Within (IsFormOf two) (Grammar.labelled two r parts)
+labelled_within : (two : Bool) (r : Text) (parts : List LinePart) → Within (IsFormOf two) (Grammar.labelled two r parts)
 labelled_within two r parts =
     within_if (IsFormOf two) (Grammar.is_place_name two r) _ (λ e. after_label_within two r parts e)
 
-form_within : (two : Bool) (parts : List Part) → Within (IsFormOf two) (Grammar.form two parts)
+form_within : (two : Bool) (parts : List LinePart) → Within (IsFormOf two) (Grammar.form two parts)
 form_within two [] = tt
 form_within two (quoted q ∷ parts) = unlabelled_within two (quoted q ∷ parts)
 form_within two (sign b ∷ parts) = unlabelled_within two (sign b ∷ parts)
@@ -269,7 +269,7 @@ form_within two (run r ∷ sign s ∷ parts) =
     within_else (IsFormOf two) (s == 58) _ _ (λ e. labelled_within two r parts)
     (λ e. unlabelled_within two (run r ∷ sign s ∷ parts))
 
-form_at_within : (two : Bool) (k : ℕ) (parts : List Part) → Within (IsFormOf two) (Grammar.form_at two k parts)
+form_at_within : (two : Bool) (k : ℕ) (parts : List LinePart) → Within (IsFormOf two) (Grammar.form_at two k parts)
 form_at_within two k parts =
     within_else (IsFormOf two) (k == 1 && Grammar.is_version_two parts) _ _ (λ e. tt) (λ e. form_within two parts)
 
@@ -286,7 +286,7 @@ line_within two k line = by_tests (list_all is_line_byte line) (nat_lt 120 (leng
     by_form (Some None) w = tt
     by_form (Some (Some f)) w = w
 
-    by_tests : (bytes long : Bool) (parts : Option (List Part)) → OkWithin (IsFormOf two)
+    by_tests : (bytes long : Bool) (parts : Option (List LinePart)) → OkWithin (IsFormOf two)
         (if not bytes then Err causes.BadByte else if long then Err causes.LongLine
         else or_cause (option_and_then (Grammar.form_at two k) parts))
     by_tests false long parts = tt

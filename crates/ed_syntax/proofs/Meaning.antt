@@ -7,6 +7,7 @@ use Rattle.std.proofs.lemmas.Bool.Decides.{nat_tests}
 use Rattle.std.proofs.lemmas.Int.{ints}
 use Rattle.std.proofs.lemmas.List.Sums.{AllPass-from_list_all}
 use Rattle.std.proofs.lemmas.List.Elements.{All-cons, All-head, All-tail}
+use Rattle.std.proofs.lemmas.Bool.{and_parts}
 use Rattle.ed_syntax.specs.Grammar.{is_name, is_place_name}
 use Rattle.ed_syntax.specs.Programs.{are_rows, is_base, is_form, is_line, is_operand}
 use Rattle.ed_syntax.specs.Programs.{is_setting, is_statement, may_have_label}
@@ -16,7 +17,6 @@ use Rattle.ed_syntax.specs.declared.program.Setting.{Setting}
 use Rattle.ed_syntax.specs.declared.program.Statement.{Statement}
 use Rattle.ed_syntax.specs.declared.program.Statement.TheVariants as statements
 use Rattle.ed_syntax.specs.declared.program.Line.{Line}
-use Rattle.ed_syntax.proofs.NameLemmas.{and_both}
 
 -- a number that an operand adds to a name or takes from it
 pub record IsOffset (plus : ℤ) : Type 0 where
@@ -142,16 +142,16 @@ lines_test two (l ∷ ls) h =
 operand_fact : (two : Bool) (o : Operand) → is_operand two o ≡ true → IsOperand two o
 operand_fact two (operands.Number n) h = grind (arith, nat_tests)
 operand_fact two (operands.Label name plus) h =
-    let parts = and_both (is_place_name two name) (nat_le (unsigned_abs plus) 1023) h in
+    let parts = and_parts (is_place_name two name) (nat_le (unsigned_abs plus) 1023) h in
     let test : nat_le (unsigned_abs plus) 1023 ≡ true = parts.1 in
     let most : unsigned_abs plus ≤ 1023 = grind (arith, nat_tests) in
     (parts.0, record { low = omega (arith, ints, most); high = omega (arith, ints, most) })
-operand_fact two (operands.Two first second minus) h = let parts = and_both _ _ h in (parts.0, and_both _ _ parts.1)
+operand_fact two (operands.Two first second minus) h = let parts = and_parts _ _ h in (parts.0, and_parts _ _ parts.1)
 
 setting_fact : (two : Bool) (s : Setting) → is_setting two s ≡ true → IsSetting two s
 setting_fact two s h =
-    let parts = and_both (nat_le 21 s.letter && nat_le s.letter 26) (is_operand two s.operand) h in
-    let ends = and_both (nat_le 21 s.letter) (nat_le s.letter 26) parts.0 in
+    let parts = and_parts (nat_le 21 s.letter && nat_le s.letter 26) (is_operand two s.operand) h in
+    let ends = and_parts (nat_le 21 s.letter) (nat_le s.letter 26) parts.0 in
     let low : nat_le 21 s.letter ≡ true = ends.0 in
     let high : nat_le s.letter 26 ≡ true = ends.1 in
     record {
@@ -163,7 +163,7 @@ setting_fact two s h =
 settings_fact : (two : Bool) (ss : List Setting) → list_all (is_setting two) ss ≡ true → All (IsSetting two) ss
 settings_fact two [] h = λ k d below. absurd (omega arith)
 settings_fact two (s ∷ ss) h =
-    let parts = and_both _ _ h
+    let parts = and_parts _ _ h
     in All-cons (IsSetting two) s ss (setting_fact two s parts.0) (settings_fact two ss parts.1)
 
 base_fact : (base : Option ℕ) → is_base base ≡ true → IfSome base (λ b. b ≤ 1023)
@@ -172,26 +172,26 @@ base_fact (Some b) h = grind (arith, nat_tests)
 
 rows_fact : (codes : List ℕ) → are_rows codes ≡ true → AreRows codes
 rows_fact codes h =
-    let parts = and_both (nat_le 1 (length codes)) _ h in
+    let parts = and_parts (nat_le 1 (length codes)) _ h in
     let some : nat_le 1 (length codes) ≡ true = parts.0 in
     (grind (arith, nat_tests), parts.1)
 
 pub statement_fact : (two : Bool) (s : Statement) → is_statement two s ≡ true → IsStatement two s
-statement_fact two (statements.Segment name base) h = let parts = and_both _ _ h in (parts.0, base_fact base parts.1)
+statement_fact two (statements.Segment name base) h = let parts = and_parts _ _ h in (parts.0, base_fact base parts.1)
 statement_fact two (statements.Order function operand length) h =
-    let parts = and_both (nat_lt function 32) _ h in
+    let parts = and_parts (nat_lt function 32) _ h in
     let fits : nat_lt function 32 ≡ true = parts.0 in
     (grind (arith, nat_tests), operand_fact two operand parts.1)
 statement_fact two (statements.Number value) h = grind (arith, nat_tests)
 statement_fact two (statements.Text codes) h = rows_fact codes.items h
 statement_fact two (statements.Fetch routine name settings) h =
-    let parts = and_both _ _ h in
-    let rest = and_both _ _ parts.1 in
+    let parts = and_parts _ _ h in
+    let rest = and_parts _ _ parts.1 in
     (parts.0, (rest.0, settings_fact two settings.items rest.1))
 statement_fact two (statements.Enter name) h = h
 statement_fact two (statements.Rows codes) h = rows_fact codes.items h
 statement_fact two (statements.Long value) h =
-    let parts = and_both two (nat_lt value (2 ^ 35)) h in
+    let parts = and_parts two (nat_lt value (2 ^ 35)) h in
     let fits : nat_lt value (2 ^ 35) ≡ true = parts.1 in
     (parts.0, grind (arith, nat_tests))
 
@@ -212,8 +212,8 @@ form_fact two None None h = tt
 form_fact two None (Some s) h = statement_fact two s h
 form_fact two (Some label) None h = h
 form_fact two (Some label) (Some s) h =
-    let parts = and_both _ _ h in
-    let rest = and_both _ _ parts.1 in
+    let parts = and_parts _ _ h in
+    let rest = and_parts _ _ parts.1 in
     (parts.0, (label_fact s rest.0, statement_fact two s rest.1))
 
 -- each line of a program has a form

@@ -3,6 +3,7 @@ use Rattle.std.proofs.Common.{◌≡◌, ℕ, zero, suc, ◌<◌, [], ◌∷◌,
 use Rattle.std.specs.Prelude.{◌==◌, nat_le}
 use Rattle.std.specs.List.{list_all}
 use Rattle.std.specs.Str.{IsAscii}
+use Rattle.std.proofs.lemmas.Bool.{and_parts}
 use Rattle.std.proofs.lemmas.Bool.Decides.{nat_tests}
 use Rattle.std.proofs.lemmas.Str.{IsUtf8-from_ascii}
 use Rattle.ed_words.specs.Texts.{Text}
@@ -10,17 +11,13 @@ use Rattle.ed_syntax.specs.Parts.{is_lower, is_run_byte}
 use Rattle.ed_syntax.specs.Grammar.{is_name, is_local_name, is_place_name}
 use Rattle.ed_syntax.specs.Private.Names.{IsNameText}
 
-pub and_both : (x y : Bool) → (x && y) ≡ true → (x ≡ true) × (y ≡ true)
-and_both true y h = (refl, h)
-and_both false y h = absurd (cc)
-
 run_byte_small : (b : ℕ) → is_run_byte b ≡ true → b < 128
 run_byte_small b h = grind (arith, nat_tests)
 
 run_ascii : (bs : Text) → list_all is_run_byte bs ≡ true → IsAscii bs
 run_ascii [] h i = omega arith
-run_ascii (b ∷ bs) h zero = run_byte_small b (and_both _ _ h).0
-run_ascii (b ∷ bs) h (suc i) = run_ascii bs (and_both _ _ h).1 i
+run_ascii (b ∷ bs) h zero = run_byte_small b (and_parts _ _ h).0
+run_ascii (b ∷ bs) h (suc i) = run_ascii bs (and_parts _ _ h).1 i
 
 -- a byte of a run, and up to 15 more
 run_text : (b : ℕ) (bs : Text) → is_run_byte b ≡ true → nat_le (length bs) 15 ≡ true → list_all is_run_byte bs ≡ true
@@ -42,15 +39,15 @@ under_is_run b h = grind (arith, nat_tests)
 pub name_text : (r : Text) → is_name r ≡ true → IsNameText r
 name_text [] h = absurd (cc)
 name_text (b ∷ bs) h =
-    let parts = and_both _ _ h in
-    let more = and_both _ _ parts.1 in
+    let parts = and_parts _ _ h in
+    let more = and_parts _ _ parts.1 in
     run_text b bs (lower_is_run b parts.0) more.0 more.1
 
 local_text : (r : Text) → is_local_name r ≡ true → IsNameText r
 local_text [] h = absurd (cc)
 local_text (b ∷ bs) h =
-    let parts = and_both _ _ h in
-    let more = and_both _ _ (and_both _ _ parts.1).1 in
+    let parts = and_parts _ _ h in
+    let more = and_parts _ _ (and_parts _ _ parts.1).1 in
     run_text b bs (under_is_run b parts.0) more.0 more.1
 
 pub place_name_text : (two : Bool) (r : Text) → is_place_name two r ≡ true → IsNameText r
@@ -59,4 +56,4 @@ place_name_text two r h = by_name (is_name r) refl
     by_name : (x : Bool) → is_name r ≡ x → IsNameText r
     by_name true e = name_text r e
     by_name false e =
-        let rest : (two && is_local_name r) ≡ true = rw e at h in local_text r (and_both two _ rest).1
+        let rest : (two && is_local_name r) ≡ true = rw e at h in local_text r (and_parts two _ rest).1

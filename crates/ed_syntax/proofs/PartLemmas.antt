@@ -7,7 +7,7 @@ use Rattle.std.proofs.lemmas.Bool.Decides.{Decides-eqb}
 use Rattle.std.proofs.lemmas.List.{append-nil, take-append-drop, drop_more}
 use Rattle.ed_syntax.proofs.Splits.{split_at}
 use Rattle.ed_words.specs.Texts.{Text}
-use Rattle.ed_syntax.specs.Parts.{Part, run, sign, quoted, parts_of, parts_from}
+use Rattle.ed_syntax.specs.Parts.{LinePart, run, sign, quoted, parts_of, parts_from}
 use Rattle.ed_syntax.specs.Parts.{is_blank, is_run_byte, begins_run, with_run_byte}
 use Rattle.std.specs.Prelude.{Result, Ok, Err}
 use Rattle.std.specs.Borrow.{Bor}
@@ -50,12 +50,12 @@ all_head b bs = go (is_run_byte b) (list_all is_run_byte bs)
     go true d e = (refl, e)
     go false d e = absurd (cc)
 
-one_run : (b : ℕ) (rest : Text) (o : Option (List Part)) → begins_run rest ≡ false
+one_run : (b : ℕ) (rest : Text) (o : Option (List LinePart)) → begins_run rest ≡ false
     → option_map (with_run_byte b rest) o ≡ option_map (λ ps. run (b ∷ []) ∷ ps) o
 one_run b rest None e = refl
 one_run b rest (Some ps) e = simp e
 
-more_run : (b c : ℕ) (r rest : Text) (o : Option (List Part)) → is_run_byte c ≡ true
+more_run : (b c : ℕ) (r rest : Text) (o : Option (List LinePart)) → is_run_byte c ≡ true
     → option_map (with_run_byte b ((c ∷ r) ++ rest)) (option_map (λ ps. run (c ∷ r) ∷ ps) o)
     ≡ option_map (λ ps. run (b ∷ c ∷ r) ∷ ps) o
 more_run b c r rest None e = refl
@@ -150,10 +150,10 @@ pub more_parts : (line rest after : Text) (ps : List code.Part) (p : code.Part)
     → parts_of line ≡ option_map (λ t. map part (ps ++ p ∷ []) ++ t) (parts_of after)
 more_parts line rest after ps p e h = e ∙ ap (option_map (λ t. map part ps ++ t)) h ∙ joined (parts_of after)
   where
-    joined : (o : Option (List Part)) → option_map (λ t. map part ps ++ t) (option_map (λ t. part p ∷ t) o)
+    joined : (o : Option (List LinePart)) → option_map (λ t. map part ps ++ t) (option_map (λ t. part p ∷ t) o)
         ≡ option_map (λ t. map part (ps ++ p ∷ []) ++ t) o
     joined None = refl
     joined (Some t) =
         let whole = sym (append_assoc (map part ps) (part p ∷ []) t)
-        ∙ ap (λ (l : List Part). l ++ t) (sym (map-append part ps (p ∷ []))) in
-        ap (λ (l : List Part). Some l) whole
+        ∙ ap (λ (l : List LinePart). l ++ t) (sym (map-append part ps (p ∷ []))) in
+        ap (λ (l : List LinePart). Some l) whole

@@ -8,15 +8,15 @@ use Rattle.std.proofs.lemmas.Bool.Decides.{nat_tests, Decides-eqb}
 use Rattle.std.proofs.lemmas.Int.{ints}
 use Rattle.ed_codes.specs.Spelling.{row_of}
 use Rattle.ed_words.specs.Texts.{Text}
-use Rattle.ed_syntax.specs.Parts.{Part, run, sign, quoted}
+use Rattle.ed_syntax.specs.Parts.{LinePart, run, sign, quoted}
 use Rattle.ed_words.specs.Decimals
 use Rattle.ed_syntax.specs.Grammar
-use Rattle.ed_syntax.proofs.NameLemmas.{and_both}
 use Rattle.ed_syntax.proofs.Meaning.{IsOffset, IsOperand, IsSetting}
 use Rattle.ed_syntax.specs.declared.program.Operand.{Operand}
 use Rattle.ed_syntax.specs.declared.program.Operand.TheVariants as operands
 use Rattle.ed_syntax.specs.declared.program.Setting.{Setting}
 use Rattle.std.proofs.lemmas.List.Elements.{All-cons}
+use Rattle.std.proofs.lemmas.Bool.{and_parts}
 
 -- whatever has the form and is in its range
 abbrev pub Within : {A : Type 0} → (A → Type 0) → Option (Option A) → Type 0
@@ -56,13 +56,13 @@ up_to_within most digits = by_test (nat_le (Decimals.value digits) most) refl
     by_test true e = grind (arith, nat_tests)
     by_test false e = tt
 
-pub number_within : (most : ℕ) (r : Text) → Within (λ n. n ≤ most) (Grammar.number most r)
+pub number_within : (most : ℕ) (r : Text) → Within (λ n. n ≤ most) (Grammar.number_up_to most r)
 number_within most r = within_if (λ n. n ≤ most) (Grammar.is_number r) (Some (Grammar.up_to most r))
     (λ e. up_to_within most r)
 
 -- ---- operands
 
-signed_within : (minus : Bool) (n : ℕ) → n ≤ 1023 → IsOffset (Grammar.signed minus n)
+signed_within : (minus : Bool) (n : ℕ) → n ≤ 1023 → IsOffset (Grammar.with_sign minus n)
 signed_within true n h = record { low = omega (arith, ints); high = omega (arith, ints) }
 signed_within false n h = record { low = omega (arith, ints); high = omega (arith, ints) }
 
@@ -73,14 +73,14 @@ single_within two r =
     (up_to_within 32767 r))
     (λ e. within_if (IsOperand two) (Grammar.is_place_name two r) _ (λ f. (f, signed_within false 0 (omega arith))))
 
-joined_within : (two : Bool) (r : Text) (s : ℕ) (n : Text) → Within (IsOperand two) (Grammar.joined two r s n)
+joined_within : (two : Bool) (r : Text) (s : ℕ) (n : Text) → Within (IsOperand two) (Grammar.joined_operand two r s n)
 joined_within two r s n =
     within_if (IsOperand two) (Grammar.is_place_name two r) _
     (λ e. within_else (IsOperand two) (Grammar.is_number n) _ _
-    (λ f. within_map (λ k. k ≤ 1023) (IsOperand two) (λ k. operands.Label r (Grammar.signed (s == 45) k))
+    (λ f. within_map (λ k. k ≤ 1023) (IsOperand two) (λ k. operands.Label r (Grammar.with_sign (s == 45) k))
     (λ k h. (e, signed_within (s == 45) k h)) (Some (Grammar.up_to 1023 n)) (up_to_within 1023 n))
     (λ f. within_if (IsOperand two) (two && Grammar.is_place_name two n) _
-    (λ g. let both = and_both two _ g in (both.0, (e, both.1)))))
+    (λ g. let both = and_parts two _ g in (both.0, (e, both.1)))))
 
 pub front_rest : {A B : Type 0} (P : A → Type 0) (b : B) (o : Option (Option A)) → Within P o
     → FrontWithin P (option_map (λ a. (a, b)) o)
@@ -94,14 +94,14 @@ pub front_else : {A B : Type 0} (P : A → Type 0) (c : Bool) (o p : Option (Opt
 front_else P true o p h k = h
 front_else P false o p h k = k
 
-joined_front_within : (two : Bool) (r : Text) (s : ℕ) (parts : List Part)
+joined_front_within : (two : Bool) (r : Text) (s : ℕ) (parts : List LinePart)
     → FrontWithin (IsOperand two) (Grammar.joined_front two r s parts)
 joined_front_within two r s [] = tt
 joined_front_within two r s (run n ∷ parts) = front_rest (IsOperand two) parts _ (joined_within two r s n)
 joined_front_within two r s (sign b ∷ parts) = tt
 joined_front_within two r s (quoted q ∷ parts) = tt
 
-pub operand_within : (two : Bool) (parts : List Part) → FrontWithin (IsOperand two) (Grammar.operand two parts)
+pub operand_within : (two : Bool) (parts : List LinePart) → FrontWithin (IsOperand two) (Grammar.operand two parts)
 operand_within two [] = tt
 operand_within two (sign b ∷ parts) = tt
 operand_within two (quoted q ∷ parts) = tt
@@ -161,7 +161,7 @@ letter_within b = by_test (list_any (λ c. c == b) (codes "HNM&LX")) refl
     by_test true e = among (λ c. IfSome (row_of c) IsLetter) (codes "HNM&LX") b each e
     by_test false e = tt
 
-front_setting : (two : Bool) (l : Option ℕ) (o : Option (Option Operand × List Part)) → IfSome l IsLetter
+front_setting : (two : Bool) (l : Option ℕ) (o : Option (Option Operand × List LinePart)) → IfSome l IsLetter
     → FrontWithin (IsOperand two) o
     → FrontWithin (IsSetting two) (option_and_then (λ l. option_map (λ p. (Grammar.lettered l p.0, p.1)) o) l)
 front_setting two None o h w = tt
@@ -169,7 +169,7 @@ front_setting two (Some l) None h w = tt
 front_setting two (Some l) (Some (None, rest)) h w = tt
 front_setting two (Some l) (Some (Some a, rest)) h w = record { low = h.low; high = h.high; operand = w }
 
-pub setting_within : (two : Bool) (parts : List Part) → FrontWithin (IsSetting two) (Grammar.setting two parts)
+pub setting_within : (two : Bool) (parts : List LinePart) → FrontWithin (IsSetting two) (Grammar.setting two parts)
 setting_within two [] = tt
 setting_within two (run r ∷ parts) = tt
 setting_within two (quoted q ∷ parts) = tt
@@ -199,10 +199,10 @@ single_setting : (two : Bool) (s : Option Setting) → IfSome s (IsSetting two)
 single_setting two None h = tt
 single_setting two (Some s) h = all_one two s h
 
-and_more_within : (two : Bool) (s : Option Setting) (parts : List Part)
-    (more : List Part → Option (Option (List Setting)))
+and_more_within : (two : Bool) (s : Option Setting) (parts : List LinePart)
+    (more : List LinePart → Option (Option (List Setting)))
     → IfSome s (IsSetting two)
-    → ((ps : List Part) → Within (All (IsSetting two)) (more ps))
+    → ((ps : List LinePart) → Within (All (IsSetting two)) (more ps))
     → Within (All (IsSetting two)) (Grammar.and_more s parts more)
 and_more_within two s [] more h w = single_setting two s h
 and_more_within two s (run r ∷ parts) more h w = tt
@@ -210,20 +210,22 @@ and_more_within two s (quoted q ∷ parts) more h w = tt
 and_more_within two s (sign c ∷ parts) more h w =
     within_if (All (IsSetting two)) (c == 44) _ (λ e. both_within two s (more parts) h (w parts))
 
-settings_within : (two : Bool) (k : ℕ) (parts : List Part) → Within (All (IsSetting two)) (Grammar.settings two k parts)
+settings_within : (two : Bool) (k : ℕ) (parts : List LinePart)
+    → Within (All (IsSetting two)) (Grammar.settings two k parts)
 unfolding Grammar.settings
 settings_within two zero parts = tt
 settings_within two (suc k) parts =
     by_front (Grammar.setting two parts) (setting_within two parts) (settings_within two k)
   where
-    by_front : (o : Option (Option Setting × List Part)) → FrontWithin (IsSetting two) o
-        → ((ps : List Part) → Within (All (IsSetting two)) (Grammar.settings two k ps))
+    by_front : (o : Option (Option Setting × List LinePart)) → FrontWithin (IsSetting two) o
+        → ((ps : List LinePart) → Within (All (IsSetting two)) (Grammar.settings two k ps))
         → Within (All (IsSetting two)) (option_and_then (λ p. Grammar.and_more p.0 p.1 (Grammar.settings two k)) o)
     by_front None w more = tt
     by_front (Some (None, rest)) w more = and_more_within two None rest (Grammar.settings two k) tt more
     by_front (Some (Some s, rest)) w more = and_more_within two (Some s) rest (Grammar.settings two k) w more
 
-pub preset_within : (two : Bool) (parts : List Part) → Within (All (IsSetting two)) (Grammar.preset two parts)
+pub preset_within : (two : Bool) (parts : List LinePart)
+    → Within (All (IsSetting two)) (Grammar.with_settings two parts)
 preset_within two [] = all_none two
 preset_within two (sign b ∷ parts) = tt
 preset_within two (quoted q ∷ parts) = tt

@@ -12,7 +12,7 @@ use Rattle.ed_codes.specs.Spelling.{row_of}
 use Rattle.arrayvec.specs.ArrayVec.{ArrayVec}
 use Rattle.ed_words.specs.Texts.{Text}
 use Rattle.ed_words.specs.Decimals.{is_digit, value}
-use Rattle.ed_syntax.specs.Parts.{Part, run, sign, quoted, is_lower, is_run_byte}
+use Rattle.ed_syntax.specs.Parts.{LinePart, run, sign, quoted, is_lower, is_run_byte}
 use Rattle.ed_syntax.specs.declared.program.Operand.{Operand}
 use Rattle.ed_syntax.specs.declared.program.Operand.TheVariants as operands
 use Rattle.ed_syntax.specs.declared.program.Setting.{Setting}
@@ -54,17 +54,17 @@ abbrev pub up_to : ℕ → Text → Ranged ℕ
 up_to most digits = if nat_le (value digits) most then Some (value digits) else None
 
 -- a number from 0 to this
-abbrev pub number : ℕ → Text → Option (Ranged ℕ)
-number most r = if is_number r then Some (up_to most r) else None
+abbrev pub number_up_to : ℕ → Text → Option (Ranged ℕ)
+number_up_to most r = if is_number r then Some (up_to most r) else None
 
 -- a number, or its negative
-abbrev pub signed : Bool → ℕ → ℤ
-signed minus n = if minus then neg_ℤ (pos n) else pos n
+abbrev pub with_sign : Bool → ℕ → ℤ
+with_sign minus n = if minus then neg_ℤ (pos n) else pos n
 
 -- a number or, after a minus sign (45), its negative, from -least to most
-abbrev pub integer : ℕ → ℕ → List Part → Option (Ranged ℤ)
-integer least most (run r ∷ []) = made (signed false) (number most r)
-integer least most (sign s ∷ run r ∷ []) = if s == 45 then made (signed true) (number least r) else None
+abbrev pub integer : ℕ → ℕ → List LinePart → Option (Ranged ℤ)
+integer least most (run r ∷ []) = made (with_sign false) (number_up_to most r)
+integer least most (sign s ∷ run r ∷ []) = if s == 45 then made (with_sign true) (number_up_to least r) else None
 integer least most _ = None
 
 -- ---- strings
@@ -85,7 +85,7 @@ string_rows q = if nat_le 1 (length q) && (nat_le (length q) 120 && list_all (λ
     then Some (map (λ b. row (row_of b)) q) else None
 
 -- a string alone
-abbrev pub string : List Part → Option (List ℕ)
+abbrev pub string : List LinePart → Option (List ℕ)
 string (quoted q ∷ []) = string_rows q
 string _ = None
 
@@ -102,24 +102,24 @@ single two r = if is_number r then Some (option_map operands.Number (up_to 32767
     else None
 
 -- an operand that is a name, a sign, and a number or in version 2 a name
-abbrev pub joined : Bool → Text → ℕ → Text → Option (Ranged Operand)
-joined two r s n = if is_place_name two r
-    then (if is_number n then Some (option_map (λ k. operands.Label r (signed (s == 45) k)) (up_to 1023 n))
+abbrev pub joined_operand : Bool → Text → ℕ → Text → Option (Ranged Operand)
+joined_operand two r s n = if is_place_name two r
+    then (if is_number n then Some (option_map (λ k. operands.Label r (with_sign (s == 45) k)) (up_to 1023 n))
     else if two && is_place_name two n then Some (Some (operands.Two r n (s == 45)))
     else None)
     else None
 
 -- an operand, and the parts behind it
-abbrev pub with_rest : List Part → Option (Ranged Operand) → Option (Ranged Operand × List Part)
+abbrev pub with_rest : List LinePart → Option (Ranged Operand) → Option (Ranged Operand × List LinePart)
 with_rest parts o = option_map (λ a. (a, parts)) o
 
 -- after a name and a sign: what the sign joins to it
-abbrev pub joined_front : Bool → Text → ℕ → List Part → Option (Ranged Operand × List Part)
-joined_front two r s (run n ∷ parts) = with_rest parts (joined two r s n)
+abbrev pub joined_front : Bool → Text → ℕ → List LinePart → Option (Ranged Operand × List LinePart)
+joined_front two r s (run n ∷ parts) = with_rest parts (joined_operand two r s n)
 joined_front two r s _ = None
 
 -- an operand at the front, and the parts behind it
-abbrev pub operand : Bool → List Part → Option (Ranged Operand × List Part)
+abbrev pub operand : Bool → List LinePart → Option (Ranged Operand × List LinePart)
 operand two (run r ∷ sign s ∷ parts) =
     if is_plus_or_minus s then joined_front two r s parts else with_rest (sign s ∷ parts) (single two r)
 operand two (run r ∷ parts) = with_rest parts (single two r)
@@ -136,17 +136,17 @@ abbrev pub length_of : ℕ → Option Bool
 length_of b = if b == 70 then Some false else if b == 68 then Some true else None
 
 -- the length at the end of an order
-abbrev pub length_end : List Part → Option Bool
+abbrev pub length_end : List LinePart → Option Bool
 length_end (sign e ∷ []) = length_of e
 length_end _ = None
 
 -- what follows the function: an operand, which may be missing and is the number 0 then, and the length
-abbrev pub order_end : Bool → List Part → Option (Ranged Operand × Bool)
+abbrev pub order_end : Bool → List LinePart → Option (Ranged Operand × Bool)
 order_end two (sign e ∷ parts) = option_map (λ l. (Some (operands.Number 0), l)) (length_end (sign e ∷ parts))
 order_end two parts = option_and_then (λ p. option_map (λ l. (p.0, l)) (length_end p.1)) (operand two parts)
 
 -- an order: a function, an operand that may be missing, and F or D
-abbrev pub order : Bool → ℕ → List Part → Option (Ranged Statement)
+abbrev pub order : Bool → ℕ → List LinePart → Option (Ranged Statement)
 order two b parts =
     option_and_then (λ f. option_map (λ p. option_map (λ o. statements.Order f o p.1) p.0) (order_end two parts))
     (function b)
@@ -162,7 +162,7 @@ abbrev pub lettered : ℕ → Ranged Operand → Ranged Setting
 lettered l o = option_map (λ a. record { letter = l; operand = a }) o
 
 -- a setting at the front, and the parts behind it: a letter, `=` (61) and an operand
-abbrev pub setting : Bool → List Part → Option (Ranged Setting × List Part)
+abbrev pub setting : Bool → List LinePart → Option (Ranged Setting × List LinePart)
 setting two (sign b ∷ sign e ∷ parts) = if e == 61
     then option_and_then (λ l. option_map (λ p. (lettered l p.0, p.1)) (operand two parts)) (setting_letter b)
     else None
@@ -174,22 +174,22 @@ both (Some s) (Some more) = Some (s ∷ more)
 both _ _ = None
 
 -- behind a setting: nothing, or a comma (44) and more settings
-abbrev pub and_more : Ranged Setting → List Part → (List Part → Option (Ranged (List Setting)))
+abbrev pub and_more : Ranged Setting → List LinePart → (List LinePart → Option (Ranged (List Setting)))
     → Option (Ranged (List Setting))
 and_more s [] more = Some (option_map (λ a. a ∷ []) s)
 and_more s (sign c ∷ parts) more = if c == 44 then option_map (both s) (more parts) else None
 and_more s _ more = None
 
 -- one to k settings with commas between
-unfoldable pub settings : Bool → ℕ → List Part → Option (Ranged (List Setting))
+unfoldable pub settings : Bool → ℕ → List LinePart → Option (Ranged (List Setting))
 settings two zero parts = None
 settings two (suc k) parts = option_and_then (λ p. and_more p.0 p.1 (settings two k)) (setting two parts)
 
 -- nothing, or `with` and one to six settings
-abbrev pub preset : Bool → List Part → Option (Ranged (List Setting))
-preset two [] = Some (Some [])
-preset two (run w ∷ parts) = if bytes_eq w (codes "with") then settings two 6 parts else None
-preset two _ = None
+abbrev pub with_settings : Bool → List LinePart → Option (Ranged (List Setting))
+with_settings two [] = Some (Some [])
+with_settings two (run w ∷ parts) = if bytes_eq w (codes "with") then settings two 6 parts else None
+with_settings two _ = None
 
 -- ---- statements
 
@@ -202,45 +202,45 @@ abbrev pub modulo : ℕ → ℤ → ℕ
 modulo k z = unsigned_abs (int_rem_euclid z (pos (2 ^ k)))
 
 -- `word N` or `word -N`: N modulo 2^17
-abbrev pub word : List Part → Option (Ranged Statement)
+abbrev pub word : List LinePart → Option (Ranged Statement)
 word parts = made (λ z. statements.Number (modulo 17 z)) (integer 65536 131071 parts)
 
 -- `long N` or `long -N`: N modulo 2^35
-abbrev pub long : List Part → Option (Ranged Statement)
+abbrev pub long : List LinePart → Option (Ranged Statement)
 long parts = made (λ z. statements.Long (modulo 35 z)) (integer 17179869184 34359738367 parts)
 
 -- `text STRING`
-abbrev pub text : List Part → Option (Ranged Statement)
+abbrev pub text : List LinePart → Option (Ranged Statement)
 text parts = option_map (λ rows. Some (statements.Text (array rows))) (string parts)
 
 -- `data STRING`
-abbrev pub tape_rows : List Part → Option (Ranged Statement)
-tape_rows parts = option_map (λ rows. Some (statements.Rows (array rows))) (string parts)
+abbrev pub data_statement : List LinePart → Option (Ranged Statement)
+data_statement parts = option_map (λ rows. Some (statements.Rows (array rows))) (string parts)
 
 -- `enter NAME`
-abbrev pub enter : List Part → Option (Ranged Statement)
+abbrev pub enter : List LinePart → Option (Ranged Statement)
 enter (run r ∷ []) = if is_name r then Some (Some (statements.Enter r)) else None
 enter _ = None
 
 -- nothing, or `at N`
-abbrev pub base : List Part → Option (Ranged (Option ℕ))
+abbrev pub base : List LinePart → Option (Ranged (Option ℕ))
 base [] = Some (Some None)
-base (run a ∷ run n ∷ []) = if bytes_eq a (codes "at") then made Some (number 1023 n) else None
+base (run a ∷ run n ∷ []) = if bytes_eq a (codes "at") then made Some (number_up_to 1023 n) else None
 base _ = None
 
 -- `segment NAME` or `segment NAME at N`
-abbrev pub segment : List Part → Option (Ranged Statement)
+abbrev pub segment : List LinePart → Option (Ranged Statement)
 segment (run r ∷ parts) = if is_name r then made (statements.Segment r) (base parts) else None
 segment _ = None
 
 -- `use NAME as NAME`, or that followed by `with` and settings
-abbrev pub fetch : Bool → List Part → Option (Ranged Statement)
+abbrev pub fetch : Bool → List LinePart → Option (Ranged Statement)
 fetch two (run r ∷ run a ∷ run n ∷ parts) = if bytes_eq a (codes "as") && (is_name r && is_name n)
-    then made (λ ss. statements.Fetch r n (array ss)) (preset two parts) else None
+    then made (λ ss. statements.Fetch r n (array ss)) (with_settings two parts) else None
 fetch two _ = None
 
 -- a statement that may have a label: an order, `word`, `text` or, in version 2, `long`
-abbrev pub placed : Bool → List Part → Option (Ranged Statement)
+abbrev pub placed : Bool → List LinePart → Option (Ranged Statement)
 placed two (sign b ∷ parts) = order two b parts
 placed two (run w ∷ parts) = if bytes_eq w (codes "word") then word parts
     else if bytes_eq w (codes "text") then text parts
@@ -249,11 +249,11 @@ placed two (run w ∷ parts) = if bytes_eq w (codes "word") then word parts
 placed two _ = None
 
 -- any statement: `segment`, `use`, `enter`, `data` or one that may have a label
-abbrev pub statement : Bool → List Part → Option (Ranged Statement)
+abbrev pub statement : Bool → List LinePart → Option (Ranged Statement)
 statement two (run w ∷ parts) = if bytes_eq w (codes "segment") then segment parts
     else if bytes_eq w (codes "use") then fetch two parts
     else if bytes_eq w (codes "enter") then enter parts
-    else if bytes_eq w (codes "data") then tape_rows parts
+    else if bytes_eq w (codes "data") then data_statement parts
     else placed two (run w ∷ parts)
 statement two parts = placed two parts
 
@@ -264,29 +264,29 @@ abbrev pub empty : Form
 empty = record { label = None; statement = None }
 
 -- a statement alone
-abbrev pub unlabelled : Bool → List Part → Option (Ranged Form)
+abbrev pub unlabelled : Bool → List LinePart → Option (Ranged Form)
 unlabelled two parts = made (λ s. record { label = None; statement = Some s }) (statement two parts)
 
 -- what follows a label: nothing, or a statement that may have one
-abbrev pub after_label : Bool → Text → List Part → Option (Ranged Form)
+abbrev pub after_label : Bool → Text → List LinePart → Option (Ranged Form)
 after_label two r [] = Some (Some (record { label = Some r; statement = None }))
 after_label two r parts = made (λ s. record { label = Some r; statement = Some s }) (placed two parts)
 
 -- a line that begins with a label
-abbrev pub labelled : Bool → Text → List Part → Option (Ranged Form)
+abbrev pub labelled : Bool → Text → List LinePart → Option (Ranged Form)
 labelled two r parts = if is_place_name two r then after_label two r parts else None
 
 -- a line: empty, or a label, a statement, or both; a colon (58) follows a label
-abbrev pub form : Bool → List Part → Option (Ranged Form)
+abbrev pub form : Bool → List LinePart → Option (Ranged Form)
 form two [] = Some (Some empty)
 form two (run r ∷ sign s ∷ parts) = if s == 58 then labelled two r parts else unlabelled two (run r ∷ sign s ∷ parts)
 form two parts = unlabelled two parts
 
 -- `version 2`, which may stand on line 1 alone
-abbrev pub is_version_two : List Part → Bool
+abbrev pub is_version_two : List LinePart → Bool
 is_version_two (run w ∷ run n ∷ []) = bytes_eq w (codes "version") && (is_number n && value n == 2)
 is_version_two _ = false
 
 -- the line with the number k: `version 2` as line 1 is otherwise an empty line
-abbrev pub form_at : Bool → ℕ → List Part → Option (Ranged Form)
+abbrev pub form_at : Bool → ℕ → List LinePart → Option (Ranged Form)
 form_at two k parts = if k == 1 && is_version_two parts then Some (Some empty) else form two parts

@@ -7,10 +7,10 @@ use Rattle.ed_words.specs.Texts.{Text}
 
 -- a run of lower-case letters, digits and `_`, which is a name, a number or a word of the forms; any other byte, as a
 -- function, a letter or a sign; the bytes between two quotes
-pub data Part : Type 0 where
-  run : Text → Part
-  sign : ℕ → Part
-  quoted : Text → Part
+pub data LinePart : Type 0 where
+  run : Text → LinePart
+  sign : ℕ → LinePart
+  quoted : Text → LinePart
 
 -- a lower-case letter
 abbrev pub is_lower : ℕ → Bool
@@ -30,16 +30,16 @@ begins_run [] = false
 begins_run (b ∷ bs) = is_run_byte b
 
 -- the first part, which is a run, with a byte more at its front
-abbrev pub longer : ℕ → List Part → List Part
+abbrev pub longer : ℕ → List LinePart → List LinePart
 longer b (run r ∷ parts) = run (b ∷ r) ∷ parts
 longer b parts = run (b ∷ []) ∷ parts
 
 -- a byte of a run belongs to the run that begins behind it
-abbrev pub with_run_byte : ℕ → Text → List Part → List Part
+abbrev pub with_run_byte : ℕ → Text → List LinePart → List LinePart
 with_run_byte b after parts = if begins_run after then longer b parts else run (b ∷ []) ∷ parts
 
 -- the parts of what stands outside quotes (None), or after a quote and some bytes; none where a quote stays open
-abbrev pub parts_from : Option Text → Text → Option (List Part)
+abbrev pub parts_from : Option Text → Text → Option (List LinePart)
 parts_from None [] = Some []
 parts_from None (b ∷ bs) = if b == 59 then Some []
     else if b == 34 then parts_from (Some []) bs
@@ -51,5 +51,5 @@ parts_from (Some q) (b ∷ bs) = if b == 34 then option_map (λ ps. quoted q ∷
     else parts_from (Some (q ++ b ∷ [])) bs
 
 -- the parts of a line; none where a quote stays open
-abbrev pub parts_of : Text → Option (List Part)
+abbrev pub parts_of : Text → Option (List LinePart)
 parts_of = parts_from None

@@ -5,7 +5,7 @@ use Rattle.std.specs.Prelude.{Option, Some, None, Result, Ok, Err, option_and_th
 use Rattle.std.specs.List.{list_all}
 use Rattle.ed_words.specs.Texts.{Text}
 use Rattle.ed_syntax.specs.Lines.{lines_of}
-use Rattle.ed_syntax.specs.Parts.{Part, parts_of}
+use Rattle.ed_syntax.specs.Parts.{LinePart, parts_of}
 use Rattle.ed_syntax.specs.Grammar.{Ranged, form_at, is_version_two}
 use Rattle.ed_syntax.specs.declared.program.Form.{Form}
 use Rattle.ed_syntax.specs.declared.program.Line.{Line}
@@ -51,7 +51,7 @@ lines_from two k (line ∷ rest) = if k == 2001 then Err (record { line = k; cau
     else and_lines k (line_of two k line) (lines_from two (k + 1) rest)
 
 -- whether a line has the form `version 2`
-abbrev pub says_two : Option (List Part) → Bool
+abbrev pub says_two : Option (List LinePart) → Bool
 says_two None = false
 says_two (Some parts) = is_version_two parts
 

@@ -2,8 +2,8 @@
 ghost use Rattle.std.specs.Prelude.{◌≡◌, ◌+◌, ◌≤◌, ◌∷◌, ◌==◌, ◌<◌, ◌^◌, length, map, option_map, IfSome};
 ghost use Rattle.std.specs.Borrow.{Bor};
 ghost use Rattle.std.specs.List.{list_any};
-ghost use Rattle.ed_syntax.specs.Grammar.{and_more, array, both, joined, operand, preset, setting};
-ghost use Rattle.ed_syntax.specs.Grammar.{setting_letter, settings, signed, single};
+ghost use Rattle.ed_syntax.specs.Grammar.{and_more, array, both, joined_operand, operand, with_settings, setting};
+ghost use Rattle.ed_syntax.specs.Grammar.{setting_letter, settings, with_sign, single};
 ghost use Rattle.ed_syntax.specs.Parts.{sign};
 ghost use Rattle.ed_syntax.specs.Private.Seen.{part};
 
@@ -30,7 +30,7 @@ fn single(two: bool, run: &[u8]) -> Option<Option<Operand>>
 /// A number behind a sign.
 fn signed(minus: bool, number: u64) -> i32
     requires { number ≤ 1023 }
-    ensures { result ≡ signed minus number }
+    ensures { result ≡ with_sign minus number }
 {
     if minus {
         -(number as i32)
@@ -41,7 +41,7 @@ fn signed(minus: bool, number: u64) -> i32
 
 /// An operand that is a name, a sign, and a number or in version 2 a name.
 fn joined(two: bool, run: &[u8], sign: u8, more: &[u8]) -> Option<Option<Operand>>
-    ensures { result ≡ joined two run.now sign more.now }
+    ensures { result ≡ joined_operand two run.now sign more.now }
 {
     let first = place_name(two, run)?;
     let minus = sign == b'-';
@@ -190,7 +190,7 @@ fn both(
 
 /// Nothing, or `with` and one to six settings.
 pub(crate) fn preset(two: bool, parts: &[Part]) -> Option<Option<ArrayVec<Setting, 6>>>
-    ensures { result ≡ option_map (option_map array) (preset two (map part parts.now)) }
+    ensures { result ≡ option_map (option_map array) (with_settings two (map part parts.now)) }
 {
     match parts.split_first() {
         None => Some(Some(ArrayVec::new())),

@@ -5,7 +5,7 @@ ghost use Rattle.ed_syntax.specs.Grammar.{base, enter, fetch, form, form_at, fun
 ghost use Rattle.ed_syntax.specs.Grammar.{is_version_two, labelled, length_end};
 ghost use Rattle.ed_syntax.specs.Grammar.{long, order, order_end, placed, segment};
 ghost use Rattle.ed_words.specs.Decimals.{value};
-ghost use Rattle.ed_syntax.specs.Grammar.{statement, tape_rows, unlabelled, word};
+ghost use Rattle.ed_syntax.specs.Grammar.{statement, data_statement, unlabelled, word};
 ghost use Rattle.ed_syntax.specs.Grammar as grammar;
 ghost use Rattle.ed_syntax.specs.Parts.{run, sign};
 ghost use Rattle.ed_syntax.specs.Private.Seen.{part};
@@ -111,7 +111,7 @@ fn text(parts: &[Part]) -> Option<Option<Statement>>
 
 /// What follows `data`.
 fn tape_rows(parts: &[Part]) -> Option<Option<Statement>>
-    ensures { result ≡ tape_rows (map part parts.now) }
+    ensures { result ≡ data_statement (map part parts.now) }
 {
     let codes = string(parts)?;
     Some(Some(Statement::Rows { codes }))

@@ -5,8 +5,8 @@ ghost use Rattle.std.specs.List.{list_all};
 ghost use Rattle.std.specs.Str.{bytes_eq};
 ghost use Rattle.ed_codes.specs.Spelling.{row_of};
 ghost use Rattle.ed_syntax.specs.Grammar.{array, integer, is_local_name, is_name};
-ghost use Rattle.ed_syntax.specs.Grammar.{is_number, is_place_name, number, row};
-ghost use Rattle.ed_syntax.specs.Grammar.{signed, spells, string, string_rows, up_to};
+ghost use Rattle.ed_syntax.specs.Grammar.{is_number, is_place_name, number_up_to, row};
+ghost use Rattle.ed_syntax.specs.Grammar.{with_sign, spells, string, string_rows, up_to};
 ghost use Rattle.ed_syntax.specs.Private.Names.{IsNameText};
 ghost use Rattle.ed_words.specs.Decimals.{is_digit};
 ghost use Rattle.ed_syntax.specs.Parts.{is_run_byte};
@@ -127,7 +127,7 @@ pub(crate) fn up_to(most: u64, digits: &[u8]) -> Option<u64>
 /// A number from 0 to this.
 pub(crate) fn number(most: u64, run: &[u8]) -> Option<Option<u64>>
     requires { most < 2 ^ 36 }
-    ensures is { result ≡ number most run.now }
+    ensures is { result ≡ number_up_to most run.now }
     ensures within { IfSome result (λ n. IfSome n (λ k. k < 2 ^ 36)) }
 {
     if is_number(run) {
@@ -153,7 +153,7 @@ pub(crate) fn integer(least: u64, most: u64, parts: &[Part]) -> Option<Option<i6
 /// A number that was found, or its negative.
 fn signed(minus: bool, found: Option<Option<u64>>) -> Option<Option<i64>>
     requires { IfSome found (λ n. IfSome n (λ k. k < 2 ^ 36)) }
-    ensures { result ≡ option_map (option_map (signed minus)) found }
+    ensures { result ≡ option_map (option_map (with_sign minus)) found }
 {
     match found {
         Some(Some(number)) if minus => Some(Some(-(number as i64))),

@@ -11,10 +11,10 @@ use Rattle.ed_symbols.specs.declared.homes.Home.{Home}
 use Rattle.ed_symbols.specs.Places.{first_spot}
 use Rattle.ed_link.specs.declared.building.Built.{Built}
 use Rattle.ed_link.specs.declared.linked.Linked.{Linked}
-use Rattle.ed_link.specs.Answers.{IsFaultOf}
-use Rattle.ed_link.specs.Linked.{after, entry_from, placed_from}
+use Rattle.ed_link.specs.Answers.{IsMeaningFault}
+use Rattle.ed_link.specs.Linked.{data_behind, entry_from, placed_from}
 use Rattle.ed_link.specs.Punch.{punched_from, routine_items}
-use Rattle.ed_link.specs.Faults.{Past, fault_from}
+use Rattle.ed_link.specs.Faults.{LinesBefore, fault_from}
 use Rattle.ed_link.specs.Tables.{table_of, words_from}
 use Rattle.ed_link.specs.Labels.{labels}
 
@@ -26,7 +26,7 @@ IsFew (Some (Fetch routine name ts)) = length (routine_items (find routine)) ≤
 IsFew st = Unit {0}
 
 -- before the first line
-abbrev pub first_past : Past
+abbrev pub first_past : LinesBefore
 first_past = record { runs = []; entered = false }
 
 -- what is made of lines that have none of the faults S9 to S17
@@ -37,14 +37,14 @@ pub record IsBuilt (z : Size) (homes : List Home) (any : Bool) (lines : List Lin
   pub table : b.table.items ≡ table_of (placed_from homes first_spot lines)
   pub size : length b.table.items ≡ 1024
   pub entry : unwrap_or b.entry 0 ≡ entry_from homes lines
-  pub after : b.after.items ≡ after lines
+  pub after : b.after.items ≡ data_behind lines
   pub few_items : length b.items.items ≤ 480000
   pub few_rows : length b.after.items ≤ 240000
 
 -- the lines are built, or their fault is told
 abbrev pub BuildIs : Size → List Home → Bool → List Line → Result Built SourceFault → Type 0
 BuildIs z homes any lines (Ok b) = IsBuilt z homes any lines b
-BuildIs z homes any lines (Err e) = IsFaultOf (fault_from z homes any first_past first_spot lines) e
+BuildIs z homes any lines (Err e) = IsMeaningFault (fault_from z homes any first_past first_spot lines) e
 
 -- a linked program is what was made of the lines
 pub record IsFinished (homes : List Home) (b : Built) (k : Linked) : Type 0 where

@@ -22,6 +22,6 @@ pub record TakesLine (text line rest : Text) : Type 0 where
   pub shorter : length rest < length text
 
 -- lines in front of others
-abbrev pub with_front : List Line → Result (List Line) Fault → Result (List Line) Fault
-with_front xs (Ok ys) = Ok (xs ++ ys)
-with_front xs (Err e) = Err e
+abbrev pub with_lines_before : List Line → Result (List Line) Fault → Result (List Line) Fault
+with_lines_before xs (Ok ys) = Ok (xs ++ ys)
+with_lines_before xs (Err e) = Err e

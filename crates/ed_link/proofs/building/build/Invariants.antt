@@ -3,7 +3,8 @@ use Rattle.ed_link.proofs.building.build.Given as goal
 
 -- what is made of the lines so far, and then of those that are left
 abbrev pub invariant-loop-line : goal.invariant-loop-line
-invariant-loop-line l =
-    Doing l.size l.homes l.any l.lines l.line-index (record { runs = l.past.runs.items; entered = l.past.entered })
-    l.spot l.built.items.items
-    l.built.table.items l.built.entry l.built.after.items
+invariant-loop-line l = Doing l.size l.homes l.any l.lines l.line-index (record {
+  past = record { runs = l.past.runs.items; entered = l.past.entered };
+  spot = l.spot;
+  built = l.built;
+})

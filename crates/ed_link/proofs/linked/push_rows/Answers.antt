@@ -6,8 +6,7 @@ use Rattle.ed_link.proofs.linked.push_rows.Goals as goal
 pub loop-row-preserved : goal.loop-row-preserved
 loop-row-preserved c = (
   grind (arith, common_steps),
-  λ s. c.loop-row.invariant.1 (one_spells c.args.rows.now c.loop-row.row-index c.row-item.result c.byte_of.result
-      c.loop-row-test.true c.row-item.is
+  λ s. c.loop-row.invariant.1 (one_spells c.args.rows.now c.loop-row.row-index c.loop-row-test.true c.row-item.is
       c.byte_of.ensures.is c.byte_of.ensures.back s),
 )
 

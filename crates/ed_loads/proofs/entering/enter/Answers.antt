@@ -8,10 +8,7 @@ pub returns-in_err-machine-clause-law : goal.returns-in_err-machine-clause-law
 returns-in_err-machine-clause-law c = each_source
 
 pub returns-clause-entry : goal.returns-clause-entry
-returns-clause-entry c = λ lines is.
-    loaded c.args.size lines c.args.linked.now c.in_ok-rows.field-0.items c.in_ok-machine.machine _ c.load.result is
-    c.in_ok-machine.ensures.is
-    c.in_ok-rows.ensures.is c.load.ensures.loads
+returns-clause-entry c = λ lines is. loaded is c.in_ok-machine.ensures.is c.in_ok-rows.ensures.is c.load.ensures.loads
 
 pub returns-clause-law : goal.returns-clause-law
 returns-clause-law c = each_source

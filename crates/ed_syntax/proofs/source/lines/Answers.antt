@@ -1,4 +1,4 @@
-use Rattle.std.proofs.Common.{rules, ◌≡◌, ◌++◌, ◌∷◌, [], false, arith}
+use Rattle.std.proofs.Common.{rules, ◌≡◌, ◌∙◌, ◌++◌, ◌∷◌, [], false, arith}
 use Rattle.std.specs.Prelude.{◌==◌, Ok}
 use Rattle.ed_syntax.specs.Lines.{lines_of}
 use Rattle.ed_syntax.specs.Sources.{line_of}
@@ -15,8 +15,7 @@ loop-rest-preserved c =
     let grown : c.push.new.self.items ≡ here.found.items ++ numbered here.number form ∷ [] = search rules in
     let says : line_of c.args.two here.number line.0.now ≡ Ok form = search rules in
     record {
-      same = rw grown (program_step c.args.two (lines_of c.args.text.now) here.rest.now line.0.now line.1.now
-          here.number here.found.items
-          here.invariant.same c.split_line.ensures.lines form more says);
+      same = rw grown (here.invariant.same ∙ program_step c.args.two here.number (lines_of here.rest.now)
+          here.found.items c.split_line.ensures.lines more says);
       number = omega arith;
     }
