@@ -1,6 +1,6 @@
 -- The routine obeys the guest order by order.
 use Rattle.std.proofs.Common.{◌≡◌, ℕ, zero, suc, ◌+◌, ◌%◌, ◌^◌, ◌<◌, refl, sym, ap, ◌∙◌, subst, arith, lit<}
-use Rattle.std.proofs.Common.{Bool, true, false, nat_lt, nat_le, [], ◌∷◌, ◌++◌, Option, Some, inl, inr}
+use Rattle.std.proofs.Common.{Bool, true, false, nat_lt, nat_le, ◌∷◌, ◌++◌, Option, Some, inl, inr}
 use Rattle.std.proofs.lemmas.Bool.{cases_eq}
 use Rattle.ed_words.specs.Sizes.{within}
 use Rattle.ed_words.specs.Words.{function_of, address_of}
@@ -9,11 +9,11 @@ use Rattle.ed_orders.specs.Kinds.{kind_of_function}
 use Rattle.ed_orders.specs.declared.kind.Kind.{Kind}
 use Rattle.ed_orders.specs.declared.kind.Kind.TheVariants.{E, G}
 use Rattle.ed_machine.specs.State.{State}
-use Rattle.ed_machine.specs.OrderTable.{Obeyed, step, next_word, obey_word, jumped, place_of}
+use Rattle.ed_machine.specs.OrderTable.{Obeyed, step, next_word, obey_word, jumped, place_of, after, done_at}
 use Rattle.ed_machine.specs.Steps.{Past, past, state_after, codes_of, stops_of, is_obeyed}
-use Rattle.ed_machine.specs.declared.turn.Turn.TheVariants.{Stopped}
-use Rattle.ed_checker.specs.Checker.{IsOutside, IsAllowed, IsAllowedOrder, Agree, guest, checked_codes}
-use Rattle.ed_checker.proofs.Alike.{Alike, is_planted, planted}
+use Rattle.ed_machine.specs.declared.turn.Turn.TheVariants.{Went, Stopped}
+use Rattle.ed_checker.specs.Checker.{IsOutsideChecker, IsAllowed, IsAllowedOrder, Agree, guest, checked_codes}
+use Rattle.ed_checker.proofs.Alike.{Alike, agree_with, is_planted, planted}
 use Rattle.ed_machine.specs.Sound.{IsSound}
 use Rattle.ed_machine.proofs.SoundSteps.{sound_after}
 use Rattle.ed_checker.specs.Laws.{IsFollowed, Checked, ChecksToStop, HasGuest, CheckerLaw}
@@ -32,8 +32,8 @@ agree_self base s = record {
   tape = refl;
 }
 
-agree_trans : (base : ℕ) (s t u : State) → Agree base s t → Agree base t u → Agree base s u
-agree_trans base s t u p q = record {
+agree_trans : {base : ℕ} {s t u : State} → Agree base s t → Agree base t u → Agree base s u
+agree_trans p q = record {
   size = p.size ∙ q.size;
   words = λ a i. p.words a i ∙ q.words a i;
   digits = λ a i. p.digits a i ∙ q.digits a i;
@@ -44,7 +44,7 @@ agree_trans base s t u p q = record {
 }
 
 -- two guests that agree, of which the second is allowed its next order
-module _ (base : ℕ) (even_base : base % 2 ≡ 0) (s t : State) (p : Agree base s t) (ok : IsAllowed base t) where
+module _ {base : ℕ} (even_base : base % 2 ≡ 0) {s t : State} (p : Agree base s t) (ok : IsAllowed base t) where
   same_word : next_word s ≡ next_word t
   same_word = ap (short_at s.store) p.counter ∙ p.words t.counter ok.outside
 
@@ -55,7 +55,7 @@ module _ (base : ℕ) (even_base : base % 2 ≡ 0) (s t : State) (p : Agree base
       subst (λ w. IsAllowedOrder (kind_of_function (function_of w)) base w s.size) (sym same_word)
       (subst (λ z. IsAllowedOrder (kind_of_function (function_of x)) base x z) (sym p.size) ok.order) in
       record {
-        outside = subst (IsOutside base) (sym p.counter) ok.outside;
+        outside = subst (IsOutsideChecker base) (sym p.counter) ok.outside;
         next = rw (p.counter, p.size) ok.next;
         order = order;
       }
@@ -76,31 +76,25 @@ module _ (base : ℕ) (even_base : base % 2 ≡ 0) (s t : State) (p : Agree base
     turn : a.turn ≡ b.turn
     agree : Agree base a.state b.state
 
+  -- both go on at the same place
+  both_moved : {n m : ℕ} → n ≡ m
+      → Both (record { state = done_at n s; turn = Went }) (record { state = done_at m t; turn = Went })
+  both_moved e = record {
+    turn = refl;
+    agree = record {
+      size = p.size;
+      words = p.words;
+      digits = p.digits;
+      acc = p.acc;
+      multiplier = p.multiplier;
+      counter = e;
+      tape = p.tape;
+    };
+  }
+
   both_jump : (b : Bool) (j : ℕ) → Both (jumped b j s) (jumped b j t)
-  both_jump true j = record {
-    turn = refl;
-    agree = record {
-      size = p.size;
-      words = p.words;
-      digits = p.digits;
-      acc = p.acc;
-      multiplier = p.multiplier;
-      counter = refl;
-      tape = p.tape;
-    };
-  }
-  both_jump false j = record {
-    turn = refl;
-    agree = record {
-      size = p.size;
-      words = p.words;
-      digits = p.digits;
-      acc = p.acc;
-      multiplier = p.multiplier;
-      counter = λ i. within (p.size i) (p.counter i + 1);
-      tape = p.tape;
-    };
-  }
+  both_jump true j = both_moved refl
+  both_jump false j = both_moved (λ i. within (p.size i) (p.counter i + 1))
 
   place : place_of s x ≡ place_of t x
   place = ap (λ z. within z (address_of x)) p.size
@@ -129,21 +123,13 @@ module _ (base : ℕ) (even_base : base % 2 ≡ 0) (s t : State) (p : Agree base
     both_planted : is_planted (kind_of_function (function_of x)) ≡ true → is_obeyed (step t).turn ≡ true
         → Both (obey_word (kind_of_function (function_of x)) x s) (obey_word (kind_of_function (function_of x)) x t)
     both_planted may h =
-        let o = planted base even_base s t alike (kind_of_function (function_of x)) x may allowed.order in
+        let o = planted even_base alike (kind_of_function (function_of x)) x may allowed.order in
         let went = ap is_obeyed (o.turn
         ∙ ap (λ (y : Obeyed). y.turn) (sym (at_t (kind_of_function (function_of x)) refl))) ∙ h in
-        let q = o.alike in
+        let next : after s ≡ after t = λ i. within (p.size i) (p.counter i + 1) in
         record {
           turn = o.turn;
-          agree = record {
-            size = q.size;
-            words = q.words;
-            digits = q.digits;
-            acc = q.acc;
-            multiplier = q.multiplier;
-            counter = o.counter went ∙ (λ i. within (p.size i) (p.counter i + 1)) ∙ sym (o.other_counter went);
-            tape = q.tape;
-          };
+          agree = agree_with o.alike o.alike.acc (o.counter went ∙ next ∙ sym (o.other_counter went));
         }
 
     by_step : (k : Option Kind) → kind_of_function (function_of x) ≡ k → Both (obey_word k x s) (obey_word k x t)
@@ -205,23 +191,23 @@ module _ (base : ℕ) (m : State) (has : HasGuest base m) where
       let a = c.last in
       let a_sound : IsSound a = after_sound q c in
       let g_sound : IsSound gq = sound_after q g (guest_sound base m has first) in
-      let b = steps base has.even (guest base a) gq c.agree ok a_sound.store g_sound.store obeyed in
-      let word : next_word (guest base a) ≡ next_word gq = same_word base has.even (guest base a) gq c.agree ok in
+      let b = steps has.even c.agree ok a_sound.store g_sound.store obeyed in
+      let word : next_word (guest base a) ≡ next_word gq = same_word has.even c.agree ok in
       let t = turn base has.even a a_sound.store (rw c.size has.room) c.stands
-      (allowed base has.even (guest base a) gq c.agree ok)
+      (allowed has.even c.agree ok)
       (ap is_obeyed b.0 ∙ obeyed) in
       let codes : function_of (next_word (guest base a)) ∷ codes_of (step (guest base a)).turn
       ≡ function_of (next_word gq) ∷ codes_of (step gq).turn
       = (λ i. function_of (word i) ∷ codes_of (b.0 i)) in
-      let r = joined c.count t.count _ _ _ _ m a t.after c.ran t.ran in
+      let r = joined c.ran t.ran in
       record {
         last = t.after;
         count = c.count + t.count;
         most = omega (arith, c.most, t.most);
-        ran = renamed (c.count + t.count) m t.after _ _ _ _ r (ap (λ cs. checked_codes g q ++ cs) codes)
+        ran = renamed r (ap (λ cs. checked_codes g q ++ cs) codes)
             (ap (λ n. (past q g).stops + n) (ap stops_of b.0));
         stands = t.stands;
-        agree = agree_trans base (guest base t.after) (step (guest base a)).state (step gq).state t.agree b.1;
+        agree = agree_trans t.agree b.1;
         size = t.size ∙ c.size;
       }
 
@@ -257,14 +243,12 @@ module _ (base : ℕ) (m : State) (has : HasGuest base m) where
       let a = c.last in
       let a_sound : IsSound a = after_sound q c in
       let g_sound : IsSound gq = sound_after q g (guest_sound base m has (first_allowed q h ok)) in
-      let b = steps base has.even (guest base a) gq c.agree ok a_sound.store g_sound.store (ap is_obeyed stop) in
-      let word : next_word (guest base a) ≡ next_word gq = same_word base has.even (guest base a) gq c.agree ok in
+      let b = steps has.even c.agree ok a_sound.store g_sound.store (ap is_obeyed stop) in
+      let word : next_word (guest base a) ≡ next_word gq = same_word has.even c.agree ok in
       let t = turn_halts base has.even a a_sound.store (rw c.size has.room) c.stands
-      (allowed base has.even (guest base a) gq c.agree ok)
+      (allowed has.even c.agree ok)
       (b.0 ∙ stop) in
-      let to_it = joined c.count t.count (past q g).stops 0 (checked_codes g q)
-      (function_of (next_word (guest base a)) ∷ []) m a t.before
-      c.ran t.ran in
+      let to_it = joined c.ran t.ran in
       record {
         last = t.before;
         count = c.count + t.count;

@@ -1,27 +1,25 @@
 -- A machine in which the routine stands, as a state of its paths, and back.
 use Rattle.std.proofs.Common.{◌≡◌, ◌∷◌, inl, inr, ℕ, zero, suc, ◌+◌, ◌-◌, ◌*◌, ◌/◌, ◌%◌}
-use Rattle.std.proofs.Common.{◌^◌, ◌<◌, ◌≤◌, refl, sym, ap, ◌∙◌, arith, lit<, lit≤}
-use Rattle.std.proofs.Common.{false, true, List, [], Option, length, get_or}
-use Rattle.std.specs.Prelude.{◌==◌}
-use Rattle.std.specs.List.{list_any}
+use Rattle.std.proofs.Common.{◌<◌, ◌≤◌, refl, sym, ap, ◌∙◌, arith, lit<, lit≤}
+use Rattle.std.proofs.Common.{false, List, [], Option, None, length, get_or}
 use Rattle.ed_words.specs.Sizes.{locations}
 use Rattle.ed_words.specs.Words.{address_of}
 use Rattle.ed_words.proofs.SizeLemmas.{most}
 use Rattle.ed_store.specs.Cells.{IsStore, short_at, long_at}
 use Rattle.ed_machine.specs.State.{State}
-use Rattle.ed_library.specs.Entries.{entry}
 use Rattle.ed_library.specs.Routines.{is_working}
 use Rattle.ed_routines.specs.Catalogue.{with_h}
-use Rattle.ed_routines.proofs.Image.{meets}
-use Rattle.ed_routines.proofs.Called.{h_is, image, kept, near_h}
+use Rattle.ed_routines.specs.Returns.{IsOther}
+use Rattle.ed_routines.proofs.Image.{Makes, none, more}
+use Rattle.ed_routines.proofs.Called.{holds_words, image, kept}
 use Rattle.ed_paths.proofs.Sums.{parted}
 use Rattle.ed_paths.proofs.Frames.{Frame, Moment, state}
 use Rattle.ed_paths.proofs.Places.{pair, reads}
 use Rattle.ed_paths.proofs.Standing.{Holds, filled, opens}
 use Rattle.ed_paths.proofs.Window.{patched, get_own, get_below, get_above, patched_self, length_patched}
-use Rattle.ed_checker.specs.Checker.{IsOutside, CheckerStands, HasImage, guest, check}
+use Rattle.ed_checker.specs.Checker.{IsOutsideChecker, CheckerStands, HasImage, guest, check}
 use Rattle.ed_checker.proofs.Halves.{low_half, high_half, middle_digit}
-use Rattle.ed_checker.proofs.Paths.{Work, Around, cells, cells_with, pairs, moment}
+use Rattle.ed_checker.proofs.Paths.{IsSaved, Work, Around, cells, cells_with, pairs, moment}
 use Rattle.ed_checker.proofs.Alike.{Alike}
 use Rattle.ed_checker.proofs.Saving.{whole}
 
@@ -48,15 +46,10 @@ opened f even w s at h counter =
     let c2 = h.digit_count in
     let words = patched_self 0 s.store.words f.base (cells f.base w) (omega arith) h.words in
     let digits = patched_self false s.store.sandwich (f.base / 2 + 30) (pairs w) (omega arith) h.digits in
-    λ i. record {
+    λ i. record s {
       size = h.size i;
       store = record { words = words i; sandwich = digits i };
-      acc = s.acc;
-      multiplier = s.multiplier;
       counter = sym counter i;
-      tape = s.tape;
-      last = s.last;
-      orders = s.orders;
     }
 
 -- the routine's image at a base
@@ -64,13 +57,10 @@ abbrev check_image : ℕ → List (Option ℕ)
 check_image b = image check b (0 ∷ [])
 
 -- it stands in a store
-holds_image : (b : ℕ) (s : State) → b ≤ 1024 → HasImage b s → Holds (check_image b) s.store.words b
-holds_image b s low h i l =
-    let z : 0 + i ≡ i = omega arith in
-    meets 1 (with_h 0) b (0 ∷ []) low (near_h 0 (lit≤ tt)) (h_is 0) (entry check).working (0, 0, false, 0)
-    (entry check).items 0 i
-    (short_at s.store (b + i)) refl l
-    (λ w. (h i l).has (ap (λ y. list_any (λ p. p == y) (entry check).working) (sym z) ∙ w))
+holds_image : {b : ℕ} {s : State} → b ≤ 1024 → HasImage b s → Holds (check_image b) s.store.words b
+holds_image low h =
+    let makes : Makes (with_h 0) (0 ∷ []) = more (lit≤ tt) refl none in
+    holds_words check low makes refl h
 
 module _ (base : ℕ) (even_base : base % 2 ≡ 0) (s : State) (is_store : IsStore s.store)
     (room : base + 66 ≤ locations s.size) where
@@ -118,7 +108,7 @@ module _ (base : ℕ) (even_base : base % 2 ≡ 0) (s : State) (is_store : IsSto
         let b = most s.size in
         let c = is_store.words_are in
         let whole = opens (check_image base) s.store.words base (omega arith)
-        (holds_image base s (omega arith) stands.image) in
+        (holds_image (omega arith) stands.image) in
         sym (get_own 0 s.store.words base (cells base work) j lj)
         ∙ ap (λ xs. get_or (patched 0 s.store.words base xs) (base + j) 0) (sym filled_is)
         ∙ ap (λ xs. get_or xs (base + j) 0) whole;
@@ -126,13 +116,16 @@ module _ (base : ℕ) (even_base : base % 2 ≡ 0) (s : State) (is_store : IsSto
   }
 
 -- what the guest is of a state of the paths
-module _ (f : Frame 66 30) (even : f.base % 2 ≡ 0) (o : Around) (w : Work) (acc at : ℕ) (last : Option ℕ) (k c : ℕ)
-    (fetch : w.at0 ≡ 114688 + 2 * c) (room : c < 1024) where
+module _ (f : Frame 66 30) (even : f.base % 2 ≡ 0) (o : Around) (w : Work) where
+  abbrev at_turn : Option ℕ → ℕ → State
+  at_turn last k = state f (moment f.base o w 0 0 last) k
+
+  -- its counter and its accumulator come from the store alone
   abbrev the_moment : Moment
-  the_moment = moment f.base o w acc at last
+  the_moment = moment f.base o w 0 0 None
 
   abbrev the_state : State
-  the_state = state f the_moment k
+  the_state = at_turn None 0
 
   first_word : short_at the_state.store f.base ≡ w.at0
   first_word =
@@ -149,61 +142,62 @@ module _ (f : Frame 66 30) (even : f.base % 2 ≡ 0) (o : Around) (w : Work) (ac
   low_is : long_at the_state.store (f.base + 64) ≡ w.low
   low_is = reads f the_moment (pair 64 2 even) refl refl ∙ parted w.low
 
-  address_is : address_of (short_at the_state.store f.base) ≡ c
-  address_is = ap address_of (first_word ∙ fetch) ∙ omega arith
-
-  pub guest_counter : (guest f.base the_state).counter ≡ c
-  guest_counter = address_is
+  pub guest_counter : (c : ℕ) → w.at0 ≡ 114688 + 2 * c → c < 1024 → (guest f.base the_state).counter ≡ c
+  guest_counter c fetch room = ap address_of (first_word ∙ fetch) ∙ omega arith
 
   pub guest_acc : (guest f.base the_state).acc ≡ whole w.high w.middle w.low
   guest_acc = rw (high_is, middle_is, low_is) refl
 
   -- the image stays that of a state from which the routine's own words come
-  image_is : (m : State) → HasImage f.base m → HasImage f.base the_state
-  image_is m h i l = record {
+  image_is : {m : State} → HasImage f.base m → HasImage f.base the_state
+  image_is {m} h i l = record {
     has = λ free.
         let b = most f.size in
         let u = f.under in
         let v = f.fits in
         let e : f.base + i - f.base ≡ i = omega arith in
+        let other : IsOther check f.base (f.base + i) = record {
+          other = inr (inr (ap (λ x. is_working check x) e ∙ free));
+        } in
         get_own 0 o.words f.base (cells f.base w) i l
         ∙ sym (get_own 0 m.store.words f.base (cells f.base w) i l)
-        ∙ kept check f.base (0 ∷ []) m.store.words (cells f.base w) refl refl (holds_image f.base m (omega arith) h)
-        (f.base + i)
-        (record { other = inr (inr (ap (λ x. is_working check x) e ∙ free)) })
+        ∙ kept (0 ∷ []) other m.store.words (cells f.base w) refl refl (holds_image (omega arith) h)
         ∙ (h i l).has free;
   }
 
   -- the routine stands at the beginning of a turn
-  pub stands_again : (m : State) → HasImage f.base m → (l : ℕ) → w.middle < 2 ^ 34 → l < 4 → w.low ≡ l * 2 ^ 32
-      → acc ≡ 0 → at ≡ 0 → CheckerStands f.base the_state
-  stands_again m old l middle low_fits low none begin = record {
-    counter = omega arith;
-    acc = none;
-    image = image_is m old;
-    fetch = first_word ∙ fetch ∙ ap (λ x. 114688 + 2 * x) (sym address_is);
-    middle = rw middle_is middle;
-    low = rw (low_is, low) (omega arith);
-    low_few = rw (low_is, low) (omega arith);
-  }
+  pub stands_again : {c k : ℕ} {last : Option ℕ} {m : State} → w.at0 ≡ 114688 + 2 * c → c < 1024
+      → HasImage f.base m → IsSaved w.high w.middle w.low → CheckerStands f.base (at_turn last k)
+  stands_again {c} fetch room old saved =
+      let few = saved.few in
+      let low = saved.low_is in
+      record {
+        counter = omega arith;
+        acc = refl;
+        image = λ i l. record { has = (image_is old i l).has };
+        fetch = first_word ∙ fetch ∙ ap (λ x. 114688 + 2 * x) (sym (guest_counter c fetch room));
+        middle = rw middle_is saved.middle_fits;
+        low = rw (low_is, low) (omega arith);
+        low_few = rw (low_is, low) (omega arith);
+      }
 
 -- outside the routine, a state of its paths is as the state that it was made from
-module _ (f : Frame 66 30) (even : f.base % 2 ≡ 0) (w : Work) (t : State) (same : f.size ≡ t.size)
+module _ (f : Frame 66 30) (w : Work) (t : State) (same : f.size ≡ t.size)
     (words_are : length t.store.words ≡ 1024) (digits_are : length t.store.sandwich ≡ 512) where
-  word : (a : ℕ) → IsOutside f.base a
+  word : (a : ℕ) → IsOutsideChecker f.base a
       → get_or (patched 0 t.store.words f.base (cells f.base w)) a 0 ≡ get_or t.store.words a 0
   word a (inl l) = get_below 0 t.store.words f.base (cells f.base w) a l
   word a (inr m) = get_above 0 t.store.words f.base (cells f.base w) a m
 
-  digit : (a : ℕ) → IsOutside f.base a
+  digit : (a : ℕ) → IsOutsideChecker f.base a
       → get_or (patched false t.store.sandwich (f.base / 2 + 30) (pairs w)) (a / 2) false
       ≡ get_or t.store.sandwich (a / 2) false
   digit a (inl l) = get_below false t.store.sandwich (f.base / 2 + 30) (pairs w) (a / 2) (omega arith)
   digit a (inr m) = get_above false t.store.sandwich (f.base / 2 + 30) (pairs w) (a / 2) (omega arith)
 
-  pub alike_around : (acc at k : ℕ) (last : Option ℕ) → acc ≡ t.acc
-      → Alike f.base (state f (moment f.base (around t) w acc at last) k) t
-  alike_around acc at k last e =
+  pub alike_around : {k : ℕ} {last : Option ℕ} (at : ℕ)
+      → Alike f.base (state f (moment f.base (around t) w t.acc at last) k) t
+  alike_around at =
       let b = most f.size in
       let g = f.fits in
       let u = f.under in
@@ -213,7 +207,7 @@ module _ (f : Frame 66 30) (even : f.base % 2 ≡ 0) (w : Work) (t : State) (sam
         digits = digit;
         word_count = length_patched 0 t.store.words f.base (cells f.base w) (omega arith);
         digit_count = length_patched false t.store.sandwich (f.base / 2 + 30) (pairs w) (omega arith);
-        acc = e;
+        acc = refl;
         multiplier = refl;
         tape = refl;
       }

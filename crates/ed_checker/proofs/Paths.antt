@@ -64,6 +64,14 @@ moment b o w acc at last = record {
   last = last;
 }
 
+-- the three long words of a saved accumulator, the lowest with its two digits at the top
+pub record IsSaved (high middle low : ℕ) : Type 0 where
+  pub digits : ℕ
+  pub few : digits < 4
+  pub low_is : low ≡ digits * 2 ^ 32
+  pub middle_fits : middle < 2 ^ 34
+  pub high_fits : high < 2 ^ 35
+
 module _ (f : Frame 66 30) (f_even : f.base % 2 ≡ 0) (o : Around) where
   -- places 22 to 25: the guest's counter is one more
   pub advance : (w : Work) (last : Option ℕ) → w.at0 + 2 < 2 ^ 17
@@ -85,11 +93,15 @@ module _ (f : Frame 66 30) (f_even : f.base % 2 ≡ 0) (o : Around) where
       (on (E_jumps 29 (own 0) refl (lit< tt)) stay)))
 
   -- places 30 to 39: the accumulator is brought back
-  pub restore : (w : Work) (acc l : ℕ) (last : Option ℕ) → w.low ≡ l * 2 ^ 32 → l < 4 → w.middle < 2 ^ 34
-      → w.high < 2 ^ 35
+  pub restore : {acc : ℕ} {last : Option ℕ} (w : Work) → IsSaved w.high w.middle w.low
       → Path f 10 (moment f.base o w acc 30 last) []
       (moment f.base o (record w { at59 = acc / 2 ^ 54 }) (whole w.high w.middle w.low) 40 last)
-  restore w acc l last is lf mf hf =
+  restore {acc} w saved =
+      let l = saved.digits in
+      let lf = saved.few in
+      let is = saved.low_is in
+      let mf = saved.middle_fits in
+      let hf = saved.high_fits in
       let small : 4 * w.middle + l < 2 ^ 36 = omega arith in
       on (T_top 30 (own 59) (acc / 2 ^ 54) refl refl)
       (on (A 31 (pair 64 2 f_even) (l * 2 ^ 68) refl (rw (parted w.low) (omega arith)))
@@ -123,13 +135,14 @@ module _ (f : Frame 66 30) (f_even : f.base % 2 ≡ 0) (o : Around) where
       (on (E_jumps 52 (own 22) refl (lit< tt)) stay)))))))))))
 
   -- places 0 to 2: the guest's order is fetched, planted, and its function printed
-  pub fetch : (w : Work) (c x g : ℕ) (last : Option ℕ) → w.at0 ≡ 114688 + 2 * c → IsOutside f o.words c
-      → get_or o.words c 0 ≡ x → x < 2 ^ 17 → x / 4096 ≡ g
-      → Path f 3 (moment f.base o w 0 0 last) (g ∷ []) (moment f.base o (record w { at40 = x }) (x * 2 ^ 54) 3 (Some g))
-  fetch w c x g last is outside word fits e =
+  pub fetch : {c x : ℕ} {last : Option ℕ} (w : Work) → w.at0 ≡ 114688 + 2 * c → IsOutside f o.words c
+      → get_or o.words c 0 ≡ x → x < 2 ^ 17
+      → Path f 3 (moment f.base o w 0 0 last) (x / 4096 ∷ [])
+      (moment f.base o (record w { at40 = x }) (x * 2 ^ 54) 3 (Some (x / 4096)))
+  fetch {c} {x} w is outside word fits =
       on (A 0 (out c outside) (x * 2 ^ 54) (word_is is) (omega arith))
       (on (U_top 1 (own 40) x refl (omega arith))
-      (prints (O 2 (own 40) g refl (omega arith)) stay))
+      (prints (O 2 (own 40) (x / 4096) refl (omega arith)) stay))
 
   -- places 3 to 16: the tests, for a function that is neither E nor G
   pub below_E : (w : Work) (x : ℕ) (last : Option ℕ) → x < 12288
@@ -165,10 +178,12 @@ module _ (f : Frame 66 30) (f_even : f.base % 2 ≡ 0) (o : Around) where
       (on (E_jumps 7 (own 30) refl (omega arith)) stay))))
 
   -- for E and G the place of the jump is made an A order, and the saved accumulator comes to the top
-  at_E : (w : Work) (x : ℕ) (last : Option ℕ) → 12288 ≤ x → x < 16384 → w.high < 2 ^ 35
+  at_E : {last : Option ℕ} (w : Work) (x : ℕ) → (12288 ≤ x) × (x < 16384) → w.high < 2 ^ 35
       → Path f 8 (moment f.base o w (x * 2 ^ 54) 3 last) []
       (moment f.base o (record w { at58 = x + 102400 }) (w.high * 2 ^ 36) 20 last)
-  at_E w x last low high fits =
+  at_E w x range fits =
+      let low = range.0 in
+      let high = range.1 in
       on (E_jumps 3 (own 13) refl (omega arith))
       (on (S 13 (own 54) ((x - 12288) * 2 ^ 54) refl (omega arith, omega arith))
       (on (G_stays 14 (own 30) refl (omega arith))
@@ -178,10 +193,12 @@ module _ (f : Frame 66 30) (f_even : f.base % 2 ≡ 0) (o : Around) where
       (on (T_top 18 (own 58) (x + 102400) refl (omega arith))
       (on (A 19 (pair 60 0 f_even) (w.high * 2 ^ 36) refl (rw (parted w.high) (omega arith))) stay)))))))
 
-  at_G : (w : Work) (x : ℕ) (last : Option ℕ) → 110592 ≤ x → x < 114688 → w.high < 2 ^ 35
+  at_G : {last : Option ℕ} (w : Work) (x : ℕ) → (110592 ≤ x) × (x < 114688) → w.high < 2 ^ 35
       → Path f 8 (moment f.base o w (x * 2 ^ 54) 3 last) []
       (moment f.base o (record w { at58 = x + 4096 }) (w.high * 2 ^ 36) 11 last)
-  at_G w x last low high fits =
+  at_G w x range fits =
+      let low = range.0 in
+      let high = range.1 in
       on (E_stays 3 (own 13) refl (omega arith))
       (on (S 4 (own 53) ((x - 110592) * 2 ^ 54) refl (omega arith, omega arith))
       (on (G_stays 5 (own 30) refl (omega arith))
@@ -192,37 +209,43 @@ module _ (f : Frame 66 30) (f_even : f.base % 2 ≡ 0) (o : Around) where
       (on (A 10 (pair 60 0 f_even) (w.high * 2 ^ 36) refl (rw (parted w.high) (omega arith))) stay)))))))
 
   -- an E or G order of the guest, from place 3 to the beginning of the next turn: the four cases
-  pub E_taken : (w : Work) (x : ℕ) (last : Option ℕ) → 12288 ≤ x → x < 16384 → w.high < 2 ^ 34
+  pub E_taken : {last : Option ℕ} (w : Work) (x : ℕ) → (12288 ≤ x) × (x < 16384) → w.high < 2 ^ 34
       → Path f 13 (moment f.base o w (x * 2 ^ 54) 3 last) []
       (moment f.base o (record w { at0 = x + 102400; at58 = x + 102400; at59 = w.high * 2 ^ 36 / 2 ^ 54 }) 0 0 last)
-  E_taken w x last low high fits =
-      followed (at_E w x last low high (omega arith))
+  E_taken {last} w x range fits =
+      followed (at_E w x range (omega arith))
       (on (E_jumps 20 (own 26) refl (omega arith))
-      (jump (record w { at58 = x + 102400 }) (w.high * 2 ^ 36) last (omega arith)))
+      (jump (record w { at58 = x + 102400 }) (w.high * 2 ^ 36) last (omega (arith, range.0, range.1))))
 
-  pub E_passed : (w : Work) (x : ℕ) (last : Option ℕ) → 12288 ≤ x → x < 16384 → 2 ^ 34 ≤ w.high → w.high < 2 ^ 35
-      → w.at0 + 2 < 2 ^ 17
+  pub E_passed : {last : Option ℕ} (w : Work) (x : ℕ) → (12288 ≤ x) × (x < 16384)
+      → (2 ^ 34 ≤ w.high) × (w.high < 2 ^ 35) → w.at0 + 2 < 2 ^ 17
       → Path f 14 (moment f.base o w (x * 2 ^ 54) 3 last) []
       (moment f.base o (record w { at0 = w.at0 + 2; at58 = x + 102400; at59 = w.high * 2 ^ 36 / 2 ^ 54 }) 0 0 last)
-  E_passed w x last low high negative fits room =
-      followed (at_E w x last low high fits)
+  E_passed {last} w x range sign room =
+      let negative = sign.0 in
+      let fits = sign.1 in
+      followed (at_E w x range fits)
       (on (E_stays 20 (own 26) refl (omega arith))
       (on (T_top 21 (own 59) (w.high * 2 ^ 36 / 2 ^ 54) refl refl)
       (advance (record w { at58 = x + 102400; at59 = w.high * 2 ^ 36 / 2 ^ 54 }) last room)))
 
-  pub G_taken : (w : Work) (x : ℕ) (last : Option ℕ) → 110592 ≤ x → x < 114688 → 2 ^ 34 ≤ w.high → w.high < 2 ^ 35
+  pub G_taken : {last : Option ℕ} (w : Work) (x : ℕ) → (110592 ≤ x) × (x < 114688)
+      → (2 ^ 34 ≤ w.high) × (w.high < 2 ^ 35)
       → Path f 13 (moment f.base o w (x * 2 ^ 54) 3 last) []
       (moment f.base o (record w { at0 = x + 4096; at58 = x + 4096; at59 = w.high * 2 ^ 36 / 2 ^ 54 }) 0 0 last)
-  G_taken w x last low high negative fits =
-      followed (at_G w x last low high fits)
+  G_taken {last} w x range sign =
+      let negative = sign.0 in
+      let fits = sign.1 in
+      followed (at_G w x range fits)
       (on (G_jumps 11 (own 26) refl (omega arith))
-      (jump (record w { at58 = x + 4096 }) (w.high * 2 ^ 36) last (omega arith)))
+      (jump (record w { at58 = x + 4096 }) (w.high * 2 ^ 36) last (omega (arith, range.0, range.1))))
 
-  pub G_passed : (w : Work) (x : ℕ) (last : Option ℕ) → 110592 ≤ x → x < 114688 → w.high < 2 ^ 34 → w.at0 + 2 < 2 ^ 17
+  pub G_passed : {last : Option ℕ} (w : Work) (x : ℕ) → (110592 ≤ x) × (x < 114688) → w.high < 2 ^ 34
+      → w.at0 + 2 < 2 ^ 17
       → Path f 15 (moment f.base o w (x * 2 ^ 54) 3 last) []
       (moment f.base o (record w { at0 = w.at0 + 2; at58 = x + 4096; at59 = w.high * 2 ^ 36 / 2 ^ 54 }) 0 0 last)
-  G_passed w x last low high fits room =
-      followed (at_G w x last low high (omega arith))
+  G_passed {last} w x range fits room =
+      followed (at_G w x range (omega arith))
       (on (G_stays 11 (own 26) refl (omega arith))
       (on (E_jumps 12 (own 21) refl (omega arith))
       (on (T_top 21 (own 59) (w.high * 2 ^ 36 / 2 ^ 54) refl refl)

@@ -16,7 +16,7 @@ use Rattle.ed_machine.specs.State.{State}
 use Rattle.ed_machine.specs.OrderTable.{Obeyed, step, next_word, obey_word, done_at, jumped}
 use Rattle.ed_machine.specs.Steps.{codes_of, stops_of, is_obeyed}
 use Rattle.ed_machine.specs.declared.turn.Turn.TheVariants.{Went, Stopped}
-use Rattle.ed_checker.specs.Checker.{IsOutside, CheckerStands, IsAllowed, IsAllowedOrder}
+use Rattle.ed_checker.specs.Checker.{IsOutsideChecker, CheckerStands, IsAllowed, IsAllowedOrder}
 use Rattle.ed_checker.specs.Checker.{IsPlainJump, Agree, guest, turn_orders}
 use Rattle.ed_words.proofs.Numbers.{eq_true, eq_false, lt_true, lt_false, le_true, le_false}
 use Rattle.ed_checker.proofs.AccFits.{acc_fits}
@@ -24,12 +24,12 @@ use Rattle.ed_paths.proofs.Frames.{Frame, Beside, state}
 use Rattle.ed_paths.proofs.Places.{IsOutside as IsPlaceOutside}
 use Rattle.ed_paths.proofs.Paths.{Path, followed, leads}
 use Rattle.ed_paths.proofs.Window.{get_own}
-use Rattle.ed_checker.proofs.Saving.{high_of, middle_of, low_of, saved, middle_fits}
+use Rattle.ed_checker.proofs.Saving.{high_of, middle_of, low_of, saved, middle_fits, high_fits as high_of_fits}
 use Rattle.ed_checker.proofs.Halves.{long_fits}
-use Rattle.ed_checker.proofs.Paths.{Work, Around, cells, pairs, moment, fetch, below_E}
+use Rattle.ed_checker.proofs.Paths.{IsSaved, Work, Around, cells, pairs, moment, fetch, below_E}
 use Rattle.ed_checker.proofs.Paths.{above_E, below_G, above_G, restore, save, advance}
 use Rattle.ed_checker.proofs.Paths.{E_taken, E_passed, G_taken, G_passed}
-use Rattle.ed_checker.proofs.Alike.{Alike, Outcome, is_planted, planted}
+use Rattle.ed_checker.proofs.Alike.{Alike, Outcome, agree_with, is_planted, planted}
 use Rattle.ed_checker.specs.Laws.{Ran}
 use Rattle.ed_checker.proofs.Ran.{joined, one, along}
 use Rattle.ed_checker.proofs.Opening.{around, HasCells, opened, frame, work, holds}
@@ -64,18 +64,6 @@ pub record Halts (base : ℕ) (m : State) : Type 0 where
   pub most : count ≤ 18
   pub ran : Ran count m (function_of (next_word (guest base m)) ∷ []) 0 before
   pub turn : (step before).turn ≡ Stopped
-
--- from states that are alike, and have the same counter
-agree_of : (base : ℕ) (s t : State) → Alike base s t → s.counter ≡ t.counter → Agree base s t
-agree_of base s t q c = record {
-  size = q.size;
-  words = q.words;
-  digits = q.digits;
-  acc = q.acc;
-  multiplier = q.multiplier;
-  counter = c;
-  tape = q.tape;
-}
 
 -- the kinds of all functions but 3 and 27 are obeyed in the routine's own place
 abbrev all_but : List (Option Kind) → ℕ → Bool
@@ -148,6 +136,15 @@ module _ (base : ℕ) (even_base : base % 2 ≡ 0) (m : State) (store : IsStore 
   high_fits : w0.high < 2 ^ 35
   high_fits = long_fits base even_base m store 60 refl
 
+  saved_now : IsSaved w0.high w0.middle w0.low
+  saved_now = record {
+    digits = low_count;
+    few = low_fits;
+    low_is = low_is;
+    middle_fits = stands.middle;
+    high_fits = high_fits;
+  }
+
   begins : state f (moment base o w0 0 0 m.last) m.orders ≡ m
   begins =
       subst (λ a. state f (moment base o w0 a 0 m.last) m.orders ≡ m) stands.acc
@@ -159,7 +156,7 @@ module _ (base : ℕ) (even_base : base % 2 ≡ 0) (m : State) (store : IsStore 
   c_outside : IsPlaceOutside f o.words c
   c_outside = record { below = omega (arith, ok.next); beside = by_side ok.outside }
     where
-      by_side : IsOutside base c → Beside o.words base 66 c
+      by_side : IsOutsideChecker base c → Beside o.words base 66 c
       by_side (inl l) = let all = store.words_are in inl (l, omega (arith, c_fits))
       by_side (inr g) = inr g
 
@@ -168,7 +165,7 @@ module _ (base : ℕ) (even_base : base % 2 ≡ 0) (m : State) (store : IsStore 
   w1 = record w0 { at40 = x }
 
   fetched : Path f 3 (moment base o w0 0 0 m.last) (n ∷ []) (moment base o w1 (x * 2 ^ 54) 3 (Some n))
-  fetched = fetch f even_base o w0 c x n m.last at0_is c_outside refl x_fits refl
+  fetched = fetch f even_base o w0 at0_is c_outside refl x_fits
 
   -- the routine comes to the planted order
   record Arrives : Type 0 where
@@ -187,10 +184,10 @@ module _ (base : ℕ) (even_base : base % 2 ≡ 0) (m : State) (store : IsStore 
     exact = e;
     at59 = acc / 2 ^ 54;
     runs = followed fetched (followed r
-        (restore f even_base o w1 acc low_count (Some n) low_is low_fits stands.middle high_fits));
+        (restore f even_base o w1 saved_now));
   }
 
-  by_tests : (a3 a27 b3 b16 b27 : Bool) → nat_eq n 3 ≡ a3 → nat_eq n 27 ≡ a27 → nat_lt n 3 ≡ b3 → nat_lt n 16 ≡ b16
+  by_tests : {a3 a27 b3 b16 b27 : Bool} → nat_eq n 3 ≡ a3 → nat_eq n 27 ≡ a27 → nat_lt n 3 ≡ b3 → nat_lt n 16 ≡ b16
       → nat_lt n 27 ≡ b27
       → turn_orders g
       ≡ (if a3 then (if nat_lt g.acc (2 ^ 70) then 16 else 17)
@@ -199,31 +196,31 @@ module _ (base : ℕ) (even_base : base % 2 ≡ 0) (m : State) (store : IsStore 
       else if b16 then 35
       else if b27 then 33
       else 35)
-  by_tests a3 a27 b3 b16 b27 e1 e2 e3 e4 e5 = rw (e1, e2, e3, e4, e5) refl
+  by_tests e1 e2 e3 e4 e5 = rw (e1, e2, e3, e4, e5) refl
 
   arrives : n ≢ 3 → n ≢ 27 → Arrives
   arrives no3 no27 =
       let e3 = eq_false n 3 no3 in
       let e27 = eq_false n 27 no27 in
       elim (cases_lt n 3) [
-        | inl l ↦ restored 3 _ (lit≤ tt) (sym (by_tests false false true _ _ e3 e27 (lt_true n 3 l) refl refl))
+        | inl l ↦ restored 3 _ (lit≤ tt) (sym (by_tests e3 e27 (lt_true n 3 l) refl refl))
             (below_E f even_base o w1 x (Some n) (omega arith))
         | inr g3 ↦
             elim (cases_lt n 16) [
               | inl l ↦
                   restored 5 _ (lit≤ tt) (sym
-                  (by_tests false false false true _ e3 e27 (lt_false n 3 g3) (lt_true n 16 l) refl))
+                  (by_tests e3 e27 (lt_false n 3 g3) (lt_true n 16 l) refl))
                   (above_E f even_base o w1 x (Some n) (let h : 4 ≤ n = omega arith in omega arith) (omega arith))
               | inr g16 ↦
                   elim (cases_lt n 27) [
                     | inl l ↦
                         restored 3 _ (lit≤ tt) (sym
-                        (by_tests false false false false true e3 e27 (lt_false n 3 g3) (lt_false n 16 g16)
+                        (by_tests e3 e27 (lt_false n 3 g3) (lt_false n 16 g16)
                         (lt_true n 27 l)))
                         (below_G f even_base o w1 x (Some n) (omega arith) (omega arith))
                     | inr g27 ↦
                         restored 5 _ (lit≤ tt) (sym
-                        (by_tests false false false false false e3 e27 (lt_false n 3 g3) (lt_false n 16 g16)
+                        (by_tests e3 e27 (lt_false n 3 g3) (lt_false n 16 g16)
                         (lt_false n 27 g27)))
                         (above_G f even_base o w1 x (Some n) (let h : 28 ≤ n = omega arith in omega arith) x_fits)
                   ]
@@ -260,41 +257,27 @@ module _ (base : ℕ) (even_base : base % 2 ≡ 0) (m : State) (store : IsStore 
     unfolding step
     at_g = refl
 
+    a1 : Alike base m1 g
+    a1 = alike_around f w2 g refl store.words_are store.digits_are 40
+
     result : Outcome base m1 g r1 (obey_word (kind_of_function n) x g)
-    result =
-        planted base even_base m1 g
-        (alike_around f even_base w2 g refl store.words_are store.digits_are g.acc 40 (m.orders + to.count)
-        (Some n) refl)
-        (kind_of_function n) x may ok.order
+    result = planted even_base a1 (kind_of_function n) x may ok.order
 
     same_turn : r1.turn ≡ (step g).turn
     same_turn = result.turn ∙ ap (λ (y : Obeyed). y.turn) (sym at_g)
 
     -- the guest's order cannot be obeyed
     pub stuck : is_obeyed (step g).turn ≡ false → Stuck base m
-    stuck h =
-        let a = alike_around f even_base w2 g refl store.words_are store.digits_are g.acc 40 (m.orders + to.count)
-        (Some n) refl in
-        let e = guest_acc f even_base o w2 g.acc 40 (Some n) (m.orders + to.count) c at0_is (omega (arith, c_fits)) in
-        let d = guest_counter f even_base o w2 g.acc 40 (Some n) (m.orders + to.count) c at0_is
-        (omega (arith, c_fits)) in
-        record {
-          after = m1;
-          count = to.count;
-          exact = to.exact;
-          most = omega (arith, to.most);
-          ran = reached;
-          turn = ap (λ (y : Obeyed). y.turn) at_m1 ∙ same_turn;
-          agree = record {
-            size = a.size;
-            words = a.words;
-            digits = a.digits;
-            acc = e;
-            multiplier = a.multiplier;
-            counter = d;
-            tape = a.tape;
-          };
-        }
+    stuck h = record {
+      after = m1;
+      count = to.count;
+      exact = to.exact;
+      most = omega (arith, to.most);
+      ran = reached;
+      turn = ap (λ (y : Obeyed). y.turn) at_m1 ∙ same_turn;
+      agree = agree_with a1 (guest_acc f even_base o w2)
+          (guest_counter f even_base o w2 c at0_is (omega (arith, c_fits)));
+    }
 
     pub halted : (step g).turn ≡ Stopped → Halts base m
     halted h = record {
@@ -325,10 +308,6 @@ module _ (base : ℕ) (even_base : base % 2 ≡ 0) (m : State) (store : IsStore 
 
     m1_digit : (j : ℕ) → j < 3 → get_or m1.store.sandwich (base / 2 + 30 + j) false ≡ get_or (pairs w2) j false
     m1_digit j h = get_own false m.store.sandwich (base / 2 + 30) (pairs w2) j h
-
-    a1 : Alike base m1 g
-    a1 = alike_around f even_base w2 g refl store.words_are store.digits_are g.acc 40 (m.orders + to.count)
-        (Some n) refl
 
     still : HasCells f w2 m2
     still = record {
@@ -362,22 +341,28 @@ module _ (base : ℕ) (even_base : base % 2 ≡ 0) (m : State) (store : IsStore 
         let m3 : State = state f (moment base o2 w4 0 0 m2.last) (m2.orders + 16) in
         let middle : Ran 1 m1 (codes_of r1.turn) (stops_of r1.turn) m2 = one m1 m2 r1.turn at_m1 went in
         let end : Ran 16 m2 [] 0 m3 = subst (λ s. Ran 16 s [] 0 m3) opens (along (leads runs m2.orders)) in
-        let whole_run = joined to.count 17 0 _ (n ∷ []) _ m m1 m3 reached
-        (joined 1 16 (stops_of r1.turn) 0 (codes_of r1.turn) [] m1 m2 m3 middle end) in
+        let whole_run = joined reached (joined middle end) in
         let codes : codes_of r1.turn ++ [] ≡ codes_of (step g).turn = append-nil (codes_of r1.turn)
         ∙ ap codes_of same_turn in
         let stops : 0 + (stops_of r1.turn + 0) ≡ stops_of (step g).turn = omega arith ∙ ap stops_of same_turn in
-        let a3 = alike_around f even_base w4 (record m2 { acc = 0 }) (sym result.size) still.word_count
-        still.digit_count 0 0 (m2.orders + 16) m2.last refl in
+        let a3 : Alike base m3 (record m2 { acc = 0 }) =
+        alike_around f w4 (record m2 { acc = 0 }) (sym result.size) still.word_count still.digit_count 0 in
         let same : (obey_word (kind_of_function n) x g).state ≡ (step g).state =
         ap (λ (y : Obeyed). y.state) (sym at_g) in
         let acc_is : (guest base m3).acc ≡ m2.acc =
-        guest_acc f even_base o2 w4 0 0 m2.last (m2.orders + 16) (c + 1) at_next c_fits ∙ saved m2.acc in
+        guest_acc f even_base o2 w4 ∙ saved m2.acc in
         let counter_is : (guest base m3).counter ≡ c + 1 =
-        guest_counter f even_base o2 w4 0 0 m2.last (m2.orders + 16) (c + 1) at_next c_fits in
+        guest_counter f even_base o2 w4 (c + 1) at_next c_fits in
         let other : (obey_word (kind_of_function n) x g).state.counter ≡ c + 1 = result.other_counter went
         ∙ within_below m.size (c + 1) ok.next in
         let q = result.alike in
+        let three : IsSaved w4.high w4.middle w4.low = record {
+          digits = m2.acc % 4;
+          few = omega arith;
+          low_is = refl;
+          middle_fits = middle_fits m2.acc;
+          high_fits = high_of_fits m2.acc m2_acc;
+        } in
         record {
           after = m3;
           count = to.count + 17;
@@ -385,8 +370,7 @@ module _ (base : ℕ) (even_base : base % 2 ≡ 0) (m : State) (store : IsStore 
           most = omega (arith, to.most);
           ran = subst (λ l. Ran (to.count + 17) m (n ∷ codes_of (step g).turn) l m3) stops
               (subst (λ cs. Ran (to.count + 17) m (n ∷ cs) (0 + (stops_of r1.turn + 0)) m3) codes whole_run);
-          stands = stands_again f even_base o2 w4 0 0 m2.last (m2.orders + 16) (c + 1) at_next c_fits m stands.image
-              (m2.acc % 4) (middle_fits m2.acc) (omega arith) refl refl refl;
+          stands = stands_again f even_base o2 w4 at_next c_fits stands.image three;
           agree = subst (Agree base (guest base m3)) same (record {
             size = a3.size ∙ q.size;
             words = λ a i. a3.words a i ∙ q.words a i;
@@ -400,34 +384,27 @@ module _ (base : ℕ) (even_base : base % 2 ≡ 0) (m : State) (store : IsStore 
         }
 
   -- an order of the guest that changes its counter alone
-  jump_end : (w : Work) (k d : ℕ) → Path f k (moment base o w0 0 0 m.last) (n ∷ []) (moment base o w 0 0 (Some n))
-      → k ≡ turn_orders g → k ≤ 35
-      → w.at0 ≡ 114688 + 2 * d → d < 1024 → w.high ≡ w0.high → w.middle ≡ w0.middle → w.low ≡ w0.low
+  jump_end : {k : ℕ} (w : Work) (d : ℕ) → Path f k (moment base o w0 0 0 m.last) (n ∷ []) (moment base o w 0 0 (Some n))
+      → (k ≡ turn_orders g) × (k ≤ 35) → (w.at0 ≡ 114688 + 2 * d) × (d < 1024)
+      → (w.high ≡ w0.high) × (w.middle ≡ w0.middle) × (w.low ≡ w0.low)
       → step g ≡ record { state = done_at d g; turn = Went } → Turned base m
-  jump_end w k d runs exact few at0 fits high middle low is =
+  jump_end {k} w d runs exact next same is =
       let m3 : State = state f (moment base o w 0 0 (Some n)) (m.orders + k) in
-      let a = alike_around f even_base w (record m { acc = 0 }) refl store.words_are store.digits_are 0 0
-      (m.orders + k) (Some n) refl in
+      let a : Alike base m3 (record m { acc = 0 }) =
+      alike_around f w (record m { acc = 0 }) refl store.words_are store.digits_are 0 in
       let there : Ran k m (n ∷ []) 0 m3 = subst (λ s. Ran k s (n ∷ []) 0 m3) begins (along (leads runs m.orders)) in
       let turn : (step g).turn ≡ Went = ap (λ (y : Obeyed). y.turn) is in
-      let e = guest_acc f even_base o w 0 0 (Some n) (m.orders + k) d at0 fits in
+      let three : IsSaved w.high w.middle w.low = rw (same.0, same.1, same.2) saved_now in
       record {
         after = m3;
         count = k;
-        exact = exact;
-        most = few;
+        exact = exact.0;
+        most = exact.1;
         ran = subst (λ u. Ran k m (n ∷ codes_of u) (stops_of u) m3) (sym turn) there;
-        stands = stands_again f even_base o w 0 0 (Some n) (m.orders + k) d at0 fits m stands.image low_count
-            (rw middle stands.middle) low_fits (low ∙ low_is) refl refl;
-        agree = subst (Agree base (guest base m3)) (ap (λ (y : Obeyed). y.state) (sym is)) (record {
-          size = refl;
-          words = a.words;
-          digits = a.digits;
-          acc = e ∙ rw (high, middle, low) refl;
-          multiplier = refl;
-          counter = guest_counter f even_base o w 0 0 (Some n) (m.orders + k) d at0 fits;
-          tape = refl;
-        });
+        stands = stands_again f even_base o w next.0 next.1 stands.image three;
+        agree = subst (Agree base (guest base m3)) (ap (λ (y : Obeyed). y.state) (sym is))
+            (agree_with a (guest_acc f even_base o w ∙ rw (same.0, same.1, same.2) refl)
+            (guest_counter f even_base o w d next.0 next.1));
         size = refl;
       }
 
@@ -481,19 +458,17 @@ module _ (base : ℕ) (even_base : base % 2 ≡ 0) (m : State) (store : IsStore 
       elim (cases_lt w0.high (2 ^ 34)) [
         | inl l ↦
             let t : nat_lt g.acc (2 ^ 70) ≡ true = lt_true g.acc (2 ^ 70) (acc_low l) in
-            jump_end (record w1 { at0 = x + 102400; at58 = x + 102400; at59 = w0.high * 2 ^ 36 / 2 ^ 54 }) 16
-            (address_of x)
-            (followed fetched (E_taken f even_base o w1 x (Some n) (omega arith) (omega arith) l))
-            (sym (by_tests true _ _ _ _ (eq_true n 3 e) refl refl refl refl ∙ rw t refl)) (lit≤ tt) (omega arith)
-            (omega (arith, p.below)) refl refl refl
+            jump_end (record w1 { at0 = x + 102400; at58 = x + 102400; at59 = w0.high * 2 ^ 36 / 2 ^ 54 })
+            (address_of x) (followed fetched (E_taken f even_base o w1 x (omega arith, omega arith) l))
+            (sym (by_tests (eq_true n 3 e) refl refl refl refl ∙ rw t refl), lit≤ tt)
+            (omega arith, omega (arith, p.below)) (refl, refl, refl)
             (s ∙ rw (t, q) refl)
         | inr h ↦
             let t : nat_lt g.acc (2 ^ 70) ≡ false = lt_false g.acc (2 ^ 70) (acc_high h) in
-            jump_end (record w1 { at0 = w0.at0 + 2; at58 = x + 102400; at59 = w0.high * 2 ^ 36 / 2 ^ 54 }) 17 (c + 1)
-            (followed fetched (E_passed f even_base o w1 x (Some n) (omega arith)
-            (omega arith) h high_fits room_next))
-            (sym (by_tests true _ _ _ _ (eq_true n 3 e) refl refl refl refl ∙ rw t refl))
-            (lit≤ tt) at_next_is c_fits refl refl refl
+            jump_end (record w1 { at0 = w0.at0 + 2; at58 = x + 102400; at59 = w0.high * 2 ^ 36 / 2 ^ 54 }) (c + 1)
+            (followed fetched (E_passed f even_base o w1 x (omega arith, omega arith) (h, high_fits) room_next))
+            (sym (by_tests (eq_true n 3 e) refl refl refl refl ∙ rw t refl), lit≤ tt)
+            (at_next_is, c_fits) (refl, refl, refl)
             (s ∙ rw (t, r) refl)
       ]
 
@@ -510,18 +485,18 @@ module _ (base : ℕ) (even_base : base % 2 ≡ 0) (m : State) (store : IsStore 
         | inl l ↦
             let t : nat_le (2 ^ 70) g.acc ≡ false = le_false (2 ^ 70) g.acc (acc_low l) in
             let u : nat_lt g.acc (2 ^ 70) ≡ true = lt_true g.acc (2 ^ 70) (acc_low l) in
-            jump_end (record w1 { at0 = w0.at0 + 2; at58 = x + 4096; at59 = w0.high * 2 ^ 36 / 2 ^ 54 }) 18 (c + 1)
-            (followed fetched (G_passed f even_base o w1 x (Some n) (omega arith) (omega arith) l room_next))
-            (sym (by_tests false true _ _ _ (ap (λ y. nat_eq y 3) e) (eq_true n 27 e) refl refl refl ∙ rw u refl))
-            (lit≤ tt) at_next_is c_fits refl refl refl
+            jump_end (record w1 { at0 = w0.at0 + 2; at58 = x + 4096; at59 = w0.high * 2 ^ 36 / 2 ^ 54 }) (c + 1)
+            (followed fetched (G_passed f even_base o w1 x (omega arith, omega arith) l room_next))
+            (sym (by_tests (ap (λ y. nat_eq y 3) e) (eq_true n 27 e) refl refl refl ∙ rw u refl), lit≤ tt)
+            (at_next_is, c_fits) (refl, refl, refl)
             (s ∙ rw (t, r) refl)
         | inr h ↦
             let t : nat_le (2 ^ 70) g.acc ≡ true = le_true (2 ^ 70) g.acc (acc_high h) in
             let u : nat_lt g.acc (2 ^ 70) ≡ false = lt_false g.acc (2 ^ 70) (acc_high h) in
-            jump_end (record w1 { at0 = x + 4096; at58 = x + 4096; at59 = w0.high * 2 ^ 36 / 2 ^ 54 }) 16 (address_of x)
-            (followed fetched (G_taken f even_base o w1 x (Some n) (omega arith) (omega arith) h high_fits))
-            (sym (by_tests false true _ _ _ (ap (λ y. nat_eq y 3) e) (eq_true n 27 e) refl refl refl ∙ rw u refl))
-            (lit≤ tt) (omega arith) (omega (arith, p.below)) refl refl refl
+            jump_end (record w1 { at0 = x + 4096; at58 = x + 4096; at59 = w0.high * 2 ^ 36 / 2 ^ 54 }) (address_of x)
+            (followed fetched (G_taken f even_base o w1 x (omega arith, omega arith) (h, high_fits)))
+            (sym (by_tests (ap (λ y. nat_eq y 3) e) (eq_true n 27 e) refl refl refl ∙ rw u refl), lit≤ tt)
+            (omega arith, omega (arith, p.below)) (refl, refl, refl)
             (s ∙ rw (t, q) refl)
       ]
 

@@ -100,12 +100,24 @@ blocked_end Stopped full h = absurd (true≢false h)
 blocked_end (NoOrder function) full h = (EndsNoOrder, refl, inl refl)
 blocked_end NoTape full h = (EndsNoTape, refl, inr refl)
 
-module _ (base : ℕ) (even_base : base % 2 ≡ 0) (s t : State) (sheet full : Sheet) (ending : Ending)
-    (store : IsStore s.store) (room : base + 66 ≤ locations s.size)
-    (stands : CheckerStands base s) (ok : IsAllowed base (guest base s)) (space : 2 ≤ sheet.room - length sheet.codes)
-    (runs : IsRun (turn_orders (guest base s)) 1 s sheet ending t full) where
+-- a run of as many orders as a turn takes, from a state in which the routine stands and its guest's order is allowed
+pub record IsTurn (base count : ℕ) (s t : State) (sheet full : Sheet) (ending : Ending) : Type 0 where
+  pub even : base % 2 ≡ 0
+  pub store : IsStore s.store
+  pub room : base + 66 ≤ locations s.size
+  pub stands : CheckerStands base s
+  pub allowed : IsAllowed base (guest base s)
+  pub space : 2 ≤ sheet.room - length sheet.codes
+  pub count_is : count ≡ turn_orders (guest base s)
+  pub run : IsRun count 1 s sheet ending t full
+
+module _ {base count : ℕ} {s t : State} {sheet full : Sheet} {ending : Ending}
+    (o : IsTurn base count s t sheet full ending) where
   abbrev g : State
   g = guest base s
+
+  runs : IsRun (turn_orders g) 1 s sheet ending t full
+  runs = subst (λ k. IsRun k 1 s sheet ending t full) o.count_is o.run
 
   -- how many codes the paper takes
   abbrev space_left : ℕ
@@ -128,15 +140,17 @@ module _ (base : ℕ) (even_base : base % 2 ≡ 0) (s t : State) (sheet full : S
 
   done : is_obeyed (step g).turn ≡ true → Done
   done h =
-      let r : Turned base s = turn base even_base s store room stands ok h in
+      let r : Turned base s = turn base o.even s o.store o.room o.stands o.allowed h in
       let cs = function_of (next_word g) ∷ codes_of (step g).turn in
       let few = few_codes (step g).turn in
+      let space = o.space in
       let printed : length (past r.count s).codes ≡ length cs = ap (λ (p : Past). length p.codes) r.ran.is in
       let stopped : (past r.count s).stops ≡ stops_of (step g).turn = ap (λ (p : Past). p.stops) r.ran.is in
       let e = subst (λ limit. EndsAfter limit 1 space_left s r.count Limit) r.exact
-      (at_limit r.count 1 space_left s (record { obeyed = r.ran.free; printed = omega (arith, few, printed) })
+      (at_limit r.count 1 {room = space_left} {s = s}
+      (record { obeyed = r.ran.free; printed = omega (arith, few, printed) })
       (omega (arith, few_stops (step g).turn, stopped))) in
-      let u = ends_once (turn_orders g) 1 space_left s runs.orders r.count ending Limit runs.ends e in
+      let u = ends_once runs.ends e in
       let there : (past runs.orders s) ≡ record { state = r.after; codes = cs; stops = stops_of (step g).turn } =
       ap (λ i. past i s) u.0 ∙ r.ran.is in
       let state : t ≡ r.after = runs.state_is ∙ ap (λ (p : Past). p.state) there in
@@ -159,9 +173,10 @@ module _ (base : ℕ) (even_base : base % 2 ≡ 0) (s t : State) (sheet full : S
 
   blocks : is_obeyed (step g).turn ≡ false → Blocks
   blocks h =
-      let r : Stuck base s = turn_stuck base even_base s store room stands ok h in
+      let r : Stuck base s = turn_stuck base o.even s o.store o.room o.stands o.allowed h in
       let n = function_of (next_word g) in
       let cs = n ∷ [] in
+      let space = o.space in
       let count : r.count ≡ turn_orders g - 17 = omega (arith, r.exact) in
       let below : r.count < turn_orders g = omega (arith, r.exact) in
       let b = blocked_end (step r.after).turn (nat_le space_left (length cs)) (ap is_obeyed r.turn ∙ h) in
@@ -170,12 +185,14 @@ module _ (base : ℕ) (even_base : base % 2 ≡ 0) (s t : State) (sheet full : S
       let there_too : end_by (step (past r.count s).state).turn (nat_le space_left (length (past r.count s).codes))
       ≡ Some b.0 =
       ap (λ (p : Past). end_by (step p.state).turn (nat_le space_left (length p.codes))) r.ran.is ∙ b.1 in
-      let e = at_block (turn_orders g) 1 space_left r.count s b.0
+      let e = at_block (turn_orders g) 1 {room = space_left} {k = r.count} {s = s}
       (record { obeyed = r.ran.free; printed = omega (arith, printed) }) (omega (arith, stopped)) below there_too in
-      let u = ends_once (turn_orders g) 1 space_left s runs.orders r.count ending b.0 runs.ends e in
+      let u = ends_once runs.ends e in
       let there : (past runs.orders s) ≡ record { state = r.after; codes = cs; stops = 0 } = ap (λ i. past i s) u.0
       ∙ r.ran.is in
       let state : t ≡ r.after = runs.state_is ∙ ap (λ (p : Past). p.state) there in
+      let paper : full ≡ record { codes = sheet.codes ++ cs; room = sheet.room } = runs.sheet_is
+      ∙ ap (λ (p : Past). record { codes = sheet.codes ++ p.codes; room = sheet.room }) there in
       let same = same_state (kind_of_function n) (next_word g) g
       (ap (λ (y : Obeyed). is_obeyed y.turn) (sym at_g) ∙ h) in
       let guest_same : g ≡ (step g).state = sym (ap (λ (y : Obeyed). y.state) at_g ∙ same.0) in
@@ -190,10 +207,7 @@ module _ (base : ℕ) (even_base : base % 2 ≡ 0) (s t : State) (sheet full : S
           answer_is = sym (blocked_answer (step g).turn r.count h ∙ ap IsBlocked count);
           state_is = state ∙ sym (ap (λ (p : Past). p.state) r.ran.is);
           free = r.ran.free;
-          paper_is =
-              runs.sheet_is
-              ∙ ap (λ (p : Past). record { codes = sheet.codes ++ p.codes; room = sheet.room }) there
-              ∙ ap (λ xs. record { codes = sheet.codes ++ (n ∷ xs); room = sheet.room }) (sym no_codes);
+          paper_is = paper ∙ ap (λ xs. record { codes = sheet.codes ++ (n ∷ xs); room = sheet.room }) (sym no_codes);
           guest_is = subst (λ x. Agree base (guest base x) (step g).state) (sym state)
               (subst (Agree base (guest base r.after)) guest_same r.agree);
           stands = λ i. absurd (true≢false (sym i ∙ h));
@@ -213,19 +227,23 @@ module _ (base : ℕ) (even_base : base % 2 ≡ 0) (s t : State) (sheet full : S
   no_end l (inr e) = let bad : Limit ≡ EndsNoTape = sym l ∙ e in absurd (cc)
 
   pub when_blocked : ((ending ≡ EndsNoOrder) ⊎ (ending ≡ EndsNoTape))
-      → (17 ≤ turn_orders g) × ChecksOne base s t sheet full (IsBlocked (turn_orders g - 17))
-  when_blocked e = elim answered [ inl d ↦ absurd (no_end d.0 e) | inr b ↦ (b.1, b.2) ]
+      → (17 ≤ count) × ChecksOne base s t sheet full (IsBlocked (count - 17))
+  when_blocked e =
+      subst (λ k. (17 ≤ k) × ChecksOne base s t sheet full (IsBlocked (k - 17))) (sym o.count_is)
+      (elim answered [ inl d ↦ absurd (no_end d.0 e) | inr b ↦ (b.1, b.2) ])
 
   not_blocked : (ending ≡ EndsNoOrder → ⊥) → (ending ≡ EndsNoTape → ⊥)
       → ((ending ≡ EndsNoOrder) ⊎ (ending ≡ EndsNoTape)) → ⊥
   not_blocked a b (inl e) = a e
   not_blocked a b (inr e) = b e
 
-  pub when_done : (ending ≡ EndsNoOrder → ⊥) → (ending ≡ EndsNoTape → ⊥) → (b : Bool)
+  pub when_done : {b : Bool} → (ending ≡ EndsNoOrder → ⊥) → (ending ≡ EndsNoTape → ⊥)
       → is_Z (kind_of_function (function_of (next_word g))) ≡ b
-      → ChecksOne base s t sheet full (if b then HasStopped (turn_orders g) else HasGone (turn_orders g))
-  when_done a c b e = elim answered [
-    | inl d ↦ subst (λ b. ChecksOne base s t sheet full
-        (if b then HasStopped (turn_orders g) else HasGone (turn_orders g))) e d.1
-    | inr x ↦ absurd (not_blocked a c x.0)
-  ]
+      → ChecksOne base s t sheet full (if b then HasStopped count else HasGone count)
+  when_done {b} a c e =
+      subst (λ k. ChecksOne base s t sheet full (if b then HasStopped k else HasGone k)) (sym o.count_is)
+      (elim answered [
+        | inl d ↦ subst (λ b. ChecksOne base s t sheet full
+            (if b then HasStopped (turn_orders g) else HasGone (turn_orders g))) e d.1
+        | inr x ↦ absurd (not_blocked a c x.0)
+      ])

@@ -22,8 +22,8 @@ abbrev pub length_of_checker : ℕ
 length_of_checker = 66
 
 -- a location outside the routine
-abbrev pub IsOutside : ℕ → ℕ → Type 0
-IsOutside base a = (a < base) ⊎ (base + length_of_checker ≤ a)
+abbrev pub IsOutsideChecker : ℕ → ℕ → Type 0
+IsOutsideChecker base a = (a < base) ⊎ (base + length_of_checker ≤ a)
 
 -- the guest: the machine's store, multiplier, tape and size; its counter is the address of the order at the routine's
 -- first place, its accumulator is kept in three long locations, nothing was printed and no order is done
@@ -39,8 +39,8 @@ guest base s = record s {
 -- code and the orders done
 pub record Agree (base : ℕ) (s t : State) : Type 0 where
   pub size : s.size ≡ t.size
-  pub words : (a : ℕ) → IsOutside base a → short_at s.store a ≡ short_at t.store a
-  pub digits : (a : ℕ) → IsOutside base a → sandwich_at s.store a ≡ sandwich_at t.store a
+  pub words : (a : ℕ) → IsOutsideChecker base a → short_at s.store a ≡ short_at t.store a
+  pub digits : (a : ℕ) → IsOutsideChecker base a → sandwich_at s.store a ≡ sandwich_at t.store a
   pub acc : s.acc ≡ t.acc
   pub multiplier : s.multiplier ≡ t.multiplier
   pub counter : s.counter ≡ t.counter
@@ -48,15 +48,15 @@ pub record Agree (base : ℕ) (s t : State) : Type 0 where
 
 -- an order reaches no place of the routine: its location, or both of its pair where it is long, is outside
 abbrev pub Reaches : Bool → ℕ → ℕ → Type 0
-Reaches true base p = IsOutside base (even p) × IsOutside base (odd p)
-Reaches false base p = IsOutside base p
+Reaches true base p = IsOutsideChecker base (even p) × IsOutsideChecker base (odd p)
+Reaches false base p = IsOutsideChecker base p
 
 -- an E or G order that the routine can take for the guest
 pub record IsPlainJump (base w : ℕ) (z : Size) : Type 0 where
   pub short : is_long w ≡ false
   pub plain : is_spare w ≡ false
   pub below : address_of w < locations z
-  pub outside : IsOutside base (address_of w)
+  pub outside : IsOutsideChecker base (address_of w)
 
 -- what the routine asks of an order of the guest, by its kind; its location is taken modulo the size
 abbrev pub IsAllowedOrder : Option Kind → ℕ → ℕ → Size → Type 0
@@ -82,7 +82,7 @@ IsAllowedOrder None base w z = Unit {0}
 
 -- what the routine asks of the guest for its next order
 pub record IsAllowed (base : ℕ) (g : State) : Type 0 where
-  pub outside : IsOutside base g.counter
+  pub outside : IsOutsideChecker base g.counter
   pub next : g.counter + 1 < locations g.size
   pub order : IsAllowedOrder (kind_of_function (function_of (next_word g))) base (next_word g) g.size
 

@@ -1,18 +1,19 @@
 -- The routine `divide`, by its listing. The long word at place 38 is four times a number that begins as the dividend
 -- and ends as the remainder and the quotient side by side.
-use Rattle.std.proofs.Common.{◌≡◌, ◌≢◌, ℕ, zero, suc, ◌+◌, ◌-◌, ◌*◌, ◌/◌, ◌%◌, ◌^◌}
-use Rattle.std.proofs.Common.{◌<◌, ◌≤◌, refl, arith, lit<, lit≤, Bool, true, false}
-use Rattle.std.proofs.Common.{nat_eq, List, [], ◌∷◌, Option, get_or, set, length}
+use Rattle.std.proofs.Common.{◌≡◌, ℕ, zero, suc, ◌+◌, ◌-◌, ◌*◌, ◌/◌, ◌%◌, ◌^◌}
+use Rattle.std.proofs.Common.{◌<◌, ◌≤◌, refl, arith, lit<, Bool, true, false}
+use Rattle.std.proofs.Common.{nat_eq, List, [], ◌∷◌, get_or, set, length}
 use Rattle.std.proofs.lemmas.Bool.Decides.{nat_tests}
-use Rattle.std.proofs.lemmas.List.{get_or-set_same, length-set}
+use Rattle.std.proofs.lemmas.List.{get_or-set_same}
 use Rattle.ed_words.specs.Words.{joined}
 use Rattle.ed_words.proofs.SizeLemmas.{most}
-use Rattle.ed_paths.proofs.Frames.{Frame, Moment, short, long}
+use Rattle.ed_paths.proofs.Frames.{Moment, short, long}
 use Rattle.ed_paths.proofs.Places.{IsOutside, early, own, pair, out, any}
 use Rattle.ed_paths.proofs.Shifts.{RF, RD, LD, LF, L2F}
-use Rattle.ed_paths.proofs.Sums.{Remains, parted}
+use Rattle.ed_paths.proofs.Sums.{parted}
 use Rattle.ed_paths.proofs.Moves.{A, S, T, T_top, U, U_top, R, L, E_jumps, E_stays, G_jumps, G_stays}
 use Rattle.ed_paths.proofs.Paths.{Path, stay, on, followed}
+use Rattle.ed_routines.proofs.Called.{Call, moment}
 use Rattle.ed_maths.proofs.Quotient.{bit, next, numbers, quotient, decided}
 use Rattle.ed_maths.proofs.Quotient.{small as small_quotient, hit, hits, hits_ones}
 use Rattle.ed_maths.specs.Quotients.{ones}
@@ -55,157 +56,183 @@ whole_long : (a v u : ℕ) → (a + v * 2 ^ 36) % 2 ^ 71 ≡ u
     → (a + joined (v / 2 ^ 18) (nat_eq (v / 2 ^ 17 % 2) 1) (v % 2 ^ 17) * 2 ^ 36) % 2 ^ 71 ≡ u
 whole_long a v u e = rw (parted v) e
 
-module _ (f : Frame 41 18) (behind : 56 ≤ f.base) (even : f.base % 2 ≡ 0) (high low by m multiplier : ℕ) (tape : List ℕ)
-    (sandwich : List Bool) (last : Option ℕ) where
+-- a call of the routine, its three places, and the words around it, with the halves h and l of the dividend and the
+-- divisor d at these places
+pub record Given : Type 0 where
+  pub call : Call 41 18
+  pub even : call.frame.base % 2 ≡ 0
+  pub high : ℕ
+  pub low : ℕ
+  pub by : ℕ
+  pub ws : List ℕ
+  pub d : ℕ
+  pub h : ℕ
+  pub l : ℕ
+  pub is_high : get_or ws high 0 ≡ h
+  pub is_low : get_or ws low 0 ≡ l
+  pub is_by : get_or ws by 0 ≡ d
+  pub positive : 1 ≤ d
+  pub fits : d ≤ 32767
+  pub small : l < 65536
+  pub less : h < d
+  pub all : length ws ≡ 1024
+  pub at3 : get_or ws 3 0 ≡ 28676
+  pub room : call.from + 3 ≤ call.frame.top
+  pub inside : high < 1024
+  pub away_high : IsOutside call.frame ws high
+  pub away_low : IsOutside call.frame ws low
+  pub away_by : IsOutside call.frame ws by
+  pub away_then : (v : ℕ) → IsOutside call.frame (set ws high v) high
+  pub away_last : (v : ℕ) → IsOutside call.frame (set ws high v) low
+
+module _ (given : Given) where
+  open given use {even, high, low, by, ws, d, h, l, is_high, is_low, is_by, positive, fits, small, less, all, at3, room}
+  open given use {inside, away_high, away_low, away_by, away_then, away_last}
+  open given use {call, call.{frame as f, behind, from as m}}
+
   abbrev pub run : List ℕ → Work → ℕ → ℕ → Moment
-  run ws w acc i = record {
-    words = ws;
-    digits = sandwich;
-    cells = cells f.base high low by w;
-    pairs = digits w;
-    acc = acc;
-    multiplier = multiplier;
-    counter = f.base + i;
-    tape = tape;
-    last = last;
-  }
+  run ws w acc i = record (moment call ws (cells f.base high low by w) 0 i) { pairs = digits w; acc = acc }
 
   -- in the loop: the count, and the long word at 38
   abbrev pub work : ℕ → ℕ → ℕ → Work
   work c v spare = record { at32 = 12288 + 2 * (m + 2); at35 = c; at36 = parts 4; at38 = parts v; at40 = spare }
 
-  module _ (d : ℕ) (ws : List ℕ) (away : IsOutside f ws by) (is_by : get_or ws by 0 ≡ d) (positive : 1 ≤ d)
-      (fits : d ≤ 32767) where
-    -- a turn that subtracts the divisor, and one that doesn't
-    turn_1 : (c e x spare acc : ℕ) → acc ≡ short c → 65536 * d ≤ 2 * x → x < 65536 * d → c < 2 ^ 17
-        → (c + 1) % 2 ^ 17 ≡ e
-        → Path f 10 (run ws (work c (4 * x) spare) acc 13) []
-        (run ws (work e (4 * (2 * x + 1 - 65536 * d)) c) (short e) 25)
-    turn_1 c e x spare acc top one under few is =
-        on (T 13 (own 40) c refl top)
-        (on (A 14 (pair 38 1 even) (long (4 * x)) refl (whole_long 0 (4 * x) (long (4 * x)) (omega arith)))
-        (on (L 15 LD (long (8 * x)) refl (omega arith))
-        (on (S 16 (out by away) (long (8 * x - d * 2 ^ 18)) refl (omega arith))
-        (on (E_jumps 17 (own 20) refl (omega arith))
-        (on (A 20 (pair 36 0 even) (long (4 * (2 * x + 1 - 65536 * d))) refl (omega arith))
-        (on (T 21 (pair 38 1 even) (4 * (2 * x + 1 - 65536 * d)) refl refl)
-        (on (A 22 (own 35) (short c) refl (omega arith))
-        (on (A 23 (own 33) (short e) refl (omega arith))
-        (on (U 24 (own 35) e refl refl) stay)))))))))
+  -- a turn that subtracts the divisor, and one that doesn't
+  turn_1 : {spare : ℕ} (c e x : ℕ) → 65536 * d ≤ 2 * x → x < 65536 * d → c < 2 ^ 17 → (c + 1) % 2 ^ 17 ≡ e
+      → Path f 10 (run ws (work c (4 * x) spare) (short c) 13) []
+      (run ws (work e (4 * (2 * x + 1 - 65536 * d)) c) (short e) 25)
+  turn_1 c e x one under few is =
+      let least = positive in let most = fits in let divisor = is_by in
+      on (T 13 (own 40) c refl refl)
+      (on (A 14 (pair 38 1 even) (long (4 * x)) refl (whole_long 0 (4 * x) (long (4 * x)) (omega arith)))
+      (on (L 15 LD (long (8 * x)) refl (omega arith))
+      (on (S 16 (out by away_by) (long (8 * x - d * 2 ^ 18)) refl (omega arith))
+      (on (E_jumps 17 (own 20) refl (omega arith))
+      (on (A 20 (pair 36 0 even) (long (4 * (2 * x + 1 - 65536 * d))) refl (omega arith))
+      (on (T 21 (pair 38 1 even) (4 * (2 * x + 1 - 65536 * d)) refl refl)
+      (on (A 22 (own 35) (short c) refl (omega arith))
+      (on (A 23 (own 33) (short e) refl (omega arith))
+      (on (U 24 (own 35) e refl refl) stay)))))))))
 
-    turn_0 : (c e x spare acc : ℕ) → acc ≡ short c → 2 * x < 65536 * d → c < 2 ^ 17 → (c + 1) % 2 ^ 17 ≡ e
-        → Path f 11 (run ws (work c (4 * x) spare) acc 13) [] (run ws (work e (4 * (2 * x)) c) (short e) 25)
-    turn_0 c e x spare acc top under few is =
-        on (T 13 (own 40) c refl top)
-        (on (A 14 (pair 38 1 even) (long (4 * x)) refl (whole_long 0 (4 * x) (long (4 * x)) (omega arith)))
-        (on (L 15 LD (long (8 * x)) refl (omega arith))
-        (on (S 16 (out by away) (long (8 * x + (2 ^ 35 - d * 2 ^ 18))) refl (omega arith))
-        (on (E_stays 17 (own 20) refl (omega arith))
-        (on (A 18 (out by away) (long (4 * (2 * x))) refl (omega arith))
-        (on (E_jumps 19 (own 21) refl (omega arith))
-        (on (T 21 (pair 38 1 even) (4 * (2 * x)) refl refl)
-        (on (A 22 (own 35) (short c) refl (omega arith))
-        (on (A 23 (own 33) (short e) refl (omega arith))
-        (on (U 24 (own 35) e refl refl) stay))))))))))
+  turn_0 : {spare : ℕ} (c e x : ℕ) → 2 * x < 65536 * d → c < 2 ^ 17 → (c + 1) % 2 ^ 17 ≡ e
+      → Path f 11 (run ws (work c (4 * x) spare) (short c) 13) [] (run ws (work e (4 * (2 * x)) c) (short e) 25)
+  turn_0 c e x under few is =
+      let least = positive in let most = fits in let divisor = is_by in
+      on (T 13 (own 40) c refl refl)
+      (on (A 14 (pair 38 1 even) (long (4 * x)) refl (whole_long 0 (4 * x) (long (4 * x)) (omega arith)))
+      (on (L 15 LD (long (8 * x)) refl (omega arith))
+      (on (S 16 (out by away_by) (long (8 * x + (2 ^ 35 - d * 2 ^ 18))) refl (omega arith))
+      (on (E_stays 17 (own 20) refl (omega arith))
+      (on (A 18 (out by away_by) (long (4 * (2 * x))) refl (omega arith))
+      (on (E_jumps 19 (own 21) refl (omega arith))
+      (on (T 21 (pair 38 1 even) (4 * (2 * x)) refl refl)
+      (on (A 22 (own 35) (short c) refl (omega arith))
+      (on (A 23 (own 33) (short e) refl (omega arith))
+      (on (U 24 (own 35) e refl refl) stay))))))))))
 
-    abbrev cost : Bool → ℕ
-    cost true = 10
-    cost false = 11
+  abbrev cost : Bool → ℕ
+  cost true = 10
+  cost false = 11
 
-    turn : (b : Bool) (c e x spare acc : ℕ) → bit d x ≡ b → acc ≡ short c → x < 65536 * d → c < 2 ^ 17
-        → (c + 1) % 2 ^ 17 ≡ e
-        → Path f (cost b) (run ws (work c (4 * x) spare) acc 13) [] (run ws (work e (4 * next d b x) c) (short e) 25)
-    turn true c e x spare acc t top under few is = turn_1 c e x spare acc top (grind (arith, nat_tests)) under few is
-    turn false c e x spare acc t top under few is =
-        let h : 2 * x < 65536 * d = grind (arith, nat_tests) in turn_0 c e x spare acc top h few is
+  turn : {spare : ℕ} (b : Bool) (c e x : ℕ) → bit d x ≡ b → x < 65536 * d → c < 2 ^ 17 → (c + 1) % 2 ^ 17 ≡ e
+      → Path f (cost b) (run ws (work c (4 * x) spare) (short c) 13) []
+      (run ws (work e (4 * next d b x) c) (short e) 25)
+  turn true c e x t under few is = turn_1 c e x (grind (arith, nat_tests)) under few is
+  turn false c e x t under few is = let h : 2 * x < 65536 * d = grind (arith, nat_tests) in turn_0 c e x h few is
 
-    next_low : (b : Bool) (x : ℕ) → bit d x ≡ b → x < 65536 * d → next d b x < 65536 * d
-    next_low true x t under = let h : 65536 * d ≤ 2 * x = grind (arith, nat_tests) in omega arith
-    next_low false x t under = grind (arith, nat_tests)
+  next_low : (b : Bool) (x : ℕ) → bit d x ≡ b → x < 65536 * d → next d b x < 65536 * d
+  next_low true x t under = let h : 65536 * d ≤ 2 * x = grind (arith, nat_tests) in omega arith
+  next_low false x t under = grind (arith, nat_tests)
 
-    unfoldable costs : ℕ → ℕ → ℕ
-    costs zero x = cost (bit d x) + 1
-    costs (suc k) x = cost (bit d x) + (1 + costs k (next d (bit d x) x))
+  unfoldable costs : ℕ → ℕ → ℕ
+  costs zero x = cost (bit d x) + 1
+  costs (suc k) x = cost (bit d x) + (1 + costs k (next d (bit d x) x))
 
-    loop : (k c x spare : ℕ) → c + suc k ≡ 2 ^ 17 → k < 16 → x < 65536 * d
-        → Path f (costs k x) (run ws (work c (4 * x) spare) (short c) 13) []
-        (run ws (work 0 (4 * numbers d k x) (2 ^ 17 - 1)) 0 26)
-    unfolding numbers costs
-    loop zero c x spare count few under =
-        let e : c ≡ 2 ^ 17 - 1 = omega arith in
-        rw e (followed (turn (bit d x) (2 ^ 17 - 1) 0 x spare (short (2 ^ 17 - 1)) refl refl under (lit< tt) refl)
-        (on (G_stays 25 (own 13) refl (lit< tt)) stay))
-    loop (suc k) c x spare count few under =
-        followed (turn (bit d x) c (c + 1) x spare (short c) refl refl under (omega arith) (omega arith))
-        (followed (on (G_jumps 25 (own 13) refl (omega arith)) stay)
-        (loop k (c + 1) (next d (bit d x) x) c (omega arith) (omega arith) (next_low (bit d x) x refl under)))
+  loop : (k c x spare : ℕ) → c + suc k ≡ 2 ^ 17 → k < 16 → x < 65536 * d
+      → Path f (costs k x) (run ws (work c (4 * x) spare) (short c) 13) []
+      (run ws (work 0 (4 * numbers d k x) (2 ^ 17 - 1)) 0 26)
+  unfolding numbers costs
+  loop zero c x spare count few under =
+      let e : c ≡ 2 ^ 17 - 1 = omega arith in
+      rw e (followed (turn (bit d x) (2 ^ 17 - 1) 0 x refl under (lit< tt) refl)
+      (on (G_stays 25 (own 13) refl (lit< tt)) stay))
+  loop (suc k) c x spare count few under =
+      followed (turn (bit d x) c (c + 1) x refl under (omega arith) (omega arith))
+      (followed (on (G_jumps 25 (own 13) refl (omega arith)) stay)
+      (loop k (c + 1) (next d (bit d x) x) c (omega arith) (omega arith) (next_low (bit d x) x refl under)))
 
-    cost_is : (b : Bool) → cost b + hit b ≡ 11
-    cost_is true = refl
-    cost_is false = refl
+  cost_is : (b : Bool) → cost b + hit b ≡ 11
+  cost_is true = refl
+  cost_is false = refl
 
-    count : (k x : ℕ) → costs k x + hits d k x ≡ 12 * (k + 1)
-    unfolding costs hits
-    count zero x = let c = cost_is (bit d x) in omega arith
-    count (suc k) x = let c = cost_is (bit d x) in let r = count k (next d (bit d x) x) in omega arith
+  count : (k x : ℕ) → costs k x + hits d k x ≡ 12 * (k + 1)
+  unfolding costs hits
+  count zero x = let c = cost_is (bit d x) in omega arith
+  count (suc k) x = let c = cost_is (bit d x) in let r = count k (next d (bit d x) x) in omega arith
 
-    module _ (h l : ℕ) (is_high : get_or ws high 0 ≡ h) (is_low : get_or ws low 0 ≡ l) (at3 : get_or ws 3 0 ≡ 28676)
-        (room : m + 3 ≤ f.top)
-        (away_high : IsOutside f ws high) (away_low : IsOutside f ws low)
-        (away_then : (v : ℕ) → IsOutside f (set ws high v) high)
-        (away_last : (v : ℕ) → IsOutside f (set ws high v) low) (all : length ws ≡ 1024) (inside : high < 1024)
-        (small : l < 65536)
-        (less : h < d) where
-      opened : (w : Work) → Path f 13 (run ws w (short (114688 + 2 * m)) 0) []
-          (run ws (work (2 ^ 17 - 16) (4 * (65536 * h + l)) w.at40) (short (2 ^ 17 - 16)) 13)
-      opened w =
-          let b = most f.size in let top = f.fits in
-          on (A 0 (out 3 (early 3 behind (lit< tt) all)) (short (12288 + 2 * (m + 2))) refl (omega arith))
-          (on (T 1 (own 32) _ refl refl)
-          (on (A 2 (own 33) (long (2 ^ 18)) refl refl)
-          (on (R 3 RF (long 8) refl (omega arith))
-          (on (R 4 RD (long 4) refl (omega arith))
-          (on (T 5 (pair 36 0 even) 4 refl refl)
-          (on (A 6 (out low away_low) (short l) refl (omega arith))
-          (on (R 7 RF (long (8 * l)) refl (omega arith))
-          (on (R 8 RD (long (4 * l)) refl (omega arith))
-          (on (A 9 (out high away_high) (long (4 * (65536 * h + l))) refl (omega arith))
-          (on (T 10 (pair 38 1 even) (4 * (65536 * h + l)) refl refl)
-          (on (S 11 (own 34) (short (2 ^ 17 - 16)) refl (omega arith))
-          (on (U 12 (own 35) (2 ^ 17 - 16) refl refl) stay))))))))))))
+  opened : (w : Work) → Path f 13 (run ws w (short (114688 + 2 * m)) 0) []
+      (run ws (work (2 ^ 17 - 16) (4 * (65536 * h + l)) w.at40) (short (2 ^ 17 - 16)) 13)
+  opened w =
+      let b = most f.size in
+      let top = f.fits in
+      let back = room in
+      let third = at3 in
+      let e_high = is_high in
+      let e_low = is_low in
+      let few = small in
+      let smaller = less in
+      let divisor = fits in
+      on (A 0 (out 3 (early 3 behind (lit< tt) all)) (short (12288 + 2 * (m + 2))) refl (omega arith))
+      (on (T 1 (own 32) _ refl refl)
+      (on (A 2 (own 33) (long (2 ^ 18)) refl refl)
+      (on (R 3 RF (long 8) refl (omega arith))
+      (on (R 4 RD (long 4) refl (omega arith))
+      (on (T 5 (pair 36 0 even) 4 refl refl)
+      (on (A 6 (out low away_low) (short l) refl (omega arith))
+      (on (R 7 RF (long (8 * l)) refl (omega arith))
+      (on (R 8 RD (long (4 * l)) refl (omega arith))
+      (on (A 9 (out high away_high) (long (4 * (65536 * h + l))) refl (omega arith))
+      (on (T 10 (pair 38 1 even) (4 * (65536 * h + l)) refl refl)
+      (on (S 11 (own 34) (short (2 ^ 17 - 16)) refl (omega arith))
+      (on (U 12 (own 35) (2 ^ 17 - 16) refl refl) stay))))))))))))
 
-      -- the number at 38 is the remainder and the quotient
-      closed : (x q r spare : ℕ) → x ≡ 65536 * r + q → q < 65536 → r < 32768
-          → Path f 7 (run ws (work 0 (4 * x) spare) 0 26) []
-          (record (run (set (set ws high r) low q) (work 0 (4 * x) spare) 0 0) { counter = m + 2 })
-      closed x q r spare is fits_q fits_r =
-          let there : m + 2 < f.top = omega arith in
-          let now : get_or (set ws high r) high 0 ≡ r = get_or-set_same ws high r 0 (omega arith) in
-          on (A 26 (pair 38 1 even) (long (4 * x)) refl (whole_long 0 (4 * x) (long (4 * x)) (omega arith)))
-          (on (U_top 27 (out high away_high) r refl (omega arith))
-          (on (S 28 (out high (away_then r)) (long (4 * q)) refl (omega arith))
-          (on (L 29 LF (long (2 ^ 15 * q)) refl (omega arith))
-          (on (L 30 L2F (long (2 ^ 18 * q)) refl (omega arith))
-          (on (T_top 31 (out low (away_last r)) q refl (omega arith))
-          (on (E_jumps 32 (any (m + 2) there) refl (lit< tt)) stay))))))
+  -- the number at 38 is the remainder and the quotient
+  closed : (x q r spare : ℕ) → x ≡ 65536 * r + q → q < 65536 → r < 32768
+      → Path f 7 (run ws (work 0 (4 * x) spare) 0 26) []
+      (record (run (set (set ws high r) low q) (work 0 (4 * x) spare) 0 0) { counter = m + 2 })
+  closed x q r spare is fits_q fits_r =
+      let there : m + 2 < f.top = omega (arith, room) in
+      let divisor = fits in
+      let now : get_or (set ws high r) high 0 ≡ r = get_or-set_same ws high r 0 (omega (arith, all, inside)) in
+      on (A 26 (pair 38 1 even) (long (4 * x)) refl (whole_long 0 (4 * x) (long (4 * x)) (omega arith)))
+      (on (U_top 27 (out high away_high) r refl (omega arith))
+      (on (S 28 (out high (away_then r)) (long (4 * q)) refl (omega arith))
+      (on (L 29 LF (long (2 ^ 15 * q)) refl (omega arith))
+      (on (L 30 L2F (long (2 ^ 18 * q)) refl (omega arith))
+      (on (T_top 31 (out low (away_last r)) q refl (omega arith))
+      (on (E_jumps 32 (any (m + 2) there) refl (lit< tt)) stay))))))
 
-      abbrev n : ℕ
-      n = 65536 * h + l
+  abbrev n : ℕ
+  n = 65536 * h + l
 
-      pub whole : (w : Work) (k : ℕ) → k + ones 16 (n / d) ≡ 212
-          → Path f k (run ws w (short (114688 + 2 * m)) 0) []
-          (record (run (set (set ws high (n % d)) low (n / d)) (work 0 (4 * numbers d 15 n) (2 ^ 17 - 1)) 0 0)
-          { counter = m + 2 })
-      unfolding ones
-      whole w k total =
-          let e : 65536 * d - 1 + 1 ≡ 65536 * d = omega arith in
-          let r = decided d (65536 * d - 1) e n (quotient d 15 0 n) refl (omega arith) positive in
-          let fits_q : n / d < 65536 = rw r.0 (small_quotient d (65536 * d - 1) e n) in
-          let sum : numbers d 15 n ≡ 65536 * (n % d) + n / d = rw r.0 (r.1) in
-          let fits_r : n % d < 32768 = omega (arith, r.2) in
-          let o : ones 16 (n / d) ≡ 0 + hits d 15 n = rw r.0 (hits_ones d 15 0 0 n) in
-          let c = count 15 n in
-          let s : k ≡ 13 + (costs 15 n + 7) = omega arith in
-          rw s (followed (opened w)
-          (followed (loop 15 (2 ^ 17 - 16) n w.at40 refl (lit< tt) (omega arith))
-          (closed (numbers d 15 n) (n / d) (n % d) (2 ^ 17 - 1) sum fits_q fits_r)))
+  pub whole : (w : Work) (k : ℕ) → k + ones 16 (n / d) ≡ 212
+      → Path f k (run ws w (short (114688 + 2 * m)) 0) []
+      (record (run (set (set ws high (n % d)) low (n / d)) (work 0 (4 * numbers d 15 n) (2 ^ 17 - 1)) 0 0)
+      { counter = m + 2 })
+  unfolding ones
+  whole w k total =
+      let e : 65536 * d - 1 + 1 ≡ 65536 * d = omega (arith, positive) in
+      let few = small in
+      let smaller = less in
+      let divisor = fits in
+      let one = positive in
+      let r = decided d (65536 * d - 1) e n (quotient d 15 0 n) refl (omega arith) positive in
+      let fits_q : n / d < 65536 = rw r.0 (small_quotient d (65536 * d - 1) e n) in
+      let sum : numbers d 15 n ≡ 65536 * (n % d) + n / d = rw r.0 (r.1) in
+      let fits_r : n % d < 32768 = omega (arith, r.2) in
+      let o : ones 16 (n / d) ≡ 0 + hits d 15 n = rw r.0 (hits_ones d 15 0 0 n) in
+      let c = count 15 n in
+      let s : k ≡ 13 + (costs 15 n + 7) = omega arith in
+      rw s (followed (opened w)
+      (followed (loop 15 (2 ^ 17 - 16) n w.at40 refl (lit< tt) (omega arith))
+      (closed (numbers d 15 n) (n / d) (n % d) (2 ^ 17 - 1) sum fits_q fits_r)))

@@ -1,6 +1,6 @@
 -- `divide` from the library's table to what it does.
-use Rattle.std.proofs.Common.{◌≡◌, ◌≢◌, ◌⊎◌, ℕ, zero, suc, ◌+◌, ◌-◌, ◌*◌, ◌/◌, ◌%◌, ◌^◌}
-use Rattle.std.proofs.Common.{◌<◌, ◌≤◌, refl, sym, ap, ◌∙◌, subst, arith, false, Bool}
+use Rattle.std.proofs.Common.{◌≡◌, ◌≢◌, ℕ, zero, suc, ◌+◌, ◌-◌, ◌*◌, ◌/◌, ◌%◌, ◌^◌}
+use Rattle.std.proofs.Common.{◌<◌, refl, sym, ap, ◌∙◌, subst, arith, false}
 use Rattle.std.proofs.Common.{List, [], ◌∷◌, get_or, set, length, inl, inr}
 use Rattle.std.proofs.lemmas.List.{get_or-set_same, get_or-set_other, length-set}
 use Rattle.ed_words.proofs.SizeLemmas.{most}
@@ -8,27 +8,41 @@ use Rattle.ed_orders.specs.declared.kind.Kind.{Kind}
 use Rattle.ed_store.specs.Cells.{short_at}
 use Rattle.ed_machine.specs.State.{State}
 use Rattle.ed_machine.specs.Steps.{state_after}
-use Rattle.ed_paths.proofs.Frames.{Frame, Moment, Beside, state, short}
+use Rattle.ed_paths.proofs.Frames.{Frame, state, short}
 use Rattle.ed_paths.proofs.Places.{IsOutside as IsBeside}
 use Rattle.ed_paths.proofs.Orders.{IsOrder}
 use Rattle.ed_paths.proofs.Paths.{Path, leads, each}
 use Rattle.ed_paths.proofs.Leads.{Leads}
 use Rattle.ed_paths.proofs.Standing.{Holds, opens}
-use Rattle.ed_paths.proofs.Window.{patched, patched_self, get_below, get_above}
+use Rattle.ed_paths.proofs.Window.{patched, patched_self, get_below, get_above, length_patched}
 use Rattle.ed_routines.specs.Standing.{Stands, IsOutside, caller}
 use Rattle.ed_routines.specs.Returns.{IsOther}
-use Rattle.ed_routines.proofs.Called.{IsWithin, image, holds, kept, length-patched}
+use Rattle.ed_routines.proofs.Image.{Makes, none, more}
+use Rattle.ed_routines.proofs.Called.{Call, IsWithin, image, holds, kept, beside, call_of}
 use Rattle.ed_maths.specs.Quotients.{divide, with_hnm, dividend, divide_orders, ones, IsDivision, IsOtherPair, Divided}
 use Rattle.ed_maths.proofs.Quotient.{numbers}
 use Rattle.ed_maths.proofs.Ones.{few_ones}
-use Rattle.ed_maths.proofs.Divide.{Work, cells, digits, run, work, whole}
+use Rattle.ed_maths.proofs.Divide.{Given, Work, cells, digits, run, work, whole}
 
-module _ (b high low by top : ℕ) (s : State) (all : length s.store.words ≡ 1024)
-    (all_digits : length s.store.sandwich ≡ 512)
-    (o : Stands divide (with_hnm high low by) b s) (even : b % 2 ≡ 0) (is : IsDivision b high low by s)
-    (within : IsWithin 41 b high top s) (near_low : low < top) (near_by : by < top) where
+-- `divide` is called in a state, and all is below a place
+pub record CallsDivide (b high low by top : ℕ) (s : State) : Type 0 where
+  pub all : length s.store.words ≡ 1024
+  pub all_digits : length s.store.sandwich ≡ 512
+  pub stands : Stands divide (with_hnm high low by) b s
+  pub even : b % 2 ≡ 0
+  pub division : IsDivision b high low by s
+  pub within : IsWithin 41 b high top s
+  pub near_low : low < top
+  pub near_by : by < top
+
+module _ {b high low by top : ℕ} {s : State} (o : CallsDivide b high low by top s) where
+  open o.division use {high_outside, low_outside, by_outside}
+
+  abbrev call : Call 41 18
+  call = call_of o.stands.low o.within
+
   abbrev f : Frame 41 18
-  f = record { size = s.size; base = b; top = top; under = within.under; fits = within.fits }
+  f = call.frame
 
   abbrev d : ℕ
   d = short_at s.store by
@@ -39,20 +53,51 @@ module _ (b high low by top : ℕ) (s : State) (all : length s.store.words ≡ 1
   abbrev hs : List ℕ
   hs = high ∷ low ∷ by ∷ []
 
-  near_at : (p : ℕ) → p < 3 → get_or hs p 0 ≤ 1023
-  near_at zero l = let size = most s.size in let below = is.high_outside.below in omega arith
-  near_at (suc zero) l = let size = most s.size in let below = is.low_outside.below in omega arith
-  near_at (suc (suc zero)) l = let size = most s.size in let below = is.by_outside.below in omega arith
-  near_at (suc (suc (suc p))) l = absurd (omega arith)
-
-  parameter_is : (p : ℕ) → p < 3 → get_or (with_hnm high low by) p 0 ≡ 2 * get_or hs p 0
-  parameter_is zero l = refl
-  parameter_is (suc zero) l = refl
-  parameter_is (suc (suc zero)) l = refl
-  parameter_is (suc (suc (suc p))) l = absurd (omega arith)
+  makes : Makes (with_hnm high low by) hs
+  makes =
+      let size = most s.size in
+      let first = high_outside.below in
+      let second = low_outside.below in
+      let third = by_outside.below in
+      more (omega arith) refl (more (omega arith) refl (more (omega arith) refl none))
 
   image_holds : Holds (image divide b hs) s.store.words b
-  image_holds = holds divide b hs 3 (with_hnm high low by) s o near_at parameter_is refl
+  image_holds = holds o.stands makes refl
+
+  abbrev away : {h : ℕ} (words : List ℕ) → length words ≡ 1024 → IsOutside divide b h s → h < top → IsBeside f words h
+  away words long out below = record { below = below; beside = beside words long out }
+
+  abbrev long_set : (v : ℕ) → length (set s.store.words high v) ≡ 1024
+  long_set v = length-set s.store.words high v ∙ o.all
+
+  abbrev given : Given
+  given = record {
+    call = call;
+    even = o.even;
+    high = high;
+    low = low;
+    by = by;
+    ws = s.store.words;
+    d = d;
+    h = short_at s.store high;
+    l = short_at s.store low;
+    is_high = refl;
+    is_low = refl;
+    is_by = refl;
+    positive = o.division.positive;
+    fits = o.division.divisor;
+    small = o.division.small;
+    less = o.division.less;
+    all = o.all;
+    at3 = o.stands.at3;
+    room = o.within.back;
+    inside = let size = most s.size in let below = high_outside.below in omega arith;
+    away_high = away s.store.words o.all high_outside o.within.near;
+    away_low = away s.store.words o.all low_outside o.near_low;
+    away_by = away s.store.words o.all by_outside o.near_by;
+    away_then = λ v. away (set s.store.words high v) (long_set v) high_outside o.within.near;
+    away_last = λ v. away (set s.store.words high v) (long_set v) low_outside o.near_low;
+  }
 
   abbrev first : Work
   first = record {
@@ -71,33 +116,25 @@ module _ (b high low by top : ℕ) (s : State) (all : length s.store.words ≡ 1
     at40 = get_or s.store.words (b + 40) 0;
   }
 
-  abbrev at : List ℕ → Work → ℕ → ℕ → Moment
-  at = run f o.low even high low by (caller s) s.multiplier s.tape s.store.sandwich s.last
-
   digit_is : (j : ℕ) → j < 2 → get_or (digits first) j false ≡ get_or s.store.sandwich (b / 2 + 18 + j) false
   digit_is zero l = refl
   digit_is (suc zero) l = refl
   digit_is (suc (suc j)) l = absurd (omega arith)
 
-  begins : state f (at s.store.words first (short (114688 + 2 * caller s)) 0) s.orders ≡ s
+  begins : state f (run given s.store.words first (short (114688 + 2 * caller s)) 0) s.orders ≡ s
   begins =
       let size = most s.size in
-      let fits = o.fits in
+      let fits = o.stands.fits in
       let words : patched 0 s.store.words b (cells b high low by first) ≡ s.store.words =
-      opens (image divide b hs) s.store.words b (omega (arith, fits, all)) image_holds in
+      opens (image divide b hs) s.store.words b (omega (arith, fits, o.all)) image_holds in
       let sandwich : patched false s.store.sandwich (b / 2 + 18) (digits first) ≡ s.store.sandwich =
-      patched_self false s.store.sandwich (b / 2 + 18) (digits first) (omega (arith, fits, all_digits)) digit_is in
-      let counter : b + 0 ≡ s.counter = omega (arith, o.counter) in
-      let acc : short (114688 + 2 * caller s) ≡ s.acc = sym o.call.acc in
-      λ i. record {
-        size = s.size;
+      patched_self false s.store.sandwich (b / 2 + 18) (digits first) (omega (arith, fits, o.all_digits)) digit_is in
+      let counter : b + 0 ≡ s.counter = omega (arith, o.stands.counter) in
+      let acc : short (114688 + 2 * caller s) ≡ s.acc = sym o.stands.call.acc in
+      λ i. record s {
         store = record { words = words i; sandwich = sandwich i };
         acc = acc i;
-        multiplier = s.multiplier;
         counter = counter i;
-        tape = s.tape;
-        last = s.last;
-        orders = s.orders;
       }
 
   abbrev ws : List ℕ
@@ -105,38 +142,14 @@ module _ (b high low by top : ℕ) (s : State) (all : length s.store.words ≡ 1
 
   -- the words that change, as they are left
   abbrev left : Work
-  left = work f o.low even high low by (caller s) s.multiplier s.tape s.store.sandwich s.last 0 (4 * numbers d 15 n)
-      (2 ^ 17 - 1)
-
-  beside_words : (xs : List ℕ) (h : ℕ) → length xs ≡ 1024 → IsOutside divide b h s → Beside xs b 41 h
-  beside_words xs h long out =
-      let size = most s.size in
-      let below = out.below in
-      elim out.beside [ inl l ↦ inl (l, omega arith) | inr g ↦ inr g ]
-
-  away : (xs : List ℕ) (h : ℕ) → length xs ≡ 1024 → IsOutside divide b h s → h < top → IsBeside f xs h
-  away xs h long out below = record { below = below; beside = beside_words xs h long out }
-
-  long_set : (v : ℕ) → length (set s.store.words high v) ≡ 1024
-  long_set v = length-set s.store.words high v ∙ all
+  left = work given 0 (4 * numbers d 15 n) (2 ^ 17 - 1)
 
   total : divide_orders (n / d) + ones 16 (n / d) ≡ 212
   total = let few = few_ones 16 (n / d) in omega arith
 
-  path : Path f (divide_orders (n / d)) (at s.store.words first (short (114688 + 2 * caller s)) 0) []
-      (record (at ws left 0 0) { counter = caller s + 2 })
-  path =
-      let size = most s.size in
-      let below = is.high_outside.below in
-      whole f o.low even high low by (caller s) s.multiplier s.tape s.store.sandwich s.last d s.store.words
-      (away s.store.words by all is.by_outside near_by) refl is.positive is.divisor (short_at s.store high)
-      (short_at s.store low) refl refl
-      o.at3 within.back (away s.store.words high all is.high_outside within.near)
-      (away s.store.words low all is.low_outside near_low)
-      (λ v. away (set s.store.words high v) high (long_set v) is.high_outside within.near)
-      (λ v. away (set s.store.words high v) low (long_set v) is.low_outside near_low) all
-      (omega arith) is.small is.less first
-      (divide_orders (n / d)) total
+  path : Path f (divide_orders (n / d)) (run given s.store.words first (short (114688 + 2 * caller s)) 0) []
+      (record (run given ws left 0 0) { counter = caller s + 2 })
+  path = whole given first (divide_orders (n / d)) total
 
   abbrev pub last : State
   last = record s {
@@ -152,9 +165,9 @@ module _ (b high low by top : ℕ) (s : State) (all : length s.store.words ≡ 1
   pub all_last : length last.store.words ≡ 1024
   all_last =
       let size = most s.size in
-      let fits = o.fits in
+      let fits = o.stands.fits in
       let long : length ws ≡ 1024 = length-set (set s.store.words high (n % d)) low (n / d) ∙ long_set (n % d) in
-      length-patched 0 ws b (cells b high low by left) (omega (arith, long, fits)) ∙ long
+      length_patched 0 ws b (cells b high low by left) (omega (arith, long, fits)) ∙ long
 
   -- so many orders lead behind the call
   pub leads_to : Leads (divide_orders (n / d)) s [] last
@@ -179,29 +192,29 @@ module _ (b high low by top : ℕ) (s : State) (all : length s.store.words ≡ 1
       get_or-set_other (set s.store.words high (n % d)) low i (n / d) 0 not_low
       ∙ get_or-set_other s.store.words high i (n % d) 0 not_high
 
-  apart : (h : ℕ) → IsOutside divide b h s → (j : ℕ) → j < 41 → b + j ≢ h
-  apart h out j l e = elim out.beside [ inl x ↦ absurd (omega arith) | inr y ↦ absurd (omega arith) ]
+  apart : {h : ℕ} → IsOutside divide b h s → (j : ℕ) → j < 41 → b + j ≢ h
+  apart out j l e = elim out.beside [ inl x ↦ absurd (omega arith) | inr y ↦ absurd (omega arith) ]
 
   still : Holds (image divide b hs) ws b
-  still j l = rw (others (b + j) (apart high is.high_outside j l) (apart low is.low_outside j l)) (image_holds j l)
+  still j l = rw (others (b + j) (apart high_outside j l) (apart low_outside j l)) (image_holds j l)
 
   stays : (i : ℕ) → i ≢ high → i ≢ low → IsOther divide b i → get_or last.store.words i 0 ≡ get_or s.store.words i 0
   stays i not_high not_low free =
-      kept divide b hs ws (cells b high low by left) refl refl still i free ∙ others i not_high not_low
+      kept hs free ws (cells b high low by left) refl refl still ∙ others i not_high not_low
 
   at_low : get_or last.store.words low 0 ≡ n / d
   at_low =
       let size = most s.size in
-      let below = is.low_outside.below in
+      let below = low_outside.below in
       let long = long_set (n % d) in
-      outside low is.low_outside ∙ get_or-set_same (set s.store.words high (n % d)) low (n / d) 0 (omega arith)
+      outside low low_outside ∙ get_or-set_same (set s.store.words high (n % d)) low (n / d) 0 (omega arith)
 
   at_high : get_or last.store.words high 0 ≡ n % d
   at_high =
       let size = most s.size in
-      let below = is.high_outside.below in
-      outside high is.high_outside
-      ∙ get_or-set_other (set s.store.words high (n % d)) low high (n / d) 0 is.high_low
+      let below = high_outside.below in
+      outside high high_outside
+      ∙ get_or-set_other (set s.store.words high (n % d)) low high (n / d) 0 o.division.high_low
       ∙ get_or-set_same s.store.words high (n % d) 0 (omega arith)
 
   digit_stays : (p : ℕ) → IsOtherPair b p → get_or last.store.sandwich p false ≡ get_or s.store.sandwich p false

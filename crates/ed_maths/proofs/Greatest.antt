@@ -1,5 +1,5 @@
 -- The square root of a number, in whole numbers, is one.
-use Rattle.std.proofs.Common.{◌≡◌, ℕ, zero, suc, ◌+◌, ◌*◌, ◌<◌, ◌≤◌, refl, arith, Bool, true, false, nat_le}
+use Rattle.std.proofs.Common.{◌≡◌, ℕ, zero, suc, ◌+◌, ◌*◌, ◌<◌, refl, arith, Bool, true, false, nat_le}
 use Rattle.std.specs.Prelude.{if◌then◌else◌}
 use Rattle.ed_words.proofs.Numbers.{le_of, not_le_of}
 use Rattle.ed_maths.specs.Roots.{IsRoot, root_of, root_up_to}

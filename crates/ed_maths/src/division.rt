@@ -5,7 +5,7 @@ ghost use Rattle.ed_routines.specs.Standing.{Stands, caller};
 ghost use Rattle.ed_maths.specs.Quotients.{Divided, IsDivision, divide, divide_orders, dividend, ones, with_hnm};
 
 use ed_machine::Machine;
-use ed_routines::{Back, obey_orders, way_back};
+use ed_routines::{Back, obey_count, way_back};
 
 /// Runs `divide`, which stands at the even `base` with H = 2 · high, N = 2 · low and M = 2 · by: the number whose
 /// halves are the words at `high` and `low`, the one at `low` below 65536, is divided by the word at `by`, which is 1
@@ -24,7 +24,7 @@ pub fn divide_integers(machine: &mut Machine, base: u16, high: u16, low: u16, by
     let at = way_back(machine);
     let number = 65536 * machine.word(high).value() + machine.word(low).value();
     let orders = 212 - u64::from(count_ones(number / machine.word(by).value()));
-    obey_orders(machine, orders);
+    obey_count(machine, orders);
     Back { at, orders }
 }
 

@@ -5,7 +5,7 @@ ghost use Rattle.ed_routines.specs.Standing.{IsOutside, Stands, caller};
 ghost use Rattle.ed_maths.specs.Roots.{IsRoot, root, root_orders, with_hn};
 
 use ed_machine::Machine;
-use ed_routines::{Back, obey_orders, way_back};
+use ed_routines::{Back, obey_count, way_back};
 
 /// Runs `root`, which stands at `base` with H = 2 · source and N = 2 · target: it puts the square root of the word at
 /// `source`, which is below 65536, at `target`.
@@ -26,7 +26,7 @@ pub fn square_root(machine: &mut Machine, base: u16, source: u16, target: u16) -
 {
     let at = way_back(machine);
     let orders = 14 + 8 * u64::from(root_of(machine.word(source).value()));
-    obey_orders(machine, orders);
+    obey_count(machine, orders);
     Back { at, orders }
 }
 

@@ -1,22 +1,21 @@
 -- A routine that stands: its image in the store, and which words stay once it has returned.
-use Rattle.std.proofs.Common.{◌≡◌, ◌⊎◌, inl, inr, ℕ, zero, suc, ◌+◌, ◌-◌, ◌*◌, ◌<◌, ◌≤◌}
+use Rattle.std.proofs.Common.{◌≡◌, ◌⊎◌, inl, inr, ℕ, ◌+◌, ◌-◌, ◌*◌, ◌<◌, ◌≤◌}
 use Rattle.std.proofs.Common.{refl, sym, ap, ◌∙◌, arith, true, false, true≢false}
-use Rattle.std.proofs.Common.{List, [], ◌∷◌, Option, drop, length, length-append, get_or}
-use Rattle.std.proofs.lemmas.List.{length-drop}
+use Rattle.std.proofs.Common.{Bool, List, [], ◌∷◌, Option, length, get_or}
 use Rattle.std.specs.Prelude.{◌==◌}
 use Rattle.std.specs.List.{list_any}
 use Rattle.ed_words.specs.Sizes.{locations}
 use Rattle.ed_words.proofs.SizeLemmas.{most}
 use Rattle.ed_machine.specs.State.{State}
 use Rattle.ed_library.specs.Entries.{entry}
-use Rattle.ed_library.specs.Routines.{places}
-use Rattle.ed_paths.proofs.Frames.{Beside}
-use Rattle.ed_paths.proofs.Standing.{Holds, IsWorking, merged, unchanged}
+use Rattle.ed_library.specs.Routines.{place_count}
+use Rattle.ed_paths.proofs.Frames.{Beside, Frame, Moment, short, state}
+use Rattle.ed_paths.proofs.Standing.{Holds, IsWorking, filled, merged, opens, unchanged}
 use Rattle.ed_paths.proofs.Window.{patched}
 use Rattle.ed_routines.specs.Catalogue.{with_h}
-use Rattle.ed_routines.specs.Standing.{Stands, IsOutside, caller}
+use Rattle.ed_routines.specs.Standing.{HasWord, Stands, IsOutside, caller}
 use Rattle.ed_routines.specs.Returns.{IsOther}
-use Rattle.ed_routines.proofs.Image.{all_plain, image_from, length_image, meets, working_at}
+use Rattle.ed_routines.proofs.Image.{Makes, none, more, all_plain, holds_rows, image_from, length_image, working_at}
 
 -- the image of a routine at a base, with H, N, M and so on the locations hs
 abbrev pub image : ℕ → ℕ → List ℕ → List (Option ℕ)
@@ -30,77 +29,141 @@ pub record IsWithin (n b h top : ℕ) (s : State) : Type 0 where
   pub fits : top ≤ locations s.size
 
 -- and always below the size
-pub within_size : (r b h : ℕ) (parameters : List ℕ) (s : State) → Stands r parameters b s → IsOutside r b h s
-    → IsWithin (places r) b h (locations s.size) s
-within_size r b h parameters s o out = record {
+pub within_size : {r b h : ℕ} {parameters : List ℕ} {s : State} → Stands r parameters b s → IsOutside r b h s
+    → IsWithin (place_count r) b h (locations s.size) s
+within_size o out = record {
   under = o.fits;
   near = out.below;
   back = o.call.room;
   fits = omega arith;
 }
 
--- a window within a list leaves its length
-pub length-patched : {A : Type 0} (d : A) (xs : List A) (b : ℕ) (cs : List A) → b + length cs ≤ length xs
-    → length (patched d xs b cs) ≡ length xs
-unfolding patched
-length-patched d xs zero cs l = let e = length-append cs (drop (length cs) xs) in let k = length-drop (length cs) xs
-    in omega arith
-length-patched d [] (suc b) cs l = absurd (omega arith)
-length-patched d (x ∷ xs) (suc b) cs l = ap suc (length-patched d xs b cs (omega arith))
+-- a routine is called in a state, with a location h outside it, and all below a place
+pub record IsCalled (r : ℕ) (parameters : List ℕ) (b h top : ℕ) (s : State) : Type 0 where
+  pub all : length s.store.words ≡ 1024
+  pub stands : Stands r parameters b s
+  pub outside : IsOutside r b h s
+  pub within : IsWithin (place_count r) b h top s
 
--- a location outside a routine is beside its cells
-pub beside : (n b h : ℕ) (s : State) → length s.store.words ≡ 1024 → (h < b) ⊎ (b + n ≤ h) → b + n ≤ locations s.size
-    → Beside s.store.words b n h
-beside n b h s all (inl l) fits =
+-- which is so where nothing else is asked but that the store goes so far
+pub called : {r b h : ℕ} {parameters : List ℕ} {s : State} → length s.store.words ≡ 1024 → Stands r parameters b s
+    → IsOutside r b h s → IsCalled r parameters b h (locations s.size) s
+called all stands outside = record {
+  all = all;
+  stands = stands;
+  outside = outside;
+  within = within_size stands outside;
+}
+
+-- a location outside a routine is beside its cells, in as many words as a store has
+pub beside : {r b h : ℕ} {s : State} (words : List ℕ) → length words ≡ 1024 → IsOutside r b h s
+    → Beside words b (place_count r) h
+beside {s = s} words all out =
     let size = most s.size in
-    inl (l, omega arith)
-beside n b h s all (inr g) fits = inr g
+    let below = out.below in
+    elim out.beside [ inl l ↦ inl (l, omega arith) | inr g ↦ inr g ]
 
--- one parameter, H = 2h
-pub near_h : (h : ℕ) → h ≤ 1023 → (p : ℕ) → p < 1 → get_or (h ∷ []) p 0 ≤ 1023
-near_h h near zero l = near
-near_h h near (suc p) l = absurd (omega arith)
+-- words that are a routine's at a base, where its places are no working ones, hold its image
+pub holds_words : (r : ℕ) {parameters hs : List ℕ} {b : ℕ} {s : State} → b ≤ 1024 → Makes parameters hs
+    → all_plain (length hs) (entry r).items ≡ true → ((i : ℕ) → i < place_count r → HasWord r parameters b s i)
+    → Holds (image r b hs) s.store.words b
+holds_words r {s = s} low makes plain words =
+    holds_rows low makes (entry r).working (0, 0, false, 0) (entry r).items s.store.words plain
+    (λ i l. (words i l).has)
 
-pub h_is : (h p : ℕ) → p < 1 → get_or (with_h h) p 0 ≡ 2 * get_or (h ∷ []) p 0
-h_is h zero l = refl
-h_is h (suc p) l = absurd (omega arith)
+-- a routine that stands has its image in the store
+pub holds : {r b : ℕ} {parameters hs : List ℕ} {s : State} → Stands r parameters b s → Makes parameters hs
+    → all_plain (length hs) (entry r).items ≡ true → Holds (image r b hs) s.store.words b
+holds {r} {s = s} o makes plain =
+    let size = most s.size in let fits = o.fits in holds_words r (omega arith) makes plain o.image
 
-module _ (r b : ℕ) (hs : List ℕ) where
-  -- a routine that stands has its image in the store
-  pub holds : (takes : ℕ) (parameters : List ℕ) (s : State) → Stands r parameters b s
-      → ((p : ℕ) → p < takes → get_or hs p 0 ≤ 1023)
-      → ((p : ℕ) → p < takes → get_or parameters p 0 ≡ 2 * get_or hs p 0) → all_plain takes (entry r).items ≡ true
-      → Holds (image r b hs) s.store.words b
-  holds takes parameters s o near is plain i l =
-      let size = most s.size in
-      let fits = o.fits in
-      let inside : i < places r = omega (arith, l, length_image (entry r).items (entry r).working b hs 0) in
-      let z : 0 + i ≡ i = omega arith in
-      meets takes parameters b hs (omega arith) near is (entry r).working (0, 0, false, 0) (entry r).items 0 i
-      (get_or s.store.words (b + i) 0) plain inside
-      (λ w. (o.image i inside).has (ap (λ y. list_any (λ p. p == y) (entry r).working) (sym z) ∙ w))
+-- and so has one with the location h as its one parameter
+pub holds_h : {r b h : ℕ} {s : State} → Stands r (with_h h) b s → IsOutside r b h s
+    → all_plain 1 (entry r).items ≡ true → Holds (image r b (h ∷ [])) s.store.words b
+holds_h {h = h} {s} o out plain =
+    let size = most s.size in
+    let below = out.below in
+    let here : Makes (with_h h) (h ∷ []) = more (omega arith) refl none in
+    holds o here plain
 
-  -- a location that is no working place is none of the image's
-  not_working : (i : ℕ) → IsOther r b i → IsWorking (image r b hs) b i → ⊥
-  not_working i o w = by_case o.other
-    where
-      below : i < b + places r
-      below = let e = w.below in let l = length_image (entry r).items (entry r).working b hs 0 in omega arith
+-- a call of a routine of n cells: where it stands, the place from which it is called, and what is around it
+pub record Call (n pairs : ℕ) : Type 0 where
+  pub frame : Frame n pairs
+  pub behind : 56 ≤ frame.base
+  pub from : ℕ
+  pub multiplier : ℕ
+  pub tape : List ℕ
+  pub sandwich : List Bool
+  pub last : Option ℕ
 
-      by_case : (i < b) ⊎ ((b + places r ≤ i) ⊎ (list_any (λ p. p == (i - b)) (entry r).working ≡ false)) → ⊥
-      by_case (inl l) = let e = w.from in absurd (omega arith)
-      by_case (inr (inl g)) = let e = below in absurd (omega arith)
-      by_case (inr (inr free)) =
-          let from = w.from in
-          let under = below in
-          let z : 0 + (i - b) ≡ i - b = omega arith in
-          true≢false
-          (sym (working_at (entry r).items (entry r).working b hs 0 (i - b) (omega arith) w.free)
-          ∙ ap (λ y. list_any (λ p. p == y) (entry r).working) z
-          ∙ free)
+-- the call in a state
+abbrev pub call_of : {n pairs b h top : ℕ} {s : State} → 56 ≤ b → IsWithin n b h top s → Call n pairs
+call_of {n} {pairs} {b} {h} {top} {s} low within = record {
+  frame = record { size = s.size; base = b; top = top; under = within.under; fits = within.fits };
+  behind = low;
+  from = caller s;
+  multiplier = s.multiplier;
+  tape = s.tape;
+  sandwich = s.store.sandwich;
+  last = s.last;
+}
 
-  -- a word that is at no working place stays
-  pub kept : (ws cells : List ℕ) → length cells ≡ length (image r b hs) → merged (image r b hs) cells ≡ cells
-      → Holds (image r b hs) ws b
-      → (i : ℕ) → IsOther r b i → get_or (patched 0 ws b cells) i 0 ≡ get_or ws i 0
-  kept ws cells long new old i o = unchanged (image r b hs) ws b cells long new old i (not_working i o)
+-- a moment of a call: the words around the routine and in its cells, the number at the top of the accumulator, and
+-- the cell of the next order
+abbrev pub moment : {n pairs : ℕ} → Call n pairs → List ℕ → List ℕ → ℕ → ℕ → Moment
+moment call words cells top i = record {
+  words = words;
+  digits = call.sandwich;
+  cells = cells;
+  pairs = [];
+  acc = short top;
+  multiplier = call.multiplier;
+  counter = call.frame.base + i;
+  tape = call.tape;
+  last = call.last;
+}
+
+-- a state in which a routine is called is the moment of the call
+pub begins : {r n b h top : ℕ} {parameters : List ℕ} {s : State} (hs : List ℕ) (o : Stands r parameters b s)
+    (within : IsWithin n b h top s) → length s.store.words ≡ 1024 → Holds (image r b hs) s.store.words b
+    → state (call_of {pairs = 0} o.low within).frame (moment (call_of {pairs = 0} o.low within) s.store.words
+    (filled (image r b hs) s.store.words b 0) (114688 + 2 * caller s) 0) s.orders ≡ s
+begins {r} {b = b} {s = s} hs o within all holds =
+    let size = most s.size in
+    let fits = o.fits in
+    let long = length_image (entry r).items (entry r).working b hs 0 in
+    let words : patched 0 s.store.words b (filled (image r b hs) s.store.words b 0) ≡ s.store.words =
+    opens (image r b hs) s.store.words b (omega (arith, fits, all, long)) holds in
+    let counter : b + 0 ≡ s.counter = omega (arith, o.counter) in
+    let acc : short (114688 + 2 * caller s) ≡ s.acc = sym o.call.acc in
+    λ i. record s {
+      store = record { words = words i; sandwich = s.store.sandwich };
+      acc = acc i;
+      counter = counter i;
+    }
+
+-- a location that is no working place is none of the image's
+not_working : {r b i : ℕ} (hs : List ℕ) → IsOther r b i → IsWorking (image r b hs) b i → ⊥
+not_working {r} {b} {i} hs o w = by_case o.other
+  where
+    below : i < b + place_count r
+    below = let e = w.below in let l = length_image (entry r).items (entry r).working b hs 0 in omega arith
+
+    by_case : (i < b) ⊎ ((b + place_count r ≤ i) ⊎ (list_any (λ p. p == (i - b)) (entry r).working ≡ false)) → ⊥
+    by_case (inl l) = let e = w.from in absurd (omega arith)
+    by_case (inr (inl g)) = let e = below in absurd (omega arith)
+    by_case (inr (inr free)) =
+        let from = w.from in
+        let under = below in
+        let z : 0 + (i - b) ≡ i - b = omega arith in
+        true≢false
+        (sym (working_at (entry r).items (entry r).working b hs 0 (i - b) (omega arith) w.free)
+        ∙ ap (λ y. list_any (λ p. p == y) (entry r).working) z
+        ∙ free)
+
+-- a word that is at no working place stays
+pub kept : {r b i : ℕ} (hs : List ℕ) → IsOther r b i → (ws cells : List ℕ) → length cells ≡ length (image r b hs)
+    → merged (image r b hs) cells ≡ cells → Holds (image r b hs) ws b
+    → get_or (patched 0 ws b cells) i 0 ≡ get_or ws i 0
+kept {r} {b} {i} hs o ws cells long new old =
+    unchanged (image r b hs) ws b cells long new old i (not_working hs o)

@@ -5,10 +5,10 @@ use Rattle.std.proofs.Common.{◌∷◌, ◌++◌, length, length-append, map}
 use Rattle.std.specs.Fmt.{decimal}
 use Rattle.std.proofs.lemmas.Fmt.{decimal_digit, decimal_step}
 use Rattle.std.proofs.lemmas.Bool.{cases_lt}
-use Rattle.ed_routines.specs.Digits.{value, value_behind, without_zeros, before_units, digits, DigitsLaw}
+use Rattle.ed_routines.specs.Digits.{digits_value, value_behind, without_zeros, before_units, digits, DigitsLaw}
 
 -- zeros that lead count for nothing
-value_without : (ds : List ℕ) (u : ℕ) → value (without_zeros ds ++ u ∷ []) ≡ 10 * value ds + u
+value_without : (ds : List ℕ) (u : ℕ) → digits_value (without_zeros ds ++ u ∷ []) ≡ 10 * digits_value ds + u
 value_without [] u = refl
 value_without (zero ∷ ds) u = value_without ds u
 value_without (suc d ∷ ds) u = after (10 * 0 + suc d) ds u
@@ -93,7 +93,7 @@ module _ (n : ℕ) (small : n < 65536) where
 pub digits_law : DigitsLaw
 digits_law n small =
     record {
-      value_is = value_without (tens n) (n % 10) ∙ (let e : 10 * value (tens n) + n % 10 ≡ n = omega arith in e);
+      value_is = value_without (tens n) (n % 10) ∙ (let e : 10 * digits_value (tens n) + n % 10 ≡ n = omega arith in e);
       written = by_length;
     }
   where

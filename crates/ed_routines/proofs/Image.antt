@@ -1,6 +1,6 @@
 -- The tie between a routine's table in the library and the words that a path speaks of: its image at a base, with
 -- none at its working places.
-use Rattle.std.proofs.Common.{◌≡◌, ℕ, zero, suc, ◌+◌, ◌-◌, ◌*◌, ◌<◌, ◌≤◌, refl, ap, ◌∙◌, arith, Bool, true, false}
+use Rattle.std.proofs.Common.{◌≡◌, ℕ, zero, suc, ◌+◌, ◌-◌, ◌*◌, ◌<◌, ◌≤◌, refl, sym, ap, ◌∙◌, arith, Bool, true, false}
 use Rattle.std.proofs.Common.{◌&&◌, ◌||◌, nat_eq, nat_le, nat_lt, List, []}
 use Rattle.std.proofs.Common.{◌∷◌, Option, Some, None, length, get_or, lit≤}
 use Rattle.std.specs.Prelude.{◌==◌, if◌then◌else◌}
@@ -9,10 +9,10 @@ use Rattle.std.proofs.lemmas.Bool.{and_parts}
 use Rattle.ed_words.specs.Words.{digit}
 use Rattle.ed_words.proofs.Numbers.{eq_of, eq_false, le_of, le_true, lt_of}
 use Rattle.ed_notation.specs.Fold.{value_of, word_with}
-use Rattle.ed_library.specs.Routines.{item_of}
-use Rattle.ed_library.specs.Images.{parameter_store, item_word}
+use Rattle.ed_library.specs.Routines.{table_item}
+use Rattle.ed_library.specs.Images.{parameter_store, routine_word}
 use Rattle.ed_library.proofs.Letters.{value_of_parameter}
-use Rattle.ed_paths.proofs.Standing.{Meets}
+use Rattle.ed_paths.proofs.Standing.{Holds, Meets}
 
 -- a row of a table: a function, a number, a mark and an ending
 abbrev pub Row : Type 0
@@ -72,9 +72,25 @@ digit_low : (d : Bool) → digit d ≤ 1
 digit_low true = lit≤ tt
 digit_low false = lit≤ tt
 
-module _ (takes : ℕ) (parameters : List ℕ) (b : ℕ) (hs : List ℕ) (low : b ≤ 1024)
-    (near : (p : ℕ) → p < takes → get_or hs p 0 ≤ 1023)
-    (is : (p : ℕ) → p < takes → get_or parameters p 0 ≡ 2 * get_or hs p 0) where
+-- the parameters that make H, N, M and so on these locations
+pub data Makes : List ℕ → List ℕ → Type 0 where
+  none : {ps : List ℕ} → Makes ps []
+  more : {p h : ℕ} {ps hs : List ℕ} → h ≤ 1023 → p ≡ 2 * h → Makes ps hs → Makes (p ∷ ps) (h ∷ hs)
+
+near : {ps hs : List ℕ} → Makes ps hs → (p : ℕ) → p < length hs → get_or hs p 0 ≤ 1023
+near none p l = absurd (omega arith)
+near (more low is rest) zero l = low
+near (more low is rest) (suc p) l = near rest p (omega arith)
+
+twice : {ps hs : List ℕ} → Makes ps hs → (p : ℕ) → p < length hs → get_or ps p 0 ≡ 2 * get_or hs p 0
+twice none p l = absurd (omega arith)
+twice (more low is rest) zero l = is
+twice (more low is rest) (suc p) l = twice rest p (omega arith)
+
+module _ {parameters hs : List ℕ} {b : ℕ} (low : b ≤ 1024) (makes : Makes parameters hs) where
+  abbrev takes : ℕ
+  takes = length hs
+
   by_letter : (f n c : ℕ) (d : Bool) → 4096 * f + 2 * n ≤ 124928 → IsLetter takes c
       → word_with f n d (value_of (parameter_store parameters) (2 * b) c) ≡ row_word b hs (f, n, d, c)
   by_letter f n c d small (F e) = let l = digit_low d in rw e (omega arith)
@@ -83,27 +99,29 @@ module _ (takes : ℕ) (parameters : List ℕ) (b : ℕ) (hs : List ℕ) (low : 
   by_letter f n c d small (parameter from below) =
       let l = digit_low d in
       let v : value_of (parameter_store parameters) (2 * b) c ≡ 2 * get_or hs (c - 21) 0 =
-      value_of_parameter parameters (2 * b) c from ∙ is (c - 21) (omega arith) in
-      let near_c = near (c - 21) (omega arith) in
+      value_of_parameter parameters (2 * b) c from ∙ twice makes (c - 21) (omega arith) in
+      let near_c = near makes (c - 21) (omega arith) in
       rw (v, eq_false c 18 (λ e. absurd (omega arith)), eq_false c 19 (λ e. absurd (omega arith)), le_true 21 c from)
       (omega arith)
 
   -- the word that the library gives a row
-  pub row_word_is : (row : Row) → is_plain takes row ≡ true → item_word parameters b (item_of row) ≡ row_word b hs row
+  pub row_word_is : (row : Row) → is_plain takes row ≡ true
+      → routine_word parameters b (table_item row) ≡ row_word b hs row
   row_word_is row plain =
       let p = and_parts (nat_le (4096 * row.0 + 2 * row.1) 124928) _ plain in
       by_letter row.0 row.1 row.3 row.2 (le_of _ _ p.0) (letter_of takes row.3 p.1)
 
-  module _ (working : List ℕ) (none : Row) where
+  module _ (working : List ℕ) (no_row : Row) where
     here_meets : (t : Bool) (row : Row) (x : ℕ) → is_plain takes row ≡ true
-        → (t ≡ false → x ≡ item_word parameters b (item_of row))
+        → (t ≡ false → x ≡ routine_word parameters b (table_item row))
         → Meets (if t then None else Some (row_word b hs row)) x
     here_meets true row x plain e = tt
     here_meets false row x plain e = e refl ∙ row_word_is row plain
 
     -- a word that is the library's, where its place is no working one, meets the image
-    pub meets : (rows : List Row) (i j x : ℕ) → all_plain takes rows ≡ true → j < length rows
-        → (list_any (λ p. p == (i + j)) working ≡ false → x ≡ item_word parameters b (item_of (get_or rows j none)))
+    meets : (rows : List Row) (i j x : ℕ) → all_plain takes rows ≡ true → j < length rows
+        → (list_any (λ p. p == (i + j)) working ≡ false
+        → x ≡ routine_word parameters b (table_item (get_or rows j no_row)))
         → Meets (get_or (image_from rows working b hs i) j None) x
     meets [] i j x plain l e = absurd (omega arith)
     meets (row ∷ rows) i zero x plain l e =
@@ -114,6 +132,17 @@ module _ (takes : ℕ) (parameters : List ℕ) (b : ℕ) (hs : List ℕ) (low : 
         let p = and_parts (is_plain takes row) (all_plain takes rows) plain in
         let z : i + suc j ≡ i + 1 + j = omega arith in
         meets rows (i + 1) j x p.1 (omega arith) (λ w. e (ap (λ y. list_any (λ p. p == y) working) z ∙ w))
+
+    -- a store with the library's words at a base, but for the working places, holds the image
+    pub holds_rows : (rows : List Row) (ws : List ℕ) → all_plain takes rows ≡ true
+        → ((j : ℕ) → j < length rows → list_any (λ p. p == j) working ≡ false
+        → get_or ws (b + j) 0 ≡ routine_word parameters b (table_item (get_or rows j no_row)))
+        → Holds (image_from rows working b hs 0) ws b
+    holds_rows rows ws plain words j l =
+        let z : 0 + j ≡ j = omega arith in
+        let inside : j < length rows = omega (arith, l, length_image rows working b hs 0) in
+        meets rows 0 j (get_or ws (b + j) 0) plain inside
+        (λ w. words j inside (ap (λ y. list_any (λ p. p == y) working) (sym z) ∙ w))
 
 here_working : (t : Bool) (w : ℕ) → ◌≡◌ {A = Option ℕ} (if t then None else Some w) None → t ≡ true
 here_working true w e = refl

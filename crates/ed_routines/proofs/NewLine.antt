@@ -5,17 +5,17 @@ use Rattle.ed_orders.specs.declared.kind.Kind.{Kind}
 use Rattle.ed_machine.specs.State.{State}
 use Rattle.ed_machine.specs.Steps.{state_after}
 use Rattle.ed_paths.proofs.Leads.{Leads}
-use Rattle.ed_paths.proofs.Window.{patched}
+use Rattle.ed_paths.proofs.Window.{patched, length_patched}
 use Rattle.ed_paths.proofs.Orders.{IsOrder}
 use Rattle.ed_paths.proofs.Newline.{IsCalled, cells, newline as newline_leads, keeps_below as newline_keeps}
 use Rattle.ed_routines.specs.Catalogue.{newline}
 use Rattle.ed_routines.specs.Standing.{Stands, caller}
 use Rattle.ed_routines.specs.Returns.{Keeps, Returned}
-use Rattle.ed_routines.proofs.Called.{IsWithin, holds, kept, length-patched}
+use Rattle.ed_routines.proofs.Image.{none}
+use Rattle.ed_routines.proofs.Called.{IsWithin, holds, kept}
 
-module _ (parameters : List ℕ) (b top : ℕ) (s : State) (all : length s.store.words ≡ 1024)
-    (o : Stands newline parameters b s)
-    (within : IsWithin 7 b 0 top s) where
+module _ {parameters : List ℕ} {b top : ℕ} {s : State} (all : length s.store.words ≡ 1024)
+    (o : Stands newline parameters b s) (within : IsWithin 7 b 0 top s) where
   called : IsCalled s b (caller s) top
   called = record {
     counter = o.counter;
@@ -24,7 +24,7 @@ module _ (parameters : List ℕ) (b top : ℕ) (s : State) (all : length s.store
     back = within.back;
     fits = within.fits;
     at3 = o.at3;
-    holds = holds newline b [] 0 parameters s o (λ p l. absurd (omega arith)) (λ p l. absurd (omega arith)) refl;
+    holds = holds {hs = []} o none refl;
     acc = o.call.acc;
   }
 
@@ -44,7 +44,7 @@ module _ (parameters : List ℕ) (b top : ℕ) (s : State) (all : length s.store
   all_last =
       let size = most s.size in
       let fits = o.fits in
-      length-patched 0 s.store.words b (cells b link) (omega (arith, all, fits)) ∙ all
+      length_patched 0 s.store.words b (cells b link) (omega (arith, all, fits)) ∙ all
 
   pub leads_to : Leads 5 s (18 ∷ 24 ∷ []) last
   leads_to = newline_leads s b (caller s) top called all
@@ -61,5 +61,5 @@ module _ (parameters : List ℕ) (b top : ℕ) (s : State) (all : length s.store
     pub keeps : Keeps newline b s t
     keeps = record {
       words = λ i other. ap (λ (x : State). get_or x.store.words i 0) e
-          ∙ kept newline b [] s.store.words (cells b link) refl refl called.holds i other;
+          ∙ kept [] other s.store.words (cells b link) refl refl called.holds;
     }

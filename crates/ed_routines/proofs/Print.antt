@@ -3,14 +3,15 @@ use Rattle.std.proofs.Common.{◌≡◌, ℕ, zero, suc, ◌+◌, ◌-◌, ◌*�
 use Rattle.std.proofs.Common.{◌≤◌, refl, ap, arith, Bool, true, false, nat_lt}
 use Rattle.std.proofs.Common.{List, [], ◌∷◌, ◌++◌, Option, Some, get_or, length, lit<, lit≤}
 use Rattle.ed_words.proofs.SizeLemmas.{most}
-use Rattle.ed_paths.proofs.Frames.{Frame, Moment, short}
+use Rattle.ed_paths.proofs.Frames.{Moment, short}
 use Rattle.ed_paths.proofs.Places.{IsOutside, early, own, out, any}
 use Rattle.ed_paths.proofs.Orders.{there_is}
 use Rattle.ed_paths.proofs.Shifts.{LD, L512F}
 use Rattle.ed_paths.proofs.Moves.{A, S, T, U, O, E_jumps, G_jumps, G_stays, L}
 use Rattle.ed_paths.proofs.Paths.{Path, stay, on, prints, followed}
-use Rattle.ed_paths.proofs.Zeros.{flag_of, shown, begun, spared, last_of}
+use Rattle.ed_paths.proofs.Zeros.{flag_of, shown, begun, spared, last_of, taken_away}
 use Rattle.ed_routines.specs.Digits.{sum, without_zeros}
+use Rattle.ed_routines.proofs.Called.{Call, moment}
 use Rattle.ed_routines.proofs.Digits.{tens}
 
 -- the cells that change: the order that takes a power away, the one that returns, what is left of the number, whether a
@@ -79,20 +80,22 @@ digit_orders b q = 15 + 8 * q + 4 * length (shown b q)
 abbrev pub before_tens : ℕ → Bool
 before_tens n = begun (begun (begun false (n / 10000)) (n / 1000 % 10)) (n / 100 % 10)
 
-module _ (f : Frame 51 0) (behind : 56 ≤ f.base) (h m multiplier : ℕ) (ws tape : List ℕ) (sandwich : List Bool)
-    (all : length ws ≡ 1024) where
+-- a call of the routine, the location of the number, and the words around the routine
+pub record Given : Type 0 where
+  pub call : Call 51 0
+  pub h : ℕ
+  pub ws : List ℕ
+  pub all : length ws ≡ 1024
+  pub at2 : get_or ws 2 0 ≡ 2
+  pub at3 : get_or ws 3 0 ≡ 28676
+  pub room : call.from + 3 ≤ call.frame.top
+  pub away : IsOutside call.frame ws h
+
+module _ (given : Given) where
+  open given use {h, ws, all, at2, at3, room, away, call, call.{frame as f, behind, from as m}}
+
   abbrev pub run : Work → ℕ → ℕ → Option ℕ → Moment
-  run w v i last = record {
-    words = ws;
-    digits = sandwich;
-    cells = cells f.base h w;
-    pairs = [];
-    acc = short v;
-    multiplier = multiplier;
-    counter = f.base + i;
-    tape = tape;
-    last = last;
-  }
+  run w v i last = record (moment call ws (cells f.base h w) v i) { last = last }
 
   -- with the power at cell j
   abbrev pub at : ℕ → ℕ → ℕ → ℕ → ℕ → ℕ → ℕ → Option ℕ → Moment
@@ -110,18 +113,22 @@ module _ (f : Frame 51 0) (behind : 56 ≤ f.base) (h m multiplier : ℕ) (ws ta
   abbrev pub tested : ℕ → ℕ
   tested j = (2 * j + 2 + (2 ^ 17 - 94)) % 2 ^ 17
 
-  -- the power p stands in cell j
-  record Power (j p : ℕ) : Type 0 where
+  -- the power p stands in cell j; the tests for it and for the next power leave these numbers
+  record Power (j p before after : ℕ) : Type 0 where
     holds : (w : Work) → get_or (cells f.base h w) j 0 ≡ p
     own : nat_lt j 51 ≡ true
     most : p ≤ 10000
+    inside : j < 47
+    low : before < 2 ^ 17
+    next_is : tested j ≡ after
 
-  -- the power is taken away once, and as often as it goes
-  subtract : (j p d v u flag spare : ℕ) (last : Option ℕ) → Power j p → v ≡ u + p → v < 2 ^ 16 → d < 9
-      → Path f 8 (at j v flag (4096 * d) spare 0 10 last) [] (at j u flag (4096 * (d + 1)) spare 0 10 last)
-  subtract j p d v u flag spare last o sum low few =
+  -- the power is taken away once
+  subtract : {j p before after flag spare : ℕ} {last : Option ℕ} → Power j p before after → (u d : ℕ) → u + p < 2 ^ 16
+      → d < 9
+      → Path f 8 (at j (u + p) flag (4096 * d) spare 0 10 last) [] (at j u flag (4096 * (d + 1)) spare 0 10 last)
+  subtract {j} {p} o u d low few =
       let most = o.most in
-      on (A 10 (own 47) (short v) refl (omega arith))
+      on (A 10 (own 47) (short (u + p)) refl (omega arith))
       (on (S 11 (own j) (short u) (there_is o.own) (rw (o.holds _) (omega arith)))
       (on (G_stays 12 (own 18) refl (omega arith))
       (on (T 13 (own 47) _ refl refl)
@@ -130,35 +137,24 @@ module _ (f : Frame 51 0) (behind : 56 ≤ f.base) (h m multiplier : ℕ) (ws ta
       (on (T 16 (own 49) _ refl refl)
       (on (E_jumps 17 (own 10) refl (lit< tt)) stay)))))))
 
-  subtractions : (j p q d v r flag spare : ℕ) (last : Option ℕ) → Power j p → v ≡ q * p + r → v < 2 ^ 16 → d + q ≤ 9
-      → Path f (8 * q) (at j v flag (4096 * d) spare 0 10 last) [] (at j r flag (4096 * (d + q)) spare 0 10 last)
-  subtractions j p zero d v r flag spare last o sum low few =
-      let e : v ≡ r = omega arith in
-      let g : d + 0 ≡ d = omega arith in
-      rw (e, g) stay
-  subtractions j p (suc q) d v r flag spare last o sum low few =
-      let e : 8 * suc q ≡ 8 + 8 * q = omega arith in
-      let g : d + suc q ≡ d + 1 + q = omega arith in
-      rw (e, g) (followed (subtract j p d v (q * p + r) flag spare last o (omega arith) low (omega arith))
-      (subtractions j p q (d + 1) (q * p + r) r flag spare last o refl (omega arith) (omega arith)))
-
   -- the next power
-  next : (j u rest flag count spare v : ℕ) (last : Option ℕ) → j < 47 → v < 2 ^ 17 → get_or ws 2 0 ≡ 2 → tested j ≡ u
-      → Path f 5 (at j rest flag count spare v 27 last) [] (at (j + 1) rest flag count v u 32 last)
-  next j u rest flag count spare v last inside low at2 is =
-      let b = most f.size in let fits = f.fits in
+  next : {j p before after rest flag count spare : ℕ} {last : Option ℕ} (v : ℕ) → Power j p before after → v < 2 ^ 17
+      → Path f 5 (at j rest flag count spare v 27 last) [] (at (j + 1) rest flag count v after 32 last)
+  next {j} {after = after} v o low =
+      let b = most f.size in let fits = f.fits in let is = o.next_is in let inside = o.inside in
+      let second = at2 in
       on (T 27 (own 50) _ refl refl)
       (on (A 28 (own 11) (short (49152 + 2 * (f.base + j))) refl (omega arith))
       (on (A 29 (out 2 (early 2 behind (lit< tt) all)) (short (49152 + 2 * (f.base + (j + 1)))) refl (omega arith))
       (on (U 30 (own 11) _ refl refl)
-      (on (S 31 (own 42) (short u) refl (omega arith)) stay))))
+      (on (S 31 (own 42) (short after) refl (omega arith)) stay))))
 
   -- a digit that is printed, and one that isn't
-  print_digit : (j q rest flag spare v : ℕ) (last : Option ℕ) → q ≤ 9 → flag ≤ 4096 → 4096 ≤ 4096 * q + flag
+  print_digit : {rest spare : ℕ} {last : Option ℕ} (j q flag v : ℕ) → q ≤ 9 → flag ≤ 4096 → 4096 ≤ 4096 * q + flag
       → v < 2 ^ 17
       → Path f 9 (at j rest flag (4096 * q) spare v 18 last) (q ∷ [])
       (at j rest 4096 (4096 * q) (4096 * q + flag - 4096) 0 27 (Some q))
-  print_digit j q rest flag spare v last few low some fits =
+  print_digit j q flag v few low some fits =
       on (T 18 (own 50) _ refl refl)
       (on (A 19 (own 49) (short (4096 * q)) refl (omega arith))
       (on (A 20 (own 48) (short (4096 * q + flag)) refl (omega arith))
@@ -169,9 +165,9 @@ module _ (f : Frame 51 0) (behind : 56 ≤ f.base) (h m multiplier : ℕ) (ws ta
       (on (A 25 (own 40) (short 4096) refl refl)
       (on (T 26 (own 48) _ refl refl) stay))))))))
 
-  skip_digit : (j rest spare v : ℕ) (last : Option ℕ) → v < 2 ^ 17
+  skip_digit : {rest spare : ℕ} {last : Option ℕ} (j v : ℕ) → v < 2 ^ 17
       → Path f 5 (at j rest 0 0 spare v 18 last) [] (at j rest 0 0 v 126976 27 last)
-  skip_digit j rest spare v last fits =
+  skip_digit j v fits =
       on (T 18 (own 50) _ refl refl)
       (on (A 19 (own 49) (short 0) refl refl)
       (on (A 20 (own 48) (short 0) refl refl)
@@ -179,49 +175,47 @@ module _ (f : Frame 51 0) (behind : 56 ≤ f.base) (h m multiplier : ℕ) (ws ta
       (on (G_jumps 22 (own 27) refl (lit≤ tt)) stay))))
 
   -- from the test of a digit to the test for the next power
-  show : (j q u rest spare v : ℕ) (b : Bool) (last : Option ℕ) → j < 47 → q ≤ 9 → v < 2 ^ 17 → get_or ws 2 0 ≡ 2
-      → tested j ≡ u
+  show : {j p before after rest spare : ℕ} {last : Option ℕ} (q v : ℕ) (b : Bool) → Power j p before after → q ≤ 9
+      → v < 2 ^ 17
       → Path f (10 + 4 * length (shown b q)) (at j rest (flag_of b) (4096 * q) spare v 18 last) (shown b q)
-      (at (j + 1) rest (flag_of (begun b q)) (4096 * q) (spared b q) u 32 (last_of last (shown b q)))
-  show j zero u rest spare v false last inside few fits at2 is =
-      followed (skip_digit j rest spare v last fits) (next j u rest 0 0 v 126976 last inside (lit< tt) at2 is)
-  show j (suc q) u rest spare v false last inside few fits at2 is =
-      followed (print_digit j (suc q) rest 0 spare v last few (lit≤ tt) (omega arith) fits)
-      (next j u rest 4096 (4096 * suc q) (4096 * suc q + 0 - 4096) 0 (Some (suc q)) inside (lit< tt) at2 is)
-  show j q u rest spare v true last inside few fits at2 is =
-      followed (print_digit j q rest 4096 spare v last few (lit≤ tt) (omega arith) fits)
-      (next j u rest 4096 (4096 * q) (4096 * q + 4096 - 4096) 0 (Some q) inside (lit< tt) at2 is)
+      (at (j + 1) rest (flag_of (begun b q)) (4096 * q) (spared b q) after 32 (last_of last (shown b q)))
+  show {j} zero v false o few fits = followed (skip_digit j v fits) (next 126976 o (lit< tt))
+  show {j} (suc q) v false o few fits =
+      followed (print_digit j (suc q) 0 v few (lit≤ tt) (omega arith) fits) (next 0 o (lit< tt))
+  show {j} q v true o few fits =
+      followed (print_digit j q 4096 v few (lit≤ tt) (omega arith) fits) (next 0 o (lit< tt))
 
   -- a digit before the units
-  turn : (j p q u v r spare count top : ℕ) (b : Bool) (last : Option ℕ) → Power j p → v ≡ q * p + r → r < p
-      → v < 2 ^ 16 → q ≤ 9
-      → top < 2 ^ 17 → j < 47 → get_or ws 2 0 ≡ 2 → tested j ≡ u
-      → Path f (digit_orders b q) (at j v (flag_of b) count spare top 8 last) (shown b q)
-      (at (j + 1) r (flag_of (begun b q)) (4096 * q) (spared b q) u 32 (last_of last (shown b q)))
-  turn j p q u v r spare count top b last o sum less low few fits inside at2 is =
+  turn : {j p before after v spare count : ℕ} {last : Option ℕ} (q r : ℕ) (b : Bool) → Power j p before after
+      → (v ≡ q * p + r) × (r < p) → v < 2 ^ 16 → q ≤ 9
+      → Path f (digit_orders b q) (at j v (flag_of b) count spare before 8 last) (shown b q)
+      (at (j + 1) r (flag_of (begun b q)) (4096 * q) (spared b q) after 32 (last_of last (shown b q)))
+  turn {j} {p} {before} {after} {v} {spare} {count} {last} q r b o parts low few =
       let most = o.most in
+      let fits = o.low in
+      let sum = parts.0 in
+      let less = parts.1 in
       let n : digit_orders b q ≡ 2 + (8 * q + (3 + (10 + 4 * length (shown b q)))) = omega arith in
-      let first : Path f 2 (at j v (flag_of b) count spare top 8 last) [] (at j v (flag_of b) (4096 * 0) top 0 10 last)
+      let first : Path f 2 (at j v (flag_of b) count spare before 8 last) []
+      (at j v (flag_of b) (4096 * 0) before 0 10 last)
       = on (T 8 (own 50) _ refl refl) (on (T 9 (own 49) _ refl refl) stay) in
-      let last_try : Path f 3 (at j r (flag_of b) (4096 * q) top 0 10 last) []
-      (at j r (flag_of b) (4096 * q) top (r + (2 ^ 17 - p)) 18 last)
+      let last_try : Path f 3 (at j r (flag_of b) (4096 * q) before 0 10 last) []
+      (at j r (flag_of b) (4096 * q) before (r + (2 ^ 17 - p)) 18 last)
       = on (A 10 (own 47) (short r) refl (omega arith))
       (on (S 11 (own j) (short (r + (2 ^ 17 - p))) (there_is o.own) (rw (o.holds _) (omega arith)))
       (on (G_jumps 12 (own 18) refl (omega arith)) stay)) in
       let z : 0 + q ≡ q = omega arith in
-      let loop : Path f (8 * q) (at j v (flag_of b) (4096 * 0) top 0 10 last) []
-      (at j r (flag_of b) (4096 * q) top 0 10 last)
-      = rw z at (subtractions j p q 0 v r (flag_of b) top last o sum low (omega arith)) in
-      rw n (followed first (followed loop
-      (followed last_try (show j q u r top (r + (2 ^ 17 - p)) b last inside few (omega arith) at2 is))))
+      let loop : Path f (8 * q) (at j v (flag_of b) (4096 * 0) before 0 10 last) []
+      (at j r (flag_of b) (4096 * q) before 0 10 last)
+      = rw sum (rw z at (taken_away (λ u d. at j u (flag_of b) (4096 * d) before 0 10 last) p (2 ^ 16) (subtract o)
+      q 0 r (omega arith, omega arith))) in
+      rw n (followed first (followed loop (followed last_try (show q (r + (2 ^ 17 - p)) b o few (omega arith)))))
 
   -- the figure shift is printed, and the number taken
-  opened : (w : Work) (v : ℕ) (last : Option ℕ) → get_or ws 3 0 ≡ 28676 → m + 3 ≤ f.top → IsOutside f ws h
-      → get_or ws h 0 ≡ v
-      → v < 2 ^ 16
+  opened : (w : Work) (v : ℕ) (last : Option ℕ) → get_or ws h 0 ≡ v → v < 2 ^ 16
       → Path f 8 (run w (114688 + 2 * m) 0 last) (11 ∷ []) (at 43 v 0 w.at49 w.at50 0 8 (Some 11))
-  opened w v last at3 room away is low =
-      let b = most f.size in let fits = f.fits in
+  opened w v last is low =
+      let b = most f.size in let fits = f.fits in let third = at3 in let back = room in
       on (A 0 (out 3 (early 3 behind (lit< tt) all)) (short (12288 + 2 * (m + 2))) refl (omega arith))
       (on (T 1 (own 38) _ refl refl)
       (prints (O 2 (own 39) 11 refl refl)
@@ -232,16 +226,16 @@ module _ (f : Frame 51 0) (behind : 56 ≤ f.base) (h m multiplier : ℕ) (ws ta
       (on (T 7 (own 11) _ refl refl) stay)))))))
 
   -- a power is left
-  again : (j rest flag count spare u : ℕ) (last : Option ℕ) → 2 ^ 16 ≤ u
+  again : {rest flag count spare : ℕ} {last : Option ℕ} (j u : ℕ) → 2 ^ 16 ≤ u
       → Path f 1 (at j rest flag count spare u 32 last) [] (at j rest flag count spare u 8 last)
-  again j rest flag count spare u last high = on (G_jumps 32 (own 8) refl (omega arith)) stay
+  again j u high = on (G_jumps 32 (own 8) refl (omega arith)) stay
 
   -- none is: the units are printed
-  closed : (j rest flag count spare : ℕ) (last : Option ℕ) → rest ≤ 9 → m + 3 ≤ f.top
+  closed : {flag count spare : ℕ} {last : Option ℕ} (j rest : ℕ) → rest ≤ 9
       → Path f 7 (at j rest flag count spare 0 32 last) (rest ∷ [])
       (record (at j rest flag (4096 * rest) spare 0 0 (Some rest)) { counter = m + 2 })
-  closed j rest flag count spare last few room =
-      let there : m + 2 < f.top = omega arith in
+  closed j rest few =
+      let there : m + 2 < f.top = omega (arith, room) in
       on (G_stays 32 (own 8) refl (lit< tt))
       (on (A 33 (own 47) (short rest) refl (omega arith))
       (on (L 34 L512F (short (2048 * rest)) refl (omega arith))
@@ -250,15 +244,13 @@ module _ (f : Frame 51 0) (behind : 56 ≤ f.base) (h m multiplier : ℕ) (ws ta
       (prints (O 37 (own 49) rest refl (omega arith))
       (on (E_jumps 38 (any (m + 2) there) refl (lit< tt)) stay))))))
 
-  pub whole : (w : Work) (n : ℕ) (last : Option ℕ) → get_or ws 2 0 ≡ 2 → get_or ws 3 0 ≡ 28676 → m + 3 ≤ f.top
-      → IsOutside f ws h
-      → get_or ws h 0 ≡ n → n < 2 ^ 16
+  pub whole : (w : Work) (n : ℕ) (last : Option ℕ) → get_or ws h 0 ≡ n → n < 2 ^ 16
       → Path f (78 + 8 * sum (tens n) + 4 * shows false (tens n)) (run w (114688 + 2 * m) 0 last)
       (11 ∷ spelled false (tens n) (n % 10))
       (record (at 47 (n % 10) (flag_of (begun (before_tens n) (n / 10 % 10))) (4096 * (n % 10))
       (spared (before_tens n) (n / 10 % 10)) 0 0
       (Some (n % 10))) { counter = m + 2 })
-  whole w n last at2 at3 room away is low =
+  whole w n last is low =
       let q1 : ℕ = n / 10000 in
       let q2 : ℕ = n / 1000 % 10 in
       let q3 : ℕ = n / 100 % 10 in
@@ -267,28 +259,23 @@ module _ (f : Frame 51 0) (behind : 56 ≤ f.base) (h m multiplier : ℕ) (ws ta
       let b2 : Bool = begun b1 q2 in
       let b3 : Bool = begun b2 q3 in
       let b4 : Bool = begun b3 q4 in
-      let p1 : Power 43 10000 = record { holds = λ w. refl; own = refl; most = lit≤ tt } in
-      let p2 : Power 44 1000 = record { holds = λ w. refl; own = refl; most = lit≤ tt } in
-      let p3 : Power 45 100 = record { holds = λ w. refl; own = refl; most = lit≤ tt } in
-      let p4 : Power 46 10 = record { holds = λ w. refl; own = refl; most = lit≤ tt } in
-      let l1 : Option ℕ = last_of (Some 11) (shown false q1) in
-      let l2 : Option ℕ = last_of l1 (shown b1 q2) in
-      let l3 : Option ℕ = last_of l2 (shown b2 q3) in
-      let l4 : Option ℕ = last_of l3 (shown b3 q4) in
+      let p1 : Power 43 10000 0 131066 =
+      record { holds = λ w. refl; own = refl; most = lit≤ tt; inside = lit< tt; low = lit< tt; next_is = refl } in
+      let p2 : Power 44 1000 131066 131068 =
+      record { holds = λ w. refl; own = refl; most = lit≤ tt; inside = lit< tt; low = lit< tt; next_is = refl } in
+      let p3 : Power 45 100 131068 131070 =
+      record { holds = λ w. refl; own = refl; most = lit≤ tt; inside = lit< tt; low = lit< tt; next_is = refl } in
+      let p4 : Power 46 10 131070 0 =
+      record { holds = λ w. refl; own = refl; most = lit≤ tt; inside = lit< tt; low = lit< tt; next_is = refl } in
       let e : 78 + 8 * sum (tens n) + 4 * shows false (tens n)
       ≡ 8 + (digit_orders false q1
       + (1 + (digit_orders b1 q2 + (1 + (digit_orders b2 q3 + (1 + (digit_orders b3 q4 + 7))))))) = omega arith in
-      rw e (followed (opened w n last at3 room away is low)
-      (followed (turn 43 10000 q1 131066 n (n % 10000) w.at50 w.at49 0 false (Some 11) p1 (omega arith)
-      (omega arith) low (omega arith)
-      (lit< tt) (lit< tt) at2 refl)
-      (followed (again 44 (n % 10000) (flag_of b1) (4096 * q1) (spared false q1) 131066 l1 (lit≤ tt))
-      (followed (turn 44 1000 q2 131068 (n % 10000) (n % 1000) (spared false q1) (4096 * q1) 131066 b1 l1 p2
-      (omega arith) (omega arith) (omega arith) (omega arith) (lit< tt) (lit< tt) at2 refl)
-      (followed (again 45 (n % 1000) (flag_of b2) (4096 * q2) (spared b1 q2) 131068 l2 (lit≤ tt))
-      (followed (turn 45 100 q3 131070 (n % 1000) (n % 100) (spared b1 q2) (4096 * q2) 131068 b2 l2 p3
-      (omega arith) (omega arith) (omega arith) (omega arith) (lit< tt) (lit< tt) at2 refl)
-      (followed (again 46 (n % 100) (flag_of b3) (4096 * q3) (spared b2 q3) 131070 l3 (lit≤ tt))
-      (followed (turn 46 10 q4 0 (n % 100) (n % 10) (spared b2 q3) (4096 * q3) 131070 b3 l3 p4
-      (omega arith) (omega arith) (omega arith) (omega arith) (lit< tt) (lit< tt) at2 refl)
-      (closed 47 (n % 10) (flag_of b4) (4096 * q4) (spared b3 q4) l4 (omega arith) room)))))))))
+      rw e (followed (opened w n last is low)
+      (followed (turn q1 (n % 10000) false p1 (omega arith, omega arith) low (omega arith))
+      (followed (again 44 131066 (lit≤ tt))
+      (followed (turn q2 (n % 1000) b1 p2 (omega arith, omega arith) (omega arith) (omega arith))
+      (followed (again 45 131068 (lit≤ tt))
+      (followed (turn q3 (n % 100) b2 p3 (omega arith, omega arith) (omega arith) (omega arith))
+      (followed (again 46 131070 (lit≤ tt))
+      (followed (turn q4 (n % 10) b3 p4 (omega arith, omega arith) (omega arith) (omega arith))
+      (closed 47 (n % 10) (omega arith))))))))))

@@ -1,43 +1,49 @@
 -- `print` from the library's table to what it does.
-use Rattle.std.proofs.Common.{◌≡◌, ℕ, ◌+◌, ◌*◌, ◌/◌, ◌%◌, ◌<◌, refl, sym, ap, ◌∙◌, subst, arith, false, [], ◌∷◌, Some}
+use Rattle.std.proofs.Common.{◌≡◌, ℕ, ◌+◌, ◌*◌, ◌/◌, ◌%◌, ◌<◌, refl, ap, ◌∙◌, subst, arith, false, [], ◌∷◌, Some}
 use Rattle.std.proofs.Common.{get_or, length}
 use Rattle.ed_words.proofs.SizeLemmas.{most}
 use Rattle.ed_orders.specs.declared.kind.Kind.{Kind}
 use Rattle.ed_store.specs.Cells.{short_at}
 use Rattle.ed_machine.specs.State.{State}
 use Rattle.ed_machine.specs.Steps.{state_after}
-use Rattle.ed_paths.proofs.Frames.{Frame, Moment, state, short}
-use Rattle.ed_paths.proofs.Places.{IsOutside as IsBeside}
+use Rattle.ed_paths.proofs.Frames.{Frame, Moment, state}
 use Rattle.ed_paths.proofs.Orders.{IsOrder}
 use Rattle.ed_paths.proofs.Paths.{Path, leads, each}
 use Rattle.ed_paths.proofs.Leads.{Leads}
-use Rattle.ed_paths.proofs.Standing.{Holds, opens}
-use Rattle.ed_paths.proofs.Window.{patched}
+use Rattle.ed_paths.proofs.Standing.{Holds}
+use Rattle.ed_paths.proofs.Window.{patched, length_patched}
 use Rattle.ed_routines.specs.Catalogue.{print, with_h}
-use Rattle.ed_routines.specs.Standing.{Stands, IsOutside, caller}
+use Rattle.ed_routines.specs.Standing.{caller}
 use Rattle.ed_routines.specs.Digits.{digits, print_orders, sum}
 use Rattle.ed_routines.specs.Returns.{Keeps, Returned}
-use Rattle.ed_routines.proofs.Called.{IsWithin, image, holds, kept, near_h, h_is, beside, length-patched}
+use Rattle.ed_routines.proofs.Called.{IsCalled, image, holds_h, kept, beside, call_of, begins}
 use Rattle.ed_routines.proofs.Digits.{tens}
 use Rattle.ed_paths.proofs.Zeros.{flag_of, begun, spared}
-use Rattle.ed_routines.proofs.Print.{Work, cells, run, whole}
+use Rattle.ed_routines.proofs.Print.{Given, Work, cells, run, whole}
 use Rattle.ed_routines.proofs.Print.{before_tens, spelled, shows, spelled_is}
 use Rattle.ed_routines.proofs.Print.{shows_is, sum_is}
 
-module _ (b h top : ℕ) (s : State) (all : length s.store.words ≡ 1024) (o : Stands print (with_h h) b s)
-    (out : IsOutside print b h s)
-    (within : IsWithin 51 b h top s) (small : short_at s.store h < 65536) where
+module _ {b h top : ℕ} {s : State} (o : IsCalled print (with_h h) b h top s) (small : short_at s.store h < 65536) where
   abbrev n : ℕ
   n = short_at s.store h
 
+  abbrev given : Given
+  given = record {
+    call = call_of o.stands.low o.within;
+    h = h;
+    ws = s.store.words;
+    all = o.all;
+    at2 = o.stands.at2;
+    at3 = o.stands.at3;
+    room = o.within.back;
+    away = record { below = o.within.near; beside = beside s.store.words o.all o.outside };
+  }
+
   abbrev f : Frame 51 0
-  f = record { size = s.size; base = b; top = top; under = within.under; fits = within.fits }
+  f = given.call.frame
 
   image_holds : Holds (image print b (h ∷ [])) s.store.words b
-  image_holds =
-      let size = most s.size in
-      let below = out.below in
-      holds print b (h ∷ []) 1 (with_h h) s o (near_h h (omega arith)) (h_is h) refl
+  image_holds = holds_h o.stands o.outside refl
 
   abbrev first : Work
   first = record {
@@ -50,28 +56,10 @@ module _ (b h top : ℕ) (s : State) (all : length s.store.words ≡ 1024) (o : 
   }
 
   abbrev moment : Moment
-  moment =
-      run f o.low h (caller s) s.multiplier s.store.words s.tape s.store.sandwich all first
-      (114688 + 2 * caller s) 0 s.last
+  moment = run given first (114688 + 2 * caller s) 0 s.last
 
-  begins : state f moment s.orders ≡ s
-  begins =
-      let size = most s.size in
-      let fits = o.fits in
-      let words : patched 0 s.store.words b (cells b h first) ≡ s.store.words =
-      opens (image print b (h ∷ [])) s.store.words b (omega (arith, fits, all)) image_holds in
-      let counter : b + 0 ≡ s.counter = omega (arith, o.counter) in
-      let acc : short (114688 + 2 * caller s) ≡ s.acc = sym o.call.acc in
-      λ i. record {
-        size = s.size;
-        store = record { words = words i; sandwich = s.store.sandwich };
-        acc = acc i;
-        multiplier = s.multiplier;
-        counter = counter i;
-        tape = s.tape;
-        last = s.last;
-        orders = s.orders;
-      }
+  starts : state f moment s.orders ≡ s
+  starts = begins (h ∷ []) o.stands o.within o.all image_holds
 
   -- the words that change, as they are left
   abbrev left : Work
@@ -85,23 +73,16 @@ module _ (b h top : ℕ) (s : State) (all : length s.store.words ≡ 1024) (o : 
   }
 
   abbrev end : Moment
-  end = record (run f o.low h (caller s) s.multiplier s.store.words s.tape s.store.sandwich all left 0 0
-      (Some (n % 10)))
-      { counter = caller s + 2 }
+  end = record (run given left 0 0 (Some (n % 10))) { counter = caller s + 2 }
 
   path : Path f (print_orders n) moment (11 ∷ digits n) end
   path =
       let count : 78 + 8 * sum (tens n) + 4 * shows false (tens n) ≡ print_orders n =
       λ i. 78 + 8 * sum_is (tens n) i + 4 * shows_is (tens n) i in
       let codes : 11 ∷ spelled false (tens n) (n % 10) ≡ 11 ∷ digits n = λ i. 11 ∷ spelled_is (tens n) (n % 10) i in
-      let away : IsBeside f s.store.words h = record {
-        below = within.near;
-        beside = beside 51 b h s all out.beside o.fits;
-      } in
       subst (λ k. Path f k moment (11 ∷ digits n) end) count
       (subst (λ cs. Path f (78 + 8 * sum (tens n) + 4 * shows false (tens n)) moment cs end) codes
-      (whole f o.low h (caller s) s.multiplier s.store.words s.tape s.store.sandwich all first n s.last o.at2 o.at3
-      within.back away refl small))
+      (whole given first n s.last refl small))
 
   abbrev pub last : State
   last = record s {
@@ -115,18 +96,18 @@ module _ (b h top : ℕ) (s : State) (all : length s.store.words ≡ 1024) (o : 
   pub all_last : length last.store.words ≡ 1024
   all_last =
       let size = most s.size in
-      let fits = o.fits in
-      length-patched 0 s.store.words b (cells b h left) (omega (arith, all, fits)) ∙ all
+      let fits = o.stands.fits in
+      length_patched 0 s.store.words b (cells b h left) (omega (arith, o.all, fits)) ∙ o.all
 
   -- so many orders print the digits and lead behind the call
   pub leads_to : Leads (print_orders n) s (11 ∷ digits n) last
-  leads_to = subst (λ x. Leads (print_orders n) x (11 ∷ digits n) last) begins (leads path s.orders)
+  leads_to = subst (λ x. Leads (print_orders n) x (11 ∷ digits n) last) starts (leads path s.orders)
 
   -- what holds of every order that keeps below the place holds before each of them
   pub keeps_below : (P : State → Type 0) → ((kind : Kind) (x : State) → IsOrder top kind x → P x) → (j : ℕ)
       → j < print_orders n
       → P (state_after j s)
-  keeps_below P is j l = subst (λ x. P (state_after j x)) begins (each P is path s.orders j l)
+  keeps_below P is j l = subst (λ x. P (state_after j x)) starts (each P is path s.orders j l)
 
   module _ (t : State) (e : t ≡ last) where
     pub returned : Returned (print_orders n) s.tape (Some (n % 10)) s t
@@ -135,5 +116,5 @@ module _ (b h top : ℕ) (s : State) (all : length s.store.words ≡ 1024) (o : 
     pub keeps : Keeps print b s t
     keeps = record {
       words = λ i other. ap (λ (x : State). get_or x.store.words i 0) e
-          ∙ kept print b (h ∷ []) s.store.words (cells b h left) refl refl image_holds i other;
+          ∙ kept (h ∷ []) other s.store.words (cells b h left) refl refl image_holds;
     }

@@ -1,16 +1,17 @@
 -- The routine `read`, by its listing.
 use Rattle.std.proofs.Common.{◌≡◌, ℕ, ◌+◌, ◌-◌, ◌*◌, ◌%◌, ◌^◌, ◌<◌, ◌≤◌, refl}
-use Rattle.std.proofs.Common.{arith, Bool, List, [], ◌∷◌, ◌++◌, Option, get_or}
+use Rattle.std.proofs.Common.{arith, List, [], ◌∷◌, ◌++◌, get_or}
 use Rattle.std.proofs.Common.{set, length}
 use Rattle.std.proofs.Common.{lit<}
 use Rattle.ed_words.proofs.SizeLemmas.{most}
-use Rattle.ed_paths.proofs.Frames.{Frame, Moment, short}
+use Rattle.ed_paths.proofs.Frames.{Moment, short}
 use Rattle.ed_paths.proofs.Places.{IsOutside, early, own, out, any}
 use Rattle.ed_paths.proofs.Orders.{word_is}
 use Rattle.ed_paths.proofs.Shifts.{LD, L1F}
 use Rattle.ed_paths.proofs.Moves.{A, S, T, U, I, E_jumps, E_stays, L}
 use Rattle.ed_paths.proofs.Paths.{Path, stay, on, followed}
-use Rattle.ed_routines.specs.Digits.{value, value_behind}
+use Rattle.ed_routines.specs.Digits.{digits_value, value_behind}
+use Rattle.ed_routines.proofs.Called.{Call, moment}
 
 -- the cells that change: the order that returns, the number so far, the row, and a spare cell
 pub record Work : Type 0 where
@@ -42,26 +43,26 @@ pub data Digits : List ℕ → Type 0 where
   none : Digits []
   more : {d : ℕ} {ds : List ℕ} → d < 10 → Digits ds → Digits (d ∷ ds)
 
-module _ (f : Frame 24 0) (behind : 56 ≤ f.base) (h m multiplier : ℕ) (sandwich : List Bool) (last : Option ℕ) where
+-- words around the routine, which is called with the location h
+pub record Around (call : Call 24 0) (h : ℕ) (ws : List ℕ) : Type 0 where
+  pub all : length ws ≡ 1024
+  pub at3 : get_or ws 3 0 ≡ 28676
+  pub room : call.from + 3 ≤ call.frame.top
+  pub away : IsOutside call.frame ws h
+
+module _ (call : Call 24 0) (h : ℕ) where
+  open call use {frame as f, behind, from as m}
+
   abbrev pub run : List ℕ → Work → ℕ → ℕ → List ℕ → Moment
-  run ws w v i tape = record {
-    words = ws;
-    digits = sandwich;
-    cells = cells f.base h w;
-    pairs = [];
-    acc = short v;
-    multiplier = multiplier;
-    counter = f.base + i;
-    tape = tape;
-    last = last;
-  }
+  run ws w v i tape = record (moment call ws (cells f.base h w) v i) { tape = tape }
 
   -- a digit row
-  digit : (ws : List ℕ) (w : Work) (c : ℕ) (rest : List ℕ) (v u x : ℕ) → w.at21 ≡ v → v < 2 ^ 17 → c < 10
-      → (2 * v) % 2 ^ 17 ≡ x
-      → (10 * v + c) % 2 ^ 17 ≡ u
+  digit : {ws rest : List ℕ} {c : ℕ} (w : Work) (v u x : ℕ) → w.at21 ≡ v → v < 2 ^ 17 → c < 10
+      → ((2 * v) % 2 ^ 17 ≡ x) × ((10 * v + c) % 2 ^ 17 ≡ u)
       → Path f 13 (run ws w 0 3 (c ∷ rest)) [] (run ws (record w { at21 = u; at22 = c; at23 = x }) 0 3 rest)
-  digit ws w c rest v u x is low d twice sum =
+  digit {c = c} w v u x is low d sums =
+      let twice = sums.0 in
+      let sum = sums.1 in
       on (I 3 (own 22) c refl refl refl)
       (on (A 4 (own 22) (short c) refl (omega arith))
       (on (S 5 (own 20) (short (c + (2 ^ 17 - 10))) refl (omega arith))
@@ -81,8 +82,8 @@ module _ (f : Frame 24 0) (behind : 56 ≤ f.base) (h m multiplier : ℕ) (sandw
   digits ws n w [] rest ok is = stay
   digits ws n w (d ∷ ds) rest (more low ok) is =
       let e : 13 * length (d ∷ ds) ≡ 13 + 13 * length ds = omega arith in
-      let first = digit ws w d (ds ++ rest) (n % 2 ^ 17) ((10 * n + d) % 2 ^ 17) ((2 * n) % 2 ^ 17) is
-      (omega arith) low (omega arith) (omega arith) in
+      let first = digit {ws = ws} {rest = ds ++ rest} w (n % 2 ^ 17) ((10 * n + d) % 2 ^ 17) ((2 * n) % 2 ^ 17) is
+      (omega arith) low (omega arith, omega arith) in
       rw e (followed first
       (digits ws (10 * n + d) (record w { at21 = (10 * n + d) % 2 ^ 17; at22 = d; at23 = (2 * n) % 2 ^ 17 }) ds
       rest ok refl))
@@ -91,22 +92,24 @@ module _ (f : Frame 24 0) (behind : 56 ≤ f.base) (h m multiplier : ℕ) (sandw
   abbrev pub opened_work : Work → Work
   opened_work w = record w { at19 = 12288 + 2 * (m + 2); at21 = 0 }
 
-  opened : (ws : List ℕ) (w : Work) (tape : List ℕ) → length ws ≡ 1024 → get_or ws 3 0 ≡ 28676 → m + 3 ≤ f.top
+  opened : {ws : List ℕ} (w : Work) (tape : List ℕ) → Around call h ws
       → Path f 3 (run ws w (114688 + 2 * m) 0 tape) [] (run ws (opened_work w) 0 3 tape)
-  opened ws w tape all at3 room =
+  opened w tape around =
       let b = most f.size in
       let fits = f.fits in
-      on (A 0 (out 3 (early 3 behind (lit< tt) all)) (short (12288 + 2 * (m + 2))) refl (omega arith))
+      let room = around.room in
+      let at3 = around.at3 in
+      on (A 0 (out 3 (early 3 behind (lit< tt) around.all)) (short (12288 + 2 * (m + 2))) refl (omega arith))
       (on (T 1 (own 19) _ refl refl)
       (on (T 2 (own 21) _ refl refl) stay))
 
   -- an ending row
-  closed : (ws : List ℕ) (w : Work) (c v : ℕ) (rest : List ℕ) → w.at19 ≡ 12288 + 2 * (m + 2) → w.at21 ≡ v
-      → v < 2 ^ 17 → 10 ≤ c
-      → c < 32 → IsOutside f ws h → m + 3 ≤ f.top
+  closed : {ws rest : List ℕ} {c v : ℕ} (w : Work) → Around call h ws → w.at19 ≡ 12288 + 2 * (m + 2)
+      → w.at21 ≡ v → v < 2 ^ 17 → 10 ≤ c → c < 32
       → Path f 8 (run ws w 0 3 (c ∷ rest)) []
       (record (run (set ws h v) (record w { at22 = c; at23 = c - 10 }) 0 0 rest) { counter = m + 2 })
-  closed ws w c v rest link is low end code away room =
+  closed {c = c} {v} w around link is low end code =
+      let room = around.room in
       let there : m + 2 < f.top = omega arith in
       on (I 3 (own 22) c refl refl refl)
       (on (A 4 (own 22) (short c) refl (omega arith))
@@ -114,7 +117,7 @@ module _ (f : Frame 24 0) (behind : 56 ≤ f.base) (h m multiplier : ℕ) (sandw
       (on (E_jumps 6 (own 16) refl (omega arith))
       (on (T 16 (own 23) _ refl refl)
       (on (A 17 (own 21) (short v) refl (omega arith))
-      (on (T 18 (out h away) _ refl refl)
+      (on (T 18 (out h around.away) _ refl refl)
       (on (E_jumps 19 (any (m + 2) there) (word_is link) (lit< tt)) stay)))))))
 
   link_kept : (n : ℕ) (ds : List ℕ) (w : Work) → (worked n ds w).at19 ≡ w.at19
@@ -135,23 +138,19 @@ module _ (f : Frame 24 0) (behind : 56 ≤ f.base) (h m multiplier : ℕ) (sandw
   abbrev pub last_work : List ℕ → ℕ → Work → Work
   last_work ds c w = record (worked 0 ds (opened_work w)) { at22 = c; at23 = c - 10 }
 
-  pub whole : (ws : List ℕ) (w : Work) (ds : List ℕ) (c : ℕ) (rest : List ℕ) → length ws ≡ 1024
-      → get_or ws 3 0 ≡ 28676 → m + 3 ≤ f.top
-      → Digits ds → 10 ≤ c → c < 32 → IsOutside f ws h
+  pub whole : {ws ds : List ℕ} {c : ℕ} (w : Work) (rest : List ℕ) → Around call h ws → Digits ds → 10 ≤ c → c < 32
       → Path f (11 + 13 * length ds) (run ws w (114688 + 2 * m) 0 (ds ++ c ∷ rest)) []
-      (record (run (set ws h (value ds % 2 ^ 17)) (last_work ds c w) 0 0 rest) { counter = m + 2 })
-  whole ws w ds c rest all at3 room ok end code away =
+      (record (run (set ws h (digits_value ds % 2 ^ 17)) (last_work ds c w) 0 0 rest) { counter = m + 2 })
+  whole {ws} {ds} {c} w rest around ok end code =
       let start : Work = opened_work w in
       let e : 11 + 13 * length ds ≡ 3 + (13 * length ds + 8) = omega arith in
-      rw e (followed (opened ws w (ds ++ c ∷ rest) all at3 room)
+      rw e (followed (opened w (ds ++ c ∷ rest) around)
       (followed (digits ws 0 start ds (c ∷ rest) ok refl)
-      (closed ws (worked 0 ds start) c (value ds % 2 ^ 17) rest (link_kept 0 ds start) (value_kept 0 ds start refl)
-      (omega arith) end code away room)))
+      (closed (worked 0 ds start) around (link_kept 0 ds start) (value_kept 0 ds start refl) (omega arith) end code)))
 
   -- the tape that ends
-  pub until_end : (ws : List ℕ) (w : Work) (ds : List ℕ) → length ws ≡ 1024 → get_or ws 3 0 ≡ 28676 → m + 3 ≤ f.top
-      → Digits ds
+  pub until_end : {ws ds : List ℕ} (w : Work) → Around call h ws → Digits ds
       → Path f (3 + 13 * length ds) (run ws w (114688 + 2 * m) 0 (ds ++ [])) []
       (run ws (worked 0 ds (opened_work w)) 0 3 [])
-  until_end ws w ds all at3 room ok =
-      followed (opened ws w (ds ++ []) all at3 room) (digits ws 0 (opened_work w) ds [] ok refl)
+  until_end {ws} {ds} w around ok =
+      followed (opened w (ds ++ []) around) (digits ws 0 (opened_work w) ds [] ok refl)

@@ -11,19 +11,19 @@ use Rattle.ed_machine.specs.State.{State}
 use Rattle.ed_machine.specs.OrderTable.{Obeyed, step}
 use Rattle.ed_machine.specs.Steps.{state_after}
 use Rattle.ed_machine.specs.declared.turn.Turn.TheVariants.{NoTape}
-use Rattle.ed_paths.proofs.Frames.{Frame, Moment, state, short}
-use Rattle.ed_paths.proofs.Places.{IsOutside as IsBeside, own}
+use Rattle.ed_paths.proofs.Frames.{Frame, Moment, state}
+use Rattle.ed_paths.proofs.Places.{own}
 use Rattle.ed_paths.proofs.Orders.{IsOrder, named, obeyed}
 use Rattle.ed_paths.proofs.Paths.{Path, leads, each}
 use Rattle.ed_paths.proofs.Leads.{Leads}
-use Rattle.ed_paths.proofs.Standing.{Holds, opens}
-use Rattle.ed_paths.proofs.Window.{patched, get_below, get_above}
+use Rattle.ed_paths.proofs.Standing.{Holds}
+use Rattle.ed_paths.proofs.Window.{patched, get_below, get_above, length_patched}
 use Rattle.ed_routines.specs.Catalogue.{read, with_h}
-use Rattle.ed_routines.specs.Standing.{Stands, IsOutside, caller}
-use Rattle.ed_routines.specs.Digits.{value, digit_rows, after_digits}
+use Rattle.ed_routines.specs.Standing.{caller}
+use Rattle.ed_routines.specs.Digits.{digits_value, digit_rows, after_digits}
 use Rattle.ed_routines.specs.Returns.{HasRead, IsOther, KeepsBut, Waits}
-use Rattle.ed_routines.proofs.Called.{IsWithin, image, holds, kept, near_h, h_is, beside, length-patched}
-use Rattle.ed_routines.proofs.Read.{Work, Digits, none, more, cells, run, whole}
+use Rattle.ed_routines.proofs.Called.{Call, IsCalled, image, holds_h, kept, beside, call_of, begins}
+use Rattle.ed_routines.proofs.Read.{Work, Around, Digits, none, more, cells, run, whole}
 use Rattle.ed_routines.proofs.Read.{until_end, worked, opened_work, last_work}
 
 -- a tape is its digit rows and the rows behind them
@@ -93,20 +93,26 @@ has_ending rows other = by_rows (after_digits rows) refl
         ap (λ x. x ∷ rest) (sym (ap (λ x. get_or x (length (digit_rows rows)) 0)
         (split rows ∙ ap (λ x. digit_rows rows ++ x) e) ∙ there))
 
-module _ (b h top : ℕ) (s : State) (all : length s.store.words ≡ 1024) (o : Stands read (with_h h) b s)
-    (out : IsOutside read b h s)
-    (within : IsWithin 24 b h top s) where
+module _ {b h top : ℕ} {s : State} (o : IsCalled read (with_h h) b h top s) where
+  abbrev call : Call 24 0
+  call = call_of o.stands.low o.within
+
   abbrev f : Frame 24 0
-  f = record { size = s.size; base = b; top = top; under = within.under; fits = within.fits }
+  f = call.frame
+
+  around : Around call h s.store.words
+  around = record {
+    all = o.all;
+    at3 = o.stands.at3;
+    room = o.within.back;
+    away = record { below = o.within.near; beside = beside s.store.words o.all o.outside };
+  }
 
   abbrev ds : List ℕ
   ds = digit_rows s.tape
 
   image_holds : Holds (image read b (h ∷ [])) s.store.words b
-  image_holds =
-      let size = most s.size in
-      let below = out.below in
-      holds read b (h ∷ []) 1 (with_h h) s o (near_h h (omega arith)) (h_is h) refl
+  image_holds = holds_h o.stands o.outside refl
 
   abbrev first : Work
   first = record {
@@ -116,70 +122,47 @@ module _ (b h top : ℕ) (s : State) (all : length s.store.words ≡ 1024) (o : 
     at23 = get_or s.store.words (b + 23) 0;
   }
 
-  abbrev at : List ℕ → Work → ℕ → ℕ → List ℕ → Moment
-  at ws w acc place rows = run f o.low h (caller s) s.multiplier s.store.sandwich s.last ws w acc place rows
-
-  begins : (rows : List ℕ) → s.tape ≡ rows
-      → state f (at s.store.words first (114688 + 2 * caller s) 0 rows) s.orders ≡ s
-  begins rows tape =
-      let size = most s.size in
-      let fits = o.fits in
-      let words : patched 0 s.store.words b (cells b h first) ≡ s.store.words =
-      opens (image read b (h ∷ [])) s.store.words b (omega (arith, fits, all)) image_holds in
-      let counter : b + 0 ≡ s.counter = omega (arith, o.counter) in
-      let acc : short (114688 + 2 * caller s) ≡ s.acc = sym o.call.acc in
-      let rows : rows ≡ s.tape = sym tape in
-      λ i. record {
-        size = s.size;
-        store = record { words = words i; sandwich = s.store.sandwich };
-        acc = acc i;
-        multiplier = s.multiplier;
-        counter = counter i;
-        tape = rows i;
-        last = s.last;
-        orders = s.orders;
-      }
+  starts : (rows : List ℕ) → s.tape ≡ rows
+      → state f (run call h s.store.words first (114688 + 2 * caller s) 0 rows) s.orders ≡ s
+  starts rows tape =
+      ap (λ x. state f (run call h s.store.words first (114688 + 2 * caller s) 0 x) s.orders) (sym tape)
+      ∙ begins (h ∷ []) o.stands o.within o.all image_holds
 
   -- a word at no working place stays, whatever was written at h
   stays : (v : ℕ) (w : Work) (i : ℕ) → i ≢ h → IsOther read b i
       → get_or (patched 0 (set s.store.words h v) b (cells b h w)) i 0 ≡ get_or s.store.words i 0
   stays v w i other free =
-      kept read b (h ∷ []) (set s.store.words h v) (cells b h w) refl refl still i free
+      kept (h ∷ []) free (set s.store.words h v) (cells b h w) refl refl still
       ∙ get_or-set_other s.store.words h i v 0 other
     where
       apart : (j : ℕ) → j < 24 → b + j ≢ h
-      apart j l e = elim out.beside [ inl x ↦ absurd (omega arith) | inr y ↦ absurd (omega arith) ]
+      apart j l e = elim o.outside.beside [ inl x ↦ absurd (omega arith) | inr y ↦ absurd (omega arith) ]
 
       still : Holds (image read b (h ∷ [])) (set s.store.words h v) b
       still j l = rw (get_or-set_other s.store.words h (b + j) v 0 (apart j l)) (image_holds j l)
 
   -- the word at h is none of the routine's
   at_h : (ws : List ℕ) (w : Work) → get_or (patched 0 ws b (cells b h w)) h 0 ≡ get_or ws h 0
-  at_h ws w = elim out.beside
+  at_h ws w = elim o.outside.beside
       [ inl l ↦ get_below 0 ws b (cells b h w) h l | inr g ↦ get_above 0 ws b (cells b h w) h g ]
 
-  away : IsBeside f s.store.words h
-  away = record { below = within.near; beside = beside 24 b h s all out.beside o.fits }
-
   -- where an ending row stands behind the digit rows
-  module _ (c : ℕ) (rest : List ℕ) (e : after_digits s.tape ≡ c ∷ rest) (code : c < 32) where
+  module _ {c : ℕ} {rest : List ℕ} (e : after_digits s.tape ≡ c ∷ rest) (code : c < 32) where
     rows_are : s.tape ≡ ds ++ c ∷ rest
     rows_are = split s.tape ∙ ap (λ x. ds ++ x) e
 
     abbrev written : List ℕ
-    written = set s.store.words h (value ds % 2 ^ 17)
+    written = set s.store.words h (digits_value ds % 2 ^ 17)
 
     abbrev left : Work
-    left = last_work f o.low h (caller s) s.multiplier s.store.sandwich s.last ds c first
+    left = last_work call h ds c first
 
     abbrev end : Moment
-    end = record (at written left 0 0 rest) { counter = caller s + 2 }
+    end = record (run call h written left 0 0 rest) { counter = caller s + 2 }
 
-    path : Path f (11 + 13 * length ds) (at s.store.words first (114688 + 2 * caller s) 0 (ds ++ c ∷ rest)) [] end
-    path =
-        whole f o.low h (caller s) s.multiplier s.store.sandwich s.last s.store.words first ds c rest all o.at3
-        within.back
-        (are_digits s.tape) (is_ending s.tape c rest e) code away
+    path : Path f (11 + 13 * length ds)
+        (run call h s.store.words first (114688 + 2 * caller s) 0 (ds ++ c ∷ rest)) [] end
+    path = whole call h first rest around (are_digits s.tape) (is_ending s.tape c rest e) code
 
     abbrev pub last : State
     last = record s {
@@ -193,38 +176,37 @@ module _ (b h top : ℕ) (s : State) (all : length s.store.words ≡ 1024) (o : 
     pub all_last : length last.store.words ≡ 1024
     all_last =
         let size = most s.size in
-        let fits = o.fits in
-        length-patched 0 written b (cells b h left)
-        (let e = length-set s.store.words h (value ds % 2 ^ 17) in omega (arith, e, all, fits))
-        ∙ length-set s.store.words h (value ds % 2 ^ 17)
-        ∙ all
+        let fits = o.stands.fits in
+        let long : length written ≡ 1024 = length-set s.store.words h (digits_value ds % 2 ^ 17) ∙ o.all in
+        length_patched 0 written b (cells b h left) (omega (arith, long, fits)) ∙ long
 
     -- so many orders read the rows and lead behind the call
     pub leads_to : Leads (11 + 13 * length ds) s [] last
-    leads_to = subst (λ x. Leads (11 + 13 * length ds) x [] last) (begins (ds ++ c ∷ rest) rows_are)
+    leads_to = subst (λ x. Leads (11 + 13 * length ds) x [] last) (starts (ds ++ c ∷ rest) rows_are)
         (leads path s.orders)
 
     -- what holds of every order that keeps below the place holds before each of them
     pub keeps_below : (P : State → Type 0) → ((kind : Kind) (x : State) → IsOrder top kind x → P x) → (j : ℕ)
         → j < 11 + 13 * length ds → P (state_after j s)
-    keeps_below P is j l = subst (λ x. P (state_after j x)) (begins (ds ++ c ∷ rest) rows_are)
+    keeps_below P is j l = subst (λ x. P (state_after j x)) (starts (ds ++ c ∷ rest) rows_are)
         (each P is path s.orders j l)
 
     module _ (t : State) (is : t ≡ last) where
       pub has_read : HasRead h s t
       has_read =
           let size = most s.size in
-          let below = out.below in
+          let below = o.outside.below in
+          let all = o.all in
           record {
             number = ap (λ (x : State). get_or x.store.words h 0) is ∙ at_h written left
-                ∙ get_or-set_same s.store.words h (value ds % 2 ^ 17) 0 (omega arith);
+                ∙ get_or-set_same s.store.words h (digits_value ds % 2 ^ 17) 0 (omega arith);
             returned = rw (e, is) refl;
           }
 
       pub keeps : KeepsBut h read b s t
       keeps = record {
         words = λ i other free. ap (λ (x : State). get_or x.store.words i 0) is
-            ∙ stays (value ds % 2 ^ 17) left i other free;
+            ∙ stays (digits_value ds % 2 ^ 17) left i other free;
       }
 
   -- where none does
@@ -233,13 +215,12 @@ module _ (b h top : ℕ) (s : State) (all : length s.store.words ≡ 1024) (o : 
     rows_are_all = split s.tape ∙ ap (λ x. ds ++ x) e
 
     abbrev so_far : Work
-    so_far = worked 0 ds (opened_work f o.low h (caller s) s.multiplier s.store.sandwich s.last first)
+    so_far = worked 0 ds (opened_work call h first)
 
-    path_to_end : Path f (3 + 13 * length ds) (at s.store.words first (114688 + 2 * caller s) 0 (ds ++ [])) []
-        (at s.store.words so_far 0 3 [])
-    path_to_end =
-        until_end f o.low h (caller s) s.multiplier s.store.sandwich s.last s.store.words first ds all o.at3 within.back
-        (are_digits s.tape)
+    path_to_end : Path f (3 + 13 * length ds)
+        (run call h s.store.words first (114688 + 2 * caller s) 0 (ds ++ [])) []
+        (run call h s.store.words so_far 0 3 [])
+    path_to_end = until_end call h first around (are_digits s.tape)
 
     abbrev pub waiting : State
     waiting = record s {
@@ -252,18 +233,18 @@ module _ (b h top : ℕ) (s : State) (all : length s.store.words ≡ 1024) (o : 
 
     -- so many orders read the rows and lead to the order that waits for one more
     pub leads_to_end : Leads (3 + 13 * length ds) s [] waiting
-    leads_to_end = subst (λ x. Leads (3 + 13 * length ds) x [] waiting) (begins (ds ++ []) rows_are_all)
+    leads_to_end = subst (λ x. Leads (3 + 13 * length ds) x [] waiting) (starts (ds ++ []) rows_are_all)
         (leads path_to_end s.orders)
 
     pub keeps_below_to_end : (P : State → Type 0) → ((kind : Kind) (x : State) → IsOrder top kind x → P x) → (j : ℕ)
         → j < 3 + 13 * length ds → P (state_after j s)
     keeps_below_to_end P is j l =
-        subst (λ x. P (state_after j x)) (begins (ds ++ []) rows_are_all) (each P is path_to_end s.orders j l)
+        subst (λ x. P (state_after j x)) (starts (ds ++ []) rows_are_all) (each P is path_to_end s.orders j l)
 
     blocked : (step waiting).turn ≡ NoTape
     blocked =
-        let r : Moment = at s.store.words so_far 0 3 [] in
-        let w = named f r 3 8 KindI (own 22) true refl refl in
+        let r : Moment = run call h s.store.words so_far 0 3 [] in
+        let w = named f r 3 8 (own 22) true refl refl in
         ap (λ (x : Obeyed). x.turn) (obeyed f r KindI w.w (b + 4) (s.orders + (3 + 13 * length ds)) w.is)
 
     module _ (t : State) (is : t ≡ waiting) where
@@ -277,5 +258,5 @@ module _ (b h top : ℕ) (s : State) (all : length s.store.words ≡ 1024) (o : 
       pub keeps_waiting : KeepsBut h read b s t
       keeps_waiting = record {
         words = λ i other free. ap (λ (x : State). get_or x.store.words i 0) is
-            ∙ kept read b (h ∷ []) s.store.words (cells b h so_far) refl refl image_holds i free;
+            ∙ kept (h ∷ []) free s.store.words (cells b h so_far) refl refl image_holds;
       }

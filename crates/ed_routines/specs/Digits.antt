@@ -9,8 +9,8 @@ value_behind n [] = n
 value_behind n (d ∷ ds) = value_behind (10 * n + d) ds
 
 -- the number that digits spell
-abbrev pub value : List ℕ → ℕ
-value ds = value_behind 0 ds
+abbrev pub digits_value : List ℕ → ℕ
+digits_value ds = value_behind 0 ds
 
 -- digits without the zeros that lead
 abbrev pub without_zeros : List ℕ → List ℕ
@@ -37,7 +37,7 @@ print_orders n = 78 + 8 * sum (before_units n) + 4 * length (before_units n)
 
 -- the digits spell the number, and are those that it is written with in decimal
 pub record DigitsSpell (n : ℕ) : Type 0 where
-  pub value_is : value (digits n) ≡ n
+  pub value_is : digits_value (digits n) ≡ n
   pub written : map (λ d. 48 + d) (digits n) ≡ decimal n
 
 -- so it is of every number below 65536

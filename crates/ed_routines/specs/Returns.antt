@@ -5,15 +5,15 @@ use Rattle.ed_machine.specs.State.{State}
 use Rattle.ed_machine.specs.OrderTable.{step}
 use Rattle.ed_machine.specs.Steps.{IsFree, state_after}
 use Rattle.ed_machine.specs.declared.turn.Turn.TheVariants.{NoTape as HasNoTape}
-use Rattle.ed_library.specs.Routines.{is_working, places}
+use Rattle.ed_library.specs.Routines.{is_working, place_count}
 use Rattle.ed_routines.specs.Standing.{caller}
-use Rattle.ed_routines.specs.Digits.{value, digit_rows, after_digits, after_ending}
+use Rattle.ed_routines.specs.Digits.{digits_value, digit_rows, after_digits, after_ending}
 use Rattle.ed_routines.specs.declared.reading.ReadBack.{ReadBack}
 use Rattle.ed_routines.specs.declared.reading.ReadBack.TheVariants.{Back, NoTape}
 
 -- a location that is no working place of a routine
 pub record IsOther (r base i : ℕ) : Type 0 where
-  pub other : (i < base) ⊎ ((base + places r ≤ i) ⊎ (is_working r (i - base) ≡ false))
+  pub other : (i < base) ⊎ ((base + place_count r ≤ i) ⊎ (is_working r (i - base) ≡ false))
 
 -- each word stays but for the working places of a routine
 pub record Keeps (r base : ℕ) (s t : State) : Type 0 where
@@ -48,9 +48,9 @@ abbrev pub read_back : State → ReadBack
 read_back s = read_by (after_digits s.tape) (length (digit_rows s.tape)) (caller s + 2)
 
 -- the orders that it takes
-abbrev pub orders_of : ReadBack → ℕ
-orders_of (Back at orders) = orders
-orders_of (NoTape orders) = orders
+abbrev pub orders_taken : ReadBack → ℕ
+orders_taken (Back at orders) = orders
+orders_taken (NoTape orders) = orders
 
 -- each word stays but for the working places of a routine and the word at h
 pub record KeepsBut (h r base : ℕ) (s t : State) : Type 0 where
@@ -58,7 +58,7 @@ pub record KeepsBut (h r base : ℕ) (s t : State) : Type 0 where
 
 -- `read` has read digit rows and an ending row, and their number stands at h
 pub record HasRead (h : ℕ) (s t : State) : Type 0 where
-  pub number : short_at t.store h ≡ value (digit_rows s.tape) % 2 ^ 17
+  pub number : short_at t.store h ≡ digits_value (digit_rows s.tape) % 2 ^ 17
   pub returned : Returned (11 + 13 * length (digit_rows s.tape)) (after_ending (after_digits s.tape)) s.last s t
 
 -- `read` waits for a row behind the digit rows, of which there is none, and the word at h is as it was

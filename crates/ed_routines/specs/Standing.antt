@@ -4,7 +4,7 @@ use Rattle.std.specs.Prelude.{◌≡◌, ◌⊎◌, ℕ, ◌+◌, ◌-◌, ◌*�
 use Rattle.ed_words.specs.Sizes.{locations}
 use Rattle.ed_store.specs.Cells.{short_at}
 use Rattle.ed_machine.specs.State.{State}
-use Rattle.ed_library.specs.Routines.{is_working, places}
+use Rattle.ed_library.specs.Routines.{is_working, place_count}
 use Rattle.ed_library.specs.Images.{image_word}
 
 -- the place of the order that put itself into the accumulator
@@ -23,14 +23,14 @@ pub record HasWord (r : ℕ) (parameters : List ℕ) (base : ℕ) (s : State) (i
 -- a routine stands at a base, called: its words, the constants at 2 and 3, the counter, and the call in the accumulator
 pub record Stands (r : ℕ) (parameters : List ℕ) (base : ℕ) (s : State) : Type 0 where
   pub low : 56 ≤ base
-  pub fits : base + places r ≤ locations s.size
+  pub fits : base + place_count r ≤ locations s.size
   pub counter : s.counter ≡ base
   pub at2 : short_at s.store 2 ≡ 2
   pub at3 : short_at s.store 3 ≡ 28676
-  pub image : (i : ℕ) → i < places r → HasWord r parameters base s i
+  pub image : (i : ℕ) → i < place_count r → HasWord r parameters base s i
   pub call : IsCall s
 
 -- a location outside a routine
 pub record IsOutside (r base p : ℕ) (s : State) : Type 0 where
   pub below : p < locations s.size
-  pub beside : (p < base) ⊎ (base + places r ≤ p)
+  pub beside : (p < base) ⊎ (base + place_count r ≤ p)

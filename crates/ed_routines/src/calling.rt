@@ -25,7 +25,7 @@ pub fn way_back(machine: &Machine) -> u16
 
 /// Obeys so many orders.
 #[tactic(auto, unfolding(ed_machine::specs::Steps::past))]
-pub fn obey_orders(machine: &mut Machine, count: u64)
+pub fn obey_count(machine: &mut Machine, count: u64)
     requires { machine.old.orders + count ≤ 2 ^ 63 }
     ensures { machine.new ≡ state_after count machine.old }
 {

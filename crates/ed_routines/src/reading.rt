@@ -1,10 +1,10 @@
 ghost use Rattle.std.specs.Prelude.{◌≡◌, ◌+◌, ◌*◌, ◌^◌, ◌<◌, ◌≤◌, length, slice_index};
 ghost use Rattle.ed_routines.specs.Catalogue.{read, with_h};
 ghost use Rattle.ed_routines.specs.Digits.{after_digits, digit_rows};
-ghost use Rattle.ed_routines.specs.Returns.{IsAfter, KeepsBut, ReadLeaves, orders_of, read_back};
+ghost use Rattle.ed_routines.specs.Returns.{IsAfter, KeepsBut, ReadLeaves, orders_taken, read_back};
 ghost use Rattle.ed_routines.specs.Standing.{IsOutside, Stands};
 
-use crate::calling::{obey_orders, way_back};
+use crate::calling::{obey_count, way_back};
 use ed_codes::Code;
 use ed_machine::Machine;
 
@@ -32,7 +32,7 @@ pub fn read_integer(machine: &mut Machine, base: u16, h: u16) -> ReadBack
     requires outside { IsOutside read base h machine.old }
     requires orders { machine.old.orders + (3 + 13 * length machine.old.tape) ≤ 2 ^ 63 }
     ensures back { result ≡ read_back machine.old }
-    ensures after { IsAfter (orders_of result) machine.old machine.new }
+    ensures after { IsAfter (orders_taken result) machine.old machine.new }
     ensures words { KeepsBut h read base machine.old machine.new }
     ensures leaves { ReadLeaves (after_digits machine.old.tape) base h machine.old machine.new }
 {
@@ -43,11 +43,11 @@ pub fn read_integer(machine: &mut Machine, base: u16, h: u16) -> ReadBack
     let digits = count_digits(rows);
     if digits == rows.len() {
         let orders = 3 + 13 * digits as u64;
-        obey_orders(machine, orders);
+        obey_count(machine, orders);
         ReadBack::NoTape { orders }
     } else {
         let orders = 11 + 13 * digits as u64;
-        obey_orders(machine, orders);
+        obey_count(machine, orders);
         ReadBack::Back { at, orders }
     }
 }

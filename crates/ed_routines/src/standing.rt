@@ -1,6 +1,6 @@
 ghost use Rattle.std.specs.Prelude.{◌↔◌, ℕ, ◌+◌, ◌≤◌, ◌<◌, IsTrue};
 ghost use Rattle.ed_words.specs.Sizes.{locations};
-ghost use Rattle.ed_library.specs.Routines.{places};
+ghost use Rattle.ed_library.specs.Routines.{place_count};
 ghost use Rattle.ed_routines.specs.Standing.{HasWord, IsCall, Stands};
 
 use crate::calling::caller;
@@ -13,7 +13,7 @@ use ed_machine::Machine;
 /// accumulator holds the order A m F and nothing else, where m + 2 is below the size.
 pub fn stands(machine: &Machine, routine: &Routine, base: u16, parameters: &Parameters) -> bool
     requires low { 56 ≤ base }
-    requires fits { base + places routine.now ≤ locations machine.now.size }
+    requires fits { base + place_count routine.now ≤ locations machine.now.size }
     ensures { IsTrue result ↔ Stands routine.now parameters.now base machine.now }
 {
     machine.counter() == base
@@ -34,8 +34,8 @@ fn is_call(machine: &Machine) -> bool
 
 /// Whether each place of the routine but its working places holds its word.
 pub fn has_image(machine: &Machine, routine: &Routine, base: u16, parameters: &Parameters) -> bool
-    requires { base + places routine.now ≤ locations machine.now.size }
-    ensures { IsTrue result ↔ ((i : ℕ) → i < places routine.now
+    requires { base + place_count routine.now ≤ locations machine.now.size }
+    ensures { IsTrue result ↔ ((i : ℕ) → i < place_count routine.now
         → HasWord routine.now parameters.now base machine.now i) }
 {
     for place in 0..routine.length() {
@@ -54,8 +54,8 @@ fn has_word(
     place: u16,
     parameters: &Parameters,
 ) -> bool
-    requires room { base + places routine.now ≤ locations machine.now.size }
-    requires place { place < places routine.now }
+    requires room { base + place_count routine.now ≤ locations machine.now.size }
+    requires place { place < place_count routine.now }
     ensures { IsTrue result ↔ HasWord routine.now parameters.now base machine.now place }
 {
     let _ = machine.size().value();

@@ -3,14 +3,13 @@ use Rattle.ed_words.specs.Sizes.{locations}
 use Rattle.ed_store.specs.Cells.{short_at}
 use Rattle.ed_machine.specs.State.{State}
 use Rattle.ed_machine.specs.Steps.{state_after}
-use Rattle.ed_paths.proofs.Leads.{Leads}
-use Rattle.ed_routines.proofs.Called.{IsWithin, within_size}
-use Rattle.ed_routines.proofs.Runs.{free}
-use Rattle.ed_maths.specs.Quotients.{divide, divide_orders, dividend, ones, with_hnm}
-use Rattle.ed_maths.proofs.DivideCall.{last, leads_to, divided}
+use Rattle.ed_paths.proofs.Leads.{Leads, free}
+use Rattle.ed_routines.proofs.Called.{within_size}
+use Rattle.ed_maths.specs.Quotients.{divide_orders, dividend, ones}
+use Rattle.ed_maths.proofs.DivideCall.{CallsDivide, last, leads_to, divided}
 use Rattle.ed_maths.proofs.division.divide_integers.Goals as goal
 
-module _ (c : goal.After-obey_orders) where
+module _ (c : goal.After-obey_count) where
   abbrev s : State
   s = c.args.machine.now
 
@@ -27,25 +26,23 @@ module _ (c : goal.After-obey_orders) where
       = c.count_ones.ensures.is ∙ (λ i. ones 16 ((65536 * high i + low i) / by i)) in
       ap (λ x. 212 - x) (c.from-orders.ensures ∙ digits)
 
-  within : IsWithin 41 c.args.base c.args.high (locations s.size) s
-  within =
-      within_size divide c.args.base c.args.high (with_hnm c.args.high c.args.low c.args.by) s c.requires.stands
-      c.requires.division.high_outside
+  called : CallsDivide c.args.base c.args.high c.args.low c.args.by (locations s.size) s
+  called = record {
+    all = c.word.ensures.store.words_are;
+    all_digits = c.word.ensures.store.digits_are;
+    stands = c.requires.stands;
+    even = c.requires.even;
+    division = c.requires.division;
+    within = within_size c.requires.stands c.requires.division.high_outside;
+    near_low = c.requires.division.low_outside.below;
+    near_by = c.requires.division.by_outside.below;
+  }
 
-  abbrev end : State
-  end = last c.args.base c.args.high c.args.low c.args.by (locations s.size) s c.word.ensures.store.words_are
-      c.word.ensures.store.digits_are
-      c.requires.stands c.requires.even c.requires.division within c.requires.division.low_outside.below
-      c.requires.division.by_outside.below
+  leads : Leads (divide_orders quotient) s [] (last called)
+  leads = leads_to called
 
-  leads : Leads (divide_orders quotient) s [] end
-  leads = leads_to c.args.base c.args.high c.args.low c.args.by (locations s.size) s c.word.ensures.store.words_are
-      c.word.ensures.store.digits_are c.requires.stands c.requires.even c.requires.division within
-      c.requires.division.low_outside.below
-      c.requires.division.by_outside.below
-
-  state_is : c.obey_orders.new.machine ≡ state_after (divide_orders quotient) s
-  state_is = c.obey_orders.ensures ∙ ap (λ k. state_after k s) count
+  state_is : c.obey_count.new.machine ≡ state_after (divide_orders quotient) s
+  state_is = c.obey_count.ensures ∙ ap (λ k. state_after k s) count
 
 pub returns-clause-orders : goal.returns-clause-orders
 returns-clause-orders c = count c
@@ -54,8 +51,4 @@ pub returns-clause-after : goal.returns-clause-after
 returns-clause-after c = rw (count c) (record { state_is = state_is c; free = free (leads c) })
 
 pub returns-clause-divided : goal.returns-clause-divided
-returns-clause-divided c =
-    divided c.args.base c.args.high c.args.low c.args.by (locations (s c).size) (s c) c.word.ensures.store.words_are
-    c.word.ensures.store.digits_are c.requires.stands c.requires.even c.requires.division (within c)
-    c.requires.division.low_outside.below c.requires.division.by_outside.below c.obey_orders.new.machine
-    (state_is c ∙ (leads c).state_is)
+returns-clause-divided c = divided (called c) c.obey_count.new.machine (state_is c ∙ (leads c).state_is)

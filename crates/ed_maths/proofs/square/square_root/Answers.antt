@@ -1,16 +1,15 @@
-use Rattle.std.proofs.Common.{◌≡◌, ◌∙◌, ℕ, ◌+◌, ◌*◌, ◌<◌, ◌≤◌, [], sym, subst, arith, ap}
+use Rattle.std.proofs.Common.{◌≡◌, ◌∙◌, ℕ, ◌+◌, ◌*◌, [], sym, subst, ap}
 use Rattle.ed_words.specs.Sizes.{locations}
 use Rattle.ed_store.specs.Cells.{short_at}
 use Rattle.ed_machine.specs.State.{State}
 use Rattle.ed_machine.specs.Steps.{state_after}
-use Rattle.ed_paths.proofs.Leads.{Leads}
-use Rattle.ed_routines.proofs.Called.{IsWithin, within_size}
-use Rattle.ed_routines.proofs.Runs.{free}
-use Rattle.ed_maths.specs.Roots.{IsRoot, root, root_orders, with_hn}
-use Rattle.ed_maths.proofs.RootCall.{last, leads_to, root_is, returned, keeps}
+use Rattle.ed_paths.proofs.Leads.{Leads, free}
+use Rattle.ed_routines.proofs.Called.{within_size}
+use Rattle.ed_maths.specs.Roots.{IsRoot, root_orders}
+use Rattle.ed_maths.proofs.RootCall.{CallsRoot, last, leads_to, root_is, returned, keeps}
 use Rattle.ed_maths.proofs.square.square_root.Goals as goal
 
-module _ (c : goal.After-obey_orders) where
+module _ (c : goal.After-obey_count) where
   abbrev s : State
   s = c.args.machine.now
 
@@ -24,31 +23,29 @@ module _ (c : goal.After-obey_orders) where
   count : 14 + 8 * c.from.result ≡ root_orders r
   count = ap (λ x. 14 + 8 * x) c.from.ensures
 
-  within : IsWithin 23 c.args.base c.args.source (locations s.size) s
-  within = within_size root c.args.base c.args.source (with_hn c.args.source c.args.target) s c.requires.stands
-      c.requires.source
+  called : CallsRoot c.args.base c.args.source c.args.target (locations s.size) r s
+  called = record {
+    all = c.word.ensures.store.words_are;
+    stands = c.requires.stands;
+    source_outside = c.requires.source;
+    target_outside = c.requires.target;
+    within = within_size c.requires.stands c.requires.source;
+    near = c.requires.target.below;
+    small = c.requires.small;
+    is_root = is_root;
+  }
 
-  abbrev end : State
-  end = last c.args.base c.args.source c.args.target (locations s.size) s c.word.ensures.store.words_are
-      c.requires.stands c.requires.source
-      c.requires.target c.requires.differ within c.requires.target.below c.requires.small r is_root
+  leads : Leads (root_orders r) s [] (last called)
+  leads = leads_to called
 
-  leads : Leads (root_orders r) s [] end
-  leads = leads_to c.args.base c.args.source c.args.target (locations s.size) s c.word.ensures.store.words_are
-      c.requires.stands c.requires.source
-      c.requires.target c.requires.differ within c.requires.target.below c.requires.small r is_root
+  state_is : c.obey_count.new.machine ≡ state_after (root_orders r) s
+  state_is = c.obey_count.ensures ∙ ap (λ k. state_after k s) count
 
-  state_is : c.obey_orders.new.machine ≡ state_after (root_orders r) s
-  state_is = c.obey_orders.ensures ∙ ap (λ k. state_after k s) count
-
-  there : c.obey_orders.new.machine ≡ end
+  there : c.obey_count.new.machine ≡ last called
   there = state_is ∙ leads.state_is
 
-  target_is : short_at c.obey_orders.new.machine.store c.args.target ≡ r
-  target_is = root_is c.args.base c.args.source c.args.target (locations s.size) s c.word.ensures.store.words_are
-      c.requires.stands
-      c.requires.source c.requires.target c.requires.differ within c.requires.target.below c.requires.small r is_root
-      c.obey_orders.new.machine there
+  target_is : short_at c.obey_count.new.machine.store c.args.target ≡ r
+  target_is = root_is called c.obey_count.new.machine there
 
 pub returns-clause-root : goal.returns-clause-root
 returns-clause-root c = subst (λ x. IsRoot (short_at (s c).store c.args.source) x) (sym (target_is c)) (is_root c)
@@ -60,18 +57,7 @@ pub returns-clause-after : goal.returns-clause-after
 returns-clause-after c = rw (count c) (record { state_is = state_is c; free = free (leads c) })
 
 pub returns-clause-returned : goal.returns-clause-returned
-returns-clause-returned c =
-    rw (count c)
-    (returned c.args.base c.args.source c.args.target (locations (s c).size) (s c) c.word.ensures.store.words_are
-    c.requires.stands
-    c.requires.source c.requires.target c.requires.differ (within c) c.requires.target.below c.requires.small (r c)
-    (is_root c)
-    c.obey_orders.new.machine (there c))
+returns-clause-returned c = rw (count c) (returned (called c) c.obey_count.new.machine (there c))
 
 pub returns-clause-words : goal.returns-clause-words
-returns-clause-words c =
-    keeps c.args.base c.args.source c.args.target (locations (s c).size) (s c) c.word.ensures.store.words_are
-    c.requires.stands
-    c.requires.source c.requires.target c.requires.differ (within c) c.requires.target.below c.requires.small (r c)
-    (is_root c)
-    c.obey_orders.new.machine (there c)
+returns-clause-words c = keeps (called c) c.obey_count.new.machine (there c)

@@ -2,12 +2,12 @@ use Rattle.std.proofs.Common.{◌≡◌, ◌∙◌, arith, ℕ, List, [], ◌∷
 use Rattle.ed_words.specs.Sizes.{locations}
 use Rattle.ed_machine.specs.State.{State}
 use Rattle.ed_machine.specs.Steps.{state_after}
-use Rattle.ed_paths.proofs.Leads.{Leads}
+use Rattle.ed_paths.proofs.Leads.{Leads, free}
 use Rattle.ed_routines.specs.Catalogue.{newline}
 use Rattle.ed_routines.specs.Standing.{Stands}
 use Rattle.ed_routines.proofs.Called.{IsWithin}
 use Rattle.ed_routines.proofs.NewLine.{last, leads_to, returned, keeps}
-use Rattle.ed_routines.proofs.Runs.{Ran, ran, free}
+use Rattle.ed_routines.proofs.Runs.{Ran, ran}
 use Rattle.ed_routines.proofs.printing.new_line.Goals as goal
 
 module _ (c : goal.After-run) where
@@ -28,13 +28,13 @@ module _ (c : goal.After-run) where
 
   -- the routine's orders, and that the run obeys them
   abbrev end : State
-  end = last parameters c.args.base (locations s.size) s c.word.ensures.store.words_are stands within
+  end = last c.word.ensures.store.words_are stands within
 
   leads : Leads 5 s (18 ∷ 24 ∷ []) end
-  leads = leads_to parameters c.args.base (locations s.size) s c.word.ensures.store.words_are stands within
+  leads = leads_to c.word.ensures.store.words_are stands within
 
   left : Ran (state_after 5 s) c.run.new.machine c.args.paper.now c.run.new.paper (18 ∷ 24 ∷ [])
-  left = ran 5 _ _ _ _ _ _ _ leads c.requires.room c.run.ensures.ends
+  left = ran leads c.requires.room c.run.ensures.ends
 
   there : c.run.new.machine ≡ end
   there = left.state_is ∙ leads.state_is
@@ -44,13 +44,10 @@ returns-clause-after c = record { state_is = (left c).state_is; free = free (lea
 
 pub returns-clause-returned : goal.returns-clause-returned
 returns-clause-returned c =
-    returned (parameters c) c.args.base (locations (s c).size) (s c) c.word.ensures.store.words_are (stands c)
-    (within c) c.run.new.machine (there c)
+    returned c.word.ensures.store.words_are (stands c) (within c) c.run.new.machine (there c)
 
 pub returns-clause-words : goal.returns-clause-words
-returns-clause-words c =
-    keeps (parameters c) c.args.base (locations (s c).size) (s c) c.word.ensures.store.words_are (stands c)
-    (within c) c.run.new.machine (there c)
+returns-clause-words c = keeps c.word.ensures.store.words_are (stands c) (within c) c.run.new.machine (there c)
 
 pub returns-clause-printed : goal.returns-clause-printed
 returns-clause-printed c = (left c).sheet_is

@@ -4,13 +4,13 @@ use Rattle.ed_store.specs.Cells.{short_at}
 use Rattle.ed_machine.specs.State.{State}
 use Rattle.ed_machine.specs.Steps.{state_after}
 use Rattle.ed_run.specs.Run.{IsRun}
-use Rattle.ed_paths.proofs.Leads.{Leads}
+use Rattle.ed_paths.proofs.Leads.{Leads, free}
 use Rattle.ed_routines.specs.Digits.{digits, print_orders}
 use Rattle.ed_routines.specs.Catalogue.{print, with_h}
-use Rattle.ed_routines.proofs.Called.{IsWithin, within_size}
+use Rattle.ed_routines.proofs.Called.{IsCalled, called}
 use Rattle.ed_routines.proofs.Digits.{digits_law, few_digits}
 use Rattle.ed_routines.proofs.PrintCall.{last, leads_to, returned, keeps}
-use Rattle.ed_routines.proofs.Runs.{Ran, ran, free}
+use Rattle.ed_routines.proofs.Runs.{Ran, ran}
 use Rattle.ed_routines.proofs.printing.print_integer.Goals as goal
 
 module _ (c : goal.After-run) where
@@ -24,24 +24,22 @@ module _ (c : goal.After-run) where
   count : c.orders_to_print-orders.result ≡ print_orders number
   count = c.orders_to_print-orders.ensures.is ∙ ap print_orders (c.value.ensures.is ∙ c.word.ensures.is)
 
-  within : IsWithin 51 c.args.base c.args.h (locations s.size) s
-  within = within_size print c.args.base c.args.h (with_h c.args.h) s c.requires.stands c.requires.outside
+  is_called : IsCalled print (with_h c.args.h) c.args.base c.args.h (locations s.size) s
+  is_called = called c.word.ensures.store.words_are c.requires.stands c.requires.outside
 
   -- the routine's orders, and that the run obeys them
   abbrev end : State
-  end = last c.args.base c.args.h (locations s.size) s c.word.ensures.store.words_are c.requires.stands
-      c.requires.outside within c.requires.small
+  end = last is_called c.requires.small
 
   leads : Leads (print_orders number) s (11 ∷ digits number) end
-  leads = leads_to c.args.base c.args.h (locations s.size) s c.word.ensures.store.words_are c.requires.stands
-      c.requires.outside within c.requires.small
+  leads = leads_to is_called c.requires.small
 
   left : Ran (state_after (print_orders number) s) c.run.new.machine c.args.paper.now c.run.new.paper
       (11 ∷ digits number)
   left =
       let room = c.requires.room in
       let few = few_digits number in
-      ran (print_orders number) _ _ _ _ _ _ _ leads (omega arith)
+      ran leads (omega arith)
       (subst (λ k. IsRun k 0 s c.args.paper.now c.run.result c.run.new.machine c.run.new.paper) count
       c.run.ensures.ends)
 
@@ -52,17 +50,10 @@ pub returns-clause-after : goal.returns-clause-after
 returns-clause-after c = rw (count c) (record { state_is = (left c).state_is; free = free (leads c) })
 
 pub returns-clause-returned : goal.returns-clause-returned
-returns-clause-returned c =
-    rw (count c)
-    (returned c.args.base c.args.h (locations (s c).size) (s c) c.word.ensures.store.words_are c.requires.stands
-    c.requires.outside (within c)
-    c.requires.small c.run.new.machine (there c))
+returns-clause-returned c = rw (count c) (returned (is_called c) c.requires.small c.run.new.machine (there c))
 
 pub returns-clause-words : goal.returns-clause-words
-returns-clause-words c =
-    keeps c.args.base c.args.h (locations (s c).size) (s c) c.word.ensures.store.words_are c.requires.stands
-    c.requires.outside (within c)
-    c.requires.small c.run.new.machine (there c)
+returns-clause-words c = keeps (is_called c) c.requires.small c.run.new.machine (there c)
 
 pub returns-clause-printed : goal.returns-clause-printed
 returns-clause-printed c = (left c).sheet_is

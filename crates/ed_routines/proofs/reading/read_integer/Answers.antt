@@ -4,24 +4,23 @@ use Rattle.std.proofs.Common.{slice_index}
 use Rattle.ed_words.specs.Sizes.{locations}
 use Rattle.ed_machine.specs.State.{State}
 use Rattle.ed_machine.specs.Steps.{state_after}
-use Rattle.ed_paths.proofs.Leads.{Leads}
-use Rattle.ed_routines.specs.Catalogue.{read, with_h}
+use Rattle.ed_paths.proofs.Leads.{Leads, free}
 use Rattle.ed_routines.specs.Digits.{after_digits, digit_rows}
 use Rattle.ed_routines.specs.Returns.{ReadLeaves, read_by}
-use Rattle.ed_routines.proofs.Called.{IsWithin, within_size}
+use Rattle.ed_routines.specs.Catalogue.{read, with_h}
+use Rattle.ed_routines.proofs.Called.{IsCalled, called}
 use Rattle.ed_routines.proofs.ReadCall.{no_ending, has_ending, few_rows, last, leads_to}
 use Rattle.ed_routines.proofs.ReadCall.{has_read, keeps, waiting, leads_to_end}
 use Rattle.ed_routines.proofs.ReadCall.{waits, keeps_waiting}
-use Rattle.ed_routines.proofs.Runs.{free}
 use Rattle.ed_routines.proofs.reading.read_integer.Goals as goal
 
 -- the tape that ends
-module _ (c : goal.After-obey_orders) where
+module _ (c : goal.After-obey_count) where
   abbrev s : State
   s = c.args.machine.now
 
-  within : IsWithin 24 c.args.base c.args.h (locations s.size) s
-  within = within_size read c.args.base c.args.h (with_h c.args.h) s c.requires.stands c.requires.outside
+  is_called : IsCalled read (with_h c.args.h) c.args.base c.args.h (locations s.size) s
+  is_called = called c.word.ensures.store.words_are c.requires.stands c.requires.outside
 
   count : c.count_digits-digits.result ≡ length (digit_rows s.tape)
   count = c.count_digits-digits.ensures.is ∙ ap (λ x. length (digit_rows x)) c.rows_left-rows.ensures
@@ -29,14 +28,11 @@ module _ (c : goal.After-obey_orders) where
   end : after_digits s.tape ≡ []
   end = no_ending s.tape (sym count ∙ c.if-digits-rows.true ∙ ap length c.rows_left-rows.ensures)
 
-  leads : Leads (3 + 13 * length (digit_rows s.tape)) s []
-      (waiting c.args.base c.args.h (locations s.size) s c.word.ensures.store.words_are c.requires.stands
-      c.requires.outside within end)
-  leads = leads_to_end c.args.base c.args.h (locations s.size) s c.word.ensures.store.words_are c.requires.stands
-      c.requires.outside within end
+  leads : Leads (3 + 13 * length (digit_rows s.tape)) s [] (waiting is_called end)
+  leads = leads_to_end is_called end
 
-  state_is : c.obey_orders.new.machine ≡ state_after (3 + 13 * length (digit_rows s.tape)) s
-  state_is = c.obey_orders.ensures ∙ ap (λ k. state_after (3 + 13 * k) s) count
+  state_is : c.obey_count.new.machine ≡ state_after (3 + 13 * length (digit_rows s.tape)) s
+  state_is = c.obey_count.ensures ∙ ap (λ k. state_after (3 + 13 * k) s) count
 
 pub returns-then-digits-rows-clause-back : goal.returns-then-digits-rows-clause-back
 returns-then-digits-rows-clause-back c = rw (end c, count c) refl
@@ -46,27 +42,23 @@ returns-then-digits-rows-clause-after c = rw (count c) (record { state_is = stat
 
 pub returns-then-digits-rows-clause-words : goal.returns-then-digits-rows-clause-words
 returns-then-digits-rows-clause-words c =
-    keeps_waiting c.args.base c.args.h (locations (s c).size) (s c) c.word.ensures.store.words_are c.requires.stands
-    c.requires.outside (within c) (end c)
-    c.obey_orders.new.machine (state_is c ∙ (leads c).state_is)
+    keeps_waiting (is_called c) (end c) c.obey_count.new.machine (state_is c ∙ (leads c).state_is)
 
 pub returns-then-digits-rows-clause-leaves : goal.returns-then-digits-rows-clause-leaves
 returns-then-digits-rows-clause-leaves c =
-    subst (λ rows. ReadLeaves rows c.args.base c.args.h (s c) c.obey_orders.new.machine) (sym (end c))
-    (waits c.args.base c.args.h (locations (s c).size) (s c) c.word.ensures.store.words_are c.requires.stands
-    c.requires.outside (within c) (end c)
-    c.obey_orders.new.machine (state_is c ∙ (leads c).state_is))
+    subst (λ rows. ReadLeaves rows c.args.base c.args.h (s c) c.obey_count.new.machine) (sym (end c))
+    (waits (is_called c) (end c) c.obey_count.new.machine (state_is c ∙ (leads c).state_is))
 
 below_by : (k n all : ℕ) {d : ℕ} → k ≡ d → d ≤ n → (k ≡ n → ⊥) → all ≡ n → k < all
 below_by k n all e few other is = grind arith
 
 -- the tape with an ending row
-module _ (c : goal.After-obey_orders-else-digits-rows) where
+module _ (c : goal.After-obey_count-else-digits-rows) where
   abbrev old : State
   old = c.args.machine.now
 
-  below : IsWithin 24 c.args.base c.args.h (locations old.size) old
-  below = within_size read c.args.base c.args.h (with_h c.args.h) old c.requires.stands c.requires.outside
+  called_there : IsCalled read (with_h c.args.h) c.args.base c.args.h (locations old.size) old
+  called_there = called c.word.ensures.store.words_are c.requires.stands c.requires.outside
 
   digits : c.count_digits-digits.result ≡ length (digit_rows old.tape)
   digits = c.count_digits-digits.ensures.is ∙ ap (λ x. length (digit_rows x)) c.rows_left-rows.ensures
@@ -93,15 +85,11 @@ module _ (c : goal.After-obey_orders-else-digits-rows) where
       λ i. slice_index (rows i) (k i) in
       subst (λ x. x < 32) same (c.count_digits-digits.ensures.fits inside)
 
-  leads_back : Leads (11 + 13 * length (digit_rows old.tape)) old []
-      (last c.args.base c.args.h (locations old.size) old c.word.ensures.store.words_are c.requires.stands
-      c.requires.outside below ending rest behind code)
-  leads_back =
-      leads_to c.args.base c.args.h (locations old.size) old c.word.ensures.store.words_are c.requires.stands
-      c.requires.outside below ending rest behind code
+  leads_back : Leads (11 + 13 * length (digit_rows old.tape)) old [] (last called_there behind code)
+  leads_back = leads_to called_there behind code
 
-  state_there : c.obey_orders-else-digits-rows.new.machine ≡ state_after (11 + 13 * length (digit_rows old.tape)) old
-  state_there = c.obey_orders-else-digits-rows.ensures ∙ ap (λ k. state_after (11 + 13 * k) old) digits
+  state_there : c.obey_count-else-digits-rows.new.machine ≡ state_after (11 + 13 * length (digit_rows old.tape)) old
+  state_there = c.obey_count-else-digits-rows.ensures ∙ ap (λ k. state_after (11 + 13 * k) old) digits
 
 pub returns-else-digits-rows-clause-back : goal.returns-else-digits-rows-clause-back
 returns-else-digits-rows-clause-back c = let e = sym (behind c)
@@ -115,16 +103,12 @@ returns-else-digits-rows-clause-after c = rw (digits c) (record {
 
 pub returns-else-digits-rows-clause-words : goal.returns-else-digits-rows-clause-words
 returns-else-digits-rows-clause-words c =
-    keeps c.args.base c.args.h (locations (old c).size) (old c) c.word.ensures.store.words_are c.requires.stands
-    c.requires.outside (below c)
-    (ending c) (rest c) (behind c) (code c) c.obey_orders-else-digits-rows.new.machine
+    keeps (called_there c) (behind c) (code c) c.obey_count-else-digits-rows.new.machine
     (state_there c ∙ (leads_back c).state_is)
 
 pub returns-else-digits-rows-clause-leaves : goal.returns-else-digits-rows-clause-leaves
 returns-else-digits-rows-clause-leaves c =
-    subst (λ rows. ReadLeaves rows c.args.base c.args.h (old c) c.obey_orders-else-digits-rows.new.machine)
+    subst (λ rows. ReadLeaves rows c.args.base c.args.h (old c) c.obey_count-else-digits-rows.new.machine)
     (sym (behind c))
-    (has_read c.args.base c.args.h (locations (old c).size) (old c) c.word.ensures.store.words_are c.requires.stands
-    c.requires.outside (below c)
-    (ending c) (rest c) (behind c) (code c) c.obey_orders-else-digits-rows.new.machine
+    (has_read (called_there c) (behind c) (code c) c.obey_count-else-digits-rows.new.machine
     (state_there c ∙ (leads_back c).state_is))

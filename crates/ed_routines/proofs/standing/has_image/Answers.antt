@@ -3,9 +3,9 @@ use Rattle.ed_machine.specs.State.{State}
 use Rattle.ed_routines.specs.Standing.{HasWord}
 use Rattle.ed_routines.proofs.standing.has_image.Goals as goal
 
-one_more : (r base n : ℕ) (parameters : List ℕ) (s : State) → ((i : ℕ) → i < n → HasWord r parameters base s i)
+one_more : {r base n : ℕ} {parameters : List ℕ} {s : State} → ((i : ℕ) → i < n → HasWord r parameters base s i)
     → HasWord r parameters base s n → (i : ℕ) → i < n + 1 → HasWord r parameters base s i
-one_more r base n parameters s before here i l = by_place (split i n l)
+one_more {r} {base} {n} {parameters} {s} before here i l = by_place (split i n l)
   where
     split : (i n : ℕ) → i < n + 1 → (i < n) ⊎ (n ≡ i)
     split i n l = grind arith
@@ -16,6 +16,4 @@ one_more r base n parameters s before here i l = by_place (split i n l)
 
 pub loop-place-preserved : goal.loop-place-preserved
 loop-place-preserved c =
-    one_more c.args.routine.now c.args.base c.loop-place.place c.args.parameters.now c.args.machine.now
-    c.loop-place.invariant
-    (c.has_word.ensures.0 c.if-not-has_word.false)
+    one_more c.loop-place.invariant (c.has_word.ensures.0 c.if-not-has_word.false)

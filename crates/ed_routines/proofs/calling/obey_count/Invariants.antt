@@ -1,6 +1,6 @@
 use Rattle.std.proofs.Common.{◌≡◌, ◌+◌, ◌≤◌}
 use Rattle.ed_machine.specs.Steps.{state_after}
-use Rattle.ed_routines.proofs.calling.obey_orders.Given as goal
+use Rattle.ed_routines.proofs.calling.obey_count.Given as goal
 
 abbrev pub invariant-loop : goal.invariant-loop
 invariant-loop l = record {
