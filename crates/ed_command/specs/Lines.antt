@@ -6,7 +6,7 @@ use Rattle.ed_words.specs.Decimals.{number, number_within}
 use Rattle.ed_call.specs.declared.Call.{Call}
 use Rattle.ed_call.specs.declared.Call.TheVariants.{Print, Read, NewLine, Divide, Root, Check}
 use Rattle.ed_words.specs.Texts.{Text}
-use Rattle.ed_command.specs.Words.{Parts, parts_of, values_of}
+use Rattle.ed_command.specs.Words.{Parts, word_parts, values_of}
 use Rattle.ed_command.specs.Settings.{Options, has_only, options_by, settings_of}
 use Rattle.ed_command.specs.declared.command.Action.{Action}
 use Rattle.ed_command.specs.declared.command.Action.TheVariants as doing
@@ -122,5 +122,5 @@ abbrev pub command_in : Parts → Option Command
 command_in p = command_of p.words (options_by (λ name. values_of name p.settings))
 
 -- the command that the words are, if they are one
-unfoldable pub line_of : List Text → Option Command
-line_of words = option_and_then command_in (parts_of words)
+unfoldable pub command_line : List Text → Option Command
+command_line words = option_and_then command_in (word_parts words)

@@ -1,8 +1,8 @@
 ghost use Rattle.std.specs.Prelude.{◌≡◌, IfOk, IfSome, codes, map, string_bytes};
 ghost use Rattle.clap.specs.Words.{found_of};
-ghost use Rattle.ed_command.specs.Answers.{Answers};
+ghost use Rattle.ed_command.specs.Answers.{AnswersWords};
 ghost use Rattle.ed_command.specs.Found.{found_values};
-ghost use Rattle.ed_command.specs.Lines.{command_of, line_of};
+ghost use Rattle.ed_command.specs.Lines.{command_of, command_line};
 ghost use Rattle.ed_command.specs.Settings.{options_by};
 ghost use Rattle.ed_command.specs.Held.{options_in};
 ghost use Rattle.ed_command.specs.Ranges.{IsInRange};
@@ -25,9 +25,9 @@ pub enum CommandFault {
 }
 
 /// Reads the words after the program's name. Want of memory is an answer to any words.
-#[tactic(auto, unfolding(crate::specs::Lines::line_of))]
+#[tactic(auto, unfolding(crate::specs::Lines::command_line))]
 pub fn read_words(alloc: Global, words: &[String]) -> Result<Command, CommandFault>
-    ensures is { Answers (line_of (map string_bytes words.now)) result }
+    ensures is { AnswersWords (command_line (map string_bytes words.now)) result }
     ensures ranges { IfOk result IsInRange }
 {
     if !are_plain_or_long(words) {

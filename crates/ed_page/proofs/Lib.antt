@@ -1,4 +1,3 @@
 mod Replies
 mod Endings
-mod Places
 mod Written

@@ -25,21 +25,23 @@ use Rattle.ed_top.specs.Outcome.{Outcome, done, refused, too_long_outcome}
 use Rattle.ed_top.specs.Output.{tape_outcome}
 use Rattle.ed_top.specs.Runs.{run_of}
 use Rattle.ed_top.specs.Sources.{of_program, of_source, run_outcome, unless_faulty}
+use Rattle.ed_top.proofs.Sources.{accepted_is}
 use Rattle.ed_page.specs.Answers.{SourceEnds, TapeEnds}
-use Rattle.ed_page.specs.Private.Stages.{Draws, Gives, IsRunOf, LinksSource, RefusesTape, Replies}
+use Rattle.ed_page.specs.Private.Stages.{Draws, TellsOutcome, IsRunOf, LinksOrTells, RefusesTape, IsAnswered}
 use Rattle.ed_page.specs.declared.running.Shown.{Shown}
 use Rattle.ed_page.specs.declared.told.Told.{Told}
 
 -- ---- a text that is too long
 
 pub long_replied : (answers : Text → Outcome → Type 0) (text : Text) (r : Result Told NoMemory) → 262144 < length text
-    → IfOk r (λ told. Gives told too_long_outcome) → Replies (of_input answers) text r
+    → IfOk r (λ told. TellsOutcome told too_long_outcome) → IsAnswered (of_input answers) text r
 long_replied answers text (Ok told) long gives = (too_long_outcome, inr (long, refl), gives)
 long_replied answers text (Err e) long gives = tt
 
 pub long_drawn : (answers : Text → Outcome → Type 0) (Ends : Text → State → Type 0) (text : Text) (told : Told)
     → 262144 < length text
-    → Gives told too_long_outcome → Draws (of_input answers) Ends text (Ok (record { told = told; machine = None }))
+    → TellsOutcome told too_long_outcome
+    → Draws (of_input answers) Ends text (Ok (record { told = told; machine = None }))
 long_drawn answers Ends text told long gives =
     (too_long_outcome, inr (long, refl), gives, λ few m ends. absurd (omega (arith, few, long)))
 
@@ -50,20 +52,20 @@ at_reading f r codes is = subst (λ (q : Reading). OfReading (exactly f) q (f co
 
 pub rows_replied : (f : List ℕ → Outcome) (text : Text) (codes : List ℕ) (r : Result Told NoMemory)
     → length text ≤ 262144
-    → reading text ≡ rows codes → IfOk r (λ told. Gives told (f codes)) → Replies (of_rows (exactly f)) text r
+    → reading text ≡ rows codes → IfOk r (λ told. TellsOutcome told (f codes)) → IsAnswered (of_rows (exactly f)) text r
 rows_replied f text codes (Ok told) few is gives = (f codes, inl (few, at_reading f (reading text) codes is), gives)
 rows_replied f text codes (Err e) few is gives = tt
 
 -- a fault of it
 faulty : (f : List ℕ → Outcome) (r : Reading) (told : Told) → RefusesTape r (Ok told)
-    → (o : Outcome) × OfReading (exactly f) r o × Gives told o
+    → (o : Outcome) × OfReading (exactly f) r o × TellsOutcome told o
 faulty f (rows codes) told r = absurd r
 faulty f (no_row place byte) told r = (refused (text_fault_line (NoRow place byte)), refl, r)
 faulty f (open_comment place) told r = (refused (text_fault_line (OpenComment place)), refl, r)
 
 pub tape_refused : (f : List ℕ → Outcome) (text : Text) (r : Result Told NoMemory) → length text ≤ 262144
     → RefusesTape (reading text) r
-    → Replies (of_rows (exactly f)) text r
+    → IsAnswered (of_rows (exactly f)) text r
 tape_refused f text (Ok told) few refuses = let o = faulty f (reading text) told refuses in (o.0, inl (few, o.1), o.2)
 tape_refused f text (Err e) few refuses = tt
 
@@ -103,49 +105,43 @@ tape_refusal_drawn s text told few refuses =
 
 -- ---- a source
 
-pub accepted_is : (z : Size) (accepted : List Line → Outcome) (program : Result (List Line) Fault) (lines : List Line)
-    → program ≡ Ok lines
-    → fault z lines ≡ None → of_program z accepted program ≡ accepted lines
-accepted_is z accepted program lines p f =
-    ap (of_program z accepted) p ∙ ap (λ (x : Option SourceFault). unless_faulty x (accepted lines)) f
-
 -- a fault of form
 pub refused_form : (z : Size) (program : Result (List Line) Fault) (f : SourceFault) (r : Result Told NoMemory)
-    → form.IsFaultOf program f → IfOk r (λ told. Gives told (refused (source_fault_line f)))
+    → form.IsFaultOf program f → IfOk r (λ told. TellsOutcome told (refused (source_fault_line f)))
     → IfOk r (λ told. f ≡ Memory → ⊥)
-    → LinksSource z program (Err r)
+    → LinksOrTells z program (Err r)
 refused_form z program f (Err e) is gives told = tt
 refused_form z program Memory (Ok reply) is gives told = absurd (told refl)
 refused_form z program (At line cause) (Ok reply) is gives told =
-    λ accepted. subst (Gives reply) (sym (ap (of_program z accepted) is)) gives
+    λ accepted. subst (TellsOutcome reply) (sym (ap (of_program z accepted) is)) gives
 
 -- a fault of meaning
-pub refused_meaning : (z : Size) (program : Result (List Line) Fault) (lines : List Line) (f : SourceFault)
+pub refused_meaning : (z : Size) {program : Result (List Line) Fault} {lines : List Line} (f : SourceFault)
     (r : Result Told NoMemory)
-    → program ≡ Ok lines → meaning.IsFaultOf (fault z lines) f
-    → IfOk r (λ told. Gives told (refused (source_fault_line f)))
-    → IfOk r (λ told. f ≡ Memory → ⊥) → LinksSource z program (Err r)
-refused_meaning z program lines f (Err e) p is gives told = tt
-refused_meaning z program lines Memory (Ok reply) p is gives told = absurd (told refl)
-refused_meaning z program lines (At line cause) (Ok reply) p is gives told =
-    λ accepted. subst (Gives reply)
+    → program ≡ Ok lines → meaning.IsMeaningFault (fault z lines) f
+    → IfOk r (λ told. TellsOutcome told (refused (source_fault_line f)))
+    → IfOk r (λ told. f ≡ Memory → ⊥) → LinksOrTells z program (Err r)
+refused_meaning z f (Err e) p is gives told = tt
+refused_meaning z Memory (Ok reply) p is gives told = absurd (told refl)
+refused_meaning z {lines} (At line cause) (Ok reply) p is gives told =
+    λ accepted. subst (TellsOutcome reply)
     (sym (ap (of_program z accepted) p ∙ ap (λ (x : Option SourceFault). unless_faulty x (accepted lines)) is)) gives
 
 pub linked_replied : (z : Size) (f : List Line → Outcome) (text : Text) (k : Linked) (r : Result Told NoMemory)
     → length text ≤ 262144
-    → LinksSource z (program_of text) (Ok k)
-    → IfOk r (λ told. (lines : List Line) → IsLinked z lines k → Gives told (f lines))
-    → Replies (of_source z f) text r
+    → LinksOrTells z (program_of text) (Ok k)
+    → IfOk r (λ told. (lines : List Line) → IsLinked z lines k → TellsOutcome told (f lines))
+    → IsAnswered (of_source z f) text r
 linked_replied z f text k (Ok told) few l gives = (
   of_program z f (program_of text),
   inl (few, refl),
-  subst (Gives told) (sym (accepted_is z f (program_of text) l.0 l.1 l.2.accepted)) (gives l.0 l.2),
+  subst (TellsOutcome told) (sym (accepted_is z f (program_of text) l.0 l.1 l.2.accepted)) (gives l.0 l.2),
 )
 linked_replied z f text k (Err e) few l gives = tt
 
 pub source_refused : (z : Size) (f : List Line → Outcome) (text : Text) (r : Result Told NoMemory)
     → length text ≤ 262144
-    → LinksSource z (program_of text) (Err r) → Replies (of_source z f) text r
+    → LinksOrTells z (program_of text) (Err r) → IsAnswered (of_source z f) text r
 source_refused z f text (Ok told) few l = (of_program z f (program_of text), inl (few, refl), l f)
 source_refused z f text (Err e) few l = tt
 
@@ -160,7 +156,7 @@ unfolding lines_of
 same_lines program lines others is same = ap lines_of (sym is ∙ same)
 
 pub source_drawn : (s : Settings) (text : Text) (k : Linked) (r : Result Shown NoMemory) → length text ≤ 262144
-    → LinksSource s.size (program_of text) (Ok k)
+    → LinksOrTells s.size (program_of text) (Ok k)
     → IfOk r (λ shown. (lines : List Line) → IsLinked s.size lines k
     → IsRunOf (run_outcome s lines) (run_of s (tape lines)) shown)
     → Draws (of_source s.size (run_outcome s)) (SourceEnds s) text r
@@ -169,7 +165,7 @@ source_drawn s text k (Ok shown) few l ran =
     let is = ran l.0 l.2 in (
       of_program s.size (run_outcome s) program,
       inl (few, refl),
-      subst (Gives shown.told) (sym (accepted_is s.size (run_outcome s) program l.0 l.1 l.2.accepted)) is.told,
+      subst (TellsOutcome shown.told) (sym (accepted_is s.size (run_outcome s) program l.0 l.1 l.2.accepted)) is.told,
       λ few m ends.
           is.machine
           ∙ ap (λ (lines : List Line). Some (run_of s (tape lines)).state) (same_lines program l.0 ends.0 l.1 ends.1)
@@ -179,7 +175,7 @@ source_drawn s text k (Err e) few l ran = tt
 
 -- a source that is refused has a fault: else both of two different outcomes would be told
 pub source_refusal_drawn : (s : Settings) (text : Text) (told : Told) → length text ≤ 262144
-    → LinksSource s.size (program_of text) (Err (Ok told))
+    → LinksOrTells s.size (program_of text) (Err (Ok told))
     → Draws (of_source s.size (run_outcome s)) (SourceEnds s) text (Ok (record { told = told; machine = None }))
 source_refusal_drawn s text told few l = (
   of_program s.size (run_outcome s) (program_of text),

@@ -5,22 +5,22 @@ use Rattle.ed_machine.specs.State.{State}
 use Rattle.ed_words.specs.Texts.{Text}
 use Rattle.ed_top.specs.Outcome.{Outcome}
 use Rattle.ed_top.specs.Answer.{Answer}
-use Rattle.ed_page.specs.Answers.{Buffers, HasRoom, IsShown, Tells, TextBuffers}
+use Rattle.ed_page.specs.Answers.{Buffers, HasBufferRoom, IsShown, Tells, TextBuffers}
 use Rattle.ed_page.specs.Pictures.{Pictures}
-use Rattle.ed_page.specs.Private.Stages.{Draws, Gives, IsWritten, IsWrittenOut}
+use Rattle.ed_page.specs.Private.Stages.{Draws, TellsOutcome, WritesBuffers, IsWrittenOut}
 use Rattle.ed_page.specs.declared.running.Shown.{Shown}
 use Rattle.ed_page.specs.declared.told.Told.{Told}
 
 -- the buffers of two texts have room where they have it for what is told
-has_room : (o : Outcome) (told : Told) (out note : List ℕ) → Gives told o → length told.out.items ≤ length out
-    → length told.note.items ≤ length note → HasRoom o out note
+has_room : (o : Outcome) (told : Told) (out note : List ℕ) → TellsOutcome told o → length told.out.items ≤ length out
+    → length told.note.items ≤ length note → HasBufferRoom o out note
 has_room o told out note g out_fits note_fits = record {
   out_fits = subst (λ (t : Text). length t ≤ length out) g.out_is out_fits;
   note_fits = subst (λ (t : Text). length t ≤ length note) g.note_is note_fits;
 }
 
 -- and only there
-told_room : (o : Outcome) (told : Told) (out note : List ℕ) → Gives told o → HasRoom o out note
+told_room : (o : Outcome) (told : Told) (out note : List ℕ) → TellsOutcome told o → HasBufferRoom o out note
     → (length told.out.items ≤ length out) × (length told.note.items ≤ length note)
 told_room o told out note g room = (
   subst (λ (t : Text). length t ≤ length out) (sym g.out_is) room.out_fits,
@@ -28,7 +28,7 @@ told_room o told out note g room = (
 )
 
 -- what is told was written
-pub told_written : (o : Outcome) (told : Told) (before after : TextBuffers) → Gives told o
+pub told_written : (o : Outcome) (told : Told) (before after : TextBuffers) → TellsOutcome told o
     → length told.out.items ≤ length before.out
     → length told.note.items ≤ length before.note
     → Tells o after.out after.note after.lengths.out after.lengths.note told.status
@@ -40,7 +40,7 @@ told_written o told before after g out_fits note_fits t = record {
 }
 
 -- there was no room
-pub told_nowhere : (o : Outcome) (told : Told) (before : TextBuffers) → Gives told o
+pub told_nowhere : (o : Outcome) (told : Told) (before : TextBuffers) → TellsOutcome told o
     → ((length told.out.items ≤ length before.out) × (length told.note.items ≤ length before.note) → ⊥)
     → IsWrittenOut o before before 12
 told_nowhere o told before g none = record {
@@ -50,13 +50,14 @@ told_nowhere o told before g none = record {
 }
 
 -- a picture was written
-pub picture_written : (o : Outcome) (told : Told) (machine : Option State) (before after : Buffers) → Gives told o
+pub picture_written : {o : Outcome} {told : Told} {machine : Option State} {before after : Buffers}
+    → TellsOutcome told o
     → length before.words ≡ 1024 → length before.digits ≡ 512 → length told.out.items ≤ length before.paper
     → length told.note.items ≤ length before.note
     → Tells o after.paper after.note after.registers.printed after.registers.noted told.status
     → IfSome machine (λ m. Pictures m after.words after.digits after.registers)
-    → IsWritten o machine before after told.status
-picture_written o told machine before after g words digits out_fits note_fits t pictures = record {
+    → WritesBuffers o machine before after told.status
+picture_written {o} {told} {before = before} g words digits out_fits note_fits t pictures = record {
   no_room = λ e room. absurd (omega (arith, g.low, e));
   kept = λ e. absurd (omega (arith, g.low, e));
   shown = λ not12. (
@@ -70,10 +71,10 @@ picture_written o told machine before after g words digits out_fits note_fits t 
 }
 
 -- there was no room for it
-pub picture_nowhere : (o : Outcome) (told : Told) (machine : Option State) (before : Buffers) → Gives told o
+pub picture_nowhere : (o : Outcome) (told : Told) (machine : Option State) (before : Buffers) → TellsOutcome told o
     → (length before.words ≡ 1024 → length before.digits ≡ 512
     → (length told.out.items ≤ length before.paper) × (length told.note.items ≤ length before.note) → ⊥)
-    → IsWritten o machine before before 12
+    → WritesBuffers o machine before before 12
 picture_nowhere o told machine before g none = record {
   no_room = λ e room. none room.words_are room.digits_are (told_room o told before.paper before.note g room.texts);
   kept = λ e. refl;
@@ -82,11 +83,11 @@ picture_nowhere o told machine before g none = record {
 
 -- what was drawn of a text is shown
 pub drawn_shown : (wanted : Answer) (Ends : Text → State → Type 0) (text : Text) (left : Shown)
-    (before after : Buffers) (answer : ℕ)
+    {before after : Buffers} {answer : ℕ}
     → Draws wanted Ends text (Ok left)
-    → ((o : Outcome) → Gives left.told o → IsWritten o left.machine before after answer)
+    → ((o : Outcome) → TellsOutcome left.told o → WritesBuffers o left.machine before after answer)
     → IsShown wanted Ends text before after answer
-drawn_shown wanted Ends text left before after answer drawn written not10 =
+drawn_shown wanted Ends text left {after = after} drawn written = λ not10.
     let o = drawn.0 in
     let is = written o drawn.2 in (
       o,

@@ -29,7 +29,7 @@ pub record Tells (o : Outcome) (out note : List ℕ) (printed noted answer : ℕ
   pub status_is : answer ≡ o.status
 
 -- two buffers have room for both texts of an outcome
-pub record HasRoom (o : Outcome) (out note : List ℕ) : Type 0 where
+pub record HasBufferRoom (o : Outcome) (out note : List ℕ) : Type 0 where
   pub out_fits : length o.out ≤ length out
   pub note_fits : length o.note ≤ length note
 
@@ -37,7 +37,7 @@ pub record HasRoom (o : Outcome) (out note : List ℕ) : Type 0 where
 
 -- an answer has its cause: 12 that there is no room, and then the buffers are kept as they were; with any other there
 -- is room, and this is shown
-pub record HasCause (Room Kept Shown : Type 0) (answer : ℕ) : Type 0 where
+pub record HasItsCause (Room Kept Shown : Type 0) (answer : ℕ) : Type 0 where
   pub no_room : answer ≡ 12 → Room → ⊥
   pub kept : answer ≡ 12 → Kept
   pub shown : answer ≢ 12 → Room × Shown
@@ -55,10 +55,10 @@ abbrev pub text_buffers : (out note : List ℕ) → Lengths → TextBuffers
 text_buffers out note lengths = record { out = out; note = note; lengths = lengths }
 
 -- what the program answers to a text, written into two buffers; or no memory was found, which may always come (10)
-abbrev pub IsTold : Answer → Text → (before after : TextBuffers) → ℕ → Type 0
-IsTold wanted text before after answer =
+abbrev pub IsTextTold : Answer → Text → (before after : TextBuffers) → ℕ → Type 0
+IsTextTold wanted text before after answer =
     answer ≢ 10 → (o : Outcome) × IsDue wanted text o
-    × HasCause (HasRoom o before.out before.note) (after ≡ before)
+    × HasItsCause (HasBufferRoom o before.out before.note) (after ≡ before)
     (Tells o after.out after.note after.lengths.out after.lengths.note answer) answer
 
 -- the rows of a source's tape
@@ -94,7 +94,7 @@ picture_buffers words digits paper note registers =
 pub record HasPictureRoom (o : Outcome) (b : Buffers) : Type 0 where
   pub words_are : length b.words ≡ 1024
   pub digits_are : length b.digits ≡ 512
-  pub texts : HasRoom o b.paper b.note
+  pub texts : HasBufferRoom o b.paper b.note
 
 -- buffers show an outcome, and the state in which the run of a text that is not too long ends
 pub record Shows (Ends : Text → State → Type 0) (text : Text) (o : Outcome) (b : Buffers) (answer : ℕ) : Type 0 where
@@ -105,4 +105,4 @@ pub record Shows (Ends : Text → State → Type 0) (text : Text) (o : Outcome) 
 abbrev pub IsShown : Answer → (Text → State → Type 0) → Text → (before after : Buffers) → ℕ → Type 0
 IsShown wanted Ends text before after answer =
     answer ≢ 10 → (o : Outcome) × IsDue wanted text o
-    × HasCause (HasPictureRoom o before) (after ≡ before) (Shows Ends text o after answer) answer
+    × HasItsCause (HasPictureRoom o before) (after ≡ before) (Shows Ends text o after answer) answer

@@ -1,6 +1,7 @@
 -- What the buffers of a picture hold: the words and digits of a store, and the registers (this project's own rules).
 use Rattle.std.specs.Prelude.{◌≡◌, ℕ, ◌*◌, ◌/◌, ◌%◌, ◌^◌, ◌<◌, Bool, true, false}
-use Rattle.std.specs.Prelude.{if◌then◌else◌, List, length, slice_index, None}
+use Rattle.std.specs.Prelude.{List, length, slice_index, None}
+use Rattle.ed_words.specs.Words.{digit}
 use Rattle.ed_words.specs.declared.size.Size.{Size}
 use Rattle.ed_words.specs.declared.size.Size.TheVariants.{Small, Full}
 use Rattle.ed_store.specs.Cells.{Cells, short_at, sandwich_at}
@@ -9,17 +10,13 @@ use Rattle.ed_command.specs.declared.command.Settings.{Settings}
 use Rattle.ed_page.specs.declared.writing.Registers.{Registers}
 
 -- 512 locations or 1,024
-abbrev pub size_of : Bool → Size
-size_of true = Small
-size_of false = Full
+abbrev pub size_shown : Bool → Size
+size_shown true = Small
+size_shown false = Full
 
 -- the settings of a run that is shown: so many orders at the most, so many resumes, and no post-mortem
 abbrev pub asked : Bool → ℕ → ℕ → Settings
-asked small orders resumes = record { limit = orders; resumes = resumes; size = size_of small; post_mortem = None }
-
--- a digit as a number
-abbrev pub digit : Bool → ℕ
-digit b = if b then 1 else 0
+asked small orders resumes = record { limit = orders; resumes = resumes; size = size_shown small; post_mortem = None }
 
 -- the words of all locations, and the sandwich digits of all pairs
 pub record PicturesStore (c : Cells) (words digits : List ℕ) : Type 0 where

@@ -4,7 +4,7 @@ ghost use Rattle.ed_top.specs.Outcome.{Outcome};
 ghost use Rattle.ed_top.specs.Output.{answer};
 ghost use Rattle.ed_page.specs.Answers.{IsShown, SourceEnds, TapeEnds, picture_buffers};
 ghost use Rattle.ed_page.specs.Pictures.{Pictures, asked};
-ghost use Rattle.ed_page.specs.Private.Stages.{Draws, Gives, IsWritten};
+ghost use Rattle.ed_page.specs.Private.Stages.{Draws, TellsOutcome, WritesBuffers};
 
 use crate::running::{Shown, asked, run_linked, run_tape};
 use crate::sources::{linked_of, rows_of};
@@ -107,7 +107,7 @@ fn show(
     note: &mut [u8],
     registers: &mut Registers,
 ) -> u32
-    ensures { (o : Outcome) → Gives shown.now.told o → IsWritten o shown.now.machine
+    ensures { (o : Outcome) → TellsOutcome shown.now.told o → WritesBuffers o shown.now.machine
         (picture_buffers words.old digits.old paper.old note.old registers.old)
         (picture_buffers words.new digits.new paper.new note.new registers.new) result }
 {

@@ -7,8 +7,8 @@ ghost use Rattle.ed_report.specs.Notes.{ending_line, entered};
 ghost use Rattle.ed_top.specs.Output.{tape_outcome};
 ghost use Rattle.ed_top.specs.Runs.{run_of, status_of};
 ghost use Rattle.ed_top.specs.Sources.{run_outcome};
-ghost use Rattle.ed_page.specs.Pictures.{asked, size_of};
-ghost use Rattle.ed_page.specs.Private.Stages.{Gives, IsRan, IsRunOf};
+ghost use Rattle.ed_page.specs.Pictures.{asked, size_shown};
+ghost use Rattle.ed_page.specs.Private.Stages.{TellsOutcome, TellsRan, IsRunOf};
 
 use crate::told::Told;
 use ed_codes::Code;
@@ -52,7 +52,7 @@ impl Shown {
 
     /// Of a run that ended, with its note.
     fn of_run(ran: Ran, note: Vec<u8>) -> Shown
-        ensures told { Gives result.told
+        ensures told { TellsOutcome result.told
             (record { out = ran.text.items; note = note.items; status = status_of ran.ending }) }
         ensures machine { result.machine ≡ Some ran.machine }
     {
@@ -69,7 +69,7 @@ impl Shown {
 
 /// The size of a machine.
 pub fn size_of(small: bool) -> Size
-    ensures { result ≡ size_of small }
+    ensures { result ≡ size_shown small }
 {
     if small { Size::Small } else { Size::Full }
 }
@@ -111,7 +111,8 @@ pub fn run_linked(alloc: Global, settings: Settings, linked: &Linked) -> Result<
 /// The line of a run's ending, behind the entry and its cost where these orders were obeyed.
 fn note_of(alloc: Global, entry: u16, cost: u64, ran: &Ran) -> Result<Vec<u8>, NoMemory>
     ensures { IfOk result (λ bytes. bytes.items
-        ≡ (if nat_le cost ran.now.machine.orders then entered entry cost else []) ++ ending_line ran.now.ending ran.now.machine) }
+        ≡ (if nat_le cost ran.now.machine.orders then entered entry cost else [])
+        ++ ending_line ran.now.ending ran.now.machine) }
 {
     if cost <= ran.machine.orders_done() {
         entered_text(alloc, entry, cost, ran.ending, &ran.machine)
@@ -122,7 +123,7 @@ fn note_of(alloc: Global, entry: u16, cost: u64, ran: &Ran) -> Result<Vec<u8>, N
 
 /// Runs a cleared machine of a size, started on the rows with the Initial Orders.
 fn run_rows(alloc: Global, settings: Settings, rows: Vec<Code>) -> Result<Ran, NoMemory>
-    ensures { IfOk result (IsRan (run_of settings rows.items)) }
+    ensures { IfOk result (TellsRan (run_of settings rows.items)) }
 {
     let mut machine = started(alloc, settings.size, rows)?;
     let mut paper = Paper::new(alloc, PAPER_ROOM)?;

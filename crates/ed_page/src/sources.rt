@@ -3,7 +3,7 @@ ghost use Rattle.ed_codes.specs.Reading.{reading};
 ghost use Rattle.ed_report.specs.Notes.{source_fault_line, text_fault_line};
 ghost use Rattle.ed_syntax.specs.Sources.{program_of};
 ghost use Rattle.ed_top.specs.Outcome.{refused};
-ghost use Rattle.ed_page.specs.Private.Stages.{Gives, LinksSource, ReadsTape};
+ghost use Rattle.ed_page.specs.Private.Stages.{TellsOutcome, LinksOrTells, ReadsTape};
 
 use crate::told::Told;
 use ed_codes::{Code, TextFault, tape_of_text};
@@ -25,7 +25,7 @@ pub fn rows_of(alloc: Global, text: &[u8]) -> Result<Vec<Code>, Result<Told, NoM
 
 /// What is told of a fault of a tape's text.
 fn tape_refusal(alloc: Global, fault: &TextFault) -> Result<Told, NoMemory>
-    ensures is { IfOk result (λ told. Gives told (refused (text_fault_line fault.now))) }
+    ensures is { IfOk result (λ told. TellsOutcome told (refused (text_fault_line fault.now))) }
     ensures told { IfOk result (λ _. fault.now ≢ TextFault.Memory) }
 {
     match fault {
@@ -37,7 +37,7 @@ fn tape_refusal(alloc: Global, fault: &TextFault) -> Result<Told, NoMemory>
 
 /// The linked program of a source, or what is told of its first fault.
 pub fn linked_of(alloc: Global, size: Size, text: &[u8]) -> Result<Linked, Result<Told, NoMemory>>
-    ensures { LinksSource size (program_of text.now) result }
+    ensures { LinksOrTells size (program_of text.now) result }
 {
     let program = match parse(alloc, text) {
         Ok(program) => program,
@@ -51,7 +51,7 @@ pub fn linked_of(alloc: Global, size: Size, text: &[u8]) -> Result<Linked, Resul
 
 /// What is told of a fault of a source.
 fn source_refusal(alloc: Global, fault: &SourceFault) -> Result<Told, NoMemory>
-    ensures is { IfOk result (λ told. Gives told (refused (source_fault_line fault.now))) }
+    ensures is { IfOk result (λ told. TellsOutcome told (refused (source_fault_line fault.now))) }
     ensures told { IfOk result (λ _. fault.now ≢ SourceFault.Memory) }
 {
     match fault {

@@ -6,9 +6,9 @@ ghost use Rattle.ed_top.specs.Answer.{exactly, of_rows};
 ghost use Rattle.ed_top.specs.Outcome.{Outcome, done};
 ghost use Rattle.ed_top.specs.Output.{answer};
 ghost use Rattle.ed_top.specs.Sources.{listing_outcome, of_source};
-ghost use Rattle.ed_page.specs.Answers.{IsTold, source_rows, text_buffers};
-ghost use Rattle.ed_page.specs.Pictures.{asked, size_of};
-ghost use Rattle.ed_page.specs.Private.Stages.{Gives, IsWrittenOut, Replies};
+ghost use Rattle.ed_page.specs.Answers.{IsTextTold, source_rows, text_buffers};
+ghost use Rattle.ed_page.specs.Pictures.{asked, size_shown};
+ghost use Rattle.ed_page.specs.Private.Stages.{TellsOutcome, IsWrittenOut, IsAnswered};
 
 use crate::running::size_of;
 use crate::sources::{linked_of, rows_of};
@@ -32,7 +32,7 @@ pub extern "C" fn page_tape_rows(
     note: &mut [u8],
     lengths: &mut Lengths,
 ) -> u32
-    ensures { IsTold (of_rows (exactly done)) text.now (text_buffers rows.old note.old lengths.old)
+    ensures { IsTextTold (of_rows (exactly done)) text.now (text_buffers rows.old note.old lengths.old)
         (text_buffers rows.new note.new lengths.new) result }
 {
     match tape_rows(alloc, text) {
@@ -51,7 +51,8 @@ pub extern "C" fn page_source_rows(
     note: &mut [u8],
     lengths: &mut Lengths,
 ) -> u32
-    ensures { IsTold (of_source (size_of small) source_rows) text.now (text_buffers rows.old note.old lengths.old)
+    ensures { IsTextTold (of_source (size_shown small) source_rows) text.now
+        (text_buffers rows.old note.old lengths.old)
         (text_buffers rows.new note.new lengths.new) result }
 {
     match source_rows(alloc, size_of(small), text) {
@@ -70,7 +71,7 @@ pub extern "C" fn page_listing(
     note: &mut [u8],
     lengths: &mut Lengths,
 ) -> u32
-    ensures { IsTold (answer Listing (asked small 0 0)) text.now (text_buffers listing.old note.old lengths.old)
+    ensures { IsTextTold (answer Listing (asked small 0 0)) text.now (text_buffers listing.old note.old lengths.old)
         (text_buffers listing.new note.new lengths.new) result }
 {
     match source_listing(alloc, size_of(small), text) {
@@ -81,7 +82,7 @@ pub extern "C" fn page_listing(
 
 /// Writes what is told into two buffers, where they have room.
 fn tell(told: &Told, out: &mut [u8], note: &mut [u8], lengths: &mut Lengths) -> u32
-    ensures { (o : Outcome) → Gives told.now o → IsWrittenOut o (text_buffers out.old note.old lengths.old)
+    ensures { (o : Outcome) → TellsOutcome told.now o → IsWrittenOut o (text_buffers out.old note.old lengths.old)
         (text_buffers out.new note.new lengths.new) result }
 {
     if !told.fits(out, note) {
@@ -93,7 +94,7 @@ fn tell(told: &Told, out: &mut [u8], note: &mut [u8], lengths: &mut Lengths) -> 
 
 /// What is told of the rows of a tape's text.
 fn tape_rows(alloc: Global, text: &[u8]) -> Result<Told, NoMemory>
-    ensures { Replies (of_rows (exactly done)) text.now result }
+    ensures { IsAnswered (of_rows (exactly done)) text.now result }
 {
     if is_too_long(text) {
         return Told::too_long(alloc);
@@ -106,7 +107,7 @@ fn tape_rows(alloc: Global, text: &[u8]) -> Result<Told, NoMemory>
 
 /// What is told of the rows of a source's tape.
 fn source_rows(alloc: Global, size: Size, text: &[u8]) -> Result<Told, NoMemory>
-    ensures { Replies (of_source size source_rows) text.now result }
+    ensures { IsAnswered (of_source size source_rows) text.now result }
 {
     if is_too_long(text) {
         return Told::too_long(alloc);
@@ -119,7 +120,7 @@ fn source_rows(alloc: Global, size: Size, text: &[u8]) -> Result<Told, NoMemory>
 
 /// What is told of the listing of a source.
 fn source_listing(alloc: Global, size: Size, text: &[u8]) -> Result<Told, NoMemory>
-    ensures { Replies (of_source size listing_outcome) text.now result }
+    ensures { IsAnswered (of_source size listing_outcome) text.now result }
 {
     if is_too_long(text) {
         return Told::too_long(alloc);
@@ -134,7 +135,7 @@ fn source_listing(alloc: Global, size: Size, text: &[u8]) -> Result<Told, NoMemo
 fn list_linked(alloc: Global, size: Size, linked: &Linked) -> Result<Told, NoMemory>
     requires { (lines : List Line) × IsLinked size lines linked.now }
     ensures { IfOk result (λ told. (lines : List Line) → IsLinked size lines linked.now
-        → Gives told (listing_outcome lines)) }
+        → TellsOutcome told (listing_outcome lines)) }
 {
     let machine = enter(alloc, size, linked)?;
     let places = places_of(alloc, &linked.words)?;

@@ -1,7 +1,7 @@
 ghost use Rattle.std.specs.Prelude.{◌≡◌, ◌≤◌, IfOk, IsTrue, ◌↔◌, length, nat_lt};
 ghost use Rattle.ed_top.specs.Outcome.{Outcome, done, refused, too_long_outcome};
-ghost use Rattle.ed_page.specs.Answers.{HasRoom, Tells};
-ghost use Rattle.ed_page.specs.Private.Stages.{Gives};
+ghost use Rattle.ed_page.specs.Answers.{HasBufferRoom, Tells};
+ghost use Rattle.ed_page.specs.Private.Stages.{TellsOutcome};
 
 use crate::writing::{Lengths, write_text};
 use ed_words::NoMemory;
@@ -30,7 +30,7 @@ pub struct Told {
 impl Told {
     /// What is told where a command is finished, with a text on `out`.
     pub fn done(alloc: Global, out: Vec<u8>) -> Told
-        ensures { Gives result (done out.items) }
+        ensures { TellsOutcome result (done out.items) }
     {
         Told {
             out,
@@ -41,7 +41,7 @@ impl Told {
 
     /// What is told where a text is refused with a line.
     pub fn refusal(alloc: Global, line: Vec<u8>) -> Told
-        ensures { Gives result (refused line.items) }
+        ensures { TellsOutcome result (refused line.items) }
     {
         Told {
             out: Vec::new(alloc),
@@ -52,7 +52,7 @@ impl Told {
 
     /// What is told of a text that is too long.
     pub fn too_long(alloc: Global) -> Result<Told, NoMemory>
-        ensures { IfOk result (λ told. Gives told too_long_outcome) }
+        ensures { IfOk result (λ told. TellsOutcome told too_long_outcome) }
     {
         let mut note = Vec::new(alloc);
         if note.extend_from_slice(TOO_LONG).is_err() {
@@ -77,7 +77,8 @@ impl Told {
     pub fn write(&self, out: &mut [u8], note: &mut [u8]) -> Lengths
         requires out { length self.now.out.items ≤ length out.old }
         requires note { length self.now.note.items ≤ length note.old }
-        ensures { (o : Outcome) → Gives self.now o → Tells o out.new note.new result.out result.note self.now.status }
+        ensures { (o : Outcome) → TellsOutcome self.now o
+            → Tells o out.new note.new result.out result.note self.now.status }
     {
         write_text(&self.out, out);
         write_text(&self.note, note);

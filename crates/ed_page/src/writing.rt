@@ -1,6 +1,7 @@
 ghost use Rattle.std.specs.Prelude.{◌≡◌, ℕ, ◌*◌, ◌<◌, ◌≤◌, length, slice_index, take};
+ghost use Rattle.ed_words.specs.Words.{digit};
 ghost use Rattle.ed_store.specs.Cells.{short_at, sandwich_at};
-ghost use Rattle.ed_page.specs.Pictures.{PicturesStore, PicturesRegisters, digit};
+ghost use Rattle.ed_page.specs.Pictures.{PicturesStore, PicturesRegisters};
 
 use ed_machine::Machine;
 

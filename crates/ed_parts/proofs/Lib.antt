@@ -1,4 +1,3 @@
-mod Keeping
 mod Homes
 mod Programs
 mod Rows

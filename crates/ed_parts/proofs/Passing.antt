@@ -1,5 +1,5 @@
 -- From the stages of a part to what is told.
-use Rattle.std.proofs.Common.{◌≡◌, ◌⊎◌, inl, inr, ℕ, suc, ◌+◌, ◌-◌, ◌*◌, ◌/◌, ◌%◌, ◌<◌, ◌≤◌, refl, sym, ap, ◌∙◌}
+use Rattle.std.proofs.Common.{◌≡◌, ◌⊎◌, inl, inr, ℕ, suc, ◌+◌, ◌-◌, ◌*◌, ◌/◌, ◌%◌, ◌≤◌, refl, sym, ap, ◌∙◌}
 use Rattle.std.proofs.Common.{subst, arith, List, [], ◌++◌, append_assoc, length}
 use Rattle.std.specs.Prelude.{Option, Result, Ok, Err, IfOk, Vec}
 use Rattle.std.specs.declared.alloc.Global.{Global}
@@ -9,24 +9,22 @@ use Rattle.ed_words.specs.declared.order.Order.{Order}
 use Rattle.ed_machine.specs.State.{State}
 use Rattle.ed_machine.specs.Steps.{state_after}
 use Rattle.ed_machine.specs.declared.ending.Ending.{Ending}
-use Rattle.ed_machine.specs.declared.ending.Ending.TheVariants.{Limit}
+use Rattle.ed_machine.proofs.Keeping.{steps_follow}
 use Rattle.ed_notation.specs.Fold.{address}
-use Rattle.ed_notation.specs.Faults.{Entry}
-use Rattle.ed_notation.specs.declared.cause.TapeCause.{TapeCause}
+use Rattle.ed_notation.specs.Faults.{TapeEntry}
 use Rattle.ed_interlude.specs.Returned.{IsReturned, directive}
 use Rattle.ed_io.specs.Bytes.{Gains, GainsPart}
 use Rattle.ed_io.proofs.Calls.{gains_more, gains_none}
 use Rattle.ed_report.specs.Entries.{entry_line, returned_line}
 use Rattle.ed_parts.specs.declared.part.Passed.TheVariants.{Over, Back}
 use Rattle.ed_parts.specs.declared.tape.PartsEnd.{PartsEnd}
-use Rattle.ed_parts.specs.declared.tape.PartsEnd.TheVariants.{Ended, Faulty}
 use Rattle.ed_parts.specs.declared.tape.PartsFault.{PartsFault}
-use Rattle.ed_parts.specs.Parts.{ComesHome, Finishes, GoesBack, HasFault, IsTold, LeadsTo, Part, PartsAnswer}
+use Rattle.ed_parts.specs.Parts.{ComesHome, Finishes, GoesBack, IsTold, LeadsTo, TapePart, PartsAnswer}
 use Rattle.ed_parts.specs.Parts.{TapeTells, Told}
-use Rattle.ed_parts.specs.Parts.{cut, entry_done, entry_state, entry_told, faulty, finished, first_part, lines_of}
+use Rattle.ed_parts.specs.Parts.{entry_done, part_entry_state, entry_told, finished, first_part}
+use Rattle.ed_parts.specs.Parts.{told_lines}
 use Rattle.ed_parts.specs.Parts.{part_behind, read_before}
-use Rattle.ed_parts.specs.Private.Stages.{Ahead, Breaks, Passes}
-use Rattle.ed_parts.proofs.Keeping.{steps_follow}
+use Rattle.ed_parts.specs.Private.Stages.{Ahead, BreaksTold, Passes}
 use Rattle.ed_parts.proofs.Parting.{Opens}
 use Rattle.ed_parts.proofs.Programs.{home_within}
 use Rattle.ed_parts.proofs.Rows.{some_cost}
@@ -56,11 +54,11 @@ and_part a b c xs ys whole g = record {
 none_of : (a : Option (List ℕ)) (text : List ℕ) → GainsPart a a text
 none_of a text = record { part = []; rest = text; whole = refl; gains = gains_none a }
 
-module _ (limit rows : ℕ) (p : Part) where
+module _ (limit rows : ℕ) (p : TapePart) where
   -- ---- what breaks off
 
   -- nothing is written yet
-  pub breaks_first : (a : Option (List ℕ)) → Opens p → Breaks limit rows p a a
+  pub breaks_first : (a : Option (List ℕ)) → Opens p → BreaksTold limit rows p a a
   breaks_first a opens =
       let t = some_told limit rows p opens in record {
         returns = t.0;
@@ -70,24 +68,24 @@ module _ (limit rows : ℕ) (p : Part) where
       }
 
   -- behind the lines of a part that went back, a text of which a first part is written
-  back_breaks : (b : GoesBack limit p) (a c : Option (List ℕ)) → GainsPart a c (lines_of rows p b)
-      → Breaks limit rows p a c
+  back_breaks : (b : GoesBack limit p) (a c : Option (List ℕ)) → GainsPart a c (told_lines rows p b)
+      → BreaksTold limit rows p a c
   back_breaks b a c g =
       let t = some_told limit rows (part_behind p b) (behind_opens p b) in
       record {
         returns = suc t.0;
-        tale = record t.1 { text = lines_of rows p b ++ t.1.text };
+        tale = record t.1 { text = told_lines rows p b ++ t.1.text };
         told = (b, t.1, t.2, refl);
-        gains = longer a c (lines_of rows p b) t.1.text _ refl g;
+        gains = longer a c (told_lines rows p b) t.1.text _ refl g;
       }
 
   -- the line of the entry breaks off
-  pub entry_breaks : (e : Entry) (a c : Option (List ℕ)) → LeadsTo p e → entry_done p e ≤ limit
-      → GainsPart a c (entry_told rows p e) → Breaks limit rows p a c
-  entry_breaks e a c leads within g = by_program (from_entry limit rows p e leads within)
+  pub entry_breaks : (e : TapeEntry) {a c : Option (List ℕ)} → LeadsTo p e → entry_done p e ≤ limit
+      → GainsPart a c (entry_told rows p e) → BreaksTold limit rows p a c
+  entry_breaks e {a} {c} leads within g = by_program (from_entry limit rows p e leads within)
     where
-      by_program : ((k : ℕ) × (ending : Ending) × Finishes (limit - entry_done p e) k (entry_state p e) ending)
-          ⊎ ((k : ℕ) × ComesHome (limit - entry_done p e) k (entry_state p e)) → Breaks limit rows p a c
+      by_program : ((k : ℕ) × (ending : Ending) × Finishes (limit - entry_done p e) k (part_entry_state p e) ending)
+          ⊎ ((k : ℕ) × ComesHome (limit - entry_done p e) k (part_entry_state p e)) → BreaksTold limit rows p a c
       by_program (inl f) =
           record { returns = 0; tale = _; told = finished e f.0 f.1 leads within f.2 refl; gains = g }
       by_program (inr h) =
@@ -95,77 +93,54 @@ module _ (limit rows : ℕ) (p : Part) where
           (longer a c (entry_told rows p e) _ _ refl g)
 
   -- the line of the return breaks off
-  pub return_breaks : (b : GoesBack limit p) (a c d : Option (List ℕ)) → Gains a c (entry_told rows p b.entry)
+  pub return_breaks : (b : GoesBack limit p) {a c d : Option (List ℕ)} → Gains a c (entry_told rows p b.entry)
       → GainsPart c d (returned_line (address (directive (part_behind p b).state)) (part_behind p b).done)
-      → Breaks limit rows p a d
-  return_breaks b a c d whole g = back_breaks b a d (and_part a c d _ _ whole g)
+      → BreaksTold limit rows p a d
+  return_breaks b {a} {c} {d} whole g = back_breaks b a d (and_part a c d _ _ whole g)
 
-  -- ---- what is passed
+-- ---- the whole tape
 
-  pub passes_fault : (row at : ℕ) (cause rule : TapeCause) (a : Option (List ℕ)) → HasFault p row cause
-      → at ≡ read_before rows p + row
-      → rule ≡ cause → Passes limit rows p (Ok (Over (Faulty p.number at rule))) p.state a a
-  passes_fault row at cause rule a fault r c =
-      (_, faulty row cause fault refl, (λ i. Faulty p.number (r i) (c i)), refl, gains_none a)
+module _ {limit rows : ℕ} {p first : TapePart} {a c : Option (List ℕ)} (h : Ahead limit rows first p a c)
+    (d : Option (List ℕ)) where
+  -- the part breaks off
+  pub tells_part : BreaksTold limit rows p c d
+      → (m : ℕ) × (t : Told) × IsTold limit rows m first t × GainsPart a d t.text
+  tells_part b =
+      let whole = h.completes b.returns b.tale b.told in
+      (whole.0, _, whole.1, and_part a c d h.text b.tale.text h.gains b.gains)
 
-  pub passes_cut : (e : Entry) (last : State) (a : Option (List ℕ)) → LeadsTo p e → limit < entry_done p e
-      → last ≡ state_after (limit - p.done) p.state → Passes limit rows p (Ok (Over (Ended Limit))) last a a
-  passes_cut e last a leads short is = (_, cut e leads short refl, refl, is, gains_none a)
+  -- it is the last one
+  pub tells_all : {end : PartsEnd} {last : State} → Passes limit rows p (Ok (Over end)) last c d
+      → (m : ℕ) × (t : Told) × IsTold limit rows m first t × (end ≡ t.end) × (last ≡ t.last) × Gains a d t.text
+  tells_all q =
+      let whole = h.completes 0 q.0 q.1 in
+      (whole.0, _, whole.1, q.2, q.3, gains_more a c d h.text q.0.text h.gains q.4)
 
-  pub passes_end : (e : Entry) (k : ℕ) (ending : Ending) (last : State) (a c : Option (List ℕ)) → LeadsTo p e
-      → entry_done p e ≤ limit
-      → Finishes (limit - entry_done p e) k (entry_state p e) ending → last ≡ state_after k (entry_state p e)
-      → Gains a c (entry_told rows p e) → Passes limit rows p (Ok (Over (Ended ending))) last a c
-  passes_end e k ending last a c leads within f is gains = (_, finished e k ending leads within f refl, refl, is, gains)
-
-  pub passes_back : (b : GoesBack limit p) (done : ℕ) (last : State) (a c d : Option (List ℕ))
-      → done ≡ (part_behind p b).done
-      → last ≡ (part_behind p b).state → Gains a c (entry_told rows p b.entry)
-      → Gains c d (returned_line (address (directive (part_behind p b).state)) (part_behind p b).done)
-      → Passes limit rows p (Ok (Back done)) last a d
-  passes_back b done last a c d count is entry line = (b, count, is, gains_more a c d _ _ entry line)
-
-  -- ---- the whole tape
-
-  module _ (first : Part) (a c d : Option (List ℕ)) (h : Ahead limit rows first p a c) where
-    -- the part breaks off
-    pub tells_part : Breaks limit rows p c d → (m : ℕ) × (t : Told) × IsTold limit rows m first t × GainsPart a d t.text
-    tells_part b =
-        let whole = h.completes b.returns b.tale b.told in
-        (whole.0, _, whole.1, and_part a c d h.text b.tale.text h.gains b.gains)
-
-    -- it is the last one
-    pub tells_all : (end : PartsEnd) (last : State) → Passes limit rows p (Ok (Over end)) last c d
-        → (m : ℕ) × (t : Told) × IsTold limit rows m first t × (end ≡ t.end) × (last ≡ t.last) × Gains a d t.text
-    tells_all end last q =
-        let whole = h.completes 0 q.0 q.1 in
-        (whole.0, _, whole.1, q.2, q.3, gains_more a c d h.text q.0.text h.gains q.4)
-
-    -- it goes back
-    pub goes_back : (b : GoesBack limit p) → Gains c d (lines_of rows p b)
-        → Ahead limit rows first (part_behind p b) a d
-    goes_back b g = record {
-      text = h.text ++ lines_of rows p b;
-      gains = gains_more a c d h.text (lines_of rows p b) h.gains g;
-      completes = λ n rest told.
-          let whole = h.completes (suc n) (record rest { text = lines_of rows p b ++ rest.text })
-          (b, rest, told, refl) in (
-            whole.0,
-            subst (λ (x : List ℕ). IsTold limit rows whole.0 first (record rest { text = x }))
-                (sym (append_assoc h.text (lines_of rows p b) rest.text)) whole.1,
-          );
-    }
+  -- it goes back
+  pub goes_back : (b : GoesBack limit p) → Gains c d (told_lines rows p b)
+      → Ahead limit rows first (part_behind p b) a d
+  goes_back b g = record {
+    text = h.text ++ told_lines rows p b;
+    gains = gains_more a c d h.text (told_lines rows p b) h.gains g;
+    completes = λ n rest told.
+        let whole = h.completes (suc n) (record rest { text = told_lines rows p b ++ rest.text })
+        (b, rest, told, refl) in (
+          whole.0,
+          subst (λ (x : List ℕ). IsTold limit rows whole.0 first (record rest { text = x }))
+              (sym (append_assoc h.text (told_lines rows p b) rest.text)) whole.1,
+        );
+  }
 
 -- the address of a directive is that of its word
 address_is : (d w : ℕ) → w ≡ d → 20480 ≤ d → d ≤ 20480 + 2 * 1023 → w / 2 % 1024 ≡ d % 4096 / 2
 address_is d w is least most = omega arith
 
 -- the line of the return, by what the code has of it
-pub returned_is : (limit : ℕ) (p : Part) (b : GoesBack limit p) (last : State) (word done : ℕ) (order : Order)
+pub returned_is : {limit : ℕ} {p : TapePart} (b : GoesBack limit p) {last : State} {word done : ℕ} {order : Order}
     → last ≡ (part_behind p b).state → word ≡ directive last → order ≡ order_of word → done ≡ (part_behind p b).done
     → returned_line order.address done
     ≡ returned_line (address (directive (part_behind p b).state)) (part_behind p b).done
-returned_is limit p b last word done order is is_word is_order count =
+returned_is {limit} {p} b {last} {word} {done} {order} is is_word is_order count =
     let leaves = b.comes.home.leaves in
     let whole : word ≡ directive (part_behind p b).state = is_word ∙ ap directive is in
     let same : order.address ≡ address (directive (part_behind p b).state) =
@@ -179,27 +154,27 @@ pub made_as : (r : Result (Vec ℕ Global) NoMemory) (xs ys : List ℕ) → xs �
 made_as r xs ys is made = subst (λ (t : List ℕ). IfOk r (λ bytes. bytes.items ≡ t)) is made
 
 -- the line of the entry, by what the code has of it
-pub entry_is : (rows : ℕ) (p : Part) (e : Entry) (at orders count : ℕ) → at ≡ e.at → orders ≡ e.cost
+pub entry_is : (rows : ℕ) (p : TapePart) (e : TapeEntry) {at orders count : ℕ} → at ≡ e.at → orders ≡ e.cost
     → count ≡ read_before rows p + e.rows → entry_line at (p.done + orders) count ≡ entry_told rows p e
-entry_is rows p e at orders count a o n = λ i. entry_line (a i) (p.done + o i) (n i)
+entry_is rows p e a o n = λ i. entry_line (a i) (p.done + o i) (n i)
 
-module _ (limit : ℕ) (p : Part) (e : Entry) (cost : ℕ) (m : State) (same : cost ≡ e.cost)
+module _ (limit : ℕ) (p : TapePart) (e : TapeEntry) {cost : ℕ} {m : State} (same : cost ≡ e.cost)
     (at : m ≡ state_after cost p.state) where
-  pub there : m ≡ entry_state p e
+  pub there : m ≡ part_entry_state p e
   there = at ∙ ap (λ n. state_after n p.state) same
 
   pub left_is : limit - (p.done + cost) ≡ limit - entry_done p e
   left_is = ap (λ n. limit - (p.done + n)) same
 
-  pub finishes_there : (k : ℕ) (ending : Ending) → Finishes (limit - (p.done + cost)) k m ending
-      → Finishes (limit - entry_done p e) k (entry_state p e) ending
-  finishes_there k ending f =
+  pub finishes_there : {k : ℕ} {ending : Ending} → Finishes (limit - (p.done + cost)) k m ending
+      → Finishes (limit - entry_done p e) k (part_entry_state p e) ending
+  finishes_there {k} {ending} f =
       subst (λ (s : State). Finishes (limit - entry_done p e) k s ending) there
       (subst (λ n. Finishes n k m ending) left_is f)
 
-  abbrev pub back_from : (k : ℕ) → LeadsTo p e → p.done + cost ≤ limit → ComesHome (limit - (p.done + cost)) k m
+  abbrev pub back_from : {k : ℕ} → LeadsTo p e → p.done + cost ≤ limit → ComesHome (limit - (p.done + cost)) k m
       → GoesBack limit p
-  back_from k leads within h = record {
+  back_from {k} leads within h = record {
     entry = e;
     leads = leads;
     within = omega (arith, same);
@@ -208,21 +183,21 @@ module _ (limit : ℕ) (p : Part) (e : Entry) (cost : ℕ) (m : State) (same : c
         (subst (λ n. ComesHome n k m) left_is h);
   }
 
-  pub behind_is : (k : ℕ) (last : State) → last ≡ state_after k m → last ≡ state_after k (entry_state p e)
-  behind_is k last is = is ∙ ap (λ (s : State). state_after k s) there
+  pub behind_is : (k : ℕ) {last : State} → last ≡ state_after k m → last ≡ state_after k (part_entry_state p e)
+  behind_is k is = is ∙ ap (λ (s : State). state_after k s) there
 
 -- the part behind a return: the rows that it has left, and the orders done in its state and up to it
-pub record Later (limit : ℕ) (p q : Part) : Type 0 where
+pub record Later (limit : ℕ) (p q : TapePart) : Type 0 where
   pub fewer : length q.state.tape ≤ length p.state.tape
   pub soon : q.state.orders ≤ p.state.orders + (q.done - p.done)
   pub later : p.done + 2 ≤ q.done
   pub within : q.done ≤ limit
 
-pub behind_later : (limit : ℕ) (p : Part) (b : GoesBack limit p) → Later limit p (part_behind p b)
+pub behind_later : (limit : ℕ) (p : TapePart) (b : GoesBack limit p) → Later limit p (part_behind p b)
 behind_later limit p b =
     let entry = steps_follow b.entry.cost p.state in
-    let program = steps_follow b.orders (entry_state p b.entry) in
-    let few = home_within (limit - entry_done p b.entry) (entry_state p b.entry) b.orders b.comes in
+    let program = steps_follow b.orders (part_entry_state p b.entry) in
+    let few = home_within (limit - entry_done p b.entry) (part_entry_state p b.entry) b.orders b.comes in
     let some = some_cost p b.entry b.leads in
     record {
       fewer = omega (arith, entry.fewer, program.fewer);
@@ -232,42 +207,40 @@ behind_later limit p b =
     }
 
 -- nothing is told yet
-pub ahead_first : (limit rows : ℕ) (p : Part) (a : Option (List ℕ)) → Ahead limit rows p p a a
+pub ahead_first : (limit rows : ℕ) (p : TapePart) (a : Option (List ℕ)) → Ahead limit rows p p a a
 ahead_first limit rows p a = record { text = []; gains = gains_none a; completes = λ n rest told. (n, told) }
 
 -- a part went back, and the tape goes on with the next one
-pub record Onward (limit rows : ℕ) (first p q : Part) (a d : Option (List ℕ)) : Type 0 where
+pub record Onward (limit rows : ℕ) (first p q : TapePart) (a d : Option (List ℕ)) : Type 0 where
   pub ahead : Ahead limit rows first q a d
   pub home : IsReturned q.state
   pub later : Later limit p q
 
-module _ (limit l rows : ℕ) (s : State) (p : Part) (a c d : Option (List ℕ)) (same : l ≡ limit)
-    (count : rows ≡ length s.tape)
-    (h : Ahead limit rows (first_part s) p a c) where
+module _ {limit l rows : ℕ} {s : State} {p : TapePart} {a c : Option (List ℕ)} (d : Option (List ℕ)) (same : l ≡ limit)
+    (count : rows ≡ length s.tape) (h : Ahead limit rows (first_part s) p a c) where
   tells : (m : ℕ) (t : Told) → IsTold limit rows m (first_part s) t → TapeTells limit s t
   tells m t told = record { returns = m; told = subst (λ n. IsTold limit n m (first_part s) t) count told }
 
-  pub answers_over : (end : PartsEnd) (last : State) → Passes l rows p (Ok (Over end)) last c d
+  pub answers_over : {end : PartsEnd} {last : State} → Passes l rows p (Ok (Over end)) last c d
       → PartsAnswer limit s (Ok end) last a d
-  answers_over end last q =
-      let w = tells_all limit rows p (first_part s) a c d h end last
-      (subst (λ n. Passes n rows p (Ok (Over end)) last c d) same q) in
+  answers_over {end} {last} q =
+      let w = tells_all h d (subst (λ n. Passes n rows p (Ok (Over end)) last c d) same q) in
       (w.1, tells w.0 w.1 w.2, w.3, w.4, w.5)
 
-  pub answers_broken : (fault : PartsFault) (last : State) → Breaks l rows p c d
+  pub answers_broken : (fault : PartsFault) (last : State) → BreaksTold l rows p c d
       → PartsAnswer limit s (Err fault) last a d
   answers_broken fault last b =
-      let w = tells_part limit rows p (first_part s) a c d h (subst (λ n. Breaks n rows p c d) same b) in
+      let w = tells_part h d (subst (λ n. BreaksTold n rows p c d) same b) in
       (w.1, tells w.0 w.1 w.2, w.3)
 
-  pub goes_onward : (done : ℕ) (last : State) → Passes l rows p (Ok (Back done)) last c d
+  pub goes_onward : {done : ℕ} {last : State} → Passes l rows p (Ok (Back done)) last c d
       → Onward limit rows (first_part s) p (record { number = p.number + 1; done = done; state = last }) a d
-  goes_onward done last q =
+  goes_onward {done} {last} q =
       let b = subst (λ n. Passes n rows p (Ok (Back done)) last c d) same q in
       let next : part_behind p b.0 ≡ record { number = p.number + 1; done = done; state = last } =
       λ i. record { number = p.number + 1; done = sym b.1 i; state = sym b.2 i } in
-      subst (λ (x : Part). Onward limit rows (first_part s) p x a d) next (record {
-        ahead = goes_back limit rows p (first_part s) a c d h b.0 b.3;
+      subst (λ (x : TapePart). Onward limit rows (first_part s) p x a d) next (record {
+        ahead = goes_back h d b.0 b.3;
         home = b.0.comes.home;
         later = behind_later limit p b.0;
       })

@@ -1,7 +1,6 @@
 -- A program that may obey so many orders ends or comes back, at one number of orders.
 use Rattle.std.proofs.Common.{◌≡◌, ◌⊎◌, inl, inr, ℕ, zero, suc, ◌+◌, ◌≢◌, ◌<◌, ◌≤◌, refl, sym, ap, ◌∙◌, subst, arith}
-use Rattle.std.proofs.Common.{add-one}
-use Rattle.std.proofs.Common.{false, Option, Some, None}
+use Rattle.std.proofs.Common.{below_more, false, Option, Some, None}
 use Rattle.std.proofs.lemmas.Bool.{cases_lt, cases_order}
 use Rattle.ed_words.proofs.Numbers.{eq_false, eq_true, lt_false, lt_true}
 use Rattle.ed_machine.specs.State.{State}
@@ -13,20 +12,10 @@ use Rattle.ed_machine.specs.declared.turn.Turn.TheVariants.{NoTape as HasNoTape}
 use Rattle.ed_machine.specs.declared.ending.Ending.{Ending}
 use Rattle.ed_machine.specs.declared.ending.Ending.TheVariants.{Stopped, Limit}
 use Rattle.ed_run.specs.Run.{end_by}
+use Rattle.ed_machine.proofs.Steps.{next_state, next_stops}
 use Rattle.ed_interlude.specs.Returned.{IsReturned}
 use Rattle.ed_parts.specs.Parts.{ComesHome, Finishes, IsUnderWay, RunsOn, program_end}
 use Rattle.ed_parts.proofs.Homes.{Decided, home_or_not}
-
--- no order yet, and one more
-pub state_first : (s : State) → s ≡ state_after 0 s
-unfolding past
-state_first s = refl
-
-pub state_more : (k : ℕ) (s m n : State) → m ≡ state_after k s → n ≡ (step m).state → n ≡ state_after (k + 1) s
-unfolding past
-state_more k s m n at to =
-    let e : state_after (k + 1) s ≡ (step (state_after k s)).state = rw add-one refl in
-    to ∙ ap (λ t. (step t).state) at ∙ sym e
 
 -- a turn that only goes on or prints
 pub record GoesOn (turn : Turn) : Type 0 where
@@ -36,6 +25,12 @@ pub record GoesOn (turn : Turn) : Type 0 where
 pub going : (turn : Turn) → (turn ≡ Went) ⊎ ((code : ℕ) × (turn ≡ Printed code)) → GoesOn turn
 going turn (inl is) = record { no_end = ap (λ t. end_by t false) is; no_stop = ap stops_of is }
 going turn (inr p) = record { no_end = ap (λ t. end_by t false) p.1; no_stop = ap stops_of p.1 }
+
+no_end : (ending : Ending) → None ≡ Some ending → ⊥
+no_end ending h = cc
+
+pub some_end : (d e : Ending) → Some d ≡ Some e → d ≡ e
+some_end d e h = cc
 
 -- a program came back or ended
 abbrev pub CameTo : ℕ → State → Type 0
@@ -79,12 +74,6 @@ module _ (left : ℕ) (s : State) where
           let a = lt_false 0 (past k s).stops (omega arith) in
           let b = eq_false k left (omega arith) in
           not_stopped (step (state_after k s)).turn (rw (a, b) at is)
-
-  no_end : (ending : Ending) → None ≡ Some ending → ⊥
-  no_end ending h = cc
-
-  some_end : (d e : Ending) → Some d ≡ Some e → d ≡ e
-  some_end d e h = cc
 
   -- what is under way is within its limit
   pub way_within : (k : ℕ) → IsUnderWay left k s → k ≢ left
@@ -144,12 +133,8 @@ module _ (left : ℕ) (s : State) where
 
   -- ---- there is one of them
 
-  one_more : (k : ℕ) → RunsOn left k s → IsUnderWay left k s → RunsOn left (suc k) s
-  one_more k runs here = λ j h. by_place j h (cases_lt j k)
-    where
-      by_place : (j : ℕ) → j < suc k → (j < k) ⊎ (k ≤ j) → IsUnderWay left j s
-      by_place j h (inl low) = runs j low
-      by_place j h (inr high) = let e : k ≡ j = omega arith in subst (λ n. IsUnderWay left n s) e here
+  one_more : (k : ℕ) → RunsOn left k s → IsUnderWay left k s → RunsOn left (k + 1) s
+  one_more k runs here = below_more (λ j. IsUnderWay left j s) k runs here
 
   -- what it came to after k orders, or what it comes to if it is still under way
   here_or_on : (k : ℕ) → RunsOn left k s → (IsUnderWay left k s → CameTo left s) → CameTo left s
@@ -167,7 +152,7 @@ module _ (left : ℕ) (s : State) where
 
   seek : (r k : ℕ) → k + r ≡ left → RunsOn left k s → CameTo left s
   seek zero k is runs = here_or_on k runs (λ way. absurd (way_within k way (omega arith)))
-  seek (suc r) k is runs = here_or_on k runs (λ way. seek r (suc k) (omega arith) (one_more k runs way))
+  seek (suc r) k is runs = here_or_on k runs (λ way. seek r (k + 1) (omega arith) (one_more k runs way))
 
   pub comes_to : CameTo left s
   comes_to = seek left 0 (omega arith) (λ j h. absurd (omega arith))
@@ -184,72 +169,61 @@ module _ (left : ℕ) (s : State) where
   unfolding past
   running_first = record { state = refl; runs = λ j h. absurd (omega arith); stops = refl }
 
-  home_there : (k : ℕ) (m : State) → Running k m → IsReturned m → IsReturned (state_after k s)
-  home_there k m r home = subst (λ t. IsReturned t) r.state home
+-- such a program
+module _ {left : ℕ} {s : State} {k : ℕ} {m : State} (r : Running left s k m) where
+  -- it has come back
+  pub is_home : IsReturned m → ComesHome left k s
+  is_home home = record { runs = r.runs; stops = r.stops; home = subst (λ t. IsReturned t) r.state home }
 
-  away_there : (k : ℕ) (m : State) → Running k m → (IsReturned m → ⊥) → IsReturned (state_after k s) → ⊥
-  away_there k m r away home = away (subst (λ t. IsReturned t) (sym r.state) home)
+  away_there : (IsReturned m → ⊥) → IsReturned (state_after k s) → ⊥
+  away_there away home = away (subst (λ t. IsReturned t) (sym r.state) home)
 
-  pub is_home : (k : ℕ) (m : State) → Running k m → IsReturned m → ComesHome left k s
-  is_home k m r home = record { runs = r.runs; stops = r.stops; home = home_there k m r home }
+  -- its next order
+  module _ {turn : Turn} (below : k < left) (away : IsReturned m → ⊥) (is : turn ≡ (step m).turn) where
+    turn_there : turn ≡ (step (state_after k s)).turn
+    turn_there = is ∙ ap (λ t. (step t).turn) r.state
 
-  turn_there : (k : ℕ) (m : State) (turn : Turn) → Running k m → turn ≡ (step m).turn
-      → turn ≡ (step (state_after k s)).turn
-  turn_there k m turn r is = is ∙ ap (λ t. (step t).turn) r.state
+    end_there : program_end left k s ≡ end_by turn false
+    end_there = next_ends left s k below r.stops ∙ ap (λ t. end_by t false) (sym turn_there)
 
-  -- it cannot go on
-  pub blocks : (k : ℕ) (m : State) (turn : Turn) (ending : Ending) → Running k m → k < left → (IsReturned m → ⊥)
-      → turn ≡ (step m).turn → end_by turn false ≡ Some ending → Finishes left k s ending
-  blocks k m turn ending r below away is ends = record {
-    runs = r.runs;
-    ends = next_ends k below r.stops ∙ ap (λ t. end_by t false) (sym (turn_there k m turn r is)) ∙ ends;
-    stopped = λ home. absurd (away_there k m r away home);
-  }
+    -- it cannot go on
+    pub blocks : {ending : Ending} → end_by turn false ≡ Some ending → Finishes left k s ending
+    blocks ends = record {
+      runs = r.runs;
+      ends = end_there ∙ ends;
+      stopped = λ home. absurd (away_there away home);
+    }
 
-  way : (k : ℕ) (m : State) (turn : Turn) → Running k m → k < left → (IsReturned m → ⊥) → turn ≡ (step m).turn
-      → end_by turn false ≡ None → RunsOn left (k + 1) s
-  way k m turn r below away is none =
-      let here : IsUnderWay left k s = record {
-        no_end = next_ends k below r.stops ∙ ap (λ t. end_by t false) (sym (turn_there k m turn r is)) ∙ none;
-        away = away_there k m r away;
-      } in
-      let e : suc k ≡ k + 1 = omega arith in
-      subst (λ n. RunsOn left n s) e (one_more k r.runs here)
+    way : end_by turn false ≡ None → RunsOn left (k + 1) s
+    way none = one_more left s k r.runs (record { no_end = end_there ∙ none; away = away_there away })
 
-  next_stops : (k : ℕ) (m : State) (turn : Turn) → Running k m → turn ≡ (step m).turn
-      → (past (k + 1) s).stops ≡ stops_of turn
-  unfolding past
-  next_stops k m turn r is =
-      let t = turn_there k m turn r is in
-      let n : (past (k + 1) s).stops ≡ (past k s).stops + stops_of (step (state_after k s)).turn = rw add-one refl in
-      let same : stops_of (step (state_after k s)).turn ≡ stops_of turn = ap stops_of (sym t) in
-      omega (arith, n, same, r.stops)
+    stops_more : (past (k + 1) s).stops ≡ stops_of turn
+    stops_more =
+        let same : stops_of (step (state_after k s)).turn ≡ stops_of turn = ap stops_of (sym turn_there) in
+        omega (arith, next_stops k s, same, r.stops)
 
-  -- it stops
-  pub stops_there : (k : ℕ) (m : State) (turn : Turn) → Running k m → k < left → (IsReturned m → ⊥)
-      → turn ≡ (step m).turn → turn ≡ Stops
-      → Finishes left (k + 1) s Stopped
-  stops_there k m turn r below away is stop =
-      let one : (past (k + 1) s).stops ≡ 1 = next_stops k m turn r is ∙ ap stops_of stop in
-      record {
-        runs = way k m turn r below away is (ap (λ t. end_by t false) stop);
-        ends = stop_ends (k + 1) (omega (arith, one));
-        stopped = λ home. refl;
-      }
+    -- it stops
+    pub stops_there : turn ≡ Stops → Finishes left (k + 1) s Stopped
+    stops_there stop =
+        let one : (past (k + 1) s).stops ≡ 1 = stops_more ∙ ap stops_of stop in
+        record {
+          runs = way (ap (λ t. end_by t false) stop);
+          ends = stop_ends left s (k + 1) (omega (arith, one));
+          stopped = λ home. refl;
+        }
 
-  -- it goes on
-  pub goes_on : (k : ℕ) (m n : State) (turn : Turn) → Running k m → k < left → (IsReturned m → ⊥) → turn ≡ (step m).turn
-      → n ≡ (step m).state → GoesOn turn → Running (k + 1) n
-  goes_on k m n turn r below away is to on = record {
-    state = state_more k s m n r.state to;
-    runs = way k m turn r below away is on.no_end;
-    stops = next_stops k m turn r is ∙ on.no_stop;
-  }
+    -- it goes on
+    pub goes_on : {n : State} → n ≡ (step m).state → GoesOn turn → Running left s (k + 1) n
+    goes_on {n} to on = record {
+      state = next_state k s r.state to;
+      runs = way on.no_end;
+      stops = stops_more ∙ on.no_stop;
+    }
 
-  -- it comes to its limit
-  pub at_limit : (m : State) → Running left m → (IsReturned m → ⊥) → Finishes left left s Limit
-  at_limit m r away = record {
-    runs = r.runs;
-    ends = limit_ends left refl r.stops;
-    stopped = λ home. absurd (away_there left m r away home);
-  }
+-- it comes to its limit
+pub at_limit : {left : ℕ} {s m : State} → Running left s left m → (IsReturned m → ⊥) → Finishes left left s Limit
+at_limit {left} {s} r away = record {
+  runs = r.runs;
+  ends = limit_ends left s left refl r.stops;
+  stopped = λ home. absurd (away_there r away home);
+}

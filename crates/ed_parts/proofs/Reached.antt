@@ -4,21 +4,21 @@ use Rattle.std.specs.Prelude.{if◌then◌else◌}
 use Rattle.std.proofs.lemmas.Bool.{cases_eq}
 use Rattle.ed_words.proofs.Numbers.{eq_false, eq_true}
 use Rattle.ed_notation.specs.Openings.{opening}
-use Rattle.ed_notation.specs.Faults.{ComesTo, Entry, WellFormed}
+use Rattle.ed_notation.specs.Faults.{ComesTo, TapeEntry, WellFormed}
 use Rattle.ed_initial.proofs.Quiet.{LeadsIn, comes_in}
 use Rattle.ed_interlude.specs.Returned.{reopening}
 use Rattle.ed_interlude.proofs.Resumed.{leads_back}
 use Rattle.ed_parts.specs.Laws.{Begins, EachEntryIsReached}
-use Rattle.ed_parts.specs.Parts.{LeadsTo, Part}
+use Rattle.ed_parts.specs.Parts.{LeadsTo, TapePart}
 
 -- what a part comes to, from an opening that is one of two
-record Comes (p : Part) (b : Bool) (e : Entry) : Type 0 where
+record Comes (p : TapePart) (b : Bool) (e : TapeEntry) : Type 0 where
   well : WellFormed p.state.size p.state.store.words (if b then opening p.state.store.words else reopening p.state)
       p.state.tape
   comes : ComesTo p.state.store.words (if b then opening p.state.store.words else reopening p.state)
       (if b then 9 else 2) p.state.tape e
 
-pub leads_in : (p : Part) (e : Entry) → Begins p → LeadsTo p e → LeadsIn p.state e
+pub leads_in : (p : TapePart) (e : TapeEntry) → Begins p → LeadsTo p e → LeadsIn p.state e
 leads_in p e begins leads = by_number (cases_eq p.number 1)
   where
     here : Comes p (nat_eq p.number 1) e

@@ -2,18 +2,18 @@
 use Rattle.std.proofs.Common.{◌≡◌, ℕ, ◌+◌, ◌≤◌, ap, ◌∙◌, arith, Bool, true, false, nat_eq, if◌then◌else◌, ◌++◌}
 use Rattle.std.proofs.Common.{length, length-append}
 use Rattle.ed_notation.specs.Items.{rows_of, spelled}
-use Rattle.ed_notation.specs.Faults.{Entry, part_rows}
+use Rattle.ed_notation.specs.Faults.{TapeEntry, part_rows}
 use Rattle.ed_notation.specs.declared.cause.TapeCause.{TapeCause}
-use Rattle.ed_parts.specs.Parts.{HasFault, LeadsTo, Part}
+use Rattle.ed_parts.specs.Parts.{HasFault, LeadsTo, TapePart}
 
-pub fault_within : (p : Part) (row : ℕ) (cause : TapeCause) → HasFault p row cause → row ≤ length p.state.tape
+pub fault_within : (p : TapePart) (row : ℕ) (cause : TapeCause) → HasFault p row cause → row ≤ length p.state.tape
 fault_within p row cause f =
     let s = f.is.stands in
     let all : length p.state.tape ≡ length (spelled s.before) + length (part_rows s.part ++ s.rest) =
     ap length s.rows_are ∙ length-append (spelled s.before) (part_rows s.part ++ s.rest) in
     omega (arith, all, s.row_is, length-append (part_rows s.part) s.rest)
 
-pub entry_within : (p : Part) (e : Entry) → LeadsTo p e → e.rows ≤ length p.state.tape
+pub entry_within : (p : TapePart) (e : TapeEntry) → LeadsTo p e → e.rows ≤ length p.state.tape
 entry_within p e l =
     let c = l.comes in
     let all : length p.state.tape ≡ length (spelled c.before) + length (rows_of c.last ++ e.rest) =
@@ -24,5 +24,5 @@ some_base : (b : Bool) → 2 ≤ (if b then 9 else 2)
 some_base true = omega arith
 some_base false = omega arith
 
-pub some_cost : (p : Part) (e : Entry) → LeadsTo p e → 2 ≤ e.cost
+pub some_cost : (p : TapePart) (e : TapeEntry) → LeadsTo p e → 2 ≤ e.cost
 some_cost p e l = omega (arith, l.comes.cost_is, some_base (nat_eq p.number 1))

@@ -1,60 +1,33 @@
 -- Where parts end by the end of a program or at the limit, the run of the whole tape ends too.
 use Rattle.std.proofs.Common.{◌≡◌, ◌⊎◌, inl, inr, ℕ, zero, suc, ◌+◌, ◌-◌, ◌<◌, ◌≤◌, refl, sym, ap, ◌∙◌, subst, arith}
-use Rattle.std.proofs.Common.{Bool, true, false, Some, None, length, length-append}
+use Rattle.std.proofs.Common.{Bool, true, false, Some, None, length}
 use Rattle.std.proofs.lemmas.Bool.{cases_lt}
 use Rattle.ed_machine.specs.State.{State}
 use Rattle.ed_machine.specs.OrderTable.{step}
 use Rattle.ed_machine.specs.Sound.{IsSound}
-use Rattle.ed_machine.specs.Steps.{IsFree, codes_of, is_obeyed, past, state_after, stops_of}
+use Rattle.ed_machine.specs.Steps.{IsFree, Past, is_obeyed, past, state_after, stops_of}
 use Rattle.ed_machine.specs.declared.turn.Turn.{Turn}
 use Rattle.ed_machine.specs.declared.turn.Turn.TheVariants.{Went, Printed, Stopped as Stops}
 use Rattle.ed_machine.specs.declared.turn.Turn.TheVariants.{NoOrder as IsNoOrder, NoTape as HasNoTape}
 use Rattle.ed_machine.specs.declared.ending.Ending.{Ending}
 use Rattle.ed_machine.specs.declared.ending.Ending.TheVariants.{Stopped, Limit}
 use Rattle.ed_machine.proofs.SoundSteps.{sound_after}
+use Rattle.ed_machine.proofs.Steps.{after_sum, few_codes, free_more, free_sum, no_step, past_sum}
 use Rattle.ed_run.specs.Laws.{HasRoom}
 use Rattle.ed_run.specs.Run.{end_by}
+use Rattle.ed_run.proofs.Later.{quiet_stops}
 use Rattle.ed_run.proofs.Places as places
-use Rattle.ed_notation.specs.Faults.{Entry}
+use Rattle.ed_notation.specs.Faults.{TapeEntry}
 use Rattle.ed_notation.specs.declared.cause.TapeCause.{TapeCause}
-use Rattle.ed_initial.proofs.Goes.{after_sum}
 use Rattle.ed_parts.specs.declared.tape.PartsEnd.TheVariants.{Ended, Faulty}
 use Rattle.ed_parts.specs.Laws.{Begins, EachEndIsTheRuns, EndsAsRun}
 use Rattle.ed_parts.specs.Parts.{Concludes, Finishes, GoesBack, IsTold, LeadsTo}
-use Rattle.ed_parts.specs.Parts.{Part, RunsOn, Told, cut, entry_done, entry_state}
+use Rattle.ed_parts.specs.Parts.{TapePart, RunsOn, Told, cut, entry_done, part_entry_state}
 use Rattle.ed_parts.specs.Parts.{faulty, finished, first_part, part_behind}
-use Rattle.ed_parts.proofs.Programs.{home_within, limit_ends, next_ends, runs_within, state_first, stop_ends, way_stops}
+use Rattle.ed_parts.proofs.Programs.{home_within, limit_ends, next_ends, runs_within, some_end, stop_ends, way_stops}
 use Rattle.ed_parts.proofs.Reached.{leads_in}
 
 -- ---- orders one after the other
-
-sum_stops : (a b : ℕ) (s : State) → (past (a + b) s).stops ≡ (past a s).stops + (past b (state_after a s)).stops
-unfolding past
-sum_stops a zero s =
-    let e : a + 0 ≡ a = omega arith in
-    let same : (past (a + 0) s).stops ≡ (past a s).stops = ap (λ k. (past k s).stops) e in
-    omega arith
-sum_stops a (suc b) s =
-    let e : a + suc b ≡ suc (a + b) = omega arith in
-    let more : (past (a + suc b) s).stops ≡ (past (a + b) s).stops + stops_of (step (state_after (a + b) s)).turn =
-    ap (λ k. (past k s).stops) e in
-    let turn : stops_of (step (state_after (a + b) s)).turn ≡ stops_of (step (state_after b (state_after a s))).turn =
-    ap (λ (t : State). stops_of (step t).turn) (after_sum a b s) in
-    omega (arith, sum_stops a b s)
-
-one_code : (t : Turn) → length (codes_of t) ≤ 1
-one_code Went = omega arith
-one_code (Printed code) = omega arith
-one_code Stops = omega arith
-one_code (IsNoOrder function) = omega arith
-one_code HasNoTape = omega arith
-
-few_codes : (k : ℕ) (s : State) → length (past k s).codes ≤ k
-unfolding past
-few_codes zero s = omega arith
-few_codes (suc k) s =
-    let turn = (step (state_after k s)).turn in
-    omega (arith, few_codes k s, one_code turn, length-append (past k s).codes (codes_of turn))
 
 -- so many orders are obeyed, none of which is a stop, and lead there
 record Walks (k : ℕ) (s m : State) : Type 0 where
@@ -63,30 +36,15 @@ record Walks (k : ℕ) (s m : State) : Type 0 where
   stops : (past k s).stops ≡ 0
 
 -- two walks, one after the other
-and_then : (a b : ℕ) (s m n : State) → Walks a s m → Walks b m n → Walks (a + b) s n
-and_then a b s m n first next = record {
+and_then : (a b : ℕ) {s m n : State} → Walks a s m → Walks b m n → Walks (a + b) s n
+and_then a b {s} first next = record {
   there = next.there ∙ ap (state_after b) first.there ∙ sym (after_sum a b s);
-  free = λ j h. by_place j h (cases_lt j a);
-  stops = omega (arith, sum_stops a b s, first.stops, next.stops, ap (λ (t : State). (past b t).stops) first.there);
+  free = free_sum a b s first.free (subst (IsFree b) first.there next.free);
+  stops = ap (λ (p : Past). p.stops) (past_sum a b s)
+      ∙ omega (arith, first.stops, next.stops, ap (λ (t : State). (past b t).stops) first.there);
 }
-  where
-    by_place : (j : ℕ) → j < a + b → (j < a) ⊎ (a ≤ j) → is_obeyed (step (state_after j s)).turn ≡ true
-    by_place j h (inl low) = first.free j low
-    by_place j h (inr high) =
-        let e : a + (j - a) ≡ j = omega arith in
-        let at : state_after j s ≡ state_after (j - a) m =
-        ap (λ k. state_after k s) (sym e) ∙ after_sum a (j - a) s ∙ ap (state_after (j - a)) (sym first.there) in
-        ap (λ (t : State). is_obeyed (step t).turn) at ∙ next.free (j - a) (omega arith)
 
 -- orders that only go on
-quiet_stops : (k : ℕ) (s : State) → ((j : ℕ) → j < k → (step (state_after j s)).turn ≡ Went) → (past k s).stops ≡ 0
-unfolding past
-quiet_stops zero s went = refl
-quiet_stops (suc k) s went =
-    let before = quiet_stops k s (λ j h. went j (omega arith)) in
-    let turn : stops_of (step (state_after k s)).turn ≡ 0 = ap stops_of (went k (omega arith)) in
-    omega arith
-
 quiet_walk : (k : ℕ) (s : State) → ((j : ℕ) → j < k → (step (state_after j s)).turn ≡ Went)
     → Walks k s (state_after k s)
 quiet_walk k s went = record { there = refl; free = λ j h. ap is_obeyed (went j h); stops = quiet_stops k s went }
@@ -115,9 +73,6 @@ stop_of (Printed code) h = absurd (omega arith)
 stop_of (IsNoOrder function) h = absurd (omega arith)
 stop_of HasNoTape h = absurd (omega arith)
 
-same_end : (d e : Ending) → Some d ≡ Some e → d ≡ e
-same_end d e h = cc
-
 ended_is : (d e : Ending) → Ended d ≡ Ended e → d ≡ e
 ended_is d e h = cc
 
@@ -144,7 +99,7 @@ module _ (limit : ℕ) (s : State) where
   at_limit : (m : State) → Walks limit s m → EndsAsRun limit s Limit m
   at_limit m w = record {
     orders = limit;
-    ends = places.at_limit limit 0 limit s (room limit (omega arith) w.free) (omega (arith, w.stops));
+    ends = places.at_limit limit 0 (room limit (omega arith) w.free) (omega (arith, w.stops));
     state_is = w.there;
   }
 
@@ -155,7 +110,7 @@ module _ (limit : ℕ) (s : State) where
     without_stop k ending f none = by_place (cases_lt k left)
       where
         walk : Walks (a + k) s (state_after k m)
-        walk = and_then a k s m (state_after k m) first (run_walk left m k f.runs none)
+        walk = and_then a k first (run_walk left m k f.runs none)
 
         by_place : (k < left) ⊎ (left ≤ k) → EndsAsRun limit s ending (state_after k m)
         by_place (inl low) =
@@ -165,7 +120,7 @@ module _ (limit : ℕ) (s : State) where
             ap (λ (t : State). end_by (step t).turn false) (sym walk.there) ∙ turn in
             record {
               orders = a + k;
-              ends = places.at_block limit 0 limit (a + k) s ending (room (a + k) (omega arith) walk.free)
+              ends = places.at_block limit 0 (room (a + k) (omega arith) walk.free)
                   (omega (arith, walk.stops))
                   (omega arith) (blocked_of _ _ ending at);
               state_is = walk.there;
@@ -173,7 +128,7 @@ module _ (limit : ℕ) (s : State) where
         by_place (inr high) =
             let e : k ≡ left = omega (arith, runs_within left m k f.runs) in
             let total : a + k ≡ limit = omega arith in
-            let is : Limit ≡ ending = same_end Limit ending (sym (limit_ends left m k e none) ∙ f.ends) in
+            let is : Limit ≡ ending = some_end Limit ending (sym (limit_ends left m k e none) ∙ f.ends) in
             subst (λ (d : Ending). EndsAsRun limit s d (state_after k m)) is
             (at_limit (state_after k m) (subst (λ n. Walks n s (state_after k m)) total walk))
 
@@ -187,27 +142,18 @@ module _ (limit : ℕ) (s : State) where
         let none = way_stops left m j way in
         let stop : (step (state_after j m)).turn ≡ Stops = stop_of _ (omega (arith, none)) in
         let walk : Walks (a + j) s (state_after j m) =
-        and_then a j s m (state_after j m) first (run_walk left m j (λ i h. f.runs i (omega arith)) none) in
+        and_then a j first (run_walk left m j (λ i h. f.runs i (omega arith)) none) in
         let turn : (step (state_after (a + j) s)).turn ≡ Stops =
         ap (λ (t : State). (step t).turn) (sym walk.there) ∙ stop in
-        let free : IsFree (suc (a + j)) s = one_more (a + j) walk.free turn in
-        let is : Stopped ≡ ending = same_end Stopped ending (sym (stop_ends left m (suc j) many) ∙ f.ends) in
+        let free : IsFree (suc (a + j)) s = free_more (a + j) s walk.free (ap is_obeyed turn) in
+        let is : Stopped ≡ ending = some_end Stopped ending (sym (stop_ends left m (suc j) many) ∙ f.ends) in
         let within = runs_within left m (suc j) f.runs in
         subst (λ (d : Ending). EndsAsRun limit s d (state_after (suc j) m)) is (record {
           orders = suc (a + j);
-          ends = places.at_stop limit 0 limit (a + j) s (room (suc (a + j)) (omega arith) free) walk.stops
+          ends = places.at_stop limit 0 (room (suc (a + j)) (omega arith) free) walk.stops
               (omega arith) turn;
           state_is = ap (λ (t : State). (step t).state) walk.there;
         })
-      where
-        one_more : (k : ℕ) → IsFree k s → (step (state_after k s)).turn ≡ Stops → IsFree (suc k) s
-        one_more k free turn i h = by_place (cases_lt i k)
-          where
-            by_place : (i < k) ⊎ (k ≤ i) → is_obeyed (step (state_after i s)).turn ≡ true
-            by_place (inl low) = free i low
-            by_place (inr high) =
-                let e : k ≡ i = omega arith in
-                subst (λ n. is_obeyed (step (state_after n s)).turn ≡ true) e (ap is_obeyed turn)
 
     program_ends : (k : ℕ) (ending : Ending) → Finishes left k m ending → EndsAsRun limit s ending (state_after k m)
     program_ends k ending f =
@@ -219,18 +165,17 @@ module _ (limit : ℕ) (s : State) where
   -- ---- part by part
 
   -- the parts up to here are orders of the run, and here one begins
-  record Along (p : Part) : Type 0 where
+  record Along (p : TapePart) : Type 0 where
     walk : Walks p.done s p.state
     within : p.done ≤ limit
     some : 1 ≤ p.number
     begins : Begins p
 
-  to_entry : (p : Part) (e : Entry) → Along p → LeadsTo p e → Walks (entry_done p e) s (entry_state p e)
+  to_entry : (p : TapePart) (e : TapeEntry) → Along p → LeadsTo p e → Walks (entry_done p e) s (part_entry_state p e)
   to_entry p e h leads =
-      and_then p.done e.cost s p.state (entry_state p e) h.walk
-      (quiet_walk e.cost p.state (leads_in p e h.begins leads).went)
+      and_then p.done e.cost h.walk (quiet_walk e.cost p.state (leads_in p e h.begins leads).went)
 
-  concludes : (p : Part) (t : Told) (ending : Ending) → Along p → Concludes limit (length s.tape) p t
+  concludes : (p : TapePart) (t : Told) (ending : Ending) → Along p → Concludes limit (length s.tape) p t
       → t.end ≡ Ended ending
       → EndsAsRun limit s ending t.last
   concludes p t ending h (faulty row cause fault is) end =
@@ -238,7 +183,7 @@ module _ (limit : ℕ) (s : State) where
   concludes p t ending h (cut e leads short is) end =
       let left = limit - p.done in
       let went = (leads_in p e h.begins leads).went in
-      let walk = and_then p.done left s p.state (state_after left p.state) h.walk
+      let walk = and_then p.done left h.walk
       (quiet_walk left p.state (λ j low. went j (omega (arith, h.within)))) in
       let total : p.done + left ≡ limit = omega (arith, h.within) in
       let same : Limit ≡ ending = ended_is _ _ (sym (ap (λ (x : Told). x.end) is) ∙ end) in
@@ -248,19 +193,19 @@ module _ (limit : ℕ) (s : State) where
       (at_limit (state_after left p.state) (subst (λ n. Walks n s (state_after left p.state)) total walk)))
   concludes p t ending h (finished e k d leads within f is) end =
       let same : d ≡ ending = ended_is _ _ (sym (ap (λ (x : Told). x.end) is) ∙ end) in
-      let there : state_after k (entry_state p e) ≡ t.last = sym (ap (λ (x : Told). x.last) is) in
+      let there : state_after k (part_entry_state p e) ≡ t.last = sym (ap (λ (x : Told). x.last) is) in
       subst (λ (c : Ending). EndsAsRun limit s c t.last) same
       (subst (λ (x : State). EndsAsRun limit s d x) there
-      (program_ends (entry_done p e) (limit - entry_done p e) (entry_state p e) (omega (arith, within))
+      (program_ends (entry_done p e) (limit - entry_done p e) (part_entry_state p e) (omega (arith, within))
       (to_entry p e h leads) k d f))
 
-  next_along : IsSound s → (p : Part) (b : GoesBack limit p) → Along p → Along (part_behind p b)
+  next_along : IsSound s → (p : TapePart) (b : GoesBack limit p) → Along p → Along (part_behind p b)
   next_along sound p b h =
       let c = b.comes in
       let left = limit - entry_done p b.entry in
-      let walk = and_then (entry_done p b.entry) b.orders s (entry_state p b.entry) _ (to_entry p b.entry h b.leads)
-      (run_walk left (entry_state p b.entry) b.orders c.runs c.stops) in
-      let few = home_within left (entry_state p b.entry) b.orders c in
+      let walk = and_then (entry_done p b.entry) b.orders (to_entry p b.entry h b.leads)
+      (run_walk left (part_entry_state p b.entry) b.orders c.runs c.stops) in
+      let few = home_within left (part_entry_state p b.entry) b.orders c in
       let there : IsSound (part_behind p b).state =
       subst (λ (x : State). IsSound x) (sym walk.there) (sound_after _ s sound) in
       record {
@@ -270,12 +215,11 @@ module _ (limit : ℕ) (s : State) where
         begins = record { store = there.store; first = λ e. absurd (omega (arith, h.some)); further = λ e. c.home };
       }
 
-  ends : IsSound s → (n : ℕ) (p : Part) (t : Told) (ending : Ending) → Along p → IsTold limit (length s.tape) n p t
-      → t.end ≡ Ended ending
-      → EndsAsRun limit s ending t.last
-  ends sound zero p t ending h told end = concludes p t ending h told end
-  ends sound (suc n) p t ending h told end =
-      let rest = ends sound n (part_behind p told.0) told.1 ending (next_along sound p told.0 h) told.2
+  ends : IsSound s → (n : ℕ) (t : Told) {p : TapePart} {ending : Ending} → Along p
+      → IsTold limit (length s.tape) n p t → t.end ≡ Ended ending → EndsAsRun limit s ending t.last
+  ends sound zero t {p} {ending} h told end = concludes p t ending h told end
+  ends sound (suc n) t {p} {ending} h told end =
+      let rest = ends sound n told.1 (next_along sound p told.0 h) told.2
       (sym (ap (λ (x : Told). x.end) told.3) ∙ end) in
       subst (λ (x : State). EndsAsRun limit s ending x) (sym (ap (λ (x : Told). x.last) told.3)) rest
 
@@ -283,7 +227,7 @@ pub each_end : EachEndIsTheRuns
 each_end limit s t ending sound started tells end =
     let first : Along limit s (first_part s) = record {
       walk = record {
-        there = state_first s;
+        there = no_step s;
         free = λ j h. absurd (omega arith);
         stops = quiet_stops 0 s (λ j h. absurd (omega arith));
       };
@@ -291,4 +235,4 @@ each_end limit s t ending sound started tells end =
       some = omega arith;
       begins = record { store = sound.store; first = λ e. started; further = λ ne. absurd (ne refl) };
     } in
-    ends limit s sound tells.returns (first_part s) t ending first tells.told end
+    ends limit s sound tells.returns t first tells.told end

@@ -6,11 +6,11 @@ use Rattle.ed_machine.specs.Sound.{IsSound}
 use Rattle.ed_machine.specs.Steps.{past, state_after}
 use Rattle.ed_machine.specs.declared.ending.Ending.{Ending}
 use Rattle.ed_run.specs.Run.{EndsAfter}
-use Rattle.ed_notation.specs.Faults.{Entry}
+use Rattle.ed_notation.specs.Faults.{TapeEntry}
 use Rattle.ed_initial.specs.Entry.{IsStarted, at_entry}
 use Rattle.ed_interlude.specs.Returned.{IsReturned}
 use Rattle.ed_parts.specs.declared.tape.PartsEnd.TheVariants.{Ended}
-use Rattle.ed_parts.specs.Parts.{LeadsTo, Part, TapeTells, Told, entry_state}
+use Rattle.ed_parts.specs.Parts.{LeadsTo, TapePart, TapeTells, Told, part_entry_state}
 
 -- one thing is told of a tape, and only one
 pub record IsToldOnce (limit : ℕ) (s : State) : Type 0 where
@@ -22,19 +22,19 @@ abbrev pub EachTapeIsToldOnce : Type 0
 EachTapeIsToldOnce = (limit : ℕ) (s : State) → IsToldOnce limit s
 
 -- a part begins at Start or at a return
-pub record Begins (p : Part) : Type 0 where
+pub record Begins (p : TapePart) : Type 0 where
   pub store : IsStore p.state.store
   pub first : p.number ≡ 1 → IsStarted p.state
   pub further : p.number ≢ 1 → IsReturned p.state
 
 -- the Initial Orders lead it to the state at its entry, cell by cell, and print nothing on the way
-pub record IsReached (p : Part) (e : Entry) : Type 0 where
-  pub state_is : entry_state p e ≡ at_entry p.state e
+pub record IsReached (p : TapePart) (e : TapeEntry) : Type 0 where
+  pub state_is : part_entry_state p e ≡ at_entry p.state e
   pub silent : (past e.cost p.state).codes ≡ []
 
 -- so it is with every part
 abbrev pub EachEntryIsReached : Type 0
-EachEntryIsReached = (p : Part) (e : Entry) → Begins p → LeadsTo p e → IsReached p e
+EachEntryIsReached = (p : TapePart) (e : TapeEntry) → Begins p → LeadsTo p e → IsReached p e
 
 -- the run of the whole tape, which is never resumed and whose paper never is full, ends so and in this state
 pub record EndsAsRun (limit : ℕ) (s : State) (ending : Ending) (last : State) : Type 0 where

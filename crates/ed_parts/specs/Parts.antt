@@ -10,7 +10,7 @@ use Rattle.ed_machine.specs.declared.ending.Ending.TheVariants.{Stopped, Limit}
 use Rattle.ed_run.specs.Run.{end_at}
 use Rattle.ed_notation.specs.Fold.{Note, address}
 use Rattle.ed_notation.specs.Openings.{opening}
-use Rattle.ed_notation.specs.Faults.{Entry, ComesTo, IsFault, WellFormed}
+use Rattle.ed_notation.specs.Faults.{TapeEntry, ComesTo, IsFault, WellFormed}
 use Rattle.ed_notation.specs.declared.cause.TapeCause.{TapeCause}
 use Rattle.ed_interlude.specs.Returned.{IsReturned, directive, reopening}
 use Rattle.ed_io.specs.Bytes.{Gains, GainsPart}
@@ -20,48 +20,48 @@ use Rattle.ed_parts.specs.declared.tape.PartsEnd.TheVariants.{Ended, Faulty}
 use Rattle.ed_parts.specs.declared.tape.PartsFault.{PartsFault}
 
 -- a part as it begins: its number, counted from 1, the orders done from Start up to it, and the state
-pub record Part : Type 0 where
+pub record TapePart : Type 0 where
   pub number : ℕ
   pub done : ℕ
   pub state : State
 
 -- the first part begins at Start
-abbrev pub first_part : State → Part
+abbrev pub first_part : State → TapePart
 first_part s = record { number = 1; done = 0; state = s }
 
 -- ---- the reading of a part
 
 -- the state of the notation before its first row: that of a whole tape, and in a further part what the program left
-abbrev pub note_of : Part → Note
+abbrev pub note_of : TapePart → Note
 note_of p = if nat_eq p.number 1 then opening p.state.store.words else reopening p.state
 
 -- the orders before its first row
-abbrev pub base_of : Part → ℕ
+abbrev pub base_of : TapePart → ℕ
 base_of p = if nat_eq p.number 1 then 9 else 2
 
 -- its rows have this fault
-abbrev pub HasFault : Part → ℕ → TapeCause → Type 0
+abbrev pub HasFault : TapePart → ℕ → TapeCause → Type 0
 HasFault p row cause = IsFault p.state.size p.state.store.words (note_of p) p.state.tape row cause
 
 -- its rows are well formed, and come to this entry
-pub record LeadsTo (p : Part) (e : Entry) : Type 0 where
+pub record LeadsTo (p : TapePart) (e : TapeEntry) : Type 0 where
   pub well : WellFormed p.state.size p.state.store.words (note_of p) p.state.tape
   pub comes : ComesTo p.state.store.words (note_of p) (base_of p) p.state.tape e
 
 -- how many of the tape's rows were read before it
-abbrev pub read_before : ℕ → Part → ℕ
+abbrev pub read_before : ℕ → TapePart → ℕ
 read_before rows p = rows - length p.state.tape
 
 -- the orders done at its entry
-abbrev pub entry_done : Part → Entry → ℕ
+abbrev pub entry_done : TapePart → TapeEntry → ℕ
 entry_done p e = p.done + e.cost
 
 -- the state there
-abbrev pub entry_state : Part → Entry → State
-entry_state p e = state_after e.cost p.state
+abbrev pub part_entry_state : TapePart → TapeEntry → State
+part_entry_state p e = state_after e.cost p.state
 
 -- the line of its entry
-abbrev pub entry_told : ℕ → Part → Entry → List ℕ
+abbrev pub entry_told : ℕ → TapePart → TapeEntry → List ℕ
 entry_told rows p e = entry_line e.at (entry_done p e) (read_before rows p + e.rows)
 
 -- ---- its program
@@ -101,48 +101,48 @@ pub record Told : Type 0 where
   pub last : State
 
 -- the last part tells this
-pub data Concludes (limit rows : ℕ) (p : Part) (t : Told) : Type 0 where
+pub data Concludes (limit rows : ℕ) (p : TapePart) (t : Told) : Type 0 where
   -- it has a fault, which counts from the tape's first row; none of its orders is obeyed
   faulty : (row : ℕ) (cause : TapeCause) → HasFault p row cause
       → t ≡ record { text = []; end = Faulty p.number (read_before rows p + row) cause; last = p.state }
       → Concludes limit rows p t
   -- the limit comes before its entry
-  cut : (e : Entry) → LeadsTo p e → limit < entry_done p e
+  cut : (e : TapeEntry) → LeadsTo p e → limit < entry_done p e
       → t ≡ record { text = []; end = Ended Limit; last = state_after (limit - p.done) p.state }
       → Concludes limit rows p t
   -- its program ends
-  finished : (e : Entry) (k : ℕ) (ending : Ending) → LeadsTo p e → entry_done p e ≤ limit
-      → Finishes (limit - entry_done p e) k (entry_state p e) ending
-      → t ≡ record { text = entry_told rows p e; end = Ended ending; last = state_after k (entry_state p e) }
+  finished : (e : TapeEntry) (k : ℕ) (ending : Ending) → LeadsTo p e → entry_done p e ≤ limit
+      → Finishes (limit - entry_done p e) k (part_entry_state p e) ending
+      → t ≡ record { text = entry_told rows p e; end = Ended ending; last = state_after k (part_entry_state p e) }
       → Concludes limit rows p t
 
 -- its program comes back
-pub record GoesBack (limit : ℕ) (p : Part) : Type 0 where
-  pub entry : Entry
+pub record GoesBack (limit : ℕ) (p : TapePart) : Type 0 where
+  pub entry : TapeEntry
   pub leads : LeadsTo p entry
   pub within : entry_done p entry ≤ limit
   pub orders : ℕ
-  pub comes : ComesHome (limit - entry_done p entry) orders (entry_state p entry)
+  pub comes : ComesHome (limit - entry_done p entry) orders (part_entry_state p entry)
 
 -- the part that begins there
-abbrev pub part_behind : {limit : ℕ} → (p : Part) → GoesBack limit p → Part
+abbrev pub part_behind : {limit : ℕ} → (p : TapePart) → GoesBack limit p → TapePart
 part_behind p b = record {
   number = p.number + 1;
   done = entry_done p b.entry + b.orders;
-  state = state_after b.orders (entry_state p b.entry);
+  state = state_after b.orders (part_entry_state p b.entry);
 }
 
 -- the lines of its entry and of its return
-abbrev pub lines_of : {limit : ℕ} → ℕ → (p : Part) → GoesBack limit p → List ℕ
-lines_of rows p b =
+abbrev pub told_lines : {limit : ℕ} → ℕ → (p : TapePart) → GoesBack limit p → List ℕ
+told_lines rows p b =
     entry_told rows p b.entry ++ returned_line (address (directive (part_behind p b).state)) (part_behind p b).done
 
 -- from a part on, so many parts go back, and the one behind them is the last; this is told
-abbrev pub IsTold : ℕ → ℕ → ℕ → Part → Told → Type 0
+abbrev pub IsTold : ℕ → ℕ → ℕ → TapePart → Told → Type 0
 IsTold limit rows zero p t = Concludes limit rows p t
 IsTold limit rows (suc n) p t =
     (b : GoesBack limit p) × (rest : Told) × IsTold limit rows n (part_behind p b) rest
-    × (t ≡ record rest { text = lines_of rows p b ++ rest.text })
+    × (t ≡ record rest { text = told_lines rows p b ++ rest.text })
 
 -- this is told of the tape of a machine that stands at Start
 pub record TapeTells (limit : ℕ) (s : State) (t : Told) : Type 0 where

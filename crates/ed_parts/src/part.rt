@@ -1,13 +1,13 @@
 //! One part of a tape: its check, its entry and its program.
 ghost use Rattle.std.specs.Prelude.{◌≡◌, ◌≢◌, ◌+◌, ◌-◌, ◌*◌, ◌^◌, ◌≤◌, ◌<◌, List};
 ghost use Rattle.std.specs.Prelude.{ℕ, Option, IfErr, IfOk, MatchResult, length};
-ghost use Rattle.ed_notation.specs.Checks.{Answers};
-ghost use Rattle.ed_notation.specs.Faults.{Entry};
+ghost use Rattle.ed_notation.specs.Checks.{AnswersCheck};
+ghost use Rattle.ed_notation.specs.Faults.{TapeEntry};
 ghost use Rattle.ed_interlude.specs.Returned.{IsReturned};
 ghost use Rattle.ed_io.specs.Bytes.{Gains, GainsPart};
 ghost use Rattle.ed_io.specs.Causes.{Rose};
 ghost use Rattle.ed_parts.specs.Parts.{base_of, note_of, read_before};
-ghost use Rattle.ed_parts.specs.Private.Stages.{IsArrival, Passes, part_of};
+ghost use Rattle.ed_parts.specs.Private.Stages.{IsArrival, Passes, stage_part};
 
 use crate::program::{Met, obey, run_program};
 use crate::tape::{PartsEnd, PartsFault};
@@ -60,7 +60,7 @@ pub(crate) fn run_part<K: Sink>(
     requires rows { stage.rows ≤ 2 ^ 32 }
     requires tape { length machine.old.tape ≤ stage.rows }
     requires back { stage.number ≢ 1 → IsReturned machine.old }
-    ensures passes { Passes stage.limit stage.rows (part_of stage machine.old) result machine.new
+    ensures passes { Passes stage.limit stage.rows (stage_part stage machine.old) result machine.new
         (K.held out.old) (K.held out.new) }
     ensures later { K.faults out.old ≤ K.faults out.new }
     ensures cause { IfErr result (λ e. e ≡ PartsFault.Failed → Rose (K.faults out.old) (K.faults out.new)) }
@@ -89,7 +89,7 @@ pub(crate) fn run_part<K: Sink>(
 fn check_part(alloc: Global, number: u32, machine: &Machine) -> Result<Checked, TapeFault>
     requires rows { length machine.now.tape ≤ 2 ^ 32 }
     requires back { number ≢ 1 → IsReturned machine.now }
-    ensures { Answers machine.now.size machine.now.store.words
+    ensures { AnswersCheck machine.now.size machine.now.store.words
         (note_of (record { number = number; done = 0; state = machine.now }))
         (base_of (record { number = number; done = 0; state = machine.now })) machine.now.tape result }
 {
@@ -110,8 +110,8 @@ fn enter_part<K: Sink>(
     requires limit { stage.limit < 2 ^ 32 }
     requires done { stage.done ≤ stage.limit }
     requires orders { machine.old.orders + (stage.limit - stage.done) ≤ 2 ^ 63 }
-    requires arrival { (e : Entry) × IsArrival stage.rows (part_of stage machine.old) arrival e }
-    ensures passes { Passes stage.limit stage.rows (part_of stage machine.old) result machine.new
+    requires arrival { (e : TapeEntry) × IsArrival stage.rows (stage_part stage machine.old) arrival e }
+    ensures passes { Passes stage.limit stage.rows (stage_part stage machine.old) result machine.new
         (K.held out.old) (K.held out.new) }
     ensures later { K.faults out.old ≤ K.faults out.new }
     ensures cause { IfErr result (λ e. e ≡ PartsFault.Failed → Rose (K.faults out.old) (K.faults out.new)) }

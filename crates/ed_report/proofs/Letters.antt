@@ -5,17 +5,17 @@ use Rattle.ed_words.specs.Words.{function_of}
 use Rattle.ed_machine.specs.State.{State}
 use Rattle.ed_machine.specs.OrderTable.{next_word}
 use Rattle.ed_machine.specs.Steps.{state_after}
-use Rattle.ed_report.specs.Traces.{functions_after, letter_of, letters_from}
+use Rattle.ed_report.specs.Traces.{functions_after, traced_letter, letters_from}
 
 -- one letter more
 pub letters_more : (n : ℕ) (fs : List ℕ) (f : ℕ)
-    → letters_from n (fs ++ f ∷ []) ≡ letters_from n fs ++ letter_of (n + length fs + 1) f
-letters_more n [] f = let e : n + 0 + 1 ≡ n + 1 = omega arith in rw e (append-nil (letter_of (n + 1) f))
+    → letters_from n (fs ++ f ∷ []) ≡ letters_from n fs ++ traced_letter (n + length fs + 1) f
+letters_more n [] f = let e : n + 0 + 1 ≡ n + 1 = omega arith in rw e (append-nil (traced_letter (n + 1) f))
 letters_more n (g ∷ fs) f =
     let e : n + 1 + length fs + 1 ≡ n + length (g ∷ fs) + 1 = omega arith in
-    ap (λ t. letter_of (n + 1) g ++ t)
-    (letters_more (n + 1) fs f ∙ ap (λ k. letters_from (n + 1) fs ++ letter_of k f) e)
-    ∙ sym (append_assoc (letter_of (n + 1) g) (letters_from (n + 1) fs) (letter_of (n + length (g ∷ fs) + 1) f))
+    ap (λ t. traced_letter (n + 1) g ++ t)
+    (letters_more (n + 1) fs f ∙ ap (λ k. letters_from (n + 1) fs ++ traced_letter k f) e)
+    ∙ sym (append_assoc (traced_letter (n + 1) g) (letters_from (n + 1) fs) (traced_letter (n + length (g ∷ fs) + 1) f))
 
 -- the functions of one order more
 pub next_functions : (k : ℕ) (s : State)

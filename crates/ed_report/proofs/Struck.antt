@@ -9,18 +9,18 @@ abbrev pub Strikes : List ℕ → Shift → List ℕ → List ℕ → Shift → 
 Strikes before start codes after left =
     (rest : List ℕ) → before ++ paper_from start (codes ++ rest) ≡ after ++ paper_from left rest
 
-pub one_paper : (before after codes : List ℕ) (start left : Shift) → before ≡ [] → start ≡ Letters
-    → Strikes before start codes after left
+pub one_paper : {before after : List ℕ} {start : Shift} (codes : List ℕ) (left : Shift)
+    → (before ≡ []) × (start ≡ Letters) → Strikes before start codes after left
     → after ≡ paper codes
-one_paper before after codes start left b s strikes =
+one_paper {after = after} codes left begins strikes =
     let whole = strikes [] in
-    sym ((λ i. sym b i ++ paper_from (sym s i) (sym (append-nil codes) i)) ∙ whole ∙ append-nil after)
+    sym ((λ i. sym begins.0 i ++ paper_from (sym begins.1 i) (sym (append-nil codes) i)) ∙ whole ∙ append-nil after)
 
-pub two_papers : (before between after first second : List ℕ) (start middle left : Shift) → before ≡ []
-    → start ≡ Letters
+pub two_papers : {before after : List ℕ} {start : Shift} (between first second : List ℕ) (middle left : Shift)
+    → (before ≡ []) × (start ≡ Letters)
     → Strikes before start first between middle → Strikes between middle second after left
     → after ≡ paper (first ++ second)
-two_papers before between after first second start middle left b s p q =
-    one_paper before after (first ++ second) start left b s
+two_papers {before} {after} {start} between first second middle left begins p q =
+    one_paper (first ++ second) left begins
     (λ rest. ap (λ (codes : List ℕ). before ++ paper_from start codes) (append_assoc first second rest)
     ∙ p (second ++ rest) ∙ q rest)

@@ -22,13 +22,13 @@ line_end true = 10 ∷ []
 line_end false = []
 
 -- the letter or sign of a function, which is the n-th of a trace
-abbrev pub letter_of : ℕ → ℕ → List ℕ
-letter_of n function = byte_of function false ∷ line_end (is_full n)
+abbrev pub traced_letter : ℕ → ℕ → List ℕ
+traced_letter n function = byte_of function false ∷ line_end (is_full n)
 
 -- the letters of functions behind n others
 abbrev pub letters_from : ℕ → List ℕ → List ℕ
 letters_from n [] = []
-letters_from n (f ∷ fs) = letter_of (n + 1) f ++ letters_from (n + 1) fs
+letters_from n (f ∷ fs) = traced_letter (n + 1) f ++ letters_from (n + 1) fs
 
 -- a line feed behind the last of n letters, where its line is not full
 abbrev pub last_end : ℕ → List ℕ

@@ -33,7 +33,8 @@ pub fn papers_text(alloc: Global, first: &[Code], second: &[Code]) -> Result<Vec
 #[inline(never)]
 fn strike_all(printer: &mut Printer, bytes: &mut Vec<u8>, codes: &[Code]) -> Result<(), NoMemory>
     ensures { IfOk result (λ _. (rest : List ℕ) →
-        bytes.old.items ++ paper_from printer.old (codes.now ++ rest) ≡ bytes.new.items ++ paper_from printer.new rest) }
+        bytes.old.items ++ paper_from printer.old (codes.now ++ rest)
+        ≡ bytes.new.items ++ paper_from printer.new rest) }
 {
     for code in codes {
         let struck = printer.strike(*code);

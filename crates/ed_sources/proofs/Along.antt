@@ -6,12 +6,13 @@ use Rattle.ed_words.proofs.SizeLemmas.{least}
 use Rattle.ed_store.specs.Cells.{short_at}
 use Rattle.ed_machine.specs.State.{State}
 use Rattle.ed_notation.specs.Fold.{placed_at}
-use Rattle.ed_library.specs.Routines.{places}
+use Rattle.ed_library.specs.Routines.{place_count}
 use Rattle.ed_syntax.specs.declared.program.Line.{Line}
 use Rattle.ed_loads.specs.EntryState.{entry_state}
 use Rattle.ed_sources.proofs.AtEntry.{all_words, has_image, have_places, image_at, placed, word_at}
-use Rattle.ed_sources.proofs.CalledRoutines.{HasRoutine, IsBeside, Passes}
-use Rattle.ed_sources.proofs.Calling.{IsBefore}
+use Rattle.ed_routines.specs.Standing.{HasWord}
+use Rattle.ed_sources.proofs.CalledRoutines.{IsBeside, Passes}
+use Rattle.ed_sources.proofs.Calling.{HasRoutine, IsBefore}
 
 -- the program is at m with a clear accumulator, and the words beside those from one location to another are as at its
 -- entry
@@ -23,9 +24,9 @@ pub record IsAt (z : Size) (lines : List Line) (t : State) (from to m : ℕ) : T
   pub kept : (i : ℕ) → IsBeside from to i → short_at t.store i ≡ short_at (entry_state z lines).store i
 
 -- as it is at the entry
-pub entered : (z : Size) (lines : List Line) (from to m : ℕ) → (entry_state z lines).counter ≡ m
+pub entered : {z : Size} {lines : List Line} {from to m : ℕ} → (entry_state z lines).counter ≡ m
     → IsAt z lines (entry_state z lines) from to m
-entered z lines from to m counter = record {
+entered {z} {lines} counter = record {
   counter = counter;
   acc = refl;
   all = all_words z lines;
@@ -33,19 +34,19 @@ entered z lines from to m counter = record {
   kept = λ i beside. refl;
 }
 
-module _ (z : Size) (lines : List Line) (fit : have_places (placed lines) ≡ true) (t : State) (from to m : ℕ)
-    (o : IsAt z lines t from to m) where
+module _ {z : Size} {lines : List Line} {t : State} {from to m : ℕ} (o : IsAt z lines t from to m)
+    (fit : have_places (placed lines) ≡ true) where
   -- a word that the source places
   pub word_there : (i w : ℕ) → IsBeside from to i → 44 ≤ i → i < 1024 → unwrap_or (placed_at (placed lines) i) 0 ≡ w
       → short_at t.store i ≡ w
   word_there i w beside low high is = o.kept i beside ∙ word_at z lines fit i low high ∙ is
 
   -- the two orders of a call stand there
-  pub before : (base : ℕ) → m + 3 ≤ from → 44 ≤ m → from ≤ 512 → base < 512
+  pub before : {base : ℕ} → m + 3 ≤ from → 44 ≤ m → from ≤ 512 → base < 512
       → unwrap_or (placed_at (placed lines) m) 0 ≡ 114688 + 2 * m
       → unwrap_or (placed_at (placed lines) (m + 1)) 0 ≡ 110592 + 2 * base
       → IsBefore t m base
-  before base inside low near there first second =
+  before {base} inside low near there first second =
       let size = least z in
       record {
         counter = o.counter;
@@ -58,26 +59,26 @@ module _ (z : Size) (lines : List Line) (fit : have_places (placed lines) ≡ tr
       }
 
   -- a routine stands behind what was changed
-  pub has : (r base : ℕ) (parameters : List ℕ) → has_image (placed lines) r base parameters ≡ true → 56 ≤ base
-      → base + places r ≤ 512
+  pub has : {r base : ℕ} {parameters : List ℕ} → has_image (placed lines) r base parameters ≡ true → 56 ≤ base
+      → base + place_count r ≤ 512
       → 4 ≤ from → to ≤ base → HasRoutine t r base parameters
-  has r base parameters image low high early behind =
+  has {r} {base} {parameters} image low high early behind =
       let size = least z in
       record {
         low = low;
         fits = rw o.size (omega arith);
         at2 = o.kept 2 (inl (omega arith));
         at3 = o.kept 3 (inl (omega arith));
-        image = λ i l. record {
-          has = λ free. o.kept (base + i) (inr (omega arith))
-              ∙ (image_at z lines fit r base parameters image (omega arith) high i l).has free;
-        };
+        image = λ i l.
+            let word : HasWord r parameters base (entry_state z lines) i =
+            image_at z lines fit image (omega arith) high l in
+            record { has = λ free. o.kept (base + i) (inr (omega arith)) ∙ word.has free };
       }
 
   -- it is behind a call that changes no other words
-  pub passed : (k first end : ℕ) (codes : List ℕ) (p : Passes k t codes m first end) → from ≤ first → to ≤ end
+  pub passed : {k first end : ℕ} {codes : List ℕ} (p : Passes k t codes m first end) → from ≤ first → to ≤ end
       → IsAt z lines p.last from end (m + 2)
-  passed k first end codes p low high = record {
+  passed {first = first} {end = end} p low high = record {
     counter = p.counter;
     acc = p.acc;
     all = p.all;

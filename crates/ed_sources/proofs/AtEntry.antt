@@ -13,7 +13,7 @@ use Rattle.ed_notation.specs.Fold.{over, placed_at}
 use Rattle.ed_notation.proofs.Contents.{content_is, length-over}
 use Rattle.ed_initial.specs.Rests.{initial_words}
 use Rattle.ed_library.specs.Images.{image_word}
-use Rattle.ed_library.specs.Routines.{places}
+use Rattle.ed_library.specs.Routines.{place_count}
 use Rattle.ed_syntax.specs.declared.program.Line.{Line}
 use Rattle.ed_link.specs.Linked.{linked}
 use Rattle.ed_loads.specs.EntryState.{entry_state, own_words}
@@ -37,7 +37,7 @@ are_places (p ∷ ps) h = let q = and_parts (nat_lt p.0 1024) (have_places ps) h
 abbrev pub has_image : List (ℕ × ℕ) → ℕ → ℕ → List ℕ → Bool
 has_image ps r base parameters =
     list_all (λ i. nat_eq (unwrap_or (placed_at ps (base + i)) 0) (image_word r i base parameters))
-    (numbers 0 (places r))
+    (numbers 0 (place_count r))
 
 module _ (z : Size) (lines : List Line) where
   abbrev zeros : List ℕ
@@ -67,12 +67,12 @@ module _ (z : Size) (lines : List Line) where
         ∙ content_is zeros (length-replicate {A = ℕ} 1024 0) (placed lines) a (are_places (placed lines) fit)
         ∙ ap (λ x. unwrap_or (placed_at (placed lines) a) x) (get_or-replicate 1024 a 0 0 high)
 
-    pub image_at : (r base : ℕ) (parameters : List ℕ) → has_image (placed lines) r base parameters ≡ true → 44 ≤ base
-        → base + places r ≤ 512 → (i : ℕ) → i < places r → HasWord r parameters base (entry_state z lines) i
-    image_at r base parameters test low high i l = record {
+    pub image_at : {r base i : ℕ} {parameters : List ℕ} → has_image (placed lines) r base parameters ≡ true → 44 ≤ base
+        → base + place_count r ≤ 512 → i < place_count r → HasWord r parameters base (entry_state z lines) i
+    image_at {r} {base} {i} {parameters} test low high l = record {
       has = λ free. word_at (base + i) (omega arith) (omega arith)
           ∙ eq_of (unwrap_or (placed_at (placed lines) (base + i)) 0) (image_word r i base parameters)
           (among (λ i. nat_eq (unwrap_or (placed_at (placed lines) (base + i)) 0) (image_word r i base parameters)) 0
-          (places r) i test
+          (place_count r) i test
           (omega arith) (omega arith));
     }

@@ -13,8 +13,8 @@ use Rattle.ed_paths.proofs.Paths.{Path, leads, on, stay}
 use Rattle.ed_paths.proofs.Places.{any, own}
 use Rattle.ed_paths.proofs.Standing.{Holds, opens}
 use Rattle.ed_paths.proofs.Window.{patched}
-use Rattle.ed_library.specs.Routines.{places}
-use Rattle.ed_routines.specs.Standing.{HasWord, Stands, caller}
+use Rattle.ed_library.specs.Routines.{place_count}
+use Rattle.ed_routines.specs.Standing.{HasWord, IsOutside, Stands, caller}
 
 -- a state before such a call, from m to a base
 pub record IsBefore (s : State) (m base : ℕ) : Type 0 where
@@ -30,7 +30,15 @@ pub record IsBefore (s : State) (m base : ℕ) : Type 0 where
 abbrev pub called : State → ℕ → ℕ → State
 called s m base = record s { acc = short (114688 + 2 * m); counter = base; orders = s.orders + 2 }
 
-module _ (s : State) (m base : ℕ) (o : IsBefore s m base) where
+-- what a store has of a routine at a base
+pub record HasRoutine (s : State) (r base : ℕ) (parameters : List ℕ) : Type 0 where
+  pub low : 56 ≤ base
+  pub fits : base + place_count r ≤ locations s.size
+  pub at2 : short_at s.store 2 ≡ 2
+  pub at3 : short_at s.store 3 ≡ 28676
+  pub image : (i : ℕ) → i < place_count r → HasWord r parameters base s i
+
+module _ {s : State} {m base : ℕ} (o : IsBefore s m base) where
   abbrev f : Frame 3 0
   f = record { size = s.size; base = m; top = locations s.size; under = o.room; fits = omega arith }
 
@@ -108,19 +116,23 @@ module _ (s : State) (m base : ℕ) (o : IsBefore s m base) where
   pub caller_is : caller (called s m base) ≡ m
   caller_is = omega arith
 
+  -- the order to which it returns, and two behind it, are within the store
+  pub back : caller (called s m base) + 3 ≤ locations s.size
+  back = let e = caller_is in let room = o.room in omega arith
+
+  -- a location outside a routine is so when it is called
+  pub outside : {r h : ℕ} → IsOutside r base h s → IsOutside r base h (called s m base)
+  outside out = record { below = out.below; beside = out.beside }
+
   -- a routine whose words are at the base stands there
-  pub stands : (r : ℕ) (parameters : List ℕ) → 56 ≤ base → base + places r ≤ locations s.size → short_at s.store 2 ≡ 2
-      → short_at s.store 3 ≡ 28676 → ((i : ℕ) → i < places r → HasWord r parameters base s i)
+  pub stands : {r : ℕ} {parameters : List ℕ} → HasRoutine s r base parameters
       → Stands r parameters base (called s m base)
-  stands r parameters low fits at2 at3 words = record {
-    low = low;
-    fits = fits;
+  stands has = record {
+    low = has.low;
+    fits = has.fits;
     counter = refl;
-    at2 = at2;
-    at3 = at3;
-    image = λ i l. record { has = (words i l).has };
-    call = record {
-      acc = ap (λ x. (114688 + 2 * x) * 2 ^ 54) (sym caller_is);
-      room = let e = caller_is in let room = o.room in omega arith;
-    };
+    at2 = has.at2;
+    at3 = has.at3;
+    image = λ i l. record { has = (has.image i l).has };
+    call = record { acc = ap (λ x. (114688 + 2 * x) * 2 ^ 54) (sym caller_is); room = back };
   }

@@ -8,7 +8,7 @@ use Rattle.ed_words.specs.Texts.{Text}
 use Rattle.ed_syntax.specs.Sources.{is_line_byte, program_of}
 use Rattle.ed_sources.specs.Accepted.{EachCallIsAccepted, IsDivisible}
 use Rattle.ed_sources.specs.Calls.{divide_source, newline_source, print_source}
-use Rattle.ed_sources.specs.Calls.{read_source, root_source, text_of, check_source}
+use Rattle.ed_sources.specs.Calls.{read_source, root_source, text_of_lines, check_source}
 use Rattle.ed_routines.specs.Digits.{digits}
 use Rattle.ed_sources.proofs.Decimals.{are, decimal_is, line_bytes}
 use Rattle.ed_sources.proofs.Faultless.{divide_faultless, newline_faultless, print_faultless}
@@ -44,19 +44,20 @@ check_plain n small = rw (decimal_plain n small) refl
 
 -- ---- what the sources are read as
 
-pub print_read : (n : ℕ) → n < 65536 → program_of (text_of (print_source n)) ≡ Ok (print_lines n)
+pub print_read : (n : ℕ) → n < 65536 → program_of (text_of_lines (print_source n)) ≡ Ok (print_lines n)
 print_read n small =
     program_is (print_source n) (print_lines n) (print_plain n small) refl (said_lines (print_says n small) (lit≤ tt))
 
-pub read_read : (n : ℕ) → n < 65536 → program_of (text_of (read_source n)) ≡ Ok (read_lines n)
+pub read_read : (n : ℕ) → n < 65536 → program_of (text_of_lines (read_source n)) ≡ Ok (read_lines n)
 read_read n small = program_is (read_source n) (read_lines n) (read_plain n small) refl
     (said_lines (read_says n small) (lit≤ tt))
 
-pub newline_read : program_of (text_of newline_source) ≡ Ok newline_lines
+pub newline_read : program_of (text_of_lines newline_source) ≡ Ok newline_lines
 newline_read = program_is newline_source newline_lines refl refl (said_lines newline_says (lit≤ tt))
 
 pub divide_read : (n by : ℕ) → IsDivisible n by
-    → program_of (text_of (divide_source (n / 65536) (n % 65536) by)) ≡ Ok (divide_lines (n / 65536) (n % 65536) by)
+    → program_of (text_of_lines (divide_source (n / 65536) (n % 65536) by)) ≡ Ok
+    (divide_lines (n / 65536) (n % 65536) by)
 divide_read n by made =
     let less = made.less in
     let few = made.divisor in
@@ -67,11 +68,11 @@ divide_read n by made =
     (divide_plain (n / 65536) (n % 65536) by high low small) refl
     (said_lines (divide_says (n / 65536) (n % 65536) by high low small) (lit≤ tt))
 
-pub root_read : (n : ℕ) → n < 65536 → program_of (text_of (root_source n)) ≡ Ok (root_lines n)
+pub root_read : (n : ℕ) → n < 65536 → program_of (text_of_lines (root_source n)) ≡ Ok (root_lines n)
 root_read n small = program_is (root_source n) (root_lines n) (root_plain n small) refl
     (said_lines (root_says n small) (lit≤ tt))
 
-pub check_read : (n : ℕ) → n < 65536 → program_of (text_of (check_source n)) ≡ Ok (check_lines n)
+pub check_read : (n : ℕ) → n < 65536 → program_of (text_of_lines (check_source n)) ≡ Ok (check_lines n)
 check_read n small =
     program_is (check_source n) (check_lines n) (check_plain n small) refl (said_lines (check_says n small) (lit≤ tt))
 

@@ -25,30 +25,27 @@ use Rattle.ed_initial.specs.Rests.{initial_words}
 use Rattle.ed_library.specs.Images.{image_word, parameter_store}
 use Rattle.ed_library.specs.Routines.{is_working}
 use Rattle.ed_loads.specs.EntryState.{entry_state, own_words}
-use Rattle.ed_paths.proofs.Leads.{Leads}
+use Rattle.ed_loads.proofs.Entries.{all_fit}
+use Rattle.ed_machine.proofs.Steps.{after_sum}
+use Rattle.ed_paths.proofs.Leads.{Leads, free, no_stops}
 use Rattle.ed_routines.specs.Catalogue.{print, with_h}
 use Rattle.ed_routines.specs.Digits.{digits, print_orders}
-use Rattle.ed_routines.specs.Standing.{IsOutside, Stands}
-use Rattle.ed_routines.proofs.Called.{IsWithin}
-use Rattle.ed_routines.proofs.Runs.{free, no_stops}
+use Rattle.ed_routines.specs.Standing.{IsOutside, Stands, caller}
+use Rattle.ed_routines.proofs.Called.{IsCalled}
 use Rattle.ed_routines.proofs.PrintCall as print_call
 use Rattle.ed_checker.specs.Checker.{HasImage, IsAllowed, IsAllowedOrder, check, guest}
 use Rattle.ed_checker.specs.Laws.{ChecksToStop, HasGuest, IsFollowed}
 use Rattle.ed_checker.proofs.Follow.{checker_law}
 use Rattle.ed_checker.proofs.Guests.{allowed_below, size_after}
-use Rattle.ed_sources.proofs.AtEntry.{all_words, has_image, image_at, placed, word_at}
+use Rattle.ed_sources.proofs.Along.{IsAt, before, has}
+use Rattle.ed_sources.proofs.AtEntry.{all_words, has_image, placed, word_at}
 use Rattle.ed_sources.proofs.CalledRoutines.{stop_at}
-use Rattle.ed_sources.proofs.Calling.{IsBefore, called, caller_is, calls, stands}
+use Rattle.ed_sources.proofs.Calling.{HasRoutine, IsBefore, called, caller_is, calls, stands}
 use Rattle.ed_sources.proofs.Decimals.{among, numbers}
 use Rattle.ed_sources.proofs.Said.{check_lines}
-use Rattle.ed_sources.proofs.Stops.{joined, state_behind}
+use Rattle.ed_sources.proofs.Stops.{joined}
 
 -- ---- the words of a store at an entry
-
-all_fit : (ws : List ℕ) → list_all (λ w. nat_lt w (2 ^ 17)) ws ≡ true → (i : ℕ) → get_or ws i 0 < 2 ^ 17
-all_fit [] h i = lit< tt
-all_fit (w ∷ ws) h zero = lt_of w (2 ^ 17) (and_parts _ _ h).0
-all_fit (w ∷ ws) h (suc i) = all_fit ws (and_parts (nat_lt w (2 ^ 17)) _ h).1 i
 
 set_fits : (ws : List ℕ) (p v i : ℕ) → ((j : ℕ) → get_or ws j 0 < 2 ^ 17) → v < 2 ^ 17
     → get_or (set ws p v) i 0 < 2 ^ 17
@@ -181,18 +178,17 @@ module _ (z : Size) (n : ℕ) (small : n < 65536) where
   acc_is : g.acc ≡ 0
   acc_is = rw (no_high, no_middle, no_low) refl
 
-  before : IsBefore g 56 60
-  before =
-      let size = least z in
-      record {
-        counter = counter_is;
-        acc = acc_is;
-        first = word 56 (lit≤ tt) (lit< tt);
-        second = word 57 (lit≤ tt) (lit< tt);
-        all = all_words z (check_lines n);
-        room = omega arith;
-        there = omega arith;
-      }
+  at : IsAt z (check_lines n) g 59 60 56
+  at = record {
+    counter = counter_is;
+    acc = acc_is;
+    all = all_words z (check_lines n);
+    size = refl;
+    kept = λ i beside. refl;
+  }
+
+  before_print : IsBefore g 56 60
+  before_print = before at refl (lit≤ tt) (lit≤ tt) (lit≤ tt) (lit< tt) refl refl
 
   print_image : has_image (placed (check_lines n)) print 60 (with_h 59) ≡ true
   unfolding parameter_store
@@ -201,22 +197,11 @@ module _ (z : Size) (n : ℕ) (small : n < 65536) where
   abbrev t : State
   t = called g 56 60
 
-  there : Stands print (with_h 59) 60 t
-  there =
-      let size = least z in
-      stands g 56 60 before print (with_h 59) (lit≤ tt) (omega arith) refl refl (λ i l. record {
-        has = (image_at z (check_lines n) refl print 60 (with_h 59) print_image (lit≤ tt) (lit≤ tt) i l).has;
-      })
+  has_print : HasRoutine g print 60 (with_h 59)
+  has_print = has at refl print_image (lit≤ tt) (lit≤ tt) (lit≤ tt) (lit≤ tt)
 
-  within_routine : IsWithin 51 60 59 112 t
-  within_routine =
-      let size = least z in
-      record {
-        under = lit≤ tt;
-        near = lit< tt;
-        back = let e = caller_is g 56 60 before in omega arith;
-        fits = omega arith;
-      }
+  there : Stands print (with_h 59) 60 t
+  there = stands before_print has_print
 
   outside : IsOutside print 60 59 t
   outside = let size = least z in record { below = omega arith; beside = inl (lit< tt) }
@@ -230,20 +215,31 @@ module _ (z : Size) (n : ℕ) (small : n < 65536) where
   abbrev count : ℕ
   count = print_orders (short_at t.store 59)
 
+  printing : IsCalled print (with_h 59) 60 59 112 t
+  printing =
+      let size = least z in
+      let back : caller t + 3 ≤ 112 = let e = caller_is before_print in omega arith in
+      record {
+        all = all_words z (check_lines n);
+        stands = there;
+        outside = outside;
+        within = record { under = lit≤ tt; near = lit< tt; back = back; fits = omega arith };
+      }
+
   abbrev end : State
-  end = print_call.last 60 59 112 t (all_words z (check_lines n)) there outside within_routine low
+  end = print_call.last printing low
 
   leads : Leads (2 + count) g ([] ++ (11 ∷ digits (short_at t.store 59))) end
-  leads = joined (calls g 56 60 before)
-      (print_call.leads_to 60 59 112 t (all_words z (check_lines n)) there outside within_routine low)
+  leads = joined (calls before_print)
+      (print_call.leads_to printing low)
 
   end_counter : end.counter ≡ 58
-  end_counter = ap (λ x. x + 2) (caller_is g 56 60 before)
+  end_counter = ap (λ x. x + 2) (caller_is before_print)
 
   end_word : next_word end ≡ 53248
   end_word =
       ap (λ x. get_or end.store.words x 0) end_counter
-      ∙ (print_call.keeps 60 59 112 t (all_words z (check_lines n)) there outside within_routine low end refl).words
+      ∙ (print_call.keeps printing low end refl).words
       58 (record { other = inl (lit< tt) })
       ∙ word 58 (lit≤ tt) (lit< tt)
 
@@ -289,13 +285,12 @@ module _ (z : Size) (n : ℕ) (small : n < 65536) where
       }
 
   third : state_after 2 g ≡ t
-  third = (calls g 56 60 before).state_is
+  third = (calls before_print).state_is
 
   of_print : (i : ℕ) → i < count → IsAllowed 112 (state_after i t)
   of_print i l =
       let size = least z in
-      print_call.keeps_below 60 59 112 t (all_words z (check_lines n)) there outside within_routine low
-      (λ x. x.size ≡ z → IsAllowed 112 x)
+      print_call.keeps_below printing low (λ x. x.size ≡ z → IsAllowed 112 x)
       (λ kind x o same. allowed_below 112 refl kind x o (rw same (omega arith))) i l (size_after i t)
 
   no_orders : state_after 0 g ≡ g
@@ -307,7 +302,7 @@ module _ (z : Size) (n : ℕ) (small : n < 65536) where
   each (suc zero) l = subst (IsAllowed 112) (sym second_is) second_allowed
   each (suc (suc i)) l =
       let e : suc (suc i) ≡ 2 + i = omega arith in
-      subst (IsAllowed 112) (sym (ap (λ x. state_after x g) e ∙ state_behind i 2 g ∙ ap (state_after i) third))
+      subst (IsAllowed 112) (sym (ap (λ x. state_after x g) e ∙ after_sum 2 i g ∙ ap (state_after i) third))
       (of_print i (omega arith))
 
   followed : IsFollowed 112 (2 + count) g

@@ -8,7 +8,8 @@ use Rattle.std.proofs.lemmas.List.Folds.{list_all-append}
 use Rattle.ed_sources.proofs.Decimals.{both}
 use Rattle.ed_syntax.specs.Sources.{is_line_byte, program_of}
 use Rattle.ed_sources.specs.Accepted.{EachDemoIsAccepted}
-use Rattle.ed_sources.specs.Demo.{adding, behind, demo_source, demo_text, next, segments, word_lines, word_of}
+use Rattle.ed_sources.specs.Demo.{adding, number_behind, demo_source, demo_text, next, segments, word_lines}
+use Rattle.ed_sources.specs.Demo.{number_word}
 use Rattle.ed_sources.proofs.CallsAccepted.{decimal_plain}
 use Rattle.ed_sources.proofs.DemoFaultless.{demo_faultless}
 use Rattle.ed_sources.proofs.SaidDemo.{demo_lines, demo_says}
@@ -19,7 +20,7 @@ use Rattle.ed_sources.proofs.TextLines.{program_is, said_lines}
 words_plain : (n x : ℕ) → list_all (list_all is_line_byte) (word_lines n x) ≡ true
 words_plain zero x = refl
 words_plain (suc n) x =
-    let number = decimal_plain (word_of (next x)) (omega arith) in
+    let number = decimal_plain (number_word (next x)) (omega arith) in
     let rest = words_plain n (next x) in
     rw (number, rest) refl
 
@@ -27,9 +28,9 @@ segments_plain : (n k x : ℕ) → k + n ≤ 65536 → list_all (list_all is_lin
 segments_plain zero k x few = refl
 segments_plain (suc n) k x few =
     let number = decimal_plain k (omega arith) in
-    let rest : list_all (list_all is_line_byte) (word_lines 8 x ++ segments n (k + 1) (behind 8 x)) ≡ true =
-    list_all-append (list_all is_line_byte) (word_lines 8 x) (segments n (k + 1) (behind 8 x))
-    ∙ both _ _ (words_plain 8 x) (segments_plain n (k + 1) (behind 8 x) (omega arith)) in
+    let rest : list_all (list_all is_line_byte) (word_lines 8 x ++ segments n (k + 1) (number_behind 8 x)) ≡ true =
+    list_all-append (list_all is_line_byte) (word_lines 8 x) (segments n (k + 1) (number_behind 8 x))
+    ∙ both _ _ (words_plain 8 x) (segments_plain n (k + 1) (number_behind 8 x) (omega arith)) in
     rw (number, rest) refl
 
 adding_plain : (words : ℕ) → words < 65536 → list_all (list_all is_line_byte) (adding words) ≡ true
@@ -55,8 +56,8 @@ segments_count : (n k x : ℕ) → length (segments n k x) ≡ 9 * n
 segments_count zero k x = refl
 segments_count (suc n) k x =
     let words = words_count 8 x in
-    let rest = segments_count n (k + 1) (behind 8 x) in
-    omega (arith, words, rest, length-append (word_lines 8 x) (segments n (k + 1) (behind 8 x)))
+    let rest = segments_count n (k + 1) (number_behind 8 x) in
+    omega (arith, words, rest, length-append (word_lines 8 x) (segments n (k + 1) (number_behind 8 x)))
 
 -- ---- what the source is read as
 

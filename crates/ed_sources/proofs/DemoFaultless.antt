@@ -20,9 +20,9 @@ use Rattle.ed_symbols.specs.declared.homes.Home.{Home}
 use Rattle.ed_symbols.specs.Faults.{or_later, resolved}
 use Rattle.ed_symbols.specs.Names.{homes_from}
 use Rattle.ed_symbols.specs.Places.{first_spot}
-use Rattle.ed_link.specs.Faults.{Past, any_enter, cause_of, fault, fault_from, meets, missing, sooner}
+use Rattle.ed_link.specs.Faults.{LinesBefore, any_enter, cause_of, fault, fault_from, meets, missing, sooner}
 use Rattle.ed_link.specs.Linked.{homes_of}
-use Rattle.ed_sources.specs.Demo.{behind, next, word_of}
+use Rattle.ed_sources.specs.Demo.{number_behind, next, number_word}
 use Rattle.ed_sources.proofs.Decimals.{decimal_is}
 use Rattle.ed_sources.proofs.DemoNames.{enter_named, first_free, first_homes, program_named, segments_named}
 use Rattle.ed_sources.proofs.DemoNames.{words_named}
@@ -73,7 +73,7 @@ abbrev spot : ℕ → ℕ → ℕ → Spot
 spot place base segments = record { place = place; base = base; segments = segments; inside = true }
 
 -- lines before any `enter`
-abbrev past : List (ℕ × ℕ) → Past
+abbrev past : List (ℕ × ℕ) → LinesBefore
 past runs = record { runs = runs; entered = false }
 
 -- the places of so many lines of one word
@@ -87,13 +87,23 @@ first_runs = (56, 56) ∷ one_by_one 16 56 ++ (72, 123) ∷ (123, 123) ∷ []
 
 -- ---- no line has one of the faults S9 to S17
 
+-- the lines behind those of the program and of the first segment's line, where n segments more follow
+abbrev lines_behind : ℕ → ℕ → ℕ → List Line
+lines_behind n x l = word_forms 8 20 x ++ segment_forms n 2 28 (number_behind 8 x) ++ enter_line l ∷ []
+
+-- none of the lines from a spot on has one, where the lines before them have these places
+record AreSound (z : Size) (homes : List Home) (runs : List (ℕ × ℕ)) (s : Spot) (lines : List Line) : Type 0 where
+  none : fault_from z homes true (past runs) s lines ≡ None
+
 module _ (z : Size) (rest_homes : List Home) where
   abbrev homes : List Home
   homes = first_homes ++ rest_homes
 
-  word_sound : (l w p b g : ℕ) (runs : List (ℕ × ℕ)) → 56 ≤ p → p + 1 ≤ locations z → are_below p runs ≡ true
+  word_sound : (l w p b g : ℕ) (runs : List (ℕ × ℕ)) → (56 ≤ p) × (p + 1 ≤ locations z) → are_below p runs ≡ true
       → cause_of z homes true (past runs) (said l None (statements.Number w)) (spot p b g) ≡ None
-  word_sound l w p b g runs low fits below =
+  word_sound l w p b g runs inside below =
+      let low = inside.0 in
+      let fits = inside.1 in
       let loader : nat_lt (max p 0) (min (p + 1) 44) ≡ false = lt_false (max p 0) (min (p + 1) 44) (omega arith) in
       let parameters : nat_lt (max p 44) (min (p + 1) 56) ≡ false =
       lt_false (max p 44) (min (p + 1) 56) (omega arith) in
@@ -112,47 +122,53 @@ module _ (z : Size) (rest_homes : List Home) where
       let others = apart p p runs below in
       rw (loader, parameters, store, others) refl
 
-  words_sound : (n l x p b g : ℕ) (runs : List (ℕ × ℕ)) (rest : List Line) → 56 ≤ p → p + n ≤ locations z
+  words_sound : (n l x : ℕ) {p b g : ℕ} {runs : List (ℕ × ℕ)} {rest : List Line} → 56 ≤ p → p + n ≤ locations z
       → are_below p runs ≡ true
-      → ((more : List (ℕ × ℕ)) → are_below (p + n) more ≡ true
-      → fault_from z homes true (past more) (spot (p + n) b g) rest ≡ None)
-      → fault_from z homes true (past runs) (spot p b g) (word_forms n l x ++ rest) ≡ None
-  words_sound zero l x p b g runs rest low fits below behind_them =
+      → ((more : List (ℕ × ℕ)) → are_below (p + n) more ≡ true → AreSound z homes more (spot (p + n) b g) rest)
+      → AreSound z homes runs (spot p b g) (word_forms n l x ++ rest)
+  words_sound zero l x {p} {b} {g} {runs} {rest} low fits below behind =
       let e : p + 0 ≡ p = omega arith in
-      subst (λ q. fault_from z homes true (past runs) (spot q b g) rest ≡ None) e
-      (behind_them runs (subst (λ q. are_below q runs ≡ true) (sym e) below))
-  words_sound (suc n) l x p b g runs rest low fits below behind_them =
+      subst (λ q. AreSound z homes runs (spot q b g) rest) e
+      (behind runs (subst (λ q. are_below q runs ≡ true) (sym e) below))
+  words_sound (suc n) l x {p} {b} {g} {runs} {rest} low fits below behind =
       let e : p + suc n ≡ p + 1 + n = omega arith in
-      none_later l _ _ (word_sound l (word_of (next x)) p b g runs low (omega arith) below)
-      (words_sound n (l + 1) (next x) (p + 1) b g (runs ++ (p, p + 1) ∷ []) rest (omega arith) (omega arith)
-      (one_more p p (p + 1) runs (omega arith) below)
-      (λ more under. subst (λ q. fault_from z homes true (past more) (spot q b g) rest ≡ None) e
-      (behind_them more (subst (λ q. are_below q more ≡ true) (sym e) under))))
+      let more : AreSound z homes (runs ++ (p, p + 1) ∷ []) (spot (p + 1) b g) (word_forms n (l + 1) (next x) ++ rest) =
+      words_sound n (l + 1) (next x) (omega arith) (omega arith) (one_more p p (p + 1) runs (omega arith) below)
+      (λ more under. subst (λ q. AreSound z homes more (spot q b g) rest) e
+      (behind more (subst (λ q. are_below q more ≡ true) (sym e) under))) in
+      record {
+        none = none_later l _ _ (word_sound l (number_word (next x)) p b g runs (low, omega arith) below) more.none;
+      }
 
-  segments_sound : (n k l x p b g : ℕ) (runs : List (ℕ × ℕ)) (rest : List Line) → 56 ≤ p → p + 8 * n ≤ locations z
-      → are_below p runs ≡ true
-      → ((more : List (ℕ × ℕ)) (q c h : ℕ) → are_below q more ≡ true
-      → fault_from z homes true (past more) (spot q c h) rest ≡ None)
-      → fault_from z homes true (past runs) (spot p b g) (segment_forms n k l x ++ rest) ≡ None
-  segments_sound zero k l x p b g runs rest low fits below behind_them = behind_them runs p b g below
-  segments_sound (suc n) k l x p b g runs rest low fits below behind_them =
-      none_later l _ _ (segment_sound l p b g (name k) runs below)
-      (words_sound 8 (l + 1) x p p (g + 1) (runs ++ (p, p) ∷ [])
-      (segment_forms n (k + 1) (l + 9) (behind 8 x) ++ rest) low (omega arith)
-      (one_more p p p runs (omega arith) below)
-      (λ more under. segments_sound n (k + 1) (l + 9) (behind 8 x) (p + 8) p (g + 1) more rest (omega arith)
-      (omega arith) under behind_them))
+  segments_sound : (n k l x : ℕ) {p b g : ℕ} {runs : List (ℕ × ℕ)} {rest : List Line} → 56 ≤ p
+      → p + 8 * n ≤ locations z → are_below p runs ≡ true
+      → ((more : List (ℕ × ℕ)) (q c h : ℕ) → are_below q more ≡ true → AreSound z homes more (spot q c h) rest)
+      → AreSound z homes runs (spot p b g) (segment_forms n k l x ++ rest)
+  segments_sound zero k l x {p} {b} {g} {runs} low fits below behind = behind runs p b g below
+  segments_sound (suc n) k l x {p} {b} {g} {runs} {rest} low fits below behind =
+      let more : AreSound z homes (runs ++ (p, p) ∷ []) (spot p p (g + 1))
+      (word_forms 8 (l + 1) x ++ segment_forms n (k + 1) (l + 9) (number_behind 8 x) ++ rest) =
+      words_sound 8 (l + 1) x low (omega arith) (one_more p p p runs (omega arith) below)
+      (λ more under. segments_sound n (k + 1) (l + 9) (number_behind 8 x) (omega arith) (omega arith) under behind) in
+      record { none = none_later l _ _ (segment_sound l p b g (name k) runs below) more.none }
 
   enter_sound : (l q b g : ℕ) (runs : List (ℕ × ℕ)) → are_below q runs ≡ true
-      → fault_from z homes true (past runs) (spot q b g) (enter_line l ∷ []) ≡ None
+      → AreSound z homes runs (spot q b g) (enter_line l ∷ [])
   enter_sound l q b g runs below =
       let store : nat_lt (max 56 (locations z)) (min 57 57) ≡ false = within z in
       let others = apart q q runs below in
-      rw (store, others) refl
+      record { none = rw (store, others) refl }
     where
       within : (z : Size) → nat_lt (max 56 (locations z)) (min 57 57) ≡ false
       within Small = refl
       within Full = refl
+
+  behind_sound : (n x l : ℕ) → 131 + 8 * n ≤ locations z
+      → AreSound z homes first_runs (spot 123 123 3) (lines_behind n x l)
+  behind_sound n x l fits =
+      words_sound 8 20 x (omega arith) (omega (arith, fits)) refl
+      (λ more under. segments_sound n 2 28 (number_behind 8 x) (omega arith) fits under
+      (λ runs q c h below. enter_sound l q c h runs below))
 
 program_sound : (z : Size) (rest_homes : List Home) (words : ℕ) (rest : List Line)
     → fault_from z (first_homes ++ rest_homes) true (past first_runs) (spot 123 123 3) rest ≡ None
@@ -165,11 +181,7 @@ program_sound Full rest_homes words rest behind_it = behind_it
 
 segments_enter : (n k l x : ℕ) (rest : List Line) → any_enter (segment_forms n k l x ++ rest) ≡ any_enter rest
 segments_enter zero k l x rest = refl
-segments_enter (suc n) k l x rest = segments_enter n (k + 1) (l + 9) (behind 8 x) rest
-
--- the lines behind those of the program and of the first segment's line, where n segments more follow
-abbrev lines_behind : ℕ → ℕ → ℕ → List Line
-lines_behind n x l = word_forms 8 20 x ++ segment_forms n 2 28 (behind 8 x) ++ enter_line l ∷ []
+segments_enter (suc n) k l x rest = segments_enter n (k + 1) (l + 9) (number_behind 8 x) rest
 
 abbrev lines_with : Text → ℕ → ℕ → ℕ → ℕ → List Line
 lines_with first words n x l = adding_lines words ++ segment_line 19 first ∷ lines_behind n x l
@@ -183,24 +195,17 @@ module _ (z : Size) (words n x l : ℕ) (few : n ≤ 111) (near : words ≤ 900)
 
   named : (resolved lines).fault ≡ None
   named =
-      program_named rest_homes words (lines_behind n x l) near
-      (words_named rest_homes 8 20 x first_homes (spot 123 123 3)
-      (segment_forms n 2 28 (behind 8 x) ++ enter_line l ∷ [])
-      (λ t. segments_named rest_homes n 2 28 (behind 8 x) first_homes t (enter_line l ∷ [])
-      (omega (arith, few)) first_free
-      (λ e s. enter_named rest_homes l e s)))
+      program_named rest_homes words near
+      (words_named rest_homes 8 20 x
+      (λ t. segments_named rest_homes n 2 28 (number_behind 8 x) (omega (arith, few)) first_free
+      (λ e s. enter_named rest_homes l)))
 
   sound : fault_from z (homes_of lines) true (past []) first_spot lines ≡ None
-  sound =
-      program_sound z rest_homes words (lines_behind n x l)
-      (words_sound z rest_homes 8 20 x 123 123 3 first_runs (segment_forms n 2 28 (behind 8 x) ++ enter_line l ∷ [])
-      (omega arith) (omega (arith, fits)) refl
-      (λ more under. segments_sound z rest_homes n 2 28 (behind 8 x) 131 123 3 more (enter_line l ∷ [])
-      (omega arith) fits under
-      (λ runs q c h below. enter_sound z rest_homes l q c h runs below)))
+  sound = program_sound z rest_homes words (lines_behind n x l)
+      (behind_sound z rest_homes n x l fits).none
 
   entered : any_enter lines ≡ true
-  entered = segments_enter n 2 28 (behind 8 x) (enter_line l ∷ [])
+  entered = segments_enter n 2 28 (number_behind 8 x) (enter_line l ∷ [])
 
   pub lines_faultless : fault z lines ≡ None
   lines_faultless =

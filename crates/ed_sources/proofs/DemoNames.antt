@@ -1,12 +1,12 @@
 -- The names that the source of `demo` defines are different, and each operand has a place.
-use Rattle.std.proofs.Common.{◌≡◌, ◌≢◌, ◌∙◌, ℕ, zero, suc, ◌+◌, ◌<◌, ◌≤◌, Bool, true, false, true≢false, List}
+use Rattle.std.proofs.Common.{◌≡◌, ◌≢◌, ◌∙◌, ℕ, zero, suc, ◌+◌, ◌<◌, ◌≤◌, Bool, true, false, List}
 use Rattle.std.proofs.Common.{[], ◌∷◌, ◌++◌}
 use Rattle.std.proofs.Common.{refl, sym, ap, subst, arith, append-nil, codes, nat_lt}
 use Rattle.std.specs.Prelude.{not, Option, Some, None}
 use Rattle.std.specs.Fmt.{decimal}
 use Rattle.std.specs.List.{list_all}
 use Rattle.std.specs.Str.{bytes_eq}
-use Rattle.std.proofs.lemmas.Bool.{and_parts}
+use Rattle.std.proofs.lemmas.Bool.{and_parts, not-true}
 use Rattle.std.proofs.lemmas.List.Folds.{list_all-append}
 use Rattle.std.proofs.lemmas.Slice.Eq.{bytes_eq-Decides}
 use Rattle.ed_words.proofs.Numbers.{lt_false}
@@ -15,11 +15,11 @@ use Rattle.ed_words.specs.Decimals.{value}
 use Rattle.ed_syntax.specs.declared.program.Line.{Line}
 use Rattle.ed_symbols.specs.declared.spots.Spot.{Spot}
 use Rattle.ed_symbols.specs.declared.homes.Home.{Home}
-use Rattle.ed_symbols.specs.Faults.{fault_from}
+use Rattle.ed_symbols.specs.Faults.{naming_fault_from}
 use Rattle.ed_symbols.specs.Names.{home_of}
 use Rattle.ed_symbols.specs.Places.{first_spot}
 use Rattle.ed_routines.specs.Digits.{digits}
-use Rattle.ed_sources.specs.Demo.{behind, next}
+use Rattle.ed_sources.specs.Demo.{number_behind, next}
 use Rattle.ed_sources.proofs.Decimals.{among, decimal_is, value_is, written}
 use Rattle.ed_sources.proofs.SaidDemo.{adding_lines, enter_line, name, segment_forms, segment_line, word_forms}
 
@@ -28,15 +28,11 @@ use Rattle.ed_sources.proofs.SaidDemo.{adding_lines, enter_line, name, segment_f
 abbrev pub has_none : Text → List Home → Bool
 has_none n homes = list_all (λ h. not (bytes_eq h.name n)) homes
 
-not_true : (t : Bool) → not t ≡ true → t ≡ false
-not_true false e = refl
-not_true true e = absurd (true≢false (sym e))
-
 no_home : (segment : Option ℕ) (n : Text) (homes : List Home) → has_none n homes ≡ true → home_of segment n homes ≡ None
 no_home segment n [] e = refl
 no_home segment n (h ∷ homes) e =
     let p = and_parts (not (bytes_eq h.name n)) (has_none n homes) e in
-    let other : bytes_eq h.name n ≡ false = not_true (bytes_eq h.name n) p.0 in
+    let other : bytes_eq h.name n ≡ false = not-true (bytes_eq h.name n) p.0 in
     rw other (no_home segment n homes p.1)
 
 -- ---- the names of segments
@@ -88,7 +84,7 @@ first_free j low high =
 
 more_free : (k : ℕ) (homes : List Home) (h : Home) → h.name ≡ name k → k ≤ 112 → IsFree k homes
     → IsFree (k + 1) (homes ++ h ∷ [])
-more_free k homes h is few free j low high =
+more_free k homes h is few free = λ j low high.
     let before : has_none (name j) homes ≡ true = free j (omega arith) high in
     let other : bytes_eq h.name (name j) ≡ false =
     ap (λ (n : Text). bytes_eq n (name j)) is ∙ names_differ k j (omega arith) (omega arith) (omega arith) in
@@ -96,44 +92,51 @@ more_free k homes h is few free j low high =
 
 -- ---- no line has one of the faults S6 to S8
 
+-- no line from a spot on has one of them
+pub record AreNamed (homes earlier : List Home) (s : Spot) (lines : List Line) : Type 0 where
+  pub none : naming_fault_from homes earlier s lines ≡ None
+
 module _ (rest_homes : List Home) where
   abbrev homes : List Home
   homes = first_homes ++ rest_homes
 
-  pub words_named : (n l x : ℕ) (earlier : List Home) (s : Spot) (rest : List Line)
-      → ((t : Spot) → fault_from homes earlier t rest ≡ None)
-      → fault_from homes earlier s (word_forms n l x ++ rest) ≡ None
-  words_named zero l x earlier s rest behind = behind s
-  words_named (suc n) l x earlier s rest behind =
-      subst (λ (e : List Home). fault_from homes e (record s { place = s.place + 1 })
-      (word_forms n (l + 1) (next x) ++ rest) ≡ None)
-      (sym (append-nil earlier)) (words_named n (l + 1) (next x) earlier (record s { place = s.place + 1 }) rest behind)
+  pub words_named : (n l x : ℕ) {earlier : List Home} {s : Spot} {rest : List Line}
+      → ((t : Spot) → AreNamed homes earlier t rest) → AreNamed homes earlier s (word_forms n l x ++ rest)
+  words_named zero l x {s = s} behind = behind s
+  words_named (suc n) l x {earlier} {s} {rest} behind = record {
+    none =
+        let next_spot : Spot = record s { place = s.place + 1 } in
+        let more : AreNamed homes earlier next_spot (word_forms n (l + 1) (next x) ++ rest) =
+        words_named n (l + 1) (next x) behind in
+        subst (λ (e : List Home). naming_fault_from homes e next_spot (word_forms n (l + 1) (next x) ++ rest) ≡ None)
+        (sym (append-nil earlier)) more.none;
+  }
 
-  pub segments_named : (n k l x : ℕ) (earlier : List Home) (s : Spot) (rest : List Line) → k + n ≤ 113
-      → IsFree k earlier
-      → ((e : List Home) (t : Spot) → fault_from homes e t rest ≡ None)
-      → fault_from homes earlier s (segment_forms n k l x ++ rest) ≡ None
-  segments_named zero k l x earlier s rest few free behind_them = behind_them earlier s
-  segments_named (suc n) k l x earlier s rest few free behind_them =
+  pub segments_named : (n k l x : ℕ) {earlier : List Home} {s : Spot} {rest : List Line} → k + n ≤ 113
+      → IsFree k earlier → ((e : List Home) (t : Spot) → AreNamed homes e t rest)
+      → AreNamed homes earlier s (segment_forms n k l x ++ rest)
+  segments_named zero k l x {earlier} {s} few free behind = behind earlier s
+  segments_named (suc n) k l x {earlier} {s} {rest} few free behind =
       let own : Home = record { name = name k; place = s.place; segment = Some (s.segments + 1) } in
-      let more = more_free k earlier own refl (omega arith) free in
+      let free_more = more_free k earlier own refl (omega arith) free in
       let none : home_of (Some (s.segments + 1)) (name k) earlier ≡ None =
       no_home (Some (s.segments + 1)) (name k) earlier (free k (omega arith) (omega arith)) in
-      let nil = append-nil earlier in
       let new : home_of (Some (s.segments + 1)) (name k) (earlier ++ []) ≡ None =
-      ap (home_of (Some (s.segments + 1)) (name k)) nil ∙ none in
-      rw new (words_named 8 (l + 1) x (earlier ++ own ∷ [])
+      ap (home_of (Some (s.segments + 1)) (name k)) (append-nil earlier) ∙ none in
+      let more : AreNamed homes (earlier ++ own ∷ [])
       (record { place = s.place; base = s.place; segments = s.segments + 1; inside = true })
-      (segment_forms n (k + 1) (l + 9) (behind 8 x) ++ rest)
-      (λ t. segments_named n (k + 1) (l + 9) (behind 8 x) (earlier ++ own ∷ []) t rest (omega arith) more behind_them))
+      (word_forms 8 (l + 1) x ++ segment_forms n (k + 1) (l + 9) (number_behind 8 x) ++ rest) =
+      words_named 8 (l + 1) x (λ t. segments_named n (k + 1) (l + 9) (number_behind 8 x)
+      (omega arith) free_more behind) in
+      record { none = rw new more.none }
 
-  pub enter_named : (l : ℕ) (earlier : List Home) (s : Spot) → fault_from homes earlier s (enter_line l ∷ []) ≡ None
-  enter_named l earlier s = refl
+  pub enter_named : {earlier : List Home} {s : Spot} (l : ℕ) → AreNamed homes earlier s (enter_line l ∷ [])
+  enter_named l = record { none = refl }
 
-  pub program_named : (words : ℕ) (rest : List Line) → words ≤ 900
-      → fault_from homes first_homes (record { place = 123; base = 123; segments = 3; inside = true }) rest ≡ None
-      → fault_from homes [] first_spot (adding_lines words ++ segment_line 19 (codes "s1") ∷ rest) ≡ None
-  program_named words rest few behind_it =
+  pub program_named : {rest : List Line} (words : ℕ) → words ≤ 900
+      → AreNamed homes first_homes (record { place = 123; base = 123; segments = 3; inside = true }) rest
+      → naming_fault_from homes [] first_spot (adding_lines words ++ segment_line 19 (codes "s1") ∷ rest) ≡ None
+  program_named words few behind =
       let positive : nat_lt (123 + words) 0 ≡ false = lt_false (123 + words) 0 (omega arith) in
       let near : nat_lt 1023 (123 + words) ≡ false = lt_false 1023 (123 + words) (omega arith) in
-      rw (positive, near) behind_it
+      rw (positive, near) behind.none

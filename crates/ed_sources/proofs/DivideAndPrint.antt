@@ -17,8 +17,8 @@ use Rattle.ed_sources.specs.Accepted.{IsDivisible}
 use Rattle.ed_sources.proofs.Along.{IsAt, before, entered, has, passed, word_there}
 use Rattle.ed_sources.proofs.AtEntry.{has_image, placed, word_at}
 use Rattle.ed_sources.proofs.CalledMaths.{Divides, divides}
-use Rattle.ed_sources.proofs.CalledRoutines.{HasRoutine, Passes, newline_passes, print_passes, stopped}
-use Rattle.ed_sources.proofs.Calling.{IsBefore}
+use Rattle.ed_sources.proofs.CalledRoutines.{Passes, newline_passes, print_passes, stopped}
+use Rattle.ed_sources.proofs.Calling.{HasRoutine, IsBefore}
 use Rattle.ed_sources.proofs.SaidMaths.{divide_lines}
 use Rattle.ed_sources.proofs.Stops.{LeadsToStop, behind}
 
@@ -41,18 +41,18 @@ module _ (z : Size) (high low by : ℕ) (positive : 1 ≤ by) (fits : by ≤ 327
   -- ---- `divide`
 
   at : IsAt z (divide_lines high low by) s 65 68 56
-  at = entered z (divide_lines high low by) 65 68 56 refl
+  at = entered refl
 
   divide_image : has_image (placed (divide_lines high low by)) divide 68 (with_hnm 65 66 67) ≡ true
   unfolding parameter_store
   divide_image = refl
 
   before_divide : IsBefore s 56 68
-  before_divide = before z (divide_lines high low by) refl s 65 68 56 at 68 (lit≤ tt) (lit≤ tt) (lit≤ tt)
+  before_divide = before at refl (lit≤ tt) (lit≤ tt) (lit≤ tt)
       (lit< tt) refl refl
 
   has_divide : HasRoutine s divide 68 (with_hnm 65 66 67)
-  has_divide = has z (divide_lines high low by) refl s 65 68 56 at divide 68 (with_hnm 65 66 67) divide_image
+  has_divide = has at refl divide_image
       (lit≤ tt) (lit≤ tt) (lit≤ tt) (lit≤ tt)
 
   -- its three words, which the entry state has
@@ -85,7 +85,7 @@ module _ (z : Size) (high low by : ℕ) (positive : 1 ≤ by) (fits : by ≤ 327
   digits_long = length-replicate {A = Bool} 512 false
 
   division : Divides s 56 65 109 65 66 67
-  division = divides s 56 68 before_divide 65 66 67 65 digits_long refl has_divide is_division (lit≤ tt) (lit≤ tt)
+  division = divides before_divide digits_long refl has_divide is_division (lit≤ tt, lit≤ tt)
       (lit< tt) (lit< tt)
 
   abbrev takes : Passes (2 + divide_orders (dividend 65 66 s / short_at s.store 67)) s [] 56 65 109
@@ -103,7 +103,7 @@ module _ (z : Size) (high low by : ℕ) (positive : 1 ≤ by) (fits : by ≤ 327
   -- ---- `print`, of the quotient
 
   at_print : IsAt z (divide_lines high low by) takes.last 65 109 58
-  at_print = passed z (divide_lines high low by) refl s 65 68 56 at _ 65 109 [] takes (lit≤ tt) (lit≤ tt)
+  at_print = passed at refl takes (lit≤ tt) (lit≤ tt)
 
   print_image : has_image (placed (divide_lines high low by)) print 110 (with_h 66) ≡ true
   unfolding parameter_store
@@ -112,10 +112,8 @@ module _ (z : Size) (high low by : ℕ) (positive : 1 ≤ by) (fits : by ≤ 327
   prints : Passes (2 + print_orders (n / by)) takes.last (11 ∷ digits (n / by)) 58 110 161
   prints =
       let size = least z in
-      print_passes takes.last 58 110
-      (before z (divide_lines high low by) refl takes.last 65 109 58 at_print 110 (lit≤ tt) (lit≤ tt) (lit≤ tt)
-      (lit< tt) refl refl) 66 (n / by)
-      (has z (divide_lines high low by) refl takes.last 65 109 58 at_print print 110 (with_h 66) print_image (lit≤ tt)
+      print_passes (before at_print refl (lit≤ tt) (lit≤ tt) (lit≤ tt) (lit< tt) refl refl) {h = 66}
+      (has at_print refl print_image (lit≤ tt)
       (lit≤ tt) (lit≤ tt) (lit≤ tt))
       (record { below = rw at_print.size (omega arith); beside = inl (lit< tt) }) quotient
       (quotient_low n by positive (omega arith))
@@ -123,8 +121,7 @@ module _ (z : Size) (high low by : ℕ) (positive : 1 ≤ by) (fits : by ≤ 327
   -- ---- `newline`
 
   at_newline : IsAt z (divide_lines high low by) prints.last 65 161 60
-  at_newline = passed z (divide_lines high low by) refl takes.last 65 109 58 at_print _ 110 161
-      (11 ∷ digits (n / by)) prints (lit≤ tt) (lit≤ tt)
+  at_newline = passed at_print refl prints (lit≤ tt) (lit≤ tt)
 
   newline_image : has_image (placed (divide_lines high low by)) newline 162 [] ≡ true
   unfolding parameter_store
@@ -132,16 +129,16 @@ module _ (z : Size) (high low by : ℕ) (positive : 1 ≤ by) (fits : by ≤ 327
 
   feeds : Passes 7 prints.last (18 ∷ 24 ∷ []) 60 162 169
   feeds =
-      newline_passes prints.last 60 162
-      (before z (divide_lines high low by) refl prints.last 65 161 60 at_newline 162 (lit≤ tt) (lit≤ tt) (lit≤ tt)
+      newline_passes
+      (before at_newline refl (lit≤ tt) (lit≤ tt) (lit≤ tt)
       (lit< tt) refl refl)
-      (has z (divide_lines high low by) refl prints.last 65 161 60 at_newline newline 162 [] newline_image (lit≤ tt)
+      (has at_newline refl newline_image (lit≤ tt)
       (lit≤ tt) (lit≤ tt) (lit≤ tt))
 
   -- ---- `print`, of the remainder
 
   at_last : IsAt z (divide_lines high low by) feeds.last 65 169 62
-  at_last = passed z (divide_lines high low by) refl prints.last 65 161 60 at_newline 7 162 169 (18 ∷ 24 ∷ []) feeds
+  at_last = passed at_newline refl feeds
       (lit≤ tt) (lit≤ tt)
 
   last_image : has_image (placed (divide_lines high low by)) print 170 (with_h 65) ≡ true
@@ -155,14 +152,12 @@ module _ (z : Size) (high low by : ℕ) (positive : 1 ≤ by) (fits : by ≤ 327
   prints_last =
       let size = least z in
       stopped
-      (print_passes feeds.last 62 170
-      (before z (divide_lines high low by) refl feeds.last 65 169 62 at_last 170 (lit≤ tt) (lit≤ tt) (lit≤ tt)
-      (lit< tt) refl refl) 65 (n % by)
-      (has z (divide_lines high low by) refl feeds.last 65 169 62 at_last print 170 (with_h 65) last_image (lit≤ tt)
+      (print_passes (before at_last refl {base = 170} (lit≤ tt) (lit≤ tt) (lit≤ tt) (lit< tt) refl refl) {h = 65}
+      (has at_last refl last_image (lit≤ tt)
       (lit≤ tt) (lit≤ tt) (lit≤ tt))
       (record { below = rw at_last.size (omega arith); beside = inl (lit< tt) }) still
       (remainder_low n by positive fits))
-      (inl (lit< tt)) (word_there z (divide_lines high low by) refl feeds.last 65 169 62 at_last 64 53248
+      (inl (lit< tt)) (word_there at_last refl 64 53248
       (inl (lit< tt)) (lit≤ tt) (lit< tt) refl)
 
   pub divide_ends : LeadsToStop

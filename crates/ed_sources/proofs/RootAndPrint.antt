@@ -14,8 +14,8 @@ use Rattle.ed_maths.proofs.RootCall.{few}
 use Rattle.ed_sources.proofs.Along.{IsAt, before, entered, has, passed, word_there}
 use Rattle.ed_sources.proofs.AtEntry.{has_image, placed}
 use Rattle.ed_sources.proofs.CalledMaths.{TakesRoot, takes_root}
-use Rattle.ed_sources.proofs.CalledRoutines.{HasRoutine, Passes, print_passes, stopped}
-use Rattle.ed_sources.proofs.Calling.{IsBefore}
+use Rattle.ed_sources.proofs.CalledRoutines.{Passes, print_passes, stopped}
+use Rattle.ed_sources.proofs.Calling.{HasRoutine, IsBefore}
 use Rattle.ed_sources.proofs.SaidMaths.{root_lines}
 use Rattle.ed_sources.proofs.Stops.{LeadsToStop, behind}
 
@@ -32,21 +32,21 @@ module _ (z : Size) (n : ℕ) (small : n < 65536) where
   -- ---- `root`
 
   at : IsAt z (root_lines n) s 62 64 56
-  at = entered z (root_lines n) 62 64 56 refl
+  at = entered refl
 
   root_image : has_image (placed (root_lines n)) root 64 (with_hn 61 62) ≡ true
   unfolding parameter_store
   root_image = refl
 
   before_root : IsBefore s 56 64
-  before_root = before z (root_lines n) refl s 62 64 56 at 64 (lit≤ tt) (lit≤ tt) (lit≤ tt) (lit< tt) refl refl
+  before_root = before at refl (lit≤ tt) (lit≤ tt) (lit≤ tt) (lit< tt) refl refl
 
   has_root : HasRoutine s root 64 (with_hn 61 62)
-  has_root = has z (root_lines n) refl s 62 64 56 at root 64 (with_hn 61 62) root_image (lit≤ tt) (lit≤ tt)
+  has_root = has at refl root_image (lit≤ tt) (lit≤ tt)
       (lit≤ tt) (lit≤ tt)
 
   number : short_at s.store 61 ≡ n
-  number = word_there z (root_lines n) refl s 62 64 56 at 61 n (inl (lit< tt)) (lit≤ tt) (lit< tt) refl
+  number = word_there at refl 61 n (inl (lit< tt)) (lit≤ tt) (lit< tt) refl
 
   is_root : IsRoot (short_at s.store 61) r
   is_root = rw number (root_is n)
@@ -54,7 +54,8 @@ module _ (z : Size) (n : ℕ) (small : n < 65536) where
   taken : TakesRoot s 56 87 62 r
   taken =
       let size = least z in
-      takes_root s 56 64 before_root 61 62 r has_root (record { below = omega arith; beside = inl (lit< tt) })
+      takes_root before_root {source = 61} {target = 62} has_root
+      (record { below = omega arith; beside = inl (lit< tt) })
       (record { below = omega arith; beside = inl (lit< tt) }) (λ e. omega (arith, e))
       (rw number small) is_root (lit< tt)
 
@@ -64,28 +65,28 @@ module _ (z : Size) (n : ℕ) (small : n < 65536) where
   -- ---- `print`
 
   at_print : IsAt z (root_lines n) takes.last 62 87 58
-  at_print = passed z (root_lines n) refl s 62 64 56 at (2 + root_orders r) 62 87 [] takes (lit≤ tt) (lit≤ tt)
+  at_print = passed at refl takes (lit≤ tt) (lit≤ tt)
 
   print_image : has_image (placed (root_lines n)) print 88 (with_h 62) ≡ true
   unfolding parameter_store
   print_image = refl
 
   before_print : IsBefore takes.last 58 88
-  before_print = before z (root_lines n) refl takes.last 62 87 58 at_print 88 (lit≤ tt) (lit≤ tt) (lit≤ tt)
+  before_print = before at_print refl (lit≤ tt) (lit≤ tt) (lit≤ tt)
       (lit< tt) refl refl
 
   has_print : HasRoutine takes.last print 88 (with_h 62)
   has_print =
-      has z (root_lines n) refl takes.last 62 87 58 at_print print 88 (with_h 62) print_image (lit≤ tt) (lit≤ tt)
+      has at_print refl print_image (lit≤ tt) (lit≤ tt)
       (lit≤ tt) (lit≤ tt)
 
   prints : LeadsToStop (2 + print_orders r) takes.last (11 ∷ digits r)
   prints =
       let size = least z in
       stopped
-      (print_passes takes.last 58 88 before_print 62 r has_print
+      (print_passes before_print {h = 62} has_print
       (record { below = rw at_print.size (omega arith); beside = inl (lit< tt) }) taken.root_is (root_small n small))
-      (inl (lit< tt)) (word_there z (root_lines n) refl takes.last 62 87 58 at_print 60 53248 (inl (lit< tt))
+      (inl (lit< tt)) (word_there at_print refl 60 53248 (inl (lit< tt))
       (lit≤ tt) (lit< tt) refl)
 
   pub root_ends : LeadsToStop (2 + root_orders r + (2 + print_orders r)) s (11 ∷ digits r)

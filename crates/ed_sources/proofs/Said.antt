@@ -1,20 +1,20 @@
 -- What the lines of the sources of calls say.
 use Rattle.std.proofs.Common.{◌≡◌, ◌∙◌, ℕ, ◌+◌, ◌<◌, ◌≤◌, Bool, true, false}
 use Rattle.std.proofs.Common.{List, [], ◌∷◌, ◌++◌, refl, sym, ap, subst, arith}
-use Rattle.std.proofs.Common.{true≢false, append_assoc, append-nil, length}
+use Rattle.std.proofs.Common.{append_assoc, append-nil, length}
 use Rattle.std.proofs.Common.{length-append, map, codes, pos, nat_le, lit≤}
 use Rattle.std.specs.Prelude.{◌==◌, not, Option, Some, None, Ok}
 use Rattle.std.specs.Fmt.{decimal}
 use Rattle.std.specs.List.{list_all}
-use Rattle.std.proofs.lemmas.Bool.{and_parts}
+use Rattle.std.proofs.lemmas.Bool.{and_parts, not-true}
 use Rattle.std.proofs.lemmas.List.{length-map, map-append}
 use Rattle.ed_words.proofs.Numbers.{le_true, lt_false}
 use Rattle.ed_codes.specs.Spelling.{row_of}
 use Rattle.ed_words.specs.Texts.{Text}
 use Rattle.ed_words.specs.Decimals.{is_digit}
-use Rattle.ed_syntax.specs.Parts.{Part, run, sign, quoted, is_run_byte, parts_from, parts_of}
+use Rattle.ed_syntax.specs.Parts.{LinePart, run, sign, quoted, is_run_byte, parts_from, parts_of}
 use Rattle.ed_words.specs.Decimals.{value}
-use Rattle.ed_syntax.specs.Grammar.{array, form_at, is_number, row, settings, spells}
+use Rattle.ed_syntax.specs.Grammar.{array, form_at, is_number, modulo, row, settings, spells}
 use Rattle.ed_syntax.specs.Sources.{is_line_byte, line_of}
 use Rattle.ed_syntax.specs.declared.program.Line.{Line}
 use Rattle.ed_syntax.specs.declared.program.Operand.TheVariants as operands
@@ -37,6 +37,10 @@ said k label statement = record { number = k; label = label; statement = Some st
 abbrev pub order : ℕ → Text → Statement
 order function name = statements.Order function (operands.Label name (pos 0)) false
 
+-- the two orders of a call of a routine
+abbrev pub calling : ℕ → Text → Text → List Line
+calling k label routine = said k (Some label) (order 28 label) ∷ said (k + 1) None (order 27 routine) ∷ []
+
 -- the order Z F
 abbrev pub stop : Statement
 stop = statements.Order 13 (operands.Number 0) false
@@ -50,9 +54,8 @@ use_on_value routine name =
 abbrev pub print_lines : ℕ → List Line
 print_lines n =
     said 1 None (statements.Segment (codes "main") None)
-    ∷ said 2 (Some (codes "here")) (order 28 (codes "here"))
-    ∷ said 3 None (order 27 (codes "p"))
-    ∷ said 4 None stop
+    ∷ calling 2 (codes "here") (codes "p")
+    ++ said 4 None stop
     ∷ said 5 (Some (codes "value")) (statements.Number n)
     ∷ said 6 None (use_on_value (codes "print") (codes "p"))
     ∷ said 7 None (statements.Enter (codes "main"))
@@ -61,11 +64,9 @@ print_lines n =
 abbrev pub read_lines : ℕ → List Line
 read_lines n =
     said 1 None (statements.Segment (codes "main") None)
-    ∷ said 2 (Some (codes "here")) (order 28 (codes "here"))
-    ∷ said 3 None (order 27 (codes "r"))
-    ∷ said 4 (Some (codes "then")) (order 28 (codes "then"))
-    ∷ said 5 None (order 27 (codes "p"))
-    ∷ said 6 None stop
+    ∷ calling 2 (codes "here") (codes "r")
+    ++ calling 4 (codes "then") (codes "p")
+    ++ said 6 None stop
     ∷ said 7 (Some (codes "value")) (statements.Order 0 (operands.Number 0) false)
     ∷ said 8 None (use_on_value (codes "read") (codes "r"))
     ∷ said 9 None (use_on_value (codes "print") (codes "p"))
@@ -76,9 +77,8 @@ read_lines n =
 abbrev pub newline_lines : List Line
 newline_lines =
     said 1 None (statements.Segment (codes "main") None)
-    ∷ said 2 (Some (codes "here")) (order 28 (codes "here"))
-    ∷ said 3 None (order 27 (codes "n"))
-    ∷ said 4 None stop
+    ∷ calling 2 (codes "here") (codes "n")
+    ++ said 4 None stop
     ∷ said 5 None (statements.Fetch (codes "newline") (codes "n") (array []))
     ∷ said 6 None (statements.Enter (codes "main"))
     ∷ []
@@ -86,9 +86,8 @@ newline_lines =
 abbrev pub check_lines : ℕ → List Line
 check_lines n =
     said 1 None (statements.Segment (codes "main") None)
-    ∷ said 2 (Some (codes "here")) (order 28 (codes "here"))
-    ∷ said 3 None (order 27 (codes "p"))
-    ∷ said 4 None stop
+    ∷ calling 2 (codes "here") (codes "p")
+    ++ said 4 None stop
     ∷ said 5 (Some (codes "value")) (statements.Number n)
     ∷ said 6 None (use_on_value (codes "print") (codes "p"))
     ∷ said 7 None (statements.Fetch (codes "check") (codes "c")
@@ -134,21 +133,20 @@ a_number (b ∷ r) some h = h
 
 -- what the front of a line makes of it that ends with `word N`, whatever bytes stand behind: its label and the parts
 -- before `word`
-pub record IsWordFront (k : ℕ) (front : Text) (label : Option Text) (before : List Part) : Type 0 where
+pub record IsWordFront (k : ℕ) (front : Text) (label : Option Text) (before : List LinePart) : Type 0 where
   pub plain : (bytes : Text) → list_all is_line_byte bytes ≡ true → list_all is_line_byte (front ++ bytes) ≡ true
   pub short : length front ≤ 20
   pub parts : (bytes : Text) → parts_of bytes ≡ Some (run bytes ∷ [])
       → parts_of (front ++ bytes) ≡ Some (before ++ run (codes "word") ∷ run bytes ∷ [])
-  pub form : (bytes : Text) (n : ℕ) → is_number bytes ≡ true → nat_le (value bytes) 131071 ≡ true → value bytes ≡ n
-      → n < 65536
+  pub form : (bytes : Text) → is_number bytes ≡ true → nat_le (value bytes) 131071 ≡ true
       → form_at false k (before ++ run (codes "word") ∷ run bytes ∷ [])
-      ≡ Some (Some (record { label = label; statement = Some (statements.Number n) }))
+      ≡ Some (Some (record { label = label; statement = Some (statements.Number (modulo 17 (pos (value bytes)))) }))
 
 -- the parts of a label
-abbrev pub label_parts : Text → List Part
+abbrev pub label_parts : Text → List LinePart
 label_parts label = run label ∷ sign 58 ∷ []
 
-module _ (k : ℕ) (front : Text) (label : Option Text) (before : List Part)
+module _ {k : ℕ} {front : Text} {label : Option Text} {before : List LinePart}
     (is_front : IsWordFront k front label before) where
   word_line : (bytes : Text) (n : ℕ) → list_all is_line_byte bytes ≡ true → length bytes ≤ 5
       → parts_of bytes ≡ Some (run bytes ∷ [])
@@ -157,10 +155,12 @@ module _ (k : ℕ) (front : Text) (label : Option Text) (before : List Part)
   word_line bytes n plain few parts number is small =
       let long = length-append front bytes in
       let short = is_front.short in
-      by_parts k (front ++ bytes) (before ++ run (codes "word") ∷ run bytes ∷ []) _ _ (is_front.plain bytes plain)
+      let same : modulo 17 (pos (value bytes)) ≡ n = omega (arith, is, small) in
+      by_parts k (front ++ bytes) (before ++ run (codes "word") ∷ run bytes ∷ []) (is_front.plain bytes plain)
       (lt_false 120 (length (front ++ bytes)) (omega (arith, long, few)))
       (is_front.parts bytes parts)
-      (is_front.form bytes n number (le_true (value bytes) 131071 (omega (arith, is, small))) is small)
+      (is_front.form bytes number (le_true (value bytes) 131071 (omega (arith, is, small)))
+      ∙ ap (λ m. Some (Some (record { label = label; statement = Some (statements.Number m) }))) same)
 
   pub word_says : (n : ℕ) → n < 65536
       → line_of false k (front ++ decimal n) ≡ Ok (record { label = label; statement = Some (statements.Number n) })
@@ -182,27 +182,17 @@ value_front = record {
   plain = λ bytes h. h;
   short = lit≤ tt;
   parts = λ bytes h. rw h refl;
-  form = λ bytes n number in_range is small.
-      rw (number, in_range, is) (ap (λ m. Some (Some (record {
-        label = Some (codes "value");
-        statement = Some (statements.Number m);
-      })))
-      (omega (arith, small)));
+  form = λ bytes number in_range. rw (number, in_range) refl;
 }
-
-print_number : (n : ℕ) → n < 65536
-    → line_of false 5 (codes "value: word " ++ decimal n)
-    ≡ Ok (record { label = Some (codes "value"); statement = Some (statements.Number n) })
-print_number = word_says 5 (codes "value: word ") (Some (codes "value")) (label_parts (codes "value")) value_front
 
 pub print_says : (n : ℕ) → n < 65536 → Says 1 (print_source n) (print_lines n)
 print_says n small = says refl
-    (says refl (says refl (says refl (says (print_number n small) (says print_used (says refl ends))))))
+    (says refl (says refl (says refl (says (word_says value_front n small) (says print_used (says refl ends))))))
 
 pub check_says : (n : ℕ) → n < 65536 → Says 1 (check_source n) (check_lines n)
 check_says n small =
     says refl (says refl (says refl
-    (says refl (says (print_number n small) (says print_used (says check_used (says refl ends)))))))
+    (says refl (says (word_says value_front n small) (says print_used (says check_used (says refl ends)))))))
 
 pub newline_says : Says 1 newline_source newline_lines
 newline_says = says refl (says refl (says refl (says refl (says refl (says refl ends)))))
@@ -215,13 +205,9 @@ quoted_digits : (q : Text) (ds : List ℕ) → list_all (λ b. not (b == 34)) (w
 quoted_digits q [] h = refl
 quoted_digits q (d ∷ ds) h =
     let p = and_parts (not (48 + d == 34)) (list_all (λ b. not (b == 34)) (written ds)) h in
-    let other : (48 + d == 34) ≡ false = not_true (48 + d == 34) p.0 in
+    let other : (48 + d == 34) ≡ false = not-true (48 + d == 34) p.0 in
     rw other (quoted_digits (q ++ (48 + d) ∷ []) ds p.1
     ∙ ap (λ (t : Text). Some (quoted t ∷ [])) (append_assoc q ((48 + d) ∷ []) (written ds ++ 70 ∷ [])))
-  where
-    not_true : (t : Bool) → not t ≡ true → t ≡ false
-    not_true false e = refl
-    not_true true e = absurd (true≢false (sym e))
 
 -- the same, and behind them F
 with_F : (test : ℕ → Bool) (bytes : Text) → list_all test bytes ≡ true → test 70 ≡ true
@@ -252,7 +238,7 @@ rows_line ds are few =
     with_F (λ b. spells (row_of b)) bytes (row_bytes ds are) refl in
     let rows : map (λ b. row (row_of b)) quote ≡ ds ++ 17 ∷ [] =
     map-append (λ b. row (row_of b)) bytes (70 ∷ []) ∙ ap (λ (x : List ℕ). x ++ 17 ∷ []) (rows_are ds are) in
-    by_parts 11 (codes "data " ++ 34 ∷ bytes ++ 70 ∷ 34 ∷ []) (run (codes "data") ∷ quoted quote ∷ []) _ _ plain
+    by_parts 11 (codes "data " ++ 34 ∷ bytes ++ 70 ∷ 34 ∷ []) (run (codes "data") ∷ quoted quote ∷ []) plain
     (lt_false 120 _ (omega (arith, all_long, few)))
     (rw (quoted_digits [] ds (no_quotes ds are)) refl)
     (rw (some, fits, spelled)

@@ -19,7 +19,7 @@ use Rattle.ed_syntax.specs.declared.program.Statement.{Statement}
 use Rattle.ed_syntax.specs.declared.program.Statement.TheVariants as statements
 use Rattle.ed_syntax.proofs.PartLemmas.{run_parts}
 use Rattle.ed_routines.specs.Digits.{digits}
-use Rattle.ed_sources.specs.Demo.{adding, behind, demo_source, next, segments, word_lines, word_of}
+use Rattle.ed_sources.specs.Demo.{adding, number_behind, demo_source, next, segments, word_lines, number_word}
 use Rattle.ed_sources.proofs.Decimals.{are, decimal_is, digit_bytes, few_bytes, line_bytes, run_bytes, some_digit}
 use Rattle.ed_sources.proofs.Decimals.{value_is, written}
 use Rattle.ed_sources.proofs.Said.{IsWordFront, a_number, number_parts, order, said, stop, word_says}
@@ -65,7 +65,7 @@ adding_lines words =
 -- the lines of so many words, from a line's number on
 abbrev pub word_forms : ℕ → ℕ → ℕ → List Line
 word_forms zero l x = []
-word_forms (suc n) l x = said l None (statements.Number (word_of (next x))) ∷ word_forms n (l + 1) (next x)
+word_forms (suc n) l x = said l None (statements.Number (number_word (next x))) ∷ word_forms n (l + 1) (next x)
 
 abbrev pub segment_line : ℕ → Text → Line
 segment_line l name = said l None (statements.Segment name None)
@@ -74,7 +74,7 @@ segment_line l name = said l None (statements.Segment name None)
 abbrev pub segment_forms : ℕ → ℕ → ℕ → ℕ → List Line
 segment_forms zero k l x = []
 segment_forms (suc n) k l x =
-    segment_line l (name k) ∷ word_forms 8 (l + 1) x ++ segment_forms n (k + 1) (l + 9) (behind 8 x)
+    segment_line l (name k) ∷ word_forms 8 (l + 1) x ++ segment_forms n (k + 1) (l + 9) (number_behind 8 x)
 
 abbrev pub enter_line : ℕ → Line
 enter_line l = said l None (statements.Enter (codes "main"))
@@ -89,10 +89,8 @@ word_front l second = record {
   plain = λ bytes h. h;
   short = lit≤ tt;
   parts = λ bytes h. rw h refl;
-  form = λ bytes n number in_range is small.
-      let first : (l == 1) ≡ false = eq_false l 1 (omega (arith, second)) in
-      rw (first, number, in_range, is)
-      (ap (λ m. Some (Some (record { label = None; statement = Some (statements.Number m) }))) (omega (arith, small)));
+  form = λ bytes number in_range.
+      let first : (l == 1) ≡ false = eq_false l 1 (omega (arith, second)) in rw (first, number, in_range) refl;
 }
 
 words_say : (n l x : ℕ) {rest : List Text} {program : List Line} → 2 ≤ l → Says (l + n) rest program
@@ -100,7 +98,7 @@ words_say : (n l x : ℕ) {rest : List Text} {program : List Line} → 2 ≤ l �
 words_say zero l x {rest} {program} second tail = subst (λ j. Says j rest program) (omega arith) tail
 words_say (suc n) l x {rest} {program} second tail =
     let e : l + suc n ≡ l + 1 + n = omega arith in
-    says (word_says l (codes "word ") None [] (word_front l second) (word_of (next x)) (omega arith))
+    says (word_says (word_front l second) (number_word (next x)) (omega arith))
     (words_say n (l + 1) (next x) (omega arith) (subst (λ j. Says j rest program) e tail))
 
 -- a line that begins a segment, by what stands behind the s of its name
@@ -115,7 +113,7 @@ segment_says_of l text bytes is second plain few runs =
     let all : list_all is_run_byte text ≡ true = ap (list_all is_run_byte) is ∙ runs in
     let named : is_name text ≡ true = ap is_name is ∙ name_of bytes few runs in
     let first : (l == 1) ≡ false = eq_false l 1 (omega (arith, second)) in
-    by_parts l (codes "segment " ++ text) (run (codes "segment") ∷ run text ∷ []) _ _ here
+    by_parts l (codes "segment " ++ text) (run (codes "segment") ∷ run text ∷ []) here
     (lt_false 120 (length (codes "segment " ++ text)) (omega (arith, long, few, length-append (codes "segment ") text)))
     (let p = number_parts text (omega (arith, long)) all in rw p refl)
     (rw (first, named) refl)
@@ -139,10 +137,10 @@ segments_say (suc n) k l x {rest} {program} second few tail =
     let last : l + 9 * suc n ≡ l + 9 + 9 * n = omega arith in
     says (segment_says l k second (omega arith))
     (words_say 8 (l + 1) x (omega arith)
-    (subst (λ j. Says j (segments n (k + 1) (behind 8 x) ++ rest)
-    (segment_forms n (k + 1) (l + 9) (behind 8 x) ++ program))
+    (subst (λ j. Says j (segments n (k + 1) (number_behind 8 x) ++ rest)
+    (segment_forms n (k + 1) (l + 9) (number_behind 8 x) ++ program))
     (sym behind_words)
-    (segments_say n (k + 1) (l + 9) (behind 8 x) (omega arith) (omega arith)
+    (segments_say n (k + 1) (l + 9) (number_behind 8 x) (omega arith) (omega arith)
     (subst (λ j. Says j rest program) last tail))))
 
 -- ---- the program
@@ -161,17 +159,17 @@ then_F (b ∷ r) some h = run_parts b r (codes " F") h refl
 plain_F : (bytes : Text) → list_all is_line_byte bytes ≡ true → list_all is_line_byte (bytes ++ codes " F") ≡ true
 plain_F bytes h = list_all-append is_line_byte bytes (codes " F") ∙ rw h refl
 
-stop_line : (bytes : Text) (words : ℕ) → 0 < length bytes → list_all is_line_byte bytes ≡ true → length bytes ≤ 5
+stop_line : {words : ℕ} (bytes : Text) → 0 < length bytes → list_all is_line_byte bytes ≡ true → length bytes ≤ 5
     → list_all is_run_byte bytes ≡ true → is_number bytes ≡ true → value bytes ≡ words → words ≤ 1023
     → line_of false 15 (codes "stop: A s1+" ++ (bytes ++ codes " F"))
     ≡ Ok (record { label = Some (codes "stop"); statement = Some (behind_last words) })
-stop_line bytes words some plain few runs number is small =
+stop_line bytes some plain few runs number is small =
     let all : list_all is_line_byte (bytes ++ codes " F") ≡ true = plain_F bytes plain in
     let parts = then_F bytes some runs in
     let near : nat_le (value bytes) 1023 ≡ true = le_true (value bytes) 1023 (omega (arith, is, small)) in
     let long = length-append bytes (codes " F") in
     by_parts 15 (codes "stop: A s1+" ++ (bytes ++ codes " F"))
-    (run (codes "stop") ∷ sign 58 ∷ sign 65 ∷ run (codes "s1") ∷ sign 43 ∷ run bytes ∷ sign 70 ∷ []) _ _ all
+    (run (codes "stop") ∷ sign 58 ∷ sign 65 ∷ run (codes "s1") ∷ sign 43 ∷ run bytes ∷ sign 70 ∷ []) all
     (lt_false 120 _ (omega (arith, long, few)))
     (rw parts refl)
     (rw (number, near, is) refl)
@@ -187,7 +185,7 @@ stop_says words few =
     subst (λ (bytes : Text). line_of false 15 (codes "stop: A s1+" ++ (bytes ++ codes " F"))
     ≡ Ok (record { label = Some (codes "stop"); statement = Some (behind_last words) }))
     (decimal_is words small)
-    (stop_line (written ds) words some (line_bytes ds (are words small)) (few_bytes words small) runs
+    (stop_line (written ds) some (line_bytes ds (are words small)) (few_bytes words small) runs
     (a_number (written ds) some (digit_bytes ds (are words small))) (value_is words small) few)
 
 adding_says : (words : ℕ) {rest : List Text} {program : List Line} → words ≤ 1023 → Says 19 rest program

@@ -1,5 +1,5 @@
 -- What the lines of the sources of `call divide` and `call root` say.
-use Rattle.std.proofs.Common.{◌≡◌, ℕ, ◌<◌, false, List, [], ◌∷◌, refl, ap, arith, lit≤, codes, pos}
+use Rattle.std.proofs.Common.{◌≡◌, ℕ, ◌<◌, false, List, [], ◌∷◌, ◌++◌, refl, lit≤, codes, pos}
 use Rattle.std.specs.Prelude.{Some, None, Ok}
 use Rattle.ed_words.specs.Texts.{Text}
 use Rattle.ed_syntax.specs.Grammar.{array, settings}
@@ -10,7 +10,7 @@ use Rattle.ed_syntax.specs.declared.program.Setting.{Setting}
 use Rattle.ed_syntax.specs.declared.program.Statement.{Statement}
 use Rattle.ed_syntax.specs.declared.program.Statement.TheVariants as statements
 use Rattle.ed_sources.specs.Calls.{divide_source, root_source}
-use Rattle.ed_sources.proofs.Said.{IsWordFront, label_parts, order, said, stop, word_says}
+use Rattle.ed_sources.proofs.Said.{IsWordFront, calling, label_parts, said, stop, word_says}
 use Rattle.ed_sources.proofs.TextLines.{Says, ends, says}
 
 -- a parameter set to a place
@@ -34,15 +34,11 @@ use_print name place = use_with (codes "print") name (at_place 21 place ∷ [])
 abbrev pub divide_lines : ℕ → ℕ → ℕ → List Line
 divide_lines high low by =
     said 1 None (statements.Segment (codes "main") None)
-    ∷ said 2 (Some (codes "here")) (order 28 (codes "here"))
-    ∷ said 3 None (order 27 (codes "v"))
-    ∷ said 4 (Some (codes "then")) (order 28 (codes "then"))
-    ∷ said 5 None (order 27 (codes "p"))
-    ∷ said 6 (Some (codes "next")) (order 28 (codes "next"))
-    ∷ said 7 None (order 27 (codes "n"))
-    ∷ said 8 (Some (codes "last")) (order 28 (codes "last"))
-    ∷ said 9 None (order 27 (codes "r"))
-    ∷ said 10 None stop
+    ∷ calling 2 (codes "here") (codes "v")
+    ++ calling 4 (codes "then") (codes "p")
+    ++ calling 6 (codes "next") (codes "n")
+    ++ calling 8 (codes "last") (codes "r")
+    ++ said 10 None stop
     ∷ said 11 (Some (codes "hi")) (statements.Number high)
     ∷ said 12 (Some (codes "lo")) (statements.Number low)
     ∷ said 13 (Some (codes "by")) (statements.Number by)
@@ -56,11 +52,9 @@ divide_lines high low by =
 abbrev pub root_lines : ℕ → List Line
 root_lines n =
     said 1 None (statements.Segment (codes "main") None)
-    ∷ said 2 (Some (codes "here")) (order 28 (codes "here"))
-    ∷ said 3 None (order 27 (codes "v"))
-    ∷ said 4 (Some (codes "then")) (order 28 (codes "then"))
-    ∷ said 5 None (order 27 (codes "p"))
-    ∷ said 6 None stop
+    ∷ calling 2 (codes "here") (codes "v")
+    ++ calling 4 (codes "then") (codes "p")
+    ++ said 6 None stop
     ∷ said 7 (Some (codes "of")) (statements.Number n)
     ∷ said 8 (Some (codes "is")) (statements.Order 0 (operands.Number 0) false)
     ∷ said 9 None use_root
@@ -102,12 +96,7 @@ hi_front = record {
   plain = λ bytes h. h;
   short = lit≤ tt;
   parts = λ bytes h. rw h refl;
-  form = λ bytes n number in_range is small.
-      rw (number, in_range, is) (ap (λ m. Some (Some (record {
-        label = Some (codes "hi");
-        statement = Some (statements.Number m);
-      })))
-      (omega (arith, small)));
+  form = λ bytes number in_range. rw (number, in_range) refl;
 }
 
 lo_front : IsWordFront 12 (codes "lo: word ") (Some (codes "lo")) (label_parts (codes "lo"))
@@ -115,12 +104,7 @@ lo_front = record {
   plain = λ bytes h. h;
   short = lit≤ tt;
   parts = λ bytes h. rw h refl;
-  form = λ bytes n number in_range is small.
-      rw (number, in_range, is) (ap (λ m. Some (Some (record {
-        label = Some (codes "lo");
-        statement = Some (statements.Number m);
-      })))
-      (omega (arith, small)));
+  form = λ bytes number in_range. rw (number, in_range) refl;
 }
 
 by_front : IsWordFront 13 (codes "by: word ") (Some (codes "by")) (label_parts (codes "by"))
@@ -128,12 +112,7 @@ by_front = record {
   plain = λ bytes h. h;
   short = lit≤ tt;
   parts = λ bytes h. rw h refl;
-  form = λ bytes n number in_range is small.
-      rw (number, in_range, is) (ap (λ m. Some (Some (record {
-        label = Some (codes "by");
-        statement = Some (statements.Number m);
-      })))
-      (omega (arith, small)));
+  form = λ bytes number in_range. rw (number, in_range) refl;
 }
 
 of_front : IsWordFront 7 (codes "of: word ") (Some (codes "of")) (label_parts (codes "of"))
@@ -141,25 +120,20 @@ of_front = record {
   plain = λ bytes h. h;
   short = lit≤ tt;
   parts = λ bytes h. rw h refl;
-  form = λ bytes n number in_range is small.
-      rw (number, in_range, is) (ap (λ m. Some (Some (record {
-        label = Some (codes "of");
-        statement = Some (statements.Number m);
-      })))
-      (omega (arith, small)));
+  form = λ bytes number in_range. rw (number, in_range) refl;
 }
 
 pub divide_says : (high low by : ℕ) → high < 65536 → low < 65536 → by < 65536
     → Says 1 (divide_source high low by) (divide_lines high low by)
 divide_says high low by h l b =
     says refl (says refl (says refl (says refl (says refl (says refl (says refl (says refl (says refl (says refl
-    (says (word_says 11 (codes "hi: word ") (Some (codes "hi")) (label_parts (codes "hi")) hi_front high h)
-    (says (word_says 12 (codes "lo: word ") (Some (codes "lo")) (label_parts (codes "lo")) lo_front low l)
-    (says (word_says 13 (codes "by: word ") (Some (codes "by")) (label_parts (codes "by")) by_front by b)
+    (says (word_says hi_front high h)
+    (says (word_says lo_front low l)
+    (says (word_says by_front by b)
     (says divide_used (says print_low_used (says refl (says print_high_used (says refl ends)))))))))))))))))
 
 pub root_says : (n : ℕ) → n < 65536 → Says 1 (root_source n) (root_lines n)
 root_says n small =
     says refl (says refl (says refl (says refl (says refl (says refl
-    (says (word_says 7 (codes "of: word ") (Some (codes "of")) (label_parts (codes "of")) of_front n small)
+    (says (word_says of_front n small)
     (says refl (says root_used (says print_root_used (says refl ends))))))))))

@@ -1,11 +1,11 @@
 -- Orders that lead to a stop, and the run that they are.
-use Rattle.std.proofs.Common.{◌≡◌, ◌∙◌, inl, inr, ℕ, zero, suc, ◌+◌, ◌-◌, ◌<◌}
-use Rattle.std.proofs.Common.{◌≤◌, sym, ap, arith, true, List, ◌++◌, length}
-use Rattle.std.proofs.Common.{append_assoc, append-nil}
+use Rattle.std.proofs.Common.{◌≡◌, ◌∙◌, inl, inr, ℕ, suc, ◌+◌, ◌-◌, ◌<◌}
+use Rattle.std.proofs.Common.{◌≤◌, ap, arith, true, List, ◌++◌, length}
+use Rattle.std.proofs.Common.{append-nil}
 use Rattle.std.proofs.lemmas.Bool.{cases_lt}
 use Rattle.ed_machine.specs.State.{State}
 use Rattle.ed_machine.specs.OrderTable.{step}
-use Rattle.ed_machine.specs.Steps.{IsFree, codes_of, is_obeyed, past, state_after}
+use Rattle.ed_machine.specs.Steps.{IsFree, Past, codes_of, is_obeyed, past, state_after}
 use Rattle.ed_machine.specs.declared.turn.Turn.{Turn}
 use Rattle.ed_machine.specs.declared.turn.Turn.TheVariants.{Stopped as Stops}
 use Rattle.ed_machine.specs.declared.ending.Ending.TheVariants.{Stopped}
@@ -13,33 +13,16 @@ use Rattle.ed_run.specs.Run.{ran}
 use Rattle.ed_run.specs.Laws.{HasRoom}
 use Rattle.ed_run.proofs.Ends.{ends_once, ran_ends}
 use Rattle.ed_run.proofs.Places.{at_stop}
-use Rattle.ed_paths.proofs.Leads.{Leads, goes_on}
-use Rattle.ed_routines.proofs.Runs.{free, no_stops}
+use Rattle.ed_machine.proofs.Steps.{past_sum, after_sum}
+use Rattle.ed_paths.proofs.Leads.{Leads, goes_on, free, no_stops}
 
 -- ---- orders behind orders
 
-pub state_behind : (j k : ℕ) (s : State) → state_after (k + j) s ≡ state_after j (state_after k s)
-unfolding past
-state_behind zero k s = let e : k + 0 ≡ k = omega arith in ap (λ x. state_after x s) e
-state_behind (suc j) k s =
-    let e : k + suc j ≡ suc (k + j) = omega arith in
-    ap (λ x. state_after x s) e ∙ ap (λ (x : State). (step x).state) (state_behind j k s)
-
-codes_behind : (j k : ℕ) (s : State) → (past (k + j) s).codes ≡ (past k s).codes ++ (past j (state_after k s)).codes
-unfolding past
-codes_behind zero k s =
-    let e : k + 0 ≡ k = omega arith in ap (λ x. (past x s).codes) e ∙ sym (append-nil (past k s).codes)
-codes_behind (suc j) k s =
-    let e : k + suc j ≡ suc (k + j) = omega arith in
-    ap (λ x. (past x s).codes) e
-    ∙ (λ i. codes_behind j k s i ++ codes_of (step (state_behind j k s i)).turn)
-    ∙ append_assoc (past k s).codes (past j (state_after k s)).codes
-    (codes_of (step (state_after j (state_after k s))).turn)
-
 pub joined : {a b : ℕ} {s t u : State} {cs ds : List ℕ} → Leads a s cs t → Leads b t ds u → Leads (a + b) s (cs ++ ds) u
 joined {a} {b} {s} {t} {u} {cs} {ds} first second = record {
-  state_is = state_behind b a s ∙ ap (state_after b) first.state_is ∙ second.state_is;
-  codes_are = codes_behind b a s ∙ (λ i. first.codes_are i ++ (past b (first.state_is i)).codes)
+  state_is = after_sum a b s ∙ ap (state_after b) first.state_is ∙ second.state_is;
+  codes_are = ap (λ (p : Past). p.codes) (past_sum a b s)
+      ∙ (λ i. first.codes_are i ++ (past b (first.state_is i)).codes)
       ∙ ap (λ x. cs ++ x) second.codes_are;
   goes = goes;
 }
@@ -52,7 +35,7 @@ joined {a} {b} {s} {t} {u} {cs} {ds} first second = record {
               let e : j ≡ a + (j - a) = omega arith in
               ap (λ x. goes_on (step (state_after x s)).turn) e
               ∙ ap (λ (x : State). goes_on (step x).turn)
-              (state_behind (j - a) a s ∙ ap (state_after (j - a)) first.state_is)
+              (after_sum a (j - a) s ∙ ap (state_after (j - a)) first.state_is)
               ∙ second.goes (j - a) (omega arith)
         ]
 
@@ -87,6 +70,6 @@ ran_to_stop limit room k s codes o fits less =
     let few : length (past (suc k) s).codes ≤ room = let n = ap (λ (x : List ℕ). length x) all in
     omega (arith, n, fits) in
     let has : HasRoom room (suc k) s = record { obeyed = obeyed; printed = few } in
-    let at = at_stop limit 0 room k s has (no_stops k s o.leads.goes) less turn in
-    let once = ends_once limit 0 room s _ _ _ _ (ran_ends limit 0 room s) at in
+    let at = at_stop limit 0 has (no_stops k s o.leads.goes) less turn in
+    let once = ends_once (ran_ends limit 0 room s) at in
     (ap (λ j. (past j s).codes) once.0 ∙ all, once.1)

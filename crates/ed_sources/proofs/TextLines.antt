@@ -9,13 +9,13 @@ use Rattle.std.proofs.lemmas.Bool.Decides.{Decides-eqb}
 use Rattle.ed_words.proofs.Numbers.{eq_false}
 use Rattle.ed_words.specs.Texts.{Text}
 use Rattle.ed_syntax.specs.Lines.{lines_of, with_byte}
-use Rattle.ed_syntax.specs.Parts.{Part, parts_of}
+use Rattle.ed_syntax.specs.Parts.{LinePart, parts_of}
 use Rattle.ed_syntax.specs.Grammar.{form_at}
 use Rattle.ed_syntax.specs.Sources.{and_lines, is_line_byte, is_two, line_of, lines_from, program_of}
 use Rattle.ed_syntax.specs.declared.fault.SourceCause.TheVariants.{TooManyLines}
 use Rattle.ed_syntax.specs.declared.program.Line.{Line}
 use Rattle.ed_syntax.specs.declared.program.Statement.{Statement}
-use Rattle.ed_sources.specs.Calls.{text_of}
+use Rattle.ed_sources.specs.Calls.{text_of_lines}
 
 -- a byte of a line is none that ends one
 is_no_end : (b k : ℕ) → is_line_byte b ≡ true → is_line_byte k ≡ false → (b == k) ≡ false
@@ -44,21 +44,26 @@ first_line (b ∷ c ∷ front) rest h =
     byte_before b c (front ++ 10 ∷ rest) p.0 ∙ ap (with_byte b) (first_line (c ∷ front) rest p.1)
 
 -- the lines of a text are those that it was made of
-pub lines_back : (lines : List Text) → list_all (list_all is_line_byte) lines ≡ true → lines_of (text_of lines) ≡ lines
+pub lines_back : (lines : List Text) → list_all (list_all is_line_byte) lines ≡ true
+    → lines_of (text_of_lines lines) ≡ lines
 lines_back [] h = refl
 lines_back (line ∷ lines) h =
     let p = and_parts (list_all is_line_byte line) (list_all (list_all is_line_byte) lines) h in
-    ap lines_of (append_assoc line (10 ∷ []) (text_of lines))
-    ∙ first_line line (text_of lines) p.0
+    ap lines_of (append_assoc line (10 ∷ []) (text_of_lines lines))
+    ∙ first_line line (text_of_lines lines) p.0
     ∙ ap (λ (ls : List Text). line ∷ ls) (lines_back lines p.1)
 
 -- so the program of such a text is that of its lines
 pub program_is : (lines : List Text) (program : List Line) → list_all (list_all is_line_byte) lines ≡ true
     → is_two lines ≡ false
-    → lines_from false 1 lines ≡ Ok program → program_of (text_of lines) ≡ Ok program
+    → lines_from false 1 lines ≡ Ok program → program_of (text_of_lines lines) ≡ Ok program
 program_is lines program plain one says =
     let back = lines_back lines plain in
     ap (λ (ls : List Text). lines_from (is_two ls) 1 ls) back ∙ ap (λ (two : Bool). lines_from two 1 lines) one ∙ says
+
+-- a line that ends with digits
+pub line_end : (digits rest : Text) → digits ++ 10 ∷ rest ≡ (digits ++ 10 ∷ []) ++ rest
+line_end digits rest = sym (append_assoc digits (10 ∷ []) rest)
 
 -- what lines from a number on say, one after the other
 pub data Says : ℕ → List Text → List Line → Type 0 where
@@ -80,8 +85,8 @@ said_lines {k} (says {line = line} {lines = lines} here behind) few =
     ∙ (λ i. and_lines k (here i) (said_lines behind (omega (arith, few)) i))
 
 -- what a line says, by its parts
-pub by_parts : (k : ℕ) (line : Text) (parts : List Part) (label : Option Text) (statement : Option Statement)
+pub by_parts : {label : Option Text} {statement : Option Statement} (k : ℕ) (line : Text) (parts : List LinePart)
     → list_all is_line_byte line ≡ true → nat_lt 120 (length line) ≡ false → parts_of line ≡ Some parts
     → form_at false k parts ≡ Some (Some (record { label = label; statement = statement }))
     → line_of false k line ≡ Ok (record { label = label; statement = statement })
-by_parts k line parts label statement plain short are is = rw (plain, short, are, is) refl
+by_parts k line parts plain short are is = rw (plain, short, are, is) refl

@@ -6,8 +6,8 @@ use Rattle.ed_call.specs.declared.Call.TheVariants.{Print, Read, NewLine, Divide
 use Rattle.ed_words.specs.Texts.{Text}
 
 -- a text of lines, each with its line feed (10)
-abbrev pub text_of : List Text → Text
-text_of lines = flat_map (λ line. line ++ 10 ∷ []) lines
+abbrev pub text_of_lines : List Text → Text
+text_of_lines lines = flat_map (λ line. line ++ 10 ∷ []) lines
 
 -- `call print N`: the number stands as a word, and `print` prints it
 abbrev pub print_source : ℕ → List Text
@@ -117,4 +117,4 @@ source_of (Check n) = check_source n
 
 -- the source of a call
 abbrev pub call_text : Call → Text
-call_text call = text_of (source_of call)
+call_text call = text_of_lines (source_of call)

@@ -3,30 +3,30 @@
 use Rattle.std.specs.Prelude.{ℕ, zero, suc, ◌+◌, ◌*◌, ◌/◌, ◌%◌, List, [], ◌∷◌, ◌++◌, codes}
 use Rattle.std.specs.Fmt.{decimal}
 use Rattle.ed_words.specs.Texts.{Text}
-use Rattle.ed_sources.specs.Calls.{text_of}
+use Rattle.ed_sources.specs.Calls.{text_of_lines}
 
 -- what follows a number in the sequence
 abbrev pub next : ℕ → ℕ
 next x = (1105 * x + 12345) % 65536
 
 -- the number so many steps behind one
-abbrev pub behind : ℕ → ℕ → ℕ
-behind zero x = x
-behind (suc n) x = behind n (next x)
+abbrev pub number_behind : ℕ → ℕ → ℕ
+number_behind zero x = x
+number_behind (suc n) x = number_behind n (next x)
 
 -- the word of a number of the sequence, which is below 64
-abbrev pub word_of : ℕ → ℕ
-word_of x = x / 1024
+abbrev pub number_word : ℕ → ℕ
+number_word x = x / 1024
 
 -- the lines of so many words, of the numbers behind one
 abbrev pub word_lines : ℕ → ℕ → List Text
 word_lines zero x = []
-word_lines (suc n) x = (codes "word " ++ decimal (word_of (next x))) ∷ word_lines n (next x)
+word_lines (suc n) x = (codes "word " ++ decimal (number_word (next x))) ∷ word_lines n (next x)
 
 -- so many segments of 8 words, with the names from s1 on where k is 1, and the words of the numbers behind one
 abbrev pub segments : ℕ → ℕ → ℕ → List Text
 segments zero k x = []
-segments (suc n) k x = (codes "segment s" ++ decimal k) ∷ word_lines 8 x ++ segments n (k + 1) (behind 8 x)
+segments (suc n) k x = (codes "segment s" ++ decimal k) ∷ word_lines 8 x ++ segments n (k + 1) (number_behind 8 x)
 
 -- the program, where there are so many words: the order at `add` takes them one after the other, until it is the one at
 -- `stop`, which would take the word behind the last
@@ -58,4 +58,4 @@ demo_source n = adding (8 * n) ++ segments n 1 n ++ codes "enter main" ∷ []
 
 -- the source of `demo N`
 unfoldable pub demo_text : ℕ → Text
-demo_text n = text_of (demo_source n)
+demo_text n = text_of_lines (demo_source n)

@@ -1,6 +1,6 @@
 ghost use Rattle.std.specs.Prelude.{◌≡◌, ◌/◌, ◌%◌, ℕ, IfOk};
 ghost use Rattle.ed_sources.specs.Calls.{call_text, check_source, divide_source, newline_source};
-ghost use Rattle.ed_sources.specs.Calls.{print_source, read_source, root_source, text_of};
+ghost use Rattle.ed_sources.specs.Calls.{print_source, read_source, root_source, text_of_lines};
 ghost use Rattle.ed_sources.specs.Accepted.{EachCallIsAccepted};
 
 use ed_call::Call;
@@ -25,7 +25,7 @@ pub fn call_source(alloc: Global, call: &Call) -> Result<Vec<u8>, NoMemory>
 
 /// The source that prints a number.
 fn print_source(alloc: Global, number: u16) -> Result<Vec<u8>, NoMemory>
-    ensures { IfOk result (λ bytes. bytes.items ≡ text_of (print_source number)) }
+    ensures { IfOk result (λ bytes. bytes.items ≡ text_of_lines (print_source number)) }
 {
     bytes_of_text(format!(in alloc;
         "segment main\nhere: A here F\nG p F\nZ F\nvalue: word {number}\nuse print as p with H=value\nenter main\n"
@@ -34,7 +34,7 @@ fn print_source(alloc: Global, number: u16) -> Result<Vec<u8>, NoMemory>
 
 /// The source that reads a number from its tape and prints it.
 fn read_source(alloc: Global, number: u16) -> Result<Vec<u8>, NoMemory>
-    ensures { IfOk result (λ bytes. bytes.items ≡ text_of (read_source number)) }
+    ensures { IfOk result (λ bytes. bytes.items ≡ text_of_lines (read_source number)) }
 {
     bytes_of_text(format!(in alloc;
         "segment main\nhere: A here F\nG r F\nthen: A then F\nG p F\nZ F\nvalue: P F\n\
@@ -44,7 +44,7 @@ fn read_source(alloc: Global, number: u16) -> Result<Vec<u8>, NoMemory>
 
 /// The source that prints a new line.
 fn newline_source(alloc: Global) -> Result<Vec<u8>, NoMemory>
-    ensures { IfOk result (λ bytes. bytes.items ≡ text_of newline_source) }
+    ensures { IfOk result (λ bytes. bytes.items ≡ text_of_lines newline_source) }
 {
     bytes_of_text(format!(in alloc;
         "segment main\nhere: A here F\nG n F\nZ F\nuse newline as n\nenter main\n"
@@ -53,7 +53,7 @@ fn newline_source(alloc: Global) -> Result<Vec<u8>, NoMemory>
 
 /// The source that divides a number and prints the quotient and the remainder.
 fn divide_source(alloc: Global, number: u32, by: u16) -> Result<Vec<u8>, NoMemory>
-    ensures { IfOk result (λ bytes. bytes.items ≡ text_of (divide_source (number / 65536) (number % 65536) by)) }
+    ensures { IfOk result (λ bytes. bytes.items ≡ text_of_lines (divide_source (number / 65536) (number % 65536) by)) }
 {
     let high = number / 65536;
     let low = number % 65536;
@@ -66,7 +66,7 @@ fn divide_source(alloc: Global, number: u32, by: u16) -> Result<Vec<u8>, NoMemor
 
 /// The source that takes a square root and prints it.
 fn root_source(alloc: Global, number: u16) -> Result<Vec<u8>, NoMemory>
-    ensures { IfOk result (λ bytes. bytes.items ≡ text_of (root_source number)) }
+    ensures { IfOk result (λ bytes. bytes.items ≡ text_of_lines (root_source number)) }
 {
     bytes_of_text(format!(in alloc;
         "segment main\nhere: A here F\nG v F\nthen: A then F\nG p F\nZ F\nof: word {number}\nis: P F\n\
@@ -76,7 +76,7 @@ fn root_source(alloc: Global, number: u16) -> Result<Vec<u8>, NoMemory>
 
 /// The source of a guest that prints a number, and that the checking routine obeys.
 fn check_source(alloc: Global, number: u16) -> Result<Vec<u8>, NoMemory>
-    ensures { IfOk result (λ bytes. bytes.items ≡ text_of (check_source number)) }
+    ensures { IfOk result (λ bytes. bytes.items ≡ text_of_lines (check_source number)) }
 {
     bytes_of_text(format!(in alloc;
         "segment main\nhere: A here F\nG p F\nZ F\nvalue: word {number}\n\

@@ -1,8 +1,8 @@
 ghost use Rattle.std.specs.Prelude.{◌≡◌, ◌++◌, ◌<◌, ◌≤◌, codes, IfOk};
 ghost use Rattle.std.specs.Fmt.{decimal};
 ghost use Rattle.ed_sources.specs.Accepted.{EachDemoIsAccepted};
-ghost use Rattle.ed_sources.specs.Calls.{text_of};
-ghost use Rattle.ed_sources.specs.Demo.{adding, behind, demo_text, next, segments, word_lines, word_of};
+ghost use Rattle.ed_sources.specs.Calls.{text_of_lines};
+ghost use Rattle.ed_sources.specs.Demo.{adding, number_behind, demo_text, next, segments, word_lines, number_word};
 
 use ed_report::bytes_of_text;
 use ed_words::NoMemory;
@@ -24,7 +24,7 @@ pub fn demo_source(alloc: Global, n: u32) -> Result<Vec<u8>, NoMemory>
 
 /// The program that adds up so many words and prints the sum.
 fn adding(alloc: Global, words: u32) -> Result<Vec<u8>, NoMemory>
-    ensures { IfOk result (λ bytes. bytes.items ≡ text_of (adding words)) }
+    ensures { IfOk result (λ bytes. bytes.items ≡ text_of_lines (adding words)) }
 {
     bytes_of_text(format!(in alloc;
         "segment main\nloop: T junk F\nA total F\nadd: A s1 F\nT total F\nA add F\nA 2 F\nU add F\nS stop F\nG loop F\n\
@@ -36,7 +36,7 @@ fn adding(alloc: Global, words: u32) -> Result<Vec<u8>, NoMemory>
 /// Adds `n` segments to a source.
 fn push_segments(alloc: Global, text: &mut Vec<u8>, n: u32) -> Result<(), NoMemory>
     requires { n ≤ 112 }
-    ensures { IfOk result (λ _. text.new.items ≡ text.old.items ++ text_of (segments n 1 n)) }
+    ensures { IfOk result (λ _. text.new.items ≡ text.old.items ++ text_of_lines (segments n 1 n)) }
 {
     let mut number = n;
     for done in 0..n {
@@ -57,8 +57,8 @@ fn segment_line(alloc: Global, k: u32) -> Result<Vec<u8>, NoMemory>
 /// Adds the 8 words of the numbers behind one to a source, and answers the last of these numbers.
 fn push_words(alloc: Global, text: &mut Vec<u8>, before: u32) -> Result<u32, NoMemory>
     requires { before < 65536 }
-    ensures last { IfOk result (λ last. last ≡ behind 8 before) }
-    ensures text { IfOk result (λ _. text.new.items ≡ text.old.items ++ text_of (word_lines 8 before)) }
+    ensures last { IfOk result (λ last. last ≡ number_behind 8 before) }
+    ensures text { IfOk result (λ _. text.new.items ≡ text.old.items ++ text_of_lines (word_lines 8 before)) }
 {
     let mut number = before;
     for _word in 0..8u32 {
@@ -71,7 +71,7 @@ fn push_words(alloc: Global, text: &mut Vec<u8>, before: u32) -> Result<u32, NoM
 
 /// The line of the word of a number of the sequence.
 fn word_line(alloc: Global, number: u32) -> Result<Vec<u8>, NoMemory>
-    ensures { IfOk result (λ bytes. bytes.items ≡ codes "word " ++ decimal (word_of number) ++ codes "\n") }
+    ensures { IfOk result (λ bytes. bytes.items ≡ codes "word " ++ decimal (number_word number) ++ codes "\n") }
 {
     let word = number / 1024;
     bytes_of_text(format!(in alloc; "word {word}\n"))

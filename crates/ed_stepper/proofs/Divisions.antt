@@ -1,12 +1,13 @@
 -- How an input is divided, line by line.
-use Rattle.std.proofs.Common.{◌≡◌, ◌∙◌, ℕ, suc, ◌+◌, ◌-◌, ◌<◌, ◌≤◌, refl, sym, ap, subst, arith}
+use Rattle.std.proofs.Common.{◌≡◌, ◌∙◌, ℕ, suc, ◌+◌, ◌-◌, ◌<◌, ◌≤◌, refl, sym, ap, arith}
 use Rattle.std.proofs.Common.{Bool, true, false, List, [], ◌∷◌, ◌++◌, length, take, drop}
 use Rattle.std.proofs.Common.{Option, Some, None}
 use Rattle.std.specs.Prelude.{◌==◌, not, position, slice_index_or, if◌then◌else◌}
 use Rattle.std.proofs.lemmas.List.{append-nil, append_assoc, drop_all, length-append, take_at}
 use Rattle.ed_words.specs.Texts.{Text}
 use Rattle.ed_syntax.specs.Lines.{lines_of}
-use Rattle.ed_stepper.specs.Inputs.{Input, announced, at_line, behind_line, divided, divided_at, first_line, with_front}
+use Rattle.ed_stepper.specs.Inputs.{Input, announced, at_line, behind_line, divided, divided_at, first_line}
+use Rattle.ed_stepper.specs.Inputs.{with_byte_before}
 use Rattle.ed_stepper.specs.Private.Fronts.{unended}
 use Rattle.ed_stepper.specs.declared.inputs.TextKind.{TextKind}
 use Rattle.ed_stepper.proofs.Heads.{found, none_found}
@@ -64,7 +65,7 @@ prefixed-append before more None = refl
 prefixed-append before more (Some i) =
     ap (λ (script : Text). Some (record i { script = script })) (sym (append_assoc before more i.script))
 
-one_front : (b : ℕ) (more : Text) (o : Option Input) → with_front b (prefixed more o) ≡ prefixed (b ∷ more) o
+one_front : (b : ℕ) (more : Text) (o : Option Input) → with_byte_before b (prefixed more o) ≡ prefixed (b ∷ more) o
 one_front b more None = refl
 one_front b more (Some i) = refl
 
@@ -76,24 +77,25 @@ skips [] = refl
 skips (b ∷ bs) = by_test (b == 10) (skips bs)
   where
     by_test : (t : Bool) → divided_at false bs ≡ prefixed (line_front bs) (divided (behind_line bs))
-        → with_front b (divided_at t bs)
+        → with_byte_before b (divided_at t bs)
         ≡ prefixed (if t then b ∷ [] else b ∷ line_front bs) (divided (if t then bs else behind_line bs))
-    by_test true h = ap (with_front b) (sym (prefixed_none (divided bs))) ∙ one_front b [] (divided bs)
-    by_test false h = ap (with_front b) h ∙ one_front b (line_front bs) (divided (behind_line bs))
+    by_test true h = ap (with_byte_before b) (sym (prefixed_none (divided bs))) ∙ one_front b [] (divided bs)
+    by_test false h = ap (with_byte_before b) h ∙ one_front b (line_front bs) (divided (behind_line bs))
 
 -- so it is behind a line that announces nothing
 pub passes : (text : Text) → 0 < length text → announced (first_line text) ≡ None
     → divided text ≡ prefixed (line_front text) (divided (behind_line text))
 passes [] some none = absurd (omega arith)
 passes (b ∷ bs) some none =
-    ap (λ (k : Option TextKind). at_line k (b ∷ bs) (with_front b (divided_at (b == 10) bs))) none ∙ skips (b ∷ bs)
+    ap (λ (k : Option TextKind). at_line k (b ∷ bs) (with_byte_before b (divided_at (b == 10) bs))) none
+    ∙ skips (b ∷ bs)
 
 -- and a line that announces a text divides it
 pub divides : (text : Text) (kind : TextKind) → 0 < length text → announced (first_line text) ≡ Some kind
     → divided text ≡ Some (record { script = []; kind = kind; text = behind_line text })
 divides [] kind some is = absurd (omega arith)
 divides (b ∷ bs) kind some is =
-    ap (λ (k : Option TextKind). at_line k (b ∷ bs) (with_front b (divided_at (b == 10) bs))) is
+    ap (λ (k : Option TextKind). at_line k (b ∷ bs) (with_byte_before b (divided_at (b == 10) bs))) is
 
 -- the first line of a text whose lines are known
 pub first_is : (text line : Text) (rest : List Text) → lines_of text ≡ line ∷ rest → first_line text ≡ line

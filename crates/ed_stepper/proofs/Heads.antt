@@ -12,7 +12,7 @@ use Rattle.ed_syntax.specs.Lines.{lines_of, with_byte}
 use Rattle.ed_syntax.specs.Parts.{is_blank}
 use Rattle.ed_syntax.specs.Private.LineFronts.{has_end, without_return}
 use Rattle.ed_syntax.proofs.Lines.{keeps_end, no_return, takes_ended, takes_last}
-use Rattle.ed_stepper.specs.Commands.{begins_part, parts_of}
+use Rattle.ed_stepper.specs.Commands.{begins_part, parts_between_blanks}
 use Rattle.ed_stepper.specs.Private.Fronts.{blanks, solid, stop_of, unended}
 
 pub one_more : (n : ℕ) → 1 + n ≡ suc n
@@ -75,12 +75,13 @@ first_last text some all =
 -- ---- parts
 
 -- what stands behind the blanks has the same parts
-skipped : (line : Text) → parts_of line ≡ parts_of (drop (blanks line) line)
+skipped : (line : Text) → parts_between_blanks line ≡ parts_between_blanks (drop (blanks line) line)
 skipped [] = refl
 skipped (b ∷ bs) = by_test (is_blank b) refl (skipped bs)
   where
-    by_test : (t : Bool) → is_blank b ≡ t → parts_of bs ≡ parts_of (drop (blanks bs) bs)
-        → parts_of (b ∷ bs) ≡ parts_of (drop (if not (not t) then 1 + blanks bs else 0) (b ∷ bs))
+    by_test : (t : Bool) → is_blank b ≡ t → parts_between_blanks bs ≡ parts_between_blanks (drop (blanks bs) bs)
+        → parts_between_blanks (b ∷ bs) ≡ parts_between_blanks
+        (drop (if not (not t) then 1 + blanks bs else 0) (b ∷ bs))
     by_test true e h = let s = one_more (blanks bs) in rw (e, s) h
     by_test false e h = refl
 
@@ -102,20 +103,23 @@ none_begun (b ∷ bs) e = rw e refl
 
 -- the part at the front
 part_at : (text : Text) → begins_part text ≡ true
-    → parts_of text ≡ take (solid text) text ∷ parts_of (drop (solid text) text)
+    → parts_between_blanks text ≡ take (solid text) text ∷ parts_between_blanks (drop (solid text) text)
 part_at [] begin = absurd (cc)
 part_at (b ∷ bs) begin = by_test (is_blank b) refl begin (part_at bs)
   where
     after : (x : Bool) → begins_part bs ≡ x
-        → (begins_part bs ≡ true → parts_of bs ≡ take (solid bs) bs ∷ parts_of (drop (solid bs) bs))
-        → (if x then with_byte b (parts_of bs) else (b ∷ []) ∷ parts_of bs) ≡ (b ∷ take (solid bs) bs)
-        ∷ parts_of (drop (solid bs) bs)
+        → (begins_part bs ≡ true → parts_between_blanks bs ≡ take (solid bs) bs ∷ parts_between_blanks
+        (drop (solid bs) bs))
+        → (if x then with_byte b (parts_between_blanks bs) else (b ∷ []) ∷ parts_between_blanks bs) ≡
+        (b ∷ take (solid bs) bs)
+        ∷ parts_between_blanks (drop (solid bs) bs)
     after true e h = ap (with_byte b) (h e)
     after false e h = let z = none_begun bs e in rw z refl
 
     by_test : (t : Bool) → is_blank b ≡ t → not t ≡ true
-        → (begins_part bs ≡ true → parts_of bs ≡ take (solid bs) bs ∷ parts_of (drop (solid bs) bs))
-        → parts_of (b ∷ bs) ≡ take (if not t then 1 + solid bs else 0) (b ∷ bs) ∷ parts_of
+        → (begins_part bs ≡ true → parts_between_blanks bs ≡ take (solid bs) bs ∷ parts_between_blanks
+        (drop (solid bs) bs))
+        → parts_between_blanks (b ∷ bs) ≡ take (if not t then 1 + solid bs else 0) (b ∷ bs) ∷ parts_between_blanks
         (drop (if not t then 1 + solid bs else 0) (b ∷ bs))
     by_test true e h more = absurd (cc)
     by_test false e h more = let s = one_more (solid bs) in rw (e, s) (after (begins_part bs) refl more)
@@ -179,15 +183,15 @@ pub line_unended : (text : Text) → 0 < length text → position (λ b. b == 10
     → lines_of text ≡ text ∷ lines_of []
 line_unended text some none = first_last text some (none_found (λ b. b == 10) text none)
 
-pub no_part : (line : Text) → position (λ b. not (is_blank b)) line ≡ None → parts_of line ≡ []
+pub no_part : (line : Text) → position (λ b. not (is_blank b)) line ≡ None → parts_between_blanks line ≡ []
 no_part line none =
     let all = none_found (λ b. not (is_blank b)) line none in
     let empty : drop (blanks line) line ≡ [] = drop_all (blanks line) line (omega (arith, all)) in
-    skipped line ∙ ap parts_of empty
+    skipped line ∙ ap parts_between_blanks empty
 
 pub part_taken : (line : Text) (start end : ℕ) → position (λ b. not (is_blank b)) line ≡ Some start
     → end ≡ unwrap_or (position is_blank (drop start line)) (length (drop start line))
-    → parts_of line ≡ take end (drop start line) ∷ parts_of (drop end (drop start line))
+    → parts_between_blanks line ≡ take end (drop start line) ∷ parts_between_blanks (drop end (drop start line))
 part_taken line start end at is =
     let f = found (λ b. not (is_blank b)) line start at in
     let place : start ≡ blanks line = f.0 in
@@ -195,5 +199,5 @@ part_taken line start end at is =
     let some : 0 < length (drop (blanks line) line) = omega (arith, length-drop (blanks line) line, low, place) in
     let begin : begins_part (drop start line) ≡ true = ap (λ n. begins_part (drop n line)) place ∙ begins line some in
     let same : end ≡ solid (drop start line) = is ∙ place_or_end is_blank (drop start line) in
-    skipped line ∙ ap (λ n. parts_of (drop n line)) (sym place) ∙ part_at (drop start line) begin
-    ∙ ap (λ n. take n (drop start line) ∷ parts_of (drop n (drop start line))) (sym same)
+    skipped line ∙ ap (λ n. parts_between_blanks (drop n line)) (sym place) ∙ part_at (drop start line) begin
+    ∙ ap (λ n. take n (drop start line) ∷ parts_between_blanks (drop n (drop start line))) (sym same)

@@ -1,10 +1,9 @@
 -- What a session keeps over a move.
-use Rattle.std.proofs.Common.{◌≡◌, ℕ, ◌+◌, ◌-◌, ◌<◌, ◌≤◌, refl, sym, ap, ◌∙◌}
-use Rattle.std.proofs.Common.{subst, arith, true, List, [], ◌⊎◌, inl, inr}
+use Rattle.std.proofs.Common.{◌≡◌, ℕ, ◌+◌, ◌-◌, ◌≤◌, refl, sym, ap, ◌∙◌}
+use Rattle.std.proofs.Common.{subst, arith, List, []}
 use Rattle.ed_machine.specs.State.{State}
-use Rattle.ed_machine.specs.OrderTable.{step}
-use Rattle.ed_machine.specs.Steps.{IsFree, is_obeyed, state_after}
-use Rattle.ed_initial.proofs.Goes.{after_sum}
+use Rattle.ed_machine.specs.Steps.{state_after}
+use Rattle.ed_machine.proofs.Steps.{after_sum}
 use Rattle.ed_stepper.specs.MoveEnds.{Ends}
 use Rattle.ed_stepper.specs.Sessions.{Moves}
 use Rattle.ed_stepper.specs.Private.Kept.{AreMarks, IsMark}
@@ -20,7 +19,7 @@ no_marks start marks is = subst (λ ms. AreMarks start ms) (sym is) none
     none k d h = absurd (omega arith)
 
 -- a walk from where a session stands is a move
-pub moves_so : (aim : Aim) (start machine last : State) (limit done orders at : ℕ) (end : MoveEnd)
+pub moves_so : {aim : Aim} {start machine last : State} {limit done orders at : ℕ} {end : MoveEnd}
     → machine ≡ state_after done start
     → Ends aim (limit - done) machine orders end → last ≡ state_after orders machine → at ≡ last.counter
     → Moves aim (record { start = start; limit = limit; done = done }) (record {
@@ -29,7 +28,7 @@ pub moves_so : (aim : Aim) (start machine last : State) (limit done orders at : 
       done = done + orders;
     })
     (record { at = at; done = done + orders; end = end })
-moves_so aim start machine last limit done orders at end is ends to place =
+moves_so {aim} {start} {limit = limit} {done} {orders} {end = end} is ends to place =
     let from : Ends aim (limit - done) (state_after done start) orders end =
     subst (λ (x : State). Ends aim (limit - done) x orders end) is ends in
     record {
@@ -50,16 +49,3 @@ from_mark start m done mark low =
     let e : m.done + (done - m.done) ≡ done = omega arith in
     ap (state_after (done - m.done)) mark.is ∙ sym (after_sum m.done (done - m.done) start)
     ∙ ap (λ k. state_after k start) e
-
--- orders obeyed, and more after them
-pub free_later : (j k : ℕ) (s : State) → IsFree j s → IsFree k (state_after j s) → IsFree (j + k) s
-free_later j k s a b i h = by_place (split i j)
-  where
-    split : (a b : ℕ) → (a < b) ⊎ (b ≤ a)
-    split a b = grind arith
-
-    by_place : (i < j) ⊎ (j ≤ i) → is_obeyed (step (state_after i s)).turn ≡ true
-    by_place (inl low) = a i low
-    by_place (inr high) =
-        let e : j + (i - j) ≡ i = omega arith in
-        rw e at (ap (λ (x : State). is_obeyed (step x).turn) (after_sum j (i - j) s) ∙ b (i - j) (omega arith))

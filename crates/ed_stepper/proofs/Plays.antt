@@ -6,8 +6,8 @@ use Rattle.ed_words.proofs.Numbers.{not_eq_of}
 use Rattle.ed_words.specs.Texts.{Text}
 use Rattle.ed_syntax.specs.Lines.{lines_of}
 use Rattle.ed_stepper.specs.Sessions.{Stand}
-use Rattle.ed_stepper.specs.Commands.{command_of}
-use Rattle.ed_stepper.specs.Scripts.{LeftBy, Played, TooFar, after, bad_from, bad_line}
+use Rattle.ed_stepper.specs.Commands.{session_command}
+use Rattle.ed_stepper.specs.Scripts.{LeftBy, Played, TooFar, left_by, bad_from, bad_line}
 use Rattle.ed_stepper.specs.Scripts.{behind, commands_of, is_too_far, play, played, writes}
 use Rattle.ed_stepper.specs.declared.commands.Command.{Command}
 use Rattle.ed_stepper.specs.declared.commands.Command.TheVariants.{Nothing}
@@ -27,13 +27,13 @@ play_more [] more k s t text is =
     let same : s ≡ t = ap (λ (p : Played). p.stand) is in
     let e : k + 0 ≡ k = omega arith in
     rw e (λ i. behind (none i) (play k more (same i)))
-play_more (c ∷ ran) more k s t text is = by_test (is_too_far c s) refl (play_more ran more (k + 1) (after c s) t)
+play_more (c ∷ ran) more k s t text is = by_test (is_too_far c s) refl (play_more ran more (k + 1) (left_by c s) t)
   where
     rest : Played
-    rest = play (k + 1) ran (after c s)
+    rest = play (k + 1) ran (left_by c s)
 
     by_test : (b : Bool) → is_too_far c s ≡ b
-        → ((before : Text) → rest ≡ whole_play before t → play (k + 1) (ran ++ more) (after c s) ≡ behind before
+        → ((before : Text) → rest ≡ whole_play before t → play (k + 1) (ran ++ more) (left_by c s) ≡ behind before
         (play (k + 1 + length ran) more t))
         → play k (c ∷ (ran ++ more)) s ≡ behind text (play (k + length (c ∷ ran)) more t)
     by_test true e before_rest =
@@ -77,89 +77,21 @@ playing_first script text s good none = record {
 -- a line that is none is not among them
 record Good (line : ℕ) (bytes : Text) (rest : List Text) : Type 0 where
   pub below : nat_eq line 1001 ≡ false
-  pub some : is_none (command_of bytes) ≡ false
+  pub some : is_none (session_command bytes) ≡ false
   pub more : bad_from (line + 1) rest ≡ None
 
 good_first : (line : ℕ) (bytes : Text) (rest : List Text) → bad_from line (bytes ∷ rest) ≡ None → Good line bytes rest
-good_first line bytes rest good = by_test (nat_eq line 1001) (is_none (command_of bytes)) refl refl
+good_first line bytes rest good = by_test (nat_eq line 1001) (is_none (session_command bytes)) refl refl
   where
-    by_test : (a b : Bool) → nat_eq line 1001 ≡ a → is_none (command_of bytes) ≡ b → Good line bytes rest
+    by_test : (a b : Bool) → nat_eq line 1001 ≡ a → is_none (session_command bytes) ≡ b → Good line bytes rest
     by_test true b e f = let bad : Some line ≡ None = sym (rw e refl) ∙ good in absurd (cc)
     by_test false true e f = let bad : Some line ≡ None = sym (rw (e, f) refl) ∙ good in absurd (cc)
     by_test false false e f = record { below = e; some = f; more = sym (rw (e, f) refl) ∙ good }
 
--- the next line is a command
-pub has_command : (script : Text) (s : Stand) (line : ℕ) (rest text bytes more : Text) (t : Stand)
-    → Playing script s line rest text t
-    → lines_of rest ≡ bytes ∷ lines_of more → IsSome (command_of bytes)
-has_command script s line rest text bytes more t p is =
-    some_of (command_of bytes) (good_first line bytes (lines_of more) (sym (ap (bad_from line) is) ∙ p.good)).some
-  where
-    some_of : (o : Option Command) → is_none o ≡ false → IsSome o
-    some_of None e = absurd (cc)
-    some_of (Some c) e = refl
-
--- the commands that are left begin with it
-pub begins_with : (rest bytes more : Text) (c : Command) → lines_of rest ≡ bytes ∷ lines_of more
-    → command_of bytes ≡ Some c
-    → commands_of rest ≡ c ∷ commands_of more
-begins_with rest bytes more c is command =
-    ap (map (λ line. unwrap_or (command_of line) Nothing)) is ∙ ap (λ o. unwrap_or o Nothing ∷ commands_of more) command
-
--- the next line has run
-pub playing_next : (script : Text) (s : Stand) (line : ℕ) (rest text bytes more grown written : Text) (t u : Stand)
-    (c : Command)
-    → Playing script s line rest text t → lines_of rest ≡ bytes ∷ lines_of more → command_of bytes ≡ Some c
-    → (is_too_far c t ≡ false) × (written ≡ writes c t) × (u ≡ after c t) → grown ≡ text ++ written
-    → Playing script s (line + 1) more grown u
-playing_next script s line rest text bytes more grown written t u c p is command does grows =
-    let good = good_first line bytes (lines_of more) (sym (ap (bad_from line) is) ∙ p.good) in
-    let far = does.0 in
-    record {
-      ran = p.ran ++ c ∷ [];
-      whole = p.whole ∙ ap (λ cs. p.ran ++ cs) (begins_with rest bytes more c is command) ∙ sym
-          (append_assoc p.ran (c ∷ []) (commands_of more));
-      left = play_more p.ran (c ∷ []) 1 s t text p.left ∙ rw far (λ i. record {
-        text = (ap (λ w. text ++ w) (append-nil (writes c t) ∙ sym does.1) ∙ sym grows) i;
-        stand = sym does.2 i;
-        refused = None;
-      });
-      number = omega (arith, p.number, length-append p.ran (c ∷ []));
-      good = good.more;
-      few = let other = not_eq_of line 1001 good.below in omega (arith, p.few);
-    }
-
--- all lines have run
-pub playing_done : (script : Text) (s : Stand) (line : ℕ) (rest text : Text) (t : Stand)
-    → Playing script s line rest text t
-    → rest ≡ [] → played script s ≡ record { text = text; stand = t; refused = None }
-playing_done script s line rest text t p none =
-    ap (λ cs. play 1 cs s) (p.whole ∙ ap (λ r. p.ran ++ commands_of r) none) ∙ play_more p.ran [] 1 s t text p.left
-    ∙ (λ i. record { text = append-nil text i; stand = t; refused = None })
-
--- the next line goes back too far
-pub playing_far : (script : Text) (s : Stand) (line done : ℕ) (rest text bytes more : Text) (t u : Stand) (c : Command)
-    → Playing script s line rest text t → lines_of rest ≡ bytes ∷ lines_of more → command_of bytes ≡ Some c
-    → (is_too_far c t ≡ true) × (done ≡ t.done) × (u ≡ t)
-    → ((played script s).refused ≡ Some (record { line = line; done = done })) × ((played script s).stand ≡ u)
-playing_far script s line done rest text bytes more t u c p is command does =
-    let far = does.0 in
-    let whole : played script s ≡ record {
-      text = text ++ [];
-      stand = t;
-      refused = Some
-          (record { line = 1 + length p.ran; done = t.done });
-    } =
-    ap (λ cs. play 1 cs s) (p.whole ∙ ap (λ cs. p.ran ++ cs) (begins_with rest bytes more c is command))
-    ∙ play_more p.ran (c ∷ commands_of more) 1 s t text p.left ∙ rw far refl in (
-      ap (λ (q : Played). q.refused) whole ∙ (λ i. Some (record { line = sym p.number i; done = sym does.1 i })),
-      ap (λ (q : Played). q.stand) whole ∙ sym does.2,
-    )
-
 -- the lines so far have run
-pub playing_left : (script : Text) (s : Stand) (line : ℕ) (rest text : Text) (t : Stand) → Playing script s line rest
-    text t → LeftBy script s t
-playing_left script s line rest text t p = record {
+pub playing_left : {script : Text} {s : Stand} {line : ℕ} {rest text : Text} {t : Stand}
+    → Playing script s line rest text t → LeftBy script s t
+playing_left {rest = rest} p = record {
   ran = p.ran;
   rest = commands_of rest;
   whole = p.whole;
@@ -167,13 +99,72 @@ playing_left script s line rest text t p = record {
   stand = ap (λ (q : Played). q.stand) p.left;
 }
 
--- memory ran out before the next line ran or behind it
-pub playing_memory : (script : Text) (s : Stand) (line : ℕ) (rest text bytes more : Text) (t u : Stand) (c : Command)
-    → Playing script s line rest text t → lines_of rest ≡ bytes ∷ lines_of more → command_of bytes ≡ Some c
-    → (u ≡ t) ⊎ ((is_too_far c t ≡ false) × (u ≡ after c t)) → LeftBy script s u
-playing_memory script s line rest text bytes more t u c p is command (inl same) =
-    subst (λ x. LeftBy script s x) (sym same) (playing_left script s line rest text t p)
-playing_memory script s line rest text bytes more t u c p is command (inr does) =
-    playing_left script s (line + 1) more (text ++ writes c t) u
-    (playing_next script s line rest text bytes more (text ++ writes c t) (writes c t) t u c p is command
-    (does.0, refl, does.1) refl)
+module _ {script : Text} {s : Stand} {line : ℕ} {rest text : Text} {t : Stand}
+    (p : Playing script s line rest text t) where
+  -- all of them have
+  pub playing_done : rest ≡ [] → played script s ≡ record { text = text; stand = t; refused = None }
+  playing_done none =
+      ap (λ cs. play 1 cs s) (p.whole ∙ ap (λ r. p.ran ++ commands_of r) none) ∙ play_more p.ran [] 1 s t text p.left
+      ∙ (λ i. record { text = append-nil text i; stand = t; refused = None })
+
+  -- there is a next one
+  module _ (more : Text) {bytes : Text} (is : lines_of rest ≡ bytes ∷ lines_of more) where
+    good : Good line bytes (lines_of more)
+    good = good_first line bytes (lines_of more) (sym (ap (bad_from line) is) ∙ p.good)
+
+    -- it is a command
+    pub has_command : IsSome (session_command bytes)
+    has_command = some_of (session_command bytes) good.some
+      where
+        some_of : (o : Option Command) → is_none o ≡ false → IsSome o
+        some_of None e = absurd (cc)
+        some_of (Some c) e = refl
+
+    module _ {c : Command} (command : session_command bytes ≡ Some c) where
+      -- the commands that are left begin with it
+      begins_with : commands_of rest ≡ c ∷ commands_of more
+      begins_with =
+          ap (map (λ line. unwrap_or (session_command line) Nothing)) is
+          ∙ ap (λ o. unwrap_or o Nothing ∷ commands_of more) command
+
+      -- it has run
+      pub playing_next : {grown written : Text} {u : Stand}
+          → (is_too_far c t ≡ false) × (written ≡ writes c t) × (u ≡ left_by c t) → grown ≡ text ++ written
+          → Playing script s (line + 1) more grown u
+      playing_next does grows =
+          let far = does.0 in
+          record {
+            ran = p.ran ++ c ∷ [];
+            whole = p.whole ∙ ap (λ cs. p.ran ++ cs) begins_with
+                ∙ sym (append_assoc p.ran (c ∷ []) (commands_of more));
+            left = play_more p.ran (c ∷ []) 1 s t text p.left ∙ rw far (λ i. record {
+              text = (ap (λ w. text ++ w) (append-nil (writes c t) ∙ sym does.1) ∙ sym grows) i;
+              stand = sym does.2 i;
+              refused = None;
+            });
+            number = omega (arith, p.number, length-append p.ran (c ∷ []));
+            good = good.more;
+            few = let other = not_eq_of line 1001 good.below in omega (arith, p.few);
+          }
+
+      -- it goes back too far
+      pub playing_far : {done : ℕ} {u : Stand} → (is_too_far c t ≡ true) × (done ≡ t.done) × (u ≡ t)
+          → ((played script s).refused ≡ Some (record { line = line; done = done })) × ((played script s).stand ≡ u)
+      playing_far does =
+          let far = does.0 in
+          let whole : played script s ≡ record {
+            text = text ++ [];
+            stand = t;
+            refused = Some (record { line = 1 + length p.ran; done = t.done });
+          } =
+          ap (λ cs. play 1 cs s) (p.whole ∙ ap (λ cs. p.ran ++ cs) begins_with)
+          ∙ play_more p.ran (c ∷ commands_of more) 1 s t text p.left ∙ rw far refl in (
+            ap (λ (q : Played). q.refused) whole ∙ (λ i. Some (record { line = sym p.number i; done = sym does.1 i })),
+            ap (λ (q : Played). q.stand) whole ∙ sym does.2,
+          )
+
+      -- memory ran out before it ran or behind it
+      pub playing_memory : {u : Stand} → (u ≡ t) ⊎ ((is_too_far c t ≡ false) × (u ≡ left_by c t)) → LeftBy script s u
+      playing_memory (inl same) = subst (λ x. LeftBy script s x) (sym same) (playing_left p)
+      playing_memory (inr does) =
+          playing_left (playing_next {grown = text ++ writes c t} {written = writes c t} (does.0, refl, does.1) refl)

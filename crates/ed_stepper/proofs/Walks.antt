@@ -4,22 +4,14 @@ use Rattle.std.proofs.Common.{below_more, true, false, Some, None, ◌⊎◌, in
 use Rattle.ed_words.proofs.Numbers.{eq_true, eq_false}
 use Rattle.ed_machine.specs.State.{State}
 use Rattle.ed_machine.specs.OrderTable.{step}
-use Rattle.ed_machine.specs.Steps.{IsFree, is_obeyed, past, state_after}
+use Rattle.ed_machine.specs.Steps.{IsFree, is_obeyed, is_stop, state_after}
 use Rattle.ed_machine.specs.declared.turn.Turn.{Turn}
 use Rattle.ed_machine.specs.declared.turn.Turn.TheVariants.{Went, Printed, Stopped, NoOrder, NoTape}
-use Rattle.ed_initial.proofs.Goes.{after_sum}
-use Rattle.ed_stepper.specs.MoveEnds.{Ends, blocked_end, end_after, is_stop, own_end, stopped_after}
+use Rattle.ed_machine.proofs.Steps.{after_sum, next_state, no_step}
+use Rattle.ed_stepper.specs.MoveEnds.{Ends, blocked_end, end_after, own_end, stopped_after}
 use Rattle.ed_stepper.specs.declared.moves.MoveEnd.{MoveEnd}
 use Rattle.ed_stepper.specs.declared.moves.MoveEnd.TheVariants.{Limit, Stopped as EndStopped}
 use Rattle.ed_stepper.specs.declared.moves.Aim.{Aim}
-
-pub after_none : (s : State) → state_after 0 s ≡ s
-unfolding past
-after_none s = refl
-
-pub next_state : (k : ℕ) (s : State) → state_after (k + 1) s ≡ (step (state_after k s)).state
-unfolding past
-next_state k s = rw add-one refl
 
 -- k orders of a move have been obeyed, and it has not ended; the limit and a blocked order are not looked at yet
 pub record Walking (aim : Aim) (left : ℕ) (s : State) (k : ℕ) (m : State) : Type 0 where
@@ -31,19 +23,12 @@ pub record Walking (aim : Aim) (left : ℕ) (s : State) (k : ℕ) (m : State) : 
 
 pub at_first : (aim : Aim) (left : ℕ) (s : State) → own_end aim 0 s ≡ None → Walking aim left s 0 s
 at_first aim left s none = record {
-  state = sym (after_none s);
+  state = no_step s;
   free = λ j h. absurd (omega arith);
   quiet = refl;
   going = none;
   first = λ j h. absurd (omega arith);
 }
-
--- below the limit only an order that can't be obeyed ends it now
-by_next : (aim : Aim) (left k : ℕ) (s m : State) → Walking aim left s k m → k < left
-    → end_after aim left k s ≡ blocked_end (step m).turn
-by_next aim left k s m w below =
-    let e = eq_false k left (omega arith) in
-    rw (w.quiet, w.going, e) (ap (λ (x : State). blocked_end (step x).turn) (sym w.state))
 
 not_blocked : (turn : Turn) → is_obeyed turn ≡ true → blocked_end turn ≡ None
 not_blocked Went h = refl
@@ -52,6 +37,11 @@ not_blocked Stopped h = refl
 not_blocked (NoOrder function) h = cc
 not_blocked NoTape h = cc
 
+-- a turn that neither stops nor is blocked
+quiet_turn : (t : Turn) → (t ≡ Went) ⊎ ((x : ℕ) × (t ≡ Printed x)) → (is_obeyed t ≡ true) × (is_stop t ≡ false)
+quiet_turn t (inl e) = (ap is_obeyed e, ap is_stop e)
+quiet_turn t (inr p) = (ap is_obeyed p.1, ap is_stop p.1)
+
 -- an order that was obeyed
 pub record Next (aim : Aim) (left : ℕ) (s : State) (k : ℕ) (m n : State) (turn : Turn) : Type 0 where
   pub state : n ≡ state_after (k + 1) s
@@ -59,45 +49,54 @@ pub record Next (aim : Aim) (left : ℕ) (s : State) (k : ℕ) (m n : State) (tu
   pub stop_is : stopped_after (k + 1) s ≡ is_stop turn
   pub first : (j : ℕ) → j < k + 1 → end_after aim left j s ≡ None
 
-pub next : (aim : Aim) (left k : ℕ) (s m n : State) (turn : Turn) → Walking aim left s k m → k < left
-    → turn ≡ (step m).turn
-    → n ≡ (step m).state → is_obeyed turn ≡ true → Next aim left s k m n turn
-next aim left k s m n turn w below is to obeyed =
-    let same : (step (state_after k s)).turn ≡ turn = ap (λ (x : State). (step x).turn) (sym w.state) ∙ sym is in
-    let none : end_after aim left k s ≡ None =
-    by_next aim left k s m w below ∙ ap blocked_end (sym is) ∙ not_blocked turn obeyed in
-    record {
-      state = to ∙ ap (λ (x : State). (step x).state) w.state ∙ sym (next_state k s);
-      free = below_more (λ j. is_obeyed (step (state_after j s)).turn ≡ true) k w.free (ap is_obeyed same ∙ obeyed);
-      stop_is = rw add-one (ap is_stop same);
-      first = below_more (λ j. end_after aim left j s ≡ None) k w.first none;
-    }
+-- so many orders of a move below its limit have been obeyed
+module _ {aim : Aim} {left : ℕ} {s : State} {k : ℕ} {m : State} (w : Walking aim left s k m) (below : k < left) where
+  -- only an order that can't be obeyed ends it now
+  by_next : end_after aim left k s ≡ blocked_end (step m).turn
+  by_next =
+      let e = eq_false k left (omega arith) in
+      rw (w.quiet, w.going, e) (ap (λ (x : State). blocked_end (step x).turn) (sym w.state))
 
--- the move goes on
-pub goes_on : (aim : Aim) (left k : ℕ) (s m n : State) (turn : Turn) → Next aim left s k m n turn → is_stop turn ≡ false
-    → own_end aim (k + 1) s ≡ None → Walking aim left s (k + 1) n
-goes_on aim left k s m n turn next go none =
-    record { state = next.state; free = next.free; quiet = next.stop_is ∙ go; going = none; first = next.first }
+  -- it comes to one
+  pub blocks : {end : MoveEnd} → blocked_end (step m).turn ≡ Some end → Ends aim left s k end
+  blocks is = record { now = by_next ∙ is; first = w.first }
 
--- it ends with a stop
-pub stops : (aim : Aim) (left k : ℕ) (s m n : State) (turn : Turn) → Next aim left s k m n turn → is_stop turn ≡ true
-    → Ends aim left s (k + 1) EndStopped
-stops aim left k s m n turn next stop = let e = next.stop_is ∙ stop in record { now = rw e refl; first = next.first }
+  -- its next order
+  module _ {n : State} {turn : Turn} (is : turn ≡ (step m).turn) (to : n ≡ (step m).state) where
+    pub next : is_obeyed turn ≡ true → Next aim left s k m n turn
+    next obeyed =
+        let same : (step (state_after k s)).turn ≡ turn = ap (λ (x : State). (step x).turn) (sym w.state) ∙ sym is in
+        record {
+          state = next_state k s w.state to;
+          free = below_more (λ j. is_obeyed (step (state_after j s)).turn ≡ true) k w.free (ap is_obeyed same ∙ obeyed);
+          stop_is = rw add-one (ap is_stop same);
+          first = below_more (λ j. end_after aim left j s ≡ None) k w.first
+              (by_next ∙ ap blocked_end (sym is) ∙ not_blocked turn obeyed);
+        }
 
--- it comes to its own end
-pub owns : (aim : Aim) (left k : ℕ) (s m n : State) (turn : Turn) (end : MoveEnd) → Next aim left s k m n turn
-    → is_stop turn ≡ false → own_end aim (k + 1) s ≡ Some end → Ends aim left s (k + 1) end
-owns aim left k s m n turn end next go own =
-    let e = next.stop_is ∙ go in record { now = rw (e, own) refl; first = next.first }
+    -- where it neither stops nor is blocked
+    pub taken : (turn ≡ Went) ⊎ ((x : ℕ) × (turn ≡ Printed x)) → Next aim left s k m n turn × (is_stop turn ≡ false)
+    taken quiet = let q = quiet_turn turn quiet in (next q.0, q.1)
 
--- it comes to an order that can't be obeyed
-pub blocks : (aim : Aim) (left k : ℕ) (s m : State) (end : MoveEnd) → Walking aim left s k m → k < left
-    → blocked_end (step m).turn ≡ Some end → Ends aim left s k end
-blocks aim left k s m end w below is = record { now = by_next aim left k s m w below ∙ is; first = w.first }
+-- behind such an order
+module _ {aim : Aim} {left : ℕ} {s : State} {k : ℕ} {m n : State} {turn : Turn}
+    (next : Next aim left s k m n turn) where
+  -- the move goes on
+  pub goes_on : is_stop turn ≡ false → own_end aim (k + 1) s ≡ None → Walking aim left s (k + 1) n
+  goes_on go none =
+      record { state = next.state; free = next.free; quiet = next.stop_is ∙ go; going = none; first = next.first }
 
--- it comes to the limit
-pub limits : (aim : Aim) (left : ℕ) (s m : State) → Walking aim left s left m → Ends aim left s left Limit
-limits aim left s m w = let e = eq_true left left refl in record {
+  -- it ends with a stop
+  pub stops : is_stop turn ≡ true → Ends aim left s (k + 1) EndStopped
+  stops stop = let e = next.stop_is ∙ stop in record { now = rw e refl; first = next.first }
+
+  -- it comes to its own end
+  pub owns : {end : MoveEnd} → is_stop turn ≡ false → own_end aim (k + 1) s ≡ Some end → Ends aim left s (k + 1) end
+  owns go own = let e = next.stop_is ∙ go in record { now = rw (e, own) refl; first = next.first }
+
+-- a move comes to the limit
+pub limits : {aim : Aim} {left : ℕ} {s m : State} → Walking aim left s left m → Ends aim left s left Limit
+limits {left = left} w = let e = eq_true left left refl in record {
   now = rw (w.quiet, w.going, e) refl;
   first = w.first;
 }
@@ -106,19 +105,6 @@ limits aim left s m w = let e = eq_true left left refl in record {
 pub ends_at_once : (aim : Aim) (left : ℕ) (s : State) (end : MoveEnd) → own_end aim 0 s ≡ Some end
     → Ends aim left s 0 end
 ends_at_once aim left s end own = record { now = rw own refl; first = λ j h. absurd (omega arith) }
-
--- a turn that neither stops nor is blocked
-quiet_turn : (t : Turn) → (t ≡ Went) ⊎ ((x : ℕ) × (t ≡ Printed x)) → (is_obeyed t ≡ true) × (is_stop t ≡ false)
-quiet_turn t (inl e) = (ap is_obeyed e, ap is_stop e)
-quiet_turn t (inr p) = (ap is_obeyed p.1, ap is_stop p.1)
-
--- an order that neither stops nor is blocked
-pub taken : (aim : Aim) (left k : ℕ) (s m n : State) (turn : Turn) → Walking aim left s k m → k < left
-    → turn ≡ (step m).turn
-    → n ≡ (step m).state → (turn ≡ Went) ⊎ ((x : ℕ) × (turn ≡ Printed x))
-    → Next aim left s k m n turn × (is_stop turn ≡ false)
-taken aim left k s m n turn w below is to quiet =
-    let q = quiet_turn turn quiet in (next aim left k s m n turn w below is to q.0, q.1)
 
 -- the state so many orders after another
 pub after_from : (from k : ℕ) (s start m : State) → m ≡ state_after (k + 1) s → s ≡ state_after from start

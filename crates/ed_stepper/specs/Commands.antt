@@ -18,27 +18,27 @@ begins_part [] = false
 begins_part (b ∷ bs) = not (is_blank b)
 
 -- the parts of a line: its bytes between blanks
-abbrev pub parts_of : Text → List Text
-parts_of [] = []
-parts_of (b ∷ bs) = if is_blank b then parts_of bs
-    else if begins_part bs then with_byte b (parts_of bs)
-    else (b ∷ []) ∷ parts_of bs
+abbrev pub parts_between_blanks : Text → List Text
+parts_between_blanks [] = []
+parts_between_blanks (b ∷ bs) = if is_blank b then parts_between_blanks bs
+    else if begins_part bs then with_byte b (parts_between_blanks bs)
+    else (b ∷ []) ∷ parts_between_blanks bs
 
 -- `entry`
 abbrev pub of_one : Text → Option Command
 of_one w = if bytes_eq w (codes "entry") then Some (Move aims.Entry) else None
 
 -- the locations from one to another
-abbrev pub window : Option ℕ → Option ℕ → Option Command
-window (Some a) (Some b) = if nat_le a b then Some (Show a b) else None
-window a b = None
+abbrev pub show_command : Option ℕ → Option ℕ → Option Command
+show_command (Some a) (Some b) = if nat_le a b then Some (Show a b) else None
+show_command a b = None
 
 -- `show A`, `show acc`, `show mult` and `show last`
 abbrev pub shown : Text → Option Command
 shown a = if bytes_eq a (codes "acc") then Some Accumulator
     else if bytes_eq a (codes "mult") then Some Multiplier
     else if bytes_eq a (codes "last") then Some LastPrinted
-    else window (number_within 0 1023 a) (number_within 0 1023 a)
+    else show_command (number_within 0 1023 a) (number_within 0 1023 a)
 
 -- `go N`, `to A`, `back N`, `trace N` and what `show` has one part behind it for
 abbrev pub of_two : Text → Text → Option Command
@@ -51,7 +51,8 @@ of_two w a = if bytes_eq w (codes "go") then option_map (λ n. Move (aims.Orders
 
 -- `show A B`
 abbrev pub of_three : Text → Text → Text → Option Command
-of_three w a b = if bytes_eq w (codes "show") then window (number_within 0 1023 a) (number_within 0 1023 b) else None
+of_three w a b = if bytes_eq w (codes "show") then show_command (number_within 0 1023 a)
+    (number_within 0 1023 b) else None
 
 -- the command of the parts of a line; a line without parts does nothing
 abbrev pub of_parts : List Text → Option Command
@@ -62,5 +63,5 @@ of_parts (w ∷ a ∷ b ∷ []) = of_three w a b
 of_parts parts = None
 
 -- the command of a line
-abbrev pub command_of : Text → Option Command
-command_of line = of_parts (parts_of line)
+abbrev pub session_command : Text → Option Command
+session_command line = of_parts (parts_between_blanks line)

@@ -1,6 +1,6 @@
 -- The input of the command that runs a script: the script's lines, a line that divides, and a tape's text or a source
 -- (this project's own rule).
-use Rattle.std.specs.Prelude.{◌≡◌, ℕ, ◌==◌, Bool, true, List, [], ◌∷◌, codes}
+use Rattle.std.specs.Prelude.{◌≡◌, ℕ, ◌==◌, Bool, true, [], ◌∷◌, codes}
 use Rattle.std.specs.Prelude.{slice_index_or, if◌then◌else◌, Option, Some, None}
 use Rattle.std.specs.Str.{bytes_eq}
 use Rattle.ed_words.specs.Texts.{Text}
@@ -30,9 +30,9 @@ pub record Input : Type 0 where
   pub text : Text
 
 -- a byte more in front of the script
-abbrev pub with_front : ℕ → Option Input → Option Input
-with_front b None = None
-with_front b (Some i) = Some (record i { script = b ∷ i.script })
+abbrev pub with_byte_before : ℕ → Option Input → Option Input
+with_byte_before b None = None
+with_byte_before b (Some i) = Some (record i { script = b ∷ i.script })
 
 -- the input is divided here, where a line announces a text, and else further on
 abbrev pub at_line : Option TextKind → Text → Option Input → Option Input
@@ -43,7 +43,8 @@ at_line None text later = later
 abbrev pub divided_at : Bool → Text → Option Input
 divided_at begins [] = None
 divided_at begins (b ∷ bs) =
-    at_line (if begins then announced (first_line (b ∷ bs)) else None) (b ∷ bs) (with_front b (divided_at (b == 10) bs))
+    at_line (if begins then announced (first_line (b ∷ bs)) else None) (b ∷ bs)
+    (with_byte_before b (divided_at (b == 10) bs))
 
 -- an input, divided
 abbrev pub divided : Text → Option Input

@@ -4,20 +4,14 @@ use Rattle.std.specs.Prelude.{ℕ, zero, suc, ◌≡◌, ◌<◌, Bool, true, fa
 use Rattle.std.specs.Prelude.{if◌then◌else◌, Option, Some, None, is_some, unwrap_or}
 use Rattle.ed_machine.specs.State.{State}
 use Rattle.ed_machine.specs.OrderTable.{step}
-use Rattle.ed_machine.specs.Steps.{least, state_after}
+use Rattle.ed_machine.specs.Steps.{is_stop, least, state_after}
 use Rattle.ed_machine.specs.declared.turn.Turn.{Turn}
-use Rattle.ed_machine.specs.declared.turn.Turn.TheVariants.{Stopped as TurnStopped}
 use Rattle.ed_machine.specs.declared.turn.Turn.TheVariants.{NoOrder as TurnNoOrder, NoTape as TurnNoTape}
 use Rattle.ed_initial.specs.Load.{enters}
 use Rattle.ed_stepper.specs.declared.moves.MoveEnd.{MoveEnd}
 use Rattle.ed_stepper.specs.declared.moves.MoveEnd.TheVariants.{Went, There, Entered, Stopped, NoOrder, NoTape, Limit}
 use Rattle.ed_stepper.specs.declared.moves.Aim.{Aim}
 use Rattle.ed_stepper.specs.declared.moves.Aim.TheVariants.{Orders, Address, Entry}
-
--- whether a turn is a stop
-abbrev pub is_stop : Turn → Bool
-is_stop TurnStopped = true
-is_stop turn = false
 
 -- whether the last of k orders from a state was a stop
 abbrev pub stopped_after : ℕ → State → Bool

@@ -11,7 +11,7 @@ use Rattle.ed_report.specs.Listings.{listing}
 use Rattle.ed_report.specs.Traces.{functions_after, trace_text}
 use Rattle.ed_stepper.specs.MoveEnds.{move_end, move_orders}
 use Rattle.ed_stepper.specs.Sessions.{Stand, left, stands_at}
-use Rattle.ed_stepper.specs.Commands.{command_of}
+use Rattle.ed_stepper.specs.Commands.{session_command}
 use Rattle.ed_stepper.specs.declared.commands.Command.{Command}
 use Rattle.ed_stepper.specs.declared.commands.Command.TheVariants.{Nothing, Move, Back, Trace, Show}
 use Rattle.ed_stepper.specs.declared.commands.Command.TheVariants.{Accumulator, Multiplier, LastPrinted}
@@ -27,7 +27,7 @@ use Rattle.ed_stepper.specs.declared.script.ScriptFault.TheVariants.{BadCommand,
 -- the number of the first line that is none, from number k on; line 1001 is none
 abbrev pub bad_from : ℕ → List Text → Option ℕ
 bad_from k [] = None
-bad_from k (line ∷ rest) = if k == 1001 || is_none (command_of line) then Some k else bad_from (k + 1) rest
+bad_from k (line ∷ rest) = if k == 1001 || is_none (session_command line) then Some k else bad_from (k + 1) rest
 
 -- the least line of a script that is none; lines count from 1
 abbrev pub bad_line : Text → Option ℕ
@@ -88,11 +88,11 @@ writes Multiplier s = codes "mult " ++ decimal (stands_at s).multiplier ++ 10 �
 writes LastPrinted s = codes "last " ++ last_word (stands_at s).last ++ 10 ∷ []
 
 -- where a line leaves a session
-abbrev pub after : Command → Stand → Stand
-after (Move aim) s = moved aim s
-after (Back n) s = moved_back n s
-after (Trace n) s = moved (Orders n) s
-after command s = s
+abbrev pub left_by : Command → Stand → Stand
+left_by (Move aim) s = moved aim s
+left_by (Back n) s = moved_back n s
+left_by (Trace n) s = moved (Orders n) s
+left_by command s = s
 
 -- whether a line goes back by more orders than are done
 abbrev pub is_too_far : Command → Stand → Bool
@@ -121,11 +121,11 @@ abbrev pub play : ℕ → List Command → Stand → Played
 play k [] s = record { text = []; stand = s; refused = None }
 play k (command ∷ rest) s = if is_too_far command s
     then record { text = []; stand = s; refused = Some (record { line = k; done = s.done }) }
-    else behind (writes command s) (play (k + 1) rest (after command s))
+    else behind (writes command s) (play (k + 1) rest (left_by command s))
 
 -- the commands of a script
 abbrev pub commands_of : Text → List Command
-commands_of script = map (λ line. unwrap_or (command_of line) Nothing) (lines_of script)
+commands_of script = map (λ line. unwrap_or (session_command line) Nothing) (lines_of script)
 
 -- a script from its first line on
 abbrev pub played : Text → Stand → Played

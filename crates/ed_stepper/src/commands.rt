@@ -1,8 +1,8 @@
 //! The lines of a script, each a command.
 ghost use Rattle.std.specs.Prelude.{◌≡◌, ◌≤◌, IfSome, option_map};
 ghost use Rattle.ed_words.specs.Decimals.{number_within};
-ghost use Rattle.ed_stepper.specs.Commands.{command_of, of_one, of_three, of_two, shown, window};
-ghost use Rattle.ed_stepper.specs.Private.Commands.{IsInRange};
+ghost use Rattle.ed_stepper.specs.Commands.{session_command, of_one, of_three, of_two, shown, show_command};
+ghost use Rattle.ed_stepper.specs.Private.Commands.{IsCommandInRange};
 
 use crate::fronts::first_part;
 use crate::moves::Aim;
@@ -31,8 +31,8 @@ pub(crate) enum Command {
 
 /// The command of a line, if it is one.
 pub(crate) fn command_of(line: &[u8]) -> Option<Command>
-    ensures is { result ≡ command_of line.now }
-    ensures in_range { IfSome result IsInRange }
+    ensures is { result ≡ session_command line.now }
+    ensures in_range { IfSome result IsCommandInRange }
 {
     let Some((word, rest)) = first_part(line) else {
         return Some(Command::Nothing);
@@ -52,7 +52,7 @@ pub(crate) fn command_of(line: &[u8]) -> Option<Command>
 /// The command of one part.
 fn of_one(word: &[u8]) -> Option<Command>
     ensures is { result ≡ of_one word.now }
-    ensures in_range { IfSome result IsInRange }
+    ensures in_range { IfSome result IsCommandInRange }
 {
     match word {
         b"entry" => Some(Command::Move(Aim::Entry)),
@@ -63,7 +63,7 @@ fn of_one(word: &[u8]) -> Option<Command>
 /// The command of two parts.
 fn of_two(word: &[u8], argument: &[u8]) -> Option<Command>
     ensures is { result ≡ of_two word.now argument.now }
-    ensures in_range { IfSome result IsInRange }
+    ensures in_range { IfSome result IsCommandInRange }
 {
     match word {
         b"go" => go(argument),
@@ -78,7 +78,7 @@ fn of_two(word: &[u8], argument: &[u8]) -> Option<Command>
 /// The command `go`.
 fn go(argument: &[u8]) -> Option<Command>
     ensures is { result ≡ option_map (λ n. Command.Move (Aim.Orders n)) (number_within 1 100000000 argument.now) }
-    ensures in_range { IfSome result IsInRange }
+    ensures in_range { IfSome result IsCommandInRange }
 {
     let orders = number_within(argument, 1, 100_000_000)?;
     Some(Command::Move(Aim::Orders(u64::from(orders))))
@@ -87,7 +87,7 @@ fn go(argument: &[u8]) -> Option<Command>
 /// The command `to`.
 fn to(argument: &[u8]) -> Option<Command>
     ensures is { result ≡ option_map (λ n. Command.Move (Aim.Address n)) (number_within 0 1023 argument.now) }
-    ensures in_range { IfSome result IsInRange }
+    ensures in_range { IfSome result IsCommandInRange }
 {
     let address = address(argument)?;
     Some(Command::Move(Aim::Address(address)))
@@ -96,7 +96,7 @@ fn to(argument: &[u8]) -> Option<Command>
 /// The command `show` with one part.
 fn shown(argument: &[u8]) -> Option<Command>
     ensures is { result ≡ shown argument.now }
-    ensures in_range { IfSome result IsInRange }
+    ensures in_range { IfSome result IsCommandInRange }
 {
     match argument {
         b"acc" => Some(Command::Accumulator),
@@ -109,7 +109,7 @@ fn shown(argument: &[u8]) -> Option<Command>
 /// The command of three parts.
 fn of_three(word: &[u8], first: &[u8], last: &[u8]) -> Option<Command>
     ensures is { result ≡ of_three word.now first.now last.now }
-    ensures in_range { IfSome result IsInRange }
+    ensures in_range { IfSome result IsCommandInRange }
 {
     match word {
         b"show" => window(address(first), address(last)),
@@ -120,8 +120,8 @@ fn of_three(word: &[u8], first: &[u8], last: &[u8]) -> Option<Command>
 /// The command that lists the words from one location to another.
 fn window(first: Option<u16>, last: Option<u16>) -> Option<Command>
     requires { IfSome last (λ n. n ≤ 1023) }
-    ensures is { result ≡ window first last }
-    ensures in_range { IfSome result IsInRange }
+    ensures is { result ≡ show_command first last }
+    ensures in_range { IfSome result IsCommandInRange }
 {
     let first = first?;
     let last = last?;

@@ -5,7 +5,7 @@ ghost use Rattle.std.specs.List.{range_with_len};
 ghost use Rattle.ed_report.specs.Listings.{listing};
 ghost use Rattle.ed_stepper.specs.Scripts.{end_word, last_word, move_line};
 ghost use Rattle.ed_stepper.specs.Sessions.{stands_at};
-ghost use Rattle.ed_stepper.specs.Private.Commands.{IsInRange};
+ghost use Rattle.ed_stepper.specs.Private.Commands.{IsCommandInRange};
 ghost use Rattle.ed_stepper.specs.Private.Lines.{LineEnds};
 
 use crate::commands::Command;
@@ -22,7 +22,7 @@ pub(crate) fn carry_out(
     session: &mut Session,
     command: Command,
 ) -> Result<Vec<u8>, BackFault>
-    requires { IsInRange command }
+    requires { IsCommandInRange command }
     ensures { LineEnds command session.old result session.new }
 {
     match command {

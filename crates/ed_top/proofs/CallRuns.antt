@@ -1,6 +1,6 @@
 -- A call is the run of its source, from the state at its entry.
-use Rattle.std.proofs.Common.{◌≡◌, ◌∙◌, ℕ, suc, ◌+◌, ◌-◌, ◌*◌, ◌/◌, ◌%◌, ◌≤◌, refl}
-use Rattle.std.proofs.Common.{sym, ap, subst, arith, lit≤, List, [], ◌∷◌, ◌++◌}
+use Rattle.std.proofs.Common.{◌≡◌, ◌∙◌, ℕ, suc, ◌-◌, ◌/◌, ◌%◌, ◌≤◌, refl}
+use Rattle.std.proofs.Common.{sym, ap, subst, arith, lit≤, List, ◌∷◌}
 use Rattle.std.proofs.Common.{length, length-append}
 use Rattle.std.specs.Prelude.{None, Result, Ok, Err, IfOk}
 use Rattle.std.proofs.lemmas.List.{append-nil}
@@ -14,19 +14,15 @@ use Rattle.ed_link.specs.Faults.{fault}
 use Rattle.ed_sources.proofs.CallsAccepted.{divide_read, newline_read, print_read, read_read, root_read, check_read}
 use Rattle.ed_sources.proofs.Faultless.{divide_faultless, newline_faultless, print_faultless}
 use Rattle.ed_sources.proofs.Faultless.{read_faultless, root_faultless, check_faultless}
-use Rattle.ed_sources.proofs.Said.{newline_lines, print_lines, read_lines, check_lines}
 use Rattle.ed_sources.proofs.Papers.{digits_printed, lines_printed}
-use Rattle.ed_sources.proofs.SaidMaths.{divide_lines, root_lines}
 use Rattle.ed_sources.proofs.DivideAndPrint.{call_ends, quotient_low, remainder_low}
 use Rattle.ed_sources.proofs.RootAndPrint.{root_ends, root_small}
-use Rattle.ed_checker.specs.Checker.{checked_codes, guest}
-use Rattle.ed_sources.proofs.CheckedPaper.{check_count, check_ends, few_checked, room_for_codes}
+use Rattle.ed_sources.proofs.CheckedPaper.{check_ends, few_checked, room_for_codes}
 use Rattle.ed_sources.proofs.PrintAndNewline.{newline_ends, print_ends}
 use Rattle.ed_sources.proofs.ReadAndPrint.{read_ends}
 use Rattle.ed_sources.proofs.Stops.{LeadsToStop, ran_to_stop}
-use Rattle.ed_maths.specs.Quotients.{divide_orders}
-use Rattle.ed_maths.specs.Roots.{root_of, root_orders}
-use Rattle.ed_routines.specs.Digits.{digits, print_orders}
+use Rattle.ed_maths.specs.Roots.{root_of}
+use Rattle.ed_routines.specs.Digits.{digits}
 use Rattle.ed_routines.proofs.Digits.{few_digits}
 use Rattle.ed_printer.specs.Paper.{paper}
 use Rattle.ed_run.specs.Run.{RunEnd, ran}
@@ -56,11 +52,11 @@ nothing_behind : (r : RunEnd) → with_post_mortem None r ≡ r
 nothing_behind r = ap (λ (codes : List ℕ). record r { codes = codes }) (append-nil r.codes)
 
 -- a call whose source is accepted, and which comes to its stop behind its codes
-runs : (s : Settings) (call : Call) (lines : List Line) (k : ℕ) (codes : List ℕ)
+runs : (s : Settings) (call : Call) {lines : List Line} {k : ℕ} {codes : List ℕ}
     → program_of (call_text call) ≡ Ok lines → fault s.size lines ≡ None
     → LeadsToStop k (entry_state s.size lines) codes → length codes ≤ 1000000 → suc k ≤ call_orders call
     → paper codes ≡ call_prints s.size lines call → CallRuns s call
-runs s call lines k codes reads faultless stops few count text =
+runs s call {lines} {k} {codes} reads faultless stops few count text =
     let entry : RunsFromEntry s lines = headline s (call_text call) lines reads faultless in
     let answers = accepted_is s.size (run_outcome s) (program_of (call_text call)) lines reads faultless in
     record {
@@ -86,17 +82,14 @@ runs s call lines k codes reads faultless stops few count text =
 pub each_call_runs : EachCallRuns
 each_call_runs s (Print n) small =
     let few = few_digits n in
-    runs s (Print n) (print_lines n) (2 + print_orders n) (11 ∷ digits n) (print_read n small)
-    (print_faultless s.size n)
-    (print_ends s.size n small) (omega arith) (omega arith) (digits_printed n small)
+    runs s (Print n) (print_read n small) (print_faultless s.size n) (print_ends s.size n small) (omega arith)
+    (omega arith) (digits_printed n small)
 each_call_runs s (Read n) small =
     let few = few_digits n in
-    runs s (Read n) (read_lines n) (2 + (11 + 13 * length (digits n)) + (2 + print_orders n)) (11 ∷ digits n)
-    (read_read n small)
-    (read_faultless s.size n) (read_ends s.size n small) (omega arith) (omega arith) (digits_printed n small)
+    runs s (Read n) (read_read n small) (read_faultless s.size n) (read_ends s.size n small) (omega arith) (omega arith)
+    (digits_printed n small)
 each_call_runs s NewLine made =
-    runs s NewLine newline_lines 7 (18 ∷ 24 ∷ []) newline_read (newline_faultless s.size)
-    (newline_ends s.size) (lit≤ tt) (lit≤ tt) refl
+    runs s NewLine newline_read (newline_faultless s.size) (newline_ends s.size) (lit≤ tt) (lit≤ tt) refl
 each_call_runs s (Divide n by) made =
     let few = few_digits (n / by) in
     let behind = few_digits (n % by) in
@@ -104,18 +97,13 @@ each_call_runs s (Divide n by) made =
     let positive = made.positive in
     let divisor = made.divisor in
     let less = made.less in
-    runs s (Divide n by) (divide_lines (n / 65536) (n % 65536) by)
-    (2 + divide_orders (n / by) + (2 + print_orders (n / by) + (7 + (2 + print_orders (n % by)))))
-    (11 ∷ digits (n / by) ++ 18 ∷ 24 ∷ 11 ∷ digits (n % by)) (divide_read n by made)
-    (divide_faultless s.size (n / 65536) (n % 65536) by) (call_ends s.size n by made) (omega arith) (omega arith)
+    runs s (Divide n by) (divide_read n by made) (divide_faultless s.size (n / 65536) (n % 65536) by)
+    (call_ends s.size n by made) (omega arith) (omega arith)
     (lines_printed (n / by) (n % by) (quotient_low n by positive less) (remainder_low n by positive divisor))
 each_call_runs s (Root n) small =
     let few = few_digits (root_of n) in
-    runs s (Root n) (root_lines n) (2 + root_orders (root_of n) + (2 + print_orders (root_of n)))
-    (11 ∷ digits (root_of n))
-    (root_read n small) (root_faultless s.size n) (root_ends s.size n small) (omega arith) (omega arith)
+    runs s (Root n) (root_read n small) (root_faultless s.size n) (root_ends s.size n small) (omega arith) (omega arith)
     (digits_printed (root_of n) (root_small n small))
 each_call_runs s (Check n) small =
-    runs s (Check n) (check_lines n) (check_count s.size n small)
-    (checked_codes (guest 112 (entry_state s.size (check_lines n))) (3 + print_orders n)) (check_read n small)
-    (check_faultless s.size n) (check_ends s.size n small) (room_for_codes n _ small) (few_checked s.size n small) refl
+    runs s (Check n) (check_read n small) (check_faultless s.size n) (check_ends s.size n small)
+    (room_for_codes n _ small) (few_checked s.size n small) refl

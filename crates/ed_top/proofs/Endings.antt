@@ -96,11 +96,10 @@ wanted_or_9 : (note : Device) (line : Text) (wanted status n : ℕ) → TellsLin
 wanted_or_9 note line wanted status n t e other = sym e ∙ (t.done (apart status other e)).0
 
 -- all that is due is on `out`, and its line is told
-pub with_due : (answer : Answer) (source out note : Device) (line : Text) (wanted status : ℕ) → 8 ≢ wanted → 10 ≢ wanted
-    → Lost source (most_read answer) → ForDue answer source (IsToTell out line wanted)
-    → TellsLine note line wanted status
-    → ProgramEnded answer source out note status
-with_due answer source out note line wanted status n8 n10 lost due t = record {
+pub with_due : (answer : Answer) (source out : Device) {note : Device} {line : Text} {wanted status : ℕ}
+    → TellsLine note line wanted status → 8 ≢ wanted → 10 ≢ wanted → Lost source (most_read answer)
+    → ForDue answer source (IsToTell out line wanted) → ProgramEnded answer source out note status
+with_due answer source out {note} {line} {wanted} {status} t n8 n10 lost due = record {
   finished = λ not8 not9 not10.
       let d = t.done not9 in (
         lost,
@@ -118,23 +117,22 @@ with_due answer source out note line wanted status n8 n10 lost due t = record {
 }
 
 -- a command was carried out
-pub with_rest : (answer : Answer) (source out note : Device) (v : Vec ℕ Global) (rest : Rest) (status : ℕ)
-    → HasInput (reads_input answer) source (Ok v) → rest.status < 8
-    → ForInput answer v.items (IsToTell out rest.note.items rest.status)
+pub with_rest : (answer : Answer) (source out : Device) {note : Device} (v : Vec ℕ Global) (rest : Rest) {status : ℕ}
+    → HasInput (reads_input answer) source (Ok v) → Carried answer v.items out (Ok rest)
     → TellsLine note rest.note.items rest.status status
     → ProgramEnded answer source out note status
-with_rest answer source out note v rest status h low leaves t =
-    with_due answer source out note rest.note.items rest.status status (λ e. omega (arith, low, e))
-    (λ e. omega (arith, low, e))
-    (lost_input answer source v h) (due_input answer source v _ h leaves) t
+with_rest answer source out v rest h carried t =
+    let low = carried.0 in
+    with_due answer source out t (λ e. omega (arith, low, e)) (λ e. omega (arith, low, e))
+    (lost_input answer source v h) (due_input answer source v _ h carried.1)
 
 -- the input is too long
-pub with_long : (answer : Answer) (source out note : Device) (status : ℕ)
+pub with_long : (answer : Answer) (source out : Device) {note : Device} {status : ℕ}
     → HasInput (reads_input answer) source (Err input.TooLong)
     → Wrote out [] → TellsLine note too_long_outcome.note 11 status → ProgramEnded answer source out note status
-with_long answer source out note status h w t =
-    with_due answer source out note too_long_outcome.note 11 status (λ e. cc) (λ e. cc) (lost_long answer source h)
-    (due_long answer source _ h (record { wrote = w; note_is = refl; status_is = refl })) t
+with_long answer source out h w t =
+    with_due answer source out t (λ e. cc) (λ e. cc) (lost_long answer source h)
+    (due_long answer source _ h (record { wrote = w; note_is = refl; status_is = refl }))
 
 -- a write on `out` failed
 pub with_broken_out : (answer : Answer) (source out note : Device) → Failing out → WrotePartDue answer source out

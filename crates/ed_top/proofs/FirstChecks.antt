@@ -2,7 +2,7 @@
 use Rattle.std.proofs.Common.{ap, ◌≡◌, ◌≢◌, ◌⊎◌, inl, inr, ◌∙◌, ℕ, List, refl, sym}
 use Rattle.std.specs.Prelude.{Result, Ok, Err, IfOk}
 use Rattle.ed_words.specs.declared.memory.NoMemory.{NoMemory}
-use Rattle.ed_initial1.specs.Faults.{Tape, Comes, IsFault}
+use Rattle.ed_initial1.specs.Faults.{Tape, Comes1, IsFault1}
 use Rattle.ed_initial1.specs.Checks.{Report1, Accepts1, Answers1, report1}
 use Rattle.ed_initial1.specs.declared.cause.Tape1Cause.{Tape1Cause}
 use Rattle.ed_initial1.specs.declared.cause.Tape1Fault.{Tape1Fault}
@@ -24,7 +24,7 @@ told t = done (entry_line 31 (report1 t).orders (report1 t).rows)
 has_checked : (codes : List ℕ) → (o : Outcome) × IsChecked1 codes o
 has_checked codes = by_case (one_verdict codes).some
   where
-    by_case : ((t : Tape) × Comes codes t) ⊎ ((row : ℕ) × (cause : Tape1Cause) × IsFault codes row cause)
+    by_case : ((t : Tape) × Comes1 codes t) ⊎ ((row : ℕ) × (cause : Tape1Cause) × IsFault1 codes row cause)
         → (o : Outcome) × IsChecked1 codes o
     by_case (inl (t, comes)) = (told t, inl (record { tape = t; comes = comes; outcome = refl }))
     by_case (inr (row, cause, fault)) =
@@ -44,11 +44,11 @@ pub checked1_one : HasOne IsChecked1
 checked1_one = record { some = has_checked; once = checked_once }
 
 -- the reply to a tape without a fault
-pub program_found : (codes : List ℕ) (r : Report1) (orders count : ℕ) (given : Result Reply NoMemory) → Accepts1 codes r
+pub program_found : {codes : List ℕ} {r : Report1} {orders count : ℕ} (given : Result Reply NoMemory) → Accepts1 codes r
     → orders ≡ r.orders → count ≡ r.rows → IfOk given (λ reply. Gives reply (done (entry_line 31 orders count)))
     → IfOk given (λ reply. (o : Outcome) × IsChecked1 codes o × Gives reply o)
-program_found codes r orders count (Err e) a o n gives = tt
-program_found codes r orders count (Ok reply) a o n gives =
+program_found (Err e) a o n gives = tt
+program_found {orders} {count} (Ok reply) a o n gives =
     let cost : orders ≡ (report1 a.tape).orders = o ∙ ap (λ (x : Report1). x.orders) a.report_is in
     let read : count ≡ (report1 a.tape).rows = n ∙ ap (λ (x : Report1). x.rows) a.report_is in
     let outcome : told a.tape ≡ done (entry_line 31 orders count) =

@@ -9,7 +9,7 @@ use Rattle.ed_words.specs.declared.size.Size.TheVariants.{Full}
 use Rattle.ed_run.specs.Run.{ran}
 use Rattle.ed_run.proofs.Later.{ran_later}
 use Rattle.ed_initial1.specs.Entry.{IsStarted1, at_entry1}
-use Rattle.ed_initial1.specs.Faults.{Tape, Comes}
+use Rattle.ed_initial1.specs.Faults.{Tape, Comes1}
 use Rattle.ed_initial1.proofs.Started.{is_started}
 use Rattle.ed_initial1.proofs.Opened.{HasItsLengths}
 use Rattle.ed_initial1.proofs.Walks.{Reaches}
@@ -36,7 +36,7 @@ starts : (codes : List ℕ) → IsStarted1 (first_state1 codes)
 unfolding first_state1
 starts codes = is_started codes (cleared Full) refl
 
-reaches : (codes : List ℕ) (t : Tape) → Comes codes t
+reaches : (codes : List ℕ) (t : Tape) → Comes1 codes t
     → Reaches (cost1 t) (first_state1 codes) (at_entry1 (first_state1 codes) t)
 unfolding first_state1
 reaches codes t c = leads_in (first_state1 codes) (first_store codes) (starts codes) t c

@@ -1,6 +1,5 @@
 -- The run of an accepted source's tape is the run from the state at its entry.
-use Rattle.std.proofs.Common.{◌≡◌, ◌∙◌, ℕ, ◌-◌, ◌<◌, ◌≤◌, ◌++◌, Bool, true, nat_le, refl, ap, arith, List, []}
-use Rattle.std.proofs.lemmas.Bool.Decides.{nat_tests}
+use Rattle.std.proofs.Common.{◌≡◌, ◌∙◌, ℕ, ◌-◌, ◌<◌, ◌≤◌, ◌++◌, Bool, refl, ap, arith, List, []}
 use Rattle.std.specs.Prelude.{if◌then◌else◌}
 use Rattle.ed_machine.specs.State.{State}
 use Rattle.ed_machine.specs.Steps.{least, past, state_after}
@@ -15,15 +14,13 @@ use Rattle.ed_loads.specs.EntryState.{Enters, entry_state, first_state}
 use Rattle.ed_report.specs.Notes.{entered}
 use Rattle.ed_command.specs.declared.command.Settings.{Settings}
 use Rattle.ed_words.specs.Texts.{Text}
+use Rattle.ed_words.proofs.Numbers.{le_true}
 use Rattle.ed_top.specs.Runs.{paper_room, post_mortem_codes, ran_outcome, run_of, with_post_mortem}
 use Rattle.ed_top.specs.Sources.{entered_before}
 use Rattle.ed_top.specs.Headline.{RunsFromEntry}
 use Rattle.ed_top.proofs.Keeping.{run_follows}
 
 -- ---- from the entry
-
-le_true : (a b : ℕ) → a ≤ b → nat_le a b ≡ true
-le_true a b h = grind (arith, nat_tests)
 
 reached : (lines : List Line) (s : State) → cost lines ≤ s.orders
     → entered_before lines s ≡ entered (entry_of lines) (cost lines)

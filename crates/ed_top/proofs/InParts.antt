@@ -24,17 +24,17 @@ parts_one s = record {
       sym p.outcome ∙ ap told_outcome same ∙ q.outcome;
 }
 
-module _ (s : Settings) (codes : List ℕ) (start : State) (is : start ≡ first_state s.size codes) (out : Device) where
+module _ (s : Settings) (codes : List ℕ) {start : State} (is : start ≡ first_state s.size codes) (out : Device) where
   due : (t : Told) → TapeTells s.limit start t → IsInParts s codes (told_outcome t)
   due t tells =
       record { told = t; tells = subst (λ (x : State). TapeTells s.limit x t) is tells; outcome = refl }
 
   -- the run ended, and its lines are on `out`
-  pub parts_told : (end : PartsEnd) (last : State) (note : List ℕ) (status : ℕ)
-      → PartsAnswer s.limit start (Ok end) last out.before out.after → note ≡ end_note end last
-      → status ≡ end_status end
+  pub parts_told : {end : PartsEnd} {last : State} {note : List ℕ} {status : ℕ}
+      → PartsAnswer s.limit start (Ok end) last out.before out.after
+      → note ≡ end_note end last → status ≡ end_status end
       → ForInput (of_input (λ _. IsInParts s codes)) [] (IsToTell out note status)
-  parts_told end last note status a note_is status_is = (
+  parts_told a note_is status_is = (
     told_outcome a.0,
     due a.0 a.1,
     record {
@@ -45,9 +45,9 @@ module _ (s : Settings) (codes : List ℕ) (start : State) (is : start ≡ first
   )
 
   -- they are, and no memory was found for the note
-  pub parts_untold : (end : PartsEnd) (last : State) → PartsAnswer s.limit start (Ok end) last out.before out.after
+  pub parts_untold : {end : PartsEnd} {last : State} → PartsAnswer s.limit start (Ok end) last out.before out.after
       → ForInput (of_input (λ _. IsInParts s codes)) [] (λ o. WrotePart out o.out)
-  parts_untold end last a = (
+  parts_untold a = (
     told_outcome a.0,
     due a.0 a.1,
     record {

@@ -5,7 +5,7 @@ mod InParts
 mod FirstEntries
 mod Keeping
 mod FromEntry
-mod Sources
+pub mod Sources
 mod CallRuns
 mod DemoRuns
 pub mod OneOutcome

@@ -34,13 +34,15 @@ at_reading : (answers : List ℕ → Outcome → Type 0) (q : Reading) (codes : 
 at_reading answers q codes o is a = subst (λ (r : Reading). OfReading answers r o) (sym is) a
 
 -- where the rows have one outcome
-pub rows_replied : (answers : List ℕ → Outcome → Type 0) (input : Text) (codes : List ℕ) (r : Result Reply NoMemory)
-    → HasOne answers
-    → reading input ≡ rows codes → IfOk r (λ reply. (o : Outcome) × answers codes o × Gives reply o)
-    → Replies (of_rows answers) input r
-rows_replied answers input codes (Ok reply) one is gives =
-    (gives.0, at_reading answers (reading input) codes gives.0 is gives.1, gives.2)
-rows_replied answers input codes (Err e) one is gives = text_outcome answers one (reading input)
+pub rows_replied : (answers : List ℕ → Outcome → Type 0) (input : Text) {codes seen : List ℕ}
+    (r : Result Reply NoMemory) → HasOne answers → reading input ≡ rows codes → seen ≡ codes
+    → IfOk r (λ reply. (o : Outcome) × answers seen o × Gives reply o) → Replies (of_rows answers) input r
+rows_replied answers input {codes} (Ok reply) one is same gives = (
+  gives.0,
+  at_reading answers (reading input) codes gives.0 is (subst (λ (x : List ℕ). answers x gives.0) same gives.1),
+  gives.2,
+)
+rows_replied answers input (Err e) one is same gives = text_outcome answers one (reading input)
 
 -- where a function gives it
 pub exactly_replied : (f : List ℕ → Outcome) (input : Text) (codes : List ℕ) (r : Result Reply NoMemory)
@@ -60,6 +62,10 @@ pub refusal_replied : (answers : List ℕ → Outcome → Type 0) (input : Text)
     → RefusesText (reading input) r → Replies (of_rows answers) input r
 refusal_replied answers input (Ok reply) one refuses = refused_at answers (reading input) reply refuses
 refusal_replied answers input (Err e) one refuses = text_outcome answers one (reading input)
+
+pub exactly_refused : (f : List ℕ → Outcome) (input : Text) (r : Result Reply NoMemory)
+    → RefusesText (reading input) r → Replies (of_rows (exactly f)) input r
+exactly_refused f input r refuses = refusal_replied (exactly f) input r (exactly_one f) refuses
 
 -- nothing is the first part of any text
 pub none_written : (d : Device) (text : Text) → Wrote d [] → WrotePart d text

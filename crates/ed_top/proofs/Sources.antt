@@ -1,7 +1,7 @@
 -- From what is made of a source to the outcome of an input.
-use Rattle.std.proofs.Common.{◌≡◌, ◌≢◌, ◌∙◌, ◌<◌, ◌+◌, ℕ, zero, suc, refl, sym, ap, subst}
-use Rattle.std.proofs.Common.{arith, Option, Some, None, List, [], ◌∷◌, ◌++◌, length, map}
-use Rattle.std.specs.Prelude.{Result, Ok, Err, IfOk, All}
+use Rattle.std.proofs.Common.{◌≡◌, ◌≢◌, ◌∙◌, ℕ, refl, sym, ap, subst}
+use Rattle.std.proofs.Common.{Option, None, List, ◌++◌, map}
+use Rattle.std.specs.Prelude.{Result, Ok, Err, IfOk}
 use Rattle.ed_words.specs.declared.size.Size.{Size}
 use Rattle.ed_words.specs.declared.memory.NoMemory.{NoMemory}
 use Rattle.ed_store.specs.Cells.{Cells}
@@ -19,11 +19,10 @@ use Rattle.ed_link.specs.Answers as meaning
 use Rattle.ed_link.specs.Answers.{IsLinked}
 use Rattle.ed_link.specs.Faults.{fault}
 use Rattle.ed_link.specs.Linked.{linked}
-use Rattle.ed_link.specs.Tables.{empty_table, table_of, words_from}
+use Rattle.ed_link.specs.Tables.{table_of, words_from}
 use Rattle.ed_link.specs.Tapes.{after_text}
 use Rattle.ed_link.specs.declared.linked.Linked.{Linked}
 use Rattle.ed_link.specs.declared.linked.Placed.{Placed}
-use Rattle.ed_link.proofs.Lengths.{empty_length, put_all_length}
 use Rattle.ed_loads.specs.EntryState.{entry_state, entry_store}
 use Rattle.ed_loads.proofs.Entries.{each_source}
 use Rattle.ed_report.specs.Listings.{listing}
@@ -58,14 +57,14 @@ refused_form z program (At line cause) (Ok reply) is gives told =
     λ accepted. subst (Gives reply) (sym (ap (of_program z accepted) is)) gives
 
 -- a fault of meaning
-pub refused_meaning : (z : Size) (program : Result (List Line) Fault) (lines : List Line) (f : SourceFault)
+pub refused_meaning : (z : Size) {program : Result (List Line) Fault} {lines : List Line} (f : SourceFault)
     (r : Result Reply NoMemory)
-    → program ≡ Ok lines → meaning.IsFaultOf (fault z lines) f
+    → program ≡ Ok lines → meaning.IsMeaningFault (fault z lines) f
     → IfOk r (λ reply. Gives reply (refused (source_fault_line f)))
     → IfOk r (λ reply. f ≢ Memory) → LinksSource z program (Err r)
-refused_meaning z program lines f (Err e) p is gives told = tt
-refused_meaning z program lines Memory (Ok reply) p is gives told = absurd (told refl)
-refused_meaning z program lines (At line cause) (Ok reply) p is gives told =
+refused_meaning z f (Err e) p is gives told = tt
+refused_meaning z Memory (Ok reply) p is gives told = absurd (told refl)
+refused_meaning z {lines} (At line cause) (Ok reply) p is gives told =
     λ accepted. subst (Gives reply)
     (sym (ap (of_program z accepted) p ∙ ap (λ (x : Option SourceFault). unless_faulty x (accepted lines)) is)) gives
 
@@ -102,8 +101,8 @@ headline s source lines p f = runs_from_entry s lines (each_source s.size source
 
 -- ---- the reply of a run
 
-pub ran_gives : (window : Option Window) (before note : Text) (r : RunEnd) (ending : Ending) (state : State)
-    (codes : List ℕ) (reply : Reply)
+pub ran_gives : (window : Option Window) (before : Text) {note : Text} (r : RunEnd) {ending : Ending} {state : State}
+    {codes : List ℕ} {reply : Reply}
     → ending ≡ r.ending → state ≡ r.state → codes ≡ r.codes → note ≡ before ++ ending_line ending state
     → Gives reply (record {
       out = paper (codes ++ post_mortem_codes window state);
@@ -111,7 +110,7 @@ pub ran_gives : (window : Option Window) (before note : Text) (r : RunEnd) (endi
       status = status_of ending;
     })
     → Gives reply (ran_outcome before (with_post_mortem window r))
-ran_gives window before note r ending state codes reply e s c n gives =
+ran_gives window before {note} r {ending} {state} {codes} {reply} e s c n gives =
     let line : note ≡ before ++ ending_line r.ending r.state = n ∙ (λ i. before ++ ending_line (e i) (s i)) in
     let same : ◌≡◌ {A = Outcome}
     (record { out = paper (codes ++ post_mortem_codes window state); note = note; status = status_of ending })
@@ -128,30 +127,12 @@ punch_gives z k (Err e) gives = tt
 punch_gives z k (Ok reply) gives = λ lines is.
     subst (Gives reply) (λ i. done (text_of (canonicals (is.items i)) ++ after_text (is.after i))) gives
 
--- the places of words by rising place are below the end of their table
-below : (n : ℕ) (table : List (Option ℕ))
-    → All (λ a. a < n + length table) (map (λ (p : Placed). p.place) (words_from n table))
-below n [] k d h = absurd (omega (arith, h))
-below n (None ∷ ws) k d h = let r = below (n + 1) ws k d h in omega (arith, r)
-below n (Some w ∷ ws) zero d h = omega arith
-below n (Some w ∷ ws) (suc k) d h = let r = below (n + 1) ws k d (omega (arith, h)) in omega (arith, r)
-
-pub places_below : (z : Size) (lines : List Line) (k : Linked) (places : List ℕ) → IsLinked z lines k
-    → places ≡ map (λ (p : Placed). p.place) k.words.items → All (λ a. a < 1024) places
-places_below z lines k places is e =
-    let table = table_of (linked lines) in
-    let size : length table ≡ 1024 = put_all_length empty_table (linked lines) ∙ empty_length in
-    let same : places ≡ map (λ (p : Placed). p.place) (words_from 0 table) =
-    e ∙ ap (map (λ (p : Placed). p.place)) is.words in
-    subst (λ (xs : List ℕ). All (λ a. a < 1024) xs) (sym same)
-    (λ i d h. let b = below 0 table i d h in omega (arith, b, size))
-
-pub listing_gives : (z : Size) (lines : List Line) (k : Linked) (reply : Reply) (m : State) (store : Cells)
-    (places : List ℕ) (out : Text)
+pub listing_gives : {z : Size} {lines : List Line} {k : Linked} {reply : Reply} {m : State} {store : Cells}
+    {places : List ℕ} {out : Text}
     → IsLinked z lines k → m ≡ entry_state z lines → store ≡ m.store
     → places ≡ map (λ (p : Placed). p.place) k.words.items
     → out ≡ listing store places → Gives reply (done out) → Gives reply (listing_outcome lines)
-listing_gives z lines k reply m store places out is entry s p o gives =
+listing_gives {lines} {reply} {store} {places} is entry s p o gives =
     let at : store ≡ entry_store lines = s ∙ ap (λ (x : State). x.store) entry in
     let all : places ≡ map (λ (p : Placed). p.place) (words_from 0 (table_of (linked lines))) =
     p ∙ ap (map (λ (p : Placed). p.place)) is.words in

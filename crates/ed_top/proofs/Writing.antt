@@ -44,10 +44,10 @@ reply_carried answer input (Err e) out (Err Memory) replies w =
     for_more answer input _ _ (λ o u. none_written out o.out w) replies
 
 -- and so is a reply with the outcome of a command that reads no input
-pub known_carried : (answer : Answer) (due : Outcome) (input : Text) (reply : Result Reply NoMemory) (out : Device)
+pub known_carried : {answer : Answer} {due : Outcome} (input : Text) (reply : Result Reply NoMemory) (out : Device)
     (r : Result Rest Stop) → answer ≡ known due → IfOk reply (λ reply. Gives reply due) → WritesReply reply out r
     → Carried answer input out r
-known_carried answer due input reply out r is gives w =
+known_carried {due} input reply out r is gives w =
     subst (λ (a : Answer). Carried a input out r) (sym is)
     (reply_carried (known due) input reply out r (replied reply gives) w)
   where

@@ -5,7 +5,7 @@ use Rattle.ed_machine.specs.Steps.{past, state_after}
 use Rattle.ed_run.specs.Run.{ran}
 use Rattle.ed_initial1.specs.Checks.{report1}
 use Rattle.ed_initial1.specs.Entry.{at_entry1}
-use Rattle.ed_initial1.specs.Faults.{Tape, Comes}
+use Rattle.ed_initial1.specs.Faults.{Tape, Comes1}
 use Rattle.ed_command.specs.declared.command.Settings.{Settings}
 use Rattle.ed_top.specs.FirstOrders.{first_state1, tape1_outcome}
 use Rattle.ed_top.specs.Runs.{paper_room, ran_outcome}
@@ -26,4 +26,4 @@ pub record RunsFrom31 (s : Settings) (codes : List ℕ) (t : Tape) : Type 0 wher
 
 -- so it is with every tape that comes to a program
 abbrev pub EachProgramRunsFrom31 : Type 0
-EachProgramRunsFrom31 = (s : Settings) (codes : List ℕ) (t : Tape) → Comes codes t → RunsFrom31 s codes t
+EachProgramRunsFrom31 = (s : Settings) (codes : List ℕ) (t : Tape) → Comes1 codes t → RunsFrom31 s codes t

@@ -5,7 +5,7 @@ use Rattle.ed_machine.specs.State.{State, cleared}
 use Rattle.ed_machine.specs.Start.{started}
 use Rattle.ed_run.specs.Run.{RunEnd, ran}
 use Rattle.ed_initial1.specs.Listing.{first_orders}
-use Rattle.ed_initial1.specs.Faults.{Tape, Comes, IsFault}
+use Rattle.ed_initial1.specs.Faults.{Tape, Comes1, IsFault1}
 use Rattle.ed_initial1.specs.Checks.{report1}
 use Rattle.ed_initial1.specs.declared.cause.Tape1Cause.{Tape1Cause}
 use Rattle.ed_report.specs.FirstNotes.{rule1_line}
@@ -29,14 +29,14 @@ tape1_outcome s codes = ran_outcome [] (run1_of s codes)
 -- `check-tape1` of a tape without a fault: what it comes to, which is entered at 31
 pub record OfProgram (codes : List ℕ) (o : Outcome) : Type 0 where
   pub tape : Tape
-  pub comes : Comes codes tape
+  pub comes : Comes1 codes tape
   pub outcome : done (entry_line 31 (report1 tape).orders (report1 tape).rows) ≡ o
 
 -- `check-tape1` of a tape with a fault
 pub record OfFirstFault (codes : List ℕ) (o : Outcome) : Type 0 where
   pub row : ℕ
   pub cause : Tape1Cause
-  pub fault : IsFault codes row cause
+  pub fault : IsFault1 codes row cause
   pub outcome : refused (rule1_line row cause) ≡ o
 
 -- `check-tape1`

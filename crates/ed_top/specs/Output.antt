@@ -4,7 +4,7 @@ use Rattle.ed_words.specs.declared.size.Size.{Size}
 use Rattle.ed_store.specs.Cells.{cleared_cells}
 use Rattle.ed_notation.specs.Fold.{Note}
 use Rattle.ed_notation.specs.Openings.{opening}
-use Rattle.ed_notation.specs.Faults.{Entry, ComesTo, IsFault, WellFormed}
+use Rattle.ed_notation.specs.Faults.{TapeEntry, ComesTo, IsFault, WellFormed}
 use Rattle.ed_notation.specs.declared.cause.TapeCause.{TapeCause}
 use Rattle.ed_report.specs.Catalogue.{library_text}
 use Rattle.ed_report.specs.Notes.{rule_line}
@@ -40,7 +40,7 @@ first_note = opening cleared_cells.words
 -- `check-tape` of a well-formed tape: the entry that the fold of its items comes to
 pub record OfWellFormed (z : Size) (codes : List ℕ) (o : Outcome) : Type 0 where
   pub well : WellFormed z cleared_cells.words first_note codes
-  pub entry : Entry
+  pub entry : TapeEntry
   pub comes : ComesTo cleared_cells.words first_note 9 codes entry
   pub outcome : done (entry_line entry.at entry.cost entry.rows) ≡ o
 

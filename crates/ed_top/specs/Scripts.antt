@@ -18,13 +18,13 @@ use Rattle.ed_top.specs.Outcome.{Outcome, done, refused}
 use Rattle.ed_top.specs.Sources.{of_program}
 
 -- a script that was played: its text; nothing of it where a line went back too far
-abbrev pub told : Option TooFar → Text → Outcome
-told None text = done text
-told (Some t) text = refused (too_far_line t.line t.done)
+abbrev pub script_outcome : Option TooFar → Text → Outcome
+script_outcome None text = done text
+script_outcome (Some t) text = refused (too_far_line t.line t.done)
 
 -- what is told of a script that was played
 abbrev pub played_outcome : Played → Outcome
-played_outcome p = told p.refused p.text
+played_outcome p = script_outcome p.refused p.text
 
 -- where a session on a tape's rows begins
 abbrev pub stand_on : Settings → List ℕ → Stand

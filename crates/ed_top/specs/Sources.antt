@@ -8,7 +8,7 @@ use Rattle.ed_syntax.specs.declared.fault.SourceFault.{SourceFault}
 use Rattle.ed_syntax.specs.declared.fault.SourceFault.TheVariants.{At}
 use Rattle.ed_syntax.specs.Sources.{Fault, program_of}
 use Rattle.ed_link.specs.Faults.{fault}
-use Rattle.ed_link.specs.Linked.{after, entry_of, linked}
+use Rattle.ed_link.specs.Linked.{data_behind, entry_of, linked}
 use Rattle.ed_link.specs.Punch.{punched}
 use Rattle.ed_link.specs.Tables.{table_of, words_from}
 use Rattle.ed_link.specs.Tapes.{after_text, cost, tape}
@@ -48,7 +48,7 @@ run_outcome s lines =
 
 -- `punch`: the text of the punched tape
 abbrev pub punch_outcome : List Line → Outcome
-punch_outcome lines = done (text_of (canonicals (punched lines)) ++ after_text (after lines))
+punch_outcome lines = done (text_of (canonicals (punched lines)) ++ after_text (data_behind lines))
 
 -- `listing`: the places of the linked program, with the words of the store at entry
 abbrev pub listing_outcome : List Line → Outcome

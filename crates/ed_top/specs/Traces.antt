@@ -10,8 +10,8 @@ use Rattle.ed_top.specs.Outcome.{Outcome}
 use Rattle.ed_top.specs.Runs.{status_of}
 
 -- the trace of a run from a state, whose paper never is full, the line of its ending and its status
-abbrev pub traced : Settings → State → Outcome
-traced s start = record {
+abbrev pub traced_from : Settings → State → Outcome
+traced_from s start = record {
   out = trace_of s.limit s.resumes start;
   note = ending_line (ran s.limit s.resumes s.limit start).ending (ran s.limit s.resumes s.limit start).state;
   status = status_of (ran s.limit s.resumes s.limit start).ending;
@@ -19,4 +19,4 @@ traced s start = record {
 
 -- `trace`: the run of the rows, traced
 abbrev pub trace_outcome : Settings → List ℕ → Outcome
-trace_outcome s codes = traced s (first_state s.size codes)
+trace_outcome s codes = traced_from s (first_state s.size codes)

@@ -1,5 +1,5 @@
 ghost use Rattle.std.specs.Prelude.{Some, map, string_bytes};
-ghost use Rattle.ed_command.specs.Lines.{line_of};
+ghost use Rattle.ed_command.specs.Lines.{command_line};
 ghost use Rattle.ed_command.specs.Ranges.{IsInRange};
 ghost use Rattle.ed_top.specs.Calls.{EachCallRuns};
 ghost use Rattle.ed_top.specs.Clause.{ProgramEnded, device};
@@ -33,7 +33,7 @@ pub fn edsac<S: Source, K: Sink, L: Sink>(
     out: &mut K,
     note: &mut L,
 ) -> u8
-    ensures ended { ProgramEnded (output (line_of (map string_bytes words.now)))
+    ensures ended { ProgramEnded (output (command_line (map string_bytes words.now)))
         (device S.left S.faults source.old source.new)
         (device K.held K.faults out.old out.new)
         (device L.held L.faults note.old note.new) result }

@@ -91,7 +91,8 @@ fn run_linked(alloc: Global, settings: Settings, linked: &Linked) -> Result<Repl
 /// The line of a run's ending, behind the entry and its cost where these orders were obeyed.
 fn note_of(alloc: Global, entry: u16, cost: u64, ran: &Ran) -> Result<Vec<u8>, NoMemory>
     ensures { IfOk result (λ bytes. bytes.items
-        ≡ (if nat_le cost ran.now.machine.orders then entered entry cost else []) ++ ending_line ran.now.ending ran.now.machine) }
+        ≡ (if nat_le cost ran.now.machine.orders then entered entry cost else [])
+        ++ ending_line ran.now.ending ran.now.machine) }
 {
     if cost <= ran.machine.orders_done() {
         entered_text(alloc, entry, cost, ran.ending, &ran.machine)

@@ -9,7 +9,7 @@ use Rattle.ed_io.specs.Bytes.{Gains, GainsPart}
 use Rattle.ed_io.proofs.Calls.{gains_more, gains_none}
 use Rattle.ed_report.specs.Traces.{functions_after, is_full, letters_from, line_end}
 use Rattle.ed_report.proofs.Letters.{functions_count, letters_more, next_functions, no_functions}
-use Rattle.ed_trace.specs.Private.Growth.{Partly, letter, traced}
+use Rattle.ed_trace.specs.Private.Growth.{Partly, letter, traced_letters}
 
 -- what was held back stays so, and a piece too
 pub kept : (before now : Option (List ℕ)) (held text piece : List ℕ) → Partly before now held text
@@ -18,20 +18,20 @@ kept before now held text piece p =
     record { part = p.part; whole = ap (λ t. t ++ piece) p.whole ∙ append_assoc p.part held piece; gains = p.gains }
 
 -- what was held back is written
-pub flushed : (before now after : Option (List ℕ)) (held left text : List ℕ) → Partly before now held text
+pub flushed : {before now after : Option (List ℕ)} {held left text : List ℕ} → Partly before now held text
     → Gains now after held
     → left ≡ [] → Partly before after left text
-flushed before now after held left text p g none = record {
+flushed {before} {now} {after} {held} {text} p g none = record {
   part = text;
   whole = sym (append-nil text) ∙ ap (λ t. text ++ t) (sym none);
   gains = subst (λ t. Gains before after t) (sym p.whole) (gains_more before now after p.part held p.gains g);
 }
 
 -- a part of it is written
-pub part_written : (before now after : Option (List ℕ)) (held text : List ℕ) → Partly before now held text
+pub part_written : {before now after : Option (List ℕ)} {held text : List ℕ} → Partly before now held text
     → GainsPart now after held
     → GainsPart before after text
-part_written before now after held text p g = record {
+part_written {before} {now} {after} p g = record {
   part = p.part ++ g.part;
   rest = g.rest;
   whole = p.whole ∙ ap (λ t. p.part ++ t) g.whole ∙ sym (append_assoc p.part g.part g.rest);
@@ -50,32 +50,34 @@ part_of_longer before after text longer more is g = record {
 
 -- nothing is written yet
 pub nothing_traced : (before : Option (List ℕ)) (held : List ℕ) (s : State) → held ≡ []
-    → Partly before before held (traced 0 s)
+    → Partly before before held (traced_letters 0 s)
 nothing_traced before held s is =
     record { part = []; whole = ap (letters_from 0) (no_functions s) ∙ sym is; gains = gains_none before }
 
 next_traced : (k : ℕ) (s : State)
-    → traced (k + 1) s ≡ traced k s ++ letter (state_after k s) ∷ line_end (is_full (k + 1))
+    → traced_letters (k + 1) s ≡ traced_letters k s ++ letter (state_after k s) ∷ line_end (is_full (k + 1))
 next_traced k s =
     let count : 0 + length (functions_after k s) + 1 ≡ k + 1 = omega (arith, functions_count k s) in
     ap (letters_from 0) (next_functions k s) ∙ letters_more 0 (functions_after k s) _
-    ∙ ap (λ n. traced k s ++ letter (state_after k s) ∷ line_end (is_full n)) count
+    ∙ ap (λ n. traced_letters k s ++ letter (state_after k s) ∷ line_end (is_full n)) count
 
 -- a letter more
 pub grows : (k : ℕ) (s m : State) (l : ℕ) (full : Bool) → m ≡ state_after k s → l ≡ letter m → full ≡ is_full (k + 1)
-    → traced k s ++ l ∷ line_end full ≡ traced (k + 1) s
+    → traced_letters k s ++ l ∷ line_end full ≡ traced_letters (k + 1) s
 grows k s m l full is at ends =
-    (λ i. traced k s ++ (at ∙ ap letter is) i ∷ line_end (ends i)) ∙ sym (next_traced k s)
+    (λ i. traced_letters k s ++ (at ∙ ap letter is) i ∷ line_end (ends i)) ∙ sym (next_traced k s)
 
 -- the letters of the first orders are the first part of those of more of them
-pub more_traced : (j i : ℕ) (s : State) → (rest : List ℕ) × (traced (j + i) s ≡ traced j s ++ rest)
-more_traced j zero s = let e : j + 0 ≡ j = omega arith in ([], ap (λ k. traced k s) e ∙ sym (append-nil (traced j s)))
+pub more_traced : (j i : ℕ) (s : State) → (rest : List ℕ) × (traced_letters (j + i) s ≡ traced_letters j s ++ rest)
+more_traced j zero s = let e : j + 0 ≡ j =
+    omega arith in ([], ap (λ k. traced_letters k s) e ∙ sym (append-nil (traced_letters j s)))
 more_traced j (suc i) s =
     let e : j + suc i ≡ j + i + 1 = omega arith in
     let r = more_traced j i s in
     let piece = letter (state_after (j + i) s) ∷ line_end (is_full (j + i + 1)) in (
       r.0 ++ piece,
-      ap (λ k. traced k s) e ∙ next_traced (j + i) s ∙ ap (λ t. t ++ piece) r.1 ∙ append_assoc (traced j s) r.0 piece,
+      ap (λ k. traced_letters k s) e ∙ next_traced (j + i) s ∙ ap (λ t. t ++ piece) r.1
+          ∙ append_assoc (traced_letters j s) r.0 piece,
     )
 
 -- how many letters stand on the line

@@ -1,8 +1,9 @@
 //! The run whose trace is written.
 ghost use Rattle.std.specs.Prelude.{◌≡◌, ◌+◌, ◌≤◌, ◌^◌, [], vec_capacity, MatchResult, IfErr};
+ghost use Rattle.ed_machine.specs.Steps.{is_stop};
 ghost use Rattle.ed_io.specs.Causes.{HasCause, Rose};
 ghost use Rattle.ed_trace.specs.Traces.{TraceEnds};
-ghost use Rattle.ed_trace.specs.Private.Growth.{Breaks, Traces, is_stop, letter};
+ghost use Rattle.ed_trace.specs.Private.Growth.{BreaksTrace, Traces, letter};
 
 use crate::sheet::{end_line, put};
 use ed_codes::{Code, byte_of};
@@ -65,7 +66,7 @@ fn trace_orders<K: Sink>(
     requires room { 51 ≤ vec_capacity line.old }
     ensures trace { MatchResult result
         (λ ending. Traces limit resumes machine.old ending machine.new (K.held out.old) (K.held out.new) line.new.items)
-        (λ _. Breaks limit resumes machine.old (K.held out.old) (K.held out.new)) }
+        (λ _. BreaksTrace limit resumes machine.old (K.held out.old) (K.held out.new)) }
     ensures room { vec_capacity line.new ≡ vec_capacity line.old }
     ensures cause { HasCause (K.faults out.old) (K.faults out.new) result }
 {

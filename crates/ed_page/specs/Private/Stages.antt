@@ -17,30 +17,30 @@ use Rattle.ed_top.specs.Answer.{Answer, IsDue}
 use Rattle.ed_words.specs.Texts.{Text}
 use Rattle.ed_top.specs.Outcome.{Outcome, refused}
 use Rattle.ed_top.specs.Sources.{of_program}
-use Rattle.ed_page.specs.Answers.{Buffers, HasCause, HasPictureRoom, HasRoom, Tells, TextBuffers}
+use Rattle.ed_page.specs.Answers.{Buffers, HasItsCause, HasPictureRoom, HasBufferRoom, Tells, TextBuffers}
 use Rattle.ed_page.specs.Pictures.{Pictures}
 use Rattle.ed_page.specs.declared.running.Ran.{Ran}
 use Rattle.ed_page.specs.declared.running.Shown.{Shown}
 use Rattle.ed_page.specs.declared.told.Told.{Told}
 
 -- both texts and the status are those of an outcome; no status is that of want of memory or of room
-pub record Gives (told : Told) (o : Outcome) : Type 0 where
+pub record TellsOutcome (told : Told) (o : Outcome) : Type 0 where
   pub out_is : told.out.items ≡ o.out
   pub note_is : told.note.items ≡ o.note
   pub status_is : told.status ≡ o.status
   pub low : told.status < 12
 
 -- what is told is what the program answers
-abbrev pub Replies : Answer → Text → Result Told NoMemory → Type 0
-Replies wanted text (Ok told) = (o : Outcome) × IsDue wanted text o × Gives told o
-Replies wanted text (Err e) = Unit {0}
+abbrev pub IsAnswered : Answer → Text → Result Told NoMemory → Type 0
+IsAnswered wanted text (Ok told) = (o : Outcome) × IsDue wanted text o × TellsOutcome told o
+IsAnswered wanted text (Err e) = Unit {0}
 
 -- a fault of a tape's text is told
 abbrev pub RefusesTape : Reading → Result Told NoMemory → Type 0
 RefusesTape r (Err e) = Unit {0}
 RefusesTape (rows codes) (Ok told) = ⊥
-RefusesTape (no_row place byte) (Ok told) = Gives told (refused (text_fault_line (NoRow place byte)))
-RefusesTape (open_comment place) (Ok told) = Gives told (refused (text_fault_line (OpenComment place)))
+RefusesTape (no_row place byte) (Ok told) = TellsOutcome told (refused (text_fault_line (NoRow place byte)))
+RefusesTape (open_comment place) (Ok told) = TellsOutcome told (refused (text_fault_line (OpenComment place)))
 
 -- the rows of a tape's text, or its fault is told
 abbrev pub ReadsTape : Reading → Result (Vec ℕ Global) (Result Told NoMemory) → Type 0
@@ -49,20 +49,21 @@ ReadsTape r (Err told) = RefusesTape r told
 
 -- the linked program of a source without a fault, or the first fault is told, whatever would be answered where there
 -- is none
-abbrev pub LinksSource : Size → Result (List Line) Fault → Result Linked (Result Told NoMemory) → Type 0
-LinksSource z program (Ok k) = (lines : List Line) × (program ≡ Ok lines) × IsLinked z lines k
-LinksSource z program (Err (Ok told)) = ((accepted : List Line → Outcome) → Gives told (of_program z accepted program))
-LinksSource z program (Err (Err e)) = Unit {0}
+abbrev pub LinksOrTells : Size → Result (List Line) Fault → Result Linked (Result Told NoMemory) → Type 0
+LinksOrTells z program (Ok k) = (lines : List Line) × (program ≡ Ok lines) × IsLinked z lines k
+LinksOrTells z program (Err (Ok told)) =
+    ((accepted : List Line → Outcome) → TellsOutcome told (of_program z accepted program))
+LinksOrTells z program (Err (Err e)) = Unit {0}
 
 -- a run that ended is the definition's
-pub record IsRan (r : RunEnd) (ran : Ran) : Type 0 where
+pub record TellsRan (r : RunEnd) (ran : Ran) : Type 0 where
   pub ending_is : ran.ending ≡ r.ending
   pub state_is : ran.machine ≡ r.state
   pub text_is : ran.text.items ≡ paper r.codes
 
 -- what is shown of a run is an outcome, and its machine
 pub record IsRunOf (o : Outcome) (r : RunEnd) (shown : Shown) : Type 0 where
-  pub told : Gives shown.told o
+  pub told : TellsOutcome shown.told o
   pub machine : shown.machine ≡ Some r.state
 
 -- a machine is in the state in which the run of a text ends, if there is such a state
@@ -71,14 +72,14 @@ IsMachineOf Ends text machine = length text ≤ 262144 → (m : State) → Ends 
 
 -- what is shown of a text is what the program answers, and the machine in which its run ends
 abbrev pub Draws : Answer → (Text → State → Type 0) → Text → Result Shown NoMemory → Type 0
-Draws wanted Ends text (Ok shown) = (o : Outcome) × IsDue wanted text o × Gives shown.told o
+Draws wanted Ends text (Ok shown) = (o : Outcome) × IsDue wanted text o × TellsOutcome shown.told o
     × IsMachineOf Ends text shown.machine
 Draws wanted Ends text (Err e) = Unit {0}
 
 -- an outcome was written into two buffers, or there was no room
 abbrev pub IsWrittenOut : Outcome → (before after : TextBuffers) → ℕ → Type 0
 IsWrittenOut o before after answer =
-    HasCause (HasRoom o before.out before.note) (after ≡ before)
+    HasItsCause (HasBufferRoom o before.out before.note) (after ≡ before)
     (Tells o after.out after.note after.lengths.out after.lengths.note answer) answer
 
 -- buffers show an outcome, and a machine where there is one
@@ -87,6 +88,6 @@ pub record ShowsMachine (o : Outcome) (machine : Option State) (b : Buffers) (an
   pub state : IfSome machine (λ m. Pictures m b.words b.digits b.registers)
 
 -- so it was written into buffers, or there was no room
-abbrev pub IsWritten : Outcome → Option State → (before after : Buffers) → ℕ → Type 0
-IsWritten o machine before after answer =
-    HasCause (HasPictureRoom o before) (after ≡ before) (ShowsMachine o machine after answer) answer
+abbrev pub WritesBuffers : Outcome → Option State → (before after : Buffers) → ℕ → Type 0
+WritesBuffers o machine before after answer =
+    HasItsCause (HasPictureRoom o before) (after ≡ before) (ShowsMachine o machine after answer) answer

@@ -2,7 +2,7 @@
 use Rattle.std.specs.Prelude.{ℕ, ◌≡◌, ◌+◌, ◌++◌, List, Option, Result, Ok, Err}
 use Rattle.ed_machine.specs.State.{State}
 use Rattle.ed_machine.specs.Steps.{state_after}
-use Rattle.ed_notation.specs.Faults.{Entry}
+use Rattle.ed_notation.specs.Faults.{TapeEntry}
 use Rattle.ed_io.specs.Bytes.{Gains, GainsPart}
 use Rattle.ed_parts.specs.declared.part.Stage.{Stage}
 use Rattle.ed_parts.specs.declared.part.Passed.{Passed}
@@ -11,7 +11,7 @@ use Rattle.ed_parts.specs.declared.part.Arrival.{Arrival}
 use Rattle.ed_parts.specs.declared.program.Met.{Met}
 use Rattle.ed_parts.specs.declared.program.Met.TheVariants.{Finished, Returned}
 use Rattle.ed_parts.specs.declared.tape.PartsFault.{PartsFault}
-use Rattle.ed_parts.specs.Parts.{ComesHome, Concludes, Finishes, GoesBack, IsTold, LeadsTo, Part, Told, lines_of}
+use Rattle.ed_parts.specs.Parts.{ComesHome, Concludes, Finishes, GoesBack, IsTold, LeadsTo, TapePart, Told, told_lines}
 use Rattle.ed_parts.specs.Parts.{part_behind}
 use Rattle.ed_parts.specs.Parts.{read_before}
 
@@ -21,34 +21,34 @@ Meets left s (Finished ending) last = (k : ℕ) × Finishes left k s ending × (
 Meets left s (Returned orders) last = ComesHome left orders s × (last ≡ state_after orders s)
 
 -- the part that a stage stands for
-abbrev pub part_of : Stage → State → Part
-part_of stage s = record { number = stage.number; done = stage.done; state = s }
+abbrev pub stage_part : Stage → State → TapePart
+stage_part stage s = record { number = stage.number; done = stage.done; state = s }
 
 -- an arrival tells of an entry
-pub record IsArrival (rows : ℕ) (p : Part) (a : Arrival) (e : Entry) : Type 0 where
+pub record IsArrival (rows : ℕ) (p : TapePart) (a : Arrival) (e : TapeEntry) : Type 0 where
   pub leads : LeadsTo p e
   pub at_is : a.at ≡ e.at
   pub orders_are : a.orders ≡ e.cost
   pub rows_are : a.rows ≡ read_before rows p + e.rows
 
 -- a sink has gained a first part of what is told from a part on
-pub record Breaks (limit rows : ℕ) (p : Part) (before after : Option (List ℕ)) : Type 0 where
+pub record BreaksTold (limit rows : ℕ) (p : TapePart) (before after : Option (List ℕ)) : Type 0 where
   pub returns : ℕ
   pub tale : Told
   pub told : IsTold limit rows returns p tale
   pub gains : GainsPart before after tale.text
 
 -- a part was passed: it is the last one, and what it tells is told; or its program went back, and its lines are told
-abbrev pub Passes : ℕ → ℕ → Part → Result Passed PartsFault → State → Option (List ℕ) → Option (List ℕ) → Type 0
+abbrev pub Passes : ℕ → ℕ → TapePart → Result Passed PartsFault → State → Option (List ℕ) → Option (List ℕ) → Type 0
 Passes limit rows p (Ok (Over end)) last before after =
     (t : Told) × Concludes limit rows p t × (end ≡ t.end) × (last ≡ t.last) × Gains before after t.text
 Passes limit rows p (Ok (Back done)) last before after =
     (b : GoesBack limit p) × (done ≡ (part_behind p b).done) × (last ≡ (part_behind p b).state)
-    × Gains before after (lines_of rows p b)
-Passes limit rows p (Err fault) last before after = Breaks limit rows p before after
+    × Gains before after (told_lines rows p b)
+Passes limit rows p (Err fault) last before after = BreaksTold limit rows p before after
 
 -- so far the lines of parts that went back are told, and what is told from here on completes what is told of the tape
-pub record Ahead (limit rows : ℕ) (first p : Part) (before after : Option (List ℕ)) : Type 0 where
+pub record Ahead (limit rows : ℕ) (first p : TapePart) (before after : Option (List ℕ)) : Type 0 where
   pub text : List ℕ
   pub gains : Gains before after text
   pub completes : (n : ℕ) (rest : Told) → IsTold limit rows n p rest

@@ -4,7 +4,7 @@ use Rattle.ed_stepper.specs.declared.commands.Command.{Command}
 use Rattle.ed_stepper.specs.declared.commands.Command.TheVariants.{Trace, Show}
 
 -- a trace of at most 10,000 orders, locations of the store
-abbrev pub IsInRange : Command → Type 0
-IsInRange (Trace n) = n ≤ 10000
-IsInRange (Show a b) = (a ≤ b) × (b ≤ 1023)
-IsInRange command = Unit {0}
+abbrev pub IsCommandInRange : Command → Type 0
+IsCommandInRange (Trace n) = n ≤ 10000
+IsCommandInRange (Show a b) = (a ≤ b) × (b ≤ 1023)
+IsCommandInRange command = Unit {0}

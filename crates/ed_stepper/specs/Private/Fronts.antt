@@ -5,7 +5,7 @@ use Rattle.std.specs.Borrow.{Bor}
 use Rattle.std.specs.List.{position_or_len}
 use Rattle.ed_words.specs.Texts.{Text}
 use Rattle.ed_syntax.specs.Parts.{is_blank}
-use Rattle.ed_stepper.specs.Commands.{parts_of}
+use Rattle.ed_stepper.specs.Commands.{parts_between_blanks}
 
 -- how many blanks a text begins with
 abbrev pub blanks : Text → ℕ
@@ -25,5 +25,5 @@ stop_of text end = if nat_lt 0 end && slice_index text (end - 1) == 13 then end 
 
 -- the first part, and what stands behind it; or no part
 abbrev pub TakesPart : Text → Option (Bor Text × Bor Text) → Type 0
-TakesPart line (Some p) = parts_of line ≡ p.0.now ∷ parts_of p.1.now
-TakesPart line None = parts_of line ≡ []
+TakesPart line (Some p) = parts_between_blanks line ≡ p.0.now ∷ parts_between_blanks p.1.now
+TakesPart line None = parts_between_blanks line ≡ []

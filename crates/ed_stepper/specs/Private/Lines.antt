@@ -2,7 +2,7 @@
 use Rattle.std.specs.Prelude.{◌≡◌, ◌⊎◌, true, false, Result, Ok, Err, Vec, ℕ}
 use Rattle.std.specs.declared.alloc.Global.{Global}
 use Rattle.ed_stepper.specs.Sessions.{Stand}
-use Rattle.ed_stepper.specs.Scripts.{after, is_too_far, writes}
+use Rattle.ed_stepper.specs.Scripts.{left_by, is_too_far, writes}
 use Rattle.ed_stepper.specs.declared.commands.Command.{Command}
 use Rattle.ed_stepper.specs.declared.moves.BackFault.{BackFault}
 use Rattle.ed_stepper.specs.declared.moves.BackFault.TheVariants.{TooFar, Memory}
@@ -11,6 +11,6 @@ use Rattle.ed_stepper.specs.declared.moves.BackFault.TheVariants.{TooFar, Memory
 -- it ran or behind it
 abbrev pub LineEnds : Command → Stand → Result (Vec ℕ Global) BackFault → Stand → Type 0
 LineEnds command s (Ok text) t = (is_too_far command s ≡ false) × (text.items ≡ writes command s)
-    × (t ≡ after command s)
+    × (t ≡ left_by command s)
 LineEnds command s (Err (TooFar done)) t = (is_too_far command s ≡ true) × (done ≡ s.done) × (t ≡ s)
-LineEnds command s (Err Memory) t = (t ≡ s) ⊎ ((is_too_far command s ≡ false) × (t ≡ after command s))
+LineEnds command s (Err Memory) t = (t ≡ s) ⊎ ((is_too_far command s ≡ false) × (t ≡ left_by command s))

@@ -2,12 +2,12 @@ use Rattle.std.proofs.Common.{rules, ◌≡◌, ◌∙◌, ap, false, map, strin
 use Rattle.std.specs.Prelude.{None, option_and_then}
 use Rattle.std.specs.List.{list_all}
 use Rattle.ed_command.specs.Found.{is_plain_or_long}
-use Rattle.ed_command.specs.Lines.{command_in, line_of}
+use Rattle.ed_command.specs.Lines.{command_in, command_line}
 use Rattle.ed_command.proofs.Filtered.{all_map, refused_parts}
 use Rattle.ed_command.proofs.reading.read_words.Goals as goal
 
 pub returns-then-not-are_plain_or_long-clause-is : goal.returns-then-not-are_plain_or_long-clause-is
-unfolding line_of
+unfolding command_line
 returns-then-not-are_plain_or_long-clause-is c =
     let strange : list_all is_plain_or_long (map string_bytes c.args.words.now) ≡ false =
     all_map is_plain_or_long string_bytes c.args.words.now ∙ search rules in

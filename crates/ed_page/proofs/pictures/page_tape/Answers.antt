@@ -12,18 +12,7 @@ use Rattle.ed_page.proofs.pictures.page_tape.Goals as goal
 pub returns-in-Ok : goal.returns-in-Ok
 returns-in-Ok c =
     let s = asked c.args.small c.args.orders c.args.resumes in
-    let a = c.args in
-    let n = c.show.new in
-    drawn_shown (answer Tape s) (TapeEnds s) a.text.now c.in-Ok.shown
-    (record {
-      words = a.words.now;
-      digits = a.digits.now;
-      paper = a.paper.now;
-      note = a.note.now;
-      registers = a.registers.now;
-    })
-    (record { words = n.words; digits = n.digits; paper = n.paper; note = n.note; registers = n.registers })
-    c.show.result
-    (subst (λ (x : Settings). Draws (answer Tape x) (TapeEnds x) a.text.now (Ok c.in-Ok.shown)) c.asked.ensures
-    c.in-Ok.ensures)
-    c.show.ensures
+    let text = c.args.text.now in
+    drawn_shown (answer Tape s) (TapeEnds s) text c.in-Ok.shown
+    (subst (λ (x : Settings). Draws (answer Tape x) (TapeEnds x) text (Ok c.in-Ok.shown)) c.asked.ensures
+    c.in-Ok.ensures) c.show.ensures

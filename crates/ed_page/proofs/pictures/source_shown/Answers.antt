@@ -5,7 +5,7 @@ use Rattle.ed_syntax.specs.Sources.{program_of}
 use Rattle.ed_command.specs.declared.command.Action.TheVariants.{Run}
 use Rattle.ed_top.specs.Output.{answer}
 use Rattle.ed_page.specs.Answers.{SourceEnds}
-use Rattle.ed_page.specs.Private.Stages.{Draws, LinksSource}
+use Rattle.ed_page.specs.Private.Stages.{Draws, LinksOrTells}
 use Rattle.ed_page.specs.declared.running.Shown.{Shown}
 use Rattle.ed_page.specs.declared.told.Told.{Told}
 use Rattle.ed_page.proofs.Replies.{source_refusal_drawn}
@@ -17,5 +17,5 @@ returns-in_ok-told-in-Err c =
     let text = c.args.text.now in
     subst (λ (x : Shown). Draws (answer Run s) (SourceEnds s) text (Ok x)) (sym c.refused-in-Err.ensures)
     (source_refusal_drawn s text c.in_ok-told-in-Err.field-0 (search rules)
-    (subst (λ (r : Result Told NoMemory). LinksSource s.size (program_of text) (Err r)) c.in_ok-told-in-Err.was
+    (subst (λ (r : Result Told NoMemory). LinksOrTells s.size (program_of text) (Err r)) c.in_ok-told-in-Err.was
     c.in-Err.ensures))

@@ -1,7 +1,7 @@
 use Rattle.std.proofs.Common.{◌∙◌, ◌<◌, ap, map, subst, sym, List, ℕ}
 use Rattle.std.specs.Prelude.{All}
 use Rattle.ed_link.specs.declared.linked.Placed.{Placed}
-use Rattle.ed_page.proofs.Places.{places_below}
+use Rattle.ed_link.proofs.Places.{places_below}
 use Rattle.ed_page.proofs.texts.list_linked.Goals as goal
 
 pub listing-requires : goal.listing-requires

@@ -1,6 +1,6 @@
 use Rattle.std.proofs.Common.{◌≡◌, ℕ, ◌<◌, ◌*◌, length, get_or}
+use Rattle.ed_words.specs.Words.{digit}
 use Rattle.ed_store.specs.Cells.{sandwich_at}
-use Rattle.ed_page.specs.Pictures.{digit}
 use Rattle.ed_page.proofs.writing.write_digits.Given as goal
 
 abbrev pub invariant-loop-k : goal.invariant-loop-k

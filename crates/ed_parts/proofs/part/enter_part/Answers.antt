@@ -1,24 +1,28 @@
-use Rattle.std.proofs.Common.{◌≡◌, ◌+◌, ap, arith}
-use Rattle.ed_parts.specs.Parts.{part_behind}
-use Rattle.ed_parts.specs.Private.Stages.{part_of}
+use Rattle.std.proofs.Common.{◌≡◌, ◌+◌, refl, ap, arith}
+use Rattle.ed_io.proofs.Calls.{gains_more, gains_none}
+use Rattle.ed_parts.specs.Parts.{cut, finished, part_behind}
+use Rattle.ed_parts.specs.Private.Stages.{stage_part}
 use Rattle.ed_parts.proofs.Passing.{back_from, behind_is, entry_breaks, entry_is, finishes_there, made_as}
-use Rattle.ed_parts.proofs.Passing.{passes_back, passes_cut, passes_end, return_breaks, returned_is}
+use Rattle.ed_parts.proofs.Passing.{return_breaks, returned_is}
 use Rattle.ed_parts.proofs.Programs.{home_within}
 use Rattle.ed_parts.proofs.part.enter_part.Goals as goal
 
 pub returns-then-left-arrival-clause-passes : goal.returns-then-left-arrival-clause-passes
 returns-then-left-arrival-clause-passes g c =
-    let a = c.requires.arrival in
-    let p = part_of c.args.stage c.args.machine.now in
-    passes_cut c.args.stage.limit c.args.stage.rows p a.0 _ _ a.1.leads
-    (omega (arith, c.if-left-arrival.true, a.1.orders_are, c.requires.done)) c.obey.ensures.state
+    let a = c.requires.arrival in (
+      _,
+      cut a.0 a.1.leads (omega (arith, c.if-left-arrival.true, a.1.orders_are, c.requires.done)) refl,
+      refl,
+      c.obey.ensures.state,
+      gains_none _,
+    )
 
 pub returns-in-Err-clause-passes : goal.returns-in-Err-clause-passes
 returns-in-Err-clause-passes g c =
     let a = c.requires.arrival in
-    let p = part_of c.args.stage c.args.machine.now in
-    let line = entry_is c.args.stage.rows p a.0 _ _ _ a.1.at_is a.1.orders_are a.1.rows_are in
-    entry_breaks c.args.stage.limit c.args.stage.rows p a.0 _ _ a.1.leads
+    let p = stage_part c.args.stage c.args.machine.now in
+    let line = entry_is c.args.stage.rows p a.0 a.1.at_is a.1.orders_are a.1.rows_are in
+    entry_breaks c.args.stage.limit c.args.stage.rows p a.0 a.1.leads
     (omega (arith, c.if-left-arrival.false, a.1.orders_are, c.requires.done))
     (c.in-Err.ensures.whole _ (made_as _ _ _ line c.entry_text.ensures))
 
@@ -30,47 +34,52 @@ overflow_add-done g c =
 pub returns-in-Finished-clause-passes : goal.returns-in-Finished-clause-passes
 returns-in-Finished-clause-passes g c =
     let a = c.requires.arrival in
-    let p = part_of c.args.stage c.args.machine.now in
-    let line = entry_is c.args.stage.rows p a.0 _ _ _ a.1.at_is a.1.orders_are a.1.rows_are in
+    let p = stage_part c.args.stage c.args.machine.now in
+    let line = entry_is c.args.stage.rows p a.0 a.1.at_is a.1.orders_are a.1.rows_are in
     let m = c.in-Finished.ensures.meets in
-    let l = c.args.stage.limit in
-    passes_end l c.args.stage.rows p a.0 m.0 _ _ _ _ a.1.leads
-    (omega (arith, c.if-left-arrival.false, a.1.orders_are, c.requires.done))
-    (finishes_there l p a.0 _ _ a.1.orders_are c.obey-2.ensures.state m.0 _ m.1)
-    (behind_is l p a.0 _ _ a.1.orders_are c.obey-2.ensures.state m.0 _ m.2)
-    (c.in_default.ensures.whole _ (made_as _ _ _ line c.entry_text.ensures))
+    let l = c.args.stage.limit in (
+      _,
+      finished a.0 m.0 _ a.1.leads (omega (arith, c.if-left-arrival.false, a.1.orders_are, c.requires.done))
+          (finishes_there l p a.0 a.1.orders_are c.obey-2.ensures.state m.1) refl,
+      refl,
+      behind_is l p a.0 a.1.orders_are c.obey-2.ensures.state m.0 m.2,
+      c.in_default.ensures.whole _ (made_as _ _ _ line c.entry_text.ensures),
+    )
 
 pub returns-in-Ok-clause-passes : goal.returns-in-Ok-clause-passes
 returns-in-Ok-clause-passes g c =
     let a = c.requires.arrival in
-    let p = part_of c.args.stage c.args.machine.now in
-    let line = entry_is c.args.stage.rows p a.0 _ _ _ a.1.at_is a.1.orders_are a.1.rows_are in
+    let p = stage_part c.args.stage c.args.machine.now in
+    let line = entry_is c.args.stage.rows p a.0 a.1.at_is a.1.orders_are a.1.rows_are in
     let m = c.in-Returned.ensures.meets in
     let l = c.args.stage.limit in
     let b =
-    back_from l p a.0 _ _ a.1.orders_are c.obey-2.ensures.state c.in-Returned.orders a.1.leads
+    back_from l p a.0 a.1.orders_are c.obey-2.ensures.state a.1.leads
     (omega (arith, c.if-left-arrival.false, c.requires.done)) m.0 in
-    let last = behind_is l p a.0 _ _ a.1.orders_are c.obey-2.ensures.state c.in-Returned.orders _ m.1 in
+    let last = behind_is l p a.0 a.1.orders_are c.obey-2.ensures.state c.in-Returned.orders m.1 in
     let count : c.args.stage.done + c.args.arrival.orders + c.in-Returned.orders ≡ (part_behind p b).done =
     ap (λ n. c.args.stage.done + n + c.in-Returned.orders) a.1.orders_are in
-    let told = returned_is l p b _ _ _ _ last c.directive.ensures c.order-address.ensures.is count in
-    passes_back l c.args.stage.rows p b _ _ _ _ _ count last
-    (c.in_default.ensures.whole _ (made_as _ _ _ line c.entry_text.ensures))
-    (c.in-Ok.ensures.whole _ (made_as _ _ _ told c.returned_text.ensures))
+    let told = returned_is b last c.directive.ensures c.order-address.ensures.is count in (
+      b,
+      count,
+      last,
+      gains_more _ _ _ _ _ (c.in_default.ensures.whole _ (made_as _ _ _ line c.entry_text.ensures))
+          (c.in-Ok.ensures.whole _ (made_as _ _ _ told c.returned_text.ensures)),
+    )
 
 pub returns-in-Err-write_line-clause-passes : goal.returns-in-Err-write_line-clause-passes
 returns-in-Err-write_line-clause-passes g c =
     let a = c.requires.arrival in
-    let p = part_of c.args.stage c.args.machine.now in
-    let line = entry_is c.args.stage.rows p a.0 _ _ _ a.1.at_is a.1.orders_are a.1.rows_are in
+    let p = stage_part c.args.stage c.args.machine.now in
+    let line = entry_is c.args.stage.rows p a.0 a.1.at_is a.1.orders_are a.1.rows_are in
     let m = c.in-Returned.ensures.meets in
     let l = c.args.stage.limit in
     let b =
-    back_from l p a.0 _ _ a.1.orders_are c.obey-2.ensures.state c.in-Returned.orders a.1.leads
+    back_from l p a.0 a.1.orders_are c.obey-2.ensures.state a.1.leads
     (omega (arith, c.if-left-arrival.false, c.requires.done)) m.0 in
-    let last = behind_is l p a.0 _ _ a.1.orders_are c.obey-2.ensures.state c.in-Returned.orders _ m.1 in
+    let last = behind_is l p a.0 a.1.orders_are c.obey-2.ensures.state c.in-Returned.orders m.1 in
     let count : c.args.stage.done + c.args.arrival.orders + c.in-Returned.orders ≡ (part_behind p b).done =
     ap (λ n. c.args.stage.done + n + c.in-Returned.orders) a.1.orders_are in
-    let told = returned_is l p b _ _ _ _ last c.directive.ensures c.order-address.ensures.is count in
-    return_breaks l c.args.stage.rows p b _ _ _ (c.in_default.ensures.whole _ (made_as _ _ _ line c.entry_text.ensures))
+    let told = returned_is b last c.directive.ensures c.order-address.ensures.is count in
+    return_breaks l c.args.stage.rows p b (c.in_default.ensures.whole _ (made_as _ _ _ line c.entry_text.ensures))
     (c.in-Err-write_line.ensures.whole _ (made_as _ _ _ told c.returned_text.ensures))

@@ -1,7 +1,10 @@
-use Rattle.std.proofs.Common.{◌+◌, ◌-◌, ◌∙◌, length}
-use Rattle.ed_parts.specs.Private.Stages.{part_of}
+use Rattle.std.proofs.Common.{◌+◌, ◌-◌, ◌∙◌, refl, length}
+use Rattle.ed_io.proofs.Calls.{gains_none}
+use Rattle.ed_parts.specs.declared.tape.PartsEnd.TheVariants.{Faulty}
+use Rattle.ed_parts.specs.Parts.{faulty}
+use Rattle.ed_parts.specs.Private.Stages.{stage_part}
 use Rattle.ed_parts.proofs.Parting.{part_opens}
-use Rattle.ed_parts.proofs.Passing.{breaks_first, passes_fault}
+use Rattle.ed_parts.proofs.Passing.{breaks_first}
 use Rattle.ed_parts.proofs.part.run_part.Goals as goal
 
 pub enter_part-requires-clause-arrival : goal.enter_part-requires-clause-arrival
@@ -19,12 +22,16 @@ enter_part-requires-clause-arrival g c =
 
 pub returns-in-Err-At-clause-passes : goal.returns-in-Err-At-clause-passes
 returns-in-Err-At-clause-passes g c =
-    let row = c.in-Err-At.row-is in
-    passes_fault c.args.stage.limit c.args.stage.rows (part_of c.args.stage c.args.machine.now) _ _ _ _ _
-    (rw c.in-Err-At.field-0-is at c.in-Err-At.ensures) (λ i. c.args.stage.rows - length (c.rows_left.ensures i) + row i)
-    c.in-Err-At.cause-is
+    let row = c.in-Err-At.row-is in (
+      _,
+      faulty _ _ (rw c.in-Err-At.field-0-is at c.in-Err-At.ensures) refl,
+      (λ i. Faulty c.args.stage.number (c.args.stage.rows - length (c.rows_left.ensures i) + row i)
+          (c.in-Err-At.cause-is i)),
+      refl,
+      gains_none _,
+    )
 
 pub returns-in-Err-Memory-clause-passes : goal.returns-in-Err-Memory-clause-passes
 returns-in-Err-Memory-clause-passes g c =
-    let p = part_of c.args.stage c.args.machine.now in
+    let p = stage_part c.args.stage c.args.machine.now in
     breaks_first c.args.stage.limit c.args.stage.rows p _ (part_opens p c.requires.back)

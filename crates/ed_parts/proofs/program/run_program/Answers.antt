@@ -1,6 +1,7 @@
 use Rattle.std.proofs.Common.{◌+◌, arith}
 use Rattle.std.proofs.lemmas.Bool.{iff_false}
-use Rattle.ed_parts.proofs.Programs.{going, goes_on, running_first, state_more, stops_there}
+use Rattle.ed_machine.proofs.Steps.{next_state}
+use Rattle.ed_parts.proofs.Programs.{going, goes_on, running_first, stops_there}
 use Rattle.ed_parts.proofs.program.run_program.Goals as goal
 
 pub loop-done-init : goal.loop-done-init
@@ -10,17 +11,17 @@ pub returns-in-Stopped-clause-meets : goal.returns-in-Stopped-clause-meets
 returns-in-Stopped-clause-meets c =
     let r = c.loop-done.invariant.running in (
       c.loop-done.done + 1,
-      stops_there _ _ _ _ _ r c.loop-done-test.true (iff_false c.is_returned.ensures c.if-is_returned.false)
+      stops_there r c.loop-done-test.true (iff_false c.is_returned.ensures c.if-is_returned.false)
           c.step.ensures.turn
           c.in-Stopped.is,
-      state_more _ _ _ _ r.state c.step.ensures.state,
+      next_state _ _ r.state c.step.ensures.state,
     )
 
 pub loop-done-preserved : goal.loop-done-preserved
 loop-done-preserved c =
     let i = c.loop-done.invariant in
     record {
-      running = goes_on _ _ _ _ _ _ i.running c.loop-done-test.true
+      running = goes_on i.running c.loop-done-test.true
           (iff_false c.is_returned.ensures c.if-is_returned.false)
           c.step.ensures.turn c.step.ensures.state (going _ c.in-Went.is);
       orders = omega (arith, i.orders, c.step.ensures.count);

@@ -22,13 +22,13 @@ parts-init g c =
 pub returns-in-Ok-Over-clause-tells : goal.returns-in-Ok-Over-clause-tells
 returns-in-Ok-Over-clause-tells g c =
     let i = c.parts.invariant in
-    answers_over _ _ _ c.args.machine.now _ _ _ _ c.from.ensures i.whole i.ahead _ _
+    answers_over _ c.from.ensures i.whole i.ahead
     (rw c.in-Ok-Over.field-0-is at c.in-Ok-Over.ensures.passes)
 
 pub returns-in-Err-clause-tells : goal.returns-in-Err-clause-tells
 returns-in-Err-clause-tells g c =
     let i = c.parts.invariant in
-    answers_broken _ _ _ c.args.machine.now _ _ _ _ c.from.ensures i.whole i.ahead c.in-Err.fault c.run_part.new.machine
+    answers_broken _ c.from.ensures i.whole i.ahead c.in-Err.fault c.run_part.new.machine
     c.in-Err.ensures.passes
 
 pub returns-in-Ok-Over-clause-law : goal.returns-in-Ok-Over-clause-law
@@ -53,7 +53,7 @@ pub parts-preserved : goal.parts-preserved
 parts-preserved g c =
     let i = c.parts.invariant in
     let o =
-    goes_onward _ _ _ c.args.machine.now _ _ _ _ c.from.ensures i.whole i.ahead _ _
+    goes_onward _ c.from.ensures i.whole i.ahead
     (rw c.in-Ok-Back.field-0-is at c.in-Ok-Back.ensures.passes) in
     record {
       ahead = o.ahead;

@@ -1,7 +1,7 @@
 use Rattle.std.proofs.Common.{◌≡◌, ◌∙◌, ℕ, ◌+◌, ◌<◌, Bool, true, false, sym, ap, subst}
 use Rattle.std.proofs.Common.{List, ◌++◌, append_assoc, drop, length, get_or, if◌then◌else◌}
 use Rattle.std.proofs.lemmas.List.{drop_more}
-use Rattle.ed_library.specs.Entries.{Entry, catalogue, no_entry}
+use Rattle.ed_library.specs.Entries.{Routine, catalogue, no_entry}
 use Rattle.ed_report.specs.Catalogue.{routine_line, routine_lines}
 use Rattle.ed_report.proofs.library.library_text.Goals as goal
 
@@ -10,15 +10,15 @@ taken true whole other more e h = h
 taken false whole other more e h = absurd (cc)
 
 -- one line more, of those of some routines
-next : (entries : List Entry) (k : ℕ) (lines line more whole : List ℕ) → k < length entries
+next : (entries : List Routine) (k : ℕ) (lines : List ℕ) {line more whole : List ℕ} → k < length entries
     → line ≡ routine_line (get_or entries k no_entry) → more ≡ lines ++ line
     → lines ++ routine_lines (drop k entries) ≡ whole
     → more ++ routine_lines (drop (k + 1) entries) ≡ whole
-next entries k lines line more whole below is grown before =
+next entries k lines below is grown before =
     let rest = routine_lines (drop (k + 1) entries) in
     (λ i. (grown ∙ ap (λ (x : List ℕ). lines ++ x) is) i ++ rest)
     ∙ append_assoc lines (routine_line (get_or entries k no_entry)) rest
-    ∙ sym (ap (λ (x : List Entry). lines ++ routine_lines x) (drop_more entries k no_entry below)) ∙ before
+    ∙ sym (ap (λ (x : List Routine). lines ++ routine_lines x) (drop_more entries k no_entry below)) ∙ before
 
 pub loop-index-preserved : goal.loop-index-preserved
 loop-index-preserved c =
@@ -26,6 +26,6 @@ loop-index-preserved c =
     let below : l.index < length catalogue =
     subst (λ (n : ℕ). l.index < n) c.catalogue_size-index-end.ensures.is c.loop-index-test.true in
     let grown = taken _ _ _ _ c.if-is_err.ensures.negation c.extend_from_slice.ensures.items in
-    next catalogue l.index l.lines.items c.in_ok-line.line.items c.extend_from_slice.new.self.items _ below
+    next catalogue l.index l.lines.items below
     (c.in_ok-line.ensures ∙ ap (λ (r : ℕ). routine_line (get_or catalogue r no_entry)) c.routine.ensures)
     (grown ∙ ap (λ (x : List ℕ). l.lines.items ++ x) c.deref.ensures.value) l.invariant

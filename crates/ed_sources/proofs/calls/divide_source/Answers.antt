@@ -1,23 +1,22 @@
-use Rattle.std.proofs.Common.{◌≡◌, ◌∙◌, ◌/◌, ◌%◌, [], ◌∷◌, ◌++◌, ap, sym, append_assoc, codes}
+use Rattle.std.proofs.Common.{◌≡◌, ◌∙◌, ◌/◌, ◌%◌, [], ◌∷◌, ◌++◌, ap, codes}
 use Rattle.std.specs.Fmt.{decimal}
 use Rattle.ed_words.specs.Texts.{Text}
-use Rattle.ed_sources.specs.Calls.{text_of}
+use Rattle.ed_sources.specs.Calls.{text_of_lines}
 use Rattle.ed_report.proofs.Texts.{told}
+use Rattle.ed_sources.proofs.TextLines.{line_end}
 use Rattle.ed_sources.proofs.calls.divide_source.Goals as goal
 
 -- the text before the digits of the first number, and that behind those of the last
 abbrev front : Text
-front = text_of (codes "segment main" ∷ codes "here: A here F" ∷ codes "G v F" ∷ codes "then: A then F" ∷ codes "G p F"
+front = text_of_lines (codes "segment main" ∷ codes "here: A here F" ∷ codes "G v F" ∷ codes "then: A then F" ∷ codes
+    "G p F"
     ∷ codes "next: A next F" ∷ codes "G n F" ∷ codes "last: A last F" ∷ codes "G r F" ∷ codes "Z F" ∷ [])
     ++ codes "hi: word "
 
 abbrev back : Text
-back = text_of (codes "use divide as v with H=hi, N=lo, M=by" ∷ codes "use print as p with H=lo"
+back = text_of_lines (codes "use divide as v with H=hi, N=lo, M=by" ∷ codes "use print as p with H=lo"
     ∷ codes "use newline as n"
     ∷ codes "use print as r with H=hi" ∷ codes "enter main" ∷ [])
-
-line : (digits rest : Text) → digits ++ 10 ∷ rest ≡ (digits ++ 10 ∷ []) ++ rest
-line digits rest = sym (append_assoc digits (10 ∷ []) rest)
 
 pieces : (high low by : Text)
     → front ++ (high ++ 10 ∷ (codes "lo: word " ++ (low ++ 10 ∷ (codes "by: word " ++ (by ++ 10 ∷ back)))))
@@ -25,10 +24,10 @@ pieces : (high low by : Text)
     ++ (codes "lo: word " ++ ((low ++ 10 ∷ []) ++ (codes "by: word " ++ ((by ++ 10 ∷ []) ++ back)))))
 pieces high low by =
     ap (λ (t : Text). front ++ t)
-    (line high (codes "lo: word " ++ (low ++ 10 ∷ (codes "by: word " ++ (by ++ 10 ∷ back))))
+    (line_end high (codes "lo: word " ++ (low ++ 10 ∷ (codes "by: word " ++ (by ++ 10 ∷ back))))
     ∙ ap (λ (t : Text). (high ++ 10 ∷ []) ++ (codes "lo: word " ++ t))
-    (line low (codes "by: word " ++ (by ++ 10 ∷ back))
-    ∙ ap (λ (t : Text). (low ++ 10 ∷ []) ++ (codes "by: word " ++ t)) (line by back)))
+    (line_end low (codes "by: word " ++ (by ++ 10 ∷ back))
+    ∙ ap (λ (t : Text). (low ++ 10 ∷ []) ++ (codes "by: word " ++ t)) (line_end by back)))
 
 pub returns : goal.returns
 returns c =

@@ -4,7 +4,7 @@ use Rattle.ed_sources.proofs.demo.demo_source.Goals as goal
 
 pub returns-clause-is : goal.returns-clause-is
 returns-clause-is c =
-    whole_source c.args.n _ _ _ c.in_ok-text.ensures c.in_ok-push_segments.ensures c.in_ok-push.ensures
+    whole_source c.args.n c.in_ok-text.ensures c.in_ok-push_segments.ensures c.in_ok-push.ensures
 
 pub returns-clause-law : goal.returns-clause-law
 returns-clause-law c = demos_accepted

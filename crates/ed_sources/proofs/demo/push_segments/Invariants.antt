@@ -1,5 +1,5 @@
 use Rattle.std.proofs.Common.{◌≡◌, ◌++◌, ◌+◌, ◌-◌, ◌<◌}
-use Rattle.ed_sources.specs.Calls.{text_of}
+use Rattle.ed_sources.specs.Calls.{text_of_lines}
 use Rattle.ed_sources.specs.Demo.{segments}
 use Rattle.ed_sources.proofs.demo.push_segments.Given as goal
 
@@ -7,6 +7,6 @@ use Rattle.ed_sources.proofs.demo.push_segments.Given as goal
 abbrev pub invariant-loop-done : goal.invariant-loop-done
 invariant-loop-done l = record {
   low : l.number < 65536;
-  text : l.text.items ++ text_of (segments (l.n - l.done) (l.done + 1) l.number)
-      ≡ l.initial.text.items ++ text_of (segments l.n 1 l.n);
+  text : l.text.items ++ text_of_lines (segments (l.n - l.done) (l.done + 1) l.number)
+      ≡ l.initial.text.items ++ text_of_lines (segments l.n 1 l.n);
 }

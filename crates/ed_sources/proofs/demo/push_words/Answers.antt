@@ -1,5 +1,5 @@
 use Rattle.std.proofs.Common.{◌≡◌, ◌+◌, ◌-◌, suc, arith}
-use Rattle.ed_sources.proofs.DemoTexts.{no_word, one_behind, one_word}
+use Rattle.ed_sources.proofs.DemoTexts.{no_number, no_word, one_behind, one_word}
 use Rattle.ed_sources.proofs.demo.push_words.Goals as goal
 
 pub loop-word-preserved : goal.loop-word-preserved
@@ -10,21 +10,17 @@ loop-word-preserved c =
     let is = c.next-number.ensures in
     record {
       low = omega (arith, is);
-      last = one_behind _ _ l.number _ _ less is l.invariant.last;
-      text = one_word _ _ l.number _ l.text.items _ _ _ _ less is c.in_ok-line.ensures c.deref.ensures.value
-          c.in_ok-push.ensures l.invariant.text;
+      last = one_behind l.number less is l.invariant.last;
+      text = one_word l.number l.text.items less is c.in_ok-line.ensures c.deref.ensures.value c.in_ok-push.ensures
+          l.invariant.text;
     }
 
 pub returns-clause-last : goal.returns-clause-last
 returns-clause-last c =
     let l = c.loop-word in
-    let outside = c.loop-word-test.false in
-    let none : 8 - l._word ≡ 0 = omega (arith, outside) in
-    (no_word _ l.number _ l.text.items _ none l.invariant.last l.invariant.text).0
+    no_number (8 - l._word) l.number (omega (arith, c.loop-word-test.false)) l.invariant.last
 
 pub returns-clause-text : goal.returns-clause-text
 returns-clause-text c =
     let l = c.loop-word in
-    let outside = c.loop-word-test.false in
-    let none : 8 - l._word ≡ 0 = omega (arith, outside) in
-    (no_word _ l.number _ l.text.items _ none l.invariant.last l.invariant.text).1
+    no_word (8 - l._word) l.number l.text.items (omega (arith, c.loop-word-test.false)) l.invariant.text

@@ -1,5 +1,4 @@
-use Rattle.std.proofs.Common.{rules, ◌≡◌, ◌∙◌, ap, sym}
-use Rattle.std.specs.Prelude.{None}
+use Rattle.std.proofs.Common.{rules, ◌∙◌, ap, sym}
 use Rattle.ed_stepper.specs.Inputs.{announced}
 use Rattle.ed_stepper.proofs.Divisions.{first_is, goes_on}
 use Rattle.ed_stepper.proofs.inputs.divide.Goals as goal

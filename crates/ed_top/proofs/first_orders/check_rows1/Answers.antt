@@ -3,8 +3,7 @@ use Rattle.ed_top.proofs.first_orders.check_rows1.Goals as goal
 
 pub returns-in-Ok : goal.returns-in-Ok
 returns-in-Ok c =
-    program_found c.args.rows.now c.in-Ok.checked _ _ _ c.in-Ok.ensures.answers c.orders.ensures c.rows.ensures
-    c.entry_reply.ensures
+    program_found _ c.in-Ok.ensures.answers c.orders.ensures c.rows.ensures c.entry_reply.ensures
 
 pub returns-in-Err : goal.returns-in-Err
 returns-in-Err c =

@@ -1,17 +1,12 @@
-use Rattle.std.proofs.Common.{subst, List, ℕ}
-use Rattle.std.specs.Prelude.{IfOk}
 use Rattle.ed_top.specs.FirstOrders.{IsChecked1}
-use Rattle.ed_top.specs.Outcome.{Outcome}
-use Rattle.ed_top.specs.Private.Stages.{Gives}
 use Rattle.ed_top.proofs.FirstChecks.{checked1_one}
 use Rattle.ed_top.proofs.Replies.{refusal_replied, rows_replied}
 use Rattle.ed_top.proofs.first_orders.check_tape1.Goals as goal
 
 pub returns-in-Ok : goal.returns-in-Ok
 returns-in-Ok c =
-    rows_replied IsChecked1 c.args.input.now c.in-Ok.rows.items _ checked1_one c.in-Ok.ensures.is
-    (subst (λ (codes : List ℕ). IfOk c.check_rows1.result (λ reply. (o : Outcome) × IsChecked1 codes o × Gives reply o))
-    c.deref.ensures.value c.check_rows1.ensures)
+    rows_replied IsChecked1 c.args.input.now _ checked1_one c.in-Ok.ensures.is c.deref.ensures.value
+    c.check_rows1.ensures
 
 pub returns-in-Err : goal.returns-in-Err
 returns-in-Err c = refusal_replied IsChecked1 c.args.input.now _ checked1_one c.in-Err.ensures.is

@@ -12,23 +12,21 @@ pub returns-in-Ok-end_text : goal.returns-in-Ok-end_text
 returns-in-Ok-end_text g c =
     let out = device g.K.Sink.held g.K.Sink.faults c.args.out.now c.run_parts.new.out in (
       c.end_status.ensures.low,
-      parts_told c.args.settings c.args.rows.items _ c.in-Ok.ensures.is out c.in-Ok-run_parts.end
-          c.run_parts.new.machine _ _
+      parts_told c.args.settings c.args.rows.items c.in-Ok.ensures.is out
           c.in-Ok-run_parts.ensures.tells c.in-Ok-end_text.ensures c.end_status.ensures.is,
     )
 
 pub returns-in-Ok-run_parts : goal.returns-in-Ok-run_parts
 returns-in-Ok-run_parts g c =
     let out = device g.K.Sink.held g.K.Sink.faults c.args.out.now c.run_parts.new.out in
-    parts_untold c.args.settings c.args.rows.items _ c.in-Ok.ensures.is out c.in-Ok-run_parts.end
-    c.run_parts.new.machine
+    parts_untold c.args.settings c.args.rows.items c.in-Ok.ensures.is out
     c.in-Ok-run_parts.ensures.tells
 
 pub returns-in-Err-Failed : goal.returns-in-Err-Failed
 returns-in-Err-Failed g c =
     let out = device g.K.Sink.held g.K.Sink.faults c.args.out.now c.run_parts.new.out in (
       c.in-Err-Failed.ensures.cause c.in-Err-Failed.field-0-is,
-      parts_broken c.args.settings c.args.rows.items _ c.in-Ok.ensures.is out c.in-Err-Failed.field-0
+      parts_broken c.args.settings c.args.rows.items c.in-Ok.ensures.is out c.in-Err-Failed.field-0
           c.run_parts.new.machine
           c.in-Err-Failed.ensures.tells,
     )
@@ -36,6 +34,6 @@ returns-in-Err-Failed g c =
 pub returns : goal.returns
 returns g c =
     let out = device g.K.Sink.held g.K.Sink.faults c.args.out.now c.run_parts.new.out in
-    parts_broken c.args.settings c.args.rows.items _ c.in-Ok.ensures.is out c.in-Err-Memory.field-0
+    parts_broken c.args.settings c.args.rows.items c.in-Ok.ensures.is out c.in-Err-Memory.field-0
     c.run_parts.new.machine
     c.in-Err-Memory.ensures.tells

@@ -1,7 +1,7 @@
 use Rattle.std.proofs.Common.{◌≡◌, ℕ, refl, sym, subst, map, string_bytes}
 use Rattle.std.specs.Prelude.{Option, Some, None, Err}
-use Rattle.ed_command.specs.Answers.{Answers}
-use Rattle.ed_command.specs.Lines.{line_of}
+use Rattle.ed_command.specs.Answers.{AnswersWords}
+use Rattle.ed_command.specs.Lines.{command_line}
 use Rattle.ed_command.specs.declared.command.Command.{Command}
 use Rattle.ed_command.specs.declared.reading.CommandFault.{CommandFault}
 use Rattle.ed_command.specs.declared.reading.CommandFault.TheVariants.{Usage, Memory}
@@ -25,27 +25,28 @@ by_line words line source out note status is ended =
     subst (λ (l : Option Command). ProgramEnded (output l) source out note status) (sym is) ended
 
 -- words that are refused are no line
-usage_line : (words : Option Command) (fault : CommandFault) → fault ≡ Usage → Answers words (Err fault) → words ≡ None
+usage_line : (words : Option Command) (fault : CommandFault) → fault ≡ Usage → AnswersWords words (Err fault)
+    → words ≡ None
 usage_line words Usage is answers = answers
 usage_line words Memory is answers = absurd (cc)
 
 pub returns-in-Ok-clause-ended : goal.returns-in-Ok-clause-ended
 returns-in-Ok-clause-ended g c =
-    by_line (line_of (map string_bytes c.args.words.now)) (Some c.in-Ok.command) _ _ _ _ c.in-Ok.ensures.is
+    by_line (command_line (map string_bytes c.args.words.now)) (Some c.in-Ok.command) _ _ _ _ c.in-Ok.ensures.is
     c.run_command.ensures
 
 pub returns-in-Err-Usage-clause-ended : goal.returns-in-Err-Usage-clause-ended
 returns-in-Err-Usage-clause-ended g c =
     let source = device g.S.Source.left g.S.Source.faults c.args.source.now c.args.source.now in
     let out = device g.K.Sink.held g.K.Sink.faults c.args.out.now c.args.out.now in
-    by_line (line_of (map string_bytes c.args.words.now)) None _ _ _ _
+    by_line (command_line (map string_bytes c.args.words.now)) None _ _ _ _
     (usage_line _ _ c.in-Err-Usage.field-0-is c.in-Err-Usage.ensures.is)
-    (with_due (known usage_outcome) source out _ usage_outcome.note 2 _ (λ e. cc) (λ e. cc) (λ bytes told. told)
-    (record { wrote = gains_none out.before; note_is = refl; status_is = refl }) c.tell.ensures)
+    (with_due (known usage_outcome) source out c.tell.ensures (λ e. cc) (λ e. cc) (λ bytes told. told)
+    (record { wrote = gains_none out.before; note_is = refl; status_is = refl }))
 
 pub returns-in-Err-Memory-clause-ended : goal.returns-in-Err-Memory-clause-ended
 returns-in-Err-Memory-clause-ended g c =
-    let line = line_of (map string_bytes c.args.words.now) in
+    let line = command_line (map string_bytes c.args.words.now) in
     let source = device g.S.Source.left g.S.Source.faults c.args.source.now c.args.source.now in
     let out = device g.K.Sink.held g.K.Sink.faults c.args.out.now c.args.out.now in
     with_no_memory (output line) source out _ _

@@ -3,7 +3,7 @@ use Rattle.std.specs.Prelude.{Ok}
 use Rattle.ed_top.specs.declared.devices.InputStop.TheVariants as input
 use Rattle.ed_top.specs.declared.devices.Stop.TheVariants as stop
 use Rattle.ed_words.specs.Texts.{Text}
-use Rattle.ed_top.specs.Private.Stages.{ForInput, IsToTell, TellsLine}
+use Rattle.ed_top.specs.Private.Stages.{Carried, ForInput, TellsLine}
 use Rattle.ed_top.specs.Output.{answer}
 use Rattle.ed_top.specs.Clause.{WrotePart, device}
 use Rattle.ed_io.proofs.Calls.{gains_none}
@@ -37,7 +37,7 @@ returns-in-Err-TooLong g c =
     let a = answer c.args.command.action c.args.command.settings in
     let source = device g.S.Source.left g.S.Source.faults c.args.source.now c.input_of.new.source in
     let out = device g.K.Sink.held g.K.Sink.faults c.args.out.now c.args.out.now in
-    with_long a source out _ _
+    with_long a source out
     (stop_by a source c.reads_input.result c.in-Err-TooLong.field-0 input.TooLong c.reads_input.ensures
     c.in-Err-TooLong.field-0-is
     c.in-Err-TooLong.ensures)
@@ -50,11 +50,9 @@ returns-in-Ok-carry_out g c =
     let out = device g.K.Sink.held g.K.Sink.faults c.args.out.now c.carry_out.new.out in
     let note = device g.L.Sink.held g.L.Sink.faults c.args.note.now c.tell-in-Ok-carry_out.new.note in
     let rest = c.in-Ok-carry_out.rest in
-    with_rest a source out note c.in-Ok.input rest _
+    with_rest a source out c.in-Ok.input rest
     (input_by a source c.reads_input.result (Ok c.in-Ok.input) c.reads_input.ensures c.in-Ok.ensures)
-    c.in-Ok-carry_out.ensures.0
-    (subst (λ (t : Text). ForInput a t (IsToTell out rest.note.items rest.status)) c.deref.ensures.value
-    c.in-Ok-carry_out.ensures.1)
+    (subst (λ (t : Text). Carried a t out (Ok rest)) c.deref.ensures.value c.in-Ok-carry_out.ensures)
     (subst (λ (t : Text). TellsLine note t rest.status c.tell-in-Ok-carry_out.result)
     c.deref-in-Ok-carry_out.ensures.value
     c.tell-in-Ok-carry_out.ensures)

@@ -1,6 +1,6 @@
 use Rattle.ed_top.specs.Answer.{exactly, of_rows}
 use Rattle.ed_top.specs.Traces.{trace_outcome}
-use Rattle.ed_top.proofs.Replies.{exactly_one, refusal_replied}
+use Rattle.ed_top.proofs.Replies.{exactly_refused}
 use Rattle.ed_top.proofs.Writing.{reply_carried, rows_carried}
 use Rattle.ed_top.proofs.trace.trace.Goals as goal
 
@@ -12,4 +12,4 @@ pub returns-in-Err : goal.returns-in-Err
 returns-in-Err g c =
     let f = trace_outcome c.args.settings in
     reply_carried (of_rows (exactly f)) c.args.input.now _ _ _
-    (refusal_replied (exactly f) c.args.input.now _ (exactly_one f) c.in-Err.ensures.is) c.write.ensures
+    (exactly_refused f c.args.input.now _ c.in-Err.ensures.is) c.write.ensures

@@ -1,8 +1,9 @@
 use Rattle.std.proofs.Common.{◌+◌, refl, sym, ap, subst, ◌∙◌, arith, length}
 use Rattle.ed_machine.specs.Steps.{stops_of}
+use Rattle.ed_machine.proofs.Steps.{next_state}
 use Rattle.ed_io.specs.Bytes.{GainsPart}
 use Rattle.ed_trace.specs.Private.Growth.{Partly}
-use Rattle.ed_trace.proofs.Going.{going_first, going_on, first_more, state_more}
+use Rattle.ed_trace.proofs.Going.{going_first, going_on, first_more}
 use Rattle.ed_trace.proofs.Going.{stopped, obeyed_turn, stop_is, no_stop, rises}
 use Rattle.ed_trace.proofs.Growing.{grows, line_length, nothing_traced}
 use Rattle.ed_trace.proofs.tracing.trace_orders.Goals as goal
@@ -29,7 +30,7 @@ returns-in-Err g c =
       trace = record {
         orders = c.loop-done.done + 1;
         most = omega (arith, c.loop-done-test.true);
-        first = first_more _ _ _ _ _ _ _ i.going c.loop-done-test.true c.step-turn.ensures.turn o;
+        first = first_more i.going c.loop-done-test.true c.step-turn.ensures.turn o;
         gains = subst (λ t. GainsPart (g.K.Sink.held c.args.out.now) (g.K.Sink.held c.put.new.out) t) text
             (c.in-Err.ensures.text _ _ i.partly);
       };
@@ -46,9 +47,9 @@ returns-then-stops-resumes g c =
     record {
       trace = record {
         orders = c.loop-done.done + 1;
-        ends = stopped _ _ _ _ _ _ _ i.going c.loop-done-test.true c.step-turn.ensures.turn stop
+        ends = stopped i.going c.loop-done-test.true c.step-turn.ensures.turn stop
             (omega (arith, c.if-stops-resumes.true));
-        state_is = state_more _ _ _ _ _ _ _ i.going c.step-turn.ensures.state;
+        state_is = next_state _ _ i.going.state c.step-turn.ensures.state;
         partly = subst (λ t. Partly (g.K.Sink.held c.args.out.now) (g.K.Sink.held c.put.new.out) c.put.new.line.items t)
             text (c.in_default.ensures.text _ _ i.partly);
         few = line_length c.loop-done.done _ (rw i.few at (sym c.in_default.ensures.length));
@@ -67,13 +68,13 @@ loop-done-preserved g c =
       going = elim c.if-is_stop.branch [
         | then-is_stop+else-stops-resumes w ↦
             let stop = stop_is _ (sym c.is_stop.ensures ∙ w.if-is_stop.true) in
-            going_on _ _ _ _ _ _ _ _ _ i.going c.loop-done-test.true c.step-turn.ensures.turn
+            going_on i.going c.loop-done-test.true c.step-turn.ensures.turn
             c.step-turn.ensures.state o
             (w.stops-is ∙ ap (λ t. c.loop-done.stops + stops_of t) (sym stop))
             (omega (arith, w.stops-is, i.going.within, w.if-stops-resumes.false))
         | else-is_stop w ↦
             let none = no_stop _ (sym c.is_stop.ensures ∙ w.if-is_stop.false) in
-            going_on _ _ _ _ _ _ _ _ _ i.going c.loop-done-test.true c.step-turn.ensures.turn
+            going_on i.going c.loop-done-test.true c.step-turn.ensures.turn
             c.step-turn.ensures.state o
             (omega (arith, w.stops-is, none)) (omega (arith, w.stops-is, i.going.within))
       ];

@@ -6,10 +6,10 @@ use Rattle.ed_trace.proofs.tracing.trace_run.Goals as goal
 pub returns-in-Ok-end_line-clause-trace : goal.returns-in-Ok-end_line-clause-trace
 returns-in-Ok-end_line-clause-trace g c =
     let t = c.in-Ok-trace_orders.ensures.trace in (
-      ending_found _ _ _ t.orders _ t.ends,
-      t.state_is ∙ state_found _ _ _ t.orders _ t.ends,
+      ending_found t.ends,
+      t.state_is ∙ state_found t.ends,
       subst (λ text. Gains (g.K.Sink.held c.args.out.now) (g.K.Sink.held c.end_line.new.out) text)
-          (trace_found _ _ _ t.orders _ t.ends)
+          (trace_found t.ends)
           (c.in-Ok-end_line.ensures.text _ _ t.orders t.few t.partly),
     )
 
@@ -17,8 +17,8 @@ pub returns-in-Ok-trace_orders-clause-trace : goal.returns-in-Ok-trace_orders-cl
 returns-in-Ok-trace_orders-clause-trace g c =
     let t = c.in-Ok-trace_orders.ensures.trace in
     subst (λ text. GainsPart (g.K.Sink.held c.args.out.now) (g.K.Sink.held c.end_line.new.out) text)
-    (trace_found _ _ _ t.orders _ t.ends)
+    (trace_found t.ends)
     (c.in-Err-end_line.ensures.text _ _ t.orders t.few t.partly)
 
 pub returns-clause-trace : goal.returns-clause-trace
-returns-clause-trace g c = part_of_whole _ _ _ _ _ c.in-Err.ensures.trace
+returns-clause-trace g c = part_of_whole c.in-Err.ensures.trace

@@ -3,8 +3,8 @@ use Rattle.ed_machine.specs.State.{State}
 use Rattle.ed_machine.specs.Steps.{IsFree, state_after}
 use Rattle.ed_stepper.specs.Sessions.{Moves, Stand}
 use Rattle.ed_stepper.specs.declared.moves.Moved.{Moved}
-use Rattle.ed_initial.proofs.Goes.{after_sum}
-use Rattle.ed_stepper.proofs.Keeping.{free_later, moves_so}
+use Rattle.ed_machine.proofs.Steps.{after_sum, free_sum}
+use Rattle.ed_stepper.proofs.Keeping.{moves_so}
 use Rattle.ed_stepper.proofs.session.Session.advance.Goals as goal
 
 pub invariant_of-self : goal.invariant_of-self
@@ -14,7 +14,7 @@ invariant_of-self c =
     record {
       is = w.state ∙ ap (state_after c.walk-walked.result.orders) i.is ∙ sym (after_sum _ _ _);
       count = omega (arith, w.count, i.count);
-      free = free_later _ _ _ i.free (subst (λ (x : State). IsFree c.walk-walked.result.orders x) i.is w.free);
+      free = free_sum _ _ _ i.free (subst (λ (x : State). IsFree c.walk-walked.result.orders x) i.is w.free);
       kept = w.marks c.self.inside.start i.is i.count i.kept;
       most = omega (arith, w.most, i.most);
       room = i.room;
@@ -38,6 +38,4 @@ returns c =
           c.walk-walked.result.end;
     } in
     subst (λ (x : Stand). Moves c.args.aim x t m) c.self.view_is
-    (moves_so c.args.aim c.self.inside.start c.self.inside.machine c.walk-walked.new.machine c.self.inside.limit
-    c.self.inside.done c.walk-walked.result.orders
-    c.counter.result c.walk-walked.result.end i.is w.ends w.state c.counter.ensures.is)
+    (moves_so i.is w.ends w.state c.counter.ensures.is)
