@@ -1,5 +1,5 @@
 -- What a run keeps: the size of a machine, and how many orders are done in it.
-use Rattle.std.proofs.Common.{◌≡◌, ◌∙◌, ℕ, ◌≤◌, ap, arith, List}
+use Rattle.std.proofs.Common.{◌≡◌, ◌∙◌, ℕ, ◌+◌, ◌≤◌, ap, arith, List}
 use Rattle.ed_words.specs.declared.size.Size.{Size}
 use Rattle.ed_machine.specs.State.{State}
 use Rattle.ed_machine.proofs.Keeping.{Follows, steps_follow}
@@ -24,10 +24,10 @@ pub first_size : (z : Size) (rows : List ℕ) (s : State) → s ≡ first_state 
 unfolding first_state
 first_size z rows s is = ap (λ (t : State). t.size) is
 
--- and with no more orders done than the limit
-pub ran_orders : (limit resumes room : ℕ) (s last : State) → s.orders ≡ 0 → last ≡ (ran limit resumes room s).state
-    → last.orders ≤ limit
-ran_orders limit resumes room s last none e =
+-- and with at most as many orders more as its limit
+pub ran_orders : (limit resumes room : ℕ) (s last : State) → last ≡ (ran limit resumes room s).state
+    → last.orders ≤ s.orders + limit
+ran_orders limit resumes room s last e =
     let f = run_follows limit resumes room s in
     let same = ap (λ (t : State). t.orders) e in
-    omega (arith, f.soon, same, none)
+    omega (arith, f.soon, same)

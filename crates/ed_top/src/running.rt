@@ -1,4 +1,4 @@
-ghost use Rattle.std.specs.Prelude.{◌≡◌, ◌<◌, ◌≤◌, ◌+◌, ◌^◌, ◌++◌, IfErr, IfOk, IfSome};
+ghost use Rattle.std.specs.Prelude.{◌≡◌, ◌<◌, ◌≤◌, ◌+◌, ◌-◌, ◌^◌, ◌++◌, IfErr, IfOk, IfSome};
 ghost use Rattle.ed_run.specs.Run.{ran};
 ghost use Rattle.ed_printer.specs.Paper.{paper};
 ghost use Rattle.ed_postmortem.specs.Codes.{printed_codes};
@@ -42,21 +42,18 @@ pub fn run_rows(alloc: Global, settings: Settings, rows: Vec<Code>) -> Result<Ra
     run_machine(alloc, settings, started(alloc, settings.size, rows)?)
 }
 
-/// Runs a machine that has obeyed no order.
+/// Runs a machine until it has done the orders of the limit, those that it has done before included.
 #[inline(always)]
 pub fn run_machine(alloc: Global, settings: Settings, mut machine: Machine) -> Result<Ran, NoMemory>
-    requires { machine.orders ≡ 0 }
-    ensures is { IfOk result (λ left. IsRan (ran settings.limit settings.resumes paper_room machine) left) }
+    requires { machine.orders ≤ settings.limit }
+    ensures is { IfOk result (λ left.
+        IsRan (ran (settings.limit - machine.orders) settings.resumes paper_room machine) left) }
     ensures size { IfOk result (λ left. left.machine.size ≡ machine.size) }
     ensures orders { IfOk result (λ left. left.machine.orders ≤ settings.limit) }
 {
     let mut paper = Paper::new(alloc, PAPER_ROOM)?;
-    let ending = run(
-        &mut machine,
-        u64::from(settings.limit),
-        settings.resumes,
-        &mut paper,
-    );
+    let left = u64::from(settings.limit) - machine.orders_done();
+    let ending = run(&mut machine, left, settings.resumes, &mut paper);
     Ok(Ran {
         ending,
         machine,

@@ -1,20 +1,23 @@
-ghost use Rattle.std.specs.Prelude.{◌≡◌, ◌≢◌, ◌++◌, [], IfOk, List, None, map, nat_le, if◌then◌else◌};
+ghost use Rattle.std.specs.Prelude.{◌≡◌, ◌≢◌, ◌≤◌, ◌++◌, [], IfOk, List, None, map, nat_le, if◌then◌else◌};
 ghost use Rattle.ed_notation.specs.Spellings.{canonicals, text_of};
 ghost use Rattle.ed_syntax.specs.declared.program.Line.{Line};
 ghost use Rattle.ed_syntax.specs.Sources.{program_of};
 ghost use Rattle.ed_link.specs.Answers.{IsLinked};
-ghost use Rattle.ed_link.specs.Tapes.{after_text, cost};
+ghost use Rattle.ed_link.specs.Tapes.{after_text, cost, tape};
+ghost use Rattle.ed_loads.specs.EntryState.{entry_state};
 ghost use Rattle.ed_report.specs.Notes.{ending_line, entered, source_fault_line};
 ghost use Rattle.ed_command.specs.Ranges.{AreSettingsInRange};
 ghost use Rattle.ed_top.specs.Outcome.{done, refused};
-ghost use Rattle.ed_top.specs.Private.Stages.{Gives, LinksSource, Replies};
+ghost use Rattle.ed_top.specs.Private.Stages.{Gives, IsRan, LinksSource, Replies};
+ghost use Rattle.ed_top.specs.Runs.{run_of};
 ghost use Rattle.ed_top.specs.Sources.{listing_outcome, of_source, punch_outcome, run_outcome};
 
 use crate::reply::{Reply, refusal};
-use crate::running::{Ran, post_mortem_reply, run_rows};
+use crate::running::{Ran, post_mortem_reply, run_machine, run_rows};
 use ed_command::Settings;
 use ed_link::{Linked, Placed, link};
 use ed_loads::enter;
+use ed_machine::Machine;
 use ed_report::{ending_text, entered_text, source_fault};
 use ed_syntax::{SourceFault, parse};
 use ed_words::{NoMemory, Size};
@@ -78,14 +81,40 @@ fn source_refusal(alloc: Global, fault: &SourceFault) -> Result<Reply, NoMemory>
 
 /// Runs the tape of a linked program.
 fn run_linked(alloc: Global, settings: Settings, linked: &Linked) -> Result<Reply, NoMemory>
-    requires { AreSettingsInRange settings }
+    requires ranges { AreSettingsInRange settings }
+    requires linked { (lines : List Line) × IsLinked settings.size lines linked.now }
     ensures { IfOk result (λ reply. (lines : List Line) → IsLinked settings.size lines linked.now
         → Gives reply (run_outcome settings lines)) }
 {
-    let cost = enter(alloc, settings.size, linked)?.orders_done();
-    let ran = run_rows(alloc, settings, linked.rows()?)?;
+    let entered = enter(alloc, settings.size, linked)?;
+    let cost = entered.orders_done();
+    let ran = run_entered(alloc, settings, linked, entered)?;
     let note = note_of(alloc, linked.entry, cost, &ran)?;
     post_mortem_reply(alloc, settings, ran, note)
+}
+
+/// The run of a linked program's tape. The tape is read once: the run goes on from the machine that was led to the entry,
+/// and only a run whose limit is below the cost is obeyed from Start. Kept out of the callers, as the run of a tape is.
+#[inline(never)]
+fn run_entered(
+    alloc: Global,
+    settings: Settings,
+    linked: &Linked,
+    entered: Machine,
+) -> Result<Ran, NoMemory>
+    requires linked { (lines : List Line) × IsLinked settings.size lines linked.now }
+    requires entry { (lines : List Line) → IsLinked settings.size lines linked.now
+        → entered ≡ entry_state settings.size lines }
+    ensures is { IfOk result (λ ran. (lines : List Line) → IsLinked settings.size lines linked.now
+        → IsRan (run_of settings (tape lines)) ran) }
+    ensures size { IfOk result (λ ran. ran.machine.size ≡ settings.size) }
+    ensures orders { IfOk result (λ ran. ran.machine.orders ≤ settings.limit) }
+{
+    if entered.orders_done() <= u64::from(settings.limit) {
+        run_machine(alloc, settings, entered)
+    } else {
+        run_rows(alloc, settings, linked.rows()?)
+    }
 }
 
 /// The line of a run's ending, behind the entry and its cost where these orders were obeyed.

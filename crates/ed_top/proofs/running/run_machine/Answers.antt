@@ -7,5 +7,5 @@ returns-clause-size c = ran_size _ _ _ c.args.machine _ c.run-ending.ensures.ran
 
 pub returns-clause-orders : goal.returns-clause-orders
 returns-clause-orders c =
-    let few = ran_orders _ _ _ c.args.machine _ c.requires c.run-ending.ensures.ran.state_is in
-    omega (arith, few, c.from.ensures)
+    let few = ran_orders _ _ _ c.args.machine _ c.run-ending.ensures.ran.state_is in
+    omega (arith, few, c.from.ensures, c.orders_done.ensures, c.requires)
