@@ -19,7 +19,7 @@ fn sessions_on_a_tape(rt: HostRuntime) -> Result<(), Fail> {
             "at 21 after 3: went\nat 0 after 0: back\n",
         ),
         ("go 2\n", "at 20 after 2: went\n"),
-        ("\n \t \n", ""),
+        ("\n   \n", ""),
         ("trace 9\n", "TEHATAATE\nat 34 after 9: went\n"),
         (
             "entry\ngo 1\ngo 9\nshow last\n",
@@ -41,6 +41,8 @@ fn sessions_that_are_refused(rt: HostRuntime) -> Result<(), Fail> {
         ("go 1\ntape x\n", "line 3: C3 no text line\n"),
         ("go 0\ntape\n", "line 1: C1 bad command\n"),
         ("go 1\n\ngo\nsource\nx\n", "line 3: C1 bad command\n"),
+        ("go\t9\ntape\n", "line 1: C1 bad command\n"),
+        ("go 1\n\t\ntape\n", "line 2: C1 bad command\n"),
         ("go 1\ntape\nT64K%", "byte 4: T1 no row\n"),
         ("tape\ntape\n", "byte 0: T1 no row\n"),
         (

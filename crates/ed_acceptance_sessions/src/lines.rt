@@ -3,42 +3,42 @@
 use ed_stepper::bad_line;
 use std::test::Fail;
 
-/// Lines of a script, at both ends of their ranges, and with blanks at every seam.
+/// Lines of a script, at both ends of their ranges, and with spaces between all parts.
 const LINES: [&str; 30] = [
     "",
-    " \t ",
+    "  ",
     "go 1",
     "go 100000000",
     "go 000000001",
-    "\tgo \t 7 ",
+    "  go   7 ",
     "to 0",
     "to 1023",
-    "  to  1023\t",
+    "  to  1023 ",
     "entry",
     " entry ",
-    "\tentry",
+    "  entry",
     "back 0",
     "back 100000000",
     " back  5 ",
     "trace 1",
     "trace 10000",
-    "\ttrace\t10000\t",
+    " trace  10000 ",
     "show 0",
     "show 1023",
-    " show \t 44 ",
+    " show   44 ",
     "show 0 0",
     "show 0 1023",
     "show 1023 1023",
-    "\tshow 5\t 6 ",
+    "  show 5  6 ",
     "show acc",
-    " show\tacc\t",
+    " show  acc  ",
     "show mult",
     "show last",
     "show  last",
 ];
 
-/// Lines that are none: a number beyond its range or out of form, a part too few or too many, other words.
-const OTHERS: [&str; 40] = [
+/// Lines that are none: a number beyond its range or out of form, a part too few or too many, other words, a tab.
+const OTHERS: [&str; 47] = [
     "go",
     "go 0",
     "go 100000001",
@@ -79,6 +79,13 @@ const OTHERS: [&str; 40] = [
     "x",
     "go 1\u{b}",
     "go\r1",
+    "\t",
+    " \t ",
+    "go\t9",
+    "go 9\t",
+    "\tentry",
+    "show 3\t",
+    "show 3\t4",
 ];
 
 #[test]

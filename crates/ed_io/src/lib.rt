@@ -1,9 +1,8 @@
 //! The outside: where the input of the program comes from, and where its output goes.
 //!
-//! The contract is that of the two traits: which bytes a call takes, and that a failure is one of the device, which
-//! counts it. The devices over memory tell their bytes and fail exactly where their list says; those over std's readers
-//! and writers are the trusted edge, and tell nothing of content. Stands on `ed_words` for the answer of want of
-//! memory.
+//! The contract is that of the two traits: which bytes a call takes, and that a device counts each call that fails and no
+//! other. The devices over memory report their bytes and fail exactly where their list says; those over std's readers
+//! and writers report what these report, until a write fails. Stands on `ed_words` for the answer of want of memory.
 #![tactic(auto)]
 
 mod device;
@@ -17,6 +16,6 @@ mod writing;
 pub use device::{Failed, Sink, Source};
 pub use sink::MemorySink;
 pub use source::MemorySource;
-pub use standard::{StdSink, StdSource};
+pub use standard::{StdSink, StdSource, SteadyRead, SteadyWrite};
 pub use sure::{SureSink, SureSource};
 pub use writing::write_all;

@@ -9,10 +9,9 @@ use Rattle.ed_words.proofs.Numbers.{eq_of, lt_of, lt_true, not_lt_of}
 use Rattle.std.proofs.lemmas.List.{drop_all, length-drop, take_more, take_all}
 use Rattle.ed_words.specs.Texts.{Text}
 use Rattle.ed_syntax.specs.Lines.{lines_of, with_byte}
-use Rattle.ed_syntax.specs.Parts.{is_blank}
 use Rattle.ed_syntax.specs.Private.LineFronts.{has_end, without_return}
 use Rattle.ed_syntax.proofs.Lines.{keeps_end, no_return, takes_ended, takes_last}
-use Rattle.ed_stepper.specs.Commands.{begins_part, parts_between_blanks}
+use Rattle.ed_stepper.specs.Commands.{begins_part, is_space, parts_between_spaces}
 use Rattle.ed_stepper.specs.Private.Fronts.{blanks, solid, stop_of, unended}
 
 pub one_more : (n : ℕ) → 1 + n ≡ suc n
@@ -75,12 +74,12 @@ first_last text some all =
 -- ---- parts
 
 -- what stands behind the blanks has the same parts
-skipped : (line : Text) → parts_between_blanks line ≡ parts_between_blanks (drop (blanks line) line)
+skipped : (line : Text) → parts_between_spaces line ≡ parts_between_spaces (drop (blanks line) line)
 skipped [] = refl
-skipped (b ∷ bs) = by_test (is_blank b) refl (skipped bs)
+skipped (b ∷ bs) = by_test (is_space b) refl (skipped bs)
   where
-    by_test : (t : Bool) → is_blank b ≡ t → parts_between_blanks bs ≡ parts_between_blanks (drop (blanks bs) bs)
-        → parts_between_blanks (b ∷ bs) ≡ parts_between_blanks
+    by_test : (t : Bool) → is_space b ≡ t → parts_between_spaces bs ≡ parts_between_spaces (drop (blanks bs) bs)
+        → parts_between_spaces (b ∷ bs) ≡ parts_between_spaces
         (drop (if not (not t) then 1 + blanks bs else 0) (b ∷ bs))
     by_test true e h = let s = one_more (blanks bs) in rw (e, s) h
     by_test false e h = refl
@@ -88,9 +87,9 @@ skipped (b ∷ bs) = by_test (is_blank b) refl (skipped bs)
 -- and begins with a part
 begins : (line : Text) → 0 < length (drop (blanks line) line) → begins_part (drop (blanks line) line) ≡ true
 begins [] low = absurd (omega arith)
-begins (b ∷ bs) low = by_test (is_blank b) refl low (begins bs)
+begins (b ∷ bs) low = by_test (is_space b) refl low (begins bs)
   where
-    by_test : (t : Bool) → is_blank b ≡ t → 0 < length (drop (if not (not t) then 1 + blanks bs else 0) (b ∷ bs))
+    by_test : (t : Bool) → is_space b ≡ t → 0 < length (drop (if not (not t) then 1 + blanks bs else 0) (b ∷ bs))
         → (0 < length (drop (blanks bs) bs) → begins_part (drop (blanks bs) bs) ≡ true)
         → begins_part (drop (if not (not t) then 1 + blanks bs else 0) (b ∷ bs)) ≡ true
     by_test true e l h = let s = one_more (blanks bs) in rw s (h (rw s at l))
@@ -103,23 +102,23 @@ none_begun (b ∷ bs) e = rw e refl
 
 -- the part at the front
 part_at : (text : Text) → begins_part text ≡ true
-    → parts_between_blanks text ≡ take (solid text) text ∷ parts_between_blanks (drop (solid text) text)
+    → parts_between_spaces text ≡ take (solid text) text ∷ parts_between_spaces (drop (solid text) text)
 part_at [] begin = absurd (cc)
-part_at (b ∷ bs) begin = by_test (is_blank b) refl begin (part_at bs)
+part_at (b ∷ bs) begin = by_test (is_space b) refl begin (part_at bs)
   where
     after : (x : Bool) → begins_part bs ≡ x
-        → (begins_part bs ≡ true → parts_between_blanks bs ≡ take (solid bs) bs ∷ parts_between_blanks
+        → (begins_part bs ≡ true → parts_between_spaces bs ≡ take (solid bs) bs ∷ parts_between_spaces
         (drop (solid bs) bs))
-        → (if x then with_byte b (parts_between_blanks bs) else (b ∷ []) ∷ parts_between_blanks bs) ≡
+        → (if x then with_byte b (parts_between_spaces bs) else (b ∷ []) ∷ parts_between_spaces bs) ≡
         (b ∷ take (solid bs) bs)
-        ∷ parts_between_blanks (drop (solid bs) bs)
+        ∷ parts_between_spaces (drop (solid bs) bs)
     after true e h = ap (with_byte b) (h e)
     after false e h = let z = none_begun bs e in rw z refl
 
-    by_test : (t : Bool) → is_blank b ≡ t → not t ≡ true
-        → (begins_part bs ≡ true → parts_between_blanks bs ≡ take (solid bs) bs ∷ parts_between_blanks
+    by_test : (t : Bool) → is_space b ≡ t → not t ≡ true
+        → (begins_part bs ≡ true → parts_between_spaces bs ≡ take (solid bs) bs ∷ parts_between_spaces
         (drop (solid bs) bs))
-        → parts_between_blanks (b ∷ bs) ≡ take (if not t then 1 + solid bs else 0) (b ∷ bs) ∷ parts_between_blanks
+        → parts_between_spaces (b ∷ bs) ≡ take (if not t then 1 + solid bs else 0) (b ∷ bs) ∷ parts_between_spaces
         (drop (if not t then 1 + solid bs else 0) (b ∷ bs))
     by_test true e h more = absurd (cc)
     by_test false e h more = let s = one_more (solid bs) in rw (e, s) (after (begins_part bs) refl more)
@@ -183,21 +182,21 @@ pub line_unended : (text : Text) → 0 < length text → position (λ b. b == 10
     → lines_of text ≡ text ∷ lines_of []
 line_unended text some none = first_last text some (none_found (λ b. b == 10) text none)
 
-pub no_part : (line : Text) → position (λ b. not (is_blank b)) line ≡ None → parts_between_blanks line ≡ []
+pub no_part : (line : Text) → position (λ b. not (is_space b)) line ≡ None → parts_between_spaces line ≡ []
 no_part line none =
-    let all = none_found (λ b. not (is_blank b)) line none in
+    let all = none_found (λ b. not (is_space b)) line none in
     let empty : drop (blanks line) line ≡ [] = drop_all (blanks line) line (omega (arith, all)) in
-    skipped line ∙ ap parts_between_blanks empty
+    skipped line ∙ ap parts_between_spaces empty
 
-pub part_taken : (line : Text) (start end : ℕ) → position (λ b. not (is_blank b)) line ≡ Some start
-    → end ≡ unwrap_or (position is_blank (drop start line)) (length (drop start line))
-    → parts_between_blanks line ≡ take end (drop start line) ∷ parts_between_blanks (drop end (drop start line))
+pub part_taken : (line : Text) (start end : ℕ) → position (λ b. not (is_space b)) line ≡ Some start
+    → end ≡ unwrap_or (position is_space (drop start line)) (length (drop start line))
+    → parts_between_spaces line ≡ take end (drop start line) ∷ parts_between_spaces (drop end (drop start line))
 part_taken line start end at is =
-    let f = found (λ b. not (is_blank b)) line start at in
+    let f = found (λ b. not (is_space b)) line start at in
     let place : start ≡ blanks line = f.0 in
     let low = f.1 in
     let some : 0 < length (drop (blanks line) line) = omega (arith, length-drop (blanks line) line, low, place) in
     let begin : begins_part (drop start line) ≡ true = ap (λ n. begins_part (drop n line)) place ∙ begins line some in
-    let same : end ≡ solid (drop start line) = is ∙ place_or_end is_blank (drop start line) in
-    skipped line ∙ ap (λ n. parts_between_blanks (drop n line)) (sym place) ∙ part_at (drop start line) begin
-    ∙ ap (λ n. take n (drop start line) ∷ parts_between_blanks (drop n (drop start line))) (sym same)
+    let same : end ≡ solid (drop start line) = is ∙ place_or_end is_space (drop start line) in
+    skipped line ∙ ap (λ n. parts_between_spaces (drop n line)) (sym place) ∙ part_at (drop start line) begin
+    ∙ ap (λ n. take n (drop start line) ∷ parts_between_spaces (drop n (drop start line))) (sym same)

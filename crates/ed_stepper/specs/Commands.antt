@@ -1,28 +1,31 @@
--- The lines of a script (this project's own rule). The parts of a line stand with one or more blanks between them, and
--- blanks may stand at either end.
-use Rattle.std.specs.Prelude.{ℕ, not, Bool, false, List, [], ◌∷◌, codes, nat_le, if◌then◌else◌}
+-- The lines of a script (this project's own rule). The parts of a line stand with one or more spaces between them, and
+-- spaces may stand at either end. A tab is no space.
+use Rattle.std.specs.Prelude.{ℕ, ◌==◌, not, Bool, false, List, [], ◌∷◌, codes, nat_le, if◌then◌else◌}
 use Rattle.std.specs.Prelude.{Option, Some, None, option_map}
 use Rattle.std.specs.Str.{bytes_eq}
 use Rattle.ed_words.specs.Decimals.{number_within}
 use Rattle.ed_words.specs.Texts.{Text}
 use Rattle.ed_syntax.specs.Lines.{with_byte}
-use Rattle.ed_syntax.specs.Parts.{is_blank}
 use Rattle.ed_stepper.specs.declared.moves.Aim.TheVariants as aims
 use Rattle.ed_stepper.specs.declared.commands.Command.{Command}
 use Rattle.ed_stepper.specs.declared.commands.Command.TheVariants.{Nothing, Move, Back, Trace, Show}
 use Rattle.ed_stepper.specs.declared.commands.Command.TheVariants.{Accumulator, Multiplier, LastPrinted}
 
+-- a space, the only byte that may stand between parts
+abbrev pub is_space : ℕ → Bool
+is_space b = b == 32
+
 -- whether a part begins here
 abbrev pub begins_part : Text → Bool
 begins_part [] = false
-begins_part (b ∷ bs) = not (is_blank b)
+begins_part (b ∷ bs) = not (is_space b)
 
--- the parts of a line: its bytes between blanks
-abbrev pub parts_between_blanks : Text → List Text
-parts_between_blanks [] = []
-parts_between_blanks (b ∷ bs) = if is_blank b then parts_between_blanks bs
-    else if begins_part bs then with_byte b (parts_between_blanks bs)
-    else (b ∷ []) ∷ parts_between_blanks bs
+-- the parts of a line: its bytes between spaces
+abbrev pub parts_between_spaces : Text → List Text
+parts_between_spaces [] = []
+parts_between_spaces (b ∷ bs) = if is_space b then parts_between_spaces bs
+    else if begins_part bs then with_byte b (parts_between_spaces bs)
+    else (b ∷ []) ∷ parts_between_spaces bs
 
 -- `entry`
 abbrev pub of_one : Text → Option Command
@@ -64,4 +67,4 @@ of_parts parts = None
 
 -- the command of a line
 abbrev pub session_command : Text → Option Command
-session_command line = of_parts (parts_between_blanks line)
+session_command line = of_parts (parts_between_spaces line)

@@ -1,7 +1,7 @@
 //! What stands at the front of a text: its first line, and the first part of a line.
 ghost use Rattle.std.specs.Prelude.{◌≡◌, ◌==◌, ◌∷◌, ◌≤◌, ◌<◌, not, IfSome, length, position};
 ghost use Rattle.ed_syntax.specs.Lines.{lines_of};
-ghost use Rattle.ed_syntax.specs.Parts.{is_blank};
+ghost use Rattle.ed_stepper.specs.Commands.{is_space};
 ghost use Rattle.ed_stepper.specs.Inputs.{behind_line};
 ghost use Rattle.ed_stepper.specs.Private.Fronts.{TakesPart, stop_of};
 
@@ -38,7 +38,7 @@ pub(crate) fn first_part<'a>(line: &'a [u8]) -> Option<(&'a [u8], &'a [u8])>
     match first_solid(line) {
         Some(start) => {
             let rest = &line[start..];
-            let end = first_blank(rest).unwrap_or(rest.len());
+            let end = first_space(rest).unwrap_or(rest.len());
             Some(rest.split_at(end))
         }
         None => None,
@@ -53,25 +53,25 @@ fn first_end(text: &[u8]) -> Option<usize>
     text.iter().position(|byte| *byte == b'\n')
 }
 
-/// The place of the first blank.
-fn first_blank(text: &[u8]) -> Option<usize>
-    ensures is { result ≡ position is_blank text.now }
+/// The place of the first space.
+fn first_space(text: &[u8]) -> Option<usize>
+    ensures is { result ≡ position is_space text.now }
     ensures within { IfSome result (λ i. i < length text.now) }
 {
-    text.iter().position(|byte| is_blank(*byte))
+    text.iter().position(|byte| is_space(*byte))
 }
 
-/// The place of the first byte that is no blank.
+/// The place of the first byte that is no space.
 fn first_solid(text: &[u8]) -> Option<usize>
-    ensures is { result ≡ position (λ b. not (is_blank b)) text.now }
+    ensures is { result ≡ position (λ b. not (is_space b)) text.now }
     ensures within { IfSome result (λ i. i < length text.now) }
 {
-    text.iter().position(|byte| !is_blank(*byte))
+    text.iter().position(|byte| !is_space(*byte))
 }
 
-/// Whether a byte is a blank or a tab.
-fn is_blank(byte: u8) -> bool
-    ensures { result ≡ is_blank byte }
+/// Whether a byte is a space. A tab is none.
+fn is_space(byte: u8) -> bool
+    ensures { result ≡ is_space byte }
 {
-    byte == b' ' || byte == b'\t'
+    byte == b' '
 }

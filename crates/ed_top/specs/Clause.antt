@@ -1,6 +1,6 @@
 -- The contract of `edsac`: what a run of the program does to its source and its two sinks, devices that fail included
 -- (this project's own rules).
-use Rattle.std.specs.Prelude.{◌≡◌, ◌≢◌, ◌⊎◌, ℕ, true, [], drop, Option, Some}
+use Rattle.std.specs.Prelude.{◌≡◌, ◌≢◌, ◌⊎◌, ℕ, true, [], drop, Option, None, Some}
 use Rattle.ed_io.specs.Bytes.{Gains, GainsPart}
 use Rattle.ed_io.specs.Causes.{Rose}
 use Rattle.ed_words.specs.Texts.{Text}
@@ -44,11 +44,17 @@ abbrev pub most_read : Answer → ℕ
 most_read (known o) = 0
 most_read (of_input answers) = 262145
 
--- this holds of the outcome that is due: the known one, or that of the input, if the source tells it
+-- this may be the input of a source that reports these bytes; any text may, if it reports none
+abbrev pub MayBe : Option Text → Text → Type 0
+MayBe None input = Unit {0}
+MayBe (Some bytes) input = bytes ≡ input
+
+-- this holds of the outcome that is due: the known one, or that of one input, which is the source's bytes if it reports
+-- them
 abbrev pub ForDue : Answer → Device → (Outcome → Type 0) → Type 0
 ForDue (known due) source P = P due
 ForDue (of_input answers) source P =
-    (input : Text) → source.before ≡ Some input → (o : Outcome) × WithinLimit answers input o × P o
+    (input : Text) × MayBe source.before input × (o : Outcome) × WithinLimit answers input o × P o
 
 -- the sink has gained the first bytes of what is due on `out`
 abbrev pub WrotePartDue : Answer → Device → Device → Type 0

@@ -4,18 +4,17 @@ use Rattle.std.specs.Prelude.{Some, None, nat_lt, slice_index, if◌then◌else�
 use Rattle.std.specs.Borrow.{Bor}
 use Rattle.std.specs.List.{position_or_len}
 use Rattle.ed_words.specs.Texts.{Text}
-use Rattle.ed_syntax.specs.Parts.{is_blank}
-use Rattle.ed_stepper.specs.Commands.{parts_between_blanks}
+use Rattle.ed_stepper.specs.Commands.{is_space, parts_between_spaces}
 
--- how many blanks a text begins with
+-- how many spaces a text begins with
 abbrev pub blanks : Text → ℕ
-blanks = position_or_len (λ b. not (is_blank b))
+blanks = position_or_len (λ b. not (is_space b))
 
--- how many bytes that are no blanks
+-- how many bytes other than spaces it begins with
 abbrev pub solid : Text → ℕ
-solid = position_or_len is_blank
+solid = position_or_len is_space
 
--- how many bytes that are no line feeds
+-- how many bytes other than line feeds
 abbrev pub unended : Text → ℕ
 unended = position_or_len (λ b. b == 10)
 
@@ -25,5 +24,5 @@ stop_of text end = if nat_lt 0 end && slice_index text (end - 1) == 13 then end 
 
 -- the first part, and what stands behind it; or no part
 abbrev pub TakesPart : Text → Option (Bor Text × Bor Text) → Type 0
-TakesPart line (Some p) = parts_between_blanks line ≡ p.0.now ∷ parts_between_blanks p.1.now
-TakesPart line None = parts_between_blanks line ≡ []
+TakesPart line (Some p) = parts_between_spaces line ≡ p.0.now ∷ parts_between_spaces p.1.now
+TakesPart line None = parts_between_spaces line ≡ []

@@ -2,7 +2,7 @@ use Rattle.std.proofs.Common.{◌≡◌, ◌-◌, ◌∙◌, sym, ap, take, drop
 use Rattle.std.specs.Prelude.{position}
 use Rattle.std.proofs.lemmas.List.{take_rest}
 use Rattle.ed_words.specs.Texts.{Text}
-use Rattle.ed_syntax.specs.Parts.{is_blank}
+use Rattle.ed_stepper.specs.Commands.{is_space}
 use Rattle.ed_stepper.proofs.Heads.{no_part, part_taken}
 use Rattle.ed_stepper.proofs.fronts.first_part.Goals as goal
 
@@ -12,8 +12,8 @@ returns-in-Some c =
     let start = c.in-Some.start in
     let rest : Text = take (length line - start) (drop start line) in
     let all : rest ≡ drop start line = take_rest line start in
-    let end : c.unwrap_or-end.result ≡ unwrap_or (position is_blank rest) (length rest) =
-    c.unwrap_or-end.ensures ∙ ap (λ o. unwrap_or o (length rest)) c.first_blank.ensures.is in
+    let end : c.unwrap_or-end.result ≡ unwrap_or (position is_space rest) (length rest) =
+    c.unwrap_or-end.ensures ∙ ap (λ o. unwrap_or o (length rest)) c.first_space.ensures.is in
     rw (c.split_at.ensures.front, c.split_at.ensures.back, all)
     (part_taken line start _ (sym c.first_solid.ensures.is ∙ c.in-Some.is) (rw all at end))
 
