@@ -4,7 +4,7 @@ use Rattle.std.specs.List.{list_all}
 use Rattle.ed_library.specs.Entries.{catalogue}
 use Rattle.ed_library.specs.Ready.{is_ready}
 use Rattle.ed_syntax.specs.Lines.{lines_of}
-use Rattle.ed_syntax.specs.Sources.{is_two}
+use Rattle.ed_syntax.specs.Private.SourceReading.{is_two}
 use Rattle.ed_syntax.proofs.Formed.{program_formed}
 use Rattle.ed_link.specs.Answers.{EachSourceComes}
 use Rattle.ed_link.proofs.Accepted.{accepted_law}

@@ -8,7 +8,7 @@ use Rattle.ed_codes.specs.Reading.{Reading, rows, no_row, open_comment, reading}
 use Rattle.ed_codes.specs.declared.tape.TextFault.TheVariants.{NoRow, OpenComment}
 use Rattle.ed_machine.specs.State.{State}
 use Rattle.ed_syntax.specs.Answers as form
-use Rattle.ed_syntax.specs.Sources.{Fault, program_of}
+use Rattle.ed_syntax.specs.Private.SourceReading.{Fault, program_of}
 use Rattle.ed_syntax.specs.declared.program.Line.{Line}
 use Rattle.ed_syntax.specs.declared.fault.SourceFault.{SourceFault}
 use Rattle.ed_syntax.specs.declared.fault.SourceFault.TheVariants.{At, Memory}

@@ -3,7 +3,7 @@
 use Rattle.std.specs.Prelude.{◌≡◌, ◌≢◌, ℕ, ◌≤◌, List, length, take, Ok, None}
 use Rattle.ed_codes.specs.Reading.{reading, rows}
 use Rattle.ed_machine.specs.State.{State}
-use Rattle.ed_syntax.specs.Sources.{program_of}
+use Rattle.ed_syntax.specs.Private.SourceReading.{program_of}
 use Rattle.ed_syntax.specs.declared.program.Line.{Line}
 use Rattle.ed_link.specs.Faults.{fault}
 use Rattle.ed_link.specs.Tapes.{tape}

@@ -5,7 +5,8 @@ use Rattle.std.specs.Fmt.{decimal}
 use Rattle.std.specs.List.{list_all}
 use Rattle.ed_call.specs.declared.Call.TheVariants.{Print, Read, NewLine, Divide, Root, Check}
 use Rattle.ed_words.specs.Texts.{Text}
-use Rattle.ed_syntax.specs.Sources.{is_line_byte, program_of}
+use Rattle.ed_syntax.specs.Parts.{is_line_byte}
+use Rattle.ed_syntax.specs.Private.SourceReading.{program_of}
 use Rattle.ed_sources.specs.Accepted.{EachCallIsAccepted, IsDivisible}
 use Rattle.ed_sources.specs.Calls.{divide_source, newline_source, print_source}
 use Rattle.ed_sources.specs.Calls.{read_source, root_source, text_of_lines, check_source}

@@ -10,10 +10,10 @@ use Rattle.std.proofs.lemmas.Bool.Decides.{nat_tests}
 use Rattle.std.proofs.lemmas.List.{length-map}
 use Rattle.ed_words.proofs.Numbers.{eq_of, lt_of}
 use Rattle.ed_codes.specs.Spelling.{row_of}
-use Rattle.ed_syntax.specs.Grammar.{row, spells}
+use Rattle.ed_syntax.specs.Private.Grammar.{row, spells}
 use Rattle.ed_words.specs.Decimals.{is_digit, value as spelled_value}
 use Rattle.ed_syntax.specs.Parts.{is_run_byte}
-use Rattle.ed_syntax.specs.Sources.{is_line_byte}
+use Rattle.ed_syntax.specs.Parts.{is_line_byte}
 use Rattle.ed_routines.specs.Digits.{before_units, digits, value_behind, without_zeros}
 use Rattle.ed_routines.proofs.Digits.{digits_law, few_digits, tens}
 

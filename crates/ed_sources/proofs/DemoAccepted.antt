@@ -6,7 +6,8 @@ use Rattle.std.specs.Fmt.{decimal}
 use Rattle.std.specs.List.{list_all}
 use Rattle.std.proofs.lemmas.List.Folds.{list_all-append}
 use Rattle.ed_sources.proofs.Decimals.{both}
-use Rattle.ed_syntax.specs.Sources.{is_line_byte, program_of}
+use Rattle.ed_syntax.specs.Parts.{is_line_byte}
+use Rattle.ed_syntax.specs.Private.SourceReading.{program_of}
 use Rattle.ed_sources.specs.Accepted.{EachDemoIsAccepted}
 use Rattle.ed_sources.specs.Demo.{adding, number_behind, demo_source, demo_text, next, segments, word_lines}
 use Rattle.ed_sources.specs.Demo.{number_word}

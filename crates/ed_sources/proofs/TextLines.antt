@@ -9,9 +9,11 @@ use Rattle.std.proofs.lemmas.Bool.Decides.{Decides-eqb}
 use Rattle.ed_words.proofs.Numbers.{eq_false}
 use Rattle.ed_words.specs.Texts.{Text}
 use Rattle.ed_syntax.specs.Lines.{lines_of, with_byte}
-use Rattle.ed_syntax.specs.Parts.{LinePart, parts_of}
-use Rattle.ed_syntax.specs.Grammar.{form_at}
-use Rattle.ed_syntax.specs.Sources.{and_lines, is_line_byte, is_two, line_of, lines_from, program_of}
+use Rattle.ed_syntax.specs.Parts.{LinePart}
+use Rattle.ed_syntax.specs.Private.PartReading.{parts_of}
+use Rattle.ed_syntax.specs.Private.Grammar.{form_at}
+use Rattle.ed_syntax.specs.Private.SourceReading.{and_lines, is_two, line_of, lines_from, program_of}
+use Rattle.ed_syntax.specs.Parts.{is_line_byte}
 use Rattle.ed_syntax.specs.declared.fault.SourceCause.TheVariants.{TooManyLines}
 use Rattle.ed_syntax.specs.declared.program.Line.{Line}
 use Rattle.ed_syntax.specs.declared.program.Statement.{Statement}

@@ -9,7 +9,7 @@ use Rattle.ed_words.proofs.Numbers.{eq_of, lt_of, lt_true, not_lt_of}
 use Rattle.std.proofs.lemmas.List.{drop_all, length-drop, take_more, take_all}
 use Rattle.ed_words.specs.Texts.{Text}
 use Rattle.ed_syntax.specs.Lines.{lines_of, with_byte}
-use Rattle.ed_syntax.specs.Private.LineFronts.{has_end, without_return}
+use Rattle.ed_syntax.specs.Lines.{has_end, without_return}
 use Rattle.ed_syntax.proofs.Lines.{keeps_end, no_return, takes_ended, takes_last}
 use Rattle.ed_stepper.specs.Commands.{begins_part, is_space, parts_between_spaces}
 use Rattle.ed_stepper.specs.Private.Fronts.{blanks, solid, stop_of, unended}

@@ -15,11 +15,14 @@ use Rattle.std.proofs.lemmas.Bool.{and_parts}
 use Rattle.ed_codes.specs.Spelling.{letters, row_of}
 use Rattle.ed_words.specs.Texts.{Text}
 use Rattle.ed_words.specs.Decimals.{is_digit}
-use Rattle.ed_syntax.specs.Parts.{LinePart, run, sign, quoted, parts_of}
-use Rattle.ed_syntax.specs.Grammar
+use Rattle.ed_syntax.specs.Parts.{LinePart, run, sign, quoted}
+use Rattle.ed_syntax.specs.Private.PartReading.{parts_of}
+use Rattle.ed_syntax.specs.Private.Grammar
+use Rattle.ed_syntax.specs.Parts
 use Rattle.ed_syntax.specs.Programs.{AreNumbered, is_line}
 use Rattle.ed_syntax.proofs.Meaning.{AreRows, IsForm, IsOperand, IsSetting, IsStatement, MayHaveLabel, lines_test}
-use Rattle.ed_syntax.specs.Sources.{Fault, and_lines, is_line_byte, line_of, lines_from, or_cause}
+use Rattle.ed_syntax.specs.Private.SourceReading.{Fault, and_lines, line_of, lines_from, or_cause}
+use Rattle.ed_syntax.specs.Parts.{is_line_byte}
 use Rattle.ed_syntax.specs.declared.fault.SourceCause.{SourceCause}
 use Rattle.ed_syntax.specs.declared.fault.SourceCause.TheVariants as causes
 use Rattle.ed_syntax.specs.declared.program.Form.{Form}
@@ -62,7 +65,7 @@ order_end_within two (run r ∷ parts) =
 order_end_within two (quoted q ∷ parts) = tt
 
 -- the row of a byte is a code
-row_fits : (b : ℕ) → IfSome (row_of b) (λ c. c < 32)
+pub row_fits : (b : ℕ) → IfSome (row_of b) (λ c. c < 32)
 row_fits b = by_test (nat_le 48 b) (nat_le b 57) refl refl
   where
     letter : (o : Option ℕ) → position (λ l. l == b) letters ≡ o → IfSome o (λ c. c < 32)
@@ -75,7 +78,7 @@ row_fits b = by_test (nat_le 48 b) (nat_le b 57) refl refl
     by_test true false l h = letter _ refl
     by_test false high l h = letter _ refl
 
-function_fits : (b : ℕ) → IfSome (Grammar.function b) (λ f. f < 32)
+pub function_fits : (b : ℕ) → IfSome (Parts.function b) (λ f. f < 32)
 function_fits b = by_test (is_digit b)
   where
     by_test : (c : Bool) → IfSome (if c then None else row_of b) (λ f. f < 32)
@@ -84,7 +87,7 @@ function_fits b = by_test (is_digit b)
 
 order_within : (two : Bool) (b : ℕ) (parts : List LinePart) → Within (IsPlaced two) (Grammar.order two b parts)
 order_within two b parts =
-    by_parts (Grammar.function b) (Grammar.order_end two parts) (function_fits b) (order_end_within two parts)
+    by_parts (Parts.function b) (Grammar.order_end two parts) (function_fits b) (order_end_within two parts)
   where
     by_parts : (f : Option ℕ) (e : Option (Option Operand × Bool)) → IfSome f (λ g. g < 32)
         → FrontWithin (IsOperand two) e
@@ -98,18 +101,18 @@ order_within two b parts =
 -- ---- the other statements
 
 -- a number modulo another
-modulo_fits : (m : ℕ) (z : ℤ) → 0 < m → unsigned_abs (int_rem_euclid z (pos m)) < m
+pub modulo_fits : (m : ℕ) (z : ℤ) → 0 < m → unsigned_abs (int_rem_euclid z (pos m)) < m
 modulo_fits m (pos a) h = omega (arith, h)
 modulo_fits m (negsuc a) h = omega (arith, h)
 
 word_within : (two : Bool) (o : Option (Option ℤ))
-    → Within (IsPlaced two) (option_map (option_map (λ z. statements.Number (Grammar.modulo 17 z))) o)
+    → Within (IsPlaced two) (option_map (option_map (λ z. statements.Number (Parts.modulo 17 z))) o)
 word_within two None = tt
 word_within two (Some None) = tt
 word_within two (Some (Some z)) = (tt, modulo_fits (2 ^ 17) z (lit< tt))
 
 long_within : (two : Bool) (o : Option (Option ℤ)) → two ≡ true
-    → Within (IsPlaced two) (option_map (option_map (λ z. statements.Long (Grammar.modulo 35 z))) o)
+    → Within (IsPlaced two) (option_map (option_map (λ z. statements.Long (Parts.modulo 35 z))) o)
 long_within two None h = tt
 long_within two (Some None) h = tt
 long_within two (Some (Some z)) h = (tt, (h, modulo_fits (2 ^ 35) z (lit< tt)))
@@ -149,12 +152,12 @@ string_within (quoted q ∷ []) = string_rows_within q
 string_within (quoted q ∷ p ∷ parts) = tt
 
 text_within : (two : Bool) (o : Option (List ℕ)) → IfSome o AreRows
-    → Within (IsPlaced two) (option_map (λ rows. Some (statements.Text (Grammar.array rows))) o)
+    → Within (IsPlaced two) (option_map (λ rows. Some (statements.Text (Parts.array rows))) o)
 text_within two None w = tt
 text_within two (Some rows) w = (tt, w)
 
 rows_within : (two : Bool) (o : Option (List ℕ)) → IfSome o AreRows
-    → Within (IsStatement two) (option_map (λ rows. Some (statements.Rows (Grammar.array rows))) o)
+    → Within (IsStatement two) (option_map (λ rows. Some (statements.Rows (Parts.array rows))) o)
 rows_within two None w = tt
 rows_within two (Some rows) w = w
 
@@ -163,7 +166,7 @@ enter_within two [] = tt
 enter_within two (sign b ∷ parts) = tt
 enter_within two (quoted q ∷ parts) = tt
 enter_within two (run r ∷ p ∷ parts) = tt
-enter_within two (run r ∷ []) = within_if (IsStatement two) (Grammar.is_name r) _ (λ e. e)
+enter_within two (run r ∷ []) = within_if (IsStatement two) (Parts.is_name r) _ (λ e. e)
 
 abbrev IsBase : Option ℕ → Type 0
 IsBase base = IfSome base (λ b. b ≤ 1023)
@@ -185,7 +188,7 @@ segment_within two [] = tt
 segment_within two (sign b ∷ parts) = tt
 segment_within two (quoted q ∷ parts) = tt
 segment_within two (run r ∷ parts) =
-    within_if (IsStatement two) (Grammar.is_name r) _
+    within_if (IsStatement two) (Parts.is_name r) _
     (λ e. within_map IsBase (IsStatement two) (statements.Segment r) (λ base h. (e, h)) (Grammar.base parts)
     (base_within parts))
 
@@ -200,9 +203,9 @@ fetch_within two (run r ∷ run a ∷ []) = tt
 fetch_within two (run r ∷ run a ∷ sign b ∷ parts) = tt
 fetch_within two (run r ∷ run a ∷ quoted q ∷ parts) = tt
 fetch_within two (run r ∷ run a ∷ run n ∷ parts) =
-    within_if (IsStatement two) (bytes_eq a (codes "as") && (Grammar.is_name r && Grammar.is_name n)) _
+    within_if (IsStatement two) (bytes_eq a (codes "as") && (Parts.is_name r && Parts.is_name n)) _
     (λ e. let names = and_parts _ _ (and_parts _ _ e).1 in
-    within_map (All (IsSetting two)) (IsStatement two) (λ ss. statements.Fetch r n (Grammar.array ss))
+    within_map (All (IsSetting two)) (IsStatement two) (λ ss. statements.Fetch r n (Parts.array ss))
     (λ ss h. (names.0, (names.1, h)))
     (Grammar.with_settings two parts) (preset_within two parts))
 
@@ -247,7 +250,7 @@ unlabelled_within two parts =
     within_map (IsStatement two) (IsFormOf two) (λ s. record { label = None; statement = Some s }) (λ s h. h)
     (Grammar.statement two parts) (statement_within two parts)
 
-after_label_within : (two : Bool) (r : Text) (parts : List LinePart) → Grammar.is_place_name two r ≡ true
+after_label_within : (two : Bool) (r : Text) (parts : List LinePart) → Parts.is_place_name two r ≡ true
     → Within (IsFormOf two) (Grammar.after_label two r parts)
 after_label_within two r [] h = h
 after_label_within two r (p ∷ parts) h =
@@ -256,7 +259,7 @@ after_label_within two r (p ∷ parts) h =
 
 labelled_within : (two : Bool) (r : Text) (parts : List LinePart) → Within (IsFormOf two) (Grammar.labelled two r parts)
 labelled_within two r parts =
-    within_if (IsFormOf two) (Grammar.is_place_name two r) _ (λ e. after_label_within two r parts e)
+    within_if (IsFormOf two) (Parts.is_place_name two r) _ (λ e. after_label_within two r parts e)
 
 form_within : (two : Bool) (parts : List LinePart) → Within (IsFormOf two) (Grammar.form two parts)
 form_within two [] = tt

@@ -6,7 +6,8 @@ use Rattle.std.proofs.lemmas.List.{take_more, length-drop}
 use Rattle.ed_syntax.proofs.Splits.{split_at}
 use Rattle.ed_words.specs.Texts.{Text}
 use Rattle.ed_syntax.specs.Lines.{lines_of, with_byte}
-use Rattle.ed_syntax.specs.Private.LineFronts.{has_end, without_return, TakesLine}
+use Rattle.ed_syntax.specs.Lines.{has_end, without_return}
+use Rattle.ed_syntax.specs.Private.LineFronts.{TakesLine}
 
 no_end_head : (b : ℕ) (bs : Text) → has_end (b ∷ bs) ≡ false → ((b == 10) ≡ false) × (has_end bs ≡ false)
 no_end_head b bs = go (b == 10) (has_end bs)
@@ -30,7 +31,7 @@ one_byte b rest true r e = simp (e, r)
 one_byte b rest false r e = simp (e, r) (ap (with_byte b) (empty_line rest))
 
 -- Up to the first end, and without a carriage return there, stands the first line.
-ended : (front rest : Text) → has_end front ≡ false
+pub ended : (front rest : Text) → has_end front ≡ false
     → lines_of (front ++ 10 ∷ rest) ≡ without_return front ∷ lines_of rest
 ended [] rest e = empty_line rest
 ended (b ∷ []) rest e = one_byte b rest (b == 13) refl (no_end_head b [] e).0
@@ -48,7 +49,7 @@ and_no : (x : Bool) → (x && false) ≡ false
 and_no true = refl
 and_no false = refl
 
-unended : (b : ℕ) (bs : Text) → has_end (b ∷ bs) ≡ false → lines_of (b ∷ bs) ≡ (b ∷ bs) ∷ []
+pub unended : (b : ℕ) (bs : Text) → has_end (b ∷ bs) ≡ false → lines_of (b ∷ bs) ≡ (b ∷ bs) ∷ []
 unended b [] e = let first : (b == 10) ≡ false = (no_end_head b [] e).0 in simp first
 unended b (c ∷ bs) e =
     let here = no_end_head b (c ∷ bs) e in

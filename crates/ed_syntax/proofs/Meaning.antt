@@ -8,7 +8,7 @@ use Rattle.std.proofs.lemmas.Int.{ints}
 use Rattle.std.proofs.lemmas.List.Sums.{AllPass-from_list_all}
 use Rattle.std.proofs.lemmas.List.Elements.{All-cons, All-head, All-tail}
 use Rattle.std.proofs.lemmas.Bool.{and_parts}
-use Rattle.ed_syntax.specs.Grammar.{is_name, is_place_name}
+use Rattle.ed_syntax.specs.Parts.{is_name, is_place_name}
 use Rattle.ed_syntax.specs.Programs.{are_rows, is_base, is_form, is_line, is_operand}
 use Rattle.ed_syntax.specs.Programs.{is_setting, is_statement, may_have_label}
 use Rattle.ed_syntax.specs.declared.program.Operand.{Operand}

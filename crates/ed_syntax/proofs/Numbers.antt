@@ -6,7 +6,7 @@ use Rattle.std.proofs.lemmas.Bool.Decides.{nat_tests}
 use Rattle.std.proofs.lemmas.List.{take-append-drop}
 use Rattle.std.proofs.lemmas.List.Sums.{fold-append, fold_more}
 use Rattle.ed_words.specs.Decimals.{value}
-use Rattle.ed_syntax.specs.Grammar.{up_to}
+use Rattle.ed_syntax.specs.Private.Grammar.{up_to}
 
 abbrev longer : ℕ → ℕ → ℕ
 longer n b = 10 * n + (b - 48)

@@ -7,8 +7,10 @@ use Rattle.std.proofs.lemmas.Bool.Decides.{Decides-eqb}
 use Rattle.std.proofs.lemmas.List.{append-nil, take-append-drop, drop_more}
 use Rattle.ed_syntax.proofs.Splits.{split_at}
 use Rattle.ed_words.specs.Texts.{Text}
-use Rattle.ed_syntax.specs.Parts.{LinePart, run, sign, quoted, parts_of, parts_from}
-use Rattle.ed_syntax.specs.Parts.{is_blank, is_run_byte, begins_run, with_run_byte}
+use Rattle.ed_syntax.specs.Parts.{LinePart, run, sign, quoted}
+use Rattle.ed_syntax.specs.Private.PartReading.{parts_of, parts_from}
+use Rattle.ed_syntax.specs.Parts.{is_blank, is_run_byte, begins_run}
+use Rattle.ed_syntax.specs.Private.PartReading.{with_run_byte}
 use Rattle.std.specs.Prelude.{Result, Ok, Err}
 use Rattle.std.specs.Borrow.{Bor}
 use Rattle.std.proofs.Common.{◌≤◌, suc, length-append, map}
@@ -16,7 +18,8 @@ use Rattle.std.proofs.lemmas.List.{map-append}
 use Rattle.ed_syntax.specs.Private.Seen.{part}
 use Rattle.ed_syntax.specs.declared.parts.Part as code
 use Rattle.ed_syntax.specs.declared.parts.OpenQuote.{OpenQuote}
-use Rattle.ed_syntax.specs.Private.PartFronts.{has_quote, SplitsQuote, SplitsRun, Takes}
+use Rattle.ed_syntax.specs.Parts.{has_quote}
+use Rattle.ed_syntax.specs.Private.PartFronts.{SplitsQuote, SplitsRun, Takes}
 
 -- a byte that passes a test is none that fails it
 differs : (f : ℕ → Bool) (b k : ℕ) (c : Bool) → (b == k) ≡ c → f b ≡ true → f k ≡ false → (b == k) ≡ false
@@ -42,7 +45,7 @@ run_head b bs e =
     let tab : (b == 9) ≡ false = is_not is_run_byte b 9 e refl in
     simp (comment, quote, space, tab, e)
 
-all_head : (b : ℕ) (bs : Text) → list_all is_run_byte (b ∷ bs) ≡ true
+pub all_head : (b : ℕ) (bs : Text) → list_all is_run_byte (b ∷ bs) ≡ true
     → (is_run_byte b ≡ true) × (list_all is_run_byte bs ≡ true)
 all_head b bs = go (is_run_byte b) (list_all is_run_byte bs)
   where

@@ -3,7 +3,7 @@ use Rattle.std.proofs.Common.{◌≡◌, ℕ, ◌+◌, Bool, false, List, [], �
 use Rattle.std.specs.Prelude.{◌==◌, Result, Ok, Err}
 use Rattle.ed_words.specs.Texts.{Text}
 use Rattle.ed_syntax.specs.Private.LineFronts.{with_lines_before}
-use Rattle.ed_syntax.specs.Sources.{Fault, line_of, lines_from, with_first}
+use Rattle.ed_syntax.specs.Private.SourceReading.{Fault, line_of, lines_from, with_first}
 use Rattle.ed_syntax.specs.declared.program.Form.{Form}
 use Rattle.ed_syntax.specs.declared.program.Line.{Line}
 

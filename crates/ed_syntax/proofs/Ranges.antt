@@ -10,7 +10,8 @@ use Rattle.ed_codes.specs.Spelling.{row_of}
 use Rattle.ed_words.specs.Texts.{Text}
 use Rattle.ed_syntax.specs.Parts.{LinePart, run, sign, quoted}
 use Rattle.ed_words.specs.Decimals
-use Rattle.ed_syntax.specs.Grammar
+use Rattle.ed_syntax.specs.Private.Grammar
+use Rattle.ed_syntax.specs.Parts
 use Rattle.ed_syntax.proofs.Meaning.{IsOffset, IsOperand, IsSetting}
 use Rattle.ed_syntax.specs.declared.program.Operand.{Operand}
 use Rattle.ed_syntax.specs.declared.program.Operand.TheVariants as operands
@@ -57,29 +58,29 @@ up_to_within most digits = by_test (nat_le (Decimals.value digits) most) refl
     by_test false e = tt
 
 pub number_within : (most : ℕ) (r : Text) → Within (λ n. n ≤ most) (Grammar.number_up_to most r)
-number_within most r = within_if (λ n. n ≤ most) (Grammar.is_number r) (Some (Grammar.up_to most r))
+number_within most r = within_if (λ n. n ≤ most) (Parts.is_number r) (Some (Grammar.up_to most r))
     (λ e. up_to_within most r)
 
 -- ---- operands
 
-signed_within : (minus : Bool) (n : ℕ) → n ≤ 1023 → IsOffset (Grammar.with_sign minus n)
+signed_within : (minus : Bool) (n : ℕ) → n ≤ 1023 → IsOffset (Parts.with_sign minus n)
 signed_within true n h = record { low = omega (arith, ints); high = omega (arith, ints) }
 signed_within false n h = record { low = omega (arith, ints); high = omega (arith, ints) }
 
 single_within : (two : Bool) (r : Text) → Within (IsOperand two) (Grammar.single two r)
 single_within two r =
-    within_else (IsOperand two) (Grammar.is_number r) _ _
+    within_else (IsOperand two) (Parts.is_number r) _ _
     (λ e. within_map (λ n. n ≤ 32767) (IsOperand two) operands.Number (λ n h. h) (Some (Grammar.up_to 32767 r))
     (up_to_within 32767 r))
-    (λ e. within_if (IsOperand two) (Grammar.is_place_name two r) _ (λ f. (f, signed_within false 0 (omega arith))))
+    (λ e. within_if (IsOperand two) (Parts.is_place_name two r) _ (λ f. (f, signed_within false 0 (omega arith))))
 
 joined_within : (two : Bool) (r : Text) (s : ℕ) (n : Text) → Within (IsOperand two) (Grammar.joined_operand two r s n)
 joined_within two r s n =
-    within_if (IsOperand two) (Grammar.is_place_name two r) _
-    (λ e. within_else (IsOperand two) (Grammar.is_number n) _ _
-    (λ f. within_map (λ k. k ≤ 1023) (IsOperand two) (λ k. operands.Label r (Grammar.with_sign (s == 45) k))
+    within_if (IsOperand two) (Parts.is_place_name two r) _
+    (λ e. within_else (IsOperand two) (Parts.is_number n) _ _
+    (λ f. within_map (λ k. k ≤ 1023) (IsOperand two) (λ k. operands.Label r (Parts.with_sign (s == 45) k))
     (λ k h. (e, signed_within (s == 45) k h)) (Some (Grammar.up_to 1023 n)) (up_to_within 1023 n))
-    (λ f. within_if (IsOperand two) (two && Grammar.is_place_name two n) _
+    (λ f. within_if (IsOperand two) (two && Parts.is_place_name two n) _
     (λ g. let both = and_parts two _ g in (both.0, (e, both.1)))))
 
 pub front_rest : {A B : Type 0} (P : A → Type 0) (b : B) (o : Option (Option A)) → Within P o
@@ -114,7 +115,7 @@ operand_within two (run r ∷ sign s ∷ parts) =
 
 -- ---- settings
 
-record IsLetter (l : ℕ) : Type 0 where
+pub record IsLetter (l : ℕ) : Type 0 where
   pub low : 21 ≤ l
   pub high : l ≤ 26
 
@@ -133,7 +134,7 @@ among P (x ∷ xs) b h e = by_test (x == b) refl e (among P xs b h.1)
     by_test false f g more = more g
 
 -- the letters of settings have the codes 21 to 26
-letter_within : (b : ℕ) → IfSome (Grammar.setting_letter b) IsLetter
+pub letter_within : (b : ℕ) → IfSome (Parts.setting_letter b) IsLetter
 letter_within b = by_test (list_any (λ c. c == b) (codes "HNM&LX")) refl
   where
     letter : (n : ℕ) → 21 ≤ n → n ≤ 26 → IsLetter n
@@ -177,7 +178,7 @@ setting_within two (sign b ∷ []) = tt
 setting_within two (sign b ∷ run r ∷ parts) = tt
 setting_within two (sign b ∷ quoted q ∷ parts) = tt
 setting_within two (sign b ∷ sign e ∷ parts) =
-    let front = front_setting two (Grammar.setting_letter b) (Grammar.operand two parts) (letter_within b)
+    let front = front_setting two (Parts.setting_letter b) (Grammar.operand two parts) (letter_within b)
     (operand_within two parts) in
     front_else (IsSetting two) (e == 61) _ None front tt
 

@@ -2,7 +2,7 @@
 use Rattle.std.proofs.Common.{◌≡◌, ◌∙◌, ℕ, zero, suc, ◌-◌, ◌<◌, Bool, List, refl, ap, arith}
 use Rattle.std.specs.Prelude.{Some, None, option_and_then}
 use Rattle.ed_syntax.specs.Parts.{LinePart}
-use Rattle.ed_syntax.specs.Grammar.{Ranged, and_more, setting, settings}
+use Rattle.ed_syntax.specs.Private.Grammar.{Ranged, and_more, setting, settings}
 use Rattle.ed_syntax.specs.declared.program.Setting.{Setting}
 
 step : (two : Bool) (k : ℕ) (parts : List LinePart) → 0 < k

@@ -1,7 +1,7 @@
 pub mod Lines
 pub mod Parts
-pub mod Grammar
+pub mod Programs
+pub mod Forms
 pub mod Sources
 pub mod Answers
-pub mod Programs
 pub mod Private

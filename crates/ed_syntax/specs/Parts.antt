@@ -1,9 +1,18 @@
--- The parts of a line of a source (this project's own rule). Blanks and tabs may stand between any two parts, and a
--- comment runs from a `;` outside quotes to the line's end.
-use Rattle.std.specs.Prelude.{ℕ, ◌==◌, ◌||◌, ◌&&◌, Bool, false, List, [], ◌∷◌, ◌++◌}
-use Rattle.std.specs.Prelude.{Option, Some, None, nat_le, option_map, if◌then◌else◌}
-use Rattle.ed_words.specs.Decimals.{is_digit}
+-- The bytes, words and numbers of the source language (this project's own rule).
+use Rattle.std.specs.Prelude.{ℕ, ◌^◌, ◌==◌, ◌&&◌, ◌||◌, Bool, true, false, ℤ, pos, neg_ℤ, unsigned_abs}
+use Rattle.std.specs.Prelude.{List, [], ◌∷◌, codes, length, nat_le, if◌then◌else◌, Option, Some, None}
+use Rattle.std.specs.Int.{int_rem_euclid}
+use Rattle.std.specs.List.{list_all, list_any}
+use Rattle.ed_codes.specs.Spelling.{row_of}
+use Rattle.arrayvec.specs.ArrayVec.{ArrayVec}
 use Rattle.ed_words.specs.Texts.{Text}
+use Rattle.ed_words.specs.Decimals.{is_digit}
+
+-- ---- bytes and parts
+
+-- a tab, or a byte from 32 to 126
+abbrev pub is_line_byte : ℕ → Bool
+is_line_byte b = b == 9 || (nat_le 32 b && nat_le b 126)
 
 -- a run of lower-case letters, digits and `_`, which is a name, a number or a word of the forms; any other byte, as a
 -- function, a letter or a sign; the bytes between two quotes
@@ -29,27 +38,55 @@ abbrev pub begins_run : Text → Bool
 begins_run [] = false
 begins_run (b ∷ bs) = is_run_byte b
 
--- the first part, which is a run, with a byte more at its front
-abbrev pub longer : ℕ → List LinePart → List LinePart
-longer b (run r ∷ parts) = run (b ∷ r) ∷ parts
-longer b parts = run (b ∷ []) ∷ parts
+-- whether a quote (34) is among the bytes
+abbrev pub has_quote : Text → Bool
+has_quote bytes = list_any (λ b. b == 34) bytes
 
--- a byte of a run belongs to the run that begins behind it
-abbrev pub with_run_byte : ℕ → Text → List LinePart → List LinePart
-with_run_byte b after parts = if begins_run after then longer b parts else run (b ∷ []) ∷ parts
+-- ---- names and numbers
 
--- the parts of what stands outside quotes (None), or after a quote and some bytes; none where a quote stays open
-abbrev pub parts_from : Option Text → Text → Option (List LinePart)
-parts_from None [] = Some []
-parts_from None (b ∷ bs) = if b == 59 then Some []
-    else if b == 34 then parts_from (Some []) bs
-    else if is_blank b then parts_from None bs
-    else if is_run_byte b then option_map (with_run_byte b bs) (parts_from None bs)
-    else option_map (λ ps. sign b ∷ ps) (parts_from None bs)
-parts_from (Some q) [] = None
-parts_from (Some q) (b ∷ bs) = if b == 34 then option_map (λ ps. quoted q ∷ ps) (parts_from None bs)
-    else parts_from (Some (q ++ b ∷ [])) bs
+-- a name: a lower-case letter followed by up to 15 lower-case letters, digits or `_`
+abbrev pub is_name : Text → Bool
+is_name [] = false
+is_name (b ∷ bs) = is_lower b && (nat_le (length bs) 15 && list_all is_run_byte bs)
 
--- the parts of a line; none where a quote stays open
-abbrev pub parts_of : Text → Option (List LinePart)
-parts_of = parts_from None
+-- a local name: `_` followed by 1 to 15 of these
+abbrev pub is_local_name : Text → Bool
+is_local_name [] = false
+is_local_name (b ∷ bs) = b == 95 && (nat_le 1 (length bs) && (nat_le (length bs) 15 && list_all is_run_byte bs))
+
+-- what may stand as a label and in an operand: a name, or in version 2 a local name
+abbrev pub is_place_name : Bool → Text → Bool
+is_place_name two r = is_name r || (two && is_local_name r)
+
+-- a number: one or more decimal digits
+abbrev pub is_number : Text → Bool
+is_number [] = false
+is_number (b ∷ bs) = is_digit b && list_all is_digit bs
+
+-- a number, or its negative
+abbrev pub with_sign : Bool → ℕ → ℤ
+with_sign minus n = if minus then neg_ℤ (pos n) else pos n
+
+-- ---- letters
+
+-- a function: an upper-case letter or one of `# * . @ ! &`, which are the letters and signs of the 32 rows
+abbrev pub function : ℕ → Option ℕ
+function b = if is_digit b then None else row_of b
+
+-- the length: F (70) is short, D (68) is long
+abbrev pub length_of : ℕ → Option Bool
+length_of b = if b == 70 then Some false else if b == 68 then Some true else None
+
+-- the letter of a setting, as its code
+abbrev pub setting_letter : ℕ → Option ℕ
+setting_letter b = if list_any (λ c. c == b) (codes "HNM&LX") then row_of b else None
+
+-- ---- what a form holds
+
+-- an array with these items
+abbrev pub array : {A : Type 0} → List A → ArrayVec A
+array xs = record { items = xs }
+
+-- a number modulo 2^k, from 0 upwards for a negative one too
+abbrev pub modulo : ℕ → ℤ → ℕ
+modulo k z = unsigned_abs (int_rem_euclid z (pos (2 ^ k)))

@@ -3,7 +3,7 @@
 use Rattle.std.specs.Prelude.{◌≡◌, ℕ, ◌+◌, ◌^◌, ◌<◌, ◌&&◌, Bool, true, false, unsigned_abs, nat_le, nat_lt}
 use Rattle.std.specs.Prelude.{List, Option, Some, None, length, slice_index_or}
 use Rattle.std.specs.List.{list_all}
-use Rattle.ed_syntax.specs.Grammar.{is_name, is_place_name}
+use Rattle.ed_syntax.specs.Parts.{is_name, is_place_name}
 use Rattle.ed_syntax.specs.declared.program.Operand.{Operand}
 use Rattle.ed_syntax.specs.declared.program.Operand.TheVariants as operands
 use Rattle.ed_syntax.specs.declared.program.Setting.{Setting}

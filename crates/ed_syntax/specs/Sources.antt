@@ -1,69 +1,105 @@
--- What a source says, and its faults of form (this project's own rule).
-use Rattle.std.specs.Prelude.{ℕ, ◌+◌, ◌==◌, ◌&&◌, ◌||◌, not, Bool, false, List}
-use Rattle.std.specs.Prelude.{[], ◌∷◌, length, nat_le, nat_lt, if◌then◌else◌}
-use Rattle.std.specs.Prelude.{Option, Some, None, Result, Ok, Err, option_and_then}
-use Rattle.std.specs.List.{list_all}
+-- Which lines a source has and what it says, or what its fault of form is (this project's own rule).
+use Rattle.std.specs.Prelude.{ℕ, ◌≡◌, ◌+◌, ◌≤◌, ◌<◌, ◌==◌, Bool, true, false, List, [], ◌∷◌, ◌++◌, codes, length}
+use Rattle.std.specs.Prelude.{if◌then◌else◌, ◌⊎◌}
+use Rattle.std.specs.List.{list_all, list_any}
 use Rattle.ed_words.specs.Texts.{Text}
-use Rattle.ed_syntax.specs.Lines.{lines_of}
-use Rattle.ed_syntax.specs.Parts.{LinePart, parts_of}
-use Rattle.ed_syntax.specs.Grammar.{Ranged, form_at, is_version_two}
+use Rattle.ed_words.specs.Decimals.{value}
+use Rattle.ed_syntax.specs.Lines.{HasLines}
+use Rattle.ed_syntax.specs.Parts.{run, is_number, is_line_byte}
+use Rattle.ed_syntax.specs.Forms.{HasLineParts, SpellsLine, IsNoStatement}
 use Rattle.ed_syntax.specs.declared.program.Form.{Form}
 use Rattle.ed_syntax.specs.declared.program.Line.{Line}
 use Rattle.ed_syntax.specs.declared.fault.SourceCause.{SourceCause}
+use Rattle.ed_syntax.specs.declared.fault.SourceFault.{SourceFault}
+use Rattle.ed_syntax.specs.declared.fault.SourceFault.TheVariants.{At, Memory}
 use Rattle.ed_syntax.specs.declared.fault.SourceCause.TheVariants.{BadByte, LongLine, NotAStatement}
 use Rattle.ed_syntax.specs.declared.fault.SourceCause.TheVariants.{NumberRange, TooManyLines}
 
--- a fault with the number of its line
-pub record Fault : Type 0 where
-  pub line : ℕ
-  pub cause : SourceCause
+-- ---- one line
 
--- a tab, or a byte from 32 to 126
-abbrev pub is_line_byte : ℕ → Bool
-is_line_byte b = b == 9 || (nat_le 32 b && nat_le b 126)
+-- a line of 120 bytes at most, each a tab or from 32 to 126
+pub record IsPlain (line : Text) : Type 0 where
+  pub bytes : list_all is_line_byte line ≡ true
+  pub short : length line ≤ 120
 
--- a line with no form, with a form and a number out of its range, or with a form
-abbrev pub or_cause : Option (Ranged Form) → Result Form SourceCause
-or_cause None = Err NotAStatement
-or_cause (Some None) = Err NumberRange
-or_cause (Some (Some f)) = Ok f
+-- the line with the number k says this
+pub record LineSays (two : Bool) (k : ℕ) (line : Text) (f : Form) : Type 0 where
+  pub plain : IsPlain line
+  pub spells : SpellsLine two k line f true
 
--- what the line with the number k says, or its fault with the least number
-abbrev pub line_of : Bool → ℕ → Text → Result Form SourceCause
-line_of two k line = if not (list_all is_line_byte line) then Err BadByte
-    else if nat_lt 120 (length line) then Err LongLine
-    else or_cause (option_and_then (form_at two k) (parts_of line))
+-- the line with the number k has this fault
+pub data LineHasFault (two : Bool) (k : ℕ) (line : Text) : SourceCause → Type 0 where
+  bad_byte : k ≤ 2000 → list_all is_line_byte line ≡ false → LineHasFault two k line BadByte
+  long_line : k ≤ 2000 → list_all is_line_byte line ≡ true → 120 < length line → LineHasFault two k line LongLine
+  not_a_statement : k ≤ 2000 → IsPlain line → IsNoStatement two k line → LineHasFault two k line NotAStatement
+  number_range : k ≤ 2000 → IsPlain line → (f : Form) → SpellsLine two k line f false → LineHasFault two k line NumberRange
+  too_many_lines : k ≡ 2001 → LineHasFault two k line TooManyLines
 
--- a line in front of others
-abbrev pub with_first : Line → Result (List Line) Fault → Result (List Line) Fault
-with_first l (Ok rest) = Ok (l ∷ rest)
-with_first l (Err e) = Err e
+-- ---- a source
 
--- the line k, and the lines behind it
-abbrev pub and_lines : ℕ → Result Form SourceCause → Result (List Line) Fault → Result (List Line) Fault
-and_lines k (Err c) rest = Err (record { line = k; cause = c })
-and_lines k (Ok f) rest = with_first (record { number = k; label = f.label; statement = f.statement }) rest
+-- the line has the form `version 2`
+pub record IsVersionTwo (line : Text) : Type 0 where
+  pub n : Text
+  pub number : is_number n ≡ true
+  pub value_is : value n ≡ 2
+  pub parts : HasLineParts line (run (codes "version") ∷ run n ∷ [])
 
--- what the lines from number k on say, or the fault of the first of them that has one
-abbrev pub lines_from : Bool → ℕ → List Text → Result (List Line) Fault
-lines_from two k [] = Ok []
-lines_from two k (line ∷ rest) = if k == 2001 then Err (record { line = k; cause = TooManyLines })
-    else and_lines k (line_of two k line) (lines_from two (k + 1) rest)
+-- a source is of version 2 where its first line says so
+abbrev pub IsOfVersion : Bool → List Text → Type 0
+IsOfVersion two [] = two ≡ false
+IsOfVersion true (line ∷ lines) = IsVersionTwo line
+IsOfVersion false (line ∷ lines) = IsVersionTwo line → ⊥
 
--- whether a line has the form `version 2`
-abbrev pub says_two : Option (List LinePart) → Bool
-says_two None = false
-says_two (Some parts) = is_version_two parts
+-- the lines from the number k on say these
+pub data LinesSay (two : Bool) : ℕ → List Text → List Line → Type 0 where
+  no_more : (k : ℕ) → LinesSay two k [] []
+  and_more : (k : ℕ) (line : Text) (lines : List Text) (f : Form) (said : List Line) → LineSays two k line f
+      → LinesSay two (k + 1) lines said
+      → LinesSay two k (line ∷ lines) (record { number = k; label = f.label; statement = f.statement } ∷ said)
 
--- whether a source is of version 2, by its first line
-abbrev pub is_two : List Text → Bool
-is_two [] = false
-is_two (line ∷ rest) = says_two (parts_of line)
+-- the source is of this version and says these lines
+pub record IsProgram (text : Text) (two : Bool) (said : List Line) : Type 0 where
+  pub lines : List Text
+  pub has_lines : HasLines text lines
+  pub few : length lines ≤ 2000
+  pub version : IsOfVersion two lines
+  pub says : LinesSay two 1 lines said
 
--- the version of a source, 1 or 2
-abbrev pub version_of : Text → ℕ
-version_of text = if is_two (lines_of text) then 2 else 1
+-- the first line of the source that has a fault is this one, and has this fault
+pub record IsFormFault (text : Text) (number : ℕ) (cause : SourceCause) : Type 0 where
+  pub two : Bool
+  pub before : List Text
+  pub line : Text
+  pub after : List Text
+  pub said : List Line
+  pub has_lines : HasLines text (before ++ line ∷ after)
+  pub version : IsOfVersion two (before ++ line ∷ after)
+  pub says : LinesSay two 1 before said
+  pub number_is : number ≡ length before + 1
+  pub faulty : LineHasFault two number line cause
 
--- the lines of a source, or its fault of form: that of the least line, with the least number
-abbrev pub program_of : Text → Result (List Line) Fault
-program_of text = lines_from (is_two (lines_of text)) 1 (lines_of text)
+-- an answer that is a fault of form says which one it is
+abbrev pub HasFormFault : Text → SourceFault → Type 0
+HasFormFault text (At number cause) = IsFormFault text number cause
+HasFormFault text Memory = Unit {0}
+
+-- ---- the law of sources
+
+-- the source says some lines, or has a fault of form
+abbrev pub IsProgramOrFault : Text → Type 0
+IsProgramOrFault text = ((two : Bool) × (said : List Line) × IsProgram text two said)
+    ⊎ ((number : ℕ) × (cause : SourceCause) × IsFormFault text number cause)
+
+-- Every source has one version and says one list of lines, or has one fault of form, and never both. No line says two
+-- things.
+pub record HasOneMeaning : Type 0 where
+  pub one_form : (two : Bool) (k : ℕ) (line : Text) (f g : Form) → LineSays two k line f → LineSays two k line g → f ≡ g
+  pub every : (text : Text) → IsProgramOrFault text
+  pub one_version : (text : Text) (two also : Bool) (said others : List Line) → IsProgram text two said
+      → IsProgram text also others → two ≡ also
+  pub one_program : (text : Text) (two also : Bool) (said others : List Line) → IsProgram text two said
+      → IsProgram text also others → said ≡ others
+  pub no_fault : (text : Text) (two : Bool) (said : List Line) (number : ℕ) (cause : SourceCause)
+      → IsProgram text two said → IsFormFault text number cause → ⊥
+  pub one_fault : (text : Text) (number other : ℕ) (cause another : SourceCause) → IsFormFault text number cause
+      → IsFormFault text other another → (number ≡ other) × (cause ≡ another)

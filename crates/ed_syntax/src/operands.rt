@@ -2,8 +2,10 @@
 ghost use Rattle.std.specs.Prelude.{◌≡◌, ◌+◌, ◌≤◌, ◌∷◌, ◌==◌, ◌<◌, ◌^◌, length, map, option_map, IfSome};
 ghost use Rattle.std.specs.Borrow.{Bor};
 ghost use Rattle.std.specs.List.{list_any};
-ghost use Rattle.ed_syntax.specs.Grammar.{and_more, array, both, joined_operand, operand, with_settings, setting};
-ghost use Rattle.ed_syntax.specs.Grammar.{setting_letter, settings, with_sign, single};
+ghost use Rattle.ed_syntax.specs.Private.Grammar.{and_more, both, joined_operand, operand, with_settings, setting};
+ghost use Rattle.ed_syntax.specs.Parts.{array};
+ghost use Rattle.ed_syntax.specs.Parts.{setting_letter, with_sign};
+ghost use Rattle.ed_syntax.specs.Private.Grammar.{settings, single};
 ghost use Rattle.ed_syntax.specs.Parts.{sign};
 ghost use Rattle.ed_syntax.specs.Private.Seen.{part};
 

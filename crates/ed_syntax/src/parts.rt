@@ -1,9 +1,11 @@
 //! The parts of a line: runs, signs and strings.
 ghost use Rattle.std.specs.Prelude.{◌∷◌, true, ◌≡◌, ◌≤◌, ◌<◌, Some, None, IfSome};
 ghost use Rattle.std.specs.Prelude.{IfNone, IfOk, IfErr, map, false, length};
-ghost use Rattle.ed_syntax.specs.Parts.{begins_run, is_blank, is_run_byte, parts_of};
+ghost use Rattle.ed_syntax.specs.Parts.{begins_run, is_blank, is_run_byte};
+ghost use Rattle.ed_syntax.specs.Private.PartReading.{parts_of};
 ghost use Rattle.ed_syntax.specs.Private.Seen.{part};
-ghost use Rattle.ed_syntax.specs.Private.PartFronts.{SplitsRun, SplitsQuote, Takes, begins_blank, has_quote};
+ghost use Rattle.ed_syntax.specs.Private.PartFronts.{SplitsRun, SplitsQuote, Takes, begins_blank};
+ghost use Rattle.ed_syntax.specs.Parts.{has_quote};
 
 use std::alloc::Global;
 

@@ -2,9 +2,13 @@
 ghost use Rattle.std.specs.Prelude.{◌≡◌, ◌==◌, ◌≤◌, ◌<◌, if◌then◌else◌, length, IfErr, IfOk, Ok};
 ghost use Rattle.std.specs.List.{list_all};
 ghost use Rattle.ed_syntax.specs.Answers.{IsFaultOf, LineIs, LinesAre};
-ghost use Rattle.ed_syntax.specs.Private.LineFronts.{TakesLine, without_return};
+ghost use Rattle.ed_syntax.specs.Private.LineFronts.{TakesLine};
+ghost use Rattle.ed_syntax.specs.Lines.{without_return};
 ghost use Rattle.ed_syntax.specs.Lines.{lines_of};
-ghost use Rattle.ed_syntax.specs.Sources.{is_line_byte, is_two, line_of, lines_from, or_cause, program_of, version_of};
+ghost use Rattle.ed_syntax.specs.Forms.{FormsAreSpelled};
+ghost use Rattle.ed_syntax.specs.Sources.{HasFormFault, HasOneMeaning, IsProgram};
+ghost use Rattle.ed_syntax.specs.Parts.{is_line_byte};
+ghost use Rattle.ed_syntax.specs.Private.SourceReading.{is_two, line_of, lines_from, or_cause, program_of, version_of};
 
 use crate::parts::{PartsFault, parts_of};
 use crate::program::Form;
@@ -142,6 +146,10 @@ pub fn parse(alloc: Global, text: &[u8]) -> Result<Program, SourceFault>
     ensures version { IfOk result (λ p. p.version ≡ version_of text.now) }
     ensures lines { IfOk result (λ p. program_of text.now ≡ Ok p.lines.items) }
     ensures fault { IfErr result (λ e. IsFaultOf (program_of text.now) e) }
+    ensures says { IfOk result (λ p. IsProgram text.now (p.version == 2) p.lines.items) }
+    ensures has_fault { IfErr result (λ e. HasFormFault text.now e) }
+    ensures one { HasOneMeaning }
+    ensures forms { FormsAreSpelled }
 {
     let two = is_two(alloc, text)?;
     let lines = lines(alloc, two, text)?;

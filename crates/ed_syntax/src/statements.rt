@@ -1,12 +1,13 @@
 //! Statements, and lines with their labels.
 ghost use Rattle.std.specs.Prelude.{◌≡◌, ◌∷◌, ◌==◌, map, option_map};
 ghost use Rattle.std.specs.Borrow.{Bor};
-ghost use Rattle.ed_syntax.specs.Grammar.{base, enter, fetch, form, form_at, function};
-ghost use Rattle.ed_syntax.specs.Grammar.{is_version_two, labelled, length_end};
-ghost use Rattle.ed_syntax.specs.Grammar.{long, order, order_end, placed, segment};
+ghost use Rattle.ed_syntax.specs.Private.Grammar.{base, enter, fetch, form, form_at};
+ghost use Rattle.ed_syntax.specs.Parts.{function};
+ghost use Rattle.ed_syntax.specs.Private.Grammar.{is_version_two, labelled, length_end};
+ghost use Rattle.ed_syntax.specs.Private.Grammar.{long, order, order_end, placed, segment};
 ghost use Rattle.ed_words.specs.Decimals.{value};
-ghost use Rattle.ed_syntax.specs.Grammar.{statement, data_statement, unlabelled, word};
-ghost use Rattle.ed_syntax.specs.Grammar as grammar;
+ghost use Rattle.ed_syntax.specs.Private.Grammar.{statement, data_statement, unlabelled, word};
+ghost use Rattle.ed_syntax.specs.Private.Grammar as grammar;
 ghost use Rattle.ed_syntax.specs.Parts.{run, sign};
 ghost use Rattle.ed_syntax.specs.Private.Seen.{part};
 

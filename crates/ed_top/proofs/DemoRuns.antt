@@ -1,5 +1,5 @@
 -- `demo` is the run of its source, from the state at its entry.
-use Rattle.ed_syntax.specs.Sources.{program_of}
+use Rattle.ed_syntax.specs.Private.SourceReading.{program_of}
 use Rattle.ed_sources.specs.Accepted.{IsAccepted}
 use Rattle.ed_sources.specs.Demo.{demo_text}
 use Rattle.ed_sources.proofs.DemoAccepted.{demos_accepted}

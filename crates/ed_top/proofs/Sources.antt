@@ -13,7 +13,7 @@ use Rattle.ed_printer.specs.Paper.{paper}
 use Rattle.ed_syntax.specs.declared.program.Line.{Line}
 use Rattle.ed_syntax.specs.declared.fault.SourceFault.{SourceFault}
 use Rattle.ed_syntax.specs.declared.fault.SourceFault.TheVariants.{At, Memory}
-use Rattle.ed_syntax.specs.Sources.{Fault, program_of}
+use Rattle.ed_syntax.specs.Private.SourceReading.{Fault, program_of}
 use Rattle.ed_syntax.specs.Answers as form
 use Rattle.ed_link.specs.Answers as meaning
 use Rattle.ed_link.specs.Answers.{IsLinked}

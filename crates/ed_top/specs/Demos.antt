@@ -2,7 +2,7 @@
 use Rattle.std.specs.Prelude.{◌≡◌, ℕ, ◌+◌, ◌*◌, ◌≤◌, List, Ok}
 use Rattle.ed_words.specs.Sizes.{locations}
 use Rattle.ed_syntax.specs.declared.program.Line.{Line}
-use Rattle.ed_syntax.specs.Sources.{program_of}
+use Rattle.ed_syntax.specs.Private.SourceReading.{program_of}
 use Rattle.ed_sources.specs.Demo.{demo_text}
 use Rattle.ed_command.specs.declared.command.Settings.{Settings}
 use Rattle.ed_top.specs.Calls.{made_outcome}

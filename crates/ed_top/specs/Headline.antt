@@ -3,7 +3,7 @@
 use Rattle.std.specs.Prelude.{◌≡◌, ◌-◌, ◌<◌, ◌≤◌, List, None, Ok}
 use Rattle.ed_run.specs.Run.{ran}
 use Rattle.ed_syntax.specs.declared.program.Line.{Line}
-use Rattle.ed_syntax.specs.Sources.{program_of}
+use Rattle.ed_syntax.specs.Private.SourceReading.{program_of}
 use Rattle.ed_link.specs.Faults.{fault}
 use Rattle.ed_link.specs.Linked.{entry_of}
 use Rattle.ed_link.specs.Tapes.{cost, tape}

@@ -6,7 +6,7 @@ use Rattle.ed_notation.specs.Spellings.{canonicals, text_of}
 use Rattle.ed_syntax.specs.declared.program.Line.{Line}
 use Rattle.ed_syntax.specs.declared.fault.SourceFault.{SourceFault}
 use Rattle.ed_syntax.specs.declared.fault.SourceFault.TheVariants.{At}
-use Rattle.ed_syntax.specs.Sources.{Fault, program_of}
+use Rattle.ed_syntax.specs.Private.SourceReading.{Fault, program_of}
 use Rattle.ed_link.specs.Faults.{fault}
 use Rattle.ed_link.specs.Linked.{data_behind, entry_of, linked}
 use Rattle.ed_link.specs.Punch.{punched}

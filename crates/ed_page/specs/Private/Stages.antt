@@ -8,7 +8,7 @@ use Rattle.ed_codes.specs.declared.tape.TextFault.TheVariants.{NoRow, OpenCommen
 use Rattle.ed_machine.specs.State.{State}
 use Rattle.ed_printer.specs.Paper.{paper}
 use Rattle.ed_run.specs.Run.{RunEnd}
-use Rattle.ed_syntax.specs.Sources.{Fault}
+use Rattle.ed_syntax.specs.Private.SourceReading.{Fault}
 use Rattle.ed_syntax.specs.declared.program.Line.{Line}
 use Rattle.ed_link.specs.Answers.{IsLinked}
 use Rattle.ed_link.specs.declared.linked.Linked.{Linked}

@@ -1,17 +1,14 @@
 -- What the code takes from the front of a line.
-use Rattle.std.specs.Prelude.{◌≡◌, ◌<◌, ◌==◌, Bool, true, false, [], ◌∷◌, ◌++◌}
+use Rattle.std.specs.Prelude.{◌≡◌, ◌<◌, Bool, true, false, [], ◌∷◌, ◌++◌}
 use Rattle.std.specs.Prelude.{Option, Some, None, Result, Ok, Err, length, option_map}
 use Rattle.std.specs.Borrow.{Bor}
-use Rattle.std.specs.List.{list_all, list_any}
+use Rattle.std.specs.List.{list_all}
 use Rattle.ed_words.specs.Texts.{Text}
-use Rattle.ed_syntax.specs.Parts.{parts_of, is_run_byte, begins_run, is_blank}
+use Rattle.ed_syntax.specs.Private.PartReading.{parts_of}
+use Rattle.ed_syntax.specs.Parts.{is_run_byte, begins_run, is_blank, has_quote}
 use Rattle.ed_syntax.specs.Private.Seen.{part}
 use Rattle.ed_syntax.specs.declared.parts.Part.{Part}
 use Rattle.ed_syntax.specs.declared.parts.OpenQuote.{OpenQuote}
-
--- whether a quote stands in a text
-abbrev pub has_quote : Text → Bool
-has_quote text = list_any (λ b. b == 34) text
 
 -- whether a text begins with a blank
 abbrev pub begins_blank : Text → Bool

@@ -1,7 +1,7 @@
 use Rattle.std.proofs.Common.{rules, sym, subst}
 use Rattle.std.specs.Prelude.{Result, Ok, Err}
 use Rattle.ed_words.specs.declared.memory.NoMemory.{NoMemory}
-use Rattle.ed_syntax.specs.Sources.{program_of}
+use Rattle.ed_syntax.specs.Private.SourceReading.{program_of}
 use Rattle.ed_command.specs.declared.command.Action.TheVariants.{Run}
 use Rattle.ed_top.specs.Output.{answer}
 use Rattle.ed_page.specs.Answers.{SourceEnds}

@@ -1,6 +1,7 @@
 use Rattle.std.proofs.Common.{rules, arith, sym, ap, ◌∙◌, ◌≡◌, map}
 use Rattle.std.specs.Prelude.{Some, None, option_map}
-use Rattle.ed_syntax.specs.Grammar.{array, setting}
+use Rattle.ed_syntax.specs.Parts.{array}
+use Rattle.ed_syntax.specs.Private.Grammar.{setting}
 use Rattle.ed_syntax.specs.Private.Seen.{part}
 use Rattle.ed_syntax.proofs.Settings.{none_left, no_setting, first_setting}
 use Rattle.ed_syntax.proofs.operands.+settings.Goals as goal

@@ -1,7 +1,7 @@
 use Rattle.ed_syntax.proofs.Lines.{takes_ended, takes_last}
 use Rattle.std.proofs.lemmas.List.{take_rest, take_all}
 use Rattle.std.proofs.Common.{◌≡◌, take, false, arith}
-use Rattle.ed_syntax.specs.Private.LineFronts.{has_end}
+use Rattle.ed_syntax.specs.Lines.{has_end}
 use Rattle.ed_syntax.proofs.source.split_line.Goals as goal
 
 pub returns-then-byte-eq10 : goal.returns-then-byte-eq10

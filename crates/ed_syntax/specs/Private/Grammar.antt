@@ -1,18 +1,17 @@
--- The grammar of the lines of a source (this project's own rule), over the parts of a line. Each definition answers
--- none where the parts don't have its form. What has a form is `Ranged`: it is given where its numbers are in their
+-- The forms of a line, as they are read from its parts. Each definition answers none where the parts don't have its
+-- form. What has a form is `Ranged`: it is given where its numbers are in their
 -- ranges. The argument `two` says whether the source is of version 2.
-use Rattle.std.specs.Prelude.{ℕ, zero, suc, ◌^◌, ◌==◌, ◌&&◌, ◌||◌}
-use Rattle.std.specs.Prelude.{Bool, true, false, ℤ, pos, neg_ℤ, unsigned_abs}
+use Rattle.std.specs.Prelude.{ℕ, zero, suc, ◌==◌, ◌&&◌, ◌||◌}
+use Rattle.std.specs.Prelude.{Bool, true, false, ℤ, pos}
 use Rattle.std.specs.Prelude.{List, [], ◌∷◌, codes, length, map, nat_le, if◌then◌else◌}
 use Rattle.std.specs.Prelude.{Option, Some, None, option_map, option_and_then}
-use Rattle.std.specs.Int.{int_rem_euclid}
-use Rattle.std.specs.List.{list_all, list_any}
+use Rattle.std.specs.List.{list_all}
 use Rattle.std.specs.Str.{bytes_eq}
 use Rattle.ed_codes.specs.Spelling.{row_of}
-use Rattle.arrayvec.specs.ArrayVec.{ArrayVec}
 use Rattle.ed_words.specs.Texts.{Text}
-use Rattle.ed_words.specs.Decimals.{is_digit, value}
-use Rattle.ed_syntax.specs.Parts.{LinePart, run, sign, quoted, is_lower, is_run_byte}
+use Rattle.ed_words.specs.Decimals.{value}
+use Rattle.ed_syntax.specs.Parts.{LinePart, run, sign, quoted, is_name, is_place_name, is_number, with_sign, function}
+use Rattle.ed_syntax.specs.Parts.{length_of, setting_letter, array, modulo}
 use Rattle.ed_syntax.specs.declared.program.Operand.{Operand}
 use Rattle.ed_syntax.specs.declared.program.Operand.TheVariants as operands
 use Rattle.ed_syntax.specs.declared.program.Setting.{Setting}
@@ -30,25 +29,6 @@ made f o = option_map (option_map f) o
 
 -- ---- names and numbers
 
--- a name: a lower-case letter followed by up to 15 lower-case letters, digits or `_`
-abbrev pub is_name : Text → Bool
-is_name [] = false
-is_name (b ∷ bs) = is_lower b && (nat_le (length bs) 15 && list_all is_run_byte bs)
-
--- a local name: `_` followed by 1 to 15 of these
-abbrev pub is_local_name : Text → Bool
-is_local_name [] = false
-is_local_name (b ∷ bs) = b == 95 && (nat_le 1 (length bs) && (nat_le (length bs) 15 && list_all is_run_byte bs))
-
--- what may stand as a label and in an operand: a name, or in version 2 a local name
-abbrev pub is_place_name : Bool → Text → Bool
-is_place_name two r = is_name r || (two && is_local_name r)
-
--- a number: one or more decimal digits
-abbrev pub is_number : Text → Bool
-is_number [] = false
-is_number (b ∷ bs) = is_digit b && list_all is_digit bs
-
 -- the number that digits spell, where it is at most this
 abbrev pub up_to : ℕ → Text → Ranged ℕ
 up_to most digits = if nat_le (value digits) most then Some (value digits) else None
@@ -56,10 +36,6 @@ up_to most digits = if nat_le (value digits) most then Some (value digits) else 
 -- a number from 0 to this
 abbrev pub number_up_to : ℕ → Text → Option (Ranged ℕ)
 number_up_to most r = if is_number r then Some (up_to most r) else None
-
--- a number, or its negative
-abbrev pub with_sign : Bool → ℕ → ℤ
-with_sign minus n = if minus then neg_ℤ (pos n) else pos n
 
 -- a number or, after a minus sign (45), its negative, from -least to most
 abbrev pub integer : ℕ → ℕ → List LinePart → Option (Ranged ℤ)
@@ -127,14 +103,6 @@ operand two _ = None
 
 -- ---- orders
 
--- a function: an upper-case letter or one of `# * . @ ! &`, which are the letters and signs of the 32 rows
-abbrev pub function : ℕ → Option ℕ
-function b = if is_digit b then None else row_of b
-
--- the length: F (70) is short, D (68) is long
-abbrev pub length_of : ℕ → Option Bool
-length_of b = if b == 70 then Some false else if b == 68 then Some true else None
-
 -- the length at the end of an order
 abbrev pub length_end : List LinePart → Option Bool
 length_end (sign e ∷ []) = length_of e
@@ -152,10 +120,6 @@ order two b parts =
     (function b)
 
 -- ---- settings
-
--- the letter of a setting, as its code
-abbrev pub setting_letter : ℕ → Option ℕ
-setting_letter b = if list_any (λ c. c == b) (codes "HNM&LX") then row_of b else None
 
 -- a letter with its operand
 abbrev pub lettered : ℕ → Ranged Operand → Ranged Setting
@@ -192,14 +156,6 @@ with_settings two (run w ∷ parts) = if bytes_eq w (codes "with") then settings
 with_settings two _ = None
 
 -- ---- statements
-
--- an array with these items
-abbrev pub array : {A : Type 0} → List A → ArrayVec A
-array xs = record { items = xs }
-
--- a number modulo 2^k, from 0 upwards for a negative one too
-abbrev pub modulo : ℕ → ℤ → ℕ
-modulo k z = unsigned_abs (int_rem_euclid z (pos (2 ^ k)))
 
 -- `word N` or `word -N`: N modulo 2^17
 abbrev pub word : List LinePart → Option (Ranged Statement)

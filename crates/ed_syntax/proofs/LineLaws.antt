@@ -1,0 +1,105 @@
+-- A text is read as the form that it spells.
+use Rattle.std.proofs.Common.{◌≡◌, ◌∙◌, ℕ, Bool, true, false, sym, ap, subst}
+use Rattle.std.specs.Prelude.{Option, Some, None, option_and_then}
+use Rattle.ed_words.specs.Texts.{Text}
+use Rattle.ed_syntax.specs.Private.PartReading.{parts_of}
+use Rattle.ed_syntax.specs.Private.Grammar
+use Rattle.ed_syntax.specs.declared.program.Form.{Form}
+use Rattle.ed_syntax.specs.Forms.{SpellsLine, IsNoStatement}
+use Rattle.ed_syntax.proofs.Readings.{ranged, chained, some_is}
+use Rattle.ed_syntax.proofs.PartsLaws.{parts_are_read, read_parts_are}
+use Rattle.ed_syntax.proofs.PlacedLaws.{is_short}
+use Rattle.ed_syntax.specs.Parts.{LinePart}
+use Rattle.ed_syntax.specs.Forms.{HasLineParts, nothing, comment, blank, one_sign, one_string, one_run}
+use Rattle.std.specs.List.{list_all}
+use Rattle.std.specs.Prelude.{nat_le}
+use Rattle.std.proofs.Common.{List, length, length-append, ◌≤◌, ◌∷◌, arith, refl}
+use Rattle.std.proofs.lemmas.Bool.Decides.{nat_tests}
+use Rattle.ed_syntax.proofs.FormLaws.{form_is_read, form_is_spelled}
+
+-- what is read in the line with the number k
+abbrev pub form_of : Bool → ℕ → Text → Option (Option Form)
+form_of two k text = option_and_then (Grammar.form_at two k) (parts_of text)
+
+-- the strings of a short line are short
+few_bytes : (text : Text) (ps : List LinePart) → HasLineParts text ps → length text ≤ 120 → list_all is_short ps ≡ true
+few_bytes _ _ nothing le = refl
+few_bytes _ _ (comment bytes) le = refl
+few_bytes _ _ (blank b text ps e h) le = few_bytes text ps h (omega arith)
+few_bytes _ _ (one_sign b text ps e h) le = few_bytes text ps h (omega arith)
+few_bytes _ _ (one_string q text ps e h) le =
+    let size = length-append q (34 ∷ text) in
+    let le_q : length q ≤ 120 = omega (arith, size, le) in
+    let here : nat_le (length q) 120 ≡ true = grind (arith, nat_tests) in
+    rw here (few_bytes text ps h (omega (arith, size, le)))
+few_bytes _ _ (one_run b r text ps e g h) le =
+    let size = length-append (b ∷ r) text in few_bytes text ps h (omega (arith, size, le))
+
+-- a line that spells a form is read as it
+pub spelled_is_read : (two : Bool) (k : ℕ) (text : Text) (f : Form) (fits : Bool) → length text ≤ 120
+    → SpellsLine two k text f fits → form_of two k text ≡ Some (ranged fits f)
+spelled_is_read two k text f fits le s =
+    ap (option_and_then (Grammar.form_at two k)) (parts_are_read text s.parts s.has_parts)
+    ∙ form_is_read two k s.parts f fits s.spells (few_bytes text s.parts s.has_parts le)
+
+-- what is read in a text
+pub record ReadsForm (two : Bool) (k : ℕ) (text : Text) (x : Option Form) : Type 0 where
+  pub form : Form
+  pub fits : Bool
+  pub spells : SpellsLine two k text form fits
+  pub is : x ≡ ranged fits form
+
+pub read_is_spelled : (two : Bool) (k : ℕ) (text : Text) (x : Option Form) → form_of two k text ≡ Some x
+    → ReadsForm two k text x
+read_is_spelled two k text x h =
+    let c = chained (Grammar.form_at two k) (parts_of text) x h in
+    let s = form_is_spelled two k c.0 x c.2 in
+    record {
+      form = s.what;
+      fits = s.fits;
+      spells = record { parts = c.0; has_parts = read_parts_are text c.0 c.1; spells = s.spelled };
+      is = s.is;
+    }
+
+-- a text that is read as a form spells it
+pub read_form_is_spelled : (two : Bool) (k : ℕ) (text : Text) (f : Form) → form_of two k text ≡ Some (Some f)
+    → SpellsLine two k text f true
+read_form_is_spelled two k text f h =
+    let r = read_is_spelled two k text (Some f) h in by_fits r.fits r.form r.spells r.is
+  where
+    by_fits : (fits : Bool) (g : Form) → SpellsLine two k text g fits → Some f ≡ ranged fits g → SpellsLine two k text f true
+    by_fits false g s e = absurd (cc)
+    by_fits true g s e = let is : g ≡ f = some_is f g e in
+        subst (λ (y : Form). SpellsLine two k text y true) is s
+
+-- a text that is read as a form with a number out of its range spells one
+pub out_of_range_is_spelled : (two : Bool) (k : ℕ) (text : Text) → form_of two k text ≡ Some None
+    → (f : Form) × SpellsLine two k text f false
+out_of_range_is_spelled two k text h =
+    let r = read_is_spelled two k text None h in by_fits r.fits r.form r.spells r.is
+  where
+    by_fits : (fits : Bool) (g : Form) → SpellsLine two k text g fits → None ≡ ranged fits g
+        → (f : Form) × SpellsLine two k text f false
+    by_fits false g s e = (g, s)
+    by_fits true g s e = absurd (cc)
+
+-- a text in which nothing is read spells nothing
+pub unread_is_unspelled : (two : Bool) (k : ℕ) (text : Text) → nat_le (length text) 120 ≡ true
+    → form_of two k text ≡ None → IsNoStatement two k text
+unread_is_unspelled two k text short h f fits s =
+    let le : length text ≤ 120 = grind (arith, nat_tests) in
+    let e = spelled_is_read two k text f fits le s in absurd (cc)
+
+-- no text spells two forms whose numbers are in their ranges
+pub one_form : (two : Bool) (k : ℕ) (text : Text) (f g : Form) → length text ≤ 120 → SpellsLine two k text f true
+    → SpellsLine two k text g true → f ≡ g
+one_form two k text f g le s t =
+    let same : Some (Some f) ≡ Some (Some g) =
+    sym (spelled_is_read two k text f true le s) ∙ spelled_is_read two k text g true le t in cc
+
+-- no text spells both a form with its numbers in their ranges and one with a number out of its range
+pub fits_once : (two : Bool) (k : ℕ) (text : Text) (f g : Form) → length text ≤ 120 → SpellsLine two k text f true
+    → SpellsLine two k text g false → ⊥
+fits_once two k text f g le s t =
+    let same : Some (Some f) ≡ Some None =
+    sym (spelled_is_read two k text f true le s) ∙ spelled_is_read two k text g false le t in absurd (cc)

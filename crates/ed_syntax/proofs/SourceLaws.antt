@@ -1,0 +1,466 @@
+-- A source says what is read in it, or has the fault that is found.
+use Rattle.std.proofs.Common.{◌≡◌, ◌∙◌, ℕ, ◌+◌, ◌≤◌, ◌<◌, Bool, true, false, List, [], ◌∷◌, ◌++◌, refl, sym, ap}
+use Rattle.std.proofs.Common.{subst, arith, length, codes}
+use Rattle.std.specs.Prelude.{◌==◌, ◌&&◌, Option, Some, None, Result, Ok, Err, not, nat_lt}
+use Rattle.std.specs.Prelude.{if◌then◌else◌, IfErr}
+use Rattle.std.specs.List.{list_all}
+use Rattle.std.proofs.lemmas.Bool.Decides.{nat_tests, Decides-eqb}
+use Rattle.ed_words.specs.Texts.{Text}
+use Rattle.ed_syntax.specs.Lines.{lines_of, with_byte}
+use Rattle.ed_syntax.specs.Forms.{IsNoStatement}
+use Rattle.ed_syntax.specs.Sources.{IsPlain, LineSays, LineHasFault, bad_byte, long_line, not_a_statement, number_range}
+use Rattle.ed_syntax.specs.Sources.{too_many_lines, IsVersionTwo, IsOfVersion, LinesSay, no_more, and_more}
+use Rattle.ed_syntax.specs.Sources.{IsProgram, IsFormFault, IsProgramOrFault, HasOneMeaning, HasFormFault}
+use Rattle.ed_syntax.specs.Answers.{IsFaultOf}
+use Rattle.ed_syntax.specs.declared.fault.SourceFault.{SourceFault}
+use Rattle.ed_syntax.specs.declared.fault.SourceFault.TheVariants.{At, Memory}
+use Rattle.std.proofs.Common.{inl, inr, nat_le}
+use Rattle.ed_syntax.specs.Private.SourceReading.{Fault, line_of, or_cause, lines_from, and_lines, with_first, is_two, says_two}
+use Rattle.ed_syntax.specs.Parts.{is_line_byte}
+use Rattle.ed_syntax.specs.Private.SourceReading.{version_of, program_of}
+use Rattle.ed_syntax.specs.declared.program.Form.{Form}
+use Rattle.ed_syntax.specs.declared.program.Line.{Line}
+use Rattle.ed_syntax.specs.declared.fault.SourceCause.{SourceCause}
+use Rattle.ed_syntax.specs.declared.fault.SourceCause.TheVariants.{BadByte, LongLine, NotAStatement}
+use Rattle.ed_syntax.specs.declared.fault.SourceCause.TheVariants.{NumberRange, TooManyLines}
+use Rattle.ed_syntax.proofs.LineLaws.{form_of, spelled_is_read, read_is_spelled, read_form_is_spelled}
+use Rattle.ed_syntax.proofs.LineLaws.{one_form, out_of_range_is_spelled, unread_is_unspelled}
+use Rattle.std.proofs.lemmas.Bool.{and_parts}
+use Rattle.std.specs.Str.{bytes_eq}
+use Rattle.std.proofs.lemmas.Slice.Eq.{bytes_eq-Decides}
+use Rattle.ed_words.specs.Decimals.{value}
+use Rattle.ed_syntax.specs.Parts.{LinePart, run, sign, quoted}
+use Rattle.ed_syntax.specs.Private.PartReading.{parts_of}
+use Rattle.ed_syntax.specs.Private.Grammar.{is_version_two}
+use Rattle.ed_syntax.specs.Parts.{is_number}
+use Rattle.ed_syntax.proofs.PartsLaws.{parts_are_read, read_parts_are}
+use Rattle.ed_syntax.specs.Lines.{HasLines, nothing, last, ended, without_return}
+use Rattle.ed_syntax.proofs.Lines
+
+-- ---- the lines of a text
+
+-- the lines that a text has are those that are read in it
+pub lines_are_read : (text : Text) (lines : List Text) → HasLines text lines → lines_of text ≡ lines
+lines_are_read _ _ nothing = refl
+lines_are_read _ _ (last b bs e) = Lines.unended b bs e
+lines_are_read _ _ (ended line text lines e h) =
+    Lines.ended line text e ∙ ap (λ (t : List Text). without_return line ∷ t) (lines_are_read text lines h)
+
+-- whether a line feed comes first
+begins_feed : Text → Bool
+begins_feed [] = false
+begins_feed (b ∷ bs) = b == 10
+
+and_is_no : (c : Bool) → (c && true) ≡ false → c ≡ false
+and_is_no true e = e
+and_is_no false e = e
+
+kept : (b : ℕ) → (b == 13) ≡ false → without_return (b ∷ []) ≡ b ∷ []
+kept b e = rw e refl
+
+-- a byte in front of the first line
+longer : (b : ℕ) (text : Text) (lines : List Text) → (b == 10) ≡ false → ((b == 13) && begins_feed text) ≡ false
+    → HasLines text lines → HasLines (b ∷ text) (with_byte b lines)
+unfolding begins_feed
+longer b _ _ e g nothing = last b [] (rw e refl)
+longer b _ _ e g (last c bs f) = last b (c ∷ bs) (rw e f)
+longer b _ _ e g (ended [] text lines f h) =
+    subst (λ (t : Text). HasLines (b ∷ 10 ∷ text) (t ∷ lines)) (kept b (and_is_no (b == 13) g))
+    (ended (b ∷ []) text lines (rw e refl) h)
+longer b _ _ e g (ended (c ∷ l) text lines f h) = ended (b ∷ c ∷ l) text lines (rw e f) h
+
+one_byte : (b : ℕ) → HasLines (b ∷ []) (lines_of (b ∷ []))
+one_byte b = go (b == 10) refl
+  where
+    go : (c : Bool) → (b == 10) ≡ c → HasLines (b ∷ []) (if c then [] ∷ [] else (b ∷ []) ∷ [])
+    go true e = rw ((Decides-eqb b 10).0 e) (ended [] [] [] refl nothing)
+    go false e = last b [] (rw e refl)
+
+two_bytes : (b c : ℕ) (bs : Text) → HasLines (c ∷ bs) (lines_of (c ∷ bs)) → HasLines bs (lines_of bs)
+    → HasLines (b ∷ c ∷ bs) (lines_of (b ∷ c ∷ bs))
+unfolding begins_feed
+two_bytes b c bs h i = go (b == 10) ((b == 13) && (c == 10)) refl refl
+  where
+    go : (x y : Bool) → (b == 10) ≡ x → ((b == 13) && (c == 10)) ≡ y
+        → HasLines (b ∷ c ∷ bs) (if x then [] ∷ lines_of (c ∷ bs) else if y then [] ∷ lines_of bs
+        else with_byte b (lines_of (c ∷ bs)))
+    go true y e f = rw ((Decides-eqb b 10).0 e) (ended [] (c ∷ bs) _ refl h)
+    go false true e f =
+        let p = and_parts (b == 13) (c == 10) f in
+        rw ((Decides-eqb b 13).0 p.0, (Decides-eqb c 10).0 p.1) (ended (13 ∷ []) bs _ refl i)
+    go false false e f = longer b (c ∷ bs) _ e f h
+
+-- the lines that are read in a text are those that it has
+pub read_lines_are : (text : Text) → HasLines text (lines_of text)
+read_lines_are [] = nothing
+read_lines_are (b ∷ []) = one_byte b
+read_lines_are (b ∷ c ∷ bs) = two_bytes b c bs (read_lines_are (c ∷ bs)) (read_lines_are bs)
+
+-- ---- one line
+
+long_bytes : (line : Text) → nat_lt 120 (length line) ≡ true → 120 < length line
+long_bytes line e = grind (arith, nat_tests)
+
+short_bytes : (line : Text) → nat_lt 120 (length line) ≡ false → length line ≤ 120
+short_bytes line e = grind (arith, nat_tests)
+
+le_test : (line : Text) → length line ≤ 120 → nat_le (length line) 120 ≡ true
+le_test line le = grind (arith, nat_tests)
+
+-- what is said of an answer for a line
+abbrev IsAnswer : Bool → ℕ → Text → Result Form SourceCause → Type 0
+IsAnswer two k line (Ok f) = LineSays two k line f
+IsAnswer two k line (Err c) = k ≤ 2000 → LineHasFault two k line c
+
+pub line_answers : (two : Bool) (k : ℕ) (line : Text) → IsAnswer two k line (line_of two k line)
+line_answers two k line = go (list_all is_line_byte line) (nat_lt 120 (length line)) (form_of two k line) refl refl refl
+  where
+    go : (a b : Bool) (o : Option (Option Form)) → list_all is_line_byte line ≡ a → nat_lt 120 (length line) ≡ b
+        → form_of two k line ≡ o
+        → IsAnswer two k line (if not a then Err BadByte else if b then Err LongLine else or_cause o)
+    go false b o e f g = λ le. bad_byte le e
+    go true true o e f g = λ le. long_line le e (long_bytes line f)
+    go true false None e f g =
+        λ le. not_a_statement le (record { bytes = e; short = short_bytes line f }) (unread_is_unspelled two k line (le_test line (short_bytes line f)) g)
+    go true false (Some None) e f g = λ le.
+        let s = out_of_range_is_spelled two k line g in
+        number_range le (record { bytes = e; short = short_bytes line f }) s.0 s.1
+    go true false (Some (Some x)) e f g = record {
+      plain = record { bytes = e; short = short_bytes line f };
+      spells = read_form_is_spelled two k line x g;
+    }
+
+short_test : (line : Text) → length line ≤ 120 → nat_lt 120 (length line) ≡ false
+short_test line le = grind (arith, nat_tests)
+
+long_test : (line : Text) → 120 < length line → nat_lt 120 (length line) ≡ true
+long_test line lt = grind (arith, nat_tests)
+
+plain_line : (two : Bool) (k : ℕ) (line : Text) → IsPlain line
+    → line_of two k line ≡ or_cause (form_of two k line)
+plain_line two k line p =
+    let bytes = p.bytes in let short = short_test line p.short in rw (bytes, short) refl
+
+-- what a line says is read
+pub said_is_read : (two : Bool) (k : ℕ) (line : Text) (f : Form) → LineSays two k line f → line_of two k line ≡ Ok f
+said_is_read two k line f s =
+    plain_line two k line s.plain ∙ ap or_cause (spelled_is_read two k line f true s.plain.short s.spells)
+
+-- a text that spells nothing is read as nothing
+nothing_is_read : (two : Bool) (k : ℕ) (line : Text) → IsNoStatement two k line → form_of two k line ≡ None
+nothing_is_read two k line none = go (form_of two k line) refl
+  where
+    go : (o : Option (Option Form)) → form_of two k line ≡ o → o ≡ None
+    go None e = refl
+    go (Some x) e = let r = read_is_spelled two k line x e in absurd (none r.form r.fits r.spells)
+
+-- a fault of a line is found
+pub fault_is_found : (two : Bool) (k : ℕ) (line : Text) (c : SourceCause) → k ≤ 2000 → LineHasFault two k line c
+    → line_of two k line ≡ Err c
+fault_is_found two k line _ le (bad_byte h e) = rw e refl
+fault_is_found two k line _ le (long_line h e lt) = let long = long_test line lt in rw (e, long) refl
+fault_is_found two k line _ le (not_a_statement h p none) =
+    plain_line two k line p ∙ ap or_cause (nothing_is_read two k line none)
+fault_is_found two k line _ le (number_range h p f s) =
+    plain_line two k line p ∙ ap or_cause (spelled_is_read two k line f false p.short s)
+fault_is_found two k line _ le (too_many_lines e) = absurd (omega arith)
+
+-- ---- the version
+
+two_is : (ps : List LinePart) → is_version_two ps ≡ true
+    → (n : Text) × (is_number n ≡ true) × (value n ≡ 2) × (ps ≡ run (codes "version") ∷ run n ∷ [])
+two_is [] h = absurd (cc)
+two_is (sign b ∷ ps) h = absurd (cc)
+two_is (quoted q ∷ ps) h = absurd (cc)
+two_is (run w ∷ []) h = absurd (cc)
+two_is (run w ∷ sign b ∷ ps) h = absurd (cc)
+two_is (run w ∷ quoted q ∷ ps) h = absurd (cc)
+two_is (run w ∷ run n ∷ p ∷ ps) h = absurd (cc)
+two_is (run w ∷ run n ∷ []) h =
+    let p = and_parts (bytes_eq w (codes "version")) _ h in
+    let q = and_parts (is_number n) (value n == 2) p.1 in
+    let is : w ≡ codes "version" = (bytes_eq-Decides w (codes "version")).0 p.0 in
+    (n, q.0, (Decides-eqb (value n) 2).0 q.1, ap (λ (t : Text). run t ∷ run n ∷ []) is)
+
+two_says : (line : Text) → says_two (parts_of line) ≡ true → IsVersionTwo line
+two_says line = go (parts_of line) refl
+  where
+    go : (o : Option (List LinePart)) → parts_of line ≡ o → says_two o ≡ true → IsVersionTwo line
+    go None e h = absurd (cc)
+    go (Some ps) e h =
+        let t = two_is ps h in
+        record { n = t.0; number = t.1; value_is = t.2; parts = read_parts_are line _ (e ∙ ap (λ (q : List LinePart). Some q) t.3) }
+
+says_two_is : (line : Text) → IsVersionTwo line → says_two (parts_of line) ≡ true
+says_two_is line v =
+    let number = v.number in
+    let value_is = v.value_is in
+    let last : is_version_two (run (codes "version") ∷ run v.n ∷ []) ≡ true = rw (number, value_is) refl in
+    ap says_two (parts_are_read line _ v.parts) ∙ last
+
+-- the version that is read is that of the lines
+pub version_is_of : (lines : List Text) → IsOfVersion (is_two lines) lines
+version_is_of [] = refl
+version_is_of (line ∷ lines) = go (says_two (parts_of line)) refl
+  where
+    go : (c : Bool) → says_two (parts_of line) ≡ c → IsOfVersion c (line ∷ lines)
+    go true e = two_says line e
+    go false e = λ v. let f = says_two_is line v in absurd (cc)
+
+pub only_version : (lines : List Text) (two : Bool) → IsOfVersion two lines → is_two lines ≡ two
+only_version [] two e = sym e
+only_version (line ∷ lines) true v = says_two_is line v
+only_version (line ∷ lines) false none = go (says_two (parts_of line)) refl
+  where
+    go : (c : Bool) → says_two (parts_of line) ≡ c → c ≡ false
+    go true e = absurd (none (two_says line e))
+    go false e = refl
+
+-- ---- lines one after the other
+
+-- the first fault of these lines, and what the lines before it say
+pub record FaultFrom (two : Bool) (k : ℕ) (lines : List Text) (number : ℕ) (cause : SourceCause) : Type 0 where
+  pub before : List Text
+  pub line : Text
+  pub after : List Text
+  pub said : List Line
+  pub lines_are : lines ≡ before ++ line ∷ after
+  pub says : LinesSay two k before said
+  pub number_is : number ≡ length before + k
+  pub faulty : LineHasFault two number line cause
+
+-- the lines say these, and there are not too many
+pub record SayFrom (two : Bool) (k : ℕ) (lines : List Text) (said : List Line) : Type 0 where
+  pub says : LinesSay two k lines said
+  pub few : length lines + k ≤ 2001
+
+abbrev pub IsAnswerFrom : Bool → ℕ → List Text → Result (List Line) Fault → Type 0
+IsAnswerFrom two k lines (Ok said) = SayFrom two k lines said
+IsAnswerFrom two k lines (Err e) = FaultFrom two k lines e.line e.cause
+
+-- a line with its number
+abbrev numbered : ℕ → Form → Line
+numbered k f = record { number = k; label = f.label; statement = f.statement }
+
+one_more : (two : Bool) (k : ℕ) (line : Text) (lines : List Text) (f : Form) (r : Result (List Line) Fault)
+    → LineSays two k line f → IsAnswerFrom two (k + 1) lines r
+    → IsAnswerFrom two k (line ∷ lines) (with_first (numbered k f) r)
+one_more two k line lines f (Ok said) s h =
+    let few = h.few in
+    record { says = and_more k line lines f said s h.says; few = omega (arith, few) }
+one_more two k line lines f (Err e) s h =
+    let is = h.number_is in
+    record {
+      before = line ∷ h.before;
+      line = h.line;
+      after = h.after;
+      said = numbered k f ∷ h.said;
+      lines_are = ap (λ (t : List Text). line ∷ t) h.lines_are;
+      says = and_more k line h.before f h.said s h.says;
+      number_is = omega (arith, is);
+      faulty = h.faulty;
+    }
+
+at_once : (two : Bool) (k : ℕ) (line : Text) (lines : List Text) (c : SourceCause) → LineHasFault two k line c
+    → FaultFrom two k (line ∷ lines) k c
+at_once two k line lines c h = record {
+  before = [];
+  line = line;
+  after = lines;
+  said = [];
+  lines_are = refl;
+  says = no_more k;
+  number_is = omega arith;
+  faulty = h;
+}
+
+pub lines_answer : (two : Bool) (k : ℕ) (lines : List Text) → k ≤ 2001
+    → IsAnswerFrom two k lines (lines_from two k lines)
+lines_answer two k [] le = record { says = no_more k; few = omega arith }
+lines_answer two k (line ∷ lines) le = by_count (k == 2001) refl (lines_answer two (k + 1) lines)
+  where
+    by_line : (r : Result Form SourceCause) (rest : Result (List Line) Fault) → k ≤ 2000
+        → IsAnswer two k line r → IsAnswerFrom two (k + 1) lines rest
+        → IsAnswerFrom two k (line ∷ lines) (and_lines k r rest)
+    by_line (Ok f) rest few s h = one_more two k line lines f rest s h
+    by_line (Err c) rest few s h = at_once two k line lines c (s few)
+
+    by_count : (c : Bool) → (k == 2001) ≡ c
+        → (k + 1 ≤ 2001 → IsAnswerFrom two (k + 1) lines (lines_from two (k + 1) lines))
+        → IsAnswerFrom two k (line ∷ lines)
+        (if c then Err (record { line = k; cause = TooManyLines })
+        else and_lines k (line_of two k line) (lines_from two (k + 1) lines))
+    by_count true e h = at_once two k line lines TooManyLines (too_many_lines ((Decides-eqb k 2001).0 e))
+    by_count false e h =
+        let few : k ≤ 2000 = grind (arith, nat_tests) in
+        by_line (line_of two k line) _ few (line_answers two k line) (h (omega (arith, few)))
+
+-- a line before number 2001, and what follows it
+not_last : (two : Bool) (k : ℕ) (line : Text) (lines : List Text) → k < 2001
+    → lines_from two k (line ∷ lines) ≡ and_lines k (line_of two k line) (lines_from two (k + 1) lines)
+not_last two k line lines lt = let more : (k == 2001) ≡ false = grind (arith, nat_tests) in rw more refl
+
+-- what lines say is read
+pub say_is_read : (two : Bool) (k : ℕ) (lines : List Text) (said : List Line) → LinesSay two k lines said
+    → length lines + k ≤ 2001 → lines_from two k lines ≡ Ok said
+say_is_read two _ _ _ (no_more k) le = refl
+say_is_read two _ _ _ (and_more k line lines f said s h) le =
+    not_last two k line lines (omega arith)
+    ∙ ap (λ (r : Result Form SourceCause). and_lines k r (lines_from two (k + 1) lines)) (said_is_read two k line f s)
+    ∙ ap (with_first (numbered k f)) (say_is_read two (k + 1) lines said h (omega arith))
+
+-- no line behind number 2001 has a fault
+few_faulty : (two : Bool) (n : ℕ) (line : Text) (c : SourceCause) → LineHasFault two n line c → n ≤ 2001
+few_faulty two n line _ (bad_byte h e) = omega (arith, h)
+few_faulty two n line _ (long_line h e lt) = omega (arith, h)
+few_faulty two n line _ (not_a_statement h p none) = omega (arith, h)
+few_faulty two n line _ (number_range h p f s) = omega (arith, h)
+few_faulty two n line _ (too_many_lines e) = omega (arith, e)
+
+fault_here : (two : Bool) (k : ℕ) (line : Text) (lines : List Text) (c : SourceCause) → LineHasFault two k line c
+    → lines_from two k (line ∷ lines) ≡ Err (record { line = k; cause = c })
+fault_here two k line lines c h = by_count (k == 2001) refl c h
+  where
+    soon : (c : SourceCause) → k ≤ 2000 → LineHasFault two k line c
+        → lines_from two k (line ∷ lines) ≡ Err (record { line = k; cause = c })
+    soon c le h =
+        not_last two k line lines (omega arith)
+        ∙ ap (λ (r : Result Form SourceCause). and_lines k r (lines_from two (k + 1) lines))
+        (fault_is_found two k line c le h)
+
+    by_count : (b : Bool) → (k == 2001) ≡ b → (c : SourceCause) → LineHasFault two k line c
+        → lines_from two k (line ∷ lines) ≡ Err (record { line = k; cause = c })
+    by_count b e _ (bad_byte le g) = soon BadByte le (bad_byte le g)
+    by_count b e _ (long_line le g lt) = soon LongLine le (long_line le g lt)
+    by_count b e _ (not_a_statement le p none) = soon NotAStatement le (not_a_statement le p none)
+    by_count b e _ (number_range le p f s) = soon NumberRange le (number_range le p f s)
+    by_count true e _ (too_many_lines g) = rw e refl
+    by_count false e _ (too_many_lines g) = absurd (grind (arith, nat_tests))
+
+-- the first fault is found
+pub first_fault_is_found : (two : Bool) (k n : ℕ) (before after : List Text) (line : Text) (said : List Line)
+    (c : SourceCause) → LinesSay two k before said → n ≡ length before + k → LineHasFault two n line c
+    → lines_from two k (before ++ line ∷ after) ≡ Err (record { line = n; cause = c })
+first_fault_is_found two _ n _ after line _ c (no_more k) e h =
+    let here : n ≡ k = omega (arith, e) in
+    subst (λ (m : ℕ). lines_from two k (line ∷ after) ≡ Err (record { line = m; cause = c })) (sym here)
+    (fault_here two k line after c (subst (λ (m : ℕ). LineHasFault two m line c) here h))
+first_fault_is_found two _ n _ after line _ c (and_more k first before f said s g) e h =
+    let few = few_faulty two n line c h in
+    not_last two k first (before ++ line ∷ after) (omega (arith, e, few))
+    ∙ ap (λ (r : Result Form SourceCause). and_lines k r (lines_from two (k + 1) (before ++ line ∷ after)))
+    (said_is_read two k first f s)
+    ∙ ap (with_first (numbered k f))
+    (first_fault_is_found two (k + 1) n before after line said c g (omega (arith, e)) h)
+
+-- ---- a source
+
+-- what a reading of a source says
+abbrev pub IsSourceAnswer : Text → Result (List Line) Fault → Type 0
+IsSourceAnswer text (Ok said) = IsProgram text (is_two (lines_of text)) said
+IsSourceAnswer text (Err e) = IsFormFault text e.line e.cause
+
+pub source_answer : (text : Text) (r : Result (List Line) Fault) → program_of text ≡ r → IsSourceAnswer text r
+source_answer text r e =
+    go r (subst (IsAnswerFrom (is_two (lines_of text)) 1 (lines_of text)) e
+    (lines_answer (is_two (lines_of text)) 1 (lines_of text) (omega arith)))
+  where
+    go : (r : Result (List Line) Fault) → IsAnswerFrom (is_two (lines_of text)) 1 (lines_of text) r
+        → IsSourceAnswer text r
+    go (Ok said) h =
+        let few = h.few in
+        record {
+          lines = lines_of text;
+          has_lines = read_lines_are text;
+          few = omega (arith, few);
+          version = version_is_of (lines_of text);
+          says = h.says;
+        }
+    go (Err e) h = record {
+      two = is_two (lines_of text);
+      before = h.before;
+      line = h.line;
+      after = h.after;
+      said = h.said;
+      has_lines = subst (HasLines text) h.lines_are (read_lines_are text);
+      version = subst (IsOfVersion (is_two (lines_of text))) h.lines_are (version_is_of (lines_of text));
+      says = h.says;
+      number_is = h.number_is;
+      faulty = h.faulty;
+    }
+
+pub version_is_read : (text : Text) (two : Bool) (said : List Line) → IsProgram text two said
+    → is_two (lines_of text) ≡ two
+version_is_read text two said p =
+    ap is_two (lines_are_read text p.lines p.has_lines) ∙ only_version p.lines two p.version
+
+pub program_is_read : (text : Text) (two : Bool) (said : List Line) → IsProgram text two said
+    → program_of text ≡ Ok said
+program_is_read text two said p =
+    let few = p.few in
+    ap (λ (v : Bool). lines_from v 1 (lines_of text)) (version_is_read text two said p)
+    ∙ ap (lines_from two 1) (lines_are_read text p.lines p.has_lines)
+    ∙ say_is_read two 1 p.lines said p.says (omega (arith, few))
+
+pub fault_is_read : (text : Text) (n : ℕ) (c : SourceCause) → IsFormFault text n c
+    → program_of text ≡ Err (record { line = n; cause = c })
+fault_is_read text n c f =
+    let lines = lines_are_read text (f.before ++ f.line ∷ f.after) f.has_lines in
+    ap (λ (v : Bool). lines_from v 1 (lines_of text))
+    (ap is_two lines ∙ only_version (f.before ++ f.line ∷ f.after) f.two f.version)
+    ∙ ap (lines_from f.two 1) lines
+    ∙ first_fault_is_found f.two 1 n f.before f.after f.line f.said c f.says f.number_is f.faulty
+
+-- ---- the law of sources
+
+every_source : (text : Text) → IsProgramOrFault text
+every_source text = go (program_of text) refl
+  where
+    go : (r : Result (List Line) Fault) → program_of text ≡ r → IsProgramOrFault text
+    go (Ok said) e = inl (is_two (lines_of text), said, source_answer text (Ok said) e)
+    go (Err x) e = inr (x.line, x.cause, source_answer text (Err x) e)
+
+-- an answer is one
+one_answer : (r : Result (List Line) Fault) (said others : List Line) → r ≡ Ok said → r ≡ Ok others → said ≡ others
+one_answer r said others e f = cc
+
+one_error : (r : Result (List Line) Fault) (x y : Fault) → r ≡ Err x → r ≡ Err y → x ≡ y
+one_error r x y e f = cc
+
+no_error : (r : Result (List Line) Fault) (said : List Line) (x : Fault) → r ≡ Ok said → r ≡ Err x → ⊥
+no_error r said x e f = absurd (cc)
+
+pub has_one_meaning : HasOneMeaning
+has_one_meaning = record {
+  one_form = λ two k line f g s t. one_form two k line f g s.plain.short s.spells t.spells;
+  every = every_source;
+  one_version = λ text two also said others p q.
+      sym (version_is_read text two said p) ∙ version_is_read text also others q;
+  one_program = λ text two also said others p q.
+      one_answer (program_of text) said others (program_is_read text two said p) (program_is_read text also others q);
+  no_fault = λ text two said n c p f.
+      no_error (program_of text) said _ (program_is_read text two said p) (fault_is_read text n c f);
+  one_fault = λ text n m c d f g.
+      let same = one_error (program_of text) _ _ (fault_is_read text n c f) (fault_is_read text m d g) in
+      (ap (λ (x : Fault). x.line) same, ap (λ (x : Fault). x.cause) same);
+}
+
+-- what is read with its version is what the source says
+pub answer_says : (text : Text) (version : ℕ) (said : List Line) → version ≡ version_of text
+    → program_of text ≡ Ok said → IsProgram text (version == 2) said
+answer_says text version said e h =
+    let p = source_answer text (Ok said) h in
+    subst (λ (two : Bool). IsProgram text two said) (sym (ap (λ (v : ℕ). v == 2) e ∙ tested (is_two (lines_of text)))) p
+  where
+    tested : (two : Bool) → ((if two then 2 else 1) == 2) ≡ two
+    tested true = refl
+    tested false = refl
+
+pub answer_has_fault : (text : Text) (e : SourceFault) → IsFaultOf (program_of text) e → HasFormFault text e
+answer_has_fault text (At n c) h = source_answer text (Err (record { line = n; cause = c })) h
+answer_has_fault text Memory h = tt
+
+pub each_answer_has_fault : {A : Type 0} (text : Text) (r : Result A SourceFault)
+    → IfErr r (λ e. IsFaultOf (program_of text) e) → IfErr r (λ e. HasFormFault text e)
+each_answer_has_fault text (Ok a) h = tt
+each_answer_has_fault text (Err e) h = answer_has_fault text e h
