@@ -11,3 +11,4 @@ mod DemoRuns
 pub mod OneOutcome
 pub mod Endings
 mod Writing
+mod Limits

@@ -13,3 +13,4 @@ pub mod Demos
 pub mod Output
 pub mod Clause
 pub mod Private
+pub mod Limits

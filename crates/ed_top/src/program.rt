@@ -6,6 +6,7 @@ ghost use Rattle.ed_top.specs.Clause.{ProgramEnded, device};
 ghost use Rattle.ed_top.specs.Demos.{EachDemoRuns};
 ghost use Rattle.ed_top.specs.FirstEntry.{EachProgramRunsFrom31};
 ghost use Rattle.ed_top.specs.Headline.{Headline};
+ghost use Rattle.ed_top.specs.Limits.{EachLimit};
 ghost use Rattle.ed_top.specs.Output.{EachLineHasOneOutcome, answer, output};
 
 use crate::commands::{carry_out, reads_input};
@@ -42,6 +43,7 @@ pub fn edsac<S: Source, K: Sink, L: Sink>(
     ensures calls { EachCallRuns }
     ensures demos { EachDemoRuns }
     ensures first_orders { EachProgramRunsFrom31 }
+    ensures limits { EachLimit }
 {
     match read_words(alloc, words) {
         Ok(command) => run_command(alloc, command, source, out, note),

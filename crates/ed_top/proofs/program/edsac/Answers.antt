@@ -14,6 +14,7 @@ use Rattle.ed_top.proofs.Endings.{none_due, with_due, with_no_memory}
 use Rattle.ed_top.proofs.CallRuns.{each_call_runs}
 use Rattle.ed_top.proofs.DemoRuns.{each_demo_runs}
 use Rattle.ed_top.proofs.FirstEntries.{runs_from_31}
+use Rattle.ed_top.proofs.Limits.{each_limit}
 use Rattle.ed_top.proofs.OneOutcome.{line_once}
 use Rattle.ed_top.proofs.Sources.{headline}
 use Rattle.ed_top.proofs.program.edsac.Goals as goal
@@ -97,3 +98,12 @@ returns-in-Err-Usage-clause-first_orders g c = runs_from_31
 
 pub returns-in-Err-Memory-clause-first_orders : goal.returns-in-Err-Memory-clause-first_orders
 returns-in-Err-Memory-clause-first_orders g c = runs_from_31
+
+pub returns-in-Ok-clause-limits : goal.returns-in-Ok-clause-limits
+returns-in-Ok-clause-limits g c = each_limit
+
+pub returns-in-Err-Usage-clause-limits : goal.returns-in-Err-Usage-clause-limits
+returns-in-Err-Usage-clause-limits g c = each_limit
+
+pub returns-in-Err-Memory-clause-limits : goal.returns-in-Err-Memory-clause-limits
+returns-in-Err-Memory-clause-limits g c = each_limit
