@@ -68,7 +68,7 @@ all_fit [] h i = lit≤ tt
 all_fit (w ∷ ws) h zero = lt_of w (2 ^ 17) (and_parts _ _ h).0
 all_fit (w ∷ ws) h (suc i) = all_fit ws (and_parts (nat_lt w (2 ^ 17)) _ h).1 i
 
-first_store : (z : Size) (rows : List ℕ) → IsStore (first_state z rows).store
+pub first_store : (z : Size) (rows : List ℕ) → IsStore (first_state z rows).store
 unfolding first_state
 first_store z rows = record {
   words_are = first_length;
@@ -76,7 +76,7 @@ first_store z rows = record {
   fits = all_fit first_words refl;
 }
 
-starts : (z : Size) (rows : List ℕ) → IsStarted (first_state z rows)
+pub starts : (z : Size) (rows : List ℕ) → IsStarted (first_state z rows)
 unfolding first_state
 starts z rows = is_started rows (cleared z)
 

@@ -12,3 +12,4 @@ pub mod OneOutcome
 pub mod Endings
 mod Writing
 mod Limits
+mod TapeEntries

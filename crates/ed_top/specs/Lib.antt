@@ -14,3 +14,4 @@ pub mod Output
 pub mod Clause
 pub mod Private
 pub mod Limits
+pub mod TapeEntries

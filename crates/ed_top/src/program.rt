@@ -8,6 +8,7 @@ ghost use Rattle.ed_top.specs.FirstEntry.{EachProgramRunsFrom31};
 ghost use Rattle.ed_top.specs.Headline.{Headline};
 ghost use Rattle.ed_top.specs.Limits.{EachLimit};
 ghost use Rattle.ed_top.specs.Output.{EachLineHasOneOutcome, answer, output};
+ghost use Rattle.ed_top.specs.TapeEntries.{EachTapeRunsFromEntry};
 
 use crate::commands::{carry_out, reads_input};
 use crate::devices::{InputStop, Stop, input_of, tell};
@@ -43,6 +44,7 @@ pub fn edsac<S: Source, K: Sink, L: Sink>(
     ensures calls { EachCallRuns }
     ensures demos { EachDemoRuns }
     ensures first_orders { EachProgramRunsFrom31 }
+    ensures tapes { EachTapeRunsFromEntry }
     ensures limits { EachLimit }
 {
     match read_words(alloc, words) {

@@ -17,6 +17,7 @@ use Rattle.ed_top.proofs.FirstEntries.{runs_from_31}
 use Rattle.ed_top.proofs.Limits.{each_limit}
 use Rattle.ed_top.proofs.OneOutcome.{line_once}
 use Rattle.ed_top.proofs.Sources.{headline}
+use Rattle.ed_top.proofs.TapeEntries.{tapes_run_from_entry}
 use Rattle.ed_top.proofs.program.edsac.Goals as goal
 
 -- a program that ended as a line wants ended as the words want which are that line
@@ -107,3 +108,12 @@ returns-in-Err-Usage-clause-limits g c = each_limit
 
 pub returns-in-Err-Memory-clause-limits : goal.returns-in-Err-Memory-clause-limits
 returns-in-Err-Memory-clause-limits g c = each_limit
+
+pub returns-in-Ok-clause-tapes : goal.returns-in-Ok-clause-tapes
+returns-in-Ok-clause-tapes g c = tapes_run_from_entry
+
+pub returns-in-Err-Usage-clause-tapes : goal.returns-in-Err-Usage-clause-tapes
+returns-in-Err-Usage-clause-tapes g c = tapes_run_from_entry
+
+pub returns-in-Err-Memory-clause-tapes : goal.returns-in-Err-Memory-clause-tapes
+returns-in-Err-Memory-clause-tapes g c = tapes_run_from_entry

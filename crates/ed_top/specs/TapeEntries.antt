@@ -1,0 +1,39 @@
+-- What is shown of every well-formed tape: it leads to the entry that `check-tape` reports, and its run is that from
+-- there (this project's own rules).
+use Rattle.std.specs.Prelude.{◌≡◌, ℕ, ◌+◌, ◌-◌, ◌<◌, ◌≤◌, List, []}
+use Rattle.ed_store.specs.Cells.{cleared_cells}
+use Rattle.ed_machine.specs.State.{State}
+use Rattle.ed_machine.specs.Steps.{past, state_after}
+use Rattle.ed_run.specs.Run.{ran}
+use Rattle.ed_printer.specs.Paper.{paper}
+use Rattle.ed_notation.specs.Faults.{TapeEntry, ComesTo, WellFormed}
+use Rattle.ed_initial.specs.Entry.{at_entry}
+use Rattle.ed_loads.specs.EntryState.{first_state}
+use Rattle.ed_report.specs.Entries.{entry_line}
+use Rattle.ed_command.specs.declared.command.Settings.{Settings}
+use Rattle.ed_top.specs.Outcome.{done}
+use Rattle.ed_top.specs.Output.{IsChecked, first_note, tape_outcome}
+use Rattle.ed_top.specs.Runs.{paper_room, post_mortem_codes, ran_outcome, run_of, with_post_mortem}
+
+-- the state at the entry of a tape on a cleared machine
+abbrev pub tape_state : Settings → List ℕ → TapeEntry → State
+tape_state s codes e = at_entry (first_state s.size codes) e
+
+-- `check-tape` reports the entry, its cost and its rows. The tape leads a cleared machine to the state at that entry, at
+-- that cost and with nothing printed. What `tape` answers, with a limit not below the cost, is the run from that state
+-- with the limit less the cost; with a lower limit the run prints nothing, and a post-mortem is that of its state
+pub record TapeRunsFromEntry (s : Settings) (codes : List ℕ) (e : TapeEntry) : Type 0 where
+  pub checked : IsChecked s codes (done (entry_line e.at e.cost e.rows))
+  pub enters : state_after e.cost (first_state s.size codes) ≡ tape_state s codes e
+  pub silent : (past e.cost (first_state s.size codes)).codes ≡ []
+  pub runs : e.cost ≤ s.limit → tape_outcome s codes
+      ≡ ran_outcome []
+      (with_post_mortem s.post_mortem (ran (s.limit - e.cost) s.resumes paper_room (tape_state s codes e)))
+  pub short : s.limit < e.cost
+      → (tape_outcome s codes).out ≡ paper (post_mortem_codes s.post_mortem (run_of s codes).state)
+
+-- so it is of every tape that is well formed from a cleared store, and of the entry that it comes to
+abbrev pub EachTapeRunsFromEntry : Type 0
+EachTapeRunsFromEntry =
+    (s : Settings) (codes : List ℕ) (e : TapeEntry) → WellFormed s.size cleared_cells.words first_note codes
+    → ComesTo cleared_cells.words first_note 9 codes e → TapeRunsFromEntry s codes e
