@@ -20,7 +20,7 @@
           |
    +--> y = y + 8y (1/8 - uy), where u = (1+x)/4: y comes to 1/(8u) = 1/(2(1+x))
    |      |
-   +-yes- six times?
+   +-yes- fewer than six times?
           | no
         put y/48 at 6H
 
