@@ -1,8 +1,10 @@
-"""Writes the page as one HTML file: the drawing, the words, the modules and the tapes and sources of examples/.
+"""Writes the page as one HTML file: the drawing, the words, the modules, the tapes and sources of examples/, and the cheat
+sheet of docs/.
 
     python3 page/assemble.py OUT      OUT holds page64.wasm, and page32.wasm where there is one
 """
 import base64
+import html
 import json
 import pathlib
 import re
@@ -38,6 +40,33 @@ def examples():
     return [{"name": file.name, "kind": KINDS[file.suffix], "says": said(text), "text": text} for file, text in texts]
 
 
+def marked(text):
+    """A line of a page with its code and its bold words marked."""
+    return re.sub(r"\*\*(.+?)\*\*", r"<b>\1</b>", re.sub(r"`(.+?)`", r"<code>\1</code>", html.escape(text, quote=False)))
+
+
+def table(lines):
+    """The rows of a table; the second line is the rule below its head."""
+    rows = [[marked(cell.strip()) for cell in line.strip("|").split("|")] for line in lines]
+    head = "".join(f"<th>{cell}" for cell in rows[0])
+    return f"<table><tr>{head}" + "".join("<tr>" + "".join(f"<td>{cell}" for cell in row) for row in rows[2:]) + "</table>"
+
+
+def sheet():
+    """docs/CHEATSHEET.md: a title, paragraphs and tables."""
+    blocks = pathlib.Path("docs/CHEATSHEET.md").read_text("utf-8").strip().split("\n\n")
+    made = []
+    for block in blocks:
+        lines = block.splitlines()
+        if block.startswith("# "):
+            made.append(f"<h2>{marked(block[2:])}</h2>")
+        elif block.startswith("|"):
+            made.append(table(lines))
+        else:
+            made.append(f"<p>{marked(' '.join(lines))}</p>")
+    return "\n".join(made)
+
+
 page = (here / "page.html").read_text("utf-8")
 parts = {
     "/*STYLE*/": (here / "page.css").read_text("utf-8"),
@@ -47,6 +76,7 @@ parts = {
     "/*PAGE*/": (here / "page.js").read_text("utf-8"),
     "/*MODULES*/": in_script({"wide": module("page64.wasm"), "narrow": module("page32.wasm")}),
     "/*EXAMPLES*/": in_script(examples()),
+    "/*SHEET*/": sheet(),
 }
 for mark, text in parts.items():
     if page.count(mark) != 1:

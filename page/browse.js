@@ -146,6 +146,23 @@ async function examples() {
     await ask(`document.getElementById('lookBox').open = document.getElementById('listingBox').open = false; 0`);
 }
 
+// The cheat sheet has the tables of its page, and is printed alone, on one sheet of paper.
+async function cheatSheet() {
+    const rows = fs.readFileSync('docs/CHEATSHEET.md', 'utf8').split('\n').filter((line) => line.startsWith('|') && !line.startsWith('|---'));
+    await ask(`document.getElementById('sheetBox').open = true; window.print = () => {}; 0`);
+    await expect('the rows of the cheat sheet', await ask(`document.querySelectorAll('#sheet tr').length`), rows.length);
+    await expect('no mark is left in it', await text('sheet'), (said) => !said.includes('`') && !said.includes('**'));
+    for (const [paper, paperWidth, paperHeight] of [['A4', 8.27, 11.69], ['letter', 8.5, 11]]) {
+        await click('printSheet');
+        const { data } = await send('Page.printToPDF', { paperWidth, paperHeight });
+        const bytes = Buffer.from(data, 'base64');
+        fs.writeFileSync(path.join(folder, `cheatsheet-${paper}.pdf`), bytes);
+        await expect(`the sheets of ${paper}`, (bytes.toString('latin1').match(/\/Type\s*\/Page[^s]/g) || []).length, 1);
+    }
+    await ask(`document.getElementById('sheetBox').open = false; 0`);
+    await expect('the page is as it was', await ask('document.body.className'), (said) => !said.includes('sheet'));
+}
+
 async function faults() {
     await choose('letter.edsac');
     const source = await ask(`document.getElementById('text').value`);
@@ -274,7 +291,7 @@ async function speed(name) {
             continue;
         }
         await expect('the module that the page chose', await ask('document.body.dataset.ready'), name);
-        for (const part of isWhole ? [firstTape, examples] : [firstTape, loaderOnItself, examples, faults, runs, slowFirstRun, looks]) {
+        for (const part of isWhole ? [firstTape, examples] : [firstTape, loaderOnItself, examples, cheatSheet, faults, runs, slowFirstRun, looks]) {
             await part();
         }
         isWhole = true;

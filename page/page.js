@@ -347,6 +347,8 @@ function listen() {
     press('step', () => { halt(); step(); });
     press('back', () => { halt(); back(); });
     press('mark', markRefusal);
+    press('printSheet', () => { document.body.classList.add('sheet'); window.print(); });
+    window.onafterprint = () => document.body.classList.remove('sheet');
     press('follow', () => { follow(by('follow').getAttribute('aria-pressed') !== 'true'); draw(); });
     by('at').onchange = () => { halt(); look(Number(by('at').value)); };
     by('examples').onchange = () => choose(Number(by('examples').value));
@@ -415,6 +417,7 @@ async function load() {
     by('examples').value = '0';
     choose(0);
     if (location.hash.includes('kiosk')) {
+        by('printSheet').hidden = true;
         watchOver(90);
     }
     document.body.dataset.ready = wide ? 'wide' : 'narrow';
