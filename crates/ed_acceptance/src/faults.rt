@@ -45,22 +45,29 @@ const PUNCH: Run = Run {
     note: "",
 };
 
+const TRACE: Run = Run {
+    command: "trace --limit 9",
+    input: "T64KGKO2@ZFAFEZPF",
+    out: "TEHATAATE\n",
+    note: "limit at 34 after 9\n",
+};
+
 /// No device has so many calls in these runs.
 const CALLS: u64 = 100;
 
 /// What a run of the program came to.
 #[derive(Drop)]
-pub struct Outcome {
-    pub status: u8,
-    pub out: Vec<u8>,
-    pub note: Vec<u8>,
+struct Outcome {
+    status: u8,
+    out: Vec<u8>,
+    note: Vec<u8>,
     /// How many calls failed, of all three devices.
-    pub faults: u64,
+    faults: u64,
 }
 
 /// Runs the program with its input in pieces of 7 bytes and its texts in pieces of 3, where these calls of the input,
 /// of out and of note fail.
-pub fn outcome_of(
+fn outcome_of(
     alloc: Global,
     run: &Run,
     reads: &[u64],
@@ -110,7 +117,7 @@ fn reads_fail(rt: &impl Abort, alloc: Global, run: &Run) -> Result<(), Fail> {
     Ok(())
 }
 
-/// Each write of a run on out fails in turn.
+/// Each write of a run on out fails in turn. No byte is written after the failed write.
 fn writes_fail(rt: &impl Abort, alloc: Global, run: &Run) -> Result<(), Fail> {
     for call in 0..CALLS {
         let outcome = outcome_of(alloc, run, &[], &[call], &[])?;
@@ -127,6 +134,47 @@ fn writes_fail(rt: &impl Abort, alloc: Global, run: &Run) -> Result<(), Fail> {
         }
         assert_eq!(rt; outcome.status, 9, "write {call}");
         assert_eq!(rt; outcome.out.len() as u64, 3 * call, "write {call}");
+    }
+    assert!(rt; false, "each write fails");
+    Ok(())
+}
+
+/// How many bytes the first calls write, where each line goes out in pieces of 3.
+fn bytes_of_calls(text: &str, calls: u64) -> u64 {
+    let mut left = calls;
+    let mut bytes = 0u64;
+    for line in text.split_inclusive('\n') {
+        let length = line.len() as u64;
+        let taken = left.min(length.div_ceil(3));
+        bytes = length.min(3 * taken).saturating_add(bytes);
+        left -= taken;
+    }
+    bytes
+}
+
+/// Each write of a run fails in turn that writes its lines one by one on out. No byte is written after the failed write.
+pub fn writes_of_lines_fail(
+    rt: &impl Abort,
+    alloc: Global,
+    run: &Run,
+    status: u8,
+) -> Result<(), Fail> {
+    for call in 0..100 {
+        let outcome = outcome_of(alloc, run, &[], &[call], &[])?;
+        let bytes = bytes_of_calls(run.out, call);
+        assert_eq!(rt; outcome.out.len() as u64, bytes, "write {call}");
+        assert!(rt;
+            run.out.as_bytes().starts_with(&outcome.out),
+            "write {call}"
+        );
+        if outcome.faults == 0 {
+            assert_eq!(rt; outcome.status, status, "write {call}");
+            assert_eq!(rt; outcome.note.as_slice(), run.note.as_bytes());
+            assert_eq!(rt; outcome.out.len(), run.out.len());
+            return Ok(());
+        }
+        assert_eq!(rt; outcome.status, 9, "write {call}");
+        assert!(rt; outcome.note.is_empty(), "write {call}");
     }
     assert!(rt; false, "each write fails");
     Ok(())
@@ -165,7 +213,8 @@ fn a_write_that_fails_leaves_a_part_on_out_and_nothing_on_note(
     rt: HostRuntime,
 ) -> Result<(), Fail> {
     writes_fail(&rt, rt.alloc(), &CHECK_TAPE)?;
-    writes_fail(&rt, rt.alloc(), &PUNCH)
+    writes_fail(&rt, rt.alloc(), &PUNCH)?;
+    writes_of_lines_fail(&rt, rt.alloc(), &TRACE, 4)
 }
 
 #[test]

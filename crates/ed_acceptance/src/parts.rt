@@ -1,13 +1,12 @@
 //! `parts`: tapes whose programs go back to the Initial Orders.
 
-use crate::faults::{Run, outcome_of};
+use crate::faults::{Run, writes_of_lines_fail};
 use crate::support::{answer_of, expect};
 use ed_codes::tape_of_text;
 use ed_loads::started;
 use ed_machine::Machine;
 use ed_words::Size;
 use std::alloc::Global;
-use std::process::Abort;
 use std::test::Fail;
 
 /// The program of the first part prints A and goes back with the order T 200 F; that of the second one stops.
@@ -218,46 +217,10 @@ fn programs_that_end_as_those_of_tapes_do(rt: HostRuntime) -> Result<(), Fail> {
     Ok(())
 }
 
-/// How many bytes the first calls write, where each line goes out in pieces of 3.
-fn bytes_of_calls(text: &str, calls: u64) -> u64 {
-    let mut left = calls;
-    let mut bytes = 0u64;
-    for line in text.split_inclusive('\n') {
-        let length = line.len() as u64;
-        let taken = left.min(length.div_ceil(3));
-        bytes = length.min(3 * taken).saturating_add(bytes);
-        left -= taken;
-    }
-    bytes
-}
-
-/// Each write of a run on out fails in turn.
-fn writes_fail(rt: &impl Abort, alloc: Global, run: &Run, status: u8) -> Result<(), Fail> {
-    for call in 0..100 {
-        let outcome = outcome_of(alloc, run, &[], &[call], &[])?;
-        let bytes = bytes_of_calls(run.out, call);
-        assert_eq!(rt; outcome.out.len() as u64, bytes, "write {call}");
-        assert!(rt;
-            run.out.as_bytes().starts_with(&outcome.out),
-            "write {call}"
-        );
-        if outcome.faults == 0 {
-            assert_eq!(rt; outcome.status, status, "write {call}");
-            assert_eq!(rt; outcome.note.as_slice(), run.note.as_bytes());
-            assert_eq!(rt; outcome.out.len(), run.out.len());
-            return Ok(());
-        }
-        assert_eq!(rt; outcome.status, 9, "write {call}");
-        assert!(rt; outcome.note.is_empty(), "write {call}");
-    }
-    assert!(rt; false, "each write fails");
-    Ok(())
-}
-
 #[test]
 fn a_write_that_fails_leaves_a_part_of_the_lines(rt: HostRuntime) -> Result<(), Fail> {
-    writes_fail(&rt, rt.alloc(), &INTERLUDE, 0)?;
-    writes_fail(&rt, rt.alloc(), &CUT, 3)
+    writes_of_lines_fail(&rt, rt.alloc(), &INTERLUDE, 0)?;
+    writes_of_lines_fail(&rt, rt.alloc(), &CUT, 3)
 }
 
 #[test]

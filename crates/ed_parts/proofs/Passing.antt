@@ -19,10 +19,11 @@ use Rattle.ed_report.specs.Entries.{entry_line, returned_line}
 use Rattle.ed_parts.specs.declared.part.Passed.TheVariants.{Over, Back}
 use Rattle.ed_parts.specs.declared.tape.PartsEnd.{PartsEnd}
 use Rattle.ed_parts.specs.declared.tape.PartsFault.{PartsFault}
+use Rattle.ed_parts.specs.declared.tape.PartsFault.TheVariants.{Failed, Memory}
 use Rattle.ed_parts.specs.Parts.{ComesHome, Finishes, GoesBack, IsTold, LeadsTo, TapePart, PartsAnswer}
 use Rattle.ed_parts.specs.Parts.{TapeTells, Told}
 use Rattle.ed_parts.specs.Parts.{entry_done, part_entry_state, entry_told, finished, first_part}
-use Rattle.ed_parts.specs.Parts.{told_lines}
+use Rattle.ed_parts.specs.Parts.{BreaksPart, Reaches, of_entry, of_return, return_told, told_lines}
 use Rattle.ed_parts.specs.Parts.{part_behind, read_before}
 use Rattle.ed_parts.specs.Private.Stages.{Ahead, BreaksTold, Passes}
 use Rattle.ed_parts.proofs.Parting.{Opens}
@@ -92,9 +93,49 @@ module _ (limit rows : ℕ) (p : TapePart) where
           back_breaks (record { entry = e; leads = leads; within = within; orders = h.0; comes = h.1 }) a c
           (longer a c (entry_told rows p e) _ _ refl g)
 
+  -- where it breaks off
+  pub entry_stops : (e : TapeEntry) {last : State} {a c : Option (List ℕ)} → LeadsTo p e → entry_done p e ≤ limit
+      → last ≡ part_entry_state p e → (fault : PartsFault) → GainsPart a c (entry_told rows p e)
+      → (fault ≡ Memory → c ≡ a) → BreaksPart limit rows p fault last a c
+  entry_stops e leads within state Failed g same = record {
+    line = _;
+    is = of_entry e leads within refl;
+    state_is = state;
+    part = g.part;
+    rest = g.rest;
+    whole = g.whole;
+    gains = g.gains;
+  }
+  entry_stops e {last} {a} {c} leads within state Memory g same = inr (record {
+    line = _;
+    is = of_entry e leads within refl;
+    state_is = state;
+    gains = subst (λ (x : Option (List ℕ)). Gains a x []) (sym (same refl)) (gains_none a);
+  })
+
+  pub return_stops : (b : GoesBack limit p) {last : State} (a c d : Option (List ℕ))
+      → last ≡ (part_behind p b).state → Gains a c (entry_told rows p b.entry)
+      → (fault : PartsFault) → GainsPart c d (return_told p b) → (fault ≡ Memory → d ≡ c)
+      → BreaksPart limit rows p fault last a d
+  return_stops b {last} a c d state whole Failed g same = record {
+    line = _;
+    is = of_return b refl;
+    state_is = state;
+    part = g.part;
+    rest = g.rest;
+    whole = g.whole;
+    gains = gains_more a c d (entry_told rows p b.entry) g.part whole g.gains;
+  }
+  return_stops b {last} a c d state whole Memory g same = inr (record {
+    line = _;
+    is = of_return b refl;
+    state_is = state;
+    gains = subst (λ (x : Option (List ℕ)). Gains a x (entry_told rows p b.entry)) (sym (same refl)) whole;
+  })
+
   -- the line of the return breaks off
   pub return_breaks : (b : GoesBack limit p) {a c d : Option (List ℕ)} → Gains a c (entry_told rows p b.entry)
-      → GainsPart c d (returned_line (address (directive (part_behind p b).state)) (part_behind p b).done)
+      → GainsPart c d (return_told p b)
       → BreaksTold limit rows p a d
   return_breaks b {a} {c} {d} whole g = back_breaks b a d (and_part a c d _ _ whole g)
 
@@ -120,7 +161,9 @@ module _ {limit rows : ℕ} {p first : TapePart} {a c : Option (List ℕ)} (h : 
   pub goes_back : (b : GoesBack limit p) → Gains c d (told_lines rows p b)
       → Ahead limit rows first (part_behind p b) a d
   goes_back b g = record {
+    returns = suc h.returns;
     text = h.text ++ told_lines rows p b;
+    reached = (p, b, h.text, h.reached, refl, refl);
     gains = gains_more a c d h.text (told_lines rows p b) h.gains g;
     completes = λ n rest told.
         let whole = h.completes (suc n) (record rest { text = told_lines rows p b ++ rest.text })
@@ -138,8 +181,7 @@ address_is d w is least most = omega arith
 -- the line of the return, by what the code has of it
 pub returned_is : {limit : ℕ} {p : TapePart} (b : GoesBack limit p) {last : State} {word done : ℕ} {order : Order}
     → last ≡ (part_behind p b).state → word ≡ directive last → order ≡ order_of word → done ≡ (part_behind p b).done
-    → returned_line order.address done
-    ≡ returned_line (address (directive (part_behind p b).state)) (part_behind p b).done
+    → returned_line order.address done ≡ return_told p b
 returned_is {limit} {p} b {last} {word} {done} {order} is is_word is_order count =
     let leaves = b.comes.home.leaves in
     let whole : word ≡ directive (part_behind p b).state = is_word ∙ ap directive is in
@@ -208,7 +250,13 @@ behind_later limit p b =
 
 -- nothing is told yet
 pub ahead_first : (limit rows : ℕ) (p : TapePart) (a : Option (List ℕ)) → Ahead limit rows p p a a
-ahead_first limit rows p a = record { text = []; gains = gains_none a; completes = λ n rest told. (n, told) }
+ahead_first limit rows p a = record {
+  returns = 0;
+  text = [];
+  reached = (refl, refl);
+  gains = gains_none a;
+  completes = λ n rest told. (n, told);
+}
 
 -- a part went back, and the tape goes on with the next one
 pub record Onward (limit rows : ℕ) (first p q : TapePart) (a d : Option (List ℕ)) : Type 0 where
@@ -227,11 +275,24 @@ module _ {limit l rows : ℕ} {s : State} {p : TapePart} {a c : Option (List ℕ
       let w = tells_all h d (subst (λ n. Passes n rows p (Ok (Over end)) last c d) same q) in
       (w.1, tells w.0 w.1 w.2, w.3, w.4, w.5)
 
-  pub answers_broken : (fault : PartsFault) (last : State) → BreaksTold l rows p c d
+  pub answers_broken : (fault : PartsFault) (last : State) → Passes l rows p (Err fault) last c d
       → PartsAnswer limit s (Err fault) last a d
-  answers_broken fault last b =
-      let w = tells_part h d (subst (λ n. BreaksTold n rows p c d) same b) in
-      (w.1, tells w.0 w.1 w.2, w.3)
+  answers_broken fault last q =
+      let b = subst (λ n. Passes n rows p (Err fault) last c d) same q in
+      let w = tells_part h d b.0 in (
+        w.1,
+        tells w.0 w.1 w.2,
+        w.3,
+        record {
+          returns = h.returns;
+          text = h.text;
+          part = p;
+          reached = subst (λ n. Reaches limit n (first_part s) h.returns h.text p) count h.reached;
+          then_at = c;
+          gains = h.gains;
+          broke = subst (λ n. BreaksPart limit n p fault last c d) count b.1;
+        },
+      )
 
   pub goes_onward : {done : ℕ} {last : State} → Passes l rows p (Ok (Back done)) last c d
       → Onward limit rows (first_part s) p (record { number = p.number + 1; done = done; state = last }) a d

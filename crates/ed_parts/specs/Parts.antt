@@ -1,6 +1,6 @@
 -- Tapes in parts: programs that go back to the Initial Orders at 25, which then read on, and what is told of such tapes
 -- (this project's own rule). All states are those of the order table, from the one in which the first part begins.
-use Rattle.std.specs.Prelude.{ℕ, zero, suc, ◌≡◌, ◌+◌, ◌-◌, ◌<◌, ◌≤◌, nat_eq, if◌then◌else◌, Option, Some, None, List}
+use Rattle.std.specs.Prelude.{ℕ, zero, suc, ◌≡◌, ◌⊎◌, ◌+◌, ◌-◌, ◌<◌, ◌≤◌, nat_eq, if◌then◌else◌, Option, Some, None, List}
 use Rattle.std.specs.Prelude.{[], ◌++◌, length}
 use Rattle.std.specs.Prelude.{Result, Ok, Err}
 use Rattle.ed_machine.specs.State.{State}
@@ -14,10 +14,12 @@ use Rattle.ed_notation.specs.Faults.{TapeEntry, ComesTo, IsFault, WellFormed}
 use Rattle.ed_notation.specs.declared.cause.TapeCause.{TapeCause}
 use Rattle.ed_interlude.specs.Returned.{IsReturned, directive, reopening}
 use Rattle.ed_io.specs.Bytes.{Gains, GainsPart}
+use Rattle.ed_io.specs.Causes.{next_count}
 use Rattle.ed_report.specs.Entries.{entry_line, returned_line}
 use Rattle.ed_parts.specs.declared.tape.PartsEnd.{PartsEnd}
 use Rattle.ed_parts.specs.declared.tape.PartsEnd.TheVariants.{Ended, Faulty}
 use Rattle.ed_parts.specs.declared.tape.PartsFault.{PartsFault}
+use Rattle.ed_parts.specs.declared.tape.PartsFault.TheVariants.{Failed, Memory}
 
 -- a part as it begins: its number, counted from 1, the orders done from Start up to it, and the state
 pub record TapePart : Type 0 where
@@ -132,10 +134,13 @@ part_behind p b = record {
   state = state_after b.orders (part_entry_state p b.entry);
 }
 
+-- the line of its return
+abbrev pub return_told : {limit : ℕ} → (p : TapePart) → GoesBack limit p → List ℕ
+return_told p b = returned_line (address (directive (part_behind p b).state)) (part_behind p b).done
+
 -- the lines of its entry and of its return
 abbrev pub told_lines : {limit : ℕ} → ℕ → (p : TapePart) → GoesBack limit p → List ℕ
-told_lines rows p b =
-    entry_told rows p b.entry ++ returned_line (address (directive (part_behind p b).state)) (part_behind p b).done
+told_lines rows p b = entry_told rows p b.entry ++ return_told p b
 
 -- from a part on, so many parts go back, and the one behind them is the last; this is told
 abbrev pub IsTold : ℕ → ℕ → ℕ → TapePart → Told → Type 0
@@ -149,10 +154,78 @@ pub record TapeTells (limit : ℕ) (s : State) (t : Told) : Type 0 where
   pub returns : ℕ
   pub told : IsTold limit (length s.tape) returns (first_part s) t
 
+-- ---- where it breaks off
+
+-- after so many parts that went back and wrote this text, this part begins
+abbrev pub Reaches : ℕ → ℕ → TapePart → ℕ → List ℕ → TapePart → Type 0
+Reaches limit rows first zero text p = (text ≡ []) × (p ≡ first)
+Reaches limit rows first (suc n) text p =
+    (q : TapePart) × (b : GoesBack limit q) × (before : List ℕ) × Reaches limit rows first n before q
+    × (text ≡ before ++ told_lines rows q b) × (p ≡ part_behind q b)
+
+-- a line of a part: what the part wrote before it, its text, and the state in which it is written
+pub record PartLine : Type 0 where
+  pub before : List ℕ
+  pub text : List ℕ
+  pub state : State
+
+-- a part writes this line: that of its entry, or that of its return
+pub data WritesLine (limit rows : ℕ) (p : TapePart) (l : PartLine) : Type 0 where
+  of_entry : (e : TapeEntry) → LeadsTo p e → entry_done p e ≤ limit
+      → l ≡ record { before = []; text = entry_told rows p e; state = part_entry_state p e }
+      → WritesLine limit rows p l
+  of_return : (b : GoesBack limit p)
+      → l ≡ record { before = entry_told rows p b.entry; text = return_told p b; state = (part_behind p b).state }
+      → WritesLine limit rows p l
+
+-- the write of a line of this part failed: the machine stands where the line is written, and the lines before it and a
+-- first part of it have been written
+pub record LineFailed (limit rows : ℕ) (p : TapePart) (last : State) (before after : Option (List ℕ)) : Type 0 where
+  pub line : PartLine
+  pub is : WritesLine limit rows p line
+  pub state_is : last ≡ line.state
+  pub part : List ℕ
+  pub rest : List ℕ
+  pub whole : line.text ≡ part ++ rest
+  pub gains : Gains before after (line.before ++ part)
+
+-- no memory was found for a line of this part: the machine stands where it is written, and the lines before it have been
+pub record LineUnmade (limit rows : ℕ) (p : TapePart) (last : State) (before after : Option (List ℕ)) : Type 0 where
+  pub line : PartLine
+  pub is : WritesLine limit rows p line
+  pub state_is : last ≡ line.state
+  pub gains : Gains before after line.before
+
+-- a part broke off: at a line whose write failed; where no memory was found, as it begins, with nothing written, or at
+-- a line
+abbrev pub BreaksPart : ℕ → ℕ → TapePart → PartsFault → State → Option (List ℕ) → Option (List ℕ) → Type 0
+BreaksPart limit rows p Failed last before after = LineFailed limit rows p last before after
+BreaksPart limit rows p Memory last before after =
+    ((last ≡ p.state) × (after ≡ before)) ⊎ LineUnmade limit rows p last before after
+
+-- parts went back, whose lines have been written, and the one behind them broke off
+pub record BreaksOff (limit : ℕ) (s : State) (fault : PartsFault) (last : State) (before after : Option (List ℕ)) :
+    Type 0 where
+  pub returns : ℕ
+  pub text : List ℕ
+  pub part : TapePart
+  pub reached : Reaches limit (length s.tape) (first_part s) returns text part
+  pub then_at : Option (List ℕ)
+  pub gains : Gains before then_at text
+  pub broke : BreaksPart limit (length s.tape) part fault last then_at after
+
 -- ---- what is answered
 
--- the whole text is on the sink; or a first part of it, where a write failed or no memory was found
+-- the whole text is on the sink; or a first part of it, where a write failed or no memory was found, and it is said
+-- where the machine stands then and which lines have been written
 abbrev pub PartsAnswer : ℕ → State → Result PartsEnd PartsFault → State → Option (List ℕ) → Option (List ℕ) → Type 0
 PartsAnswer limit s (Ok end) last before after =
     (t : Told) × TapeTells limit s t × (end ≡ t.end) × (last ≡ t.last) × Gains before after t.text
-PartsAnswer limit s (Err fault) last before after = (t : Told) × TapeTells limit s t × GainsPart before after t.text
+PartsAnswer limit s (Err fault) last before after =
+    (t : Told) × TapeTells limit s t × GainsPart before after t.text × BreaksOff limit s fault last before after
+
+-- the sink's count of faults afterwards: one more where a write failed, and else as before
+abbrev pub parts_faults : {T : Type 0} → Result T PartsFault → ℕ → ℕ
+parts_faults (Ok t) before = before
+parts_faults (Err Failed) before = next_count before
+parts_faults (Err Memory) before = before

@@ -5,8 +5,7 @@ ghost use Rattle.ed_notation.specs.Checks.{AnswersCheck};
 ghost use Rattle.ed_notation.specs.Faults.{TapeEntry};
 ghost use Rattle.ed_interlude.specs.Returned.{IsReturned};
 ghost use Rattle.ed_io.specs.Bytes.{Gains, GainsPart};
-ghost use Rattle.ed_io.specs.Causes.{Rose};
-ghost use Rattle.ed_parts.specs.Parts.{base_of, note_of, read_before};
+ghost use Rattle.ed_parts.specs.Parts.{base_of, note_of, parts_faults, read_before};
 ghost use Rattle.ed_parts.specs.Private.Stages.{IsArrival, Passes, stage_part};
 
 use crate::program::{Met, obey, run_program};
@@ -62,8 +61,7 @@ pub(crate) fn run_part<K: Sink>(
     requires back { stage.number ≢ 1 → IsReturned machine.old }
     ensures passes { Passes stage.limit stage.rows (stage_part stage machine.old) result machine.new
         (K.held out.old) (K.held out.new) }
-    ensures later { K.faults out.old ≤ K.faults out.new }
-    ensures cause { IfErr result (λ e. e ≡ PartsFault.Failed → Rose (K.faults out.old) (K.faults out.new)) }
+    ensures faults { K.faults out.new ≡ parts_faults result (K.faults out.old) }
 {
     let read = stage.rows - machine.rows_left().len();
     match check_part(alloc, stage.number, machine) {
@@ -113,8 +111,7 @@ fn enter_part<K: Sink>(
     requires arrival { (e : TapeEntry) × IsArrival stage.rows (stage_part stage machine.old) arrival e }
     ensures passes { Passes stage.limit stage.rows (stage_part stage machine.old) result machine.new
         (K.held out.old) (K.held out.new) }
-    ensures later { K.faults out.old ≤ K.faults out.new }
-    ensures cause { IfErr result (λ e. e ≡ PartsFault.Failed → Rose (K.faults out.old) (K.faults out.new)) }
+    ensures faults { K.faults out.new ≡ parts_faults result (K.faults out.old) }
 {
     let left = stage.limit - stage.done;
     if left < arrival.orders {
@@ -144,8 +141,8 @@ fn write_line<K: Sink>(out: &mut K, line: Result<Vec<u8>, NoMemory>) -> Result<(
     ensures whole { (text : List ℕ) → IfOk line (λ bytes. bytes.items ≡ text) → MatchResult result
         (λ _. Gains (K.held out.old) (K.held out.new) text)
         (λ _. GainsPart (K.held out.old) (K.held out.new) text) }
-    ensures later { K.faults out.old ≤ K.faults out.new }
-    ensures cause { IfErr result (λ e. e ≡ PartsFault.Failed → Rose (K.faults out.old) (K.faults out.new)) }
+    ensures memory { IfErr result (λ e. e ≡ PartsFault.Memory → K.held out.new ≡ K.held out.old) }
+    ensures faults { K.faults out.new ≡ parts_faults result (K.faults out.old) }
 {
     match line {
         Ok(line) => match write_all(out, &line) {

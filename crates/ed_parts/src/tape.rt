@@ -1,8 +1,7 @@
 //! The parts of a tape, one after the other.
-ghost use Rattle.std.specs.Prelude.{◌≡◌, ◌+◌, ◌≤◌, ◌^◌, IfErr, length};
-ghost use Rattle.ed_io.specs.Causes.{Rose};
+ghost use Rattle.std.specs.Prelude.{◌≡◌, ◌+◌, ◌≤◌, ◌^◌, length};
 ghost use Rattle.ed_parts.specs.Laws.{EachEndIsTheRuns, EachEntryIsReached, EachTapeIsToldOnce};
-ghost use Rattle.ed_parts.specs.Parts.{PartsAnswer};
+ghost use Rattle.ed_parts.specs.Parts.{PartsAnswer, parts_faults};
 
 use crate::part::{Passed, Stage, run_part};
 use ed_io::Sink;
@@ -39,8 +38,8 @@ pub enum PartsFault {
 /// line of each entry and of each return as it comes.
 ///
 /// At most `limit` orders are obeyed, counted from Start. The machine is left in the state in which the run ended;
-/// where a part has a fault, in that in which the part begins. `Failed` comes only where the sink's count of faults
-/// rose.
+/// where a part has a fault, in that in which the part begins. After `Failed` it stands at the entry or the return whose
+/// line failed, and after `Memory` there or where a part begins.
 pub fn run_parts<K: Sink>(
     alloc: Global,
     machine: &mut Machine,
@@ -50,8 +49,7 @@ pub fn run_parts<K: Sink>(
     requires orders { machine.old.orders + limit ≤ 2 ^ 63 }
     requires rows { length machine.old.tape ≤ 2 ^ 32 }
     ensures tells { PartsAnswer limit machine.old result machine.new (K.held out.old) (K.held out.new) }
-    ensures later { K.faults out.old ≤ K.faults out.new }
-    ensures cause { IfErr result (λ e. e ≡ PartsFault.Failed → Rose (K.faults out.old) (K.faults out.new)) }
+    ensures faults { K.faults out.new ≡ parts_faults result (K.faults out.old) }
     ensures law { EachTapeIsToldOnce }
     ensures reached { EachEntryIsReached }
     ensures runs { EachEndIsTheRuns }

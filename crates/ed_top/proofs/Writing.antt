@@ -30,6 +30,7 @@ reply_carried answer input (Ok reply) out (Ok rest) replies w = (
     note_is = ap (λ v. v.items) w.1 ∙ gives.note_is;
     status_is = w.2 ∙ gives.status_is;
   }) replies,
+  w.3,
 )
   where
     low : (answer : Answer) → ForInput answer input (Gives reply) → rest.status < 8
@@ -41,7 +42,7 @@ reply_carried answer input (Ok reply) out (Err Memory) replies w = absurd w
 reply_carried answer input (Err e) out (Ok rest) replies w = absurd w
 reply_carried answer input (Err e) out (Err Failed) replies w = absurd w
 reply_carried answer input (Err e) out (Err Memory) replies w =
-    for_more answer input _ _ (λ o u. none_written out o.out w) replies
+    (w.1, for_more answer input _ _ (λ o u. none_written out o.out w.0) replies)
 
 -- and so is a reply with the outcome of a command that reads no input
 pub known_carried : {answer : Answer} {due : Outcome} (input : Text) (reply : Result Reply NoMemory) (out : Device)
@@ -65,9 +66,9 @@ rows_carried f input codes out r is = by_result r
     at = subst (λ (q : Reading). OfReading (exactly f) q (f codes)) (sym is) refl
 
     by_result : (r : Result Rest Stop) → Carried (known (f codes)) [] out r → Carried (of_rows (exactly f)) input out r
-    by_result (Ok rest) c = (c.0, (f codes, at, c.1))
+    by_result (Ok rest) c = (c.0, (f codes, at, c.1), c.2)
     by_result (Err Failed) c = (c.0, (f codes, at, c.1))
-    by_result (Err Memory) c = (f codes, at, c)
+    by_result (Err Memory) c = (c.0, (f codes, at, c.1))
 
 -- the same where it is a relation that says which outcome rows have
 pub rows_carried_by : (answers : List ℕ → Outcome → Type 0) (input : Text) (codes : List ℕ) (out : Device)
@@ -81,6 +82,6 @@ rows_carried_by answers input codes out r is = by_result r
 
     by_result : (r : Result Rest Stop) → Carried (of_input (λ _. answers codes)) [] out r
         → Carried (of_rows answers) input out r
-    by_result (Ok rest) c = (c.0, (c.1.0, at c.1.0 c.1.1, c.1.2))
+    by_result (Ok rest) c = (c.0, (c.1.0, at c.1.0 c.1.1, c.1.2), c.2)
     by_result (Err Failed) c = (c.0, (c.1.0, at c.1.0 c.1.1, c.1.2))
-    by_result (Err Memory) c = (c.0, at c.0 c.1, c.2)
+    by_result (Err Memory) c = (c.0, (c.1.0, at c.1.0 c.1.1, c.1.2))

@@ -2,19 +2,19 @@
 -- (this project's own rules).
 use Rattle.std.specs.Prelude.{◌≡◌, ◌≢◌, ◌⊎◌, ℕ, true, [], drop, Option, None, Some}
 use Rattle.ed_io.specs.Bytes.{Gains, GainsPart}
-use Rattle.ed_io.specs.Causes.{Rose}
+use Rattle.ed_io.specs.Causes.{next_count}
 use Rattle.ed_words.specs.Texts.{Text}
 use Rattle.ed_top.specs.Outcome.{Outcome, read_fault, no_memory}
 use Rattle.ed_top.specs.Answer.{Answer, known, of_input, reads_input, WithinLimit}
 
--- a device before and after the call: the bytes that it tells, if it tells them, and its count of faults
+-- a device before and after the call: the bytes that it reports, if it reports them, and its count of faults
 pub record Device : Type 0 where
   pub before : Option Text
   pub after : Option Text
   pub faults_before : ℕ
   pub faults_after : ℕ
 
--- a device seen by what it tells and what it counts
+-- a device seen by what it reports and what it counts
 abbrev pub device : {D : Type 0} → (D → Option Text) → (D → ℕ) → D → D → Device
 device bytes faults old new = record {
   before = bytes old;
@@ -23,11 +23,19 @@ device bytes faults old new = record {
   faults_after = faults new;
 }
 
--- the device's count of faults rose
-abbrev pub Failing : Device → Type 0
-Failing d = Rose d.faults_before d.faults_after
+-- no call of the device failed
+abbrev pub NeverFailed : Device → Type 0
+NeverFailed d = d.faults_after ≡ d.faults_before
 
--- the sink has gained exactly this text, if it tells its bytes
+-- one call of the device failed, and only one: the count of faults rose by 1, or stands at its last value
+abbrev pub FailedOnce : Device → Type 0
+FailedOnce d = d.faults_after ≡ next_count d.faults_before
+
+-- no call failed of any device
+abbrev pub NoneFailed : Device → Device → Device → Type 0
+NoneFailed source out note = NeverFailed source × NeverFailed out × NeverFailed note
+
+-- the sink has gained exactly this text, if it reports its bytes
 abbrev pub Wrote : Device → Text → Type 0
 Wrote d text = Gains d.before d.after text
 
@@ -35,7 +43,7 @@ Wrote d text = Gains d.before d.after text
 abbrev pub WrotePart : Device → Text → Type 0
 WrotePart d text = GainsPart d.before d.after text
 
--- the source has lost its first n bytes, or all where it had fewer, if it tells its bytes
+-- the source has lost its first n bytes, or all if it had fewer, if it reports its bytes
 abbrev pub Lost : Device → ℕ → Type 0
 Lost d n = (bytes : Text) → d.before ≡ Some bytes → d.after ≡ Some (drop n bytes)
 
@@ -60,34 +68,44 @@ ForDue (of_input answers) source P =
 abbrev pub WrotePartDue : Answer → Device → Device → Type 0
 WrotePartDue answer source out = ForDue answer source (λ o. WrotePart out o.out)
 
--- a write on `out` failed, and nothing was written on `note`
+-- a line was written on a sink, and this is the wanted status; or the write failed, and it is 9
+pub record WritesLastLine (note : Device) (line : Text) (wanted status : ℕ) : Type 0 where
+  pub done : status ≢ 9 → (status ≡ wanted) × Wrote note line × NeverFailed note
+  pub part : status ≡ 9 → FailedOnce note × WrotePart note line
+
+-- one write on `out` failed, no other call did, and nothing was written on `note`
 pub record BrokeOut (answer : Answer) (source out note : Device) : Type 0 where
-  pub failing : Failing out
+  pub failed : FailedOnce out
+  pub source_fine : NeverFailed source
+  pub note_fine : NeverFailed note
   pub part : WrotePartDue answer source out
   pub nothing : Wrote note []
 
--- what is on `out` before a line on `note`: all that is due, and its line; nothing, and the line of a read that failed;
--- or a part of what is due, and the line of want of memory
+-- what is on `out` before a line on `note`, and which line it is: all that is due, and its line; nothing, and the line
+-- of a read that failed; or a part of what is due, and the line of want of memory
 abbrev pub NoteBroke : Answer → Device → Device → Device → Type 0
 NoteBroke answer source out note =
-    ForDue answer source (λ o. Wrote out o.out × WrotePart note o.note)
-    ⊎ (((reads_input answer ≡ true) × Failing source × Wrote out [] × WrotePart note read_fault)
-    ⊎ (WrotePartDue answer source out × WrotePart note no_memory))
+    (NeverFailed source × ForDue answer source (λ o. Wrote out o.out × WrotePart note o.note))
+    ⊎ (((reads_input answer ≡ true) × FailedOnce source × Wrote out [] × WrotePart note read_fault)
+    ⊎ (NeverFailed source × WrotePartDue answer source out × WrotePart note no_memory))
 
--- a write on `note` failed, behind all writes on `out`
+-- one write on `note` failed, and none on `out`
 pub record BrokeNote (answer : Answer) (source out note : Device) : Type 0 where
-  pub failing : Failing note
+  pub failed : FailedOnce note
+  pub out_fine : NeverFailed out
   pub part : NoteBroke answer source out note
 
 -- the program that answers so ended with this status
 pub record ProgramEnded (answer : Answer) (source out note : Device) (status : ℕ) : Type 0 where
-  -- neither a fault nor want of memory: exactly the outcome that is due
+  -- neither a fault nor want of memory: no call failed, and exactly the outcome that is due
   pub finished : status ≢ 8 → status ≢ 9 → status ≢ 10
-      → Lost source (most_read answer)
+      → NoneFailed source out note × Lost source (most_read answer)
       × ForDue answer source (λ o. (status ≡ o.status) × Wrote out o.out × Wrote note o.note)
-  -- 8: a read failed; nothing is on `out` and its line on `note`
-  pub read : status ≡ 8 → (reads_input answer ≡ true) × Failing source × Wrote out [] × Wrote note read_fault
-  -- 9: a write failed, and nothing was written after it on either sink
+  -- 8: one read failed and no write; nothing is on `out` and its line on `note`
+  pub read : status ≡ 8 → (reads_input answer ≡ true) × FailedOnce source × NeverFailed out × NeverFailed note
+      × Wrote out [] × Wrote note read_fault
+  -- 9: one write failed, on one of the two sinks
   pub written : status ≡ 9 → BrokeOut answer source out note ⊎ BrokeNote answer source out note
-  -- 10: no memory was found; a part of what is due is on `out` and the line on `note`
-  pub memory : status ≡ 10 → WrotePartDue answer source out × Wrote note no_memory
+  -- 10: no memory was found and no call failed; a part of what is due is on `out` and the line on `note`
+  pub memory : status ≡ 10
+      → NoneFailed source out note × WrotePartDue answer source out × Wrote note no_memory

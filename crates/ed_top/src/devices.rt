@@ -1,8 +1,7 @@
 ghost use Rattle.std.specs.Prelude.{◌≡◌, ◌≢◌, ◌⊎◌, ◌≤◌, ◌<◌, length, IfOk, IfErr, MatchResult};
 ghost use Rattle.ed_io.specs.Bytes.{IsAtEnd, Loses};
-ghost use Rattle.ed_io.specs.Causes.{Rose};
-ghost use Rattle.ed_top.specs.Clause.{device};
-ghost use Rattle.ed_top.specs.Private.Stages.{HasInput, TellsLine, WritesReply};
+ghost use Rattle.ed_top.specs.Clause.{WritesLastLine, device};
+ghost use Rattle.ed_top.specs.Private.Stages.{HasInput, WritesReply, input_faults};
 
 use crate::reply::Reply;
 use ed_io::{Failed, Sink, Source, write_all};
@@ -72,9 +71,8 @@ fn read_all<S: Source>(alloc: Global, source: &mut S) -> Result<Vec<u8>, InputSt
     ensures bytes { IfOk result (λ v. Loses (S.left source.old) (S.left source.new) v.items) }
     ensures end { IfOk result
         (λ v. (length v.items ≡ 262145) ⊎ ((length v.items < 262145) × IsAtEnd (S.left source.new))) }
-    ensures later { S.faults source.old ≤ S.faults source.new }
-    ensures cause { IfErr result
-        (λ e. (e ≡ InputStop.Memory) ⊎ ((e ≡ InputStop.Failed) × Rose (S.faults source.old) (S.faults source.new))) }
+    ensures short { IfErr result (λ e. e ≢ InputStop.TooLong) }
+    ensures faults { S.faults source.new ≡ input_faults result (S.faults source.old) }
 {
     let mut input = Vec::new(alloc);
     let mut piece = [0u8; PIECE];
@@ -109,10 +107,10 @@ pub fn write<K: Sink>(out: &mut K, reply: Result<Reply, NoMemory>) -> Result<Res
     }
 }
 
-/// Writes a line on `note` and answers the status; or 9.
+/// Writes a line on `note` and answers the status; or 9, if the write fails.
 pub fn tell<L: Sink>(note: &mut L, line: &[u8], status: u8) -> u8
     requires { status ≢ 9 }
-    ensures { TellsLine (device L.held L.faults note.old note.new) line.now status result }
+    ensures { WritesLastLine (device L.held L.faults note.old note.new) line.now status result }
 {
     match write_all(note, line) {
         Ok(()) => status,

@@ -24,4 +24,4 @@ mod tape;
 mod trace;
 
 pub use ed_sources::{call_source, demo_source};
-pub use program::edsac;
+pub use program::{edsac, report_no_memory};

@@ -2,11 +2,12 @@ ghost use Rattle.std.specs.Prelude.{Some, map, string_bytes};
 ghost use Rattle.ed_command.specs.Lines.{command_line};
 ghost use Rattle.ed_command.specs.Ranges.{IsInRange};
 ghost use Rattle.ed_top.specs.Calls.{EachCallRuns};
-ghost use Rattle.ed_top.specs.Clause.{ProgramEnded, device};
+ghost use Rattle.ed_top.specs.Clause.{ProgramEnded, WritesLastLine, device};
 ghost use Rattle.ed_top.specs.Demos.{EachDemoRuns};
 ghost use Rattle.ed_top.specs.FirstEntry.{EachProgramRunsFrom31};
 ghost use Rattle.ed_top.specs.Headline.{Headline};
 ghost use Rattle.ed_top.specs.Limits.{EachLimit};
+ghost use Rattle.ed_top.specs.Outcome.{no_memory};
 ghost use Rattle.ed_top.specs.Output.{EachLineHasOneOutcome, answer, output};
 ghost use Rattle.ed_top.specs.TapeEntries.{EachTapeRunsFromEntry};
 
@@ -52,6 +53,14 @@ pub fn edsac<S: Source, K: Sink, L: Sink>(
         Err(CommandFault::Usage) => tell(note, USAGE, 2),
         Err(CommandFault::Memory) => tell(note, NO_MEMORY, 10),
     }
+}
+
+/// The answer of a caller that finds no memory for the words: the line on `note` and the status 10; or 9, if the write
+/// fails.
+pub fn report_no_memory<L: Sink>(note: &mut L) -> u8
+    ensures { WritesLastLine (device L.held L.faults note.old note.new) no_memory 10 result }
+{
+    tell(note, NO_MEMORY, 10)
 }
 
 /// Reads the input, carries the command out on it, and tells the rest.

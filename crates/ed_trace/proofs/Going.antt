@@ -12,7 +12,6 @@ use Rattle.ed_machine.specs.declared.ending.Ending.{Ending}
 use Rattle.ed_machine.specs.declared.ending.Ending.TheVariants.{Stopped, Limit}
 use Rattle.ed_machine.proofs.Steps.{few_codes, next_state, next_stops}
 use Rattle.ed_run.specs.Run.{EndsAfter, end_at, end_by}
-use Rattle.ed_io.specs.Causes.{Rose}
 
 -- the turn of an order that was obeyed
 pub obeyed_turn : (t : Turn) → (t ≡ Went) ⊎ (((x : ℕ) × (t ≡ Printed x)) ⊎ (t ≡ Stops)) → is_obeyed t ≡ true
@@ -33,9 +32,6 @@ no_stop Went h = refl
 no_stop (Printed code) h = refl
 no_stop (IsNoOrder function) h = refl
 no_stop HasNoTape h = refl
-
-pub rises : (a b c : ℕ) → a ≤ b → Rose b c → Rose a c
-rises a b c h k = omega arith
 
 obeyed_ends : (t : Turn) (full : Bool) → is_obeyed t ≡ true → full ≡ false → end_by t full ≡ None
 obeyed_ends Went full h e = refl

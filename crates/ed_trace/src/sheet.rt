@@ -1,22 +1,19 @@
 //! A text that grows, of which the last line is held back.
-ghost use Rattle.std.specs.Prelude.{◌≡◌, ◌++◌, ◌∷◌, [], ◌≤◌, ◌+◌, ◌%◌, List, ℕ, Option, length};
-ghost use Rattle.std.specs.Prelude.{vec_capacity, vec_len, MatchResult, IfOk, if◌then◌else◌};
+ghost use Rattle.std.specs.Prelude.{◌≡◌, [], ◌≤◌, ◌+◌, vec_capacity, vec_len, MatchResult, IfOk};
 ghost use Rattle.ed_io.specs.Bytes.{Gains, GainsPart};
-ghost use Rattle.ed_io.specs.Causes.{HasCause};
-ghost use Rattle.ed_report.specs.Traces.{last_end, line_end};
-ghost use Rattle.ed_trace.specs.Private.Growth.{Partly};
+ghost use Rattle.ed_io.specs.Causes.{faults_after};
+ghost use Rattle.ed_trace.specs.Private.Growth.{EndsLine, Puts};
 
 use ed_io::{Failed, Sink, write_all};
 
 /// Writes what is held back of a text.
 fn flush<K: Sink>(out: &mut K, line: &mut Vec<u8>) -> Result<(), Failed>
-    ensures text { (before : Option (List ℕ)) (text : List ℕ) → Partly before (K.held out.old) line.old.items text
-        → MatchResult result
-        (λ _. Partly before (K.held out.new) line.new.items text)
-        (λ _. GainsPart before (K.held out.new) text) }
+    ensures written { MatchResult result
+        (λ _. Gains (K.held out.old) (K.held out.new) line.old.items)
+        (λ _. GainsPart (K.held out.old) (K.held out.new) line.old.items) }
     ensures empty { IfOk result (λ _. line.new.items ≡ []) }
     ensures room { vec_capacity line.new ≡ vec_capacity line.old }
-    ensures cause { HasCause (K.faults out.old) (K.faults out.new) result }
+    ensures faults { K.faults out.new ≡ faults_after result (K.faults out.old) }
 {
     match write_all(out, line) {
         Ok(()) => {
@@ -35,13 +32,9 @@ pub(crate) fn put<K: Sink>(
     full: bool,
 ) -> Result<(), Failed>
     requires { vec_len line.old + 2 ≤ vec_capacity line.old }
-    ensures text { (before : Option (List ℕ)) (text : List ℕ) → Partly before (K.held out.old) line.old.items text
-        → MatchResult result
-        (λ _. Partly before (K.held out.new) line.new.items (text ++ letter ∷ line_end full))
-        (λ _. GainsPart before (K.held out.new) (text ++ letter ∷ line_end full)) }
+    ensures puts { Puts full result (K.held out.old) (K.held out.new) line.old.items letter line.new.items }
     ensures room { vec_capacity line.new ≡ vec_capacity line.old }
-    ensures length { IfOk result (λ _. length line.new.items ≡ (if full then 0 else length line.old.items + 1)) }
-    ensures cause { HasCause (K.faults out.old) (K.faults out.new) result }
+    ensures faults { K.faults out.new ≡ faults_after result (K.faults out.old) }
 {
     line.push_reserved(letter);
     if full {
@@ -54,12 +47,8 @@ pub(crate) fn put<K: Sink>(
 /// Ends the last line, where it has a letter.
 pub(crate) fn end_line<K: Sink>(out: &mut K, line: &mut Vec<u8>) -> Result<(), Failed>
     requires { vec_len line.old + 1 ≤ vec_capacity line.old }
-    ensures text { (before : Option (List ℕ)) (text : List ℕ) (n : ℕ) → length line.old.items ≡ n % 50
-        → Partly before (K.held out.old) line.old.items text
-        → MatchResult result
-        (λ _. Gains before (K.held out.new) (text ++ last_end n))
-        (λ _. GainsPart before (K.held out.new) (text ++ last_end n)) }
-    ensures cause { HasCause (K.faults out.old) (K.faults out.new) result }
+    ensures ends { EndsLine line.old.items result (K.held out.old) (K.held out.new) }
+    ensures faults { K.faults out.new ≡ faults_after result (K.faults out.old) }
 {
     if line.is_empty() {
         return Ok(());

@@ -1,8 +1,8 @@
 //! The run whose trace is written.
-ghost use Rattle.std.specs.Prelude.{◌≡◌, ◌+◌, ◌≤◌, ◌^◌, [], vec_capacity, MatchResult, IfErr};
+ghost use Rattle.std.specs.Prelude.{◌≡◌, ◌+◌, ◌≤◌, ◌^◌, [], vec_capacity, MatchResult};
 ghost use Rattle.ed_machine.specs.Steps.{is_stop};
-ghost use Rattle.ed_io.specs.Causes.{HasCause, Rose};
-ghost use Rattle.ed_trace.specs.Traces.{TraceEnds};
+ghost use Rattle.ed_io.specs.Causes.{faults_after};
+ghost use Rattle.ed_trace.specs.Traces.{TraceEnds, trace_faults};
 ghost use Rattle.ed_trace.specs.Private.Growth.{BreaksTrace, Traces, letter};
 
 use crate::sheet::{end_line, put};
@@ -26,8 +26,8 @@ pub enum TraceFault {
 /// Runs the machine, with a paper that never is full, and writes the letter or sign of the function of each order, 50
 /// to a line, each line as it is full. The last line, where it has a letter, ends with a line feed.
 ///
-/// `Failed` comes only where the sink's count of faults rose; a first part of the trace was written then. With `Memory`
-/// nothing was.
+/// After `Failed` the machine stands after the orders of the line whose write failed, and the lines before it have been
+/// written. With `Memory` nothing was written and no order obeyed.
 pub fn trace_run<K: Sink>(
     alloc: Global,
     machine: &mut Machine,
@@ -37,8 +37,7 @@ pub fn trace_run<K: Sink>(
 ) -> Result<Ending, TraceFault>
     requires { machine.old.orders + limit ≤ 2 ^ 63 }
     ensures trace { TraceEnds limit resumes machine.old result machine.new (K.held out.old) (K.held out.new) }
-    ensures later { K.faults out.old ≤ K.faults out.new }
-    ensures cause { IfErr result (λ e. e ≡ TraceFault.Failed → Rose (K.faults out.old) (K.faults out.new)) }
+    ensures faults { K.faults out.new ≡ trace_faults result (K.faults out.old) }
 {
     let Ok(mut line) = Vec::with_capacity(alloc, 51) else {
         return Err(TraceFault::Memory);
@@ -66,9 +65,9 @@ fn trace_orders<K: Sink>(
     requires room { 51 ≤ vec_capacity line.old }
     ensures trace { MatchResult result
         (λ ending. Traces limit resumes machine.old ending machine.new (K.held out.old) (K.held out.new) line.new.items)
-        (λ _. BreaksTrace limit resumes machine.old (K.held out.old) (K.held out.new)) }
+        (λ _. BreaksTrace limit resumes machine.old machine.new (K.held out.old) (K.held out.new)) }
     ensures room { vec_capacity line.new ≡ vec_capacity line.old }
-    ensures cause { HasCause (K.faults out.old) (K.faults out.new) result }
+    ensures faults { K.faults out.new ≡ faults_after result (K.faults out.old) }
 {
     let mut stops = 0u32;
     for done in 0..limit {

@@ -5,29 +5,33 @@
 #![tactic(auto)]
 
 use ed_io::{StdSink, StdSource};
+use ed_top::{edsac, report_no_memory};
+use std::alloc::AllocError;
 use std::io::ErrorKind;
 use std::process::ExitCode;
 
-/// The status where no memory is found for the list of words.
-const NO_MEMORY: u8 = 10;
-
 fn main(rt: HostRuntime) -> ExitCode {
-    let alloc = rt.alloc();
-    let mut words = Vec::new(alloc);
-    match std::env::args(&rt) {
-        Ok(args) => {
-            for word in args.skip(1) {
-                if words.push(word).is_err() {
-                    return ExitCode::from(NO_MEMORY);
-                }
-            }
-        }
-        Err(error) if error.kind() == ErrorKind::OutOfMemory => return ExitCode::from(NO_MEMORY),
-        Err(_) => {}
-    }
+    let mut note = StdSink::new(rt.stderr());
+    let Ok(words) = words(&rt) else {
+        return ExitCode::from(report_no_memory(&mut note));
+    };
     let mut source = StdSource::new(rt.stdin());
     let mut out = StdSink::new(rt.stdout());
-    let mut note = StdSink::new(rt.stderr());
-    let status = ed_top::edsac(alloc, words.as_slice(), &mut source, &mut out, &mut note);
+    let status = edsac(rt.alloc(), &words, &mut source, &mut out, &mut note);
     ExitCode::from(status)
+}
+
+/// The words after the program's name; none where one of them is no text.
+fn words(rt: &HostRuntime) -> Result<Vec<String>, AllocError> {
+    let mut words = Vec::new(rt.alloc());
+    match std::env::args(rt) {
+        Ok(args) => {
+            for word in args.skip(1) {
+                words.push(word)?;
+            }
+        }
+        Err(error) if error.kind() == ErrorKind::OutOfMemory => return Err(AllocError),
+        Err(_) => {}
+    }
+    Ok(words)
 }

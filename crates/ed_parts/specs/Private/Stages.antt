@@ -12,7 +12,7 @@ use Rattle.ed_parts.specs.declared.program.Met.{Met}
 use Rattle.ed_parts.specs.declared.program.Met.TheVariants.{Finished, Returned}
 use Rattle.ed_parts.specs.declared.tape.PartsFault.{PartsFault}
 use Rattle.ed_parts.specs.Parts.{ComesHome, Concludes, Finishes, GoesBack, IsTold, LeadsTo, TapePart, Told, told_lines}
-use Rattle.ed_parts.specs.Parts.{part_behind}
+use Rattle.ed_parts.specs.Parts.{BreaksPart, Reaches, part_behind}
 use Rattle.ed_parts.specs.Parts.{read_before}
 
 -- a program ended or came back
@@ -38,18 +38,22 @@ pub record BreaksTold (limit rows : ℕ) (p : TapePart) (before after : Option (
   pub told : IsTold limit rows returns p tale
   pub gains : GainsPart before after tale.text
 
--- a part was passed: it is the last one, and what it tells is told; or its program went back, and its lines are told
+-- a part was passed: it is the last one, and what it tells is told; or its program went back, and its lines are told;
+-- or it broke off
 abbrev pub Passes : ℕ → ℕ → TapePart → Result Passed PartsFault → State → Option (List ℕ) → Option (List ℕ) → Type 0
 Passes limit rows p (Ok (Over end)) last before after =
     (t : Told) × Concludes limit rows p t × (end ≡ t.end) × (last ≡ t.last) × Gains before after t.text
 Passes limit rows p (Ok (Back done)) last before after =
     (b : GoesBack limit p) × (done ≡ (part_behind p b).done) × (last ≡ (part_behind p b).state)
     × Gains before after (told_lines rows p b)
-Passes limit rows p (Err fault) last before after = BreaksTold limit rows p before after
+Passes limit rows p (Err fault) last before after =
+    BreaksTold limit rows p before after × BreaksPart limit rows p fault last before after
 
 -- so far the lines of parts that went back are told, and what is told from here on completes what is told of the tape
 pub record Ahead (limit rows : ℕ) (first p : TapePart) (before after : Option (List ℕ)) : Type 0 where
+  pub returns : ℕ
   pub text : List ℕ
+  pub reached : Reaches limit rows first returns text p
   pub gains : Gains before after text
   pub completes : (n : ℕ) (rest : Told) → IsTold limit rows n p rest
       → (m : ℕ) × IsTold limit rows m first (record rest { text = text ++ rest.text })

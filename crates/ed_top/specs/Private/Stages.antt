@@ -1,6 +1,6 @@
 -- How the stages of the program stand to the outcome that is due: the input, what a command replies or writes, and the
 -- last line.
-use Rattle.std.specs.Prelude.{◌≡◌, ◌≢◌, ℕ, ◌<◌, ◌≤◌, Bool, true, false, List, [], length, Result, Ok, Err, Vec}
+use Rattle.std.specs.Prelude.{◌≡◌, ℕ, ◌<◌, ◌≤◌, Bool, true, false, List, [], length, Result, Ok, Err, Vec}
 use Rattle.std.specs.declared.alloc.Global.{Global}
 use Rattle.ed_words.specs.declared.memory.NoMemory.{NoMemory}
 use Rattle.ed_codes.specs.Reading.{Reading, rows, no_row, open_comment}
@@ -12,13 +12,14 @@ use Rattle.ed_syntax.specs.Private.SourceReading.{Fault}
 use Rattle.ed_link.specs.Answers.{IsLinked}
 use Rattle.ed_link.specs.declared.linked.Linked.{Linked}
 use Rattle.ed_io.specs.Bytes.{IsAtEnd, Loses}
+use Rattle.ed_io.specs.Causes.{next_count}
 use Rattle.ed_report.specs.Notes.{text_fault_line}
 use Rattle.ed_words.specs.Texts.{Text}
 use Rattle.ed_top.specs.Outcome.{Outcome, refused}
 use Rattle.ed_top.specs.Answer.{Answer, known, of_input}
 use Rattle.ed_top.specs.Sources.{of_program}
 use Rattle.ed_top.specs.declared.running.Ran.{Ran}
-use Rattle.ed_top.specs.Clause.{Device, Failing, Wrote, WrotePart}
+use Rattle.ed_top.specs.Clause.{Device, FailedOnce, NeverFailed, Wrote, WrotePart}
 use Rattle.ed_top.specs.declared.reply.Reply.{Reply}
 use Rattle.ed_top.specs.declared.devices.Rest.{Rest}
 use Rattle.ed_top.specs.declared.devices.InputStop.{InputStop}
@@ -30,13 +31,21 @@ use Rattle.ed_top.specs.declared.devices.Stop.TheVariants.{Failed, Memory}
 
 -- nothing, where none is read, and the source is as it was; or the whole of it, where it is not too long
 abbrev pub HasInput : Bool → Device → Result (Vec ℕ Global) InputStop → Type 0
-HasInput false source (Ok v) = (length v.items ≤ 262144) × (source.after ≡ source.before)
+HasInput false source (Ok v) = (length v.items ≤ 262144) × (source.after ≡ source.before) × NeverFailed source
 HasInput true source (Ok v) = (length v.items ≤ 262144) × Loses source.before source.after v.items
-    × IsAtEnd source.after
-HasInput reads source (Err input.Failed) = (reads ≡ true) × Failing source
-HasInput reads source (Err input.Memory) = Unit {0}
+    × IsAtEnd source.after × NeverFailed source
+HasInput reads source (Err input.Failed) = (reads ≡ true) × FailedOnce source
+HasInput reads source (Err input.Memory) = NeverFailed source
 HasInput reads source (Err input.TooLong) =
     (reads ≡ true) × ((bytes : Text) × (length bytes ≡ 262145) × Loses source.before source.after bytes)
+    × NeverFailed source
+
+-- the source's count of faults after it was read: one more where a read failed, and else as before
+abbrev pub input_faults : {T : Type 0} → Result T InputStop → ℕ → ℕ
+input_faults (Ok v) before = before
+input_faults (Err input.Failed) before = next_count before
+input_faults (Err input.Memory) before = before
+input_faults (Err input.TooLong) before = before
 
 -- ---- a command
 
@@ -87,23 +96,16 @@ pub record IsToTell (out : Device) (line : Text) (status : ℕ) (o : Outcome) : 
 -- a command was carried out on an input as far as `out` goes
 abbrev pub Carried : Answer → Text → Device → Result Rest Stop → Type 0
 Carried answer input out (Ok rest) = (rest.status < 8)
-    × ForInput answer input (IsToTell out rest.note.items rest.status)
-Carried answer input out (Err Failed) = Failing out × ForInput answer input (λ o. WrotePart out o.out)
-Carried answer input out (Err Memory) = ForInput answer input (λ o. WrotePart out o.out)
+    × ForInput answer input (IsToTell out rest.note.items rest.status) × NeverFailed out
+Carried answer input out (Err Failed) = FailedOnce out × ForInput answer input (λ o. WrotePart out o.out)
+Carried answer input out (Err Memory) = NeverFailed out × ForInput answer input (λ o. WrotePart out o.out)
 
 -- a reply was written on `out`
 abbrev pub WritesReply : Result Reply NoMemory → Device → Result Rest Stop → Type 0
 WritesReply (Ok reply) out (Ok rest) = Wrote out reply.out.items × (rest.note ≡ reply.note)
-    × (rest.status ≡ reply.status)
-WritesReply (Ok reply) out (Err Failed) = Failing out × WrotePart out reply.out.items
+    × (rest.status ≡ reply.status) × NeverFailed out
+WritesReply (Ok reply) out (Err Failed) = FailedOnce out × WrotePart out reply.out.items
 WritesReply (Ok reply) out (Err Memory) = ⊥
 WritesReply (Err e) out (Ok rest) = ⊥
 WritesReply (Err e) out (Err Failed) = ⊥
-WritesReply (Err e) out (Err Memory) = Wrote out []
-
--- ---- the last line
-
--- a line on `note`, then the wanted status; or 9
-pub record TellsLine (note : Device) (line : Text) (wanted status : ℕ) : Type 0 where
-  pub done : status ≢ 9 → (status ≡ wanted) × Wrote note line
-  pub part : status ≡ 9 → Failing note × WrotePart note line
+WritesReply (Err e) out (Err Memory) = Wrote out [] × NeverFailed out

@@ -1,9 +1,9 @@
-use Rattle.std.proofs.Common.{◌≡◌, ◌+◌, refl, ap, arith}
+use Rattle.std.proofs.Common.{◌≡◌, ◌+◌, ◌≤◌, refl, ap, arith}
 use Rattle.ed_io.proofs.Calls.{gains_more, gains_none}
-use Rattle.ed_parts.specs.Parts.{cut, finished, part_behind}
+use Rattle.ed_parts.specs.Parts.{cut, entry_done, finished, part_behind}
 use Rattle.ed_parts.specs.Private.Stages.{stage_part}
 use Rattle.ed_parts.proofs.Passing.{back_from, behind_is, entry_breaks, entry_is, finishes_there, made_as}
-use Rattle.ed_parts.proofs.Passing.{return_breaks, returned_is}
+use Rattle.ed_parts.proofs.Passing.{entry_stops, return_breaks, return_stops, returned_is, there}
 use Rattle.ed_parts.proofs.Programs.{home_within}
 use Rattle.ed_parts.proofs.part.enter_part.Goals as goal
 
@@ -22,9 +22,14 @@ returns-in-Err-clause-passes g c =
     let a = c.requires.arrival in
     let p = stage_part c.args.stage c.args.machine.now in
     let line = entry_is c.args.stage.rows p a.0 a.1.at_is a.1.orders_are a.1.rows_are in
-    entry_breaks c.args.stage.limit c.args.stage.rows p a.0 a.1.leads
-    (omega (arith, c.if-left-arrival.false, a.1.orders_are, c.requires.done))
-    (c.in-Err.ensures.whole _ (made_as _ _ _ line c.entry_text.ensures))
+    let within : entry_done p a.0 ≤ c.args.stage.limit =
+    omega (arith, c.if-left-arrival.false, a.1.orders_are, c.requires.done) in
+    let gains = c.in-Err.ensures.whole _ (made_as _ _ _ line c.entry_text.ensures) in (
+      entry_breaks c.args.stage.limit c.args.stage.rows p a.0 a.1.leads within gains,
+      entry_stops c.args.stage.limit c.args.stage.rows p a.0 a.1.leads within
+          (there c.args.stage.limit p a.0 a.1.orders_are c.obey-2.ensures.state) c.in-Err.fault gains
+          c.in-Err.ensures.memory,
+    )
 
 pub overflow_add-done : goal.overflow_add-done
 overflow_add-done g c =
@@ -81,5 +86,9 @@ returns-in-Err-write_line-clause-passes g c =
     let count : c.args.stage.done + c.args.arrival.orders + c.in-Returned.orders ≡ (part_behind p b).done =
     ap (λ n. c.args.stage.done + n + c.in-Returned.orders) a.1.orders_are in
     let told = returned_is b last c.directive.ensures c.order-address.ensures.is count in
-    return_breaks l c.args.stage.rows p b (c.in_default.ensures.whole _ (made_as _ _ _ line c.entry_text.ensures))
-    (c.in-Err-write_line.ensures.whole _ (made_as _ _ _ told c.returned_text.ensures))
+    let whole = c.in_default.ensures.whole _ (made_as _ _ _ line c.entry_text.ensures) in
+    let gains = c.in-Err-write_line.ensures.whole _ (made_as _ _ _ told c.returned_text.ensures) in (
+      return_breaks l c.args.stage.rows p b whole gains,
+      return_stops l c.args.stage.rows p b _ _ _ last whole c.in-Err-write_line.fault gains
+          c.in-Err-write_line.ensures.memory,
+    )

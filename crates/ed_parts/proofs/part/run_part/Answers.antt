@@ -1,4 +1,4 @@
-use Rattle.std.proofs.Common.{◌+◌, ◌-◌, ◌∙◌, refl, length}
+use Rattle.std.proofs.Common.{inl, ◌+◌, ◌-◌, ◌∙◌, refl, length}
 use Rattle.ed_io.proofs.Calls.{gains_none}
 use Rattle.ed_parts.specs.declared.tape.PartsEnd.TheVariants.{Faulty}
 use Rattle.ed_parts.specs.Parts.{faulty}
@@ -34,4 +34,4 @@ returns-in-Err-At-clause-passes g c =
 pub returns-in-Err-Memory-clause-passes : goal.returns-in-Err-Memory-clause-passes
 returns-in-Err-Memory-clause-passes g c =
     let p = stage_part c.args.stage c.args.machine.now in
-    breaks_first c.args.stage.limit c.args.stage.rows p _ (part_opens p c.requires.back)
+    (breaks_first c.args.stage.limit c.args.stage.rows p _ (part_opens p c.requires.back), inl (refl, refl))

@@ -1,4 +1,4 @@
-use Rattle.std.proofs.Common.{refl, ap, arith, length}
+use Rattle.std.proofs.Common.{refl, ◌∙◌, ap, arith, length}
 use Rattle.ed_parts.proofs.Passing.{ahead_first, answers_broken, answers_over, goes_onward}
 use Rattle.ed_parts.proofs.Reached.{each_reached}
 use Rattle.ed_parts.proofs.Runs.{each_end}
@@ -16,7 +16,7 @@ parts-init g c =
       done = omega arith;
       many = omega arith;
       orders = omega arith;
-      later = omega arith;
+      faults = refl;
     }
 
 pub returns-in-Ok-Over-clause-tells : goal.returns-in-Ok-Over-clause-tells
@@ -63,5 +63,5 @@ parts-preserved g c =
       done = omega (arith, o.later.within);
       many = omega (arith, i.many, o.later.later);
       orders = omega (arith, i.orders, o.later.soon, o.later.later);
-      later = omega (arith, i.later, c.in-Ok-Back.ensures.later);
+      faults = c.in-Ok-Back.ensures.faults ∙ i.faults;
     }

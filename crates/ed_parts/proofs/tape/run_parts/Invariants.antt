@@ -18,7 +18,7 @@ invariant-parts g l = record {
   done : l.done ≤ l.limit;
   many : 2 * l.number ≤ l.done + 2;
   orders : l.machine.orders ≤ l.fn.machine.orders + l.done;
-  later : g.K.Sink.faults l.fn.out ≤ g.K.Sink.faults l.out;
+  faults : g.K.Sink.faults l.out ≡ g.K.Sink.faults l.fn.out;
 }
 
 abbrev pub decreases-parts : goal.decreases-parts

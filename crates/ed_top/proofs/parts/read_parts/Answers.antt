@@ -1,3 +1,4 @@
+use Rattle.std.proofs.Common.{refl}
 use Rattle.ed_top.specs.Clause.{device}
 use Rattle.ed_top.proofs.InParts.{parts_broken, parts_none, parts_told, parts_untold}
 use Rattle.ed_io.proofs.Calls.{gains_none}
@@ -6,7 +7,7 @@ use Rattle.ed_top.proofs.parts.read_parts.Goals as goal
 pub returns-in_default : goal.returns-in_default
 returns-in_default g c =
     let out = device g.K.Sink.held g.K.Sink.faults c.args.out.now c.args.out.now in
-    parts_none c.args.settings c.args.rows.items out (gains_none out.before)
+    (refl, parts_none c.args.settings c.args.rows.items out (gains_none out.before))
 
 pub returns-in-Ok-end_text : goal.returns-in-Ok-end_text
 returns-in-Ok-end_text g c =
@@ -14,18 +15,20 @@ returns-in-Ok-end_text g c =
       c.end_status.ensures.low,
       parts_told c.args.settings c.args.rows.items c.in-Ok.ensures.is out
           c.in-Ok-run_parts.ensures.tells c.in-Ok-end_text.ensures c.end_status.ensures.is,
+      c.in-Ok-run_parts.ensures.faults,
     )
 
 pub returns-in-Ok-run_parts : goal.returns-in-Ok-run_parts
 returns-in-Ok-run_parts g c =
-    let out = device g.K.Sink.held g.K.Sink.faults c.args.out.now c.run_parts.new.out in
-    parts_untold c.args.settings c.args.rows.items c.in-Ok.ensures.is out
-    c.in-Ok-run_parts.ensures.tells
+    let out = device g.K.Sink.held g.K.Sink.faults c.args.out.now c.run_parts.new.out in (
+      c.in-Ok-run_parts.ensures.faults,
+      parts_untold c.args.settings c.args.rows.items c.in-Ok.ensures.is out c.in-Ok-run_parts.ensures.tells,
+    )
 
 pub returns-in-Err-Failed : goal.returns-in-Err-Failed
 returns-in-Err-Failed g c =
     let out = device g.K.Sink.held g.K.Sink.faults c.args.out.now c.run_parts.new.out in (
-      c.in-Err-Failed.ensures.cause c.in-Err-Failed.field-0-is,
+      rw c.in-Err-Failed.field-0-is at c.in-Err-Failed.ensures.faults,
       parts_broken c.args.settings c.args.rows.items c.in-Ok.ensures.is out c.in-Err-Failed.field-0
           c.run_parts.new.machine
           c.in-Err-Failed.ensures.tells,
@@ -33,7 +36,8 @@ returns-in-Err-Failed g c =
 
 pub returns : goal.returns
 returns g c =
-    let out = device g.K.Sink.held g.K.Sink.faults c.args.out.now c.run_parts.new.out in
-    parts_broken c.args.settings c.args.rows.items c.in-Ok.ensures.is out c.in-Err-Memory.field-0
-    c.run_parts.new.machine
-    c.in-Err-Memory.ensures.tells
+    let out = device g.K.Sink.held g.K.Sink.faults c.args.out.now c.run_parts.new.out in (
+      rw c.in-Err-Memory.field-0-is at c.in-Err-Memory.ensures.faults,
+      parts_broken c.args.settings c.args.rows.items c.in-Ok.ensures.is out c.in-Err-Memory.field-0
+          c.run_parts.new.machine c.in-Err-Memory.ensures.tells,
+    )

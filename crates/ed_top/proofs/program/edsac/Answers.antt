@@ -43,7 +43,7 @@ returns-in-Err-Usage-clause-ended g c =
     let out = device g.K.Sink.held g.K.Sink.faults c.args.out.now c.args.out.now in
     by_line (command_line (map string_bytes c.args.words.now)) None _ _ _ _
     (usage_line _ _ c.in-Err-Usage.field-0-is c.in-Err-Usage.ensures.is)
-    (with_due (known usage_outcome) source out c.tell.ensures (λ e. cc) (λ e. cc) (λ bytes told. told)
+    (with_due (known usage_outcome) source out refl refl c.tell.ensures (λ e. cc) (λ e. cc) (λ bytes told. told)
     (record { wrote = gains_none out.before; note_is = refl; status_is = refl }))
 
 pub returns-in-Err-Memory-clause-ended : goal.returns-in-Err-Memory-clause-ended
@@ -51,7 +51,7 @@ returns-in-Err-Memory-clause-ended g c =
     let line = command_line (map string_bytes c.args.words.now) in
     let source = device g.S.Source.left g.S.Source.faults c.args.source.now c.args.source.now in
     let out = device g.K.Sink.held g.K.Sink.faults c.args.out.now c.args.out.now in
-    with_no_memory (output line) source out _ _
+    with_no_memory (output line) source out _ _ refl refl
     (none_due (output line) source out (line_once line) (gains_none out.before))
     c.tell-in-Err-Memory.ensures
 

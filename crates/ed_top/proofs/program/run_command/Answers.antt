@@ -1,13 +1,13 @@
-use Rattle.std.proofs.Common.{subst}
+use Rattle.std.proofs.Common.{refl, subst}
 use Rattle.std.specs.Prelude.{Ok}
 use Rattle.ed_top.specs.declared.devices.InputStop.TheVariants as input
 use Rattle.ed_top.specs.declared.devices.Stop.TheVariants as stop
 use Rattle.ed_words.specs.Texts.{Text}
-use Rattle.ed_top.specs.Private.Stages.{Carried, ForInput, TellsLine}
+use Rattle.ed_top.specs.Private.Stages.{Carried, ForInput}
 use Rattle.ed_top.specs.Output.{answer}
-use Rattle.ed_top.specs.Clause.{WrotePart, device}
+use Rattle.ed_top.specs.Clause.{WritesLastLine, WrotePart, device}
 use Rattle.ed_io.proofs.Calls.{gains_none}
-use Rattle.ed_top.proofs.Endings.{carried_stop, due_input, input_by, none_due, stop_by}
+use Rattle.ed_top.proofs.Endings.{carried_stop, due_input, fine_source, fine_unread, input_by, none_due, stop_by}
 use Rattle.ed_top.proofs.Endings.{with_broken_out, with_long, with_no_memory, with_read_fault, with_rest}
 use Rattle.ed_top.proofs.OneOutcome.{answer_once}
 use Rattle.ed_top.proofs.program.run_command.Goals as goal
@@ -21,7 +21,7 @@ returns-in-Err-Failed g c =
     (stop_by a source c.reads_input.result c.in-Err-Failed.field-0 input.Failed c.reads_input.ensures
     c.in-Err-Failed.field-0-is
     c.in-Err-Failed.ensures)
-    (gains_none out.before) c.tell.ensures
+    (gains_none out.before) refl c.tell.ensures
 
 pub returns-in-Err-Memory : goal.returns-in-Err-Memory
 returns-in-Err-Memory g c =
@@ -29,6 +29,11 @@ returns-in-Err-Memory g c =
     let source = device g.S.Source.left g.S.Source.faults c.args.source.now c.input_of.new.source in
     let out = device g.K.Sink.held g.K.Sink.faults c.args.out.now c.args.out.now in
     with_no_memory a source out _ _
+    (fine_unread a source
+    (stop_by a source c.reads_input.result c.in-Err-Memory.field-0 input.Memory c.reads_input.ensures
+    c.in-Err-Memory.field-0-is
+    c.in-Err-Memory.ensures))
+    refl
     (none_due a source out (answer_once c.args.command.action c.args.command.settings) (gains_none out.before))
     c.tell-in-Err-Memory.ensures
 
@@ -41,7 +46,7 @@ returns-in-Err-TooLong g c =
     (stop_by a source c.reads_input.result c.in-Err-TooLong.field-0 input.TooLong c.reads_input.ensures
     c.in-Err-TooLong.field-0-is
     c.in-Err-TooLong.ensures)
-    (gains_none out.before) c.tell-in-Err-TooLong.ensures
+    (gains_none out.before) refl c.tell-in-Err-TooLong.ensures
 
 pub returns-in-Ok-carry_out : goal.returns-in-Ok-carry_out
 returns-in-Ok-carry_out g c =
@@ -53,7 +58,7 @@ returns-in-Ok-carry_out g c =
     with_rest a source out c.in-Ok.input rest
     (input_by a source c.reads_input.result (Ok c.in-Ok.input) c.reads_input.ensures c.in-Ok.ensures)
     (subst (λ (t : Text). Carried a t out (Ok rest)) c.deref.ensures.value c.in-Ok-carry_out.ensures)
-    (subst (λ (t : Text). TellsLine note t rest.status c.tell-in-Ok-carry_out.result)
+    (subst (λ (t : Text). WritesLastLine note t rest.status c.tell-in-Ok-carry_out.result)
     c.deref-in-Ok-carry_out.ensures.value
     c.tell-in-Ok-carry_out.ensures)
 
@@ -66,11 +71,14 @@ returns-in-Err-Failed-carry_out g c =
     let broken =
     carried_stop a _ out c.in-Err-Failed-carry_out.field-0 stop.Failed c.in-Err-Failed-carry_out.field-0-is
     c.in-Err-Failed-carry_out.ensures in
-    with_broken_out a source out note broken.0
+    with_broken_out a source out note
+    (fine_source a source c.in-Ok.input
+    (input_by a source c.reads_input.result (Ok c.in-Ok.input) c.reads_input.ensures c.in-Ok.ensures))
+    broken.0
     (due_input a source c.in-Ok.input _
     (input_by a source c.reads_input.result (Ok c.in-Ok.input) c.reads_input.ensures c.in-Ok.ensures)
     (subst (λ (t : Text). ForInput a t (λ o. WrotePart out o.out)) c.deref.ensures.value broken.1))
-    (gains_none note.before)
+    (gains_none note.before) refl
 
 pub returns : goal.returns
 returns g c =
@@ -81,7 +89,10 @@ returns g c =
     carried_stop a _ out c.in-Err-Memory-carry_out.field-0 stop.Memory c.in-Err-Memory-carry_out.field-0-is
     c.in-Err-Memory-carry_out.ensures in
     with_no_memory a source out _ _
+    (fine_source a source c.in-Ok.input
+    (input_by a source c.reads_input.result (Ok c.in-Ok.input) c.reads_input.ensures c.in-Ok.ensures))
+    stopped.0
     (due_input a source c.in-Ok.input _
     (input_by a source c.reads_input.result (Ok c.in-Ok.input) c.reads_input.ensures c.in-Ok.ensures)
-    (subst (λ (t : Text). ForInput a t (λ o. WrotePart out o.out)) c.deref.ensures.value stopped))
+    (subst (λ (t : Text). ForInput a t (λ o. WrotePart out o.out)) c.deref.ensures.value stopped.1))
     c.tell-in-Err-Memory-carry_out.ensures
