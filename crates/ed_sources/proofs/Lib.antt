@@ -1,5 +1,5 @@
-mod TextLines
-mod Decimals
+pub mod TextLines
+pub mod Decimals
 pub mod Said
 pub mod SaidMaths
 pub mod SaidDemo
@@ -12,7 +12,7 @@ pub mod DemoAccepted
 pub mod Stops
 mod Calling
 mod CalledRoutines
-mod AtEntry
+pub mod AtEntry
 mod CalledMaths
 mod Along
 pub mod PrintAndNewline

@@ -29,17 +29,18 @@ digits_struck (d ∷ ds) rest h =
     let p = and_parts (nat_lt d 10) (are_digits ds) h in
     digit_struck d (ds ++ rest) (lt_of d 10 p.0) ∙ ap (λ (x : List ℕ). (48 + d) ∷ x) (digits_struck ds rest p.1)
 
--- behind a figure shift they are the number in decimal, whatever is printed behind them
-shown : (n : ℕ) → n < 65536 → (rest : List ℕ) → paper (11 ∷ digits n ++ rest) ≡ decimal n ++ paper_from Figures rest
-shown n small rest = digits_struck (digits n) rest (are n small)
+-- after a figure shift they are the number in decimal, whatever is printed after them
+pub number_shown : (n : ℕ) → n < 65536 → (rest : List ℕ)
+    → paper_from Figures (11 ∷ digits n ++ rest) ≡ decimal n ++ paper_from Figures rest
+number_shown n small rest = digits_struck (digits n) rest (are n small)
     ∙ ap (λ (x : List ℕ). x ++ paper_from Figures rest) (decimal_is n small)
 
 pub digits_printed : (n : ℕ) → n < 65536 → paper (11 ∷ digits n) ≡ decimal n
 digits_printed n small =
-    ap (λ (x : List ℕ). paper (11 ∷ x)) (sym (append-nil (digits n))) ∙ shown n small [] ∙ append-nil (decimal n)
+    ap (λ (x : List ℕ). paper (11 ∷ x)) (sym (append-nil (digits n))) ∙ number_shown n small [] ∙ append-nil (decimal n)
 
 -- two numbers, each on a line of its own
 pub lines_printed : (n m : ℕ) → n < 65536 → m < 65536
     → paper (11 ∷ digits n ++ 18 ∷ 24 ∷ 11 ∷ digits m) ≡ decimal n ++ 13 ∷ 10 ∷ decimal m
 lines_printed n m small few =
-    shown n small (18 ∷ 24 ∷ 11 ∷ digits m) ∙ ap (λ (x : List ℕ). decimal n ++ 13 ∷ 10 ∷ x) (digits_printed m few)
+    number_shown n small (18 ∷ 24 ∷ 11 ∷ digits m) ∙ ap (λ (x : List ℕ). decimal n ++ 13 ∷ 10 ∷ x) (digits_printed m few)

@@ -19,15 +19,15 @@ use Rattle.ed_sources.proofs.Decimals.{are, are_digits}
 use Rattle.ed_sources.proofs.Said.{read_lines}
 use Rattle.ed_sources.proofs.Stops.{LeadsToStop, behind}
 
--- the digit rows of a tape are the digits that it begins with
-rows_are : (ds : List ℕ) → are_digits ds ≡ true → digit_rows (ds ++ 17 ∷ []) ≡ ds
-rows_are [] h = refl
-rows_are (d ∷ ds) h =
-    let p = and_parts (nat_lt d 10) (are_digits ds) h in rw p.0 (ap (λ (x : List ℕ). d ∷ x) (rows_are ds p.1))
+-- the digit rows of a tape are the digits that it begins with, and then its other rows are left
+pub rows_are : (ds rest : List ℕ) → are_digits ds ≡ true → digit_rows (ds ++ 17 ∷ rest) ≡ ds
+rows_are [] rest h = refl
+rows_are (d ∷ ds) rest h =
+    let p = and_parts (nat_lt d 10) (are_digits ds) h in rw p.0 (ap (λ (x : List ℕ). d ∷ x) (rows_are ds rest p.1))
 
-rest_is : (ds : List ℕ) → are_digits ds ≡ true → after_digits (ds ++ 17 ∷ []) ≡ 17 ∷ []
-rest_is [] h = refl
-rest_is (d ∷ ds) h = let p = and_parts (nat_lt d 10) (are_digits ds) h in rw p.0 (rest_is ds p.1)
+pub rest_is : (ds rest : List ℕ) → are_digits ds ≡ true → after_digits (ds ++ 17 ∷ rest) ≡ 17 ∷ rest
+rest_is [] rest h = refl
+rest_is (d ∷ ds) rest h = let p = and_parts (nat_lt d 10) (are_digits ds) h in rw p.0 (rest_is ds rest p.1)
 
 module _ (z : Size) (n : ℕ) (small : n < 65536) where
   abbrev s : State
@@ -52,10 +52,10 @@ module _ (z : Size) (n : ℕ) (small : n < 65536) where
   tape_is = append-nil (digits n ++ 17 ∷ [])
 
   ends_with : after_digits s.tape ≡ 17 ∷ []
-  ends_with = ap after_digits tape_is ∙ rest_is (digits n) (are n small)
+  ends_with = ap after_digits tape_is ∙ rest_is (digits n) [] (are n small)
 
   rows : digit_rows s.tape ≡ digits n
-  rows = ap digit_rows tape_is ∙ rows_are (digits n) (are n small)
+  rows = ap digit_rows tape_is ∙ rows_are (digits n) [] (are n small)
 
   taken : ReadsNumber s 56 61 86
   taken =

@@ -1,0 +1,46 @@
+//! What the tests share: a run of a program's text.
+
+use ed_io::{SureSink, SureSource};
+use ed_programs::Refusal;
+use ed_top::edsac;
+use std::alloc::Global;
+use std::process::Abort;
+use std::test::Fail;
+
+/// The most bytes that an output keeps.
+const ROOM: usize = 1 << 16;
+
+/// Checks that the program was given, and that its run prints a text and stops.
+pub fn prints(
+    rt: &impl Abort,
+    alloc: Global,
+    program: Result<String, Refusal>,
+    wanted: &str,
+) -> Result<(), Fail> {
+    assert!(rt; program.is_ok(), "no program that prints {wanted}");
+    if let Ok(program) = program {
+        let words = vec![in alloc; String::from_str(alloc, "run")?]?;
+        let mut source = SureSource::new(program.as_bytes().to_vec(alloc)?);
+        let mut out = SureSink::new(alloc, ROOM)?;
+        let mut note = SureSink::new(alloc, ROOM)?;
+        let status = edsac(alloc, words.as_slice(), &mut source, &mut out, &mut note);
+        assert_eq!(rt; status, 0, "the status of the program that prints {wanted}");
+        assert_eq!(rt;
+            out.bytes(),
+            wanted.as_bytes(),
+            "what is printed in place of {wanted}"
+        );
+    }
+    Ok(())
+}
+
+/// Checks that there is no program, for this cause.
+pub fn is_refused(
+    rt: &impl Abort,
+    program: Result<String, Refusal>,
+    cause: Refusal,
+    data: &str,
+) -> Result<(), Fail> {
+    assert!(rt; program == Err(cause), "the program for {data}");
+    Ok(())
+}

@@ -1,0 +1,106 @@
+-- A line `data` with numbers, each ended by F: what it says, and what its rows are.
+use Rattle.std.proofs.Common.{◌≡◌, ◌∙◌, ℕ, zero, suc, ◌+◌, ◌*◌, ◌<◌, ◌≤◌, Bool, true, false, List, [], ◌∷◌, ◌++◌, ap, refl, subst, arith}
+use Rattle.std.proofs.Common.{append_assoc, codes, length, length-append, map, nat_lt}
+use Rattle.std.specs.Prelude.{◌==◌, ◌&&◌, not, Some, None, Ok}
+use Rattle.std.specs.Fmt.{decimal}
+use Rattle.std.specs.List.{list_all}
+use Rattle.std.proofs.lemmas.Bool.{and_parts, not-true}
+use Rattle.std.proofs.lemmas.List.{map-append}
+use Rattle.std.proofs.lemmas.List.Folds.{list_all-append}
+use Rattle.ed_words.proofs.Numbers.{eq_false, le_true, lt_of}
+use Rattle.ed_words.specs.Texts.{Text}
+use Rattle.ed_codes.specs.Spelling.{row_of}
+use Rattle.ed_syntax.specs.Parts.{quoted, run}
+use Rattle.ed_syntax.specs.Grammar.{array, row, spells}
+use Rattle.ed_syntax.specs.Sources.{is_line_byte, line_of}
+use Rattle.ed_syntax.specs.declared.program.Statement.TheVariants as statements
+use Rattle.ed_syntax.specs.Private.PartFronts.{has_quote}
+use Rattle.ed_syntax.proofs.PartLemmas.{quote_parts}
+use Rattle.ed_routines.specs.Digits.{digits}
+use Rattle.ed_sources.proofs.Decimals.{are, both, decimal_is, few_bytes, line_bytes, no_quotes, row_bytes, rows_are, written}
+use Rattle.ed_programs.specs.Numbers.{numbers_line, numbers_text}
+use Rattle.ed_programs.proofs.SourceLines.{Marked, by_parts}
+
+-- the rows of numbers on a tape, each ended by F
+abbrev pub number_rows : List ℕ → List ℕ
+number_rows [] = []
+number_rows (n ∷ ns) = digits n ++ 17 ∷ number_rows ns
+
+-- each of them is below 65536
+abbrev pub are_small : List ℕ → Bool
+are_small ns = list_all (λ n. nat_lt n 65536) ns
+
+-- what the bytes of such numbers are
+pub record AreNumbers (ns : List ℕ) (bytes : Text) : Type 0 where
+  pub line : list_all is_line_byte bytes ≡ true
+  pub quote : list_all (λ b. not (b == 34)) bytes ≡ true
+  pub spelled : list_all (λ b. spells (row_of b)) bytes ≡ true
+  pub rows : map (λ b. row (row_of b)) bytes ≡ number_rows ns
+  pub few : length bytes ≤ 6 * length ns
+
+all_numbers : (ns : List ℕ) → are_small ns ≡ true → AreNumbers ns (numbers_text ns)
+all_numbers [] h = record { line = refl; quote = refl; spelled = refl; rows = refl; few = omega arith }
+all_numbers (n ∷ ns) h =
+    let p = and_parts (nat_lt n 65536) (are_small ns) h in
+    let small = lt_of n 65536 p.0 in
+    let ds : List ℕ = digits n in
+    let is = are n small in
+    let rest = all_numbers ns p.1 in
+    let tail : Text = numbers_text ns in
+    let each : (test : ℕ → Bool) → test 70 ≡ true → list_all test (written ds) ≡ true → list_all test tail ≡ true
+    → list_all test (written ds ++ 70 ∷ tail) ≡ true
+    = λ test f d t. list_all-append test (written ds) (70 ∷ tail) ∙ rw (d, f, t) refl in
+    let long = length-append (written ds) (70 ∷ tail) in
+    let here = few_bytes n small in
+    let more = rest.few in
+    subst (λ (bytes : Text). AreNumbers (n ∷ ns) (bytes ++ 70 ∷ tail)) (decimal_is n small) (record {
+      line = each is_line_byte refl (line_bytes ds is) rest.line;
+      quote = each (λ b. not (b == 34)) refl (no_quotes ds is) rest.quote;
+      spelled = each (λ b. spells (row_of b)) refl (row_bytes ds is) rest.spelled;
+      rows = map-append (λ b. row (row_of b)) (written ds) (70 ∷ tail)
+          ∙ (let first = rows_are ds is in let next = rest.rows in λ i. first i ++ 17 ∷ next i);
+      few = omega (arith, long, here, more);
+    })
+
+without_quote : (bytes : Text) → list_all (λ b. not (b == 34)) bytes ≡ true → has_quote bytes ≡ false
+without_quote [] h = refl
+without_quote (b ∷ bytes) h =
+    let p = and_parts (not (b == 34)) (list_all (λ b. not (b == 34)) bytes) h in
+    let here : (b == 34) ≡ false = not-true (b == 34) p.0 in
+    rw here (without_quote bytes p.1)
+
+some_byte : (ns : List ℕ) → 1 ≤ length ns → 1 ≤ length (numbers_text ns)
+some_byte [] l = absurd (omega arith)
+some_byte (n ∷ ns) l = let long = length-append (decimal n) (70 ∷ numbers_text ns) in omega (arith, long)
+
+abbrev pub data_mark : ℕ → List ℕ → Marked
+data_mark k ns = record { number = k; label = None; statement = statements.Rows (array (number_rows ns)) }
+
+module _ (two : Bool) (k : ℕ) (ns : List ℕ) (later : 2 ≤ k) (some : 1 ≤ length ns) (few : length ns ≤ 18)
+    (small : are_small ns ≡ true) where
+  abbrev bytes : Text
+  bytes = numbers_text ns
+
+  pub data_plain : list_all is_line_byte (numbers_line ns) ≡ true
+  data_plain = let plain = (all_numbers ns small).line in list_all-append is_line_byte bytes (34 ∷ []) ∙ rw plain refl
+
+  pub data_short : length (numbers_line ns) ≤ 120
+  data_short =
+      let long = length-append bytes (34 ∷ []) in
+      let most = (all_numbers ns small).few in
+      omega (arith, long, most)
+
+  pub data_says : line_of two k (numbers_line ns) ≡ Ok (record {
+    label = None;
+    statement = Some (statements.Rows (array (number_rows ns)));
+  })
+  data_says =
+      let all = all_numbers ns small in
+      let spelled = all.spelled in
+      let most = all.few in
+      let there = le_true 1 (length bytes) (some_byte ns some) in
+      let fits = le_true (length bytes) 120 (omega arith) in
+      let no_version : (k == 1) ≡ false = eq_false k 1 (omega (arith, later)) in
+      by_parts two k (numbers_line ns) (run (codes "data") ∷ quoted bytes ∷ []) data_plain data_short
+      (let e = quote_parts [] bytes [] (without_quote bytes all.quote) in rw e refl)
+      (let e = all.rows in rw (no_version, there, fits, spelled, e) refl)

@@ -1,0 +1,70 @@
+-- Lines of a source with data: one that ends with `word N`, whatever the number is, and a `use` line with H.
+use Rattle.std.proofs.Common.{◌≡◌, ◌∙◌, ℕ, ◌+◌, ◌<◌, ◌≤◌, true, List, [], ◌∷◌, ◌++◌, ap, subst, arith, length, length-append, codes, pos, nat_le}
+use Rattle.std.specs.Prelude.{Bool, Option, Some, None, Ok}
+use Rattle.std.specs.Fmt.{decimal}
+use Rattle.std.specs.List.{list_all}
+use Rattle.std.proofs.lemmas.List.{length-map}
+use Rattle.ed_words.proofs.Numbers.{le_true}
+use Rattle.ed_words.specs.Decimals.{value}
+use Rattle.ed_words.specs.Texts.{Text}
+use Rattle.ed_syntax.specs.Parts.{LinePart, parts_of, run}
+use Rattle.ed_syntax.specs.Grammar.{array, form_at, is_number, modulo}
+use Rattle.ed_syntax.specs.Sources.{is_line_byte, line_of}
+use Rattle.ed_syntax.specs.declared.program.Statement.TheVariants as statements
+use Rattle.ed_routines.specs.Digits.{digits}
+use Rattle.ed_sources.proofs.Decimals.{are, decimal_is, digit_bytes, few_bytes, line_bytes, run_bytes, some_digit}
+use Rattle.ed_sources.proofs.Decimals.{value_is, written}
+use Rattle.ed_sources.proofs.Said.{a_number, number_parts}
+use Rattle.ed_syntax.specs.declared.program.Operand.TheVariants as operands
+use Rattle.ed_programs.proofs.SourceLines.{Marked, by_parts}
+
+-- what the front of such a line makes of it, whatever bytes stand behind: its label and the parts before `word`
+pub record IsWordFront (two : Bool) (k : ℕ) (front : Text) (label : Option Text) (before : List LinePart) : Type 0 where
+  pub plain : (bytes : Text) → list_all is_line_byte bytes ≡ true → list_all is_line_byte (front ++ bytes) ≡ true
+  pub short : length front ≤ 20
+  pub parts : (bytes : Text) → parts_of bytes ≡ Some (run bytes ∷ [])
+      → parts_of (front ++ bytes) ≡ Some (before ++ run (codes "word") ∷ run bytes ∷ [])
+  pub form : (bytes : Text) → is_number bytes ≡ true → nat_le (value bytes) 131071 ≡ true
+      → form_at two k (before ++ run (codes "word") ∷ run bytes ∷ [])
+      ≡ Some (Some (record { label = label; statement = Some (statements.Number (modulo 17 (pos (value bytes)))) }))
+
+module _ {two : Bool} {k : ℕ} {front : Text} {label : Option Text} {before : List LinePart}
+    (is_front : IsWordFront two k front label before) where
+  word_line : (bytes : Text) (n : ℕ) → list_all is_line_byte bytes ≡ true → length bytes ≤ 5
+      → parts_of bytes ≡ Some (run bytes ∷ []) → is_number bytes ≡ true → value bytes ≡ n → n < 65536
+      → line_of two k (front ++ bytes) ≡ Ok (record { label = label; statement = Some (statements.Number n) })
+  word_line bytes n plain few parts number is small =
+      let long = length-append front bytes in
+      let short = is_front.short in
+      let same : modulo 17 (pos (value bytes)) ≡ n = omega (arith, is, small) in
+      by_parts two k (front ++ bytes) (before ++ run (codes "word") ∷ run bytes ∷ []) (is_front.plain bytes plain)
+      (omega (arith, long, few)) (is_front.parts bytes parts)
+      (is_front.form bytes number (le_true (value bytes) 131071 (omega (arith, is, small)))
+      ∙ ap (λ m. Some (Some (record { label = label; statement = Some (statements.Number m) }))) same)
+
+  pub word_says : (n : ℕ) → n < 65536
+      → line_of two k (front ++ decimal n) ≡ Ok (record { label = label; statement = Some (statements.Number n) })
+  word_says n small =
+      let ds : List ℕ = digits n in
+      let some : 0 < length (written ds) = let e = some_digit n in omega (arith, length-map ds (λ d. 48 + d), e) in
+      subst (λ (bytes : Text). line_of two k (front ++ bytes) ≡ Ok (record {
+        label = label;
+        statement = Some (statements.Number n);
+      }))
+      (decimal_is n small)
+      (word_line (written ds) n (line_bytes ds (are n small)) (few_bytes n small)
+      (number_parts (written ds) some (run_bytes ds (are n small)))
+      (a_number (written ds) some (digit_bytes ds (are n small))) (value_is n small) small)
+
+-- a line with a label and `word N`
+abbrev pub word_mark : ℕ → Text → ℕ → Marked
+word_mark k label n = record { number = k; label = Some label; statement = statements.Number n }
+
+-- a line `use` with H set to the place of a name
+abbrev pub use_mark : ℕ → Text → Text → Text → Marked
+use_mark k routine name at = record {
+  number = k;
+  label = None;
+  statement = statements.Fetch routine name
+      (array (record { letter = 21; operand = operands.Label at (pos 0) } ∷ []));
+}

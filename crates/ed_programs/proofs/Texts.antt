@@ -1,0 +1,30 @@
+-- What a call that writes a program's text answers.
+use Rattle.std.proofs.Common.{◌≡◌, ◌∙◌, inl, ℕ, List, [], ◌∷◌, ◌++◌, ap, sym, refl, subst, append_assoc}
+use Rattle.std.specs.Prelude.{Result, Ok, Err, None, Some, IfOk, IfSome, String, string_bytes}
+use Rattle.std.specs.declared.alloc.AllocError.{AllocError}
+use Rattle.std.specs.declared.alloc.Global.{Global}
+use Rattle.ed_words.specs.Texts.{Text}
+use Rattle.ed_command.specs.declared.command.Settings.{Settings}
+use Rattle.ed_sources.proofs.TextLines.{line_end}
+use Rattle.ed_programs.specs.Programs.{GivesProgram, AnswersWritten, Prints, SourceRuns}
+use Rattle.ed_programs.specs.declared.refusal.Refusal.{Refusal}
+
+-- the answer is what `format!` wrote
+pub written : (text : Result (String Global) AllocError) (r : Result (String Global) Refusal) (wrote wanted : Text)
+    → wrote ≡ wanted → AnswersWritten text r → IfOk text (λ s. IfSome (Some wrote) (λ w. string_bytes s ≡ w))
+    → GivesProgram None wanted r
+written (Ok s) (Ok program) wrote wanted same taken made = (refl, taken ∙ made ∙ same)
+written (Err e) (Ok program) wrote wanted same taken made = absurd taken
+written (Ok s) (Err refusal) wrote wanted same taken made = inl taken
+written (Err e) (Err refusal) wrote wanted same taken made = inl taken
+
+-- a law of a text is one of the program that is answered
+pub prints_of : {orders at : ℕ} {text printed : Text} (r : Result (String Global) Refusal) → GivesProgram None text r
+    → ((s : Settings) → SourceRuns s text orders at printed) → Prints orders at printed r
+prints_of {orders} {at} {text} {printed} (Ok program) gives law = λ s.
+    subst (λ (t : Text). SourceRuns s t orders at printed) (sym gives.1) (law s)
+prints_of (Err refusal) gives law = tt
+
+-- the ends of lines within a text
+pub with_line : (line rest more : Text) → rest ≡ more → line ++ 10 ∷ rest ≡ (line ++ 10 ∷ []) ++ more
+with_line line rest more same = line_end line rest ∙ ap (λ (t : Text). (line ++ 10 ∷ []) ++ t) same

@@ -1,0 +1,101 @@
+-- The source of `examples/hello.edsac` for any text, and what it prints.
+use Rattle.std.specs.Prelude.{◌≡◌, ℕ, ◌≤◌, Bool, true, ◌&&◌, List, [], ◌∷◌, ◌++◌, codes, length, map, nat_le, nat_lt, ◌+◌, ◌*◌}
+use Rattle.std.specs.Prelude.{◌==◌, ◌||◌, if◌then◌else◌, Option, Some, None}
+use Rattle.std.specs.Fmt.{decimal}
+use Rattle.std.specs.List.{list_all}
+use Rattle.ed_words.specs.Texts.{Text}
+use Rattle.ed_codes.specs.Spelling.{row_of}
+use Rattle.ed_syntax.specs.Grammar.{row, spells}
+use Rattle.ed_printer.specs.Paper.{paper}
+use Rattle.ed_command.specs.declared.command.Settings.{Settings}
+use Rattle.ed_sources.specs.Calls.{text_of_lines}
+use Rattle.ed_programs.specs.Programs.{SourceRuns}
+use Rattle.ed_programs.specs.declared.refusal.Refusal.{Refusal}
+use Rattle.ed_programs.specs.declared.refusal.Refusal.TheVariants.{Length, Letter}
+
+-- the end of the line that has the number of rows
+abbrev pub after_count : Text
+after_count = codes " F  ; the order behind the last letter"
+
+-- the lines for a text, given as bytes that spell its rows
+abbrev pub hello_source : Text → List Text
+hello_source q =
+    codes "version 2"
+    ∷ codes "; Prints HELLO and goes to a new line. The order at _print is changed as it runs: its address rises by one."
+    ∷ codes "; Look for: the test that ends the loop, which compares the order itself with the one that must not be obeyed."
+    ∷ codes "segment main"
+    ∷ codes "_next: T _scrap F     ; clear the accumulator"
+    ∷ codes "_print: O letters F   ; print a letter"
+    ∷ codes "A _print F"
+    ∷ codes "A 2 F                 ; location 2 holds 2, which is one address"
+    ∷ codes "U _print F            ; the order that prints the next letter"
+    ∷ codes "S _last F             ; negative as long as letters are left"
+    ∷ codes "G _next F"
+    ∷ codes "T _scrap F"
+    ∷ codes "_call: A _call F      ; the library's way to call a routine: the order itself,"
+    ∷ codes "G n F                 ; and the jump to the routine"
+    ∷ codes "Z F"
+    ∷ (codes "_last: O letters+" ++ (decimal (length q) ++ after_count))
+    ∷ codes "_scrap: P F"
+    ∷ codes "segment text"
+    ∷ (codes "letters: text " ++ 34 ∷ (q ++ 34 ∷ []))
+    ∷ codes "use newline as n"
+    ∷ codes "enter main"
+    ∷ []
+
+abbrev pub hello_text : Text → Text
+hello_text q = text_of_lines (hello_source q)
+
+-- a text of letters, after the letter shift that it begins with (42 is *)
+abbrev pub of_letters : Text → Text
+of_letters letters = 42 ∷ letters
+
+-- a capital letter
+abbrev pub is_capital : ℕ → Bool
+is_capital b = nat_le 65 b && nat_le b 90
+
+-- 1 to 40 capital letters
+pub record AreLetters (letters : Text) : Type 0 where
+  pub some : 1 ≤ length letters
+  pub few : length letters ≤ 40
+  pub capital : list_all is_capital letters ≡ true
+
+-- what speaks against a text as the data of `examples/hello.edsac`
+abbrev pub hello_refusal : Text → Option Refusal
+hello_refusal letters =
+    if length letters == 0 || nat_lt 40 (length letters) then Some Length
+    else if list_all is_capital letters then None else Some Letter
+
+-- the rows of the text
+abbrev pub hello_rows : Text → List ℕ
+hello_rows q = map (λ b. row (row_of b)) q
+
+-- a byte of ASCII that spells a row
+abbrev pub is_row_byte : ℕ → Bool
+is_row_byte b = nat_lt b 128 && spells (row_of b)
+
+-- 1 to 41 of them
+pub record IsRows (q : Text) : Type 0 where
+  pub some : 1 ≤ length q
+  pub few : length q ≤ 41
+  pub spelled : list_all is_row_byte q ≡ true
+
+-- whatever the rows are, the program prints them and a new line, in 7 orders a row and 9 more, and stops at 67
+abbrev pub EachTextIsPrinted : Type 0
+EachTextIsPrinted =
+    (s : Settings) (q : Text) → IsRows q
+    → SourceRuns s (hello_text q) (7 * length q + 9) 67 (paper (hello_rows q ++ 18 ∷ 24 ∷ []))
+
+-- the letters, then carriage return and line feed
+abbrev pub hello_prints : Text → Text
+hello_prints letters = letters ++ 13 ∷ 10 ∷ []
+
+-- 7 orders a letter, and 16 more
+abbrev pub hello_orders : Text → ℕ
+hello_orders letters = 7 * length letters + 16
+
+-- so letters are printed as they are, on a line
+abbrev pub EachNameIsPrinted : Type 0
+EachNameIsPrinted =
+    (s : Settings) (letters : Text) → AreLetters letters
+    → SourceRuns s (hello_text (of_letters letters)) (hello_orders letters) 67 (hello_prints letters)

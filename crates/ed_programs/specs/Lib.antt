@@ -1,0 +1,5 @@
+pub mod Programs
+pub mod Numbers
+pub mod Hello
+pub mod Multiply
+pub mod Add

@@ -1,0 +1,49 @@
+-- What is said of a whole program: what a call that gives its source answers, and what the command `run` answers to it.
+use Rattle.std.specs.Prelude.{◌≡◌, ◌⊎◌, ℕ, ◌+◌, ◌≤◌, List, [], ◌∷◌, ◌++◌, codes, Option, Some, None, Result, Ok, Err}
+use Rattle.std.specs.Prelude.{String, string_bytes}
+use Rattle.std.specs.declared.alloc.AllocError.{AllocError}
+use Rattle.std.specs.declared.alloc.Global.{Global}
+use Rattle.ed_words.specs.Texts.{Text}
+use Rattle.ed_syntax.specs.declared.program.Line.{Line}
+use Rattle.ed_syntax.specs.Sources.{program_of}
+use Rattle.ed_link.specs.Linked.{entry_of}
+use Rattle.ed_link.specs.Tapes.{cost}
+use Rattle.ed_report.specs.Notes.{at_after, entered}
+use Rattle.ed_command.specs.declared.command.Action.TheVariants.{Run}
+use Rattle.ed_command.specs.declared.command.Settings.{Settings}
+use Rattle.ed_top.specs.Answer.{IsDue}
+use Rattle.ed_top.specs.Headline.{RunsFromEntry}
+use Rattle.ed_top.specs.Output.{output}
+use Rattle.ed_programs.specs.declared.refusal.Refusal.{Refusal}
+use Rattle.ed_programs.specs.declared.refusal.Refusal.TheVariants.{Memory}
+
+-- the source is read as these lines, and its run is that from the state at their entry; and where the limit is at least
+-- the orders up to the entry and those of the program together, what the command `run` owes it is this text, the note of
+-- a stop at a place after exactly these orders, and status 0
+pub record SourceRuns (s : Settings) (source : Text) (orders at : ℕ) (text : Text) : Type 0 where
+  pub lines : List Line
+  pub reads : program_of source ≡ Ok lines
+  pub from_entry : RunsFromEntry s lines
+  pub outcome : s.resumes ≡ 0 → s.post_mortem ≡ None → cost lines + orders ≤ s.limit
+      → IsDue (output (Some (record { action = Run; settings = s }))) source (record {
+        out = text;
+        note = entered (entry_of lines) (cost lines) ++ (at_after (codes "stopped") at (cost lines + orders) ++ 10 ∷ []);
+        status = 0;
+      })
+
+-- the answer is the program with this text if nothing speaks against its data, and else the cause; out of memory is
+-- always an answer of its own
+abbrev pub GivesProgram : Option Refusal → Text → Result (String Global) Refusal → Type 0
+GivesProgram cause text (Ok program) = (cause ≡ None) × (string_bytes program ≡ text)
+GivesProgram cause text (Err refusal) = (refusal ≡ Memory) ⊎ (cause ≡ Some refusal)
+
+-- whatever the settings are, the program that is answered prints this text, in exactly these orders, and stops there
+abbrev pub Prints : ℕ → ℕ → Text → Result (String Global) Refusal → Type 0
+Prints orders at text (Ok program) = (s : Settings) → SourceRuns s (string_bytes program) orders at text
+Prints orders at text (Err refusal) = Unit {0}
+
+-- the answer is the text that was written, or that there was no memory for it
+abbrev pub AnswersWritten : Result (String Global) AllocError → Result (String Global) Refusal → Type 0
+AnswersWritten (Ok text) (Ok program) = string_bytes program ≡ string_bytes text
+AnswersWritten (Err e) (Ok program) = ⊥
+AnswersWritten text (Err refusal) = refusal ≡ Memory

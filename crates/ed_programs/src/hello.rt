@@ -1,0 +1,64 @@
+ghost use Rattle.std.specs.Prelude.{◌≡◌, ◌≤◌, None, length};
+ghost use Rattle.std.specs.List.{list_all};
+ghost use Rattle.ed_programs.specs.Hello.{EachTextIsPrinted, hello_orders, hello_prints, hello_refusal, hello_text};
+ghost use Rattle.ed_programs.specs.Hello.{is_capital, of_letters};
+ghost use Rattle.ed_programs.specs.Programs.{GivesProgram, Prints};
+
+use crate::refusal::{Refusal, program_of_text};
+use std::alloc::Global;
+
+/// The most letters that the program prints.
+const MOST_LETTERS: usize = 40;
+
+/// The source that prints these letters and goes to a new line: `examples/hello.edsac` with these instead of `HELLO`.
+pub fn hello_program(alloc: Global, letters: &str) -> Result<String, Refusal>
+    ensures is { GivesProgram (hello_refusal letters.now) (hello_text (of_letters letters.now)) result }
+    ensures law { Prints (hello_orders letters.now) 67 (hello_prints letters.now) result }
+    ensures texts { EachTextIsPrinted }
+{
+    if letters.is_empty() || MOST_LETTERS < letters.len() {
+        return Err(Refusal::Length);
+    }
+    if !are_capitals(letters.as_bytes()) {
+        return Err(Refusal::Letter);
+    }
+    hello_source(alloc, letters)
+}
+
+/// Whether all of these bytes are capital letters.
+fn are_capitals(bytes: &[u8]) -> bool
+    ensures { result ≡ list_all is_capital bytes.now }
+{
+    bytes.iter().all(|byte| b'A' <= *byte && *byte <= b'Z')
+}
+
+/// The source for letters of any number.
+fn hello_source(alloc: Global, letters: &str) -> Result<String, Refusal>
+    requires { length letters.now ≤ 40 }
+    ensures { GivesProgram None (hello_text (of_letters letters.now)) result }
+{
+    let rows = letters.len() + 1;
+    program_of_text(format!(in alloc;
+        "version 2\n\
+        ; Prints HELLO and goes to a new line. The order at _print is changed as it runs: its address rises by one.\n\
+        ; Look for: the test that ends the loop, which compares the order itself with the one that must not be obeyed.\n\
+        segment main\n\
+        _next: T _scrap F     ; clear the accumulator\n\
+        _print: O letters F   ; print a letter\n\
+        A _print F\n\
+        A 2 F                 ; location 2 holds 2, which is one address\n\
+        U _print F            ; the order that prints the next letter\n\
+        S _last F             ; negative as long as letters are left\n\
+        G _next F\n\
+        T _scrap F\n\
+        _call: A _call F      ; the library's way to call a routine: the order itself,\n\
+        G n F                 ; and the jump to the routine\n\
+        Z F\n\
+        _last: O letters+{rows} F  ; the order behind the last letter\n\
+        _scrap: P F\n\
+        segment text\n\
+        letters: text \"*{letters}\"\n\
+        use newline as n\n\
+        enter main\n"
+    ))
+}

@@ -1,0 +1,15 @@
+//! Whole programs, proved for all their data: for each a call that gives its source with the data put in.
+//!
+//! The contract of a call is the exact text of the source, and what the command `run` answers to it: the printed text
+//! in plain mathematics, the number of orders and the status. Stands on `ed_top`, and its proofs on the kit of `ed_paths`.
+#![tactic(auto)]
+
+mod add;
+mod hello;
+mod multiply;
+mod refusal;
+
+pub use add::add_program;
+pub use hello::hello_program;
+pub use multiply::multiply_program;
+pub use refusal::Refusal;

@@ -1,0 +1,34 @@
+ghost use Rattle.ed_programs.specs.Programs.{AnswersWritten};
+
+use std::alloc::AllocError;
+use thiserror::Error;
+
+/// Why there is no program for some data.
+#[derive(Clone, Copy, Debug, PartialEq, Eq, Error)]
+pub enum Refusal {
+    /// The text has no letter, or more letters than the program's line takes.
+    #[error("the text must have 1 to 40 letters")]
+    Length,
+    /// The text has a character that is no capital letter.
+    #[error("the text must have capital letters only")]
+    Letter,
+    /// A number, or what the program makes of the numbers, is 65,536 or more.
+    #[error("the numbers and their results must be below 65536")]
+    Number,
+    /// No memory for the text of the program.
+    #[error("no memory")]
+    Memory,
+}
+
+/// What a number that `print` prints must be below.
+pub const LIMIT: u32 = 65536;
+
+/// The text that `format!` made, or that there was no memory for it.
+pub fn program_of_text(text: Result<String, AllocError>) -> Result<String, Refusal>
+    ensures { AnswersWritten text result }
+{
+    match text {
+        Ok(text) => Ok(text),
+        Err(_) => Err(Refusal::Memory),
+    }
+}
