@@ -13,3 +13,4 @@ pub mod Endings
 mod Writing
 mod Limits
 mod TapeEntries
+mod ReadBack

@@ -15,3 +15,4 @@ pub mod Clause
 pub mod Private
 pub mod Limits
 pub mod TapeEntries
+pub mod ReadBack

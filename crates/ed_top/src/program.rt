@@ -9,6 +9,7 @@ ghost use Rattle.ed_top.specs.Headline.{Headline};
 ghost use Rattle.ed_top.specs.Limits.{EachLimit};
 ghost use Rattle.ed_top.specs.Outcome.{no_memory};
 ghost use Rattle.ed_top.specs.Output.{EachLineHasOneOutcome, answer, output};
+ghost use Rattle.ed_top.specs.ReadBack.{EachWordIsReadBack};
 ghost use Rattle.ed_top.specs.TapeEntries.{EachTapeRunsFromEntry};
 
 use crate::commands::{carry_out, reads_input};
@@ -47,6 +48,7 @@ pub fn edsac<S: Source, K: Sink, L: Sink>(
     ensures first_orders { EachProgramRunsFrom31 }
     ensures tapes { EachTapeRunsFromEntry }
     ensures limits { EachLimit }
+    ensures read_back { EachWordIsReadBack }
 {
     match read_words(alloc, words) {
         Ok(command) => run_command(alloc, command, source, out, note),

@@ -16,6 +16,7 @@ use Rattle.ed_top.proofs.DemoRuns.{each_demo_runs}
 use Rattle.ed_top.proofs.FirstEntries.{runs_from_31}
 use Rattle.ed_top.proofs.Limits.{each_limit}
 use Rattle.ed_top.proofs.OneOutcome.{line_once}
+use Rattle.ed_top.proofs.ReadBack.{each_word_is_read_back}
 use Rattle.ed_top.proofs.Sources.{headline}
 use Rattle.ed_top.proofs.TapeEntries.{tapes_run_from_entry}
 use Rattle.ed_top.proofs.program.edsac.Goals as goal
@@ -117,3 +118,12 @@ returns-in-Err-Usage-clause-tapes g c = tapes_run_from_entry
 
 pub returns-in-Err-Memory-clause-tapes : goal.returns-in-Err-Memory-clause-tapes
 returns-in-Err-Memory-clause-tapes g c = tapes_run_from_entry
+
+pub returns-in-Ok-clause-read_back : goal.returns-in-Ok-clause-read_back
+returns-in-Ok-clause-read_back g c = each_word_is_read_back
+
+pub returns-in-Err-Usage-clause-read_back : goal.returns-in-Err-Usage-clause-read_back
+returns-in-Err-Usage-clause-read_back g c = each_word_is_read_back
+
+pub returns-in-Err-Memory-clause-read_back : goal.returns-in-Err-Memory-clause-read_back
+returns-in-Err-Memory-clause-read_back g c = each_word_is_read_back

@@ -1,0 +1,16 @@
+-- What a post-mortem shows of the words that it prints: all of each word (this project's own rule).
+use Rattle.std.specs.Prelude.{◌≡◌, ℕ, ◌+◌, ◌<◌, ◌≤◌, Some}
+use Rattle.ed_store.specs.Cells.{short_at}
+use Rattle.ed_machine.specs.State.{State}
+use Rattle.ed_command.specs.declared.command.Window.{Window}
+use Rattle.ed_top.specs.Runs.{post_mortem_codes}
+
+-- two states have the same words at the locations of a window
+abbrev pub HaveSameWords : Window → State → State → Type 0
+HaveSameWords w s t = (a : ℕ) → w.first ≤ a → a < w.first + w.count → short_at s.store a ≡ short_at t.store a
+
+-- if post-mortems of two states print the same codes, the states have the same words there: so it is of the states in
+-- which two runs end
+abbrev pub EachWordIsReadBack : Type 0
+EachWordIsReadBack =
+    (w : Window) (s t : State) → post_mortem_codes (Some w) s ≡ post_mortem_codes (Some w) t → HaveSameWords w s t
