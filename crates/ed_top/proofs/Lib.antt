@@ -14,3 +14,4 @@ mod Writing
 mod Limits
 mod TapeEntries
 mod ReadBack
+mod BothSizes

@@ -16,3 +16,4 @@ pub mod Private
 pub mod Limits
 pub mod TapeEntries
 pub mod ReadBack
+pub mod BothSizes

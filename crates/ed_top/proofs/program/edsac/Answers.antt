@@ -11,6 +11,7 @@ use Rattle.ed_top.specs.Output.{output}
 use Rattle.ed_top.specs.Clause.{Device, ProgramEnded, device}
 use Rattle.ed_io.proofs.Calls.{gains_none}
 use Rattle.ed_top.proofs.Endings.{none_due, with_due, with_no_memory}
+use Rattle.ed_top.proofs.BothSizes.{each_size}
 use Rattle.ed_top.proofs.CallRuns.{each_call_runs}
 use Rattle.ed_top.proofs.DemoRuns.{each_demo_runs}
 use Rattle.ed_top.proofs.FirstEntries.{runs_from_31}
@@ -127,3 +128,12 @@ returns-in-Err-Usage-clause-read_back g c = each_word_is_read_back
 
 pub returns-in-Err-Memory-clause-read_back : goal.returns-in-Err-Memory-clause-read_back
 returns-in-Err-Memory-clause-read_back g c = each_word_is_read_back
+
+pub returns-in-Ok-clause-sizes : goal.returns-in-Ok-clause-sizes
+returns-in-Ok-clause-sizes g c = each_size
+
+pub returns-in-Err-Usage-clause-sizes : goal.returns-in-Err-Usage-clause-sizes
+returns-in-Err-Usage-clause-sizes g c = each_size
+
+pub returns-in-Err-Memory-clause-sizes : goal.returns-in-Err-Memory-clause-sizes
+returns-in-Err-Memory-clause-sizes g c = each_size
