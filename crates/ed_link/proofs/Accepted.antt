@@ -23,7 +23,7 @@ use Rattle.ed_syntax.specs.Programs.{is_line}
 use Rattle.ed_symbols.specs.Places.{first_spot}
 use Rattle.ed_link.specs.Linked.{homes_of, linked, data_behind, entry_of, theta_from}
 use Rattle.ed_link.specs.Punch.{item_with, punched}
-use Rattle.ed_link.specs.Faults.{any_enter, missing, sooner, fault, fault_line}
+use Rattle.ed_link.specs.Private.FaultTests.{any_enter, missing, sooner, fault, fault_line}
 use Rattle.ed_link.specs.Tapes.{punched_rows, tape, arrival}
 use Rattle.ed_link.proofs.Passes.{taken}
 use Rattle.ed_link.proofs.Inductions.{AreFaultless, Ends, ends}

@@ -16,7 +16,7 @@ use Rattle.ed_library.specs.Routines.{find, find_from, table_item, routine_item,
 use Rattle.ed_syntax.specs.declared.program.Operand.{Operand}
 use Rattle.ed_syntax.specs.declared.program.Setting.{Setting}
 use Rattle.ed_link.specs.Linked.{set_to}
-use Rattle.ed_link.specs.Faults.{sets}
+use Rattle.ed_link.specs.Private.FaultTests.{sets}
 use Rattle.ed_link.proofs.Uses.{IsKnown, AreKnown}
 
 -- a routine is found among those from an index on

@@ -1,18 +1,126 @@
--- The tape of every source without a fault comes to its linked program.
-use Rattle.std.proofs.Common.{◌≡◌, refl, true}
+-- Each source is accepted or refused, and the tape of each one that is accepted comes to its linked program.
+use Rattle.std.proofs.Common.{◌≡◌, ◌∙◌, inl, inr, ℕ, Bool, true, List, refl, sym, ap}
+use Rattle.std.specs.Prelude.{Option, Some, None, Ok}
 use Rattle.std.specs.List.{list_all}
+use Rattle.ed_words.specs.declared.size.Size.{Size}
+use Rattle.ed_words.specs.Texts.{Text}
 use Rattle.ed_library.specs.Entries.{catalogue}
 use Rattle.ed_library.specs.Ready.{is_ready}
 use Rattle.ed_syntax.specs.Lines.{lines_of}
-use Rattle.ed_syntax.specs.Private.SourceReading.{is_two}
+use Rattle.ed_syntax.specs.Sources.{IsFormFault, IsProgram, IsProgramOrFault}
+use Rattle.ed_syntax.specs.Private.SourceReading.{is_two, program_of}
+use Rattle.ed_syntax.specs.declared.program.Line.{Line}
+use Rattle.ed_syntax.specs.declared.fault.SourceCause.{SourceCause}
+use Rattle.ed_syntax.specs.declared.fault.SourceFault.{SourceFault}
+use Rattle.ed_syntax.specs.declared.fault.SourceFault.TheVariants.{At, Memory}
 use Rattle.ed_syntax.proofs.Formed.{program_formed}
+use Rattle.ed_syntax.proofs.SourceLaws.{has_one_meaning, program_is_read, source_answer}
 use Rattle.ed_link.specs.Answers.{EachSourceComes}
+use Rattle.ed_link.specs.Faults.{IsMeaningFault}
+use Rattle.ed_link.specs.Refusals.{IsAcceptedAs, IsRefused, for_form, for_meaning, IsAcceptedOrRefused}
+use Rattle.ed_link.specs.Refusals.{EachSourceHasOneAnswer}
+use Rattle.ed_link.specs.Private.FaultTests.{fault}
 use Rattle.ed_link.proofs.Accepted.{accepted_law}
+use Rattle.ed_link.proofs.FaultLaw.{FaultIsFound, read_law}
+
+-- ---- accepted or refused
+
+-- a source that says some lines is accepted, or their fault is its fault
+of_lines : (z : Size) (text : Text) (two : Bool) (lines : List Line) → IsProgram text two lines
+    → IsAcceptedOrRefused z text
+of_lines z text two lines p = by_fault (fault z lines) refl
+  where
+    law : FaultIsFound z lines
+    law = read_law z text lines (program_is_read text two lines p)
+
+    by_fault : (f : Option SourceFault) → fault z lines ≡ f → IsAcceptedOrRefused z text
+    by_fault None e = inl (lines, record { two = two; says = p; faultless = law.accepted e })
+    by_fault (Some (At k c)) e = inr (k, c, for_meaning p (law.refused k c e))
+    by_fault (Some Memory) e = absurd (law.no_memory e)
+
+every : (z : Size) (text : Text) → IsAcceptedOrRefused z text
+every z text = by_meaning (has_one_meaning.every text)
+  where
+    by_meaning : IsProgramOrFault text → IsAcceptedOrRefused z text
+    by_meaning (inl p) = of_lines z text p.0 p.1 p.2
+    by_meaning (inr f) = inr (f.0, f.1, for_form f.2)
+
+-- two faults of meaning of one source are one
+same_fault : (z : Size) (text : Text) (two also : Bool) (lines others : List Line) (k other : ℕ)
+    (c another : SourceCause) → IsProgram text two lines → IsProgram text also others → IsMeaningFault z lines k c
+    → IsMeaningFault z others other another → (k ≡ other) × (c ≡ another)
+same_fault z text two also lines others k other c another p q f g =
+    let same = has_one_meaning.one_program text two also lines others p q in
+    let e = (read_law z text lines (program_is_read text two lines p)).refuses k c f in
+    let h = (read_law z text others (program_is_read text also others q)).refuses other another g in
+    let both : ◌≡◌ {A = Option SourceFault} (Some (At k c)) (Some (At other another)) =
+    sym e ∙ ap (fault z) same ∙ h in (number both, cause both)
+  where
+    number : {k other : ℕ} {c another : SourceCause}
+        → ◌≡◌ {A = Option SourceFault} (Some (At k c)) (Some (At other another)) → k ≡ other
+    number e = cc
+
+    cause : {k other : ℕ} {c another : SourceCause}
+        → ◌≡◌ {A = Option SourceFault} (Some (At k c)) (Some (At other another)) → c ≡ another
+    cause e = cc
+
+one_fault : (z : Size) (text : Text) (k other : ℕ) (c another : SourceCause) → IsRefused z text k c
+    → IsRefused z text other another → (k ≡ other) × (c ≡ another)
+one_fault z text k other c another (for_form f) (for_form g) =
+    has_one_meaning.one_fault text k other c another f g
+one_fault z text k other c another (for_form f) (for_meaning {two} {lines} p g) =
+    absurd (has_one_meaning.no_fault text two lines k c p f)
+one_fault z text k other c another (for_meaning {two} {lines} p g) (for_form f) =
+    absurd (has_one_meaning.no_fault text two lines other another p f)
+one_fault z text k other c another (for_meaning {two} {lines} p f) (for_meaning {two = also} {lines = others} q g) =
+    same_fault z text two also lines others k other c another p q f g
+
+never_both : (z : Size) (text : Text) (lines : List Line) (k : ℕ) (c : SourceCause) → IsAcceptedAs z text lines
+    → IsRefused z text k c → ⊥
+never_both z text lines k c a (for_form f) = has_one_meaning.no_fault text a.two lines k c a.says f
+never_both z text lines k c a (for_meaning {two} {lines = others} p f) =
+    let same = has_one_meaning.one_program text two a.two others lines p a.says in
+    let none = (read_law z text lines (program_is_read text a.two lines a.says)).accepts a.faultless in
+    let some = (read_law z text others (program_is_read text two others p)).refuses k c f in
+    clash (sym some ∙ ap (fault z) same ∙ none)
+  where
+    clash : ◌≡◌ {A = Option SourceFault} (Some (At k c)) None → ⊥
+    clash e = cc
+
+pub one_answer : EachSourceHasOneAnswer
+one_answer = record {
+  every = every;
+  one_program = λ z text lines others a b.
+      has_one_meaning.one_program text a.two b.two lines others a.says b.says;
+  one_fault = one_fault;
+  never_both = never_both;
+}
+
+-- ---- what is read and what is accepted
+
+-- a source that is read as these lines, and in which no fault is found, is accepted
+pub read_is_accepted : (z : Size) (text : Text) (lines : List Line) → program_of text ≡ Ok lines → fault z lines ≡ None
+    → IsAcceptedAs z text lines
+read_is_accepted z text lines p none = record {
+  two = is_two (lines_of text);
+  says = source_answer text (Ok lines) p;
+  faultless = (read_law z text lines p).accepted none;
+}
+
+-- and in a source that is accepted none is found
+pub accepted_is_read : (z : Size) (text : Text) (lines : List Line) → IsAcceptedAs z text lines → fault z lines ≡ None
+accepted_is_read z text lines a =
+    (read_law z text lines (program_is_read text a.two lines a.says)).accepts a.faultless
+
+-- ---- the tape
 
 tables : list_all is_ready catalogue ≡ true
 tables = refl
 
 pub each_source : EachSourceComes
-each_source z source lines p f =
-    let formed = (program_formed (is_two (lines_of source)) (lines_of source) lines p).formed in
-    λ words whole. accepted_law tables z (is_two (lines_of source)) lines f formed words whole
+each_source z source lines a =
+    let formed =
+    (program_formed (is_two (lines_of source)) (lines_of source) lines
+    (program_is_read source a.two lines a.says)).formed in
+    λ words whole. accepted_law tables z (is_two (lines_of source)) lines (accepted_is_read z source lines a) formed words
+    whole

@@ -5,7 +5,7 @@ use Rattle.ed_words.specs.declared.size.Size.{Size}
 use Rattle.ed_library.specs.Entries.{catalogue}
 use Rattle.ed_library.specs.Ready.{is_ready}
 use Rattle.ed_syntax.specs.declared.program.Line.{Line}
-use Rattle.ed_syntax.specs.Programs.{is_line}
+use Rattle.ed_syntax.specs.Programs.{AreNumbered, is_line}
 use Rattle.ed_symbols.specs.declared.homes.Home.{Home}
 use Rattle.ed_symbols.specs.Places.{first_spot}
 use Rattle.ed_symbols.specs.Faults.{resolved}
@@ -13,7 +13,7 @@ use Rattle.ed_link.specs.declared.linked.Linked.{Linked}
 use Rattle.ed_link.specs.declared.building.Built.{Built}
 use Rattle.ed_link.specs.Linked.{homes_of, linked, entry_from, placed_from}
 use Rattle.ed_link.specs.Punch.{punched_from}
-use Rattle.ed_link.specs.Faults.{any_enter, fault, fault_from, missing}
+use Rattle.ed_link.specs.Private.FaultTests.{any_enter, fault, fault_from, missing}
 use Rattle.ed_link.specs.declared.linked.Placed.{Placed}
 use Rattle.ed_link.specs.Labels.{labels}
 use Rattle.ed_link.specs.Tables.{table_of, word_at, words_from}
@@ -21,14 +21,15 @@ use Rattle.ed_link.proofs.Maps.{words_are}
 use Rattle.ed_link.specs.Answers.{IsLinked}
 use Rattle.ed_link.specs.Private.Building.{first_past, IsBuilt, IsFinished}
 use Rattle.ed_link.proofs.Accepted.{accepted_law}
+use Rattle.ed_link.proofs.FaultLaw.{fault_law}
 
 -- what the code has made of lines without a fault is what linking answers of them
 pub finished : {z : Size} {lines : List Line} {homes : List Home} {any : Bool} {b : Built} {k : Linked} (two : Bool)
-    → list_all is_ready catalogue ≡ true → list_all (is_line two) lines ≡ true
+    → list_all is_ready catalogue ≡ true → AreNumbered lines → list_all (is_line two) lines ≡ true
     → homes ≡ homes_of lines → any ≡ any_enter lines
     → ((resolved lines).fault ≡ None) × (missing any (length lines) ≡ None)
     → IsBuilt z homes any lines b → IsFinished homes b k → IsLinked z lines k
-finished {z} {lines} {homes} {any} {b} {k} two tables formed h a none built f =
+finished {z} {lines} {homes} {any} {b} {k} two tables numbered formed h a none built f =
     let e1 : fault_from z (homes_of lines) (any_enter lines) first_past first_spot lines ≡ None =
     subst (λ (x : List Home). fault_from z x (any_enter lines) first_past first_spot lines ≡ None) h
     (subst (λ (x : Bool). fault_from z homes x first_past first_spot lines ≡ None) a built.accepted) in
@@ -41,7 +42,7 @@ finished {z} {lines} {homes} {any} {b} {k} two tables formed h a none built f =
     f.words ∙ ap (λ t. words_from 0 t)
     (built.table ∙ ap (λ (x : List Home). table_of (placed_from x first_spot lines)) h) in
     record {
-      accepted = accepted;
+      accepted = (fault_law z lines numbered).accepted accepted;
       items = f.items ∙ items;
       words = words;
       map = λ a l. ap (λ (x : List Placed). word_at x a) words ∙ words_are (linked lines) a l;

@@ -17,3 +17,10 @@ pub mod LineLoop
 pub mod Maps
 pub mod Finished
 pub mod EachSource
+pub mod FaultExamples
+pub mod FaultSentences
+pub mod NamingSentences
+pub mod AgainSentences
+pub mod LineFaults
+pub mod FaultPasses
+pub mod FaultLaw

@@ -1,28 +1,28 @@
 -- What linking answers, by the definitions of the linked program, the punched tape and the faults.
-use Rattle.std.specs.Prelude.{◌≡◌, ℕ, ◌<◌, reverse, List, Option, Some, None, Ok}
+use Rattle.std.specs.Prelude.{◌≡◌, ℕ, ◌<◌, reverse, List}
 use Rattle.ed_words.specs.declared.size.Size.{Size}
 use Rattle.ed_notation.specs.Fold.{placed_at}
 use Rattle.ed_words.specs.Texts.{Text}
-use Rattle.ed_syntax.specs.Private.SourceReading.{program_of}
 use Rattle.ed_syntax.specs.declared.program.Line.{Line}
 use Rattle.ed_syntax.specs.declared.fault.SourceFault.{SourceFault}
 use Rattle.ed_syntax.specs.declared.fault.SourceFault.TheVariants.{At, Memory}
 use Rattle.ed_link.specs.declared.linked.Linked.{Linked}
 use Rattle.ed_link.specs.Linked.{data_behind, homes_of, entry_of, linked}
 use Rattle.ed_link.specs.Punch.{punched}
-use Rattle.ed_link.specs.Faults.{fault}
+use Rattle.ed_link.specs.Faults.{HasNoFault, IsMeaningFault}
+use Rattle.ed_link.specs.Refusals.{IsAcceptedAs}
 use Rattle.ed_link.specs.Tables.{table_of, word_at, words_from}
 use Rattle.ed_link.specs.Labels.{labels}
 use Rattle.ed_link.specs.Tapes.{ComesToLinked}
 
--- a fault is the one of the definition, or memory ran out
-abbrev pub IsMeaningFault : Option SourceFault → SourceFault → Type 0
-IsMeaningFault wanted (At k c) = wanted ≡ Some (At k c)
-IsMeaningFault wanted Memory = Unit {0}
+-- an answer that is a fault of meaning says which one it is
+abbrev pub HasMeaningFault : Size → List Line → SourceFault → Type 0
+HasMeaningFault z lines (At k c) = IsMeaningFault z lines k c
+HasMeaningFault z lines Memory = Unit {0}
 
 -- the linked program of a source without a fault, and its tape
 pub record IsLinked (z : Size) (lines : List Line) (k : Linked) : Type 0 where
-  pub accepted : fault z lines ≡ None
+  pub accepted : HasNoFault z lines
   pub items : k.items.items ≡ punched lines
   pub words : k.words.items ≡ words_from 0 (table_of (linked lines))
   -- they are the map of the linked program
@@ -36,5 +36,4 @@ pub record IsLinked (z : Size) (lines : List Line) (k : Linked) : Type 0 where
 -- whatever source has no fault, its tape comes to its linked program, from every store
 abbrev pub EachSourceComes : Type 0
 EachSourceComes =
-    (z : Size) (source : Text) (lines : List Line) → program_of source ≡ Ok lines → fault z lines ≡ None
-    → ComesToLinked z lines
+    (z : Size) (source : Text) (lines : List Line) → IsAcceptedAs z source lines → ComesToLinked z lines

@@ -1,150 +1,237 @@
--- The faults of meaning of a source (this project's own rule). S6 to S8, of its names, are those of the symbols.
-use Rattle.std.specs.Prelude.{ℕ, ◌+◌, nat_eq, nat_lt, nat_le, min, max, ◌||◌, ◌&&◌, not, Bool, true, false}
-use Rattle.std.specs.Prelude.{List, [], ◌∷◌, ◌++◌, length, Option, Some, None, is_some, is_none, if◌then◌else◌}
-use Rattle.std.specs.List.{list_any, list_all}
+-- The faults of names and of meaning of a source, S6 to S17: for each one sentence over the lines and their places. No
+-- sentence knows of another one, and none goes through the lines one by one (this project's own rule).
+use Rattle.std.specs.Prelude.{◌≡◌, ◌⊎◌, ℕ, ◌+◌, ◌/◌, ◌%◌, ◌^◌, ◌<◌, ◌≤◌, true}
+use Rattle.std.specs.Prelude.{List, [], ◌∷◌, ◌++◌, length, map, Option, Some, None, ℤ, pos, int_lt}
+use Rattle.std.specs.List.{Contains}
 use Rattle.ed_words.specs.declared.size.Size.{Size}
 use Rattle.ed_words.specs.Sizes.{locations}
-use Rattle.ed_words.specs.Words.{halves_of}
 use Rattle.ed_library.specs.Entries.{entry}
 use Rattle.ed_library.specs.Routines.{find}
+use Rattle.ed_syntax.specs.declared.program.Operand.{Operand}
+use Rattle.ed_syntax.specs.declared.program.Operand.TheVariants as operands
 use Rattle.ed_syntax.specs.declared.program.Setting.{Setting}
 use Rattle.ed_syntax.specs.declared.program.Statement.{Statement}
-use Rattle.ed_syntax.specs.declared.program.Statement.TheVariants.{Order, Number, Text, Long, Fetch, Enter, Rows}
+use Rattle.ed_syntax.specs.declared.program.Statement.TheVariants.{Segment, Order, Number, Text, Long, Fetch, Enter, Rows}
 use Rattle.ed_syntax.specs.declared.program.Line.{Line}
 use Rattle.ed_syntax.specs.declared.fault.SourceCause.{SourceCause}
 use Rattle.ed_syntax.specs.declared.fault.SourceCause.TheVariants as causes
-use Rattle.ed_syntax.specs.declared.fault.SourceFault.{SourceFault}
-use Rattle.ed_syntax.specs.declared.fault.SourceFault.TheVariants.{At, Memory}
 use Rattle.ed_symbols.specs.declared.spots.Spot.{Spot}
 use Rattle.ed_symbols.specs.declared.homes.Home.{Home}
-use Rattle.ed_symbols.specs.Places.{passed, first_spot}
-use Rattle.ed_symbols.specs.Names.{place_on}
-use Rattle.ed_symbols.specs.Faults.{or_later, resolved}
-use Rattle.ed_link.specs.Linked.{first_place, end_place, set_to, homes_of}
+use Rattle.ed_symbols.specs.Places.{passed, first_spot, segment_of}
+use Rattle.ed_symbols.specs.Names.{defined, is_local, label_home, name_home, place_on}
+use Rattle.ed_symbols.specs.Faults.{operand_of, operand_value}
+use Rattle.ed_link.specs.Linked.{first_place, end_place, homes_of}
 
--- the places of a line's words, from the first to the one behind the last
-abbrev pub word_run : Option Statement → Spot → ℕ × ℕ
-word_run st s = (first_place st s, end_place st s)
+-- ---- where a line stands
 
--- the one place of a name
-abbrev pub run_at : Option ℕ → ℕ × ℕ
-run_at None = (0, 0)
-run_at (Some p) = (p, p + 1)
+-- this is a line of the source, and these are the lines before it
+pub record StandsAfter (lines before : List Line) (l : Line) : Type 0 where
+  pub after : List Line
+  pub lines_are : lines ≡ before ++ l ∷ after
 
--- the places that a line needs: those of its words, and at `enter` that of its name
-abbrev pub reach : List Home → Option Statement → Spot → ℕ × ℕ
-reach homes (Some (Enter name)) s = run_at (place_on homes None name)
-reach homes st s = word_run st s
+-- the place and the segment that some lines lead to from a spot
+abbrev pub spot_from : Spot → List Line → Spot
+spot_from s [] = s
+spot_from s (l ∷ lines) = spot_from (passed l.statement s) lines
 
--- whether one of these places is from a place on and below another
-abbrev pub meets : ℕ × ℕ → ℕ × ℕ → Bool
-meets run other = nat_lt (max run.0 other.0) (min run.1 other.1)
+-- the place and the segment after some lines of a source
+abbrev pub spot_after : List Line → Spot
+spot_after before = spot_from first_spot before
 
--- an order, `word`, `text` or `long`
-abbrev pub is_in_segment : Option Statement → Bool
-is_in_segment (Some (Order f o long)) = true
-is_in_segment (Some (Number w)) = true
-is_in_segment (Some (Text codes)) = true
-is_in_segment (Some (Long v)) = true
-is_in_segment st = false
+-- the line that stands after these lines has a word at the place
+abbrev pub LineHasWord : List Line → Line → ℕ → Type 0
+LineHasWord before l p = (first_place l.statement (spot_after before) ≤ p) × (p < end_place l.statement (spot_after before))
 
--- S9
-abbrev pub is_outside : Line → Spot → Bool
-is_outside l s = not s.inside && (is_some l.label || is_in_segment l.statement)
+-- the line is an `enter` of a name that has the place
+abbrev pub EntersAt : List Line → Line → ℕ → Type 0
+EntersAt lines l p = (name : List ℕ) × (l.statement ≡ Some (Enter name)) × (place_on (homes_of lines) None name ≡ Some p)
 
--- S14
-abbrev pub has_no_routine : Option Statement → Bool
-has_no_routine (Some (Fetch routine name ts)) = is_none (find routine)
-has_no_routine st = false
+-- the line needs the place: for a word of its own, or to enter there
+abbrev pub NeedsPlace : List Line → List Line → Line → ℕ → Type 0
+NeedsPlace lines before l p = LineHasWord before l p ⊎ EntersAt lines l p
 
--- whether as many letters are set as a routine has parameters, and each of these
-abbrev pub sets : List Setting → Option ℕ → Bool
-sets ts None = true
-sets ts (Some r) = nat_eq (length ts) (length (entry r).parameters)
-    && list_all (λ c. is_some (set_to ts c)) (entry r).parameters
+-- ---- what a line says
 
--- S15
-abbrev pub sets_otherwise : Option Statement → Bool
-sets_otherwise (Some (Fetch routine name ts)) = not (sets ts.items (find routine))
-sets_otherwise st = false
+-- the line is an `enter`
+abbrev pub IsEnter : Line → Type 0
+IsEnter l = (name : List ℕ) × (l.statement ≡ Some (Enter name))
 
--- whether a line is an `enter`
-abbrev pub is_enter : Option Statement → Bool
-is_enter (Some (Enter name)) = true
-is_enter st = false
+-- some line is an `enter`
+abbrev pub HasEnter : List Line → Type 0
+HasEnter lines = (before : List Line) × (l : Line) × StandsAfter lines before l × IsEnter l
 
--- whether a line is a `data`
-abbrev pub is_rows : Option Statement → Bool
-is_rows (Some (Rows codes)) = true
-is_rows st = false
+-- an order, a `word`, a `text` or a `long`
+abbrev pub PlacesWords : Option Statement → Type 0
+PlacesWords (Some (Order function operand length)) = Unit {0}
+PlacesWords (Some (Number value)) = Unit {0}
+PlacesWords (Some (Text codes)) = Unit {0}
+PlacesWords (Some (Long value)) = Unit {0}
+PlacesWords st = ⊥
 
--- whether some line is an `enter`
-abbrev pub any_enter : List Line → Bool
-any_enter [] = false
-any_enter (l ∷ lines) = is_enter l.statement || any_enter lines
+-- a `data`
+abbrev pub IsData : Option Statement → Type 0
+IsData (Some (Rows codes)) = Unit {0}
+IsData st = ⊥
 
--- S16: behind the first `enter` any form but `data`, and before it `data`, where there is one
-abbrev pub is_misplaced : Bool → Bool → Line → Bool
-is_misplaced entered any l =
-    if entered then (is_some l.label || is_some l.statement) && not (is_rows l.statement)
-    else any && is_rows l.statement
+-- a `segment`
+abbrev pub IsSegment : Option Statement → Type 0
+IsSegment (Some (Segment name base)) = Unit {0}
+IsSegment st = ⊥
 
--- S17
-abbrev pub has_sandwich : Option Statement → Bool
-has_sandwich (Some (Long v)) = (halves_of v).sandwich
-has_sandwich st = false
+-- a `use`
+abbrev pub IsUse : Option Statement → Type 0
+IsUse (Some (Fetch routine name settings)) = Unit {0}
+IsUse st = ⊥
 
--- what the lines before a line leave: the places of their words, and whether one is an `enter`
-pub record LinesBefore : Type 0 where
-  pub runs : List (ℕ × ℕ)
-  pub entered : Bool
+-- none of the lines is a `use`
+abbrev pub HasNoUse : List Line → Type 0
+HasNoUse lines = (before : List Line) (l : Line) → StandsAfter lines before l → IsUse l.statement → ⊥
 
--- the same behind a line
-abbrev pub past_of : LinesBefore → Line → Spot → LinesBefore
-past_of past l s = record {
-  runs = past.runs ++ word_run l.statement s ∷ [];
-  entered = past.entered || is_enter l.statement;
-}
+-- after these lines a segment is open: one of them is a `segment`, and none after that is a `use`
+abbrev pub InSegment : List Line → Type 0
+InSegment lines = (before : List Line) × (l : Line) × (s : StandsAfter lines before l) × IsSegment l.statement
+    × HasNoUse s.after
 
--- of the faults S9 to S17 of a line the one with the least number
-abbrev pub cause_of : Size → List Home → Bool → LinesBefore → Line → Spot → Option SourceCause
-cause_of z homes any past l s =
-    if is_outside l s then Some causes.OutsideSegment
-    else if meets (reach homes l.statement s) (0, 44) then Some causes.LoaderStore
-    else if meets (reach homes l.statement s) (44, 56) then Some causes.ParameterStore
-    else if meets (reach homes l.statement s) (locations z, (reach homes l.statement s).1) then Some causes.StoreEnd
-    else if list_any (λ run. meets (word_run l.statement s) run) past.runs then Some causes.Overlap
-    else if has_no_routine l.statement then Some causes.NoSuchRoutine
-    else if sets_otherwise l.statement then Some causes.Parameters
-    else if is_misplaced past.entered any l then Some causes.Enter
-    else if has_sandwich l.statement then Some causes.SandwichDigit
-    else None
+-- the operands of a statement: that of an order, and that of each setting of a `use`
+abbrev pub HasOperand : Option Statement → Operand → Type 0
+HasOperand (Some (Order function operand length)) o = o ≡ operand
+HasOperand (Some (Fetch routine name settings)) o = Contains (map operand_of settings.items) o
+HasOperand st o = ⊥
 
--- the fault of the least line from a spot on that has one of S9 to S17
-abbrev pub fault_from : Size → List Home → Bool → LinesBefore → Spot → List Line → Option SourceFault
-fault_from z homes any past s [] = None
-fault_from z homes any past s (l ∷ lines) =
-    or_later l.number (cause_of z homes any past l s)
-    (fault_from z homes any (past_of past l s) (passed l.statement s) lines)
+-- the names in an operand
+abbrev pub HasName : Operand → List ℕ → Type 0
+HasName (operands.Number n) name = ⊥
+HasName (operands.Label first plus) name = name ≡ first
+HasName (operands.Two first second minus) name = (name ≡ first) ⊎ (name ≡ second)
 
--- S16 where there is no `enter`: at the number of lines plus 1
-abbrev pub missing : Bool → ℕ → Option SourceFault
-missing any n = if any then None else Some (At (n + 1) causes.Enter)
+-- the letter of a setting
+abbrev pub letter_set : Setting → ℕ
+letter_set t = t.letter
 
--- the line of a fault
-abbrev pub fault_line : SourceFault → ℕ
-fault_line (At line cause) = line
-fault_line Memory = 0
+-- two definitions of one name; a local name is one within its segment alone
+pub record AreAlike (h other : Home) : Type 0 where
+  pub names : other.name ≡ h.name
+  pub segments : is_local h.name ≡ true → (k : ℕ) × (h.segment ≡ Some k) × (other.segment ≡ Some k)
 
--- the fault of the lesser line; of two on one line the first
-abbrev pub sooner : Option SourceFault → Option SourceFault → Option SourceFault
-sooner None b = b
-sooner (Some a) None = Some a
-sooner (Some a) (Some b) = if nat_le (fault_line a) (fault_line b) then Some a else Some b
+-- ---- the faults
 
--- the fault of a source on a machine of a size: that of the least line, and there the least number
-abbrev pub fault : Size → List Line → Option SourceFault
-fault z lines =
-    sooner (resolved lines).fault
-    (sooner (fault_from z (homes_of lines) (any_enter lines) (record { runs = []; entered = false }) first_spot lines)
-    (missing (any_enter lines) (length lines)))
+-- S6: the line defines a name that an earlier line defines, or that it defines twice
+abbrev pub DefinesAgain : List Line → Line → Type 0
+DefinesAgain before l =
+    ((h : Home) × Contains (defined l (spot_after before)) h
+    × (earlier : List Line) × (e : Line) × StandsAfter before earlier e
+    × (other : Home) × Contains (defined e (spot_after earlier)) other × AreAlike h other)
+    ⊎ ((h : Home) × (name_home l.statement (spot_after before) ≡ Some h)
+    × (other : Home) × (label_home l.label l.statement (spot_after before) ≡ Some other) × AreAlike h other)
+
+-- S7: an operand or `enter` names what has no place on the line
+abbrev pub NamesUnknown : List Line → List Line → Line → Type 0
+NamesUnknown lines before l =
+    ((o : Operand) × HasOperand l.statement o × (name : List ℕ) × HasName o name
+    × (place_on (homes_of lines) (segment_of l (spot_after before)) name ≡ None))
+    ⊎ ((name : List ℕ) × (l.statement ≡ Some (Enter name)) × (place_on (homes_of lines) None name ≡ None))
+
+-- S8: the value of an operand that has a name is below 0 or above 1023
+abbrev pub ReachesOutside : List Line → List Line → Line → Type 0
+ReachesOutside lines before l = (o : Operand) × HasOperand l.statement o × (name : List ℕ) × HasName o name
+    × (v : ℤ) × (operand_value (homes_of lines) (segment_of l (spot_after before)) o ≡ Some v)
+    × ((int_lt v (pos 0) ≡ true) ⊎ (int_lt (pos 1023) v ≡ true))
+
+-- S9: a label, an order, `word`, `text` or `long` outside every segment
+abbrev pub IsOutsideSegments : List Line → Line → Type 0
+IsOutsideSegments before l = (InSegment before → ⊥)
+    × (((name : List ℕ) × (l.label ≡ Some name)) ⊎ PlacesWords l.statement)
+
+-- S10 to S12: a word of the line, or the place of an `enter`'s label, is from one place on and below another
+abbrev pub NeedsWithin : List Line → List Line → Line → ℕ → ℕ → Type 0
+NeedsWithin lines before l from below = (p : ℕ) × NeedsPlace lines before l p × (from ≤ p) × (p < below)
+
+-- S12: the same for the size of the store and more
+abbrev pub NeedsPast : List Line → List Line → Line → ℕ → Type 0
+NeedsPast lines before l from = (p : ℕ) × NeedsPlace lines before l p × (from ≤ p)
+
+-- S13: a word's place holds a word of an earlier line
+abbrev pub Overlaps : List Line → Line → Type 0
+Overlaps before l = (p : ℕ) × LineHasWord before l p
+    × (earlier : List Line) × (e : Line) × StandsAfter before earlier e × LineHasWord earlier e p
+
+-- S14: a `use` of a name that isn't in the catalogue
+abbrev pub UsesUnknown : Option Statement → Type 0
+UsesUnknown (Some (Fetch routine name settings)) = find routine ≡ None
+UsesUnknown st = ⊥
+
+-- exactly these letters are set, each once: as many as there are, and each of them
+pub record SetExactly (letters set : List ℕ) : Type 0 where
+  pub as_many : length set ≡ length letters
+  pub each : (c : ℕ) → Contains letters c → Contains set c
+
+-- S15: the routine is known, and the letters set aren't exactly its parameters, each once
+abbrev pub SetsOtherwise : Option Statement → Type 0
+SetsOtherwise (Some (Fetch routine name settings)) = (r : ℕ) × (find routine ≡ Some r)
+    × (SetExactly (entry r).parameters (map letter_set settings.items) → ⊥)
+SetsOtherwise st = ⊥
+
+-- S16: any form but `data` after an `enter`; `data` with no `enter` before it, where the source has one
+abbrev pub IsMisplaced : List Line → List Line → Line → Type 0
+IsMisplaced lines before l =
+    (HasEnter before × ((l.label ≡ None) × (l.statement ≡ None) → ⊥) × (IsData l.statement → ⊥))
+    ⊎ ((HasEnter before → ⊥) × IsData l.statement × HasEnter lines)
+
+-- S17: a `long` whose bit between its two halves is 1
+abbrev pub HasSandwichDigit : Line → Type 0
+HasSandwichDigit l = (v : ℕ) × (l.statement ≡ Some (Long v)) × (v / 2 ^ 17 % 2 ≡ 1)
+
+-- the line that stands after these lines has the fault; S1 to S5 are faults of form, which no line has that is read
+abbrev pub LineHasCause : Size → List Line → List Line → Line → SourceCause → Type 0
+LineHasCause z lines before l causes.LabelTwice = DefinesAgain before l
+LineHasCause z lines before l causes.LabelUnknown = NamesUnknown lines before l
+LineHasCause z lines before l causes.AddressRange = ReachesOutside lines before l
+LineHasCause z lines before l causes.OutsideSegment = IsOutsideSegments before l
+LineHasCause z lines before l causes.LoaderStore = NeedsWithin lines before l 0 44
+LineHasCause z lines before l causes.ParameterStore = NeedsWithin lines before l 44 56
+LineHasCause z lines before l causes.StoreEnd = NeedsPast lines before l (locations z)
+LineHasCause z lines before l causes.Overlap = Overlaps before l
+LineHasCause z lines before l causes.NoSuchRoutine = UsesUnknown l.statement
+LineHasCause z lines before l causes.Parameters = SetsOtherwise l.statement
+LineHasCause z lines before l causes.Enter = IsMisplaced lines before l
+LineHasCause z lines before l causes.SandwichDigit = HasSandwichDigit l
+LineHasCause z lines before l cause = ⊥
+
+-- ---- the fault of a source
+
+-- the source has the fault at the line with this number, counted from 1
+pub data SourceHasFault (z : Size) (lines : List Line) : ℕ → SourceCause → Type 0 where
+  on_line : {before : List Line} {l : Line} {cause : SourceCause} → StandsAfter lines before l
+      → LineHasCause z lines before l cause → SourceHasFault z lines (length before + 1) cause
+  -- S16 too, at the number of lines plus 1: no line is an `enter`
+  no_enter : (HasEnter lines → ⊥) → SourceHasFault z lines (length lines + 1) causes.Enter
+
+-- the numbers of the faults
+abbrev pub number_of : SourceCause → ℕ
+number_of causes.BadByte = 1
+number_of causes.LongLine = 2
+number_of causes.NotAStatement = 3
+number_of causes.NumberRange = 4
+number_of causes.TooManyLines = 5
+number_of causes.LabelTwice = 6
+number_of causes.LabelUnknown = 7
+number_of causes.AddressRange = 8
+number_of causes.OutsideSegment = 9
+number_of causes.LoaderStore = 10
+number_of causes.ParameterStore = 11
+number_of causes.StoreEnd = 12
+number_of causes.Overlap = 13
+number_of causes.NoSuchRoutine = 14
+number_of causes.Parameters = 15
+number_of causes.Enter = 16
+number_of causes.SandwichDigit = 17
+
+-- the fault of meaning of a source: that of the least line that has one, and there the least number
+pub record IsMeaningFault (z : Size) (lines : List Line) (k : ℕ) (cause : SourceCause) : Type 0 where
+  pub is : SourceHasFault z lines k cause
+  pub least : (other : ℕ) (rule : SourceCause) → SourceHasFault z lines other rule
+      → (k < other) ⊎ ((k ≡ other) × (number_of cause ≤ number_of rule))
+
+-- the source has no fault of meaning
+abbrev pub HasNoFault : Size → List Line → Type 0
+HasNoFault z lines = (k : ℕ) (cause : SourceCause) → SourceHasFault z lines k cause → ⊥

@@ -4,7 +4,7 @@ ghost use Rattle.std.specs.Prelude.{length, unwrap_or, ℕ};
 ghost use Rattle.ed_notation.specs.Spellings.{AreSpellable};
 ghost use Rattle.ed_library.specs.Routines.{find};
 ghost use Rattle.ed_link.specs.Private.Building.{BuildIs, IsFew};
-ghost use Rattle.ed_link.specs.Faults.{is_enter, reach, word_run};
+ghost use Rattle.ed_link.specs.Private.FaultTests.{is_enter, reach, word_run};
 ghost use Rattle.ed_link.specs.Linked.{entered_place, placed_by_line, data_rows};
 ghost use Rattle.ed_link.specs.Punch.{items_of, routine_items};
 ghost use Rattle.ed_link.specs.Tables.{empty_table, put_all};

@@ -4,10 +4,10 @@ ghost use Rattle.std.specs.List.{list_any, list_all};
 ghost use Rattle.ed_words.specs.Sizes.{locations};
 ghost use Rattle.ed_library.specs.Routines.{find};
 ghost use Rattle.ed_link.specs.Linked.{first_place, end_place, set_to};
-ghost use Rattle.ed_link.specs.Faults.{any_enter, cause_of, has_no_routine, has_sandwich, is_enter, is_in_segment};
-ghost use Rattle.ed_link.specs.Faults.{is_misplaced, is_outside};
-ghost use Rattle.ed_link.specs.Faults.{is_rows, meets, reach, run_at, word_run, sets, sets_otherwise};
-ghost use Rattle.ed_link.specs.Faults.{fault_line, missing, sooner};
+ghost use Rattle.ed_link.specs.Private.FaultTests.{any_enter, cause_of, has_no_routine, has_sandwich, is_enter, is_in_segment};
+ghost use Rattle.ed_link.specs.Private.FaultTests.{is_misplaced, is_outside};
+ghost use Rattle.ed_link.specs.Private.FaultTests.{is_rows, meets, reach, run_at, word_run, sets, sets_otherwise};
+ghost use Rattle.ed_link.specs.Private.FaultTests.{fault_line, missing, sooner};
 
 use crate::operands::setting;
 use ed_codes::Code;

@@ -2,9 +2,10 @@
 ghost use Rattle.std.specs.Prelude.{◌≡◌, ◌≤◌, IfOk, IfErr, length};
 ghost use Rattle.ed_notation.specs.Spellings.{AreSpellable};
 ghost use Rattle.ed_symbols.specs.Faults.{resolved};
-ghost use Rattle.ed_link.specs.Answers.{EachSourceComes, IsMeaningFault, IsLinked};
+ghost use Rattle.ed_link.specs.Answers.{EachSourceComes, HasMeaningFault, IsLinked};
+ghost use Rattle.ed_link.specs.Refusals.{EachSourceHasOneAnswer};
 ghost use Rattle.ed_link.specs.Private.Building.{IsFinished};
-ghost use Rattle.ed_link.specs.Faults.{fault};
+ghost use Rattle.ed_link.specs.Private.FaultTests.{IsFirstFault, fault};
 ghost use Rattle.ed_link.specs.Labels.{labels};
 ghost use Rattle.ed_link.specs.Linked.{homes_of};
 
@@ -21,7 +22,8 @@ use std::alloc::Global;
 /// Links a source for a machine of a size: the linked program with its punched tape, or the least fault of meaning.
 pub fn link(alloc: Global, size: Size, program: &Program) -> Result<Linked, SourceFault>
     ensures linked { IfOk result (λ k. IsLinked size program.now.lines.items k) }
-    ensures fault { IfErr result (λ e. IsMeaningFault (fault size program.now.lines.items) e) }
+    ensures fault { IfErr result (λ e. HasMeaningFault size program.now.lines.items e) }
+    ensures one { EachSourceHasOneAnswer }
     ensures law { EachSourceComes }
 {
     match resolve(alloc, program) {
@@ -41,7 +43,7 @@ fn link_names(
     requires homes { homes.now ≡ homes_of program.now.lines.items }
     requires names { names ≡ (resolved program.now.lines.items).fault }
     ensures linked { IfOk result (λ k. IsLinked size program.now.lines.items k) }
-    ensures fault { IfErr result (λ e. IsMeaningFault (fault size program.now.lines.items) e) }
+    ensures fault { IfErr result (λ e. IsFirstFault (fault size program.now.lines.items) e) }
 {
     let _ready = catalogue_size();
     let any = any_enter(&program.lines);

@@ -11,7 +11,7 @@ ghost use Rattle.ed_symbols.specs.Places.{segment_at, even_from, routine_places}
 ghost use Rattle.ed_link.specs.Linked.{image, laid, long_words, operand_number, parameters, placed_by_line, preset};
 ghost use Rattle.ed_link.specs.Linked.{presets};
 ghost use Rattle.ed_link.specs.Linked.{set_to, line_words};
-ghost use Rattle.ed_link.specs.Faults.{reach};
+ghost use Rattle.ed_link.specs.Private.FaultTests.{reach};
 ghost use Rattle.ed_link.specs.Tables.{put_all, place_word, words_from};
 
 use crate::linked::Placed;

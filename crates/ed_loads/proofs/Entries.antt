@@ -120,7 +120,7 @@ module _ (z : Size) (lines : List Line) (loads : ComesToLinked z lines) where
   }
 
 pub each_source : EachSourceEnters
-each_source z source lines p f = enters z lines (comes_to z source lines p f)
+each_source z source lines a = enters z lines (comes_to z source lines a)
 
 -- what `load` leaves of the machine that is started on the tape of a linked program
 pub loaded : {z : Size} {lines : List Line} {program : Linked} {rows : List ℕ} {s t : State} {r : Loaded}

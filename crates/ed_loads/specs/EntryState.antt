@@ -13,12 +13,11 @@ use Rattle.ed_notation.specs.Fold.{over}
 use Rattle.ed_initial.specs.Listing.{initial_orders}
 use Rattle.ed_initial.specs.Rests.{Working, initial_words}
 use Rattle.ed_words.specs.Texts.{Text}
-use Rattle.ed_syntax.specs.Private.SourceReading.{program_of}
 use Rattle.ed_syntax.specs.declared.program.Line.{Line}
 use Rattle.ed_symbols.specs.Places.{first_spot}
 use Rattle.ed_link.specs.Linked.{linked, entry_of, theta_from, data_behind}
 use Rattle.ed_link.specs.Tapes.{cost, punched_rows, tape}
-use Rattle.ed_link.specs.Faults.{fault}
+use Rattle.ed_link.specs.Refusals.{IsAcceptedAs}
 
 -- a cleared machine of a size, started on rows with the Initial Orders
 unfoldable pub first_state : Size → List ℕ → State
@@ -67,7 +66,6 @@ pub record Enters (z : Size) (lines : List Line) : Type 0 where
   pub went : (j : ℕ) → j < cost lines → (step (state_after j (first_state z (tape lines)))).turn ≡ Went
   pub cheap : cost lines ≤ 17 * length (punched_rows lines) + 9
 
--- so it is with every source without a fault
+-- so it is with every source that is accepted
 abbrev pub EachSourceEnters : Type 0
-EachSourceEnters = (z : Size) (source : Text) (lines : List Line) → program_of source ≡ Ok lines
-    → fault z lines ≡ None → Enters z lines
+EachSourceEnters = (z : Size) (source : Text) (lines : List Line) → IsAcceptedAs z source lines → Enters z lines

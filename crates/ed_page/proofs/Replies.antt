@@ -1,5 +1,5 @@
 -- From what is told and shown of a text to what the program answers.
-use Rattle.std.proofs.Common.{◌≡◌, ◌∙◌, ◌<◌, ◌≤◌, ℕ, inl, inr, refl, sym, ap}
+use Rattle.std.proofs.Common.{◌≡◌, ◌∙◌, ◌<◌, ◌≤◌, ℕ, Bool, inl, inr, refl, sym, ap}
 use Rattle.std.proofs.Common.{subst, arith, Option, Some, None, List, [], length}
 use Rattle.std.specs.Prelude.{Result, Ok, Err, IfOk}
 use Rattle.ed_words.specs.declared.size.Size.{Size}
@@ -7,24 +7,23 @@ use Rattle.ed_words.specs.declared.memory.NoMemory.{NoMemory}
 use Rattle.ed_codes.specs.Reading.{Reading, rows, no_row, open_comment, reading}
 use Rattle.ed_codes.specs.declared.tape.TextFault.TheVariants.{NoRow, OpenComment}
 use Rattle.ed_machine.specs.State.{State}
-use Rattle.ed_syntax.specs.Answers as form
-use Rattle.ed_syntax.specs.Private.SourceReading.{Fault, program_of}
+use Rattle.ed_syntax.specs.Sources.{HasFormFault, IsProgram}
 use Rattle.ed_syntax.specs.declared.program.Line.{Line}
 use Rattle.ed_syntax.specs.declared.fault.SourceFault.{SourceFault}
 use Rattle.ed_syntax.specs.declared.fault.SourceFault.TheVariants.{At, Memory}
-use Rattle.ed_link.specs.Answers as meaning
-use Rattle.ed_link.specs.Answers.{IsLinked}
-use Rattle.ed_link.specs.Faults.{fault}
+use Rattle.ed_link.specs.Answers.{HasMeaningFault, IsLinked}
+use Rattle.ed_link.specs.Refusals.{for_form, for_meaning}
+use Rattle.ed_link.proofs.EachSource.{one_answer}
 use Rattle.ed_link.specs.Tapes.{tape}
 use Rattle.ed_link.specs.declared.linked.Linked.{Linked}
 use Rattle.ed_report.specs.Notes.{source_fault_line, text_fault_line}
 use Rattle.ed_command.specs.declared.command.Settings.{Settings}
 use Rattle.ed_top.specs.Answer.{OfReading, exactly, of_input, of_rows}
 use Rattle.ed_words.specs.Texts.{Text}
-use Rattle.ed_top.specs.Outcome.{Outcome, done, refused, too_long_outcome}
+use Rattle.ed_top.specs.Outcome.{Outcome, refused, too_long_outcome}
 use Rattle.ed_top.specs.Output.{tape_outcome}
 use Rattle.ed_top.specs.Runs.{run_of}
-use Rattle.ed_top.specs.Sources.{of_program, of_source, run_outcome, unless_faulty}
+use Rattle.ed_top.specs.Sources.{of_source, run_outcome}
 use Rattle.ed_top.proofs.Sources.{accepted_is}
 use Rattle.ed_page.specs.Answers.{SourceEnds, TapeEnds}
 use Rattle.ed_page.specs.Private.Stages.{Draws, TellsOutcome, IsRunOf, LinksOrTells, RefusesTape, IsAnswered}
@@ -106,87 +105,71 @@ tape_refusal_drawn s text told few refuses =
 -- ---- a source
 
 -- a fault of form
-pub refused_form : (z : Size) (program : Result (List Line) Fault) (f : SourceFault) (r : Result Told NoMemory)
-    → form.IsFaultOf program f → IfOk r (λ told. TellsOutcome told (refused (source_fault_line f)))
+pub refused_form : (z : Size) (text : Text) (f : SourceFault) (r : Result Told NoMemory)
+    → HasFormFault text f → IfOk r (λ told. TellsOutcome told (refused (source_fault_line f)))
     → IfOk r (λ told. f ≡ Memory → ⊥)
-    → LinksOrTells z program (Err r)
-refused_form z program f (Err e) is gives told = tt
-refused_form z program Memory (Ok reply) is gives told = absurd (told refl)
-refused_form z program (At line cause) (Ok reply) is gives told =
-    λ accepted. subst (TellsOutcome reply) (sym (ap (of_program z accepted) is)) gives
+    → LinksOrTells z text (Err r)
+refused_form z text f (Err e) is gives told = tt
+refused_form z text Memory (Ok reply) is gives told = absurd (told refl)
+refused_form z text (At line cause) (Ok reply) is gives told = (line, cause, for_form is, gives)
 
 -- a fault of meaning
-pub refused_meaning : (z : Size) {program : Result (List Line) Fault} {lines : List Line} (f : SourceFault)
+pub refused_meaning : (z : Size) {text : Text} {two : Bool} {lines : List Line} (f : SourceFault)
     (r : Result Told NoMemory)
-    → program ≡ Ok lines → meaning.IsMeaningFault (fault z lines) f
+    → IsProgram text two lines → HasMeaningFault z lines f
     → IfOk r (λ told. TellsOutcome told (refused (source_fault_line f)))
-    → IfOk r (λ told. f ≡ Memory → ⊥) → LinksOrTells z program (Err r)
+    → IfOk r (λ told. f ≡ Memory → ⊥) → LinksOrTells z text (Err r)
 refused_meaning z f (Err e) p is gives told = tt
 refused_meaning z Memory (Ok reply) p is gives told = absurd (told refl)
-refused_meaning z {lines} (At line cause) (Ok reply) p is gives told =
-    λ accepted. subst (TellsOutcome reply)
-    (sym (ap (of_program z accepted) p ∙ ap (λ (x : Option SourceFault). unless_faulty x (accepted lines)) is)) gives
+refused_meaning z (At line cause) (Ok reply) p is gives told = (line, cause, for_meaning p is, gives)
+
+-- a program that is linked
+pub linked_accepted : (z : Size) {text : Text} {two : Bool} {lines : List Line} (k : Linked) → IsProgram text two lines
+    → IsLinked z lines k → LinksOrTells z text (Ok k)
+linked_accepted z {two} {lines} k p is =
+    (lines, record { two = two; says = p; faultless = is.accepted }, is)
 
 pub linked_replied : (z : Size) (f : List Line → Outcome) (text : Text) (k : Linked) (r : Result Told NoMemory)
     → length text ≤ 262144
-    → LinksOrTells z (program_of text) (Ok k)
+    → LinksOrTells z text (Ok k)
     → IfOk r (λ told. (lines : List Line) → IsLinked z lines k → TellsOutcome told (f lines))
     → IsAnswered (of_source z f) text r
-linked_replied z f text k (Ok told) few l gives = (
-  of_program z f (program_of text),
-  inl (few, refl),
-  subst (TellsOutcome told) (sym (accepted_is z f (program_of text) l.0 l.1 l.2.accepted)) (gives l.0 l.2),
-)
+linked_replied z f text k (Ok told) few l gives =
+    (f l.0, inl (few, accepted_is z f text l.0 l.1), gives l.0 l.2)
 linked_replied z f text k (Err e) few l gives = tt
 
 pub source_refused : (z : Size) (f : List Line → Outcome) (text : Text) (r : Result Told NoMemory)
     → length text ≤ 262144
-    → LinksOrTells z (program_of text) (Err r) → IsAnswered (of_source z f) text r
-source_refused z f text (Ok told) few l = (of_program z f (program_of text), inl (few, refl), l f)
+    → LinksOrTells z text (Err r) → IsAnswered (of_source z f) text r
+source_refused z f text (Ok told) few l =
+    (refused (source_fault_line (At l.0 l.1)), inl (few, inl (l.0, l.1, l.2, refl)), l.3)
 source_refused z f text (Err e) few l = tt
 
--- the lines of a source are the ones
-lines_of : Result (List Line) Fault → List Line
-lines_of (Ok lines) = lines
-lines_of (Err f) = []
-
-same_lines : (program : Result (List Line) Fault) (lines others : List Line) → program ≡ Ok lines
-    → program ≡ Ok others → lines ≡ others
-unfolding lines_of
-same_lines program lines others is same = ap lines_of (sym is ∙ same)
-
 pub source_drawn : (s : Settings) (text : Text) (k : Linked) (r : Result Shown NoMemory) → length text ≤ 262144
-    → LinksOrTells s.size (program_of text) (Ok k)
+    → LinksOrTells s.size text (Ok k)
     → IfOk r (λ shown. (lines : List Line) → IsLinked s.size lines k
     → IsRunOf (run_outcome s lines) (run_of s (tape lines)) shown)
     → Draws (of_source s.size (run_outcome s)) (SourceEnds s) text r
 source_drawn s text k (Ok shown) few l ran =
-    let program = program_of text in
     let is = ran l.0 l.2 in (
-      of_program s.size (run_outcome s) program,
-      inl (few, refl),
-      subst (TellsOutcome shown.told) (sym (accepted_is s.size (run_outcome s) program l.0 l.1 l.2.accepted)) is.told,
+      run_outcome s l.0,
+      inl (few, accepted_is s.size (run_outcome s) text l.0 l.1),
+      is.told,
       λ few m ends.
           is.machine
-          ∙ ap (λ (lines : List Line). Some (run_of s (tape lines)).state) (same_lines program l.0 ends.0 l.1 ends.1)
-          ∙ ap (λ (t : State). Some t) (sym ends.3),
+          ∙ ap (λ (lines : List Line). Some (run_of s (tape lines)).state)
+          (one_answer.one_program s.size text l.0 ends.0 l.1 ends.1)
+          ∙ ap (λ (t : State). Some t) (sym ends.2),
     )
 source_drawn s text k (Err e) few l ran = tt
 
--- a source that is refused has a fault: else both of two different outcomes would be told
+-- a source that is refused is not accepted, so that no run of it ends
 pub source_refusal_drawn : (s : Settings) (text : Text) (told : Told) → length text ≤ 262144
-    → LinksOrTells s.size (program_of text) (Err (Ok told))
+    → LinksOrTells s.size text (Err (Ok told))
     → Draws (of_source s.size (run_outcome s)) (SourceEnds s) text (Ok (record { told = told; machine = None }))
 source_refusal_drawn s text told few l = (
-  of_program s.size (run_outcome s) (program_of text),
-  inl (few, refl),
-  l (run_outcome s),
-  λ few m ends.
-      let told_as : (o : Outcome) → told.status ≡ o.status = λ o.
-      (l (λ lines. o)).status_is
-      ∙ ap (λ (x : Outcome). x.status) (accepted_is s.size (λ lines. o) (program_of text) ends.0 ends.1 ends.2) in
-      absurd (differ (sym (told_as (done [])) ∙ told_as (refused []))),
+  refused (source_fault_line (At l.0 l.1)),
+  inl (few, inl (l.0, l.1, l.2, refl)),
+  l.3,
+  λ few m ends. absurd (one_answer.never_both s.size text ends.0 l.0 l.1 ends.1 l.2),
 )
-  where
-    differ : ◌≡◌ {A = ℕ} 0 3 → ⊥
-    differ e = cc

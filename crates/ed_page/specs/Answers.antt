@@ -1,11 +1,10 @@
 -- What the page is answered: what the program answers to the same text, with the cause of each answer (this project's
 -- own rules).
-use Rattle.std.specs.Prelude.{◌≡◌, ◌≢◌, ℕ, ◌≤◌, List, length, take, Ok, None}
+use Rattle.std.specs.Prelude.{◌≡◌, ◌≢◌, ℕ, ◌≤◌, List, length, take}
 use Rattle.ed_codes.specs.Reading.{reading, rows}
 use Rattle.ed_machine.specs.State.{State}
-use Rattle.ed_syntax.specs.Private.SourceReading.{program_of}
 use Rattle.ed_syntax.specs.declared.program.Line.{Line}
-use Rattle.ed_link.specs.Faults.{fault}
+use Rattle.ed_link.specs.Refusals.{IsAcceptedAs}
 use Rattle.ed_link.specs.Tapes.{tape}
 use Rattle.ed_command.specs.declared.command.Settings.{Settings}
 use Rattle.ed_words.specs.Texts.{Text}
@@ -74,8 +73,7 @@ TapeEnds s text m = (codes : List ℕ) × (reading text ≡ rows codes) × (m �
 -- the run of a source's tape ends in a state
 abbrev pub SourceEnds : Settings → Text → State → Type 0
 SourceEnds s text m =
-    (lines : List Line) × (program_of text ≡ Ok lines) × (fault s.size lines ≡ None)
-    × (m ≡ (run_of s (tape lines)).state)
+    (lines : List Line) × IsAcceptedAs s.size text lines × (m ≡ (run_of s (tape lines)).state)
 
 -- the buffers of a picture
 pub record Buffers : Type 0 where

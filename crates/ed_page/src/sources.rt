@@ -1,7 +1,6 @@
 ghost use Rattle.std.specs.Prelude.{◌≡◌, ◌≢◌, IfOk};
 ghost use Rattle.ed_codes.specs.Reading.{reading};
 ghost use Rattle.ed_report.specs.Notes.{source_fault_line, text_fault_line};
-ghost use Rattle.ed_syntax.specs.Private.SourceReading.{program_of};
 ghost use Rattle.ed_top.specs.Outcome.{refused};
 ghost use Rattle.ed_page.specs.Private.Stages.{TellsOutcome, LinksOrTells, ReadsTape};
 
@@ -37,7 +36,7 @@ fn tape_refusal(alloc: Global, fault: &TextFault) -> Result<Told, NoMemory>
 
 /// The linked program of a source, or what is told of its first fault.
 pub fn linked_of(alloc: Global, size: Size, text: &[u8]) -> Result<Linked, Result<Told, NoMemory>>
-    ensures { LinksOrTells size (program_of text.now) result }
+    ensures { LinksOrTells size text.now result }
 {
     let program = match parse(alloc, text) {
         Ok(program) => program,

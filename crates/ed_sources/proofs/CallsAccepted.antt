@@ -1,13 +1,17 @@
 -- The sources of calls are accepted.
-use Rattle.std.proofs.Common.{◌≡◌, ℕ, ◌/◌, ◌%◌, ◌<◌, arith, true, [], ◌∷◌, refl, subst, lit≤, append_assoc}
+use Rattle.std.proofs.Common.{◌≡◌, ℕ, ◌/◌, ◌%◌, ◌<◌, arith, true, None, List, [], ◌∷◌, refl, subst, lit≤, append_assoc}
 use Rattle.std.specs.Prelude.{Ok}
 use Rattle.std.specs.Fmt.{decimal}
 use Rattle.std.specs.List.{list_all}
 use Rattle.ed_call.specs.declared.Call.TheVariants.{Print, Read, NewLine, Divide, Root, Check}
 use Rattle.ed_words.specs.Texts.{Text}
+use Rattle.ed_words.specs.declared.size.Size.{Size}
+use Rattle.ed_syntax.specs.declared.program.Line.{Line}
+use Rattle.ed_link.specs.Private.FaultTests.{fault}
+use Rattle.ed_link.proofs.EachSource.{read_is_accepted}
 use Rattle.ed_syntax.specs.Parts.{is_line_byte}
 use Rattle.ed_syntax.specs.Private.SourceReading.{program_of}
-use Rattle.ed_sources.specs.Accepted.{EachCallIsAccepted, IsDivisible}
+use Rattle.ed_sources.specs.Accepted.{EachCallIsAccepted, IsAccepted, IsDivisible}
 use Rattle.ed_sources.specs.Calls.{divide_source, newline_source, print_source}
 use Rattle.ed_sources.specs.Calls.{read_source, root_source, text_of_lines, check_source}
 use Rattle.ed_routines.specs.Digits.{digits}
@@ -77,34 +81,24 @@ pub check_read : (n : ℕ) → n < 65536 → program_of (text_of_lines (check_so
 check_read n small =
     program_is (check_source n) (check_lines n) (check_plain n small) refl (said_lines (check_says n small) (lit≤ tt))
 
+-- what is read without a fault is accepted
+pub accepted_as : (z : Size) (text : Text) (lines : List Line) → program_of text ≡ Ok lines → fault z lines ≡ None
+    → IsAccepted z text
+accepted_as z text lines reads faultless = record {
+  lines = lines;
+  accepted = read_is_accepted z text lines reads faultless;
+}
+
 pub calls_accepted : EachCallIsAccepted
-calls_accepted z (Print n) small = record {
-  lines = print_lines n;
-  reads = print_read n small;
-  faultless = print_faultless z n;
-}
-calls_accepted z (Read n) small = record {
-  lines = read_lines n;
-  reads = read_read n small;
-  faultless = read_faultless z n;
-}
-calls_accepted z NewLine made = record {
-  lines = newline_lines;
-  reads = newline_read;
-  faultless = newline_faultless z;
-}
-calls_accepted z (Divide n by) made = record {
-  lines = divide_lines (n / 65536) (n % 65536) by;
-  reads = divide_read n by made;
-  faultless = divide_faultless z (n / 65536) (n % 65536) by;
-}
-calls_accepted z (Root n) small = record {
-  lines = root_lines n;
-  reads = root_read n small;
-  faultless = root_faultless z n;
-}
-calls_accepted z (Check n) small = record {
-  lines = check_lines n;
-  reads = check_read n small;
-  faultless = check_faultless z n;
-}
+calls_accepted z (Print n) small = accepted_as z _ (print_lines n)
+    (print_read n small) (print_faultless z n)
+calls_accepted z (Read n) small = accepted_as z _ (read_lines n)
+    (read_read n small) (read_faultless z n)
+calls_accepted z NewLine made = accepted_as z _ (newline_lines)
+    (newline_read) (newline_faultless z)
+calls_accepted z (Divide n by) made = accepted_as z _ (divide_lines (n / 65536) (n % 65536) by)
+    (divide_read n by made) (divide_faultless z (n / 65536) (n % 65536) by)
+calls_accepted z (Root n) small = accepted_as z _ (root_lines n)
+    (root_read n small) (root_faultless z n)
+calls_accepted z (Check n) small = accepted_as z _ (check_lines n)
+    (check_read n small) (check_faultless z n)

@@ -11,7 +11,7 @@ use Rattle.ed_syntax.specs.Private.SourceReading.{program_of}
 use Rattle.ed_sources.specs.Accepted.{EachDemoIsAccepted}
 use Rattle.ed_sources.specs.Demo.{adding, number_behind, demo_source, demo_text, next, segments, word_lines}
 use Rattle.ed_sources.specs.Demo.{number_word}
-use Rattle.ed_sources.proofs.CallsAccepted.{decimal_plain}
+use Rattle.ed_sources.proofs.CallsAccepted.{accepted_as, decimal_plain}
 use Rattle.ed_sources.proofs.DemoFaultless.{demo_faultless}
 use Rattle.ed_sources.proofs.SaidDemo.{demo_lines, demo_says}
 use Rattle.ed_sources.proofs.TextLines.{program_is, said_lines}
@@ -71,8 +71,5 @@ demo_read n few =
     (said_lines (demo_says n few) (omega (arith, count, long)))
 
 pub demos_accepted : EachDemoIsAccepted
-demos_accepted z n some few fits = record {
-  lines = demo_lines n;
-  reads = demo_read n few;
-  faultless = demo_faultless z n some few fits;
-}
+demos_accepted z n some few fits =
+    accepted_as z (demo_text n) (demo_lines n) (demo_read n few) (demo_faultless z n some few fits)

@@ -1,21 +1,19 @@
 -- Whatever its numbers are, a source that the program makes is accepted.
-use Rattle.std.specs.Prelude.{◌≡◌, ℕ, ◌+◌, ◌*◌, ◌<◌, ◌≤◌, List, None, Ok}
+use Rattle.std.specs.Prelude.{ℕ, ◌+◌, ◌*◌, ◌<◌, ◌≤◌, List}
 use Rattle.ed_words.specs.declared.size.Size.{Size}
 use Rattle.ed_words.specs.Sizes.{locations}
 use Rattle.ed_call.specs.declared.Call.{Call}
 use Rattle.ed_call.specs.declared.Call.TheVariants.{Print, Read, NewLine, Divide, Root, Check}
 use Rattle.ed_syntax.specs.declared.program.Line.{Line}
 use Rattle.ed_words.specs.Texts.{Text}
-use Rattle.ed_syntax.specs.Private.SourceReading.{program_of}
-use Rattle.ed_link.specs.Faults.{fault}
+use Rattle.ed_link.specs.Refusals.{IsAcceptedAs}
 use Rattle.ed_sources.specs.Calls.{call_text}
 use Rattle.ed_sources.specs.Demo.{demo_text}
 
--- a source that has no fault on a machine of a size, and what its lines say
+-- a source that is accepted on a machine of a size, and what its lines say
 pub record IsAccepted (z : Size) (text : Text) : Type 0 where
   pub lines : List Line
-  pub reads : program_of text ≡ Ok lines
-  pub faultless : fault z lines ≡ None
+  pub accepted : IsAcceptedAs z text lines
 
 -- a division whose quotient is below 65536, by a divisor of 1 to 32767
 pub record IsDivisible (n by : ℕ) : Type 0 where

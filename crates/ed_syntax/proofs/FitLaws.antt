@@ -21,8 +21,7 @@ use Rattle.ed_syntax.specs.Forms.{SpellsPlaced, order, bare_order, word, long, t
 use Rattle.ed_syntax.specs.Forms.{SpellsStatement, placed, segment, segment_at, fetch, fetch_with, enter, data_rows}
 use Rattle.ed_syntax.specs.Forms.{SpellsForm, empty, label, statement, labelled, version, EachSpelledIsForm, FormsAreSpelled}
 use Rattle.ed_syntax.proofs.WrittenLaws.{each_form_is_spelled}
-use Rattle.ed_syntax.proofs.Ranges.{IsLetter, letter_within}
-use Rattle.ed_syntax.proofs.Formed.{function_fits, modulo_fits, row_fits}
+use Rattle.ed_syntax.proofs.Ranges.{IsLetter, letter_within, function_fits, modulo_fits, row_fits}
 
 both : (c d : Bool) → c ≡ true → d ≡ true → (c && d) ≡ true
 both c d e f = rw (e, f) refl
@@ -127,5 +126,5 @@ form_fits two _ _ _ _ (version n e f) h = refl
 pub each_spelled_is_form : EachSpelledIsForm
 each_spelled_is_form two k line f s = form_fits two k s.parts f true s.spells refl
 
-pub spell_forms : FormsAreSpelled
-spell_forms = record { each = each_form_is_spelled; only = each_spelled_is_form }
+pub forms_are_spelled : FormsAreSpelled
+forms_are_spelled = record { each = each_form_is_spelled; only = each_spelled_is_form }

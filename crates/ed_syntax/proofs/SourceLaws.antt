@@ -2,7 +2,7 @@
 use Rattle.std.proofs.Common.{◌≡◌, ◌∙◌, ℕ, ◌+◌, ◌≤◌, ◌<◌, Bool, true, false, List, [], ◌∷◌, ◌++◌, refl, sym, ap}
 use Rattle.std.proofs.Common.{subst, arith, length, codes}
 use Rattle.std.specs.Prelude.{◌==◌, ◌&&◌, Option, Some, None, Result, Ok, Err, not, nat_lt}
-use Rattle.std.specs.Prelude.{if◌then◌else◌, IfErr}
+use Rattle.std.specs.Prelude.{if◌then◌else◌, IfErr, IfOk}
 use Rattle.std.specs.List.{list_all}
 use Rattle.std.proofs.lemmas.Bool.Decides.{nat_tests, Decides-eqb}
 use Rattle.ed_words.specs.Texts.{Text}
@@ -11,7 +11,7 @@ use Rattle.ed_syntax.specs.Forms.{IsNoStatement}
 use Rattle.ed_syntax.specs.Sources.{IsPlain, LineSays, LineHasFault, bad_byte, long_line, not_a_statement, number_range}
 use Rattle.ed_syntax.specs.Sources.{too_many_lines, IsVersionTwo, IsOfVersion, LinesSay, no_more, and_more}
 use Rattle.ed_syntax.specs.Sources.{IsProgram, IsFormFault, IsProgramOrFault, HasOneMeaning, HasFormFault}
-use Rattle.ed_syntax.specs.Answers.{IsFaultOf}
+use Rattle.ed_syntax.specs.Private.Answers.{IsFaultOf}
 use Rattle.ed_syntax.specs.declared.fault.SourceFault.{SourceFault}
 use Rattle.ed_syntax.specs.declared.fault.SourceFault.TheVariants.{At, Memory}
 use Rattle.std.proofs.Common.{inl, inr, nat_le}
@@ -20,6 +20,7 @@ use Rattle.ed_syntax.specs.Parts.{is_line_byte}
 use Rattle.ed_syntax.specs.Private.SourceReading.{version_of, program_of}
 use Rattle.ed_syntax.specs.declared.program.Form.{Form}
 use Rattle.ed_syntax.specs.declared.program.Line.{Line}
+use Rattle.ed_syntax.specs.declared.program.Program.{Program}
 use Rattle.ed_syntax.specs.declared.fault.SourceCause.{SourceCause}
 use Rattle.ed_syntax.specs.declared.fault.SourceCause.TheVariants.{BadByte, LongLine, NotAStatement}
 use Rattle.ed_syntax.specs.declared.fault.SourceCause.TheVariants.{NumberRange, TooManyLines}
@@ -464,3 +465,9 @@ pub each_answer_has_fault : {A : Type 0} (text : Text) (r : Result A SourceFault
     → IfErr r (λ e. IsFaultOf (program_of text) e) → IfErr r (λ e. HasFormFault text e)
 each_answer_has_fault text (Ok a) h = tt
 each_answer_has_fault text (Err e) h = answer_has_fault text e h
+
+pub each_answer_says : (text : Text) (r : Result Program SourceFault)
+    → IfOk r (λ p. p.version ≡ version_of text) → IfOk r (λ p. program_of text ≡ Ok p.lines.items)
+    → IfOk r (λ p. IsProgram text (p.version == 2) p.lines.items)
+each_answer_says text (Ok p) e h = answer_says text p.version p.lines.items e h
+each_answer_says text (Err e) v h = tt

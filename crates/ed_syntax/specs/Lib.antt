@@ -3,5 +3,4 @@ pub mod Parts
 pub mod Programs
 pub mod Forms
 pub mod Sources
-pub mod Answers
 pub mod Private

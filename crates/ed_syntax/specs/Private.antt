@@ -7,3 +7,4 @@ pub mod LineFronts
 pub mod PartReading
 pub mod Grammar
 pub mod SourceReading
+pub mod Answers

@@ -1,7 +1,7 @@
 //! The lines of a source, one after the other.
 ghost use Rattle.std.specs.Prelude.{◌≡◌, ◌==◌, ◌≤◌, ◌<◌, if◌then◌else◌, length, IfErr, IfOk, Ok};
 ghost use Rattle.std.specs.List.{list_all};
-ghost use Rattle.ed_syntax.specs.Answers.{IsFaultOf, LineIs, LinesAre};
+ghost use Rattle.ed_syntax.specs.Private.Answers.{IsFaultOf, LineIs, LinesAre};
 ghost use Rattle.ed_syntax.specs.Private.LineFronts.{TakesLine};
 ghost use Rattle.ed_syntax.specs.Lines.{without_return};
 ghost use Rattle.ed_syntax.specs.Lines.{lines_of};
@@ -143,13 +143,19 @@ fn version(two: bool) -> u8
 
 /// The program of a source, or its fault of form: that of the least line, with the least number.
 pub fn parse(alloc: Global, text: &[u8]) -> Result<Program, SourceFault>
-    ensures version { IfOk result (λ p. p.version ≡ version_of text.now) }
-    ensures lines { IfOk result (λ p. program_of text.now ≡ Ok p.lines.items) }
-    ensures fault { IfErr result (λ e. IsFaultOf (program_of text.now) e) }
     ensures says { IfOk result (λ p. IsProgram text.now (p.version == 2) p.lines.items) }
     ensures has_fault { IfErr result (λ e. HasFormFault text.now e) }
     ensures one { HasOneMeaning }
     ensures forms { FormsAreSpelled }
+{
+    program(alloc, text)
+}
+
+/// The same, by the definitions of how a source is read.
+fn program(alloc: Global, text: &[u8]) -> Result<Program, SourceFault>
+    ensures version { IfOk result (λ p. p.version ≡ version_of text.now) }
+    ensures lines { IfOk result (λ p. program_of text.now ≡ Ok p.lines.items) }
+    ensures fault { IfErr result (λ e. IsFaultOf (program_of text.now) e) }
 {
     let two = is_two(alloc, text)?;
     let lines = lines(alloc, two, text)?;

@@ -1,8 +1,8 @@
 -- A call is the run of its source, from the state at its entry.
 use Rattle.std.proofs.Common.{◌≡◌, ◌∙◌, ℕ, suc, ◌-◌, ◌/◌, ◌%◌, ◌≤◌, refl}
-use Rattle.std.proofs.Common.{sym, ap, subst, arith, lit≤, List, ◌∷◌}
+use Rattle.std.proofs.Common.{sym, ap, subst, arith, lit≤, List, [], ◌∷◌}
 use Rattle.std.proofs.Common.{length, length-append}
-use Rattle.std.specs.Prelude.{None, Result, Ok, Err, IfOk}
+use Rattle.std.specs.Prelude.{None, Result, Ok, Err}
 use Rattle.std.proofs.lemmas.List.{append-nil}
 use Rattle.ed_words.specs.declared.memory.NoMemory.{NoMemory}
 use Rattle.ed_call.specs.declared.Call.{Call}
@@ -10,7 +10,8 @@ use Rattle.ed_call.specs.declared.Call.TheVariants.{Print, Read, NewLine, Divide
 use Rattle.ed_sources.specs.Calls.{call_text}
 use Rattle.ed_syntax.specs.declared.program.Line.{Line}
 use Rattle.ed_syntax.specs.Private.SourceReading.{program_of}
-use Rattle.ed_link.specs.Faults.{fault}
+use Rattle.ed_link.specs.Private.FaultTests.{fault}
+use Rattle.ed_link.proofs.EachSource.{read_is_accepted}
 use Rattle.ed_sources.proofs.CallsAccepted.{divide_read, newline_read, print_read, read_read, root_read, check_read}
 use Rattle.ed_sources.proofs.Faultless.{divide_faultless, newline_faultless, print_faultless}
 use Rattle.ed_sources.proofs.Faultless.{read_faultless, root_faultless, check_faultless}
@@ -33,19 +34,21 @@ use Rattle.ed_report.specs.Notes.{entered}
 use Rattle.ed_command.specs.declared.command.Settings.{Settings}
 use Rattle.ed_words.specs.Texts.{Text}
 use Rattle.ed_top.specs.Outcome.{Outcome}
-use Rattle.ed_top.specs.Calls.{CallRuns, EachCallRuns, call_orders, call_prints, made_outcome}
+use Rattle.ed_top.specs.Calls.{CallRuns, EachCallRuns, call_orders, call_prints, of_made_source}
 use Rattle.ed_top.specs.Headline.{RunsFromEntry}
 use Rattle.ed_top.specs.Runs.{paper_room, ran_outcome, status_of, with_post_mortem}
-use Rattle.ed_top.specs.Sources.{of_source, run_outcome}
-use Rattle.ed_top.specs.Private.Stages.{Gives, Replies}
+use Rattle.ed_top.specs.Sources.{OfSource, of_source, run_outcome}
+use Rattle.ed_top.specs.Private.Stages.{Replies}
 use Rattle.ed_top.specs.declared.reply.Reply.{Reply}
 use Rattle.ed_top.proofs.Sources.{accepted_is, headline}
 
 -- what replies to a source that was made is what is answered of it
-pub made_gives : (s : Settings) (text input : Text) (r : Result Reply NoMemory) → input ≡ text
-    → Replies (of_source s.size (run_outcome s)) input r → IfOk r (λ reply. Gives reply (made_outcome s text))
-made_gives s text input (Err e) is replies = tt
-made_gives s text input (Ok reply) is replies = subst (Gives reply) (sym replies.1 ∙ ap (made_outcome s) is) replies.2
+pub made_replied : (s : Settings) (text input : Text) (r : Result Reply NoMemory) → input ≡ text
+    → Replies (of_source s.size (run_outcome s)) input r → Replies (of_made_source s text) [] r
+made_replied s text input (Err e) is replies =
+    (replies.0, subst (λ (t : Text). OfSource s.size (run_outcome s) t replies.0) is replies.1, tt)
+made_replied s text input (Ok reply) is replies =
+    (replies.0, subst (λ (t : Text). OfSource s.size (run_outcome s) t replies.0) is replies.1, replies.2)
 
 -- no post-mortem prints nothing
 nothing_behind : (r : RunEnd) → with_post_mortem None r ≡ r
@@ -57,18 +60,18 @@ runs : (s : Settings) (call : Call) {lines : List Line} {k : ℕ} {codes : List 
     → LeadsToStop k (entry_state s.size lines) codes → length codes ≤ 1000000 → suc k ≤ call_orders call
     → paper codes ≡ call_prints s.size lines call → CallRuns s call
 runs s call {lines} {k} {codes} reads faultless stops few count text =
-    let entry : RunsFromEntry s lines = headline s (call_text call) lines reads faultless in
-    let answers = accepted_is s.size (run_outcome s) (program_of (call_text call)) lines reads faultless in
+    let accepted = read_is_accepted s.size (call_text call) lines reads faultless in
+    let entry : RunsFromEntry s lines = headline s (call_text call) lines accepted in
     record {
       lines = lines;
-      reads = reads;
-      answers = answers;
+      accepted = accepted;
+      answers = accepted_is s.size (run_outcome s) (call_text call) lines accepted;
       from_entry = entry;
       prints = λ none plain fits.
           let left : ℕ = s.limit - cost lines in
           let ended = ran_to_stop left paper_room k (entry_state s.size lines) codes stops few
           (omega (arith, fits, count)) in
-          let same = answers ∙ entry.runs (omega (arith, fits))
+          let same = entry.runs (omega (arith, fits))
           ∙ (λ i. ran_outcome (entered (entry_of lines) (cost lines))
           (with_post_mortem (plain i) (ran left (none i) paper_room (entry_state s.size lines))))
           ∙ ap (ran_outcome (entered (entry_of lines) (cost lines)))

@@ -1,5 +1,4 @@
 -- `demo` is the run of its source, from the state at its entry.
-use Rattle.ed_syntax.specs.Private.SourceReading.{program_of}
 use Rattle.ed_sources.specs.Accepted.{IsAccepted}
 use Rattle.ed_sources.specs.Demo.{demo_text}
 use Rattle.ed_sources.proofs.DemoAccepted.{demos_accepted}
@@ -12,7 +11,7 @@ each_demo_runs s n some few fits =
     let a : IsAccepted s.size (demo_text n) = demos_accepted s.size n some few fits in
     record {
       lines = a.lines;
-      reads = a.reads;
-      answers = accepted_is s.size (run_outcome s) (program_of (demo_text n)) a.lines a.reads a.faultless;
-      from_entry = headline s (demo_text n) a.lines a.reads a.faultless;
+      accepted = a.accepted;
+      answers = accepted_is s.size (run_outcome s) (demo_text n) a.lines a.accepted;
+      from_entry = headline s (demo_text n) a.lines a.accepted;
     }

@@ -1,4 +1,5 @@
 pub mod Replies
+pub mod Scripts
 pub mod Checks
 mod FirstChecks
 mod InParts

@@ -1,10 +1,9 @@
 -- Whatever the words are, each input has one outcome.
 use Rattle.std.proofs.Common.{◌≡◌, ◌⊎◌, inl, inr, ◌∙◌, ◌≤◌, ◌<◌, ℕ, List, refl, sym, arith, length}
-use Rattle.std.specs.Prelude.{Some, None}
+use Rattle.std.specs.Prelude.{Option, Some, None}
 use Rattle.ed_codes.specs.Reading.{Reading, rows, no_row, open_comment, reading}
 use Rattle.ed_words.specs.declared.size.Size.{Size}
 use Rattle.ed_syntax.specs.declared.program.Line.{Line}
-use Rattle.ed_syntax.specs.Private.SourceReading.{program_of}
 use Rattle.ed_report.specs.Catalogue.{library_text}
 use Rattle.ed_command.specs.declared.command.Settings.{Settings}
 use Rattle.ed_command.specs.declared.command.Action.{Action}
@@ -12,13 +11,19 @@ use Rattle.ed_command.specs.declared.command.Action.TheVariants.{Tape, CheckTape
 use Rattle.ed_command.specs.declared.command.Action.TheVariants.{Call as CallOf, Tape1, CheckTape1, Step, Trace, Parts}
 use Rattle.ed_words.specs.Texts.{Text}
 use Rattle.ed_top.specs.Outcome.{Outcome, done, too_long_outcome, usage_outcome}
-use Rattle.ed_top.specs.Calls.{call_outcome}
-use Rattle.ed_top.specs.Demos.{demo_outcome}
-use Rattle.ed_top.specs.Answer.{HasOneOutcome, OfReading, WithinLimit, exactly, known, of_input, of_rows}
+use Rattle.ed_top.specs.Answer.{HasOneOutcome, OfReading, WithinLimit, exactly, known, of_input, of_made, of_rows}
 use Rattle.ed_top.specs.FirstOrders.{tape1_outcome}
 use Rattle.ed_top.specs.Output.{EachLineHasOneOutcome, answer, tape_outcome}
-use Rattle.ed_top.specs.Sources.{listing_outcome, of_program, of_source, punch_outcome, run_outcome}
-use Rattle.ed_top.specs.Scripts.{step_outcome}
+use Rattle.ed_top.specs.Sources.{OfSource, listing_outcome, of_source, punch_outcome, run_outcome}
+use Rattle.ed_top.specs.Scripts.{IfGood, OfDivided, OfStep, OnText, on_rows}
+use Rattle.ed_stepper.specs.Inputs.{Input, divided}
+use Rattle.ed_stepper.specs.Scripts.{bad_line}
+use Rattle.ed_stepper.specs.declared.inputs.TextKind.{TextKind}
+use Rattle.ed_stepper.specs.declared.inputs.TextKind.TheVariants as kinds
+use Rattle.ed_link.specs.Tapes.{tape}
+use Rattle.ed_sources.specs.Calls.{call_text}
+use Rattle.ed_sources.specs.Demo.{demo_text}
+use Rattle.ed_top.proofs.Sources.{some_outcome, source_outcome}
 use Rattle.ed_top.specs.Traces.{trace_outcome}
 use Rattle.ed_top.proofs.Replies.{HasOne, exactly_one, text_outcome}
 use Rattle.ed_top.proofs.Checks.{checked_one}
@@ -77,7 +82,57 @@ input_once f = record {
 }
 
 source_once : (z : Size) (accepted : List Line → Outcome) → HasOneOutcome (of_source z accepted)
-source_once z accepted = input_once (λ input. of_program z accepted (program_of input))
+source_once z accepted = record {
+  some = λ input. let s = some_outcome z accepted input in some_within (OfSource z accepted) input s.0 s.1;
+  once = λ input o other. within_once (OfSource z accepted) input o other (source_outcome z accepted input o other);
+}
+
+-- a source that the program makes
+made_once : (z : Size) (accepted : List Line → Outcome) (text : Text) → HasOneOutcome (of_made (OfSource z accepted text))
+made_once z accepted text = record {
+  some = λ input. some_outcome z accepted text;
+  once = λ input o other. source_outcome z accepted text o other;
+}
+
+-- ---- a script and what follows it
+
+pub text_some : (s : Settings) (script : Text) (kind : TextKind) (text : Text) → (o : Outcome) × OnText s script kind text o
+text_some s script kinds.Tape text = (_, refl)
+text_some s script kinds.Source text = some_outcome s.size (λ lines. on_rows s script (tape lines)) text
+
+text_same : (s : Settings) (script : Text) (kind : TextKind) (text : Text) (o other : Outcome)
+    → OnText s script kind text o → OnText s script kind text other → o ≡ other
+text_same s script kinds.Tape text o other p q = sym p ∙ q
+text_same s script kinds.Source text o other p q =
+    source_outcome s.size (λ lines. on_rows s script (tape lines)) text o other p q
+
+pub good_some : (bad : Option ℕ) (answers : Outcome → Type 0) → (o : Outcome) × answers o
+    → (o : Outcome) × IfGood bad answers o
+good_some None answers some = some
+good_some (Some line) answers some = (_, refl)
+
+good_same : (bad : Option ℕ) (answers : Outcome → Type 0) (o other : Outcome)
+    → (answers o → answers other → o ≡ other) → IfGood bad answers o → IfGood bad answers other → o ≡ other
+good_same None answers o other same p q = same p q
+good_same (Some line) answers o other same p q = sym p ∙ q
+
+pub divided_some : (s : Settings) (input : Text) (d : Option Input) → (o : Outcome) × OfDivided s input d o
+divided_some s input None = (_, refl)
+divided_some s input (Some i) = good_some (bad_line i.script) _ (text_some s i.script i.kind i.text)
+
+divided_same : (s : Settings) (input : Text) (d : Option Input) (o other : Outcome) → OfDivided s input d o
+    → OfDivided s input d other → o ≡ other
+divided_same s input None o other p q = sym p ∙ q
+divided_same s input (Some i) o other p q =
+    good_same (bad_line i.script) (OnText s i.script i.kind i.text) o other
+    (text_same s i.script i.kind i.text o other) p q
+
+step_once : (s : Settings) → HasOneOutcome (of_input (OfStep s))
+step_once s = record {
+  some = λ input.
+      let d = divided_some s input (divided input) in some_within (OfStep s) input d.0 d.1;
+  once = λ input o other. within_once (OfStep s) input o other (divided_same s input (divided input) o other);
+}
 
 -- ---- every line of words
 
@@ -87,12 +142,12 @@ answer_once CheckTape s = rows_once _ (checked_one s)
 answer_once Run s = source_once s.size (run_outcome s)
 answer_once Punch s = source_once s.size punch_outcome
 answer_once Listing s = source_once s.size listing_outcome
-answer_once (CallOf call) s = known_once (call_outcome call s)
+answer_once (CallOf call) s = made_once s.size (run_outcome s) (call_text call)
 answer_once Library s = known_once (done library_text)
-answer_once (Demo n) s = known_once (demo_outcome n s)
+answer_once (Demo n) s = made_once s.size (run_outcome s) (demo_text n)
 answer_once Tape1 s = rows_once _ (exactly_one (tape1_outcome s))
 answer_once CheckTape1 s = rows_once _ checked1_one
-answer_once Step s = input_once (step_outcome s)
+answer_once Step s = step_once s
 answer_once Trace s = rows_once _ (exactly_one (trace_outcome s))
 answer_once Parts s = rows_once _ (parts_one s)
 

@@ -1,7 +1,7 @@
 -- From what is made of a source to the outcome of an input.
-use Rattle.std.proofs.Common.{◌≡◌, ◌≢◌, ◌∙◌, ℕ, refl, sym, ap, subst}
-use Rattle.std.proofs.Common.{Option, None, List, ◌++◌, map}
-use Rattle.std.specs.Prelude.{Result, Ok, Err, IfOk}
+use Rattle.std.proofs.Common.{◌≡◌, ◌≢◌, ◌⊎◌, inl, inr, ◌∙◌, ℕ, Bool, refl, sym, ap, subst}
+use Rattle.std.proofs.Common.{Option, None, List, [], ◌++◌, map}
+use Rattle.std.specs.Prelude.{Result, Ok, Err, IfOk, IsErr}
 use Rattle.ed_words.specs.declared.size.Size.{Size}
 use Rattle.ed_words.specs.declared.memory.NoMemory.{NoMemory}
 use Rattle.ed_store.specs.Cells.{Cells}
@@ -13,11 +13,10 @@ use Rattle.ed_printer.specs.Paper.{paper}
 use Rattle.ed_syntax.specs.declared.program.Line.{Line}
 use Rattle.ed_syntax.specs.declared.fault.SourceFault.{SourceFault}
 use Rattle.ed_syntax.specs.declared.fault.SourceFault.TheVariants.{At, Memory}
-use Rattle.ed_syntax.specs.Private.SourceReading.{Fault, program_of}
-use Rattle.ed_syntax.specs.Answers as form
-use Rattle.ed_link.specs.Answers as meaning
-use Rattle.ed_link.specs.Answers.{IsLinked}
-use Rattle.ed_link.specs.Faults.{fault}
+use Rattle.ed_syntax.specs.Sources.{HasFormFault, IsProgram}
+use Rattle.ed_link.specs.Answers.{HasMeaningFault, IsLinked}
+use Rattle.ed_link.specs.Refusals.{IsAcceptedAs, IsAcceptedOrRefused, for_form, for_meaning}
+use Rattle.ed_link.proofs.EachSource.{one_answer}
 use Rattle.ed_link.specs.Linked.{linked}
 use Rattle.ed_link.specs.Tables.{table_of, words_from}
 use Rattle.ed_link.specs.Tapes.{after_text}
@@ -30,9 +29,9 @@ use Rattle.ed_report.specs.Notes.{ending_line, source_fault_line}
 use Rattle.ed_command.specs.declared.command.Window.{Window}
 use Rattle.ed_words.specs.Texts.{Text}
 use Rattle.ed_top.specs.Outcome.{Outcome, done, refused}
-use Rattle.ed_top.specs.Answer.{exactly, of_input}
+use Rattle.ed_top.specs.Answer.{exactly, of_input, of_made}
 use Rattle.ed_top.specs.Runs.{post_mortem_codes, ran_outcome, status_of, with_post_mortem}
-use Rattle.ed_top.specs.Sources.{listing_outcome, of_program, of_source, punch_outcome, unless_faulty}
+use Rattle.ed_top.specs.Sources.{OfSource, listing_outcome, of_source, punch_outcome}
 use Rattle.ed_top.specs.Headline.{Headline}
 use Rattle.ed_top.specs.Private.Stages.{Gives, LinksSource, Replies}
 use Rattle.ed_top.specs.declared.reply.Reply.{Reply}
@@ -40,33 +39,55 @@ use Rattle.ed_top.proofs.FromEntry.{runs_from_entry}
 
 -- ---- what is made of a source
 
-pub accepted_is : (z : Size) (accepted : List Line → Outcome) (program : Result (List Line) Fault) (lines : List Line)
-    → program ≡ Ok lines
-    → fault z lines ≡ None → of_program z accepted program ≡ accepted lines
-accepted_is z accepted program lines p f =
-    ap (of_program z accepted) p ∙ ap (λ (x : Option SourceFault). unless_faulty x (accepted lines)) f
+pub accepted_is : (z : Size) (accepted : List Line → Outcome) (text : Text) (lines : List Line)
+    → IsAcceptedAs z text lines → OfSource z accepted text (accepted lines)
+accepted_is z accepted text lines a = inr (lines, a, refl)
+
+-- a source has an outcome, and only one
+pub some_outcome : (z : Size) (accepted : List Line → Outcome) (text : Text)
+    → (o : Outcome) × OfSource z accepted text o
+some_outcome z accepted text = by_answer (one_answer.every z text)
+  where
+    by_answer : IsAcceptedOrRefused z text → (o : Outcome) × OfSource z accepted text o
+    by_answer (inl a) = (accepted a.0, inr (a.0, a.1, refl))
+    by_answer (inr r) = (refused (source_fault_line (At r.0 r.1)), inl (r.0, r.1, r.2, refl))
+
+pub source_outcome : (z : Size) (accepted : List Line → Outcome) (text : Text) (o other : Outcome)
+    → OfSource z accepted text o → OfSource z accepted text other → o ≡ other
+source_outcome z accepted text o other (inl r) (inl q) =
+    let same = one_answer.one_fault z text r.0 q.0 r.1 q.1 r.2 q.2 in
+    sym r.3 ∙ (λ i. refused (source_fault_line (At (same.0 i) (same.1 i)))) ∙ q.3
+source_outcome z accepted text o other (inl r) (inr b) =
+    absurd (one_answer.never_both z text b.0 r.0 r.1 b.1 r.2)
+source_outcome z accepted text o other (inr a) (inl q) =
+    absurd (one_answer.never_both z text a.0 q.0 q.1 a.1 q.2)
+source_outcome z accepted text o other (inr a) (inr b) =
+    sym a.2 ∙ ap accepted (one_answer.one_program z text a.0 b.0 a.1 b.1) ∙ b.2
 
 -- a fault of form
-pub refused_form : (z : Size) (program : Result (List Line) Fault) (f : SourceFault) (r : Result Reply NoMemory)
-    → form.IsFaultOf program f → IfOk r (λ reply. Gives reply (refused (source_fault_line f)))
+pub refused_form : (z : Size) (text : Text) (f : SourceFault) (r : Result Reply NoMemory)
+    → HasFormFault text f → IfOk r (λ reply. Gives reply (refused (source_fault_line f)))
     → IfOk r (λ reply. f ≢ Memory)
-    → LinksSource z program (Err r)
-refused_form z program f (Err e) is gives told = tt
-refused_form z program Memory (Ok reply) is gives told = absurd (told refl)
-refused_form z program (At line cause) (Ok reply) is gives told =
-    λ accepted. subst (Gives reply) (sym (ap (of_program z accepted) is)) gives
+    → LinksSource z text (Err r)
+refused_form z text f (Err e) is gives told = tt
+refused_form z text Memory (Ok reply) is gives told = absurd (told refl)
+refused_form z text (At line cause) (Ok reply) is gives told = (line, cause, for_form is, gives)
 
 -- a fault of meaning
-pub refused_meaning : (z : Size) {program : Result (List Line) Fault} {lines : List Line} (f : SourceFault)
+pub refused_meaning : (z : Size) {text : Text} {two : Bool} {lines : List Line} (f : SourceFault)
     (r : Result Reply NoMemory)
-    → program ≡ Ok lines → meaning.IsMeaningFault (fault z lines) f
+    → IsProgram text two lines → HasMeaningFault z lines f
     → IfOk r (λ reply. Gives reply (refused (source_fault_line f)))
-    → IfOk r (λ reply. f ≢ Memory) → LinksSource z program (Err r)
+    → IfOk r (λ reply. f ≢ Memory) → LinksSource z text (Err r)
 refused_meaning z f (Err e) p is gives told = tt
 refused_meaning z Memory (Ok reply) p is gives told = absurd (told refl)
-refused_meaning z {lines} (At line cause) (Ok reply) p is gives told =
-    λ accepted. subst (Gives reply)
-    (sym (ap (of_program z accepted) p ∙ ap (λ (x : Option SourceFault). unless_faulty x (accepted lines)) is)) gives
+refused_meaning z (At line cause) (Ok reply) p is gives told = (line, cause, for_meaning p is, gives)
+
+-- a program that is linked
+pub linked_accepted : (z : Size) {text : Text} {two : Bool} {lines : List Line} (k : Linked) → IsProgram text two lines
+    → IsLinked z lines k → LinksSource z text (Ok k)
+linked_accepted z {two} {lines} k p is =
+    (lines, record { two = two; says = p; faultless = is.accepted }, is)
 
 -- ---- the outcome of an input
 
@@ -76,28 +97,42 @@ pub input_replied : (f : Text → Outcome) (input : Text) (r : Result Reply NoMe
 input_replied f input (Ok reply) gives = (f input, refl, gives)
 input_replied f input (Err e) gives = (f input, refl, tt)
 
+-- where no memory is found for a reply, there is an outcome all the same
+pub none_replied : (answers : Outcome → Type 0) (r : Result Reply NoMemory) → IsErr r → (o : Outcome) × answers o
+    → Replies (of_made answers) [] r
+none_replied answers (Ok reply) e some = absurd (cc)
+none_replied answers (Err n) e some = (some.0, some.1, tt)
+
+-- an outcome of an input is one that is said of it, and the other way round
+pub as_made : (answers : Text → Outcome → Type 0) (input : Text) (r : Result Reply NoMemory)
+    → Replies (of_input answers) input r → Replies (of_made (answers input)) [] r
+as_made answers input (Ok reply) replies = replies
+as_made answers input (Err e) replies = replies
+
+pub as_input : (answers : Text → Outcome → Type 0) (input : Text) (r : Result Reply NoMemory)
+    → Replies (of_made (answers input)) [] r → Replies (of_input answers) input r
+as_input answers input (Ok reply) replies = replies
+as_input answers input (Err e) replies = replies
+
 -- of an accepted source
 pub linked_replied : (z : Size) (accepted : List Line → Outcome) (input : Text) (k : Linked) (r : Result Reply NoMemory)
-    → LinksSource z (program_of input) (Ok k)
+    → LinksSource z input (Ok k)
     → IfOk r (λ reply. (lines : List Line) → IsLinked z lines k → Gives reply (accepted lines))
     → Replies (of_source z accepted) input r
-linked_replied z accepted input k (Err e) l g = (of_program z accepted (program_of input), refl, tt)
-linked_replied z accepted input k (Ok reply) l g = (
-  of_program z accepted (program_of input),
-  refl,
-  subst (Gives reply) (sym (accepted_is z accepted (program_of input) l.0 l.1 l.2.accepted)) (g l.0 l.2),
-)
+linked_replied z accepted input k (Err e) l g = (accepted l.0, accepted_is z accepted input l.0 l.1, tt)
+linked_replied z accepted input k (Ok reply) l g = (accepted l.0, accepted_is z accepted input l.0 l.1, g l.0 l.2)
 
 -- of another
 pub source_refused : (z : Size) (accepted : List Line → Outcome) (input : Text) (r : Result Reply NoMemory)
-    → LinksSource z (program_of input) (Err r) → Replies (of_source z accepted) input r
-source_refused z accepted input (Ok reply) l = (of_program z accepted (program_of input), refl, l accepted)
-source_refused z accepted input (Err e) l = (of_program z accepted (program_of input), refl, tt)
+    → LinksSource z input (Err r) → Replies (of_source z accepted) input r
+source_refused z accepted input (Ok reply) l =
+    (refused (source_fault_line (At l.0 l.1)), inl (l.0, l.1, l.2, refl), l.3)
+source_refused z accepted input (Err e) l = let some = some_outcome z accepted input in (some.0, some.1, tt)
 
 -- ---- that it is run from its entry
 
 pub headline : Headline
-headline s source lines p f = runs_from_entry s lines (each_source s.size source lines p f)
+headline s source lines a = runs_from_entry s lines (each_source s.size source lines a)
 
 -- ---- the reply of a run
 

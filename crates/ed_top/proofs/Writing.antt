@@ -5,7 +5,7 @@ use Rattle.ed_words.specs.declared.memory.NoMemory.{NoMemory}
 use Rattle.ed_codes.specs.Reading.{Reading, rows, reading}
 use Rattle.ed_words.specs.Texts.{Text}
 use Rattle.ed_top.specs.Outcome.{Outcome}
-use Rattle.ed_top.specs.Answer.{Answer, OfReading, exactly, known, of_input, of_rows}
+use Rattle.ed_top.specs.Answer.{Answer, OfReading, exactly, known, of_input, of_made, of_rows}
 use Rattle.ed_top.specs.Clause.{Device, Wrote, WrotePart}
 use Rattle.ed_top.specs.Private.Stages.{Carried, ForInput, Gives, Replies, WritesReply}
 use Rattle.ed_top.specs.declared.reply.Reply.{Reply}
@@ -17,6 +17,7 @@ use Rattle.ed_top.proofs.Replies.{none_written}
 for_more : (answer : Answer) (input : Text) (P Q : Outcome → Type 0) → ((o : Outcome) → P o → Q o) → ForInput answer
     input P → ForInput answer input Q
 for_more (known o) input P Q more p = more o p
+for_more (of_made answers) input P Q more p = (p.0, p.1, more p.0 p.2)
 for_more (of_input answers) input P Q more p = (p.0, p.1, more p.0 p.2)
 
 -- a reply that was written is carried out
@@ -35,6 +36,7 @@ reply_carried answer input (Ok reply) out (Ok rest) replies w = (
   where
     low : (answer : Answer) → ForInput answer input (Gives reply) → rest.status < 8
     low (known o) gives = rw w.2 gives.low
+    low (of_made answers) gives = rw w.2 gives.2.low
     low (of_input answers) gives = rw w.2 gives.2.low
 reply_carried answer input (Ok reply) out (Err Failed) replies w =
     (w.0, for_more answer input _ _ (λ o gives. subst (λ (t : Text). WrotePart out t) gives.out_is w.1) replies)
@@ -55,6 +57,18 @@ known_carried {due} input reply out r is gives w =
     replied : (reply : Result Reply NoMemory) → IfOk reply (λ reply. Gives reply due) → Replies (known due) input reply
     replied (Ok reply) gives = gives
     replied (Err e) gives = tt
+
+-- and a reply with an outcome that is said
+pub made_carried : {answer : Answer} {answers : Outcome → Type 0} (input : Text) (reply : Result Reply NoMemory)
+    (out : Device) (r : Result Rest Stop) → answer ≡ of_made answers → Replies (of_made answers) [] reply
+    → WritesReply reply out r → Carried answer input out r
+made_carried {answers} input reply out r is replies w =
+    subst (λ (a : Answer). Carried a input out r) (sym is)
+    (reply_carried (of_made answers) input reply out r (anew reply replies) w)
+  where
+    anew : (reply : Result Reply NoMemory) → Replies (of_made answers) [] reply → Replies (of_made answers) input reply
+    anew (Ok reply) replies = replies
+    anew (Err e) replies = replies
 
 -- what was written of the rows as it came is that of the text
 pub rows_carried : (f : List ℕ → Outcome) (input : Text) (codes : List ℕ) (out : Device) (r : Result Rest Stop)

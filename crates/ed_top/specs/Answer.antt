@@ -7,9 +7,11 @@ use Rattle.ed_report.specs.Notes.{text_fault_line}
 use Rattle.ed_words.specs.Texts.{Text}
 use Rattle.ed_top.specs.Outcome.{Outcome, refused, too_long_outcome}
 
--- no input is read, or one is, and then this says which outcome an input of at most 262,144 bytes has
+-- no input is read, and this is the outcome, or this says which one it is; or an input is read, and this says which
+-- outcome an input of at most 262,144 bytes has
 pub data Answer : Type 1 where
   known : Outcome → Answer
+  of_made : (Outcome → Type 0) → Answer
   of_input : (Text → Outcome → Type 0) → Answer
 
 -- the outcome that a function gives
@@ -29,6 +31,7 @@ of_rows answers = of_input (λ input. OfReading answers (reading input))
 -- whether the input is read
 abbrev pub reads_input : Answer → Bool
 reads_input (known due) = false
+reads_input (of_made answers) = false
 reads_input (of_input answers) = true
 
 -- the outcome of an input that has at most 262,144 bytes, or of one that is too long
@@ -39,6 +42,7 @@ WithinLimit answers input o = ((length input ≤ 262144) × answers input o)
 -- the outcome that is due to an input
 abbrev pub IsDue : Answer → Text → Outcome → Type 0
 IsDue (known due) input o = due ≡ o
+IsDue (of_made answers) input o = answers o
 IsDue (of_input answers) input o = WithinLimit answers input o
 
 -- an outcome is due to each input, and only one

@@ -1,10 +1,10 @@
 -- What `call` answers (this project's own rule).
-use Rattle.std.specs.Prelude.{◌≡◌, ℕ, ◌+◌, ◌*◌, ◌/◌, ◌%◌, ◌≤◌, List, [], ◌∷◌, ◌++◌, length, None, Ok}
+use Rattle.std.specs.Prelude.{◌≡◌, ℕ, ◌+◌, ◌*◌, ◌/◌, ◌%◌, ◌≤◌, List, [], ◌∷◌, ◌++◌, length, None}
 use Rattle.std.specs.Fmt.{decimal}
 use Rattle.ed_call.specs.declared.Call.{Call}
 use Rattle.ed_call.specs.declared.Call.TheVariants.{Print, Read, NewLine, Divide, Root, Check}
 use Rattle.ed_syntax.specs.declared.program.Line.{Line}
-use Rattle.ed_syntax.specs.Private.SourceReading.{program_of}
+use Rattle.ed_link.specs.Refusals.{IsAcceptedAs}
 use Rattle.ed_link.specs.Tapes.{cost}
 use Rattle.ed_loads.specs.EntryState.{entry_state}
 use Rattle.ed_printer.specs.Paper.{paper}
@@ -18,16 +18,17 @@ use Rattle.ed_sources.specs.Calls.{call_text}
 use Rattle.ed_command.specs.declared.command.Settings.{Settings}
 use Rattle.ed_words.specs.Texts.{Text}
 use Rattle.ed_top.specs.Outcome.{Outcome}
-use Rattle.ed_top.specs.Sources.{of_program, run_outcome}
+use Rattle.ed_top.specs.Answer.{Answer, of_made}
+use Rattle.ed_top.specs.Sources.{OfSource, run_outcome}
 use Rattle.ed_top.specs.Headline.{RunsFromEntry}
 
--- what is answered of a source that the program makes: its run
-abbrev pub made_outcome : Settings → Text → Outcome
-made_outcome s text = of_program s.size (run_outcome s) (program_of text)
+-- the program makes a source, and answers its run
+abbrev pub of_made_source : Settings → Text → Answer
+of_made_source s text = of_made (OfSource s.size (run_outcome s) text)
 
 -- `call`: the run of its source
-abbrev pub call_outcome : Call → Settings → Outcome
-call_outcome call s = made_outcome s (call_text call)
+abbrev pub call_answer : Call → Settings → Answer
+call_answer call s = of_made_source s (call_text call)
 
 -- where the checking routine stands in the source of `call check`
 abbrev pub check_base : ℕ
@@ -58,16 +59,16 @@ pub record Printed (text : Text) (o : Outcome) : Type 0 where
   pub out_is : o.out ≡ text
   pub status_is : o.status ≡ 0
 
--- the source of a call is read as these lines, what is answered is their run, and it is the run from the state at
--- their entry
+-- the source of a call is accepted with these lines, so that what is answered is their run, and it is the run from the
+-- state at their entry
 pub record CallRuns (s : Settings) (call : Call) : Type 0 where
   pub lines : List Line
-  pub reads : program_of (call_text call) ≡ Ok lines
-  pub answers : call_outcome call s ≡ run_outcome s lines
+  pub accepted : IsAcceptedAs s.size (call_text call) lines
+  pub answers : OfSource s.size (run_outcome s) (call_text call) (run_outcome s lines)
   pub from_entry : RunsFromEntry s lines
   -- and where the limit is not below the orders that it takes, it prints what is said of it
   pub prints : s.resumes ≡ 0 → s.post_mortem ≡ None → cost lines + call_orders call ≤ s.limit
-      → Printed (call_prints s.size lines call) (call_outcome call s)
+      → Printed (call_prints s.size lines call) (run_outcome s lines)
 
 -- so it is of each call
 abbrev pub EachCallRuns : Type 0

@@ -5,7 +5,7 @@ use Rattle.ed_io.specs.Bytes.{Gains, GainsPart}
 use Rattle.ed_io.specs.Causes.{next_count}
 use Rattle.ed_words.specs.Texts.{Text}
 use Rattle.ed_top.specs.Outcome.{Outcome, read_fault, no_memory}
-use Rattle.ed_top.specs.Answer.{Answer, known, of_input, reads_input, WithinLimit}
+use Rattle.ed_top.specs.Answer.{Answer, known, of_made, of_input, reads_input, WithinLimit}
 
 -- a device before and after the call: the bytes that it reports, if it reports them, and its count of faults
 pub record Device : Type 0 where
@@ -50,6 +50,7 @@ Lost d n = (bytes : Text) → d.before ≡ Some bytes → d.after ≡ Some (drop
 -- how many bytes are read at the most: none, or one more than an input may have
 abbrev pub most_read : Answer → ℕ
 most_read (known o) = 0
+most_read (of_made answers) = 0
 most_read (of_input answers) = 262145
 
 -- this may be the input of a source that reports these bytes; any text may, if it reports none
@@ -57,10 +58,11 @@ abbrev pub MayBe : Option Text → Text → Type 0
 MayBe None input = Unit {0}
 MayBe (Some bytes) input = bytes ≡ input
 
--- this holds of the outcome that is due: the known one, or that of one input, which is the source's bytes if it reports
--- them
+-- this holds of the outcome that is due: the known one, the one that is said, or that of one input, which is the source's
+-- bytes if it reports them
 abbrev pub ForDue : Answer → Device → (Outcome → Type 0) → Type 0
 ForDue (known due) source P = P due
+ForDue (of_made answers) source P = (o : Outcome) × answers o × P o
 ForDue (of_input answers) source P =
     (input : Text) × MayBe source.before input × (o : Outcome) × WithinLimit answers input o × P o
 

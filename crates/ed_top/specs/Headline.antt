@@ -1,10 +1,9 @@
 -- What is shown of every source that is accepted: its tape leads to the state at the entry, and the run is that from
 -- there.
-use Rattle.std.specs.Prelude.{◌≡◌, ◌-◌, ◌<◌, ◌≤◌, List, None, Ok}
+use Rattle.std.specs.Prelude.{◌≡◌, ◌-◌, ◌<◌, ◌≤◌, List}
 use Rattle.ed_run.specs.Run.{ran}
 use Rattle.ed_syntax.specs.declared.program.Line.{Line}
-use Rattle.ed_syntax.specs.Private.SourceReading.{program_of}
-use Rattle.ed_link.specs.Faults.{fault}
+use Rattle.ed_link.specs.Refusals.{IsAcceptedAs}
 use Rattle.ed_link.specs.Linked.{entry_of}
 use Rattle.ed_link.specs.Tapes.{cost, tape}
 use Rattle.ed_loads.specs.EntryState.{Enters, entry_state}
@@ -27,8 +26,7 @@ pub record RunsFromEntry (s : Settings) (lines : List Line) : Type 0 where
   pub short : s.limit < cost lines
       → (run_outcome s lines).out ≡ paper (post_mortem_codes s.post_mortem (run_of s (tape lines)).state)
 
--- so it is of every source without a fault, whatever the limit, the resumes, the size and the post-mortem
+-- so it is of every source that is accepted, whatever the limit, the resumes, the size and the post-mortem
 abbrev pub Headline : Type 0
 Headline =
-    (s : Settings) (source : Text) (lines : List Line) → program_of source ≡ Ok lines → fault s.size lines ≡ None
-    → RunsFromEntry s lines
+    (s : Settings) (source : Text) (lines : List Line) → IsAcceptedAs s.size source lines → RunsFromEntry s lines

@@ -16,12 +16,12 @@ use Rattle.ed_command.specs.declared.command.Action.TheVariants.{Call as CallOf,
 use Rattle.ed_report.specs.Entries.{entry_line}
 use Rattle.ed_top.specs.Outcome.{Outcome, done, refused, usage_outcome}
 use Rattle.ed_top.specs.Answer.{Answer, HasOneOutcome, exactly, known, of_input, of_rows}
-use Rattle.ed_top.specs.Calls.{call_outcome}
-use Rattle.ed_top.specs.Demos.{demo_outcome}
+use Rattle.ed_top.specs.Calls.{call_answer}
+use Rattle.ed_top.specs.Demos.{demo_answer}
 use Rattle.ed_top.specs.FirstOrders.{IsChecked1, tape1_outcome}
 use Rattle.ed_top.specs.Parts.{IsInParts}
 use Rattle.ed_top.specs.Runs.{ran_outcome, run_of, with_post_mortem}
-use Rattle.ed_top.specs.Scripts.{step_outcome}
+use Rattle.ed_top.specs.Scripts.{OfStep}
 use Rattle.ed_top.specs.Traces.{trace_outcome}
 use Rattle.ed_top.specs.Sources.{listing_outcome, of_source, punch_outcome, run_outcome}
 
@@ -64,12 +64,12 @@ answer CheckTape s = of_rows (IsChecked s)
 answer Run s = of_source s.size (run_outcome s)
 answer Punch s = of_source s.size punch_outcome
 answer Listing s = of_source s.size listing_outcome
-answer (CallOf call) s = known (call_outcome call s)
+answer (CallOf call) s = call_answer call s
 answer Library s = known (done library_text)
-answer (Demo n) s = known (demo_outcome n s)
+answer (Demo n) s = demo_answer n s
 answer Tape1 s = of_rows (exactly (tape1_outcome s))
 answer CheckTape1 s = of_rows IsChecked1
-answer Step s = of_input (exactly (step_outcome s))
+answer Step s = of_input (OfStep s)
 answer Trace s = of_rows (exactly (trace_outcome s))
 answer Parts s = of_rows (IsInParts s)
 

@@ -1,9 +1,8 @@
 -- What `step` answers (this project's own rules).
-use Rattle.std.specs.Prelude.{ℕ, ◌+◌, List, length, Option, Some, None}
+use Rattle.std.specs.Prelude.{◌≡◌, ℕ, ◌+◌, List, length, Option, Some, None}
 use Rattle.ed_codes.specs.Reading.{Reading, rows, no_row, open_comment, reading}
 use Rattle.ed_codes.specs.declared.tape.TextFault.TheVariants.{NoRow, OpenComment}
 use Rattle.ed_syntax.specs.Lines.{lines_of}
-use Rattle.ed_syntax.specs.Private.SourceReading.{program_of}
 use Rattle.ed_link.specs.Tapes.{tape}
 use Rattle.ed_loads.specs.EntryState.{first_state}
 use Rattle.ed_report.specs.Notes.{bad_command_line, no_text_line, text_fault_line, too_far_line}
@@ -15,7 +14,7 @@ use Rattle.ed_stepper.specs.declared.inputs.TextKind.TheVariants as kinds
 use Rattle.ed_command.specs.declared.command.Settings.{Settings}
 use Rattle.ed_words.specs.Texts.{Text}
 use Rattle.ed_top.specs.Outcome.{Outcome, done, refused}
-use Rattle.ed_top.specs.Sources.{of_program}
+use Rattle.ed_top.specs.Sources.{OfSource}
 
 -- a script that was played: its text; nothing of it where a line went back too far
 abbrev pub script_outcome : Option TooFar → Text → Outcome
@@ -40,21 +39,21 @@ on_reading s script (rows codes) = on_rows s script codes
 on_reading s script (no_row place byte) = refused (text_fault_line (NoRow place byte))
 on_reading s script (open_comment place) = refused (text_fault_line (OpenComment place))
 
--- on what stands behind the line that divides the input: the text of a tape, or a source, which is punched
-abbrev pub on_text : Settings → Text → TextKind → Text → Outcome
-on_text s script kinds.Tape text = on_reading s script (reading text)
-on_text s script kinds.Source text = of_program s.size (λ lines. on_rows s script (tape lines)) (program_of text)
+-- on what follows the line that divides the input: the text of a tape, or a source, which is punched
+abbrev pub OnText : Settings → Text → TextKind → Text → Outcome → Type 0
+OnText s script kinds.Tape text o = on_reading s script (reading text) ≡ o
+OnText s script kinds.Source text o = OfSource s.size (λ lines. on_rows s script (tape lines)) text o
 
--- a script's least line that is none is told before the text is looked at
-abbrev pub if_good : Option ℕ → Outcome → Outcome
-if_good None o = o
-if_good (Some line) o = refused (bad_command_line line)
+-- a script's least line that is none is reported before the text is looked at
+abbrev pub IfGood : Option ℕ → (Outcome → Type 0) → Outcome → Type 0
+IfGood None answers o = answers o
+IfGood (Some line) answers o = refused (bad_command_line line) ≡ o
 
--- an input that no line divides is told first of all
-abbrev pub of_divided : Settings → Text → Option Input → Outcome
-of_divided s input None = refused (no_text_line (length (lines_of input) + 1))
-of_divided s input (Some i) = if_good (bad_line i.script) (on_text s i.script i.kind i.text)
+-- an input that no line divides is reported first of all
+abbrev pub OfDivided : Settings → Text → Option Input → Outcome → Type 0
+OfDivided s input None o = refused (no_text_line (length (lines_of input) + 1)) ≡ o
+OfDivided s input (Some i) o = IfGood (bad_line i.script) (OnText s i.script i.kind i.text) o
 
 -- `step`
-abbrev pub step_outcome : Settings → Text → Outcome
-step_outcome s input = of_divided s input (divided input)
+abbrev pub OfStep : Settings → Text → Outcome → Type 0
+OfStep s input = OfDivided s input (divided input)

@@ -1,13 +1,12 @@
 -- What the program answers to a source (this project's own rules).
-use Rattle.std.specs.Prelude.{◌++◌, [], List, map, nat_le, Option, Some, None, Result, Ok, Err, if◌then◌else◌}
+use Rattle.std.specs.Prelude.{◌≡◌, ◌⊎◌, ℕ, ◌++◌, [], List, map, nat_le, if◌then◌else◌}
 use Rattle.ed_words.specs.declared.size.Size.{Size}
 use Rattle.ed_machine.specs.State.{State}
 use Rattle.ed_notation.specs.Spellings.{canonicals, text_of}
 use Rattle.ed_syntax.specs.declared.program.Line.{Line}
-use Rattle.ed_syntax.specs.declared.fault.SourceFault.{SourceFault}
+use Rattle.ed_syntax.specs.declared.fault.SourceCause.{SourceCause}
 use Rattle.ed_syntax.specs.declared.fault.SourceFault.TheVariants.{At}
-use Rattle.ed_syntax.specs.Private.SourceReading.{Fault, program_of}
-use Rattle.ed_link.specs.Faults.{fault}
+use Rattle.ed_link.specs.Refusals.{IsAcceptedAs, IsRefused}
 use Rattle.ed_link.specs.Linked.{data_behind, entry_of, linked}
 use Rattle.ed_link.specs.Punch.{punched}
 use Rattle.ed_link.specs.Tables.{table_of, words_from}
@@ -18,23 +17,19 @@ use Rattle.ed_report.specs.Notes.{entered, source_fault_line}
 use Rattle.ed_command.specs.declared.command.Settings.{Settings}
 use Rattle.ed_words.specs.Texts.{Text}
 use Rattle.ed_top.specs.Outcome.{Outcome, done, refused}
-use Rattle.ed_top.specs.Answer.{Answer, exactly, of_input}
+use Rattle.ed_top.specs.Answer.{Answer, of_input}
 use Rattle.ed_top.specs.Runs.{ran_outcome, run_of, with_post_mortem}
 
--- an outcome, or the refusal for a fault where there is one
-abbrev pub unless_faulty : Option SourceFault → Outcome → Outcome
-unless_faulty None o = o
-unless_faulty (Some f) o = refused (source_fault_line f)
-
--- what is answered to a source for a machine of a size: the refusal for its fault of form; where it has none, that
--- for its fault of meaning; and where it has none either, what a function gives for its lines
-abbrev pub of_program : Size → (List Line → Outcome) → Result (List Line) Fault → Outcome
-of_program z accepted (Err f) = refused (source_fault_line (At f.line f.cause))
-of_program z accepted (Ok lines) = unless_faulty (fault z lines) (accepted lines)
+-- the outcome of a source on a machine of a size: where it is refused, the line of its fault; where it is accepted, what
+-- a function gives for its lines
+abbrev pub OfSource : Size → (List Line → Outcome) → Text → Outcome → Type 0
+OfSource z accepted text o =
+    ((k : ℕ) × (c : SourceCause) × IsRefused z text k c × (refused (source_fault_line (At k c)) ≡ o))
+    ⊎ ((lines : List Line) × IsAcceptedAs z text lines × (accepted lines ≡ o))
 
 -- the input is a source, and this is answered where it is accepted
 abbrev pub of_source : Size → (List Line → Outcome) → Answer
-of_source z accepted = of_input (exactly (λ input. of_program z accepted (program_of input)))
+of_source z accepted = of_input (OfSource z accepted)
 
 -- what stands before the line of an ending: where the run obeyed the orders that the tape costs up to its entry, the
 -- entry and these orders

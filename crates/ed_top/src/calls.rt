@@ -1,7 +1,7 @@
-ghost use Rattle.std.specs.Prelude.{IfOk};
+ghost use Rattle.std.specs.Prelude.{[]};
 ghost use Rattle.ed_command.specs.Ranges.{AreSettingsInRange};
-ghost use Rattle.ed_top.specs.Calls.{call_outcome};
-ghost use Rattle.ed_top.specs.Private.Stages.{Gives};
+ghost use Rattle.ed_top.specs.Calls.{call_answer};
+ghost use Rattle.ed_top.specs.Private.Stages.{Replies};
 
 use crate::reply::Reply;
 use crate::source::run;
@@ -14,7 +14,7 @@ use std::alloc::Global;
 /// `call`: the run of the source that calls a routine of the library.
 pub fn call_routine(alloc: Global, settings: Settings, call: Call) -> Result<Reply, NoMemory>
     requires { AreSettingsInRange settings }
-    ensures { IfOk result (λ reply. Gives reply (call_outcome call settings)) }
+    ensures { Replies (call_answer call settings) [] result }
 {
     let source = call_source(alloc, &call)?;
     run(alloc, settings, &source)

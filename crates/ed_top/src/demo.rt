@@ -1,7 +1,7 @@
-ghost use Rattle.std.specs.Prelude.{IfOk};
+ghost use Rattle.std.specs.Prelude.{[]};
 ghost use Rattle.ed_command.specs.Ranges.{AreSettingsInRange, IsFromTo};
-ghost use Rattle.ed_top.specs.Demos.{demo_outcome};
-ghost use Rattle.ed_top.specs.Private.Stages.{Gives};
+ghost use Rattle.ed_top.specs.Demos.{demo_answer};
+ghost use Rattle.ed_top.specs.Private.Stages.{Replies};
 
 use crate::reply::Reply;
 use crate::source::run;
@@ -14,7 +14,7 @@ use std::alloc::Global;
 pub fn demo(alloc: Global, settings: Settings, n: u32) -> Result<Reply, NoMemory>
     requires number { IsFromTo 1 112 n }
     requires ranges { AreSettingsInRange settings }
-    ensures { IfOk result (λ reply. Gives reply (demo_outcome n settings)) }
+    ensures { Replies (demo_answer n settings) [] result }
 {
     let source = demo_source(alloc, n)?;
     run(alloc, settings, &source)

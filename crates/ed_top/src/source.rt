@@ -1,7 +1,6 @@
 ghost use Rattle.std.specs.Prelude.{◌≡◌, ◌≢◌, ◌≤◌, ◌++◌, [], IfOk, List, None, map, nat_le, if◌then◌else◌};
 ghost use Rattle.ed_notation.specs.Spellings.{canonicals, text_of};
 ghost use Rattle.ed_syntax.specs.declared.program.Line.{Line};
-ghost use Rattle.ed_syntax.specs.Private.SourceReading.{program_of};
 ghost use Rattle.ed_link.specs.Answers.{IsLinked};
 ghost use Rattle.ed_link.specs.Tapes.{after_text, cost, tape};
 ghost use Rattle.ed_loads.specs.EntryState.{entry_state};
@@ -56,7 +55,7 @@ pub fn list(alloc: Global, settings: Settings, input: &[u8]) -> Result<Reply, No
 
 /// The linked program of a source, or the reply that refuses the source.
 pub fn linked_of(alloc: Global, size: Size, input: &[u8]) -> Result<Linked, Result<Reply, NoMemory>>
-    ensures { LinksSource size (program_of input.now) result }
+    ensures { LinksSource size input.now result }
 {
     let program = match parse(alloc, input) {
         Ok(program) => program,

@@ -1,11 +1,11 @@
-ghost use Rattle.std.specs.Prelude.{◌≡◌, ◌≤◌, IfOk, List, None, length};
+ghost use Rattle.std.specs.Prelude.{◌≡◌, ◌≤◌, [], IfOk, List, None, length};
 ghost use Rattle.ed_syntax.specs.declared.program.Line.{Line};
 ghost use Rattle.ed_link.specs.Answers.{IsLinked};
 ghost use Rattle.ed_link.specs.Tapes.{tape};
 ghost use Rattle.ed_stepper.specs.Scripts.{bad_line};
-ghost use Rattle.ed_top.specs.Answer.{exactly, of_input};
+ghost use Rattle.ed_top.specs.Answer.{of_input, of_made};
 ghost use Rattle.ed_top.specs.Private.Stages.{Gives, Replies};
-ghost use Rattle.ed_top.specs.Scripts.{if_good, on_rows, on_text, step_outcome};
+ghost use Rattle.ed_top.specs.Scripts.{IfGood, OfStep, OnText, on_rows};
 
 use crate::reply::{Reply, refusal};
 use crate::rows::rows_of;
@@ -24,7 +24,7 @@ use std::alloc::Global;
 /// `step`: what the script writes that stands before the dividing line, on a machine started on what stands behind it.
 pub fn step(alloc: Global, settings: Settings, input: &[u8]) -> Result<Reply, NoMemory>
     requires { length input.now ≤ 262144 }
-    ensures { Replies (of_input (exactly (step_outcome settings))) input.now result }
+    ensures { Replies (of_input (OfStep settings)) input.now result }
 {
     match divide(input) {
         Some(divided) => step_divided(alloc, settings, divided),
@@ -34,8 +34,8 @@ pub fn step(alloc: Global, settings: Settings, input: &[u8]) -> Result<Reply, No
 
 /// Looks at the script, then at the text.
 fn step_divided(alloc: Global, settings: Settings, divided: Divided<'_>) -> Result<Reply, NoMemory>
-    ensures { IfOk result (λ reply. Gives reply (if_good (bad_line divided.entry.script.now)
-        (on_text settings divided.entry.script.now divided.entry.kind divided.entry.text.now))) }
+    ensures { Replies (of_made (IfGood (bad_line divided.entry.script.now)
+        (OnText settings divided.entry.script.now divided.entry.kind divided.entry.text.now))) [] result }
 {
     if let Some(line) = bad_line(divided.script) {
         return Ok(refusal(alloc, bad_command(alloc, line)?));
@@ -54,7 +54,7 @@ fn step_tape(
     text: &[u8],
 ) -> Result<Reply, NoMemory>
     requires { bad_line script.now ≡ None }
-    ensures { IfOk result (λ reply. Gives reply (on_text settings script.now TextKind.Tape text.now)) }
+    ensures { Replies (of_made (OnText settings script.now TextKind.Tape text.now)) [] result }
 {
     match rows_of(alloc, text) {
         Ok(rows) => step_rows(alloc, settings, script, rows),
@@ -70,7 +70,7 @@ fn step_source(
     text: &[u8],
 ) -> Result<Reply, NoMemory>
     requires { bad_line script.now ≡ None }
-    ensures { IfOk result (λ reply. Gives reply (on_text settings script.now TextKind.Source text.now)) }
+    ensures { Replies (of_made (OnText settings script.now TextKind.Source text.now)) [] result }
 {
     match linked_of(alloc, settings.size, text) {
         Ok(linked) => step_linked(alloc, settings, script, &linked),

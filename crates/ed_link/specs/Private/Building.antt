@@ -11,10 +11,9 @@ use Rattle.ed_symbols.specs.declared.homes.Home.{Home}
 use Rattle.ed_symbols.specs.Places.{first_spot}
 use Rattle.ed_link.specs.declared.building.Built.{Built}
 use Rattle.ed_link.specs.declared.linked.Linked.{Linked}
-use Rattle.ed_link.specs.Answers.{IsMeaningFault}
 use Rattle.ed_link.specs.Linked.{data_behind, entry_from, placed_from}
 use Rattle.ed_link.specs.Punch.{punched_from, routine_items}
-use Rattle.ed_link.specs.Faults.{LinesBefore, fault_from}
+use Rattle.ed_link.specs.Private.FaultTests.{IsFirstFault, LinesBefore, fault_from}
 use Rattle.ed_link.specs.Tables.{table_of, words_from}
 use Rattle.ed_link.specs.Labels.{labels}
 
@@ -44,7 +43,7 @@ pub record IsBuilt (z : Size) (homes : List Home) (any : Bool) (lines : List Lin
 -- the lines are built, or their fault is told
 abbrev pub BuildIs : Size → List Home → Bool → List Line → Result Built SourceFault → Type 0
 BuildIs z homes any lines (Ok b) = IsBuilt z homes any lines b
-BuildIs z homes any lines (Err e) = IsMeaningFault (fault_from z homes any first_past first_spot lines) e
+BuildIs z homes any lines (Err e) = IsFirstFault (fault_from z homes any first_past first_spot lines) e
 
 -- a linked program is what was made of the lines
 pub record IsFinished (homes : List Home) (b : Built) (k : Linked) : Type 0 where

@@ -8,15 +8,16 @@ use Rattle.ed_codes.specs.declared.tape.TextFault.TheVariants.{NoRow, OpenCommen
 use Rattle.ed_machine.specs.State.{State}
 use Rattle.ed_printer.specs.Paper.{paper}
 use Rattle.ed_run.specs.Run.{RunEnd}
-use Rattle.ed_syntax.specs.Private.SourceReading.{Fault}
+use Rattle.ed_syntax.specs.declared.fault.SourceCause.{SourceCause}
+use Rattle.ed_syntax.specs.declared.fault.SourceFault.TheVariants.{At}
 use Rattle.ed_syntax.specs.declared.program.Line.{Line}
 use Rattle.ed_link.specs.Answers.{IsLinked}
+use Rattle.ed_link.specs.Refusals.{IsAcceptedAs, IsRefused}
 use Rattle.ed_link.specs.declared.linked.Linked.{Linked}
-use Rattle.ed_report.specs.Notes.{text_fault_line}
+use Rattle.ed_report.specs.Notes.{source_fault_line, text_fault_line}
 use Rattle.ed_top.specs.Answer.{Answer, IsDue}
 use Rattle.ed_words.specs.Texts.{Text}
 use Rattle.ed_top.specs.Outcome.{Outcome, refused}
-use Rattle.ed_top.specs.Sources.{of_program}
 use Rattle.ed_page.specs.Answers.{Buffers, HasItsCause, HasPictureRoom, HasBufferRoom, Tells, TextBuffers}
 use Rattle.ed_page.specs.Pictures.{Pictures}
 use Rattle.ed_page.specs.declared.running.Ran.{Ran}
@@ -47,13 +48,12 @@ abbrev pub ReadsTape : Reading → Result (Vec ℕ Global) (Result Told NoMemory
 ReadsTape r (Ok v) = r ≡ rows v.items
 ReadsTape r (Err told) = RefusesTape r told
 
--- the linked program of a source without a fault, or the first fault is told, whatever would be answered where there
--- is none
-abbrev pub LinksOrTells : Size → Result (List Line) Fault → Result Linked (Result Told NoMemory) → Type 0
-LinksOrTells z program (Ok k) = (lines : List Line) × (program ≡ Ok lines) × IsLinked z lines k
-LinksOrTells z program (Err (Ok told)) =
-    ((accepted : List Line → Outcome) → TellsOutcome told (of_program z accepted program))
-LinksOrTells z program (Err (Err e)) = Unit {0}
+-- the linked program of a source that is accepted, or its fault is told
+abbrev pub LinksOrTells : Size → Text → Result Linked (Result Told NoMemory) → Type 0
+LinksOrTells z text (Ok k) = (lines : List Line) × IsAcceptedAs z text lines × IsLinked z lines k
+LinksOrTells z text (Err (Ok told)) =
+    (k : ℕ) × (c : SourceCause) × IsRefused z text k c × TellsOutcome told (refused (source_fault_line (At k c)))
+LinksOrTells z text (Err (Err e)) = Unit {0}
 
 -- a run that ended is the definition's
 pub record TellsRan (r : RunEnd) (ran : Ran) : Type 0 where

@@ -8,16 +8,17 @@ use Rattle.ed_codes.specs.declared.tape.TextFault.TheVariants.{NoRow, OpenCommen
 use Rattle.ed_words.specs.declared.size.Size.{Size}
 use Rattle.ed_run.specs.Run.{RunEnd}
 use Rattle.ed_syntax.specs.declared.program.Line.{Line}
-use Rattle.ed_syntax.specs.Private.SourceReading.{Fault}
+use Rattle.ed_syntax.specs.declared.fault.SourceCause.{SourceCause}
+use Rattle.ed_syntax.specs.declared.fault.SourceFault.TheVariants.{At}
+use Rattle.ed_link.specs.Refusals.{IsAcceptedAs, IsRefused}
 use Rattle.ed_link.specs.Answers.{IsLinked}
 use Rattle.ed_link.specs.declared.linked.Linked.{Linked}
 use Rattle.ed_io.specs.Bytes.{IsAtEnd, Loses}
 use Rattle.ed_io.specs.Causes.{next_count}
-use Rattle.ed_report.specs.Notes.{text_fault_line}
+use Rattle.ed_report.specs.Notes.{source_fault_line, text_fault_line}
 use Rattle.ed_words.specs.Texts.{Text}
 use Rattle.ed_top.specs.Outcome.{Outcome, refused}
-use Rattle.ed_top.specs.Answer.{Answer, known, of_input}
-use Rattle.ed_top.specs.Sources.{of_program}
+use Rattle.ed_top.specs.Answer.{Answer, known, of_made, of_input}
 use Rattle.ed_top.specs.declared.running.Ran.{Ran}
 use Rattle.ed_top.specs.Clause.{Device, FailedOnce, NeverFailed, Wrote, WrotePart}
 use Rattle.ed_top.specs.declared.reply.Reply.{Reply}
@@ -49,9 +50,10 @@ input_faults (Err input.TooLong) before = before
 
 -- ---- a command
 
--- this holds of the known outcome, or of an outcome of the input
+-- this holds of the known outcome, or of one that is said, or of one of the input
 abbrev pub ForInput : Answer → Text → (Outcome → Type 0) → Type 0
 ForInput (known due) input P = P due
+ForInput (of_made answers) input P = (o : Outcome) × answers o × P o
 ForInput (of_input answers) input P = (o : Outcome) × answers input o × P o
 
 -- both texts and the status of a reply are those of the outcome; no reply has the status of a fault or of want of
@@ -80,12 +82,12 @@ pub record IsRan (r : RunEnd) (ran : Ran) : Type 0 where
   pub state_is : ran.machine ≡ r.state
   pub codes_are : ran.paper.codes ≡ r.codes
 
--- the linked program of a source without a fault, or the reply that refuses the source, whatever would be answered
--- where it is accepted
-abbrev pub LinksSource : Size → Result (List Line) Fault → Result Linked (Result Reply NoMemory) → Type 0
-LinksSource z program (Ok k) = (lines : List Line) × (program ≡ Ok lines) × IsLinked z lines k
-LinksSource z program (Err (Ok reply)) = (accepted : List Line → Outcome) → Gives reply (of_program z accepted program)
-LinksSource z program (Err (Err e)) = Unit {0}
+-- the linked program of a source that is accepted, or the reply that refuses the source
+abbrev pub LinksSource : Size → Text → Result Linked (Result Reply NoMemory) → Type 0
+LinksSource z text (Ok k) = (lines : List Line) × IsAcceptedAs z text lines × IsLinked z lines k
+LinksSource z text (Err (Ok reply)) =
+    (k : ℕ) × (c : SourceCause) × IsRefused z text k c × Gives reply (refused (source_fault_line (At k c)))
+LinksSource z text (Err (Err e)) = Unit {0}
 
 -- all that is due on `out` is there, and the line and the status are still to tell
 pub record IsToTell (out : Device) (line : Text) (status : ℕ) (o : Outcome) : Type 0 where

@@ -1,6 +1,6 @@
 use Rattle.std.proofs.Common.{◌≡◌, drop}
 use Rattle.std.specs.List.{list_any}
-use Rattle.ed_link.specs.Faults.{meets}
+use Rattle.ed_link.specs.Private.FaultTests.{meets}
 use Rattle.ed_link.proofs.faults.meets_any.Given as goal
 
 -- the same of the places that are left

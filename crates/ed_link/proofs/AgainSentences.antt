@@ -1,0 +1,285 @@
+-- The same for the faults S6, of names that are defined again, and S15, of what a `use` sets.
+use Rattle.std.proofs.Common.{◌≡◌, ◌⊎◌, inl, inr, ℕ, zero, suc, refl, sym, ap, ◌∙◌, subst, arith}
+use Rattle.std.proofs.Common.{Bool, true, false, not, ◌||◌, Option, Some, None, List, [], ◌∷◌, ◌++◌, length}
+use Rattle.std.proofs.Common.{is_some, nat_eq, if◌then◌else◌}
+use Rattle.std.specs.Prelude.{map}
+use Rattle.std.specs.Str.{bytes_eq}
+use Rattle.std.specs.List.{list_any, list_all, Contains}
+use Rattle.std.proofs.lemmas.Slice.Eq.{bytes_eq-Decides}
+use Rattle.std.proofs.lemmas.Bool.{or_cases}
+use Rattle.std.proofs.lemmas.List.Folds.{Any-from_list_any, list_any-from_Any}
+use Rattle.std.proofs.lemmas.List.Elements.{Contains-append_cases, Contains-append_left, Contains-append_right}
+use Rattle.ed_words.proofs.Numbers.{eq_of, eq_true}
+use Rattle.ed_syntax.specs.declared.program.Line.{Line}
+use Rattle.ed_symbols.specs.declared.spots.Spot.{Spot}
+use Rattle.ed_symbols.specs.declared.homes.Home.{Home}
+use Rattle.ed_symbols.specs.Places.{passed, first_spot}
+use Rattle.ed_symbols.specs.Names.{defined, home_of, homes_from, is_home, is_local, label_home, listed, name_home}
+use Rattle.ed_symbols.specs.Names.{same_segment}
+use Rattle.ed_symbols.specs.Faults.{defines_again, is_again}
+use Rattle.std.proofs.lemmas.List.{length-map}
+use Rattle.std.proofs.lemmas.List.Sums.{AllPass-from_list_all}
+use Rattle.std.proofs.lemmas.List.Elements.{All-contains}
+use Rattle.ed_library.specs.Entries.{entry}
+use Rattle.ed_library.specs.Routines.{find}
+use Rattle.ed_syntax.specs.declared.program.Setting.{Setting}
+use Rattle.ed_syntax.specs.declared.program.Statement.{Statement}
+use Rattle.ed_syntax.specs.declared.program.Statement.TheVariants.{Segment, Order, Number, Text, Long, Fetch, Enter, Rows}
+use Rattle.ed_link.specs.Linked.{set_to}
+use Rattle.ed_link.specs.Private.FaultTests.{sets, sets_otherwise}
+use Rattle.ed_link.specs.Faults.{letter_set, SetExactly, SetsOtherwise}
+use Rattle.ed_link.specs.Faults.{StandsAfter, spot_from, spot_after, AreAlike, DefinesAgain}
+use Rattle.ed_link.proofs.FaultSentences.{Ties, or_left, or_right, and_of, and_true, not_true, true_not}
+
+none_in : {A : Type 0} (x : A) → Contains [] x → ⊥
+none_in x h = absurd (omega (arith, h.1))
+
+listed_says : (o : Option Home) (h : Home) → Contains (listed o) h → o ≡ Some h
+listed_says None h c = absurd (none_in h c)
+listed_says (Some x) h (zero, below, is) = ap (λ y. Some y) is
+listed_says (Some x) h (suc k, below, is) = absurd (omega (arith, below))
+
+listed_has : (o : Option Home) (h : Home) → o ≡ Some h → Contains (listed o) h
+listed_has o h e = subst (λ x. Contains (listed x) h) (sym e) (0, omega arith, refl)
+
+-- a definition among those of some lines, from a spot on, is one of a line of them
+abbrev IsOfLine : Spot → List Line → Home → Type 0
+IsOfLine s lines h = (earlier : List Line) × (e : Line) × StandsAfter lines earlier e
+    × Contains (defined e (spot_from s earlier)) h
+
+of_line_says : (s : Spot) (lines : List Line) (h : Home) → Contains (homes_from s lines) h → IsOfLine s lines h
+of_line_says s [] h c = absurd (none_in h c)
+of_line_says s (l ∷ lines) h c =
+    by_case (λ g. of_line_says (passed l.statement s) lines h g)
+    (Contains-append_cases (defined l s) (homes_from (passed l.statement s) lines) h c)
+  where
+    by_case : (Contains (homes_from (passed l.statement s) lines) h → IsOfLine (passed l.statement s) lines h)
+        → Contains (defined l s) h ⊎ Contains (homes_from (passed l.statement s) lines) h
+        → IsOfLine s (l ∷ lines) h
+    by_case more (inl g) = ([], l, record { after = lines; lines_are = refl }, g)
+    by_case more (inr g) =
+        let r = more g in
+        (l ∷ r.0, r.1, record { after = r.2.after; lines_are = ap (λ x. l ∷ x) r.2.lines_are }, r.3)
+
+of_line_among : (s : Spot) (earlier : List Line) (e : Line) (after : List Line) (h : Home)
+    → Contains (defined e (spot_from s earlier)) h → Contains (homes_from s (earlier ++ e ∷ after)) h
+of_line_among s [] e after h c =
+    Contains-append_left (defined e s) (homes_from (passed e.statement s) after) h c
+of_line_among s (l ∷ earlier) e after h c =
+    Contains-append_right (defined l s) (homes_from (passed l.statement s) (earlier ++ e ∷ after)) h
+    (of_line_among (passed l.statement s) earlier e after h c)
+
+of_line_has : (s : Spot) (lines : List Line) (h : Home) → IsOfLine s lines h → Contains (homes_from s lines) h
+of_line_has s lines h r = subst (λ x. Contains (homes_from s x) h) (sym r.2.lines_are)
+    (of_line_among s r.0 r.1 r.2.after h r.3)
+
+same_says : (a b : Option ℕ) → same_segment a b ≡ true → (k : ℕ) × (b ≡ Some k) × (a ≡ Some k)
+same_says None b h = cc
+same_says (Some x) None h = cc
+same_says (Some x) (Some y) h = (y, refl, ap (λ n. Some n) (eq_of x y h))
+
+same_tests : (a b : Option ℕ) (k : ℕ) → b ≡ Some k → a ≡ Some k → same_segment a b ≡ true
+same_tests a b k e d = subst (λ x. same_segment x b ≡ true) (sym d)
+    (subst (λ x. same_segment (Some k) x ≡ true) (sym e) (eq_true k k refl))
+
+local_says : (is : Bool) (a b : Option ℕ) → (not is || same_segment a b) ≡ true → is ≡ true
+    → (k : ℕ) × (b ≡ Some k) × (a ≡ Some k)
+local_says true a b h e = same_says a b h
+local_says false a b h e = cc
+
+local_tests : (is : Bool) (a b : Option ℕ) → (is ≡ true → (k : ℕ) × (b ≡ Some k) × (a ≡ Some k))
+    → (not is || same_segment a b) ≡ true
+local_tests false a b h = refl
+local_tests true a b h = let k = h refl in same_tests a b k.0 k.1 k.2
+
+alike_says : (h other : Home) → is_home h.segment h.name other ≡ true → AreAlike h other
+alike_says h other t =
+    let p = and_of (bytes_eq other.name h.name) (not (is_local h.name) || same_segment other.segment h.segment) t in
+    record {
+      names = (bytes_eq-Decides other.name h.name).0 p.0;
+      segments = local_says (is_local h.name) other.segment h.segment p.1;
+    }
+
+alike_tests : (h other : Home) → AreAlike h other → is_home h.segment h.name other ≡ true
+alike_tests h other a =
+    and_true (bytes_eq other.name h.name) (not (is_local h.name) || same_segment other.segment h.segment)
+    ((bytes_eq-Decides other.name h.name).1 a.names)
+    (local_tests (is_local h.name) other.segment h.segment a.segments)
+
+found_any : (g : Option ℕ) (name : List ℕ) (homes : List Home)
+    → is_some (home_of g name homes) ≡ list_any (is_home g name) homes
+found_any g name [] = refl
+found_any g name (h ∷ homes) = by_test (is_home g name h) (found_any g name homes)
+  where
+    by_test : (t : Bool) → is_some (home_of g name homes) ≡ list_any (is_home g name) homes
+        → is_some (if t then Some h else home_of g name homes) ≡ (t || list_any (is_home g name) homes)
+    by_test true e = refl
+    by_test false e = e
+
+-- the definition is one again, after these
+abbrev IsAgain : List Home → Option Home → Type 0
+IsAgain earlier o = (h : Home) × (o ≡ Some h) × (other : Home) × Contains earlier other × AreAlike h other
+
+again_says : (earlier : List Home) (o : Option Home) → is_again earlier o ≡ true → IsAgain earlier o
+again_says earlier None t = cc
+again_says earlier (Some h) t =
+    let a = Any-from_list_any (is_home h.segment h.name) earlier (sym (found_any h.segment h.name earlier) ∙ t) in
+    (h, refl, a.1, (a.0, a.2, a.3), alike_says h a.1 a.4)
+
+again_tests : (earlier : List Home) (o : Option Home) → IsAgain earlier o → is_again earlier o ≡ true
+again_tests earlier o a = ap (is_again earlier) a.1 ∙ (found_any a.0.segment a.0.name earlier
+    ∙ list_any-from_Any (is_home a.0.segment a.0.name) earlier
+    (a.3.0, a.2, a.3.1, a.3.2, alike_tests a.0 a.2 a.4))
+
+module _ (before : List Line) (l : Line) where
+  abbrev here : Spot
+  here = spot_after before
+
+  abbrev labels : Option Home
+  labels = label_home l.label l.statement here
+
+  abbrev names : Option Home
+  names = name_home l.statement here
+
+  abbrev earlier_homes : List Home
+  earlier_homes = homes_from first_spot before
+
+  by_label : IsAgain earlier_homes labels → DefinesAgain before l
+  by_label a = let r = of_line_says first_spot before a.2 a.3 in
+      inl (
+        a.0,
+        Contains-append_left (listed labels) (listed names) a.0 (listed_has labels a.0 a.1),
+        r.0,
+        r.1,
+        r.2,
+        a.2,
+        r.3,
+        a.4,
+      )
+
+  by_name : IsAgain (earlier_homes ++ listed labels) names → DefinesAgain before l
+  by_name a = by_case (Contains-append_cases earlier_homes (listed labels) a.2 a.3)
+    where
+      by_case : Contains earlier_homes a.2 ⊎ Contains (listed labels) a.2 → DefinesAgain before l
+      by_case (inl c) = let r = of_line_says first_spot before a.2 c in
+          inl (
+            a.0,
+            Contains-append_right (listed labels) (listed names) a.0 (listed_has names a.0 a.1),
+            r.0,
+            r.1,
+            r.2,
+            a.2,
+            r.3,
+            a.4,
+          )
+      by_case (inr c) = inr (a.0, a.1, a.2, listed_says labels a.2 c, a.4)
+
+  either : (is_again earlier_homes labels ≡ true)
+      ⊎ (is_again (earlier_homes ++ listed labels) names ≡ true) → DefinesAgain before l
+  either (inl t) = by_label (again_says earlier_homes labels t)
+  either (inr t) = by_name (again_says (earlier_homes ++ listed labels) names t)
+
+  again_of : DefinesAgain before l → defines_again earlier_homes l here ≡ true
+  again_of (inl (h, c, e, x, stands, other, d, alike)) =
+      by_case (Contains-append_cases (listed labels) (listed names) h c)
+    where
+      among : Contains earlier_homes other
+      among = of_line_has first_spot before other (e, x, stands, d)
+
+      by_case : Contains (listed labels) h ⊎ Contains (listed names) h → defines_again earlier_homes l here ≡ true
+      by_case (inl g) = or_left (is_again earlier_homes labels) (is_again (earlier_homes ++ listed labels) names)
+          (again_tests earlier_homes labels (h, listed_says labels h g, other, among, alike))
+      by_case (inr g) = or_right (is_again earlier_homes labels) (is_again (earlier_homes ++ listed labels) names)
+          (again_tests (earlier_homes ++ listed labels) names (
+            h,
+            listed_says names h g,
+            other,
+            Contains-append_left earlier_homes (listed labels) other among,
+            alike,
+          ))
+  again_of (inr (h, e, other, d, alike)) =
+      or_right (is_again earlier_homes labels) (is_again (earlier_homes ++ listed labels) names)
+      (again_tests (earlier_homes ++ listed labels) names (
+        h,
+        e,
+        other,
+        Contains-append_right earlier_homes (listed labels) other (listed_has labels other d),
+        alike,
+      ))
+
+  pub s6 : Ties (defines_again (homes_from first_spot before) l (spot_after before)) (DefinesAgain before l)
+  s6 = record {
+    says = λ t. either (or_cases (is_again earlier_homes labels) (is_again (earlier_homes ++ listed labels) names) t);
+    tests = again_of;
+  }
+
+-- ---- S15
+
+set_any : (ts : List Setting) (c : ℕ) → is_some (set_to ts c) ≡ list_any (λ x. nat_eq x c) (map letter_set ts)
+set_any [] c = refl
+set_any (t ∷ ts) c = by_test (nat_eq t.letter c) (set_any ts c)
+  where
+    by_test : (b : Bool) → is_some (set_to ts c) ≡ list_any (λ x. nat_eq x c) (map letter_set ts)
+        → is_some (if b then Some t.operand else set_to ts c)
+        ≡ (b || list_any (λ x. nat_eq x c) (map letter_set ts))
+    by_test true e = refl
+    by_test false e = e
+
+set_in : (ts : List Setting) (c : ℕ) → is_some (set_to ts c) ≡ true → Contains (map letter_set ts) c
+set_in ts c h =
+    let a = Any-from_list_any (λ x. nat_eq x c) (map letter_set ts) (sym (set_any ts c) ∙ h) in
+    subst (λ x. Contains (map letter_set ts) x) (eq_of a.1 c a.4) (a.0, a.2, a.3)
+
+in_set : (ts : List Setting) (c : ℕ) → Contains (map letter_set ts) c → is_some (set_to ts c) ≡ true
+in_set ts c h = set_any ts c
+    ∙ list_any-from_Any (λ x. nat_eq x c) (map letter_set ts) (h.0, c, h.1, h.2, eq_true c c refl)
+
+all_by : (p : ℕ → Bool) (cs : List ℕ) → ((c : ℕ) → Contains cs c → p c ≡ true) → list_all p cs ≡ true
+all_by p [] h = refl
+all_by p (c ∷ cs) h = and_true (p c) (list_all p cs) (h c (0, omega arith, refl))
+    (all_by p cs (λ d m. h d (Contains-append_right (c ∷ []) cs d m)))
+
+exact : (ts : List Setting) (r : ℕ) → Ties (sets ts (Some r)) (SetExactly (entry r).parameters (map letter_set ts))
+exact ts r =
+    let test : ℕ → Bool = λ c. is_some (set_to ts c) in
+    let ps = (entry r).parameters in
+    record {
+      says = λ h. let p = and_of (nat_eq (length ts) (length ps)) (list_all test ps) h in record {
+        as_many = length-map ts letter_set ∙ eq_of (length ts) (length ps) p.0;
+        each = λ c m. set_in ts c (All-contains (λ x. test x ≡ true) ps c (AllPass-from_list_all test ps p.1) m);
+      };
+      tests = λ h. and_true (nat_eq (length ts) (length ps)) (list_all test ps)
+          (eq_true (length ts) (length ps) (sym (length-map ts letter_set) ∙ h.as_many))
+          (all_by test ps (λ c m. in_set ts c (h.each c m)));
+    }
+
+otherwise_says : (st : Option Statement) → sets_otherwise st ≡ true → SetsOtherwise st
+otherwise_says (Some (Fetch routine name ts)) h = known (find routine) refl h
+  where
+    known : (o : Option ℕ) → find routine ≡ o → not (sets ts.items o) ≡ true
+        → SetsOtherwise (Some (Fetch routine name ts))
+    known None e g = cc
+    known (Some r) e g = (r, e, λ x. not_true (sets ts.items (Some r)) g ((exact ts.items r).tests x))
+otherwise_says None h = cc
+otherwise_says (Some (Segment n b)) h = cc
+otherwise_says (Some (Order f o d)) h = cc
+otherwise_says (Some (Number w)) h = cc
+otherwise_says (Some (Text codes)) h = cc
+otherwise_says (Some (Long v)) h = cc
+otherwise_says (Some (Enter n)) h = cc
+otherwise_says (Some (Rows codes)) h = cc
+
+otherwise_tests : (st : Option Statement) → SetsOtherwise st → sets_otherwise st ≡ true
+otherwise_tests (Some (Fetch routine name ts)) h = ap (λ o. not (sets ts.items o)) h.1
+    ∙ true_not (sets ts.items (Some h.0)) (λ x. h.2 ((exact ts.items h.0).says x))
+otherwise_tests None h = absurd h
+otherwise_tests (Some (Segment n b)) h = absurd h
+otherwise_tests (Some (Order f o d)) h = absurd h
+otherwise_tests (Some (Number w)) h = absurd h
+otherwise_tests (Some (Text codes)) h = absurd h
+otherwise_tests (Some (Long v)) h = absurd h
+otherwise_tests (Some (Enter n)) h = absurd h
+otherwise_tests (Some (Rows codes)) h = absurd h
+
+pub s15 : (l : Line) → Ties (sets_otherwise l.statement) (SetsOtherwise l.statement)
+s15 l = record { says = otherwise_says l.statement; tests = otherwise_tests l.statement }

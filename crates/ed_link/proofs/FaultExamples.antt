@@ -1,0 +1,151 @@
+-- Worked sources: the text, and the fault or the acceptance that the law gives from the computed answer.
+use Rattle.std.proofs.Common.{◌≡◌, inl, ℕ, refl, lit≤, false, Some, None, List, [], ◌∷◌, ◌++◌}
+use Rattle.std.specs.Prelude.{codes, Ok, Err, Result}
+use Rattle.ed_words.specs.declared.size.Size.{Size}
+use Rattle.ed_words.specs.declared.size.Size.TheVariants.{Small, Full}
+use Rattle.ed_syntax.specs.Private.Grammar.{settings}
+use Rattle.ed_syntax.specs.Private.SourceReading.{program_of, Fault}
+use Rattle.ed_syntax.specs.declared.program.Line.{Line}
+use Rattle.ed_syntax.specs.declared.fault.SourceCause.{SourceCause}
+use Rattle.ed_syntax.specs.declared.fault.SourceCause.TheVariants as causes
+use Rattle.ed_syntax.specs.declared.fault.SourceFault.TheVariants.{At}
+use Rattle.ed_link.specs.Private.FaultTests.{fault}
+use Rattle.ed_syntax.specs.declared.program.Operand.TheVariants.{Number}
+use Rattle.ed_syntax.specs.declared.program.Statement.TheVariants.{Segment, Order}
+use Rattle.ed_link.specs.Faults.{IsMeaningFault, HasNoFault, LineHasCause}
+use Rattle.ed_link.proofs.FaultLaw.{read_law}
+
+abbrev lines_in : Result (List Line) Fault → List Line
+lines_in (Ok lines) = lines
+lines_in (Err e) = []
+
+abbrev source : List ℕ → List Line
+source text = lines_in (program_of text)
+
+refused : (z : Size) (text : List ℕ) {k : ℕ} {c : SourceCause} → program_of text ≡ Ok (source text)
+    → fault z (source text) ≡ Some (At k c) → IsMeaningFault z (source text) k c
+refused z text {k} {c} e h = (read_law z text (source text) e).refused k c h
+
+taken : (z : Size) (text : List ℕ) → program_of text ≡ Ok (source text) → fault z (source text) ≡ None
+    → HasNoFault z (source text)
+taken z text e h = (read_law z text (source text) e).accepted h
+
+-- a source that is accepted
+abbrev sound : List ℕ
+sound = codes "segment main" ++ 10 ∷ codes "here: Z F" ++ 10 ∷ codes "enter here" ++ 10 ∷ []
+
+accepted : HasNoFault Full (source sound)
+accepted = taken Full sound refl refl
+
+-- no `enter`: at the number of lines plus 1
+abbrev lacking : List ℕ
+lacking = codes "segment main" ++ 10 ∷ codes "here: Z F" ++ 10 ∷ []
+
+no_enter_is : IsMeaningFault Full (source lacking) 3 causes.Enter
+no_enter_is = refused Full lacking refl refl
+
+-- one line with S6 and S7, of which S6 is the fault
+abbrev again : List ℕ
+again = codes "segment main" ++ 10 ∷ codes "main: A x F" ++ 10 ∷ codes "enter main" ++ 10 ∷ []
+
+again_is : IsMeaningFault Full (source again) 2 causes.LabelTwice
+again_is = refused Full again refl refl
+
+-- a line that overlaps an earlier one, before a later unknown name
+abbrev over : List ℕ
+over = codes "segment main at 60" ++ 10 ∷ codes "Z F" ++ 10 ∷ codes "segment t at 59" ++ 10 ∷ codes "word 1" ++ 10
+    ∷ codes "word 2" ++ 10 ∷ codes "enter x" ++ 10 ∷ []
+
+over_is : IsMeaningFault Full (source over) 5 causes.Overlap
+over_is = refused Full over refl refl
+
+-- the last place of a half, and the one after it
+abbrev half : List ℕ
+half = codes "segment main at 511" ++ 10 ∷ codes "Z F" ++ 10 ∷ codes "Z F" ++ 10 ∷ codes "enter main" ++ 10 ∷ []
+
+half_is : IsMeaningFault Small (source half) 3 causes.StoreEnd
+half_is = refused Small half refl refl
+
+half_full : HasNoFault Full (source half)
+half_full = taken Full half refl refl
+
+-- below the place 44 and below 56, and an order outside every segment
+abbrev low : List ℕ
+low = codes "segment main at 43" ++ 10 ∷ codes "Z F" ++ 10 ∷ codes "enter main" ++ 10 ∷ []
+
+low_is : IsMeaningFault Full (source low) 2 causes.LoaderStore
+low_is = refused Full low refl refl
+
+abbrev outside : List ℕ
+outside = codes "Z F" ++ 10 ∷ []
+
+outside_is : IsMeaningFault Full (source outside) 1 causes.OutsideSegment
+outside_is = refused Full outside refl refl
+
+-- a `use` of no routine, one that sets no parameter of two, and one that sets a letter twice
+abbrev used : List ℕ → List ℕ
+used line = codes "segment main" ++ 10 ∷ codes "x: Z F" ++ 10 ∷ line ++ 10 ∷ codes "enter x" ++ 10 ∷ []
+
+uses :
+    IsMeaningFault Full (source (used (codes "use tool as t"))) 3 causes.NoSuchRoutine
+    × IsMeaningFault Full (source (used (codes "use print as p"))) 3 causes.Parameters
+    × IsMeaningFault Full (source (used (codes "use print as p with H=x, H=x"))) 3 causes.Parameters
+    × HasNoFault Full (source (used (codes "use print as p with H=x")))
+    × IsMeaningFault Full (source (used (codes "use print as p with H=x-57"))) 3 causes.AddressRange
+    × IsMeaningFault Full (source (used (codes "use print as p with H=y"))) 3 causes.LabelUnknown
+unfolding settings
+uses = (
+  refused Full (used (codes "use tool as t")) refl refl,
+  refused Full (used (codes "use print as p")) refl refl,
+  refused Full (used (codes "use print as p with H=x, H=x")) refl refl,
+  taken Full (used (codes "use print as p with H=x")) refl refl,
+  refused Full (used (codes "use print as p with H=x-57")) refl refl,
+  refused Full (used (codes "use print as p with H=y")) refl refl,
+)
+
+-- version 2: a sandwich digit; a local name seen from another segment
+abbrev second : List ℕ → List ℕ → List ℕ
+second line last = codes "version 2" ++ 10 ∷ codes "segment main" ++ 10 ∷ codes "_c: Z F" ++ 10 ∷ codes "segment t" ++ 10
+    ∷ line ++ 10 ∷ codes "enter main" ++ 10 ∷ last
+
+version_two :
+    IsMeaningFault Full (source (second (codes "_c: long 131072") [])) 5 causes.SandwichDigit
+    × IsMeaningFault Full (source (second (codes "A _c F") [])) 5 causes.LabelUnknown
+    × HasNoFault Full (source (second (codes "_c: long 5") (codes "data \"1F\"")))
+    × IsMeaningFault Full (source (second (codes "data \"1F\"") [])) 5 causes.Enter
+    × IsMeaningFault Full (source (second (codes "_c: long 5") (codes "enter t"))) 7 causes.Enter
+version_two = (
+  refused Full (second (codes "_c: long 131072") []) refl refl,
+  refused Full (second (codes "A _c F") []) refl refl,
+  taken Full (second (codes "_c: long 5") (codes "data \"1F\"")) refl refl,
+  refused Full (second (codes "data \"1F\"") []) refl refl,
+  refused Full (second (codes "_c: long 5") (codes "enter t")) refl refl,
+)
+
+-- the last place of the parameters
+abbrev parameters : List ℕ
+parameters = codes "segment main at 55" ++ 10 ∷ codes "Z F" ++ 10 ∷ codes "enter main" ++ 10 ∷ []
+
+parameters_is : IsMeaningFault Full (source parameters) 2 causes.ParameterStore
+parameters_is = refused Full parameters refl refl
+
+-- by hand, without the law: an order at the place 43, and an order at 60 over one that a line before it placed there
+abbrev at_place : ℕ → Line
+at_place p = record { number = 1; label = None; statement = Some (Segment (codes "main") (Some p)) }
+
+abbrev stop : ℕ → Line
+stop n = record { number = n; label = None; statement = Some (Order 13 (Number 0) false) }
+
+low_by_hand : LineHasCause Full (at_place 43 ∷ stop 2 ∷ []) (at_place 43 ∷ []) (stop 2) causes.LoaderStore
+low_by_hand = (43, inl (lit≤ tt, lit≤ tt), lit≤ tt, lit≤ tt)
+
+over_by_hand : LineHasCause Full (at_place 60 ∷ stop 2 ∷ at_place 60 ∷ stop 4 ∷ [])
+    (at_place 60 ∷ stop 2 ∷ at_place 60 ∷ []) (stop 4) causes.Overlap
+over_by_hand = (
+  60,
+  (lit≤ tt, lit≤ tt),
+  at_place 60 ∷ [],
+  stop 2,
+  record { after = at_place 60 ∷ []; lines_are = refl },
+  (lit≤ tt, lit≤ tt),
+)

@@ -1,0 +1,335 @@
+-- The fault that is looked for is that of the definition, and none is found where the source has none.
+use Rattle.std.proofs.Common.{◌≡◌, ◌⊎◌, inl, inr, ℕ, ◌+◌, ◌<◌, ◌≤◌, refl, sym, ap, ◌∙◌, subst, arith}
+use Rattle.std.proofs.Common.{Bool, true, false, ◌||◌, Option, Some, None, List, [], ◌∷◌, ◌++◌, length, nat_le}
+use Rattle.std.proofs.Common.{append_assoc, length-append, if◌then◌else◌}
+use Rattle.std.proofs.lemmas.List.{append-nil}
+use Rattle.std.proofs.Math.Seq.{get_or-append_seam}
+use Rattle.std.specs.Prelude.{slice_index_or}
+use Rattle.ed_words.proofs.Numbers.{le_of, not_le_of}
+use Rattle.ed_words.specs.declared.size.Size.{Size}
+use Rattle.std.specs.Prelude.{Result, Ok, Err, IfErr}
+use Rattle.ed_link.specs.Answers.{HasMeaningFault}
+use Rattle.ed_words.specs.Texts.{Text}
+use Rattle.ed_syntax.specs.Lines.{lines_of}
+use Rattle.ed_syntax.specs.Private.SourceReading.{is_two, program_of}
+use Rattle.ed_syntax.specs.Programs.{AreNumbered}
+use Rattle.ed_syntax.proofs.Formed.{program_formed}
+use Rattle.ed_syntax.specs.declared.program.Line.{Line}
+use Rattle.ed_syntax.specs.declared.fault.SourceCause.{SourceCause}
+use Rattle.ed_syntax.specs.declared.fault.SourceCause.TheVariants as causes
+use Rattle.ed_syntax.specs.declared.fault.SourceFault.{SourceFault}
+use Rattle.ed_syntax.specs.declared.fault.SourceFault.TheVariants.{At, Memory}
+use Rattle.ed_symbols.specs.declared.spots.Spot.{Spot}
+use Rattle.ed_symbols.specs.Places.{passed, first_spot}
+use Rattle.ed_symbols.specs.Names.{defined, homes_from}
+use Rattle.ed_symbols.specs.Faults.{or_later, defines_again, naming_cause, naming_fault_from, resolved}
+use Rattle.ed_link.specs.Linked.{homes_of}
+use Rattle.ed_link.specs.Private.FaultTests.{IsFirstFault, any_enter, cause_of, fault, fault_from, is_enter, missing, past_of}
+use Rattle.ed_link.specs.Private.FaultTests.{sooner, word_run, LinesBefore}
+use Rattle.ed_link.specs.Faults.{StandsAfter, spot_from, spot_after, HasEnter, SourceHasFault, on_line, no_enter}
+use Rattle.ed_link.specs.Faults.{number_of, IsMeaningFault, HasNoFault}
+use Rattle.ed_link.proofs.FaultSentences.{runs_from, any_says, any_tests}
+use Rattle.ed_link.proofs.LineFaults.{OfNames, OfMeaning, of_names, of_meaning, same_cause}
+use Rattle.ed_link.proofs.FaultPasses.{first, finds, Finds, Numbered}
+
+-- ---- the passes of the code, by what stands before a line
+
+spot_snoc : (s : Spot) (b : List Line) (l : Line) → spot_from s (b ++ l ∷ []) ≡ passed l.statement (spot_from s b)
+spot_snoc s [] l = refl
+spot_snoc s (e ∷ b) l = spot_snoc (passed e.statement s) b l
+
+homes_snoc : (s : Spot) (b : List Line) (l : Line)
+    → homes_from s (b ++ l ∷ []) ≡ homes_from s b ++ defined l (spot_from s b)
+homes_snoc s [] l = append-nil (defined l s)
+homes_snoc s (e ∷ b) l = ap (λ x. defined e s ++ x) (homes_snoc (passed e.statement s) b l)
+    ∙ sym (append_assoc (defined e s) (homes_from (passed e.statement s) b)
+    (defined l (spot_from (passed e.statement s) b)))
+
+runs_snoc : (s : Spot) (b : List Line) (l : Line)
+    → runs_from s (b ++ l ∷ []) ≡ runs_from s b ++ word_run l.statement (spot_from s b) ∷ []
+runs_snoc s [] l = refl
+runs_snoc s (e ∷ b) l = ap (λ x. word_run e.statement s ∷ x) (runs_snoc (passed e.statement s) b l)
+
+or_last : (x : Bool) → (x || false) ≡ x
+or_last true = refl
+or_last false = refl
+
+or_assoc : (x y w : Bool) → (x || (y || w)) ≡ ((x || y) || w)
+or_assoc true y w = refl
+or_assoc false y w = refl
+
+any_snoc : (b : List Line) (l : Line) → any_enter (b ++ l ∷ []) ≡ (any_enter b || is_enter l.statement)
+any_snoc [] l = or_last (is_enter l.statement)
+any_snoc (e ∷ b) l = ap (λ x. is_enter e.statement || x) (any_snoc b l)
+    ∙ or_assoc (is_enter e.statement) (any_enter b) (is_enter l.statement)
+
+module _ (z : Size) (lines : List Line) where
+  abbrev past_after : List Line → LinesBefore
+  past_after b = record { runs = runs_from first_spot b; entered = any_enter b }
+
+  abbrev ask_names : List Line → Line → Option SourceCause
+  ask_names b l = naming_cause (homes_of lines) (defines_again (homes_from first_spot b) l (spot_after b)) l
+      (spot_after b)
+
+  abbrev ask_meaning : List Line → Line → Option SourceCause
+  ask_meaning b l = cause_of z (homes_of lines) (any_enter lines) (past_after b) l (spot_after b)
+
+  names_pass : (b rest : List Line)
+      → naming_fault_from (homes_of lines) (homes_from first_spot b) (spot_after b) rest ≡ first ask_names b rest
+  names_pass b [] = refl
+  names_pass b (l ∷ rest) = ap (λ f. or_later l.number (ask_names b l) f)
+      (ap (λ h. naming_fault_from (homes_of lines) h (passed l.statement (spot_after b)) rest)
+      (sym (homes_snoc first_spot b l))
+      ∙ (ap (λ s. naming_fault_from (homes_of lines) (homes_from first_spot (b ++ l ∷ [])) s rest)
+      (sym (spot_snoc first_spot b l))
+      ∙ names_pass (b ++ l ∷ []) rest))
+
+  past_snoc : (b : List Line) (l : Line) → past_of (past_after b) l (spot_after b) ≡ past_after (b ++ l ∷ [])
+  past_snoc b l = λ i. record { runs = sym (runs_snoc first_spot b l) i; entered = sym (any_snoc b l) i }
+
+  meaning_pass : (b rest : List Line)
+      → fault_from z (homes_of lines) (any_enter lines) (past_after b) (spot_after b) rest ≡ first ask_meaning b rest
+  meaning_pass b [] = refl
+  meaning_pass b (l ∷ rest) = ap (λ f. or_later l.number (ask_meaning b l) f)
+      (ap (λ p. fault_from z (homes_of lines) (any_enter lines) p (passed l.statement (spot_after b)) rest)
+      (past_snoc b l)
+      ∙ (ap (λ s. fault_from z (homes_of lines) (any_enter lines) (past_after (b ++ l ∷ [])) s rest)
+      (sym (spot_snoc first_spot b l))
+      ∙ meaning_pass (b ++ l ∷ []) rest))
+
+-- ---- the least of several
+
+-- the answer is the least of these faults
+abbrev pub SaysLeast : (ℕ → SourceCause → Type 0) → Option SourceFault → Type 0
+SaysLeast H None = (k : ℕ) (c : SourceCause) → H k c → ⊥
+SaysLeast H (Some Memory) = ⊥
+SaysLeast H (Some (At k c)) = H k c
+    × ((r : ℕ) (o : SourceCause) → H r o → (k < r) ⊎ ((k ≡ r) × (number_of c ≤ number_of o)))
+
+-- a fault of a rule's kind at a line
+abbrev AtLine : (List Line → Line → SourceCause → Type 0) → List Line → ℕ → SourceCause → Type 0
+AtLine Rule lines k c = (b : List Line) × (l : Line) × StandsAfter lines b l × (k ≡ length b + 1) × Rule b l c
+
+found_says : (Rule : List Line → Line → SourceCause → Type 0) (lines : List Line) (f : Option SourceFault)
+    → Finds Rule lines f → SaysLeast (AtLine Rule lines) f
+found_says Rule lines None h = λ k c a. h a.0 a.1 c a.2 a.4
+found_says Rule lines (Some Memory) h = h
+found_says Rule lines (Some (At k cause)) h = (
+  h.0,
+  λ r o a.
+      subst (λ n. (k < n) ⊎ ((k ≡ n) × (number_of cause ≤ number_of o))) (sym a.3) (h.1 a.0 a.1 o a.2 a.4),
+)
+
+module _ (H G : ℕ → SourceCause → Type 0)
+    (order : (k : ℕ) (c d : SourceCause) → H k c → G k d → number_of c ≤ number_of d) where
+  merge : (a b : Option SourceFault) → SaysLeast H a → SaysLeast G b → SaysLeast (λ k c. H k c ⊎ G k c) (sooner a b)
+  merge None None h g = λ k c x. neither k c x
+    where
+      neither : (k : ℕ) (c : SourceCause) → H k c ⊎ G k c → ⊥
+      neither k c (inl x) = h k c x
+      neither k c (inr x) = g k c x
+  merge None (Some Memory) h g = absurd g
+  merge None (Some (At k c)) h g = (inr g.0, λ r o x. least r o x)
+    where
+      least : (r : ℕ) (o : SourceCause) → H r o ⊎ G r o → (k < r) ⊎ ((k ≡ r) × (number_of c ≤ number_of o))
+      least r o (inl x) = absurd (h r o x)
+      least r o (inr x) = g.1 r o x
+  merge (Some Memory) b h g = absurd h
+  merge (Some (At k c)) None h g = (inl h.0, λ r o x. least r o x)
+    where
+      least : (r : ℕ) (o : SourceCause) → H r o ⊎ G r o → (k < r) ⊎ ((k ≡ r) × (number_of c ≤ number_of o))
+      least r o (inl x) = h.1 r o x
+      least r o (inr x) = absurd (g r o x)
+  merge (Some (At k c)) (Some Memory) h g = absurd g
+  merge (Some (At k c)) (Some (At m d)) h g = by_test (nat_le k m) refl
+    where
+      split : (n p : ℕ) → n ≤ p → (n < p) ⊎ (n ≡ p)
+      split n p e = grind arith
+
+      later : (r : ℕ) (o : SourceCause) → k ≤ m → G r o → (m < r) ⊎ ((m ≡ r) × (number_of d ≤ number_of o))
+          → (k < r) ⊎ ((k ≡ r) × (number_of c ≤ number_of o))
+      later r o e x (inl y) = inl (omega (arith, e, y))
+      later r o e x (inr y) = by_order (split k m e)
+        where
+          by_order : (k < m) ⊎ (k ≡ m) → (k < r) ⊎ ((k ≡ r) × (number_of c ≤ number_of o))
+          by_order (inl w) = inl (omega (arith, w, y.0))
+          by_order (inr w) =
+              inr (omega (arith, w, y.0), order k c o h.0 (subst (λ n. G n o) (omega (arith, w, y.0)) x))
+
+      ahead : (r : ℕ) (o : SourceCause) → m < k → (k < r) ⊎ ((k ≡ r) × (number_of c ≤ number_of o))
+          → (m < r) ⊎ ((m ≡ r) × (number_of d ≤ number_of o))
+      ahead r o e (inl y) = inl (omega (arith, e, y))
+      ahead r o e (inr y) = inl (omega (arith, e, y.0))
+
+      by_test : (t : Bool) → nat_le k m ≡ t
+          → SaysLeast (λ n x. H n x ⊎ G n x) (if t then Some (At k c) else Some (At m d))
+      by_test true e = (inl h.0, λ r o x. least r o x)
+        where
+          least : (r : ℕ) (o : SourceCause) → H r o ⊎ G r o → (k < r) ⊎ ((k ≡ r) × (number_of c ≤ number_of o))
+          least r o (inl x) = h.1 r o x
+          least r o (inr x) = later r o (le_of k m e) x (g.1 r o x)
+      by_test false e = (inr g.0, λ r o x. least r o x)
+        where
+          least : (r : ℕ) (o : SourceCause) → H r o ⊎ G r o → (m < r) ⊎ ((m ≡ r) × (number_of d ≤ number_of o))
+          least r o (inl x) = ahead r o (not_le_of k m e) (h.1 r o x)
+          least r o (inr x) = g.1 r o x
+
+-- ---- the law
+
+pub numbers : (lines : List Line) → AreNumbered lines → Numbered lines
+numbers lines are before l st =
+    let n : length lines ≡ length before + length (l ∷ st.after) =
+    ap (λ (x : List Line). length x) st.lines_are ∙ length-append before (l ∷ st.after) in
+    let same : slice_index_or lines (length before) l ≡ l =
+    ap (λ (x : List Line). slice_index_or x (length before) l) st.lines_are
+    ∙ get_or-append_seam before l st.after l in
+    ap (λ (x : Line). x.number) (sym same) ∙ are (length before) l (omega (arith, n))
+
+module _ (z : Size) (lines : List Line) (numbered : Numbered lines) where
+  abbrev Names : ℕ → SourceCause → Type 0
+  Names = AtLine (λ b l c. OfNames z lines b l c) lines
+
+  abbrev Meanings : ℕ → SourceCause → Type 0
+  Meanings = AtLine (λ b l c. OfMeaning z lines b l c) lines
+
+  abbrev Lacking : ℕ → SourceCause → Type 0
+  Lacking k c = (HasEnter lines → ⊥) × (k ≡ length lines + 1) × (c ≡ causes.Enter)
+
+  say_names : SaysLeast Names (resolved lines).fault
+  say_names = found_says (λ b l c. OfNames z lines b l c) lines (resolved lines).fault
+      (subst (Finds (λ b l c. OfNames z lines b l c) lines) (sym (names_pass z lines [] lines))
+      (finds (ask_names z lines) (λ b l c. OfNames z lines b l c) lines numbered (λ b l. of_names z lines b l) [] lines
+      refl (λ b l c st h. omega arith)))
+
+  abbrev second : Option SourceFault
+  second = fault_from z (homes_of lines) (any_enter lines) (record { runs = []; entered = false }) first_spot lines
+
+  say_meaning : SaysLeast Meanings second
+  say_meaning = found_says (λ b l c. OfMeaning z lines b l c) lines second
+      (subst (Finds (λ b l c. OfMeaning z lines b l c) lines) (sym (meaning_pass z lines [] lines))
+      (finds (ask_meaning z lines) (λ b l c. OfMeaning z lines b l c) lines numbered
+      (λ b l. of_meaning z lines b l) [] lines refl (λ b l c st h. omega arith)))
+
+  say_lacking : SaysLeast Lacking (missing (any_enter lines) (length lines))
+  say_lacking = by_test (any_enter lines) refl
+    where
+      by_test : (t : Bool) → any_enter lines ≡ t → SaysLeast Lacking (missing t (length lines))
+      by_test true e = λ k c h. h.0 (any_says lines e)
+      by_test false e = (
+        (λ h. let g : any_enter lines ≡ true = any_tests lines h in none g, refl, refl),
+        λ r o h. inr (sym h.1, subst (λ x. 16 ≤ number_of x) (sym h.2) (omega arith)),
+      )
+        where
+          none : any_enter lines ≡ true → ⊥
+          none g = cc
+
+  abbrev All : ℕ → SourceCause → Type 0
+  All k c = Names k c ⊎ (Meanings k c ⊎ Lacking k c)
+
+  not_both : (k : ℕ) (c d : SourceCause) → Meanings k c → Lacking k d → number_of c ≤ number_of d
+  not_both k c d m h =
+      let n : length lines ≡ length m.0 + length (m.1 ∷ m.2.after) =
+      ap (λ (x : List Line). length x) m.2.lines_are ∙ length-append m.0 (m.1 ∷ m.2.after) in
+      absurd (omega (arith, n, m.3, h.1))
+
+  names_first : (k : ℕ) (c d : SourceCause) → Names k c → Meanings k d ⊎ Lacking k d → number_of c ≤ number_of d
+  names_first k c d n (inl m) = omega (arith, n.4.1, m.4.1)
+  names_first k c d n (inr m) =
+      subst (λ x. number_of c ≤ number_of x) (sym m.2) (omega (arith, n.4.1))
+
+  say_all : SaysLeast All (fault z lines)
+  say_all = merge Names (λ k c. Meanings k c ⊎ Lacking k c) names_first (resolved lines).fault
+      (sooner second (missing (any_enter lines) (length lines))) say_names
+      (merge Meanings Lacking not_both second (missing (any_enter lines) (length lines)) say_meaning say_lacking)
+
+  to_has : (k : ℕ) (c : SourceCause) → All k c → SourceHasFault z lines k c
+  to_has k c (inl n) = subst (λ m. SourceHasFault z lines m c) (sym n.3) (on_line n.2 n.4.0)
+  to_has k c (inr (inl n)) = subst (λ m. SourceHasFault z lines m c) (sym n.3) (on_line n.2 n.4.0)
+  to_has k c (inr (inr n)) = subst (λ m. SourceHasFault z lines m c) (sym n.1)
+      (subst (λ x. SourceHasFault z lines (length lines + 1) x) (sym n.2) (no_enter n.0))
+
+  split_at : (n : ℕ) → (n ≤ 8) ⊎ (9 ≤ n)
+  split_at n = grind arith
+
+  of_has : {k : ℕ} {c : SourceCause} → SourceHasFault z lines k c → All k c
+  of_has (on_line {before} {l} {cause} st h) = by_number (split_at (number_of cause))
+    where
+      by_number : (number_of cause ≤ 8) ⊎ (9 ≤ number_of cause) → All (length before + 1) cause
+      by_number (inl n) = inl (before, l, st, refl, (h, n))
+      by_number (inr n) = inr (inl (before, l, st, refl, (h, n)))
+  of_has (no_enter h) = inr (inr (h, refl, refl))
+
+  -- what the answer says of the source
+  abbrev pub Tells : Option SourceFault → Type 0
+  Tells None = HasNoFault z lines
+  Tells (Some Memory) = ⊥
+  Tells (Some (At k c)) = IsMeaningFault z lines k c
+
+  tells_of : (f : Option SourceFault) → SaysLeast All f → Tells f
+  tells_of None h = λ k c x. h k c (of_has x)
+  tells_of (Some Memory) h = h
+  tells_of (Some (At k c)) h = record { is = to_has k c h.0; least = λ r o x. h.1 r o (of_has x) }
+
+  pub tells : Tells (fault z lines)
+  tells = tells_of (fault z lines) say_all
+
+  -- both ways
+  pub fault_is : {k : ℕ} {c : SourceCause} → fault z lines ≡ Some (At k c) → IsMeaningFault z lines k c
+  fault_is e = subst Tells e tells
+
+  pub none_is : fault z lines ≡ None → HasNoFault z lines
+  none_is e = subst Tells e tells
+
+  pub is_none_fault : HasNoFault z lines → fault z lines ≡ None
+  is_none_fault h = by_answer (fault z lines) tells
+    where
+      by_answer : (f : Option SourceFault) → Tells f → f ≡ None
+      by_answer None t = refl
+      by_answer (Some Memory) t = absurd t
+      by_answer (Some (At k c)) t = absurd (h k c t.is)
+
+  pub is_fault : (k : ℕ) (c : SourceCause) → IsMeaningFault z lines k c → fault z lines ≡ Some (At k c)
+  is_fault k c h = by_answer (fault z lines) tells
+    where
+      one : (m : ℕ) (d : SourceCause) → (m < k) ⊎ ((m ≡ k) × (number_of d ≤ number_of c))
+          → (k < m) ⊎ ((k ≡ m) × (number_of c ≤ number_of d)) → ◌≡◌ {A = Option SourceFault} (Some (At m d)) (Some (At k c))
+      one m d (inl x) (inl y) = absurd (omega (arith, x, y))
+      one m d (inl x) (inr y) = absurd (omega (arith, x, y.0))
+      one m d (inr x) (inl y) = absurd (omega (arith, x.0, y))
+      one m d (inr x) (inr y) =
+          let e : d ≡ c = same_cause d c (omega (arith, x.1, y.1)) in λ i. Some (At (x.0 i) (e i))
+
+      by_answer : (f : Option SourceFault) → Tells f → f ≡ Some (At k c)
+      by_answer None t = absurd (t k c h.is)
+      by_answer (Some Memory) t = absurd t
+      by_answer (Some (At m d)) t = one m d (t.least k c h.is) (h.least m d t.is)
+
+-- the fault that is looked for is that of the definition, both ways
+pub record FaultIsFound (z : Size) (lines : List Line) : Type 0 where
+  pub refused : (k : ℕ) (c : SourceCause) → fault z lines ≡ Some (At k c) → IsMeaningFault z lines k c
+  pub refuses : (k : ℕ) (c : SourceCause) → IsMeaningFault z lines k c → fault z lines ≡ Some (At k c)
+  pub accepted : fault z lines ≡ None → HasNoFault z lines
+  pub accepts : HasNoFault z lines → fault z lines ≡ None
+  pub no_memory : fault z lines ≡ Some Memory → ⊥
+
+pub fault_law : (z : Size) (lines : List Line) → AreNumbered lines → FaultIsFound z lines
+fault_law z lines e =
+    let n = numbers lines e in record {
+      refused = λ k c h. fault_is z lines n h;
+      refuses = λ k c h. is_fault z lines n k c h;
+      accepted = λ h. none_is z lines n h;
+      accepts = λ h. is_none_fault z lines n h;
+      no_memory = λ h. subst (Tells z lines n) h (tells z lines n);
+    }
+
+-- the lines of each text that is read have their numbers
+pub read_law : (z : Size) (text : Text) (lines : List Line) → program_of text ≡ Ok lines → FaultIsFound z lines
+read_law z text lines e =
+    fault_law z lines (program_formed (is_two (lines_of text)) (lines_of text) lines e).numbered
+
+-- an answer that is the fault that is looked for is that of the definition
+pub answer_has_fault : {A : Type 0} (z : Size) (lines : List Line) → AreNumbered lines → (r : Result A SourceFault)
+    → IfErr r (λ e. IsFirstFault (fault z lines) e) → IfErr r (λ e. HasMeaningFault z lines e)
+answer_has_fault z lines n (Ok a) h = tt
+answer_has_fault z lines n (Err (At k c)) h = (fault_law z lines n).refused k c h
+answer_has_fault z lines n (Err Memory) h = tt

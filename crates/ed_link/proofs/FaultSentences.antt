@@ -1,0 +1,485 @@
+-- The tests of a line and the sentences of the manual say the same, both ways, for the faults S9 to S14, S16 and S17.
+use Rattle.std.proofs.Common.{◌≡◌, ◌⊎◌, inl, inr, ℕ, ◌/◌, ◌%◌, ◌^◌, ◌<◌, ◌≤◌, refl, sym, ap, ◌∙◌, subst, arith}
+use Rattle.std.proofs.Common.{Bool, true, false, not, ◌&&◌, ◌||◌, Option, Some, None, List, [], ◌∷◌, ◌++◌}
+use Rattle.std.proofs.Common.{is_some, is_none}
+use Rattle.std.specs.Prelude.{min, max}
+use Rattle.std.specs.List.{list_any}
+use Rattle.std.proofs.lemmas.Bool.{or_cases}
+use Rattle.ed_words.specs.declared.size.Size.{Size}
+use Rattle.ed_words.specs.Sizes.{locations}
+use Rattle.ed_words.proofs.Numbers.{eq_of, eq_true, lt_of, lt_true}
+use Rattle.ed_library.specs.Routines.{find}
+use Rattle.ed_syntax.specs.declared.program.Statement.{Statement}
+use Rattle.ed_syntax.specs.declared.program.Statement.TheVariants.{Segment, Order, Number, Text, Long, Fetch, Enter, Rows}
+use Rattle.ed_syntax.specs.declared.program.Line.{Line}
+use Rattle.ed_symbols.specs.declared.spots.Spot.{Spot}
+use Rattle.ed_symbols.specs.declared.homes.Home.{Home}
+use Rattle.ed_symbols.specs.Places.{passed, first_spot}
+use Rattle.ed_symbols.specs.Names.{place_on}
+use Rattle.ed_link.specs.Linked.{first_place, end_place, homes_of}
+use Rattle.ed_link.specs.Private.FaultTests.{any_enter, has_no_routine, has_sandwich, is_enter, is_in_segment, is_misplaced}
+use Rattle.ed_link.specs.Private.FaultTests.{is_outside, is_rows, meets, reach, run_at, word_run}
+use Rattle.ed_link.specs.Faults.{StandsAfter, spot_from, spot_after, HasEnter}
+use Rattle.ed_link.specs.Faults.{PlacesWords, IsData, IsOutsideSegments, NeedsWithin, NeedsPast, Overlaps}
+use Rattle.ed_link.specs.Faults.{UsesUnknown, IsMisplaced, HasSandwichDigit}
+use Rattle.ed_link.specs.Faults.{IsSegment, IsUse, HasNoUse, InSegment}
+
+-- a test and a sentence say the same
+pub record Ties (test : Bool) (sentence : Type 0) : Type 0 where
+  pub says : test ≡ true → sentence
+  pub tests : sentence → test ≡ true
+
+-- ---- S14 and S17
+
+unknown_says : (st : Option Statement) → has_no_routine st ≡ true → UsesUnknown st
+unknown_says None h = cc
+unknown_says (Some (Fetch routine name ts)) h = no_routine (find routine) h
+  where
+    no_routine : (r : Option ℕ) → is_none r ≡ true → ◌≡◌ {A = Option ℕ} r None
+    no_routine None g = refl
+    no_routine (Some r) g = cc
+unknown_says (Some (Segment n b)) h = cc
+unknown_says (Some (Order f o d)) h = cc
+unknown_says (Some (Number w)) h = cc
+unknown_says (Some (Text codes)) h = cc
+unknown_says (Some (Long v)) h = cc
+unknown_says (Some (Enter n)) h = cc
+unknown_says (Some (Rows codes)) h = cc
+
+unknown_tests : (st : Option Statement) → UsesUnknown st → has_no_routine st ≡ true
+unknown_tests (Some (Fetch routine name ts)) h = ap is_none h
+unknown_tests None h = absurd h
+unknown_tests (Some (Segment n b)) h = absurd h
+unknown_tests (Some (Order f o d)) h = absurd h
+unknown_tests (Some (Number w)) h = absurd h
+unknown_tests (Some (Text codes)) h = absurd h
+unknown_tests (Some (Long v)) h = absurd h
+unknown_tests (Some (Enter n)) h = absurd h
+unknown_tests (Some (Rows codes)) h = absurd h
+
+pub s14 : (l : Line) → Ties (has_no_routine l.statement) (UsesUnknown l.statement)
+s14 l = record { says = unknown_says l.statement; tests = unknown_tests l.statement }
+
+sandwich_says : (st : Option Statement) → has_sandwich st ≡ true
+    → (v : ℕ) × (st ≡ Some (Long v)) × (v / 2 ^ 17 % 2 ≡ 1)
+sandwich_says (Some (Long v)) h = (v, refl, eq_of (v / 2 ^ 17 % 2) 1 h)
+sandwich_says None h = cc
+sandwich_says (Some (Segment n b)) h = cc
+sandwich_says (Some (Order f o d)) h = cc
+sandwich_says (Some (Number w)) h = cc
+sandwich_says (Some (Text codes)) h = cc
+sandwich_says (Some (Fetch r n ts)) h = cc
+sandwich_says (Some (Enter n)) h = cc
+sandwich_says (Some (Rows codes)) h = cc
+
+pub s17 : (l : Line) → Ties (has_sandwich l.statement) (HasSandwichDigit l)
+s17 l = record {
+  says = sandwich_says l.statement;
+  tests = λ h. ap has_sandwich h.1 ∙ eq_true (h.0 / 2 ^ 17 % 2) 1 h.2;
+}
+
+-- ---- S9
+
+words_says : (st : Option Statement) → is_in_segment st ≡ true → PlacesWords st
+words_says None h = cc
+words_says (Some (Order f o d)) h = tt
+words_says (Some (Number w)) h = tt
+words_says (Some (Text codes)) h = tt
+words_says (Some (Long v)) h = tt
+words_says (Some (Segment n b)) h = cc
+words_says (Some (Fetch r n ts)) h = cc
+words_says (Some (Enter n)) h = cc
+words_says (Some (Rows codes)) h = cc
+
+words_tests : (st : Option Statement) → PlacesWords st → is_in_segment st ≡ true
+words_tests None h = absurd h
+words_tests (Some (Order f o d)) h = refl
+words_tests (Some (Number w)) h = refl
+words_tests (Some (Text codes)) h = refl
+words_tests (Some (Long v)) h = refl
+words_tests (Some (Segment n b)) h = absurd h
+words_tests (Some (Fetch r n ts)) h = absurd h
+words_tests (Some (Enter n)) h = absurd h
+words_tests (Some (Rows codes)) h = absurd h
+
+outside_says : (inside : Bool) (label : Option (List ℕ)) (st : Option Statement)
+    → (not inside && (is_some label || is_in_segment st)) ≡ true
+    → (inside ≡ false) × (((name : List ℕ) × (label ≡ Some name)) ⊎ PlacesWords st)
+outside_says true label st h = cc
+outside_says false (Some name) st h = (refl, inl (name, refl))
+outside_says false None st h = (refl, inr (words_says st h))
+
+outside_tests : (inside : Bool) (label : Option (List ℕ)) (st : Option Statement)
+    → (inside ≡ false) × (((name : List ℕ) × (label ≡ Some name)) ⊎ PlacesWords st)
+    → (not inside && (is_some label || is_in_segment st)) ≡ true
+outside_tests true label st h = cc
+outside_tests false (Some name) st h = refl
+outside_tests false None st (e, inl h) = cc
+outside_tests false None st (e, inr h) = words_tests st h
+
+opened : (st : Option Statement) (s : Spot) → IsSegment st → (passed st s).inside ≡ true
+opened (Some (Segment n b)) s h = refl
+opened None s h = absurd h
+opened (Some (Order f o d)) s h = absurd h
+opened (Some (Number w)) s h = absurd h
+opened (Some (Text codes)) s h = absurd h
+opened (Some (Long v)) s h = absurd h
+opened (Some (Fetch r n ts)) s h = absurd h
+opened (Some (Enter n)) s h = absurd h
+opened (Some (Rows codes)) s h = absurd h
+
+stay : (st : Option Statement) (s : Spot) → s.inside ≡ true → (IsUse st → ⊥) → (passed st s).inside ≡ true
+stay (Some (Fetch r n ts)) s h g = absurd (g tt)
+stay (Some (Segment n b)) s h g = refl
+stay None s h g = h
+stay (Some (Order f o d)) s h g = h
+stay (Some (Number w)) s h g = h
+stay (Some (Text codes)) s h g = h
+stay (Some (Long v)) s h g = h
+stay (Some (Enter n)) s h g = h
+stay (Some (Rows codes)) s h g = h
+
+next : (st : Option Statement) (s : Spot) → (passed st s).inside ≡ true
+    → IsSegment st ⊎ ((s.inside ≡ true) × (IsUse st → ⊥))
+next (Some (Segment n b)) s h = inl tt
+next (Some (Fetch r n ts)) s h = cc
+next None s h = inr (h, λ u. u)
+next (Some (Order f o d)) s h = inr (h, λ u. u)
+next (Some (Number w)) s h = inr (h, λ u. u)
+next (Some (Text codes)) s h = inr (h, λ u. u)
+next (Some (Long v)) s h = inr (h, λ u. u)
+next (Some (Enter n)) s h = inr (h, λ u. u)
+next (Some (Rows codes)) s h = inr (h, λ u. u)
+
+abbrev one_more : {lines before : List Line} {l : Line} (e : Line) → StandsAfter lines before l → StandsAfter (e ∷ lines) (e ∷ before) l
+one_more e st = record { after = st.after; lines_are = ap (λ x. e ∷ x) st.lines_are }
+
+kept : (s : Spot) (lines : List Line) → s.inside ≡ true → HasNoUse lines → (spot_from s lines).inside ≡ true
+kept s [] h n = h
+kept s (l ∷ lines) h n = kept (passed l.statement s) lines
+    (stay l.statement s h (n [] l (record { after = lines; lines_are = refl })))
+    (λ b e st. n (l ∷ b) e (one_more l st))
+
+open_among : (s : Spot) (b : List Line) (l : Line) (after : List Line) → IsSegment l.statement → HasNoUse after
+    → (spot_from s (b ++ l ∷ after)).inside ≡ true
+open_among s [] l after h n = kept (passed l.statement s) after (opened l.statement s h) n
+open_among s (e ∷ b) l after h n = open_among (passed e.statement s) b l after h n
+
+open_tests : (s : Spot) (lines : List Line) → InSegment lines → (spot_from s lines).inside ≡ true
+open_tests s lines h = subst (λ x. (spot_from s x).inside ≡ true) (sym h.2.lines_are)
+    (open_among s h.0 h.1 h.2.after h.3 h.4)
+
+first_same : (l m : Line) (r q : List Line) → (l ∷ r) ≡ (m ∷ q) → l ≡ m
+first_same l m r q e = cc
+
+rest_same : (l m : Line) (r q : List Line) → (l ∷ r) ≡ (m ∷ q) → r ≡ q
+rest_same l m r q e = cc
+
+no_use_more : (l : Line) (lines : List Line) → (IsUse l.statement → ⊥) → HasNoUse lines → HasNoUse (l ∷ lines)
+no_use_more l lines g n [] e st u =
+    g (subst (λ (x : Line). IsUse x.statement) (sym (first_same l e lines st.after st.lines_are)) u)
+no_use_more l lines g n (x ∷ b) e st u = n b e (record {
+  after = st.after;
+  lines_are = rest_same l x lines (b ++ e ∷ st.after) st.lines_are;
+}) u
+
+no_line : (b : List Line) (l : Line) → StandsAfter [] b l → ⊥
+no_line [] l st = let e = st.lines_are in cc
+no_line (x ∷ b) l st = let e = st.lines_are in cc
+
+open_says : (s : Spot) (lines : List Line) → (spot_from s lines).inside ≡ true
+    → InSegment lines ⊎ ((s.inside ≡ true) × HasNoUse lines)
+open_says s [] h = inr (h, λ b l st u. no_line b l st)
+open_says s (l ∷ lines) h = by_case (open_says (passed l.statement s) lines h)
+  where
+    by_next : HasNoUse lines → IsSegment l.statement ⊎ ((s.inside ≡ true) × (IsUse l.statement → ⊥))
+        → InSegment (l ∷ lines) ⊎ ((s.inside ≡ true) × HasNoUse (l ∷ lines))
+    by_next n (inl g) = inl ([], l, record { after = lines; lines_are = refl }, g, n)
+    by_next n (inr g) = inr (g.0, no_use_more l lines g.1 n)
+
+    by_case : InSegment lines ⊎ (((passed l.statement s).inside ≡ true) × HasNoUse lines)
+        → InSegment (l ∷ lines) ⊎ ((s.inside ≡ true) × HasNoUse (l ∷ lines))
+    by_case (inl g) = inl (l ∷ g.0, g.1, one_more l g.2, g.3, g.4)
+    by_case (inr g) = by_next g.1 (next l.statement s g.0)
+
+closed_says : (before : List Line) → (spot_after before).inside ≡ false → InSegment before → ⊥
+closed_says before e h = let g : (spot_after before).inside ≡ true = open_tests first_spot before h in cc
+
+closed_tests : (before : List Line) → (InSegment before → ⊥) → (spot_after before).inside ≡ false
+closed_tests before h = by_test (spot_after before).inside refl
+  where
+    either : InSegment before ⊎ ((first_spot.inside ≡ true) × HasNoUse before) → ⊥
+    either (inl g) = h g
+    either (inr g) = let e : false ≡ true = g.0 in cc
+
+    by_test : (t : Bool) → (spot_after before).inside ≡ t → t ≡ false
+    by_test false e = refl
+    by_test true e = absurd (either (open_says first_spot before e))
+
+pub s9 : (before : List Line) (l : Line) → Ties (is_outside l (spot_after before)) (IsOutsideSegments before l)
+s9 before l = record {
+  says = λ h. let p = outside_says (spot_after before).inside l.label l.statement h in
+      (closed_says before p.0, p.1);
+  tests = λ h. outside_tests (spot_after before).inside l.label l.statement (closed_tests before h.0, h.1);
+}
+
+-- ---- S10 to S12
+
+-- a place is in a run
+abbrev IsIn : ℕ × ℕ → ℕ → Type 0
+IsIn run p = (run.0 ≤ p) × (p < run.1)
+
+meets_says : (a b c d : ℕ) → meets (a, b) (c, d) ≡ true → (p : ℕ) × IsIn (a, b) p × IsIn (c, d) p
+meets_says a b c d h = let e : max a c < min b d = lt_of (max a c) (min b d) h in (
+  max a c,
+  (omega arith, omega (arith, e)),
+  (omega arith, omega (arith, e)),
+)
+
+meets_tests : (a b c d p : ℕ) → IsIn (a, b) p → IsIn (c, d) p → meets (a, b) (c, d) ≡ true
+meets_tests a b c d p h g =
+    lt_true (max a c) (min b d) (omega (arith, h.0, h.1, g.0, g.1))
+
+-- a line needs a place, by its statement and spot alone
+abbrev NeedsAt : List Home → Option Statement → Spot → ℕ → Type 0
+NeedsAt homes st s p = ((first_place st s ≤ p) × (p < end_place st s))
+    ⊎ ((name : List ℕ) × (st ≡ Some (Enter name)) × (place_on homes None name ≡ Some p))
+
+need_in : (homes : List Home) (st : Option Statement) (s : Spot) (p : ℕ) → NeedsAt homes st s p
+    → IsIn (reach homes st s) p
+need_in homes st s p (inr h) = subst (λ x. IsIn (reach homes x s) p) (sym h.1)
+    (subst (λ o. IsIn (run_at o) p) (sym h.2) (omega arith, omega arith))
+need_in homes None s p (inl h) = h
+need_in homes (Some (Segment n b)) s p (inl h) = h
+need_in homes (Some (Order f o d)) s p (inl h) = h
+need_in homes (Some (Number w)) s p (inl h) = h
+need_in homes (Some (Text codes)) s p (inl h) = h
+need_in homes (Some (Long v)) s p (inl h) = h
+need_in homes (Some (Fetch r n ts)) s p (inl h) = h
+need_in homes (Some (Enter n)) s p (inl h) = absurd (omega (arith, h.0, h.1))
+need_in homes (Some (Rows codes)) s p (inl h) = h
+
+in_need : (homes : List Home) (st : Option Statement) (s : Spot) (p : ℕ) → IsIn (reach homes st s) p
+    → NeedsAt homes st s p
+in_need homes None s p h = inl h
+in_need homes (Some (Segment n b)) s p h = inl h
+in_need homes (Some (Order f o d)) s p h = inl h
+in_need homes (Some (Number w)) s p h = inl h
+in_need homes (Some (Text codes)) s p h = inl h
+in_need homes (Some (Long v)) s p h = inl h
+in_need homes (Some (Fetch r n ts)) s p h = inl h
+in_need homes (Some (Rows codes)) s p h = inl h
+in_need homes (Some (Enter n)) s p h = entered (place_on homes None n) refl h
+  where
+    entered : (o : Option ℕ) → place_on homes None n ≡ o → IsIn (run_at o) p → NeedsAt homes (Some (Enter n)) s p
+    entered None e g = absurd (omega (arith, g.0, g.1))
+    entered (Some q) e g =
+        let same : q ≡ p = omega (arith, g.0, g.1) in inr (n, refl, e ∙ ap (λ x. Some x) same)
+
+within : (homes : List Home) (st : Option Statement) (s : Spot) (c d : ℕ)
+    → Ties (meets (reach homes st s) (c, d)) ((p : ℕ) × NeedsAt homes st s p × (c ≤ p) × (p < d))
+within homes st s c d = record {
+  says = λ h. let m = meets_says (reach homes st s).0 (reach homes st s).1 c d h in
+      (m.0, in_need homes st s m.0 m.1, m.2.0, m.2.1);
+  tests = λ h. meets_tests (reach homes st s).0 (reach homes st s).1 c d h.0 (need_in homes st s h.0 h.1)
+      (h.2, h.3);
+}
+
+-- S10 at 0 and 44, S11 at 44 and 56
+pub s10_s11 : (lines before : List Line) (l : Line) (c d : ℕ)
+    → Ties (meets (reach (homes_of lines) l.statement (spot_after before)) (c, d)) (NeedsWithin lines before l c d)
+s10_s11 lines before l c d = within (homes_of lines) l.statement (spot_after before) c d
+
+past : (homes : List Home) (st : Option Statement) (s : Spot) (c : ℕ)
+    → Ties (meets (reach homes st s) (c, (reach homes st s).1)) ((p : ℕ) × NeedsAt homes st s p × (c ≤ p))
+past homes st s c =
+    let t = within homes st s c (reach homes st s).1 in
+    record {
+      says = λ h. let m = t.says h in (m.0, m.1, m.2);
+      tests = λ h. t.tests (h.0, h.1, h.2, (need_in homes st s h.0 h.1).1);
+    }
+
+pub s12 : (z : Size) (lines before : List Line) (l : Line)
+    → Ties
+    (meets (reach (homes_of lines) l.statement (spot_after before))
+    (locations z, (reach (homes_of lines) l.statement (spot_after before)).1))
+    (NeedsPast lines before l (locations z))
+s12 z lines before l = past (homes_of lines) l.statement (spot_after before) (locations z)
+
+-- ---- S13
+
+-- the places of the words of the lines from a spot on
+abbrev pub runs_from : Spot → List Line → List (ℕ × ℕ)
+runs_from s [] = []
+runs_from s (l ∷ lines) = word_run l.statement s ∷ runs_from (passed l.statement s) lines
+
+-- a line of these, from a spot on, has a word at a place of the run
+abbrev Shares : ℕ × ℕ → Spot → List Line → Type 0
+Shares run s lines = (p : ℕ) × IsIn run p × (earlier : List Line) × (e : Line) × StandsAfter lines earlier e
+    × IsIn (word_run e.statement (spot_from s earlier)) p
+
+shares_says : (a b : ℕ) (s : Spot) (lines : List Line) → list_any (λ o. meets (a, b) o) (runs_from s lines) ≡ true
+    → Shares (a, b) s lines
+shares_says a b s [] h = cc
+shares_says a b s (l ∷ lines) h =
+    by_case (λ g. shares_says a b (passed l.statement s) lines g)
+    (or_cases (meets (a, b) (word_run l.statement s))
+    (list_any (λ o. meets (a, b) o) (runs_from (passed l.statement s) lines)) h)
+  where
+    by_case : (list_any (λ o. meets (a, b) o) (runs_from (passed l.statement s) lines) ≡ true
+        → Shares (a, b) (passed l.statement s) lines)
+        → (meets (a, b) (word_run l.statement s) ≡ true)
+        ⊎ (list_any (λ o. meets (a, b) o) (runs_from (passed l.statement s) lines) ≡ true)
+        → Shares (a, b) s (l ∷ lines)
+    by_case more (inl g) =
+        let m = meets_says a b (word_run l.statement s).0 (word_run l.statement s).1 g in
+        (m.0, m.1, [], l, record { after = lines; lines_are = refl }, m.2)
+    by_case more (inr g) =
+        let r = more g in
+        (r.0, r.1, l ∷ r.2, r.3, record { after = r.4.after; lines_are = ap (λ x. l ∷ x) r.4.lines_are }, r.5)
+
+pub or_right : (x y : Bool) → y ≡ true → (x || y) ≡ true
+or_right true y h = refl
+or_right false y h = h
+
+pub or_left : (x y : Bool) → x ≡ true → (x || y) ≡ true
+or_left true y h = refl
+or_left false y h = cc
+
+shared : (a b : ℕ) (s : Spot) (earlier : List Line) (e : Line) (after : List Line) (p : ℕ) → IsIn (a, b) p
+    → IsIn (word_run e.statement (spot_from s earlier)) p
+    → list_any (λ o. meets (a, b) o) (runs_from s (earlier ++ e ∷ after)) ≡ true
+shared a b s [] e after p h g = or_left _ _
+    (meets_tests a b (word_run e.statement s).0 (word_run e.statement s).1 p h g)
+shared a b s (l ∷ earlier) e after p h g =
+    or_right _ _ (shared a b (passed l.statement s) earlier e after p h g)
+
+pub s13 : (before : List Line) (l : Line)
+    → Ties (list_any (λ o. meets (word_run l.statement (spot_after before)) o) (runs_from first_spot before))
+    (Overlaps before l)
+s13 before l = record {
+  says = shares_says (first_place l.statement (spot_after before)) (end_place l.statement (spot_after before))
+      first_spot before;
+  tests = λ h. subst
+      (λ x. list_any (λ o. meets (word_run l.statement (spot_after before)) o) (runs_from first_spot x) ≡ true)
+      (sym h.4.lines_are)
+      (shared (first_place l.statement (spot_after before)) (end_place l.statement (spot_after before)) first_spot
+      h.2 h.3 h.4.after h.0 h.1 h.5);
+}
+
+-- ---- S16
+
+enter_says : (st : Option Statement) → is_enter st ≡ true → (name : List ℕ) × (st ≡ Some (Enter name))
+enter_says (Some (Enter name)) h = (name, refl)
+enter_says None h = cc
+enter_says (Some (Segment n b)) h = cc
+enter_says (Some (Order f o d)) h = cc
+enter_says (Some (Number w)) h = cc
+enter_says (Some (Text codes)) h = cc
+enter_says (Some (Long v)) h = cc
+enter_says (Some (Fetch r n ts)) h = cc
+enter_says (Some (Rows codes)) h = cc
+
+pub any_says : (lines : List Line) → any_enter lines ≡ true → HasEnter lines
+any_says [] h = cc
+any_says (l ∷ lines) h = by_case (λ g. any_says lines g) (or_cases (is_enter l.statement) (any_enter lines) h)
+  where
+    by_case : (any_enter lines ≡ true → HasEnter lines)
+        → (is_enter l.statement ≡ true) ⊎ (any_enter lines ≡ true) → HasEnter (l ∷ lines)
+    by_case more (inl g) = ([], l, record { after = lines; lines_are = refl }, enter_says l.statement g)
+    by_case more (inr g) =
+        let r = more g in
+        (l ∷ r.0, r.1, record { after = r.2.after; lines_are = ap (λ x. l ∷ x) r.2.lines_are }, r.3)
+
+any_among : (before : List Line) (l : Line) (after : List Line) → is_enter l.statement ≡ true
+    → any_enter (before ++ l ∷ after) ≡ true
+any_among [] l after h = or_left (is_enter l.statement) (any_enter after) h
+any_among (e ∷ before) l after h =
+    or_right (is_enter e.statement) (any_enter (before ++ l ∷ after)) (any_among before l after h)
+
+pub any_tests : (lines : List Line) → HasEnter lines → any_enter lines ≡ true
+any_tests lines h = subst (λ x. any_enter x ≡ true) (sym h.2.lines_are)
+    (any_among h.0 h.1 h.2.after (ap is_enter h.3.1))
+
+data_says : (st : Option Statement) → is_rows st ≡ true → IsData st
+data_says (Some (Rows codes)) h = tt
+data_says None h = cc
+data_says (Some (Segment n b)) h = cc
+data_says (Some (Order f o d)) h = cc
+data_says (Some (Number w)) h = cc
+data_says (Some (Text codes)) h = cc
+data_says (Some (Long v)) h = cc
+data_says (Some (Fetch r n ts)) h = cc
+data_says (Some (Enter n)) h = cc
+
+data_tests : (st : Option Statement) → IsData st → is_rows st ≡ true
+data_tests (Some (Rows codes)) h = refl
+data_tests None h = absurd h
+data_tests (Some (Segment n b)) h = absurd h
+data_tests (Some (Order f o d)) h = absurd h
+data_tests (Some (Number w)) h = absurd h
+data_tests (Some (Text codes)) h = absurd h
+data_tests (Some (Long v)) h = absurd h
+data_tests (Some (Fetch r n ts)) h = absurd h
+data_tests (Some (Enter n)) h = absurd h
+
+pub and_of : (x y : Bool) → (x && y) ≡ true → (x ≡ true) × (y ≡ true)
+and_of true y h = (refl, h)
+and_of false y h = cc
+
+pub and_true : (x y : Bool) → x ≡ true → y ≡ true → (x && y) ≡ true
+and_true true y h g = g
+and_true false y h g = cc
+
+pub not_true : (x : Bool) → not x ≡ true → x ≡ true → ⊥
+not_true true h g = cc
+not_true false h g = cc
+
+pub true_not : (x : Bool) → (x ≡ true → ⊥) → not x ≡ true
+true_not true h = absurd (h refl)
+true_not false h = refl
+
+form_says : (label : Option (List ℕ)) (st : Option Statement) → (is_some label || is_some st) ≡ true
+    → (label ≡ None) × (st ≡ None) → ⊥
+form_says (Some n) st h g = cc
+form_says None (Some st) h g = cc
+form_says None None h g = cc
+
+form_tests : (label : Option (List ℕ)) (st : Option Statement) → ((label ≡ None) × (st ≡ None) → ⊥)
+    → (is_some label || is_some st) ≡ true
+form_tests (Some n) st h = refl
+form_tests None (Some st) h = refl
+form_tests None None h = absurd (h (refl, refl))
+
+misplaced_says : (lines before : List Line) (l : Line) (entered : Bool) → any_enter before ≡ entered
+    → is_misplaced entered (any_enter lines) l ≡ true → IsMisplaced lines before l
+misplaced_says lines before l true e h =
+    let p = and_of (is_some l.label || is_some l.statement) (not (is_rows l.statement)) h in
+    inl (
+      any_says before e,
+      form_says l.label l.statement p.0,
+      λ d. not_true (is_rows l.statement) p.1 (data_tests l.statement d),
+    )
+misplaced_says lines before l false e h =
+    let p = and_of (any_enter lines) (is_rows l.statement) h in
+    inr (λ g. none_before (any_tests before g), data_says l.statement p.1, any_says lines p.0)
+  where
+    none_before : any_enter before ≡ true → ⊥
+    none_before g = cc
+
+misplaced_tests : (lines before : List Line) (l : Line) (entered : Bool) → any_enter before ≡ entered
+    → IsMisplaced lines before l → is_misplaced entered (any_enter lines) l ≡ true
+misplaced_tests lines before l true e (inl h) =
+    and_true (is_some l.label || is_some l.statement) (not (is_rows l.statement)) (form_tests l.label l.statement h.1)
+    (true_not (is_rows l.statement) (λ d. h.2 (data_says l.statement d)))
+misplaced_tests lines before l false e (inl h) = let g : any_enter before ≡ true = any_tests before h.0 in cc
+misplaced_tests lines before l true e (inr h) = absurd (h.0 (any_says before e))
+misplaced_tests lines before l false e (inr h) =
+    and_true (any_enter lines) (is_rows l.statement) (any_tests lines h.2) (data_tests l.statement h.1)
+
+pub s16 : (lines before : List Line) (l : Line)
+    → Ties (is_misplaced (any_enter before) (any_enter lines) l) (IsMisplaced lines before l)
+s16 lines before l = record {
+  says = misplaced_says lines before l (any_enter before) refl;
+  tests = misplaced_tests lines before l (any_enter before) refl;
+}

@@ -1,0 +1,188 @@
+-- The same for the faults S6, S7, S8 and S15: of names, and of what a `use` sets.
+use Rattle.std.proofs.Common.{◌≡◌, ◌⊎◌, inl, inr, ℕ, refl, sym, ap, ◌∙◌}
+use Rattle.std.proofs.Common.{Bool, true, ◌||◌, Option, Some, None, List, [], ◌∷◌}
+use Rattle.std.proofs.Common.{is_none}
+use Rattle.std.specs.Prelude.{map, ℤ, pos, int_lt}
+use Rattle.std.specs.List.{list_any}
+use Rattle.std.proofs.lemmas.Bool.{or_cases}
+use Rattle.std.proofs.lemmas.List.Folds.{Any-from_list_any, list_any-from_Any}
+use Rattle.ed_syntax.specs.declared.program.Operand.{Operand}
+use Rattle.ed_syntax.specs.declared.program.Operand.TheVariants as operands
+use Rattle.ed_syntax.specs.declared.program.Setting.{Setting}
+use Rattle.ed_syntax.specs.declared.program.Statement.{Statement}
+use Rattle.ed_syntax.specs.declared.program.Statement.TheVariants.{Segment, Order, Number, Text, Long, Fetch, Enter, Rows}
+use Rattle.ed_syntax.specs.declared.program.Line.{Line}
+use Rattle.ed_symbols.specs.declared.homes.Home.{Home}
+use Rattle.ed_symbols.specs.Places.{segment_of}
+use Rattle.ed_symbols.specs.Names.{place_on}
+use Rattle.ed_symbols.specs.Faults.{any_operand, enters_unknown, is_far, is_no_address, is_unknown, names_unknown}
+use Rattle.ed_symbols.specs.Faults.{operand_of, operand_value, reaches_outside, sum_of_places, with_more}
+use Rattle.ed_link.specs.Linked.{homes_of}
+use Rattle.ed_link.specs.Faults.{spot_after, HasOperand, HasName, NamesUnknown, ReachesOutside}
+use Rattle.ed_link.proofs.FaultSentences.{Ties, or_left, or_right}
+
+-- ---- S7 and S8: the operands
+
+settings_same : (test : Operand → Bool) (ts : List Setting)
+    → list_any (λ t. test (operand_of t)) ts ≡ list_any test (map operand_of ts)
+settings_same test [] = refl
+settings_same test (t ∷ ts) = ap (λ b. test (operand_of t) || b) (settings_same test ts)
+
+-- an operand of the statement passes the test
+abbrev Passes : (Operand → Bool) → Option Statement → Type 0
+Passes test st = (o : Operand) × HasOperand st o × (test o ≡ true)
+
+operand_says : (test : Operand → Bool) (st : Option Statement) → any_operand test st ≡ true → Passes test st
+operand_says test (Some (Order f o d)) h = (o, refl, h)
+operand_says test (Some (Fetch r n ts)) h =
+    let a = Any-from_list_any test (map operand_of ts.items) (sym (settings_same test ts.items) ∙ h) in
+    (a.1, (a.0, a.2, a.3), a.4)
+operand_says test None h = cc
+operand_says test (Some (Segment n b)) h = cc
+operand_says test (Some (Number w)) h = cc
+operand_says test (Some (Text codes)) h = cc
+operand_says test (Some (Long v)) h = cc
+operand_says test (Some (Enter n)) h = cc
+operand_says test (Some (Rows codes)) h = cc
+
+operand_tests : (test : Operand → Bool) (st : Option Statement) → Passes test st → any_operand test st ≡ true
+operand_tests test (Some (Order f o d)) h = ap test (sym h.1) ∙ h.2
+operand_tests test (Some (Fetch r n ts)) h = settings_same test ts.items
+    ∙ list_any-from_Any test (map operand_of ts.items) (h.1.0, h.0, h.1.1, h.1.2, h.2)
+operand_tests test None h = absurd h.1
+operand_tests test (Some (Segment n b)) h = absurd h.1
+operand_tests test (Some (Number w)) h = absurd h.1
+operand_tests test (Some (Text codes)) h = absurd h.1
+operand_tests test (Some (Long v)) h = absurd h.1
+operand_tests test (Some (Enter n)) h = absurd h.1
+operand_tests test (Some (Rows codes)) h = absurd h.1
+
+-- a name of the operand has no place
+abbrev Lacks : List Home → Option ℕ → Operand → Type 0
+Lacks homes g o = (name : List ℕ) × HasName o name × (place_on homes g name ≡ None)
+
+unplaced : (o : Option ℕ) → is_none o ≡ true → ◌≡◌ {A = Option ℕ} o None
+unplaced None h = refl
+unplaced (Some p) h = cc
+
+more_says : (plus : ℤ) (o : Option ℕ) → is_none (with_more plus o) ≡ true → ◌≡◌ {A = Option ℕ} o None
+more_says plus None h = refl
+more_says plus (Some p) h = cc
+
+sum_says : (minus : Bool) (a b : Option ℕ) → is_none (sum_of_places minus a b) ≡ true
+    → (a ≡ None) ⊎ (b ≡ None)
+sum_says minus None b h = inl refl
+sum_says minus (Some p) None h = inr refl
+sum_says minus (Some p) (Some q) h = cc
+
+sum_none : (minus : Bool) (a b : Option ℕ) → (a ≡ None) ⊎ (b ≡ None) → is_none (sum_of_places minus a b) ≡ true
+sum_none minus None b h = refl
+sum_none minus (Some p) None h = refl
+sum_none minus (Some p) (Some q) (inl h) = cc
+sum_none minus (Some p) (Some q) (inr h) = cc
+
+lacks_says : (homes : List Home) (g : Option ℕ) (o : Operand) → is_unknown homes g o ≡ true → Lacks homes g o
+lacks_says homes g (operands.Number n) h = cc
+lacks_says homes g (operands.Label name plus) h = (name, refl, more_says plus (place_on homes g name) h)
+lacks_says homes g (operands.Two first second minus) h =
+    by_case (sum_says minus (place_on homes g first) (place_on homes g second) h)
+  where
+    by_case : (place_on homes g first ≡ None) ⊎ (place_on homes g second ≡ None)
+        → Lacks homes g (operands.Two first second minus)
+    by_case (inl e) = (first, inl refl, e)
+    by_case (inr e) = (second, inr refl, e)
+
+lacks_tests : (homes : List Home) (g : Option ℕ) (o : Operand) → Lacks homes g o → is_unknown homes g o ≡ true
+lacks_tests homes g (operands.Number n) h = absurd h.1
+lacks_tests homes g (operands.Label name plus) h =
+    ap (λ o. is_none (with_more plus o)) (ap (λ x. place_on homes g x) (sym h.1) ∙ h.2)
+lacks_tests homes g (operands.Two first second minus) (name, inl e, h) =
+    sum_none minus (place_on homes g first) (place_on homes g second)
+    (inl (ap (λ x. place_on homes g x) (sym e) ∙ h))
+lacks_tests homes g (operands.Two first second minus) (name, inr e, h) =
+    sum_none minus (place_on homes g first) (place_on homes g second)
+    (inr (ap (λ x. place_on homes g x) (sym e) ∙ h))
+
+-- an `enter` of a name without a place
+abbrev EntersNowhere : List Home → Option Statement → Type 0
+EntersNowhere homes st = (name : List ℕ) × (st ≡ Some (Enter name)) × (place_on homes None name ≡ None)
+
+nowhere_says : (homes : List Home) (st : Option Statement) → enters_unknown homes st ≡ true → EntersNowhere homes st
+nowhere_says homes (Some (Enter name)) h = (name, refl, unplaced (place_on homes None name) h)
+nowhere_says homes None h = cc
+nowhere_says homes (Some (Segment n b)) h = cc
+nowhere_says homes (Some (Order f o d)) h = cc
+nowhere_says homes (Some (Number w)) h = cc
+nowhere_says homes (Some (Text codes)) h = cc
+nowhere_says homes (Some (Long v)) h = cc
+nowhere_says homes (Some (Fetch r n ts)) h = cc
+nowhere_says homes (Some (Rows codes)) h = cc
+
+nowhere_tests : (homes : List Home) (st : Option Statement) → EntersNowhere homes st → enters_unknown homes st ≡ true
+nowhere_tests homes st h = ap (enters_unknown homes) h.1 ∙ ap is_none h.2
+
+module _ (lines before : List Line) (l : Line) where
+  abbrev here : Option ℕ
+  here = segment_of l (spot_after before)
+
+  unknown_by : (any_operand (is_unknown (homes_of lines) here) l.statement ≡ true)
+      ⊎ (enters_unknown (homes_of lines) l.statement ≡ true) → NamesUnknown lines before l
+  unknown_by (inl h) =
+      let p = operand_says (is_unknown (homes_of lines) here) l.statement h in
+      let k = lacks_says (homes_of lines) here p.0 p.2 in inl (p.0, p.1, k.0, k.1, k.2)
+  unknown_by (inr h) = inr (nowhere_says (homes_of lines) l.statement h)
+
+  unknown_of : NamesUnknown lines before l → names_unknown (homes_of lines) l (spot_after before) ≡ true
+  unknown_of (inl h) = or_left (any_operand (is_unknown (homes_of lines) here) l.statement)
+      (enters_unknown (homes_of lines) l.statement)
+      (operand_tests (is_unknown (homes_of lines) here) l.statement
+      (h.0, h.1, lacks_tests (homes_of lines) here h.0 (h.2, h.3, h.4)))
+  unknown_of (inr h) = or_right (any_operand (is_unknown (homes_of lines) here) l.statement)
+      (enters_unknown (homes_of lines) l.statement) (nowhere_tests (homes_of lines) l.statement h)
+
+  pub s7 : Ties (names_unknown (homes_of lines) l (spot_after before)) (NamesUnknown lines before l)
+  s7 = record {
+    says = λ h. unknown_by (or_cases (any_operand (is_unknown (homes_of lines) here) l.statement)
+        (enters_unknown (homes_of lines) l.statement) h);
+    tests = unknown_of;
+  }
+
+-- the value of an operand with a name is no address
+abbrev IsFar : List Home → Option ℕ → Operand → Type 0
+IsFar homes g o = (name : List ℕ) × HasName o name × (v : ℤ) × (operand_value homes g o ≡ Some v)
+    × ((int_lt v (pos 0) ≡ true) ⊎ (int_lt (pos 1023) v ≡ true))
+
+far_says : (o : Option ℤ) → is_far o ≡ true
+    → (v : ℤ) × (o ≡ Some v) × ((int_lt v (pos 0) ≡ true) ⊎ (int_lt (pos 1023) v ≡ true))
+far_says None h = cc
+far_says (Some v) h = (v, refl, or_cases (int_lt v (pos 0)) (int_lt (pos 1023) v) h)
+
+far_tests : (o : Option ℤ) (v : ℤ) → o ≡ Some v → (int_lt v (pos 0) ≡ true) ⊎ (int_lt (pos 1023) v ≡ true)
+    → is_far o ≡ true
+far_tests o v e (inl h) = ap is_far e ∙ or_left (int_lt v (pos 0)) (int_lt (pos 1023) v) h
+far_tests o v e (inr h) = ap is_far e ∙ or_right (int_lt v (pos 0)) (int_lt (pos 1023) v) h
+
+no_address_says : (homes : List Home) (g : Option ℕ) (o : Operand) → is_no_address homes g o ≡ true → IsFar homes g o
+no_address_says homes g (operands.Number n) h = cc
+no_address_says homes g (operands.Label name plus) h =
+    let f = far_says (operand_value homes g (operands.Label name plus)) h in (name, refl, f.0, f.1, f.2)
+no_address_says homes g (operands.Two first second minus) h =
+    let f = far_says (operand_value homes g (operands.Two first second minus)) h in (first, inl refl, f.0, f.1, f.2)
+
+no_address_tests : (homes : List Home) (g : Option ℕ) (o : Operand) → IsFar homes g o → is_no_address homes g o ≡ true
+no_address_tests homes g (operands.Number n) h = absurd h.1
+no_address_tests homes g (operands.Label name plus) h =
+    far_tests (operand_value homes g (operands.Label name plus)) h.2 h.3 h.4
+no_address_tests homes g (operands.Two first second minus) h =
+    far_tests (operand_value homes g (operands.Two first second minus)) h.2 h.3 h.4
+
+pub s8 : (lines before : List Line) (l : Line)
+    → Ties (reaches_outside (homes_of lines) l (spot_after before)) (ReachesOutside lines before l)
+s8 lines before l =
+    let g = segment_of l (spot_after before) in
+    record {
+      says = λ h. let p = operand_says (is_no_address (homes_of lines) g) l.statement h in
+          let k = no_address_says (homes_of lines) g p.0 p.2 in (p.0, p.1, k.0, k.1, k.2, k.3, k.4);
+      tests = λ h. operand_tests (is_no_address (homes_of lines) g) l.statement
+          (h.0, h.1, no_address_tests (homes_of lines) g h.0 (h.2, h.3, h.4, h.5, h.6));
+    }

@@ -1,0 +1,156 @@
+-- The faults of a source as they are looked for: by tests of each line in the order of their numbers. S6 to S8, of its
+-- names, are those of the symbols.
+use Rattle.std.specs.Prelude.{◌≡◌, ℕ, ◌+◌, nat_eq, nat_lt, nat_le, min, max, ◌||◌, ◌&&◌, not, Bool, true, false}
+use Rattle.std.specs.Prelude.{List, [], ◌∷◌, ◌++◌, length, Option, Some, None, is_some, is_none, if◌then◌else◌}
+use Rattle.std.specs.List.{list_any, list_all}
+use Rattle.ed_words.specs.declared.size.Size.{Size}
+use Rattle.ed_words.specs.Sizes.{locations}
+use Rattle.ed_words.specs.Words.{halves_of}
+use Rattle.ed_library.specs.Entries.{entry}
+use Rattle.ed_library.specs.Routines.{find}
+use Rattle.ed_syntax.specs.declared.program.Setting.{Setting}
+use Rattle.ed_syntax.specs.declared.program.Statement.{Statement}
+use Rattle.ed_syntax.specs.declared.program.Statement.TheVariants.{Order, Number, Text, Long, Fetch, Enter, Rows}
+use Rattle.ed_syntax.specs.declared.program.Line.{Line}
+use Rattle.ed_syntax.specs.declared.fault.SourceCause.{SourceCause}
+use Rattle.ed_syntax.specs.declared.fault.SourceCause.TheVariants as causes
+use Rattle.ed_syntax.specs.declared.fault.SourceFault.{SourceFault}
+use Rattle.ed_syntax.specs.declared.fault.SourceFault.TheVariants.{At, Memory}
+use Rattle.ed_symbols.specs.declared.spots.Spot.{Spot}
+use Rattle.ed_symbols.specs.declared.homes.Home.{Home}
+use Rattle.ed_symbols.specs.Places.{passed, first_spot}
+use Rattle.ed_symbols.specs.Names.{place_on}
+use Rattle.ed_symbols.specs.Faults.{or_later, resolved}
+use Rattle.ed_link.specs.Linked.{first_place, end_place, set_to, homes_of}
+
+-- the places of a line's words, from the first to the one behind the last
+abbrev pub word_run : Option Statement → Spot → ℕ × ℕ
+word_run st s = (first_place st s, end_place st s)
+
+-- the one place of a name
+abbrev pub run_at : Option ℕ → ℕ × ℕ
+run_at None = (0, 0)
+run_at (Some p) = (p, p + 1)
+
+-- the places that a line needs: those of its words, and at `enter` that of its name
+abbrev pub reach : List Home → Option Statement → Spot → ℕ × ℕ
+reach homes (Some (Enter name)) s = run_at (place_on homes None name)
+reach homes st s = word_run st s
+
+-- whether one of these places is from a place on and below another
+abbrev pub meets : ℕ × ℕ → ℕ × ℕ → Bool
+meets run other = nat_lt (max run.0 other.0) (min run.1 other.1)
+
+-- an order, `word`, `text` or `long`
+abbrev pub is_in_segment : Option Statement → Bool
+is_in_segment (Some (Order f o long)) = true
+is_in_segment (Some (Number w)) = true
+is_in_segment (Some (Text codes)) = true
+is_in_segment (Some (Long v)) = true
+is_in_segment st = false
+
+-- S9
+abbrev pub is_outside : Line → Spot → Bool
+is_outside l s = not s.inside && (is_some l.label || is_in_segment l.statement)
+
+-- S14
+abbrev pub has_no_routine : Option Statement → Bool
+has_no_routine (Some (Fetch routine name ts)) = is_none (find routine)
+has_no_routine st = false
+
+-- whether as many letters are set as a routine has parameters, and each of these
+abbrev pub sets : List Setting → Option ℕ → Bool
+sets ts None = true
+sets ts (Some r) = nat_eq (length ts) (length (entry r).parameters)
+    && list_all (λ c. is_some (set_to ts c)) (entry r).parameters
+
+-- S15
+abbrev pub sets_otherwise : Option Statement → Bool
+sets_otherwise (Some (Fetch routine name ts)) = not (sets ts.items (find routine))
+sets_otherwise st = false
+
+-- whether a line is an `enter`
+abbrev pub is_enter : Option Statement → Bool
+is_enter (Some (Enter name)) = true
+is_enter st = false
+
+-- whether a line is a `data`
+abbrev pub is_rows : Option Statement → Bool
+is_rows (Some (Rows codes)) = true
+is_rows st = false
+
+-- whether some line is an `enter`
+abbrev pub any_enter : List Line → Bool
+any_enter [] = false
+any_enter (l ∷ lines) = is_enter l.statement || any_enter lines
+
+-- S16: behind the first `enter` any form but `data`, and before it `data`, where there is one
+abbrev pub is_misplaced : Bool → Bool → Line → Bool
+is_misplaced entered any l =
+    if entered then (is_some l.label || is_some l.statement) && not (is_rows l.statement)
+    else any && is_rows l.statement
+
+-- S17
+abbrev pub has_sandwich : Option Statement → Bool
+has_sandwich (Some (Long v)) = (halves_of v).sandwich
+has_sandwich st = false
+
+-- what the lines before a line leave: the places of their words, and whether one is an `enter`
+pub record LinesBefore : Type 0 where
+  pub runs : List (ℕ × ℕ)
+  pub entered : Bool
+
+-- the same behind a line
+abbrev pub past_of : LinesBefore → Line → Spot → LinesBefore
+past_of past l s = record {
+  runs = past.runs ++ word_run l.statement s ∷ [];
+  entered = past.entered || is_enter l.statement;
+}
+
+-- of the faults S9 to S17 of a line the one with the least number
+abbrev pub cause_of : Size → List Home → Bool → LinesBefore → Line → Spot → Option SourceCause
+cause_of z homes any past l s =
+    if is_outside l s then Some causes.OutsideSegment
+    else if meets (reach homes l.statement s) (0, 44) then Some causes.LoaderStore
+    else if meets (reach homes l.statement s) (44, 56) then Some causes.ParameterStore
+    else if meets (reach homes l.statement s) (locations z, (reach homes l.statement s).1) then Some causes.StoreEnd
+    else if list_any (λ run. meets (word_run l.statement s) run) past.runs then Some causes.Overlap
+    else if has_no_routine l.statement then Some causes.NoSuchRoutine
+    else if sets_otherwise l.statement then Some causes.Parameters
+    else if is_misplaced past.entered any l then Some causes.Enter
+    else if has_sandwich l.statement then Some causes.SandwichDigit
+    else None
+
+-- the fault of the least line from a spot on that has one of S9 to S17
+abbrev pub fault_from : Size → List Home → Bool → LinesBefore → Spot → List Line → Option SourceFault
+fault_from z homes any past s [] = None
+fault_from z homes any past s (l ∷ lines) =
+    or_later l.number (cause_of z homes any past l s)
+    (fault_from z homes any (past_of past l s) (passed l.statement s) lines)
+
+-- S16 where there is no `enter`: at the number of lines plus 1
+abbrev pub missing : Bool → ℕ → Option SourceFault
+missing any n = if any then None else Some (At (n + 1) causes.Enter)
+
+-- the line of a fault
+abbrev pub fault_line : SourceFault → ℕ
+fault_line (At line cause) = line
+fault_line Memory = 0
+
+-- the fault of the lesser line; of two on one line the first
+abbrev pub sooner : Option SourceFault → Option SourceFault → Option SourceFault
+sooner None b = b
+sooner (Some a) None = Some a
+sooner (Some a) (Some b) = if nat_le (fault_line a) (fault_line b) then Some a else Some b
+
+-- the fault of a source on a machine of a size: that of the least line, and there the least number
+abbrev pub fault : Size → List Line → Option SourceFault
+fault z lines =
+    sooner (resolved lines).fault
+    (sooner (fault_from z (homes_of lines) (any_enter lines) (record { runs = []; entered = false }) first_spot lines)
+    (missing (any_enter lines) (length lines)))
+
+-- a fault is the one that is looked for, or memory ran out
+abbrev pub IsFirstFault : Option SourceFault → SourceFault → Type 0
+IsFirstFault wanted (At k c) = wanted ≡ Some (At k c)
+IsFirstFault wanted Memory = Unit {0}

@@ -1,0 +1,12 @@
+use Rattle.ed_page.proofs.Replies.{refused_form, refused_meaning}
+use Rattle.ed_page.proofs.sources.linked_of.Goals as goal
+
+pub returns-in-Err : goal.returns-in-Err
+returns-in-Err c =
+    refused_form c.args.size c.args.text.now c.in-Err.fault _ c.in-Err.ensures.has_fault c.source_refusal.ensures.is
+    c.source_refusal.ensures.told
+
+pub returns : goal.returns
+returns c =
+    refused_meaning c.args.size c.in-Err-link.fault _ c.in-Ok.ensures.says c.in-Err-link.ensures.fault
+    c.source_refusal-in-Err-link.ensures.is c.source_refusal-in-Err-link.ensures.told
