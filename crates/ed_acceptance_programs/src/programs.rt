@@ -1,7 +1,7 @@
 //! Each program beside a plain computation.
 
 use crate::support::{is_refused, prints};
-use ed_programs::{Refusal, add_program, hello_program, multiply_program};
+use ed_programs::{Refusal, add_program, greatest_program, hello_program, multiply_program};
 use std::test::Fail;
 
 #[test]
@@ -130,4 +130,61 @@ fn add_prints_its_sum(rt: HostRuntime) -> Result<(), Fail> {
         )?;
     }
     Ok(())
+}
+
+#[test]
+fn greatest_prints_the_greatest(rt: HostRuntime) -> Result<(), Fail> {
+    let alloc = rt.alloc();
+    for numbers in [
+        [310, 42, 7, 1949, 512, 99, 650, 1024],
+        [0, 0, 0, 0, 0, 0, 0, 0],
+        [65535, 65535, 65535, 65535, 65535, 65535, 65535, 65535],
+        [65535, 0, 0, 0, 0, 0, 0, 0],
+        [0, 0, 0, 0, 0, 0, 0, 65535],
+        [0, 65535, 0, 65535, 0, 65535, 0, 65535],
+        [1, 2, 3, 4, 5, 6, 7, 8],
+        [8, 7, 6, 5, 4, 3, 2, 1],
+        [32767, 32768, 32767, 32768, 0, 1, 2, 3],
+        [32768, 32767, 1, 1, 1, 1, 1, 1],
+        [0, 1, 0, 1, 0, 1, 0, 1],
+        [9, 10, 9, 10, 9, 10, 9, 10],
+        [99, 100, 101, 100, 99, 98, 97, 96],
+        [999, 1000, 10000, 9999, 1, 2, 3, 4],
+        [5, 4, 5, 4, 5, 4, 5, 4],
+        [65534, 65535, 65534, 65533, 1, 1, 1, 1],
+        [1, 10, 100, 1000, 10000, 1000, 100, 10],
+        [40000, 30000, 20000, 10000, 0, 10000, 20000, 30000],
+        [7, 7, 7, 7, 7, 7, 7, 8],
+        [8, 7, 7, 7, 7, 7, 7, 7],
+    ] {
+        let mut greatest = 0;
+        for number in numbers {
+            greatest = greatest.max(number);
+        }
+        let wanted = format!(in alloc; "{greatest}")?;
+        prints(
+            &rt,
+            alloc,
+            greatest_program(alloc, numbers.as_slice()),
+            wanted.as_str(),
+        )?;
+    }
+    is_refused(
+        &rt,
+        greatest_program(alloc, &[]),
+        Refusal::Count,
+        "no number",
+    )?;
+    is_refused(
+        &rt,
+        greatest_program(alloc, &[1, 2, 3, 4, 5, 6, 7]),
+        Refusal::Count,
+        "seven numbers",
+    )?;
+    is_refused(
+        &rt,
+        greatest_program(alloc, &[1, 2, 3, 4, 5, 6, 7, 8, 9]),
+        Refusal::Count,
+        "nine numbers",
+    )
 }

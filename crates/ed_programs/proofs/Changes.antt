@@ -170,6 +170,13 @@ module _ {n h : ℕ} {f : Frame n h} {r : Moment} (o : IsIn f r) where
       own = let long = length-set r.cells j number_read in let own = o.own in omega arith;
     }
 
+    keeps_beside : (q : ℕ) → (q < f.base) ⊎ (f.base + n ≤ q) → IsOther read w q → get_or words_read q 0 ≡ get_or r.words q 0
+    keeps_beside q place other = keeps q (differs q place) other ∙ beside_word o q place
+      where
+        differs : (q : ℕ) → (q < f.base) ⊎ (f.base + n ≤ q) → q ≢ f.base + j
+        differs q (inl b) e = absurd (omega arith)
+        differs q (inr b) e = absurd (omega arith)
+
     -- a routine that stood before stands after it
     pub has_read : {r1 w1 : ℕ} {others : List ℕ} → HasRoutine f r.words r1 w1 others
         → ((m : ℕ) → m < place_count r1 → is_working r1 m ≡ false → IsOther read w (w1 + m))
@@ -211,6 +218,7 @@ module _ {n h : ℕ} {f : Frame n h} {r : Moment} (o : IsIn f r) where
     pub has : {r1 w1 : ℕ} {others : List ℕ} → HasRoutine f r.words r1 w1 others
         → ((m : ℕ) → m < place_count r1 → is_working r1 m ≡ false → IsOther read w (w1 + m))
         → HasRoutine f words r1 w1 others
+    pub keeps : (q : ℕ) → (q < f.base) ⊎ (f.base + n ≤ q) → IsOther read w q → get_or words q 0 ≡ get_or r.words q 0
 
   pub reads_number : {w : ℕ} (i j v : ℕ) (rest : List ℕ) (has : HasRoutine f r.words read w (with_h (f.base + j)))
       → r.tape ≡ digits v ++ 17 ∷ rest → v < 65536 → j < n → i + 3 ≤ n → r.acc ≡ 0 → Reads {f = f} {r = r} i 28 (own i)
@@ -240,4 +248,5 @@ module _ {n h : ℕ} {f : Frame n h} {r : Moment} (o : IsIn f r) where
           own = let long = length-set r.cells j v in let own = o.own in omega arith;
         };
         has = has_read i j has inside ends low room;
+        keeps = λ q beside other. keeps_beside i j has inside ends low room q beside other;
       }

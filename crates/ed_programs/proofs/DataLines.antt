@@ -1,13 +1,13 @@
 -- A line `data` with numbers, each ended by F: what it says, and what its rows are.
 use Rattle.std.proofs.Common.{◌≡◌, ◌∙◌, ℕ, zero, suc, ◌+◌, ◌*◌, ◌<◌, ◌≤◌, Bool, true, false, List, [], ◌∷◌, ◌++◌, ap, refl, subst, arith}
-use Rattle.std.proofs.Common.{append_assoc, codes, length, length-append, map, nat_lt}
+use Rattle.std.proofs.Common.{append_assoc, codes, Fits, get_or, length, length-append, map, nat_lt, slice_index_or, w16}
 use Rattle.std.specs.Prelude.{◌==◌, ◌&&◌, not, Some, None, Ok}
 use Rattle.std.specs.Fmt.{decimal}
 use Rattle.std.specs.List.{list_all}
 use Rattle.std.proofs.lemmas.Bool.{and_parts, not-true}
 use Rattle.std.proofs.lemmas.List.{map-append}
 use Rattle.std.proofs.lemmas.List.Folds.{list_all-append}
-use Rattle.ed_words.proofs.Numbers.{eq_false, le_true, lt_of}
+use Rattle.ed_words.proofs.Numbers.{eq_false, le_true, lt_of, lt_true}
 use Rattle.ed_words.specs.Texts.{Text}
 use Rattle.ed_codes.specs.Spelling.{row_of}
 use Rattle.ed_syntax.specs.Parts.{quoted, run}
@@ -29,6 +29,16 @@ number_rows (n ∷ ns) = digits n ++ 17 ∷ number_rows ns
 -- each of them is below 65536
 abbrev pub are_small : List ℕ → Bool
 are_small ns = list_all (λ n. nat_lt n 65536) ns
+
+-- so are those of a slice
+pub all_fit : (ns : List ℕ) → ((i : ℕ) → Fits w16 (slice_index_or ns i 0)) → are_small ns ≡ true
+all_fit [] fit = refl
+all_fit (n ∷ ns) fit = both (nat_lt n 65536) (are_small ns) (lt_true n 65536 (fit 0).fits) (all_fit ns (λ i. fit (suc i)))
+
+pub small_at : (ns : List ℕ) → are_small ns ≡ true → (i : ℕ) → i < length ns → get_or ns i 0 < 65536
+small_at [] h i l = absurd (omega arith)
+small_at (n ∷ ns) h zero l = lt_of n 65536 (and_parts (nat_lt n 65536) (are_small ns) h).0
+small_at (n ∷ ns) h (suc i) l = small_at ns (and_parts (nat_lt n 65536) (are_small ns) h).1 i (omega arith)
 
 -- what the bytes of such numbers are
 pub record AreNumbers (ns : List ℕ) (bytes : Text) : Type 0 where

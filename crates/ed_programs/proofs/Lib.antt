@@ -26,3 +26,7 @@ pub mod AddProgram
 pub mod AddSaid
 pub mod AddEnds
 pub mod AddRuns
+pub mod GreatestProgram
+pub mod GreatestSaid
+pub mod GreatestEnds
+pub mod GreatestRuns

@@ -63,3 +63,26 @@ module _ {n h : ℕ} {f : Frame n h} {k : ℕ} where
 pub itself : (cs : List ℕ) → all_printed (λ c. c ∷ []) cs ≡ cs
 itself [] = refl
 itself (c ∷ cs) = ap (λ x. c ∷ x) (itself cs)
+
+-- ---- a loop that walks a list and prints nothing, whose turns are of different lengths
+
+-- the orders of all turns, and what the moments have after the last
+abbrev pub all_spent : {X : Type 0} (orders : X → ℕ → ℕ) (next : X → ℕ → List ℕ → X) → X → List ℕ → ℕ
+all_spent orders next x [] = 0
+all_spent orders next x (c ∷ cs) = orders x c + all_spent orders next (next x c cs) cs
+
+abbrev pub walked : {X : Type 0} (next : X → ℕ → List ℕ → X) → X → List ℕ → X
+walked next x [] = x
+walked next x (c ∷ cs) = walked next (next x c cs) cs
+
+pub quiet_walks : {n h : ℕ} {f : Frame n h} {X : Type 0} (at : X → List ℕ → Moment) (orders : X → ℕ → ℕ)
+    (next : X → ℕ → List ℕ → X) (Fine : X → List ℕ → Type 0)
+    → ((x : X) (c : ℕ) (cs : List ℕ) → Fine x (c ∷ cs)
+    → Fine (next x c cs) cs × Path f (orders x c) (at x (c ∷ cs)) [] (at (next x c cs) cs))
+    → (x : X) (cs : List ℕ) → Fine x cs
+    → Fine (walked next x cs) [] × Path f (all_spent orders next x cs) (at x cs) [] (at (walked next x cs) [])
+quiet_walks at orders next Fine turn x [] fine = (fine, stay)
+quiet_walks at orders next Fine turn x (c ∷ cs) fine =
+    let here = turn x c cs fine in
+    let rest = quiet_walks at orders next Fine turn (next x c cs) cs here.0 in
+    (rest.0, followed here.1 rest.1)

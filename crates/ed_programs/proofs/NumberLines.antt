@@ -1,10 +1,10 @@
 -- Lines of a source with data: one that ends with `word N`, whatever the number is, and a `use` line with H.
-use Rattle.std.proofs.Common.{◌≡◌, ◌∙◌, ℕ, ◌+◌, ◌<◌, ◌≤◌, true, List, [], ◌∷◌, ◌++◌, ap, subst, arith, length, length-append, codes, pos, nat_le}
-use Rattle.std.specs.Prelude.{Bool, Option, Some, None, Ok}
+use Rattle.std.proofs.Common.{◌≡◌, ◌∙◌, ℕ, ◌+◌, ◌<◌, ◌≤◌, true, false, List, [], ◌∷◌, ◌++◌, ap, subst, arith, length, length-append, codes, pos, nat_le, lit≤, refl}
+use Rattle.std.specs.Prelude.{◌==◌, Bool, Option, Some, None, Ok}
 use Rattle.std.specs.Fmt.{decimal}
 use Rattle.std.specs.List.{list_all}
 use Rattle.std.proofs.lemmas.List.{length-map}
-use Rattle.ed_words.proofs.Numbers.{le_true}
+use Rattle.ed_words.proofs.Numbers.{eq_false, le_true}
 use Rattle.ed_words.specs.Decimals.{value}
 use Rattle.ed_words.specs.Texts.{Text}
 use Rattle.ed_syntax.specs.Parts.{LinePart, parts_of, run}
@@ -59,6 +59,29 @@ module _ {two : Bool} {k : ℕ} {front : Text} {label : Option Text} {before : L
 -- a line with a label and `word N`
 abbrev pub word_mark : ℕ → Text → ℕ → Marked
 word_mark k label n = record { number = k; label = Some label; statement = statements.Number n }
+
+-- a line `word N` without a label
+abbrev pub plain_mark : ℕ → ℕ → Marked
+plain_mark k n = record { number = k; label = None; statement = statements.Number n }
+
+pub plain_front : (two : Bool) (k : ℕ) → 2 ≤ k → IsWordFront two k (codes "word ") None []
+plain_front two k later = record {
+  plain = λ bytes h. h;
+  short = lit≤ tt;
+  parts = λ bytes h. rw h refl;
+  form = λ bytes number in_range.
+      let no_version : (k == 1) ≡ false = eq_false k 1 (omega (arith, later)) in rw (no_version, number, in_range) refl;
+}
+
+-- a line that ends with a number is short
+pub front_short : (front : Text) → length front ≤ 20 → (n : ℕ) → n < 65536 → nat_le (length (front ++ decimal n)) 120 ≡ true
+front_short front short n small =
+    let few : length (decimal n) ≤ 5 = subst (λ (t : Text). length t ≤ 5) (decimal_is n small) (few_bytes n small) in
+    let long = length-append front (decimal n) in
+    le_true (length (front ++ decimal n)) 120 (omega arith)
+
+pub word_short : (n : ℕ) → n < 65536 → nat_le (length (codes "word " ++ decimal n)) 120 ≡ true
+word_short = front_short (codes "word ") (lit≤ tt)
 
 -- a line `use` with H set to the place of a name
 abbrev pub use_mark : ℕ → Text → Text → Text → Marked

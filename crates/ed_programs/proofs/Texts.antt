@@ -5,6 +5,7 @@ use Rattle.std.specs.declared.alloc.AllocError.{AllocError}
 use Rattle.std.specs.declared.alloc.Global.{Global}
 use Rattle.ed_words.specs.Texts.{Text}
 use Rattle.ed_command.specs.declared.command.Settings.{Settings}
+use Rattle.ed_sources.specs.Calls.{text_of_lines}
 use Rattle.ed_sources.proofs.TextLines.{line_end}
 use Rattle.ed_programs.specs.Programs.{GivesProgram, AnswersWritten, Prints, SourceRuns}
 use Rattle.ed_programs.specs.declared.refusal.Refusal.{Refusal}
@@ -28,3 +29,10 @@ prints_of (Err refusal) gives law = tt
 -- the ends of lines within a text
 pub with_line : (line rest more : Text) → rest ≡ more → line ++ 10 ∷ rest ≡ (line ++ 10 ∷ []) ++ more
 with_line line rest more same = line_end line rest ∙ ap (λ (t : Text). (line ++ 10 ∷ []) ++ t) same
+
+-- the text of lines, and of more lines
+pub texts_append : (xs ys : List Text) → text_of_lines xs ++ text_of_lines ys ≡ text_of_lines (xs ++ ys)
+texts_append [] ys = refl
+texts_append (x ∷ xs) ys =
+    append_assoc (x ++ 10 ∷ []) (text_of_lines xs) (text_of_lines ys)
+    ∙ ap (λ (t : Text). (x ++ 10 ∷ []) ++ t) (texts_append xs ys)

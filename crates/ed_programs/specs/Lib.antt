@@ -3,3 +3,4 @@ pub mod Numbers
 pub mod Hello
 pub mod Multiply
 pub mod Add
+pub mod Greatest

@@ -5,11 +5,13 @@
 #![tactic(auto)]
 
 mod add;
+mod greatest;
 mod hello;
 mod multiply;
 mod refusal;
 
 pub use add::add_program;
+pub use greatest::greatest_program;
 pub use hello::hello_program;
 pub use multiply::multiply_program;
 pub use refusal::Refusal;

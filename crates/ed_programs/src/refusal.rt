@@ -12,6 +12,9 @@ pub enum Refusal {
     /// The text has a character that is no capital letter.
     #[error("the text must have capital letters only")]
     Letter,
+    /// There are fewer or more numbers than the program's list has.
+    #[error("the list has another count of numbers")]
+    Count,
     /// A number, or what the program makes of the numbers, is 65,536 or more.
     #[error("the numbers and their results must be below 65536")]
     Number,

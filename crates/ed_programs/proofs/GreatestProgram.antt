@@ -1,0 +1,216 @@
+-- The program of `examples/answer6.edsac`, at any base and for a list of any length: two orders go along the list.
+use Rattle.std.proofs.Common.{◌≡◌, ◌∙◌, inr, ℕ, ◌+◌, ◌-◌, ◌*◌, ◌%◌, ◌<◌, ◌≤◌, Bool, true, false, max, refl, ap, subst, arith, lit<, lit≤}
+use Rattle.std.proofs.Common.{List, [], ◌∷◌, ◌++◌, get_or, length, nat_lt}
+use Rattle.std.specs.Prelude.{if◌then◌else◌}
+use Rattle.ed_words.proofs.Numbers.{lt_of, not_lt_of}
+use Rattle.ed_words.proofs.SizeLemmas.{most}
+use Rattle.ed_paths.proofs.Frames.{Frame, Moment, short, state}
+use Rattle.ed_paths.proofs.Places.{IsOutside, early, own, out}
+use Rattle.ed_paths.proofs.Moves.{A, S, T, U, G_jumps, G_stays, Z}
+use Rattle.ed_paths.proofs.Paths.{Path, stay, on, followed}
+use Rattle.ed_paths.proofs.Window.{get_own}
+use Rattle.ed_routines.specs.Catalogue.{print, with_h}
+use Rattle.ed_routines.specs.Digits.{digits, print_orders}
+use Rattle.ed_programs.specs.Greatest.{greatest_of, rises}
+use Rattle.ed_programs.proofs.Journeys.{ComesToStop, HasRoutine, IsIn, along, then, to_stop}
+use Rattle.ed_programs.proofs.Lines.{number_at, print_line}
+use Rattle.ed_programs.proofs.Loops.{all_spent, quiet_walks, walked}
+
+-- the order that gets what stands at q
+abbrev pub getting : ℕ → ℕ
+getting q = 114688 + 2 * q
+
+-- its words at b, where the list ends before e and `print` stands at p: the two orders that get a number, the greatest
+-- and a cell for what is thrown away change
+abbrev pub cells : ℕ → ℕ → ℕ → ℕ → ℕ → ℕ → ℕ → List ℕ
+cells b e p look take greatest scrap =
+    (20480 + 2 * (b + 22)) ∷ look ∷ (49152 + 2 * (b + 20)) ∷ (110592 + 2 * (b + 7)) ∷ (20480 + 2 * (b + 22)) ∷ take
+    ∷ (20480 + 2 * (b + 20)) ∷ (20480 + 2 * (b + 22)) ∷ (114688 + 2 * (b + 5)) ∷ 114692 ∷ (20480 + 2 * (b + 5))
+    ∷ (114688 + 2 * (b + 1)) ∷ 114692 ∷ (28672 + 2 * (b + 1)) ∷ (49152 + 2 * (b + 21)) ∷ (110592 + 2 * (b + 0))
+    ∷ (20480 + 2 * (b + 22)) ∷ (114688 + 2 * (b + 17)) ∷ (110592 + 2 * p) ∷ 53248 ∷ greatest ∷ (114688 + 2 * e)
+    ∷ scrap ∷ []
+
+-- where it stands, and what is around it
+pub record Given : Type 0 where
+  pub f : Frame 23 0
+  pub above : 56 ≤ f.base
+  pub e : ℕ
+  pub p : ℕ
+  pub room : e ≤ f.top
+  pub around : Moment
+  pub all : length around.words ≡ 1024
+  pub at2 : get_or around.words 2 0 ≡ 2
+  pub prints : HasRoutine f around.words print p (with_h (f.base + 20))
+
+-- numbers stand in words from a place on
+abbrev pub Stand : List ℕ → ℕ → List ℕ → Type 0
+Stand ws q [] = Unit {0}
+Stand ws q (n ∷ ns) = (get_or ws q 0 ≡ n) × (n < 65536) × Stand ws (q + 1) ns
+
+-- what changes as the loop goes round: the number's place, what is left of the comparison, the greatest so far, and
+-- what was thrown away
+pub record Turning : Type 0 where
+  pub q : ℕ
+  pub left : ℕ
+  pub most : ℕ
+  pub scrap : ℕ
+
+-- what the comparison leaves, by the numbers that are left
+abbrev pub compared : List ℕ → ℕ
+compared [] = 0
+compared (n ∷ ns) = 131072 - 2 * length (n ∷ ns)
+
+-- after a turn, by whether the number is smaller than the greatest so far
+abbrev pub next_by : Bool → Turning → ℕ → List ℕ → Turning
+next_by true x n ns = record { q = x.q + 1; left = compared ns; most = x.most; scrap = 131072 - (x.most - n) }
+next_by false x n ns = record { q = x.q + 1; left = compared ns; most = n; scrap = 0 }
+
+abbrev pub next : Turning → ℕ → List ℕ → Turning
+next x n ns = next_by (nat_lt n x.most) x n ns
+
+abbrev pub orders_by : Bool → ℕ
+orders_by true = 13
+orders_by false = 16
+
+abbrev pub orders : Turning → ℕ → ℕ
+orders x n = orders_by (nat_lt n x.most)
+
+-- how many orders all turns are, and which number is the greatest after them
+spent_is : (x : Turning) (ns : List ℕ) → all_spent orders next x ns ≡ 13 * length ns + 3 * rises x.most ns
+spent_is x [] = omega arith
+spent_is x (n ∷ ns) = by_test (λ y. spent_is y ns) (nat_lt n x.most)
+  where
+    by_test : ((y : Turning) → all_spent orders next y ns ≡ 13 * length ns + 3 * rises y.most ns) → (b : Bool)
+        → orders_by b + all_spent orders next (next_by b x n ns) ns
+        ≡ 13 * length (n ∷ ns) + 3 * (if b then rises x.most ns else 1 + rises n ns)
+    by_test each true = let e = each (next_by true x n ns) in omega (arith, e)
+    by_test each false = let e = each (next_by false x n ns) in omega (arith, e)
+
+most_is : (x : Turning) (ns : List ℕ) → (walked next x ns).most ≡ max x.most (greatest_of ns)
+most_is x [] = omega arith
+most_is x (n ∷ ns) = by_test (λ y. most_is y ns) (nat_lt n x.most) refl
+  where
+    by_test : ((y : Turning) → (walked next y ns).most ≡ max y.most (greatest_of ns)) → (b : Bool)
+        → nat_lt n x.most ≡ b → (walked next (next_by b x n ns) ns).most ≡ max x.most (max n (greatest_of ns))
+    by_test each true is =
+        let e = each (next_by true x n ns) in let less = lt_of n x.most is in omega (arith, e)
+    by_test each false is =
+        let e = each (next_by false x n ns) in let least = not_lt_of n x.most is in omega (arith, e)
+
+module _ (given : Given) where
+  open given use {f, e, p, around, above, all, at2, room}
+
+  abbrev pub at : ℕ → ℕ → ℕ → ℕ → ℕ → ℕ → Moment
+  at i v look take greatest scrap = record around {
+    cells = cells f.base e p look take greatest scrap;
+    pairs = [];
+    acc = short v;
+    counter = f.base + i;
+  }
+
+  -- before a turn, and after the last one
+  abbrev pub before : Turning → List ℕ → Moment
+  before x [] = at 16 0 (getting x.q) (getting x.q) x.most x.scrap
+  before x (n ∷ ns) = at 0 x.left (getting x.q) (getting x.q) x.most x.scrap
+
+  pub record Fine (x : Turning) (ns : List ℕ) : Type 0 where
+    pub stand : Stand around.words x.q ns
+    pub ends : x.q + length ns ≡ e
+    pub from : f.base + 23 ≤ x.q
+    pub small : x.left < 131072
+    pub low : x.most < 65536
+
+  -- the two orders get the next address
+  raises : (q g t old : ℕ) → q + 1 ≤ e → t < 131072 → Path f 7 (at 7 t (getting q) (getting q) g old) []
+      (at 14 (getting (q + 1)) (getting (q + 1)) (getting (q + 1)) g t)
+  raises q g t old l few =
+      let b = most f.size in let fits = f.fits in let r = room in let second = at2 in
+      on (T 7 (own 22) _ refl refl)
+      (on (A 8 (own 5) (short (getting q)) refl (omega arith))
+      (on (A 9 (out 2 (early 2 above (lit< tt) all)) (short (getting (q + 1))) refl (omega arith))
+      (on (T 10 (own 5) _ refl refl)
+      (on (A 11 (own 1) (short (getting q)) refl (omega arith))
+      (on (A 12 (out 2 (early 2 above (lit< tt) all)) (short (getting (q + 1))) refl (omega arith))
+      (on (U 13 (own 1) _ refl refl) stay))))))
+
+  -- and are compared with the order for the place after the list
+  compares : (q g t : ℕ) (ns : List ℕ) → q + length ns ≡ e → f.base + 23 ≤ q
+      → Path f 2 (at 14 (getting q) (getting q) (getting q) g t) []
+      (before (record { q = q; left = compared ns; most = g; scrap = t }) ns)
+  compares q g t [] ends from =
+      let b = most f.size in let fits = f.fits in let r = room in
+      on (S 14 (own 21) (short 0) refl (omega arith))
+      (on (G_stays 15 (own 0) refl (lit< tt)) stay)
+  compares q g t (n ∷ ns) ends from =
+      let b = most f.size in let fits = f.fits in let r = room in
+      on (S 14 (own 21) (short (131072 - 2 * length (n ∷ ns))) refl (omega arith))
+      (on (G_jumps 15 (own 0) refl (omega arith)) stay)
+
+  left_small : (ns : List ℕ) → compared ns < 131072
+  left_small [] = lit< tt
+  left_small (n ∷ ns) = omega arith
+
+  -- a turn, by whether the number is smaller than the greatest so far
+  turn_by : (b : Bool) (x : Turning) (n : ℕ) (ns : List ℕ) → nat_lt n x.most ≡ b → Fine x (n ∷ ns)
+      → Fine (next_by b x n ns) ns
+      × Path f (orders_by b) (before x (n ∷ ns)) [] (before (next_by b x n ns) ns)
+  turn_by true x n ns is o =
+      let b = most f.size in let fits = f.fits in let r = room in let long = o.ends in let from = o.from in
+      let here = o.stand.0 in let few = o.stand.1 in let low = o.low in let less = lt_of n x.most is in
+      let outside : IsOutside f around.words x.q = record { below = omega arith; beside = inr from } in
+      let t : ℕ = 131072 - (x.most - n) in (
+        record { stand = o.stand.2; ends = omega arith; from = omega arith; small = left_small ns; low = low },
+        followed
+            (on (T 0 (own 22) _ refl refl)
+            (on (A 1 (out x.q outside) (short n) refl (omega arith))
+            (on (S 2 (own 20) (short t) refl (omega arith))
+            (on (G_jumps 3 (own 7) refl (omega arith)) stay))))
+            (followed (raises x.q x.most t x.left (omega arith) (omega arith))
+            (compares (x.q + 1) x.most t ns (omega arith) (omega arith))),
+      )
+  turn_by false x n ns is o =
+      let b = most f.size in let fits = f.fits in let r = room in let long = o.ends in let from = o.from in
+      let here = o.stand.0 in let few = o.stand.1 in let low = o.low in let least = not_lt_of n x.most is in
+      let outside : IsOutside f around.words x.q = record { below = omega arith; beside = inr from } in (
+        record { stand = o.stand.2; ends = omega arith; from = omega arith; small = left_small ns; low = few },
+        followed
+            (on (T 0 (own 22) _ refl refl)
+            (on (A 1 (out x.q outside) (short n) refl (omega arith))
+            (on (S 2 (own 20) (short (n - x.most)) refl (omega arith))
+            (on (G_stays 3 (own 7) refl (omega arith))
+            (on (T 4 (own 22) _ refl refl)
+            (on (A 5 (out x.q outside) (short n) refl (omega arith))
+            (on (T 6 (own 20) _ refl refl) stay)))))))
+            (followed (raises x.q n 0 (n - x.most) (omega arith) (lit< tt))
+            (compares (x.q + 1) n 0 ns (omega arith) (omega arith))),
+      )
+
+  -- the loop
+  loop : (x : Turning) (ns : List ℕ) → Fine x ns
+      → Fine (walked next x ns) []
+      × Path f (all_spent orders next x ns) (before x ns) [] (before (walked next x ns) [])
+  loop = quiet_walks before orders next Fine (λ x n ns o. turn_by (nat_lt n x.most) x n ns refl o)
+
+  -- from the first number to the stop
+  pub greatest_stops : (x : Turning) (ns : List ℕ) → Fine x ns → x.most ≡ 0 → (done : ℕ)
+      → ComesToStop (13 * length ns + 3 * rises 0 ns + print_orders (greatest_of ns) + 3)
+      (state f (before x ns) done) (11 ∷ digits (greatest_of ns)) (f.base + 20)
+  greatest_stops x ns o none done =
+      let went = loop x ns o in
+      let y : Turning = walked next x ns in
+      let low = went.0.low in
+      let last : Moment = at 17 0 (getting y.q) (getting y.q) y.most 0 in
+      let in_last : IsIn f last = record { above = above; all = all; own = refl } in
+      let number = get_own 0 around.words f.base (cells f.base e p (getting y.q) (getting y.q) y.most 0) 20 (lit< tt) in
+      let prints = print_line in_last {v = y.most} 17 20 given.prints number (lit< tt) low (lit≤ tt) refl refl refl in
+      let whole = (then) (along (followed went.1 (on (T 16 (own 22) 0 refl refl) stay))) prints in
+      let turns : all_spent orders next x ns ≡ 13 * length ns + 3 * rises 0 ns =
+      spent_is x ns ∙ ap (λ m. 13 * length ns + 3 * rises m ns) none in
+      let is : y.most ≡ greatest_of ns = most_is x ns ∙ ap (λ m. max m (greatest_of ns)) none ∙ omega arith in
+      let count : all_spent orders next x ns + 1 + (2 + print_orders y.most)
+      ≡ 13 * length ns + 3 * rises 0 ns + print_orders y.most + 3 = omega (arith, turns) in
+      subst (λ v. ComesToStop (13 * length ns + 3 * rises 0 ns + print_orders v + 3) (state f (before x ns) done)
+      (11 ∷ digits v) (f.base + 20))
+      is
+      (subst (λ k. ComesToStop k (state f (before x ns) done) (11 ∷ digits y.most) (f.base + 20)) count
+      (to_stop whole (Z 19 53248 refl refl) done))
