@@ -2,7 +2,7 @@
 use Rattle.std.proofs.Common.{◌≡◌, ◌≢◌, ◌∙◌, ℕ, ◌+◌, ◌-◌, ◌<◌, ◌≤◌, refl, sym, ap, subst, arith}
 use Rattle.std.proofs.Common.{Bool, true, false, true≢false, nat_eq, nat_lt, nat_le, Option, Some, None, inl, inr}
 use Rattle.std.proofs.Common.{List, [], ◌∷◌, ◌++◌, length, append_assoc, append-nil}
-use Rattle.std.specs.Prelude.{if◌then◌else◌, Result, Ok, Err}
+use Rattle.std.specs.Prelude.{if◌then◌else◌}
 use Rattle.std.proofs.lemmas.Bool.{cases_lt}
 use Rattle.std.proofs.lemmas.Bool.Decides.{nat_tests}
 use Rattle.ed_words.specs.Texts.{Text}
@@ -27,15 +27,11 @@ use Rattle.ed_link.specs.Tapes.{tape}
 use Rattle.ed_loads.specs.EntryState.{first_state}
 use Rattle.ed_command.specs.declared.command.Settings.{Settings}
 use Rattle.ed_command.specs.declared.command.Window.{Window}
-use Rattle.ed_link.specs.Faults.{fault}
-use Rattle.ed_sources.specs.Calls.{call_text}
-use Rattle.ed_syntax.specs.declared.fault.SourceFault.{SourceFault}
-use Rattle.ed_syntax.specs.Private.SourceReading.{Fault, program_of}
 use Rattle.ed_top.specs.Outcome.{Outcome}
 use Rattle.ed_top.specs.FirstOrders.{first_state1, tape1_outcome}
 use Rattle.ed_top.specs.Output.{tape_outcome}
 use Rattle.ed_top.specs.Runs.{paper_room, post_mortem_codes, ran_outcome, status_of, with_post_mortem}
-use Rattle.ed_top.specs.Sources.{entered_before, of_program, run_outcome, unless_faulty}
+use Rattle.ed_top.specs.Sources.{entered_before, run_outcome}
 use Rattle.ed_top.specs.Limits.{EachLimit, KeepsLimits, StartsWith, with_limit}
 
 -- ---- ends
@@ -239,30 +235,9 @@ source_keeps lines = record {
       (λ r. ap paper (none_added s.post_mortem r none));
 }
 
--- a source that is refused is refused with every limit
-program_keeps : (p : Result (List Line) Fault) → KeepsLimits (λ s. of_program s.size (run_outcome s) p)
-program_keeps (Err f) = record { same = λ s more l other. refl; begins = λ s more l none. ([], refl) }
-program_keeps (Ok lines) = record {
-  same = λ s more l. same (fault s.size lines) s more l;
-  begins = λ s more l none. begins (fault s.size lines) s more l none;
-}
-  where
-    same : (o : Option SourceFault) (s : Settings) (more : ℕ) → s.limit ≤ more
-        → (unless_faulty o (run_outcome s lines)).status ≢ 4
-        → unless_faulty o (run_outcome (with_limit more s) lines) ≡ unless_faulty o (run_outcome s lines)
-    same None s more l other = (source_keeps lines).same s more l other
-    same (Some f) s more l other = refl
-
-    begins : (o : Option SourceFault) (s : Settings) (more : ℕ) → s.limit ≤ more → s.post_mortem ≡ None
-        → StartsWith (unless_faulty o (run_outcome (with_limit more s) lines)).out
-        (unless_faulty o (run_outcome s lines)).out
-    begins None s more l none = (source_keeps lines).begins s more l none
-    begins (Some f) s more l none = ([], refl)
-
 pub each_limit : EachLimit
 each_limit = record {
   tapes = tape_keeps;
   first_tapes = first_tape_keeps;
   sources = source_keeps;
-  calls = λ call. program_keeps (program_of (call_text call));
 }

@@ -2,11 +2,9 @@
 -- on from where it was cut off.
 use Rattle.std.specs.Prelude.{◌≡◌, ◌≢◌, ℕ, ◌≤◌, List, ◌++◌, None}
 use Rattle.ed_syntax.specs.declared.program.Line.{Line}
-use Rattle.ed_call.specs.declared.Call.{Call}
 use Rattle.ed_command.specs.declared.command.Settings.{Settings}
 use Rattle.ed_words.specs.Texts.{Text}
 use Rattle.ed_top.specs.Outcome.{Outcome}
-use Rattle.ed_top.specs.Calls.{call_outcome}
 use Rattle.ed_top.specs.FirstOrders.{tape1_outcome}
 use Rattle.ed_top.specs.Output.{tape_outcome}
 use Rattle.ed_top.specs.Sources.{run_outcome}
@@ -27,9 +25,8 @@ pub record KeepsLimits (outcome : Settings → Outcome) : Type 0 where
   pub begins : (s : Settings) (more : ℕ) → s.limit ≤ more → s.post_mortem ≡ None
       → StartsWith (outcome (with_limit more s)).out (outcome s).out
 
--- so it is of every tape, of every tape of May 1949, of every source and of every call
+-- so it is of every tape, of every tape of May 1949, and of every source, those that the program makes included
 pub record EachLimit : Type 0 where
   pub tapes : (codes : List ℕ) → KeepsLimits (λ s. tape_outcome s codes)
   pub first_tapes : (codes : List ℕ) → KeepsLimits (λ s. tape1_outcome s codes)
   pub sources : (lines : List Line) → KeepsLimits (λ s. run_outcome s lines)
-  pub calls : (call : Call) → KeepsLimits (call_outcome call)
