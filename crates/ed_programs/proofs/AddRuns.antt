@@ -6,7 +6,8 @@ use Rattle.ed_routines.specs.Digits.{digits, print_orders}
 use Rattle.ed_routines.proofs.Digits.{few_digits}
 use Rattle.ed_printer.specs.Paper.{paper}
 use Rattle.ed_sources.proofs.Papers.{digits_printed}
-use Rattle.ed_programs.specs.Add.{EachSumIsPrinted, add_source, add_text}
+use Rattle.ed_command.specs.declared.command.Settings.{Settings}
+use Rattle.ed_programs.specs.Add.{add_orders, add_prints, add_source, add_text}
 use Rattle.ed_programs.specs.Numbers.{numbers_line}
 use Rattle.ed_programs.specs.Programs.{SourceRuns}
 use Rattle.ed_programs.proofs.AddEnds.{add_ends}
@@ -15,7 +16,8 @@ use Rattle.ed_programs.proofs.Answered.{are_short}
 use Rattle.ed_programs.proofs.DataLines.{are_small, data_short}
 use Rattle.ed_programs.proofs.SourceRuns.{source_runs}
 
-pub each_sum : EachSumIsPrinted
+pub each_sum : (s : Settings) (a b : ℕ) → a + b < 65536
+    → SourceRuns s (add_text a b) (add_orders a b) 68 (add_prints a b)
 each_sum s a b small =
     let ns : List ℕ = a ∷ b ∷ [] in
     let low = lt_true a 65536 (omega arith) in

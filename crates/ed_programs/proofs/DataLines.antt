@@ -26,6 +26,13 @@ abbrev pub number_rows : List ℕ → List ℕ
 number_rows [] = []
 number_rows (n ∷ ns) = digits n ++ 17 ∷ number_rows ns
 
+-- the text of numbers, and of more numbers
+pub numbers_append : (xs ys : List ℕ) → numbers_text xs ++ numbers_text ys ≡ numbers_text (xs ++ ys)
+numbers_append [] ys = refl
+numbers_append (x ∷ xs) ys =
+    append_assoc (decimal x) (70 ∷ numbers_text xs) (numbers_text ys)
+    ∙ ap (λ (t : Text). decimal x ++ 70 ∷ t) (numbers_append xs ys)
+
 -- each of them is below 65536
 abbrev pub are_small : List ℕ → Bool
 are_small ns = list_all (λ n. nat_lt n 65536) ns

@@ -8,7 +8,7 @@ use Rattle.ed_routines.specs.Digits.{digits, print_orders}
 use Rattle.ed_routines.proofs.Digits.{few_digits}
 use Rattle.ed_command.specs.declared.command.Settings.{Settings}
 use Rattle.ed_sources.proofs.Papers.{digits_printed}
-use Rattle.ed_programs.specs.Greatest.{AreEight, EachGreatestIsPrinted, greatest_of, greatest_orders, greatest_prints, greatest_source, greatest_text, rises}
+use Rattle.ed_programs.specs.Greatest.{greatest_of, greatest_orders, greatest_prints, greatest_source, greatest_text, rises}
 use Rattle.ed_programs.specs.Programs.{SourceRuns}
 use Rattle.ed_programs.proofs.Answered.{are_short}
 use Rattle.ed_programs.proofs.DataLines.{are_small, small_at}
@@ -47,7 +47,13 @@ eight_run s a b c d e f g h small =
     (source_runs s (greatest_source ns) short (lit≤ tt) (greatest_read a b c d e f g h small)
     (greatest_faultless a b c d e f g h s.size) (greatest_ends s.size a b c d e f g h small) (omega arith)))
 
-pub each_greatest : EachGreatestIsPrinted
+-- eight numbers below 65536
+pub record AreEight (ns : List ℕ) : Type 0 where
+  pub eight : length ns ≡ 8
+  pub small : are_small ns ≡ true
+
+pub each_greatest : (s : Settings) (ns : List ℕ) → AreEight ns
+    → SourceRuns s (greatest_text ns) (greatest_orders ns) 76 (greatest_prints ns)
 each_greatest s (a ∷ b ∷ c ∷ d ∷ e ∷ f ∷ g ∷ h ∷ []) o = eight_run s a b c d e f g h o.small
 each_greatest s ([]) o = let n = o.eight in absurd (omega (arith, n))
 each_greatest s (a ∷ []) o = let n = o.eight in absurd (omega (arith, n))

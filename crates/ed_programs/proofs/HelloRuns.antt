@@ -17,11 +17,11 @@ use Rattle.ed_syntax.specs.Sources.{program_of}
 use Rattle.ed_command.specs.declared.command.Settings.{Settings}
 use Rattle.ed_sources.proofs.Decimals.{among, both, decimal_is, few_bytes}
 use Rattle.ed_programs.specs.Programs.{SourceRuns}
-use Rattle.ed_programs.specs.Hello.{EachNameIsPrinted, EachTextIsPrinted, IsRows, is_row_byte, of_letters}
+use Rattle.ed_programs.specs.Hello.{EachTextIsPrinted, IsRows, is_row_byte, of_letters}
 use Rattle.ed_programs.specs.Hello.{hello_rows, hello_text}
 use Rattle.std.specs.Fmt.{decimal}
 use Rattle.ed_sources.specs.Calls.{text_of_lines}
-use Rattle.ed_programs.specs.Hello.{after_count, hello_source}
+use Rattle.ed_programs.specs.Hello.{after_count, hello_orders, hello_prints, hello_source, is_capital}
 use Rattle.ed_programs.proofs.Answered.{are_short}
 use Rattle.ed_programs.proofs.SourceRuns.{source_runs}
 use Rattle.ed_programs.proofs.HelloEnds.{hello_ends}
@@ -105,7 +105,15 @@ letters_shown (b ∷ q) h =
     let a = l.struck_is in let c = l.no_figures in let d = l.no_letters in
     rw (c, d, a) (ap (λ (x : Text). b ∷ x) (letters_shown q p.1))
 
-pub each_name : EachNameIsPrinted
+-- 1 to 40 capital letters
+pub record AreLetters (letters : Text) : Type 0 where
+  pub some : 1 ≤ length letters
+  pub few : length letters ≤ 40
+  pub capital : list_all is_capital letters ≡ true
+
+-- so letters are printed as they are, on a line
+pub each_name : (s : Settings) (letters : Text) → AreLetters letters
+    → SourceRuns s (hello_text (of_letters letters)) (hello_orders letters) 67 (hello_prints letters)
 each_name s letters o =
     let some = o.some in
     let few = o.few in

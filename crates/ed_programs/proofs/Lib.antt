@@ -30,3 +30,9 @@ pub mod GreatestProgram
 pub mod GreatestSaid
 pub mod GreatestEnds
 pub mod GreatestRuns
+pub mod SortInsert
+pub mod SortProgram
+pub mod SortLists
+pub mod SortSaid
+pub mod SortEnds
+pub mod SortRuns

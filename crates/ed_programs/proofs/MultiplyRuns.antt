@@ -9,8 +9,9 @@ use Rattle.ed_routines.specs.Digits.{digits, print_orders}
 use Rattle.ed_routines.proofs.Digits.{few_digits}
 use Rattle.ed_sources.proofs.Decimals.{decimal_is, few_bytes}
 use Rattle.ed_sources.proofs.Papers.{number_shown}
+use Rattle.ed_command.specs.declared.command.Settings.{Settings}
 use Rattle.ed_programs.specs.Programs.{SourceRuns}
-use Rattle.ed_programs.specs.Multiply.{AreFactors, EachProductIsPrinted, multiply_source, multiply_text}
+use Rattle.ed_programs.specs.Multiply.{multiply_orders, multiply_prints, multiply_source, multiply_text}
 use Rattle.ed_programs.proofs.Answered.{are_short}
 use Rattle.ed_programs.proofs.SourceRuns.{source_runs}
 use Rattle.ed_programs.proofs.MultiplyEnds.{multiply_ends}
@@ -24,6 +25,14 @@ lines_shown n m small few =
     ap paper (append_assoc (11 ∷ digits n) (18 ∷ 24 ∷ []) (11 ∷ digits m ++ 18 ∷ 24 ∷ []))
     ∙ number_shown n small (18 ∷ 24 ∷ 11 ∷ digits m ++ 18 ∷ 24 ∷ [])
     ∙ ap (λ (x : List ℕ). decimal n ++ 13 ∷ 10 ∷ x) (number_shown m few (18 ∷ 24 ∷ []))
+
+-- numbers whose products `print` can print
+pub record AreFactors (a b c : ℕ) : Type 0 where
+  pub left : a < 65536
+  pub right : b < 65536
+  pub product : a * b < 65536
+  pub third : c < 65536
+  pub square : c * c < 65536
 
 -- no line of the source is longer than 120 bytes
 short_lines : (a b c : ℕ) → AreFactors a b c → are_short (multiply_source a b c) ≡ true
@@ -39,7 +48,8 @@ short_lines a b c o =
     few_decimal : (n : ℕ) → n < 65536 → length (decimal n) ≤ 5
     few_decimal n small = subst (λ (t : Text). length t ≤ 5) (decimal_is n small) (few_bytes n small)
 
-pub each_product : EachProductIsPrinted
+pub each_product : (s : Settings) (a b c : ℕ) → AreFactors a b c
+    → SourceRuns s (multiply_text a b c) (multiply_orders a b c) 68 (multiply_prints a b c)
 each_product s a b c o =
     let few = few_digits (a * b) in
     let also = few_digits (c * c) in

@@ -3,10 +3,8 @@ use Rattle.std.specs.Prelude.{ℕ, ◌+◌, ◌*◌, ◌<◌, List, [], ◌∷�
 use Rattle.std.specs.Fmt.{decimal}
 use Rattle.ed_words.specs.Texts.{Text}
 use Rattle.ed_routines.specs.Digits.{digits, print_orders}
-use Rattle.ed_command.specs.declared.command.Settings.{Settings}
 use Rattle.ed_sources.specs.Calls.{text_of_lines}
 use Rattle.ed_programs.specs.Numbers.{numbers_line}
-use Rattle.ed_programs.specs.Programs.{SourceRuns}
 use Rattle.ed_programs.specs.declared.refusal.Refusal.{Refusal}
 use Rattle.ed_programs.specs.declared.refusal.Refusal.TheVariants.{Number}
 
@@ -49,9 +47,3 @@ add_prints a b = decimal (a + b)
 -- 13 orders for each digit that is read, those of `print`, and 34 more
 abbrev pub add_orders : ℕ → ℕ → ℕ
 add_orders a b = 13 * length (digits a) + 13 * length (digits b) + print_orders (a + b) + 34
-
--- the sum is printed for all numbers in range, and the program stops at 68
-abbrev pub EachSumIsPrinted : Type 0
-EachSumIsPrinted =
-    (s : Settings) (a b : ℕ) → a + b < 65536
-    → SourceRuns s (add_text a b) (add_orders a b) 68 (add_prints a b)

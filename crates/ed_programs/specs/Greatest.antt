@@ -4,9 +4,7 @@ use Rattle.std.specs.Fmt.{decimal}
 use Rattle.std.specs.List.{list_all}
 use Rattle.ed_words.specs.Texts.{Text}
 use Rattle.ed_routines.specs.Digits.{print_orders}
-use Rattle.ed_command.specs.declared.command.Settings.{Settings}
 use Rattle.ed_sources.specs.Calls.{text_of_lines}
-use Rattle.ed_programs.specs.Programs.{SourceRuns}
 use Rattle.ed_programs.specs.declared.refusal.Refusal.{Refusal}
 use Rattle.ed_programs.specs.declared.refusal.Refusal.TheVariants.{Count}
 
@@ -57,11 +55,6 @@ greatest_source ns =
 abbrev pub greatest_text : List ℕ → Text
 greatest_text ns = text_of_lines (greatest_source ns)
 
--- eight numbers below 65536
-pub record AreEight (ns : List ℕ) : Type 0 where
-  pub eight : length ns ≡ 8
-  pub small : list_all (λ n. nat_lt n 65536) ns ≡ true
-
 -- what speaks against numbers below 65536 as the data of `examples/answer6.edsac`
 abbrev pub greatest_refusal : List ℕ → Option Refusal
 greatest_refusal ns = if length ns == 8 then None else Some Count
@@ -83,9 +76,3 @@ greatest_prints ns = decimal (greatest_of ns)
 -- 13 orders for each of the eight, 3 for each that is at least as great as those before it, those of `print`, and 4
 abbrev pub greatest_orders : List ℕ → ℕ
 greatest_orders ns = 3 * rises 0 ns + print_orders (greatest_of ns) + 108
-
--- it is printed for all lists of eight, and the program stops at 76
-abbrev pub EachGreatestIsPrinted : Type 0
-EachGreatestIsPrinted =
-    (s : Settings) (ns : List ℕ) → AreEight ns
-    → SourceRuns s (greatest_text ns) (greatest_orders ns) 76 (greatest_prints ns)

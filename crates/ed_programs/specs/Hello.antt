@@ -54,12 +54,6 @@ of_letters letters = 42 ∷ letters
 abbrev pub is_capital : ℕ → Bool
 is_capital b = nat_le 65 b && nat_le b 90
 
--- 1 to 40 capital letters
-pub record AreLetters (letters : Text) : Type 0 where
-  pub some : 1 ≤ length letters
-  pub few : length letters ≤ 40
-  pub capital : list_all is_capital letters ≡ true
-
 -- what speaks against a text as the data of `examples/hello.edsac`
 abbrev pub hello_refusal : Text → Option Refusal
 hello_refusal letters =
@@ -93,9 +87,3 @@ hello_prints letters = letters ++ 13 ∷ 10 ∷ []
 -- 7 orders a letter, and 16 more
 abbrev pub hello_orders : Text → ℕ
 hello_orders letters = 7 * length letters + 16
-
--- so letters are printed as they are, on a line
-abbrev pub EachNameIsPrinted : Type 0
-EachNameIsPrinted =
-    (s : Settings) (letters : Text) → AreLetters letters
-    → SourceRuns s (hello_text (of_letters letters)) (hello_orders letters) 67 (hello_prints letters)

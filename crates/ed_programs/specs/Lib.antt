@@ -4,3 +4,4 @@ pub mod Hello
 pub mod Multiply
 pub mod Add
 pub mod Greatest
+pub mod Sort

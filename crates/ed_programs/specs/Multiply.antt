@@ -3,9 +3,7 @@ use Rattle.std.specs.Prelude.{ℕ, ◌+◌, ◌*◌, ◌<◌, List, [], ◌∷�
 use Rattle.std.specs.Fmt.{decimal}
 use Rattle.ed_words.specs.Texts.{Text}
 use Rattle.ed_routines.specs.Digits.{print_orders}
-use Rattle.ed_command.specs.declared.command.Settings.{Settings}
 use Rattle.ed_sources.specs.Calls.{text_of_lines}
-use Rattle.ed_programs.specs.Programs.{SourceRuns}
 use Rattle.ed_programs.specs.declared.refusal.Refusal.{Refusal}
 use Rattle.ed_programs.specs.declared.refusal.Refusal.TheVariants.{Number}
 
@@ -65,14 +63,6 @@ multiply_source a b c =
 abbrev pub multiply_text : ℕ → ℕ → ℕ → Text
 multiply_text a b c = text_of_lines (multiply_source a b c)
 
--- numbers whose products `print` can print
-pub record AreFactors (a b c : ℕ) : Type 0 where
-  pub left : a < 65536
-  pub right : b < 65536
-  pub product : a * b < 65536
-  pub third : c < 65536
-  pub square : c * c < 65536
-
 -- what speaks against three numbers below 65536 as the data of `examples/answer5.edsac`
 abbrev pub multiply_refusal : ℕ → ℕ → ℕ → Option Refusal
 multiply_refusal a b c = if nat_lt (a * b) 65536 && nat_lt (c * c) 65536 then None else Some Number
@@ -84,9 +74,3 @@ multiply_prints a b c = decimal (a * b) ++ 13 ∷ 10 ∷ (decimal (c * c) ++ 13 
 -- 9 orders for each time that a number is added, those of `print`, and 54 more
 abbrev pub multiply_orders : ℕ → ℕ → ℕ → ℕ
 multiply_orders a b c = 9 * a + 9 * c + print_orders (a * b) + print_orders (c * c) + 54
-
--- both are printed for all factors, and the program stops at 68
-abbrev pub EachProductIsPrinted : Type 0
-EachProductIsPrinted =
-    (s : Settings) (a b c : ℕ) → AreFactors a b c
-    → SourceRuns s (multiply_text a b c) (multiply_orders a b c) 68 (multiply_prints a b c)

@@ -9,9 +9,11 @@ mod greatest;
 mod hello;
 mod multiply;
 mod refusal;
+mod sort;
 
 pub use add::add_program;
 pub use greatest::greatest_program;
 pub use hello::hello_program;
 pub use multiply::multiply_program;
 pub use refusal::Refusal;
+pub use sort::sort_program;

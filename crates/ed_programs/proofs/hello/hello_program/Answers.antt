@@ -1,7 +1,7 @@
 use Rattle.std.proofs.Common.{◌≡◌, ◌∙◌, ◌≤◌, true, arith, length, sym, List, ℕ, ap}
 use Rattle.std.specs.List.{list_all}
-use Rattle.ed_programs.specs.Hello.{AreLetters, is_capital}
-use Rattle.ed_programs.proofs.HelloRuns.{each_name, each_text}
+use Rattle.ed_programs.specs.Hello.{is_capital}
+use Rattle.ed_programs.proofs.HelloRuns.{AreLetters, each_name, each_text}
 use Rattle.ed_programs.proofs.Texts.{prints_of}
 use Rattle.ed_programs.proofs.hello.hello_program.Goals as goal
 
