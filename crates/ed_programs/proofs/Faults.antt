@@ -9,7 +9,7 @@ use Rattle.ed_words.specs.Sizes.{locations}
 use Rattle.ed_words.specs.Texts.{Text}
 use Rattle.ed_words.specs.declared.size.Size.{Size}
 use Rattle.ed_library.specs.Routines.{find}
-use Rattle.ed_syntax.specs.Grammar.{array}
+use Rattle.ed_syntax.specs.Parts.{array}
 use Rattle.ed_syntax.specs.declared.program.Setting.{Setting}
 use Rattle.ed_syntax.specs.declared.program.Statement.TheVariants as statements
 use Rattle.ed_symbols.specs.declared.spots.Spot.{Spot}
@@ -20,7 +20,7 @@ use Rattle.ed_sources.proofs.Said.{said}
 use Rattle.ed_syntax.specs.declared.fault.SourceCause.{SourceCause}
 use Rattle.ed_syntax.specs.declared.fault.SourceFault.{SourceFault}
 use Rattle.ed_symbols.specs.Faults.{or_later}
-use Rattle.ed_link.specs.Faults.{LinesBefore, cause_of, meets, sets}
+use Rattle.ed_link.specs.Private.FaultTests.{LinesBefore, cause_of, meets, sets}
 
 -- the places of lines, from the first to the one after the last, are below one
 abbrev pub are_below : ℕ → List (ℕ × ℕ) → Bool

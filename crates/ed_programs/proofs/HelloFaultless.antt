@@ -5,13 +5,13 @@ use Rattle.ed_words.proofs.Numbers.{lt_false}
 use Rattle.ed_words.proofs.SizeLemmas.{least}
 use Rattle.ed_words.specs.declared.size.Size.{Size}
 use Rattle.ed_words.specs.declared.size.Size.TheVariants.{Small, Full}
-use Rattle.ed_syntax.specs.Grammar.{array}
+use Rattle.ed_syntax.specs.Parts.{array}
 use Rattle.ed_syntax.specs.declared.fault.SourceFault.{SourceFault}
 use Rattle.ed_syntax.specs.declared.program.Line.{Line}
 use Rattle.ed_syntax.specs.declared.program.Statement.TheVariants as statements
 use Rattle.ed_symbols.specs.Faults.{resolved}
 use Rattle.ed_symbols.specs.Places.{even_from, first_spot}
-use Rattle.ed_link.specs.Faults.{fault, fault_from, missing, sooner}
+use Rattle.ed_link.specs.Private.FaultTests.{fault, fault_from, missing, sooner}
 use Rattle.ed_link.specs.Linked.{homes_of}
 use Rattle.ed_sources.proofs.Said.{said}
 use Rattle.ed_programs.proofs.Faults.{are_below, block_sound, enter_sound, none_later, one_more, past, spot, use_sound}

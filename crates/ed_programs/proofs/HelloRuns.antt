@@ -12,8 +12,8 @@ use Rattle.ed_words.specs.Texts.{Text}
 use Rattle.ed_codes.specs.Spelling.{row_of}
 use Rattle.ed_printer.specs.Paper.{paper, paper_from, struck}
 use Rattle.ed_printer.specs.declared.printer.Shift.TheVariants.{Letters}
-use Rattle.ed_syntax.specs.Grammar.{row}
-use Rattle.ed_syntax.specs.Sources.{program_of}
+use Rattle.ed_syntax.specs.Private.Grammar.{row}
+use Rattle.ed_syntax.specs.Private.SourceReading.{program_of}
 use Rattle.ed_command.specs.declared.command.Settings.{Settings}
 use Rattle.ed_sources.proofs.Decimals.{among, both, decimal_is, few_bytes}
 use Rattle.ed_programs.specs.Programs.{SourceRuns}

@@ -11,13 +11,13 @@ use Rattle.ed_words.proofs.Numbers.{le_true, lt_of}
 use Rattle.ed_words.specs.Texts.{Text}
 use Rattle.ed_words.specs.Decimals.{value}
 use Rattle.ed_codes.specs.Spelling.{row_of}
-use Rattle.ed_syntax.specs.Parts.{run, sign, quoted, is_run_byte, parts_of}
-use Rattle.ed_syntax.specs.Grammar.{array, is_number, row, spells}
-use Rattle.ed_syntax.specs.Sources.{is_line_byte, line_of, program_of}
+use Rattle.ed_syntax.specs.Parts.{run, sign, quoted, is_run_byte, array, is_number, is_line_byte, has_quote}
+use Rattle.ed_syntax.specs.Private.Grammar.{row, spells}
+use Rattle.ed_syntax.specs.Private.PartReading.{parts_of}
+use Rattle.ed_syntax.specs.Private.SourceReading.{line_of, program_of}
 use Rattle.ed_syntax.specs.declared.program.Line.{Line}
 use Rattle.ed_syntax.specs.declared.program.Operand.TheVariants as operands
 use Rattle.ed_syntax.specs.declared.program.Statement.TheVariants as statements
-use Rattle.ed_syntax.specs.Private.PartFronts.{has_quote}
 use Rattle.ed_syntax.proofs.PartLemmas.{quote_parts, run_parts}
 use Rattle.ed_routines.specs.Digits.{digits}
 use Rattle.ed_sources.proofs.Decimals.{among, are, both, decimal_is, digit_bytes, few_bytes, line_bytes, run_bytes, some_digit}

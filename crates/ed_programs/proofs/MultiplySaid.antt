@@ -3,10 +3,10 @@ use Rattle.std.proofs.Common.{◌≡◌, ℕ, ◌<◌, true, List, [], ◌∷◌
 use Rattle.std.specs.Prelude.{Some, None, Ok}
 use Rattle.ed_words.specs.declared.size.Size.{Size}
 use Rattle.ed_words.specs.declared.size.Size.TheVariants.{Small, Full}
-use Rattle.ed_syntax.specs.Grammar.{settings}
-use Rattle.ed_syntax.specs.Sources.{program_of}
+use Rattle.ed_syntax.specs.Private.Grammar.{settings}
+use Rattle.ed_syntax.specs.Private.SourceReading.{program_of}
 use Rattle.ed_syntax.specs.declared.program.Line.{Line}
-use Rattle.ed_link.specs.Faults.{fault}
+use Rattle.ed_link.specs.Private.FaultTests.{fault}
 use Rattle.ed_sources.proofs.Said.{label_parts}
 use Rattle.ed_sources.proofs.CallsAccepted.{decimal_plain}
 use Rattle.ed_programs.specs.Multiply.{multiply_source, multiply_text}

@@ -7,9 +7,10 @@ use Rattle.std.proofs.lemmas.List.{length-map}
 use Rattle.ed_words.proofs.Numbers.{eq_false, le_true}
 use Rattle.ed_words.specs.Decimals.{value}
 use Rattle.ed_words.specs.Texts.{Text}
-use Rattle.ed_syntax.specs.Parts.{LinePart, parts_of, run}
-use Rattle.ed_syntax.specs.Grammar.{array, form_at, is_number, modulo}
-use Rattle.ed_syntax.specs.Sources.{is_line_byte, line_of}
+use Rattle.ed_syntax.specs.Parts.{LinePart, run, array, is_number, modulo, is_line_byte}
+use Rattle.ed_syntax.specs.Private.Grammar.{form_at}
+use Rattle.ed_syntax.specs.Private.PartReading.{parts_of}
+use Rattle.ed_syntax.specs.Private.SourceReading.{line_of}
 use Rattle.ed_syntax.specs.declared.program.Statement.TheVariants as statements
 use Rattle.ed_routines.specs.Digits.{digits}
 use Rattle.ed_sources.proofs.Decimals.{are, decimal_is, digit_bytes, few_bytes, line_bytes, run_bytes, some_digit}

@@ -8,9 +8,10 @@ use Rattle.std.specs.List.{list_all}
 use Rattle.std.proofs.lemmas.Bool.{and_parts}
 use Rattle.ed_words.proofs.Numbers.{eq_false, eq_of, lt_false}
 use Rattle.ed_words.specs.Texts.{Text}
-use Rattle.ed_syntax.specs.Parts.{LinePart, parts_of}
-use Rattle.ed_syntax.specs.Grammar.{form_at}
-use Rattle.ed_syntax.specs.Sources.{Fault, and_lines, is_line_byte, is_two, line_of, lines_from, program_of}
+use Rattle.ed_syntax.specs.Parts.{LinePart, is_line_byte}
+use Rattle.ed_syntax.specs.Private.Grammar.{form_at}
+use Rattle.ed_syntax.specs.Private.PartReading.{parts_of}
+use Rattle.ed_syntax.specs.Private.SourceReading.{Fault, and_lines, is_two, line_of, lines_from, program_of}
 use Rattle.ed_syntax.specs.declared.fault.SourceCause.{SourceCause}
 use Rattle.ed_syntax.specs.declared.fault.SourceCause.TheVariants.{TooManyLines}
 use Rattle.ed_syntax.specs.declared.program.Line.{Line}

@@ -1,5 +1,5 @@
 -- The outcome of a source whose program comes to its stop.
-use Rattle.std.proofs.Common.{◌≡◌, ◌∙◌, inl, inr, ℕ, suc, ◌+◌, ◌-◌, ◌≤◌, true, ap, arith, List, [], ◌∷◌, ◌++◌, length, append-nil, codes}
+use Rattle.std.proofs.Common.{◌≡◌, ◌∙◌, inl, inr, ℕ, suc, ◌+◌, ◌-◌, ◌≤◌, true, ap, subst, arith, List, [], ◌∷◌, ◌++◌, length, append-nil, codes}
 use Rattle.std.specs.Prelude.{None, Ok}
 use Rattle.std.proofs.lemmas.Bool.{cases_lt}
 use Rattle.ed_words.specs.Texts.{Text}
@@ -16,8 +16,9 @@ use Rattle.ed_run.proofs.Places.{at_stop}
 use Rattle.ed_paths.proofs.Leads.{free, no_stops}
 use Rattle.ed_printer.specs.Paper.{paper}
 use Rattle.ed_syntax.specs.declared.program.Line.{Line}
-use Rattle.ed_syntax.specs.Sources.{program_of}
-use Rattle.ed_link.specs.Faults.{fault}
+use Rattle.ed_syntax.specs.Private.SourceReading.{program_of}
+use Rattle.ed_link.specs.Private.FaultTests.{fault}
+use Rattle.ed_link.proofs.EachSource.{read_is_accepted}
 use Rattle.ed_link.specs.Linked.{entry_of}
 use Rattle.ed_link.specs.Tapes.{cost}
 use Rattle.ed_loads.specs.EntryState.{entry_state}
@@ -25,7 +26,7 @@ use Rattle.ed_report.specs.Notes.{at_after, entered}
 use Rattle.ed_command.specs.declared.command.Settings.{Settings}
 use Rattle.ed_top.specs.Headline.{RunsFromEntry}
 use Rattle.ed_top.specs.Runs.{paper_room, ran_outcome, with_post_mortem}
-use Rattle.ed_top.specs.Sources.{run_outcome}
+use Rattle.ed_top.specs.Sources.{OfSource, run_outcome}
 use Rattle.ed_top.proofs.Sources.{accepted_is, headline}
 use Rattle.ed_programs.specs.Programs.{SourceRuns}
 use Rattle.ed_sources.specs.Calls.{text_of_lines}
@@ -87,11 +88,12 @@ pub source_runs : (s : Settings) (texts : List Text) {lines : List Line} {k at :
     → ComesToStop k (entry_state s.size lines) printed at → length printed ≤ 1000000
     → SourceRuns s (text_of_lines texts) (k + 1) at (paper printed)
 source_runs s texts {lines} {k} {at} {printed} short small reads faultless stops few =
-    let entry : RunsFromEntry s lines = headline s (text_of_lines texts) lines reads faultless in
-    let answers = accepted_is s.size (run_outcome s) (program_of (text_of_lines texts)) lines reads faultless in
+    let source = text_of_lines texts in
+    let accepted = read_is_accepted s.size source lines reads faultless in
+    let entry : RunsFromEntry s lines = headline s source lines accepted in
     record {
       lines = lines;
-      reads = reads;
+      accepted = accepted;
       from_entry = entry;
       outcome = λ none plain fits.
           let left : ℕ = s.limit - cost lines in
@@ -99,8 +101,8 @@ source_runs s texts {lines} {k} {at} {printed} short small reads faultless stops
           let before : Text = entered (entry_of lines) (cost lines) in
           let count : cost lines + k + 1 ≡ cost lines + (k + 1) = omega arith in
           let ended = ran_to_stop left paper_room stops few (omega (arith, fits)) in
-          is_due s texts _ short small (
-          answers ∙ entry.runs (omega (arith, fits))
+          is_due s texts _ short small (subst (OfSource s.size (run_outcome s) source) (
+          entry.runs (omega (arith, fits))
           ∙ (λ i. ran_outcome before (with_post_mortem (plain i) (ran left (none i) paper_room (entry_state s.size lines))))
           ∙ ap (ran_outcome before) (nothing_after r)
           ∙ answered before r ended
@@ -108,5 +110,5 @@ source_runs s texts {lines} {k} {at} {printed} short small reads faultless stops
             out = paper printed;
             note = before ++ (at_after (codes "stopped") at n ++ 10 ∷ []);
             status = 0;
-          }) count);
+          }) count) (accepted_is s.size (run_outcome s) source lines accepted));
     }

@@ -5,7 +5,7 @@ use Rattle.std.specs.declared.alloc.AllocError.{AllocError}
 use Rattle.std.specs.declared.alloc.Global.{Global}
 use Rattle.ed_words.specs.Texts.{Text}
 use Rattle.ed_syntax.specs.declared.program.Line.{Line}
-use Rattle.ed_syntax.specs.Sources.{program_of}
+use Rattle.ed_link.specs.Refusals.{IsAcceptedAs}
 use Rattle.ed_link.specs.Linked.{entry_of}
 use Rattle.ed_link.specs.Tapes.{cost}
 use Rattle.ed_report.specs.Notes.{at_after, entered}
@@ -17,12 +17,12 @@ use Rattle.ed_top.specs.Output.{output}
 use Rattle.ed_programs.specs.declared.refusal.Refusal.{Refusal}
 use Rattle.ed_programs.specs.declared.refusal.Refusal.TheVariants.{Memory}
 
--- the source is read as these lines, and its run is that from the state at their entry; and where the limit is at least
+-- the source is accepted with these lines, and its run is that from the state at their entry; and where the limit is at least
 -- the orders up to the entry and those of the program together, what the command `run` owes it is this text, the note of
 -- a stop at a place after exactly these orders, and status 0
 pub record SourceRuns (s : Settings) (source : Text) (orders at : ℕ) (text : Text) : Type 0 where
   pub lines : List Line
-  pub reads : program_of source ≡ Ok lines
+  pub accepted : IsAcceptedAs s.size source lines
   pub from_entry : RunsFromEntry s lines
   pub outcome : s.resumes ≡ 0 → s.post_mortem ≡ None → cost lines + orders ≤ s.limit
       → IsDue (output (Some (record { action = Run; settings = s }))) source (record {
