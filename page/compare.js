@@ -159,6 +159,8 @@ for (let seed = 1; seed <= 200; seed++) {
     const kind = seed % 2 ? 'tape' : 'source';
     compareAll(`made ${kind} ${seed}`, { kind, text: kind === 'tape' ? madeTape(next) : madeSource(next), small: next(5) === 0 }, 3000);
 }
+compareAll('a tape with an open comment', { kind: 'tape', text: 'T64K [GK', small: false }, 100);
+compareAll('a source with a fault after line 1000', { kind: 'source', text: `${'\n'.repeat(1499)}%\n`, small: false }, 100);
 compareTexts('too long', { kind: 'tape', text: ' '.repeat(262145), small: false });
 same('too long', machine.picture({ kind: 'tape', text: ' '.repeat(262145), small: false }, 1).note, program(['tape'], ' '.repeat(262145)).note);
 for (const ending of ['stopped', 'limit', 'no order', 'no tape', 'refused']) {

@@ -103,14 +103,14 @@ class Machine {
     }
 
     // The machine after so many orders from Start, or where its run ended before.
-    picture(program, orders, resumes = 0) {
+    picture(program, limit, resumes = 0) {
         const [at, length] = this.put(program.text);
         const status = this.call(program.kind === 'source' ? 'page_source' : 'page_tape', at, length, program.small ? 1 : 0,
-            orders, resumes, 'words', 'digits', 'paper', 'note', 'registers');
+            limit, resumes, 'words', 'digits', 'paper', 'note', 'registers');
         if (status === 10 || status === 12) {
             return { status, ending: ENDINGS[status], note: '' };
         }
-        const [accLow, accHigh, multiplier, done, rowsLeft, counter, printed, noted] = this.numbers('registers', BigUint64Array);
+        const [accLow, accHigh, multiplier, orders, rowsLeft, counter, printed, noted] = this.numbers('registers', BigUint64Array);
         const note = this.text('note', Number(noted));
         if (status === 3 || status === 11) {
             return { status, ending: ENDINGS[status], note };
@@ -122,7 +122,7 @@ class Machine {
             paper: this.text('paper', Number(printed)),
             acc: (accHigh << 36n) | accLow,
             multiplier,
-            orders: Number(done),
+            orders: Number(orders),
             rowsLeft: Number(rowsLeft),
             counter: Number(counter),
         };

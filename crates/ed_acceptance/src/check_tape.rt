@@ -58,6 +58,8 @@ fn the_worked_tapes(rt: HostRuntime) -> Result<(), Fail> {
             "entry 64 after 242 orders, 22 rows",
         ),
         ("PKAF", "row 3: N8 no place"),
+        ("P1023ZT64KPFE64KPF", "entry 64 after 190 orders, 18 rows"),
+        ("P1024ZT64KPFE64KPF", "row 5: N7 store end"),
         (
             "T64K..PZGKO2@ZFAFEZPF",
             "entry 64 after 234 orders, 21 rows",

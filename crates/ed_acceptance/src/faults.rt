@@ -152,7 +152,8 @@ fn bytes_of_calls(text: &str, calls: u64) -> u64 {
     bytes
 }
 
-/// Each write of a run fails in turn that writes its lines one by one on out. No byte is written after the failed write.
+/// Each write of a run that writes its lines one by one on out fails in turn. No byte is written after the failed
+/// write.
 pub fn writes_of_lines_fail(
     rt: &impl Abort,
     alloc: Global,

@@ -23,6 +23,18 @@ fn runs_of_a_tape_end_as_the_machine_does(rt: HostRuntime) -> Result<(), Fail> {
     Ok(())
 }
 
+/// Where the limit is reached, a word that is no order and a tape without rows are not looked at.
+#[test]
+fn the_limit_goes_before_what_blocks_an_order(rt: HostRuntime) -> Result<(), Fail> {
+    for (line, tape, note) in [
+        ("tape --limit 51", "EZPF", "limit at 0 after 51\n"),
+        ("tape --limit 9", "", "limit at 34 after 9\n"),
+    ] {
+        expect(&rt, rt.alloc(), line, tape, (4, "", note))?;
+    }
+    Ok(())
+}
+
 #[test]
 fn a_program_that_prints_for_ever_fills_the_paper(rt: HostRuntime) -> Result<(), Fail> {
     let answer = answer_of(rt.alloc(), "tape", b"T64KGKO@E@EZPF")?;

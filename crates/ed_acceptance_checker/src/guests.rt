@@ -1,6 +1,6 @@
 //! What guests of the checking routine come to.
 
-use crate::support::{End, follow};
+use crate::support::{BASE, End, entered, follow};
 use std::process::Abort;
 use std::test::Fail;
 
@@ -44,6 +44,16 @@ const GUESTS: [(&str, &str, End); 13] = [
     // What stands just outside of it.
     ("A99FS166FA166DA98DZF", "", End::Stopped(5)),
 ];
+
+/// The guest's accumulator is kept at the places 60 to 65.
+#[test]
+fn a_guest_begins_with_a_clear_accumulator(rt: HostRuntime) -> Result<(), Fail> {
+    let machine = entered(&rt, rt.alloc(), "ZF", "", BASE)?;
+    for place in 60..66u16 {
+        assert!(rt; machine.word(BASE + place).value() == 0, "place {place}");
+    }
+    Ok(())
+}
 
 #[test]
 fn guests_come_to_their_ends(rt: HostRuntime) -> Result<(), Fail> {

@@ -11,7 +11,7 @@ use std::process::Abort;
 use std::test::Fail;
 
 /// The place of the routine. The guest stands from 60 on, its last order at 89 and its data from 90 on.
-const BASE: u16 = 100;
+pub const BASE: u16 = 100;
 
 /// What a guest comes to, and the number of its orders that were checked.
 #[derive(Clone, Copy, Debug, PartialEq, Eq)]
@@ -37,7 +37,7 @@ fn text_of_check(rt: &impl Abort, alloc: Global) -> Result<String, Fail> {
 }
 
 /// A machine at the entry to a program that has the routine and the guest, with rows left on the tape.
-fn entered(
+pub fn entered(
     rt: &impl Abort,
     alloc: Global,
     guest: &str,

@@ -1,6 +1,6 @@
 //! Single orders of the machine, on worked values.
 
-use crate::support::{machine_with, obey, word_at};
+use crate::support::{image_of, machine_with, obey, word_at};
 use ed_machine::Machine;
 use ed_words::Size;
 use std::process::Abort;
@@ -22,7 +22,9 @@ fn first_difference(
 }
 
 /// An accumulator of 1 in units of 2^-70 is the word 1, added at the top and shifted right by 54 places: three times 15
-/// (R F) and once 9 (R 128 F). The word 1 subtracted and so shifted is -1, which is 2^71 - 1.
+/// (R F) and once 9 (R 128 F). The word 1 subtracted and so shifted is -1, which is 2^71 - 1. Collation adds: the
+/// common digits of 6 and 3 are 2, and the accumulator holds 1 already. The word 65536 is the accumulator's sign, which
+/// a shift left by one place drops.
 #[test]
 fn the_accumulator_after_orders(rt: HostRuntime) -> Result<(), Fail> {
     for (orders, data, acc) in [
@@ -44,6 +46,8 @@ fn the_accumulator_after_orders(rt: HostRuntime) -> Result<(), Fail> {
         ("A30F S31F", [1, 2, 0, 0], (1 << 71) - (1 << 54)),
         ("A30F T31F", [1, 2, 0, 0], 0),
         ("A30F U31F X0F", [1, 2, 0, 0], 1 << 54),
+        ("H32F A30F C31F", [1, 6, 3, 0], 3 << 54),
+        ("A30F L0D", [65_536, 0, 0, 0], 0),
     ] {
         let mut machine = machine_with(&rt, rt.alloc(), Size::Full, orders, data)?;
         obey(&rt, &mut machine, orders);
@@ -87,6 +91,44 @@ fn an_order_f_reads_the_last_printed_code_back(rt: HostRuntime) -> Result<(), Fa
         let found = first_difference(&rt, &machine, &[(32, at_32), (33, at_33)]);
         assert!(rt; found.is_none(), "{found:?} after {orders}");
     }
+    Ok(())
+}
+
+/// 65536 at the top of the accumulator is exactly -1, which is negative; 0 is not.
+#[test]
+fn the_jumps_at_0_and_at_minus_1(rt: HostRuntime) -> Result<(), Fail> {
+    for (orders, number, counter) in [
+        ("A30F E5F", 0, 5),
+        ("A30F G5F", 0, 2),
+        ("A30F E5F", 65_536, 2),
+        ("A30F G5F", 65_536, 5),
+        ("A30F E5F", 65_535, 5),
+        ("A30F G5F", 131_071, 5),
+    ] {
+        let data = [number, 0, 0, 0];
+        let mut machine = machine_with(&rt, rt.alloc(), Size::Full, orders, data)?;
+        obey(&rt, &mut machine, orders);
+        assert_eq!(rt; machine.counter(), counter, "{orders} at {number}");
+    }
+    Ok(())
+}
+
+/// Start sets the counter and the tape, and leaves the registers. 28 is the code of the word 114688.
+#[test]
+fn a_second_start_leaves_the_registers(rt: HostRuntime) -> Result<(), Fail> {
+    let alloc = rt.alloc();
+    let orders = "H30F A31F O30F";
+    let mut machine = machine_with(&rt, alloc, Size::Full, orders, [114_688, 3, 0, 0])?;
+    obey(&rt, &mut machine, orders);
+    let image = image_of(alloc, orders, [1, 2, 3, 4])?;
+    assert!(rt; image.len() <= 41);
+    let _no_rows = machine.start(&image, Vec::new(alloc));
+    assert_eq!(rt; machine.counter(), 0);
+    assert_eq!(rt; machine.acc(), 3 << 54);
+    assert_eq!(rt; machine.multiplier().value(), 114_688 << 18);
+    assert_eq!(rt; machine.orders_done(), 3);
+    assert_eq!(rt; machine.last_printed().map(|code| code.value()), Some(28));
+    assert_eq!(rt; word_at(&rt, &machine, 31), 2);
     Ok(())
 }
 

@@ -7,6 +7,7 @@ use ed_machine::Paper;
 use ed_orders::{Kind, kind_of, order_text, places};
 use ed_store::Store;
 use ed_words::{Halves, Long, Order, Size, Word, fits};
+use std::alloc::Global;
 use std::test::Fail;
 
 #[test]
@@ -57,6 +58,44 @@ fn codes_and_the_rows_of_a_text(rt: HostRuntime) -> Result<(), Fail> {
                 byte: b']'
             }
         ),
+    }
+    Ok(())
+}
+
+/// The signs of the codes 0 to 31 in a tape's text.
+const SIGNS: &[u8] = b"PQWERTYUIOJ#SZK*.F@D!HNM&LXGABCV";
+
+/// What a byte alone is as a tape's text: the number of its one row, or none if it is spacing; 32 if it is refused as
+/// no row, and 33 if it opens a comment.
+fn of_byte(byte: u8) -> Option<usize> {
+    match byte {
+        b'0'..=b'9' => Some(usize::from(byte - b'0')),
+        b' ' | b'\t' | b'\r' | b'\n' => None,
+        b'[' => Some(33),
+        _ => Some(SIGNS.iter().position(|sign| *sign == byte).unwrap_or(32)),
+    }
+}
+
+/// The same of what `tape_of_text` answers to that byte alone.
+fn answered(alloc: Global, byte: u8) -> Result<Option<usize>, Fail> {
+    match tape_of_text(alloc, &[byte]) {
+        Ok(rows) => Ok(rows.first().map(|row| usize::from(row.value()))),
+        Err(
+            TextFault::NoRow {
+                place: 0,
+                byte: told,
+            },
+        ) if told == byte => Ok(Some(32)),
+        Err(TextFault::OpenComment { place: 0 }) => Ok(Some(33)),
+        Err(_) => Err("another fault".into()),
+    }
+}
+
+#[test]
+fn every_byte_of_a_tape_text(rt: HostRuntime) -> Result<(), Fail> {
+    for byte in 0..=255u8 {
+        let found = answered(rt.alloc(), byte)?;
+        assert_eq!(rt; found, of_byte(byte), "byte {byte}");
     }
     Ok(())
 }

@@ -23,6 +23,15 @@ fn the_printer(rt: HostRuntime) -> Result<(), Fail> {
     Ok(())
 }
 
+/// Blank, carriage return, space and line feed leave the shift as it is: after each of them the code of Q prints 1.
+#[test]
+fn the_codes_that_print_no_sign_leave_figure_shift(rt: HostRuntime) -> Result<(), Fail> {
+    let struck = codes(rt.alloc(), &[11, 16, 1, 18, 1, 20, 1, 24, 1])?;
+    let text = paper_text(rt.alloc(), &struck)?;
+    assert_eq!(rt; text.as_slice(), b"1\r1 1\n1".as_slice());
+    Ok(())
+}
+
 /// What the codes 0 to 31 print in letter shift, one after the other, but for the two that change the shift.
 const LETTERS: &str = "PQWERTYUIOJSZKF\rD HNM\nLXGABCV";
 

@@ -73,6 +73,36 @@ fn written(
     Ok(run_script(alloc, &mut session, script.as_bytes())?)
 }
 
+/// How many lines a text has, and its first and last line.
+fn ends_of(text: &[u8]) -> (usize, &[u8], &[u8]) {
+    let lines = text.split(|byte| *byte == b'\n').count();
+    let first = text.split(|byte| *byte == b'\n').next().unwrap_or(text);
+    let last = text.rsplit(|byte| *byte == b'\n').nth(1).unwrap_or(text);
+    (lines, first, last)
+}
+
+/// 1,024 words; 10,000 letters in 200 lines, between the lines of two moves.
+#[test]
+fn the_longest_lists_and_traces(rt: HostRuntime) -> Result<(), Fail> {
+    let alloc = rt.alloc();
+    for (script, lines, first, last) in [
+        ("show 0 1023", 1_025, "   0  20480 TF", "1023      0 PF"),
+        (
+            "entry\ntrace 10000",
+            203,
+            "at 64 after 136: entered",
+            "at 64 after 10136: went",
+        ),
+    ] {
+        let text = written(&rt, alloc, script, 20_000, LOOP)?;
+        let (found, front, end) = ends_of(&text);
+        assert!(rt; found == lines, "{script}: {found} lines");
+        assert!(rt; front == first.as_bytes(), "{script}");
+        assert!(rt; end == last.as_bytes(), "{script}");
+    }
+    Ok(())
+}
+
 #[test]
 fn scripts_write_their_texts(rt: HostRuntime) -> Result<(), Fail> {
     let alloc = rt.alloc();

@@ -83,8 +83,8 @@ impl<R: SteadyRead> Source for StdSource<R> {
     }
 }
 
-/// A sink over a writer of std. Its bytes are those that the writer reports, until a call fails; from then on it reports
-/// none, since a writer that refuses a flush may have taken the bytes.
+/// A sink over a writer of std. Its bytes are those that the writer reports, until a call fails; from then on it
+/// reports none, since a writer that refuses a flush may have taken the bytes.
 #[derive(Drop)]
 pub struct StdSink<W: SteadyWrite> {
     writer: W,

@@ -41,8 +41,12 @@ pub long_drawn : (answers : Text → Outcome → Type 0) (Ends : Text → State 
     → 262144 < length text
     → TellsOutcome told too_long_outcome
     → Draws (of_input answers) Ends text (Ok (record { told = told; machine = None }))
-long_drawn answers Ends text told long gives =
-    (too_long_outcome, inr (long, refl), gives, λ few m ends. absurd (omega (arith, few, long)))
+long_drawn answers Ends text told long gives = (
+  too_long_outcome,
+  inr (long, refl),
+  gives,
+  record { some = λ few m ends. absurd (omega (arith, few, long)); none = λ nothing. refl },
+)
 
 -- ---- a tape's text
 
@@ -84,10 +88,13 @@ tape_drawn s text codes (Ok shown) few is ran = (
   tape_outcome s codes,
   inl (few, at_reading (tape_outcome s) (reading text) codes is),
   ran.told,
-  λ few m ends.
-      ran.machine
-      ∙ ap (λ (xs : List ℕ). Some (run_of s xs).state) (same_codes (reading text) codes ends.0 is ends.1)
-      ∙ ap (λ (t : State). Some t) (sym ends.2),
+  record {
+    some = λ few m ends.
+        ran.machine
+        ∙ ap (λ (xs : List ℕ). Some (run_of s xs).state) (same_codes (reading text) codes ends.0 is ends.1)
+        ∙ ap (λ (t : State). Some t) (sym ends.2);
+    none = λ nothing. absurd (nothing (run_of s codes).state few (codes, is, refl));
+  },
 )
 tape_drawn s text codes (Err e) few is ran = tt
 
@@ -99,7 +106,10 @@ tape_refusal_drawn s text told few refuses =
       o.0,
       inl (few, o.1),
       o.2,
-      λ few m ends. absurd (subst (λ (r : Reading). RefusesTape r (Ok told)) ends.1 refuses),
+      record {
+        some = λ few m ends. absurd (subst (λ (r : Reading). RefusesTape r (Ok told)) ends.1 refuses);
+        none = λ nothing. refl;
+      },
     )
 
 -- ---- a source
@@ -155,11 +165,14 @@ source_drawn s text k (Ok shown) few l ran =
       run_outcome s l.0,
       inl (few, accepted_is s.size (run_outcome s) text l.0 l.1),
       is.told,
-      λ few m ends.
-          is.machine
-          ∙ ap (λ (lines : List Line). Some (run_of s (tape lines)).state)
-          (one_answer.one_program s.size text l.0 ends.0 l.1 ends.1)
-          ∙ ap (λ (t : State). Some t) (sym ends.2),
+      record {
+        some = λ few m ends.
+            is.machine
+            ∙ ap (λ (lines : List Line). Some (run_of s (tape lines)).state)
+            (one_answer.one_program s.size text l.0 ends.0 l.1 ends.1)
+            ∙ ap (λ (t : State). Some t) (sym ends.2);
+        none = λ nothing. absurd (nothing (run_of s (tape l.0)).state few (l.0, l.1, refl));
+      },
     )
 source_drawn s text k (Err e) few l ran = tt
 
@@ -171,5 +184,8 @@ source_refusal_drawn s text told few l = (
   refused (source_fault_line (At l.0 l.1)),
   inl (few, inl (l.0, l.1, l.2, refl)),
   l.3,
-  λ few m ends. absurd (one_answer.never_both s.size text ends.0 l.0 l.1 ends.1 l.2),
+  record {
+    some = λ few m ends. absurd (one_answer.never_both s.size text ends.0 l.0 l.1 ends.1 l.2);
+    none = λ nothing. refl;
+  },
 )

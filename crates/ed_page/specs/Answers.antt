@@ -1,6 +1,6 @@
 -- What the page is answered: what the program answers to the same text, with the cause of each answer (this project's
 -- own rules).
-use Rattle.std.specs.Prelude.{◌≡◌, ◌≢◌, ℕ, ◌≤◌, List, length, take}
+use Rattle.std.specs.Prelude.{◌≡◌, ◌≢◌, ℕ, ◌≤◌, List, ◌++◌, length, drop, None}
 use Rattle.ed_codes.specs.Reading.{reading, rows}
 use Rattle.ed_machine.specs.State.{State}
 use Rattle.ed_syntax.specs.declared.program.Line.{Line}
@@ -17,14 +17,14 @@ use Rattle.ed_page.specs.declared.writing.Registers.{Registers}
 
 -- ---- texts in buffers
 
--- a text stands at the head of a buffer, and this is its length
-abbrev pub Holds : Text → List ℕ → ℕ → Type 0
-Holds text buffer n = (n ≡ length text) × (take n buffer ≡ text)
+-- a text was written at the head of a buffer, whose other bytes are as before, and this is its length
+abbrev pub Holds : Text → (before after : List ℕ) → ℕ → Type 0
+Holds text before after n = (n ≡ length text) × (after ≡ text ++ drop (length text) before)
 
--- both texts of an outcome stand at the heads of two buffers, and the answer is its status
-pub record Tells (o : Outcome) (out note : List ℕ) (printed noted answer : ℕ) : Type 0 where
-  pub out_is : Holds o.out out printed
-  pub note_is : Holds o.note note noted
+-- both texts of an outcome were written at the heads of two buffers, and the answer is its status
+pub record Tells (o : Outcome) (out note out_after note_after : List ℕ) (printed noted answer : ℕ) : Type 0 where
+  pub out_is : Holds o.out out out_after printed
+  pub note_is : Holds o.note note note_after noted
   pub status_is : answer ≡ o.status
 
 -- two buffers have room for both texts of an outcome
@@ -53,12 +53,13 @@ pub record TextBuffers : Type 0 where
 abbrev pub text_buffers : (out note : List ℕ) → Lengths → TextBuffers
 text_buffers out note lengths = record { out = out; note = note; lengths = lengths }
 
--- what the program answers to a text, written into two buffers; or no memory was found, which may always come (10)
-abbrev pub IsTextTold : Answer → Text → (before after : TextBuffers) → ℕ → Type 0
-IsTextTold wanted text before after answer =
-    answer ≢ 10 → (o : Outcome) × IsDue wanted text o
-    × HasItsCause (HasBufferRoom o before.out before.note) (after ≡ before)
-    (Tells o after.out after.note after.lengths.out after.lengths.note answer) answer
+-- what the program answers to a text, written into two buffers; or no memory was found, which may always come (10),
+-- and the buffers are as before
+pub record IsTextTold (wanted : Answer) (text : Text) (before after : TextBuffers) (answer : ℕ) : Type 0 where
+  pub memory : answer ≡ 10 → after ≡ before
+  pub told : answer ≢ 10 → (o : Outcome) × IsDue wanted text o
+      × HasItsCause (HasBufferRoom o before.out before.note) (after ≡ before)
+      (Tells o before.out before.note after.out after.note after.lengths.out after.lengths.note answer) answer
 
 -- the rows of a source's tape
 abbrev pub source_rows : List Line → Outcome
@@ -94,13 +95,38 @@ pub record HasPictureRoom (o : Outcome) (b : Buffers) : Type 0 where
   pub digits_are : length b.digits ≡ 512
   pub texts : HasBufferRoom o b.paper b.note
 
--- buffers show an outcome, and the state in which the run of a text that is not too long ends
-pub record Shows (Ends : Text → State → Type 0) (text : Text) (o : Outcome) (b : Buffers) (answer : ℕ) : Type 0 where
-  pub told : Tells o b.paper b.note b.registers.printed b.registers.noted answer
-  pub state : length text ≤ 262144 → (m : State) → Ends text m → Pictures m b.words b.digits b.registers
+-- the registers where no machine is shown: all are 0 but the lengths of the two texts
+abbrev pub blank_registers : (printed noted : ℕ) → Registers
+blank_registers printed noted = record {
+  acc_low = 0;
+  acc_high = 0;
+  multiplier = 0;
+  orders = 0;
+  rows_left = 0;
+  counter = 0;
+  printed = printed;
+  noted = noted;
+}
 
--- what the program answers to a text, and the state in which its run ends, written into buffers; or no memory was found
-abbrev pub IsShown : Answer → (Text → State → Type 0) → Text → (before after : Buffers) → ℕ → Type 0
-IsShown wanted Ends text before after answer =
-    answer ≢ 10 → (o : Outcome) × IsDue wanted text o
-    × HasItsCause (HasPictureRoom o before) (after ≡ before) (Shows Ends text o after answer) answer
+-- no machine is shown: the words and digits are those before, and the registers are blank
+pub record ShowsNone (before after : Buffers) : Type 0 where
+  pub words_are : after.words ≡ before.words
+  pub digits_are : after.digits ≡ before.digits
+  pub registers_are : after.registers ≡ blank_registers after.registers.printed after.registers.noted
+
+-- buffers show an outcome, and the state in which the run of a text that is not too long ends; if no run of it ends,
+-- they show no machine
+pub record Shows (Ends : Text → State → Type 0) (text : Text) (o : Outcome) (before after : Buffers) (answer : ℕ) :
+    Type 0 where
+  pub told : Tells o before.paper before.note after.paper after.note after.registers.printed after.registers.noted
+      answer
+  pub state : length text ≤ 262144 → (m : State) → Ends text m → Pictures m after.words after.digits after.registers
+  pub none : ((m : State) → length text ≤ 262144 → Ends text m → ⊥) → ShowsNone before after
+
+-- what the program answers to a text, and the state in which its run ends, written into buffers; or no memory was
+-- found, and the buffers are as before
+pub record IsShown (wanted : Answer) (Ends : Text → State → Type 0) (text : Text) (before after : Buffers)
+    (answer : ℕ) : Type 0 where
+  pub memory : answer ≡ 10 → after ≡ before
+  pub told : answer ≢ 10 → (o : Outcome) × IsDue wanted text o
+      × HasItsCause (HasPictureRoom o before) (after ≡ before) (Shows Ends text o before after answer) answer

@@ -2,7 +2,7 @@ ghost use Rattle.std.specs.Prelude.{◌≡◌, IfSome, length};
 ghost use Rattle.ed_command.specs.declared.command.Action.TheVariants.{Run, Tape};
 ghost use Rattle.ed_top.specs.Outcome.{Outcome};
 ghost use Rattle.ed_top.specs.Output.{answer};
-ghost use Rattle.ed_page.specs.Answers.{IsShown, SourceEnds, TapeEnds, picture_buffers};
+ghost use Rattle.ed_page.specs.Answers.{IsShown, SourceEnds, TapeEnds, blank_registers, picture_buffers};
 ghost use Rattle.ed_page.specs.Pictures.{Pictures, asked};
 ghost use Rattle.ed_page.specs.Private.Stages.{Draws, TellsOutcome, WritesBuffers};
 
@@ -19,9 +19,10 @@ use std::alloc::Global;
 /// many `resumes` lets the run go on.
 ///
 /// It writes 1,024 words, 512 sandwich digits, the teleprinter's text, the program's note and the registers, and
-/// answers the program's status: 0, 4, 5, 6 or 7 by the ending of the run, 3 where the text is refused, 11 where it is
-/// too long and 10 where no memory was found. It answers 12, and writes nothing, where a buffer has the wrong length:
-/// 1,024 and 512, and for each text as many bytes as it has.
+/// answers the program's status: 0, 4, 5, 6 or 7 by the ending of the run, 3 if the text is refused, 11 if it is too
+/// long and 10 if no memory was found. With 10 nothing is written; with 3 and 11 no word and no digit is, and the
+/// registers are 0 but for the lengths of the texts. It answers 12, and writes nothing, if a buffer has the wrong
+/// length: 1,024 and 512, and for each text as many bytes as it has.
 #[unsafe(no_mangle)]
 pub extern "C" fn page_tape(
     alloc: Global,
@@ -129,6 +130,8 @@ fn write_machine(
     requires words { length words.old ≡ 1024 }
     requires digits { length digits.old ≡ 512 }
     ensures state { IfSome machine.now (λ m. Pictures m words.new digits.new result) }
+    ensures none { machine.now ≡ None → (words.new ≡ words.old) × (digits.new ≡ digits.old)
+        × (result ≡ blank_registers lengths.out lengths.note) }
     ensures printed { result.printed ≡ lengths.out }
     ensures noted { result.noted ≡ lengths.note }
 {

@@ -78,7 +78,7 @@ impl Told {
         requires out { length self.now.out.items ≤ length out.old }
         requires note { length self.now.note.items ≤ length note.old }
         ensures { (o : Outcome) → TellsOutcome self.now o
-            → Tells o out.new note.new result.out result.note self.now.status }
+            → Tells o out.old note.old out.new note.new result.out result.note self.now.status }
     {
         write_text(&self.out, out);
         write_text(&self.note, note);

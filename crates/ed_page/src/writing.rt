@@ -1,6 +1,7 @@
-ghost use Rattle.std.specs.Prelude.{◌≡◌, ℕ, ◌*◌, ◌<◌, ◌≤◌, length, slice_index, take};
+ghost use Rattle.std.specs.Prelude.{◌≡◌, ℕ, ◌*◌, ◌<◌, ◌≤◌, ◌++◌, drop, length, slice_index};
 ghost use Rattle.ed_words.specs.Words.{digit};
 ghost use Rattle.ed_store.specs.Cells.{short_at, sandwich_at};
+ghost use Rattle.ed_page.specs.Answers.{blank_registers};
 ghost use Rattle.ed_page.specs.Pictures.{PicturesStore, PicturesRegisters};
 
 use ed_machine::Machine;
@@ -65,10 +66,10 @@ fn write_digits(machine: &Machine, digits: &mut [u8])
     }
 }
 
-/// Writes a text at the head of a buffer.
+/// Writes a text at the head of a buffer, and leaves its other bytes.
 pub fn write_text(text: &[u8], buffer: &mut [u8])
     requires { length text.now ≤ length buffer.old }
-    ensures { take (length text.now) buffer.new ≡ text.now }
+    ensures { buffer.new ≡ text.now ++ drop (length text.now) buffer.old }
 {
     buffer[..text.len()].copy_from_slice(text);
 }
@@ -93,8 +94,7 @@ pub fn registers_of(machine: &Machine, lengths: Lengths) -> Registers
 
 /// Registers of no machine, with the lengths of two texts.
 pub fn no_registers(lengths: Lengths) -> Registers
-    ensures printed { result.printed ≡ lengths.out }
-    ensures noted { result.noted ≡ lengths.note }
+    ensures { result ≡ blank_registers lengths.out lengths.note }
 {
     Registers {
         acc_low: 0,

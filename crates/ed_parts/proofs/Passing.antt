@@ -23,7 +23,7 @@ use Rattle.ed_parts.specs.declared.tape.PartsFault.TheVariants.{Failed, Memory}
 use Rattle.ed_parts.specs.Parts.{ComesHome, Finishes, GoesBack, IsTold, LeadsTo, TapePart, PartsAnswer}
 use Rattle.ed_parts.specs.Parts.{TapeTells, Told}
 use Rattle.ed_parts.specs.Parts.{entry_done, part_entry_state, entry_told, finished, first_part}
-use Rattle.ed_parts.specs.Parts.{BreaksPart, Reaches, of_entry, of_return, return_told, told_lines}
+use Rattle.ed_parts.specs.Parts.{BreaksPart, ReachesPart, of_entry, of_return, return_told, told_lines}
 use Rattle.ed_parts.specs.Parts.{part_behind, read_before}
 use Rattle.ed_parts.specs.Private.Stages.{Ahead, BreaksTold, Passes}
 use Rattle.ed_parts.proofs.Parting.{Opens}
@@ -287,7 +287,7 @@ module _ {limit l rows : ℕ} {s : State} {p : TapePart} {a c : Option (List ℕ
           returns = h.returns;
           text = h.text;
           part = p;
-          reached = subst (λ n. Reaches limit n (first_part s) h.returns h.text p) count h.reached;
+          reached = subst (λ n. ReachesPart limit n (first_part s) h.returns h.text p) count h.reached;
           then_at = c;
           gains = h.gains;
           broke = subst (λ n. BreaksPart limit n p fault last c d) count b.1;

@@ -1,7 +1,7 @@
 -- Tapes in parts: programs that go back to the Initial Orders at 25, which then read on, and what is told of such tapes
 -- (this project's own rule). All states are those of the order table, from the one in which the first part begins.
-use Rattle.std.specs.Prelude.{ℕ, zero, suc, ◌≡◌, ◌⊎◌, ◌+◌, ◌-◌, ◌<◌, ◌≤◌, nat_eq, if◌then◌else◌, Option, Some, None, List}
-use Rattle.std.specs.Prelude.{[], ◌++◌, length}
+use Rattle.std.specs.Prelude.{ℕ, zero, suc, ◌≡◌, ◌⊎◌, ◌+◌, ◌-◌, ◌<◌, ◌≤◌, nat_eq, if◌then◌else◌}
+use Rattle.std.specs.Prelude.{Option, Some, None, List, [], ◌++◌, length}
 use Rattle.std.specs.Prelude.{Result, Ok, Err}
 use Rattle.ed_machine.specs.State.{State}
 use Rattle.ed_machine.specs.Steps.{past, state_after}
@@ -156,11 +156,11 @@ pub record TapeTells (limit : ℕ) (s : State) (t : Told) : Type 0 where
 
 -- ---- where it breaks off
 
--- after so many parts that went back and wrote this text, this part begins
-abbrev pub Reaches : ℕ → ℕ → TapePart → ℕ → List ℕ → TapePart → Type 0
-Reaches limit rows first zero text p = (text ≡ []) × (p ≡ first)
-Reaches limit rows first (suc n) text p =
-    (q : TapePart) × (b : GoesBack limit q) × (before : List ℕ) × Reaches limit rows first n before q
+-- after n parts that went back and wrote this text, this part begins
+abbrev pub ReachesPart : ℕ → ℕ → TapePart → ℕ → List ℕ → TapePart → Type 0
+ReachesPart limit rows first zero text p = (text ≡ []) × (p ≡ first)
+ReachesPart limit rows first (suc n) text p =
+    (q : TapePart) × (b : GoesBack limit q) × (before : List ℕ) × ReachesPart limit rows first n before q
     × (text ≡ before ++ told_lines rows q b) × (p ≡ part_behind q b)
 
 -- a line of a part: what the part wrote before it, its text, and the state in which it is written
@@ -189,7 +189,8 @@ pub record LineFailed (limit rows : ℕ) (p : TapePart) (last : State) (before a
   pub whole : line.text ≡ part ++ rest
   pub gains : Gains before after (line.before ++ part)
 
--- no memory was found for a line of this part: the machine stands where it is written, and the lines before it have been
+-- no memory was found for a line of this part: the machine stands where it is written, and the lines before it have
+-- been
 pub record LineUnmade (limit rows : ℕ) (p : TapePart) (last : State) (before after : Option (List ℕ)) : Type 0 where
   pub line : PartLine
   pub is : WritesLine limit rows p line
@@ -203,13 +204,13 @@ BreaksPart limit rows p Failed last before after = LineFailed limit rows p last 
 BreaksPart limit rows p Memory last before after =
     ((last ≡ p.state) × (after ≡ before)) ⊎ LineUnmade limit rows p last before after
 
--- parts went back, whose lines have been written, and the one behind them broke off
+-- parts went back, whose lines have been written, and the part after them broke off
 pub record BreaksOff (limit : ℕ) (s : State) (fault : PartsFault) (last : State) (before after : Option (List ℕ)) :
     Type 0 where
   pub returns : ℕ
   pub text : List ℕ
   pub part : TapePart
-  pub reached : Reaches limit (length s.tape) (first_part s) returns text part
+  pub reached : ReachesPart limit (length s.tape) (first_part s) returns text part
   pub then_at : Option (List ℕ)
   pub gains : Gains before then_at text
   pub broke : BreaksPart limit (length s.tape) part fault last then_at after

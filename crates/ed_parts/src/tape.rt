@@ -37,9 +37,9 @@ pub enum PartsFault {
 /// Reads the tape of a machine that stands at Start, whose programs may go back to the Initial Orders, and writes the
 /// line of each entry and of each return as it comes.
 ///
-/// At most `limit` orders are obeyed, counted from Start. The machine is left in the state in which the run ended;
-/// where a part has a fault, in that in which the part begins. After `Failed` it stands at the entry or the return whose
-/// line failed, and after `Memory` there or where a part begins.
+/// At most `limit` orders are obeyed, counted from Start. The machine is left in the state in which the run ended; if a
+/// part has a fault, in that in which the part begins. After `Failed` it stands at the entry or the return whose line
+/// failed, and after `Memory` there or where a part begins.
 pub fn run_parts<K: Sink>(
     alloc: Global,
     machine: &mut Machine,

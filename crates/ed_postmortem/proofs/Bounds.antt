@@ -4,7 +4,7 @@ use Rattle.std.proofs.Common.{List, [], ◌∷◌, ◌++◌, length, get_or, len
 use Rattle.ed_words.proofs.SizeLemmas.{most}
 use Rattle.ed_notation.specs.Spellings.{digit_at, digits_of}
 use Rattle.ed_postmortem.specs.Answers.{PaperIsEnough}
-use Rattle.ed_postmortem.specs.Codes.{digits_before_units, decimal, is_even, length_code}
+use Rattle.ed_postmortem.specs.Codes.{digits_before_units, address_digits, is_even, length_code}
 use Rattle.ed_postmortem.specs.Codes.{length_orders, number_in, printed_codes, word_codes}
 use Rattle.ed_postmortem.specs.Codes.{word_orders, words_orders}
 use Rattle.ed_postmortem.proofs.Digits.{Digits, began, digits_are, one_shown}
@@ -20,7 +20,7 @@ word_few w =
       one_shown false (n / 1000),
       one_shown (began n 1) (n / 100 % 10),
       one_shown (began n 2) (n / 10 % 10),
-      length-append (decimal n) (15 ∷ length_code (is_even w) ∷ 18 ∷ 24 ∷ []),
+      length-append (address_digits n) (15 ∷ length_code (is_even w) ∷ 18 ∷ 24 ∷ []),
       length-append (digits_before_units n) (n % 10 ∷ []),
     )
 

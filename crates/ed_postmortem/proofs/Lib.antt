@@ -6,3 +6,4 @@ pub mod Bounds
 pub mod Needed
 pub mod Lists
 pub mod Whole
+mod AddressDigits

@@ -16,7 +16,7 @@ use Rattle.ed_paths.proofs.Places.{IsOutside, early, own, out}
 use Rattle.ed_paths.proofs.Orders.{Does, there_is}
 use Rattle.ed_paths.proofs.Moves.{A, S, T, U, O, H, C, L, Z, E_jumps, E_stays, G_jumps, G_stays}
 use Rattle.ed_paths.proofs.Paths.{Path, stay, on, prints, followed}
-use Rattle.ed_postmortem.specs.Codes.{decimal, is_even, length_code, length_orders, number_in, word_codes, word_orders}
+use Rattle.ed_postmortem.specs.Codes.{address_digits, is_even, length_code, length_orders, number_in, word_codes, word_orders}
 use Rattle.ed_postmortem.specs.Codes.{printed_codes, words_orders}
 use Rattle.ed_paths.proofs.Zeros.{flag_of, shown, begun, spared, last_of, taken_away}
 use Rattle.ed_postmortem.proofs.Digits.{began, Digits, digits_are}
@@ -339,7 +339,7 @@ module _ (given : Given) where
         let t3 : ℕ = 15 + 8 * q3 + 4 * length (shown b2 q3) in
         let orders : word_orders v ≡ 16 + (t1 + (1 + (t2 + (1 + (t3 + (9 + (1 + length_orders e + 10))))))) =
         omega (arith, g.sum, g.count) in
-        let codes : decimal n ++ (15 ∷ length_code e ∷ 18 ∷ 24 ∷ [])
+        let codes : address_digits n ++ (15 ∷ length_code e ∷ 18 ∷ 24 ∷ [])
         ≡ shown false q1 ++ (shown b1 q2 ++ (shown b2 q3 ++ (d ∷ 15 ∷ length_code e ∷ 18 ∷ 24 ∷ []))) =
         ap (λ x. (x ++ (d ∷ [])) ++ (15 ∷ length_code e ∷ 18 ∷ 24 ∷ [])) (sym g.are)
         ∙ append_assoc (shown false q1 ++ (shown b1 q2 ++ shown b2 q3)) (d ∷ []) _

@@ -1,6 +1,7 @@
 -- What the post-mortem prints of a store, and how many orders it obeys for that (this project's own).
-use Rattle.std.specs.Prelude.{ℕ, zero, suc, ◌+◌, ◌*◌, ◌/◌, ◌%◌, Bool, true, false}
-use Rattle.std.specs.Prelude.{nat_eq, List, [], ◌∷◌, ◌++◌, length, slice_index}
+use Rattle.std.specs.Prelude.{◌≡◌, ℕ, zero, suc, ◌+◌, ◌*◌, ◌/◌, ◌%◌, ◌<◌, Bool, true, false}
+use Rattle.std.specs.Prelude.{nat_eq, List, [], ◌∷◌, ◌++◌, length, map, slice_index}
+use Rattle.std.specs.Fmt.{decimal}
 use Rattle.ed_notation.specs.Spellings.{digit_at}
 
 -- the number in the address of a word
@@ -11,9 +12,13 @@ number_in word = word % 4096 / 2
 abbrev pub digits_before_units : ℕ → List ℕ
 digits_before_units n = digit_at 1000 n ++ (digit_at 100 n ++ digit_at 10 n)
 
--- its decimal digits without leading zeros; 0 is one digit
-abbrev pub decimal : ℕ → List ℕ
-decimal n = digits_before_units n ++ (n % 10 ∷ [])
+-- its decimal digits without leading zeros, as they are printed; 0 is one digit
+abbrev pub address_digits : ℕ → List ℕ
+address_digits n = digits_before_units n ++ (n % 10 ∷ [])
+
+-- those of an address are the figures with which it is written in decimal
+abbrev pub AddressDigitsLaw : Type 0
+AddressDigitsLaw = (n : ℕ) → n < 2048 → map (λ d. 48 + d) (address_digits n) ≡ decimal n
 
 -- the sum of digits
 abbrev pub digit_sum : List ℕ → ℕ
@@ -37,7 +42,7 @@ length_orders false = 1
 -- the codes of a word: in letter shift its function, in figure shift its number, in letter shift its length, a new line
 abbrev pub word_codes : ℕ → List ℕ
 word_codes word =
-    15 ∷ word / 4096 ∷ 11 ∷ (decimal (number_in word) ++ (15 ∷ length_code (is_even word) ∷ 18 ∷ 24 ∷ []))
+    15 ∷ word / 4096 ∷ 11 ∷ (address_digits (number_in word) ++ (15 ∷ length_code (is_even word) ∷ 18 ∷ 24 ∷ []))
 
 -- the orders that print a word: of its digits before the units, 8 for each one of their sum and 4 for each that is
 -- printed

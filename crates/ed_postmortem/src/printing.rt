@@ -1,6 +1,6 @@
 ghost use Rattle.std.specs.Prelude.{◌≡◌, ◌+◌, ◌^◌, ◌≤◌, length};
 ghost use Rattle.ed_postmortem.specs.Answers.{AnswersPrinting, InRange, IsPrinted, PaperIsEnough, needed_of, room_of};
-ghost use Rattle.ed_postmortem.specs.Codes.{printed_codes, word_codes};
+ghost use Rattle.ed_postmortem.specs.Codes.{AddressDigitsLaw, printed_codes, word_codes};
 ghost use Rattle.ed_postmortem.specs.Tape.{tape_rows};
 
 use crate::PmFault;
@@ -23,7 +23,7 @@ const ENOUGH: u64 = 250_000;
 ///
 /// A line of the paper is a word: `O66F` for an even one, `2047D` for an odd one, whose first letter is the function.
 /// The refusals come in the order of `PmFault`, and change nothing.
-#[tactic(auto, using(crate::proofs::Bounds::enough))]
+#[tactic(auto, using(crate::proofs::Bounds::enough, crate::proofs::AddressDigits::address_digits_law))]
 pub fn post_mortem(
     alloc: Global,
     machine: &mut Machine,
@@ -34,6 +34,7 @@ pub fn post_mortem(
     requires { machine.old.orders + 300000 ≤ 2 ^ 63 }
     ensures answers { AnswersPrinting machine.old paper.old first count result machine.new paper.new }
     ensures law { PaperIsEnough }
+    ensures digits { AddressDigitsLaw }
 {
     if first < FIRST {
         return Err(PmFault::InItsOwnStore);

@@ -16,3 +16,4 @@ mod Limits
 mod TapeEntries
 mod ReadBack
 mod BothSizes
+mod Completing

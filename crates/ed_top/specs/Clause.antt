@@ -27,7 +27,8 @@ device bytes faults old new = record {
 abbrev pub NeverFailed : Device → Type 0
 NeverFailed d = d.faults_after ≡ d.faults_before
 
--- one call of the device failed, and only one: the count of faults rose by 1, or stands at its last value
+-- one call of the device failed, and only one: the count of faults rose by 1, or stands at its last value. No call came
+-- after it, since that could have failed too
 abbrev pub FailedOnce : Device → Type 0
 FailedOnce d = d.faults_after ≡ next_count d.faults_before
 

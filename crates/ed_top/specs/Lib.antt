@@ -12,6 +12,7 @@ pub mod Calls
 pub mod Demos
 pub mod Output
 pub mod Clause
+pub mod Complete
 pub mod Private
 pub mod Limits
 pub mod TapeEntries

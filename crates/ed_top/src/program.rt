@@ -4,6 +4,7 @@ ghost use Rattle.ed_command.specs.Ranges.{IsInRange};
 ghost use Rattle.ed_top.specs.BothSizes.{EachSize};
 ghost use Rattle.ed_top.specs.Calls.{EachCallRuns};
 ghost use Rattle.ed_top.specs.Clause.{ProgramEnded, WritesLastLine, device};
+ghost use Rattle.ed_top.specs.Complete.{EachRunIsComplete};
 ghost use Rattle.ed_top.specs.Demos.{EachDemoRuns};
 ghost use Rattle.ed_top.specs.FirstEntry.{EachProgramRunsFrom31};
 ghost use Rattle.ed_top.specs.Headline.{Headline};
@@ -43,6 +44,7 @@ pub fn edsac<S: Source, K: Sink, L: Sink>(
         (device K.held K.faults out.old out.new)
         (device L.held L.faults note.old note.new) result }
     ensures law { EachLineHasOneOutcome }
+    ensures complete { EachRunIsComplete }
     ensures headline { Headline }
     ensures calls { EachCallRuns }
     ensures demos { EachDemoRuns }

@@ -116,7 +116,7 @@ module _ {limit resumes : ℕ} {s last : State} {before after : Option (List ℕ
 
 -- the last line
 module _ {k : ℕ} {s : State} {before now : Option (List ℕ)} where
-  -- its text, behind the full lines
+  -- its text, after the full lines
   last_line : {held : List ℕ} → Lines k s before now held → k % 50 ≢ 0
       → trace_to k s ≡ traced_letters (lined k) s ++ (held ++ 10 ∷ [])
   last_line {held} lines h =

@@ -1,5 +1,5 @@
 -- How what is told and shown of a text stands to what the program answers.
-use Rattle.std.specs.Prelude.{◌≡◌, ℕ, ◌<◌, ◌≤◌, List, length, Option, Some, IfSome, Result, Ok, Err, Vec}
+use Rattle.std.specs.Prelude.{◌≡◌, ◌≢◌, ℕ, ◌<◌, ◌≤◌, List, length, Option, None, Some, IfSome, Result, Ok, Err, Vec}
 use Rattle.std.specs.declared.alloc.Global.{Global}
 use Rattle.ed_words.specs.declared.size.Size.{Size}
 use Rattle.ed_words.specs.declared.memory.NoMemory.{NoMemory}
@@ -18,7 +18,7 @@ use Rattle.ed_report.specs.Notes.{source_fault_line, text_fault_line}
 use Rattle.ed_top.specs.Answer.{Answer, IsDue}
 use Rattle.ed_words.specs.Texts.{Text}
 use Rattle.ed_top.specs.Outcome.{Outcome, refused}
-use Rattle.ed_page.specs.Answers.{Buffers, HasItsCause, HasPictureRoom, HasBufferRoom, Tells, TextBuffers}
+use Rattle.ed_page.specs.Answers.{Buffers, HasItsCause, HasPictureRoom, HasBufferRoom, ShowsNone, Tells, TextBuffers}
 use Rattle.ed_page.specs.Pictures.{Pictures}
 use Rattle.ed_page.specs.declared.running.Ran.{Ran}
 use Rattle.ed_page.specs.declared.running.Shown.{Shown}
@@ -30,6 +30,7 @@ pub record TellsOutcome (told : Told) (o : Outcome) : Type 0 where
   pub note_is : told.note.items ≡ o.note
   pub status_is : told.status ≡ o.status
   pub low : told.status < 12
+  pub found : told.status ≢ 10
 
 -- what is told is what the program answers
 abbrev pub IsAnswered : Answer → Text → Result Told NoMemory → Type 0
@@ -66,9 +67,10 @@ pub record IsRunOf (o : Outcome) (r : RunEnd) (shown : Shown) : Type 0 where
   pub told : TellsOutcome shown.told o
   pub machine : shown.machine ≡ Some r.state
 
--- a machine is in the state in which the run of a text ends, if there is such a state
-abbrev pub IsMachineOf : (Text → State → Type 0) → Text → Option State → Type 0
-IsMachineOf Ends text machine = length text ≤ 262144 → (m : State) → Ends text m → machine ≡ Some m
+-- a machine is in the state in which the run of a text ends, if there is such a state, and else there is no machine
+pub record IsMachineOf (Ends : Text → State → Type 0) (text : Text) (machine : Option State) : Type 0 where
+  pub some : length text ≤ 262144 → (m : State) → Ends text m → machine ≡ Some m
+  pub none : ((m : State) → length text ≤ 262144 → Ends text m → ⊥) → machine ≡ None
 
 -- what is shown of a text is what the program answers, and the machine in which its run ends
 abbrev pub Draws : Answer → (Text → State → Type 0) → Text → Result Shown NoMemory → Type 0
@@ -78,16 +80,18 @@ Draws wanted Ends text (Err e) = Unit {0}
 
 -- an outcome was written into two buffers, or there was no room
 abbrev pub IsWrittenOut : Outcome → (before after : TextBuffers) → ℕ → Type 0
-IsWrittenOut o before after answer =
-    HasItsCause (HasBufferRoom o before.out before.note) (after ≡ before)
-    (Tells o after.out after.note after.lengths.out after.lengths.note answer) answer
+IsWrittenOut o before after answer = (answer ≢ 10)
+    × HasItsCause (HasBufferRoom o before.out before.note) (after ≡ before)
+    (Tells o before.out before.note after.out after.note after.lengths.out after.lengths.note answer) answer
 
--- buffers show an outcome, and a machine where there is one
-pub record ShowsMachine (o : Outcome) (machine : Option State) (b : Buffers) (answer : ℕ) : Type 0 where
-  pub told : Tells o b.paper b.note b.registers.printed b.registers.noted answer
-  pub state : IfSome machine (λ m. Pictures m b.words b.digits b.registers)
+-- buffers show an outcome, and a machine if there is one
+pub record ShowsMachine (o : Outcome) (machine : Option State) (before after : Buffers) (answer : ℕ) : Type 0 where
+  pub told : Tells o before.paper before.note after.paper after.note after.registers.printed after.registers.noted
+      answer
+  pub state : IfSome machine (λ m. Pictures m after.words after.digits after.registers)
+  pub none : machine ≡ None → ShowsNone before after
 
 -- so it was written into buffers, or there was no room
 abbrev pub WritesBuffers : Outcome → Option State → (before after : Buffers) → ℕ → Type 0
-WritesBuffers o machine before after answer =
-    HasItsCause (HasPictureRoom o before) (after ≡ before) (ShowsMachine o machine after answer) answer
+WritesBuffers o machine before after answer = (answer ≢ 10)
+    × HasItsCause (HasPictureRoom o before) (after ≡ before) (ShowsMachine o machine before after answer) answer

@@ -12,7 +12,7 @@ use Rattle.ed_parts.specs.declared.program.Met.{Met}
 use Rattle.ed_parts.specs.declared.program.Met.TheVariants.{Finished, Returned}
 use Rattle.ed_parts.specs.declared.tape.PartsFault.{PartsFault}
 use Rattle.ed_parts.specs.Parts.{ComesHome, Concludes, Finishes, GoesBack, IsTold, LeadsTo, TapePart, Told, told_lines}
-use Rattle.ed_parts.specs.Parts.{BreaksPart, Reaches, part_behind}
+use Rattle.ed_parts.specs.Parts.{BreaksPart, ReachesPart, part_behind}
 use Rattle.ed_parts.specs.Parts.{read_before}
 
 -- a program ended or came back
@@ -53,7 +53,7 @@ Passes limit rows p (Err fault) last before after =
 pub record Ahead (limit rows : ℕ) (first p : TapePart) (before after : Option (List ℕ)) : Type 0 where
   pub returns : ℕ
   pub text : List ℕ
-  pub reached : Reaches limit rows first returns text p
+  pub reached : ReachesPart limit rows first returns text p
   pub gains : Gains before after text
   pub completes : (n : ℕ) (rest : Told) → IsTold limit rows n p rest
       → (m : ℕ) × IsTold limit rows m first (record rest { text = text ++ rest.text })

@@ -8,7 +8,7 @@ use Rattle.ed_page.specs.Answers.{TapeEnds}
 use Rattle.ed_page.specs.Private.Stages.{Draws, RefusesTape}
 use Rattle.ed_page.specs.declared.running.Shown.{Shown}
 use Rattle.ed_page.specs.declared.told.Told.{Told}
-use Rattle.ed_page.proofs.Replies.{tape_refusal_drawn}
+use Rattle.ed_page.proofs.Replies.{tape_drawn, tape_refusal_drawn}
 use Rattle.ed_page.proofs.pictures.tape_shown.Goals as goal
 
 pub returns-in_ok-told-in-Err : goal.returns-in_ok-told-in-Err
@@ -18,3 +18,8 @@ returns-in_ok-told-in-Err c =
     subst (λ (x : Shown). Draws (answer Tape s) (TapeEnds s) text (Ok x)) (sym c.refused-in-Err.ensures)
     (tape_refusal_drawn s text c.in_ok-told-in-Err.field-0 (search rules)
     (subst (λ (r : Result Told NoMemory). RefusesTape (reading text) r) c.in_ok-told-in-Err.was c.in-Err.ensures))
+
+pub returns-in-Ok : goal.returns-in-Ok
+returns-in-Ok c =
+    tape_drawn c.args.settings c.args.text.now c.in-Ok.rows.items c.run_tape.result (search rules) c.in-Ok.ensures
+    c.run_tape.ensures

@@ -13,6 +13,7 @@ use Rattle.ed_io.proofs.Calls.{gains_none}
 use Rattle.ed_top.proofs.Endings.{none_due, with_due, with_no_memory}
 use Rattle.ed_top.proofs.BothSizes.{each_size}
 use Rattle.ed_top.proofs.CallRuns.{each_call_runs}
+use Rattle.ed_top.proofs.Completing.{each_complete}
 use Rattle.ed_top.proofs.DemoRuns.{each_demo_runs}
 use Rattle.ed_top.proofs.FirstEntries.{runs_from_31}
 use Rattle.ed_top.proofs.Limits.{each_limit}
@@ -137,3 +138,12 @@ returns-in-Err-Usage-clause-sizes g c = each_size
 
 pub returns-in-Err-Memory-clause-sizes : goal.returns-in-Err-Memory-clause-sizes
 returns-in-Err-Memory-clause-sizes g c = each_size
+
+pub returns-in-Ok-clause-complete : goal.returns-in-Ok-clause-complete
+returns-in-Ok-clause-complete g c = each_complete
+
+pub returns-in-Err-Usage-clause-complete : goal.returns-in-Err-Usage-clause-complete
+returns-in-Err-Usage-clause-complete g c = each_complete
+
+pub returns-in-Err-Memory-clause-complete : goal.returns-in-Err-Memory-clause-complete
+returns-in-Err-Memory-clause-complete g c = each_complete

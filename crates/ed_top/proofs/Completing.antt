@@ -1,0 +1,69 @@
+-- Runs over devices whose calls never fail.
+use Rattle.std.proofs.Common.{◌≡◌, ◌≢◌, ◌⊎◌, inl, inr, ℕ, Bool, false, refl, sym, ap, subst, arith, ◌∙◌, [], ◌++◌}
+use Rattle.std.specs.Prelude.{Option, None, Some, if◌then◌else◌}
+use Rattle.ed_io.specs.Bytes.{Gains}
+use Rattle.ed_io.specs.Causes.{next_count}
+use Rattle.ed_io.specs.Memory.{Roll}
+use Rattle.ed_words.specs.Texts.{Text}
+use Rattle.ed_top.specs.Outcome.{Outcome}
+use Rattle.ed_top.specs.Answer.{Answer, IsDue, known, of_input}
+use Rattle.ed_top.specs.Clause.{BrokeNote, BrokeOut, ForDue, ProgramEnded}
+use Rattle.ed_top.specs.Complete.{EachRunIsComplete, IsWhole, sure_sink, sure_source}
+use Rattle.ed_top.specs.Output.{output}
+use Rattle.ed_top.proofs.Endings.{due_told}
+
+-- no call fails of a device that counts none
+no_fault : ◌≡◌ {A = ℕ} 0 (next_count 0) → ⊥
+no_fault e = cc
+
+-- a new sink that kept all that it took holds what it gained
+held_is : (out : Roll) (text : Text) → out.is_over ≡ false
+    → Gains (Some []) (if out.is_over then None else Some out.held) text → out.held ≡ text
+held_is out text is = subst (λ (b : Bool). Gains (Some []) (if b then None else Some out.held) text → out.held ≡ text)
+    (sym is) (λ g. g)
+
+-- the outcome that is due to the input that the source reports
+due_sure : (answer : Answer) (input left : Text) (P : Outcome → Type 0) → ForDue answer (sure_source input left) P
+    → (o : Outcome) × IsDue answer input o × P o
+due_sure (known due) input left P p = (due, refl, p)
+due_sure (of_input answers) input left P p = due_told answers (sure_source input left) P input refl p
+
+module _ (answer : Answer) (input left : Text) (out_room note_room : ℕ) (out note : Roll) (status : ℕ)
+    (e : ProgramEnded answer (sure_source input left) (sure_sink out_room out) (sure_sink note_room note) status)
+    (out_whole : out.is_over ≡ false) (note_whole : note.is_over ≡ false) where
+  whole : status ≢ 8 → status ≢ 9 → status ≢ 10 → IsWhole answer input out note status
+  whole not8 not9 not10 =
+      let d = due_sure answer input left _ (e.finished not8 not9 not10).2 in
+      record {
+        due = d.0;
+        is_due = d.1;
+        status_is = d.2.0;
+        out_is = held_is out d.0.out out_whole d.2.1;
+        note_is = held_is note d.0.note note_whole d.2.2;
+      }
+
+  not_read : status ≢ 8
+  not_read is = no_fault (e.read is).1
+
+  not_written : status ≢ 9
+  not_written is = by_sink (e.written is)
+    where
+      by_sink : BrokeOut answer (sure_source input left) (sure_sink out_room out) (sure_sink note_room note)
+          ⊎ BrokeNote answer (sure_source input left) (sure_sink out_room out) (sure_sink note_room note) → ⊥
+      by_sink (inl b) = no_fault b.failed
+      by_sink (inr b) = no_fault b.failed
+
+  complete : (status ≡ 10) ⊎ IsWhole answer input out note status
+  complete = by_status (is_or_not status)
+    where
+      is_or_not : (n : ℕ) → (n ≡ 10) ⊎ (n ≢ 10)
+      is_or_not n = grind arith
+
+      by_status : (status ≡ 10) ⊎ (status ≢ 10) → (status ≡ 10) ⊎ IsWhole answer input out note status
+      by_status (inl is) = inl is
+      by_status (inr other) = inr (whole not_read not_written other)
+
+-- so it is of every run
+pub each_complete : EachRunIsComplete
+each_complete line input left out_room note_room out note status e out_whole note_whole =
+    complete (output line) input left out_room note_room out note status e out_whole note_whole
