@@ -135,6 +135,47 @@ fn add_prints_its_sum(rt: HostRuntime) -> Result<(), Fail> {
 }
 
 #[test]
+fn difference_prints_the_distance(rt: HostRuntime) -> Result<(), Fail> {
+    let alloc = rt.alloc();
+    for (first, second) in [
+        (1949, 2024),
+        (0, 0),
+        (0, 1),
+        (1, 0),
+        (65535, 65535),
+        (0, 65535),
+        (65535, 0),
+        (65534, 65535),
+        (65535, 65534),
+        (32767, 32768),
+        (32768, 32767),
+        (32768, 0),
+        (0, 32768),
+        (9, 10),
+        (10, 9),
+        (99, 100),
+        (1000, 1),
+        (1, 10000),
+        (12345, 54321),
+        (54321, 12345),
+    ] {
+        let distance = if first < second {
+            second - first
+        } else {
+            first - second
+        };
+        let wanted = format!(in alloc; "{distance}")?;
+        prints(
+            &rt,
+            alloc,
+            difference_program(alloc, first, second),
+            wanted.as_str(),
+        )?;
+    }
+    Ok(())
+}
+
+#[test]
 fn greatest_prints_the_greatest(rt: HostRuntime) -> Result<(), Fail> {
     let alloc = rt.alloc();
     for numbers in [

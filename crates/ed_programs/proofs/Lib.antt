@@ -36,3 +36,7 @@ pub mod SortLists
 pub mod SortSaid
 pub mod SortEnds
 pub mod SortRuns
+pub mod DifferenceProgram
+pub mod DifferenceSaid
+pub mod DifferenceEnds
+pub mod DifferenceRuns

@@ -5,3 +5,4 @@ pub mod Multiply
 pub mod Add
 pub mod Greatest
 pub mod Sort
+pub mod Difference

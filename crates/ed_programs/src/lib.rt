@@ -5,6 +5,7 @@
 #![tactic(auto)]
 
 mod add;
+mod difference;
 mod greatest;
 mod hello;
 mod multiply;
@@ -12,6 +13,7 @@ mod refusal;
 mod sort;
 
 pub use add::add_program;
+pub use difference::difference_program;
 pub use greatest::greatest_program;
 pub use hello::hello_program;
 pub use multiply::multiply_program;
