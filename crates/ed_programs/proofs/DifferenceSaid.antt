@@ -3,10 +3,10 @@ use Rattle.std.proofs.Common.{◌≡◌, ℕ, ◌<◌, ◌≤◌, true, true, Li
 use Rattle.std.specs.Prelude.{None, Ok}
 use Rattle.ed_words.specs.declared.size.Size.{Size}
 use Rattle.ed_words.specs.declared.size.Size.TheVariants.{Small, Full}
-use Rattle.ed_syntax.specs.Grammar.{settings}
-use Rattle.ed_syntax.specs.Sources.{program_of}
+use Rattle.ed_syntax.specs.Private.Grammar.{settings}
+use Rattle.ed_syntax.specs.Private.SourceReading.{program_of}
 use Rattle.ed_syntax.specs.declared.program.Line.{Line}
-use Rattle.ed_link.specs.Faults.{fault}
+use Rattle.ed_link.specs.Private.FaultTests.{fault}
 use Rattle.ed_programs.specs.Difference.{difference_source, difference_text}
 use Rattle.ed_programs.proofs.DataLines.{are_small, data_mark, data_plain, data_says}
 use Rattle.ed_programs.proofs.NumberLines.{use_mark}

@@ -6,7 +6,7 @@ use Rattle.ed_io.specs.Causes.{next_count}
 use Rattle.ed_io.specs.Memory.{Roll}
 use Rattle.ed_words.specs.Texts.{Text}
 use Rattle.ed_top.specs.Outcome.{Outcome}
-use Rattle.ed_top.specs.Answer.{Answer, IsDue, known, of_input}
+use Rattle.ed_top.specs.Answer.{Answer, IsDue, known, of_made, of_input}
 use Rattle.ed_top.specs.Clause.{BrokeNote, BrokeOut, ForDue, ProgramEnded}
 use Rattle.ed_top.specs.Complete.{EachRunIsComplete, IsWhole, sure_sink, sure_source}
 use Rattle.ed_top.specs.Output.{output}
@@ -26,6 +26,7 @@ held_is out text is = subst (λ (b : Bool). Gains (Some []) (if b then None else
 due_sure : (answer : Answer) (input left : Text) (P : Outcome → Type 0) → ForDue answer (sure_source input left) P
     → (o : Outcome) × IsDue answer input o × P o
 due_sure (known due) input left P p = (due, refl, p)
+due_sure (of_made answers) input left P p = p
 due_sure (of_input answers) input left P p = due_told answers (sure_source input left) P input refl p
 
 module _ (answer : Answer) (input left : Text) (out_room note_room : ℕ) (out note : Roll) (status : ℕ)

@@ -7,7 +7,7 @@ use Rattle.std.proofs.Math.ListN.{get_or}
 use Rattle.std.proofs.lemmas.Bool.{cases_lt}
 use Rattle.std.proofs.lemmas.Bool.Decides.{nat_tests}
 use Rattle.ed_notation.specs.Spellings.{digit_at}
-use Rattle.ed_postmortem.specs.Codes.{decimal, is_even, length_code, number_in, printed_codes, word_codes}
+use Rattle.ed_postmortem.specs.Codes.{address_digits, is_even, length_code, number_in, printed_codes, word_codes}
 use Rattle.ed_routines.specs.Digits.{after_digits, digit_rows, digits_value}
 use Rattle.ed_top.specs.ReadBack.{EachWordIsReadBack}
 
@@ -33,7 +33,7 @@ some_digit : (b : Bool) (d : ℕ) (digits : List ℕ) (row : ℕ) (rest : List �
 some_digit true d digits row rest l more = one_digit d digits row rest l more
 some_digit false d digits row rest l more = more
 
-decimal_digits : (n row : ℕ) (rest : List ℕ) → 10 ≤ row → BeginsOn (decimal n) row rest
+decimal_digits : (n row : ℕ) (rest : List ℕ) → 10 ≤ row → BeginsOn (address_digits n) row rest
 decimal_digits n row rest l =
     let units = one_digit (n % 10) [] row rest (omega arith) (ends_digits row rest l) in
     let tens = some_digit (nat_le 10 n) (n / 10 % 10) _ row rest (omega arith) units in
@@ -41,17 +41,17 @@ decimal_digits n row rest l =
     let all = some_digit (nat_le 1000 n) (n / 1000 % 10) _ row rest (omega arith) hundreds in
     subst (λ (ds : List ℕ). BeginsOn ds row rest) (sym (parts n)) all
   where
-    parts : (n : ℕ) → decimal n ≡ digit_at 1000 n ++ (digit_at 100 n ++ (digit_at 10 n ++ n % 10 ∷ []))
+    parts : (n : ℕ) → address_digits n ≡ digit_at 1000 n ++ (digit_at 100 n ++ (digit_at 10 n ++ n % 10 ∷ []))
     parts n =
         append_assoc (digit_at 1000 n) (digit_at 100 n ++ digit_at 10 n) (n % 10 ∷ [])
         ∙ ap (λ (ds : List ℕ). digit_at 1000 n ++ ds) (append_assoc (digit_at 100 n) (digit_at 10 n) (n % 10 ∷ []))
 
 -- the number that they spell
-decimal_value : (n : ℕ) → n < 2048 → digits_value (decimal n) ≡ n
+decimal_value : (n : ℕ) → n < 2048 → digits_value (address_digits n) ≡ n
 decimal_value n small = by_tests (nat_le 1000 n) (nat_le 100 n) (nat_le 10 n) refl refl refl
   where
     by_tests : (a b c : Bool) → nat_le 1000 n ≡ a → nat_le 100 n ≡ b → nat_le 10 n ≡ c
-        → digits_value (decimal n) ≡ n
+        → digits_value (address_digits n) ≡ n
     by_tests true true true e f g = rw (e, f, g) (omega (arith, small))
     by_tests false true true e f g =
         let l : n < 1000 = grind (arith, nat_tests) in rw (e, f, g) (omega (arith, l))
@@ -70,10 +70,10 @@ abbrev tail_of : ℕ → List ℕ → List ℕ
 tail_of word rest = length_code (is_even word) ∷ 18 ∷ 24 ∷ rest
 
 laid : (word : ℕ) (rest : List ℕ) → word_codes word ++ rest
-    ≡ 15 ∷ word / 4096 ∷ 11 ∷ (decimal (number_in word) ++ 15 ∷ tail_of word rest)
+    ≡ 15 ∷ word / 4096 ∷ 11 ∷ (address_digits (number_in word) ++ 15 ∷ tail_of word rest)
 laid word rest =
     ap (λ (codes : List ℕ). 15 ∷ word / 4096 ∷ 11 ∷ codes)
-    (append_assoc (decimal (number_in word)) (15 ∷ length_code (is_even word) ∷ 18 ∷ 24 ∷ []) rest)
+    (append_assoc (address_digits (number_in word)) (15 ∷ length_code (is_even word) ∷ 18 ∷ 24 ∷ []) rest)
 
 codes_differ : ◌≡◌ {A = ℕ} 17 19 → ⊥
 codes_differ h = omega (arith, h)
@@ -101,7 +101,7 @@ word_back : (v w : ℕ) (more others : List ℕ) → word_codes v ++ more ≡ wo
 word_back v w more others same =
     let whole = sym (laid v more) ∙ same ∙ laid w others in
     let functions : v / 4096 ≡ w / 4096 = ap (λ (codes : List ℕ). get_or codes 1 0) whole in
-    let from : (x : ℕ) (rest : List ℕ) → BeginsOn (decimal (number_in x)) 15 (tail_of x rest) =
+    let from : (x : ℕ) (rest : List ℕ) → BeginsOn (address_digits (number_in x)) 15 (tail_of x rest) =
     λ x rest. decimal_digits (number_in x) 15 (tail_of x rest) (lit≤ tt) in
     let numbers : number_in v ≡ number_in w =
     sym (decimal_value (number_in v) (omega arith))
