@@ -1,25 +1,29 @@
-"""Writes the page as one HTML file: the drawing, the words, the modules, the tapes and sources of examples/, and the cheat
-sheet of docs/.
+"""Writes the page as one HTML file: the drawing, the words, the languages, the lessons, the cheat sheet, the modules, and the
+tapes and sources of examples/.
 
     python3 page/assemble.py OUT      OUT holds page64.wasm, and page32.wasm where there is one
 """
 import base64
-import html
+import hashlib
 import json
 import pathlib
 import re
 import sys
+
+sys.dont_write_bytecode = True
+from markdown import html_of
 
 out = pathlib.Path(sys.argv[1])
 here = pathlib.Path("page")
 
 FIRST = ["letter.tape", "name.tape", "digits.tape", "hello.edsac", "squares.edsac", "roots.edsac"]
 KINDS = {".tape": "tape", ".edsac": "source"}
+CODE = ["machine", "words", "draw", "strip", "share", "editor", "stories", "lessons", "kiosk", "page"]
 
 
 def in_script(value):
-    """A value as JSON that no browser takes for the end of a script."""
-    return json.dumps(value).replace("</", "<\\/")
+    """A value as JSON in which a browser sees no mark."""
+    return json.dumps(value, ensure_ascii=False).replace("<", "\\u003c")
 
 
 def module(name):
@@ -34,52 +38,81 @@ def said(text):
 
 
 def examples():
-    files = [file for file in pathlib.Path("examples").iterdir() if file.suffix in KINDS]
+    """The tapes and sources, without the answers to the exercises."""
+    files = [file for file in pathlib.Path("examples").iterdir() if file.suffix in KINDS and not file.name.startswith("answer")]
     files.sort(key=lambda file: (FIRST.index(file.name) if file.name in FIRST else len(FIRST), file.name))
     texts = [(file, file.read_text("utf-8")) for file in files]
     return [{"name": file.name, "kind": KINDS[file.suffix], "says": said(text), "text": text} for file, text in texts]
 
 
-def marked(text):
-    """A line of a page with its code and its bold words marked."""
-    return re.sub(r"\*\*(.+?)\*\*", r"<b>\1</b>", re.sub(r"`(.+?)`", r"<code>\1</code>", html.escape(text, quote=False)))
+def sum_of(text):
+    """FNV-1a of 64 bits, as page/lessons.js has it."""
+    value = 14695981039346656037
+    for byte in text.encode():
+        value = (value ^ byte) * 1099511628211 % 2**64
+    return f"{value:016x}"
 
 
-def table(lines):
-    """The rows of a table; the second line is the rule below its head."""
-    rows = [[marked(cell.strip()) for cell in line.strip("|").split("|")] for line in lines]
-    head = "".join(f"<th>{cell}" for cell in rows[0])
-    return f"<table><tr>{head}" + "".join("<tr>" + "".join(f"<td>{cell}" for cell in row) for row in rows[2:]) + "</table>"
+def due(number):
+    """What the answer to an exercise shows, as a sum: its paper, or where it prints nothing its words or its word at 144."""
+    shown = pathlib.Path(f"examples/answer{number}.edsac.shown").read_text("utf-8").splitlines()
+    printed = shown[1 : next(k for k, line in enumerate(shown) if line.startswith("entered"))]
+    listed = [line.split()[2] for line in shown if re.fullmatch(r" +\d+ +\d+ \S+", line)]
+    if listed:
+        return {"kind": "words", "count": len(listed) - 1, "sum": sum_of(" ".join(listed[1:]))}
+    if "--post-mortem 144,1" in shown[0]:
+        return {"kind": "place", "place": 144, "sum": sum_of(printed[0])}
+    return {"kind": "paper", "sum": sum_of("\n".join(printed))}
 
 
-def sheet():
-    """docs/CHEATSHEET.md: a title, paragraphs and tables."""
-    blocks = pathlib.Path("docs/CHEATSHEET.md").read_text("utf-8").strip().split("\n\n")
+def lessons():
+    """The lessons of the course, each up to its answer."""
+    course = pathlib.Path("docs/COURSE.md").read_text("utf-8")
+    parts = re.findall(r"^## (\d+)\. (.*)\n([\s\S]*?)(?=^## )", course, re.M)
+    programs = dict(re.findall(r"^\| \[(\d+)\].*\| (.*) \|$", course, re.M))
     made = []
-    for block in blocks:
-        lines = block.splitlines()
-        if block.startswith("# "):
-            made.append(f"<h2>{marked(block[2:])}</h2>")
-        elif block.startswith("|"):
-            made.append(table(lines))
-        else:
-            made.append(f"<p>{marked(' '.join(lines))}</p>")
-    return "\n".join(made)
+    for number, title, text in parts:
+        lesson, exercise = text.split("### Exercise")
+        exercise = exercise.split("The answer is")[0].strip()
+        named = re.findall(r"`([\w.]+)`", programs[number]) + re.findall(r"examples/([\w.]+)", lesson)
+        names = [name for name in dict.fromkeys(named) if not name.startswith("answer")]
+        made.append({
+            "number": int(number), "title": title, "programs": names, "due": due(number), "exercise": html_of(exercise),
+            "html": html_of(lesson, 2) + f"\n<h3>Exercise</h3>\n{html_of(exercise)}",
+        })
+    return made
 
 
-page = (here / "page.html").read_text("utf-8")
+def policy(page):
+    """The policy of the page: it runs its own scripts and styles, by their sums, and loads nothing."""
+    sums = {}
+    for mark in ["script", "style"]:
+        texts = re.findall(rf"<{mark}>([\s\S]*?)</{mark}>", page)
+        sums[mark] = " ".join(f"'sha256-{base64.b64encode(hashlib.sha256(text.encode()).digest()).decode()}'" for text in texts)
+    return (f"default-src 'none'; script-src {sums['script']} 'wasm-unsafe-eval'; style-src {sums['style']}; img-src data:; "
+            "base-uri 'none'; form-action 'none'")
+
+
+languages = {file.stem: json.loads(file.read_text("utf-8")) for file in sorted((here / "languages").glob("*.json"))}
+code = [
+    "'use strict';",
+    f"const MODULES = {in_script({'wide': module('page64.wasm'), 'narrow': module('page32.wasm')})};",
+    f"const EXAMPLES = {in_script(examples())};",
+    f"const LESSONS = {in_script(lessons())};",
+    f"const LANGUAGES = {in_script(languages)};",
+    *[(here / f"{name}.js").read_text("utf-8").replace("'use strict';\n", "", 1) for name in CODE],
+]
 parts = {
     "/*STYLE*/": (here / "page.css").read_text("utf-8"),
-    "/*MACHINE*/": (here / "machine.js").read_text("utf-8"),
-    "/*WORDS*/": (here / "words.js").read_text("utf-8"),
-    "/*DRAW*/": (here / "draw.js").read_text("utf-8"),
-    "/*PAGE*/": (here / "page.js").read_text("utf-8"),
-    "/*MODULES*/": in_script({"wide": module("page64.wasm"), "narrow": module("page32.wasm")}),
-    "/*EXAMPLES*/": in_script(examples()),
-    "/*SHEET*/": sheet(),
+    "/*SHEET*/": html_of(pathlib.Path("docs/CHEATSHEET.md").read_text("utf-8"), 2),
+    "/*CODE*/": "\n".join(code),
 }
+page = (here / "page.html").read_text("utf-8")
 for mark, text in parts.items():
     if page.count(mark) != 1:
         sys.exit(f"page/assemble.py: page.html must have {mark} once")
+    if mark != "/*SHEET*/" and re.search(r"</(script|style)|<!--", text):
+        sys.exit(f"page/assemble.py: the text of {mark} would end before its end")
     page = page.replace(mark, text)
+page = page.replace("/*POLICY*/", policy(page))
 (out / "edsac.html").write_text(page, "utf-8")

@@ -1,267 +1,469 @@
 'use strict';
-// Tries the page in a real browser as a visitor does, with no library: it speaks the browser's own debugging protocol over
-// two pipes.
+// Tries the page in a real browser as a visitor does.
 //   node page/browse.js BROWSER PAGE.html FOLDER      FOLDER takes the pictures
-const { spawn } = require('child_process');
 const fs = require('fs');
-const os = require('os');
-const path = require('path');
+const { Browser, pause } = require('./browser.js');
+const rules = require('./rules.js');
 
-const [browser, page, folder] = process.argv.slice(2);
-const profile = fs.mkdtempSync(path.join(os.tmpdir(), 'page-'));
-const child = spawn(browser, ['--headless', '--no-sandbox', '--disable-gpu', '--disable-dev-shm-usage', '--mute-audio', '--remote-debugging-pipe',
-    '--window-size=1280,1000', `--user-data-dir=${profile}`, 'about:blank'], { stdio: ['ignore', 'ignore', 'ignore', 'pipe', 'pipe'] });
-const waiting = new Map();
-const requested = [];
-let count = 0, rest = '', wrong = 0, sessionId;
-
-child.on('error', () => { console.log('WRONG: the browser does not start'); process.exit(1); });
-child.stdio[4].on('data', (part) => {
-    const texts = (rest + part).split('\0');
-    rest = texts.pop();
-    for (const said of texts.map((text) => JSON.parse(text))) {
-        if (waiting.has(said.id)) {
-            waiting.get(said.id)(said.result || said);
-            waiting.delete(said.id);
-        } else if (said.method === 'Network.requestWillBeSent') {
-            requested.push(said.params.request.url.slice(0, 60));
-        }
+const [command, file, folder] = process.argv.slice(2);
+const b = new Browser(command, file, folder);
+const choose = async (name) => {
+    await b.set('examples', await b.ask(`String(EXAMPLES.findIndex((example) => example.name === '${name}'))`));
+    if (await b.ask('!by("ask").hidden')) {
+        await b.click('replace');
     }
-});
-
-const send = (method, params = {}, session = sessionId) => new Promise((done) => {
-    waiting.set(++count, done);
-    child.stdio[3].write(JSON.stringify({ id: count, method, params, sessionId: session }) + '\0');
-});
-const pause = (ms) => new Promise((done) => setTimeout(done, ms));
-const limit = setTimeout(() => { console.log('WRONG: the browser gave no answer for 900 seconds'); child.kill(); process.exit(1); }, 900000);
-
-async function ask(expression) {
-    const said = await send('Runtime.evaluate', { expression, returnByValue: true, awaitPromise: true });
-    return said.exceptionDetails ? `FAULT ${JSON.stringify(said.exceptionDetails.exception.description)}` : said.result.value;
-}
-
-async function expect(what, got, wanted) {
-    const is = typeof wanted === 'function' ? wanted(got) : JSON.stringify(got) === JSON.stringify(wanted);
-    wrong += !is;
-    if (!is) {
-        console.log(`WRONG ${what}: ${JSON.stringify(got)}${typeof wanted === 'function' ? '' : `, and not ${JSON.stringify(wanted)}`}`);
-    }
-}
-
-const text = (id) => ask(`document.getElementById('${id}').textContent`);
-const click = (id, times = 1) => ask(`for (let i = 0; i < ${times}; i++) document.getElementById('${id}').click(); 0`);
-const set = (id, value, event = 'change') => ask(`(() => { const box = document.getElementById('${id}'); box.value = ${JSON.stringify(value)};
-    box.dispatchEvent(new Event('${event}')); })()`);
-const key = async (name) => {
-    await send('Input.dispatchKeyEvent', { type: 'keyDown', key: name, text: name });
-    await send('Input.dispatchKeyEvent', { type: 'keyUp', key: name });
 };
-const shot = async (name, params = {}) => {
-    const { data } = await send('Page.captureScreenshot', { format: 'png', ...params });
-    const bytes = Buffer.from(data, 'base64');
-    fs.writeFileSync(path.join(folder, name), bytes);
-    return bytes;
-};
-const choose = async (name) => set('examples', await ask(`String(EXAMPLES.findIndex((example) => example.name === '${name}'))`));
 
-// How many pixels of the store have a colour.
-const pixels = (red, green, blue) => ask(`(() => {
+// How many pixels of the store have a colour of the page.
+const pixels = (colour) => b.ask(`(() => {
     const c = document.getElementById('store'), box = c.getContext('2d').getImageData(0, 0, c.width, c.height).data;
+    const [red, green, blue] = COLOURS.${colour}.match(/\\w\\w/g).map((part) => parseInt(part, 16));
     let count = 0;
     for (let i = 0; i < box.length; i += 4) {
-        count += box[i] === ${red} && box[i + 1] === ${green} && box[i + 2] === ${blue};
+        count += Math.abs(box[i] - red) + Math.abs(box[i + 1] - green) + Math.abs(box[i + 2] - blue) < 6;
     }
     return count;
 })()`);
 
-// Waits until something holds.
-async function until(expression, seconds = 90) {
-    for (let i = 0; i < seconds * 20; i++) {
-        if ((await ask(expression)) === true) {
-            return true;
-        }
-        await pause(50);
-    }
-    return false;
-}
-
-async function open(hash) {
-    const { targetId } = await send('Target.createTarget', { url: 'about:blank' }, undefined);
-    sessionId = (await send('Target.attachToTarget', { targetId, flatten: true }, undefined)).sessionId;
-    await send('Page.enable');
-    await send('Network.enable');
-    await send('Page.navigate', { url: `file://${path.resolve(page)}${hash}` });
-    await until('document.body !== null && document.body.dataset.ready !== undefined');
-}
-
 // ---- what a visitor does
 
 async function firstTape() {
-    await expect('at Start no order is done', [await text('orders'), await text('counter')], ['0', '0']);
-    await expect('the first of the Initial Orders', await text('order'), 'TF  00101000000000000');
-    await expect('what it does', await text('meaning'), "Put the accumulator's number into place 0, then make the accumulator 0.");
-    await click('step', 9);
-    await expect('nine Steps', [await text('orders'), await text('order')], ['9', 'I40D  01000000001010001']);
-    await expect('then the tape', await text('meaning'), 'Read the next row of the tape, and put its number into places 40 and 41.');
-    await click('step');
-    await expect('a row is read', await text('did'), (said) => said.includes('A row of the tape was read: T.'));
-    await set('at', '192');
-    await expect('go to order', await text('orders'), '192');
-    await expect('the program stands at its stop', await text('meaning'), 'Stop, and ring the bell.');
-    await expect('A is printed', await text('paper'), 'A');
-    await click('step');
-    await expect('the stop', [await text('counter'), await text('ending')],
-        ['66', 'The bell rings: the machine has stopped. Step or Run lets it go on.']);
-    const before = await ask('[...page.machine.picture(page.program, 183).words].join()');
-    await click('back', 10);
-    await expect('ten Backs', [await text('orders'), await ask('[...page.shown.words].join()') === before], ['183', true]);
-    await click('start');
-    await expect('Start', await text('orders'), '0');
+    await b.expect('at Start no order is done', [await b.text('orders'), await b.text('counter')], ['0', '0']);
+    await b.expect('Start is seen', [await b.text('did'), (await pixels('lit')) > 100],
+        ['Start: the store was cleared, and the machine put 41 orders into places 0 to 40. They are the loader.', true]);
+    await b.expect('the first of the Initial Orders', await b.text('order'), 'TF  00101000000000000');
+    await b.expect('what it does', await b.text('meaning'), "Put the accumulator's number into place 0, then make the accumulator 0.");
+    await b.click('step', 9);
+    await b.expect('nine Steps', [await b.text('orders'), await b.text('order')], ['9', 'I40D  01000000001010001']);
+    await b.expect('then the tape', await b.text('meaning'), 'Read the next row of the tape, and put its number into places 40 and 41.');
+    await b.click('step');
+    await b.expect('a row is read', await b.text('did'), (said) => said.includes('A row of the tape was read: T.'));
+    await b.expect('a step is announced', await b.text('spoken'), (said) => said.includes('A row of the tape was read: T.') && said.includes('Next, at place 35'));
+    await b.set('at', '192');
+    await b.expect('go to order', await b.text('orders'), '192');
+    await b.expect('the program stands at its stop', await b.text('meaning'), 'Stop, and ring the bell.');
+    await b.expect('A is printed', await b.text('paper'), 'A');
+    await b.click('step');
+    await b.expect('the stop', [await b.text('counter'), await b.text('ending'), await b.text('run')],
+        ['66', 'The bell rings: the machine has stopped. Press Start again. Step goes on past the stop.', 'Start again']);
+    const before = await b.ask('[...page.machine.picture(page.program, 183).words].join()');
+    await b.click('back', 10);
+    await b.expect('ten Backs', [await b.text('orders'), await b.ask('[...page.shown.words].join()') === before], ['183', true]);
+    await b.click('start');
+    await b.expect('Start', await b.text('orders'), '0');
 }
 
 async function loaderOnItself() {
-    await set('at', '48');
-    await expect('the loader changes its own order', await text('did'),
+    await b.set('at', '48');
+    await b.expect('the loader changes its own order', await b.text('did'),
         (said) => said.includes('The loader changed one of its own orders: place 22 was T44F and is now T64F.'));
-    await expect('the word is lit', await pixels(255, 215, 94), (lit) => lit > 10);
+    await b.expect('the word is lit', await pixels('band'), (lit) => lit > 10);
 }
 
 async function examples() {
     for (const [name, printed, orders] of [['name.tape', 'EDSAC', '426'], ['squares.edsac', '1\n4\n9\n16\n25\n36\n49\n64\n81\n100\n', '4,650']]) {
         await choose(name);
-        await set('speed', '100000');
-        await click('run');
-        await expect(`${name} runs to its end`, await until(`page.shown.ending === 'stopped'`), true);
-        await expect(`${name}: the teleprinter`, [await text('paper'), await text('orders')], [printed, orders]);
+        await b.set('speed', '100000');
+        await b.click('run');
+        await b.expect(`${name} runs to its end`, await b.until(`page.shown.ending === 'stopped'`), true);
+        await b.expect(`${name}: the teleprinter`, [await b.text('paper'), await b.text('orders')], [printed, orders]);
     }
-    await ask(`document.getElementById('listingBox').open = true; 0`);
-    await expect('the listing', await until(`document.getElementById('listing').textContent.includes('\\n  56 ')`), true);
-    await set('at', '4000');
-    await ask(`document.getElementById('lookBox').open = true; 0`);
-    await expect('the table of figures', await until(`document.querySelectorAll('#look tr').length === 33`), true);
-    await set('figures', 'decimal');
-    await expect('the registers in decimal', await text('multiplier'), (said) => /^-?[0-9.e-]+$/.test(said));
-    await set('figures', 'binary');
-    await ask(`document.getElementById('lookBox').open = document.getElementById('listingBox').open = false; 0`);
-}
-
-// The cheat sheet has the tables of its page, and is printed alone, on one sheet of paper.
-async function cheatSheet() {
-    const rows = fs.readFileSync('docs/CHEATSHEET.md', 'utf8').split('\n').filter((line) => line.startsWith('|') && !line.startsWith('|---'));
-    await ask(`document.getElementById('sheetBox').open = true; window.print = () => {}; 0`);
-    await expect('the rows of the cheat sheet', await ask(`document.querySelectorAll('#sheet tr').length`), rows.length);
-    await expect('no mark is left in it', await text('sheet'), (said) => !said.includes('`') && !said.includes('**'));
-    for (const [paper, paperWidth, paperHeight] of [['A4', 8.27, 11.69], ['letter', 8.5, 11]]) {
-        await click('printSheet');
-        const { data } = await send('Page.printToPDF', { paperWidth, paperHeight });
-        const bytes = Buffer.from(data, 'base64');
-        fs.writeFileSync(path.join(folder, `cheatsheet-${paper}.pdf`), bytes);
-        await expect(`the sheets of ${paper}`, (bytes.toString('latin1').match(/\/Type\s*\/Page[^s]/g) || []).length, 1);
-    }
-    await ask(`document.getElementById('sheetBox').open = false; 0`);
-    await expect('the page is as it was', await ask('document.body.className'), (said) => !said.includes('sheet'));
+    await b.ask(`by('run').click(); 0`);
+    await b.expect('Start again begins at Start', await b.until(`page.shown.ending === 'stopped' && page.shown.orders === 4650`), true);
+    await b.ask(`document.getElementById('listingBox').open = true; 0`);
+    await b.expect('the listing', await b.until(`document.getElementById('listing').textContent.includes('\\n  56 ')`), true);
+    await b.set('at', '4000');
+    await b.ask(`document.getElementById('lookBox').open = true; 0`);
+    await b.expect('the table of figures', await b.until(`document.querySelectorAll('#look tr').length === 33`), true);
+    await b.set('figures', 'decimal');
+    await b.expect('the registers in decimal', await b.text('multiplier'), (said) => /^-?[0-9.e-]+$/.test(said));
+    await b.set('figures', 'binary');
+    await b.ask(`document.getElementById('lookBox').open = document.getElementById('listingBox').open = false; 0`);
 }
 
 async function faults() {
     await choose('letter.edsac');
-    const source = await ask(`document.getElementById('text').value`);
+    const source = await b.ask(`document.getElementById('text').value`);
     const line = source.split('\n').findIndex((text) => text.startsWith('Z F ')) + 1;
-    await set('text', source.replace('Z F ', 'Z Q '), 'input');
-    await expect('a faulty source', await text('refused'),
-        (said) => said.startsWith(`The machine refuses this text: line ${line}: S3 not a statement. This line is none`));
-    await click('mark');
-    await expect('its line is marked', await ask(`(() => { const box = document.getElementById('text');
+    await b.set('text', source.replace('Z F ', 'Z Q '), 'input');
+    await b.expect('nothing is refused while keys are typed', await b.ask('by("refusal").hidden'), true);
+    await b.until('editor.timer === undefined');
+    await b.expect('a faulty source', await b.text('refused'),
+        (said) => said.startsWith(`The machine refuses this text: line ${line}: S3 not a statement. The machine knows no such line`));
+    await b.expect('its line is coloured', await b.ask(`[...document.querySelectorAll('.faulty')].map((node) => node.textContent).join('').includes('Z')`), true);
+    await b.click('mark');
+    await b.expect('its line is marked', await b.ask(`(() => { const box = document.getElementById('text');
         return box.value.slice(box.selectionStart, box.selectionEnd).startsWith('Z Q'); })()`), true);
-    await expect('no picture', await text('orders'), '');
-    await set('text', source, 'input');
-    await expect('mended', [await ask(`document.getElementById('refusal').hidden`), await text('orders')], [true, '0']);
+    await b.expect('no picture', await b.text('orders'), '');
+    await b.ask(`by('lookBox').open = true; by('tank').value = '3'; by('tank').onchange(); 0`).then((said) => b.expect('Places of a refused text', said, 0));
+    await b.ask(`by('lookBox').open = false; 0`);
+    await b.type(source);
+    await b.expect('mended', [await b.ask(`document.getElementById('refusal').hidden`), await b.text('orders')], [true, '0']);
     await choose('letter.tape');
-    await set('text', 'T64K ?', 'input');
-    await expect('a faulty tape', await text('refused'), (said) => said.startsWith('The machine refuses this text: byte 5: T1 no row.'));
-    await set('text', 'T64K GK .F EZPF', 'input');
-    await set('at', '1000');
-    await expect('a run that ends at the end of its tape', await text('ending'), (said) => said.length > 20);
-    await set('text', '', 'input');
-    await set('at', '1000');
-    await expect('an empty tape', await text('ending'), 'The machine waits: it wants another row, and the tape is at its end.');
+    await b.type('T64K ?');
+    await b.expect('a faulty tape', await b.text('refused'), (said) => said.startsWith('The machine refuses this text: byte 5: T1 no row.'));
+    await b.type('T64K \u{1F469}\u200D\u{1F52C}x');
+    await b.click('mark');
+    await b.expect('an emoji stays whole', await b.ask(`by('text').value.slice(by('text').selectionStart, by('text').selectionEnd)`), '\u{1F469}\u200D\u{1F52C}');
+    await b.type('T64K GK .F EZPF');
+    await b.set('at', '1000');
+    await b.expect('a run that ends at the end of its tape', await b.text('ending'), (said) => said.length > 20);
+    await b.type('');
+    await b.set('at', '1000');
+    await b.expect('an empty tape', await b.text('ending'), 'The machine waits: it wants another row, and the tape is at its end.');
+    for (const [fault, ending] of [['new Error("odd")', 'fault'], ['new RangeError("x")', 'no memory'], ['new WebAssembly.RuntimeError("out of memory")', 'no memory']]) {
+        await b.expect(`an exception is ${ending}`, await b.ask(`faultOf(${fault}).ending`), ending);
+    }
+    const thrown = await b.ask(`(() => { const was = page.machine.picture; page.machine.picture = () => { throw new TypeError('odd'); };
+        look(3); const said = by('ending').textContent; page.machine.picture = was; begin(); return said; })()`);
+    await b.expect('and is told as what it is', thrown, 'This page has a fault of its own. Load it again. (What the browser says: odd)');
+    const told = await b.ask(`(() => { const all = [new WebAssemblyMissing(), new WebAssembly.CompileError('x'), new TypeError('odd')].map((fault) => {
+        tellFault(fault); return by('meaning').textContent.slice(0, 25); }); document.body.dataset.ready = 'wide'; begin(); return all; })()`);
+    await b.expect('a page that does not load says why', told, ['This browser is too old f', 'This browser is too old f', 'This page has a fault of ']);
+}
+
+async function ownWork() {
+    await choose('letter.tape');
+    await b.type('T64K GK ZF EZPF');
+    await b.set('examples', '1');
+    await b.expect('own work is asked about', await b.ask('[by("ask").hidden, by("text").value]'), [false, 'T64K GK ZF EZPF']);
+    await b.click('keep');
+    await b.expect('and kept', await b.ask('[by("ask").hidden, by("text").value]'), [true, 'T64K GK ZF EZPF']);
+    await b.set('examples', '1');
+    await b.click('replace');
+    await b.expect('or replaced', await b.ask('by("text").value !== "T64K GK ZF EZPF"'), true);
+    await b.click('undo');
+    await b.expect('and brought back', await b.ask('by("text").value'), 'T64K GK ZF EZPF');
+    await choose('letter.edsac');
+    const classes = await b.ask(`[...new Set([...document.querySelectorAll('#colours span')].map((node) => node.className))].sort()`);
+    await b.expect('orders, labels and comments are coloured', classes, (all) => ['comment', 'label', 'order', 'word'].every((name) => all.includes(name)));
+    await b.expect('the colours hold the same text', await b.ask(`by('colours').textContent === by('text').value + '\\n'`), true);
 }
 
 async function runs() {
     await choose('endless.tape');
-    await set('speed', '100000');
-    await set('at', '900000');
-    await click('run');
-    await expect('a run goes on', await until('page.shown.orders > 1000000 && page.running !== undefined'), true);
-    await click('run');
-    const at = await text('orders');
+    await b.set('speed', '100000');
+    await b.set('at', '900000');
+    await b.click('run');
+    await b.expect('a run goes on', await b.until('page.shown.orders > 1000000 && page.running !== undefined'), true);
+    await b.click('run');
+    const at = await b.text('orders');
     await pause(200);
-    await expect('Pause', await text('orders'), at);
-    await set('at', '999999999');
-    await expect('no further than two million', [await text('orders'), (await text('ending')).length > 10], ['2,000,000', true]);
+    await b.expect('Pause', await b.text('orders'), at);
+    const jump = await b.ask(`(() => { begin(); page.running = { due: 0, last: 0 }; by('speed').value = '650'; frame(600000);
+        const at = page.shown.orders; halt(); draw(); return at; })()`);
+    await b.expect('a tab that was hidden for ten minutes goes on where it was', jump, (orders) => orders > 0 && orders <= 163);
+    await b.set('at', '999999999');
+    await b.expect('no further than two million', [await b.text('orders'), (await b.text('ending')).length > 10], ['2,000,000', true]);
     await choose('letter.tape');
-    await ask('document.activeElement.blur(); 0');
+    await b.ask('document.activeElement.blur(); 0');
     for (const [name, wanted] of [['s', '1'], ['s', '2'], ['b', '1'], ['0', '0']]) {
-        await key(name);
-        await expect(`the key ${name}`, await text('orders'), wanted);
+        await b.key(name);
+        await b.expect(`the key ${name}`, await b.text('orders'), wanted);
+    }
+    await b.click('keys');
+    await b.key('s');
+    await b.expect('keys that are turned off', await b.text('orders'), '0');
+    await b.click('keys');
+    await b.key('s');
+    await b.expect('and on again', await b.text('orders'), '1');
+}
+
+async function longPaper() {
+    await choose('letter.tape');
+    await b.type(fs.readFileSync('bench/print.tape', 'utf8'));
+    const ms = await b.ask('(() => { const since = performance.now(); look(2000000); return performance.now() - since; })()');
+    const [all, laid] = await b.ask('[page.shown.paper.length, by("paper").textContent.length]');
+    console.log(`  a paper of ${all} characters: ${laid} of them laid out; drawn in ${ms.toFixed(0)} ms`);
+    await b.expect('a long paper is not laid out whole', [all > 100000, laid < 20200], [true, true]);
+    await choose('letter.tape');
+}
+
+// ---- stories
+
+async function stories() {
+    await b.ask('page.hurry = 0.01; 0');
+    const printed = { letter: 'A', name: 'ADA', changes: 'HELLO', sum: '1981' };
+    for (const name of await b.ask('STORIES.map((story) => story.name)')) {
+        if (name === 'own') {
+            await choose('digits.tape');
+        } else {
+            await b.set('stories', name);
+        }
+        if (name === 'name') {
+            await b.set('name', 'Ada');
+        }
+        await b.click('show');
+        await b.expect(`the story ${name} begins with its aim`, await b.text('story'), (said) => said.startsWith('This paper tape holds'));
+        await b.expect(`the story ${name} comes to its end`, await b.until('page.tour === undefined && !by("invite").hidden'), true);
+        await b.expect(`the story ${name} ends at a stop`, await b.ask('page.shown.ending'), 'stopped');
+        if (printed[name]) {
+            await b.expect(`the story ${name} prints`, (await b.text('paper')).trim(), printed[name]);
+        }
+        const seconds = Math.round(await b.ask('page.toured.waited'));
+        console.log(`  the story ${name}: ${seconds} seconds`);
+        await b.expect(`the story ${name} takes two minutes at the most`, seconds, (all) => all > 20 && all <= 120);
+    }
+    await b.ask('page.hurry = 1; 0');
+    await storyParts();
+}
+
+// What the first story says, and its buttons.
+async function storyParts() {
+    await b.set('stories', 'letter');
+    await b.ask('page.heard = []; new MutationObserver(() => page.heard.push(by("story").textContent)).observe(by("story"), { childList: true }); page.hurry = 0.02; 0');
+    await b.click('show');
+    await b.until('page.tour === undefined');
+    const heard = await b.ask('page.heard');
+    for (const said of ['41 orders appear', 'T64K tells the loader where the next words go: to place 64', 'GK tells the loader: this is where the program begins. @ on the tape now means 64',
+        'O2@ was read from the tape, and became O66F in place 64', 'AF was read from the tape, and became AF in place 66', 'The teleprinter prints A.', 'Now it is your turn']) {
+        await b.expect(`the first story says: ${said}`, heard.some((one) => one.includes(said)), true);
+    }
+    await b.click('inviteNext');
+    await b.expect('the next story', await b.ask('[by("stories").value, page.tour !== undefined]'), ['name', true]);
+    await b.ask('page.hurry = 1; 0');
+    await b.click('show');
+    await b.expect('stopped by its button', await b.ask('page.tour === undefined'), true);
+    await b.set('stories', 'letter');
+    await b.click('show');
+    await b.click('skip');
+    await b.expect('Skip leaves the aim', await b.until('by("story").textContent.includes("41 orders appear")', 3), true);
+    await b.click('skip');
+    await b.expect('Skip leaves the loader', await b.until('by("story").textContent.includes("T64K")', 3), true);
+    await b.click('skip');
+    await b.expect('Skip leaves the tape', await b.until('page.shown.counter >= 64', 3), true);
+    await b.click('skip');
+    await b.expect('and the program', await b.until('page.tour === undefined', 3), true);
+    await b.click('inviteBack');
+    await b.expect('Step back', await b.text('orders'), '192');
+}
+
+// ---- lessons
+
+async function lessons() {
+    const numbers = await b.ask('LESSONS.map((lesson) => lesson.number)');
+    await b.expect('nine lessons', numbers, [1, 2, 3, 4, 5, 6, 7, 8, 9]);
+    for (const number of numbers) {
+        await b.set('lesson', String(number));
+        await b.expect(`lesson ${number} has its exercise`, await b.text('lessonText'), (said) => said.includes('Exercise') && !said.includes('answer is'));
+        await b.ask(`document.querySelector('#lessonPrograms button').click(); if (!by('ask').hidden) by('replace').click(); 0`);
+        await b.expect(`lesson ${number} loads its program`, await b.ask('page.program.kind'), 'source');
+        await b.click('check');
+        await b.expect(`lesson ${number}: its program is no answer`, await b.text('checked'), (said) => said.startsWith('Not yet'));
+        await b.type(fs.readFileSync(`examples/answer${number}.edsac`, 'utf8'));
+        await b.click('check');
+        await b.expect(`lesson ${number}: the answer is right`, await b.text('checked'), 'Right! That is what was asked for.');
+    }
+    await b.expect('no answer is in the page', await b.ask('EXAMPLES.some((example) => example.name.startsWith("answer"))'), false);
+    for (const [line, hint] of [['a 5 F', 'capital letters'], ['A 5', 'F (a short word) or D'], ['text "HELLO YOU"', 'has no blank']]) {
+        await b.type(`segment main\n${line}\nZ F\nenter main\n`);
+        await b.expect(`a hint for ${line}`, await b.text('refused'), (said) => said.includes(hint));
+    }
+    await b.set('lesson', '0');
+    await choose('letter.tape');
+}
+
+// ---- taking along
+
+async function links() {
+    for (const [name, orders, small] of [['hello.edsac', 1061, true], ['mirror.tape', 700, false]]) {
+        await choose(name);
+        await b.ask(`if (by('small').checked !== ${small}) by('small').click(); 0`);
+        await b.set('at', String(orders));
+        const was = await b.ask('[page.program, page.shown.orders, [...page.shown.words].join()]');
+        await b.click('link');
+        await b.until('!by("linked").hidden && by("linkText").value !== ""');
+        const link = await b.ask('by("linkText").value');
+        await choose('letter.tape');
+        await b.ask(`location.hash = ${JSON.stringify(link.split('#')[1])}; 0`);
+        await b.until(`page.program.text.length === ${was[0].text.length}`, 10);
+        await b.expect(`${name} by a link there and back`, await b.ask('[page.program, page.shown.orders, [...page.shown.words].join()]'), was);
+        console.log(`  ${name}: ${was[0].text.length} characters in a link of ${link.split('#')[1].length}`);
+        await b.ask('by("linkText").value = ""; by("linked").hidden = true; if (by("small").checked) by("small").click(); 0');
+    }
+    for (const bad of ['p=1AAAA', 'p=0eyJ', 'p=xyz', `p=0${Buffer.from('["tape",0,-1,"ZF"]').toString('base64')}`]) {
+        await b.ask(`by('shared').textContent = ''; location.hash = '${bad}'; 0`);
+        await b.expect(`a broken link ${bad}`, await b.until('by("shared").textContent.startsWith("This link is not whole")', 5), true);
+    }
+    await b.ask(`by('shared').textContent = ''; location.hash = ''; 0`);
+    await b.expect('unpacked where there is no packing', await b.ask(`unpacked('0' + btoa('["source",1,7,"x"]'))`), { kind: 'source', small: true, orders: 7, text: 'x' });
+}
+
+async function files() {
+    await b.ask(`window.saved = []; URL.createObjectURL = (blob) => { window.saved.push(blob); return 'data:,'; }; HTMLAnchorElement.prototype.click = function () { window.savedAs = this.download; }; 0`);
+    await choose('hello.edsac');
+    await b.click('save');
+    await b.expect('a file is saved', await b.ask('window.saved[0].text().then((text) => [window.savedAs, text === by("text").value])'), ['program.edsac', true]);
+    const open = (name, text) => b.ask(`(async () => { const list = new DataTransfer(); list.items.add(new File([${JSON.stringify(text)}], '${name}'));
+        by('file').files = list.files; await openFile(); return [by('text').value, by('isSource').checked]; })()`);
+    await b.expect('a tape is opened', await open('own.tape', 'T64K GK ZF EZPF'), ['T64K GK ZF EZPF', false]);
+    await b.expect('a source is known by its lines', await open('own.txt', 'segment main\r\nZ F\r\nenter main\r\n'), ['segment main\nZ F\nenter main\n', true]);
+    await b.expect('a long file is refused', [await open('long.tape', ' '.repeat(262145)).then((all) => all[0].length), await b.text('shared')],
+        [28, 'This file is longer than a program can be.']);
+    await choose('letter.tape');
+}
+
+async function strips() {
+    await choose('letter.tape');
+    const strip = await b.ask(`(() => { by('printed').innerHTML = stripNow(); by('printed').style.display = 'block'; const svg = document.querySelector('#printed svg');
+        const at = (kind, name) => [...svg.querySelectorAll(kind)].map((node) => node.getBoundingClientRect()[name]);
+        const across = at('.sprocket', 'left');
+        const told = { wide: svg.getBoundingClientRect().width, rows: page.rows.length, sprockets: across.length,
+            pitch: across.slice(1).map((x, k) => x - across[k]), holes: at('.hole', 'width'), signs: [...svg.querySelectorAll('.sign')].map((node) => node.textContent).join(''),
+            title: svg.querySelector('.title').textContent, cuts: svg.querySelectorAll('.cut').length,
+            punched: Array.from(page.rows, punchedOf).map((code) => code.toString(2).replace(/0/g, '').length).reduce((sum, one) => sum + one, 0) };
+        afterPrint(); by('printed').style.display = ''; return told; })()`);
+    await b.expect('a sprocket hole for each row', strip.sprockets, strip.rows);
+    await b.expect('a row is 0.1 inch from the next', strip.pitch, (all) => all.every((one) => Math.abs(one - 9.6) < 0.01));
+    await b.expect('a hole is 0.072 inch wide', strip.holes, (all) => all.every((one) => Math.abs(one - 6.912) < 0.01));
+    await b.expect('all holes are there', strip.holes.length, strip.punched);
+    await b.expect('digits stand as figures', strip.signs, 'T64KGKO2@ZFAFEZPF');
+    await b.expect('title and marks', [strip.title, strip.cuts], ['letter.tape', 1]);
+    console.log(`  the tape as a picture: rows ${(strip.pitch[0] / 96).toFixed(4)} inch apart, holes ${(strip.holes[0] / 96).toFixed(4)} inch wide`);
+    await b.expect('blank has no hole, erase has five', await b.ask(`(() => { const all = 'PQWERTYUIOJ#SZK*.F@D!HNM&LXGABCV';
+        return ['.', '*'].map((sign) => punchedOf([...Array(32).keys()].find((code) => page.machine.letter(code) === sign)).toString(2).replace(/0/g, '').length); })()`), [0, 5]);
+    await b.expect('names are escaped', await b.ask(`stripOf(page.rows, page.labels, punchedOf, '<!--<b>&"', 'x').includes('&lt;!--&lt;b&gt;&amp;&quot;')`), true);
+    for (const what of ['tape', 'worksheet', 'sheet']) {
+        await b.ask(`preparePrint('${what}'); 0`);
+        await b.send('Emulation.setEmulatedMedia', { media: 'print' });
+        await b.expect(`the ${what} in print`, await b.ask(`[getComputedStyle(document.querySelector('main')).display, getComputedStyle(by('printed')).display, by('printed').textContent.length > 20]`),
+            ['none', 'block', true]);
+        const { data } = await b.send('Page.printToPDF', { preferCSSPageSize: false });
+        fs.writeFileSync(`${folder}/${what}.pdf`, Buffer.from(data, 'base64'));
+        await b.expect(`the ${what} as a document`, Buffer.from(data, 'base64').toString('latin1').startsWith('%PDF'), true);
+        await b.send('Emulation.setEmulatedMedia', { media: '' });
+        await b.ask('afterPrint(); 0');
     }
 }
 
-async function slowFirstRun() {
-    await choose('letter.tape');
-    await ask('page.hurry = 0.02; 0');
-    await click('show');
-    await expect('the story of the loader', await text('story'), (said) => said.includes('41 orders'));
-    await expect('the story of the tape', await until(`document.getElementById('story').textContent.includes('row by row')`), true);
-    await expect('the story of the program', await until(`document.getElementById('story').textContent.includes('the program begins')`), true);
-    await expect('its end', await until(`page.shown.ending === 'stopped' && page.tour === 0`), true);
-    await expect('what it printed', await text('paper'), 'A');
-    await ask('page.hurry = 1; 0');
-    await click('show');
-    await click('show');
-    await expect('stopped by its button', await ask('page.tour'), 0);
+async function languages() {
+    for (const name of await b.ask('Object.keys(LANGUAGES)')) {
+        const keys = await b.ask(`(() => { const all = (part, at = '') => Object.entries(part).flatMap(([key, one]) => typeof one === 'string' ? [at + key] : all(one, at + key + '.'));
+            return [all(LANGUAGES.en).filter((key) => !all(LANGUAGES['${name}']).includes(key)), all(LANGUAGES['${name}']).filter((key) => !all(LANGUAGES.en).includes(key))]; })()`);
+        await b.expect(`the texts of ${name} are those of en`, keys, [[], []]);
+        const holes = await b.ask(`(() => { const all = (part, at = '') => Object.entries(part).flatMap(([key, one]) => typeof one === 'string' ? [[at + key, (one.match(/\\{\\w+\\}/g) || []).sort().join()]] : all(one, at + key + '.'));
+            const english = new Map(all(LANGUAGES.en)); return all(LANGUAGES['${name}']).filter(([key, found]) => english.get(key) !== found).map(([key]) => key); })()`);
+        await b.expect(`the values in the texts of ${name}`, holes, []);
+    }
+    await b.set('language', 'de');
+    await b.expect('German', [await b.ask('document.documentElement.lang'), await b.text('show'), await b.text('programHead')], ['de', 'Zeig es mir', 'Das Programm']);
+    await b.set('at', '9');
+    await b.expect('an order in German', await b.text('meaning'), 'Lies die nächste Reihe des Lochstreifens, und bring ihre Zahl nach Platz 40 und 41.');
+    await b.expect('no text is left open', await b.ask(`[...document.querySelectorAll('body *')].filter((node) => /undefined|\\{\\w+\\}/.test(node.childNodes.length === 1 ? node.textContent : '') && !['SCRIPT', 'TEXTAREA', 'SPAN', 'PRE'].includes(node.tagName)).map((node) => node.id || node.tagName)`), []);
+    await b.expect('every text of the page is set', await b.ask(`[...document.querySelectorAll('[data-say]')].filter((node) => node.textContent === '').map((node) => node.dataset.say)`), []);
+    await b.set('language', 'en');
+}
+
+// ---- a museum
+
+async function kiosk() {
+    await b.size(1280, 720);
+    await b.open('#kiosk=60,quiet');
+    await b.expect('a kiosk begins at once, without its bell', await b.ask('[page.tour !== undefined, by("sound").checked, page.kiosk.seconds, document.documentElement.className]'), [true, false, 60, 'kiosk']);
+    await b.ask('page.hurry = 0.005; page.shift = 0; page.clock = () => performance.now() + page.shift; 0');
+    const later = (seconds) => b.ask(`page.shift += ${seconds * 1000}; page.kiosk.look(); 0`);
+    for (const name of ['letter', 'name', 'changes', 'disc', 'sum', 'letter']) {
+        await b.expect(`its stories rotate: ${name}`, [await b.ask('by("stories").value'), await b.until('page.tour === undefined')], [name, true]);
+        await later(13);
+    }
+    await b.until('page.tour === undefined');
+    const state = `JSON.stringify([...document.querySelectorAll('input, select, textarea, details')].map((box) => [box.id, box.tagName === 'DETAILS' ? box.open : box.type === 'checkbox' || box.type === 'radio' ? box.checked : box.value]))`;
+    await b.ask('page.kiosk.reset(); 0');
+    const wanted = await b.ask(state);
+    await b.set('language', 'de');
+    await b.ask(`for (const box of document.querySelectorAll('details')) box.open = true; for (const box of document.querySelectorAll('input[type=checkbox]')) box.click(); 0`);
+    for (const [id, value] of [['figures', 'decimal'], ['lesson', '3'], ['name', 'BOB'], ['examples', '9'], ['speed', '100000'], ['tank', '5']]) {
+        await b.set(id, value);
+    }
+    await b.ask(`by('text').style.height = '700px'; window.scrollTo(0, 9999); by('text').focus(); 0`);
+    await b.click('isTape');
+    await b.type('T64K GK E@ EZPF');
+    await b.set('examples', '2');
+    await b.click('keep');
+    await b.click('link');
+    await b.click('run');
+    await b.expect('an endless run in a kiosk', await b.until('page.shown.orders > 2000 && page.running !== undefined'), true);
+    await later(59);
+    await b.expect('not before its time', await b.ask('page.running !== undefined'), true);
+    await b.ask('page.hurry = 1; 0');
+    await later(2);
+    await b.expect('then it begins again', await b.ask('[page.running === undefined, page.tour !== undefined, by("stories").value, scrollY, document.activeElement.tagName, document.documentElement.lang]'),
+        [true, true, 'letter', 0, 'BODY', 'en']);
+    await b.ask('halt(); 0');
+    await b.expect('every box is as it was', await b.ask(state), wanted);
+    await b.expect('and nothing of a visitor is left', await b.ask(`[by('ask').hidden, by('linked').hidden, by('refusal').hidden, by('text').style.height, editor.former === undefined, by('undo').disabled, document.body.textContent.includes('BOB')]`),
+        [true, true, true, '', true, true, false]);
+    await screens();
+}
+
+// All of a kiosk on one screen, its letters and dots growing with it.
+async function screens() {
+    const seen = [];
+    for (const [wide, high] of [[1280, 720], [1366, 768], [1920, 1080], [3840, 2160]]) {
+        await b.size(wide, high);
+        await pause(300);
+        for (const language of ['en', 'de']) {
+            await b.ask(`speakIn('${language}'); by('stories').value = 'letter'; loadStory(); by('skip').hidden = false; by('invite').hidden = false; by('story').textContent = page.words.say('told.end'); look(193); 0`);
+            await b.expect(`${wide} x ${high}, ${language}: all on one screen`, await b.ask(rules.OUTSIDE), []);
+            await b.shot(`kiosk${wide}${language}.png`);
+        }
+        seen.push(await b.ask('[letterHigh(), store.plan(32).high]'));
+    }
+    console.log(`  letters and dots of a kiosk in pixels, at 1280, 1366, 1920 and 3840: ${seen.map((pair) => pair.map((one) => one.toFixed(1)).join(' and ')).join('; ')}`);
+    await b.expect('letters grow with the screen', seen[3][0] / seen[0][0], (times) => times > 2.9);
+    await b.expect('dots grow with the screen', seen[3][1] / seen[0][1], (times) => times > 2.5);
+    await b.expect('a dot is 3 pixels and more', seen[0][1], (dot) => dot >= 3);
+    await b.send('Emulation.clearDeviceMetricsOverride');
+}
+
+async function noScript() {
+    const was = b.session;
+    const { targetId } = await b.send('Target.createTarget', { url: 'about:blank' }, undefined);
+    b.session = (await b.send('Target.attachToTarget', { targetId, flatten: true }, undefined)).sessionId;
+    await b.send('Page.enable');
+    await b.send('Emulation.setScriptExecutionDisabled', { value: true });
+    await b.send('Page.navigate', { url: b.page });
+    await pause(1500);
+    const { root } = await b.send('DOM.getDocument', { depth: -1 });
+    const { nodeId } = await b.send('DOM.querySelector', { nodeId: root.nodeId, selector: 'noscript p' });
+    await b.expect('without JavaScript there is a sentence', nodeId, (id) => id > 0);
+    const { model } = await b.send('DOM.getBoxModel', { nodeId });
+    await b.expect('and it is seen', model && model.height, (high) => high > 10);
+    b.session = was;
 }
 
 // ---- how it looks and how fast it is
 
 async function looks() {
     await choose('hello.edsac');
-    await set('at', '1061');
-    await ask('window.scrollTo(0, 0); 0');
-    const bytes = await shot('page.png');
-    await expect('the picture is of this size', [bytes.readUInt32BE(16), bytes.readUInt32BE(20)], ([wide, high]) => wide >= 1200 && high >= 800);
-    await expect('and something is drawn in it', bytes.length, (length) => length > 30000);
-    await expect('dots of the store', await pixels(125, 255, 154), (on) => on > 300);
-    for (const wide of [360, 1280, 2560]) {
-        await send('Emulation.setDeviceMetricsOverride', { width: wide, height: 900, deviceScaleFactor: 1, mobile: wide < 500 });
-        await pause(150);
-        await expect(`nothing stands beyond ${wide} pixels`, await ask('document.documentElement.scrollWidth'), (got) => got <= wide);
-        await shot(`page${wide}.png`);
-    }
-    await send('Emulation.clearDeviceMetricsOverride');
-    await expect('contrast of 4.5 and more', await ask(CONTRASTS), []);
-    await expect('each control has a name', await ask(`[...document.querySelectorAll('button, input, select, textarea, canvas')]
-        .filter((box) => !(box.textContent.trim() || (box.labels && box.labels.length) || box.getAttribute('aria-label'))).map((box) => box.id)`), []);
-}
-
-// The texts whose colour stands out too little from what is behind it.
-const CONTRASTS = `(() => {
-    const part = (v) => (v <= 0.03928 ? v / 12.92 : ((v + 0.055) / 1.055) ** 2.4);
-    const light = ([r, g, b]) => 0.2126 * part(r / 255) + 0.7152 * part(g / 255) + 0.0722 * part(b / 255) + 0.05;
-    const numbers = (colour) => colour.match(/[\\d.]+/g).map(Number);
-    const behind = (node) => {
-        for (; node; node = node.parentElement) {
-            const colour = numbers(getComputedStyle(node).backgroundColor);
-            if (colour.length < 4 || colour[3] > 0) return colour;
+    await b.set('at', '1061');
+    await b.ask('window.scrollTo(0, 0); 0');
+    const bytes = await b.shot('page.png');
+    await b.expect('the picture is of this size', [bytes.readUInt32BE(16), bytes.readUInt32BE(20)], ([wide, high]) => wide >= 1200 && high >= 800);
+    await b.expect('and something is drawn in it', bytes.length, (length) => length > 30000);
+    await b.expect('dots of the store', await pixels('dot'), (on) => on > 300);
+    await b.ask(`document.querySelectorAll('details').forEach((box) => { box.open = true; }); by('lesson').value = '3'; drawLesson(); by('linked').hidden = by('ask').hidden = by('invite').hidden = by('skip').hidden = false; 0`);
+    for (const wide of [320, 360, 800, 1280, 2560]) {
+        await b.size(wide, wide < 500 ? 640 : 900, wide < 500);
+        await pause(200);
+        await b.expect(`nothing stands beyond ${wide} pixels`, await b.ask('document.documentElement.scrollWidth'), (got) => got <= wide);
+        await b.shot(`page${wide}.png`, { captureBeyondViewport: wide < 900 });
+        if (wide < 500) {
+            await b.expect(`${wide} pixels: buttons for a thumb`, await b.ask(rules.SMALL_BUTTONS), []);
         }
-        return [255, 255, 255];
-    };
-    const hasText = (node) => [...node.childNodes].some((child) => child.nodeType === 3 && child.textContent.trim());
-    return [...document.body.querySelectorAll('*')].filter((node) => hasText(node) && node.getClientRects().length).filter((node) => {
-        const two = [light(numbers(getComputedStyle(node).color)), light(behind(node))];
-        return Math.max(...two) / Math.min(...two) < 4.5;
-    }).map((node) => node.id || node.tagName);
-})()`;
+    }
+    await b.send('Emulation.clearDeviceMetricsOverride');
+    for (const [what, rule] of Object.entries(rules.EACH)) {
+        await b.expect(what, await b.ask(rule), []);
+    }
+    await b.expect('lit and changed dots differ in brightness', await b.ask(rules.BRIGHTNESS), (all) => all.every((one) => one >= 3));
+    await b.send('Emulation.setEmulatedMedia', { features: [{ name: 'prefers-reduced-motion', value: 'reduce' }] });
+    await b.expect('nothing moves where nobody wants it', await b.ask(`getComputedStyle(by('ending')).animationName`), 'none');
+    await b.send('Emulation.setEmulatedMedia', { features: [] });
+    await b.ask(`document.querySelectorAll('details').forEach((box) => { box.open = false; }); by('lesson').value = '0'; drawLesson(); by('linked').hidden = by('ask').hidden = by('invite').hidden = by('skip').hidden = true; 0`);
+    await b.expect('the page has its policy', await b.ask(`document.querySelector('meta[http-equiv]').content`), (said) => said.includes("'sha256-") && !said.includes('unsafe-inline'));
+    await b.expect('which holds', await b.ask(`(() => { const script = document.createElement('script'); script.textContent = 'window.ran = 1'; document.body.append(script); script.remove(); return window.ran === undefined; })()`), true);
+}
 
 // The time of a picture on an order that jumps to itself and on the loads of bench/: the middle of eleven tries, and the
 // least of them, which other work on the processor doesn't touch.
@@ -269,40 +471,46 @@ async function speed(name) {
     const loads = ['examples/endless.tape', 'bench/short.tape', 'bench/long.tape', 'bench/squares.tape', 'bench/print.tape'];
     await choose('endless.tape');
     for (const load of loads) {
-        await set('text', fs.readFileSync(load, 'utf8'), 'input');
-        const times = JSON.parse(await ask(`JSON.stringify([1000, 100000, 1000000].map((orders) => Array.from({ length: 11 }, () => {
+        await b.type(fs.readFileSync(load, 'utf8'));
+        const times = JSON.parse(await b.ask(`JSON.stringify([1000, 100000, 1000000].map((orders) => Array.from({ length: 11 }, () => {
             const since = performance.now(); page.machine.picture(page.program, orders); return performance.now() - since; }).sort((a, b) => a - b)))`));
         console.log(`  ${load}: a picture after 1,000, 100,000 and 1,000,000 orders in ${times.map((ms) => ms[5].toFixed(1)).join(', ')} ms`);
-        await expect(`${load} runs so far`, await ask('page.machine.picture(page.program, 1000000).orders'), 1000000);
-        await expect(`${load}: a picture in 50 ms`, Math.max(...times.map((ms) => ms[0])), (ms) => ms < 50);
+        await b.expect(`${load} runs so far`, await b.ask('page.machine.picture(page.program, 1000000).orders'), 1000000);
+        await b.expect(`${load}: a picture in 50 ms`, Math.max(...times.map((ms) => ms[0])), (ms) => ms < 50);
     }
-    const drawing = await ask(`(() => { const since = performance.now();
+    const drawing = await b.ask(`(() => { const since = performance.now();
         for (let i = 0; i < 20; i++) { store.rows.clear(); draw(); } return (performance.now() - since) / 20; })()`);
     console.log(`  with ${name} memories; all of a picture drawn in ${drawing.toFixed(1)} ms`);
 }
 
+const WHOLE = [firstTape, loaderOnItself, examples, faults, ownWork, runs, longPaper, stories, lessons, links, files, strips, languages, looks, noScript, kiosk];
+
 (async () => {
+    const only = process.argv[5]; // a part of WHOLE, by its name
     let isWhole = false; // once with one module, the whole page was tried; with the other only what the module can change
     for (const [name, hash] of [['wide', ''], ['narrow', '#narrow']]) {
-        await open(hash);
-        const has = await ask(`MODULES.${name} !== '' && (${name === 'narrow'} || hasWideMemories())`);
+        await b.open(hash);
+        const has = await b.ask(`MODULES.${name} !== '' && (${name === 'narrow'} || hasWideMemories())`);
+        if (only && isWhole) {
+            continue;
+        }
         if (has !== true) {
             console.log(`the page with ${name} memories: not tried, since ${name === 'wide' ? 'this browser has none' : 'the page was made without them'}`);
             continue;
         }
-        await expect('the module that the page chose', await ask('document.body.dataset.ready'), name);
-        for (const part of isWhole ? [firstTape, examples] : [firstTape, loaderOnItself, examples, cheatSheet, faults, runs, slowFirstRun, looks]) {
+        await b.expect('the module that the page chose', await b.ask('document.body.dataset.ready'), name);
+        if (!only) {
+            await speed(name);
+            await b.open(hash);
+        }
+        for (const part of only ? WHOLE.filter((one) => one.name === only) : isWhole ? [firstTape, examples] : WHOLE) {
             await part();
         }
         isWhole = true;
-        await speed(name);
     }
-    await expect('nothing is loaded', requested.filter((url) => !url.startsWith('file:') && !url.startsWith('data:')), []);
-    console.log(`the page in ${await ask('navigator.userAgent.match(/Chrome.[0-9.]+/)[0]')}: ${wrong} faults`);
-    clearTimeout(limit);
-    const gone = new Promise((done) => child.on('exit', done));
-    send('Browser.close', {}, undefined);
-    await gone;
-    fs.rmSync(profile, { recursive: true, force: true, maxRetries: 5 });
-    process.exit(wrong ? 1 : 0);
+    await b.expect('nothing is loaded', b.requested.filter((url) => !url.startsWith('file:') && !url.startsWith('data:')), []);
+    await b.expect('nothing is thrown, and the policy stops nothing of the page', b.said.filter((said) => !said.includes('Content Security Policy')), []);
+    console.log(`the page in ${await b.ask('navigator.userAgent.match(/Chrome.[0-9.]+/)[0]')}: ${b.wrong} faults`);
+    await b.close();
+    process.exit(b.wrong ? 1 : 0);
 })();

@@ -1,54 +1,63 @@
 'use strict';
 // Draws the store, the tape and the bell's sound. What it draws was handed over by the compiled machine.
 const COLOURS = {
-    dot: '#7dff9a', dark: '#20402a', lit: '#ffd75e', litDark: '#6b5a1c', counter: '#ff8f7a', named: '#8ccbff',
-    paper: '#e9dcae', ink: '#1d1a10', mark: '#ffcf3f', old: '#8d8668', text: '#f0e9d2',
+    dot: '#2c9b4a', dark: '#16301f', lit: '#fff3c4', litDark: '#8f8046', band: '#3d3719', counter: '#ff8f7a', named: '#8ccbff',
+    paper: '#e9dcae', ink: '#1d1a10', mark: '#ffcf3f', old: '#a39c80', text: '#f0e9d2', ground: '#0b0e0a',
 };
 
 const binary = (value, digits) => value.toString(2).padStart(digits, '0');
 
+// The height of a letter, in pixels: all that is drawn grows with it.
+const letterHigh = () => parseFloat(getComputedStyle(document.documentElement).fontSize);
+
 // A canvas in the pixels of its screen, so wide as it stands and so high.
-function fitted(canvas, height) {
+function fitted(canvas, wide, high) {
     const scale = window.devicePixelRatio || 1;
-    const [wide, high] = [Math.max(1, Math.round(canvas.clientWidth * scale)), Math.max(1, Math.round(height * scale))];
-    const isNew = canvas.width !== wide || canvas.height !== high;
+    const [across, down] = [Math.max(1, Math.round(wide * scale)), Math.max(1, Math.round(high * scale))];
+    const isNew = canvas.width !== across || canvas.height !== down;
     if (isNew) {
-        canvas.width = wide;
-        canvas.height = high;
-        canvas.style.height = `${height}px`;
+        canvas.width = across;
+        canvas.height = down;
+        canvas.style.height = `${high}px`;
     }
     const context = canvas.getContext('2d');
     context.setTransform(scale, 0, 0, scale, 0, 0);
     return { context, isNew };
 }
 
-// The dots of the store: tanks of 16 long words, each of 35 dots with the high end at the left.
+// The dots of the store: tanks of 16 long words, each of 35 dots with the high end at the left. Where the page is one
+// screen the dots are as large as the room for them lets them be.
 class StoreView {
-    constructor(canvas) {
+    constructor(canvas, isOneScreen) {
         this.canvas = canvas;
+        this.isOneScreen = isOneScreen;
         this.rows = new Map();
         this.frames = [];
+        this.tanks = 32;
     }
 
-    // Where the tanks stand on a canvas of this width.
+    // Where the tanks stand.
     plan(tanks) {
-        const wide = this.canvas.clientWidth;
-        const across = wide < 640 ? 4 : 8;
-        const dot = (wide - 8 * (across + 1)) / (35 * across);
-        const high = Math.max(dot, 2);
-        return { across, dot, high, tankWide: 35 * dot + 8, tankHigh: 16 * high + 8, height: Math.ceil(tanks / across) * (16 * high + 8) + 8 };
+        const box = this.canvas.parentElement;
+        const wide = box.clientWidth;
+        const gap = Math.max(6, wide / 160);
+        const across = wide < 640 ? 4 : 8, down = Math.ceil(tanks / across);
+        const widest = (wide - gap * (across + 1)) / (35 * across);
+        const highest = this.isOneScreen() ? (box.clientHeight - 2 - gap * (down + 1)) / (16 * down) : Math.max(widest, 2);
+        const high = Math.max(1, Math.min(Math.max(widest, 2), highest));
+        return { wide, across, gap, dot: widest, high, tankWide: 35 * widest + gap, tankHigh: 16 * high + gap, height: down * (16 * high + gap) + gap };
     }
 
-    // The order at the counter has a red frame, and the place that it names a blue one.
+    // The order at the counter has a solid frame, and the place that it names a broken one.
     draw(shown, before, small, named) {
         const tanks = small ? 16 : 32;
         const plan = this.plan(tanks);
-        const { context, isNew } = fitted(this.canvas, plan.height);
+        const { context, isNew } = fitted(this.canvas, plan.wide, plan.height);
         if (isNew || this.tanks !== tanks || this.rows.size === 0) {
             this.rows.clear();
             this.frames = [];
             this.tanks = tanks;
-            context.clearRect(0, 0, this.canvas.clientWidth, plan.height);
+            context.clearRect(0, 0, plan.wide, plan.height);
         }
         this.frames.forEach((place) => this.unframe(context, plan, place));
         for (let pair = 0; pair < tanks * 16; pair++) {
@@ -62,15 +71,16 @@ class StoreView {
             }
         }
         this.frames = [named, shown.counter].filter((place) => place >= 0 && place < tanks * 32);
-        this.frames.forEach((place) => this.frame(context, plan, place, place === shown.counter ? COLOURS.counter : COLOURS.named));
+        this.frames.forEach((place) => this.frame(context, plan, place, place === shown.counter));
     }
 
     // The corner of a pair's row.
     corner(plan, pair) {
         const tank = pair >> 4;
-        return [8 + (tank % plan.across) * plan.tankWide, 8 + Math.floor(tank / plan.across) * plan.tankHigh + (pair & 15) * plan.high];
+        return [plan.gap + (tank % plan.across) * plan.tankWide, plan.gap + Math.floor(tank / plan.across) * plan.tankHigh + (pair & 15) * plan.high];
     }
 
+    // A changed word stands on a band, and its dots fill their room.
     drawRow(context, plan, pair, [odd, middle, even], changed) {
         const [left, y] = this.corner(plan, pair);
         context.clearRect(left - 2, y, 35 * plan.dot + 4, plan.high);
@@ -78,67 +88,90 @@ class StoreView {
         for (let k = 0; k < 35; k++) {
             const isOn = bits[k] === '1';
             const isNew = changed[k < 17 ? 0 : k === 17 ? 1 : 2];
-            const size = isOn ? plan.dot * 0.86 : plan.dot * 0.5;
-            const high = Math.min(size, plan.high * 0.86);
+            if (isNew) {
+                context.fillStyle = COLOURS.band;
+                context.fillRect(left + k * plan.dot, y, plan.dot + 0.5, plan.high);
+            }
+            const share = isOn ? (isNew ? 1 : 0.8) : 0.45;
+            const [wide, high] = [plan.dot * share, plan.high * share];
             context.fillStyle = isOn ? (isNew ? COLOURS.lit : COLOURS.dot) : (isNew ? COLOURS.litDark : COLOURS.dark);
-            context.fillRect(left + k * plan.dot + (plan.dot - size) / 2, y + (plan.high - high) / 2, size, high);
+            context.fillRect(left + k * plan.dot + (plan.dot - wide) / 2, y + (plan.high - high) / 2, wide, high);
         }
     }
 
-    frame(context, plan, place, colour) {
+    frame(context, plan, place, isCounter) {
         const [left, y] = this.corner(plan, place >> 1);
-        context.lineWidth = 1.5;
-        context.strokeStyle = colour;
+        context.lineWidth = Math.max(1.5, plan.high / 4);
+        context.strokeStyle = isCounter ? COLOURS.counter : COLOURS.named;
+        context.setLineDash(isCounter ? [] : [4, 3]);
         context.strokeRect(left + (place % 2 ? 0 : 18 * plan.dot) - 1, y - 0.25, 17 * plan.dot + 2, plan.high + 0.5);
+        context.setLineDash([]);
     }
 
     // Takes a frame away: the rows that it touched are drawn again.
     unframe(context, plan, place) {
         const pair = place >> 1;
         const [left, y] = this.corner(plan, pair);
-        context.clearRect(left - 3, y - 2, 35 * plan.dot + 6, plan.high + 4);
+        const edge = Math.max(3, plan.high / 2);
+        context.clearRect(left - edge, y - edge, 35 * plan.dot + 2 * edge, plan.high + 2 * edge);
         [pair - 1, pair, pair + 1].forEach((row) => this.rows.delete(row));
     }
 
     // The place that stands at a point of the canvas, if there is one.
     placeAt(x, y) {
         const plan = this.plan(this.tanks);
-        const column = Math.floor((x - 8) / plan.tankWide), row = Math.floor((y - 8) / plan.tankHigh);
-        const line = Math.floor((y - 8 - row * plan.tankHigh) / plan.high);
+        const column = Math.floor((x - plan.gap) / plan.tankWide), row = Math.floor((y - plan.gap) / plan.tankHigh);
+        const line = Math.floor((y - plan.gap - row * plan.tankHigh) / plan.high);
         const tank = row * plan.across + column;
         if (column < 0 || column >= plan.across || line < 0 || line > 15 || tank < 0 || tank >= this.tanks) {
             return undefined;
         }
-        return tank * 32 + line * 2 + ((x - 8 - column * plan.tankWide) / plan.dot < 17.5 ? 1 : 0);
+        return tank * 32 + line * 2 + ((x - plan.gap - column * plan.tankWide) / plan.dot < 17.5 ? 1 : 0);
     }
 }
 
-// The tape, with five holes a row and the sprocket's holes between them; the next row is marked.
-function drawTape(canvas, rows, rowsLeft, letter) {
-    const { context } = fitted(canvas, 112);
-    const wide = canvas.clientWidth, step = 21, next = rows.length - rowsLeft, before = Math.floor(wide / step / 3);
-    context.clearRect(0, 0, wide, 112);
-    context.font = '14px "DejaVu Sans Mono", Consolas, monospace';
+// The holes of a row as they were punched. The top hole is inverted: blank tape, the code 16, has no hole, and erase, the
+// code 15, has five.
+const punchedOf = (code) => code ^ 16;
+
+// The tape, with five tracks and the sprocket's holes between the third and the fourth; an arrow is at the next row.
+function drawTape(canvas, rows, rowsLeft, labels) {
+    const unit = letterHigh() / 16;
+    const [wide, high, step] = [canvas.clientWidth, 104 * unit, 21 * unit];
+    const { context } = fitted(canvas, wide, high);
+    const next = rows.length - rowsLeft, before = Math.floor(wide / step / 3);
+    const hole = (x, y, size) => {
+        context.beginPath();
+        context.arc(x, y * unit, size * unit, 0, 7);
+        context.fill();
+    };
+    context.clearRect(0, 0, wide, high);
+    context.font = `${15 * unit}px "DejaVu Sans Mono", Consolas, monospace`;
     context.textAlign = 'center';
     for (let x = 2, row = next - before; x < wide; x += step, row++) {
         if (row < 0 || row >= rows.length) {
             continue;
         }
+        const middle = x + step / 2;
         context.fillStyle = row === next ? COLOURS.mark : COLOURS.paper;
-        context.fillRect(x, 4, step, 82);
+        context.fillRect(x, 8 * unit, step + 0.5, 76 * unit);
         context.fillStyle = COLOURS.ink;
-        for (let hole = 0; hole < 5; hole++) {
-            if ((rows[row] >> (4 - hole)) & 1) {
-                context.beginPath();
-                context.arc(x + step / 2, 14 + hole * 13 + (hole > 2 ? 10 : 0), 5, 0, 7);
-                context.fill();
+        for (let track = 0; track < 5; track++) {
+            if ((punchedOf(rows[row]) >> (4 - track)) & 1) {
+                hole(middle, 16 + track * 12 + (track > 2 ? 12 : 0), 4.6);
             }
         }
-        context.beginPath();
-        context.arc(x + step / 2, 51.5, 1.6, 0, 7);
-        context.fill();
+        hole(middle, 52, 1.7);
         context.fillStyle = row < next ? COLOURS.old : COLOURS.text;
-        context.fillText(letter(rows[row]), x + step / 2, 104);
+        context.fillText(labels[row], middle, 100 * unit);
+        if (row === next) {
+            context.fillStyle = COLOURS.counter;
+            context.beginPath();
+            context.moveTo(middle - 7 * unit, 0);
+            context.lineTo(middle + 7 * unit, 0);
+            context.lineTo(middle, 9 * unit);
+            context.fill();
+        }
     }
 }
 
@@ -159,4 +192,8 @@ function ring() {
         tone.start();
         tone.stop(audio.currentTime + 1.5);
     }
+}
+
+if (typeof module !== 'undefined') {
+    module.exports = { punchedOf, COLOURS };
 }

@@ -1,105 +1,142 @@
 'use strict';
-// The page: its buttons, the pictures that they ask for, and the slow first run.
-const FURTHEST = 2000000; // orders: a picture there takes no longer than a glance, and the page never stands still
+// The page: its buttons, the pictures that they ask for, and its languages.
+const FURTHEST = 2000000; // orders: a picture there takes a glance, since each one begins at Start
+const TAIL = 20000; // characters of the paper that are laid out
+const LONGEST_FRAME = 250; // milliseconds: a tab that was hidden doesn't catch up
 const by = (id) => document.getElementById(id);
-const store = new StoreView(by('store'));
+const isOneScreen = () => matchMedia('(min-width: 60rem) and (min-height: 38rem)').matches;
+const store = new StoreView(by('store'), isOneScreen);
+const EMPTY = { words: new Uint32Array(1024), digits: new Uint8Array(512) };
 
 const page = {
     machine: undefined,
+    words: undefined, // the language
     program: { text: '', kind: 'tape', small: false },
     rows: new Uint8Array(0),
+    labels: [],
     refusal: undefined, // what is wrong with the text, where it is refused
     shown: undefined, // the picture that is drawn
     before: undefined, // the picture with which it is compared
     stops: [], // after how many orders the machine was seen to stop
-    running: undefined, // when a run began, and at which order
-    tour: 0, // the number of the slow first run that goes on; 0 where none does
-    tours: 0,
+    running: undefined, // how far a run is, and when it was seen last
+    tour: undefined, // the story that is told
     touched: false, // a browser lets a page sound only once somebody has touched it
+    clock: () => performance.now(),
 };
 
 const isAlive = () => page.shown !== undefined && page.shown.words !== undefined;
 const isOver = () => !isAlive() || !['limit', 'stopped'].includes(page.shown.ending) || page.shown.orders >= FURTHEST;
+const isEnded = () => isAlive() && page.shown.ending !== 'limit';
 
 // ---- pictures
 
-// The picture after so many orders; each stop that was seen before it is passed.
-function pictureAt(orders) {
-    return page.machine.picture(page.program, orders, page.stops.filter((stop) => stop < orders).length);
+// What a fault of a call means: too little memory, or a fault of the page.
+function faultOf(fault) {
+    const isMemory = fault instanceof RangeError || /memory/i.test(fault.message);
+    return isMemory ? { ending: 'no memory', note: '' } : { ending: 'fault', note: String(fault.message) };
 }
 
-// Shows the machine after so many orders, beside the picture of the order before.
-function look(orders, beside) {
-    const at = Math.max(0, Math.min(Math.floor(orders) || 0, FURTHEST));
-    let shown;
+// The picture after a count of orders; each stop that was seen before it is passed.
+function pictureAt(orders) {
     try {
-        shown = pictureAt(at);
+        return page.machine.picture(page.program, orders, page.stops.filter((stop) => stop < orders).length);
     } catch (fault) {
-        shown = { ending: 'no memory', note: '' };
+        return faultOf(fault);
     }
+}
+
+// Draws a picture beside another one.
+function show(shown, before) {
+    const isNewStop = shown.ending === 'stopped' && !(page.shown && page.shown.ending === 'stopped' && page.shown.orders === shown.orders);
     if (shown.ending === 'stopped' && !page.stops.includes(shown.orders)) {
         page.stops.push(shown.orders);
     }
-    page.before = beside;
-    if (shown.words !== undefined && beside === undefined && shown.orders > 0) {
-        page.before = pictureAt(shown.orders - 1);
-    }
-    const rings = shown.ending === 'stopped' && !(page.shown && page.shown.ending === 'stopped' && page.shown.orders === shown.orders);
+    page.before = before && before.words ? before : undefined;
     page.shown = shown;
     draw();
-    if (rings && by('sound').checked && page.touched) {
+    if (isNewStop && by('sound').checked && page.touched) {
         ring();
     }
+}
+
+// Shows the machine after a count of orders, beside the picture given, or else that of the order before.
+function look(orders, beside) {
+    const shown = pictureAt(Math.max(0, Math.min(Math.floor(orders) || 0, FURTHEST)));
+    show(shown, beside || (shown.words === undefined ? undefined : shown.orders > 0 ? pictureAt(shown.orders - 1) : EMPTY));
 }
 
 // Start: the machine is cleared, the program's tape is mounted, and no order is done.
 function begin() {
     halt();
-    page.program = { text: by('text').value, kind: by('isSource').checked ? 'source' : 'tape', small: by('small').checked };
+    page.program = textNow();
     page.stops = [];
     page.shown = undefined;
-    const told = page.machine.rows(page.program);
+    let told;
+    try {
+        told = page.machine.rows(page.program);
+    } catch (fault) {
+        told = { ...faultOf(fault), out: new Uint8Array(0) };
+    }
     page.rows = told.out;
+    page.labels = labelsOf(page.rows, (code) => page.machine.letter(code));
     tellRefusal(told);
-    by('story').textContent = '';
     look(0);
     drawListing();
+    paint();
 }
 
 // One order more. At a stop the machine goes on past it.
 function step() {
     if (!isOver()) {
         look(page.shown.orders + 1, page.shown);
+        speak();
     }
 }
 
 function back() {
     if (isAlive() && page.shown.orders > 0) {
         look(page.shown.orders - 1);
+        speak();
     }
 }
 
-// ---- a run
+// Says aloud, for those who don't see it, what a step did.
+function speak() {
+    by('spoken').textContent = isAlive() ? page.words.say('spoken', {
+        did: by('did').textContent, place: page.shown.counter, meaning: by('meaning').textContent,
+    }) : '';
+}
+
+// ---- runs and stories
 
 function halt() {
     page.running = undefined;
-    page.tour = 0;
-    by('run').textContent = 'Run';
-    by('show').textContent = 'Show me';
+    if (page.tour) {
+        page.tour.end();
+        page.tour = undefined;
+    }
+    by('story').textContent = by('spoken').textContent = '';
+    by('invite').hidden = by('skip').hidden = true;
+    if (page.words) {
+        drawButtons();
+    }
 }
 
+// Run, Pause, or Start again where the machine has come to an end.
 function run() {
     if (page.running) {
         halt();
         return;
     }
     halt();
-    by('story').textContent = '';
+    if (isEnded()) {
+        begin();
+    }
     if (isOver()) {
         return;
     }
-    page.running = { from: page.shown.orders, since: performance.now() };
-    by('run').textContent = 'Pause';
+    page.running = { due: page.shown.orders, last: performance.now() };
+    drawButtons();
     requestAnimationFrame(frame);
 }
 
@@ -107,7 +144,10 @@ function frame(now) {
     if (!page.running) {
         return;
     }
-    const due = page.running.from + Math.floor(((now - page.running.since) / 1000) * Number(by('speed').value));
+    const passed = Math.max(0, Math.min(now - page.running.last, LONGEST_FRAME));
+    page.running.last = now;
+    page.running.due += (passed / 1000) * Number(by('speed').value);
+    const due = Math.floor(page.running.due);
     if (due > page.shown.orders) {
         look(due, page.shown);
         if (page.shown.ending !== 'limit' || isOver()) {
@@ -119,27 +159,22 @@ function frame(now) {
     requestAnimationFrame(frame);
 }
 
-// ---- the slow first run
+const storyNow = () => STORIES.find((story) => story.name === by('stories').value);
 
-const pause = (seconds) => new Promise((done) => setTimeout(done, seconds * 1000 * (page.hurry || 1)));
-
-const TOLD = {
-    first: 'At Start there are 41 orders in the store and nothing else: the loader. It gets ready to read the tape.',
-    tape: 'Now the loader reads the tape, row by row, and puts the program into the store. Watch the yellow dots.',
-    own: 'For each item of the tape the loader changes its own orders.',
-    program: 'The tape is read. The machine has left the loader: the program begins.',
-    on: 'And so it goes on, 650 orders a second, as in 1949.',
-    stop: 'The program is at its end. Choose another one below, or press Back to look again.',
-};
-
-// Shows the order at the counter for a while; false where the run was ended by a button.
-async function showFor(tour, seconds, story) {
-    by('story').textContent = story;
-    await pause(seconds);
-    return page.tour === tour;
+// Loads the text of the story that is chosen.
+function loadStory() {
+    const story = storyNow();
+    const example = story.example ? EXAMPLES.findIndex((one) => one.name === story.example) : -1;
+    by('nameLabel').hidden = story.name !== 'name';
+    if (story.name === 'own') {
+        return;
+    }
+    by('examples').value = example < 0 ? '' : String(example);
+    put(example < 0 ? { text: tapeOf(printable(by('name').value)), kind: 'tape' } : EXAMPLES[example]);
 }
 
-async function show() {
+// Tells the story that is chosen, from its beginning, or ends the one that is told.
+async function tell() {
     if (page.tour) {
         halt();
         return;
@@ -148,55 +183,27 @@ async function show() {
     if (!isAlive()) {
         return;
     }
-    const tour = (page.tour = ++page.tours);
-    by('show').textContent = 'Stop this';
-    const all = page.shown.rowsLeft;
-    while (page.shown.ending === 'limit' && page.shown.rowsLeft === all) {
-        if (!(await showFor(tour, 2.5, TOLD.first))) {
-            return;
-        }
-        step();
+    const tour = (page.tour = new Tour(storyNow()));
+    page.toured = tour;
+    by('skip').hidden = false;
+    drawButtons();
+    if (await tour.run()) {
+        page.tour = undefined;
+        by('skip').hidden = true;
+        by('invite').hidden = false;
+        drawButtons();
     }
-    if (!(await showTape(tour)) || !(await showProgram(tour))) {
-        return;
-    }
-    halt();
-    by('story').textContent = page.shown.ending === 'stopped' ? TOLD.stop : TOLD.on;
-    if (page.shown.ending === 'limit') {
-        by('speed').value = '650';
-        run();
-        by('story').textContent = TOLD.on;
-    }
-    draw();
 }
 
-// The tape, a row at a time, at first slowly; the words that a whole row changed are lit.
-async function showTape(tour) {
-    for (let row = 0; page.shown.ending === 'limit' && page.shown.counter < 41; row++) {
-        if (!(await showFor(tour, row < 8 ? 0.9 : 0.25, row < 8 ? TOLD.tape : TOLD.own))) {
-            return false;
-        }
-        const from = page.shown;
-        const left = from.rowsLeft;
-        do {
-            look(page.shown.orders + 1, from);
-        } while (page.shown.ending === 'limit' && page.shown.counter < 41 && page.shown.rowsLeft === left);
-    }
-    return true;
+// The story after the one that is chosen.
+function nextStory() {
+    const at = STORIES.indexOf(storyNow());
+    by('stories').value = STORIES[(at + 1) % (STORIES.length - 1)].name;
+    loadStory();
+    return tell();
 }
 
-// The first orders of the program, slowly.
-async function showProgram(tour) {
-    for (let order = 0; page.shown.ending === 'limit' && order < 12; order++) {
-        if (!(await showFor(tour, 2.5, TOLD.program))) {
-            return false;
-        }
-        step();
-    }
-    return true;
-}
-
-// ---- the figures
+// ---- what is drawn
 
 const fraction = (value, digits) => {
     const whole = value >> BigInt(digits - 1) ? value - (1n << BigInt(digits)) : value;
@@ -213,7 +220,7 @@ function figures(value, digits) {
 }
 
 function draw() {
-    const { shown } = page;
+    const { shown, words } = page;
     document.body.classList.toggle('rings', shown.ending === 'stopped');
     by('ending').textContent = endingText(shown);
     drawButtons();
@@ -222,46 +229,65 @@ function draw() {
         return;
     }
     const word = shown.words[shown.counter], order = page.machine.order(word);
-    by('place').textContent = `Order ${shown.orders + 1}, at place ${shown.counter}: ${order}`;
-    by('meaning').textContent = meaningOf(word, order, page.program.small);
-    by('did').textContent = page.before && shown.orders - page.before.orders === 1
-        ? `The order before: ${changesOf(page.before, shown, page.machine, page.rows)}` : '';
+    by('place').textContent = words.say('place', { number: words.number(shown.orders + 1), place: shown.counter, order });
+    by('meaning').textContent = words.meaning(word, order, page.program.small);
+    by('did').textContent = didText();
+    drawTape(by('tape'), page.rows, shown.rowsLeft, page.labels);
     store.draw(shown, page.before, page.program.small, namedBy(word, order, page.program.small));
-    by('store').setAttribute('aria-label', `The dots of the store. ${changedPlaces()}`);
-    drawTape(by('tape'), page.rows, shown.rowsLeft, (code) => page.machine.letter(code));
+    by('store').setAttribute('aria-label', words.say('storeNow', { changed: changedText() }));
     by('tape').setAttribute('aria-label', shown.rowsLeft
-        ? `The tape: ${shown.rowsLeft} of ${page.rows.length} rows are left, and the next is ${nextRow()}.` : 'The tape: all rows are read.');
-    by('orders').textContent = shown.orders.toLocaleString('en');
+        ? words.say('tapeNow', { left: shown.rowsLeft, all: page.rows.length, next: page.labels[page.rows.length - shown.rowsLeft] })
+        : words.say('tapeDone'));
+    by('orders').textContent = words.number(shown.orders);
     by('counter').textContent = shown.counter;
     by('order').textContent = `${order}  ${binary(word, 17)}`;
     by('acc').textContent = figures(shown.acc, 71);
     by('multiplier').textContent = figures(shown.multiplier, 35);
-    by('paper').textContent = shown.paper.replace(/\r/g, '');
-    by('paper').scrollTop = by('paper').scrollHeight;
+    drawPaper();
     if (document.activeElement !== by('at')) {
         by('at').value = shown.orders;
     }
     drawLook();
 }
 
-const nextRow = () => page.machine.letter(page.rows[page.rows.length - page.shown.rowsLeft]);
+// The end of the paper: no more than a browser lays out at once.
+function drawPaper() {
+    const paper = page.shown.paper.slice(-TAIL).replace(/\r/g, '');
+    const left = page.shown.paper.length - TAIL;
+    const said = left > 0 ? `[${page.words.say('lines', { count: page.words.number(left) })}]\n${paper}` : paper;
+    if (by('paper').textContent !== said) {
+        by('paper').textContent = said;
+        by('paper').scrollTop = by('paper').scrollHeight;
+    }
+}
 
-function changedPlaces() {
-    const places = page.before ? [...page.shown.words.keys()].filter((place) => page.shown.words[place] !== page.before.words[place]) : [];
-    return places.length ? `Changed: place ${places.slice(0, 8).join(', ')}.` : 'No place has changed.';
+function didText() {
+    if (page.before === EMPTY) {
+        return page.words.say('atStart');
+    }
+    return page.before && page.shown.orders - page.before.orders === 1
+        ? page.words.say('before', { said: page.words.changes(page.before, page.shown, page.machine, page.rows) }) : '';
+}
+
+function changedText() {
+    const places = page.before ? changedPlaces(page.before, page.shown) : [];
+    return places.length ? page.words.say('changedPlaces', { places: places.slice(0, 8).join(', ') }) : page.words.say('noPlace');
 }
 
 function endingText(shown) {
     if (shown.ending === 'limit') {
-        return shown.orders >= FURTHEST ? 'This page goes no further than two million orders. The program edsac does.' : '';
+        return shown.orders >= FURTHEST ? page.words.say('furthest', { count: page.words.number(FURTHEST) }) : '';
     }
-    return ENDS[shown.ending] || '';
+    return page.words.has(`ends.${shown.ending}`) ? page.words.say(`ends.${shown.ending}`, { note: shown.note }) : '';
 }
 
 function drawButtons() {
+    const { words } = page;
     by('back').disabled = !isAlive() || page.shown.orders === 0;
     by('step').disabled = isOver();
-    by('run').disabled = !page.running && isOver();
+    by('run').disabled = !isAlive() || (!page.running && !isEnded() && isOver());
+    by('run').textContent = words.say(page.running ? 'pause' : isEnded() ? 'startAgain' : 'run');
+    by('show').textContent = words.say(page.tour ? 'stopShow' : 'show');
     by('show').disabled = !isAlive();
     by('at').disabled = !isAlive();
 }
@@ -271,24 +297,27 @@ function drawNothing() {
     for (const id of ['place', 'meaning', 'did', 'orders', 'counter', 'order', 'acc', 'multiplier', 'paper', 'look']) {
         by(id).textContent = '';
     }
-    by('meaning').textContent = 'This text cannot be run. The red box below says why.';
+    if (page.shown.ending === 'refused' || page.shown.ending === 'too long') {
+        by('meaning').textContent = page.words.say('cannotRun');
+    }
     store.rows.clear();
     for (const id of ['store', 'tape']) {
         const canvas = by(id);
         canvas.getContext('2d').clearRect(0, 0, canvas.width, canvas.height);
-        canvas.setAttribute('aria-label', 'Nothing is shown.');
+        canvas.setAttribute('aria-label', page.words.say('nothingShown'));
     }
 }
 
 // What the machine says of a text that it refuses, and what that means.
 function tellRefusal(told) {
-    const hasNone = told.ending === 'no memory' || told.ending === 'no room';
-    page.refusal = told.note ? refusalOf(told.note, page.program.text) : undefined;
-    by('refusal').hidden = !hasNone && page.refusal === undefined;
+    const key = `ends.${told.ending}`;
+    const isUntold = ['no memory', 'no room', 'fault'].includes(told.ending);
+    page.refusal = told.note && !isUntold ? page.words.refusal(told.note, page.program.text, page.program.kind) : undefined;
+    by('refusal').hidden = !isUntold && page.refusal === undefined;
     by('mark').hidden = page.refusal === undefined;
     by('text').setAttribute('aria-invalid', String(page.refusal !== undefined));
-    by('refused').textContent = page.refusal
-        ? `The machine refuses this text: ${told.note.trim()}. ${page.refusal.meaning}` : hasNone ? ENDS[told.ending] : '';
+    by('refused').textContent = page.refusal ? page.words.say('refuses', { note: told.note.trim(), ...page.refusal })
+        : isUntold ? page.words.say(key, { note: told.note }) : '';
 }
 
 function markRefusal() {
@@ -298,70 +327,223 @@ function markRefusal() {
 
 // The table of a tank's places.
 function drawLook() {
-    if (!by('lookBox').open) {
+    if (!by('lookBox').open || !isAlive()) {
         return;
     }
-    const { shown } = page;
+    const { shown, words } = page;
     if (by('follow').getAttribute('aria-pressed') === 'true') {
         by('tank').value = String(shown.counter >> 5);
     }
     const first = 32 * Number(by('tank').value);
     const row = (place) => {
-        const word = shown.words[place], order = page.machine.order(word).replace('&', '&amp;');
+        const word = shown.words[place], order = escaped(page.machine.order(word));
         const here = place === shown.counter ? ' class="here" aria-current="true"' : '';
         return `<tr${here}><th scope="row">${place}<td>${order}<td>${signed(word)}<td>${binary(word, 17)}`;
     };
-    by('look').innerHTML = '<tr><th scope="col">place<th scope="col">as an order<th scope="col">as a number<th scope="col">as digits'
-        + Array.from({ length: 32 }, (_, k) => row(first + k)).join('');
+    const head = ['lookPlace', 'lookOrder', 'lookNumber', 'lookDigits'].map((key) => `<th scope="col">${escaped(words.say(key))}`);
+    by('look').innerHTML = `<tr>${head.join('')}${Array.from({ length: 32 }, (_, k) => row(first + k)).join('')}`;
 }
 
 function drawListing() {
     const told = page.program.kind === 'source' && by('listingBox').open ? page.machine.listing(page.program) : undefined;
-    by('listing').textContent = told === undefined ? 'A tape has no listing. Choose a source.' : new TextDecoder().decode(told.out) || told.note;
+    by('listing').textContent = told === undefined ? page.words.say('noListing') : new TextDecoder().decode(told.out) || told.note;
 }
 
 // ---- the boxes
 
-function tanks() {
-    const [count, chosen] = [by('small').checked ? 16 : 32, by('tank').value];
-    by('tank').innerHTML = Array.from({ length: count }, (_, k) => `<option value="${k}">${32 * k} to ${32 * k + 31}`).join('');
-    by('tank').value = Number(chosen) < count ? chosen || '0' : '0';
+// The choices of a list, with the one chosen before.
+function fill(id, choices) {
+    const chosen = by(id).value;
+    by(id).replaceChildren(...choices.map(([value, text]) => new Option(text, value)));
+    if (choices.some(([value]) => value === chosen)) {
+        by(id).value = chosen;
+    }
 }
 
-function choose(number) {
-    const example = EXAMPLES[number];
-    by('text').value = example.text;
-    by(example.kind === 'source' ? 'isSource' : 'isTape').checked = true;
-    begin();
+function tanks() {
+    const count = by('small').checked ? 16 : 32;
+    fill('tank', Array.from({ length: count }, (_, k) => [String(k), page.words.say('placesFrom', { first: 32 * k, last: 32 * k + 31 })]));
+}
+
+// Shows all texts in a language.
+function speakIn(name) {
+    const { words } = page;
+    page.words = new Words(name, LANGUAGES[name]);
+    const say = (key) => page.words.say(key);
+    document.documentElement.lang = name;
+    document.title = say('title');
+    document.querySelectorAll('[data-say]').forEach((node) => { node.textContent = say(node.dataset.say); });
+    document.querySelectorAll('[data-label]').forEach((node) => { node.setAttribute('aria-label', say(node.dataset.label)); });
+    fill('speed', [1, 5, 50, 650, 10000, 100000].map((speed) => [String(speed), say(`speed${speed}`)]));
+    fill('stories', STORIES.map((story) => [story.name, say(`stories.${story.name}`)]));
+    fill('figures', ['binary', 'decimal'].map((form) => [form, say(form)]));
+    fill('examples', [['', say('own')], ...EXAMPLES.map((example, k) => [String(k), `${example.says} (${example.name})`])]);
+    fill('lesson', [['0', say('noLesson')], ...LESSONS.map((lesson) => [String(lesson.number), `${lesson.number}: ${lesson.title}`])]);
+    fill('language', Object.entries(LANGUAGES).map(([key, texts]) => [key, texts.name]));
+    by('language').value = name;
+    tanks();
+    if (words && page.shown) {
+        draw();
+        drawListing();
+        drawLesson();
+    }
+}
+
+function chooseExample(number) {
+    replacing(() => {
+        by('examples').value = String(number);
+        by('stories').value = 'own';
+        by('nameLabel').hidden = true;
+        put(EXAMPLES[number]);
+    });
 }
 
 function follow(on) {
     by('follow').setAttribute('aria-pressed', String(on));
 }
 
+function write() {
+    halt();
+    by('program').scrollIntoView();
+    by('text').focus();
+}
+
+// ---- taking along and passing on
+
+async function makeLink() {
+    const shared = { ...textNow(), orders: isAlive() ? page.shown.orders : 0 };
+    const address = `${location.href.split('#')[0]}#p=${await packed(shared)}`;
+    by('linked').hidden = false;
+    by('linkText').value = address;
+    by('linkText').select();
+    try {
+        await navigator.clipboard.writeText(address);
+        by('shared').textContent = page.words.say('copied');
+    } catch (fault) {
+        by('shared').textContent = ''; // the visitor copies it by hand
+    }
+}
+
+// Opens what the page's address holds; false where it holds nothing.
+async function openLink() {
+    const letters = addressed().get('p');
+    if (!letters) {
+        return false;
+    }
+    const shared = await unpacked(letters);
+    if (shared === undefined) {
+        by('shared').textContent = page.words.say('badLink');
+        return false;
+    }
+    replacing(() => {
+        by('examples').value = '';
+        by('stories').value = 'own';
+        put(shared);
+        if (isAlive() && shared.orders > 0) {
+            look(shared.orders);
+        }
+    });
+    return true;
+}
+
+async function openFile() {
+    const [file] = by('file').files;
+    by('file').value = '';
+    if (!file) {
+        return;
+    }
+    if (file.size > LONGEST) {
+        by('shared').textContent = page.words.say('badFile');
+        return;
+    }
+    const text = (await file.text()).replace(/\r\n/g, '\n');
+    replacing(() => {
+        by('examples').value = '';
+        by('stories').value = 'own';
+        put({ text, kind: kindOf(file.name, text) });
+    });
+}
+
+// What a text calls itself: its first comment, or the name of the example.
+function titleNow() {
+    const example = EXAMPLES[Number(by('examples').value || -1)];
+    return example ? example.name : storyNow().name === 'name' ? printable(by('name').value) : 'EDSAC';
+}
+
+const stripNow = () => stripOf(page.rows, page.labels, punchedOf, titleNow(), page.words.say('cut'));
+
+// Prints one thing: the tape, a worksheet or the cheat sheet.
+function preparePrint(what) {
+    by('printed').innerHTML = { tape: stripNow, worksheet: worksheetNow, sheet: () => by('sheet').innerHTML }[what]();
+    document.body.dataset.print = what;
+}
+
+function printOut(what) {
+    preparePrint(what);
+    window.print();
+}
+
+function afterPrint() {
+    delete document.body.dataset.print;
+    by('printed').textContent = '';
+}
+
+// A worksheet: the text, and a table to be filled in by hand.
+function worksheetNow() {
+    const say = (key) => escaped(page.words.say(key));
+    const lesson = LESSONS[Number(by('lesson').value) - 1];
+    const cells = '<td><td><td><td>';
+    return `<h1>${say('worksheet')}: ${escaped(titleNow())}</h1><p>${say('worksheetName')}</p>`
+        + (lesson ? `<div>${lesson.exercise}</div>` : '') + `<pre>${escaped(page.program.text)}</pre><p>${say('worksheetAsk')}</p>`
+        + `<table><tr><th>${say('lookPlace')}<th>${say('worksheetOrder')}<th>${say('worksheetAcc')}<th>${say('worksheetPrinted')}`
+        + `${`<tr>${cells}`.repeat(16)}</table>`;
+}
+
+// ---- listening
+
 function listen() {
     const press = (id, does) => { by(id).onclick = does; };
-    press('show', show);
-    press('start', begin);
+    press('show', tell);
+    press('skip', () => page.tour && page.tour.skip());
+    press('start', () => { begin(); speak(); });
     press('run', run);
     press('step', () => { halt(); step(); });
     press('back', () => { halt(); back(); });
+    press('write', write);
+    press('inviteWrite', write);
+    press('inviteBack', () => { halt(); back(); });
+    press('inviteNext', nextStory);
     press('mark', markRefusal);
-    press('printSheet', () => { document.body.classList.add('sheet'); window.print(); });
-    window.onafterprint = () => document.body.classList.remove('sheet');
+    press('replace', () => answerAsk(true));
+    press('keep', () => answerAsk(false));
+    press('undo', undo);
+    press('save', () => saveFile(by('isSource').checked ? 'program.edsac' : 'program.tape', by('text').value, 'text/plain'));
+    press('open', () => by('file').click());
+    press('link', makeLink);
+    press('saveTape', () => saveFile('tape.svg', stripNow(), 'image/svg+xml'));
+    press('printTape', () => printOut('tape'));
+    press('printWorksheet', () => printOut('worksheet'));
+    press('printSheet', () => printOut('sheet'));
+    press('check', checkLesson);
     press('follow', () => { follow(by('follow').getAttribute('aria-pressed') !== 'true'); draw(); });
-    by('at').onchange = () => { halt(); look(Number(by('at').value)); };
-    by('examples').onchange = () => choose(Number(by('examples').value));
+    listenToBoxes();
+    listenToPage();
+}
+
+function listenToBoxes() {
+    by('stories').onchange = () => replacing(loadStory);
+    by('name').onchange = () => { by('stories').value = 'name'; replacing(loadStory); };
+    by('at').onchange = () => { halt(); look(Number(by('at').value)); speak(); };
+    by('examples').onchange = () => (by('examples').value === '' ? undo() : chooseExample(Number(by('examples').value)));
     by('tank').onchange = () => { follow(false); drawLook(); };
     by('figures').onchange = draw;
-    by('speed').onchange = () => {
-        if (page.running) {
-            page.running = { from: page.shown.orders, since: performance.now() };
-        }
-    };
     by('small').onchange = () => { tanks(); begin(); };
     by('isTape').onchange = by('isSource').onchange = begin;
-    by('text').oninput = () => { by('examples').value = ''; begin(); };
+    by('text').oninput = typed;
+    by('text').onscroll = follows;
+    by('file').onchange = openFile;
+    by('lesson').onchange = drawLesson;
+    by('language').onchange = () => speakIn(by('language').value);
     by('lookBox').ontoggle = draw;
     by('listingBox').ontoggle = drawListing;
     by('store').onclick = (event) => {
@@ -374,12 +556,18 @@ function listen() {
             drawLook();
         }
     };
-    window.onresize = () => draw();
+}
+
+function listenToPage() {
+    window.onresize = draw;
+    new ResizeObserver(() => page.shown && draw()).observe(by('store').parentElement);
+    window.onafterprint = afterPrint;
+    window.onhashchange = openLink;
     feel(() => { page.touched = true; });
     document.onkeydown = (event) => {
         const button = { w: 'show', 0: 'start', s: 'step', b: 'back', r: 'run' }[event.key.toLowerCase()];
-        const isTyping = ['TEXTAREA', 'INPUT', 'SELECT'].includes(event.target.tagName);
-        if (button && !isTyping && !event.ctrlKey && !event.altKey && !event.metaKey && !by(button).disabled) {
+        const isTyping = ['TEXTAREA', 'INPUT', 'SELECT'].includes(event.target.tagName) && event.target.type !== 'checkbox';
+        if (button && by('keys').checked && !isTyping && !event.ctrlKey && !event.altKey && !event.metaKey && !by(button).disabled) {
             by(button).click();
         }
     };
@@ -387,43 +575,43 @@ function listen() {
 
 // Notes when somebody touches the page.
 function feel(does) {
-    for (const kind of ['pointerdown', 'keydown', 'input']) {
-        document.addEventListener(kind, does, true);
+    for (const kind of ['pointerdown', 'keydown', 'input', 'wheel', 'touchmove']) {
+        document.addEventListener(kind, does, { capture: true, passive: true });
     }
 }
 
-// In a museum (the page's address with #kiosk behind it) the slow first run begins again where nobody touched the page.
-function watchOver(seconds) {
-    let touched = performance.now();
-    feel(() => { touched = performance.now(); });
-    setInterval(() => {
-        if (performance.now() - touched > seconds * 1000 && !page.tour && !page.running) {
-            touched = performance.now();
-            by('examples').value = '0';
-            choose(0);
-            show();
-        }
-    }, 1000);
+function languageAsked() {
+    const asked = addressed().get('lang') || navigator.language.slice(0, 2);
+    return asked in LANGUAGES ? asked : 'en';
 }
 
 async function load() {
-    const wide = hasWideMemories() && !(MODULES.narrow && location.hash.includes('narrow'));
+    speakIn(languageAsked());
+    document.querySelector('main').hidden = false;
+    if (typeof WebAssembly !== 'object') {
+        throw new WebAssemblyMissing();
+    }
+    const wide = hasWideMemories() && !(MODULES.narrow && addressed().has('narrow'));
     const bytes = Uint8Array.from(atob(wide ? MODULES.wide : MODULES.narrow), (c) => c.charCodeAt(0));
     page.machine = new Machine(await WebAssembly.compile(bytes));
-    by('examples').innerHTML = '<option value="">your own'
-        + EXAMPLES.map((example, k) => `<option value="${k}">${example.says} (${example.name})`).join('');
-    tanks();
+    by('speed').value = '650';
+    by('stories').value = STORIES[0].name;
     listen();
-    by('examples').value = '0';
-    choose(0);
-    if (location.hash.includes('kiosk')) {
-        by('printSheet').hidden = true;
-        watchOver(90);
+    loadStory();
+    await openLink();
+    if (addressed().has('kiosk')) {
+        beginKiosk(addressed().get('kiosk'));
     }
     document.body.dataset.ready = wide ? 'wide' : 'narrow';
 }
 
-load().catch(() => {
-    by('meaning').textContent = 'This browser is too old for the page: it has no WebAssembly that the machine can use.';
+class WebAssemblyMissing extends Error {}
+
+// A browser without the WebAssembly that the machine needs is too old; any other fault is told as what it is.
+function tellFault(fault) {
+    const isOld = fault instanceof WebAssemblyMissing || (typeof WebAssembly === 'object' && fault instanceof WebAssembly.CompileError);
+    by('meaning').textContent = isOld ? page.words.say('tooOld') : page.words.say('ends.fault', { note: fault.message });
     document.body.dataset.ready = 'never';
-});
+}
+
+load().catch(tellFault);

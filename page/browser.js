@@ -1,0 +1,132 @@
+'use strict';
+// A real browser, with no library: it is spoken to by its own debugging protocol over two pipes.
+const { spawn } = require('child_process');
+const fs = require('fs');
+const os = require('os');
+const path = require('path');
+
+class Browser {
+    constructor(command, page, folder) {
+        Object.assign(this, { page: `file://${path.resolve(page)}`, folder, waiting: new Map(), requested: [], said: [], count: 0, rest: '', wrong: 0 });
+        this.profile = fs.mkdtempSync(path.join(os.tmpdir(), 'page-'));
+        this.child = spawn(command, ['--headless', '--no-sandbox', '--disable-gpu', '--disable-dev-shm-usage', '--mute-audio',
+            '--lang=en-GB', '--remote-debugging-pipe', '--window-size=1280,1000', `--user-data-dir=${this.profile}`, 'about:blank'],
+        { stdio: ['ignore', 'ignore', 'ignore', 'pipe', 'pipe'] });
+        this.child.on('error', () => this.giveUp('the browser does not start'));
+        this.limit = setTimeout(() => this.giveUp('the browser gave no answer for 1500 seconds'), 1500000);
+        this.child.stdio[4].on('data', (part) => this.hear(part));
+    }
+
+    giveUp(why) {
+        console.log(`WRONG: ${why}`);
+        this.child.kill();
+        process.exit(1);
+    }
+
+    hear(part) {
+        const texts = (this.rest + part).split('\0');
+        this.rest = texts.pop();
+        for (const said of texts.map((text) => JSON.parse(text))) {
+            if (this.waiting.has(said.id)) {
+                this.waiting.get(said.id)(said.result || said);
+                this.waiting.delete(said.id);
+            } else if (said.method === 'Network.requestWillBeSent') {
+                this.requested.push(said.params.request.url.slice(0, 60));
+            } else if (said.method === 'Runtime.exceptionThrown' || (said.method === 'Log.entryAdded' && said.params.entry.level === 'error')) {
+                this.said.push(JSON.stringify(said.params).slice(0, 400));
+            }
+        }
+    }
+
+    send(method, params = {}, session = this.session) {
+        return new Promise((done) => {
+            this.waiting.set(++this.count, done);
+            this.child.stdio[3].write(JSON.stringify({ id: this.count, method, params, sessionId: session }) + '\0');
+        });
+    }
+
+    async ask(expression) {
+        const said = await this.send('Runtime.evaluate', { expression, returnByValue: true, awaitPromise: true });
+        return said.exceptionDetails ? `FAULT ${JSON.stringify(said.exceptionDetails.exception.description)}` : said.result.value;
+    }
+
+    async expect(what, got, wanted) {
+        const is = typeof wanted === 'function' ? wanted(got) : JSON.stringify(got) === JSON.stringify(wanted);
+        this.wrong += !is;
+        if (!is) {
+            console.log(`WRONG ${what}: ${JSON.stringify(got)}${typeof wanted === 'function' ? '' : `, and not ${JSON.stringify(wanted)}`}`);
+        }
+    }
+
+    // Waits until something holds.
+    async until(expression, seconds = 90) {
+        for (let i = 0; i < seconds * 20; i++) {
+            if ((await this.ask(expression)) === true) {
+                return true;
+            }
+            await pause(50);
+        }
+        return false;
+    }
+
+    text(id) {
+        return this.ask(`document.getElementById('${id}').textContent`);
+    }
+
+    click(id, times = 1) {
+        return this.ask(`for (let i = 0; i < ${times}; i++) document.getElementById('${id}').click(); 0`);
+    }
+
+    set(id, value, event = 'change') {
+        return this.ask(`(() => { const box = document.getElementById('${id}'); box.value = ${JSON.stringify(value)};
+            box.dispatchEvent(new Event('${event}', { bubbles: true })); })()`);
+    }
+
+    // Types a text into the box, and waits until typing has rested.
+    async type(text) {
+        await this.set('text', text, 'input');
+        await this.until('editor.timer === undefined');
+    }
+
+    async key(name) {
+        await this.send('Input.dispatchKeyEvent', { type: 'keyDown', key: name, text: name });
+        await this.send('Input.dispatchKeyEvent', { type: 'keyUp', key: name });
+    }
+
+    async shot(name, params = {}) {
+        const { data } = await this.send('Page.captureScreenshot', { format: 'png', ...params });
+        const bytes = Buffer.from(data, 'base64');
+        fs.writeFileSync(path.join(this.folder, name), bytes);
+        return bytes;
+    }
+
+    size(width, height, mobile = false) {
+        return this.send('Emulation.setDeviceMetricsOverride', { width, height, deviceScaleFactor: 1, mobile });
+    }
+
+    // Opens the page in a tab of its own, with what stands behind its #.
+    async open(hash, before) {
+        const { targetId } = await this.send('Target.createTarget', { url: 'about:blank' }, undefined);
+        this.session = (await this.send('Target.attachToTarget', { targetId, flatten: true }, undefined)).sessionId;
+        for (const part of ['Page', 'Network', 'Runtime', 'Log']) {
+            await this.send(`${part}.enable`);
+        }
+        if (before) {
+            await before();
+        }
+        await this.send('Page.navigate', { url: `${this.page}${hash}` });
+        await this.until('document.body !== null && document.body.dataset.ready !== undefined');
+    }
+
+    async close() {
+        clearTimeout(this.limit);
+        const gone = new Promise((done) => this.child.on('exit', done));
+        this.send('Browser.close', {}, undefined);
+        await gone;
+        fs.rmSync(this.profile, { recursive: true, force: true, maxRetries: 5 });
+    }
+}
+
+const pause = (ms) => new Promise((done) => setTimeout(done, ms));
+
+module.exports = { Browser, pause };

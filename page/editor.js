@@ -1,0 +1,118 @@
+'use strict';
+// The box for texts: it colours labels, orders and comments, marks a faulty line when typing rests, asks before own work is
+// replaced, and brings the text before back.
+const REST = 500; // milliseconds without a key after which a text is read
+const PAINTED = 40000; // characters: a longer text stands without colours
+const editor = {
+    isOwn: false, // whether the text was typed here
+    former: undefined, // the text that was replaced last
+    waiting: undefined, // what is to happen once own work may be replaced
+    timer: undefined,
+};
+
+const textNow = () => ({ text: by('text').value, kind: by('isSource').checked ? 'source' : 'tape', small: by('small').checked });
+
+// The parts of a text with the class of each.
+function partsOf(text, kind) {
+    const form = kind === 'source'
+        ? /(?<comment>;[^\n]*)|(?<label>^[ \t]*[A-Za-z_]\w*:)|(?<string>"[^"\n]*")|(?<word>^[ \t]*(?:segment|enter|use|data|version|word|long|text)\b)|(?<order>\b[A-Z](?= ))/gm
+        : /(?<comment>\[[^\]]*\]?)|(?<order>[A-Z](?=\d*[A-Z@#!&]))/gm;
+    const parts = [];
+    let at = 0;
+    for (const found of text.matchAll(form)) {
+        parts.push(['', text.slice(at, found.index)]);
+        parts.push([Object.keys(found.groups).find((name) => found.groups[name] !== undefined), found[0]]);
+        at = found.index + found[0].length;
+    }
+    parts.push(['', text.slice(at)]);
+    return parts.filter(([, part]) => part);
+}
+
+function paint() {
+    const { text, kind } = textNow();
+    const isLong = text.length > PAINTED;
+    by('text').classList.toggle('painted', !isLong);
+    const fault = page.refusal;
+    let at = 0;
+    const spans = isLong ? [] : partsOf(text, kind).map(([name, part]) => {
+        const span = document.createElement('span');
+        span.textContent = part;
+        const isFaulty = fault && at < Math.max(fault.to, fault.from + 1) && at + part.length > fault.from;
+        span.className = `${name}${isFaulty ? ' faulty' : ''}`.trim();
+        at += part.length;
+        return span;
+    });
+    by('colours').replaceChildren(...spans, document.createTextNode('\n'));
+    follows();
+}
+
+// The colours stand where the text stands.
+function follows() {
+    by('colours').scrollTop = by('text').scrollTop;
+    by('colours').scrollLeft = by('text').scrollLeft;
+}
+
+// Does what replaces the text, and asks first where it was typed here.
+function replacing(does) {
+    if (!editor.isOwn) {
+        does();
+        return;
+    }
+    editor.waiting = does;
+    by('ask').hidden = false;
+    by('ask').scrollIntoView({ block: 'nearest' });
+    by('keep').focus();
+}
+
+function answerAsk(isYes) {
+    const does = editor.waiting;
+    editor.waiting = undefined;
+    by('ask').hidden = true;
+    if (isYes && does) {
+        editor.isOwn = false;
+        does();
+    }
+}
+
+// Puts a text into the box, and begins with it.
+function put(program) {
+    clearTimeout(editor.timer);
+    const now = textNow();
+    if (now.text !== '' && now.text !== program.text) {
+        editor.former = now;
+    }
+    by('undo').disabled = editor.former === undefined;
+    by('text').value = program.text;
+    by(program.kind === 'source' ? 'isSource' : 'isTape').checked = true;
+    if (program.small !== undefined && by('small').checked !== program.small) {
+        by('small').checked = program.small;
+        tanks();
+    }
+    editor.isOwn = false;
+    begin();
+}
+
+function undo() {
+    if (editor.former) {
+        put(editor.former);
+        editor.isOwn = true;
+        by('examples').value = '';
+        by('stories').value = 'own';
+    }
+}
+
+// A key was typed: the text is read when typing rests.
+function typed() {
+    halt();
+    editor.isOwn = true;
+    by('examples').value = '';
+    by('stories').value = 'own';
+    page.refusal = undefined;
+    paint();
+    clearTimeout(editor.timer);
+    editor.timer = setTimeout(() => { editor.timer = undefined; begin(); }, REST);
+}
+
+if (typeof module !== 'undefined') {
+    module.exports = { partsOf };
+}

@@ -1,0 +1,213 @@
+'use strict';
+// The stories that the page tells by itself: what a tape is to do, how it fills the store, how its program works, and an end
+// that invites. What is shown comes from the machine's pictures; an item of the tape is what the loader reads between two
+// pictures in which it waits for the next one.
+const WAITS = 34; // the place of the loader's order that reads the first row of an item
+const STORIES = [
+    { name: 'letter', example: 'letter.tape' },
+    { name: 'name' },
+    { name: 'changes', example: 'hello.edsac' },
+    { name: 'disc', example: 'disc.edsac' },
+    { name: 'sum', example: 'add.edsac' },
+    { name: 'own' }, // what stands in the box
+];
+const ITEMS = 9, ORDERS = 9; // so many are told one by one
+
+// The letters that a name can be printed in: capital letters without their marks, and blanks.
+function printable(name) {
+    const letters = name.normalize('NFD').toUpperCase().replace(/ß/gi, 'SS').replace(/[^A-Z ]/g, '').trim().slice(0, 12);
+    return letters || 'EDSAC';
+}
+
+// The text of a tape that prints letters.
+function tapeOf(letters) {
+    const signs = [...letters].map((letter) => (letter === ' ' ? '!' : letter));
+    const orders = signs.map((_, k) => `O${signs.length + 1 + k}@`).join(' ');
+    return `[Prints ${letters}, and stops. The letters are words that stand after the orders.]\n`
+        + `T64K GK\n${orders} ZF\n${signs.map((sign) => `${sign}F`).join(' ')}\nEZPF\n`;
+}
+
+class Tour {
+    constructor(story) {
+        this.story = story;
+        this.isOver = false;
+        this.waited = 0; // seconds, as they are planned
+    }
+
+    // Waits; false where a button ended the story. Skip ends the waiting and all further ones of the part.
+    async wait(seconds) {
+        if (!this.skips && !this.isOver) {
+            this.waited += seconds;
+            await new Promise((done) => {
+                this.wake = done;
+                setTimeout(done, seconds * 1000 * (page.hurry || 1));
+            });
+        }
+        return !this.isOver;
+    }
+
+    skip() {
+        this.skips = true;
+        if (this.wake) {
+            this.wake();
+        }
+    }
+
+    end() {
+        this.isOver = true;
+        this.skip();
+    }
+
+    // Tells a sentence for a while.
+    async tell(seconds, key, values) {
+        if (this.isOver) {
+            return false;
+        }
+        if (!this.skips) {
+            by('story').textContent = page.words.say(key, values);
+        }
+        return this.wait(seconds);
+    }
+
+    // All of the story; true where it came to its end.
+    async run() {
+        for (const part of [this.tellAim, this.tellLoader, this.tellTape, this.tellProgram]) {
+            this.skips = false;
+            await part.call(this);
+            if (this.isOver) {
+                return false;
+            }
+        }
+        this.skips = false;
+        by('story').textContent = page.words.say('told.end');
+        return true;
+    }
+
+    async tellAim() {
+        await this.tell(6, `aim.${this.story.name}`, { name: printable(by('name').value) });
+    }
+
+    // The loader's own first orders, as one picture.
+    async tellLoader() {
+        if (!(await this.tell(6, 'told.loader'))) {
+            return;
+        }
+        show(this.toNextItem(page.shown), page.shown);
+        await this.tell(5, 'told.ready');
+    }
+
+    // The picture in which the loader waits for its next item, or has left.
+    toNextItem(from) {
+        let shown = from;
+        do {
+            shown = pictureAt(shown.orders + 1);
+        } while (shown.ending === 'limit' && shown.counter < LOADER && shown.counter !== WAITS);
+        return shown;
+    }
+
+    // Each item as it lands: the first ones slowly, the others in a few seconds.
+    async tellTape() {
+        for (let item = 0; item < ITEMS && this.isReading(); item++) {
+            const from = page.shown;
+            show(this.toNextItem(from), from);
+            if (!(await this.tell(item < 4 ? 4 : 3, ...this.itemOf(from, page.shown)))) {
+                return;
+            }
+        }
+        const entry = this.entryAfter(page.shown.orders);
+        for (let k = 1, from = page.shown.orders; k <= 24 && page.shown.orders < entry; k++) {
+            if (!(await this.tell(0.2, 'told.on'))) {
+                return;
+            }
+            show(pictureAt(Math.round(from + ((entry - from) * k) / 24)), page.shown);
+        }
+        await this.tell(4, 'told.program');
+    }
+
+    isReading() {
+        return page.shown.ending === 'limit' && page.shown.counter < LOADER;
+    }
+
+    // After how many orders the loader has left: found by halves, since before it the counter is in the loader.
+    entryAfter(from) {
+        const hasLeft = (orders) => {
+            const shown = pictureAt(orders);
+            return shown.ending !== 'limit' || shown.counter >= LOADER;
+        };
+        if (hasLeft(from)) {
+            return from;
+        }
+        let [low, high] = [from, 2 * from + 64];
+        while (!hasLeft(high) && high < FURTHEST) {
+            [low, high] = [high, 2 * high];
+        }
+        while (high - low > 1) {
+            const middle = Math.floor((low + high) / 2);
+            [low, high] = hasLeft(middle) ? [low, middle] : [middle, high];
+        }
+        return high;
+    }
+
+    // What is said of an item: its rows, and what became of it.
+    itemOf(from, to) {
+        const first = page.rows.length - from.rowsLeft, last = page.rows.length - to.rowsLeft;
+        const item = page.labels.slice(first, last).join('');
+        const places = changedPlaces(from, to).filter((place) => place >= LOADER + 3);
+        if (places.length === 1) {
+            return ['told.landed', { item, order: page.machine.order(to.words[places[0]]), place: places[0] }];
+        }
+        if (places.length > 1) {
+            return ['told.landedMany', { item, place: places.join(', ') }];
+        }
+        if (to.counter >= LOADER) {
+            return ['told.enter', { item }];
+        }
+        const number = item.slice(1, -1);
+        return /^T\d+K$/.test(item) ? ['told.from', { item, place: number }]
+            : item === 'GK' ? ['told.theta', { item, place: addressOf(to.words[42]) }] : ['told.control', { item }];
+    }
+
+    // The first orders slowly, the others in time.
+    async tellProgram() {
+        for (let order = 0; order < ORDERS && page.shown.ending === 'limit'; order++) {
+            const from = page.shown;
+            show(pictureAt(from.orders + 1), from);
+            if (!(await this.tell(order < 5 ? 3.5 : 2.5, ...this.orderOf(from, page.shown)))) {
+                return;
+            }
+        }
+        if (page.shown.ending === 'limit') {
+            await this.runOn();
+        }
+    }
+
+    orderOf(from, to) {
+        const printed = printedBetween(from, to);
+        if (printed) {
+            return ['told.printed', { text: printed }];
+        }
+        const isChanged = changedPlaces(from, to).some((place) => isOwnOrder(from, to, place, page.machine));
+        return isChanged ? ['told.changed', {}] : ['told.program', {}];
+    }
+
+    // The rest of the program, up to its end, in at most 18 seconds.
+    async runOn() {
+        const end = pictureAt(FURTHEST);
+        const from = page.shown.orders, left = end.orders - from;
+        const frames = Math.min(180, Math.max(1, Math.ceil(left / 65)));
+        for (let k = 1; k < frames; k++) {
+            if (!(await this.tell(0.1, 'told.fast'))) {
+                return;
+            }
+            show(pictureAt(from + Math.round((left * k) / frames)), page.shown);
+        }
+        show(end, page.shown);
+    }
+}
+
+// The place in an order's address.
+const addressOf = (word) => Math.floor((word % 4096) / 2) % 1024;
+
+if (typeof module !== 'undefined') {
+    module.exports = { printable, tapeOf };
+}

@@ -1,0 +1,124 @@
+'use strict';
+// Tries the page's own rules without a browser: the sentence of each order in each language, the hints, the figures of a
+// tape, the signs that are marked, the names that are printed.
+//   node page/units.js
+const fs = require('fs');
+const path = require('path');
+const { Words, signAt, lineAt, hintFor, figuresOf, shiftOf } = require('./words.js');
+const { packed, unpacked, kindOf } = require('./share.js');
+const { printable, tapeOf } = require('./stories.js');
+const { sumOf, seenOf } = require('./lessons.js');
+const { punchedOf } = require('./draw.js');
+const { STRIP, stripOf } = require('./strip.js');
+const { partsOf } = require('./editor.js');
+
+let count = 0, wrong = 0;
+
+function same(what, got, wanted) {
+    count++;
+    if (JSON.stringify(got) !== JSON.stringify(wanted)) {
+        wrong++;
+        console.log(`WRONG ${what}: ${JSON.stringify(got)}, and not ${JSON.stringify(wanted)}`);
+    }
+}
+
+const LETTERS = 'PQWERTYUIOJ#SZK*.F@D!HNM&LXGABCV';
+const wordOf = (text) => 4096 * LETTERS.indexOf(text[0]) + 2 * Number(text.slice(1, -1) || 0) + (text.endsWith('D') ? 1 : 0);
+const languages = Object.fromEntries(fs.readdirSync(path.join(__dirname, 'languages')).map((file) => (
+    [file.slice(0, -5), new Words(file.slice(0, -5), JSON.parse(fs.readFileSync(path.join(__dirname, 'languages', file), 'utf8')))])));
+
+// Each order with what it does, in English and in German; a word of 1024 and more counts modulo the store.
+const MEANINGS = [
+    ['A66F', 'Add the number in place 66 to the accumulator.', 'Addiere die Zahl auf Platz 66 zum Akkumulator.'],
+    ['A67D', 'Add the long number in places 66 and 67 to the accumulator.', 'Addiere die lange Zahl auf den Plätzen 66 und 67 zum Akkumulator.'],
+    ['S5F', 'Take the number in place 5 away from the accumulator.', 'Zieh die Zahl auf Platz 5 vom Akkumulator ab.'],
+    ['H5F', 'Copy the number in place 5 into the multiplier register.', 'Kopiere die Zahl auf Platz 5 in das Multiplikatorregister.'],
+    ['V5F', 'Multiply the number in place 5 by the multiplier register, and add the result to the accumulator.',
+        'Multipliziere die Zahl auf Platz 5 mit dem Multiplikatorregister, und addiere das Ergebnis zum Akkumulator.'],
+    ['N5F', 'Multiply the number in place 5 by the multiplier register, and take the result away from the accumulator.',
+        'Multipliziere die Zahl auf Platz 5 mit dem Multiplikatorregister, und zieh das Ergebnis vom Akkumulator ab.'],
+    ['T5F', "Put the accumulator's number into place 5, then make the accumulator 0.", 'Bring die Zahl des Akkumulators nach Platz 5, dann setze den Akkumulator auf 0.'],
+    ['U4D', "Copy the accumulator's number into places 4 and 5. The accumulator keeps it.", 'Kopiere die Zahl des Akkumulators nach Platz 4 und 5. Der Akkumulator behält sie.'],
+    ['C5F', 'Look at the number in place 5 and at the multiplier register: where both have a 1, add that 1 to the accumulator.',
+        'Vergleiche die Zahl auf Platz 5 mit dem Multiplikatorregister: Wo beide eine 1 haben, addiere diese 1 zum Akkumulator.'],
+    ['RD', "Move the accumulator's digits 1 to the right: this halves its number once.", 'Schieb die Ziffern des Akkumulators um 1 nach rechts: Das halbiert seine Zahl einmal.'],
+    ['L1F', "Move the accumulator's digits 2 to the left: this doubles its number twice.", 'Schieb die Ziffern des Akkumulators um 2 nach links: Das verdoppelt seine Zahl zweimal.'],
+    ['LF', "Move the accumulator's digits 13 to the left: this doubles its number 13 times.", 'Schieb die Ziffern des Akkumulators um 13 nach links: Das verdoppelt seine Zahl 13-mal.'],
+    ['RF', "Move the accumulator's digits 15 to the right: this halves its number 15 times.", 'Schieb die Ziffern des Akkumulators um 15 nach rechts: Das halbiert seine Zahl 15-mal.'],
+    ['E64F', 'If the accumulator is 0 or more, go to place 64. If it is below 0, just go on.', 'Ist der Akkumulator 0 oder mehr, geh zu Platz 64. Ist er unter 0, mach einfach weiter.'],
+    ['G64F', 'If the accumulator is below 0, go to place 64. If it is 0 or more, just go on.', 'Ist der Akkumulator unter 0, geh zu Platz 64. Ist er 0 oder mehr, mach einfach weiter.'],
+    ['I5F', 'Read the next row of the tape, and put its number into place 5.', 'Lies die nächste Reihe des Lochstreifens, und bring ihre Zahl nach Platz 5.'],
+    ['O5F', 'Print the letter or figure whose code is in place 5.', 'Druck den Buchstaben oder die Ziffer, deren Code auf Platz 5 steht.'],
+    ['F5F', 'Put the code of what was printed last into place 5, so that it can be checked.', 'Bring den Code des zuletzt gedruckten Zeichens nach Platz 5, damit man ihn prüfen kann.'],
+    ['XF', 'Do nothing, and go on.', 'Tu nichts, und mach weiter.'],
+    ['YF', 'Round the number in the accumulator.', 'Runde die Zahl im Akkumulator.'],
+    ['ZF', 'Stop, and ring the bell.', 'Halt an, und läute die Glocke.'],
+    ['P5F', 'This is a number and no order. The machine can go no further here.', 'Das ist eine Zahl und kein Befehl. Hier geht es für die Maschine nicht weiter.'],
+];
+for (const [text, english, german] of MEANINGS) {
+    same(`${text} in English`, languages.en.meaning(wordOf(text), text, false), english);
+    same(`${text} in German`, languages.de.meaning(wordOf(text), text, false), german);
+}
+same('an address in the small store', languages.en.meaning(wordOf('A600F'), 'A600F', true), 'Add the number in place 88 to the accumulator.');
+for (const [text, places] of [['RD', 1], ['R1F', 2], ['R2F', 3], ['R512F', 11], ['LF', 13], ['RF', 15]]) {
+    same(`${text} shifts`, shiftOf({ word: wordOf(text) }), places);
+}
+
+// Each order has a sentence in each language, and so has each cause of the manual.
+for (const [name, words] of Object.entries(languages)) {
+    for (const letter of 'ASHVNTUCRLEGIOFXYZ') {
+        same(`${name}: ${letter}`, /\{|undefined/.test(words.meaning(wordOf(`${letter}5F`), `${letter}5F`, false)), false);
+    }
+    for (const cause of ['T1', 'T2', ...Array.from({ length: 17 }, (_, k) => `S${k + 1}`)]) {
+        same(`${name}: ${cause}`, words.has(`cause.${cause}`), true);
+    }
+}
+
+for (const [cause, part, kind, hint] of [
+    ['S3', 'a 5 F', 'source', 'lower'], ['S3', 'A 5', 'source', 'length'], ['S3', 'next: A one', 'source', 'length'],
+    ['S3', 'text "HELLO YOU"', 'source', 'blank'], ['S1', 'A 5 F // five', 'source', 'comment'], ['S1', '[five]', 'source', 'comment'],
+    ['S7', 'A nowhere F', 'source', 'word'], ['S16', '', 'source', 'enter'], ['S4', 'word 999999', 'source', undefined],
+    ['T1', 'a', 'tape', 'lowerTape'], ['T1', '?', 'tape', undefined],
+]) {
+    same(`the hint for ${cause} ${part}`, hintFor(cause, part, kind), hint);
+}
+for (const [text, byte, from, to] of [['T64K ?', 5, 5, 6], ['AÄ', 1, 1, 2], ['A\u{1F469}\u200D\u{1F52C}B', 1, 1, 6], ['ÄÄ\u{1F600}', 4, 2, 4], ['A', 1, 1, 1]]) {
+    same(`the sign at byte ${byte} of ${text}`, signAt(text, byte), { from, to });
+}
+same('a line of a text', lineAt('one\ntwo\nthree', 2), { from: 4, to: 7 });
+same('a line after the last one', lineAt('one', 5), { from: 3, to: 3 });
+
+const codes = (text) => [...text].map((sign) => (/\d/.test(sign) ? Number(sign) : LETTERS.indexOf(sign)));
+const figured = (text) => figuresOf(codes(text), (code) => LETTERS[code]).map((is) => (is ? '9' : '-')).join('');
+same('the figures of a tape', figured('T64KGKO2@ZFAFEZPF'), '-99---' + '-9-' + '----' + '----');
+same('what follows the entry is not the loader\'s', figured('E64KPF12F'), '-99-' + '--' + '---');
+same('no figure without an item', figured('12'), '-9');
+same('blank tape has no hole, erase has five', ['.', '*'].map((sign) => punchedOf(LETTERS.indexOf(sign))), [0, 31]);
+same('names that the teleprinter can print', ['ada', ' Jürgen ', 'Strauß', '1234', 'Anna Maria Luise'].map(printable), ['ADA', 'JURGEN', 'STRAUSS', 'EDSAC', 'ANNA MARIA L']);
+same('a tape that prints a name', tapeOf('AB').split('\n').slice(1), ['T64K GK', 'O3@ O4@ ZF', 'AF BF', 'EZPF', '']);
+same('a blank in a name', tapeOf('A B').includes('AF !F BF'), true);
+same('the sum of nothing', sumOf(''), 'cbf29ce484222325');
+same('the sum of a letter', sumOf('a'), 'af63dc4c8601ec8c');
+same('what is seen of a paper', seenOf('1\r\n2  \r\n\n'), '1\n2');
+same('a source by its name or its lines', [kindOf('a.tape', 'segment'), kindOf('a.edsac', ''), kindOf('a.txt', '; x\nsegment main'), kindOf('a.txt', 'T64K')], ['tape', 'source', 'source', 'tape']);
+const whole = (parts) => parts.map(([, part]) => part).join('');
+for (const [kind, text] of [['source', 'a: A b F ; x\ntext "A;B"\n'], ['tape', 'T64K [x] GK']]) {
+    same(`no character of a ${kind} is lost`, whole(partsOf(text, kind)), text);
+}
+const strip = stripOf(codes('.*A'), ['.', '*', '<!--'], punchedOf, '<b>', 'x');
+same('holes of three rows', (strip.match(/class="hole"/g) || []).length, 0 + 5 + punchedOf(28).toString(2).replace(/0/g, '').length);
+same('what a tape says is escaped', [strip.includes('<!--'), strip.includes('&lt;!--'), strip.includes('&lt;b&gt;')], [false, true, true]);
+same('a long tape is cut into pieces', (stripOf(new Array(STRIP.rows + 1).fill(0), new Array(STRIP.rows + 1).fill('P'), punchedOf, 'x', 'x').match(/class="cut"/g) || []).length, 2);
+
+(async () => {
+    for (const text of ['', 'T64K GK', 'ÄÖÜ \u{1F600}\n'.repeat(2000)]) {
+        const shared = { kind: 'tape', small: true, orders: 7, text };
+        same(`a link of ${text.length} characters there and back`, await unpacked(await packed(shared)), shared);
+    }
+    same('a link that would fill the memory', await unpacked(await packed({ kind: 'tape', small: false, orders: 0, text: 'A'.repeat(600000) })), undefined);
+    for (const bad of ['', '1', '1AAAA', '0e30', '0bnVsbA', `0${btoa('["tape",0,1.5,"x"]')}`]) {
+        same(`no link: ${bad}`, await unpacked(bad), undefined);
+    }
+    console.log(`the page's own rules: ${count} tried, ${wrong} faults`);
+    process.exit(wrong ? 1 : 0);
+})();
