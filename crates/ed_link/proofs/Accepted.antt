@@ -11,7 +11,7 @@ use Rattle.ed_notation.specs.Items.{rows_of, spelled, item as item_in, items, Is
 use Rattle.ed_notation.specs.Fold.{Note, is_entry, item_word, fold, cost_of, costs, address}
 use Rattle.ed_notation.specs.Openings.{IsDirective, opening}
 use Rattle.ed_notation.specs.Faults.{EndsSound, WellFormed, ComesTo}
-use Rattle.ed_notation.specs.Spellings.{canonical, canonicals}
+use Rattle.ed_notation.specs.Spellings.{AreSpellable, canonical, canonicals}
 use Rattle.ed_notation.proofs.Canonical.{is_written}
 use Rattle.ed_notation.proofs.Cuts.{spelled-append, costs-append, canonicals-append}
 use Rattle.ed_notation.proofs.Sound.{sound_well}
@@ -26,6 +26,7 @@ use Rattle.ed_link.specs.Punch.{item_with, punched}
 use Rattle.ed_link.specs.Private.FaultTests.{any_enter, missing, sooner, fault, fault_line}
 use Rattle.ed_link.specs.Tapes.{punched_rows, tape, arrival}
 use Rattle.ed_link.proofs.Passes.{taken}
+use Rattle.ed_link.proofs.Spelled.{joined}
 use Rattle.ed_link.proofs.Inductions.{AreFaultless, Ends, ends}
 use Rattle.ed_link.proofs.Costs.{NoZed, passes_no_zed, same_costs}
 
@@ -126,3 +127,8 @@ module _ (tables : list_all is_ready catalogue ≡ true) (z : Size) (two : Bool)
   pub accepted_law : WellFormed z words (opening words) (tape lines)
       × ComesTo words (opening words) 9 (tape lines) (arrival words lines)
   accepted_law = by_end an_end
+
+  -- the items of its tape can be spelled
+  pub can_be_spelled : AreSpellable (punched lines)
+  can_be_spelled =
+      subst AreSpellable (sym an_end.items) (joined an_end.before (last_item ∷ []) an_end.spelled (refl, tt))

@@ -98,7 +98,7 @@ same_statement : (x y : Statement) → ◌≡◌ {A = Option Statement} (Some x)
 same_statement x y e = cc
 
 -- a line's statement has a form
-formed_statement : (two : Bool) (n : ℕ) (label : Option (List ℕ)) (st : Option Statement)
+pub formed_statement : (two : Bool) (n : ℕ) (label : Option (List ℕ)) (st : Option Statement)
     → is_line two (record { number = n; label = label; statement = st }) ≡ true
     → (x : Statement) → st ≡ Some x → is_statement two x ≡ true
 formed_statement two n label None h x e = cc

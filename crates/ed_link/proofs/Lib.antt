@@ -24,3 +24,4 @@ pub mod AgainSentences
 pub mod LineFaults
 pub mod FaultPasses
 pub mod FaultLaw
+pub mod PunchedTexts

@@ -17,3 +17,5 @@ mod TapeEntries
 mod ReadBack
 mod BothSizes
 mod Completing
+mod PunchedTapes
+mod Listed

@@ -18,3 +18,5 @@ pub mod Limits
 pub mod TapeEntries
 pub mod ReadBack
 pub mod BothSizes
+pub mod PunchedTapes
+pub mod Listed

@@ -9,8 +9,10 @@ ghost use Rattle.ed_top.specs.Demos.{EachDemoRuns};
 ghost use Rattle.ed_top.specs.FirstEntry.{EachProgramRunsFrom31};
 ghost use Rattle.ed_top.specs.Headline.{Headline};
 ghost use Rattle.ed_top.specs.Limits.{EachLimit};
+ghost use Rattle.ed_top.specs.Listed.{EachListedIsLoaded};
 ghost use Rattle.ed_top.specs.Outcome.{no_memory};
 ghost use Rattle.ed_top.specs.Output.{EachLineHasOneOutcome, answer, output};
+ghost use Rattle.ed_top.specs.PunchedTapes.{EachPunchedIsRun};
 ghost use Rattle.ed_top.specs.ReadBack.{EachWordIsReadBack};
 ghost use Rattle.ed_top.specs.TapeEntries.{EachTapeRunsFromEntry};
 
@@ -50,6 +52,8 @@ pub fn edsac<S: Source, K: Sink, L: Sink>(
     ensures demos { EachDemoRuns }
     ensures first_orders { EachProgramRunsFrom31 }
     ensures tapes { EachTapeRunsFromEntry }
+    ensures punched { EachPunchedIsRun }
+    ensures listed { EachListedIsLoaded }
     ensures limits { EachLimit }
     ensures sizes { EachSize }
     ensures read_back { EachWordIsReadBack }

@@ -17,7 +17,9 @@ use Rattle.ed_top.proofs.Completing.{each_complete}
 use Rattle.ed_top.proofs.DemoRuns.{each_demo_runs}
 use Rattle.ed_top.proofs.FirstEntries.{runs_from_31}
 use Rattle.ed_top.proofs.Limits.{each_limit}
+use Rattle.ed_top.proofs.Listed.{each_listed_is_loaded}
 use Rattle.ed_top.proofs.OneOutcome.{line_once}
+use Rattle.ed_top.proofs.PunchedTapes.{each_punched_is_run}
 use Rattle.ed_top.proofs.ReadBack.{each_word_is_read_back}
 use Rattle.ed_top.proofs.Sources.{headline}
 use Rattle.ed_top.proofs.TapeEntries.{tapes_run_from_entry}
@@ -147,3 +149,21 @@ returns-in-Err-Usage-clause-complete g c = each_complete
 
 pub returns-in-Err-Memory-clause-complete : goal.returns-in-Err-Memory-clause-complete
 returns-in-Err-Memory-clause-complete g c = each_complete
+
+pub returns-in-Ok-clause-punched : goal.returns-in-Ok-clause-punched
+returns-in-Ok-clause-punched g c = each_punched_is_run
+
+pub returns-in-Ok-clause-listed : goal.returns-in-Ok-clause-listed
+returns-in-Ok-clause-listed g c = each_listed_is_loaded
+
+pub returns-in-Err-Usage-clause-punched : goal.returns-in-Err-Usage-clause-punched
+returns-in-Err-Usage-clause-punched g c = each_punched_is_run
+
+pub returns-in-Err-Usage-clause-listed : goal.returns-in-Err-Usage-clause-listed
+returns-in-Err-Usage-clause-listed g c = each_listed_is_loaded
+
+pub returns-in-Err-Memory-clause-punched : goal.returns-in-Err-Memory-clause-punched
+returns-in-Err-Memory-clause-punched g c = each_punched_is_run
+
+pub returns-in-Err-Memory-clause-listed : goal.returns-in-Err-Memory-clause-listed
+returns-in-Err-Memory-clause-listed g c = each_listed_is_loaded

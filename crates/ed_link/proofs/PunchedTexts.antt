@@ -1,0 +1,92 @@
+-- The text of an accepted source's tape is read as its tape.
+use Rattle.std.proofs.Common.{◌≡◌, ◌∙◌, ℕ, ◌<◌, refl, sym, ap, subst, arith, lit≤, Bool, true, nat_lt}
+use Rattle.std.proofs.Common.{Option, Some, None, List, [], ◌∷◌, ◌++◌}
+use Rattle.std.specs.Prelude.{◌==◌, replicate, unwrap_or}
+use Rattle.std.specs.List.{list_all}
+use Rattle.std.proofs.lemmas.Bool.{and_parts}
+use Rattle.std.proofs.lemmas.Bool.Decides.{Decides-eqb}
+use Rattle.std.proofs.lemmas.List.{length-replicate}
+use Rattle.ed_words.specs.declared.size.Size.{Size}
+use Rattle.ed_words.specs.Texts.{Text}
+use Rattle.ed_words.proofs.Numbers.{lt_of}
+use Rattle.ed_codes.specs.Reading.{reading, rows}
+use Rattle.ed_codes.specs.Spelling.{byte_of, row_of}
+use Rattle.ed_codes.specs.Text.{Spells, none, row, spacing}
+use Rattle.ed_codes.proofs.Below.{from_below}
+use Rattle.ed_notation.specs.Spellings.{canonicals, line_from, text_of}
+use Rattle.ed_notation.proofs.Canonical.{are_written}
+use Rattle.ed_notation.proofs.Texts.{text_reads}
+use Rattle.ed_library.specs.Entries.{catalogue}
+use Rattle.ed_library.specs.Ready.{is_ready}
+use Rattle.ed_syntax.specs.Lines.{lines_of}
+use Rattle.ed_syntax.specs.Private.SourceReading.{is_two}
+use Rattle.ed_syntax.specs.Programs.{is_line, is_statement}
+use Rattle.ed_syntax.specs.declared.program.Line.{Line}
+use Rattle.ed_syntax.specs.declared.program.Statement.{Statement}
+use Rattle.ed_syntax.specs.declared.program.Statement.TheVariants.{Rows}
+use Rattle.ed_syntax.proofs.Formed.{program_formed}
+use Rattle.ed_syntax.proofs.PartTexts.{each_append}
+use Rattle.ed_syntax.proofs.SourceLaws.{program_is_read}
+use Rattle.ed_link.specs.Linked.{data_behind, data_rows}
+use Rattle.ed_link.specs.Punch.{punched}
+use Rattle.ed_link.specs.Refusals.{IsAcceptedAs}
+use Rattle.ed_link.specs.Tapes.{after_text, punched_rows, tape}
+use Rattle.ed_link.proofs.Accepted.{can_be_spelled}
+use Rattle.ed_link.proofs.EachSource.{accepted_is_read}
+use Rattle.ed_link.proofs.Inductions.{formed_statement}
+use Rattle.ed_link.proofs.Texts.{both_read}
+
+-- ---- the rows after the items
+
+-- a code that is read back where there is one, and 32 where there is none
+back_of : (r : Option ℕ) (c : ℕ) → c < 32 → (unwrap_or r 32 == c) ≡ true → r ≡ Some c
+back_of None c below same = let e = (Decides-eqb 32 c).0 same in absurd (omega (arith, below, e))
+back_of (Some r) c below same = ap Some ((Decides-eqb r c).0 same)
+
+byte_back : (c : ℕ) → c < 32 → row_of (byte_of c true) ≡ Some c
+byte_back c below =
+    back_of (row_of (byte_of c true)) c below
+    (from_below (λ k. unwrap_or (row_of (byte_of k true)) 32 == k) 32 c refl below)
+
+line_spells : (cs : List ℕ) → list_all (λ c. nat_lt c 32) cs ≡ true → Spells (line_from true cs) cs
+line_spells [] h = spacing 10 [] [] refl none
+line_spells (c ∷ cs) h =
+    let p = and_parts _ _ h in
+    row (byte_of c true) c (line_from true cs) cs (byte_back c (lt_of c 32 p.0)) (line_spells cs p.1)
+
+after_spells : (cs : List ℕ) → list_all (λ c. nat_lt c 32) cs ≡ true → Spells (after_text cs) cs
+after_spells [] h = none
+after_spells (c ∷ cs) h = line_spells (c ∷ cs) h
+
+-- they are codes of rows
+statement_codes : (two : Bool) (st : Option Statement)
+    → ((x : Statement) → st ≡ Some x → is_statement two x ≡ true)
+    → list_all (λ c. nat_lt c 32) (data_rows st) ≡ true
+statement_codes two (Some (Rows codes)) formed = (and_parts _ _ (formed (Rows codes) refl)).1
+statement_codes two st formed = refl
+
+data_codes : (two : Bool) (lines : List Line) → list_all (is_line two) lines ≡ true
+    → list_all (λ c. nat_lt c 32) (data_behind lines) ≡ true
+data_codes two [] h = refl
+data_codes two (l ∷ lines) h =
+    let p = and_parts _ _ h in
+    each_append (λ c. nat_lt c 32) (data_rows l.statement) (data_behind lines)
+    (statement_codes two l.statement (formed_statement two l.number l.label l.statement p.0)) (data_codes two lines p.1)
+
+-- ---- the whole text
+
+tables : list_all is_ready catalogue ≡ true
+tables = refl
+
+pub text_is_tape : (z : Size) (source : Text) (lines : List Line) → IsAcceptedAs z source lines
+    → reading (text_of (canonicals (punched lines)) ++ after_text (data_behind lines)) ≡ rows (tape lines)
+text_is_tape z source lines a =
+    let two = is_two (lines_of source) in
+    let formed = (program_formed two (lines_of source) lines (program_is_read source a.two lines a.says)).formed in
+    let spellable =
+    can_be_spelled tables z two lines (accepted_is_read z source lines a) formed (replicate 1024 0)
+    (length-replicate {A = ℕ} 1024 0) in
+    both_read (text_of (canonicals (punched lines))) (after_text (data_behind lines)) (punched_rows lines)
+    (data_behind lines)
+    (text_reads (canonicals (punched lines)) (are_written (punched lines) spellable))
+    (after_spells (data_behind lines) (data_codes two lines formed))
