@@ -3,7 +3,7 @@
 //!
 //! The contract of this crate is nothing: it has no public item and no code but its tests. Their expected values come
 //! from the grammar, the rules of places and the written texts of the routines. Stands on `ed_codes`, `ed_notation`,
-//! `ed_syntax`, `ed_library`, `ed_symbols` and `ed_link`.
+//! `ed_syntax`, `ed_library`, `ed_symbols`, `ed_link` and `arrayvec`.
 #![tactic(auto)]
 
 #[cfg(test)]
@@ -14,6 +14,8 @@ mod linking;
 mod operands;
 #[cfg(test)]
 mod places;
+#[cfg(test)]
+mod printed_forms;
 #[cfg(test)]
 mod routines;
 #[cfg(test)]

@@ -1,0 +1,376 @@
+//! Texts of random forms, with random blanks, comments and zeros in front of numbers, are read back as these forms.
+ghost use Rattle.std.specs.Prelude.{◌<◌, ◌^◌};
+
+use arrayvec::ArrayVec;
+use ed_codes::Code;
+use ed_syntax::{Line, Name, Operand, Setting, Statement, parse};
+use ed_words::{Long, Word};
+use std::alloc::Global;
+
+/// How many sources are printed, and how many lines each has: 20,000 forms in all.
+const SOURCES: u32 = 10;
+
+const LINES: u32 = 2000;
+
+/// The letters of the 32 rows, which are the functions of orders, by their codes.
+const LETTERS: [&str; 32] = [
+    "P", "Q", "W", "E", "R", "T", "Y", "U", "I", "O", "J", "#", "S", "Z", "K", "*", ".", "F", "@",
+    "D", "!", "H", "N", "M", "&", "L", "X", "G", "A", "B", "C", "V",
+];
+
+/// Names that may stand anywhere, some of them words of the forms.
+const NAMES: [&str; 8] = [
+    "a",
+    "main",
+    "with",
+    "segment",
+    "x9_",
+    "as",
+    "long",
+    "abcdefghijklmnop",
+];
+
+/// Names that may stand as labels and in operands of version 2.
+const LOCAL_NAMES: [&str; 4] = ["_1", "_c", "_0_", "_abcdefghijklmno"];
+
+/// What stands before a run, which may touch the run before it nowhere.
+const BLANKS: [&str; 4] = [" ", "\t", "  ", "\t \t"];
+
+/// What stands before a sign.
+const FEW_BLANKS: [&str; 4] = ["", " ", "", "\t"];
+
+/// What stands before a number.
+const ZEROS: [&str; 4] = ["", "", "0", "000"];
+
+/// The letters of settings, with their codes.
+const SETTINGS: [(&str, u8); 6] = [
+    ("H", 21),
+    ("N", 22),
+    ("M", 23),
+    ("&", 24),
+    ("L", 25),
+    ("X", 26),
+];
+
+/// What stands after a form.
+const COMMENTS: [&str; 4] = ["", " \t", ";", " ; A 5 F; \" none"];
+
+/// Numbers that come one after the other, each from the one before.
+#[derive(Drop)]
+struct Sequence {
+    last: u32,
+}
+
+impl Sequence {
+    /// The next number, as one of so many.
+    fn below(&mut self, count: u32) -> u32
+        requires { 0 < count }
+        ensures { result < count }
+    {
+        self.last = self
+            .last
+            .wrapping_mul(1_664_525)
+            .wrapping_add(1_013_904_223);
+        self.last / 4096 % count
+    }
+}
+
+/// A text that is written part by part.
+#[derive(Drop)]
+struct Writer {
+    text: String,
+    sequence: Sequence,
+    two: bool,
+}
+
+impl Writer {
+    /// Writes a name, a number or a word of the forms.
+    fn run(&mut self, run: &str) -> Option<()> {
+        let blanks = BLANKS[self.sequence.below(4) as usize];
+        self.text.push_str(blanks).ok()?;
+        self.text.push_str(run).ok()
+    }
+
+    /// Writes a function, a letter, a length or a mark.
+    fn sign(&mut self, sign: &str) -> Option<()> {
+        let blanks = FEW_BLANKS[self.sequence.below(4) as usize];
+        self.text.push_str(blanks).ok()?;
+        self.text.push_str(sign).ok()
+    }
+
+    /// Writes a number.
+    fn number(&mut self, alloc: Global, number: u64) -> Option<()> {
+        let zeros = ZEROS[self.sequence.below(4) as usize];
+        let digits = format!(in alloc; "{zeros}{number}").ok()?;
+        self.run(&digits)
+    }
+
+    /// Writes a name that may stand anywhere.
+    fn name(&mut self) -> Option<Name> {
+        let name = NAMES[self.sequence.below(8) as usize];
+        self.run(name)?;
+        Name::new(name)
+    }
+
+    /// Writes a name that may stand as a label and in an operand.
+    fn place_name(&mut self) -> Option<Name> {
+        if !self.two || self.sequence.below(3) > 0 {
+            return self.name();
+        }
+        let name = LOCAL_NAMES[self.sequence.below(4) as usize];
+        self.run(name)?;
+        Name::new(name)
+    }
+
+    /// Writes an operand.
+    fn operand(&mut self, alloc: Global) -> Option<Operand> {
+        if self.sequence.below(3) == 0 {
+            let number = self.sequence.below(32768);
+            self.number(alloc, u64::from(number))?;
+            return Some(Operand::Number(number as u16));
+        }
+        let name = self.place_name()?;
+        if self.sequence.below(3) == 0 {
+            return Some(Operand::Label { name, plus: 0 });
+        }
+        let minus = self.sequence.below(2) == 1;
+        self.sign(if minus { "-" } else { "+" })?;
+        if self.two && self.sequence.below(2) == 1 {
+            let second = self.place_name()?;
+            return Some(Operand::Two {
+                first: name,
+                second,
+                minus,
+            });
+        }
+        let number = self.sequence.below(1024);
+        self.number(alloc, u64::from(number))?;
+        let plus = if minus {
+            -(number as i32)
+        } else {
+            number as i32
+        };
+        Some(Operand::Label { name, plus })
+    }
+
+    /// Writes a number from 0 to `most` or from -`least` to 0, and answers it modulo `most` and 1 more.
+    fn integer(&mut self, alloc: Global, least: u64, most: u64) -> Option<u64>
+        requires least { least < 2 ^ 36 }
+        requires most { most < 2 ^ 36 }
+    {
+        let high = u64::from(self.sequence.below(65536));
+        let drawn = high * 1_048_576 + u64::from(self.sequence.below(1_048_576));
+        if self.sequence.below(2) == 0 {
+            let number = drawn % (most + 1);
+            self.number(alloc, number)?;
+            return Some(number);
+        }
+        let number = drawn % (least + 1);
+        self.sign("-")?;
+        self.number(alloc, number)?;
+        Some((most + 1).wrapping_sub(number) % (most + 1))
+    }
+
+    /// Writes a string of one to eight rows.
+    fn string(&mut self) -> Option<ArrayVec<Code, 120>> {
+        let mut codes = ArrayVec::new();
+        self.sign("\"")?;
+        for _ in 0..1 + self.sequence.below(8) {
+            let code = self.sequence.below(32);
+            self.text.push_str(LETTERS[code as usize]).ok()?;
+            codes.try_push(Code::new(code as u8)?).ok()?;
+        }
+        self.text.push_str("\"").ok()?;
+        Some(codes)
+    }
+
+    /// Writes settings, as long as the line has room for one more.
+    fn settings(&mut self, alloc: Global, start: usize) -> Option<ArrayVec<Setting, 6>> {
+        let mut settings = ArrayVec::new();
+        if self.sequence.below(3) == 0 {
+            return Some(settings);
+        }
+        self.run("with")?;
+        for place in 0..6 {
+            if place > 0 {
+                if self.sequence.below(3) == 0 || self.text.len().saturating_sub(start) > 55 {
+                    break;
+                }
+                self.sign(",")?;
+            }
+            let (letter, code) = SETTINGS[self.sequence.below(6) as usize];
+            self.sign(letter)?;
+            self.sign("=")?;
+            let operand = self.operand(alloc)?;
+            let letter = Code::new(code)?;
+            settings.try_push(Setting { letter, operand }).ok()?;
+        }
+        Some(settings)
+    }
+
+    /// Writes an order.
+    fn order(&mut self, alloc: Global) -> Option<Statement> {
+        let code = self.sequence.below(32);
+        self.sign(LETTERS[code as usize])?;
+        let operand = if self.sequence.below(4) == 0 {
+            Operand::Number(0)
+        } else {
+            self.operand(alloc)?
+        };
+        let length = self.sequence.below(2) == 1;
+        self.sign(if length { "D" } else { "F" })?;
+        Some(Statement::Order {
+            function: Code::new(code as u8)?,
+            operand,
+            length,
+        })
+    }
+
+    /// Writes a statement that may have a label.
+    fn placed(&mut self, alloc: Global) -> Option<Statement> {
+        match self.sequence.below(if self.two { 8 } else { 7 }) {
+            0 | 1 => {
+                self.run("word")?;
+                let number = self.integer(alloc, 65536, 131_071)?;
+                Some(Statement::Number {
+                    value: Word::new((number % 131_072) as u32)?,
+                })
+            }
+            2 => {
+                self.run("text")?;
+                Some(Statement::Text {
+                    codes: self.string()?,
+                })
+            }
+            7 => {
+                self.run("long")?;
+                let number = self.integer(alloc, 17_179_869_184, 34_359_738_367)?;
+                Some(Statement::Long {
+                    value: Long::new(number)?,
+                })
+            }
+            _ => self.order(alloc),
+        }
+    }
+
+    /// Writes a segment, with its base or without.
+    fn segment(&mut self, alloc: Global) -> Option<Statement> {
+        self.run("segment")?;
+        let name = self.name()?;
+        if self.sequence.below(2) == 0 {
+            return Some(Statement::Segment { name, base: None });
+        }
+        let base = self.sequence.below(1024);
+        self.run("at")?;
+        self.number(alloc, u64::from(base))?;
+        Some(Statement::Segment {
+            name,
+            base: Some(base as u16),
+        })
+    }
+
+    /// Writes a `use`.
+    fn fetch(&mut self, alloc: Global) -> Option<Statement> {
+        let start = self.text.len();
+        self.run("use")?;
+        let routine = self.name()?;
+        self.run("as")?;
+        let name = self.name()?;
+        Some(Statement::Fetch {
+            routine,
+            name,
+            settings: self.settings(alloc, start)?,
+        })
+    }
+
+    /// Writes the form of a line: its label and its statement.
+    fn form(&mut self, alloc: Global) -> Option<(Option<Name>, Option<Statement>)> {
+        match self.sequence.below(12) {
+            0 => Some((None, None)),
+            1 => Some((None, Some(self.segment(alloc)?))),
+            2 | 3 => Some((None, Some(self.fetch(alloc)?))),
+            4 => {
+                self.run("enter")?;
+                let name = self.name()?;
+                Some((None, Some(Statement::Enter { name })))
+            }
+            5 => {
+                self.run("data")?;
+                let codes = self.string()?;
+                Some((None, Some(Statement::Rows { codes })))
+            }
+            6 | 7 | 8 => {
+                let label = self.place_name()?;
+                self.sign(":")?;
+                if self.sequence.below(4) == 0 {
+                    return Some((Some(label), None));
+                }
+                Some((Some(label), Some(self.placed(alloc)?)))
+            }
+            _ => Some((None, Some(self.placed(alloc)?))),
+        }
+    }
+}
+
+/// A source by its number, and the lines that it is made of.
+fn printed(alloc: Global, source: u32) -> Option<(String, Vec<Line>)> {
+    let mut writer = Writer {
+        text: String::new(alloc),
+        sequence: Sequence { last: source },
+        two: source % 2 == 1,
+    };
+    let mut lines = Vec::new(alloc);
+    for number in 1..LINES + 1 {
+        let (label, statement) = if number == 1 && writer.two {
+            writer.text.push_str(" version\t02").ok()?;
+            (None, None)
+        } else {
+            writer.form(alloc)?
+        };
+        let line = Line {
+            number,
+            label,
+            statement,
+        };
+        lines.push(line).ok()?;
+        let comment = COMMENTS[writer.sequence.below(4) as usize];
+        writer.text.push_str(comment).ok()?;
+        writer
+            .text
+            .push_str(if writer.sequence.below(2) == 0 {
+                "\n"
+            } else {
+                "\r\n"
+            })
+            .ok()?;
+    }
+    Some((writer.text, lines))
+}
+
+/// The first line of a source that isn't read as what it was printed from; 0 where there is none.
+fn first_difference(alloc: Global, source: u32) -> Option<u32> {
+    let (text, lines) = printed(alloc, source)?;
+    let program = parse(alloc, text.as_bytes()).ok()?;
+    if program.lines.len() != lines.len() {
+        return Some(LINES + 1);
+    }
+    for (read, line) in program.lines.iter().zip(&lines) {
+        let read = format!(in alloc; "{read:?}").ok()?;
+        let wanted = format!(in alloc; "{line:?}").ok()?;
+        if read.as_str() != wanted.as_str() {
+            return Some(line.number);
+        }
+    }
+    Some(0)
+}
+
+#[test]
+fn printed_forms_are_read_back(rt: HostRuntime) {
+    for source in 0..SOURCES {
+        assert_eq!(rt;
+            first_difference(rt.alloc(), source),
+            Some(0),
+            "source {source}"
+        );
+    }
+}
