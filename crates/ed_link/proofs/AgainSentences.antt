@@ -24,7 +24,8 @@ use Rattle.ed_library.specs.Entries.{entry}
 use Rattle.ed_library.specs.Routines.{find}
 use Rattle.ed_syntax.specs.declared.program.Setting.{Setting}
 use Rattle.ed_syntax.specs.declared.program.Statement.{Statement}
-use Rattle.ed_syntax.specs.declared.program.Statement.TheVariants.{Segment, Order, Number, Text, Long, Fetch, Enter, Rows}
+use Rattle.ed_syntax.specs.declared.program.Statement.TheVariants.{Segment, Order, Number, Text, Long, Fetch, Enter}
+use Rattle.ed_syntax.specs.declared.program.Statement.TheVariants.{Rows}
 use Rattle.ed_link.specs.Linked.{set_to}
 use Rattle.ed_link.specs.Private.FaultTests.{sets, sets_otherwise}
 use Rattle.ed_link.specs.Faults.{letter_set, SetExactly, SetsOtherwise}

@@ -7,7 +7,7 @@ use Rattle.ed_words.specs.Texts.{Text}
 use Rattle.ed_library.specs.Entries.{catalogue}
 use Rattle.ed_library.specs.Ready.{is_ready}
 use Rattle.ed_syntax.specs.Lines.{lines_of}
-use Rattle.ed_syntax.specs.Sources.{IsFormFault, IsProgram, IsProgramOrFault}
+use Rattle.ed_syntax.specs.Sources.{IsProgram, IsProgramOrFault}
 use Rattle.ed_syntax.specs.Private.SourceReading.{is_two, program_of}
 use Rattle.ed_syntax.specs.declared.program.Line.{Line}
 use Rattle.ed_syntax.specs.declared.fault.SourceCause.{SourceCause}
@@ -122,5 +122,6 @@ each_source z source lines a =
     let formed =
     (program_formed (is_two (lines_of source)) (lines_of source) lines
     (program_is_read source a.two lines a.says)).formed in
-    λ words whole. accepted_law tables z (is_two (lines_of source)) lines (accepted_is_read z source lines a) formed words
+    λ words whole. accepted_law tables z (is_two (lines_of source)) lines (accepted_is_read z source lines a) formed
+    words
     whole

@@ -105,7 +105,8 @@ uses = (
 
 -- version 2: a sandwich digit; a local name seen from another segment
 abbrev second : List ℕ → List ℕ → List ℕ
-second line last = codes "version 2" ++ 10 ∷ codes "segment main" ++ 10 ∷ codes "_c: Z F" ++ 10 ∷ codes "segment t" ++ 10
+second line last = codes "version 2" ++ 10 ∷ codes "segment main" ++ 10 ∷ codes "_c: Z F" ++ 10
+    ∷ codes "segment t" ++ 10
     ∷ line ++ 10 ∷ codes "enter main" ++ 10 ∷ last
 
 version_two :

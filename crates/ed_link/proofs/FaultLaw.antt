@@ -24,7 +24,8 @@ use Rattle.ed_symbols.specs.Places.{passed, first_spot}
 use Rattle.ed_symbols.specs.Names.{defined, homes_from}
 use Rattle.ed_symbols.specs.Faults.{or_later, defines_again, naming_cause, naming_fault_from, resolved}
 use Rattle.ed_link.specs.Linked.{homes_of}
-use Rattle.ed_link.specs.Private.FaultTests.{IsFirstFault, any_enter, cause_of, fault, fault_from, is_enter, missing, past_of}
+use Rattle.ed_link.specs.Private.FaultTests.{IsFirstFault, any_enter, cause_of, fault, fault_from, is_enter, missing}
+use Rattle.ed_link.specs.Private.FaultTests.{past_of}
 use Rattle.ed_link.specs.Private.FaultTests.{sooner, word_run, LinesBefore}
 use Rattle.ed_link.specs.Faults.{StandsAfter, spot_from, spot_after, HasEnter, SourceHasFault, on_line, no_enter}
 use Rattle.ed_link.specs.Faults.{number_of, IsMeaningFault, HasNoFault}
@@ -292,7 +293,8 @@ module _ (z : Size) (lines : List Line) (numbered : Numbered lines) where
   is_fault k c h = by_answer (fault z lines) tells
     where
       one : (m : ℕ) (d : SourceCause) → (m < k) ⊎ ((m ≡ k) × (number_of d ≤ number_of c))
-          → (k < m) ⊎ ((k ≡ m) × (number_of c ≤ number_of d)) → ◌≡◌ {A = Option SourceFault} (Some (At m d)) (Some (At k c))
+          → (k < m) ⊎ ((k ≡ m) × (number_of c ≤ number_of d))
+          → ◌≡◌ {A = Option SourceFault} (Some (At m d)) (Some (At k c))
       one m d (inl x) (inl y) = absurd (omega (arith, x, y))
       one m d (inl x) (inr y) = absurd (omega (arith, x, y.0))
       one m d (inr x) (inl y) = absurd (omega (arith, x.0, y))

@@ -46,67 +46,68 @@ one_place P (x ∷ a) (y ∷ b) l m r q e n p =
     (subst (λ k. P (k ∷ a) l) (head_same x y (a ++ l ∷ r) (b ++ m ∷ q) e) p)
 
 module _ (ask : List Line → Line → Option SourceCause) (Rule : List Line → Line → SourceCause → Type 0)
-    (lines : List Line) (numbered : Numbered lines) (asks : (b : List Line) (l : Line) → Least (Rule b l) (ask b l)) where
-  -- none of the first lines has a fault
-  abbrev Clear : ℕ → Type 0
-  Clear n = (b : List Line) (l : Line) (c : SourceCause) → StandsAfter lines b l → Rule b l c → n ≤ length b
+    (lines : List Line) (numbered : Numbered lines) (asks : (b : List Line) (l : Line) → Least (Rule b l) (ask b l))
+  where
+    -- none of the first lines has a fault
+    abbrev Clear : ℕ → Type 0
+    Clear n = (b : List Line) (l : Line) (c : SourceCause) → StandsAfter lines b l → Rule b l c → n ≤ length b
 
-  at_end : (before : List Line) → lines ≡ before ++ [] → Clear (length before) → Finds Rule lines None
-  at_end before e clear b l c st h =
-      let g = clear b l c st h in
-      let n : length lines ≡ length b + length (l ∷ st.after) =
-      ap (λ (x : List Line). length x) st.lines_are ∙ length-append b (l ∷ st.after) in
-      let m : length lines ≡ length before = ap (λ (x : List Line). length x) (e ∙ append-nil before) in
-      omega (arith, g, n, m)
+    at_end : (before : List Line) → lines ≡ before ++ [] → Clear (length before) → Finds Rule lines None
+    at_end before e clear b l c st h =
+        let g = clear b l c st h in
+        let n : length lines ≡ length b + length (l ∷ st.after) =
+        ap (λ (x : List Line). length x) st.lines_are ∙ length-append b (l ∷ st.after) in
+        let m : length lines ≡ length before = ap (λ (x : List Line). length x) (e ∙ append-nil before) in
+        omega (arith, g, n, m)
 
-  pub finds : (before rest : List Line) → lines ≡ before ++ rest → Clear (length before)
-      → Finds Rule lines (first ask before rest)
-  finds before [] e clear = at_end before e clear
-  finds before (x ∷ rest) e clear =
-      by_answer (ask before x) (asks before x)
-      (λ none. finds (before ++ x ∷ []) rest (e ∙ sym (append_assoc before (x ∷ []) rest)) none)
-    where
-      stands : StandsAfter lines before x
-      stands = record { after = rest; lines_are = e }
+    pub finds : (before rest : List Line) → lines ≡ before ++ rest → Clear (length before)
+        → Finds Rule lines (first ask before rest)
+    finds before [] e clear = at_end before e clear
+    finds before (x ∷ rest) e clear =
+        by_answer (ask before x) (asks before x)
+        (λ none. finds (before ++ x ∷ []) rest (e ∙ sym (append_assoc before (x ∷ []) rest)) none)
+      where
+        stands : StandsAfter lines before x
+        stands = record { after = rest; lines_are = e }
 
-      number : x.number ≡ length before + 1
-      number = numbered before x stands
+        number : x.number ≡ length before + 1
+        number = numbered before x stands
 
-      here : (b : List Line) (l : Line) (c : SourceCause) → StandsAfter lines b l → length b ≡ length before
-          → Rule b l c → Rule before x c
-      here b l c st n h = one_place (λ d k. Rule d k c) b before l x st.after rest (sym st.lines_are ∙ e) n h
+        here : (b : List Line) (l : Line) (c : SourceCause) → StandsAfter lines b l → length b ≡ length before
+            → Rule b l c → Rule before x c
+        here b l c st n h = one_place (λ d k. Rule d k c) b before l x st.after rest (sym st.lines_are ∙ e) n h
 
-      longer : length (before ++ x ∷ []) ≡ length before + 1
-      longer = length-append before (x ∷ [])
+        longer : length (before ++ x ∷ []) ≡ length before + 1
+        longer = length-append before (x ∷ [])
 
-      by_answer : (o : Option SourceCause) → Least (Rule before x) o
-          → (Clear (length (before ++ x ∷ [])) → Finds Rule lines (first ask (before ++ x ∷ []) rest))
-          → Finds Rule lines (or_later x.number o (first ask (before ++ x ∷ []) rest))
-      by_answer None least more = more above
-        where
-          above : Clear (length (before ++ x ∷ []))
-          above b l c st h =
-              let g = clear b l c st h in
-              let k : length b ≡ length before → ⊥ = λ n. least c (here b l c st n h) in
-              omega (arith, g, k, longer)
-      by_answer (Some cause) least more = (
-        (before, x, stands, number, least.0),
-        λ b l c st h. compare b l c st h (clear b l c st h),
-      )
-        where
-          same : (b : List Line) (l : Line) (c : SourceCause) → StandsAfter lines b l → Rule b l c
-              → length b ≡ length before → number_of cause ≤ number_of c
-          same b l c st h n = least.1 c (here b l c st n h)
+        by_answer : (o : Option SourceCause) → Least (Rule before x) o
+            → (Clear (length (before ++ x ∷ [])) → Finds Rule lines (first ask (before ++ x ∷ []) rest))
+            → Finds Rule lines (or_later x.number o (first ask (before ++ x ∷ []) rest))
+        by_answer None least more = more above
+          where
+            above : Clear (length (before ++ x ∷ []))
+            above b l c st h =
+                let g = clear b l c st h in
+                let k : length b ≡ length before → ⊥ = λ n. least c (here b l c st n h) in
+                omega (arith, g, k, longer)
+        by_answer (Some cause) least more = (
+          (before, x, stands, number, least.0),
+          λ b l c st h. compare b l c st h (clear b l c st h),
+        )
+          where
+            same : (b : List Line) (l : Line) (c : SourceCause) → StandsAfter lines b l → Rule b l c
+                → length b ≡ length before → number_of cause ≤ number_of c
+            same b l c st h n = least.1 c (here b l c st n h)
 
-          split : (n m : ℕ) → n ≤ m → (n < m) ⊎ (n ≡ m)
-          split n m h = grind arith
+            split : (n m : ℕ) → n ≤ m → (n < m) ⊎ (n ≡ m)
+            split n m h = grind arith
 
-          compare : (b : List Line) (l : Line) (c : SourceCause) → StandsAfter lines b l → Rule b l c
-              → length before ≤ length b
-              → (x.number < length b + 1) ⊎ ((x.number ≡ length b + 1) × (number_of cause ≤ number_of c))
-          compare b l c st h g = by_order (split (length before) (length b) g)
-            where
-              by_order : (length before < length b) ⊎ (length before ≡ length b)
-                  → (x.number < length b + 1) ⊎ ((x.number ≡ length b + 1) × (number_of cause ≤ number_of c))
-              by_order (inl k) = inl (omega (arith, k, number))
-              by_order (inr k) = inr (omega (arith, k, number), same b l c st h (sym k))
+            compare : (b : List Line) (l : Line) (c : SourceCause) → StandsAfter lines b l → Rule b l c
+                → length before ≤ length b
+                → (x.number < length b + 1) ⊎ ((x.number ≡ length b + 1) × (number_of cause ≤ number_of c))
+            compare b l c st h g = by_order (split (length before) (length b) g)
+              where
+                by_order : (length before < length b) ⊎ (length before ≡ length b)
+                    → (x.number < length b + 1) ⊎ ((x.number ≡ length b + 1) × (number_of cause ≤ number_of c))
+                by_order (inl k) = inl (omega (arith, k, number))
+                by_order (inr k) = inr (omega (arith, k, number), same b l c st h (sym k))

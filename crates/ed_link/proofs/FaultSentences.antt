@@ -10,14 +10,16 @@ use Rattle.ed_words.specs.Sizes.{locations}
 use Rattle.ed_words.proofs.Numbers.{eq_of, eq_true, lt_of, lt_true}
 use Rattle.ed_library.specs.Routines.{find}
 use Rattle.ed_syntax.specs.declared.program.Statement.{Statement}
-use Rattle.ed_syntax.specs.declared.program.Statement.TheVariants.{Segment, Order, Number, Text, Long, Fetch, Enter, Rows}
+use Rattle.ed_syntax.specs.declared.program.Statement.TheVariants.{Segment, Order, Number, Text, Long, Fetch, Enter}
+use Rattle.ed_syntax.specs.declared.program.Statement.TheVariants.{Rows}
 use Rattle.ed_syntax.specs.declared.program.Line.{Line}
 use Rattle.ed_symbols.specs.declared.spots.Spot.{Spot}
 use Rattle.ed_symbols.specs.declared.homes.Home.{Home}
 use Rattle.ed_symbols.specs.Places.{passed, first_spot}
 use Rattle.ed_symbols.specs.Names.{place_on}
 use Rattle.ed_link.specs.Linked.{first_place, end_place, homes_of}
-use Rattle.ed_link.specs.Private.FaultTests.{any_enter, has_no_routine, has_sandwich, is_enter, is_in_segment, is_misplaced}
+use Rattle.ed_link.specs.Private.FaultTests.{any_enter, has_no_routine, has_sandwich, is_enter, is_in_segment}
+use Rattle.ed_link.specs.Private.FaultTests.{is_misplaced}
 use Rattle.ed_link.specs.Private.FaultTests.{is_outside, is_rows, meets, reach, run_at, word_run}
 use Rattle.ed_link.specs.Faults.{StandsAfter, spot_from, spot_after, HasEnter}
 use Rattle.ed_link.specs.Faults.{PlacesWords, IsData, IsOutsideSegments, NeedsWithin, NeedsPast, Overlaps}
@@ -151,7 +153,8 @@ next (Some (Long v)) s h = inr (h, λ u. u)
 next (Some (Enter n)) s h = inr (h, λ u. u)
 next (Some (Rows codes)) s h = inr (h, λ u. u)
 
-abbrev one_more : {lines before : List Line} {l : Line} (e : Line) → StandsAfter lines before l → StandsAfter (e ∷ lines) (e ∷ before) l
+abbrev one_more : {lines before : List Line} {l : Line} (e : Line) → StandsAfter lines before l
+    → StandsAfter (e ∷ lines) (e ∷ before) l
 one_more e st = record { after = st.after; lines_are = ap (λ x. e ∷ x) st.lines_are }
 
 kept : (s : Spot) (lines : List Line) → s.inside ≡ true → HasNoUse lines → (spot_from s lines).inside ≡ true

@@ -11,7 +11,8 @@ use Rattle.ed_symbols.specs.Places.{first_spot}
 use Rattle.ed_symbols.specs.Names.{homes_from}
 use Rattle.ed_symbols.specs.Faults.{defines_again, naming_cause, names_unknown, reaches_outside}
 use Rattle.ed_link.specs.Linked.{homes_of}
-use Rattle.ed_link.specs.Private.FaultTests.{any_enter, cause_of, has_no_routine, has_sandwich, is_misplaced, is_outside, meets}
+use Rattle.ed_link.specs.Private.FaultTests.{any_enter, cause_of, has_no_routine, has_sandwich, is_misplaced}
+use Rattle.ed_link.specs.Private.FaultTests.{is_outside, meets}
 use Rattle.ed_link.specs.Private.FaultTests.{reach, sets_otherwise, word_run}
 use Rattle.ed_link.specs.Faults.{spot_after, LineHasCause, number_of}
 use Rattle.ed_link.proofs.FaultSentences.{Ties, runs_from, s9, s10_s11, s12, s13, s14, s16, s17}

@@ -20,7 +20,8 @@ use Rattle.ed_link.specs.Private.Building.{first_past}
 use Rattle.ed_link.specs.Linked.{data_behind, data_rows, entered_place, entry_from, placed_by_line, placed_from}
 use Rattle.ed_link.specs.Punch.{items_of, punched_from}
 use Rattle.ed_link.specs.Tables.{empty_table, put_all, table_of}
-use Rattle.ed_link.specs.Private.FaultTests.{LinesBefore, past_of, word_run, is_enter, reach, meets, cause_of, fault_from}
+use Rattle.ed_link.specs.Private.FaultTests.{LinesBefore, past_of, word_run, is_enter, reach, meets, cause_of}
+use Rattle.ed_link.specs.Private.FaultTests.{fault_from}
 use Rattle.ed_link.specs.Private.Building.{IsFew}
 use Rattle.ed_link.proofs.Bounds.{items_few, data_few}
 use Rattle.ed_words.proofs.SizeLemmas.{most}

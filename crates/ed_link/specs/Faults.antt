@@ -11,7 +11,8 @@ use Rattle.ed_syntax.specs.declared.program.Operand.{Operand}
 use Rattle.ed_syntax.specs.declared.program.Operand.TheVariants as operands
 use Rattle.ed_syntax.specs.declared.program.Setting.{Setting}
 use Rattle.ed_syntax.specs.declared.program.Statement.{Statement}
-use Rattle.ed_syntax.specs.declared.program.Statement.TheVariants.{Segment, Order, Number, Text, Long, Fetch, Enter, Rows}
+use Rattle.ed_syntax.specs.declared.program.Statement.TheVariants.{Segment, Order, Number, Text, Long, Fetch, Enter}
+use Rattle.ed_syntax.specs.declared.program.Statement.TheVariants.{Rows}
 use Rattle.ed_syntax.specs.declared.program.Line.{Line}
 use Rattle.ed_syntax.specs.declared.fault.SourceCause.{SourceCause}
 use Rattle.ed_syntax.specs.declared.fault.SourceCause.TheVariants as causes
@@ -40,11 +41,13 @@ spot_after before = spot_from first_spot before
 
 -- the line that stands after these lines has a word at the place
 abbrev pub LineHasWord : List Line → Line → ℕ → Type 0
-LineHasWord before l p = (first_place l.statement (spot_after before) ≤ p) × (p < end_place l.statement (spot_after before))
+LineHasWord before l p = (first_place l.statement (spot_after before) ≤ p)
+    × (p < end_place l.statement (spot_after before))
 
 -- the line is an `enter` of a name that has the place
 abbrev pub EntersAt : List Line → Line → ℕ → Type 0
-EntersAt lines l p = (name : List ℕ) × (l.statement ≡ Some (Enter name)) × (place_on (homes_of lines) None name ≡ Some p)
+EntersAt lines l p = (name : List ℕ) × (l.statement ≡ Some (Enter name))
+    × (place_on (homes_of lines) None name ≡ Some p)
 
 -- the line needs the place: for a word of its own, or to enter there
 abbrev pub NeedsPlace : List Line → List Line → Line → ℕ → Type 0

@@ -1,5 +1,5 @@
--- What becomes of a source: it is accepted with its lines, or refused at one line for one fault. Its faults of form come
--- before those of meaning (this project's own rule).
+-- What becomes of a source: it is accepted with its lines, or refused at one line for one fault. Its faults of form
+-- come before those of meaning (this project's own rule).
 use Rattle.std.specs.Prelude.{◌≡◌, ◌⊎◌, ℕ, Bool, List}
 use Rattle.ed_words.specs.declared.size.Size.{Size}
 use Rattle.ed_words.specs.Texts.{Text}

@@ -5,7 +5,7 @@ ghost use Rattle.ed_symbols.specs.Faults.{resolved};
 ghost use Rattle.ed_link.specs.Answers.{EachSourceComes, HasMeaningFault, IsLinked};
 ghost use Rattle.ed_link.specs.Refusals.{EachSourceHasOneAnswer};
 ghost use Rattle.ed_link.specs.Private.Building.{IsFinished};
-ghost use Rattle.ed_link.specs.Private.FaultTests.{IsFirstFault, fault};
+ghost use Rattle.ed_link.specs.Private.FaultTests.{IsFirstFault, fault as first_fault};
 ghost use Rattle.ed_link.specs.Labels.{labels};
 ghost use Rattle.ed_link.specs.Linked.{homes_of};
 
@@ -43,7 +43,7 @@ fn link_names(
     requires homes { homes.now ≡ homes_of program.now.lines.items }
     requires names { names ≡ (resolved program.now.lines.items).fault }
     ensures linked { IfOk result (λ k. IsLinked size program.now.lines.items k) }
-    ensures fault { IfErr result (λ e. IsFirstFault (fault size program.now.lines.items) e) }
+    ensures fault { IfErr result (λ e. IsFirstFault (first_fault size program.now.lines.items) e) }
 {
     let _ready = catalogue_size();
     let any = any_enter(&program.lines);

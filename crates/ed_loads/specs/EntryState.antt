@@ -1,7 +1,7 @@
 -- The state in which the program of a source is entered, on a machine that was cleared before Start (what the Initial
 -- Orders of Wilkes, Wheeler and Gill 1951 do with the tape of a linked program).
 use Rattle.std.specs.Prelude.{◌≡◌, ℕ, ◌+◌, ◌*◌, ◌^◌, ◌<◌, ◌≤◌, false, List, []}
-use Rattle.std.specs.Prelude.{◌++◌, None, Ok, drop, length, replicate, reverse}
+use Rattle.std.specs.Prelude.{◌++◌, None, drop, length, replicate, reverse}
 use Rattle.ed_words.specs.declared.size.Size.{Size}
 use Rattle.ed_store.specs.Cells.{Cells}
 use Rattle.ed_machine.specs.State.{State, cleared}
@@ -66,6 +66,6 @@ pub record Enters (z : Size) (lines : List Line) : Type 0 where
   pub went : (j : ℕ) → j < cost lines → (step (state_after j (first_state z (tape lines)))).turn ≡ Went
   pub cheap : cost lines ≤ 17 * length (punched_rows lines) + 9
 
--- so it is with every source that is accepted
+-- the same holds for every source that is accepted
 abbrev pub EachSourceEnters : Type 0
 EachSourceEnters = (z : Size) (source : Text) (lines : List Line) → IsAcceptedAs z source lines → Enters z lines

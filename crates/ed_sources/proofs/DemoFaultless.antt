@@ -20,7 +20,8 @@ use Rattle.ed_symbols.specs.declared.homes.Home.{Home}
 use Rattle.ed_symbols.specs.Faults.{or_later, resolved}
 use Rattle.ed_symbols.specs.Names.{homes_from}
 use Rattle.ed_symbols.specs.Places.{first_spot}
-use Rattle.ed_link.specs.Private.FaultTests.{LinesBefore, any_enter, cause_of, fault, fault_from, meets, missing, sooner}
+use Rattle.ed_link.specs.Private.FaultTests.{LinesBefore, any_enter, cause_of, fault, fault_from, meets, missing}
+use Rattle.ed_link.specs.Private.FaultTests.{sooner}
 use Rattle.ed_link.specs.Linked.{homes_of}
 use Rattle.ed_sources.specs.Demo.{number_behind, next, number_word}
 use Rattle.ed_sources.proofs.Decimals.{decimal_is}

@@ -1,7 +1,7 @@
 -- What is spelled with its numbers in their ranges is a form that a line of a program may have.
 use Rattle.std.proofs.Common.{◌≡◌, ◌∙◌, subst, ℕ, zero, suc, ◌^◌, ◌<◌, Bool, true, List, [], ◌∷◌, refl, ap}
 use Rattle.std.proofs.Common.{sym, arith, lit<, ℤ, pos, length, map}
-use Rattle.std.specs.Prelude.{◌&&◌, Option, Some, IfSome, nat_le, nat_lt, unsigned_abs, neg_ℤ}
+use Rattle.std.specs.Prelude.{Option, Some, IfSome, nat_le, nat_lt, unsigned_abs, neg_ℤ}
 use Rattle.std.specs.List.{list_all}
 use Rattle.std.proofs.lemmas.Bool.Decides.{nat_tests}
 use Rattle.std.proofs.lemmas.Bool.{and_parts}
@@ -19,12 +19,10 @@ use Rattle.ed_syntax.specs.Forms.{SpellsOperand, number, name, plus, minus, sum,
 use Rattle.ed_syntax.specs.Forms.{SpellsSetting, setting, SpellsSettings, last, more, AreRowsOf}
 use Rattle.ed_syntax.specs.Forms.{SpellsPlaced, order, bare_order, word, long, text}
 use Rattle.ed_syntax.specs.Forms.{SpellsStatement, placed, segment, segment_at, fetch, fetch_with, enter, data_rows}
-use Rattle.ed_syntax.specs.Forms.{SpellsForm, empty, label, statement, labelled, version, EachSpelledIsForm, FormsAreSpelled}
-use Rattle.ed_syntax.proofs.WrittenLaws.{each_form_is_spelled}
+use Rattle.ed_syntax.specs.Forms.{SpellsForm, empty, label, statement, labelled, version, EachSpelledIsForm}
+use Rattle.ed_syntax.specs.Forms.{FormsAreSpelled}
+use Rattle.ed_syntax.proofs.WrittenLaws.{both, each_form_is_spelled}
 use Rattle.ed_syntax.proofs.Ranges.{IsLetter, letter_within, function_fits, modulo_fits, row_fits}
-
-both : (c d : Bool) → c ≡ true → d ≡ true → (c && d) ≡ true
-both c d e f = rw (e, f) refl
 
 -- what holds of what an option has
 some_has : (P : ℕ → Type 0) (o : Option ℕ) (n : ℕ) → o ≡ Some n → IfSome o P → P n

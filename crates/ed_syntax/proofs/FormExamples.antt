@@ -22,7 +22,11 @@ just s = record { label = None; statement = Some s }
 
 -- no blank has to stand anywhere in `a:A b+01F;`
 by_hand : SpellsLine false 7 (codes "a:A b+01F;")
-    (record { label = Some (codes "a"); statement = Some (statements.Order 28 (operands.Label (codes "b") (pos 1)) false) })
+    (record {
+      label = Some (codes "a");
+      statement = Some (statements.Order 28 (operands.Label (codes "b") (pos 1))
+          false);
+    })
     true
 by_hand = record {
   parts = run (codes "a") ∷ sign 58 ∷ sign 65 ∷ run (codes "b") ∷ sign 43 ∷ run (codes "01") ∷ sign 70 ∷ [];
@@ -63,7 +67,11 @@ a_text = read_form_is_spelled false 1 _ _ refl
 
 -- in version 2 local names stand in operands, two of them too
 two_names : SpellsLine true 4 (codes "_d:P _d-_c F")
-    (record { label = Some (codes "_d"); statement = Some (statements.Order 0 (operands.Two (codes "_d") (codes "_c") true) false) })
+    (record {
+      label = Some (codes "_d");
+      statement = Some (statements.Order 0
+          (operands.Two (codes "_d") (codes "_c") true) false);
+    })
     true
 two_names = read_form_is_spelled true 4 _ _ refl
 

@@ -67,7 +67,8 @@ pub read_form_is_spelled : (two : Bool) (k : ℕ) (text : Text) (f : Form) → f
 read_form_is_spelled two k text f h =
     let r = read_is_spelled two k text (Some f) h in by_fits r.fits r.form r.spells r.is
   where
-    by_fits : (fits : Bool) (g : Form) → SpellsLine two k text g fits → Some f ≡ ranged fits g → SpellsLine two k text f true
+    by_fits : (fits : Bool) (g : Form) → SpellsLine two k text g fits → Some f ≡ ranged fits g
+        → SpellsLine two k text f true
     by_fits false g s e = absurd (cc)
     by_fits true g s e = let is : g ≡ f = some_is f g e in
         subst (λ (y : Form). SpellsLine two k text y true) is s

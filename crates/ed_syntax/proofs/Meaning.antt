@@ -1,12 +1,12 @@
 -- What the tests of a program's lines say.
 use Rattle.std.proofs.Common.{◌≡◌, ℕ, ◌^◌, ◌<◌, ◌≤◌, Bool, true, List, [], ◌∷◌}
-use Rattle.std.proofs.Common.{refl, arith, ℤ, pos, neg_ℤ, ◌≤ℤ◌, length, All, get_or}
+use Rattle.std.proofs.Common.{arith, ℤ, pos, neg_ℤ, ◌≤ℤ◌, length, All, get_or}
 use Rattle.std.specs.Prelude.{◌&&◌, Option, Some, None, IfSome, nat_le, nat_lt, unsigned_abs}
 use Rattle.std.specs.List.{list_all}
 use Rattle.std.proofs.lemmas.Bool.Decides.{nat_tests}
 use Rattle.std.proofs.lemmas.Int.{ints}
 use Rattle.std.proofs.lemmas.List.Sums.{AllPass-from_list_all}
-use Rattle.std.proofs.lemmas.List.Elements.{All-cons, All-head, All-tail}
+use Rattle.std.proofs.lemmas.List.Elements.{All-cons}
 use Rattle.std.proofs.lemmas.Bool.{and_parts}
 use Rattle.ed_syntax.specs.Parts.{is_name, is_place_name}
 use Rattle.ed_syntax.specs.Programs.{are_rows, is_base, is_form, is_line, is_operand}

@@ -145,7 +145,8 @@ bare_spelled two b f parts p hf h =
     record {
       what = statements.Order f (operands.Number 0) m.0;
       fits = true;
-      spelled = subst (λ (t : List LinePart). SpellsPlaced two (sign b ∷ t) (statements.Order f (operands.Number 0) m.0) true)
+      spelled = subst (λ (t : List LinePart). SpellsPlaced two (sign b ∷ t)
+          (statements.Order f (operands.Number 0) m.0) true)
           (sym e.1) (bare_order b f e.0 m.0 hf e.2);
       is = sym (ap (order_of f) m.2);
     }
@@ -265,7 +266,8 @@ word_spelled two ps x h =
 long_spelled : (two : Bool) (ps : List LinePart) (x : Option Statement) → two ≡ true → Grammar.long ps ≡ Some x
     → IsSpelled (SpellsPlaced two) (run (codes "long") ∷ ps) x
 long_spelled two ps x v h =
-    made_spelled (SpellsInteger 17179869184 34359738367) (SpellsPlaced two) (λ z. statements.Long (modulo 35 z)) ps _ _ x
+    made_spelled (SpellsInteger 17179869184 34359738367) (SpellsPlaced two) (λ z. statements.Long (modulo 35 z)) ps
+    _ _ x
     (integer_spelled 17179869184 34359738367 ps) (λ z fits s. long ps z fits s v) h
 
 text_spelled : (two : Bool) (ps : List LinePart) (x : Option Statement) → Grammar.text ps ≡ Some x
@@ -276,7 +278,8 @@ text_spelled two ps x h =
     record {
       what = statements.Text (array m.0);
       fits = true;
-      spelled = subst (λ (t : List LinePart). SpellsPlaced two (run (codes "text") ∷ t) (statements.Text (array m.0)) true)
+      spelled = subst (λ (t : List LinePart). SpellsPlaced two (run (codes "text") ∷ t)
+          (statements.Text (array m.0)) true)
           (sym s.1) (text s.0 m.0 s.2);
       is = sym m.2;
     }

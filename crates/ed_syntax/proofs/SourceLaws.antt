@@ -15,7 +15,8 @@ use Rattle.ed_syntax.specs.Private.Answers.{IsFaultOf}
 use Rattle.ed_syntax.specs.declared.fault.SourceFault.{SourceFault}
 use Rattle.ed_syntax.specs.declared.fault.SourceFault.TheVariants.{At, Memory}
 use Rattle.std.proofs.Common.{inl, inr, nat_le}
-use Rattle.ed_syntax.specs.Private.SourceReading.{Fault, line_of, or_cause, lines_from, and_lines, with_first, is_two, says_two}
+use Rattle.ed_syntax.specs.Private.SourceReading.{Fault, line_of, or_cause, lines_from, and_lines, with_first, is_two}
+use Rattle.ed_syntax.specs.Private.SourceReading.{says_two}
 use Rattle.ed_syntax.specs.Parts.{is_line_byte}
 use Rattle.ed_syntax.specs.Private.SourceReading.{version_of, program_of}
 use Rattle.ed_syntax.specs.declared.program.Form.{Form}
@@ -122,7 +123,8 @@ line_answers two k line = go (list_all is_line_byte line) (nat_lt 120 (length li
     go false b o e f g = λ le. bad_byte le e
     go true true o e f g = λ le. long_line le e (long_bytes line f)
     go true false None e f g =
-        λ le. not_a_statement le (record { bytes = e; short = short_bytes line f }) (unread_is_unspelled two k line (le_test line (short_bytes line f)) g)
+        λ le. not_a_statement le (record { bytes = e; short = short_bytes line f })
+        (unread_is_unspelled two k line (le_test line (short_bytes line f)) g)
     go true false (Some None) e f g = λ le.
         let s = out_of_range_is_spelled two k line g in
         number_range le (record { bytes = e; short = short_bytes line f }) s.0 s.1
@@ -190,7 +192,13 @@ two_says line = go (parts_of line) refl
     go None e h = absurd (cc)
     go (Some ps) e h =
         let t = two_is ps h in
-        record { n = t.0; number = t.1; value_is = t.2; parts = read_parts_are line _ (e ∙ ap (λ (q : List LinePart). Some q) t.3) }
+        record {
+          n = t.0;
+          number = t.1;
+          value_is = t.2;
+          parts = read_parts_are line _
+              (e ∙ ap (λ (q : List LinePart). Some q) t.3);
+        }
 
 says_two_is : (line : Text) → IsVersionTwo line → says_two (parts_of line) ≡ true
 says_two_is line v =

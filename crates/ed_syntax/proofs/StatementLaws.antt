@@ -11,14 +11,15 @@ use Rattle.ed_words.specs.Texts.{Text}
 use Rattle.ed_words.specs.Decimals.{value}
 use Rattle.ed_syntax.specs.Parts.{LinePart, run, sign, quoted}
 use Rattle.ed_syntax.specs.Private.Grammar
-use Rattle.ed_syntax.specs.Parts.{is_name, is_place_name, is_number, array}
+use Rattle.ed_syntax.specs.Parts.{is_name, array}
 use Rattle.ed_syntax.specs.Private.Grammar.{is_version_two}
 use Rattle.ed_syntax.specs.declared.program.Statement.{Statement}
 use Rattle.ed_syntax.specs.declared.program.Statement.TheVariants as statements
 use Rattle.ed_syntax.specs.Forms.{SpellsPlaced, order, bare_order, word, long, text}
 use Rattle.ed_syntax.specs.Forms.{SpellsStatement, placed, segment, segment_at, fetch, fetch_with, enter, data_rows}
 use Rattle.ed_syntax.proofs.Readings.{ranged, IsSpelled, map_ranged, mapped, passed, some_is, made_ranged, made_spelled}
-use Rattle.ed_syntax.proofs.PlacedLaws.{is_short, placed_is_read, placed_is_spelled, number_is_read, string_is_read, string_is}
+use Rattle.ed_syntax.proofs.PlacedLaws.{is_short, placed_is_read, placed_is_spelled, number_is_read, string_is_read}
+use Rattle.ed_syntax.proofs.PlacedLaws.{string_is}
 use Rattle.ed_syntax.proofs.PlacedLaws.{SpellsNumber, digits, number_spelled}
 use Rattle.ed_syntax.proofs.SettingLaws.{settings_are_read, settings_are_spelled}
 

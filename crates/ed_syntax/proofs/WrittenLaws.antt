@@ -36,7 +36,7 @@ pub record IsWritten {A : Type 0} (S : List LinePart → A → Bool → Type 0) 
   pub spelled : S ps a true
   pub parts : list_all is_part ps ≡ true
 
-both : (c d : Bool) → c ≡ true → d ≡ true → (c && d) ≡ true
+pub both : (c d : Bool) → c ≡ true → d ≡ true → (c && d) ≡ true
 both c d e f = rw (e, f) refl
 
 -- ---- names
@@ -91,7 +91,8 @@ label_written two a (pos n) e f =
     let fits : nat_le (value d.text) 1023 ≡ true = ap (λ (m : ℕ). nat_le m 1023) d.value_is ∙ f in
     record {
       ps = run a ∷ sign 43 ∷ run d.text ∷ [];
-      spelled = subst (λ (m : ℕ). SpellsOperand two (run a ∷ sign 43 ∷ run d.text ∷ []) (operands.Label a (with_sign false m))
+      spelled = subst (λ (m : ℕ). SpellsOperand two (run a ∷ sign 43 ∷ run d.text ∷ [])
+          (operands.Label a (with_sign false m))
           true) d.value_is
           (subst (λ (c : Bool). SpellsOperand two (run a ∷ sign 43 ∷ run d.text ∷ [])
           (operands.Label a (with_sign false (value d.text))) c) fits (plus a d.text e d.number));
@@ -104,7 +105,8 @@ label_written two a (negsuc n) e f =
     let fits : nat_le (value d.text) 1023 ≡ true = ap (λ (m : ℕ). nat_le m 1023) d.value_is ∙ f in
     record {
       ps = run a ∷ sign 45 ∷ run d.text ∷ [];
-      spelled = subst (λ (m : ℕ). SpellsOperand two (run a ∷ sign 45 ∷ run d.text ∷ []) (operands.Label a (with_sign true m))
+      spelled = subst (λ (m : ℕ). SpellsOperand two (run a ∷ sign 45 ∷ run d.text ∷ [])
+          (operands.Label a (with_sign true m))
           true) d.value_is
           (subst (λ (c : Bool). SpellsOperand two (run a ∷ sign 45 ∷ run d.text ∷ [])
           (operands.Label a (with_sign true (value d.text))) c) fits (minus a d.text e d.number));
@@ -124,7 +126,8 @@ two_written two a b true e f g =
 
 operand_written : (two : Bool) (o : Operand) → is_operand two o ≡ true → IsWritten (SpellsOperand two) o
 operand_written two (operands.Number n) e = number_written two n e
-operand_written two (operands.Label a z) e = let p = and_parts (is_place_name two a) _ e in label_written two a z p.0 p.1
+operand_written two (operands.Label a z) e =
+    let p = and_parts (is_place_name two a) _ e in label_written two a z p.0 p.1
 operand_written two (operands.Two a b m) e =
     let p = and_parts two _ e in
     let q = and_parts (is_place_name two a) _ p.1 in
@@ -147,7 +150,8 @@ function_back k lt = code_is k _ (from_below (λ j. is_code j (function (slice_i
 
 setting_back : (k : ℕ) → 21 ≤ k → k ≤ 26 → setting_letter (slice_index letters k) ≡ Some k
 setting_back k low high =
-    let test = from_below (λ j. nat_lt j 21 || is_code j (setting_letter (slice_index letters j))) 27 k refl (omega arith) in
+    let test = from_below (λ j. nat_lt j 21 || is_code j (setting_letter (slice_index letters j))) 27 k refl
+    (omega arith) in
     let above : nat_lt k 21 ≡ false = grind (arith, nat_tests) in
     code_is k _ (rw above at test)
 
@@ -265,12 +269,14 @@ positive_written least most n e =
     let d = numeral n in
     let part = d.part in
     let fits : nat_le (value d.text) most ≡ true = ap (λ (m : ℕ). nat_le m most) d.value_is ∙ e in
-    let spelled : SpellsInteger least most (run d.text ∷ []) (with_sign false (value d.text)) (nat_le (value d.text) most) =
+    let spelled : SpellsInteger least most (run d.text ∷ []) (with_sign false (value d.text))
+    (nat_le (value d.text) most) =
     positive d.text d.number in
     record {
       ps = run d.text ∷ [];
       spelled = subst (λ (m : ℕ). SpellsInteger least most (run d.text ∷ []) (with_sign false m) true) d.value_is
-          (subst (λ (c : Bool). SpellsInteger least most (run d.text ∷ []) (with_sign false (value d.text)) c) fits spelled);
+          (subst (λ (c : Bool). SpellsInteger least most (run d.text ∷ []) (with_sign false (value d.text)) c) fits
+          spelled);
       parts = rw part refl;
     }
 

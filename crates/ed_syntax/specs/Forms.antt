@@ -28,7 +28,8 @@ is_sign b = not (b == 59 || (b == 34 || (is_blank b || is_run_byte b)))
 pub data HasLineParts : Text → List LinePart → Type 0 where
   nothing : HasLineParts [] []
   comment : (bytes : Text) → HasLineParts (59 ∷ bytes) []
-  blank : (b : ℕ) (text : Text) (ps : List LinePart) → is_blank b ≡ true → HasLineParts text ps → HasLineParts (b ∷ text) ps
+  blank : (b : ℕ) (text : Text) (ps : List LinePart) → is_blank b ≡ true → HasLineParts text ps
+      → HasLineParts (b ∷ text) ps
   one_sign : (b : ℕ) (text : Text) (ps : List LinePart) → is_sign b ≡ true → HasLineParts text ps
       → HasLineParts (b ∷ text) (sign b ∷ ps)
   one_string : (q text : Text) (ps : List LinePart) → has_quote q ≡ false → HasLineParts text ps
@@ -161,7 +162,8 @@ EachFormIsSpelled =
 -- each form that a text spells, with its numbers in their ranges, is one that a line may have
 abbrev pub EachSpelledIsForm : Type 0
 EachSpelledIsForm =
-    (two : Bool) (k : ℕ) (text : Text) (f : Form) → SpellsLine two k text f true → is_form two f.label f.statement ≡ true
+    (two : Bool) (k : ℕ) (text : Text) (f : Form) → SpellsLine two k text f true
+    → is_form two f.label f.statement ≡ true
 
 -- what a line may say is what texts spell
 pub record FormsAreSpelled : Type 0 where

@@ -13,8 +13,8 @@ without_return [] = []
 without_return (b ∷ []) = if b == 13 then [] else b ∷ []
 without_return (b ∷ c ∷ bs) = b ∷ without_return (c ∷ bs)
 
--- The text has these lines. A line ends at a line feed (10). A carriage return just before a line feed belongs to the end of its line; a last line
--- without an end counts where it isn't empty.
+-- The text has these lines. A line ends at a line feed (10). A carriage return just before a line feed belongs to the
+-- end of its line; a last line without an end counts where it isn't empty.
 pub data HasLines : Text → List Text → Type 0 where
   nothing : HasLines [] []
   last : (b : ℕ) (bs : Text) → has_end (b ∷ bs) ≡ false → HasLines (b ∷ bs) ((b ∷ bs) ∷ [])

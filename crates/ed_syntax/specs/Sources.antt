@@ -1,7 +1,7 @@
 -- Which lines a source has and what it says, or what its fault of form is (this project's own rule).
-use Rattle.std.specs.Prelude.{ℕ, ◌≡◌, ◌+◌, ◌≤◌, ◌<◌, ◌==◌, Bool, true, false, List, [], ◌∷◌, ◌++◌, codes, length}
-use Rattle.std.specs.Prelude.{if◌then◌else◌, ◌⊎◌}
-use Rattle.std.specs.List.{list_all, list_any}
+use Rattle.std.specs.Prelude.{ℕ, ◌≡◌, ◌+◌, ◌≤◌, ◌<◌, Bool, true, false, List, [], ◌∷◌, ◌++◌, codes, length}
+use Rattle.std.specs.Prelude.{◌⊎◌}
+use Rattle.std.specs.List.{list_all}
 use Rattle.ed_words.specs.Texts.{Text}
 use Rattle.ed_words.specs.Decimals.{value}
 use Rattle.ed_syntax.specs.Lines.{HasLines}
@@ -32,7 +32,8 @@ pub data LineHasFault (two : Bool) (k : ℕ) (line : Text) : SourceCause → Typ
   bad_byte : k ≤ 2000 → list_all is_line_byte line ≡ false → LineHasFault two k line BadByte
   long_line : k ≤ 2000 → list_all is_line_byte line ≡ true → 120 < length line → LineHasFault two k line LongLine
   not_a_statement : k ≤ 2000 → IsPlain line → IsNoStatement two k line → LineHasFault two k line NotAStatement
-  number_range : k ≤ 2000 → IsPlain line → (f : Form) → SpellsLine two k line f false → LineHasFault two k line NumberRange
+  number_range : k ≤ 2000 → IsPlain line → (f : Form) → SpellsLine two k line f false
+      → LineHasFault two k line NumberRange
   too_many_lines : k ≡ 2001 → LineHasFault two k line TooManyLines
 
 -- ---- a source

@@ -1,6 +1,6 @@
 -- A call is the run of its source, from the state at its entry.
 use Rattle.std.proofs.Common.{◌≡◌, ◌∙◌, ℕ, suc, ◌-◌, ◌/◌, ◌%◌, ◌≤◌, refl}
-use Rattle.std.proofs.Common.{sym, ap, subst, arith, lit≤, List, [], ◌∷◌}
+use Rattle.std.proofs.Common.{ap, subst, arith, lit≤, List, [], ◌∷◌}
 use Rattle.std.proofs.Common.{length, length-append}
 use Rattle.std.specs.Prelude.{None, Result, Ok, Err}
 use Rattle.std.proofs.lemmas.List.{append-nil}

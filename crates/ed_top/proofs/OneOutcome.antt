@@ -88,7 +88,8 @@ source_once z accepted = record {
 }
 
 -- a source that the program makes
-made_once : (z : Size) (accepted : List Line → Outcome) (text : Text) → HasOneOutcome (of_made (OfSource z accepted text))
+made_once : (z : Size) (accepted : List Line → Outcome) (text : Text)
+    → HasOneOutcome (of_made (OfSource z accepted text))
 made_once z accepted text = record {
   some = λ input. some_outcome z accepted text;
   once = λ input o other. source_outcome z accepted text o other;
@@ -96,7 +97,8 @@ made_once z accepted text = record {
 
 -- ---- a script and what follows it
 
-pub text_some : (s : Settings) (script : Text) (kind : TextKind) (text : Text) → (o : Outcome) × OnText s script kind text o
+pub text_some : (s : Settings) (script : Text) (kind : TextKind) (text : Text) → (o : Outcome)
+    × OnText s script kind text o
 text_some s script kinds.Tape text = (_, refl)
 text_some s script kinds.Source text = some_outcome s.size (λ lines. on_rows s script (tape lines)) text
 

@@ -1,6 +1,6 @@
 -- From what is made of a source to the outcome of an input.
-use Rattle.std.proofs.Common.{◌≡◌, ◌≢◌, ◌⊎◌, inl, inr, ◌∙◌, ℕ, Bool, refl, sym, ap, subst}
-use Rattle.std.proofs.Common.{Option, None, List, [], ◌++◌, map}
+use Rattle.std.proofs.Common.{◌≡◌, ◌≢◌, inl, inr, ◌∙◌, ℕ, Bool, refl, sym, ap, subst}
+use Rattle.std.proofs.Common.{Option, List, [], ◌++◌, map}
 use Rattle.std.specs.Prelude.{Result, Ok, Err, IfOk, IsErr}
 use Rattle.ed_words.specs.declared.size.Size.{Size}
 use Rattle.ed_words.specs.declared.memory.NoMemory.{NoMemory}

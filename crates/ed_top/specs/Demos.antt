@@ -14,8 +14,8 @@ use Rattle.ed_top.specs.Sources.{OfSource, run_outcome}
 abbrev pub demo_answer : ℕ → Settings → Answer
 demo_answer n s = of_made_source s (demo_text n)
 
--- the source of `demo N` is accepted with these lines, so that what is answered is their run, and it is the run from the
--- state at their entry
+-- the source of `demo N` is accepted with these lines, so that what is answered is their run, and it is the run from
+-- the state at their entry
 pub record DemoRuns (s : Settings) (n : ℕ) : Type 0 where
   pub lines : List Line
   pub accepted : IsAcceptedAs s.size (demo_text n) lines

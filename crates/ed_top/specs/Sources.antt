@@ -20,8 +20,8 @@ use Rattle.ed_top.specs.Outcome.{Outcome, done, refused}
 use Rattle.ed_top.specs.Answer.{Answer, of_input}
 use Rattle.ed_top.specs.Runs.{ran_outcome, run_of, with_post_mortem}
 
--- the outcome of a source on a machine of a size: where it is refused, the line of its fault; where it is accepted, what
--- a function gives for its lines
+-- the outcome of a source on a machine of a size: where it is refused, the line of its fault; where it is accepted,
+-- what a function gives for its lines
 abbrev pub OfSource : Size → (List Line → Outcome) → Text → Outcome → Type 0
 OfSource z accepted text o =
     ((k : ℕ) × (c : SourceCause) × IsRefused z text k c × (refused (source_fault_line (At k c)) ≡ o))

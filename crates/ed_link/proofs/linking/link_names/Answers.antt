@@ -9,7 +9,8 @@ pub returns-in-Ok-finish-clause-linked : goal.returns-in-Ok-finish-clause-linked
 returns-in-Ok-finish-clause-linked c =
     let n : c.len.result ≡ length c.args.program.now.lines.items = omega arith in
     let missed = c.missing-missing.ensures ∙ ap (λ (x : ℕ). missing c.any_enter-any.result x) n in
-    finished _ c.catalogue_size-ready.ensures.ready c.args.program.now.numbered c.args.program.now.formed c.requires.homes
+    finished _ c.catalogue_size-ready.ensures.ready c.args.program.now.numbered c.args.program.now.formed
+    c.requires.homes
     (c.any_enter-any.ensures ∙ ap (λ (x : List Line). any_enter x) c.deref.ensures.value)
     (sym c.requires.names ∙ c.in-None.is, sym missed ∙ c.in-None-missing.is)
     (subst (λ (x : List Line). IsBuilt c.args.size c.args.homes.now c.any_enter-any.result x c.in-Ok.built)

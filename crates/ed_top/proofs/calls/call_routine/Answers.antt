@@ -11,5 +11,6 @@ returns c = made_replied c.args.settings _ _ _ (c.deref.ensures.value ∙ c.in_o
 pub returns-in_err-source : goal.returns-in_err-source
 returns-in_err-source c =
     let s = c.args.settings in
-    none_replied (OfSource s.size (run_outcome s) (call_text c.args.call)) c.from_residual.result c.from_residual.ensures.0
+    none_replied (OfSource s.size (run_outcome s) (call_text c.args.call)) c.from_residual.result
+    c.from_residual.ensures.0
     (some_outcome s.size (run_outcome s) (call_text c.args.call))

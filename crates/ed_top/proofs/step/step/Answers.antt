@@ -10,7 +10,8 @@ returns-in_err-no_text-in-None c =
     let s = c.args.settings in
     let input = c.args.input.now in
     as_input (OfStep s) input c.from_residual.result
-    (none_replied (OfStep s input) c.from_residual.result c.from_residual.ensures.0 (divided_some s input (divided input)))
+    (none_replied (OfStep s input) c.from_residual.result c.from_residual.ensures.0
+    (divided_some s input (divided input)))
 
 pub returns-in-Some : goal.returns-in-Some
 returns-in-Some c =
