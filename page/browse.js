@@ -122,6 +122,27 @@ async function faults() {
     await b.expect('a page that does not load says why', told, ['This browser is too old f', 'This browser is too old f', 'This page has a fault of ']);
 }
 
+async function otherForms() {
+    await choose('squares.edsac');
+    const rows = await b.ask('[...page.rows].join()');
+    await b.set('at', '3500');
+    await b.ask(`by('traceBox').open = true; drawTrace(); 0`);
+    const lines = (await b.text('trace')).split('\n');
+    await b.expect('the last orders', [lines.length, lines[11].trim().split(/\s+/)[0]], [12, '3,500']);
+    await b.ask(`by('traceBox').open = false; 0`);
+    const state = await b.ask('[...page.machine.picture(page.program, 4000).words].join()');
+    await b.click('punch');
+    await b.expect('the tape of a source has the same rows', [await b.ask('page.program.kind'), await b.ask('[...page.rows].join()') === rows], ['tape', true]);
+    await b.expect('and the same run', await b.ask('[...page.machine.picture(page.program, 4000).words].join()') === state, true);
+    await b.expect('an item on each line', await b.ask('by("text").value.split("\\n").slice(0, 3)'), ['T56K', 'GK', 'T25@']);
+    await b.click('undo');
+    await b.click('isTape');
+    await b.expect('a source that is read as a tape', await b.ask('[by("refusal").hidden, by("switch").hidden, by("switch").textContent]'), [false, false, 'Read it as a source']);
+    await b.click('switch');
+    await b.expect('goes on as a source', await b.ask('[by("refusal").hidden, page.program.kind]'), [true, 'source']);
+    await b.ask('editor.isOwn = false; 0');
+}
+
 async function ownWork() {
     await choose('letter.tape');
     await b.type('T64K GK ZF EZPF');
@@ -174,7 +195,9 @@ async function longPaper() {
     await b.type(fs.readFileSync('bench/print.tape', 'utf8'));
     const ms = await b.ask('(() => { const since = performance.now(); look(2000000); return performance.now() - since; })()');
     const [all, laid] = await b.ask('[page.shown.paper.length, by("paper").textContent.length]');
-    console.log(`  a paper of ${all} characters: ${laid} of them laid out; drawn in ${ms.toFixed(0)} ms`);
+    const memory = await b.ask('page.machine.exports.memory.buffer.byteLength');
+    console.log(`  a paper of ${all} characters: ${laid} of them laid out; run and drawn in ${ms.toFixed(0)} ms; the memory has ${memory >> 20} MiB`);
+    await b.expect('the memory stays below its most', memory, (bytes) => bytes < 32 << 20);
     await b.expect('a long paper is not laid out whole', [all > 100000, laid < 20200], [true, true]);
     await choose('letter.tape');
 }
@@ -202,7 +225,7 @@ async function stories() {
         }
         const seconds = Math.round(await b.ask('page.toured.waited'));
         console.log(`  the story ${name}: ${seconds} seconds`);
-        await b.expect(`the story ${name} takes two minutes at the most`, seconds, (all) => all > 20 && all <= 120);
+        await b.expect(`the story ${name} takes at most two minutes`, seconds, (all) => all > 20 && all <= 120);
     }
     await b.ask('page.hurry = 1; 0');
     await storyParts();
@@ -483,7 +506,7 @@ async function speed(name) {
     console.log(`  with ${name} memories; all of a picture drawn in ${drawing.toFixed(1)} ms`);
 }
 
-const WHOLE = [firstTape, loaderOnItself, examples, faults, ownWork, runs, longPaper, stories, lessons, links, files, strips, languages, looks, noScript, kiosk];
+const WHOLE = [firstTape, loaderOnItself, examples, faults, otherForms, ownWork, runs, longPaper, stories, lessons, links, files, strips, languages, looks, noScript, kiosk];
 
 (async () => {
     const only = process.argv[5]; // a part of WHOLE, by its name

@@ -104,7 +104,7 @@ class Browser {
         return this.send('Emulation.setDeviceMetricsOverride', { width, height, deviceScaleFactor: 1, mobile });
     }
 
-    // Opens the page in a tab of its own, with what stands behind its #.
+    // Opens the page in a tab of its own, with what follows its #.
     async open(hash, before) {
         const { targetId } = await this.send('Target.createTarget', { url: 'about:blank' }, undefined);
         this.session = (await this.send('Target.attachToTarget', { targetId, flatten: true }, undefined)).sessionId;

@@ -6,11 +6,12 @@ const fs = require('fs');
 const path = require('path');
 const { spawnSync } = require('child_process');
 const { Machine } = require('./machine.js');
+const { figuresOf } = require('./words.js');
 
 const [file, edsac, folder] = process.argv.slice(2);
 const machine = new Machine(new WebAssembly.Module(fs.readFileSync(file)));
 const seen = new Map();
-let pictures = 0, wrong = 0;
+let pictures = 0, small = 0, figures = 0, wrong = 0;
 
 function program(words, input) {
     const ran = spawnSync(edsac, words, { input, maxBuffer: 1 << 26 });
@@ -41,12 +42,48 @@ function compareRun(name, text, orders, resumes) {
     return shown;
 }
 
+// Words of the small store after a count of orders, beside the program's post-mortem: it prints those from 144 on as orders.
+// A word whose function is no letter moves its paper, and has no line.
+function compareSmall(name, text, counts) {
+    for (const count of counts.slice(-3)) {
+        const shown = machine.picture(text, count);
+        const orders = [...shown.words.slice(144, 512)].map((word) => machine.order(word));
+        same(`${name} after ${count}: places that the small store doesn't have`, shown.words.slice(512).some((word) => word !== 0), false);
+        pictures++;
+        if (orders.some((order) => '#*.@!&'.includes(order[0]))) {
+            continue;
+        }
+        const command = text.kind === 'source' ? 'run' : 'tape';
+        const told = program([command, '--limit', String(count), '--post-mortem', '144,368', ...storeOf(true)], text.text);
+        const wanted = orders.map((order) => order.replace(/^.(?=[FD])/, '$&0')).join('\n');
+        same(`${name} after ${count}: words`, told.out.replace(/\r/g, '').trimEnd().slice(-wanted.length), wanted);
+        small++;
+    }
+}
+
+// Which rows the loader itself reads as digits, by its order at 9, beside those that the page labels as figures.
+function compareFigures(name, text) {
+    const rows = machine.rows(text).out;
+    const labelled = figuresOf(rows, (code) => machine.letter(code));
+    let before = machine.picture(text, 0);
+    for (let orders = 1; orders < 1500 && before.words && before.ending === 'limit' && before.counter < 41; orders++) {
+        const shown = machine.picture(text, orders);
+        if (shown.rowsLeft < before.rowsLeft) {
+            const at = rows.length - before.rowsLeft;
+            same(`${name}: row ${at} is a figure`, labelled[at], before.counter === 9 && rows[at] < 10);
+            figures++;
+        }
+        before = shown;
+    }
+}
+
 // The whole state after so many orders, beside what the program's sessions show.
 function compareStates(name, text, counts) {
-    const script = counts.map((count, i) => `go ${count - (i ? counts[i - 1] : 0)}\nshow 0 ${text.small ? 511 : 1023}\nshow acc\nshow mult\n`).join('');
     if (text.small) {
-        return; // a session has the whole store
+        compareSmall(name, text, counts); // a session has the whole store
+        return;
     }
+    const script = counts.map((count, i) => `go ${count - (i ? counts[i - 1] : 0)}\nshow 0 1023\nshow acc\nshow mult\n`).join('');
     const told = program(['step', '--limit', '10000000'], `${script}${text.kind}\n${text.text}`);
     const moves = told.out.split(/^(?=at )/m);
     same(`${name}: moves`, moves.length, counts.length);
@@ -151,6 +188,7 @@ for (const name of fs.readdirSync(folder).sort()) {
     if (kind) {
         const text = fs.readFileSync(path.join(folder, name), 'utf8');
         compareAll(name, { kind, text, small: false }, 400000);
+        compareFigures(name, { kind, text, small: false });
         compareAll(`${name} in the small store`, { kind, text, small: true }, 20000);
     }
 }
@@ -166,6 +204,6 @@ same('too long', machine.picture({ kind: 'tape', text: ' '.repeat(262145), small
 for (const ending of ['stopped', 'limit', 'no order', 'no tape', 'refused']) {
     same(`some run ends with ${ending}`, seen.has(ending), true);
 }
-console.log(`${path.basename(file)}: ${pictures} pictures compared with the program, ${wrong} differences; endings `
-    + [...seen].map(([ending, count]) => `${ending} ${count}`).join(', '));
+console.log(`${path.basename(file)}: ${pictures} pictures compared with the program, ${small} post-mortems of the small store, ${figures} rows with the loader, ${wrong} differences; endings `
+    + [...seen].map(([ending, count]) => `${ending} ${count}`).join(', ') + `; the memory grew to ${machine.exports.memory.buffer.byteLength >> 20} MiB`);
 process.exit(wrong ? 1 : 0);

@@ -36,7 +36,7 @@ class StoreView {
         this.tanks = 32;
     }
 
-    // Where the tanks stand.
+    // The places of the tanks.
     plan(tanks) {
         const box = this.canvas.parentElement;
         const wide = box.clientWidth;

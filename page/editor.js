@@ -52,7 +52,7 @@ function follows() {
     by('colours').scrollLeft = by('text').scrollLeft;
 }
 
-// Does what replaces the text, and asks first where it was typed here.
+// Does what replaces the text. If the text was typed here, it asks first.
 function replacing(does) {
     if (!editor.isOwn) {
         does();

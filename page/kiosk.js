@@ -1,6 +1,6 @@
 'use strict';
-// A museum's screen: the page's address with #kiosk=60,quiet after it. The stories are told one after the other. Where
-// somebody has touched the page and then nobody for so many seconds, everything is as it was at the beginning.
+// A museum's screen: the page's address with #kiosk=60,quiet after it. The stories are told one after the other. If the
+// page was touched, and then left alone for that many seconds, everything is as it was at the beginning.
 const BETWEEN = 12; // seconds from the end of a story to the next one
 
 class Kiosk {
@@ -64,7 +64,7 @@ class Kiosk {
     look() {
         const idle = (page.clock() - this.since) / 1000;
         if (page.tour) {
-            this.since = page.clock(); // a story comes to its end by itself
+            this.since = page.clock(); // a story ends by itself
             return;
         }
         if (this.isTouched ? idle > this.seconds : idle > BETWEEN) {

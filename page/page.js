@@ -248,6 +248,7 @@ function draw() {
         by('at').value = shown.orders;
     }
     drawLook();
+    drawTrace();
 }
 
 // The end of the paper: no more than a browser lays out at once.
@@ -285,6 +286,7 @@ function drawButtons() {
     const { words } = page;
     by('back').disabled = !isAlive() || page.shown.orders === 0;
     by('step').disabled = isOver();
+    by('punch').disabled = !isAlive() || page.program.kind !== 'source';
     by('run').disabled = !isAlive() || (!page.running && !isEnded() && isOver());
     by('run').textContent = words.say(page.running ? 'pause' : isEnded() ? 'startAgain' : 'run');
     by('show').textContent = words.say(page.tour ? 'stopShow' : 'show');
@@ -315,6 +317,9 @@ function tellRefusal(told) {
     page.refusal = told.note && !isUntold ? page.words.refusal(told.note, page.program.text, page.program.kind) : undefined;
     by('refusal').hidden = !isUntold && page.refusal === undefined;
     by('mark').hidden = page.refusal === undefined;
+    const { text, kind } = page.program;
+    by('switch').hidden = page.refusal === undefined || kindOf('', text) === kind;
+    by('switch').textContent = page.words.say(kind === 'source' ? 'asTape' : 'asSource');
     by('text').setAttribute('aria-invalid', String(page.refusal !== undefined));
     by('refused').textContent = page.refusal ? page.words.say('refuses', { note: told.note.trim(), ...page.refusal })
         : isUntold ? page.words.say(key, { note: told.note }) : '';
@@ -342,6 +347,42 @@ function drawLook() {
     };
     const head = ['lookPlace', 'lookOrder', 'lookNumber', 'lookDigits'].map((key) => `<th scope="col">${escaped(words.say(key))}`);
     by('look').innerHTML = `<tr>${head.join('')}${Array.from({ length: 32 }, (_, k) => row(first + k)).join('')}`;
+}
+
+// The orders that were obeyed last, with their places.
+function drawTrace() {
+    if (!by('traceBox').open || !isAlive() || page.running || page.tour) {
+        return;
+    }
+    const { orders } = page.shown, first = Math.max(0, orders - 12);
+    by('trace').textContent = Array.from({ length: orders - first }, (_, k) => pictureAt(first + k)).map(({ words, counter, orders: done }) => (
+        `${page.words.number(done + 1).padStart(9)}  ${String(counter).padStart(4)}  ${page.machine.order(words[counter])}`)).join('\n');
+}
+
+// The tape of a source, as a text: an item on each line, and what follows the entry on one.
+function punchedText() {
+    const lines = [[]];
+    page.labels.forEach((label) => {
+        const isLetter = !/^\d$/.test(label);
+        const line = lines.at(-1);
+        line.push(label);
+        if (isLetter && line.length > 1 && label !== '#') {
+            lines.push([]);
+        }
+    });
+    return `${lines.map((line) => line.join('')).join('\n').trim()}\n`;
+}
+
+// Punches the tape of the source in the box, and reads it again.
+function punch() {
+    if (isAlive() && page.program.kind === 'source') {
+        const text = punchedText();
+        replacing(() => {
+            by('examples').value = '';
+            by('stories').value = 'own';
+            put({ text, kind: 'tape' });
+        });
+    }
 }
 
 function drawListing() {
@@ -517,6 +558,11 @@ function listen() {
     press('replace', () => answerAsk(true));
     press('keep', () => answerAsk(false));
     press('undo', undo);
+    press('punch', punch);
+    press('switch', () => {
+        by(by('isSource').checked ? 'isTape' : 'isSource').checked = true;
+        begin();
+    });
     press('save', () => saveFile(by('isSource').checked ? 'program.edsac' : 'program.tape', by('text').value, 'text/plain'));
     press('open', () => by('file').click());
     press('link', makeLink);
@@ -545,6 +591,7 @@ function listenToBoxes() {
     by('lesson').onchange = drawLesson;
     by('language').onchange = () => speakIn(by('language').value);
     by('lookBox').ontoggle = draw;
+    by('traceBox').ontoggle = drawTrace;
     by('listingBox').ontoggle = drawListing;
     by('store').onclick = (event) => {
         const box = by('store').getBoundingClientRect();

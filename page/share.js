@@ -1,6 +1,6 @@
 'use strict';
-// Texts that leave the page and come back: a link that holds all of it, and files. Nothing is sent: what stands behind the
-// # of an address stays in the browser.
+// Texts that leave the page and come back: a link that holds all of it, and files. Nothing is sent: what follows the # of an
+// address stays in the browser.
 const LONGEST = 262144; // bytes of a text, as the machine takes them
 
 const toLetters = (bytes) => {
@@ -53,7 +53,7 @@ async function unpacked(letters) {
     }
 }
 
-// What the address says behind its #: name=value, or a name alone, with & between them.
+// What the address says after its #: name=value, or a name alone, with & between them.
 const addressed = () => new URLSearchParams(location.hash.slice(1));
 
 // Hands a file to the browser, which saves it.

@@ -11,7 +11,7 @@ const STORIES = [
     { name: 'sum', example: 'add.edsac' },
     { name: 'own' }, // what stands in the box
 ];
-const ITEMS = 9, ORDERS = 9; // so many are told one by one
+const ITEMS = 9, ORDERS = 9; // how many are told one by one
 
 // The letters that a name can be printed in: capital letters without their marks, and blanks.
 function printable(name) {

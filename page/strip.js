@@ -8,7 +8,7 @@ const STRIP = {
 
 const escaped = (text) => text.replace(/&/g, '&amp;').replace(/</g, '&lt;').replace(/>/g, '&gt;').replace(/"/g, '&quot;');
 
-// One piece of the tape: so many rows as fit on a sheet, from a row on.
+// One piece of the tape: as many rows as fit on a sheet, from a row on.
 function pieceOf(rows, labels, punched, first, top) {
     const count = Math.min(STRIP.rows, rows.length - first);
     const [left, right] = [STRIP.margin, STRIP.margin + count * STRIP.pitch];
