@@ -149,7 +149,7 @@ async function ownWork() {
     await b.set('examples', '1');
     await b.expect('own work is asked about', await b.ask('[by("ask").hidden, by("text").value]'), [false, 'T64K GK ZF EZPF']);
     await b.click('keep');
-    await b.expect('and kept', await b.ask('[by("ask").hidden, by("text").value]'), [true, 'T64K GK ZF EZPF']);
+    await b.expect('and kept', await b.ask('[by("ask").hidden, by("text").value, by("examples").value]'), [true, 'T64K GK ZF EZPF', '']);
     await b.set('examples', '1');
     await b.click('replace');
     await b.expect('or replaced', await b.ask('by("text").value !== "T64K GK ZF EZPF"'), true);
@@ -227,7 +227,13 @@ async function stories() {
         console.log(`  the story ${name}: ${seconds} seconds`);
         await b.expect(`the story ${name} takes at most two minutes`, seconds, (all) => all > 20 && all <= 120);
     }
-    await b.ask('page.hurry = 1; 0');
+    for (const [text, said] of [['T64K GK E@ EZPF', 'This program goes on and on'], ['T64K GK PF EZPF', 'Here the machine stands still'], ['E8KPF', 'Here the machine stands still']]) {
+        await b.click('isTape');
+        await b.type(text);
+        await b.click('show');
+        await b.expect(`a story of ${text} ends`, [await b.until('page.tour === undefined'), (await b.text('story')).slice(0, said.length)], [true, said]);
+    }
+    await b.ask('editor.isOwn = false; page.hurry = 1; 0');
     await storyParts();
 }
 
@@ -341,6 +347,9 @@ async function strips() {
     await b.expect('a hole is 0.072 inch wide', strip.holes, (all) => all.every((one) => Math.abs(one - 6.912) < 0.01));
     await b.expect('all holes are there', strip.holes.length, strip.punched);
     await b.expect('digits stand as figures', strip.signs, 'T64KGKO2@ZFAFEZPF');
+    const cut = await b.ask(`(() => { const [rows, labels] = [page.rows, page.labels]; page.rows = new Uint8Array(7001); page.labels = new Array(7001).fill('P');
+        const svg = stripNow(); Object.assign(page, { rows, labels }); return [(svg.match(/sprocket/g) || []).length, svg.includes('Only the first 7,000 rows')]; })()`);
+    await b.expect('a very long tape is drawn in part', cut, [7000, true]);
     await b.expect('title and marks', [strip.title, strip.cuts], ['letter.tape', 1]);
     console.log(`  the tape as a picture: rows ${(strip.pitch[0] / 96).toFixed(4)} inch apart, holes ${(strip.holes[0] / 96).toFixed(4)} inch wide`);
     await b.expect('blank has no hole, erase has five', await b.ask(`(() => { const all = 'PQWERTYUIOJ#SZK*.F@D!HNM&LXGABCV';

@@ -12,11 +12,8 @@ const editor = {
 
 const textNow = () => ({ text: by('text').value, kind: by('isSource').checked ? 'source' : 'tape', small: by('small').checked });
 
-// The parts of a text with the class of each.
-function partsOf(text, kind) {
-    const form = kind === 'source'
-        ? /(?<comment>;[^\n]*)|(?<label>^[ \t]*[A-Za-z_]\w*:)|(?<string>"[^"\n]*")|(?<word>^[ \t]*(?:segment|enter|use|data|version|word|long|text)\b)|(?<order>\b[A-Z](?= ))/gm
-        : /(?<comment>\[[^\]]*\]?)|(?<order>[A-Z](?=\d*[A-Z@#!&]))/gm;
+// The parts of a text, each with its class: what is matched has the class of its group.
+function matchedParts(text, form) {
     const parts = [];
     let at = 0;
     for (const found of text.matchAll(form)) {
@@ -24,7 +21,22 @@ function partsOf(text, kind) {
         parts.push([Object.keys(found.groups).find((name) => found.groups[name] !== undefined), found[0]]);
         at = found.index + found[0].length;
     }
-    parts.push(['', text.slice(at)]);
+    return [...parts, ['', text.slice(at)]];
+}
+
+// The parts of a line of a source: a label, an order or a word that begins a statement, strings and the comment.
+function lineParts(line) {
+    const [, label, rest] = line.match(/^([ \t]*(?:[A-Za-z_]\w*:[ \t]*)?)(.*)$/);
+    const begins = rest.match(/^(?:(segment|enter|use|data|version|word|long|text)\b|[A-Z#*.@!&](?= ))/);
+    const head = begins ? begins[0] : '';
+    return [['label', label], [begins && begins[1] ? 'word' : 'order', head],
+        ...matchedParts(rest.slice(head.length), /(?<comment>;.*)|(?<string>"[^"]*")/g), ['', '\n']];
+}
+
+// The parts of a text with the class of each.
+function partsOf(text, kind) {
+    const parts = kind === 'source' ? text.split('\n').flatMap(lineParts).slice(0, -1)
+        : matchedParts(text, /(?<comment>\[[^\]]*\]?)|(?<order>[A-Z](?=\d*[A-Z@#!&]))/g);
     return parts.filter(([, part]) => part);
 }
 
@@ -68,7 +80,10 @@ function answerAsk(isYes) {
     const does = editor.waiting;
     editor.waiting = undefined;
     by('ask').hidden = true;
-    if (isYes && does) {
+    if (!isYes) {
+        by('examples').value = '';
+        by('stories').value = 'own';
+    } else if (does) {
         editor.isOwn = false;
         does();
     }

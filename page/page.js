@@ -2,6 +2,7 @@
 // The page: its buttons, the pictures that they ask for, and its languages.
 const FURTHEST = 2000000; // orders: a picture there takes a glance, since each one begins at Start
 const TAIL = 20000; // characters of the paper that are laid out
+const DRAWN_ROWS = 7000; // of a tape as a picture
 const LONGEST_FRAME = 250; // milliseconds: a tab that was hidden doesn't catch up
 const by = (id) => document.getElementById(id);
 const isOneScreen = () => matchMedia('(min-width: 60rem) and (min-height: 38rem)').matches;
@@ -13,7 +14,8 @@ const page = {
     words: undefined, // the language
     program: { text: '', kind: 'tape', small: false },
     rows: new Uint8Array(0),
-    labels: [],
+    labels: [], // what is beside each row
+    letters: [], // of each code
     refusal: undefined, // what is wrong with the text, where it is refused
     shown: undefined, // the picture that is drawn
     before: undefined, // the picture with which it is compared
@@ -78,7 +80,7 @@ function begin() {
         told = { ...faultOf(fault), out: new Uint8Array(0) };
     }
     page.rows = told.out;
-    page.labels = labelsOf(page.rows, (code) => page.machine.letter(code));
+    page.labels = labelsOf(page.rows, (code) => page.letters[code]);
     tellRefusal(told);
     look(0);
     drawListing();
@@ -511,7 +513,12 @@ function titleNow() {
     return example ? example.name : storyNow().name === 'name' ? printable(by('name').value) : 'EDSAC';
 }
 
-const stripNow = () => stripOf(page.rows, page.labels, punchedOf, titleNow(), page.words.say('cut'));
+// The tape as a picture, as many rows of it as a browser draws at once.
+function stripNow() {
+    const isCut = page.rows.length > DRAWN_ROWS;
+    const says = page.words.say('cut') + (isCut ? ` ${page.words.say('stripCut', { count: page.words.number(DRAWN_ROWS) })}` : '');
+    return stripOf(page.rows.slice(0, DRAWN_ROWS), page.labels, punchedOf, titleNow(), says);
+}
 
 // Prints one thing: the tape, a worksheet or the cheat sheet.
 function preparePrint(what) {
@@ -579,6 +586,11 @@ function listen() {
 function listenToBoxes() {
     by('stories').onchange = () => replacing(loadStory);
     by('name').onchange = () => { by('stories').value = 'name'; replacing(loadStory); };
+    by('name').onkeydown = (event) => {
+        if (event.key === 'Enter') {
+            replacing(() => { loadStory(); tell(); });
+        }
+    };
     by('at').onchange = () => { halt(); look(Number(by('at').value)); speak(); };
     by('examples').onchange = () => (by('examples').value === '' ? undo() : chooseExample(Number(by('examples').value)));
     by('tank').onchange = () => { follow(false); drawLook(); };
@@ -641,6 +653,7 @@ async function load() {
     const wide = hasWideMemories() && !(MODULES.narrow && addressed().has('narrow'));
     const bytes = Uint8Array.from(atob(wide ? MODULES.wide : MODULES.narrow), (c) => c.charCodeAt(0));
     page.machine = new Machine(await WebAssembly.compile(bytes));
+    page.letters = Array.from({ length: 32 }, (_, code) => page.machine.letter(code));
     by('speed').value = '650';
     by('stories').value = STORIES[0].name;
     listen();

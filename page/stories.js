@@ -12,6 +12,7 @@ const STORIES = [
     { name: 'own' }, // what stands in the box
 ];
 const ITEMS = 9, ORDERS = 9; // how many are told one by one
+const LONGEST_ITEM = 2000; // orders: a loader that a tape has sent round in circles reads no item
 
 // The letters that a name can be printed in: capital letters without their marks, and blanks.
 function printable(name) {
@@ -25,6 +26,13 @@ function tapeOf(letters) {
     const orders = signs.map((_, k) => `O${signs.length + 1 + k}@`).join(' ');
     return `[Prints ${letters}, and stops. The letters are words that stand after the orders.]\n`
         + `T64K GK\n${orders} ZF\n${signs.map((sign) => `${sign}F`).join(' ')}\nEZPF\n`;
+}
+
+// A sentence that stands there already is not said again.
+function sayStory(text) {
+    if (by('story').textContent !== text) {
+        by('story').textContent = text;
+    }
 }
 
 class Tour {
@@ -64,7 +72,7 @@ class Tour {
             return false;
         }
         if (!this.skips) {
-            by('story').textContent = page.words.say(key, values);
+            sayStory(page.words.say(key, values));
         }
         return this.wait(seconds);
     }
@@ -79,7 +87,7 @@ class Tour {
             }
         }
         this.skips = false;
-        by('story').textContent = page.words.say('told.end');
+        sayStory(page.words.say({ stopped: 'told.end', limit: 'told.endless' }[page.shown.ending] || 'told.still'));
         return true;
     }
 
@@ -101,7 +109,7 @@ class Tour {
         let shown = from;
         do {
             shown = pictureAt(shown.orders + 1);
-        } while (shown.ending === 'limit' && shown.counter < LOADER && shown.counter !== WAITS);
+        } while (shown.ending === 'limit' && shown.counter < LOADER && shown.counter !== WAITS && shown.orders < from.orders + LONGEST_ITEM);
         return shown;
     }
 

@@ -105,6 +105,8 @@ const whole = (parts) => parts.map(([, part]) => part).join('');
 for (const [kind, text] of [['source', 'a: A b F ; x\ntext "A;B"\n'], ['tape', 'T64K [x] GK']]) {
     same(`no character of a ${kind} is lost`, whole(partsOf(text, kind)), text);
 }
+same('the parts of a line', partsOf('_a: T _b F ; "x" F', 'source'), [['label', '_a: '], ['order', 'T'], ['', ' _b F '], ['comment', '; "x" F']]);
+same('a string is no comment', partsOf('text "A;B"', 'source'), [['word', 'text'], ['', ' '], ['string', '"A;B"']]);
 const strip = stripOf(codes('.*A'), ['.', '*', '<!--'], punchedOf, '<b>', 'x');
 same('holes of three rows', (strip.match(/class="hole"/g) || []).length, 0 + 5 + punchedOf(28).toString(2).replace(/0/g, '').length);
 same('what a tape says is escaped', [strip.includes('<!--'), strip.includes('&lt;!--'), strip.includes('&lt;b&gt;')], [false, true, true]);
