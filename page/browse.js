@@ -245,7 +245,7 @@ async function storyParts() {
     await b.until('page.tour === undefined');
     const heard = await b.ask('page.heard');
     for (const said of ['41 orders appear', 'T64K tells the loader where the next words go: to place 64', 'GK tells the loader: this is where the program begins. @ on the tape now means 64',
-        'O2@ was read from the tape, and became O66F in place 64', 'AF was read from the tape, and became AF in place 66', 'The teleprinter prints A.', 'Now it is your turn']) {
+        'O2@ was read from the tape, and became O66F in place 64', 'AF was read from the tape, and went into place 66', 'The teleprinter prints A.', 'Now it is your turn']) {
         await b.expect(`the first story says: ${said}`, heard.some((one) => one.includes(said)), true);
     }
     await b.click('inviteNext');

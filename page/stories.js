@@ -162,7 +162,8 @@ class Tour {
         const item = page.labels.slice(first, last).join('');
         const places = changedPlaces(from, to).filter((place) => place >= LOADER + 3);
         if (places.length === 1) {
-            return ['told.landed', { item, order: page.machine.order(to.words[places[0]]), place: places[0] }];
+            const order = page.machine.order(to.words[places[0]]);
+            return [order === item ? 'told.stored' : 'told.landed', { item, order, place: places[0] }];
         }
         if (places.length > 1) {
             return ['told.landedMany', { item, place: places.join(', ') }];
