@@ -4,17 +4,17 @@ use crate::support::{LOOP, session_on};
 use ed_stepper::{BackFault, MoveEnd, Moved};
 use std::test::Fail;
 
-/// Each move back obeys at most the orders since the latest copy. From the start, or from the earliest copy, they would
-/// be 20,000,000,000 in all, which no test has the time for.
+/// The latest copy is that after 9,961,472 orders, 152 times 65,536, so that each move back obeys at most 2,000 orders.
+/// From the start, or from the earliest copy, they would be 20,000,000,000 in all, which no test has the time for.
 #[test]
 fn far_on_and_often_back(rt: HostRuntime) -> Result<(), Fail> {
     let alloc = rt.alloc();
     let mut session = session_on(&rt, alloc, LOOP, 10_000_000)?;
-    assert!(rt; session.go(10_000_000).end == MoveEnd::Went);
+    assert!(rt; session.go(9_963_472).end == MoveEnd::Went);
     for _ in 0..2_000 {
         assert!(rt; session.back(1).is_ok());
     }
-    let moved = session.go(10_000);
+    let moved = session.go(100_000);
     let (at, done, end) = (64, 10_000_000, MoveEnd::Limit);
     assert!(rt; moved == Moved { at, done, end });
     Ok(())
