@@ -2,7 +2,8 @@
 
 use crate::support::{is_refused, prints};
 use ed_programs::{
-    Refusal, add_program, greatest_program, hello_program, multiply_program, sort_program,
+    Refusal, add_program, difference_program, fraction_program, greatest_program, hello_program,
+    multiply_program, sort_program,
 };
 use std::test::Fail;
 
@@ -327,4 +328,67 @@ fn sort_prints_in_order(rt: HostRuntime) -> Result<(), Fail> {
         Refusal::Count,
         "eleven numbers",
     )
+}
+
+#[test]
+fn fraction_prints_its_figures(rt: HostRuntime) -> Result<(), Fail> {
+    let alloc = rt.alloc();
+    for (upper, lower, places, wanted) in [
+        (
+            1,
+            97,
+            96,
+            "0.010309278350515463917525773195876288659793814432989690721649484536082474226804123711340206185567",
+        ),
+        (1, 3, 20, "0.33333333333333333333"),
+        (2, 3, 20, "0.66666666666666666666"),
+        (1, 7, 30, "0.142857142857142857142857142857"),
+        (0, 1, 5, "0.00000"),
+        (0, 6553, 5, "0.00000"),
+        (65535, 1, 3, "65535.000"),
+        (
+            65535,
+            6553,
+            40,
+            "10.0007630093087135663055089272089119487257",
+        ),
+        (
+            1,
+            6553,
+            60,
+            "0.000152601861742713261101785441782389745154890889668853960018",
+        ),
+        (
+            6552,
+            6553,
+            60,
+            "0.999847398138257286738898214558217610254845109110331146039981",
+        ),
+        (22, 7, 20, "3.14285714285714285714"),
+        (355, 113, 30, "3.141592920353982300884955752212"),
+        (1, 2, 1, "0.5"),
+        (1, 2, 0, "0."),
+        (9, 9, 4, "1.0000"),
+        (10, 9, 10, "1.1111111111"),
+        (1000, 999, 12, "1.001001001001"),
+        (1, 1024, 12, "0.000976562500"),
+        (65535, 2, 2, "32767.50"),
+        (5000, 6000, 8, "0.83333333"),
+    ] {
+        prints(
+            &rt,
+            alloc,
+            fraction_program(alloc, upper, lower, places),
+            wanted,
+        )?;
+    }
+    for lower in [0, 6554, 65535] {
+        is_refused(
+            &rt,
+            fraction_program(alloc, 1, lower, 5),
+            Refusal::Divisor,
+            "a divisor out of range",
+        )?;
+    }
+    Ok(())
 }

@@ -1,13 +1,13 @@
 -- A call of a routine that writes in a cell of the piece, as one line; and so `read`.
-use Rattle.std.proofs.Common.{◌≡◌, ◌≢◌, ◌⊎◌, inl, inr, ℕ, ◌+◌, ◌*◌, ◌%◌, ◌^◌, ◌<◌, ◌≤◌, refl, sym, ap, ◌∙◌, subst, arith}
-use Rattle.std.proofs.Common.{false, lit<, List, [], ◌∷◌, ◌++◌, Option, get_or, length, set}
+use Rattle.std.proofs.Common.{◌≡◌, ◌≢◌, ◌⊎◌, inl, inr, ℕ, ◌+◌, ◌*◌, ◌/◌, ◌%◌, ◌^◌, ◌<◌, ◌≤◌, refl, sym, ap, ◌∙◌, subst, arith}
+use Rattle.std.proofs.Common.{Bool, false, lit<, List, [], ◌∷◌, ◌++◌, Option, get_or, length, set}
 use Rattle.std.proofs.lemmas.Bool.{cases_lt}
 use Rattle.std.proofs.lemmas.List.{get_or-set_same, get_or-set_other, length-set}
 use Rattle.ed_words.specs.Sizes.{locations}
 use Rattle.ed_words.proofs.SizeLemmas.{most}
 use Rattle.ed_machine.specs.State.{State}
 use Rattle.ed_library.specs.Routines.{is_working, place_count}
-use Rattle.ed_paths.proofs.Frames.{Frame, Moment, all_words, state, short}
+use Rattle.ed_paths.proofs.Frames.{Frame, Moment, all_digits, all_words, state, short}
 use Rattle.ed_paths.proofs.Leads.{Leads}
 use Rattle.ed_paths.proofs.Moves.{A, G_jumps, Reads, Jumps}
 use Rattle.ed_paths.proofs.Paths.{Path, leads, on, stay}
@@ -26,10 +26,12 @@ use Rattle.ed_sources.proofs.Stops.{joined}
 use Rattle.ed_programs.proofs.Journeys.{HasRoutine, IsIn, Journey, all_long, beside_word, called, caller_is, stands}
 
 module _ {n h : ℕ} {f : Frame n h} {r : Moment} (o : IsIn f r) where
-  -- the moment after such a call: the words of the store, the piece's own, the rows left and the last code
-  abbrev pub after_change : ℕ → List ℕ → List ℕ → List ℕ → Option ℕ → Moment
-  after_change i words cells rows l = record r {
+  -- the moment after such a call: the words of the store and its digits, the piece's own words, the rows left and the
+  -- last code
+  abbrev pub after_change : ℕ → List ℕ → List Bool → List ℕ → List ℕ → Option ℕ → Moment
+  after_change i words digits cells rows l = record r {
     words = words;
+    digits = digits;
     cells = cells;
     acc = 0;
     counter = f.base + (i + 2);
@@ -38,10 +40,10 @@ module _ {n h : ℕ} {f : Frame n h} {r : Moment} (o : IsIn f r) where
   }
 
   -- how the routine returns
-  abbrev pub Leaves : ℕ → ℕ → ℕ → List ℕ → List ℕ → List ℕ → Option ℕ → ℕ → Type 0
-  Leaves i w k codes words rows l done =
+  abbrev pub Leaves : ℕ → ℕ → ℕ → List ℕ → List ℕ → List Bool → List ℕ → Option ℕ → ℕ → Type 0
+  Leaves i w k codes words digits rows l done =
       Leads k (state f (called o i w) done) codes (record (state f (called o i w) done) {
-        store = record { words = words; sandwich = (state f r done).store.sandwich };
+        store = record { words = words; sandwich = all_digits digits (f.base / 2 + h) r.pairs };
         acc = 0;
         counter = caller (state f (called o i w) done) + 2;
         tape = rows;
@@ -49,16 +51,16 @@ module _ {n h : ℕ} {f : Frame n h} {r : Moment} (o : IsIn f r) where
         orders = done + k;
       })
 
-  pub changes : {r0 w : ℕ} {parameters : List ℕ} {k : ℕ} {codes : List ℕ} (i : ℕ) (words cells rows : List ℕ)
-      (l : Option ℕ) (has : HasRoutine f r.words r0 w parameters)
-      → ((done : ℕ) → Stands r0 parameters w (state f (called o i w) done) → Leaves i w k codes words rows l done)
+  pub changes : {r0 w : ℕ} {parameters : List ℕ} {k : ℕ} {codes : List ℕ} (i : ℕ) (words : List ℕ) (digits : List Bool)
+      (cells rows : List ℕ) (l : Option ℕ) (has : HasRoutine f r.words r0 w parameters)
+      → ((done : ℕ) → Stands r0 parameters w (state f (called o i w) done) → Leaves i w k codes words digits rows l done)
       → length words ≡ 1024 → length cells ≡ n
       → ((j : ℕ) → j < n → get_or words (f.base + j) 0 ≡ get_or cells j 0)
       → i + 3 ≤ n → r.acc ≡ 0 → Reads {f = f} {r = r} i 28 (own i)
       → Jumps {f = f} {r = record r { acc = short (114688 + 2 * (f.base + i)); counter = f.base + (i + 1) }}
       (i + 1) 27 (any w has.reached)
-      → Journey f (2 + k) r codes (after_change i words cells rows l)
-  changes {w = w} {k = k} {codes} i words cells rows l has returns long own_long same room clear first second = record {
+      → Journey f (2 + k) r codes (after_change i words digits cells rows l)
+  changes {w = w} {k = k} {codes} i words digits cells rows l has returns long own_long same room clear first second = record {
     leads = λ done.
         let size = most f.size in let under = f.under in let fits = f.fits in
         let word : get_or r.cells i 0 ≡ 114688 + 2 * (f.base + i) = ap (λ x. x.1.0) first in
@@ -74,7 +76,7 @@ module _ {n h : ℕ} {f : Frame n h} {r : Moment} (o : IsIn f r) where
         subst (λ (t : State). Leads (2 + k) (state f r done) codes t)
         (λ j. record {
           size = f.size;
-          store = record { words = sym whole j; sandwich = (state f r done).store.sandwich };
+          store = record { words = sym whole j; sandwich = all_digits digits (f.base / 2 + h) r.pairs };
           acc = 0;
           multiplier = r.multiplier;
           counter = c j;
@@ -111,7 +113,7 @@ module _ {n h : ℕ} {f : Frame n h} {r : Moment} (o : IsIn f r) where
     number_read = digits_value (digit_rows r.tape) % 2 ^ 17
 
     leaves : (done : ℕ) → Stands read (with_h (f.base + j)) w (state f (called o i w) done)
-        → Leaves i w (11 + 13 * length (digit_rows r.tape)) [] words_read rest r.last done
+        → Leaves i w (11 + 13 * length (digit_rows r.tape)) [] words_read r.digits rest r.last done
     leaves done called_there = read_call.leads_to (reading done called_there) ends code
 
     -- the cells after it
@@ -157,13 +159,13 @@ module _ {n h : ℕ} {f : Frame n h} {r : Moment} (o : IsIn f r) where
     pub read_line : r.acc ≡ 0 → Reads {f = f} {r = r} i 28 (own i)
         → Jumps {f = f} {r = record r { acc = short (114688 + 2 * (f.base + i)); counter = f.base + (i + 1) }}
         (i + 1) 27 (any w has.reached)
-        → Journey f (2 + (11 + 13 * length (digit_rows r.tape))) r [] (after_change i words_read cells_read rest r.last)
+        → Journey f (2 + (11 + 13 * length (digit_rows r.tape))) r [] (after_change i words_read r.digits cells_read rest r.last)
     read_line clear first second =
         let long = length-set r.cells j number_read in
         let own = o.own in
-        changes i words_read cells_read rest r.last has leaves read_long (omega arith) read_own room clear first second
+        changes i words_read r.digits cells_read rest r.last has leaves read_long (omega arith) read_own room clear first second
 
-    pub read_in : IsIn f (after_change i words_read cells_read rest r.last)
+    pub read_in : IsIn f (after_change i words_read r.digits cells_read rest r.last)
     read_in = record {
       above = o.above;
       all = read_long;
@@ -213,8 +215,8 @@ module _ {n h : ℕ} {f : Frame n h} {r : Moment} (o : IsIn f r) where
   -- the number is in the cell j, the rows after it are left, and the piece and the routines stand as before
   pub record HasRead (i j w v : ℕ) (rest : List ℕ) : Type 0 where
     pub words : List ℕ
-    pub journey : Journey f (13 + 13 * length (digits v)) r [] (after_change i words (set r.cells j v) rest r.last)
-    pub still_in : IsIn f (after_change i words (set r.cells j v) rest r.last)
+    pub journey : Journey f (13 + 13 * length (digits v)) r [] (after_change i words r.digits (set r.cells j v) rest r.last)
+    pub still_in : IsIn f (after_change i words r.digits (set r.cells j v) rest r.last)
     pub has : {r1 w1 : ℕ} {others : List ℕ} → HasRoutine f r.words r1 w1 others
         → ((m : ℕ) → m < place_count r1 → is_working r1 m ≡ false → IsOther read w (w1 + m))
         → HasRoutine f words r1 w1 others
@@ -236,11 +238,11 @@ module _ {n h : ℕ} {f : Frame n h} {r : Moment} (o : IsIn f r) where
       let count : 2 + (11 + 13 * length (digits v)) ≡ 13 + 13 * length (digits v) = omega arith in
       record {
         words = words;
-        journey = subst (λ k. Journey f k r [] (after_change i words (set r.cells j v) rest r.last)) count
+        journey = subst (λ k. Journey f k r [] (after_change i words r.digits (set r.cells j v) rest r.last)) count
             (subst (λ (ds : List ℕ). Journey f (2 + (11 + 13 * length ds)) r []
-            (after_change i words (set r.cells j v) rest r.last)) rows
+            (after_change i words r.digits (set r.cells j v) rest r.last)) rows
             (subst (λ x. Journey f (2 + (11 + 13 * length (digit_rows r.tape))) r []
-            (after_change i words (set r.cells j x) rest r.last)) number
+            (after_change i words r.digits (set r.cells j x) rest r.last)) number
             (read_line i j has inside ends low room clear first second)));
         still_in = record {
           above = o.above;

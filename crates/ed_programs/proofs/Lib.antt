@@ -40,3 +40,9 @@ pub mod DifferenceProgram
 pub mod DifferenceSaid
 pub mod DifferenceEnds
 pub mod DifferenceRuns
+pub mod Divides
+pub mod FractionProgram
+pub mod FractionWhole
+pub mod FractionSaid
+pub mod FractionEnds
+pub mod FractionRuns

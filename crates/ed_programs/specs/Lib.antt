@@ -6,3 +6,4 @@ pub mod Add
 pub mod Greatest
 pub mod Sort
 pub mod Difference
+pub mod Fraction

@@ -6,6 +6,7 @@
 
 mod add;
 mod difference;
+mod fraction;
 mod greatest;
 mod hello;
 mod multiply;
@@ -14,6 +15,7 @@ mod sort;
 
 pub use add::add_program;
 pub use difference::difference_program;
+pub use fraction::fraction_program;
 pub use greatest::greatest_program;
 pub use hello::hello_program;
 pub use multiply::multiply_program;

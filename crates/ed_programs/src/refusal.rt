@@ -18,6 +18,9 @@ pub enum Refusal {
     /// A number, or what the program makes of the numbers, is 65,536 or more.
     #[error("the numbers and their results must be below 65536")]
     Number,
+    /// The lower number of a fraction is 0 or above 6,553.
+    #[error("the lower number must be from 1 to 6553")]
+    Divisor,
     /// No memory for the text of the program.
     #[error("no memory")]
     Memory,
