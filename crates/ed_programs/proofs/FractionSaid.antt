@@ -4,11 +4,11 @@ use Rattle.std.specs.Prelude.{None, Ok}
 use Rattle.ed_words.specs.declared.size.Size.{Size}
 use Rattle.ed_words.specs.declared.size.Size.TheVariants.{Small, Full}
 use Rattle.ed_syntax.specs.Grammar.{array, settings}
-use Rattle.ed_syntax.specs.Sources.{program_of}
+use Rattle.ed_syntax.specs.Private.SourceReading.{program_of}
 use Rattle.ed_syntax.specs.declared.program.Line.{Line}
 use Rattle.ed_syntax.specs.declared.program.Operand.TheVariants as operands
 use Rattle.ed_syntax.specs.declared.program.Statement.TheVariants as statements
-use Rattle.ed_link.specs.Faults.{fault}
+use Rattle.ed_link.specs.Private.FaultTests.{fault}
 use Rattle.ed_programs.specs.Fraction.{fraction_source, fraction_text}
 use Rattle.ed_programs.proofs.DataLines.{are_small, data_mark, data_plain, data_says}
 use Rattle.ed_programs.proofs.NumberLines.{use_mark}
