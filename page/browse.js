@@ -510,6 +510,9 @@ async function speed(name) {
         await b.expect(`${load} runs so far`, await b.ask('page.machine.picture(page.program, 1000000).orders'), 1000000);
         await b.expect(`${load}: a picture in 50 ms`, Math.max(...times.map((ms) => ms[0])), (ms) => ms < 50);
     }
+    const frames = JSON.parse(await b.ask(`JSON.stringify([10, 100000, 1000000].map((orders) => { const times = Array.from({ length: 11 }, (_, k) => {
+        const since = performance.now(); look(orders + k, page.shown); return performance.now() - since; }); return times.sort((a, b) => a - b); }))`));
+    console.log(`  a frame of a run, with its picture drawn, at order 10, 100,000 and 1,000,000: ${frames.map((ms) => ms[5].toFixed(1)).join(', ')} ms`);
     const drawing = await b.ask(`(() => { const since = performance.now();
         for (let i = 0; i < 20; i++) { store.rows.clear(); draw(); } return (performance.now() - since) / 20; })()`);
     console.log(`  with ${name} memories; all of a picture drawn in ${drawing.toFixed(1)} ms`);

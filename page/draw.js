@@ -25,8 +25,8 @@ function fitted(canvas, wide, high) {
     return { context, isNew };
 }
 
-// The dots of the store: tanks of 16 long words, each of 35 dots with the high end at the left. Where the page is one
-// screen the dots are as large as the room for them lets them be.
+// The dots of the store: tanks of 16 long words, each of 35 dots with the high end at the left. If the page is one screen,
+// the dots are as large as their room allows. Each stands on whole pixels.
 class StoreView {
     constructor(canvas, isOneScreen) {
         this.canvas = canvas;
@@ -40,12 +40,14 @@ class StoreView {
     plan(tanks) {
         const box = this.canvas.parentElement;
         const wide = box.clientWidth;
-        const gap = Math.max(6, wide / 160);
+        const scale = window.devicePixelRatio || 1;
+        const whole = (length) => Math.max(1, Math.floor(length * scale)) / scale;
+        const gap = whole(Math.max(6, wide / 160));
         const across = wide < 640 ? 4 : 8, down = Math.ceil(tanks / across);
         const widest = (wide - gap * (across + 1)) / (35 * across);
         const highest = this.isOneScreen() ? (box.clientHeight - 2 - gap * (down + 1)) / (16 * down) : Math.max(widest, 2);
-        const high = Math.max(1, Math.min(Math.max(widest, 2), highest));
-        return { wide, across, gap, dot: widest, high, tankWide: 35 * widest + gap, tankHigh: 16 * high + gap, height: down * (16 * high + gap) + gap };
+        const dot = whole(widest), high = whole(Math.min(Math.max(widest, 2), highest));
+        return { wide, across, gap, dot, high, scale, tankWide: 35 * dot + gap, tankHigh: 16 * high + gap, height: down * (16 * high + gap) + gap };
     }
 
     // The order at the counter has a solid frame, and the place that it names a broken one.
@@ -90,12 +92,13 @@ class StoreView {
             const isNew = changed[k < 17 ? 0 : k === 17 ? 1 : 2];
             if (isNew) {
                 context.fillStyle = COLOURS.band;
-                context.fillRect(left + k * plan.dot, y, plan.dot + 0.5, plan.high);
+                context.fillRect(left + k * plan.dot, y, plan.dot, plan.high);
             }
             const share = isOn ? (isNew ? 1 : 0.8) : 0.45;
-            const [wide, high] = [plan.dot * share, plan.high * share];
+            const [wide, high] = [plan.dot, plan.high].map((side) => Math.max(1, Math.round(side * share * plan.scale)) / plan.scale);
+            const inner = (side, size) => Math.floor(((side - size) / 2) * plan.scale) / plan.scale;
             context.fillStyle = isOn ? (isNew ? COLOURS.lit : COLOURS.dot) : (isNew ? COLOURS.litDark : COLOURS.dark);
-            context.fillRect(left + k * plan.dot + (plan.dot - wide) / 2, y + (plan.high - high) / 2, wide, high);
+            context.fillRect(left + k * plan.dot + inner(plan.dot, wide), y + inner(plan.high, high), wide, high);
         }
     }
 
