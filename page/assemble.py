@@ -1,5 +1,5 @@
-"""Writes the page as one HTML file: the drawing, the words, the languages, the lessons, the cheat sheet, the modules, and the
-tapes and sources of examples/.
+"""Writes the page as one HTML file: the drawing, the words, the languages, the lessons, the cheat sheet, the modules, and
+the tapes and sources of examples/.
 
     python3 page/assemble.py OUT      OUT holds page64.wasm, and page32.wasm where there is one
 """
@@ -39,7 +39,8 @@ def said(text):
 
 def examples():
     """The tapes and sources, without the answers to the exercises."""
-    files = [file for file in pathlib.Path("examples").iterdir() if file.suffix in KINDS and not file.name.startswith("answer")]
+    files = [file for file in pathlib.Path("examples").iterdir() if file.suffix in KINDS]
+    files = [file for file in files if not file.name.startswith("answer")]
     files.sort(key=lambda file: (FIRST.index(file.name) if file.name in FIRST else len(FIRST), file.name))
     texts = [(file, file.read_text("utf-8")) for file in files]
     return [{"name": file.name, "kind": KINDS[file.suffix], "says": said(text), "text": text} for file, text in texts]
@@ -54,7 +55,7 @@ def sum_of(text):
 
 
 def due(number):
-    """What the answer to an exercise shows, as a sum: its paper, or where it prints nothing its words or its word at 144."""
+    """What the answer to an exercise shows, as a sum: its paper, or if it prints nothing, its words or its word at 144."""
     shown = pathlib.Path(f"examples/answer{number}.edsac.shown").read_text("utf-8").splitlines()
     printed = shown[1 : next(k for k, line in enumerate(shown) if line.startswith("entered"))]
     listed = [line.split()[2] for line in shown if re.fullmatch(r" +\d+ +\d+ \S+", line)]
@@ -85,12 +86,16 @@ def lessons():
 
 def policy(page):
     """The policy of the page: it runs its own scripts and styles, by their sums, and loads nothing."""
-    sums = {}
-    for mark in ["script", "style"]:
+
+    def sums(mark):
         texts = re.findall(rf"<{mark}>([\s\S]*?)</{mark}>", page)
-        sums[mark] = " ".join(f"'sha256-{base64.b64encode(hashlib.sha256(text.encode()).digest()).decode()}'" for text in texts)
-    return (f"default-src 'none'; script-src {sums['script']} 'wasm-unsafe-eval'; style-src {sums['style']}; img-src data:; "
-            "base-uri 'none'; form-action 'none'")
+        digests = [base64.b64encode(hashlib.sha256(text.encode()).digest()).decode() for text in texts]
+        return " ".join(f"'sha256-{digest}'" for digest in digests)
+
+    return "; ".join([
+        "default-src 'none'", f"script-src {sums('script')} 'wasm-unsafe-eval'", f"style-src {sums('style')}",
+        "img-src data:", "base-uri 'none'", "form-action 'none'",
+    ])
 
 
 languages = {file.stem: json.loads(file.read_text("utf-8")) for file in sorted((here / "languages").glob("*.json"))}

@@ -72,6 +72,8 @@ async function examples() {
     await b.expect('Start again begins at Start', await b.until(`page.shown.ending === 'stopped' && page.shown.orders === 4650`), true);
     await b.ask(`document.getElementById('listingBox').open = true; 0`);
     await b.expect('the listing', await b.until(`document.getElementById('listing').textContent.includes('\\n  56 ')`), true);
+    await b.set('at', '3401');
+    await b.expect('its line at work is marked', await b.ask(`[...document.querySelectorAll('#listing .here')].map((line) => line.textContent.trim().split(/\\s+/)[0])`), ['56']);
     await b.set('at', '4000');
     await b.ask(`document.getElementById('lookBox').open = true; 0`);
     await b.expect('the table of figures', await b.until(`document.querySelectorAll('#look tr').length === 33`), true);

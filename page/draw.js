@@ -1,8 +1,8 @@
 'use strict';
 // Draws the store, the tape and the bell's sound. What it draws was handed over by the compiled machine.
 const COLOURS = {
-    dot: '#2c9b4a', dark: '#16301f', lit: '#fff3c4', litDark: '#8f8046', band: '#3d3719', counter: '#ff8f7a', named: '#8ccbff',
-    paper: '#e9dcae', ink: '#1d1a10', mark: '#ffcf3f', old: '#a39c80', text: '#f0e9d2', ground: '#0b0e0a',
+    dot: '#2c9b4a', dark: '#16301f', lit: '#fff3c4', litDark: '#8f8046', band: '#3d3719',
+    counter: '#ff8f7a', named: '#8ccbff', paper: '#e9dcae', ink: '#1d1a10', mark: '#ffcf3f', old: '#a39c80', text: '#f0e9d2', ground: '#0b0e0a',
 };
 
 const binary = (value, digits) => value.toString(2).padStart(digits, '0');
@@ -25,8 +25,8 @@ function fitted(canvas, wide, high) {
     return { context, isNew };
 }
 
-// The dots of the store: tanks of 16 long words, each of 35 dots with the high end at the left. If the page is one screen,
-// the dots are as large as their room allows. Each stands on whole pixels.
+// The dots of the store: tanks of 16 long words, each of 35 dots with the high end at the left. If the page is one
+// screen, the dots are as large as their room allows. Each stands on whole pixels.
 class StoreView {
     constructor(canvas, isOneScreen) {
         this.canvas = canvas;
@@ -45,9 +45,10 @@ class StoreView {
         const gap = whole(Math.max(6, wide / 160));
         const across = wide < 640 ? 4 : 8, down = Math.ceil(tanks / across);
         const widest = (wide - gap * (across + 1)) / (35 * across);
-        const highest = this.isOneScreen() ? (box.clientHeight - 2 - gap * (down + 1)) / (16 * down) : Math.max(widest, 2);
+        const highest = this.isOneScreen() ? (box.clientHeight - 2 - gap * (down + 1)) / (16 * down) : Infinity;
         const dot = whole(widest), high = whole(Math.min(Math.max(widest, 2), highest));
-        return { wide, across, gap, dot, high, scale, tankWide: 35 * dot + gap, tankHigh: 16 * high + gap, height: down * (16 * high + gap) + gap };
+        const [tankWide, tankHigh] = [35 * dot + gap, 16 * high + gap];
+        return { wide, across, gap, dot, high, scale, tankWide, tankHigh, height: down * tankHigh + gap };
     }
 
     // The order at the counter has a solid frame, and the place that it names a broken one.
@@ -79,7 +80,8 @@ class StoreView {
     // The corner of a pair's row.
     corner(plan, pair) {
         const tank = pair >> 4;
-        return [plan.gap + (tank % plan.across) * plan.tankWide, plan.gap + Math.floor(tank / plan.across) * plan.tankHigh + (pair & 15) * plan.high];
+        const [column, row] = [tank % plan.across, Math.floor(tank / plan.across)];
+        return [plan.gap + column * plan.tankWide, plan.gap + row * plan.tankHigh + (pair & 15) * plan.high];
     }
 
     // A changed word stands on a band, and its dots fill their room.
@@ -95,8 +97,9 @@ class StoreView {
                 context.fillRect(left + k * plan.dot, y, plan.dot, plan.high);
             }
             const share = isOn ? (isNew ? 1 : 0.8) : 0.45;
-            const [wide, high] = [plan.dot, plan.high].map((side) => Math.max(1, Math.round(side * share * plan.scale)) / plan.scale);
+            const sized = (side) => Math.max(1, Math.round(side * share * plan.scale)) / plan.scale;
             const inner = (side, size) => Math.floor(((side - size) / 2) * plan.scale) / plan.scale;
+            const [wide, high] = [sized(plan.dot), sized(plan.high)];
             context.fillStyle = isOn ? (isNew ? COLOURS.lit : COLOURS.dot) : (isNew ? COLOURS.litDark : COLOURS.dark);
             context.fillRect(left + k * plan.dot + inner(plan.dot, wide), y + inner(plan.high, high), wide, high);
         }
@@ -133,8 +136,8 @@ class StoreView {
     }
 }
 
-// The holes of a row as they were punched. The top hole is inverted: blank tape, the code 16, has no hole, and erase, the
-// code 15, has five.
+// The holes of a row as they were punched. The top hole is inverted: blank tape, the code 16, has no hole, and erase,
+// the code 15, has five.
 const punchedOf = (code) => code ^ 16;
 
 // The tape, with five tracks and the sprocket's holes between the third and the fourth; an arrow is at the next row.

@@ -1,6 +1,6 @@
 'use strict';
-// The box for texts: it colours labels, orders and comments, marks a faulty line when typing rests, asks before own work is
-// replaced, and brings the text before back.
+// The box for texts: it colours labels, orders and comments, marks a faulty line when typing rests, asks before own work
+// is replaced, and brings the text before back.
 const REST = 500; // milliseconds without a key after which a text is read
 const PAINTED = 40000; // characters: a longer text stands without colours
 const editor = {
@@ -10,7 +10,9 @@ const editor = {
     timer: undefined,
 };
 
-const textNow = () => ({ text: by('text').value, kind: by('isSource').checked ? 'source' : 'tape', small: by('small').checked });
+const textNow = () => ({
+    text: by('text').value, kind: by('isSource').checked ? 'source' : 'tape', small: by('small').checked,
+});
 
 // The parts of a text, each with its class: what is matched has the class of its group.
 function matchedParts(text, form) {

@@ -1,6 +1,6 @@
 'use strict';
-// The lessons of the course. An exercise is checked by what the machine prints or stores, beside a sum of what is due: the
-// page's text holds no answer.
+// The lessons of the course. An exercise is checked by what the machine prints or stores, beside a sum of what is due:
+// the page's text holds no answer.
 
 // The sum of a text: FNV-1a of 64 bits.
 function sumOf(text) {
@@ -26,7 +26,8 @@ function isDue(due, shown, machine, text) {
         return sumOf(machine.order(shown.words[due.place])) === due.sum;
     }
     const orders = [...shown.words.slice(LOADER)].map((word) => machine.order(word));
-    return /\bword\b/.test(text) && orders.some((_, at) => sumOf(orders.slice(at, at + due.count).join(' ')) === due.sum);
+    const isAt = (at) => sumOf(orders.slice(at, at + due.count).join(' ')) === due.sum;
+    return /\bword\b/.test(text) && orders.some((_, at) => isAt(at));
 }
 
 function drawLesson() {
@@ -53,7 +54,8 @@ function checkLesson() {
         return;
     }
     const isRight = isDue(lesson.due, pictureAt(FURTHEST), page.machine, page.program.text);
-    by('checked').textContent = page.words.say(isRight ? 'isRight' : lesson.due.kind === 'paper' ? 'isWrongPaper' : 'isWrong');
+    const isWrong = lesson.due.kind === 'paper' ? 'isWrongPaper' : 'isWrong';
+    by('checked').textContent = page.words.say(isRight ? 'isRight' : isWrong);
 }
 
 if (typeof module !== 'undefined') {

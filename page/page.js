@@ -49,7 +49,8 @@ function pictureAt(orders) {
 
 // Draws a picture beside another one.
 function show(shown, before) {
-    const isNewStop = shown.ending === 'stopped' && !(page.shown && page.shown.ending === 'stopped' && page.shown.orders === shown.orders);
+    const was = page.shown;
+    const isNewStop = shown.ending === 'stopped' && !(was && was.ending === 'stopped' && was.orders === shown.orders);
     if (shown.ending === 'stopped' && !page.stops.includes(shown.orders)) {
         page.stops.push(shown.orders);
     }
@@ -64,7 +65,7 @@ function show(shown, before) {
 // Shows the machine after a count of orders, beside the picture given, or else that of the order before.
 function look(orders, beside) {
     const shown = pictureAt(Math.max(0, Math.min(Math.floor(orders) || 0, FURTHEST)));
-    show(shown, beside || (shown.words === undefined ? undefined : shown.orders > 0 ? pictureAt(shown.orders - 1) : EMPTY));
+    show(shown, beside || (shown.orders > 0 ? pictureAt(shown.orders - 1) : EMPTY));
 }
 
 // Start: the machine is cleared, the program's tape is mounted, and no order is done.
@@ -231,15 +232,15 @@ function draw() {
         return;
     }
     const word = shown.words[shown.counter], order = page.machine.order(word);
-    by('place').textContent = words.say('place', { number: words.number(shown.orders + 1), place: shown.counter, order });
+    const number = words.number(shown.orders + 1);
+    by('place').textContent = words.say('place', { number, place: shown.counter, order });
     by('meaning').textContent = words.meaning(word, order, page.program.small);
     by('did').textContent = didText();
     drawTape(by('tape'), page.rows, shown.rowsLeft, page.labels);
     store.draw(shown, page.before, page.program.small, namedBy(word, order, page.program.small));
     by('store').setAttribute('aria-label', words.say('storeNow', { changed: changedText() }));
-    by('tape').setAttribute('aria-label', shown.rowsLeft
-        ? words.say('tapeNow', { left: shown.rowsLeft, all: page.rows.length, next: page.labels[page.rows.length - shown.rowsLeft] })
-        : words.say('tapeDone'));
+    const [left, all] = [shown.rowsLeft, page.rows.length];
+    by('tape').setAttribute('aria-label', words.say(left ? 'tapeNow' : 'tapeDone', { left, all, next: page.labels[all - left] }));
     by('orders').textContent = words.number(shown.orders);
     by('counter').textContent = shown.counter;
     by('order').textContent = `${order}  ${binary(word, 17)}`;
@@ -251,6 +252,7 @@ function draw() {
     }
     drawLook();
     drawTrace();
+    markListing();
 }
 
 // The end of the paper: no more than a browser lays out at once.
@@ -274,7 +276,7 @@ function didText() {
 
 function changedText() {
     const places = page.before ? changedPlaces(page.before, page.shown) : [];
-    return places.length ? page.words.say('changedPlaces', { places: places.slice(0, 8).join(', ') }) : page.words.say('noPlace');
+    return page.words.say(places.length ? 'changedPlaces' : 'noPlace', { places: places.slice(0, 8).join(', ') });
 }
 
 function endingText(shown) {
@@ -316,10 +318,10 @@ function drawNothing() {
 function tellRefusal(told) {
     const key = `ends.${told.ending}`;
     const isUntold = ['no memory', 'no room', 'fault'].includes(told.ending);
-    page.refusal = told.note && !isUntold ? page.words.refusal(told.note, page.program.text, page.program.kind) : undefined;
+    const { text, kind } = page.program;
+    page.refusal = told.note && !isUntold ? page.words.refusal(told.note, text, kind) : undefined;
     by('refusal').hidden = !isUntold && page.refusal === undefined;
     by('mark').hidden = page.refusal === undefined;
-    const { text, kind } = page.program;
     by('switch').hidden = page.refusal === undefined || kindOf('', text) === kind;
     by('switch').textContent = page.words.say(kind === 'source' ? 'asTape' : 'asSource');
     by('text').setAttribute('aria-invalid', String(page.refusal !== undefined));
@@ -347,7 +349,8 @@ function drawLook() {
         const here = place === shown.counter ? ' class="here" aria-current="true"' : '';
         return `<tr${here}><th scope="row">${place}<td>${order}<td>${signed(word)}<td>${binary(word, 17)}`;
     };
-    const head = ['lookPlace', 'lookOrder', 'lookNumber', 'lookDigits'].map((key) => `<th scope="col">${escaped(words.say(key))}`);
+    const heads = ['lookPlace', 'lookOrder', 'lookNumber', 'lookDigits'];
+    const head = heads.map((key) => `<th scope="col">${escaped(words.say(key))}`);
     by('look').innerHTML = `<tr>${head.join('')}${Array.from({ length: 32 }, (_, k) => row(first + k)).join('')}`;
 }
 
@@ -357,8 +360,9 @@ function drawTrace() {
         return;
     }
     const { orders } = page.shown, first = Math.max(0, orders - 12);
-    by('trace').textContent = Array.from({ length: orders - first }, (_, k) => pictureAt(first + k)).map(({ words, counter, orders: done }) => (
-        `${page.words.number(done + 1).padStart(9)}  ${String(counter).padStart(4)}  ${page.machine.order(words[counter])}`)).join('\n');
+    const lineOf = ({ words, counter, orders: done }) => [
+        page.words.number(done + 1).padStart(9), String(counter).padStart(4), page.machine.order(words[counter])].join('  ');
+    by('trace').textContent = Array.from({ length: orders - first }, (_, k) => lineOf(pictureAt(first + k))).join('\n');
 }
 
 // The tape of a source, as a text: an item on each line, and what follows the entry on one.
@@ -388,8 +392,31 @@ function punch() {
 }
 
 function drawListing() {
-    const told = page.program.kind === 'source' && by('listingBox').open ? page.machine.listing(page.program) : undefined;
-    by('listing').textContent = told === undefined ? page.words.say('noListing') : new TextDecoder().decode(told.out) || told.note;
+    if (!by('listingBox').open) {
+        return;
+    }
+    if (page.program.kind !== 'source') {
+        by('listing').textContent = page.words.say('noListing');
+        return;
+    }
+    const told = page.machine.listing(page.program);
+    const text = new TextDecoder().decode(told.out) || told.note;
+    by('listing').replaceChildren(...text.match(/[^\n]*\n?/g).map((line) => {
+        const span = document.createElement('span');
+        span.textContent = line;
+        span.dataset.place = parseInt(line, 10);
+        return span;
+    }));
+    markListing();
+}
+
+// Marks the line of the listing at which the machine is.
+function markListing() {
+    if (by('listingBox').open && isAlive()) {
+        by('listing').querySelectorAll('span').forEach((line) => {
+            line.classList.toggle('here', line.dataset.place === String(page.shown.counter));
+        });
+    }
 }
 
 // ---- the boxes
@@ -405,7 +432,8 @@ function fill(id, choices) {
 
 function tanks() {
     const count = by('small').checked ? 16 : 32;
-    fill('tank', Array.from({ length: count }, (_, k) => [String(k), page.words.say('placesFrom', { first: 32 * k, last: 32 * k + 31 })]));
+    const nameOf = (tank) => page.words.say('placesFrom', { first: 32 * tank, last: 32 * tank + 31 });
+    fill('tank', Array.from({ length: count }, (_, tank) => [String(tank), nameOf(tank)]));
 }
 
 // Shows all texts in a language.
@@ -416,12 +444,16 @@ function speakIn(name) {
     document.documentElement.lang = name;
     document.title = say('title');
     document.querySelectorAll('[data-say]').forEach((node) => { node.textContent = say(node.dataset.say); });
-    document.querySelectorAll('[data-label]').forEach((node) => { node.setAttribute('aria-label', say(node.dataset.label)); });
+    document.querySelectorAll('[data-label]').forEach((node) => {
+        node.setAttribute('aria-label', say(node.dataset.label));
+    });
     fill('speed', [1, 5, 50, 650, 10000, 100000].map((speed) => [String(speed), say(`speed${speed}`)]));
     fill('stories', STORIES.map((story) => [story.name, say(`stories.${story.name}`)]));
     fill('figures', ['binary', 'decimal'].map((form) => [form, say(form)]));
-    fill('examples', [['', say('own')], ...EXAMPLES.map((example, k) => [String(k), `${example.says} (${example.name})`])]);
-    fill('lesson', [['0', say('noLesson')], ...LESSONS.map((lesson) => [String(lesson.number), `${lesson.number}: ${lesson.title}`])]);
+    const examples = EXAMPLES.map((example, k) => [String(k), `${example.says} (${example.name})`]);
+    const lessons = LESSONS.map(({ number, title }) => [String(number), `${number}: ${title}`]);
+    fill('examples', [['', say('own')], ...examples]);
+    fill('lesson', [['0', say('noLesson')], ...lessons]);
     fill('language', Object.entries(LANGUAGES).map(([key, texts]) => [key, texts.name]));
     by('language').value = name;
     tanks();
@@ -516,7 +548,8 @@ function titleNow() {
 // The tape as a picture, as many rows of it as a browser draws at once.
 function stripNow() {
     const isCut = page.rows.length > DRAWN_ROWS;
-    const says = page.words.say('cut') + (isCut ? ` ${page.words.say('stripCut', { count: page.words.number(DRAWN_ROWS) })}` : '');
+    const cut = isCut ? page.words.say('stripCut', { count: page.words.number(DRAWN_ROWS) }) : '';
+    const says = `${page.words.say('cut')} ${cut}`.trim();
     return stripOf(page.rows.slice(0, DRAWN_ROWS), page.labels, punchedOf, titleNow(), says);
 }
 
@@ -540,11 +573,11 @@ function afterPrint() {
 function worksheetNow() {
     const say = (key) => escaped(page.words.say(key));
     const lesson = LESSONS[Number(by('lesson').value) - 1];
-    const cells = '<td><td><td><td>';
+    const heads = ['lookPlace', 'worksheetOrder', 'worksheetAcc', 'worksheetPrinted'];
     return `<h1>${say('worksheet')}: ${escaped(titleNow())}</h1><p>${say('worksheetName')}</p>`
-        + (lesson ? `<div>${lesson.exercise}</div>` : '') + `<pre>${escaped(page.program.text)}</pre><p>${say('worksheetAsk')}</p>`
-        + `<table><tr><th>${say('lookPlace')}<th>${say('worksheetOrder')}<th>${say('worksheetAcc')}<th>${say('worksheetPrinted')}`
-        + `${`<tr>${cells}`.repeat(16)}</table>`;
+        + (lesson ? `<div>${lesson.exercise}</div>` : '')
+        + `<pre>${escaped(page.program.text)}</pre><p>${say('worksheetAsk')}</p>`
+        + `<table><tr>${heads.map((key) => `<th>${say(key)}`).join('')}${`<tr>${'<td>'.repeat(heads.length)}`.repeat(16)}</table>`;
 }
 
 // ---- listening
@@ -570,7 +603,7 @@ function listen() {
         by(by('isSource').checked ? 'isTape' : 'isSource').checked = true;
         begin();
     });
-    press('save', () => saveFile(by('isSource').checked ? 'program.edsac' : 'program.tape', by('text').value, 'text/plain'));
+    press('save', () => saveFile(`program.${by('isSource').checked ? 'edsac' : 'tape'}`, by('text').value, 'text/plain'));
     press('open', () => by('file').click());
     press('link', makeLink);
     press('saveTape', () => saveFile('tape.svg', stripNow(), 'image/svg+xml'));
@@ -592,7 +625,10 @@ function listenToBoxes() {
         }
     };
     by('at').onchange = () => { halt(); look(Number(by('at').value)); speak(); };
-    by('examples').onchange = () => (by('examples').value === '' ? undo() : chooseExample(Number(by('examples').value)));
+    by('examples').onchange = () => {
+        const chosen = by('examples').value;
+        return chosen === '' ? undo() : chooseExample(Number(chosen));
+    };
     by('tank').onchange = () => { follow(false); drawLook(); };
     by('figures').onchange = draw;
     by('small').onchange = () => { tanks(); begin(); };
@@ -625,8 +661,10 @@ function listenToPage() {
     feel(() => { page.touched = true; });
     document.onkeydown = (event) => {
         const button = { w: 'show', 0: 'start', s: 'step', b: 'back', r: 'run' }[event.key.toLowerCase()];
-        const isTyping = ['TEXTAREA', 'INPUT', 'SELECT'].includes(event.target.tagName) && event.target.type !== 'checkbox';
-        if (button && by('keys').checked && !isTyping && !event.ctrlKey && !event.altKey && !event.metaKey && !by(button).disabled) {
+        const { tagName, type } = event.target;
+        const isTyping = ['TEXTAREA', 'INPUT', 'SELECT'].includes(tagName) && type !== 'checkbox';
+        const isPlain = !event.ctrlKey && !event.altKey && !event.metaKey;
+        if (button && by('keys').checked && isPlain && !isTyping && !by(button).disabled) {
             by(button).click();
         }
     };
@@ -669,8 +707,8 @@ class WebAssemblyMissing extends Error {}
 
 // A browser without the WebAssembly that the machine needs is too old; any other fault is told as what it is.
 function tellFault(fault) {
-    const isOld = fault instanceof WebAssemblyMissing || (typeof WebAssembly === 'object' && fault instanceof WebAssembly.CompileError);
-    by('meaning').textContent = isOld ? page.words.say('tooOld') : page.words.say('ends.fault', { note: fault.message });
+    const isOld = fault instanceof WebAssemblyMissing || fault.name === 'CompileError';
+    by('meaning').textContent = page.words.say(isOld ? 'tooOld' : 'ends.fault', { note: fault.message });
     document.body.dataset.ready = 'never';
 }
 

@@ -1,6 +1,6 @@
 'use strict';
-// Texts that leave the page and come back: a link that holds all of it, and files. Nothing is sent: what follows the # of an
-// address stays in the browser.
+// Texts that leave the page and come back: a link that holds all of it, and files. Nothing is sent: what follows the #
+// of an address stays in the browser.
 const LONGEST = 262144; // bytes of a text, as the machine takes them
 
 const toLetters = (bytes) => {
@@ -30,7 +30,8 @@ async function through(bytes, stream, longest) {
 
 // What a link holds, as letters: packed (1) where the browser can, and else as it is (0).
 async function packed(shared) {
-    const bytes = new TextEncoder().encode(JSON.stringify([shared.kind, shared.small ? 1 : 0, shared.orders, shared.text]));
+    const held = [shared.kind, shared.small ? 1 : 0, shared.orders, shared.text];
+    const bytes = new TextEncoder().encode(JSON.stringify(held));
     if (typeof CompressionStream === 'undefined') {
         return `0${toLetters(bytes)}`;
     }

@@ -1,7 +1,7 @@
 'use strict';
-// The stories that the page tells by itself: what a tape is to do, how it fills the store, how its program works, and an end
-// that invites. What is shown comes from the machine's pictures; an item of the tape is what the loader reads between two
-// pictures in which it waits for the next one.
+// The stories that the page tells by itself: what a tape is to do, how it fills the store, how its program works, and an
+// end that invites. What is shown comes from the machine's pictures; an item of the tape is what the loader reads between
+// two pictures in which it waits for the next one.
 const WAITS = 34; // the place of the loader's order that reads the first row of an item
 const STORIES = [
     { name: 'letter', example: 'letter.tape' },
@@ -16,8 +16,8 @@ const LONGEST_ITEM = 2000; // orders: a loader that a tape has sent round in cir
 
 // The letters that a name can be printed in: capital letters without their marks, and blanks.
 function printable(name) {
-    const letters = name.normalize('NFD').toUpperCase().replace(/ß/gi, 'SS').replace(/[^A-Z ]/g, '').trim().slice(0, 12);
-    return letters || 'EDSAC';
+    const letters = name.normalize('NFD').toUpperCase().replace(/[^A-Z ]/g, '').trim();
+    return letters.slice(0, 12) || 'EDSAC';
 }
 
 // The text of a tape that prints letters.
@@ -106,10 +106,11 @@ class Tour {
 
     // The picture in which the loader waits for its next item, or has left.
     toNextItem(from) {
+        const isBusy = ({ ending, counter }) => ending === 'limit' && counter < LOADER && counter !== WAITS;
         let shown = from;
         do {
             shown = pictureAt(shown.orders + 1);
-        } while (shown.ending === 'limit' && shown.counter < LOADER && shown.counter !== WAITS && shown.orders < from.orders + LONGEST_ITEM);
+        } while (isBusy(shown) && shown.orders < from.orders + LONGEST_ITEM);
         return shown;
     }
 

@@ -1,7 +1,7 @@
 'use strict';
-// The page's words: what an order does, what the last one did, and what a refusal means, for someone who has never heard of
-// the machine. The texts stand in languages/*.json. They are filled in with what the compiled machine shows; nothing here
-// says what the machine does next.
+// The page's words: what an order does, what the last one did, and what a refusal means, for someone who has never heard
+// of the machine. The texts stand in languages/*.json. They are filled in with what the compiled machine shows; nothing
+// here says what the machine does next.
 
 const LOADER = 41; // places of the Initial Orders
 
@@ -17,7 +17,7 @@ class Words {
     }
 
     found(key) {
-        return this.texts[key] ?? key.split('.').reduce((part, name) => (part === undefined ? undefined : part[name]), this.texts);
+        return this.texts[key] ?? key.split('.').reduce((part, name) => part && part[name], this.texts);
     }
 
     // A text, with each {word} in it replaced by its value.
@@ -65,8 +65,8 @@ class Words {
             const [old, now] = [before.words[place], after.words[place]];
             const own = place < LOADER && before.counter < LOADER ? 'loader'
                 : isOwnOrder(before, after, place, machine) ? 'self' : undefined;
-            said.push(own ? this.say(`did.${own}`, { place, old: machine.order(old), now: machine.order(now) })
-                : this.say('did.word', { place, old: this.described(old, machine), now: this.described(now, machine) }));
+            const form = own ? (word) => machine.order(word) : (word) => this.described(word, machine);
+            said.push(this.say(`did.${own || 'word'}`, { place, old: form(old), now: form(now) }));
         }
         for (let pair = 0; pair < 512; pair++) {
             if (before.digits[pair] !== after.digits[pair]) {
@@ -92,8 +92,8 @@ class Words {
         return said.length ? said.join(' ') : this.say('did.nothing');
     }
 
-    // What a refusal means, with a hint where a beginner's slip is seen in its line, and which part of the text it speaks
-    // of: from a character to another.
+    // What a refusal means, with a hint if a beginner's slip is seen in its line, and the part of the text that it is
+    // about: from a character to another.
     refusal(note, text, kind) {
         const said = note.match(/^(line|byte) (\d+): (\w+) /);
         if (!said) {
@@ -109,7 +109,9 @@ class Words {
 }
 
 // The places whose words differ between two pictures.
-const changedPlaces = (before, after) => [...after.words.keys()].filter((place) => before.words[place] !== after.words[place]);
+function changedPlaces(before, after) {
+    return [...after.words.keys()].filter((place) => before.words[place] !== after.words[place]);
+}
 
 // What was printed between two pictures, on one line.
 const printedBetween = (before, after) => after.paper.slice(before.paper.length).replace(/\s/g, ' ').trim();
@@ -118,8 +120,8 @@ const printedBetween = (before, after) => after.paper.slice(before.paper.length)
 // addresses differ.
 function isOwnOrder(before, after, place, machine) {
     const [old, now] = [machine.order(before.words[place]), machine.order(after.words[place])];
-    return before.counter >= LOADER && old[0] === now[0] && old.at(-1) === now.at(-1) && !'PQWRJK#*.@!&'.includes(old[0])
-        && Math.abs(signed(before.words[place])) >= 2048;
+    const areOrders = !'PQWRJK#*.@!&'.includes(old[0]) && Math.abs(signed(before.words[place])) >= 2048;
+    return before.counter >= LOADER && areOrders && old[0] === now[0] && old.at(-1) === now.at(-1);
 }
 
 // An order's parts, by its text: the letter, the place that it names, and whether it is long.
@@ -179,8 +181,9 @@ function hintFor(cause, part, kind) {
     return { S7: 'word', S16: 'enter' }[cause];
 }
 
-// Which rows of a tape the loader reads as figures. It reads an item after the other: a function, then digits up to a row
-// of 10 and more, which ends it. The item after an E that ends with K or Z is the last: what follows is the program's own.
+// Which rows of a tape the loader reads as figures. It reads an item after the other: a function, then digits up to a
+// row of 11 and more, which ends it. The item after an E that ends with K or Z, or a G that ends with Z, is the last:
+// what follows is the program's own.
 function figuresOf(rows, letter) {
     const isFigure = new Array(rows.length).fill(false);
     let isLast = false;
@@ -198,7 +201,7 @@ function figuresOf(rows, letter) {
         if (isLast) {
             break;
         }
-        isLast = (begins === 'E' || begins === 'G') && (ends === 'K' || ends === 'Z') && !(begins === 'G' && ends === 'K');
+        isLast = ['EK', 'EZ', 'GZ'].includes(begins + ends);
     }
     return isFigure;
 }
