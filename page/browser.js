@@ -7,11 +7,13 @@ const path = require('path');
 
 class Browser {
     constructor(command, page, folder) {
-        Object.assign(this, { page: `file://${path.resolve(page)}`, folder, waiting: new Map(), requested: [], said: [], count: 0, rest: '', wrong: 0 });
+        Object.assign(this, { page: `file://${path.resolve(page)}`, folder, wrong: 0, requested: [], said: [] });
+        Object.assign(this, { waiting: new Map(), count: 0, rest: '' });
         this.profile = fs.mkdtempSync(path.join(os.tmpdir(), 'page-'));
-        this.child = spawn(command, ['--headless', '--no-sandbox', '--disable-gpu', '--disable-dev-shm-usage', '--mute-audio',
-            '--lang=en-GB', '--remote-debugging-pipe', '--window-size=1280,1000', `--user-data-dir=${this.profile}`, 'about:blank'],
-        { stdio: ['ignore', 'ignore', 'ignore', 'pipe', 'pipe'] });
+        const flags = ['headless', 'no-sandbox', 'disable-gpu', 'disable-dev-shm-usage', 'mute-audio', 'lang=en-GB',
+            'remote-debugging-pipe', 'window-size=1280,1000', `user-data-dir=${this.profile}`].map((flag) => `--${flag}`);
+        const stdio = ['ignore', 'ignore', 'ignore', 'pipe', 'pipe'];
+        this.child = spawn(command, [...flags, 'about:blank'], { stdio });
         this.child.on('error', () => this.giveUp('the browser does not start'));
         this.limit = setTimeout(() => this.giveUp('the browser gave no answer for 1500 seconds'), 1500000);
         this.child.stdio[4].on('data', (part) => this.hear(part));
@@ -32,7 +34,7 @@ class Browser {
                 this.waiting.delete(said.id);
             } else if (said.method === 'Network.requestWillBeSent') {
                 this.requested.push(said.params.request.url.slice(0, 60));
-            } else if (said.method === 'Runtime.exceptionThrown' || (said.method === 'Log.entryAdded' && said.params.entry.level === 'error')) {
+            } else if (said.method === 'Runtime.exceptionThrown' || said.params?.entry?.level === 'error') {
                 this.said.push(JSON.stringify(said.params).slice(0, 400));
             }
         }
@@ -47,14 +49,21 @@ class Browser {
 
     async ask(expression) {
         const said = await this.send('Runtime.evaluate', { expression, returnByValue: true, awaitPromise: true });
-        return said.exceptionDetails ? `FAULT ${JSON.stringify(said.exceptionDetails.exception.description)}` : said.result.value;
+        const fault = said.exceptionDetails;
+        return fault ? `FAULT ${JSON.stringify(fault.exception.description)}` : said.result.value;
+    }
+
+    // Does something in the page, with values that are given to it.
+    run(does, ...given) {
+        return this.ask(`(${does})(${given.map((value) => JSON.stringify(value)).join(', ')})`);
     }
 
     async expect(what, got, wanted) {
         const is = typeof wanted === 'function' ? wanted(got) : JSON.stringify(got) === JSON.stringify(wanted);
         this.wrong += !is;
         if (!is) {
-            console.log(`WRONG ${what}: ${JSON.stringify(got)}${typeof wanted === 'function' ? '' : `, and not ${JSON.stringify(wanted)}`}`);
+            const not = typeof wanted === 'function' ? '' : `, and not ${JSON.stringify(wanted)}`;
+            console.log(`WRONG ${what}: ${JSON.stringify(got)}${not}`);
         }
     }
 
@@ -127,6 +136,31 @@ class Browser {
     }
 }
 
+// A browser in the hands of somebody who knows the page.
+class Visitor extends Browser {
+    // Chooses an example, also in place of own work.
+    async choose(name) {
+        await this.set('examples', await this.run((one) => String(EXAMPLES.findIndex((example) => example.name === one)), name));
+        if (await this.ask('!by("ask").hidden')) {
+            await this.click('replace');
+        }
+    }
+
+    // How many pixels of the store have a colour of the page.
+    pixels(name) {
+        return this.run((colour) => {
+            const canvas = by('store');
+            const data = canvas.getContext('2d').getImageData(0, 0, canvas.width, canvas.height).data;
+            const wanted = COLOURS[colour].match(/\w\w/g).map((part) => parseInt(part, 16));
+            let count = 0;
+            for (let at = 0; at < data.length; at += 4) {
+                count += wanted.every((part, k) => Math.abs(data[at + k] - part) < 3);
+            }
+            return count;
+        }, name);
+    }
+}
+
 const pause = (ms) => new Promise((done) => setTimeout(done, ms));
 
-module.exports = { Browser, pause };
+module.exports = { Browser, Visitor, pause };

@@ -48,7 +48,11 @@ function compareSmall(name, text, counts) {
     for (const count of counts.slice(-3)) {
         const shown = machine.picture(text, count);
         const orders = [...shown.words.slice(144, 512)].map((word) => machine.order(word));
-        same(`${name} after ${count}: places that the small store doesn't have`, shown.words.slice(512).some((word) => word !== 0), false);
+        same(
+            `${name} after ${count}: places that the small store doesn't have`,
+            shown.words.slice(512).some((word) => word !== 0),
+            false,
+        );
         pictures++;
         if (orders.some((order) => '#*.@!&'.includes(order[0]))) {
             continue;
@@ -110,13 +114,21 @@ function compareTexts(name, text) {
         const isRefused = [3, 11].includes(told.status);
         same(`${name}: rows`, rows.status, isRefused ? told.status : 0);
         same(`${name}: note of the rows`, rows.note, isRefused ? told.note : '');
-        same(`${name}: letters`, [...rows.out].map((code) => machine.letter(code)).join(''), isRefused ? '' : lettersOf(text.text));
+        same(
+            `${name}: letters`,
+            [...rows.out].map((code) => machine.letter(code)).join(''),
+            isRefused ? '' : lettersOf(text.text),
+        );
         return;
     }
     const punched = program(['punch', ...storeOf(text.small)], text.text);
     same(`${name}: rows`, rows.status, punched.status);
     same(`${name}: note of the rows`, rows.note, punched.note);
-    same(`${name}: punched`, [...rows.out].join(' '), [...machine.rows({ kind: 'tape', text: punched.out }).out].join(' '));
+    same(
+        `${name}: punched`,
+        [...rows.out].join(' '),
+        [...machine.rows({ kind: 'tape', text: punched.out }).out].join(' '),
+    );
     const listed = program(['listing', ...storeOf(text.small)], text.text);
     const listing = machine.listing(text);
     same(`${name}: listing`, new TextDecoder().decode(listing.out), listed.out);
@@ -200,7 +212,11 @@ for (let seed = 1; seed <= 200; seed++) {
 compareAll('a tape with an open comment', { kind: 'tape', text: 'T64K [GK', small: false }, 100);
 compareAll('a source with a fault after line 1000', { kind: 'source', text: `${'\n'.repeat(1499)}%\n`, small: false }, 100);
 compareTexts('too long', { kind: 'tape', text: ' '.repeat(262145), small: false });
-same('too long', machine.picture({ kind: 'tape', text: ' '.repeat(262145), small: false }, 1).note, program(['tape'], ' '.repeat(262145)).note);
+same(
+    'too long',
+    machine.picture({ kind: 'tape', text: ' '.repeat(262145), small: false }, 1).note,
+    program(['tape'], ' '.repeat(262145)).note,
+);
 for (const ending of ['stopped', 'limit', 'no order', 'no tape', 'refused']) {
     same(`some run ends with ${ending}`, seen.has(ending), true);
 }

@@ -59,7 +59,11 @@ for (const [text, english, german] of MEANINGS) {
     same(`${text} in English`, languages.en.meaning(wordOf(text), text, false), english);
     same(`${text} in German`, languages.de.meaning(wordOf(text), text, false), german);
 }
-same('an address in the small store', languages.en.meaning(wordOf('A600F'), 'A600F', true), 'Add the number in place 88 to the accumulator.');
+same(
+    'an address in the small store',
+    languages.en.meaning(wordOf('A600F'), 'A600F', true),
+    'Add the number in place 88 to the accumulator.',
+);
 for (const [text, places] of [['RD', 1], ['R1F', 2], ['R2F', 3], ['R512F', 11], ['LF', 13], ['RF', 15]]) {
     same(`${text} shifts`, shiftOf({ word: wordOf(text) }), places);
 }
@@ -94,30 +98,58 @@ same('the figures of a tape', figured('T64KGKO2@ZFAFEZPF'), '-99---' + '-9-' + '
 same('what follows the entry is not the loader\'s', figured('E64KPF12F'), '-99-' + '--' + '---');
 same('no figure without an item', figured('12'), '-9');
 same('blank tape has no hole, erase has five', ['.', '*'].map((sign) => punchedOf(LETTERS.indexOf(sign))), [0, 31]);
-same('names that the teleprinter can print', ['ada', ' Jürgen ', 'Strauß', '1234', 'Anna Maria Luise'].map(printable), ['ADA', 'JURGEN', 'STRAUSS', 'EDSAC', 'ANNA MARIA L']);
+same(
+    'names that the teleprinter can print',
+    ['ada', ' Jürgen ', 'Strauß', '1234', 'Anna Maria Luise'].map(printable),
+    ['ADA', 'JURGEN', 'STRAUSS', 'EDSAC', 'ANNA MARIA L'],
+);
 same('a tape that prints a name', tapeOf('AB').split('\n').slice(1), ['T64K GK', 'O3@ O4@ ZF', 'AF BF', 'EZPF', '']);
 same('a blank in a name', tapeOf('A B').includes('AF !F BF'), true);
 same('the sum of nothing', sumOf(''), 'cbf29ce484222325');
 same('the sum of a letter', sumOf('a'), 'af63dc4c8601ec8c');
 same('what is seen of a paper', seenOf('1\r\n2  \r\n\n'), '1\n2');
-same('a source by its name or its lines', [kindOf('a.tape', 'segment'), kindOf('a.edsac', ''), kindOf('a.txt', '; x\nsegment main'), kindOf('a.txt', 'T64K')], ['tape', 'source', 'source', 'tape']);
+same(
+    'a source by its name or its lines',
+    [kindOf('a.tape', 'segment'), kindOf('a.edsac', ''), kindOf('a.txt', '; x\nsegment main'), kindOf('a.txt', 'T64K')],
+    ['tape', 'source', 'source', 'tape'],
+);
 const whole = (parts) => parts.map(([, part]) => part).join('');
 for (const [kind, text] of [['source', 'a: A b F ; x\ntext "A;B"\n'], ['tape', 'T64K [x] GK']]) {
     same(`no character of a ${kind} is lost`, whole(partsOf(text, kind)), text);
 }
-same('the parts of a line', partsOf('_a: T _b F ; "x" F', 'source'), [['label', '_a: '], ['order', 'T'], ['', ' _b F '], ['comment', '; "x" F']]);
+same(
+    'the parts of a line',
+    partsOf('_a: T _b F ; "x" F', 'source'),
+    [['label', '_a: '], ['order', 'T'], ['', ' _b F '], ['comment', '; "x" F']],
+);
 same('a string is no comment', partsOf('text "A;B"', 'source'), [['word', 'text'], ['', ' '], ['string', '"A;B"']]);
 const strip = stripOf(codes('.*A'), ['.', '*', '<!--'], punchedOf, '<b>', 'x');
-same('holes of three rows', (strip.match(/class="hole"/g) || []).length, 0 + 5 + punchedOf(28).toString(2).replace(/0/g, '').length);
-same('what a tape says is escaped', [strip.includes('<!--'), strip.includes('&lt;!--'), strip.includes('&lt;b&gt;')], [false, true, true]);
-same('a long tape is cut into pieces', (stripOf(new Array(STRIP.rows + 1).fill(0), new Array(STRIP.rows + 1).fill('P'), punchedOf, 'x', 'x').match(/class="cut"/g) || []).length, 2);
+same(
+    'holes of three rows',
+    (strip.match(/class="hole"/g) || []).length,
+    0 + 5 + punchedOf(28).toString(2).replace(/0/g, '').length,
+);
+same(
+    'what a tape says is escaped',
+    [strip.includes('<!--'), strip.includes('&lt;!--'), strip.includes('&lt;b&gt;')],
+    [false, true, true],
+);
+same(
+    'a long tape is cut into pieces',
+    (stripOf(new Array(STRIP.rows + 1).fill(0), new Array(STRIP.rows + 1).fill('P'), punchedOf, 'x', 'x').match(/class="cut"/g) || []).length,
+    2,
+);
 
 (async () => {
     for (const text of ['', 'T64K GK', 'ÄÖÜ \u{1F600}\n'.repeat(2000)]) {
         const shared = { kind: 'tape', small: true, orders: 7, text };
         same(`a link of ${text.length} characters there and back`, await unpacked(await packed(shared)), shared);
     }
-    same('a link that would fill the memory', await unpacked(await packed({ kind: 'tape', small: false, orders: 0, text: 'A'.repeat(600000) })), undefined);
+    same(
+        'a link that would fill the memory',
+        await unpacked(await packed({ kind: 'tape', small: false, orders: 0, text: 'A'.repeat(600000) })),
+        undefined,
+    );
     for (const bad of ['', '1', '1AAAA', '0e30', '0bnVsbA', `0${btoa('["tape",0,1.5,"x"]')}`]) {
         same(`no link: ${bad}`, await unpacked(bad), undefined);
     }

@@ -1,0 +1,221 @@
+'use strict';
+// How the page looks and how fast it is: on screens from a phone's to a wall's, in a museum, without JavaScript.
+const fs = require('fs');
+const { pause } = require('./browser.js');
+const rules = require('./rules.js');
+
+// Opens, or closes, everything that can be open.
+function openAll(isOpen) {
+    document.querySelectorAll('details').forEach((box) => { box.open = isOpen; });
+    by('lesson').value = isOpen ? '3' : '0';
+    drawLesson();
+    by('linked').hidden = by('ask').hidden = by('invite').hidden = by('skip').hidden = !isOpen;
+}
+
+// What stands in each box.
+function stateOf() {
+    const boxes = [...document.querySelectorAll('input, select, textarea, details')];
+    return boxes.map((box) => [box.id, box.open, box.checked, box.tagName === 'DETAILS' ? undefined : box.value]);
+}
+
+async function looks(b) {
+    await b.choose('hello.edsac');
+    await b.set('at', '1061');
+    await b.ask('window.scrollTo(0, 0); 0');
+    const bytes = await b.shot('page.png');
+    await b.expect(
+        'the picture is of this size',
+        [bytes.readUInt32BE(16), bytes.readUInt32BE(20)],
+        ([wide, high]) => wide >= 1200 && high >= 800,
+    );
+    await b.expect('and something is drawn in it', bytes.length, (length) => length > 30000);
+    await b.expect('dots of the store', await b.pixels('dot'), (on) => on > 300);
+    await b.run(openAll, true);
+    for (const wide of [320, 360, 800, 1280, 2560]) {
+        await b.size(wide, wide < 500 ? 640 : 900, wide < 500);
+        await pause(200);
+        await b.expect(
+            `nothing stands beyond ${wide} pixels`,
+            await b.ask('document.documentElement.scrollWidth'),
+            (got) => got <= wide,
+        );
+        await b.shot(`page${wide}.png`, { captureBeyondViewport: wide < 900 });
+        if (wide < 500) {
+            await b.expect(`${wide} pixels: buttons for a thumb`, await b.ask(rules.SMALL_BUTTONS), []);
+        }
+    }
+    await b.send('Emulation.clearDeviceMetricsOverride');
+    for (const [what, rule] of Object.entries(rules.EACH)) {
+        await b.expect(what, await b.ask(rule), []);
+    }
+    await b.expect(
+        'lit and changed dots differ in brightness',
+        await b.ask(rules.BRIGHTNESS),
+        (all) => all.every((one) => one >= 3),
+    );
+    await b.send('Emulation.setEmulatedMedia', { features: [{ name: 'prefers-reduced-motion', value: 'reduce' }] });
+    await b.expect(
+        'nothing moves where nobody wants it',
+        await b.ask(`getComputedStyle(by('ending')).animationName`),
+        'none',
+    );
+    await b.send('Emulation.setEmulatedMedia', { features: [] });
+    await b.run(openAll, false);
+    await b.expect(
+        'the page has its policy',
+        await b.ask(`document.querySelector('meta[http-equiv]').content`),
+        (said) => said.includes("'sha256-") && !said.includes('unsafe-inline'),
+    );
+    await b.expect(
+        'which holds',
+        await b.run(() => {
+            const script = document.createElement('script');
+            script.textContent = 'window.ran = 1';
+            document.body.append(script);
+            script.remove();
+            return window.ran === undefined;
+        }),
+        true,
+    );
+}
+
+async function kiosk(b) {
+    await b.size(1280, 720);
+    await b.open('#kiosk=60,quiet');
+    await b.expect(
+        'a kiosk begins at once, without its bell',
+        await b.run(() => [
+            page.tour !== undefined, by('sound').checked, page.kiosk.seconds, document.documentElement.className,
+        ]),
+        [true, false, 60, 'kiosk'],
+    );
+    await b.ask('page.hurry = 0.005; page.shift = 0; page.clock = () => performance.now() + page.shift; 0');
+    const later = (seconds) => b.ask(`page.shift += ${seconds * 1000}; page.kiosk.look(); 0`);
+    for (const name of ['letter', 'name', 'changes', 'disc', 'sum', 'letter']) {
+        await b.expect(
+            `its stories rotate: ${name}`,
+            [await b.ask('by("stories").value'), await b.until('page.tour === undefined')],
+            [name, true],
+        );
+        await later(13);
+    }
+    await b.until('page.tour === undefined');
+    await b.ask('page.kiosk.reset(); 0');
+    const wanted = await b.run(stateOf);
+    await b.set('language', 'de');
+    await b.run(() => {
+        document.querySelectorAll('details').forEach((box) => { box.open = true; });
+        document.querySelectorAll('input[type=checkbox]').forEach((box) => box.click());
+    });
+    const chosen = { figures: 'decimal', lesson: '3', name: 'BOB', examples: '9', speed: '100000', tank: '5' };
+    for (const [id, value] of Object.entries(chosen)) {
+        await b.set(id, value);
+    }
+    await b.ask(`by('text').style.height = '700px'; window.scrollTo(0, 9999); by('text').focus(); 0`);
+    await b.click('isTape');
+    await b.type('T64K GK E@ EZPF');
+    await b.set('examples', '2');
+    await b.click('keep');
+    await b.click('link');
+    await b.click('run');
+    await b.expect(
+        'an endless run in a kiosk',
+        await b.until('page.shown.orders > 2000 && page.running !== undefined'),
+        true,
+    );
+    await later(59);
+    await b.expect('not before its time', await b.ask('page.running !== undefined'), true);
+    await b.ask('page.hurry = 1; 0');
+    await later(2);
+    await b.expect('then it begins again', await b.run(() => [
+        page.running === undefined, page.tour !== undefined, by('stories').value, scrollY, document.activeElement.tagName,
+        document.documentElement.lang,
+    ]),
+        [true, true, 'letter', 0, 'BODY', 'en']);
+    await b.ask('halt(); 0');
+    await b.expect('every box is as it was', await b.run(stateOf), wanted);
+    await b.expect('and nothing of a visitor is left', await b.run(() => [
+        by('ask').hidden, by('linked').hidden, by('refusal').hidden, by('text').style.height, editor.former === undefined,
+        by('undo').disabled, document.body.textContent.includes('BOB'),
+    ]),
+        [true, true, true, '', true, true, false]);
+    await screens(b);
+}
+
+// All of a kiosk on one screen, its letters and dots growing with it.
+async function screens(b) {
+    const seen = [];
+    for (const [wide, high] of [[1280, 720], [1366, 768], [1920, 1080], [3840, 2160]]) {
+        await b.size(wide, high);
+        await pause(300);
+        for (const language of ['en', 'de']) {
+            await b.run((name) => {
+                speakIn(name);
+                by('stories').value = 'letter';
+                loadStory();
+                by('skip').hidden = by('invite').hidden = false;
+                by('story').textContent = page.words.say('told.end');
+                look(193);
+            }, language);
+            await b.expect(`${wide} x ${high}, ${language}: all on one screen`, await b.ask(rules.OUTSIDE), []);
+            await b.shot(`kiosk${wide}${language}.png`);
+        }
+        seen.push(await b.ask('[letterHigh(), store.plan(32).high]'));
+    }
+    const sizes = seen.map((pair) => pair.map((one) => one.toFixed(1)).join(' and ')).join('; ');
+    console.log(`  letters and dots of a kiosk in pixels, at 1280, 1366, 1920 and 3840: ${sizes}`);
+    await b.expect('letters grow with the screen', seen[3][0] / seen[0][0], (times) => times > 2.9);
+    await b.expect('dots grow with the screen', seen[3][1] / seen[0][1], (times) => times > 2.5);
+    await b.expect('a dot is 3 pixels and more', seen[0][1], (dot) => dot >= 3);
+    await b.send('Emulation.clearDeviceMetricsOverride');
+}
+
+async function noScript(b) {
+    const was = b.session;
+    const { targetId } = await b.send('Target.createTarget', { url: 'about:blank' }, undefined);
+    b.session = (await b.send('Target.attachToTarget', { targetId, flatten: true }, undefined)).sessionId;
+    await b.send('Page.enable');
+    await b.send('Emulation.setScriptExecutionDisabled', { value: true });
+    await b.send('Page.navigate', { url: b.page });
+    await pause(1500);
+    const { root } = await b.send('DOM.getDocument', { depth: -1 });
+    const { nodeId } = await b.send('DOM.querySelector', { nodeId: root.nodeId, selector: 'noscript p' });
+    await b.expect('without JavaScript there is a sentence', nodeId, (id) => id > 0);
+    const { model } = await b.send('DOM.getBoxModel', { nodeId });
+    await b.expect('and it is seen', model && model.height, (high) => high > 10);
+    b.session = was;
+}
+
+// The time of a picture on an order that jumps to itself and on the loads of bench/: the middle of eleven tries, and
+// the least of them, which other work on the processor doesn't touch.
+async function speed(b, name) {
+    const loads = ['examples/endless.tape', ...['short', 'long', 'squares', 'print'].map((one) => `bench/${one}.tape`)];
+    await b.choose('endless.tape');
+    await b.run(() => {
+        window.timesOf = (does) => Array.from({ length: 11 }, (_, k) => {
+            const since = performance.now();
+            does(k);
+            return performance.now() - since;
+        }).sort((one, two) => one - two);
+    });
+    for (const load of loads) {
+        await b.type(fs.readFileSync(load, 'utf8'));
+        const times = await b.run(() => [1000, 100000, 1000000].map((orders) => timesOf(() => page.machine.picture(page.program, orders))));
+        const middle = times.map((ms) => ms[5].toFixed(1)).join(', ');
+        console.log(`  ${load}: a picture after 1,000, 100,000 and 1,000,000 orders in ${middle} ms`);
+        await b.expect(
+            `${load} runs so far`,
+            await b.ask('page.machine.picture(page.program, 1000000).orders'),
+            1000000,
+        );
+        await b.expect(`${load}: a picture in 50 ms`, Math.max(...times.map((ms) => ms[0])), (ms) => ms < 50);
+    }
+    const frames = await b.run(() => [10, 100000, 1000000].map((orders) => timesOf((k) => look(orders + k, page.shown))));
+    const middle = frames.map((ms) => ms[5].toFixed(1)).join(', ');
+    console.log(`  a frame of a run, with its picture drawn, at order 10, 100,000 and 1,000,000: ${middle} ms`);
+    const drawing = await b.ask(`(() => { const since = performance.now();
+        for (let i = 0; i < 20; i++) { store.rows.clear(); draw(); } return (performance.now() - since) / 20; })()`);
+    console.log(`  with ${name} memories; all of a picture drawn in ${drawing.toFixed(1)} ms`);
+}
+
+module.exports = { looks, kiosk, noScript, speed };
