@@ -42,8 +42,8 @@ function compareRun(name, text, orders, resumes) {
     return shown;
 }
 
-// Words of the small store after a count of orders, beside the program's post-mortem: it prints those from 144 on as orders.
-// A word whose function is no letter moves its paper, and has no line.
+// Words of the small store after a count of orders, beside the program's post-mortem: it prints those from 144 on as
+// orders. A word whose function is no letter moves its paper, and has no line.
 function compareSmall(name, text, counts) {
     for (const count of counts.slice(-3)) {
         const shown = machine.picture(text, count);
@@ -220,6 +220,8 @@ same(
 for (const ending of ['stopped', 'limit', 'no order', 'no tape', 'refused']) {
     same(`some run ends with ${ending}`, seen.has(ending), true);
 }
-console.log(`${path.basename(file)}: ${pictures} pictures compared with the program, ${small} post-mortems of the small store, ${figures} rows with the loader, ${wrong} differences; endings `
-    + [...seen].map(([ending, count]) => `${ending} ${count}`).join(', ') + `; the memory grew to ${machine.exports.memory.buffer.byteLength >> 20} MiB`);
+const endings = [...seen].map(([ending, count]) => `${ending} ${count}`).join(', ');
+console.log(`${path.basename(file)}: ${pictures} pictures compared with the program, ${small} post-mortems of the small store, `
+    + `${figures} rows with the loader, ${wrong} differences; endings ${endings}; `
+    + `the memory grew to ${machine.exports.memory.buffer.byteLength >> 20} MiB`);
 process.exit(wrong ? 1 : 0);

@@ -2,7 +2,8 @@
 // Draws the store, the tape and the bell's sound. What it draws was handed over by the compiled machine.
 const COLOURS = {
     dot: '#2c9b4a', dark: '#16301f', lit: '#fff3c4', litDark: '#8f8046', band: '#3d3719',
-    counter: '#ff8f7a', named: '#8ccbff', paper: '#e9dcae', ink: '#1d1a10', mark: '#ffcf3f', old: '#a39c80', text: '#f0e9d2', ground: '#0b0e0a',
+    counter: '#ff8f7a', named: '#8ccbff', paper: '#e9dcae', ink: '#1d1a10', mark: '#ffcf3f',
+    old: '#a39c80', text: '#f0e9d2', ground: '#0b0e0a',
 };
 
 const binary = (value, digits) => value.toString(2).padStart(digits, '0');

@@ -44,5 +44,6 @@ while at < len(data):
     sections.append((data[at], data[at : body + size], data[body : body + size]))
     at = body + size
 kinds = [kind for kind, _, _ in sections]
-kept = [limited(body) if kind == MEMORIES else whole for kind, whole, body in sections if kind != TABLES or ELEMENTS in kinds]
+sections = [section for section in sections if section[0] != TABLES or ELEMENTS in kinds]
+kept = [limited(body) if kind == MEMORIES else whole for kind, whole, body in sections]
 open(sys.argv[1], "wb").write(data[:8] + b"".join(kept))

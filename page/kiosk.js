@@ -57,7 +57,6 @@ class Kiosk {
                 node.scrollTop = node.scrollLeft = 0;
             }
         });
-        window.scrollTo(0, 0);
     }
 
     // Looks once a second whether it is time for something.

@@ -240,7 +240,8 @@ function draw() {
     store.draw(shown, page.before, page.program.small, namedBy(word, order, page.program.small));
     by('store').setAttribute('aria-label', words.say('storeNow', { changed: changedText() }));
     const [left, all] = [shown.rowsLeft, page.rows.length];
-    by('tape').setAttribute('aria-label', words.say(left ? 'tapeNow' : 'tapeDone', { left, all, next: page.labels[all - left] }));
+    const next = page.labels[all - left];
+    by('tape').setAttribute('aria-label', words.say(left ? 'tapeNow' : 'tapeDone', { left, all, next }));
     by('orders').textContent = words.number(shown.orders);
     by('counter').textContent = shown.counter;
     by('order').textContent = `${order}  ${binary(word, 17)}`;
@@ -574,10 +575,11 @@ function worksheetNow() {
     const say = (key) => escaped(page.words.say(key));
     const lesson = LESSONS[Number(by('lesson').value) - 1];
     const heads = ['lookPlace', 'worksheetOrder', 'worksheetAcc', 'worksheetPrinted'];
+    const rows = `<tr>${'<td>'.repeat(heads.length)}`.repeat(16);
     return `<h1>${say('worksheet')}: ${escaped(titleNow())}</h1><p>${say('worksheetName')}</p>`
         + (lesson ? `<div>${lesson.exercise}</div>` : '')
         + `<pre>${escaped(page.program.text)}</pre><p>${say('worksheetAsk')}</p>`
-        + `<table><tr>${heads.map((key) => `<th>${say(key)}`).join('')}${`<tr>${'<td>'.repeat(heads.length)}`.repeat(16)}</table>`;
+        + `<table><tr>${heads.map((key) => `<th>${say(key)}`).join('')}${rows}</table>`;
 }
 
 // ---- listening
@@ -603,7 +605,10 @@ function listen() {
         by(by('isSource').checked ? 'isTape' : 'isSource').checked = true;
         begin();
     });
-    press('save', () => saveFile(`program.${by('isSource').checked ? 'edsac' : 'tape'}`, by('text').value, 'text/plain'));
+    press('save', () => {
+        const { text, kind } = textNow();
+        saveFile(kind === 'source' ? 'program.edsac' : 'program.tape', text, 'text/plain');
+    });
     press('open', () => by('file').click());
     press('link', makeLink);
     press('saveTape', () => saveFile('tape.svg', stripNow(), 'image/svg+xml'));

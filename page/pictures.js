@@ -17,7 +17,7 @@ async function watch(name, hash, begins) {
         await pause((at - passed) * 1000);
         passed = at;
         await b.shot(`${name}${at}.png`);
-        const said = await b.ask('[by("stories").value, by("story").textContent, by("ending").textContent, by("paper").textContent].join(" | ")');
+        const said = await b.run(() => ['story', 'ending', 'paper'].map((id) => by(id).textContent).join(' | '));
         console.log(`${name} at ${at} seconds: ${said.replace(/\n/g, ' ')}`);
     }
     await b.close();

@@ -1,81 +1,107 @@
 'use strict';
-// Rules that the page keeps in a browser: each is an expression whose value lists what breaks it.
-const LIGHT = `
-    const part = (v) => (v <= 0.03928 ? v / 12.92 : ((v + 0.055) / 1.055) ** 2.4);
-    const light = ([r, g, b]) => 0.2126 * part(r / 255) + 0.7152 * part(g / 255) + 0.0722 * part(b / 255) + 0.05;
-    const numbers = (colour) => colour.match(/[\\d.]+/g).map(Number);
-    const ratio = (one, two) => Math.max(light(one), light(two)) / Math.min(light(one), light(two));
-    const behind = (node) => {
-        for (; node; node = node.parentElement) {
-            const colour = numbers(getComputedStyle(node).backgroundColor);
-            if (colour.length < 4 || colour[3] > 0) return colour;
+// Rules that the page keeps in a browser. Each is obeyed in the page, and its value lists what breaks it.
+
+// What several rules use: how bright a colour is, what is behind a part of the page, and what is seen.
+function install() {
+    const share = (v) => (v <= 0.03928 ? v / 12.92 : ((v + 0.055) / 1.055) ** 2.4);
+    const light = ([r, g, b]) => 0.2126 * share(r / 255) + 0.7152 * share(g / 255) + 0.0722 * share(b / 255) + 0.05;
+    window.numbers = (colour) => colour.match(/[\d.]+/g).map(Number);
+    window.ratio = (one, two) => Math.max(light(one), light(two)) / Math.min(light(one), light(two));
+    window.behind = (node) => {
+        for (let at = node; at; at = at.parentElement) {
+            const colour = numbers(getComputedStyle(at).backgroundColor);
+            if (colour.length < 4 || colour[3] > 0) {
+                return colour;
+            }
         }
         return [255, 255, 255];
     };
-    const isSeen = (node) => node.getClientRects().length > 0;`;
+    window.seen = (selector) => [...document.querySelectorAll(selector)].filter((node) => node.getClientRects().length > 0);
+    window.nameOf = (node) => node.id || node.className || node.tagName;
+}
 
 // The texts whose colour stands out too little from what is behind it.
-const CONTRASTS = `(() => {${LIGHT}
-    const hasText = (node) => [...node.childNodes].some((child) => child.nodeType === 3 && child.textContent.trim());
-    return [...document.body.querySelectorAll('*')].filter((node) => hasText(node) && isSeen(node) && node.tagName !== 'TEXTAREA' && node.tagName !== 'OPTION')
-        .filter((node) => ratio(numbers(getComputedStyle(node).color), behind(node)) < 4.5).map((node) => node.id || node.className || node.tagName);
-})()`;
+function contrasts() {
+    const isText = (child) => child.nodeType === Node.TEXT_NODE && child.textContent.trim() !== '';
+    const texts = seen('body *').filter((node) => !['TEXTAREA', 'OPTION'].includes(node.tagName) && [...node.childNodes].some(isText));
+    return texts.filter((node) => ratio(numbers(getComputedStyle(node).color), behind(node)) < 4.5).map(nameOf);
+}
 
-// The controls whose border stands out too little from what is beside it.
-const BORDERS = `(() => {${LIGHT}
-    return [...document.querySelectorAll('button, select, input:not([type=checkbox]):not([type=radio]), textarea')].filter(isSeen)
-        .filter((node) => ratio(numbers(getComputedStyle(node).borderTopColor), behind(node.parentElement)) < 3
-            && ratio(numbers(getComputedStyle(node).backgroundColor), behind(node.parentElement)) < 3).map((node) => node.id);
-})()`;
+// The controls of which neither the border nor the ground stands out from what is beside them.
+function borders() {
+    const isPale = (node, part) => ratio(numbers(getComputedStyle(node)[part]), behind(node.parentElement)) < 3;
+    return seen('button, select, input:not([type=checkbox]):not([type=radio]), textarea')
+        .filter((node) => isPale(node, 'borderTopColor') && isPale(node, 'backgroundColor')).map(nameOf);
+}
 
-const NAMES = `[...document.querySelectorAll('button, input, select, textarea, canvas')]
-    .filter((box) => !(box.textContent.trim() || (box.labels && [...box.labels].some((label) => label.textContent.trim())) || box.getAttribute('aria-label')))
-    .filter((box) => box.id !== 'file').map((box) => box.id)`;
+// The controls without a name.
+function names() {
+    const hasLabel = (box) => box.labels && [...box.labels].some((label) => label.textContent.trim());
+    return seen('button, input, select, textarea, canvas')
+        .filter((box) => !box.textContent.trim() && !hasLabel(box) && !box.getAttribute('aria-label')).map(nameOf);
+}
 
-// Each part has a heading, and no heading is two levels below the one before.
-const HEADINGS = `(() => {
-    const levels = [...document.querySelectorAll('main h1, main h2, main h3, main h4')].filter((node) => node.getClientRects().length).map((node) => Number(node.tagName[1]));
-    const jumps = levels.filter((level, k) => level > (k ? levels[k - 1] : 0) + 1).map((level) => 'h' + level);
-    return jumps.concat([...document.querySelectorAll('section')].filter((node) => !node.querySelector('h2')).map((node) => node.id || node.className));
-})()`;
+// Headings two levels below the one before, and sections without one.
+function headings() {
+    const levels = seen('main h1, main h2, main h3, main h4').map((node) => Number(node.tagName[1]));
+    const jumps = levels.filter((level, k) => level > (k ? levels[k - 1] : 0) + 1).map((level) => `h${level}`);
+    return jumps.concat(seen('section').filter((node) => !node.querySelector('h2')).map(nameOf));
+}
 
-// Rules of the stylesheet that no part of the page can ever have, and those that the browser didn't understand.
-const STYLES = `(() => {
-    const all = (list) => [...list].flatMap((rule) => (rule.cssRules && rule.type !== 7 ? [rule, ...all(rule.cssRules)] : [rule]));
-    const made = ['.rings', '.here', '.painted', '.faulty', '.comment', '.label', '.order', '.word', '.string', '.kiosk', '[data-print', '::selection', '#printed', 'noscript'];
-    const rules = all(document.styleSheets[0].cssRules).filter((rule) => rule.selectorText);
-    const dead = rules.flatMap((rule) => rule.selectorText.split(',')).map((one) => one.trim())
-        .filter((one) => !made.some((name) => one.includes(name)) && !document.querySelector(one.replace(/:(focus-visible|disabled|empty)/g, '') || '*'));
-    const written = document.querySelector('style').textContent;
-    const opened = (written.match(/\\{/g) || []).length, understood = all(document.styleSheets[0].cssRules).length + 2;
-    return dead.concat(opened === understood ? [] : ['the browser understood ' + understood + ' of ' + opened + ' rules']);
-})()`;
+// Rules of the stylesheet that no part of the page has, but for those that it has at times; and whether the browser
+// understood all of them.
+function styles() {
+    const all = (list) => [...list].flatMap((rule) => (rule.cssRules && !(rule instanceof CSSKeyframesRule)
+        ? [rule, ...all(rule.cssRules)] : [rule]));
+    const atTimes = ['.rings', '.here', '.painted', '.faulty', '.comment', '.label', '.order', '.word', '.string', '.kiosk',
+        '[data-print', '::selection', '#printed', 'noscript'];
+    const rules = all(document.styleSheets[0].cssRules);
+    const selectors = rules.flatMap((rule) => (rule.selectorText || '').split(',')).map((one) => one.trim()).filter(Boolean);
+    const bare = (one) => one.replace(/:(focus-visible|disabled|empty)/g, '') || '*';
+    const dead = selectors.filter((one) => !atTimes.some((name) => one.includes(name)) && !document.querySelector(bare(one)));
+    const keyframes = rules.filter((rule) => rule instanceof CSSKeyframesRule).reduce((sum, rule) => sum + rule.cssRules.length, 0);
+    const written = document.querySelector('style').textContent.match(/\{/g).length;
+    const isWhole = written === rules.length + keyframes;
+    return isWhole ? dead : [...dead, `the browser understood ${rules.length + keyframes} of ${written} rules`];
+}
 
-const IDS = `(() => { const all = [...document.querySelectorAll('[id]')].map((node) => node.id); return all.filter((id, k) => all.indexOf(id) !== k); })()`;
+function ids() {
+    const all = [...document.querySelectorAll('[id]')].map((node) => node.id);
+    return all.filter((id, k) => all.indexOf(id) !== k);
+}
 
-// What of the machine's screen stands outside the window.
-const OUTSIDE = `[...document.querySelectorAll('#stage button, #stage select, #stage input, #stage section, #stage canvas, #stage header')].filter((node) => node.getClientRects().length)
-    .filter((node) => { const box = node.getBoundingClientRect(); return box.left < -1 || box.top < -1 || box.right > innerWidth + 1 || box.bottom > innerHeight + 1 || box.height < 8; })
-    .map((node) => node.id || node.className).concat(document.documentElement.scrollWidth > innerWidth ? ['the page'] : [])`;
+// What of the machine's screen stands outside the window, or has no height.
+function outside() {
+    const parts = ['button', 'select', 'input', 'section', 'canvas', 'header'].map((part) => `#stage ${part}`).join();
+    const isOut = ({ left, top, right, bottom, height }) => left < -1 || top < -1 || right > innerWidth + 1
+        || bottom > innerHeight + 1 || height < 8;
+    const out = [...document.querySelectorAll(parts)].filter((node) => node.getClientRects().length > 0)
+        .filter((node) => isOut(node.getBoundingClientRect())).map((node) => node.id || node.className);
+    return out.concat(document.documentElement.scrollWidth > innerWidth ? ['the page'] : []);
+}
 
-// Buttons that a thumb misses: below 24 pixels of WCAG 2.2, or 44 for those of the machine.
-const SMALL_BUTTONS = `[...document.querySelectorAll('button, select, input')].filter((node) => node.getClientRects().length)
-    .filter((node) => { const box = node.getBoundingClientRect(); const least = node.closest('.buttons') ? 43.9 : node.type === 'checkbox' || node.type === 'radio' ? 20 : 24; return box.height < least || box.width < Math.min(least, 24); })
-    .map((node) => node.id)`;
+// Controls that a thumb misses: below 24 pixels, or 44 for the buttons of the machine.
+function smallControls() {
+    return seen('button, select, input').filter((node) => {
+        const { width, height } = node.getBoundingClientRect();
+        return width < 23.9 || height < (node.closest('.buttons') ? 43.9 : 23.9);
+    }).map(nameOf);
+}
 
-// How much brighter lit dots are than dark ones, and changed ones than others.
-const BRIGHTNESS = `(() => {${LIGHT}
-    const colour = (name) => COLOURS[name].match(/\\w\\w/g).map((part) => parseInt(part, 16));
-    return [['dot', 'dark'], ['lit', 'dot'], ['lit', 'litDark'], ['litDark', 'dark'], ['counter', 'ground'], ['named', 'ground'], ['mark', 'ink']].map(([one, two]) => ratio(colour(one), colour(two)));
-})()`;
+// How much brighter lit dots are than dark ones, changed ones than others, and what frames and marks stand out.
+function brightness() {
+    const colour = (name) => COLOURS[name].match(/\w\w/g).map((part) => parseInt(part, 16));
+    return [['dot', 'dark'], ['lit', 'dot'], ['lit', 'litDark'], ['litDark', 'dark'], ['counter', 'ground'], ['named', 'ground'],
+        ['mark', 'ink']].map(([one, two]) => ratio(colour(one), colour(two)));
+}
 
 const EACH = {
-    'contrast of 4.5 and more': CONTRASTS,
-    'borders of 3 and more': BORDERS,
-    'each control has a name': NAMES,
-    'headings are headings': HEADINGS,
-    'each rule of the stylesheet is understood and used': STYLES,
-    'each id is there once': IDS,
+    'contrast of 4.5 and more': contrasts,
+    'borders of 3 and more': borders,
+    'each control has a name': names,
+    'headings are headings': headings,
+    'each rule of the stylesheet is understood and used': styles,
+    'each id is there once': ids,
 };
 
-module.exports = { EACH, OUTSIDE, SMALL_BUTTONS, BRIGHTNESS };
+module.exports = { EACH, install, outside, smallControls, brightness };

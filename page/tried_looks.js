@@ -31,6 +31,7 @@ async function looks(b) {
     await b.expect('and something is drawn in it', bytes.length, (length) => length > 30000);
     await b.expect('dots of the store', await b.pixels('dot'), (on) => on > 300);
     await b.run(openAll, true);
+    await b.run(rules.install);
     for (const wide of [320, 360, 800, 1280, 2560]) {
         await b.size(wide, wide < 500 ? 640 : 900, wide < 500);
         await pause(200);
@@ -41,16 +42,16 @@ async function looks(b) {
         );
         await b.shot(`page${wide}.png`, { captureBeyondViewport: wide < 900 });
         if (wide < 500) {
-            await b.expect(`${wide} pixels: buttons for a thumb`, await b.ask(rules.SMALL_BUTTONS), []);
+            await b.expect(`${wide} pixels: buttons for a thumb`, await b.run(rules.smallControls), []);
         }
     }
     await b.send('Emulation.clearDeviceMetricsOverride');
     for (const [what, rule] of Object.entries(rules.EACH)) {
-        await b.expect(what, await b.ask(rule), []);
+        await b.expect(what, await b.run(rule), []);
     }
     await b.expect(
         'lit and changed dots differ in brightness',
-        await b.ask(rules.BRIGHTNESS),
+        await b.run(rules.brightness),
         (all) => all.every((one) => one >= 3),
     );
     await b.send('Emulation.setEmulatedMedia', { features: [{ name: 'prefers-reduced-motion', value: 'reduce' }] });
@@ -128,15 +129,15 @@ async function kiosk(b) {
     await b.ask('page.hurry = 1; 0');
     await later(2);
     await b.expect('then it begins again', await b.run(() => [
-        page.running === undefined, page.tour !== undefined, by('stories').value, scrollY, document.activeElement.tagName,
-        document.documentElement.lang,
+        page.running === undefined, page.tour !== undefined, by('stories').value,
+        scrollY, document.activeElement.tagName, document.documentElement.lang,
     ]),
         [true, true, 'letter', 0, 'BODY', 'en']);
     await b.ask('halt(); 0');
     await b.expect('every box is as it was', await b.run(stateOf), wanted);
     await b.expect('and nothing of a visitor is left', await b.run(() => [
-        by('ask').hidden, by('linked').hidden, by('refusal').hidden, by('text').style.height, editor.former === undefined,
-        by('undo').disabled, document.body.textContent.includes('BOB'),
+        by('ask').hidden, by('linked').hidden, by('refusal').hidden, by('text').style.height,
+        editor.former === undefined, by('undo').disabled, document.body.textContent.includes('BOB'),
     ]),
         [true, true, true, '', true, true, false]);
     await screens(b);
@@ -157,7 +158,7 @@ async function screens(b) {
                 by('story').textContent = page.words.say('told.end');
                 look(193);
             }, language);
-            await b.expect(`${wide} x ${high}, ${language}: all on one screen`, await b.ask(rules.OUTSIDE), []);
+            await b.expect(`${wide} x ${high}, ${language}: all on one screen`, await b.run(rules.outside), []);
             await b.shot(`kiosk${wide}${language}.png`);
         }
         seen.push(await b.ask('[letterHigh(), store.plan(32).high]'));
@@ -200,7 +201,8 @@ async function speed(b, name) {
     });
     for (const load of loads) {
         await b.type(fs.readFileSync(load, 'utf8'));
-        const times = await b.run(() => [1000, 100000, 1000000].map((orders) => timesOf(() => page.machine.picture(page.program, orders))));
+        const picture = (orders) => timesOf(() => page.machine.picture(page.program, orders));
+        const times = await b.ask(`[1000, 100000, 1000000].map(${picture})`);
         const middle = times.map((ms) => ms[5].toFixed(1)).join(', ');
         console.log(`  ${load}: a picture after 1,000, 100,000 and 1,000,000 orders in ${middle} ms`);
         await b.expect(
@@ -210,7 +212,8 @@ async function speed(b, name) {
         );
         await b.expect(`${load}: a picture in 50 ms`, Math.max(...times.map((ms) => ms[0])), (ms) => ms < 50);
     }
-    const frames = await b.run(() => [10, 100000, 1000000].map((orders) => timesOf((k) => look(orders + k, page.shown))));
+    const frame = (orders) => timesOf((k) => look(orders + k, page.shown));
+    const frames = await b.ask(`[10, 100000, 1000000].map(${frame})`);
     const middle = frames.map((ms) => ms[5].toFixed(1)).join(', ');
     console.log(`  a frame of a run, with its picture drawn, at order 10, 100,000 and 1,000,000: ${middle} ms`);
     const drawing = await b.ask(`(() => { const since = performance.now();

@@ -30,30 +30,86 @@ const languages = Object.fromEntries(fs.readdirSync(path.join(__dirname, 'langua
 // Each order with what it does, in English and in German; a word of 1024 and more counts modulo the store.
 const MEANINGS = [
     ['A66F', 'Add the number in place 66 to the accumulator.', 'Addiere die Zahl auf Platz 66 zum Akkumulator.'],
-    ['A67D', 'Add the long number in places 66 and 67 to the accumulator.', 'Addiere die lange Zahl auf den Plätzen 66 und 67 zum Akkumulator.'],
+    [
+        'A67D',
+        'Add the long number in places 66 and 67 to the accumulator.',
+        'Addiere die lange Zahl auf den Plätzen 66 und 67 zum Akkumulator.',
+    ],
     ['S5F', 'Take the number in place 5 away from the accumulator.', 'Zieh die Zahl auf Platz 5 vom Akkumulator ab.'],
-    ['H5F', 'Copy the number in place 5 into the multiplier register.', 'Kopiere die Zahl auf Platz 5 in das Multiplikatorregister.'],
+    [
+        'H5F',
+        'Copy the number in place 5 into the multiplier register.',
+        'Kopiere die Zahl auf Platz 5 in das Multiplikatorregister.',
+    ],
     ['V5F', 'Multiply the number in place 5 by the multiplier register, and add the result to the accumulator.',
         'Multipliziere die Zahl auf Platz 5 mit dem Multiplikatorregister, und addiere das Ergebnis zum Akkumulator.'],
     ['N5F', 'Multiply the number in place 5 by the multiplier register, and take the result away from the accumulator.',
         'Multipliziere die Zahl auf Platz 5 mit dem Multiplikatorregister, und zieh das Ergebnis vom Akkumulator ab.'],
-    ['T5F', "Put the accumulator's number into place 5, then make the accumulator 0.", 'Bring die Zahl des Akkumulators nach Platz 5, dann setze den Akkumulator auf 0.'],
-    ['U4D', "Copy the accumulator's number into places 4 and 5. The accumulator keeps it.", 'Kopiere die Zahl des Akkumulators nach Platz 4 und 5. Der Akkumulator behält sie.'],
+    [
+        'T5F',
+        "Put the accumulator's number into place 5, then make the accumulator 0.",
+        'Bring die Zahl des Akkumulators nach Platz 5, dann setze den Akkumulator auf 0.',
+    ],
+    [
+        'U4D',
+        "Copy the accumulator's number into places 4 and 5. The accumulator keeps it.",
+        'Kopiere die Zahl des Akkumulators nach Platz 4 und 5. Der Akkumulator behält sie.',
+    ],
     ['C5F', 'Look at the number in place 5 and at the multiplier register: where both have a 1, add that 1 to the accumulator.',
         'Vergleiche die Zahl auf Platz 5 mit dem Multiplikatorregister: Wo beide eine 1 haben, addiere diese 1 zum Akkumulator.'],
-    ['RD', "Move the accumulator's digits 1 to the right: this halves its number once.", 'Schieb die Ziffern des Akkumulators um 1 nach rechts: Das halbiert seine Zahl einmal.'],
-    ['L1F', "Move the accumulator's digits 2 to the left: this doubles its number twice.", 'Schieb die Ziffern des Akkumulators um 2 nach links: Das verdoppelt seine Zahl zweimal.'],
-    ['LF', "Move the accumulator's digits 13 to the left: this doubles its number 13 times.", 'Schieb die Ziffern des Akkumulators um 13 nach links: Das verdoppelt seine Zahl 13-mal.'],
-    ['RF', "Move the accumulator's digits 15 to the right: this halves its number 15 times.", 'Schieb die Ziffern des Akkumulators um 15 nach rechts: Das halbiert seine Zahl 15-mal.'],
-    ['E64F', 'If the accumulator is 0 or more, go to place 64. If it is below 0, just go on.', 'Ist der Akkumulator 0 oder mehr, geh zu Platz 64. Ist er unter 0, mach einfach weiter.'],
-    ['G64F', 'If the accumulator is below 0, go to place 64. If it is 0 or more, just go on.', 'Ist der Akkumulator unter 0, geh zu Platz 64. Ist er 0 oder mehr, mach einfach weiter.'],
-    ['I5F', 'Read the next row of the tape, and put its number into place 5.', 'Lies die nächste Reihe des Lochstreifens, und bring ihre Zahl nach Platz 5.'],
-    ['O5F', 'Print the letter or figure whose code is in place 5.', 'Druck den Buchstaben oder die Ziffer, deren Code auf Platz 5 steht.'],
-    ['F5F', 'Put the code of what was printed last into place 5, so that it can be checked.', 'Bring den Code des zuletzt gedruckten Zeichens nach Platz 5, damit man ihn prüfen kann.'],
+    [
+        'RD',
+        "Move the accumulator's digits 1 to the right: this halves its number once.",
+        'Schieb die Ziffern des Akkumulators um 1 nach rechts: Das halbiert seine Zahl einmal.',
+    ],
+    [
+        'L1F',
+        "Move the accumulator's digits 2 to the left: this doubles its number twice.",
+        'Schieb die Ziffern des Akkumulators um 2 nach links: Das verdoppelt seine Zahl zweimal.',
+    ],
+    [
+        'LF',
+        "Move the accumulator's digits 13 to the left: this doubles its number 13 times.",
+        'Schieb die Ziffern des Akkumulators um 13 nach links: Das verdoppelt seine Zahl 13-mal.',
+    ],
+    [
+        'RF',
+        "Move the accumulator's digits 15 to the right: this halves its number 15 times.",
+        'Schieb die Ziffern des Akkumulators um 15 nach rechts: Das halbiert seine Zahl 15-mal.',
+    ],
+    [
+        'E64F',
+        'If the accumulator is 0 or more, go to place 64. If it is below 0, just go on.',
+        'Ist der Akkumulator 0 oder mehr, geh zu Platz 64. Ist er unter 0, mach einfach weiter.',
+    ],
+    [
+        'G64F',
+        'If the accumulator is below 0, go to place 64. If it is 0 or more, just go on.',
+        'Ist der Akkumulator unter 0, geh zu Platz 64. Ist er 0 oder mehr, mach einfach weiter.',
+    ],
+    [
+        'I5F',
+        'Read the next row of the tape, and put its number into place 5.',
+        'Lies die nächste Reihe des Lochstreifens, und bring ihre Zahl nach Platz 5.',
+    ],
+    [
+        'O5F',
+        'Print the letter or figure whose code is in place 5.',
+        'Druck den Buchstaben oder die Ziffer, deren Code auf Platz 5 steht.',
+    ],
+    [
+        'F5F',
+        'Put the code of what was printed last into place 5, so that it can be checked.',
+        'Bring den Code des zuletzt gedruckten Zeichens nach Platz 5, damit man ihn prüfen kann.',
+    ],
     ['XF', 'Do nothing, and go on.', 'Tu nichts, und mach weiter.'],
     ['YF', 'Round the number in the accumulator.', 'Runde die Zahl im Akkumulator.'],
     ['ZF', 'Stop, and ring the bell.', 'Halt an, und läute die Glocke.'],
-    ['P5F', 'This is a number and no order. The machine can go no further here.', 'Das ist eine Zahl und kein Befehl. Hier geht es für die Maschine nicht weiter.'],
+    [
+        'P5F',
+        'This is a number and no order. The machine can go no further here.',
+        'Das ist eine Zahl und kein Befehl. Hier geht es für die Maschine nicht weiter.',
+    ],
 ];
 for (const [text, english, german] of MEANINGS) {
     same(`${text} in English`, languages.en.meaning(wordOf(text), text, false), english);
@@ -86,7 +142,13 @@ for (const [cause, part, kind, hint] of [
 ]) {
     same(`the hint for ${cause} ${part}`, hintFor(cause, part, kind), hint);
 }
-for (const [text, byte, from, to] of [['T64K ?', 5, 5, 6], ['AÄ', 1, 1, 2], ['A\u{1F469}\u200D\u{1F52C}B', 1, 1, 6], ['ÄÄ\u{1F600}', 4, 2, 4], ['A', 1, 1, 1]]) {
+for (const [text, byte, from, to] of [
+    ['T64K ?', 5, 5, 6],
+    ['AÄ', 1, 1, 2],
+    ['A\u{1F469}\u200D\u{1F52C}B', 1, 1, 6],
+    ['ÄÄ\u{1F600}', 4, 2, 4],
+    ['A', 1, 1, 1],
+]) {
     same(`the sign at byte ${byte} of ${text}`, signAt(text, byte), { from, to });
 }
 same('a line of a text', lineAt('one\ntwo\nthree', 2), { from: 4, to: 7 });
