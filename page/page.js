@@ -528,10 +528,12 @@ async function openFile() {
     if (!file) {
         return;
     }
-    if (file.size > LONGEST) {
-        by('shared').textContent = page.words.say('badFile');
+    const isOther = /\.tape1$/i.test(file.name);
+    if (isOther || file.size > LONGEST) {
+        by('shared').textContent = page.words.say(isOther ? 'otherLoader' : 'badFile');
         return;
     }
+    by('shared').textContent = '';
     const text = (await file.text()).replace(/\r\n/g, '\n');
     replacing(() => {
         by('examples').value = '';

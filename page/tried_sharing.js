@@ -68,6 +68,8 @@ async function files(b) {
         await open('own.txt', 'segment main\r\nZ F\r\nenter main\r\n'),
         ['segment main\nZ F\nenter main\n', true],
     );
+    await open('cubes.tape1', 'PF');
+    await b.expect('a tape of May 1949', await b.text('shared'), (said) => said.startsWith('This is a tape of May 1949.'));
     const [kept] = await open('long.tape', ' '.repeat(262145));
     await b.expect(
         'a long file is refused',
