@@ -156,6 +156,19 @@ async function faults(b) {
         thrown,
         'This page has a fault of its own. Load it again. (What the browser says: odd)',
     );
+    const memory = await b.run(() => {
+        const none = { status: 10, ending: 'no memory', note: '', out: new Uint8Array(0) };
+        Object.assign(page.machine, { picture: () => none, rows: () => none });
+        begin();
+        const said = [by('ending').textContent, by('refused').textContent].map((text) => text.slice(0, 28));
+        const off = ['step', 'back', 'run', 'show', 'at', 'punch'].filter((id) => !by(id).disabled);
+        delete page.machine.picture;
+        delete page.machine.rows;
+        begin();
+        return [said, off, by('refusal').hidden, isAlive()];
+    });
+    const gave = 'The browser gave no memory f';
+    await b.expect('no memory for a picture, and then some', memory, [[gave, gave], [], true, true]);
     const told = await b.run(() => {
         const faults = [new WebAssemblyMissing(), new WebAssembly.CompileError('x'), new TypeError('odd')];
         const all = faults.map((fault) => {
