@@ -59,7 +59,7 @@ T150K GK
 A3F T21@                [0: the link]
 T3H                     [2: the number is 0]
 I8H                     [3: the next row]
-A8H S9H E20@            [4: it is no figure]
+A8H S9H E20@            [4: it is not a figure]
 A9H L512F LD            [7: to the head of the word]
 T4H O4H                 [10: print it]
 A3H LD U6H              [12: twice the number]
