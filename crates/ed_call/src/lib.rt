@@ -1,5 +1,5 @@
-//! What a call of a library routine asks for. A crate of its own, since the reader of the command line and the maker
-//! of the program's sources both speak of it. Stands on std alone.
+//! What a call of a library routine asks for, and the ranges of its numbers. A crate of its own, since the reader of
+//! the command line and the maker of the program's sources both use it. Stands on std alone.
 #![tactic(auto)]
 
 /// A call of a library routine with its numbers.

@@ -1,5 +1,6 @@
 -- The numbers of a command that words are lie in their ranges.
-use Rattle.std.proofs.Common.{◌≡◌, ◌≤◌, ◌*◌, ◌+◌, ℕ, Bool, true, false, List, [], ◌∷◌, refl, arith, lit≤, subst, sym}
+use Rattle.std.proofs.Common.{◌≡◌, ◌≤◌, ◌<◌, ◌*◌, ◌+◌, ℕ, Bool, true, false, List, [], ◌∷◌}
+use Rattle.std.proofs.Common.{refl, arith, lit≤, subst, sym}
 use Rattle.std.proofs.lemmas.Bool.Decides.{nat_tests}
 use Rattle.std.specs.Prelude.{Option, Some, None, IfSome, ◌&&◌, if◌then◌else◌}
 use Rattle.std.specs.Prelude.{nat_le, nat_lt, option_map, option_and_then, codes}
@@ -8,6 +9,7 @@ use Rattle.std.specs.Str.{bytes_eq}
 use Rattle.ed_words.specs.Decimals.{in_range, number, number_within}
 use Rattle.ed_words.specs.Sizes.{locations}
 use Rattle.ed_words.specs.declared.size.Size.{Size}
+use Rattle.ed_call.specs.Ranges.{IsCallInRange, IsDivisible}
 use Rattle.ed_call.specs.declared.Call.{Call}
 use Rattle.ed_call.specs.declared.Call.TheVariants.{Print, Read, NewLine, Divide, Root, Check}
 use Rattle.ed_words.specs.Texts.{Text}
@@ -16,7 +18,7 @@ use Rattle.ed_command.specs.Settings.{Options, all_settings, has_only, option_va
 use Rattle.ed_command.specs.Settings.{limit_of, post_mortem_of, resumes_of, size_of}
 use Rattle.ed_command.specs.Lines.{Line, alone, call_of, command, command_of, division, line_named, lines, one_number}
 use Rattle.ed_command.specs.Lines.{with_division, with_only}
-use Rattle.ed_command.specs.Ranges.{AreSettingsInRange, IsActionInRange, IsCallInRange, IsFromTo, IsInRange, IsWindowOf}
+use Rattle.ed_command.specs.Ranges.{AreSettingsInRange, IsActionInRange, IsFromTo, IsInRange, IsWindowOf}
 use Rattle.ed_command.specs.declared.command.Action.{Action}
 use Rattle.ed_command.specs.declared.command.Action.TheVariants as doing
 use Rattle.ed_command.specs.declared.command.Command.{Command}
@@ -111,7 +113,11 @@ settings_by o None = tt
 
 division_by : (n by : ℕ) (c : Bool) → nat_lt n (65536 * by) ≡ c → IsFromTo 1 32767 by
     → IfSome (if c then Some (Divide n by) else None) IsCallInRange
-division_by n by true e h = (h, grind (arith, nat_tests))
+division_by n by true e h = record {
+  positive = h.0;
+  divisor = h.1;
+  less = grind (arith, nat_tests);
+}
 division_by n by false e h = tt
 
 division_in : (n by : Option ℕ) → IfSome by (IsFromTo 1 32767) → IfSome (division n by) IsCallInRange
@@ -142,15 +148,19 @@ either_in : {A : Type 0} (P : A → Type 0) (c : Bool) (first second : Option A)
 either_in P true first second f s = f
 either_in P false first second f s = s
 
+-- a number of a call is at most 65,535
+below : (n : ℕ) → n ≤ 65535 → n < 65536
+below n h = omega (arith, h)
+
 call_in : (arguments : List Text) → IfSome (call_of arguments) IsCallInRange
 call_in [] = tt
 call_in (name ∷ numbers) =
-    either_in IsCallInRange (bytes_eq name (codes "print")) _ _ (short_in Print numbers (λ n h. h))
-    (either_in IsCallInRange (bytes_eq name (codes "read")) _ _ (short_in Read numbers (λ n h. h))
+    either_in IsCallInRange (bytes_eq name (codes "print")) _ _ (short_in Print numbers below)
+    (either_in IsCallInRange (bytes_eq name (codes "read")) _ _ (short_in Read numbers below)
     (either_in IsCallInRange (bytes_eq name (codes "newline")) _ _ (no_number_in IsCallInRange NewLine numbers tt)
     (either_in IsCallInRange (bytes_eq name (codes "divide")) _ _ (divide_in numbers)
-    (either_in IsCallInRange (bytes_eq name (codes "root")) _ _ (short_in Root numbers (λ n h. h))
-    (either_in IsCallInRange (bytes_eq name (codes "check")) _ None (short_in Check numbers (λ n h. h)) tt)))))
+    (either_in IsCallInRange (bytes_eq name (codes "root")) _ _ (short_in Root numbers below)
+    (either_in IsCallInRange (bytes_eq name (codes "check")) _ None (short_in Check numbers below) tt)))))
 
 -- ---- lines
 

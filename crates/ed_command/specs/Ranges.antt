@@ -1,9 +1,8 @@
 -- The ranges of the numbers of a command (this project's own rule).
-use Rattle.std.specs.Prelude.{ℕ, ◌+◌, ◌*◌, ◌≤◌, ◌<◌, IfSome}
+use Rattle.std.specs.Prelude.{ℕ, ◌+◌, ◌≤◌, IfSome}
 use Rattle.ed_words.specs.Sizes.{locations}
 use Rattle.ed_words.specs.declared.size.Size.{Size}
-use Rattle.ed_call.specs.declared.Call.{Call}
-use Rattle.ed_call.specs.declared.Call.TheVariants.{Print, Read, NewLine, Divide, Root, Check}
+use Rattle.ed_call.specs.Ranges.{IsCallInRange}
 use Rattle.ed_command.specs.declared.command.Action.{Action}
 use Rattle.ed_command.specs.declared.command.Action.TheVariants as doing
 use Rattle.ed_command.specs.declared.command.Command.{Command}
@@ -17,15 +16,6 @@ IsFromTo least most n = (least ≤ n) × (n ≤ most)
 -- locations from 144 to the end of a store
 abbrev pub IsWindowOf : Size → Window → Type 0
 IsWindowOf z w = (144 ≤ w.first) × (w.first + w.count ≤ locations z)
-
--- the numbers of a call; the quotient of a division is below 65,536
-abbrev pub IsCallInRange : Call → Type 0
-IsCallInRange (Print n) = n ≤ 65535
-IsCallInRange (Read n) = n ≤ 65535
-IsCallInRange NewLine = Unit {0}
-IsCallInRange (Divide n by) = IsFromTo 1 32767 by × (n < 65536 * by)
-IsCallInRange (Root n) = n ≤ 65535
-IsCallInRange (Check n) = n ≤ 65535
 
 -- the numbers of an action; no other has any
 abbrev pub IsActionInRange : Action → Type 0

@@ -11,7 +11,8 @@ use Rattle.ed_link.specs.Private.FaultTests.{fault}
 use Rattle.ed_link.proofs.EachSource.{read_is_accepted}
 use Rattle.ed_syntax.specs.Parts.{is_line_byte}
 use Rattle.ed_syntax.specs.Private.SourceReading.{program_of}
-use Rattle.ed_sources.specs.Accepted.{EachCallIsAccepted, IsAccepted, IsDivisible}
+use Rattle.ed_call.specs.Ranges.{IsDivisible}
+use Rattle.ed_sources.specs.Accepted.{EachCallIsAccepted, IsAccepted}
 use Rattle.ed_sources.specs.Calls.{divide_source, newline_source, print_source}
 use Rattle.ed_sources.specs.Calls.{read_source, root_source, text_of_lines, check_source}
 use Rattle.ed_routines.specs.Digits.{digits}

@@ -13,7 +13,7 @@ use Rattle.ed_maths.specs.Quotients.{divide_orders}
 use Rattle.ed_maths.specs.Roots.{root_of, root_orders}
 use Rattle.ed_checker.specs.Checker.{checked_codes, guest}
 use Rattle.ed_words.specs.declared.size.Size.{Size}
-use Rattle.ed_sources.specs.Accepted.{IsMade}
+use Rattle.ed_call.specs.Ranges.{IsCallInRange}
 use Rattle.ed_sources.specs.Calls.{call_text}
 use Rattle.ed_command.specs.declared.command.Settings.{Settings}
 use Rattle.ed_words.specs.Texts.{Text}
@@ -70,6 +70,6 @@ pub record CallRuns (s : Settings) (call : Call) : Type 0 where
   pub prints : s.resumes ≡ 0 → s.post_mortem ≡ None → cost lines + call_orders call ≤ s.limit
       → Printed (call_prints s.size lines call) (run_outcome s lines)
 
--- so it is of each call
+-- so it is of each call with its numbers in range, as the reader of the command line leaves them
 abbrev pub EachCallRuns : Type 0
-EachCallRuns = (s : Settings) (call : Call) → IsMade call → CallRuns s call
+EachCallRuns = (s : Settings) (call : Call) → IsCallInRange call → CallRuns s call
