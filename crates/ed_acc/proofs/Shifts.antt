@@ -1,4 +1,4 @@
--- A negative accumulator shifted to the right.
+-- The digits of an accumulator, shifted.
 use Rattle.std.proofs.Common.{◌≡◌, ℕ, ◌+◌, ◌-◌, ◌*◌, ◌/◌, ◌%◌, ◌^◌, ◌<◌, ◌≤◌, ap, ◌∙◌, arith, negsuc}
 use Rattle.std.proofs.lemmas.Bool.Decides.{nat_tests}
 use Rattle.std.proofs.lemmas.Nat.{pow-add, pow_pos, div-mul-add, div-add-mod', mod_below, shr_below, shr_le}
@@ -47,3 +47,14 @@ signed_high a high fits = grind (arith, nat_tests)
 pub right_negative : (a p : ℕ) → 2 ^ 70 ≤ a → a < 2 ^ 71 → p ≤ 71 → right71 a p ≡ 2 ^ 71 - 1 - (2 ^ 71 - 1 - a) / 2 ^ p
 unfolding right71
 right_negative a p high fits short = rw (signed_high a high fits) (omega (arith, shr_le (2 ^ 71 - 1 - a) p))
+
+-- the digits as they are kept, with a number times them, are that number times the accumulator
+pub digits_times : (digits m : ℕ) → digits % 2 ^ 57 ≡ 0
+    → (digits * m % 2 ^ 128 % 2 ^ 57 ≡ 0) × (digits * m % 2 ^ 128 / 2 ^ 57 ≡ digits / 2 ^ 57 * m % 2 ^ 71)
+digits_times digits m whole =
+    let parts : digits ≡ digits / 2 ^ 57 * 2 ^ 57 = omega (arith, whole) in
+    let moved : digits * m ≡ digits / 2 ^ 57 * m * 2 ^ 57 = ap (λ d. d * m) parts ∙ swapped (digits / 2 ^ 57) m in
+    rw moved (omega arith, omega arith)
+  where
+    swapped : (q m : ℕ) → q * 2 ^ 57 * m ≡ q * m * 2 ^ 57
+    swapped q m = grind arith

@@ -117,7 +117,7 @@ impl Acc {
         requires high { p ≤ 15 }
         ensures { self.new ≡ left71 self.old p }
     {
-        self.set((self.value() << p) % MODULUS);
+        self.digits <<= few_places(p);
     }
 
     /// Shifts to the right by 1 to 15 places; the sign stays.
@@ -127,10 +127,11 @@ impl Acc {
         requires high { p ≤ 15 }
         ensures { self.new ≡ right71 self.old p }
     {
+        let places = few_places(p);
         if self.is_negative() {
-            self.set((self.value() >> p) + (MODULUS - (MODULUS >> p)));
+            self.set((self.value() >> places) + (MODULUS - (MODULUS >> places)));
         } else {
-            self.set(self.value() >> p);
+            self.set(self.value() >> places);
         }
     }
 
@@ -186,6 +187,15 @@ impl Acc {
     {
         self.digits = number << 57;
     }
+}
+
+/// The same number of places. The remainder lets the compiler see that a shift by them stays within one of the
+/// processor's words.
+fn few_places(p: u8) -> u8
+    requires { p ≤ 15 }
+    ensures { result ≡ p }
+{
+    p % 16
 }
 
 /// Four times the product of two signed long words.

@@ -36,14 +36,16 @@ fn run_orders(machine: &mut Machine, limit: u64, resumes: u32, paper: &mut Paper
     ensures { IsRun limit resumes machine.old paper.old result machine.new paper.new }
 {
     let mut stops = 0u32;
+    let mut full = is_full(paper);
     for done in 0..limit {
-        if is_full(paper) && prints_next(machine) {
+        if full && prints_next(machine) {
             return Ending::PaperFull;
         }
         match machine.step() {
             Turn::Went => {}
             Turn::Printed(code) => {
                 paper.push(code);
+                full = is_full(paper);
             }
             Turn::Stopped => {
                 if stops == resumes {

@@ -1,4 +1,6 @@
 //! One order: what a machine does with a word of a kind.
+//!
+//! Every step of it is inlined into the loop of a run, so that the machine's registers are held in the processor's.
 
 ghost use Rattle.std.specs.Prelude.{◌≡◌, ◌<◌, ◌≤◌, ◌+◌, ◌*◌, ◌/◌, ◌^◌, Some, nat_le, nat_lt, not, unwrap_or};
 ghost use Rattle.ed_words.specs.Sizes.{locations, within};
@@ -73,6 +75,7 @@ impl Machine {
     }
 
     /// The location that an order word names.
+    #[inline(always)]
     fn place(&self, word: Word) -> u16
         ensures is { result ≡ place_of self.now word }
         ensures below { result < locations self.now.size }
@@ -82,6 +85,7 @@ impl Machine {
     }
 
     /// A number modulo the number of locations, which is a power of two.
+    #[inline(always)]
     fn within(&self, number: u16) -> u16
         ensures is { result ≡ within self.now.size number }
         ensures below { result < locations self.now.size }
@@ -91,6 +95,7 @@ impl Machine {
     }
 
     /// The 35 digits that an order reads.
+    #[inline(always)]
     fn operand(&self, word: Word) -> Long
         ensures { result ≡ operand35 word self.now }
     {
@@ -103,6 +108,7 @@ impl Machine {
     }
 
     /// Writes at the location that an order names: the short number or the long one, by the order's length.
+    #[inline(always)]
     fn write(&mut self, word: Word, short: Word, long: Long)
         ensures { self.new ≡ record self.old { store = written word self.old short long } }
     {
@@ -115,6 +121,7 @@ impl Machine {
     }
 
     /// Writes the top 17 or 35 digits of the accumulator.
+    #[inline(always)]
     fn write_top(&mut self, word: Word)
         ensures { self.new ≡ record self.old
             { store = written word self.old (self.old.acc / 2 ^ 54) (self.old.acc / 2 ^ 36) } }
@@ -125,6 +132,7 @@ impl Machine {
     }
 
     /// Writes the last printed code, as the function of a word.
+    #[inline(always)]
     fn write_last(&mut self, word: Word)
         ensures { self.new ≡ record self.old
             { store = written word self.old (last_code self.old * 4096) (last_code self.old * 2 ^ 30) } }
@@ -136,6 +144,7 @@ impl Machine {
     }
 
     /// Counts the order and goes on to the next location.
+    #[inline(always)]
     fn advance(&mut self)
         requires { self.old.orders < 2 ^ 63 }
         ensures { self.new ≡ done_at (after self.old) self.old }
@@ -153,6 +162,7 @@ impl Machine {
     }
 
     /// Jumps to the order's address where `jumps`, and else goes on.
+    #[inline(always)]
     fn jump(&mut self, word: Word, jumps: bool) -> Turn
         requires { self.old.orders < 2 ^ 63 }
         ensures state { self.new ≡ (jumped jumps (place_of self.old word) self.old).state }
@@ -168,6 +178,7 @@ impl Machine {
     }
 
     /// An order that reads a row of the tape.
+    #[inline(always)]
     fn take_row(&mut self, word: Word) -> Turn
         requires { self.old.orders < 2 ^ 63 }
         ensures state { self.new ≡ (took_row self.old.tape word self.old).state }
@@ -184,6 +195,7 @@ impl Machine {
     }
 
     /// An order that prints.
+    #[inline(always)]
     fn print(&mut self, word: Word) -> Turn
         requires { self.old.orders < 2 ^ 63 }
         ensures state { self.new ≡ (printed (operand35 word self.old / 2 ^ 30) self.old).state }
@@ -196,6 +208,7 @@ impl Machine {
     }
 
     /// An order that stops the machine.
+    #[inline(always)]
     fn stop(&mut self) -> Turn
         requires { self.old.orders < 2 ^ 63 }
         ensures state { self.new ≡ (stopped self.old).state }

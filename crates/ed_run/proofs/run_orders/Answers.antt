@@ -7,11 +7,11 @@ use Rattle.ed_run.specs.Run.{end_by, prints}
 use Rattle.ed_run.proofs.Pasts.{is_full, at_first, goes_on, ends_with_stop, none_ends, pushed, silent}
 use Rattle.ed_run.proofs.run_orders.Goals as goal
 use Rattle.ed_run.proofs.run_orders.Goals.{in-Went, in-Printed, in-Stopped+else-stops-resumes}
-use Rattle.ed_run.proofs.run_orders.Goals.{else-is_full-via-then-is_full+else-prints_next}
-use Rattle.ed_run.proofs.run_orders.Goals.{else-is_full-via-else-is_full}
+use Rattle.ed_run.proofs.run_orders.Goals.{else-full-via-then-full+else-prints_next}
+use Rattle.ed_run.proofs.run_orders.Goals.{else-full-via-else-full}
 
 pub loop-done-init : goal.loop-done-init
-loop-done-init c = record { running = at_first _ _ _ _; count = omega arith }
+loop-done-init c = record { running = at_first _ _ _ _; paper = c.is_full-full.ensures; count = omega arith }
 
 pub returns-then-stops-resumes : goal.returns-then-stops-resumes
 returns-then-stops-resumes c =
@@ -22,9 +22,9 @@ returns-then-stops-resumes c =
 -- the paper has room, or the order does not print
 either_way : (c : goal.Joined-step)
     → (is_full c.loop-done.paper ≡ false) ⊎ (prints (step c.loop-done.machine).turn ≡ false)
-either_way c = elim c.else-is_full.branch [
-  | else-is_full-via-then-is_full+else-prints_next v ↦ inr (sym v.prints_next.ensures ∙ v.if-prints_next.false)
-  | else-is_full-via-else-is_full v ↦ inl (sym c.is_full.ensures ∙ v.if-is_full.false)
+either_way c = elim c.else-full.branch [
+  | else-full-via-then-full+else-prints_next v ↦ inr (sym v.prints_next.ensures ∙ v.if-prints_next.false)
+  | else-full-via-else-full v ↦ inl (sym c.loop-done.invariant.paper ∙ v.if-full.false)
 ]
 
 -- so an order that is obeyed does not end the run
@@ -51,6 +51,7 @@ loop-done-preserved c =
             running = goes_on r c.loop-done-test.true
                 (silent is c.step.ensures.state w.paper-is refl (omega (arith, w.stops-is)))
                 (goes c Went is refl) (omega (arith, w.stops-is, r.within));
+            paper = w.full-is ∙ c.loop-done.invariant.paper ∙ ap is_full (sym w.paper-is);
             count = omega (arith, c.step.ensures.count, c.loop-done.invariant.count);
           }
       | in-Printed w ↦
@@ -65,6 +66,7 @@ loop-done-preserved c =
                   stops_are = omega (arith, w.stops-is);
                 })
                 (goes c _ is refl) (omega (arith, w.stops-is, r.within));
+            paper = w.full-is ∙ w.is_full-full-in-Printed.ensures ∙ ap is_full (sym w.paper-is);
             count = omega (arith, c.step.ensures.count, c.loop-done.invariant.count);
           }
       | in-Stopped+else-stops-resumes w ↦
@@ -73,6 +75,7 @@ loop-done-preserved c =
             running = goes_on r c.loop-done-test.true
                 (silent is c.step.ensures.state w.paper-is refl (omega (arith, w.stops-is)))
                 (goes c Stopped is refl) (omega (arith, w.stops-is, r.within, w.if-stops-resumes.false));
+            paper = w.full-is ∙ c.loop-done.invariant.paper ∙ ap is_full (sym w.paper-is);
             count = omega (arith, c.step.ensures.count, c.loop-done.invariant.count);
           }
     ]
