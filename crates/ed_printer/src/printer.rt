@@ -1,8 +1,9 @@
-ghost use Rattle.std.specs.Prelude.{◌≡◌};
+ghost use Rattle.std.specs.Prelude.{◌≡◌, ◌++◌, IfOk};
 ghost use Rattle.ed_printer.specs.Paper.{IsInLatestShift, bytes_of, shift_after, struck};
 
 use arrayvec::ArrayVec;
 use ed_codes::Code;
+use std::alloc::AllocError;
 use std::marker::Model;
 
 /// Which of the two characters of a code is printed.
@@ -42,6 +43,9 @@ const NOTHING: u8 = 0;
 /// The pound sign, which is the one character of two bytes.
 const POUND: u8 = 0xA3;
 
+/// The first of its bytes; the second is the character itself.
+const BEFORE_POUND: u8 = 0xC2;
+
 impl Shift {
     /// The character of a code.
     fn character(self, code: Code) -> u8
@@ -74,8 +78,8 @@ fn bytes_of(character: u8) -> ArrayVec<u8, 2>
     match character {
         NOTHING => {}
         POUND => {
-            bytes.push(0xC2);
-            bytes.push(0xA3);
+            bytes.push(BEFORE_POUND);
+            bytes.push(POUND);
         }
         _ => bytes.push(character),
     }
@@ -98,9 +102,35 @@ impl Printer {
         ensures shift { self.new ≡ shift_after self.old code }
         ensures law { IsInLatestShift }
     {
+        bytes_of(self.character(code))
+    }
+
+    /// Prints a code onto a text: adds the bytes that [`strike`](Printer::strike) gives. It is much faster.
+    #[inline(always)]
+    pub fn print(&mut self, code: Code, text: &mut Vec<u8>) -> Result<(), AllocError>
+        ensures text { IfOk result (λ _. text.new.items ≡ text.old.items ++ struck self.old code) }
+        ensures shift { self.new ≡ shift_after self.old code }
+    {
+        match self.character(code) {
+            NOTHING => {}
+            POUND => {
+                text.push(BEFORE_POUND)?;
+                text.push(POUND)?;
+            }
+            character => text.push(character)?,
+        }
+        Ok(())
+    }
+
+    /// The character of a code in the printer's shift, which then is the one that the code leaves.
+    #[inline(always)]
+    fn character(&mut self, code: Code) -> u8
+        ensures bytes { bytes_of result ≡ struck self.old code }
+        ensures shift { self.new ≡ shift_after self.old code }
+    {
         let character = self.shift.character(code);
         self.shift = self.shift.after(code);
-        bytes_of(character)
+        character
     }
 
     /// The shift that the printer is in.

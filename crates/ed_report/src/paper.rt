@@ -37,19 +37,9 @@ fn strike_all(printer: &mut Printer, bytes: &mut Vec<u8>, codes: &[Code]) -> Res
         ≡ bytes.new.items ++ paper_from printer.new rest) }
 {
     for code in codes {
-        let struck = printer.strike(*code);
-        add(bytes, struck.as_slice())?;
+        if printer.print(*code, bytes).is_err() {
+            return Err(NoMemory);
+        }
     }
     Ok(())
-}
-
-/// Adds the bytes of a code. Most codes print one, which is pushed alone, since this is much faster.
-fn add(bytes: &mut Vec<u8>, struck: &[u8]) -> Result<(), NoMemory>
-    ensures { IfOk result (λ _. bytes.new.items ≡ bytes.old.items ++ struck.now) }
-{
-    let is_full = match struck {
-        [byte] => bytes.push(*byte).is_err(),
-        _ => bytes.extend_from_slice(struck).is_err(),
-    };
-    if is_full { Err(NoMemory) } else { Ok(()) }
 }
