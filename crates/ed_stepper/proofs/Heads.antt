@@ -11,7 +11,8 @@ use Rattle.ed_words.specs.Texts.{Text}
 use Rattle.ed_syntax.specs.Lines.{lines_of, with_byte}
 use Rattle.ed_syntax.specs.Lines.{has_end, without_return}
 use Rattle.ed_syntax.proofs.Lines.{keeps_end, no_return, takes_ended, takes_last}
-use Rattle.ed_stepper.specs.Commands.{begins_part, is_space, parts_between_spaces}
+use Rattle.ed_stepper.specs.Commands.{begins_part, is_space}
+use Rattle.ed_stepper.specs.Private.CommandReading.{parts_between_spaces}
 use Rattle.ed_stepper.specs.Private.Fronts.{blanks, solid, stop_of, unended}
 
 pub one_more : (n : ℕ) → 1 + n ≡ suc n

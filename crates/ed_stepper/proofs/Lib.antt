@@ -5,3 +5,5 @@ pub mod Listed
 mod Heads
 mod Divisions
 mod Plays
+pub mod CommandLaws
+pub mod ScriptLaws

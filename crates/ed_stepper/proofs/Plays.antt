@@ -1,14 +1,14 @@
 -- Lines of a script, one after the other.
 use Rattle.std.proofs.Common.{◌≡◌, ◌∙◌, ◌⊎◌, inl, inr, ℕ, ◌+◌, ◌≤◌, refl, sym, ap, arith, Bool, false, true, subst}
-use Rattle.std.proofs.Common.{List, [], ◌∷◌, ◌++◌, length, map, append_assoc, append-nil, length-append, nat_eq}
+use Rattle.std.proofs.Common.{List, [], ◌∷◌, ◌++◌, length, append_assoc, append-nil, length-append, nat_eq}
 use Rattle.std.specs.Prelude.{Option, Some, None, IsSome, is_none, unwrap_or}
 use Rattle.ed_words.proofs.Numbers.{not_eq_of}
 use Rattle.ed_words.specs.Texts.{Text}
 use Rattle.ed_syntax.specs.Lines.{lines_of}
 use Rattle.ed_stepper.specs.Sessions.{Stand}
-use Rattle.ed_stepper.specs.Commands.{session_command}
-use Rattle.ed_stepper.specs.Scripts.{LeftBy, Played, TooFar, left_by, bad_from, bad_line}
-use Rattle.ed_stepper.specs.Scripts.{behind, commands_of, is_too_far, play, played, writes}
+use Rattle.ed_stepper.specs.Private.CommandReading.{bad_from, bad_line, commands_of, line_commands, session_command}
+use Rattle.ed_stepper.specs.Scripts.{GoesTooFar, LeftBy, Played, TooFar, left_by}
+use Rattle.ed_stepper.specs.Scripts.{behind, is_too_far, play, writes}
 use Rattle.ed_stepper.specs.declared.commands.Command.{Command}
 use Rattle.ed_stepper.specs.declared.commands.Command.TheVariants.{Nothing}
 
@@ -90,7 +90,7 @@ good_first line bytes rest good = by_test (nat_eq line 1001) (is_none (session_c
 
 -- the lines so far have run
 pub playing_left : {script : Text} {s : Stand} {line : ℕ} {rest text : Text} {t : Stand}
-    → Playing script s line rest text t → LeftBy script s t
+    → Playing script s line rest text t → LeftBy (commands_of script) s t
 playing_left {rest = rest} p = record {
   ran = p.ran;
   rest = commands_of rest;
@@ -102,7 +102,7 @@ playing_left {rest = rest} p = record {
 module _ {script : Text} {s : Stand} {line : ℕ} {rest text : Text} {t : Stand}
     (p : Playing script s line rest text t) where
   -- all of them have
-  pub playing_done : rest ≡ [] → played script s ≡ record { text = text; stand = t; refused = None }
+  pub playing_done : rest ≡ [] → play 1 (commands_of script) s ≡ record { text = text; stand = t; refused = None }
   playing_done none =
       ap (λ cs. play 1 cs s) (p.whole ∙ ap (λ r. p.ran ++ commands_of r) none) ∙ play_more p.ran [] 1 s t text p.left
       ∙ (λ i. record { text = append-nil text i; stand = t; refused = None })
@@ -124,7 +124,7 @@ module _ {script : Text} {s : Stand} {line : ℕ} {rest text : Text} {t : Stand}
       -- the commands that are left begin with it
       begins_with : commands_of rest ≡ c ∷ commands_of more
       begins_with =
-          ap (map (λ line. unwrap_or (session_command line) Nothing)) is
+          ap line_commands is
           ∙ ap (λ o. unwrap_or o Nothing ∷ commands_of more) command
 
       -- it has run
@@ -149,22 +149,25 @@ module _ {script : Text} {s : Stand} {line : ℕ} {rest text : Text} {t : Stand}
 
       -- it goes back too far
       pub playing_far : {done : ℕ} {u : Stand} → (is_too_far c t ≡ true) × (done ≡ t.done) × (u ≡ t)
-          → ((played script s).refused ≡ Some (record { line = line; done = done })) × ((played script s).stand ≡ u)
+          → GoesTooFar (commands_of script) s u line done
       playing_far does =
           let far = does.0 in
-          let whole : played script s ≡ record {
+          let whole : play 1 (commands_of script) s ≡ record {
             text = text ++ [];
             stand = t;
             refused = Some (record { line = 1 + length p.ran; done = t.done });
           } =
           ap (λ cs. play 1 cs s) (p.whole ∙ ap (λ cs. p.ran ++ cs) begins_with)
-          ∙ play_more p.ran (c ∷ commands_of more) 1 s t text p.left ∙ rw far refl in (
-            ap (λ (q : Played). q.refused) whole ∙ (λ i. Some (record { line = sym p.number i; done = sym does.1 i })),
-            ap (λ (q : Played). q.stand) whole ∙ sym does.2,
-          )
+          ∙ play_more p.ran (c ∷ commands_of more) 1 s t text p.left ∙ rw far refl in
+          record {
+            refused = ap (λ (q : Played). q.refused) whole
+                ∙ (λ i. Some (record { line = sym p.number i; done = sym does.1 i }));
+            stand = ap (λ (q : Played). q.stand) whole ∙ sym does.2;
+          }
 
       -- memory ran out before it ran or behind it
-      pub playing_memory : {u : Stand} → (u ≡ t) ⊎ ((is_too_far c t ≡ false) × (u ≡ left_by c t)) → LeftBy script s u
-      playing_memory (inl same) = subst (λ x. LeftBy script s x) (sym same) (playing_left p)
+      pub playing_memory : {u : Stand} → (u ≡ t) ⊎ ((is_too_far c t ≡ false) × (u ≡ left_by c t))
+          → LeftBy (commands_of script) s u
+      playing_memory (inl same) = subst (λ x. LeftBy (commands_of script) s x) (sym same) (playing_left p)
       playing_memory (inr does) =
           playing_left (playing_next {grown = text ++ writes c t} {written = writes c t} (does.0, refl, does.1) refl)

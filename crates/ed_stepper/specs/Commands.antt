@@ -1,17 +1,17 @@
--- The lines of a script (this project's own rule). The parts of a line stand with one or more spaces between them, and
--- spaces may stand at either end. A tab is no space.
-use Rattle.std.specs.Prelude.{ℕ, ◌==◌, not, Bool, false, List, [], ◌∷◌, codes, nat_le, if◌then◌else◌}
-use Rattle.std.specs.Prelude.{Option, Some, None, option_map}
-use Rattle.std.specs.Str.{bytes_eq}
-use Rattle.ed_words.specs.Decimals.{number_within}
+-- What the lines of a script say (this project's own rule). A line has parts, with spaces between them; the parts say a
+-- command. A tab is a byte of a part like any other.
+use Rattle.std.specs.Prelude.{ℕ, ◌≡◌, ◌≤◌, ◌==◌, not, Bool, true, false, List, [], ◌∷◌, ◌++◌, codes, length}
+use Rattle.std.specs.List.{list_all, list_any}
+use Rattle.ed_words.specs.Decimals.{is_digit, value}
 use Rattle.ed_words.specs.Texts.{Text}
-use Rattle.ed_syntax.specs.Lines.{with_byte}
 use Rattle.ed_stepper.specs.declared.moves.Aim.TheVariants as aims
 use Rattle.ed_stepper.specs.declared.commands.Command.{Command}
 use Rattle.ed_stepper.specs.declared.commands.Command.TheVariants.{Nothing, Move, Back, Trace, Show}
 use Rattle.ed_stepper.specs.declared.commands.Command.TheVariants.{Accumulator, Multiplier, LastPrinted}
 
--- a space, the only byte that may stand between parts
+-- ---- a line and its parts
+
+-- a space (32), the only byte that may stand between parts
 abbrev pub is_space : ℕ → Bool
 is_space b = b == 32
 
@@ -20,51 +20,50 @@ abbrev pub begins_part : Text → Bool
 begins_part [] = false
 begins_part (b ∷ bs) = not (is_space b)
 
--- the parts of a line: its bytes between spaces
-abbrev pub parts_between_spaces : Text → List Text
-parts_between_spaces [] = []
-parts_between_spaces (b ∷ bs) = if is_space b then parts_between_spaces bs
-    else if begins_part bs then with_byte b (parts_between_spaces bs)
-    else (b ∷ []) ∷ parts_between_spaces bs
+-- a space is among the bytes
+abbrev pub has_space : Text → Bool
+has_space bytes = list_any is_space bytes
 
--- `entry`
-abbrev pub of_one : Text → Option Command
-of_one w = if bytes_eq w (codes "entry") then Some (Move aims.Entry) else None
+-- The line has these parts. A part is one or more bytes without a space, and ends at a space or with the line.
+pub data HasCommandParts : Text → List Text → Type 0 where
+  no_part : HasCommandParts [] []
+  one_space : (line : Text) (parts : List Text) → HasCommandParts line parts → HasCommandParts (32 ∷ line) parts
+  one_part : (b : ℕ) (bs line : Text) (parts : List Text) → has_space (b ∷ bs) ≡ false → begins_part line ≡ false
+      → HasCommandParts line parts → HasCommandParts ((b ∷ bs) ++ line) ((b ∷ bs) ∷ parts)
 
--- the locations from one to another
-abbrev pub show_command : Option ℕ → Option ℕ → Option Command
-show_command (Some a) (Some b) = if nat_le a b then Some (Show a b) else None
-show_command a b = None
+-- ---- what the parts say
 
--- `show A`, `show acc`, `show mult` and `show last`
-abbrev pub shown : Text → Option Command
-shown a = if bytes_eq a (codes "acc") then Some Accumulator
-    else if bytes_eq a (codes "mult") then Some Multiplier
-    else if bytes_eq a (codes "last") then Some LastPrinted
-    else show_command (number_within 0 1023 a) (number_within 0 1023 a)
+-- a number of 1 to 9 digits, from `least` to `most`
+pub record IsNumberWithin (least most : ℕ) (n : Text) : Type 0 where
+  pub some : 1 ≤ length n
+  pub few : length n ≤ 9
+  pub digits : list_all is_digit n ≡ true
+  pub at_least : least ≤ value n
+  pub at_most : value n ≤ most
 
--- `go N`, `to A`, `back N`, `trace N` and what `show` has one part behind it for
-abbrev pub of_two : Text → Text → Option Command
-of_two w a = if bytes_eq w (codes "go") then option_map (λ n. Move (aims.Orders n)) (number_within 1 100000000 a)
-    else if bytes_eq w (codes "to") then option_map (λ n. Move (aims.Address n)) (number_within 0 1023 a)
-    else if bytes_eq w (codes "back") then option_map Back (number_within 0 100000000 a)
-    else if bytes_eq w (codes "trace") then option_map Trace (number_within 1 10000 a)
-    else if bytes_eq w (codes "show") then shown a
-    else None
+-- the parts say this; a line without parts does nothing
+pub data SaysCommand : List Text → Command → Type 0 where
+  nothing : SaysCommand [] Nothing
+  go : (n : Text) → IsNumberWithin 1 100000000 n
+      → SaysCommand (codes "go" ∷ n ∷ []) (Move (aims.Orders (value n)))
+  to : (a : Text) → IsNumberWithin 0 1023 a → SaysCommand (codes "to" ∷ a ∷ []) (Move (aims.Address (value a)))
+  entry : SaysCommand (codes "entry" ∷ []) (Move aims.Entry)
+  back : (n : Text) → IsNumberWithin 0 100000000 n → SaysCommand (codes "back" ∷ n ∷ []) (Back (value n))
+  trace : (n : Text) → IsNumberWithin 1 10000 n → SaysCommand (codes "trace" ∷ n ∷ []) (Trace (value n))
+  show_one : (a : Text) → IsNumberWithin 0 1023 a
+      → SaysCommand (codes "show" ∷ a ∷ []) (Show (value a) (value a))
+  show_from : (a b : Text) → IsNumberWithin 0 1023 a → IsNumberWithin 0 1023 b → value a ≤ value b
+      → SaysCommand (codes "show" ∷ a ∷ b ∷ []) (Show (value a) (value b))
+  show_acc : SaysCommand (codes "show" ∷ codes "acc" ∷ []) Accumulator
+  show_mult : SaysCommand (codes "show" ∷ codes "mult" ∷ []) Multiplier
+  show_last : SaysCommand (codes "show" ∷ codes "last" ∷ []) LastPrinted
 
--- `show A B`
-abbrev pub of_three : Text → Text → Text → Option Command
-of_three w a b = if bytes_eq w (codes "show") then show_command (number_within 0 1023 a)
-    (number_within 0 1023 b) else None
+-- the line says this command
+pub record LineSaysCommand (line : Text) (command : Command) : Type 0 where
+  pub parts : List Text
+  pub has_parts : HasCommandParts line parts
+  pub says : SaysCommand parts command
 
--- the command of the parts of a line; a line without parts does nothing
-abbrev pub of_parts : List Text → Option Command
-of_parts [] = Some Nothing
-of_parts (w ∷ []) = of_one w
-of_parts (w ∷ a ∷ []) = of_two w a
-of_parts (w ∷ a ∷ b ∷ []) = of_three w a b
-of_parts parts = None
-
--- the command of a line
-abbrev pub session_command : Text → Option Command
-session_command line = of_parts (parts_between_spaces line)
+-- the line says no command
+abbrev pub SaysNoCommand : Text → Type 0
+SaysNoCommand line = (command : Command) → LineSaysCommand line command → ⊥

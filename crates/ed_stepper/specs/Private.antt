@@ -3,4 +3,5 @@
 pub mod Kept
 pub mod Fronts
 pub mod Commands
+pub mod CommandReading
 pub mod Lines

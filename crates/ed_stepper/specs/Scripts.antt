@@ -1,17 +1,17 @@
 -- What a script does, and what it writes (this project's own rules).
-use Rattle.std.specs.Prelude.{ℕ, ◌≡◌, ◌+◌, ◌-◌, ◌==◌, ◌||◌, Bool, false, nat_lt}
-use Rattle.std.specs.Prelude.{if◌then◌else◌, List, [], ◌∷◌, ◌++◌, codes, map}
-use Rattle.std.specs.Prelude.{Option, Some, None, is_none, unwrap_or, Result, Ok, Err, Vec}
+use Rattle.std.specs.Prelude.{ℕ, ◌≡◌, ◌+◌, ◌-◌, Bool, false, nat_lt}
+use Rattle.std.specs.Prelude.{if◌then◌else◌, List, [], ◌∷◌, ◌++◌, codes}
+use Rattle.std.specs.Prelude.{Option, Some, None, Result, Ok, Err, Vec}
 use Rattle.std.specs.List.{range_with_len}
 use Rattle.std.specs.Fmt.{decimal}
 use Rattle.std.specs.declared.alloc.Global.{Global}
 use Rattle.ed_words.specs.Texts.{Text}
-use Rattle.ed_syntax.specs.Lines.{lines_of}
 use Rattle.ed_report.specs.Listings.{listing}
 use Rattle.ed_report.specs.Traces.{functions_after, trace_text}
 use Rattle.ed_stepper.specs.MoveEnds.{move_end, move_orders}
 use Rattle.ed_stepper.specs.Sessions.{Stand, left, stands_at}
-use Rattle.ed_stepper.specs.Commands.{session_command}
+use Rattle.ed_stepper.specs.ScriptLines.{IsFirstBadLine, IsScript, OfScript}
+use Rattle.ed_stepper.specs.Private.CommandReading.{commands_of}
 use Rattle.ed_stepper.specs.declared.commands.Command.{Command}
 use Rattle.ed_stepper.specs.declared.commands.Command.TheVariants.{Nothing, Move, Back, Trace, Show}
 use Rattle.ed_stepper.specs.declared.commands.Command.TheVariants.{Accumulator, Multiplier, LastPrinted}
@@ -21,17 +21,6 @@ use Rattle.ed_stepper.specs.declared.moves.MoveEnd.{MoveEnd}
 use Rattle.ed_stepper.specs.declared.moves.MoveEnd.TheVariants as ends
 use Rattle.ed_stepper.specs.declared.script.ScriptFault.{ScriptFault}
 use Rattle.ed_stepper.specs.declared.script.ScriptFault.TheVariants.{BadCommand, BackTooFar, Memory}
-
--- ---- lines that are none
-
--- the number of the first line that is none, from number k on; line 1001 is none
-abbrev pub bad_from : ℕ → List Text → Option ℕ
-bad_from k [] = None
-bad_from k (line ∷ rest) = if k == 1001 || is_none (session_command line) then Some k else bad_from (k + 1) rest
-
--- the least line of a script that is none; lines count from 1
-abbrev pub bad_line : Text → Option ℕ
-bad_line script = bad_from 1 (lines_of script)
 
 -- ---- what a line writes
 
@@ -123,29 +112,33 @@ play k (command ∷ rest) s = if is_too_far command s
     then record { text = []; stand = s; refused = Some (record { line = k; done = s.done }) }
     else behind (writes command s) (play (k + 1) rest (left_by command s))
 
--- the commands of a script
-abbrev pub commands_of : Text → List Command
-commands_of script = map (λ line. unwrap_or (session_command line) Nothing) (lines_of script)
-
--- a script from its first line on
+-- a script from its first line on, by the commands that are read in it
 abbrev pub played : Text → Stand → Played
 played script s = play 1 (commands_of script) s
 
--- the first of the lines have run, each whole, and the session stands where they left it
-pub record LeftBy (script : Text) (s t : Stand) : Type 0 where
+-- what is played of a script is what its commands do
+abbrev pub EachScriptIsPlayed : Type 0
+EachScriptIsPlayed = (script : Text) (commands : List Command) (s : Stand) → IsScript script commands
+    → played script s ≡ play 1 commands s
+
+-- the first of the commands have run, each whole, and the session stands where they left it
+pub record LeftBy (commands : List Command) (s t : Stand) : Type 0 where
   pub ran : List Command
   pub rest : List Command
-  pub whole : commands_of script ≡ ran ++ rest
+  pub whole : commands ≡ ran ++ rest
   pub none_refused : (play 1 ran s).refused ≡ None
   pub stand : (play 1 ran s).stand ≡ t
 
--- what a script answers, and where it leaves the session: its text; its least line that is none, before any line
--- runs; the line that went back too far, behind those before it; or want of memory
+-- a line went back too far: the commands before it have run, and the session stands where they left it
+pub record GoesTooFar (commands : List Command) (s t : Stand) (line done : ℕ) : Type 0 where
+  pub refused : (play 1 commands s).refused ≡ Some (record { line = line; done = done })
+  pub stand : (play 1 commands s).stand ≡ t
+
+-- what a script answers, and where it leaves the session: the text of its commands; its first bad line, before any
+-- line runs; the line that went back too far, after those before it; or want of memory
 abbrev pub ScriptEnds : Text → Stand → Result (Vec ℕ Global) ScriptFault → Stand → Type 0
 ScriptEnds script s (Ok text) t =
-    (bad_line script ≡ None) × (played script s ≡ record { text = text.items; stand = t; refused = None })
-ScriptEnds script s (Err (BadCommand line)) t = (bad_line script ≡ Some line) × (t ≡ s)
-ScriptEnds script s (Err (BackTooFar line done)) t =
-    (bad_line script ≡ None) × ((played script s).refused ≡ Some (record { line = line; done = done }))
-    × ((played script s).stand ≡ t)
-ScriptEnds script s (Err Memory) t = (bad_line script ≡ None) × LeftBy script s t
+    OfScript script (λ commands. play 1 commands s ≡ record { text = text.items; stand = t; refused = None })
+ScriptEnds script s (Err (BadCommand line)) t = IsFirstBadLine script line × (t ≡ s)
+ScriptEnds script s (Err (BackTooFar line done)) t = OfScript script (λ commands. GoesTooFar commands s t line done)
+ScriptEnds script s (Err Memory) t = OfScript script (λ commands. LeftBy commands s t)

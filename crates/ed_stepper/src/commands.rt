@@ -1,7 +1,7 @@
 //! The lines of a script, each a command.
 ghost use Rattle.std.specs.Prelude.{◌≡◌, ◌≤◌, IfSome, option_map};
 ghost use Rattle.ed_words.specs.Decimals.{number_within};
-ghost use Rattle.ed_stepper.specs.Commands.{session_command, of_one, of_three, of_two, shown, show_command};
+ghost use Rattle.ed_stepper.specs.Private.CommandReading.{session_command, of_one, of_three, of_two, shown, show_command};
 ghost use Rattle.ed_stepper.specs.Private.Commands.{IsCommandInRange};
 
 use crate::fronts::first_part;

@@ -1,6 +1,6 @@
 //! Scripts: lines that move a session and show where it stands.
-ghost use Rattle.std.specs.Prelude.{◌≡◌};
-ghost use Rattle.ed_stepper.specs.Scripts.{ScriptEnds, bad_line};
+ghost use Rattle.ed_stepper.specs.ScriptLines.{EachScriptHasOneMeaning, HasBadLine};
+ghost use Rattle.ed_stepper.specs.Scripts.{EachScriptIsPlayed, ScriptEnds};
 
 use crate::commands::command_of;
 use crate::fronts::first_line;
@@ -31,9 +31,11 @@ pub enum ScriptFault {
     Memory,
 }
 
-/// The least line that is none, counted from 1; line 1001 is none, whatever it holds.
+/// The first bad line, counted from 1: it says no command, or it is line 1001.
+#[tactic(auto, using(crate::proofs::ScriptLaws::one_meaning))]
 pub fn bad_line(script: &[u8]) -> Option<u32>
-    ensures { result ≡ bad_line script.now }
+    ensures is { HasBadLine script.now result }
+    ensures one { EachScriptHasOneMeaning }
 {
     let mut rest = script;
     let mut number = 1;
@@ -52,12 +54,14 @@ pub fn bad_line(script: &[u8]) -> Option<u32>
 ///
 /// `BadCommand` comes before any line runs. Else the lines run one after the other, and the session stands where the
 /// last of them left it: `BackTooFar` and `Memory` leave it where the lines before did.
+#[tactic(auto, using(crate::proofs::ScriptLaws::each_is_played))]
 pub fn run_script(
     alloc: Global,
     session: &mut Session,
     script: &[u8],
 ) -> Result<Vec<u8>, ScriptFault>
-    ensures { ScriptEnds script.now session.old result session.new }
+    ensures ends { ScriptEnds script.now session.old result session.new }
+    ensures played { EachScriptIsPlayed }
 {
     if let Some(line) = bad_line(script) {
         return Err(ScriptFault::BadCommand { line });

@@ -1,23 +1,25 @@
 -- Whatever the words are, each input has one outcome.
-use Rattle.std.proofs.Common.{◌≡◌, ◌⊎◌, inl, inr, ◌∙◌, ◌≤◌, ◌<◌, ℕ, List, refl, sym, arith, length}
+use Rattle.std.proofs.Common.{◌≡◌, ◌⊎◌, inl, inr, ◌∙◌, ◌≤◌, ◌<◌, ℕ, List, refl, sym, ap, subst, arith, length}
 use Rattle.std.specs.Prelude.{Option, Some, None}
 use Rattle.ed_codes.specs.Reading.{Reading, rows, no_row, open_comment, reading}
 use Rattle.ed_words.specs.declared.size.Size.{Size}
 use Rattle.ed_syntax.specs.declared.program.Line.{Line}
 use Rattle.ed_report.specs.Catalogue.{library_text}
+use Rattle.ed_report.specs.Notes.{bad_command_line}
 use Rattle.ed_command.specs.declared.command.Settings.{Settings}
 use Rattle.ed_command.specs.declared.command.Action.{Action}
 use Rattle.ed_command.specs.declared.command.Action.TheVariants.{Tape, CheckTape, Run, Punch, Listing, Library, Demo}
 use Rattle.ed_command.specs.declared.command.Action.TheVariants.{Call as CallOf, Tape1, CheckTape1, Step, Trace, Parts}
 use Rattle.ed_words.specs.Texts.{Text}
-use Rattle.ed_top.specs.Outcome.{Outcome, done, too_long_outcome, usage_outcome}
+use Rattle.ed_top.specs.Outcome.{Outcome, done, refused, too_long_outcome, usage_outcome}
 use Rattle.ed_top.specs.Answer.{HasOneOutcome, OfReading, WithinLimit, exactly, known, of_input, of_made, of_rows}
 use Rattle.ed_top.specs.FirstOrders.{tape1_outcome}
 use Rattle.ed_top.specs.Output.{EachLineHasOneOutcome, answer, tape_outcome}
 use Rattle.ed_top.specs.Sources.{OfSource, listing_outcome, of_source, punch_outcome, run_outcome}
-use Rattle.ed_top.specs.Scripts.{IfGood, OfDivided, OfStep, OnText, on_rows}
+use Rattle.ed_top.specs.Scripts.{OfDivided, OfStep, OnInput, OnText, on_rows}
 use Rattle.ed_stepper.specs.Inputs.{Input, divided}
-use Rattle.ed_stepper.specs.Scripts.{bad_line}
+use Rattle.ed_stepper.specs.ScriptLines.{CommandList, IsFirstBadLine, IsScript}
+use Rattle.ed_stepper.proofs.ScriptLaws.{one_meaning}
 use Rattle.ed_stepper.specs.declared.inputs.TextKind.{TextKind}
 use Rattle.ed_stepper.specs.declared.inputs.TextKind.TheVariants as kinds
 use Rattle.ed_link.specs.Tapes.{tape}
@@ -97,37 +99,42 @@ made_once z accepted text = record {
 
 -- ---- a script and what follows it
 
-pub text_some : (s : Settings) (script : Text) (kind : TextKind) (text : Text) → (o : Outcome)
-    × OnText s script kind text o
-text_some s script kinds.Tape text = (_, refl)
-text_some s script kinds.Source text = some_outcome s.size (λ lines. on_rows s script (tape lines)) text
+pub text_some : (s : Settings) (commands : CommandList) (kind : TextKind) (text : Text) → (o : Outcome)
+    × OnText s commands kind text o
+text_some s commands kinds.Tape text = (_, refl)
+text_some s commands kinds.Source text = some_outcome s.size (λ lines. on_rows s commands (tape lines)) text
 
-text_same : (s : Settings) (script : Text) (kind : TextKind) (text : Text) (o other : Outcome)
-    → OnText s script kind text o → OnText s script kind text other → o ≡ other
-text_same s script kinds.Tape text o other p q = sym p ∙ q
-text_same s script kinds.Source text o other p q =
-    source_outcome s.size (λ lines. on_rows s script (tape lines)) text o other p q
+text_same : (s : Settings) (commands : CommandList) (kind : TextKind) (text : Text) (o other : Outcome)
+    → OnText s commands kind text o → OnText s commands kind text other → o ≡ other
+text_same s commands kinds.Tape text o other p q = sym p ∙ q
+text_same s commands kinds.Source text o other p q =
+    source_outcome s.size (λ lines. on_rows s commands (tape lines)) text o other p q
 
-pub good_some : (bad : Option ℕ) (answers : Outcome → Type 0) → (o : Outcome) × answers o
-    → (o : Outcome) × IfGood bad answers o
-good_some None answers some = some
-good_some (Some line) answers some = (_, refl)
+pub input_some : (s : Settings) (i : Input) → (o : Outcome) × OnInput s i o
+input_some s i = by_script (one_meaning.every i.script)
+  where
+    by_script : ((commands : CommandList) × IsScript i.script commands)
+        ⊎ ((line : ℕ) × IsFirstBadLine i.script line) → (o : Outcome) × OnInput s i o
+    by_script (inl g) = let t = text_some s g.0 i.kind i.text in (t.0, inr (g.0, g.1, t.1))
+    by_script (inr b) = (refused (bad_command_line b.0), inl (b.0, b.1, refl))
 
-good_same : (bad : Option ℕ) (answers : Outcome → Type 0) (o other : Outcome)
-    → (answers o → answers other → o ≡ other) → IfGood bad answers o → IfGood bad answers other → o ≡ other
-good_same None answers o other same p q = same p q
-good_same (Some line) answers o other same p q = sym p ∙ q
+input_same : (s : Settings) (i : Input) (o other : Outcome) → OnInput s i o → OnInput s i other → o ≡ other
+input_same s i o other (inl a) (inl b) =
+    sym a.2 ∙ ap (λ n. refused (bad_command_line n)) (one_meaning.one_bad_line i.script a.0 b.0 a.1 b.1) ∙ b.2
+input_same s i o other (inl a) (inr b) = absurd (one_meaning.never_both i.script b.0 a.0 b.1 a.1)
+input_same s i o other (inr a) (inl b) = absurd (one_meaning.never_both i.script a.0 b.0 a.1 b.1)
+input_same s i o other (inr a) (inr b) =
+    let same = one_meaning.one_script i.script a.0 b.0 a.1 b.1 in
+    text_same s b.0 i.kind i.text o other (subst (λ cs. OnText s cs i.kind i.text o) same a.2) b.2
 
 pub divided_some : (s : Settings) (input : Text) (d : Option Input) → (o : Outcome) × OfDivided s input d o
 divided_some s input None = (_, refl)
-divided_some s input (Some i) = good_some (bad_line i.script) _ (text_some s i.script i.kind i.text)
+divided_some s input (Some i) = input_some s i
 
 divided_same : (s : Settings) (input : Text) (d : Option Input) (o other : Outcome) → OfDivided s input d o
     → OfDivided s input d other → o ≡ other
 divided_same s input None o other p q = sym p ∙ q
-divided_same s input (Some i) o other p q =
-    good_same (bad_line i.script) (OnText s i.script i.kind i.text) o other
-    (text_same s i.script i.kind i.text o other) p q
+divided_same s input (Some i) o other p q = input_same s i o other p q
 
 step_once : (s : Settings) → HasOneOutcome (of_input (OfStep s))
 step_once s = record {

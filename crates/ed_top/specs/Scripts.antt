@@ -1,5 +1,5 @@
 -- What `step` answers (this project's own rules).
-use Rattle.std.specs.Prelude.{◌≡◌, ℕ, ◌+◌, List, length, Option, Some, None}
+use Rattle.std.specs.Prelude.{◌≡◌, ◌⊎◌, ℕ, ◌+◌, List, length, Option, Some, None}
 use Rattle.ed_codes.specs.Reading.{Reading, rows, no_row, open_comment, reading}
 use Rattle.ed_codes.specs.declared.tape.TextFault.TheVariants.{NoRow, OpenComment}
 use Rattle.ed_syntax.specs.Lines.{lines_of}
@@ -7,7 +7,8 @@ use Rattle.ed_link.specs.Tapes.{tape}
 use Rattle.ed_loads.specs.EntryState.{first_state}
 use Rattle.ed_report.specs.Notes.{bad_command_line, no_text_line, text_fault_line, too_far_line}
 use Rattle.ed_stepper.specs.Inputs.{Input, divided}
-use Rattle.ed_stepper.specs.Scripts.{Played, TooFar, bad_line, played}
+use Rattle.ed_stepper.specs.ScriptLines.{CommandList, IsFirstBadLine, OfScript}
+use Rattle.ed_stepper.specs.Scripts.{Played, TooFar, play}
 use Rattle.ed_stepper.specs.Sessions.{Stand}
 use Rattle.ed_stepper.specs.declared.inputs.TextKind.{TextKind}
 use Rattle.ed_stepper.specs.declared.inputs.TextKind.TheVariants as kinds
@@ -29,30 +30,30 @@ played_outcome p = script_outcome p.refused p.text
 abbrev pub stand_on : Settings → List ℕ → Stand
 stand_on s codes = record { start = first_state s.size codes; limit = s.limit; done = 0 }
 
--- a script on a cleared machine that is started on rows
-abbrev pub on_rows : Settings → Text → List ℕ → Outcome
-on_rows s script codes = played_outcome (played script (stand_on s codes))
+-- the commands of a script on a cleared machine that is started on rows
+abbrev pub on_rows : Settings → CommandList → List ℕ → Outcome
+on_rows s commands codes = played_outcome (play 1 commands (stand_on s codes))
 
 -- the same on the rows of a tape's text, or the refusal of the text
-abbrev pub on_reading : Settings → Text → Reading → Outcome
-on_reading s script (rows codes) = on_rows s script codes
-on_reading s script (no_row place byte) = refused (text_fault_line (NoRow place byte))
-on_reading s script (open_comment place) = refused (text_fault_line (OpenComment place))
+abbrev pub on_reading : Settings → CommandList → Reading → Outcome
+on_reading s commands (rows codes) = on_rows s commands codes
+on_reading s commands (no_row place byte) = refused (text_fault_line (NoRow place byte))
+on_reading s commands (open_comment place) = refused (text_fault_line (OpenComment place))
 
--- on what follows the line that divides the input: the text of a tape, or a source, which is punched
-abbrev pub OnText : Settings → Text → TextKind → Text → Outcome → Type 0
-OnText s script kinds.Tape text o = on_reading s script (reading text) ≡ o
-OnText s script kinds.Source text o = OfSource s.size (λ lines. on_rows s script (tape lines)) text o
+-- on what follows the dividing line: the text of a tape, or a source, which is punched
+abbrev pub OnText : Settings → CommandList → TextKind → Text → Outcome → Type 0
+OnText s commands kinds.Tape text o = on_reading s commands (reading text) ≡ o
+OnText s commands kinds.Source text o = OfSource s.size (λ lines. on_rows s commands (tape lines)) text o
 
--- a script's least line that is none is reported before the text is looked at
-abbrev pub IfGood : Option ℕ → (Outcome → Type 0) → Outcome → Type 0
-IfGood None answers o = answers o
-IfGood (Some line) answers o = refused (bad_command_line line) ≡ o
+-- a script's first bad line is reported before the text is looked at
+abbrev pub OnInput : Settings → Input → Outcome → Type 0
+OnInput s i o = ((line : ℕ) × IsFirstBadLine i.script line × (refused (bad_command_line line) ≡ o))
+    ⊎ OfScript i.script (λ commands. OnText s commands i.kind i.text o)
 
--- an input that no line divides is reported first of all
+-- an input without a dividing line is reported first of all
 abbrev pub OfDivided : Settings → Text → Option Input → Outcome → Type 0
 OfDivided s input None o = refused (no_text_line (length (lines_of input) + 1)) ≡ o
-OfDivided s input (Some i) o = IfGood (bad_line i.script) (OnText s i.script i.kind i.text) o
+OfDivided s input (Some i) o = OnInput s i o
 
 -- `step`
 abbrev pub OfStep : Settings → Text → Outcome → Type 0

@@ -1,11 +1,11 @@
-ghost use Rattle.std.specs.Prelude.{◌≡◌, ◌≤◌, [], IfOk, List, None, length};
+ghost use Rattle.std.specs.Prelude.{◌≤◌, [], IfOk, List, None, length};
 ghost use Rattle.ed_syntax.specs.declared.program.Line.{Line};
 ghost use Rattle.ed_link.specs.Answers.{IsLinked};
 ghost use Rattle.ed_link.specs.Tapes.{tape};
-ghost use Rattle.ed_stepper.specs.Scripts.{bad_line};
+ghost use Rattle.ed_stepper.specs.ScriptLines.{CommandList, HasBadLine, IsScript};
 ghost use Rattle.ed_top.specs.Answer.{of_input, of_made};
 ghost use Rattle.ed_top.specs.Private.Stages.{Gives, Replies};
-ghost use Rattle.ed_top.specs.Scripts.{IfGood, OfStep, OnText, on_rows};
+ghost use Rattle.ed_top.specs.Scripts.{OfStep, OnInput, OnText, on_rows};
 
 use crate::reply::{Reply, refusal};
 use crate::rows::rows_of;
@@ -34,8 +34,8 @@ pub fn step(alloc: Global, settings: Settings, input: &[u8]) -> Result<Reply, No
 
 /// Looks at the script, then at the text.
 fn step_divided(alloc: Global, settings: Settings, divided: Divided<'_>) -> Result<Reply, NoMemory>
-    ensures { Replies (of_made (IfGood (bad_line divided.entry.script.now)
-        (OnText settings divided.entry.script.now divided.entry.kind divided.entry.text.now))) [] result }
+    ensures { Replies (of_made (OnInput settings (record { script = divided.entry.script.now;
+        kind = divided.entry.kind; text = divided.entry.text.now }))) [] result }
 {
     if let Some(line) = bad_line(divided.script) {
         return Ok(refusal(alloc, bad_command(alloc, line)?));
@@ -53,8 +53,9 @@ fn step_tape(
     script: &[u8],
     text: &[u8],
 ) -> Result<Reply, NoMemory>
-    requires { bad_line script.now ≡ None }
-    ensures { Replies (of_made (OnText settings script.now TextKind.Tape text.now)) [] result }
+    requires { HasBadLine script.now None }
+    ensures { (commands : CommandList) → IsScript script.now commands
+        → Replies (of_made (OnText settings commands TextKind.Tape text.now)) [] result }
 {
     match rows_of(alloc, text) {
         Ok(rows) => step_rows(alloc, settings, script, rows),
@@ -69,8 +70,9 @@ fn step_source(
     script: &[u8],
     text: &[u8],
 ) -> Result<Reply, NoMemory>
-    requires { bad_line script.now ≡ None }
-    ensures { Replies (of_made (OnText settings script.now TextKind.Source text.now)) [] result }
+    requires { HasBadLine script.now None }
+    ensures { (commands : CommandList) → IsScript script.now commands
+        → Replies (of_made (OnText settings commands TextKind.Source text.now)) [] result }
 {
     match linked_of(alloc, settings.size, text) {
         Ok(linked) => step_linked(alloc, settings, script, &linked),
@@ -85,9 +87,10 @@ fn step_linked(
     script: &[u8],
     linked: &Linked,
 ) -> Result<Reply, NoMemory>
-    requires { bad_line script.now ≡ None }
-    ensures { IfOk result (λ reply. (lines : List Line) → IsLinked settings.size lines linked.now
-        → Gives reply (on_rows settings script.now (tape lines))) }
+    requires { HasBadLine script.now None }
+    ensures { (commands : CommandList) → IsScript script.now commands
+        → IfOk result (λ reply. (lines : List Line) → IsLinked settings.size lines linked.now
+        → Gives reply (on_rows settings commands (tape lines))) }
 {
     step_rows(alloc, settings, script, linked.rows()?)
 }
@@ -99,8 +102,9 @@ fn step_rows(
     script: &[u8],
     rows: Vec<Code>,
 ) -> Result<Reply, NoMemory>
-    requires { bad_line script.now ≡ None }
-    ensures { IfOk result (λ reply. Gives reply (on_rows settings script.now rows.items)) }
+    requires { HasBadLine script.now None }
+    ensures { (commands : CommandList) → IsScript script.now commands
+        → IfOk result (λ reply. Gives reply (on_rows settings commands rows.items)) }
 {
     let machine = started(alloc, settings.size, rows)?;
     let Ok(mut session) = Session::new(alloc, machine, u64::from(settings.limit)) else {

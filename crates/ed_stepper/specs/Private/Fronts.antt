@@ -4,7 +4,8 @@ use Rattle.std.specs.Prelude.{Some, None, nat_lt, slice_index, if◌then◌else�
 use Rattle.std.specs.Borrow.{Bor}
 use Rattle.std.specs.List.{position_or_len}
 use Rattle.ed_words.specs.Texts.{Text}
-use Rattle.ed_stepper.specs.Commands.{is_space, parts_between_spaces}
+use Rattle.ed_stepper.specs.Commands.{is_space}
+use Rattle.ed_stepper.specs.Private.CommandReading.{parts_between_spaces}
 
 -- how many spaces a text begins with
 abbrev pub blanks : Text → ℕ

@@ -1,0 +1,219 @@
+-- A script says what is read in it, or has the first bad line that is found.
+use Rattle.std.proofs.Common.{◌≡◌, ◌∙◌, ◌⊎◌, inl, inr, ℕ, ◌+◌, ◌≤◌, Bool, true, false, List, [], ◌∷◌, ◌++◌}
+use Rattle.std.proofs.Common.{refl, sym, ap, subst, arith, length, append-nil}
+use Rattle.std.specs.Prelude.{◌==◌, ◌||◌, Option, Some, None, is_none, unwrap_or, if◌then◌else◌}
+use Rattle.std.proofs.lemmas.Bool.Decides.{nat_tests, Decides-eqb}
+use Rattle.ed_words.specs.Texts.{Text}
+use Rattle.ed_syntax.specs.Lines.{HasLines, lines_of}
+use Rattle.ed_syntax.proofs.SourceLaws.{lines_are_read, read_lines_are}
+use Rattle.ed_stepper.specs.ScriptLines.{EachScriptHasOneMeaning, HasBadLine, IsBadLine, IsFirstBadLine, IsScript}
+use Rattle.ed_stepper.specs.ScriptLines.{LinesSayCommands, and_more, no_command, no_more, too_many_lines}
+use Rattle.ed_stepper.specs.Scripts.{EachScriptIsPlayed, play}
+use Rattle.ed_stepper.specs.Private.CommandReading.{bad_from, bad_line, commands_of, line_commands, session_command}
+use Rattle.ed_stepper.specs.declared.commands.Command.{Command}
+use Rattle.ed_stepper.specs.declared.commands.Command.TheVariants.{Nothing}
+use Rattle.ed_stepper.proofs.CommandLaws.{line_is_read, one_command, read_line_says, unread_says_none}
+
+-- ---- lines one after the other
+
+-- the lines from the number k on say these commands, and there are not too many
+record SayFrom (k : ℕ) (lines : List Text) : Type 0 where
+  pub says : LinesSayCommands lines (line_commands lines)
+  pub few : length lines + k ≤ 1001
+
+-- the first bad one of these lines, and what the lines before it say
+record BadFrom (k : ℕ) (lines : List Text) (number : ℕ) : Type 0 where
+  pub before : List Text
+  pub line : Text
+  pub after : List Text
+  pub said : List Command
+  pub lines_are : lines ≡ before ++ line ∷ after
+  pub says : LinesSayCommands before said
+  pub number_is : number ≡ length before + k
+  pub bad : IsBadLine number line
+
+abbrev IsAnswerFrom : ℕ → List Text → Option ℕ → Type 0
+IsAnswerFrom k lines None = SayFrom k lines
+IsAnswerFrom k lines (Some number) = BadFrom k lines number
+
+-- a good line in front
+and_good : (k : ℕ) (line : Text) (lines : List Text) (c : Command) (o : Option ℕ) → session_command line ≡ Some c
+    → IsAnswerFrom (k + 1) lines o → IsAnswerFrom k (line ∷ lines) o
+and_good k line lines c None e a =
+    let few = a.few in
+    let says = and_more line lines c _ (read_line_says line c e) a.says in
+    record {
+      says = subst (λ (x : Command). LinesSayCommands (line ∷ lines) (x ∷ line_commands lines))
+          (sym (ap (λ (o : Option Command). unwrap_or o Nothing) e)) says;
+      few = omega (arith, few);
+    }
+and_good k line lines c (Some number) e a =
+    let is = a.number_is in
+    record {
+      before = line ∷ a.before;
+      line = a.line;
+      after = a.after;
+      said = c ∷ a.said;
+      lines_are = ap (λ (t : List Text). line ∷ t) a.lines_are;
+      says = and_more line a.before c a.said (read_line_says line c e) a.says;
+      number_is = omega (arith, is);
+      bad = a.bad;
+    }
+
+-- a bad line in front
+at_once : (k : ℕ) (line : Text) (lines : List Text) → IsBadLine k line → BadFrom k (line ∷ lines) k
+at_once k line lines bad = record {
+  before = [];
+  line = line;
+  after = lines;
+  said = [];
+  lines_are = refl;
+  says = no_more;
+  number_is = omega arith;
+  bad = bad;
+}
+
+lines_answer : (k : ℕ) (lines : List Text) → k ≤ 1001 → IsAnswerFrom k lines (bad_from k lines)
+lines_answer k [] le = record { says = no_more; few = omega arith }
+lines_answer k (line ∷ lines) le = by_tests (k == 1001) (session_command line) refl refl (lines_answer (k + 1) lines)
+  where
+    by_tests : (t : Bool) (o : Option Command) → (k == 1001) ≡ t → session_command line ≡ o
+        → (k + 1 ≤ 1001 → IsAnswerFrom (k + 1) lines (bad_from (k + 1) lines))
+        → IsAnswerFrom k (line ∷ lines) (if t || is_none o then Some k else bad_from (k + 1) lines)
+    by_tests true o e f h = at_once k line lines (too_many_lines ((Decides-eqb k 1001).0 e))
+    by_tests false None e f h =
+        let few : k ≤ 1000 = grind (arith, nat_tests) in
+        at_once k line lines (no_command few (unread_says_none line f))
+    by_tests false (Some c) e f h =
+        let few : k ≤ 1000 = grind (arith, nat_tests) in
+        and_good k line lines c (bad_from (k + 1) lines) f (h (omega (arith, few)))
+
+-- lines that say commands, and lines after them
+said_are_read : (k : ℕ) (lines more : List Text) (cs : List Command) → LinesSayCommands lines cs
+    → length lines + k ≤ 1001 → bad_from k (lines ++ more) ≡ bad_from (length lines + k) more
+said_are_read k _ more _ no_more le = let e : 0 + k ≡ k = omega arith in sym (ap (λ n. bad_from n more) e)
+said_are_read k _ more _ (and_more line lines c cs s says) le =
+    let none : (k == 1001) ≡ false = grind (arith, nat_tests) in
+    let read = line_is_read line c s in
+    let e : length lines + (k + 1) ≡ length (line ∷ lines) + k = omega arith in
+    rw (none, read) (said_are_read (k + 1) lines more cs says (omega (arith, e, le)) ∙ ap (λ n. bad_from n more) e)
+
+pub commands_are : (lines : List Text) (cs : List Command) → LinesSayCommands lines cs → line_commands lines ≡ cs
+commands_are _ _ no_more = refl
+commands_are _ _ (and_more line lines c cs s says) =
+    let read = line_is_read line c s in
+    let rest = commands_are lines cs says in
+    (λ i. unwrap_or (read i) Nothing ∷ line_commands lines) ∙ ap (λ (x : List Command). c ∷ x) rest
+
+-- ---- scripts
+
+-- what is found in a script
+pub bad_line_is : (script : Text) (o : Option ℕ) → bad_line script ≡ o → HasBadLine script o
+bad_line_is script o e = is_found o (subst (IsAnswerFrom 1 (lines_of script)) e (lines_answer 1 (lines_of script) (omega arith)))
+  where
+    is_found : (o : Option ℕ) → IsAnswerFrom 1 (lines_of script) o → HasBadLine script o
+    is_found None a =
+        let few = a.few in
+        (line_commands (lines_of script), record {
+          lines = lines_of script;
+          has_lines = read_lines_are script;
+          few = omega (arith, few);
+          says = a.says;
+        }, tt)
+    is_found (Some number) a = record {
+      before = a.before;
+      line = a.line;
+      after = a.after;
+      said = a.said;
+      has_lines = subst (HasLines script) a.lines_are (read_lines_are script);
+      says = a.says;
+      number_is = a.number_is;
+      bad = a.bad;
+    }
+
+-- what a script says is read
+pub script_is_read : (script : Text) (commands : List Command) → IsScript script commands
+    → (bad_line script ≡ None) × (commands_of script ≡ commands)
+script_is_read script commands s =
+    let lines = lines_are_read script s.lines s.has_lines in
+    let few = s.few in
+    let le : length s.lines + 1 ≤ 1001 = omega (arith, few) in
+    (
+      ap (bad_from 1) (lines ∙ sym (append-nil s.lines)) ∙ said_are_read 1 s.lines [] commands s.says le,
+      ap line_commands lines ∙ commands_are s.lines commands s.says,
+    )
+
+-- a bad line is found
+found_here : (number : ℕ) (line : Text) (after : List Text) → IsBadLine number line
+    → bad_from number (line ∷ after) ≡ Some number
+found_here number line after (no_command le none) = by_option (session_command line) refl
+  where
+    low : (number == 1001) ≡ false
+    low = grind (arith, nat_tests)
+
+    by_option : (o : Option Command) → session_command line ≡ o
+        → (if (number == 1001) || is_none o then Some number else bad_from (number + 1) after) ≡ Some number
+    by_option None e = rw low refl
+    by_option (Some c) e = absurd (none c (read_line_says line c e))
+found_here number line after (too_many_lines e) = let is : (number == 1001) ≡ true = grind (arith, nat_tests) in rw is refl
+
+pub bad_line_is_found : (script : Text) (number : ℕ) → IsFirstBadLine script number → bad_line script ≡ Some number
+bad_line_is_found script number b =
+    let lines = lines_are_read script (b.before ++ b.line ∷ b.after) b.has_lines in
+    let is = b.number_is in
+    let few = few_before number b.line b.bad in
+    ap (bad_from 1) lines ∙ said_are_read 1 b.before (b.line ∷ b.after) b.said b.says (omega (arith, is, few))
+    ∙ ap (λ n. bad_from n (b.line ∷ b.after)) (sym is) ∙ found_here number b.line b.after b.bad
+  where
+    few_before : (number : ℕ) (line : Text) → IsBadLine number line → number ≤ 1001
+    few_before number line (no_command le none) = omega arith
+    few_before number line (too_many_lines e) = omega arith
+
+-- ---- the law
+
+-- the script is one, by what is read
+pub good_script : (script : Text) → bad_line script ≡ None → IsScript script (commands_of script)
+good_script script e =
+    let s = bad_line_is script None e in subst (IsScript script) (sym (script_is_read script s.0 s.1).1) s.1
+
+each_script : (script : Text) → ((commands : List Command) × IsScript script commands)
+    ⊎ ((number : ℕ) × IsFirstBadLine script number)
+each_script script = by_line (bad_line script) refl
+  where
+    by_line : (o : Option ℕ) → bad_line script ≡ o → ((commands : List Command) × IsScript script commands)
+        ⊎ ((number : ℕ) × IsFirstBadLine script number)
+    by_line None e = inl (commands_of script, good_script script e)
+    by_line (Some number) e = inr (number, bad_line_is script (Some number) e)
+
+pub one_script : (script : Text) (commands others : List Command) → IsScript script commands → IsScript script others
+    → commands ≡ others
+one_script script commands others s t =
+    sym (script_is_read script commands s).1 ∙ (script_is_read script others t).1
+
+pub never_both : (script : Text) (commands : List Command) (number : ℕ) → IsScript script commands
+    → IsFirstBadLine script number → ⊥
+never_both script commands number s b =
+    let good = (script_is_read script commands s).0 in let bad = bad_line_is_found script number b in cc
+
+one_bad_line : (script : Text) (number other : ℕ) → IsFirstBadLine script number → IsFirstBadLine script other
+    → number ≡ other
+one_bad_line script number other a b =
+    let first = bad_line_is_found script number a in let second = bad_line_is_found script other b in cc
+
+pub one_meaning : EachScriptHasOneMeaning
+one_meaning = record {
+  one_command = one_command;
+  every = each_script;
+  one_script = one_script;
+  never_both = never_both;
+  one_bad_line = one_bad_line;
+}
+
+-- no bad line is found in a script
+pub none_is_bad : (script : Text) (o : Option ℕ) → o ≡ None → HasBadLine script o → bad_line script ≡ None
+none_is_bad script None e h = (script_is_read script h.0 h.1).0
+none_is_bad script (Some number) e h = absurd (cc)
+
+-- what is played is what the commands do
+pub each_is_played : EachScriptIsPlayed
+each_is_played script commands s is = ap (λ cs. play 1 cs s) (script_is_read script commands is).1

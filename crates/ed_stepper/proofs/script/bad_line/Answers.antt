@@ -1,0 +1,18 @@
+use Rattle.std.proofs.Common.{◌≡◌, Some, None}
+use Rattle.std.proofs.lemmas.Grind.{common_steps}
+use Rattle.std.proofs.Common.{arith}
+use Rattle.ed_stepper.specs.Private.CommandReading.{bad_line}
+use Rattle.ed_stepper.proofs.ScriptLaws.{bad_line_is}
+use Rattle.ed_stepper.proofs.script.bad_line.Goals as goal
+use Rattle.ed_stepper.proofs.script.bad_line.Goals.{then-number-eq-TOO_MANY-via-then-number-eq-TOO_MANY}
+use Rattle.ed_stepper.proofs.script.bad_line.Goals.{then-number-eq-TOO_MANY-via-else-number-eq-TOO_MANY+then-is_none}
+
+pub returns-then-number-eq-TOO_MANY-clause-is : goal.returns-then-number-eq-TOO_MANY-clause-is
+returns-then-number-eq-TOO_MANY-clause-is c =
+    let found : bad_line c.args.script.now ≡ Some c.loop-rest.number = grind (arith, common_steps) in
+    bad_line_is c.args.script.now (Some c.loop-rest.number) found
+
+pub returns-clause-is : goal.returns-clause-is
+returns-clause-is c =
+    let found : bad_line c.args.script.now ≡ None = grind (arith, common_steps) in
+    bad_line_is c.args.script.now None found
