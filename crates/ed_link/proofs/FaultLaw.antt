@@ -1,10 +1,7 @@
 -- The fault that is looked for is that of the definition, and none is found where the source has none.
 use Rattle.std.proofs.Common.{◌≡◌, ◌⊎◌, inl, inr, ℕ, ◌+◌, ◌<◌, ◌≤◌, refl, sym, ap, ◌∙◌, subst, arith}
 use Rattle.std.proofs.Common.{Bool, true, false, ◌||◌, Option, Some, None, List, [], ◌∷◌, ◌++◌, length, nat_le}
-use Rattle.std.proofs.Common.{append_assoc, length-append, if◌then◌else◌}
-use Rattle.std.proofs.lemmas.List.{append-nil}
-use Rattle.std.proofs.Math.Seq.{get_or-append_seam}
-use Rattle.std.specs.Prelude.{slice_index_or}
+use Rattle.std.proofs.Common.{length-append, if◌then◌else◌}
 use Rattle.ed_words.proofs.Numbers.{le_of, not_le_of}
 use Rattle.ed_words.specs.declared.size.Size.{Size}
 use Rattle.std.specs.Prelude.{Result, Ok, Err, IfErr}
@@ -21,30 +18,23 @@ use Rattle.ed_syntax.specs.declared.fault.SourceFault.{SourceFault}
 use Rattle.ed_syntax.specs.declared.fault.SourceFault.TheVariants.{At, Memory}
 use Rattle.ed_symbols.specs.declared.spots.Spot.{Spot}
 use Rattle.ed_symbols.specs.Places.{passed, first_spot}
-use Rattle.ed_symbols.specs.Names.{defined, homes_from}
-use Rattle.ed_symbols.specs.Faults.{or_later, defines_again, naming_cause, naming_fault_from, resolved}
+use Rattle.ed_symbols.specs.Faults.{or_later, resolved}
 use Rattle.ed_link.specs.Linked.{homes_of}
 use Rattle.ed_link.specs.Private.FaultTests.{IsFirstFault, any_enter, cause_of, fault, fault_from, is_enter, missing}
 use Rattle.ed_link.specs.Private.FaultTests.{past_of}
 use Rattle.ed_link.specs.Private.FaultTests.{sooner, word_run, LinesBefore}
-use Rattle.ed_link.specs.Faults.{StandsAfter, spot_from, spot_after, HasEnter, SourceHasFault, on_line, no_enter}
-use Rattle.ed_link.specs.Faults.{number_of, IsMeaningFault, HasNoFault}
+use Rattle.ed_symbols.specs.NameFaults.{spot_from, spot_after}
+use Rattle.ed_link.specs.Faults.{HasEnter, SourceHasFault, on_line, no_enter}
+use Rattle.ed_symbols.specs.NameFaults.{number_of}
+use Rattle.ed_link.specs.Faults.{IsMeaningFault, HasNoFault}
 use Rattle.ed_link.proofs.FaultSentences.{runs_from, any_says, any_tests}
-use Rattle.ed_link.proofs.LineFaults.{OfNames, OfMeaning, of_names, of_meaning, same_cause}
-use Rattle.ed_link.proofs.FaultPasses.{first, finds, Finds, Numbered}
+use Rattle.ed_symbols.specs.NameFaults.{HasNameFault}
+use Rattle.ed_symbols.proofs.LeastFaults.{same_cause}
+use Rattle.ed_symbols.proofs.FaultPasses.{first, finds, Finds, Numbered}
+use Rattle.ed_symbols.proofs.NameLaw.{AtLine, SaysLeast, found_says, numbers, say_names, spot_snoc}
+use Rattle.ed_link.proofs.LineFaults.{OfMeaning, of_meaning, name_has_cause, few, cause_is_name}
 
 -- ---- the passes of the code, by what stands before a line
-
-spot_snoc : (s : Spot) (b : List Line) (l : Line) → spot_from s (b ++ l ∷ []) ≡ passed l.statement (spot_from s b)
-spot_snoc s [] l = refl
-spot_snoc s (e ∷ b) l = spot_snoc (passed e.statement s) b l
-
-homes_snoc : (s : Spot) (b : List Line) (l : Line)
-    → homes_from s (b ++ l ∷ []) ≡ homes_from s b ++ defined l (spot_from s b)
-homes_snoc s [] l = append-nil (defined l s)
-homes_snoc s (e ∷ b) l = ap (λ x. defined e s ++ x) (homes_snoc (passed e.statement s) b l)
-    ∙ sym (append_assoc (defined e s) (homes_from (passed e.statement s) b)
-    (defined l (spot_from (passed e.statement s) b)))
 
 runs_snoc : (s : Spot) (b : List Line) (l : Line)
     → runs_from s (b ++ l ∷ []) ≡ runs_from s b ++ word_run l.statement (spot_from s b) ∷ []
@@ -68,22 +58,8 @@ module _ (z : Size) (lines : List Line) where
   abbrev past_after : List Line → LinesBefore
   past_after b = record { runs = runs_from first_spot b; entered = any_enter b }
 
-  abbrev ask_names : List Line → Line → Option SourceCause
-  ask_names b l = naming_cause (homes_of lines) (defines_again (homes_from first_spot b) l (spot_after b)) l
-      (spot_after b)
-
   abbrev ask_meaning : List Line → Line → Option SourceCause
   ask_meaning b l = cause_of z (homes_of lines) (any_enter lines) (past_after b) l (spot_after b)
-
-  names_pass : (b rest : List Line)
-      → naming_fault_from (homes_of lines) (homes_from first_spot b) (spot_after b) rest ≡ first ask_names b rest
-  names_pass b [] = refl
-  names_pass b (l ∷ rest) = ap (λ f. or_later l.number (ask_names b l) f)
-      (ap (λ h. naming_fault_from (homes_of lines) h (passed l.statement (spot_after b)) rest)
-      (sym (homes_snoc first_spot b l))
-      ∙ (ap (λ s. naming_fault_from (homes_of lines) (homes_from first_spot (b ++ l ∷ [])) s rest)
-      (sym (spot_snoc first_spot b l))
-      ∙ names_pass (b ++ l ∷ []) rest))
 
   past_snoc : (b : List Line) (l : Line) → past_of (past_after b) l (spot_after b) ≡ past_after (b ++ l ∷ [])
   past_snoc b l = λ i. record { runs = sym (runs_snoc first_spot b l) i; entered = sym (any_snoc b l) i }
@@ -99,27 +75,6 @@ module _ (z : Size) (lines : List Line) where
       ∙ meaning_pass (b ++ l ∷ []) rest))
 
 -- ---- the least of several
-
--- the answer is the least of these faults
-abbrev pub SaysLeast : (ℕ → SourceCause → Type 0) → Option SourceFault → Type 0
-SaysLeast H None = (k : ℕ) (c : SourceCause) → H k c → ⊥
-SaysLeast H (Some Memory) = ⊥
-SaysLeast H (Some (At k c)) = H k c
-    × ((r : ℕ) (o : SourceCause) → H r o → (k < r) ⊎ ((k ≡ r) × (number_of c ≤ number_of o)))
-
--- a fault of a rule's kind at a line
-abbrev AtLine : (List Line → Line → SourceCause → Type 0) → List Line → ℕ → SourceCause → Type 0
-AtLine Rule lines k c = (b : List Line) × (l : Line) × StandsAfter lines b l × (k ≡ length b + 1) × Rule b l c
-
-found_says : (Rule : List Line → Line → SourceCause → Type 0) (lines : List Line) (f : Option SourceFault)
-    → Finds Rule lines f → SaysLeast (AtLine Rule lines) f
-found_says Rule lines None h = λ k c a. h a.0 a.1 c a.2 a.4
-found_says Rule lines (Some Memory) h = h
-found_says Rule lines (Some (At k cause)) h = (
-  h.0,
-  λ r o a.
-      subst (λ n. (k < n) ⊎ ((k ≡ n) × (number_of cause ≤ number_of o))) (sym a.3) (h.1 a.0 a.1 o a.2 a.4),
-)
 
 module _ (H G : ℕ → SourceCause → Type 0)
     (order : (k : ℕ) (c d : SourceCause) → H k c → G k d → number_of c ≤ number_of d) where
@@ -177,30 +132,15 @@ module _ (H G : ℕ → SourceCause → Type 0)
 
 -- ---- the law
 
-pub numbers : (lines : List Line) → AreNumbered lines → Numbered lines
-numbers lines are before l st =
-    let n : length lines ≡ length before + length (l ∷ st.after) =
-    ap (λ (x : List Line). length x) st.lines_are ∙ length-append before (l ∷ st.after) in
-    let same : slice_index_or lines (length before) l ≡ l =
-    ap (λ (x : List Line). slice_index_or x (length before) l) st.lines_are
-    ∙ get_or-append_seam before l st.after l in
-    ap (λ (x : Line). x.number) (sym same) ∙ are (length before) l (omega (arith, n))
-
 module _ (z : Size) (lines : List Line) (numbered : Numbered lines) where
   abbrev Names : ℕ → SourceCause → Type 0
-  Names = AtLine (λ b l c. OfNames z lines b l c) lines
+  Names = HasNameFault lines
 
   abbrev Meanings : ℕ → SourceCause → Type 0
   Meanings = AtLine (λ b l c. OfMeaning z lines b l c) lines
 
   abbrev Lacking : ℕ → SourceCause → Type 0
   Lacking k c = (HasEnter lines → ⊥) × (k ≡ length lines + 1) × (c ≡ causes.Enter)
-
-  say_names : SaysLeast Names (resolved lines).fault
-  say_names = found_says (λ b l c. OfNames z lines b l c) lines (resolved lines).fault
-      (subst (Finds (λ b l c. OfNames z lines b l c) lines) (sym (names_pass z lines [] lines))
-      (finds (ask_names z lines) (λ b l c. OfNames z lines b l c) lines numbered (λ b l. of_names z lines b l) [] lines
-      refl (λ b l c st h. omega arith)))
 
   abbrev second : Option SourceFault
   second = fault_from z (homes_of lines) (any_enter lines) (record { runs = []; entered = false }) first_spot lines
@@ -234,17 +174,18 @@ module _ (z : Size) (lines : List Line) (numbered : Numbered lines) where
       absurd (omega (arith, n, m.3, h.1))
 
   names_first : (k : ℕ) (c d : SourceCause) → Names k c → Meanings k d ⊎ Lacking k d → number_of c ≤ number_of d
-  names_first k c d n (inl m) = omega (arith, n.4.1, m.4.1)
+  names_first k c d n (inl m) = omega (arith, few lines n.0 n.1 c n.4, m.4.1)
   names_first k c d n (inr m) =
-      subst (λ x. number_of c ≤ number_of x) (sym m.2) (omega (arith, n.4.1))
+      subst (λ x. number_of c ≤ number_of x) (sym m.2) (omega (arith, few lines n.0 n.1 c n.4))
 
   say_all : SaysLeast All (fault z lines)
   say_all = merge Names (λ k c. Meanings k c ⊎ Lacking k c) names_first (resolved lines).fault
-      (sooner second (missing (any_enter lines) (length lines))) say_names
+      (sooner second (missing (any_enter lines) (length lines))) (say_names lines numbered)
       (merge Meanings Lacking not_both second (missing (any_enter lines) (length lines)) say_meaning say_lacking)
 
   to_has : (k : ℕ) (c : SourceCause) → All k c → SourceHasFault z lines k c
-  to_has k c (inl n) = subst (λ m. SourceHasFault z lines m c) (sym n.3) (on_line n.2 n.4.0)
+  to_has k c (inl n) =
+      subst (λ m. SourceHasFault z lines m c) (sym n.3) (on_line n.2 (name_has_cause z lines n.0 n.1 c n.4))
   to_has k c (inr (inl n)) = subst (λ m. SourceHasFault z lines m c) (sym n.3) (on_line n.2 n.4.0)
   to_has k c (inr (inr n)) = subst (λ m. SourceHasFault z lines m c) (sym n.1)
       (subst (λ x. SourceHasFault z lines (length lines + 1) x) (sym n.2) (no_enter n.0))
@@ -256,7 +197,7 @@ module _ (z : Size) (lines : List Line) (numbered : Numbered lines) where
   of_has (on_line {before} {l} {cause} st h) = by_number (split_at (number_of cause))
     where
       by_number : (number_of cause ≤ 8) ⊎ (9 ≤ number_of cause) → All (length before + 1) cause
-      by_number (inl n) = inl (before, l, st, refl, (h, n))
+      by_number (inl n) = inl (before, l, st, refl, cause_is_name z lines before l cause h n)
       by_number (inr n) = inr (inl (before, l, st, refl, (h, n)))
   of_has (no_enter h) = inr (inr (h, refl, refl))
 

@@ -18,18 +18,15 @@ use Rattle.ed_symbols.specs.declared.homes.Home.{Home}
 use Rattle.ed_symbols.specs.Places.{passed, first_spot}
 use Rattle.ed_symbols.specs.Names.{place_on}
 use Rattle.ed_link.specs.Linked.{first_place, end_place, homes_of}
+use Rattle.ed_symbols.proofs.Sentences.{Ties, or_left, or_right, and_of, and_true, not_true, true_not}
 use Rattle.ed_link.specs.Private.FaultTests.{any_enter, has_no_routine, has_sandwich, is_enter, is_in_segment}
 use Rattle.ed_link.specs.Private.FaultTests.{is_misplaced}
 use Rattle.ed_link.specs.Private.FaultTests.{is_outside, is_rows, meets, reach, run_at, word_run}
-use Rattle.ed_link.specs.Faults.{StandsAfter, spot_from, spot_after, HasEnter}
+use Rattle.ed_symbols.specs.NameFaults.{StandsAfter, spot_from, spot_after}
+use Rattle.ed_link.specs.Faults.{HasEnter}
 use Rattle.ed_link.specs.Faults.{PlacesWords, IsData, IsOutsideSegments, NeedsWithin, NeedsPast, Overlaps}
 use Rattle.ed_link.specs.Faults.{UsesUnknown, IsMisplaced, HasSandwichDigit}
 use Rattle.ed_link.specs.Faults.{IsSegment, IsUse, HasNoUse, InSegment}
-
--- a test and a sentence say the same
-pub record Ties (test : Bool) (sentence : Type 0) : Type 0 where
-  pub says : test ≡ true → sentence
-  pub tests : sentence → test ≡ true
 
 -- ---- S14 and S17
 
@@ -341,14 +338,6 @@ shares_says a b s (l ∷ lines) h =
         let r = more g in
         (r.0, r.1, l ∷ r.2, r.3, record { after = r.4.after; lines_are = ap (λ x. l ∷ x) r.4.lines_are }, r.5)
 
-pub or_right : (x y : Bool) → y ≡ true → (x || y) ≡ true
-or_right true y h = refl
-or_right false y h = h
-
-pub or_left : (x y : Bool) → x ≡ true → (x || y) ≡ true
-or_left true y h = refl
-or_left false y h = cc
-
 shared : (a b : ℕ) (s : Spot) (earlier : List Line) (e : Line) (after : List Line) (p : ℕ) → IsIn (a, b) p
     → IsIn (word_run e.statement (spot_from s earlier)) p
     → list_any (λ o. meets (a, b) o) (runs_from s (earlier ++ e ∷ after)) ≡ true
@@ -425,22 +414,6 @@ data_tests (Some (Text codes)) h = absurd h
 data_tests (Some (Long v)) h = absurd h
 data_tests (Some (Fetch r n ts)) h = absurd h
 data_tests (Some (Enter n)) h = absurd h
-
-pub and_of : (x y : Bool) → (x && y) ≡ true → (x ≡ true) × (y ≡ true)
-and_of true y h = (refl, h)
-and_of false y h = cc
-
-pub and_true : (x y : Bool) → x ≡ true → y ≡ true → (x && y) ≡ true
-and_true true y h g = g
-and_true false y h g = cc
-
-pub not_true : (x : Bool) → not x ≡ true → x ≡ true → ⊥
-not_true true h g = cc
-not_true false h g = cc
-
-pub true_not : (x : Bool) → (x ≡ true → ⊥) → not x ≡ true
-true_not true h = absurd (h refl)
-true_not false h = refl
 
 form_says : (label : Option (List ℕ)) (st : Option Statement) → (is_some label || is_some st) ≡ true
     → (label ≡ None) × (st ≡ None) → ⊥

@@ -19,9 +19,7 @@ pub mod Finished
 pub mod EachSource
 pub mod FaultExamples
 pub mod FaultSentences
-pub mod NamingSentences
-pub mod AgainSentences
+pub mod SettingSentences
 pub mod LineFaults
-pub mod FaultPasses
 pub mod FaultLaw
 pub mod PunchedTexts

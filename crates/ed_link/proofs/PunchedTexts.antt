@@ -1,5 +1,5 @@
 -- The text of an accepted source's tape is read as its tape.
-use Rattle.std.proofs.Common.{◌≡◌, ◌∙◌, ℕ, ◌<◌, refl, sym, ap, subst, arith, lit≤, Bool, true, nat_lt}
+use Rattle.std.proofs.Common.{◌≡◌, ℕ, ◌<◌, refl, ap, arith, Bool, true, nat_lt}
 use Rattle.std.proofs.Common.{Option, Some, None, List, [], ◌∷◌, ◌++◌}
 use Rattle.std.specs.Prelude.{◌==◌, replicate, unwrap_or}
 use Rattle.std.specs.List.{list_all}

@@ -1,1 +1,7 @@
 mod Least
+pub mod Sentences
+pub mod NamingSentences
+pub mod AgainSentences
+pub mod LeastFaults
+pub mod FaultPasses
+pub mod NameLaw

@@ -2,3 +2,4 @@ pub mod Places
 pub mod Names
 pub mod Faults
 pub mod Readers
+pub mod NameFaults

@@ -1,5 +1,6 @@
 ghost use Rattle.std.specs.Prelude.{◌≡◌, ◌-◌, ◌≤◌, IfOk, None, [], length};
 ghost use Rattle.ed_symbols.specs.Faults.{naming_fault_from, resolved};
+ghost use Rattle.ed_symbols.specs.NameFaults.{EachHasOneNameFault, NameFaultIs};
 ghost use Rattle.ed_symbols.specs.Names.{home_of, homes_from, place_on};
 ghost use Rattle.ed_symbols.specs.Places.{first_spot, standings_from};
 ghost use Rattle.ed_symbols.specs.Readers.{line_place, line_segment, standing_at};
@@ -71,7 +72,10 @@ fn find_fault(
 }
 
 /// The places of a program's lines and names.
+#[tactic(auto, using(crate::proofs::NameLaw::found_is, crate::proofs::NameLaw::each_has_one))]
 pub fn resolve(alloc: Global, program: &Program) -> Result<Places, NoMemory>
+    ensures fault { IfOk result (λ p. NameFaultIs program.now.lines.items p.fault) }
+    ensures one { EachHasOneNameFault }
     ensures is { IfOk result (λ p. p ≡ resolved program.now.lines.items) }
     ensures lines { IfOk result (λ p. length p.standings ≡ length program.now.lines.items) }
 {

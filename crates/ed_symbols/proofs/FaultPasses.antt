@@ -8,8 +8,8 @@ use Rattle.ed_syntax.specs.declared.fault.SourceCause.{SourceCause}
 use Rattle.ed_syntax.specs.declared.fault.SourceFault.{SourceFault}
 use Rattle.ed_syntax.specs.declared.fault.SourceFault.TheVariants.{At, Memory}
 use Rattle.ed_symbols.specs.Faults.{or_later}
-use Rattle.ed_link.specs.Faults.{StandsAfter, number_of}
-use Rattle.ed_link.proofs.LineFaults.{Least}
+use Rattle.ed_symbols.specs.NameFaults.{StandsAfter, number_of}
+use Rattle.ed_symbols.proofs.LeastFaults.{Least}
 
 -- what a pass finds, where it asks each line by the lines before it
 abbrev pub first : (List Line → Line → Option SourceCause) → List Line → List Line → Option SourceFault

@@ -1,4 +1,4 @@
--- The same for the faults S6, S7, S8 and S15: of names, and of what a `use` sets.
+-- The tests of a line and the sentences say the same, both ways, for the faults S7 and S8.
 use Rattle.std.proofs.Common.{◌≡◌, ◌⊎◌, inl, inr, ℕ, refl, sym, ap, ◌∙◌}
 use Rattle.std.proofs.Common.{Bool, true, ◌||◌, Option, Some, None, List, [], ◌∷◌}
 use Rattle.std.proofs.Common.{is_none}
@@ -14,13 +14,12 @@ use Rattle.ed_syntax.specs.declared.program.Statement.TheVariants.{Segment, Orde
 use Rattle.ed_syntax.specs.declared.program.Statement.TheVariants.{Rows}
 use Rattle.ed_syntax.specs.declared.program.Line.{Line}
 use Rattle.ed_symbols.specs.declared.homes.Home.{Home}
-use Rattle.ed_symbols.specs.Places.{segment_of}
-use Rattle.ed_symbols.specs.Names.{place_on}
+use Rattle.ed_symbols.specs.Places.{first_spot, segment_of}
+use Rattle.ed_symbols.specs.Names.{homes_from, place_on}
 use Rattle.ed_symbols.specs.Faults.{any_operand, enters_unknown, is_far, is_no_address, is_unknown, names_unknown}
 use Rattle.ed_symbols.specs.Faults.{operand_of, operand_value, reaches_outside, sum_of_places, with_more}
-use Rattle.ed_link.specs.Linked.{homes_of}
-use Rattle.ed_link.specs.Faults.{spot_after, HasOperand, HasName, NamesUnknown, ReachesOutside}
-use Rattle.ed_link.proofs.FaultSentences.{Ties, or_left, or_right}
+use Rattle.ed_symbols.specs.NameFaults.{spot_after, HasOperand, HasName, NamesUnknown, ReachesOutside}
+use Rattle.ed_symbols.proofs.Sentences.{Ties, or_left, or_right}
 
 -- ---- S7 and S8: the operands
 
@@ -126,25 +125,25 @@ module _ (lines before : List Line) (l : Line) where
   abbrev here : Option ℕ
   here = segment_of l (spot_after before)
 
-  unknown_by : (any_operand (is_unknown (homes_of lines) here) l.statement ≡ true)
-      ⊎ (enters_unknown (homes_of lines) l.statement ≡ true) → NamesUnknown lines before l
+  unknown_by : (any_operand (is_unknown (homes_from first_spot lines) here) l.statement ≡ true)
+      ⊎ (enters_unknown (homes_from first_spot lines) l.statement ≡ true) → NamesUnknown lines before l
   unknown_by (inl h) =
-      let p = operand_says (is_unknown (homes_of lines) here) l.statement h in
-      let k = lacks_says (homes_of lines) here p.0 p.2 in inl (p.0, p.1, k.0, k.1, k.2)
-  unknown_by (inr h) = inr (nowhere_says (homes_of lines) l.statement h)
+      let p = operand_says (is_unknown (homes_from first_spot lines) here) l.statement h in
+      let k = lacks_says (homes_from first_spot lines) here p.0 p.2 in inl (p.0, p.1, k.0, k.1, k.2)
+  unknown_by (inr h) = inr (nowhere_says (homes_from first_spot lines) l.statement h)
 
-  unknown_of : NamesUnknown lines before l → names_unknown (homes_of lines) l (spot_after before) ≡ true
-  unknown_of (inl h) = or_left (any_operand (is_unknown (homes_of lines) here) l.statement)
-      (enters_unknown (homes_of lines) l.statement)
-      (operand_tests (is_unknown (homes_of lines) here) l.statement
-      (h.0, h.1, lacks_tests (homes_of lines) here h.0 (h.2, h.3, h.4)))
-  unknown_of (inr h) = or_right (any_operand (is_unknown (homes_of lines) here) l.statement)
-      (enters_unknown (homes_of lines) l.statement) (nowhere_tests (homes_of lines) l.statement h)
+  unknown_of : NamesUnknown lines before l → names_unknown (homes_from first_spot lines) l (spot_after before) ≡ true
+  unknown_of (inl h) = or_left (any_operand (is_unknown (homes_from first_spot lines) here) l.statement)
+      (enters_unknown (homes_from first_spot lines) l.statement)
+      (operand_tests (is_unknown (homes_from first_spot lines) here) l.statement
+      (h.0, h.1, lacks_tests (homes_from first_spot lines) here h.0 (h.2, h.3, h.4)))
+  unknown_of (inr h) = or_right (any_operand (is_unknown (homes_from first_spot lines) here) l.statement)
+      (enters_unknown (homes_from first_spot lines) l.statement) (nowhere_tests (homes_from first_spot lines) l.statement h)
 
-  pub s7 : Ties (names_unknown (homes_of lines) l (spot_after before)) (NamesUnknown lines before l)
+  pub s7 : Ties (names_unknown (homes_from first_spot lines) l (spot_after before)) (NamesUnknown lines before l)
   s7 = record {
-    says = λ h. unknown_by (or_cases (any_operand (is_unknown (homes_of lines) here) l.statement)
-        (enters_unknown (homes_of lines) l.statement) h);
+    says = λ h. unknown_by (or_cases (any_operand (is_unknown (homes_from first_spot lines) here) l.statement)
+        (enters_unknown (homes_from first_spot lines) l.statement) h);
     tests = unknown_of;
   }
 
@@ -178,12 +177,12 @@ no_address_tests homes g (operands.Two first second minus) h =
     far_tests (operand_value homes g (operands.Two first second minus)) h.2 h.3 h.4
 
 pub s8 : (lines before : List Line) (l : Line)
-    → Ties (reaches_outside (homes_of lines) l (spot_after before)) (ReachesOutside lines before l)
+    → Ties (reaches_outside (homes_from first_spot lines) l (spot_after before)) (ReachesOutside lines before l)
 s8 lines before l =
     let g = segment_of l (spot_after before) in
     record {
-      says = λ h. let p = operand_says (is_no_address (homes_of lines) g) l.statement h in
-          let k = no_address_says (homes_of lines) g p.0 p.2 in (p.0, p.1, k.0, k.1, k.2, k.3, k.4);
-      tests = λ h. operand_tests (is_no_address (homes_of lines) g) l.statement
-          (h.0, h.1, no_address_tests (homes_of lines) g h.0 (h.2, h.3, h.4, h.5, h.6));
+      says = λ h. let p = operand_says (is_no_address (homes_from first_spot lines) g) l.statement h in
+          let k = no_address_says (homes_from first_spot lines) g p.0 p.2 in (p.0, p.1, k.0, k.1, k.2, k.3, k.4);
+      tests = λ h. operand_tests (is_no_address (homes_from first_spot lines) g) l.statement
+          (h.0, h.1, no_address_tests (homes_from first_spot lines) g h.0 (h.2, h.3, h.4, h.5, h.6));
     }

@@ -1,0 +1,159 @@
+-- The fault of names that is looked for is that of the definition.
+use Rattle.std.proofs.Common.{◌≡◌, ◌⊎◌, inl, inr, ℕ, ◌+◌, ◌<◌, ◌≤◌, refl, sym, ap, ◌∙◌, subst, arith}
+use Rattle.std.proofs.Common.{Option, Some, None, List, [], ◌∷◌, ◌++◌, length, append_assoc, length-append}
+use Rattle.std.proofs.lemmas.List.{append-nil}
+use Rattle.std.proofs.Math.Seq.{get_or-append_seam}
+use Rattle.std.specs.Prelude.{slice_index_or}
+use Rattle.ed_syntax.specs.Programs.{AreNumbered}
+use Rattle.ed_syntax.specs.declared.program.Line.{Line}
+use Rattle.ed_syntax.specs.declared.fault.SourceCause.{SourceCause}
+use Rattle.ed_syntax.specs.declared.fault.SourceCause.TheVariants as causes
+use Rattle.ed_syntax.specs.declared.fault.SourceFault.{SourceFault}
+use Rattle.ed_syntax.specs.declared.fault.SourceFault.TheVariants.{At, Memory}
+use Rattle.ed_symbols.specs.declared.spots.Spot.{Spot}
+use Rattle.ed_symbols.specs.Places.{passed, first_spot}
+use Rattle.ed_symbols.specs.Names.{defined, homes_from}
+use Rattle.ed_symbols.specs.Faults.{or_later, defines_again, naming_cause, naming_fault_from, names_unknown}
+use Rattle.ed_symbols.specs.Faults.{reaches_outside, resolved}
+use Rattle.ed_symbols.specs.NameFaults.{StandsAfter, spot_from, spot_after, number_of, LineHasNameFault, HasNameFault}
+use Rattle.ed_symbols.specs.NameFaults.{NameFaultIs, EachHasOneNameFault}
+use Rattle.ed_symbols.proofs.NamingSentences.{s7, s8}
+use Rattle.ed_symbols.proofs.AgainSentences.{s6}
+use Rattle.ed_symbols.proofs.LeastFaults.{Least, picks, same_cause}
+use Rattle.ed_symbols.proofs.FaultPasses.{first, finds, Finds, Numbered}
+
+-- ---- one line
+
+from_six : (lines before : List Line) (l : Line) (c : SourceCause) → LineHasNameFault lines before l c
+    → (6 ≤ number_of c) × (number_of c ≤ 8)
+from_six lines before l causes.BadByte h = absurd h
+from_six lines before l causes.LongLine h = absurd h
+from_six lines before l causes.NotAStatement h = absurd h
+from_six lines before l causes.NumberRange h = absurd h
+from_six lines before l causes.TooManyLines h = absurd h
+from_six lines before l causes.LabelTwice h = (omega arith, omega arith)
+from_six lines before l causes.LabelUnknown h = (omega arith, omega arith)
+from_six lines before l causes.AddressRange h = (omega arith, omega arith)
+from_six lines before l causes.OutsideSegment h = absurd h
+from_six lines before l causes.LoaderStore h = absurd h
+from_six lines before l causes.ParameterStore h = absurd h
+from_six lines before l causes.StoreEnd h = absurd h
+from_six lines before l causes.Overlap h = absurd h
+from_six lines before l causes.NoSuchRoutine h = absurd h
+from_six lines before l causes.Parameters h = absurd h
+from_six lines before l causes.Enter h = absurd h
+from_six lines before l causes.SandwichDigit h = absurd h
+
+of_names : (lines before : List Line) (l : Line) → Least (LineHasNameFault lines before l)
+    (naming_cause (homes_from first_spot lines) (defines_again (homes_from first_spot before) l (spot_after before)) l
+    (spot_after before))
+of_names lines before l = picks (LineHasNameFault lines before l) 6
+    ((defines_again (homes_from first_spot before) l (spot_after before), causes.LabelTwice)
+    ∷ (names_unknown (homes_from first_spot lines) l (spot_after before), causes.LabelUnknown)
+    ∷ (reaches_outside (homes_from first_spot lines) l (spot_after before), causes.AddressRange) ∷ []) (
+      s6 before l,
+      refl,
+      (
+        s7 lines before l,
+        refl,
+        (s8 lines before l, refl, λ c h g. let n = from_six lines before l c h in omega (arith, n.1, g)),
+      ),
+    )
+    (λ c h. (from_six lines before l c h).0)
+
+-- ---- the pass of the code, by what stands before a line
+
+pub spot_snoc : (s : Spot) (b : List Line) (l : Line) → spot_from s (b ++ l ∷ []) ≡ passed l.statement (spot_from s b)
+spot_snoc s [] l = refl
+spot_snoc s (e ∷ b) l = spot_snoc (passed e.statement s) b l
+
+homes_snoc : (s : Spot) (b : List Line) (l : Line)
+    → homes_from s (b ++ l ∷ []) ≡ homes_from s b ++ defined l (spot_from s b)
+homes_snoc s [] l = append-nil (defined l s)
+homes_snoc s (e ∷ b) l = ap (λ x. defined e s ++ x) (homes_snoc (passed e.statement s) b l)
+    ∙ sym (append_assoc (defined e s) (homes_from (passed e.statement s) b)
+    (defined l (spot_from (passed e.statement s) b)))
+
+module _ (lines : List Line) where
+  abbrev ask_names : List Line → Line → Option SourceCause
+  ask_names b l = naming_cause (homes_from first_spot lines) (defines_again (homes_from first_spot b) l (spot_after b)) l
+      (spot_after b)
+
+  names_pass : (b rest : List Line)
+      → naming_fault_from (homes_from first_spot lines) (homes_from first_spot b) (spot_after b) rest ≡ first ask_names b rest
+  names_pass b [] = refl
+  names_pass b (l ∷ rest) = ap (λ f. or_later l.number (ask_names b l) f)
+      (ap (λ h. naming_fault_from (homes_from first_spot lines) h (passed l.statement (spot_after b)) rest)
+      (sym (homes_snoc first_spot b l))
+      ∙ (ap (λ s. naming_fault_from (homes_from first_spot lines) (homes_from first_spot (b ++ l ∷ [])) s rest)
+      (sym (spot_snoc first_spot b l))
+      ∙ names_pass (b ++ l ∷ []) rest))
+
+-- ---- the least of several
+
+-- the answer is the least of these faults
+abbrev pub SaysLeast : (ℕ → SourceCause → Type 0) → Option SourceFault → Type 0
+SaysLeast H None = (k : ℕ) (c : SourceCause) → H k c → ⊥
+SaysLeast H (Some Memory) = ⊥
+SaysLeast H (Some (At k c)) = H k c
+    × ((r : ℕ) (o : SourceCause) → H r o → (k < r) ⊎ ((k ≡ r) × (number_of c ≤ number_of o)))
+
+-- a fault of a rule's kind at a line
+abbrev pub AtLine : (List Line → Line → SourceCause → Type 0) → List Line → ℕ → SourceCause → Type 0
+AtLine Rule lines k c = (b : List Line) × (l : Line) × StandsAfter lines b l × (k ≡ length b + 1) × Rule b l c
+
+pub found_says : (Rule : List Line → Line → SourceCause → Type 0) (lines : List Line) (f : Option SourceFault)
+    → Finds Rule lines f → SaysLeast (AtLine Rule lines) f
+found_says Rule lines None h = λ k c a. h a.0 a.1 c a.2 a.4
+found_says Rule lines (Some Memory) h = h
+found_says Rule lines (Some (At k cause)) h = (
+  h.0,
+  λ r o a.
+      subst (λ n. (k < n) ⊎ ((k ≡ n) × (number_of cause ≤ number_of o))) (sym a.3) (h.1 a.0 a.1 o a.2 a.4),
+)
+
+-- ---- the law
+
+pub numbers : (lines : List Line) → AreNumbered lines → Numbered lines
+numbers lines are before l st =
+    let n : length lines ≡ length before + length (l ∷ st.after) =
+    ap (λ (x : List Line). length x) st.lines_are ∙ length-append before (l ∷ st.after) in
+    let same : slice_index_or lines (length before) l ≡ l =
+    ap (λ (x : List Line). slice_index_or x (length before) l) st.lines_are
+    ∙ get_or-append_seam before l st.after l in
+    ap (λ (x : Line). x.number) (sym same) ∙ are (length before) l (omega (arith, n))
+
+pub say_names : (lines : List Line) → Numbered lines → SaysLeast (HasNameFault lines) (resolved lines).fault
+say_names lines numbered = found_says (LineHasNameFault lines) lines (resolved lines).fault
+    (subst (Finds (LineHasNameFault lines) lines) (sym (names_pass lines [] lines))
+    (finds (ask_names lines) (LineHasNameFault lines) lines numbered (λ b l. of_names lines b l) [] lines refl
+    (λ b l c st h. omega arith)))
+
+fault_of : (lines : List Line) (f : Option SourceFault) → SaysLeast (HasNameFault lines) f → NameFaultIs lines f
+fault_of lines None h = h
+fault_of lines (Some Memory) h = h
+fault_of lines (Some (At k c)) h = record { is = h.0; least = h.1 }
+
+-- the fault that is found is that of the source
+pub found_is : (lines : List Line) → AreNumbered lines → NameFaultIs lines (resolved lines).fault
+found_is lines are = fault_of lines (resolved lines).fault (say_names lines (numbers lines are))
+
+one_fault : (lines : List Line) (f g : Option SourceFault) → NameFaultIs lines f → NameFaultIs lines g → f ≡ g
+one_fault lines None None h i = refl
+one_fault lines None (Some Memory) h i = absurd i
+one_fault lines None (Some (At k c)) h i = absurd (h k c i.is)
+one_fault lines (Some Memory) g h i = absurd h
+one_fault lines (Some (At k c)) None h i = absurd (i k c h.is)
+one_fault lines (Some (At k c)) (Some Memory) h i = absurd i
+one_fault lines (Some (At k c)) (Some (At m d)) h i = one (h.least m d i.is) (i.least k c h.is)
+  where
+    one : (k < m) ⊎ ((k ≡ m) × (number_of c ≤ number_of d)) → (m < k) ⊎ ((m ≡ k) × (number_of d ≤ number_of c))
+        → ◌≡◌ {A = Option SourceFault} (Some (At k c)) (Some (At m d))
+    one (inl x) (inl y) = absurd (omega (arith, x, y))
+    one (inl x) (inr y) = absurd (omega (arith, x, y.0))
+    one (inr x) (inl y) = absurd (omega (arith, x.0, y))
+    one (inr x) (inr y) =
+        let e : c ≡ d = same_cause c d (omega (arith, x.1, y.1)) in λ i. Some (At (x.0 i) (e i))
+
+pub each_has_one : EachHasOneNameFault
+each_has_one = record { every = λ lines are. ((resolved lines).fault, found_is lines are); one = one_fault }

@@ -1,0 +1,132 @@
+-- The faults of the names of a source, S6 to S8: for each one sentence over the lines and their places. No sentence
+-- knows of another one, and none goes through the lines one by one (this project's own rule).
+use Rattle.std.specs.Prelude.{◌≡◌, ◌⊎◌, ℕ, ◌+◌, ◌<◌, ◌≤◌, true, List, [], ◌∷◌, ◌++◌, length, map}
+use Rattle.std.specs.Prelude.{Option, Some, None, ℤ, pos, int_lt}
+use Rattle.std.specs.List.{Contains}
+use Rattle.ed_syntax.specs.Programs.{AreNumbered}
+use Rattle.ed_syntax.specs.declared.program.Operand.{Operand}
+use Rattle.ed_syntax.specs.declared.program.Operand.TheVariants as operands
+use Rattle.ed_syntax.specs.declared.program.Statement.{Statement}
+use Rattle.ed_syntax.specs.declared.program.Statement.TheVariants.{Order, Fetch, Enter}
+use Rattle.ed_syntax.specs.declared.program.Line.{Line}
+use Rattle.ed_syntax.specs.declared.fault.SourceCause.{SourceCause}
+use Rattle.ed_syntax.specs.declared.fault.SourceCause.TheVariants as causes
+use Rattle.ed_syntax.specs.declared.fault.SourceFault.{SourceFault}
+use Rattle.ed_syntax.specs.declared.fault.SourceFault.TheVariants.{At, Memory}
+use Rattle.ed_symbols.specs.declared.spots.Spot.{Spot}
+use Rattle.ed_symbols.specs.declared.homes.Home.{Home}
+use Rattle.ed_symbols.specs.Places.{passed, first_spot, segment_of}
+use Rattle.ed_symbols.specs.Names.{defined, homes_from, is_local, label_home, name_home, place_on}
+use Rattle.ed_symbols.specs.Faults.{operand_of, operand_value}
+
+-- ---- where a line stands
+
+-- this is a line of the source, and these are the lines before it
+pub record StandsAfter (lines before : List Line) (l : Line) : Type 0 where
+  pub after : List Line
+  pub lines_are : lines ≡ before ++ l ∷ after
+
+-- the place and the segment that some lines lead to from a spot
+abbrev pub spot_from : Spot → List Line → Spot
+spot_from s [] = s
+spot_from s (l ∷ lines) = spot_from (passed l.statement s) lines
+
+-- the place and the segment after some lines of a source
+abbrev pub spot_after : List Line → Spot
+spot_after before = spot_from first_spot before
+
+-- ---- what a line says
+
+-- the operands of a statement: that of an order, and that of each setting of a `use`
+abbrev pub HasOperand : Option Statement → Operand → Type 0
+HasOperand (Some (Order function operand length)) o = o ≡ operand
+HasOperand (Some (Fetch routine name settings)) o = Contains (map operand_of settings.items) o
+HasOperand st o = ⊥
+
+-- the names in an operand
+abbrev pub HasName : Operand → List ℕ → Type 0
+HasName (operands.Number n) name = ⊥
+HasName (operands.Label first plus) name = name ≡ first
+HasName (operands.Two first second minus) name = (name ≡ first) ⊎ (name ≡ second)
+
+-- two definitions of one name; a local name is one within its segment alone
+pub record AreAlike (h other : Home) : Type 0 where
+  pub names : other.name ≡ h.name
+  pub segments : is_local h.name ≡ true → (k : ℕ) × (h.segment ≡ Some k) × (other.segment ≡ Some k)
+
+-- ---- the faults
+
+-- S6: the line defines a name that an earlier line defines, or that it defines twice
+abbrev pub DefinesAgain : List Line → Line → Type 0
+DefinesAgain before l =
+    ((h : Home) × Contains (defined l (spot_after before)) h
+    × (earlier : List Line) × (e : Line) × StandsAfter before earlier e
+    × (other : Home) × Contains (defined e (spot_after earlier)) other × AreAlike h other)
+    ⊎ ((h : Home) × (name_home l.statement (spot_after before) ≡ Some h)
+    × (other : Home) × (label_home l.label l.statement (spot_after before) ≡ Some other) × AreAlike h other)
+
+-- S7: an operand or `enter` names what has no place on the line
+abbrev pub NamesUnknown : List Line → List Line → Line → Type 0
+NamesUnknown lines before l =
+    ((o : Operand) × HasOperand l.statement o × (name : List ℕ) × HasName o name
+    × (place_on (homes_from first_spot lines) (segment_of l (spot_after before)) name ≡ None))
+    ⊎ ((name : List ℕ) × (l.statement ≡ Some (Enter name)) × (place_on (homes_from first_spot lines) None name ≡ None))
+
+-- S8: the value of an operand that has a name is below 0 or above 1023
+abbrev pub ReachesOutside : List Line → List Line → Line → Type 0
+ReachesOutside lines before l = (o : Operand) × HasOperand l.statement o × (name : List ℕ) × HasName o name
+    × (v : ℤ) × (operand_value (homes_from first_spot lines) (segment_of l (spot_after before)) o ≡ Some v)
+    × ((int_lt v (pos 0) ≡ true) ⊎ (int_lt (pos 1023) v ≡ true))
+
+-- the line that stands after these lines has this fault of names
+abbrev pub LineHasNameFault : List Line → List Line → Line → SourceCause → Type 0
+LineHasNameFault lines before l causes.LabelTwice = DefinesAgain before l
+LineHasNameFault lines before l causes.LabelUnknown = NamesUnknown lines before l
+LineHasNameFault lines before l causes.AddressRange = ReachesOutside lines before l
+LineHasNameFault lines before l cause = ⊥
+
+-- the source has a fault of names at the line with this number, counted from 1
+abbrev pub HasNameFault : List Line → ℕ → SourceCause → Type 0
+HasNameFault lines k cause = (before : List Line) × (l : Line) × StandsAfter lines before l × (k ≡ length before + 1)
+    × LineHasNameFault lines before l cause
+
+-- the numbers of the faults
+abbrev pub number_of : SourceCause → ℕ
+number_of causes.BadByte = 1
+number_of causes.LongLine = 2
+number_of causes.NotAStatement = 3
+number_of causes.NumberRange = 4
+number_of causes.TooManyLines = 5
+number_of causes.LabelTwice = 6
+number_of causes.LabelUnknown = 7
+number_of causes.AddressRange = 8
+number_of causes.OutsideSegment = 9
+number_of causes.LoaderStore = 10
+number_of causes.ParameterStore = 11
+number_of causes.StoreEnd = 12
+number_of causes.Overlap = 13
+number_of causes.NoSuchRoutine = 14
+number_of causes.Parameters = 15
+number_of causes.Enter = 16
+number_of causes.SandwichDigit = 17
+
+-- the fault of the names of a source: that of the least line that has one, and there the least number
+pub record IsNameFault (lines : List Line) (k : ℕ) (cause : SourceCause) : Type 0 where
+  pub is : HasNameFault lines k cause
+  pub least : (other : ℕ) (rule : SourceCause) → HasNameFault lines other rule
+      → (k < other) ⊎ ((k ≡ other) × (number_of cause ≤ number_of rule))
+
+-- the source has no fault of names
+abbrev pub HasNoNameFault : List Line → Type 0
+HasNoNameFault lines = (k : ℕ) (cause : SourceCause) → HasNameFault lines k cause → ⊥
+
+-- the fault of names, if there is one
+abbrev pub NameFaultIs : List Line → Option SourceFault → Type 0
+NameFaultIs lines None = HasNoNameFault lines
+NameFaultIs lines (Some (At k cause)) = IsNameFault lines k cause
+NameFaultIs lines (Some Memory) = ⊥
+
+-- the lines of each program have one fault of names or none, and never both
+pub record EachHasOneNameFault : Type 0 where
+  pub every : (lines : List Line) → AreNumbered lines → (f : Option SourceFault) × NameFaultIs lines f
+  pub one : (lines : List Line) (f g : Option SourceFault) → NameFaultIs lines f → NameFaultIs lines g → f ≡ g
