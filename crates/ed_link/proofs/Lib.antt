@@ -23,3 +23,4 @@ pub mod SettingSentences
 pub mod LineFaults
 pub mod FaultLaw
 pub mod PunchedTexts
+pub mod WordLaws

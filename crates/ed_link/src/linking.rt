@@ -4,6 +4,7 @@ ghost use Rattle.ed_notation.specs.Spellings.{AreSpellable};
 ghost use Rattle.ed_symbols.specs.Faults.{resolved};
 ghost use Rattle.ed_link.specs.Answers.{EachSourceComes, HasMeaningFault, IsLinked};
 ghost use Rattle.ed_link.specs.Refusals.{EachSourceHasOneAnswer};
+ghost use Rattle.ed_link.specs.Words.{EachWordStands};
 ghost use Rattle.ed_link.specs.Private.Building.{IsFinished};
 ghost use Rattle.ed_link.specs.Private.FaultTests.{IsFirstFault, fault as first_fault};
 ghost use Rattle.ed_link.specs.Labels.{labels};
@@ -25,6 +26,7 @@ pub fn link(alloc: Global, size: Size, program: &Program) -> Result<Linked, Sour
     ensures fault { IfErr result (λ e. HasMeaningFault size program.now.lines.items e) }
     ensures one { EachSourceHasOneAnswer }
     ensures law { EachSourceComes }
+    ensures words { EachWordStands }
 {
     match resolve(alloc, program) {
         Ok(places) => link_names(alloc, size, program, places.homes(), places.fault()),

@@ -1,0 +1,77 @@
+-- What the words of a linked program are: those of its lines, each at its place, and the parameters that its `use` lines
+-- set (this project's own rule).
+use Rattle.std.specs.Prelude.{◌≡◌, ◌⊎◌, ℕ, ◌+◌, ◌*◌, ◌<◌, List, [], length, map, reverse, slice_index}
+use Rattle.std.specs.Prelude.{Option, Some, None}
+use Rattle.std.specs.List.{Contains}
+use Rattle.ed_words.specs.declared.size.Size.{Size}
+use Rattle.ed_notation.specs.Fold.{placed_at}
+use Rattle.ed_library.specs.Entries.{entry}
+use Rattle.ed_library.specs.Images.{routine_word}
+use Rattle.ed_library.specs.Routines.{find, table_item}
+use Rattle.ed_syntax.specs.declared.program.Operand.{Operand}
+use Rattle.ed_syntax.specs.declared.program.Setting.{Setting}
+use Rattle.ed_syntax.specs.declared.program.Statement.{Statement}
+use Rattle.ed_syntax.specs.declared.program.Statement.TheVariants.{Fetch}
+use Rattle.ed_syntax.specs.declared.program.Line.{Line}
+use Rattle.ed_symbols.specs.declared.spots.Spot.{Spot}
+use Rattle.ed_symbols.specs.declared.homes.Home.{Home}
+use Rattle.ed_symbols.specs.Places.{even_from}
+use Rattle.ed_symbols.specs.NameFaults.{StandsAfter, spot_after}
+use Rattle.ed_link.specs.Faults.{HasNoFault}
+use Rattle.ed_link.specs.Linked.{first_place, homes_of, line_words, linked, operand_number, parameter_letters}
+use Rattle.ed_link.specs.Linked.{parameters, set_to}
+
+-- the words of a routine at a base, with the parameters that are set
+abbrev pub routine_words : List Home → List Setting → ℕ → Option ℕ → List ℕ
+routine_words homes ts base None = []
+routine_words homes ts base (Some r) =
+    map (λ row. routine_word (parameters homes ts) base (table_item row)) (entry r).items
+
+-- the words of a line, one for each of its places; those of a `use` are its routine's
+abbrev pub words_of_line : List Home → Spot → Option Statement → List ℕ
+words_of_line homes s (Some (Fetch routine name ts)) = routine_words homes ts.items (even_from s.place) (find routine)
+words_of_line homes s st = line_words homes s st
+
+-- the line that stands after these lines has this word at this place
+pub record LinePlaces (lines before : List Line) (l : Line) (place word : ℕ) : Type 0 where
+  pub index : ℕ
+  pub below : index < length (words_of_line (homes_of lines) (spot_after before) l.statement)
+  pub place_is : place ≡ first_place l.statement (spot_after before) + index
+  pub word_is : word ≡ slice_index (words_of_line (homes_of lines) (spot_after before) l.statement) index
+
+-- the line is a `use` that sets the parameter of this place to this word
+pub record LineSets (lines : List Line) (l : Line) (place word : ℕ) : Type 0 where
+  pub routine : List ℕ
+  pub name : List ℕ
+  pub settings : List Setting
+  pub letter : ℕ
+  pub operand : Operand
+  pub statement_is : l.statement ≡ Some (Fetch routine name (record { items = settings }))
+  pub is_letter : Contains parameter_letters letter
+  pub set : set_to settings letter ≡ Some operand
+  pub place_is : place ≡ 24 + letter
+  pub word_is : word ≡ 2 * operand_number (homes_of lines) None operand
+
+-- the word of the linked program at a place, if it has one there
+abbrev pub linked_word : List Line → ℕ → Option ℕ
+linked_word lines place = placed_at (reverse (linked lines)) place
+
+-- no line after this one sets the parameter of the place
+abbrev pub IsLastSet : List Line → List Line → ℕ → Type 0
+IsLastSet lines after place =
+    (before : List Line) (l : Line) (word : ℕ) → StandsAfter after before l → LineSets lines l place word → ⊥
+
+-- the words of the linked program: each line has its words at its places, the last `use` that sets a parameter decides
+-- it, and no other place has a word
+pub record WordsStand (lines : List Line) : Type 0 where
+  pub stands : (before : List Line) (l : Line) (place word : ℕ) → StandsAfter lines before l
+      → LinePlaces lines before l place word → linked_word lines place ≡ Some word
+  pub sets : (before : List Line) (l : Line) (place word : ℕ) (s : StandsAfter lines before l)
+      → LineSets lines l place word → IsLastSet lines s.after place → linked_word lines place ≡ Some word
+  pub only : (place word : ℕ) → linked_word lines place ≡ Some word
+      → (before : List Line) × (l : Line) × StandsAfter lines before l
+      × (LinePlaces lines before l place word ⊎ LineSets lines l place word)
+
+-- in each source without a fault of meaning the words stand so
+abbrev pub EachWordStands : Type 0
+EachWordStands = (z : Size) (lines : List Line) → HasNoFault z lines → WordsStand lines
