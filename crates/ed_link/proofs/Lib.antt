@@ -18,6 +18,7 @@ pub mod Maps
 pub mod Finished
 pub mod EachSource
 pub mod FaultExamples
+pub mod OneAnswers
 pub mod FaultSentences
 pub mod SettingSentences
 pub mod LineFaults

@@ -113,13 +113,16 @@ bad_line_is script o e = is_found o (subst (IsAnswerFrom 1 (lines_of script)) e 
   where
     is_found : (o : Option ℕ) → IsAnswerFrom 1 (lines_of script) o → HasBadLine script o
     is_found None a =
-        let few = a.few in
-        (line_commands (lines_of script), record {
-          lines = lines_of script;
-          has_lines = read_lines_are script;
-          few = omega (arith, few);
-          says = a.says;
-        }, tt)
+        let few = a.few in (
+          line_commands (lines_of script),
+          record {
+            lines = lines_of script;
+            has_lines = read_lines_are script;
+            few = omega (arith, few);
+            says = a.says;
+          },
+          tt,
+        )
     is_found (Some number) a = record {
       before = a.before;
       line = a.line;
@@ -137,8 +140,7 @@ pub script_is_read : (script : Text) (commands : List Command) → IsScript scri
 script_is_read script commands s =
     let lines = lines_are_read script s.lines s.has_lines in
     let few = s.few in
-    let le : length s.lines + 1 ≤ 1001 = omega (arith, few) in
-    (
+    let le : length s.lines + 1 ≤ 1001 = omega (arith, few) in (
       ap (bad_from 1) (lines ∙ sym (append-nil s.lines)) ∙ said_are_read 1 s.lines [] commands s.says le,
       ap line_commands lines ∙ commands_are s.lines commands s.says,
     )

@@ -1,7 +1,8 @@
-//! The lines of a script, each a command.
+//! The lines of a script, each of which says a command.
 ghost use Rattle.std.specs.Prelude.{◌≡◌, ◌≤◌, IfSome, option_map};
 ghost use Rattle.ed_words.specs.Decimals.{number_within};
-ghost use Rattle.ed_stepper.specs.Private.CommandReading.{session_command, of_one, of_three, of_two, shown, show_command};
+ghost use Rattle.ed_stepper.specs.Private.CommandReading.{session_command, of_one, of_three, of_two};
+ghost use Rattle.ed_stepper.specs.Private.CommandReading.{shown, show_command};
 ghost use Rattle.ed_stepper.specs.Private.Commands.{IsCommandInRange};
 
 use crate::fronts::first_part;
@@ -29,7 +30,7 @@ pub(crate) enum Command {
     LastPrinted,
 }
 
-/// The command of a line, if it is one.
+/// The command that a line says, if it says one.
 pub(crate) fn command_of(line: &[u8]) -> Option<Command>
     ensures is { result ≡ session_command line.now }
     ensures in_range { IfSome result IsCommandInRange }

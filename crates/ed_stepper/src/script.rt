@@ -9,13 +9,13 @@ use crate::moves::BackFault;
 use crate::session::Session;
 use std::alloc::Global;
 
-/// The number of the first line that no script has.
+/// The number of the first line that is bad whatever it holds.
 const TOO_MANY: u32 = 1001;
 
 /// Why a script was not run to its end.
 #[derive(Clone, Copy, Debug, PartialEq, Eq)]
 pub enum ScriptFault {
-    /// A line is none. No line has run.
+    /// A line says no command, or it is line 1001. No line has run.
     BadCommand {
         /// The line, counted from 1.
         line: u32,

@@ -1,8 +1,9 @@
 //! Symbols: the places of a source's lines and names, and the faults of its names.
 //!
 //! The contract is that the answers are those of the definitions: the place before a line by the sums of the words of
-//! the lines before it, the place of a name and the segment to which it belongs by its first definition, and the
-//! least fault by line and then number. Stands on `ed_words`, `ed_codes`, `ed_syntax` and `ed_library`.
+//! the lines before it, the place of a name and the segment to which it belongs by its first definition. The fault is
+//! that of the least line that has one, and there the least number, each said by a sentence of its own; each source has
+//! one such fault or none. Stands on `ed_words`, `ed_codes`, `ed_syntax` and `ed_library`.
 #![tactic(auto)]
 
 mod faults;

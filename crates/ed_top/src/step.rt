@@ -34,8 +34,11 @@ pub fn step(alloc: Global, settings: Settings, input: &[u8]) -> Result<Reply, No
 
 /// Looks at the script, then at the text.
 fn step_divided(alloc: Global, settings: Settings, divided: Divided<'_>) -> Result<Reply, NoMemory>
-    ensures { Replies (of_made (OnInput settings (record { script = divided.entry.script.now;
-        kind = divided.entry.kind; text = divided.entry.text.now }))) [] result }
+    ensures { Replies (of_made (OnInput settings (record {
+      script = divided.entry.script.now;
+      kind = divided.entry.kind;
+      text = divided.entry.text.now;
+    }))) [] result }
 {
     if let Some(line) = bad_line(divided.script) {
         return Ok(refusal(alloc, bad_command(alloc, line)?));
