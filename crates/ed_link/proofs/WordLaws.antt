@@ -10,6 +10,8 @@ use Rattle.std.proofs.lemmas.List.Sums.{AllPass-from_list_all}
 use Rattle.std.proofs.lemmas.List.Elements.{All-contains}
 use Rattle.ed_words.proofs.Numbers.{eq_of, eq_true, le_of}
 use Rattle.ed_words.specs.declared.size.Size.{Size}
+use Rattle.ed_words.specs.Sizes.{locations}
+use Rattle.ed_words.proofs.SizeLemmas.{least}
 use Rattle.ed_notation.specs.Fold.{placed_at}
 use Rattle.ed_library.specs.Entries.{entry}
 use Rattle.ed_library.specs.Images.{routine_word}
@@ -284,6 +286,12 @@ low_letter c h =
     (AllPass-from_list_all (λ x. nat_le x 26) parameter_letters refl) h in
     le_of c 26 test
 
+high_letter : (c : ℕ) → Contains parameter_letters c → 21 ≤ c
+high_letter c h =
+    let test = All-contains (λ x. nat_le 21 x ≡ true) parameter_letters c
+    (AllPass-from_list_all (λ x. nat_le 21 x) parameter_letters refl) h in
+    le_of 21 c test
+
 abbrev settings_of : Option Statement → List Setting
 settings_of (Some (Fetch r n ts)) = ts.items
 settings_of st = []
@@ -490,9 +498,32 @@ module _ (z : Size) (lines : List Line) (faultless : HasNoFault z lines) where
           (r.0, r.1, r.2, kinds r.0 r.1 a w r.3)
       by_found (inr f) = let none : ◌≡◌ {A = Option ℕ} None (Some w) = sym f.1 ∙ is in absurd (cc)
 
+  in_store : (a w : ℕ) → linked_word lines a ≡ Some w → (44 ≤ a) × (a < locations z)
+  in_store a w e = by_kind (no_other a w e)
+    where
+      split : (a b : ℕ) → (a < b) ⊎ (b ≤ a)
+      split a b = grind arith
+
+      by_place : (before : List Line) (l : Line) → StandsAfter lines before l → LinePlaces lines before l a w
+          → (a < locations z) ⊎ (locations z ≤ a) → (44 ≤ a) × (a < locations z)
+      by_place before l st p (inl g) = let h = high before l a w st p in (omega (arith, h), g)
+      by_place before l st p (inr g) =
+          absurd (faultless _ causes.StoreEnd (on_line st (a, inl (has_word before l a w p), g)))
+
+      by_kind : (before : List Line) × (l : Line) × StandsAfter lines before l
+          × (LinePlaces lines before l a w ⊎ LineSets lines l a w) → (44 ≤ a) × (a < locations z)
+      by_kind (before, l, st, inl p) = by_place before l st p (split a (locations z))
+      by_kind (before, l, st, inr p) =
+          let x = low l a w p in
+          let y = least z in
+          let c = high_letter p.letter p.is_letter in
+          let place = p.place_is in
+          (omega (arith, place, c), omega (arith, x, y))
+
 pub each_word_stands : EachWordStands
 each_word_stands z lines faultless = record {
   stands = line_stands z lines faultless;
   sets = parameter_stands z lines faultless;
   only = no_other z lines faultless;
+  within = in_store z lines faultless;
 }

@@ -1,9 +1,10 @@
 -- What the words of a linked program are: those of its lines, each at its place, and the parameters that its `use` lines
 -- set (this project's own rule).
-use Rattle.std.specs.Prelude.{◌≡◌, ◌⊎◌, ℕ, ◌+◌, ◌*◌, ◌<◌, List, [], length, map, reverse, slice_index}
+use Rattle.std.specs.Prelude.{◌≡◌, ◌⊎◌, ℕ, ◌+◌, ◌*◌, ◌<◌, ◌≤◌, List, [], length, map, reverse, slice_index}
 use Rattle.std.specs.Prelude.{Option, Some, None}
 use Rattle.std.specs.List.{Contains}
 use Rattle.ed_words.specs.declared.size.Size.{Size}
+use Rattle.ed_words.specs.Sizes.{locations}
 use Rattle.ed_notation.specs.Fold.{placed_at}
 use Rattle.ed_library.specs.Entries.{entry}
 use Rattle.ed_library.specs.Images.{routine_word}
@@ -62,8 +63,8 @@ IsLastSet lines after place =
     (before : List Line) (l : Line) (word : ℕ) → StandsAfter after before l → LineSets lines l place word → ⊥
 
 -- the words of the linked program: each line has its words at its places, the last `use` that sets a parameter decides
--- it, and no other place has a word
-pub record WordsStand (lines : List Line) : Type 0 where
+-- it, no other place has a word, and each place is one of the store
+pub record WordsStand (z : Size) (lines : List Line) : Type 0 where
   pub stands : (before : List Line) (l : Line) (place word : ℕ) → StandsAfter lines before l
       → LinePlaces lines before l place word → linked_word lines place ≡ Some word
   pub sets : (before : List Line) (l : Line) (place word : ℕ) (s : StandsAfter lines before l)
@@ -71,7 +72,8 @@ pub record WordsStand (lines : List Line) : Type 0 where
   pub only : (place word : ℕ) → linked_word lines place ≡ Some word
       → (before : List Line) × (l : Line) × StandsAfter lines before l
       × (LinePlaces lines before l place word ⊎ LineSets lines l place word)
+  pub within : (place word : ℕ) → linked_word lines place ≡ Some word → (44 ≤ place) × (place < locations z)
 
 -- in each source without a fault of meaning the words stand so
 abbrev pub EachWordStands : Type 0
-EachWordStands = (z : Size) (lines : List Line) → HasNoFault z lines → WordsStand lines
+EachWordStands = (z : Size) (lines : List Line) → HasNoFault z lines → WordsStand z lines

@@ -3,6 +3,7 @@ ghost use Rattle.ed_initial.specs.Entry.{IsStarted};
 ghost use Rattle.ed_syntax.specs.declared.program.Line.{Line};
 ghost use Rattle.ed_link.specs.Answers.{IsLinked};
 ghost use Rattle.ed_loads.specs.EntryState.{EachSourceEnters, entry_state, first_state};
+ghost use Rattle.ed_loads.specs.EntryWords.{EachEntryHasWords};
 
 use ed_codes::Code;
 use ed_initial::{begin, load};
@@ -29,6 +30,7 @@ pub fn enter(alloc: Global, size: Size, linked: &Linked) -> Result<Machine, NoMe
     ensures entry { IfOk result
         (λ m. (lines : List Line) → IsLinked size lines linked.now → m ≡ entry_state size lines) }
     ensures law { EachSourceEnters }
+    ensures words { EachEntryHasWords }
 {
     let mut machine = started(alloc, size, linked.rows()?)?;
     load(&mut machine);

@@ -1,4 +1,5 @@
 use Rattle.ed_loads.proofs.Entries.{each_source, loaded}
+use Rattle.ed_loads.proofs.EntryWords.{each_entry_has_words}
 use Rattle.ed_loads.proofs.entering.enter.Goals as goal
 
 pub returns-in_err-rows-clause-law : goal.returns-in_err-rows-clause-law
@@ -12,3 +13,12 @@ returns-clause-entry c = λ lines is. loaded is c.in_ok-machine.ensures.is c.in_
 
 pub returns-clause-law : goal.returns-clause-law
 returns-clause-law c = each_source
+
+pub returns-in_err-rows-clause-words : goal.returns-in_err-rows-clause-words
+returns-in_err-rows-clause-words c = each_entry_has_words
+
+pub returns-in_err-machine-clause-words : goal.returns-in_err-machine-clause-words
+returns-in_err-machine-clause-words c = each_entry_has_words
+
+pub returns-clause-words : goal.returns-clause-words
+returns-clause-words c = each_entry_has_words

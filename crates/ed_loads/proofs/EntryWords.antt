@@ -1,0 +1,84 @@
+-- The words of a source's lines stand in the store at its entry.
+use Rattle.std.proofs.Common.{◌≡◌, ℕ, ◌+◌, ◌-◌, ◌<◌, ◌≤◌, refl, ap, ◌∙◌, arith, Bool, true, false}
+use Rattle.std.proofs.Common.{List, [], ◌∷◌, length, drop, get_or, nat_eq, Option, Some, None}
+use Rattle.std.specs.Prelude.{replicate, reverse, unwrap_or}
+use Rattle.std.proofs.lemmas.List.{get_or-append_right, get_or-drop, get_or-replicate, length-replicate}
+use Rattle.ed_words.specs.declared.size.Size.{Size}
+use Rattle.ed_words.proofs.Numbers.{eq_of, eq_true}
+use Rattle.ed_words.proofs.SizeLemmas.{most}
+use Rattle.ed_store.specs.Cells.{short_at}
+use Rattle.ed_notation.specs.Checks.{ArePlaces}
+use Rattle.ed_notation.specs.Fold.{over, placed_at}
+use Rattle.ed_notation.proofs.Contents.{content_is}
+use Rattle.ed_initial.specs.Rests.{initial_words}
+use Rattle.ed_syntax.specs.declared.program.Line.{Line}
+use Rattle.ed_link.specs.Linked.{linked}
+use Rattle.ed_link.specs.Words.{WordsStand, linked_word}
+use Rattle.ed_link.proofs.WordLaws.{each_word_stands}
+use Rattle.ed_loads.specs.EntryState.{entry_store, own_words}
+use Rattle.ed_loads.specs.EntryWords.{EachEntryHasWords, EntryHasWords, IsFreePlace}
+
+-- places are those of the store where each that has a word is
+are_places : (ps : List (ℕ × ℕ)) → ((a w : ℕ) → placed_at ps a ≡ Some w → a < 1024) → ArePlaces ps
+are_places [] within = tt
+are_places (p ∷ ps) within = (first, are_places ps (λ a w e. by_test a w (nat_eq p.0 a) refl e))
+  where
+    same : nat_eq p.0 p.0 ≡ true
+    same = eq_true p.0 p.0 refl
+
+    first : p.0 < 1024
+    first = within p.0 p.1 (rw same refl)
+
+    by_test : (a w : ℕ) (t : Bool) → nat_eq p.0 a ≡ t → placed_at ps a ≡ Some w → a < 1024
+    by_test a w true e h = let is : p.0 ≡ a = eq_of p.0 a e in omega (arith, is, first)
+    by_test a w false e h = within a w (rw e h)
+
+module _ (lines : List Line) where
+  abbrev zeros : List ℕ
+  zeros = replicate 1024 0
+
+  abbrev placed : List (ℕ × ℕ)
+  placed = reverse (linked lines)
+
+  first_words : length (initial_words (own_words lines)) ≡ 44
+  first_words = refl
+
+  -- a word after those of the Initial Orders
+  pub entry_word : ArePlaces placed → (a : ℕ) → 44 ≤ a → a < 1024
+      → short_at (entry_store lines) a ≡ unwrap_or (linked_word lines a) 0
+  entry_word are a low high =
+      let there : 44 + (a - 44) ≡ a = omega arith in
+      get_or-append_right (initial_words (own_words lines)) (drop 44 (over placed zeros)) 44 a 0 first_words low
+      ∙ get_or-drop 44 (over placed zeros) (a - 44) 0
+      ∙ ap (λ x. get_or (over placed zeros) x 0) there
+      ∙ content_is zeros (length-replicate {A = ℕ} 1024 0) placed a are
+      ∙ ap (λ x. unwrap_or (placed_at placed a) x) (get_or-replicate 1024 a 0 0 high)
+
+module _ (z : Size) (lines : List Line) (w : WordsStand z lines) where
+  are : ArePlaces (reverse (linked lines))
+  are = are_places (reverse (linked lines))
+      (λ a v e. let p = w.within a v e in let m = most z in omega (arith, p.1, m))
+
+  -- a place with a word
+  has : (a v : ℕ) → linked_word lines a ≡ Some v → short_at (entry_store lines) a ≡ v
+  has a v e =
+      let p = w.within a v e in
+      let m = most z in
+      entry_word lines are a p.0 (omega (arith, p.1, m)) ∙ ap (λ o. unwrap_or o 0) e
+
+  free : (a : ℕ) → 44 ≤ a → a < 1024 → IsFreePlace lines a → short_at (entry_store lines) a ≡ 0
+  free a low high none = entry_word lines are a low high ∙ by_word (linked_word lines a) refl
+    where
+      by_word : (o : Option ℕ) → linked_word lines a ≡ o → unwrap_or o 0 ≡ 0
+      by_word None e = refl
+      by_word (Some v) e = let o = w.only a v e in absurd (none o.0 o.1 v o.2 o.3)
+
+  entry_has_words : EntryHasWords lines
+  entry_has_words = record {
+    lines_have = λ before l place word s p. has place word (w.stands before l place word s p);
+    parameters_have = λ before l place word s p last. has place word (w.sets before l place word s p last);
+    free_have = free;
+  }
+
+pub each_entry_has_words : EachEntryHasWords
+each_entry_has_words z source lines a = entry_has_words z lines (each_word_stands z lines a.faultless)
