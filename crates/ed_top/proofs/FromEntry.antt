@@ -14,6 +14,7 @@ use Rattle.ed_link.specs.Linked.{entry_of}
 use Rattle.ed_link.specs.Tapes.{cost, tape}
 use Rattle.ed_link.specs.declared.linked.Linked.{Linked}
 use Rattle.ed_loads.specs.EntryState.{Enters, entry_state, first_state}
+use Rattle.ed_loads.specs.EntryWords.{EntryHasWords}
 use Rattle.ed_loads.proofs.Entries.{enters as enters_of}
 use Rattle.ed_report.specs.Notes.{entered}
 use Rattle.ed_command.specs.declared.command.Settings.{Settings}
@@ -71,9 +72,11 @@ goes_on s k entered (Ok left) fits at is = λ lines linked.
     (sym (run_on s lines (enters_of s.size lines linked.loads) few)) went) in
     whole fits is
 
-pub runs_from_entry : (s : Settings) (lines : List Line) → Enters s.size lines → RunsFromEntry s lines
-runs_from_entry s lines enters = record {
+pub runs_from_entry : (s : Settings) (lines : List Line) → Enters s.size lines → EntryHasWords lines
+    → RunsFromEntry s lines
+runs_from_entry s lines enters has_words = record {
   enters = enters;
+  has_words = has_words;
   runs = λ fits.
       let from : RunEnd = ran (s.limit - cost lines) s.resumes paper_room (entry_state s.size lines) in
       let later : run_of s (tape lines) ≡ from = run_on s lines enters fits in

@@ -24,6 +24,7 @@ use Rattle.ed_link.specs.declared.linked.Linked.{Linked}
 use Rattle.ed_link.specs.declared.linked.Placed.{Placed}
 use Rattle.ed_loads.specs.EntryState.{entry_state, entry_store}
 use Rattle.ed_loads.proofs.Entries.{each_source}
+use Rattle.ed_loads.proofs.EntryWords.{each_entry_has_words}
 use Rattle.ed_report.specs.Listings.{listing}
 use Rattle.ed_report.specs.Notes.{ending_line, source_fault_line}
 use Rattle.ed_command.specs.declared.command.Window.{Window}
@@ -132,7 +133,8 @@ source_refused z accepted input (Err e) l = let some = some_outcome z accepted i
 -- ---- that it is run from its entry
 
 pub headline : Headline
-headline s source lines a = runs_from_entry s lines (each_source s.size source lines a)
+headline s source lines a =
+    runs_from_entry s lines (each_source s.size source lines a) (each_entry_has_words s.size source lines a)
 
 -- ---- the reply of a run
 

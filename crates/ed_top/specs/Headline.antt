@@ -7,6 +7,7 @@ use Rattle.ed_link.specs.Refusals.{IsAcceptedAs}
 use Rattle.ed_link.specs.Linked.{entry_of}
 use Rattle.ed_link.specs.Tapes.{cost, tape}
 use Rattle.ed_loads.specs.EntryState.{Enters, entry_state}
+use Rattle.ed_loads.specs.EntryWords.{EntryHasWords}
 use Rattle.ed_printer.specs.Paper.{paper}
 use Rattle.ed_report.specs.Notes.{entered}
 use Rattle.ed_command.specs.declared.command.Settings.{Settings}
@@ -15,11 +16,12 @@ use Rattle.ed_top.specs.Runs.{paper_room, post_mortem_codes, ran_outcome, run_of
 use Rattle.ed_top.specs.Sources.{run_outcome}
 
 -- the punched tape leads a cleared machine of the size to the state at the entry, at its cost and with nothing
--- printed; and what `run` answers, with a limit not below the cost, is the run from that state with the limit less
+-- printed; the store there has the words of the lines, each at its place; and what `run` answers, with a limit not below the cost, is the run from that state with the limit less
 -- the cost, and before its ending the entry and the cost; with a lower limit the run prints nothing. A post-mortem is
 -- in both cases that of the state in which the run ended
 pub record RunsFromEntry (s : Settings) (lines : List Line) : Type 0 where
   pub enters : Enters s.size lines
+  pub has_words : EntryHasWords lines
   pub runs : cost lines ≤ s.limit → run_outcome s lines
       ≡ ran_outcome (entered (entry_of lines) (cost lines))
       (with_post_mortem s.post_mortem (ran (s.limit - cost lines) s.resumes paper_room (entry_state s.size lines)))
