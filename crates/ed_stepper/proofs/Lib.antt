@@ -7,3 +7,4 @@ mod Divisions
 mod Plays
 pub mod CommandLaws
 pub mod ScriptLaws
+pub mod CommandExamples

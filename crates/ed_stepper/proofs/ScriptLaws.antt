@@ -197,7 +197,7 @@ pub never_both : (script : Text) (commands : List Command) (number : ℕ) → Is
 never_both script commands number s b =
     let good = (script_is_read script commands s).0 in let bad = bad_line_is_found script number b in cc
 
-one_bad_line : (script : Text) (number other : ℕ) → IsFirstBadLine script number → IsFirstBadLine script other
+pub one_bad_line : (script : Text) (number other : ℕ) → IsFirstBadLine script number → IsFirstBadLine script other
     → number ≡ other
 one_bad_line script number other a b =
     let first = bad_line_is_found script number a in let second = bad_line_is_found script other b in cc
