@@ -76,7 +76,8 @@ IsSound z s (Some (Enter name)) = ⊥
 IsSound z s st = Unit {0}
 
 -- where a `long` leaves the place
-pub long_spot : (s : Spot) (v : ℕ) → record s { place = s.place + length (long_words s.place v) } ≡ passed (Some (Long v)) s
+pub long_spot : (s : Spot) (v : ℕ)
+    → record s { place = s.place + length (long_words s.place v) } ≡ passed (Some (Long v)) s
 long_spot s v = λ i. record s { place = by_test (nat_eq (s.place % 2) 1) refl i }
   where
     by_test : (t : Bool) → nat_eq (s.place % 2) 1 ≡ t

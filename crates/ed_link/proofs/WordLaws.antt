@@ -240,7 +240,8 @@ module _ (homes : List Home) (s : Spot) where
       among_right (presets homes ts.items) (image homes ts.items (even_from s.place) (find r)) _ _
       (subst (λ x. Among x (even_from s.place + k)
       (get_or (routine_words homes ts.items (even_from s.place) (find r)) k 0))
-      (sym (routine_is ts.items (even_from s.place) (find r))) (laid_has (even_from s.place) (routine_words homes ts.items (even_from s.place) (find r)) k low))
+      (sym (routine_is ts.items (even_from s.place) (find r)))
+      (laid_has (even_from s.place) (routine_words homes ts.items (even_from s.place) (find r)) k low))
   own_placed (Some (Enter n)) k low = absurd (omega (arith, low))
   own_placed (Some (Rows codes)) k low = absurd (omega (arith, low))
 
@@ -270,7 +271,8 @@ of_a_line homes s (l ∷ lines) a w h =
     by_parts (among_split (placed_by_line homes s l.statement) (placed_from homes (passed l.statement s) lines) a w h)
     (λ g. of_a_line homes (passed l.statement s) lines a w g)
   where
-    by_parts : Among (placed_by_line homes s l.statement) a w ⊎ Among (placed_from homes (passed l.statement s) lines) a w
+    by_parts : Among (placed_by_line homes s l.statement) a w
+        ⊎ Among (placed_from homes (passed l.statement s) lines) a w
         → (Among (placed_from homes (passed l.statement s) lines) a w
         → OfALine homes (passed l.statement s) lines a w)
         → OfALine homes s (l ∷ lines) a w

@@ -1,5 +1,5 @@
--- What the words of a linked program are: those of its lines, each at its place, and the parameters that its `use` lines
--- set (this project's own rule).
+-- What the words of a linked program are: those of its lines, each at its place, and the parameters that its `use`
+-- lines set (this project's own rule).
 use Rattle.std.specs.Prelude.{◌≡◌, ◌⊎◌, ℕ, ◌+◌, ◌*◌, ◌<◌, ◌≤◌, List, [], length, map, reverse, slice_index}
 use Rattle.std.specs.Prelude.{Option, Some, None}
 use Rattle.std.specs.List.{Contains}

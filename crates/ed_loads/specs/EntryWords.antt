@@ -1,5 +1,5 @@
--- What stands in the store at the entry of a source, from location 44 on: the words of its lines, each at its place, the
--- parameters that its `use` lines set, and 0 in every other location (this project's own rule).
+-- What stands in the store at the entry of a source, from location 44 on: the words of its lines, each at its place,
+-- the parameters that its `use` lines set, and 0 in every other location (this project's own rule).
 use Rattle.std.specs.Prelude.{◌≡◌, ◌⊎◌, ℕ, ◌<◌, ◌≤◌, List}
 use Rattle.ed_words.specs.declared.size.Size.{Size}
 use Rattle.ed_store.specs.Cells.{short_at}

@@ -76,11 +76,12 @@ homes_snoc s (e ∷ b) l = ap (λ x. defined e s ++ x) (homes_snoc (passed e.sta
 
 module _ (lines : List Line) where
   abbrev ask_names : List Line → Line → Option SourceCause
-  ask_names b l = naming_cause (homes_from first_spot lines) (defines_again (homes_from first_spot b) l (spot_after b)) l
-      (spot_after b)
+  ask_names b l = naming_cause (homes_from first_spot lines)
+      (defines_again (homes_from first_spot b) l (spot_after b)) l (spot_after b)
 
   names_pass : (b rest : List Line)
-      → naming_fault_from (homes_from first_spot lines) (homes_from first_spot b) (spot_after b) rest ≡ first ask_names b rest
+      → naming_fault_from (homes_from first_spot lines) (homes_from first_spot b) (spot_after b) rest
+      ≡ first ask_names b rest
   names_pass b [] = refl
   names_pass b (l ∷ rest) = ap (λ f. or_later l.number (ask_names b l) f)
       (ap (λ h. naming_fault_from (homes_from first_spot lines) h (passed l.statement (spot_after b)) rest)

@@ -138,7 +138,8 @@ module _ (lines before : List Line) (l : Line) where
       (operand_tests (is_unknown (homes_from first_spot lines) here) l.statement
       (h.0, h.1, lacks_tests (homes_from first_spot lines) here h.0 (h.2, h.3, h.4)))
   unknown_of (inr h) = or_right (any_operand (is_unknown (homes_from first_spot lines) here) l.statement)
-      (enters_unknown (homes_from first_spot lines) l.statement) (nowhere_tests (homes_from first_spot lines) l.statement h)
+      (enters_unknown (homes_from first_spot lines) l.statement)
+      (nowhere_tests (homes_from first_spot lines) l.statement h)
 
   pub s7 : Ties (names_unknown (homes_from first_spot lines) l (spot_after before)) (NamesUnknown lines before l)
   s7 = record {

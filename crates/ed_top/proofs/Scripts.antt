@@ -30,7 +30,8 @@ use Rattle.ed_top.specs.declared.reply.Reply.{Reply}
 use Rattle.ed_top.proofs.Sources.{as_input}
 
 -- a tape's text that is refused
-pub text_refused : (s : Settings) (commands : CommandList) (r : Reading) (reply : Result Reply NoMemory) → RefusesText r reply
+pub text_refused : (s : Settings) (commands : CommandList) (r : Reading) (reply : Result Reply NoMemory)
+    → RefusesText r reply
     → Replies (of_made (λ o. on_reading s commands r ≡ o)) [] reply
 text_refused s commands (rows codes) (Ok reply) w = absurd w
 text_refused s commands (no_row place byte) (Ok reply) w = (_, refl, w)
@@ -89,17 +90,20 @@ never_refused script from t fault line good ends fault_is =
     never_both script good.0 line good.1 bad.0
 
 -- a tape's text that is read
-pub tape_replied : (s : Settings) (commands : CommandList) (r : Reading) (codes : List ℕ) (reply : Result Reply NoMemory)
+pub tape_replied : (s : Settings) (commands : CommandList) (r : Reading) (codes : List ℕ)
+    (reply : Result Reply NoMemory)
     → r ≡ rows codes → IfOk reply (λ reply. Gives reply (on_rows s commands codes))
     → Replies (of_made (λ o. on_reading s commands r ≡ o)) [] reply
 tape_replied s commands r codes (Ok reply) is gives = (on_rows s commands codes, ap (on_reading s commands) is, gives)
 tape_replied s commands r codes (Err e) is gives = (on_rows s commands codes, ap (on_reading s commands) is, tt)
 
 -- a tape that is punched
-pub punched_given : (s : Settings) (commands : CommandList) (k : Linked) (codes : List ℕ) (reply : Result Reply NoMemory)
+pub punched_given : (s : Settings) (commands : CommandList) (k : Linked) (codes : List ℕ)
+    (reply : Result Reply NoMemory)
     → codes ≡ spelled (canonicals k.items.items) ++ k.after.items
     → IfOk reply (λ reply. Gives reply (on_rows s commands codes))
-    → IfOk reply (λ reply. (lines : List Line) → IsLinked s.size lines k → Gives reply (on_rows s commands (tape lines)))
+    → IfOk reply (λ reply. (lines : List Line) → IsLinked s.size lines k
+    → Gives reply (on_rows s commands (tape lines)))
 punched_given s commands k codes (Err e) is gives = gives
 punched_given s commands k codes (Ok reply) is gives =
     λ lines linked. subst (λ x. Gives reply (on_rows s commands x))

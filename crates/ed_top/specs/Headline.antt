@@ -16,9 +16,10 @@ use Rattle.ed_top.specs.Runs.{paper_room, post_mortem_codes, ran_outcome, run_of
 use Rattle.ed_top.specs.Sources.{run_outcome}
 
 -- the punched tape leads a cleared machine of the size to the state at the entry, at its cost and with nothing
--- printed; the store there has the words of the lines, each at its place; and what `run` answers, with a limit not below the cost, is the run from that state with the limit less
--- the cost, and before its ending the entry and the cost; with a lower limit the run prints nothing. A post-mortem is
--- in both cases that of the state in which the run ended
+-- printed; the store there has the words of the lines, each at its place; and what `run` answers, with a limit not
+-- below the cost, is the run from that state with the limit less the cost, and before its ending the entry and the
+-- cost; with a lower limit the run prints nothing. A post-mortem is in both cases that of the state in which the run
+-- ended
 pub record RunsFromEntry (s : Settings) (lines : List Line) : Type 0 where
   pub enters : Enters s.size lines
   pub has_words : EntryHasWords lines
