@@ -18,7 +18,8 @@ by_hand = record {
   parts = codes "go" ∷ codes "07" ∷ [];
   has_parts = one_space _ _ (one_space _ _ (one_part 103 (111 ∷ []) _ _ refl refl (one_space _ _
       (one_part 48 (55 ∷ []) _ _ refl refl (one_space _ _ no_part)))));
-  says = go (codes "07") (record { some = lit≤ tt; few = lit≤ tt; digits = refl; at_least = lit≤ tt; at_most = lit≤ tt });
+  says = go (codes "07")
+      (record { some = lit≤ tt; few = lit≤ tt; digits = refl; at_least = lit≤ tt; at_most = lit≤ tt });
 }
 
 -- a line of spaces does nothing
@@ -36,7 +37,8 @@ accumulator = read_line_says _ _ refl
 
 only_bad : (script : Text) (k : ℕ) → bad_line script ≡ Some k → (r : Option ℕ) → HasBadLine script r → r ≡ Some k
 only_bad script k e None h = absurd (never_both script h.0 k h.1 (bad_line_is script (Some k) e))
-only_bad script k e (Some n) h = let same = one_bad_line script n k h (bad_line_is script (Some k) e) in λ i. Some (same i)
+only_bad script k e (Some n) h =
+    let same = one_bad_line script n k h (bad_line_is script (Some k) e) in λ i. Some (same i)
 
 only_good : (script : Text) → bad_line script ≡ None → (r : Option ℕ) → HasBadLine script r → r ≡ None
 only_good script e None h = refl

@@ -109,7 +109,8 @@ commands_are _ _ (and_more line lines c cs s says) =
 
 -- what is found in a script
 pub bad_line_is : (script : Text) (o : Option ℕ) → bad_line script ≡ o → HasBadLine script o
-bad_line_is script o e = is_found o (subst (IsAnswerFrom 1 (lines_of script)) e (lines_answer 1 (lines_of script) (omega arith)))
+bad_line_is script o e =
+    is_found o (subst (IsAnswerFrom 1 (lines_of script)) e (lines_answer 1 (lines_of script) (omega arith)))
   where
     is_found : (o : Option ℕ) → IsAnswerFrom 1 (lines_of script) o → HasBadLine script o
     is_found None a =
@@ -157,7 +158,8 @@ found_here number line after (no_command le none) = by_option (session_command l
         → (if (number == 1001) || is_none o then Some number else bad_from (number + 1) after) ≡ Some number
     by_option None e = rw low refl
     by_option (Some c) e = absurd (none c (read_line_says line c e))
-found_here number line after (too_many_lines e) = let is : (number == 1001) ≡ true = grind (arith, nat_tests) in rw is refl
+found_here number line after (too_many_lines e) =
+    let is : (number == 1001) ≡ true = grind (arith, nat_tests) in rw is refl
 
 pub bad_line_is_found : (script : Text) (number : ℕ) → IsFirstBadLine script number → bad_line script ≡ Some number
 bad_line_is_found script number b =
