@@ -1,8 +1,11 @@
 -- Where orders lead that neither stop the machine nor are blocked: what a path says of the machine.
-use Rattle.std.proofs.Common.{◌≡◌, ℕ, zero, suc, ◌<◌, refl, sym, arith, Bool, true, false, true≢false, List}
+use Rattle.std.proofs.Common.{◌≡◌, ◌∙◌, inl, inr, ℕ, zero, suc, ◌+◌, ◌-◌, ◌<◌, refl, sym, ap, arith}
+use Rattle.std.proofs.Common.{Bool, true, false, true≢false, List, ◌++◌}
+use Rattle.std.proofs.lemmas.Bool.{cases_lt}
 use Rattle.ed_machine.specs.State.{State}
 use Rattle.ed_machine.specs.OrderTable.{step}
-use Rattle.ed_machine.specs.Steps.{IsFree, past, state_after, stops_of, is_obeyed}
+use Rattle.ed_machine.specs.Steps.{IsFree, Past, past, state_after, stops_of, is_obeyed}
+use Rattle.ed_machine.proofs.Steps.{past_sum, after_sum}
 use Rattle.ed_machine.specs.declared.turn.Turn.{Turn}
 use Rattle.ed_machine.specs.declared.turn.Turn.TheVariants.{Went, Printed, Stopped, NoOrder, NoTape}
 
@@ -46,3 +49,25 @@ no_stops (suc k) s goes =
     let before = no_stops k s (λ j l. goes j (omega arith)) in
     let here = no_stop (step (state_after k s)).turn (goes k (omega arith)) in
     omega (arith, before, here)
+
+-- such orders behind others
+pub joined : {a b : ℕ} {s t u : State} {cs ds : List ℕ} → Leads a s cs t → Leads b t ds u → Leads (a + b) s (cs ++ ds) u
+joined {a} {b} {s} {t} {u} {cs} {ds} first second = record {
+  state_is = after_sum a b s ∙ ap (state_after b) first.state_is ∙ second.state_is;
+  codes_are = ap (λ (p : Past). p.codes) (past_sum a b s)
+      ∙ (λ i. first.codes_are i ++ (past b (first.state_is i)).codes)
+      ∙ ap (λ x. cs ++ x) second.codes_are;
+  goes = goes;
+}
+  where
+    goes : (j : ℕ) → j < a + b → goes_on (step (state_after j s)).turn ≡ true
+    goes j l =
+        elim (cases_lt j a) [
+          | inl below ↦ first.goes j below
+          | inr behind ↦
+              let e : j ≡ a + (j - a) = omega arith in
+              ap (λ x. goes_on (step (state_after x s)).turn) e
+              ∙ ap (λ (x : State). goes_on (step x).turn)
+              (after_sum a (j - a) s ∙ ap (state_after (j - a)) first.state_is)
+              ∙ second.goes (j - a) (omega arith)
+        ]

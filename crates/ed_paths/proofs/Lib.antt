@@ -7,6 +7,7 @@ pub mod Shifts
 pub mod Moves
 pub mod Leads
 pub mod Paths
+pub mod Loops
 pub mod Standing
 pub mod Zeros
 pub mod Newline

@@ -1,14 +1,13 @@
 -- The source of `examples/add.edsac` from its entry to its stop, for any two numbers.
 use Rattle.std.proofs.Common.{◌≡◌, ℕ, ◌+◌, ◌*◌, ◌<◌, refl, subst, sym, arith, true, inr, lit≤}
-use Rattle.std.proofs.Common.{List, [], ◌∷◌, Option, Some, None, append-nil, length, map}
+use Rattle.std.proofs.Common.{List, [], ◌∷◌, Option, Some, append-nil, length, map}
 use Rattle.ed_words.proofs.SizeLemmas.{least}
-use Rattle.ed_words.specs.Sizes.{locations}
 use Rattle.ed_words.specs.declared.size.Size.{Size}
 use Rattle.ed_machine.specs.State.{State}
 use Rattle.ed_library.specs.Images.{parameter_store}
 use Rattle.ed_syntax.specs.declared.program.Line.{Line}
 use Rattle.ed_loads.specs.EntryState.{entry_state}
-use Rattle.ed_paths.proofs.Frames.{Frame, state}
+use Rattle.ed_paths.proofs.Frames.{state}
 use Rattle.ed_paths.proofs.Standing.{opens}
 use Rattle.ed_paths.proofs.Window.{patched}
 use Rattle.ed_routines.specs.Catalogue.{print, read, with_h}
@@ -17,8 +16,8 @@ use Rattle.ed_sources.proofs.AtEntry.{all_words, has_image, placed}
 use Rattle.ed_programs.proofs.AddProgram.{Given, add_stops, at, cells}
 use Rattle.ed_programs.proofs.AddSaid.{add_lines}
 use Rattle.ed_programs.proofs.DataLines.{number_rows}
-use Rattle.ed_programs.proofs.Entries.{moment_at, frame_at, routine_at, stands_at}
-use Rattle.ed_programs.proofs.Journeys.{ComesToStop}
+use Rattle.ed_sources.proofs.Entries.{moment_at, frame_at, routine_at, stands_at}
+use Rattle.ed_routines.proofs.Journeys.{ComesToStop}
 
 abbrev image : List (Option ℕ)
 image = map (λ x. Some x) (cells 56 70 94 0 0)

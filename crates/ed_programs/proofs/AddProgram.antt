@@ -1,6 +1,6 @@
 -- The program of `examples/add.edsac`, at any base and for all its numbers.
-use Rattle.std.proofs.Common.{◌≡◌, ℕ, ◌+◌, ◌*◌, ◌%◌, ◌<◌, ◌≤◌, refl, subst, arith, lit<, lit≤, inr}
-use Rattle.std.proofs.Common.{List, [], ◌∷◌, ◌++◌, Option, Some, length}
+use Rattle.std.proofs.Common.{◌≡◌, ℕ, ◌+◌, ◌*◌, ◌<◌, ◌≤◌, refl, subst, arith, lit<, lit≤, inr}
+use Rattle.std.proofs.Common.{List, [], ◌∷◌, length}
 use Rattle.ed_words.proofs.SizeLemmas.{most}
 use Rattle.ed_paths.proofs.Frames.{Frame, Moment, short, state}
 use Rattle.ed_paths.proofs.Places.{own}
@@ -9,10 +9,10 @@ use Rattle.ed_paths.proofs.Paths.{Path, stay, on}
 use Rattle.ed_paths.proofs.Window.{get_own}
 use Rattle.ed_routines.specs.Catalogue.{print, read, with_h}
 use Rattle.ed_routines.specs.Digits.{digits, print_orders}
-use Rattle.ed_programs.proofs.Changes.{HasRead, after_change, reads_number}
+use Rattle.ed_programs.proofs.Changes.{HasRead, reads_number}
 use Rattle.ed_programs.proofs.DataLines.{number_rows}
-use Rattle.ed_programs.proofs.Journeys.{ComesToStop, HasRoutine, IsIn, along, elsewhere, no_working, then, to_stop}
-use Rattle.ed_programs.proofs.Lines.{number_at, print_line}
+use Rattle.ed_routines.proofs.Journeys.{ComesToStop, HasRoutine, IsIn, along, elsewhere, no_working, then, to_stop}
+use Rattle.ed_routines.proofs.Lines.{print_line}
 
 -- its words at b, where `read` and `print` stand at r and p, with the two cells that change
 abbrev pub cells : ℕ → ℕ → ℕ → ℕ → ℕ → List ℕ

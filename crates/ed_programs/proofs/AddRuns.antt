@@ -1,5 +1,5 @@
 -- What the source of `examples/add.edsac` prints, for any two numbers.
-use Rattle.std.proofs.Common.{◌≡◌, ℕ, ◌+◌, ◌*◌, ◌<◌, ◌≤◌, true, false, List, [], ◌∷◌, refl, subst, arith, length, lit≤}
+use Rattle.std.proofs.Common.{◌≡◌, ℕ, ◌+◌, ◌*◌, ◌<◌, true, false, List, [], ◌∷◌, refl, subst, arith, length, lit≤}
 use Rattle.ed_words.proofs.Numbers.{le_true, lt_true}
 use Rattle.ed_words.specs.Texts.{Text}
 use Rattle.ed_routines.specs.Digits.{digits, print_orders}

@@ -8,7 +8,7 @@ use Rattle.ed_words.proofs.SizeLemmas.{most}
 use Rattle.ed_machine.specs.State.{State}
 use Rattle.ed_library.specs.Routines.{is_working, place_count}
 use Rattle.ed_paths.proofs.Frames.{Frame, Moment, all_digits, all_words, state, short}
-use Rattle.ed_paths.proofs.Leads.{Leads}
+use Rattle.ed_paths.proofs.Leads.{Leads, joined}
 use Rattle.ed_paths.proofs.Moves.{A, G_jumps, Reads, Jumps}
 use Rattle.ed_paths.proofs.Paths.{Path, leads, on, stay}
 use Rattle.ed_paths.proofs.Places.{any, own}
@@ -22,8 +22,7 @@ use Rattle.ed_routines.specs.Returns.{IsOther}
 use Rattle.ed_routines.specs.Standing.{Stands, caller}
 use Rattle.ed_routines.proofs.Called.{IsCalled, called as routine_called}
 use Rattle.ed_routines.proofs.ReadCall as read_call
-use Rattle.ed_sources.proofs.Stops.{joined}
-use Rattle.ed_programs.proofs.Journeys.{HasRoutine, IsIn, Journey, all_long, beside_word, called, caller_is, stands}
+use Rattle.ed_routines.proofs.Journeys.{HasRoutine, IsIn, Journey, all_long, beside_word, called, caller_is, stands}
 
 module _ {n h : ℕ} {f : Frame n h} {r : Moment} (o : IsIn f r) where
   -- the moment after such a call: the words of the store and its digits, the piece's own words, the rows left and the

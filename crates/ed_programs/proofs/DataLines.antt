@@ -1,7 +1,7 @@
 -- A line `data` with numbers, each ended by F: what it says, and what its rows are.
-use Rattle.std.proofs.Common.{◌≡◌, ◌∙◌, ℕ, zero, suc, ◌+◌, ◌*◌, ◌<◌, ◌≤◌, Bool, true, false, List, [], ◌∷◌, ◌++◌, ap, refl, subst, arith}
+use Rattle.std.proofs.Common.{◌≡◌, ◌∙◌, ℕ, zero, suc, ◌*◌, ◌<◌, ◌≤◌, Bool, true, false, List, [], ◌∷◌, ◌++◌, ap, refl, subst, arith}
 use Rattle.std.proofs.Common.{append_assoc, codes, Fits, get_or, length, length-append, map, nat_lt, slice_index_or, w16}
-use Rattle.std.specs.Prelude.{◌==◌, ◌&&◌, not, Some, None, Ok}
+use Rattle.std.specs.Prelude.{◌==◌, not, Some, None, Ok}
 use Rattle.std.specs.Fmt.{decimal}
 use Rattle.std.specs.List.{list_all}
 use Rattle.std.proofs.lemmas.Bool.{and_parts, not-true}

@@ -1,5 +1,5 @@
 -- What the source of `examples/difference.edsac` prints, for any two numbers.
-use Rattle.std.proofs.Common.{◌≡◌, ℕ, ◌+◌, ◌-◌, ◌*◌, ◌<◌, ◌≤◌, true, false, List, [], ◌∷◌, refl, subst, arith, length, lit≤, nat_lt}
+use Rattle.std.proofs.Common.{◌≡◌, ℕ, ◌+◌, ◌*◌, ◌<◌, true, List, [], ◌∷◌, refl, subst, arith, length, lit≤, nat_lt}
 use Rattle.std.specs.Prelude.{if◌then◌else◌}
 use Rattle.ed_words.proofs.Numbers.{le_true, lt_true}
 use Rattle.ed_words.specs.Texts.{Text}

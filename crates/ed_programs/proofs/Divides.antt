@@ -1,6 +1,6 @@
 -- A call of `divide` as one line: the three words are cells of the piece, and it writes two of them.
-use Rattle.std.proofs.Common.{◌≡◌, ◌≢◌, ◌⊎◌, inl, inr, ℕ, ◌+◌, ◌-◌, ◌*◌, ◌/◌, ◌%◌, ◌<◌, ◌≤◌, Bool, false, refl, sym, ap, ◌∙◌, subst, arith}
-use Rattle.std.proofs.Common.{List, [], ◌∷◌, get_or, length, set, lit<}
+use Rattle.std.proofs.Common.{◌≡◌, ◌≢◌, ◌⊎◌, inl, inr, ℕ, ◌+◌, ◌*◌, ◌/◌, ◌%◌, ◌<◌, ◌≤◌, Bool, false, refl, sym, ap, ◌∙◌, subst, arith}
+use Rattle.std.proofs.Common.{List, [], get_or, length, set, lit<}
 use Rattle.std.proofs.lemmas.Bool.{cases_lt}
 use Rattle.std.proofs.lemmas.List.{get_or-set_same, get_or-set_other, length-set}
 use Rattle.ed_words.specs.Sizes.{locations}
@@ -8,17 +8,17 @@ use Rattle.ed_words.proofs.SizeLemmas.{most}
 use Rattle.ed_store.specs.Cells.{short_at}
 use Rattle.ed_machine.specs.State.{State}
 use Rattle.ed_library.specs.Routines.{is_working, place_count}
-use Rattle.ed_paths.proofs.Frames.{Frame, Moment, all_digits, all_words, short, state}
+use Rattle.ed_paths.proofs.Frames.{Frame, Moment, all_words, short, state}
 use Rattle.ed_paths.proofs.Moves.{Jumps, Reads}
 use Rattle.ed_paths.proofs.Places.{any, own}
 use Rattle.ed_paths.proofs.Window.{get_own, length_patched}
 use Rattle.ed_routines.specs.Returns.{IsOther}
-use Rattle.ed_routines.specs.Standing.{IsOutside, Stands, caller}
+use Rattle.ed_routines.specs.Standing.{IsOutside, Stands}
 use Rattle.ed_routines.proofs.Called.{within_size}
 use Rattle.ed_maths.specs.Quotients.{divide, divide_orders, dividend, with_hnm}
 use Rattle.ed_maths.proofs.DivideCall as divide_call
-use Rattle.ed_programs.proofs.Changes.{Leaves, after_change, changes}
-use Rattle.ed_programs.proofs.Journeys.{HasRoutine, IsIn, Journey, all_long, beside_word, called, stands}
+use Rattle.ed_programs.proofs.Changes.{after_change, changes}
+use Rattle.ed_routines.proofs.Journeys.{HasRoutine, IsIn, Journey, all_long, beside_word, called, stands}
 
 -- the words of the division: cells jh, jl and jy of a piece of n, with the numbers in them; and the store's digits
 pub record IsDivided (n : ℕ) (r : Moment) (jh jl jy high low by : ℕ) : Type 0 where

@@ -1,6 +1,6 @@
 -- The source of `examples/fraction.edsac` from its entry to its stop, for any numbers.
-use Rattle.std.proofs.Common.{◌≡◌, inr, ℕ, ◌+◌, ◌*◌, ◌/◌, ◌<◌, ◌≤◌, refl, sym, subst, arith, Bool, true, false, lit≤}
-use Rattle.std.proofs.Common.{List, [], ◌∷◌, ◌++◌, Option, Some, append-nil, length, map}
+use Rattle.std.proofs.Common.{◌≡◌, inr, ℕ, ◌+◌, ◌*◌, ◌/◌, ◌<◌, ◌≤◌, refl, subst, arith, Bool, true, false, lit≤}
+use Rattle.std.proofs.Common.{List, ◌∷◌, ◌++◌, Option, Some, append-nil, length, map}
 use Rattle.std.proofs.lemmas.List.{length-replicate}
 use Rattle.ed_words.proofs.SizeLemmas.{least}
 use Rattle.ed_words.specs.declared.size.Size.{Size}
@@ -17,11 +17,11 @@ use Rattle.ed_maths.specs.Quotients.{divide, divide_orders, with_hnm}
 use Rattle.ed_sources.proofs.AtEntry.{all_words, has_image, placed}
 use Rattle.ed_programs.specs.Fraction.{figure_orders}
 use Rattle.ed_programs.proofs.DataLines.{number_rows}
-use Rattle.ed_programs.proofs.Entries.{frame_at, moment_at, routine_at, stands_at}
+use Rattle.ed_sources.proofs.Entries.{frame_at, moment_at, routine_at, stands_at}
 use Rattle.ed_programs.proofs.FractionProgram.{Given, IsAround, Work, at, cells}
 use Rattle.ed_programs.proofs.FractionSaid.{fraction_lines, three}
 use Rattle.ed_programs.proofs.FractionWhole.{figure_codes, fraction_stops}
-use Rattle.ed_programs.proofs.Journeys.{ComesToStop}
+use Rattle.ed_routines.proofs.Journeys.{ComesToStop}
 
 abbrev work : Work
 work = record { number = 0; low = 0; rest = 0; divisor = 0; scrap = 0 }

@@ -1,21 +1,21 @@
 -- The program of `examples/fraction.edsac`, at any base and for all its numbers: division as on paper.
-use Rattle.std.proofs.Common.{◌≡◌, ◌∙◌, inl, inr, ℕ, zero, suc, ◌+◌, ◌-◌, ◌*◌, ◌/◌, ◌%◌, ◌<◌, ◌≤◌, refl, sym, ap, subst, arith, lit<, lit≤}
-use Rattle.std.proofs.Common.{List, [], ◌∷◌, ◌++◌, Some, append-nil, get_or, length}
+use Rattle.std.proofs.Common.{◌≡◌, ◌∙◌, inl, inr, ℕ, suc, ◌+◌, ◌*◌, ◌/◌, ◌%◌, ◌<◌, ◌≤◌, refl, subst, arith, lit<, lit≤}
+use Rattle.std.proofs.Common.{List, [], ◌∷◌, ◌++◌, Some, append-nil, length}
 use Rattle.ed_words.proofs.SizeLemmas.{most}
-use Rattle.ed_paths.proofs.Frames.{Frame, Moment, short, state}
+use Rattle.ed_paths.proofs.Frames.{Frame, Moment, short}
 use Rattle.ed_paths.proofs.Places.{own}
-use Rattle.ed_paths.proofs.Moves.{A, S, T, U, L, O, E_jumps, G_jumps, G_stays, Z}
+use Rattle.ed_paths.proofs.Moves.{A, S, T, U, L, E_jumps, G_stays}
 use Rattle.ed_paths.proofs.Shifts.{LD, L1F}
-use Rattle.ed_paths.proofs.Paths.{Path, stay, on, prints}
+use Rattle.ed_paths.proofs.Paths.{Path, stay, on}
 use Rattle.ed_paths.proofs.Window.{get_own}
 use Rattle.ed_routines.specs.Catalogue.{print, read, with_h}
 use Rattle.ed_routines.specs.Digits.{digits, print_orders}
 use Rattle.ed_maths.specs.Quotients.{divide, divide_orders, with_hnm}
-use Rattle.ed_programs.proofs.Changes.{HasRead, reads_number}
+use Rattle.ed_programs.proofs.Changes.{HasRead}
 use Rattle.ed_programs.proofs.Divides.{HasDivided, IsDivided, divide_line}
-use Rattle.ed_programs.proofs.Journeys.{ComesToStop, HasRoutine, IsIn, Journey, after_call, along, elsewhere, has_after, no_working}
-use Rattle.ed_programs.proofs.Journeys.{still_in, then, to_stop}
-use Rattle.ed_programs.proofs.Lines.{number_at, print_goes, print_left, print_line}
+use Rattle.ed_routines.proofs.Journeys.{HasRoutine, IsIn, Journey, after_call, along, elsewhere, has_after, no_working}
+use Rattle.ed_routines.proofs.Journeys.{still_in, then}
+use Rattle.ed_routines.proofs.Lines.{number_at, print_goes, print_left, print_line}
 
 -- the cells that change
 pub record Work : Type 0 where

@@ -1,5 +1,5 @@
 -- What the source of `examples/fraction.edsac` prints, for any fraction in range.
-use Rattle.std.proofs.Common.{◌≡◌, ℕ, ◌+◌, ◌*◌, ◌/◌, ◌<◌, ◌≤◌, true, List, [], ◌∷◌, ◌++◌, refl, subst, arith, length, length-append, lit≤}
+use Rattle.std.proofs.Common.{◌≡◌, ℕ, ◌+◌, ◌*◌, ◌/◌, ◌<◌, ◌≤◌, true, ◌∷◌, ◌++◌, refl, subst, arith, length, length-append, lit≤}
 use Rattle.ed_words.proofs.Numbers.{le_true, lt_true}
 use Rattle.ed_words.specs.Texts.{Text}
 use Rattle.ed_printer.specs.Paper.{paper}

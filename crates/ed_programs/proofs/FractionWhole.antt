@@ -1,9 +1,8 @@
 -- The program of `examples/fraction.edsac` from its entry to its stop, and the figures that it prints.
-use Rattle.std.proofs.Common.{◌≡◌, ◌∙◌, inr, ℕ, zero, suc, ◌+◌, ◌*◌, ◌/◌, ◌%◌, ◌^◌, ◌<◌, ◌≤◌, refl, sym, ap, subst, arith, lit<, lit≤}
+use Rattle.std.proofs.Common.{◌≡◌, ◌∙◌, ℕ, zero, suc, ◌+◌, ◌*◌, ◌/◌, ◌%◌, ◌^◌, ◌<◌, ◌≤◌, refl, sym, ap, subst, arith, lit<, lit≤}
 use Rattle.std.proofs.Common.{List, [], ◌∷◌, ◌++◌, Some, append-nil, append_assoc, length, length-append}
 use Rattle.std.proofs.Math.Nat.{add-mul-div_left, add-mul-mod_self_left, div-add-mod, div-lt_iff_lt-mul, mod-lt, mul_assoc, pow-succ'}
 use Rattle.std.specs.Fmt.{decimal}
-use Rattle.ed_words.proofs.SizeLemmas.{most}
 use Rattle.ed_words.specs.Texts.{Text}
 use Rattle.ed_paths.proofs.Frames.{Moment, short, state}
 use Rattle.ed_paths.proofs.Places.{own}
@@ -20,8 +19,8 @@ use Rattle.ed_programs.proofs.Changes.{HasRead, reads_number}
 use Rattle.ed_programs.proofs.DataLines.{number_rows}
 use Rattle.ed_programs.proofs.Divides.{HasDivided, IsDivided, divide_line}
 use Rattle.ed_programs.proofs.FractionProgram.{Given, IsAround, Turned, Work, after_divide, after_print, after_read, at, in_at, number_is, printed_words, turn}
-use Rattle.ed_programs.proofs.Journeys.{ComesToStop, Journey, along, stop_after, then, to_stop}
-use Rattle.ed_programs.proofs.Lines.{print_line}
+use Rattle.ed_routines.proofs.Journeys.{ComesToStop, Journey, along, stop_after, then, to_stop}
+use Rattle.ed_routines.proofs.Lines.{print_line}
 
 -- ---- division as on paper: the figure and what is left, by those of the place before
 

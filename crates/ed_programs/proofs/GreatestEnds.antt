@@ -1,6 +1,6 @@
 -- The source of `examples/answer6.edsac` from its entry to its stop, for any eight numbers.
-use Rattle.std.proofs.Common.{◌≡◌, inr, ℕ, ◌+◌, ◌*◌, ◌<◌, refl, subst, arith, true, lit<, lit≤}
-use Rattle.std.proofs.Common.{List, [], ◌∷◌, Option, Some, get_or, length, map}
+use Rattle.std.proofs.Common.{◌≡◌, inr, ℕ, ◌+◌, ◌*◌, refl, subst, arith, true, lit<, lit≤}
+use Rattle.std.proofs.Common.{List, ◌∷◌, Option, Some, map}
 use Rattle.ed_words.proofs.SizeLemmas.{least}
 use Rattle.ed_words.specs.declared.size.Size.{Size}
 use Rattle.ed_machine.specs.State.{State}
@@ -15,10 +15,10 @@ use Rattle.ed_routines.specs.Digits.{digits, print_orders}
 use Rattle.ed_sources.proofs.AtEntry.{all_words, has_image, placed, word_at}
 use Rattle.ed_programs.specs.Greatest.{greatest_of, rises}
 use Rattle.ed_programs.proofs.DataLines.{are_small, small_at}
-use Rattle.ed_programs.proofs.Entries.{frame_at, moment_at, routine_at, stands_at}
-use Rattle.ed_programs.proofs.GreatestProgram.{Fine, Given, Stand, Turning, before, cells, getting, greatest_stops}
+use Rattle.ed_sources.proofs.Entries.{frame_at, moment_at, routine_at, stands_at}
+use Rattle.ed_programs.proofs.GreatestProgram.{Given, Stand, Turning, before, cells, getting, greatest_stops}
 use Rattle.ed_programs.proofs.GreatestSaid.{greatest_lines, numbers}
-use Rattle.ed_programs.proofs.Journeys.{ComesToStop}
+use Rattle.ed_routines.proofs.Journeys.{ComesToStop}
 
 abbrev image : List (Option ℕ)
 image = map (λ x. Some x) (cells 56 87 88 (getting 79) (getting 79) 0 0)

@@ -1,6 +1,6 @@
 -- The program of `examples/answer6.edsac`, at any base and for a list of any length: two orders go along the list.
-use Rattle.std.proofs.Common.{◌≡◌, ◌∙◌, inr, ℕ, ◌+◌, ◌-◌, ◌*◌, ◌%◌, ◌<◌, ◌≤◌, Bool, true, false, max, refl, ap, subst, arith, lit<, lit≤}
-use Rattle.std.proofs.Common.{List, [], ◌∷◌, ◌++◌, get_or, length, nat_lt}
+use Rattle.std.proofs.Common.{◌≡◌, ◌∙◌, inr, ℕ, ◌+◌, ◌-◌, ◌*◌, ◌<◌, ◌≤◌, Bool, true, false, max, refl, ap, subst, arith, lit<, lit≤}
+use Rattle.std.proofs.Common.{List, [], ◌∷◌, get_or, length, nat_lt}
 use Rattle.std.specs.Prelude.{if◌then◌else◌}
 use Rattle.ed_words.proofs.Numbers.{lt_of, not_lt_of}
 use Rattle.ed_words.proofs.SizeLemmas.{most}
@@ -12,9 +12,9 @@ use Rattle.ed_paths.proofs.Window.{get_own}
 use Rattle.ed_routines.specs.Catalogue.{print, with_h}
 use Rattle.ed_routines.specs.Digits.{digits, print_orders}
 use Rattle.ed_programs.specs.Greatest.{greatest_of, rises}
-use Rattle.ed_programs.proofs.Journeys.{ComesToStop, HasRoutine, IsIn, along, then, to_stop}
-use Rattle.ed_programs.proofs.Lines.{number_at, print_line}
-use Rattle.ed_programs.proofs.Loops.{all_spent, quiet_walks, walked}
+use Rattle.ed_routines.proofs.Journeys.{ComesToStop, HasRoutine, IsIn, along, then, to_stop}
+use Rattle.ed_routines.proofs.Lines.{print_line}
+use Rattle.ed_paths.proofs.Loops.{all_spent, quiet_walks, walked}
 
 -- the order that gets what stands at q
 abbrev pub getting : ℕ → ℕ

@@ -1,5 +1,5 @@
 -- What the source of `examples/answer6.edsac` prints, for any list of eight numbers.
-use Rattle.std.proofs.Common.{◌≡◌, ℕ, ◌+◌, ◌*◌, ◌<◌, ◌≤◌, true, List, [], ◌∷◌, codes, refl, subst, arith, length, lit<, lit≤, max, nat_lt}
+use Rattle.std.proofs.Common.{◌≡◌, ℕ, ◌+◌, ◌*◌, ◌<◌, true, List, [], ◌∷◌, codes, refl, subst, arith, length, lit<, lit≤, nat_lt}
 use Rattle.std.proofs.lemmas.Bool.{and_parts}
 use Rattle.ed_words.proofs.Numbers.{lt_of}
 use Rattle.ed_words.specs.Texts.{Text}

@@ -1,5 +1,5 @@
 -- What the lines of the source of `examples/answer6.edsac` say, for any eight numbers, and that they have no fault.
-use Rattle.std.proofs.Common.{◌≡◌, ℕ, ◌<◌, true, List, [], ◌∷◌, refl, codes, get_or, length, lit<, lit≤}
+use Rattle.std.proofs.Common.{◌≡◌, ℕ, ◌<◌, true, List, [], ◌∷◌, refl, codes, get_or, lit<, lit≤}
 use Rattle.std.specs.Prelude.{Some, None, Ok}
 use Rattle.ed_words.specs.declared.size.Size.{Size}
 use Rattle.ed_words.specs.declared.size.Size.TheVariants.{Small, Full}

@@ -3,7 +3,6 @@ use Rattle.std.proofs.Common.{◌≡◌, inr, ℕ, ◌+◌, ◌*◌, ◌≤◌, 
 use Rattle.std.proofs.Common.{List, [], ◌∷◌, ◌++◌, Some, None, get_or, length, map, nat_lt}
 use Rattle.std.specs.List.{list_all}
 use Rattle.ed_words.proofs.SizeLemmas.{least}
-use Rattle.ed_words.specs.Sizes.{locations}
 use Rattle.ed_words.specs.declared.size.Size.{Size}
 use Rattle.ed_machine.specs.State.{State}
 use Rattle.ed_symbols.specs.Places.{even_from}
@@ -13,8 +12,8 @@ use Rattle.ed_paths.proofs.Standing.{opens}
 use Rattle.ed_paths.proofs.Window.{patched}
 use Rattle.ed_routines.specs.Catalogue.{newline}
 use Rattle.ed_sources.proofs.AtEntry.{all_words}
-use Rattle.ed_programs.proofs.Entries.{frame_at, moment_at}
-use Rattle.ed_programs.proofs.Journeys.{ComesToStop, HasRoutine}
+use Rattle.ed_sources.proofs.Entries.{frame_at, moment_at}
+use Rattle.ed_routines.proofs.Journeys.{ComesToStop, HasRoutine}
 use Rattle.ed_programs.proofs.HelloEntry.{newline_stands, program_holds, hello_spells}
 use Rattle.ed_programs.proofs.HelloLoop.{Fine, Given, Turning, before, cells, printing}
 use Rattle.ed_programs.proofs.HelloProgram.{hello_stops}

@@ -1,25 +1,24 @@
 -- What stands in the store at the entry of the source of `examples/hello.edsac`.
-use Rattle.std.proofs.Common.{◌≡◌, inl, ◌∙◌, ℕ, zero, suc, ◌+◌, ◌*◌, ◌<◌, ◌≤◌, ◌&&◌, true, false, List, [], ◌∷◌, ◌++◌}
-use Rattle.std.proofs.Common.{refl, ap, arith, length, get_or, map, take, ◌||◌, if◌then◌else◌, nat_lt, append-nil, lit≤, lit<}
+use Rattle.std.proofs.Common.{◌≡◌, inl, ◌∙◌, ℕ, zero, suc, ◌+◌, ◌*◌, ◌<◌, ◌≤◌, ◌&&◌, true, List, [], ◌∷◌, ◌++◌}
+use Rattle.std.proofs.Common.{refl, ap, arith, length, get_or, map, take, nat_lt, append-nil, lit≤, lit<}
 use Rattle.std.specs.Prelude.{Some, None, unwrap_or}
 use Rattle.std.specs.List.{list_all}
 use Rattle.std.proofs.lemmas.Bool.{and_parts}
 use Rattle.std.proofs.lemmas.List.{length-map}
 use Rattle.std.proofs.lemmas.List.Folds.{list_all-append}
-use Rattle.ed_words.proofs.Numbers.{lt_false, lt_of}
+use Rattle.ed_words.proofs.Numbers.{lt_of}
 use Rattle.ed_words.specs.declared.size.Size.{Size}
 use Rattle.ed_library.specs.Entries.{entry}
 use Rattle.ed_library.specs.Images.{image_word, parameter_store, routine_word}
 use Rattle.ed_library.specs.Routines.{table_item}
 use Rattle.ed_syntax.specs.declared.program.Line.{Line}
 use Rattle.ed_symbols.specs.Places.{even_from}
-use Rattle.ed_notation.specs.Fold.{word_with}
 use Rattle.ed_link.specs.Linked.{laid, linked}
 use Rattle.ed_loads.specs.EntryState.{entry_state}
 use Rattle.ed_routines.specs.Catalogue.{newline}
-use Rattle.ed_sources.proofs.AtEntry.{have_places, placed, word_at}
+use Rattle.ed_sources.proofs.AtEntry.{have_places}
 use Rattle.ed_paths.proofs.Standing.{Holds}
-use Rattle.ed_programs.proofs.Blocks.{beside_block, block_places, in_block, last_append, last_at, last_is, or_else, reverse_places}
+use Rattle.ed_sources.proofs.Blocks.{beside_block, block_places, front_word, in_block, last_append, last_at, or_else, order_at, word_of}
 use Rattle.ed_programs.proofs.HelloLoop.{cells, printing, Spells}
 use Rattle.ed_programs.proofs.HelloSaid.{hello_lines}
 
@@ -74,41 +73,24 @@ module _ (z : Size) (rows : List ℕ) (few : length rows ≤ 41) where
       let second = beside_block w (newline_words w) a (inl (omega arith)) in
       rest_at a ∙ rw (first, second) refl
 
-  fit : have_places (placed lines) ≡ true
-  fit =
+  rest_places : have_places rest ≡ true
+  rest_places =
       let long = length-map rows (λ c. 4096 * c) in
       let first = block_places 69 codes (omega arith) in
       let second = block_places w (newline_words w) (omega arith) in
-      let both : have_places rest ≡ true =
       list_all-append (λ (x : ℕ × ℕ). nat_lt x.0 1024) (laid 69 codes) (laid w (newline_words w) ++ [])
       ∙ ap (λ (x : List (ℕ × ℕ)). have_places (laid 69 codes) && have_places x) (append-nil (laid w (newline_words w)))
-      ∙ (λ i. first i && second i) in
-      reverse_places (linked lines) both
-
-  word_of : (a : ℕ) → 44 ≤ a → a < 1024 → get_or ws a 0 ≡ unwrap_or (last_at (linked lines) a) 0
-  word_of a low high = word_at z lines fit a low high ∙ ap (λ o. unwrap_or o 0) (last_is (linked lines) a)
+      ∙ (λ i. first i && second i)
 
   -- the words before the text
   abbrev front : List (ℕ × ℕ)
   front = take 13 (linked lines)
 
-  parts : linked lines ≡ front ++ rest
-  parts = refl
-
   at : (a : ℕ) → 44 ≤ a → a < 1024 → get_or ws a 0 ≡ unwrap_or (or_else (last_at rest a) (last_at front a)) 0
-  at a low high = word_of a low high ∙ ap (λ o. unwrap_or o 0) (last_append front rest a)
+  at = word_of z lines front rest refl refl rest_places
 
   early : (a v : ℕ) → 44 ≤ a → a < 69 → unwrap_or (last_at front a) 0 ≡ v → get_or ws a 0 ≡ v
-  early a v low l is =
-      at a low (omega arith) ∙ ap (λ o. unwrap_or (or_else o (last_at front a)) 0) (none_early a l) ∙ is
-
-  -- an order with a place that is known otherwise
-  order_there : (g p : ℕ) → g < 32 → p < 1024
-      → word_with g (if nat_lt p 0 || nat_lt 32767 p then 0 else p) false 0 ≡ 4096 * g + 2 * p
-  order_there g p l m =
-      let a : nat_lt p 0 ≡ false = lt_false p 0 (omega arith) in
-      let b : nat_lt 32767 p ≡ false = lt_false 32767 p (omega arith) in
-      rw (a, b) (omega arith)
+  early a v low l is = front_word z lines front rest refl refl rest_places a low (omega arith) (none_early a l) ∙ is
 
   -- the program stands at 56
   pub program_holds : Holds (map (λ x. Some x) (cells 56 (69 + n) w (printing 69) 0)) ws 56
@@ -122,10 +104,10 @@ module _ (z : Size) (rows : List ℕ) (few : length rows ≤ 41) where
   program_holds (suc (suc (suc (suc (suc (suc (suc zero))))))) l = early 63 20616 (lit≤ tt) (lit< tt) refl
   program_holds (suc (suc (suc (suc (suc (suc (suc (suc zero)))))))) l = early 64 114816 (lit≤ tt) (lit< tt) refl
   program_holds (suc (suc (suc (suc (suc (suc (suc (suc (suc zero))))))))) l =
-      early 65 (110592 + 2 * w) (lit≤ tt) (lit< tt) (order_there 27 (w + 0) (lit< tt) (omega arith) ∙ omega arith)
+      early 65 (110592 + 2 * w) (lit≤ tt) (lit< tt) (order_at 27 (w + 0) (lit< tt) (omega arith) ∙ omega arith)
   program_holds (suc (suc (suc (suc (suc (suc (suc (suc (suc (suc zero)))))))))) l = early 66 53248 (lit≤ tt) (lit< tt) refl
   program_holds (suc (suc (suc (suc (suc (suc (suc (suc (suc (suc (suc zero))))))))))) l =
-      early 67 (36864 + 2 * (69 + n)) (lit≤ tt) (lit< tt) (order_there 9 (69 + n) (lit< tt) (omega arith))
+      early 67 (36864 + 2 * (69 + n)) (lit≤ tt) (lit< tt) (order_at 9 (69 + n) (lit< tt) (omega arith))
   program_holds (suc (suc (suc (suc (suc (suc (suc (suc (suc (suc (suc (suc zero)))))))))))) l = early 68 0 (lit≤ tt) (lit< tt) refl
   program_holds (suc (suc (suc (suc (suc (suc (suc (suc (suc (suc (suc (suc (suc i))))))))))))) l = absurd (omega arith)
 

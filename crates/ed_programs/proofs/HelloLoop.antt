@@ -6,7 +6,7 @@ use Rattle.ed_paths.proofs.Frames.{Frame, Moment, short}
 use Rattle.ed_paths.proofs.Places.{IsOutside, early, own, out}
 use Rattle.ed_paths.proofs.Moves.{A, S, T, U, O, G_jumps, G_stays}
 use Rattle.ed_paths.proofs.Paths.{Path, stay, on, prints, followed}
-use Rattle.ed_programs.proofs.Loops.{walks, all_printed}
+use Rattle.ed_paths.proofs.Loops.{walks, all_printed}
 
 -- its words at b, where the place e is after the text and `newline` stands at w: the order that prints, and a cell for
 -- what is thrown away, change

@@ -6,9 +6,9 @@ use Rattle.ed_paths.proofs.Places.{own}
 use Rattle.ed_paths.proofs.Moves.{T, Z}
 use Rattle.ed_paths.proofs.Paths.{stay, on, leads}
 use Rattle.ed_routines.specs.Catalogue.{newline}
-use Rattle.ed_programs.proofs.Loops.{itself}
-use Rattle.ed_programs.proofs.Journeys.{ComesToStop, HasRoutine, IsIn, along, stop_after, then, to_stop}
-use Rattle.ed_programs.proofs.Lines.{newline_line}
+use Rattle.ed_paths.proofs.Loops.{itself}
+use Rattle.ed_routines.proofs.Journeys.{ComesToStop, HasRoutine, IsIn, along, stop_after, then, to_stop}
+use Rattle.ed_routines.proofs.Lines.{newline_line}
 use Rattle.ed_programs.proofs.HelloLoop.{Fine, Given, Turning, at, before, loop, printing}
 
 module _ (given : Given) (has : HasRoutine given.f given.around.words newline given.w []) where

@@ -1,11 +1,7 @@
-pub mod Loops
-pub mod Journeys
-pub mod Lines
 pub mod HelloLoop
 pub mod HelloProgram
 pub mod SourceLines
 pub mod HelloSaid
-pub mod Blocks
 pub mod Faults
 pub mod HelloFaultless
 pub mod HelloEntry
@@ -16,7 +12,6 @@ pub mod MultiplyProgram
 pub mod NumberLines
 pub mod DataLines
 pub mod MultiplySaid
-pub mod Entries
 pub mod MultiplyEnds
 pub mod MultiplyRuns
 pub mod Answered

@@ -2,7 +2,6 @@
 use Rattle.std.proofs.Common.{◌≡◌, inr, ℕ, ◌+◌, ◌*◌, ◌<◌, refl, subst, arith, true, lit<, lit≤}
 use Rattle.std.proofs.Common.{List, [], Option, Some, None, get_or, map, set}
 use Rattle.ed_words.proofs.SizeLemmas.{least}
-use Rattle.ed_words.specs.Sizes.{locations}
 use Rattle.ed_words.specs.declared.size.Size.{Size}
 use Rattle.ed_machine.specs.State.{State}
 use Rattle.ed_library.specs.Images.{parameter_store}
@@ -14,8 +13,8 @@ use Rattle.ed_paths.proofs.Window.{patched}
 use Rattle.ed_routines.specs.Catalogue.{newline, print, with_h}
 use Rattle.ed_routines.specs.Digits.{print_orders}
 use Rattle.ed_sources.proofs.AtEntry.{all_words, has_image, placed, word_at}
-use Rattle.ed_programs.proofs.Entries.{frame_at, moment_at, routine_at, stands_at}
-use Rattle.ed_programs.proofs.Journeys.{ComesToStop}
+use Rattle.ed_sources.proofs.Entries.{frame_at, moment_at, routine_at, stands_at}
+use Rattle.ed_routines.proofs.Journeys.{ComesToStop}
 use Rattle.ed_programs.proofs.MultiplyProgram.{Given, IsAround, Work, at, both_shown, cells, multiply_stops}
 use Rattle.ed_programs.proofs.MultiplySaid.{multiply_lines}
 

@@ -11,10 +11,10 @@ use Rattle.ed_paths.proofs.Paths.{Path, stay, on, followed}
 use Rattle.ed_paths.proofs.Window.{get_own}
 use Rattle.ed_routines.specs.Catalogue.{newline, print, with_h}
 use Rattle.ed_routines.specs.Digits.{digits, print_orders}
-use Rattle.ed_programs.proofs.Loops.{quiet_rounds}
-use Rattle.ed_programs.proofs.Journeys.{ComesToStop, HasRoutine, IsIn, Journey, along, after_call, elsewhere, has_after, no_working}
-use Rattle.ed_programs.proofs.Journeys.{still_in, then, to_stop}
-use Rattle.ed_programs.proofs.Lines.{newline_left, newline_line, newline_returns, number_at, print_goes, print_left, print_line}
+use Rattle.ed_paths.proofs.Loops.{quiet_rounds}
+use Rattle.ed_routines.proofs.Journeys.{ComesToStop, HasRoutine, IsIn, Journey, along, after_call, elsewhere, has_after, no_working}
+use Rattle.ed_routines.proofs.Journeys.{still_in, then, to_stop}
+use Rattle.ed_routines.proofs.Lines.{newline_left, newline_line, newline_returns, number_at, print_goes, print_left, print_line}
 
 -- the cells that change: the two links, the factors, the product and a spare cell
 pub record Work : Type 0 where

@@ -1,5 +1,5 @@
 -- The source of `examples/add.edsac` for any two numbers, and what it prints.
-use Rattle.std.specs.Prelude.{ℕ, ◌+◌, ◌*◌, ◌<◌, List, [], ◌∷◌, codes, length, nat_lt, if◌then◌else◌, Option, Some, None}
+use Rattle.std.specs.Prelude.{ℕ, ◌+◌, ◌*◌, List, [], ◌∷◌, codes, length, nat_lt, if◌then◌else◌, Option, Some, None}
 use Rattle.std.specs.Fmt.{decimal}
 use Rattle.ed_words.specs.Texts.{Text}
 use Rattle.ed_routines.specs.Digits.{digits, print_orders}

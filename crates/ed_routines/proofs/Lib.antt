@@ -1,9 +1,11 @@
 pub mod Image
 pub mod Called
 pub mod Runs
+pub mod Journeys
 pub mod NewLine
 pub mod Digits
 pub mod Print
 pub mod PrintCall
+pub mod Lines
 pub mod Read
 pub mod ReadCall

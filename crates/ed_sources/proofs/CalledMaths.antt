@@ -12,7 +12,7 @@ use Rattle.ed_maths.proofs.DivideCall as divide_call
 use Rattle.ed_maths.proofs.RootCall as root_call
 use Rattle.ed_sources.proofs.CalledRoutines.{IsBeside, Passes}
 use Rattle.ed_sources.proofs.Calling.{HasRoutine, IsBefore, called, caller_is, calls, outside, stands}
-use Rattle.ed_sources.proofs.Stops.{joined}
+use Rattle.ed_paths.proofs.Leads.{joined}
 
 -- `divide` is called: behind the call its quotient and its remainder stand
 pub record Divides (s : State) (m from to high low by : ℕ) : Type 0 where

@@ -10,14 +10,14 @@ use Rattle.ed_machine.specs.declared.turn.Turn.TheVariants.{Stopped}
 use Rattle.ed_routines.specs.Catalogue.{newline, print, read, with_h}
 use Rattle.ed_routines.specs.Digits.{after_digits, digit_rows, digits, digits_value, print_orders}
 use Rattle.ed_routines.specs.Standing.{IsOutside, Stands}
-use Rattle.ed_paths.proofs.Leads.{Leads}
+use Rattle.ed_paths.proofs.Leads.{Leads, joined}
 use Rattle.ed_routines.specs.Returns.{IsOther}
 use Rattle.ed_routines.proofs.Called.{IsCalled, IsWithin, called as routine_called}
 use Rattle.ed_routines.proofs.NewLine as new_line
 use Rattle.ed_routines.proofs.PrintCall as print_call
 use Rattle.ed_routines.proofs.ReadCall as read_call
 use Rattle.ed_sources.proofs.Calling.{HasRoutine, IsBefore, back, called, caller_is, calls, outside, stands}
-use Rattle.ed_sources.proofs.Stops.{LeadsToStop, joined}
+use Rattle.ed_sources.proofs.Stops.{LeadsToStop}
 
 -- the order Z F at the counter
 pub stop_at : (s : State) → get_or s.store.words s.counter 0 ≡ 53248 → (step s).turn ≡ Stopped

@@ -27,7 +27,7 @@ use Rattle.ed_library.specs.Routines.{is_working}
 use Rattle.ed_loads.specs.EntryState.{entry_state, own_words}
 use Rattle.ed_loads.proofs.Entries.{all_fit}
 use Rattle.ed_machine.proofs.Steps.{after_sum}
-use Rattle.ed_paths.proofs.Leads.{Leads, free, no_stops}
+use Rattle.ed_paths.proofs.Leads.{Leads, free, joined, no_stops}
 use Rattle.ed_routines.specs.Catalogue.{print, with_h}
 use Rattle.ed_routines.specs.Digits.{digits, print_orders}
 use Rattle.ed_routines.specs.Standing.{IsOutside, Stands, caller}
@@ -43,7 +43,6 @@ use Rattle.ed_sources.proofs.CalledRoutines.{stop_at}
 use Rattle.ed_sources.proofs.Calling.{HasRoutine, IsBefore, called, caller_is, calls, stands}
 use Rattle.ed_sources.proofs.Decimals.{among, numbers}
 use Rattle.ed_sources.proofs.Said.{check_lines}
-use Rattle.ed_sources.proofs.Stops.{joined}
 
 -- ---- the words of a store at an entry
 

@@ -13,6 +13,8 @@ pub mod Stops
 mod Calling
 mod CalledRoutines
 pub mod AtEntry
+pub mod Entries
+pub mod Blocks
 mod CalledMaths
 mod Along
 pub mod PrintAndNewline

@@ -3,7 +3,6 @@ use Rattle.std.proofs.Common.{◌≡◌, ◌∙◌, ℕ, suc, ◌-◌, ◌/◌, 
 use Rattle.std.proofs.Common.{ap, subst, arith, lit≤, List, [], ◌∷◌}
 use Rattle.std.proofs.Common.{length, length-append}
 use Rattle.std.specs.Prelude.{None, Result, Ok, Err}
-use Rattle.std.proofs.lemmas.List.{append-nil}
 use Rattle.ed_words.specs.declared.memory.NoMemory.{NoMemory}
 use Rattle.ed_call.specs.declared.Call.{Call}
 use Rattle.ed_call.specs.declared.Call.TheVariants.{Print, Read, NewLine, Divide, Root, Check}
@@ -26,7 +25,7 @@ use Rattle.ed_maths.specs.Roots.{root_of}
 use Rattle.ed_routines.specs.Digits.{digits}
 use Rattle.ed_routines.proofs.Digits.{few_digits}
 use Rattle.ed_printer.specs.Paper.{paper}
-use Rattle.ed_run.specs.Run.{RunEnd, ran}
+use Rattle.ed_run.specs.Run.{ran}
 use Rattle.ed_link.specs.Linked.{entry_of}
 use Rattle.ed_link.specs.Tapes.{cost}
 use Rattle.ed_loads.specs.EntryState.{entry_state}
@@ -41,6 +40,7 @@ use Rattle.ed_top.specs.Sources.{OfSource, of_source, run_outcome}
 use Rattle.ed_top.specs.Private.Stages.{Replies}
 use Rattle.ed_top.specs.declared.reply.Reply.{Reply}
 use Rattle.ed_top.proofs.Sources.{accepted_is, headline}
+use Rattle.ed_top.proofs.Stopped.{nothing_after}
 
 -- what replies to a source that was made is what is answered of it
 pub made_replied : (s : Settings) (text input : Text) (r : Result Reply NoMemory) → input ≡ text
@@ -49,10 +49,6 @@ made_replied s text input (Err e) is replies =
     (replies.0, subst (λ (t : Text). OfSource s.size (run_outcome s) t replies.0) is replies.1, tt)
 made_replied s text input (Ok reply) is replies =
     (replies.0, subst (λ (t : Text). OfSource s.size (run_outcome s) t replies.0) is replies.1, replies.2)
-
--- no post-mortem prints nothing
-nothing_behind : (r : RunEnd) → with_post_mortem None r ≡ r
-nothing_behind r = ap (λ (codes : List ℕ). record r { codes = codes }) (append-nil r.codes)
 
 -- a call whose source is accepted, and which comes to its stop behind its codes
 runs : (s : Settings) (call : Call) {lines : List Line} {k : ℕ} {codes : List ℕ}
@@ -75,10 +71,10 @@ runs s call {lines} {k} {codes} reads faultless stops few count text =
           ∙ (λ i. ran_outcome (entered (entry_of lines) (cost lines))
           (with_post_mortem (plain i) (ran left (none i) paper_room (entry_state s.size lines))))
           ∙ ap (ran_outcome (entered (entry_of lines) (cost lines)))
-          (nothing_behind (ran left 0 paper_room (entry_state s.size lines))) in
+          (nothing_after (ran left 0 paper_room (entry_state s.size lines))) in
           record {
-            out_is = ap (λ (o : Outcome). o.out) same ∙ ap paper ended.0 ∙ text;
-            status_is = ap (λ (o : Outcome). o.status) same ∙ ap status_of ended.1;
+            out_is = ap (λ (o : Outcome). o.out) same ∙ ap paper ended.codes_are ∙ text;
+            status_is = ap (λ (o : Outcome). o.status) same ∙ ap status_of ended.ending;
           };
     }
 

@@ -7,6 +7,7 @@ mod FirstEntries
 mod Keeping
 mod FromEntry
 pub mod Sources
+pub mod Stopped
 mod CallRuns
 mod DemoRuns
 pub mod OneOutcome

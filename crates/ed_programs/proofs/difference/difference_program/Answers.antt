@@ -2,7 +2,7 @@ use Rattle.std.proofs.Common.{◌≡◌, ◌∙◌, [], ◌∷◌, ◌++◌, ap,
 use Rattle.std.specs.Fmt.{decimal}
 use Rattle.ed_words.specs.Texts.{Text}
 use Rattle.ed_sources.specs.Calls.{text_of_lines}
-use Rattle.ed_programs.specs.Difference.{difference_source, difference_text}
+use Rattle.ed_programs.specs.Difference.{difference_source}
 use Rattle.ed_programs.proofs.DifferenceRuns.{each_difference}
 use Rattle.ed_programs.proofs.Texts.{prints_of, written}
 use Rattle.ed_programs.proofs.difference.difference_program.Goals as goal

@@ -1,4 +1,4 @@
-use Rattle.std.proofs.Common.{◌≡◌, ◌∙◌, ◌≤◌, true, arith, length, sym, List, ℕ, ap}
+use Rattle.std.proofs.Common.{◌≡◌, ◌∙◌, ◌≤◌, true, arith, length, sym, ap}
 use Rattle.std.specs.List.{list_all}
 use Rattle.ed_programs.specs.Hello.{is_capital}
 use Rattle.ed_programs.proofs.HelloRuns.{AreLetters, each_name, each_text}

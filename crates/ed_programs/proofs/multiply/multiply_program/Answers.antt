@@ -1,4 +1,4 @@
-use Rattle.std.proofs.Common.{◌≡◌, ◌*◌, ◌<◌, arith, subst}
+use Rattle.std.proofs.Common.{◌*◌, ◌<◌, subst}
 use Rattle.ed_programs.proofs.MultiplyRuns.{each_product}
 use Rattle.ed_programs.proofs.Texts.{prints_of}
 use Rattle.ed_programs.proofs.multiply.multiply_program.Goals as goal

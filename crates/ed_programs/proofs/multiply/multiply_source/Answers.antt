@@ -1,4 +1,4 @@
-use Rattle.std.proofs.Common.{[], ◌∷◌, ◌++◌, ap, codes, drop, take, refl}
+use Rattle.std.proofs.Common.{◌++◌, ap, codes, drop, take, refl}
 use Rattle.std.specs.Fmt.{decimal}
 use Rattle.ed_words.specs.Texts.{Text}
 use Rattle.ed_sources.specs.Calls.{text_of_lines}

@@ -15,7 +15,7 @@ use Rattle.ed_routines.proofs.Called.{IsCalled, IsWithin, called as routine_call
 use Rattle.ed_routines.proofs.NewLine as new_line
 use Rattle.ed_routines.proofs.Print.{before_tens, cells as print_cells}
 use Rattle.ed_routines.proofs.PrintCall as print_call
-use Rattle.ed_programs.proofs.Journeys.{HasRoutine, IsIn, Journey, Returns, all_long, after_call, called, calls}
+use Rattle.ed_routines.proofs.Journeys.{HasRoutine, IsIn, Journey, Returns, all_long, after_call, called, calls}
 
 -- the caller as a routine reckons it
 abbrev pub reckoned : ℕ → ℕ

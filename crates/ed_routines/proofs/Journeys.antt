@@ -10,7 +10,7 @@ use Rattle.ed_orders.specs.declared.kind.Kind.TheVariants.{Z as KindZ}
 use Rattle.ed_library.specs.Images.{image_word}
 use Rattle.ed_library.specs.Routines.{is_working, place_count}
 use Rattle.ed_paths.proofs.Frames.{Frame, Moment, all_words, state, short, get_beside}
-use Rattle.ed_paths.proofs.Leads.{Leads}
+use Rattle.ed_paths.proofs.Leads.{Leads, joined}
 use Rattle.ed_paths.proofs.Moves.{A, G_jumps, Reads, Jumps}
 use Rattle.ed_paths.proofs.Orders.{Does}
 use Rattle.ed_paths.proofs.Paths.{Path, leads, on, stay}
@@ -18,7 +18,6 @@ use Rattle.ed_paths.proofs.Places.{any, own}
 use Rattle.ed_paths.proofs.Window.{patched, patched_self, get_own, length_patched}
 use Rattle.ed_routines.specs.Standing.{Stands, caller}
 use Rattle.ed_routines.specs.Returns.{IsOther}
-use Rattle.ed_sources.proofs.Stops.{joined}
 
 -- k orders print the codes and lead to an order that stops the machine, with the counter at a place
 pub record ComesToStop (k : ℕ) (s : State) (codes : List ℕ) (at : ℕ) : Type 0 where
