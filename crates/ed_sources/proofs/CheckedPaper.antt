@@ -63,7 +63,7 @@ less_long [] = omega arith
 less_long (zero ∷ ds) = omega (arith, less_long ds)
 less_long (suc d ∷ ds) = omega arith
 
-few_orders : (n : ℕ) → n < 65536 → print_orders n ≤ 400
+pub few_orders : (n : ℕ) → n < 65536 → print_orders n ≤ 400
 few_orders n small =
     let ds : List ℕ = n / 10000 ∷ n / 1000 % 10 ∷ n / 100 % 10 ∷ n / 10 % 10 ∷ [] in
     let a = less_sum ds in

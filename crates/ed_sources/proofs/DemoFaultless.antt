@@ -70,7 +70,7 @@ none_later : (l : ℕ) (cause : Option SourceCause) (later : Option SourceFault)
 none_later l cause later here there = ap (λ (c : Option SourceCause). or_later l c later) here ∙ there
 
 -- a spot inside a segment
-abbrev spot : ℕ → ℕ → ℕ → Spot
+abbrev pub spot : ℕ → ℕ → ℕ → Spot
 spot place base segments = record { place = place; base = base; segments = segments; inside = true }
 
 -- lines before any `enter`
@@ -89,7 +89,7 @@ first_runs = (56, 56) ∷ one_by_one 16 56 ++ (72, 123) ∷ (123, 123) ∷ []
 -- ---- no line has one of the faults S9 to S17
 
 -- the lines behind those of the program and of the first segment's line, where n segments more follow
-abbrev lines_behind : ℕ → ℕ → ℕ → List Line
+abbrev pub lines_behind : ℕ → ℕ → ℕ → List Line
 lines_behind n x l = word_forms 8 20 x ++ segment_forms n 2 28 (number_behind 8 x) ++ enter_line l ∷ []
 
 -- none of the lines from a spot on has one, where the lines before them have these places
@@ -184,7 +184,7 @@ segments_enter : (n k l x : ℕ) (rest : List Line) → any_enter (segment_forms
 segments_enter zero k l x rest = refl
 segments_enter (suc n) k l x rest = segments_enter n (k + 1) (l + 9) (number_behind 8 x) rest
 
-abbrev lines_with : Text → ℕ → ℕ → ℕ → ℕ → List Line
+abbrev pub lines_with : Text → ℕ → ℕ → ℕ → ℕ → List Line
 lines_with first words n x l = adding_lines words ++ segment_line 19 first ∷ lines_behind n x l
 
 module _ (z : Size) (words n x l : ℕ) (few : n ≤ 111) (near : words ≤ 900) (fits : 131 + 8 * n ≤ locations z) where

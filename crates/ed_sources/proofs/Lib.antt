@@ -6,7 +6,7 @@ pub mod SaidDemo
 pub mod Faultless
 mod DemoTexts
 mod DemoNames
-mod DemoFaultless
+pub mod DemoFaultless
 pub mod CallsAccepted
 pub mod DemoAccepted
 pub mod Stops
@@ -15,6 +15,10 @@ mod CalledRoutines
 pub mod AtEntry
 pub mod Entries
 pub mod Blocks
+mod DemoLoop
+mod DemoPlaced
+mod DemoCost
+pub mod DemoEnds
 mod CalledMaths
 mod Along
 pub mod PrintAndNewline

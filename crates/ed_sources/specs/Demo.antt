@@ -1,15 +1,15 @@
 -- The source that `demo` runs, line by line (this project's own): it adds up the words of some segments, which come
 -- from a sequence of numbers, and prints the sum.
-use Rattle.std.specs.Prelude.{ℕ, zero, suc, ◌+◌, ◌*◌, ◌/◌, ◌%◌, List, [], ◌∷◌, ◌++◌, codes}
+use Rattle.std.specs.Prelude.{ℕ, zero, suc, ◌+◌, ◌*◌, ◌/◌, ◌%◌, List, [], ◌∷◌, ◌++◌, codes, map, sum}
 use Rattle.std.specs.Fmt.{decimal}
 use Rattle.ed_words.specs.Texts.{Text}
 use Rattle.ed_sources.specs.Calls.{text_of_lines}
 
--- what follows a number in the sequence
+-- the number after another in the sequence
 abbrev pub next : ℕ → ℕ
 next x = (1105 * x + 12345) % 65536
 
--- the number so many steps behind one
+-- the number n places after another
 abbrev pub number_behind : ℕ → ℕ → ℕ
 number_behind zero x = x
 number_behind (suc n) x = number_behind n (next x)
@@ -18,18 +18,30 @@ number_behind (suc n) x = number_behind n (next x)
 abbrev pub number_word : ℕ → ℕ
 number_word x = x / 1024
 
--- the lines of so many words, of the numbers behind one
-abbrev pub word_lines : ℕ → ℕ → List Text
-word_lines zero x = []
-word_lines (suc n) x = (codes "word " ++ decimal (number_word (next x))) ∷ word_lines n (next x)
+-- the words of the n numbers after a number
+abbrev pub words_after : ℕ → ℕ → List ℕ
+words_after zero x = []
+words_after (suc n) x = number_word (next x) ∷ words_after n (next x)
 
--- so many segments of 8 words, with the names from s1 on where k is 1, and the words of the numbers behind one
+-- the words of `demo N`: those of the 8 N numbers after N
+abbrev pub demo_words : ℕ → List ℕ
+demo_words n = words_after (8 * n) n
+
+-- what `demo N` prints: their sum. It is at most 504 N, so it is below 65,536 for every N up to 112, as `print` takes it
+abbrev pub demo_sum : ℕ → ℕ
+demo_sum n = sum (demo_words n)
+
+-- the lines of the words of the n numbers after a number
+abbrev pub word_lines : ℕ → ℕ → List Text
+word_lines n x = map (λ word. codes "word " ++ decimal word) (words_after n x)
+
+-- n segments of 8 words, with the names from s1 on where k is 1, and the words of the numbers after one
 abbrev pub segments : ℕ → ℕ → ℕ → List Text
 segments zero k x = []
 segments (suc n) k x = (codes "segment s" ++ decimal k) ∷ word_lines 8 x ++ segments n (k + 1) (number_behind 8 x)
 
--- the program, where there are so many words: the order at `add` takes them one after the other, until it is the one at
--- `stop`, which would take the word behind the last
+-- the program for a number of words: the order at `add` takes them one after the other, until it is the one at
+-- `stop`, which would take the word after the last
 abbrev pub adding : ℕ → List Text
 adding words =
     codes "segment main"
@@ -52,7 +64,7 @@ adding words =
     ∷ codes "use print as p with H=total"
     ∷ []
 
--- the lines of the source of `demo N`: the program, N segments with the words of the numbers behind N, and the entry
+-- the lines of the source of `demo N`: the program, N segments with the words of the numbers after N, and the entry
 abbrev pub demo_source : ℕ → List Text
 demo_source n = adding (8 * n) ++ segments n 1 n ++ codes "enter main" ∷ []
 

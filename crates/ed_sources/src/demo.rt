@@ -9,7 +9,7 @@ use ed_words::NoMemory;
 use std::alloc::Global;
 
 /// The source of a program that adds up the words of `n` segments and prints the sum. Each segment has 8 words, and all
-/// come from one sequence of numbers, which begins behind `n`.
+/// come from one sequence of numbers, which begins after `n`.
 pub fn demo_source(alloc: Global, n: u32) -> Result<Vec<u8>, NoMemory>
     requires some { 1 ≤ n }
     requires few { n ≤ 112 }
@@ -22,7 +22,7 @@ pub fn demo_source(alloc: Global, n: u32) -> Result<Vec<u8>, NoMemory>
     Ok(text)
 }
 
-/// The program that adds up so many words and prints the sum.
+/// The program that adds up a number of words and prints the sum.
 fn adding(alloc: Global, words: u32) -> Result<Vec<u8>, NoMemory>
     ensures { IfOk result (λ bytes. bytes.items ≡ text_of_lines (adding words)) }
 {
@@ -54,7 +54,7 @@ fn segment_line(alloc: Global, k: u32) -> Result<Vec<u8>, NoMemory>
     bytes_of_text(format!(in alloc; "segment s{k}\n"))
 }
 
-/// Adds the 8 words of the numbers behind one to a source, and answers the last of these numbers.
+/// Adds the 8 words of the numbers after one to a source, and answers the last of these numbers.
 fn push_words(alloc: Global, text: &mut Vec<u8>, before: u32) -> Result<u32, NoMemory>
     requires { before < 65536 }
     ensures last { IfOk result (λ last. last ≡ number_behind 8 before) }
@@ -77,7 +77,7 @@ fn word_line(alloc: Global, number: u32) -> Result<Vec<u8>, NoMemory>
     bytes_of_text(format!(in alloc; "word {word}\n"))
 }
 
-/// What follows a number in the sequence.
+/// The number after another in the sequence.
 fn next(number: u32) -> u32
     requires { number < 65536 }
     ensures { result ≡ next number }
