@@ -50,7 +50,7 @@ no_stops (suc k) s goes =
     let here = no_stop (step (state_after k s)).turn (goes k (omega arith)) in
     omega (arith, before, here)
 
--- such orders behind others
+-- such orders after others
 pub joined : {a b : ℕ} {s t u : State} {cs ds : List ℕ} → Leads a s cs t → Leads b t ds u → Leads (a + b) s (cs ++ ds) u
 joined {a} {b} {s} {t} {u} {cs} {ds} first second = record {
   state_is = after_sum a b s ∙ ap (state_after b) first.state_is ∙ second.state_is;

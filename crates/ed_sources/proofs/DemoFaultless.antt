@@ -33,7 +33,7 @@ use Rattle.ed_sources.proofs.Said.{said}
 
 -- ---- places
 
--- the places of lines, from the first to the one behind the last, are below one
+-- the places of lines, from the first to the one after the last, are below one
 abbrev are_below : ℕ → List (ℕ × ℕ) → Bool
 are_below p runs = list_all (λ r. nat_le r.1 p) runs
 
@@ -64,7 +64,7 @@ apart p b (r ∷ runs) h =
     let rest = apart p b runs s.1 in
     rw (none, rest) refl
 
--- a line, and those behind it
+-- a line, and those after it
 none_later : (l : ℕ) (cause : Option SourceCause) (later : Option SourceFault) → cause ≡ None → later ≡ None
     → or_later l cause later ≡ None
 none_later l cause later here there = ap (λ (c : Option SourceCause). or_later l c later) here ∙ there
@@ -77,7 +77,7 @@ spot place base segments = record { place = place; base = base; segments = segme
 abbrev past : List (ℕ × ℕ) → LinesBefore
 past runs = record { runs = runs; entered = false }
 
--- the places of so many lines of one word
+-- the places of n lines of one word
 abbrev one_by_one : ℕ → ℕ → List (ℕ × ℕ)
 one_by_one zero p = []
 one_by_one (suc n) p = (p, p + 1) ∷ one_by_one n (p + 1)
@@ -88,7 +88,7 @@ first_runs = (56, 56) ∷ one_by_one 16 56 ++ (72, 123) ∷ (123, 123) ∷ []
 
 -- ---- no line has one of the faults S9 to S17
 
--- the lines behind those of the program and of the first segment's line, where n segments more follow
+-- the lines after those of the program and of the first segment's line, where n segments more follow
 abbrev pub lines_behind : ℕ → ℕ → ℕ → List Line
 lines_behind n x l = word_forms 8 20 x ++ segment_forms n 2 28 (number_behind 8 x) ++ enter_line l ∷ []
 

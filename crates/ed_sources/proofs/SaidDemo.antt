@@ -35,7 +35,7 @@ use Rattle.ed_sources.proofs.TextLines.{Says, ends, says, by_parts}
 abbrev pub name : ℕ → Text
 name k = 115 ∷ decimal k
 
--- the order that would take the word behind the last
+-- the order that would take the word after the last
 abbrev pub behind_last : ℕ → Statement
 behind_last words = statements.Order 28 (operands.Label (codes "s1") (pos words)) false
 
@@ -65,7 +65,7 @@ adding_lines words =
     ∷ said 18 None (use_print (codes "p") (codes "total"))
     ∷ []
 
--- the lines of so many words, from a line's number on
+-- the lines of n words, from line l on
 abbrev pub word_forms : ℕ → ℕ → ℕ → List Line
 word_forms zero l x = []
 word_forms (suc n) l x = said l None (statements.Number (number_word (next x))) ∷ word_forms n (l + 1) (next x)
@@ -73,7 +73,7 @@ word_forms (suc n) l x = said l None (statements.Number (number_word (next x))) 
 abbrev pub segment_line : ℕ → Text → Line
 segment_line l name = said l None (statements.Segment name None)
 
--- the lines of so many segments, the first with the number k
+-- the lines of n segments, the first with the number k
 abbrev pub segment_forms : ℕ → ℕ → ℕ → ℕ → List Line
 segment_forms zero k l x = []
 segment_forms (suc n) k l x =
@@ -104,7 +104,7 @@ words_say (suc n) l x {rest} {program} second tail =
     says (word_says (word_front l second) (number_word (next x)) (omega arith))
     (words_say n (l + 1) (next x) (omega arith) (subst (λ j. Says j rest program) e tail))
 
--- a line that begins a segment, by what stands behind the s of its name
+-- a line that begins a segment, by what comes after the s of its name
 segment_says_of : (l : ℕ) (text bytes : Text) → text ≡ 115 ∷ bytes → 2 ≤ l → list_all is_line_byte bytes ≡ true
     → length bytes ≤ 5
     → list_all is_run_byte bytes ≡ true
@@ -153,7 +153,7 @@ print_used : line_of false 18 (codes "use print as p with H=total")
 unfolding settings
 print_used = refl
 
--- digits, and F behind them
+-- digits, and F after them
 then_F : (bytes : Text) → 0 < length bytes → list_all is_run_byte bytes ≡ true
     → parts_of (bytes ++ codes " F") ≡ Some (run bytes ∷ sign 70 ∷ [])
 then_F [] some h = absurd (omega arith)

@@ -21,7 +21,7 @@ pub record LeadsToStop (k : ℕ) (s : State) (codes : List ℕ) : Type 0 where
   pub leads : Leads k s codes last
   pub stops : (step last).turn ≡ Stops
 
--- the same behind other orders
+-- the same after other orders
 pub behind : {a b : ℕ} {s t : State} {cs ds : List ℕ} → Leads a s cs t → LeadsToStop b t ds
     → LeadsToStop (a + b) s (cs ++ ds)
 behind first o = record { last = o.last; leads = joined first o.leads; stops = o.stops }

@@ -5,7 +5,7 @@ use Rattle.ed_sources.specs.Calls.{text_of_lines}
 use Rattle.ed_report.proofs.Texts.{told}
 use Rattle.ed_sources.proofs.demo.adding.Goals as goal
 
--- the text before the number's digits, and that behind them
+-- the text before the number's digits, and that after them
 abbrev front : Text
 front = text_of_lines (codes "segment main" ∷ codes "loop: T junk F" ∷ codes "A total F" ∷ codes "add: A s1 F"
     ∷ codes "T total F" ∷ codes "A add F" ∷ codes "A 2 F" ∷ codes "U add F" ∷ codes "S stop F" ∷ codes "G loop F"

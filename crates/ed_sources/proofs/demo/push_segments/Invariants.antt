@@ -3,7 +3,7 @@ use Rattle.ed_sources.specs.Calls.{text_of_lines}
 use Rattle.ed_sources.specs.Demo.{segments}
 use Rattle.ed_sources.proofs.demo.push_segments.Given as goal
 
--- the text so far, and then the segments that are left, whose words are those of the numbers behind this one
+-- the text so far, and then the segments that are left, whose words are those of the numbers after this one
 abbrev pub invariant-loop-done : goal.invariant-loop-done
 invariant-loop-done l = record {
   low : l.number < 65536;
