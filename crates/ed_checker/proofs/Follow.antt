@@ -1,6 +1,6 @@
 -- The routine obeys the guest order by order.
 use Rattle.std.proofs.Common.{◌≡◌, ℕ, zero, suc, ◌+◌, ◌%◌, ◌^◌, ◌<◌, refl, sym, ap, ◌∙◌, subst, arith, lit<}
-use Rattle.std.proofs.Common.{Bool, true, false, nat_lt, nat_le, ◌∷◌, ◌++◌, Option, Some, inl, inr}
+use Rattle.std.proofs.Common.{Bool, true, false, nat_lt, nat_le, [], ◌∷◌, ◌++◌, Option, Some, inl, inr}
 use Rattle.std.proofs.lemmas.Bool.{cases_eq}
 use Rattle.ed_words.specs.Sizes.{within}
 use Rattle.ed_words.specs.Words.{function_of, address_of}
@@ -13,13 +13,14 @@ use Rattle.ed_machine.specs.OrderTable.{Obeyed, step, next_word, obey_word, jump
 use Rattle.ed_machine.specs.Steps.{Past, past, state_after, codes_of, stops_of, is_obeyed}
 use Rattle.ed_machine.specs.declared.turn.Turn.TheVariants.{Went, Stopped}
 use Rattle.ed_checker.specs.Checker.{IsOutsideChecker, IsAllowed, IsAllowedOrder, Agree, guest, checked_codes}
-use Rattle.ed_checker.proofs.Alike.{Alike, agree_with, is_planted, planted}
+use Rattle.ed_checker.specs.Checker.{checked_orders, orders_by, turn_orders}
+use Rattle.ed_checker.proofs.Alike.{Alike, Outcome, agree_with, is_planted, planted}
 use Rattle.ed_machine.specs.Sound.{IsSound}
 use Rattle.ed_machine.proofs.SoundSteps.{sound_after}
-use Rattle.ed_checker.specs.Laws.{IsFollowed, Checked, ChecksToStop, HasGuest, CheckerLaw}
+use Rattle.ed_checker.specs.Laws.{CheckerLaw, Checked, ChecksToBlock, ChecksToStop, HasGuest, IsFollowed, Ran}
 use Rattle.ed_checker.proofs.Halves.{long_fits}
 use Rattle.ed_checker.proofs.Ran.{joined, none, renamed}
-use Rattle.ed_checker.proofs.Turns.{turn, turn_halts, other_planted}
+use Rattle.ed_checker.proofs.Turns.{turn, turn_halts, turn_stuck, other_planted}
 
 agree_self : (base : ℕ) (s : State) → Agree base s s
 agree_self base s = record {
@@ -120,12 +121,18 @@ module _ {base : ℕ} (even_base : base % 2 ≡ 0) {s t : State} (p : Agree base
       tape = p.tape;
     }
 
-    both_planted : is_planted (kind_of_function (function_of x)) ≡ true → is_obeyed (step t).turn ≡ true
-        → Both (obey_word (kind_of_function (function_of x)) x s) (obey_word (kind_of_function (function_of x)) x t)
+    abbrev kind : Option Kind
+    kind = kind_of_function (function_of x)
+
+    -- what a planted order does to both
+    both_outcome : is_planted kind ≡ true → Outcome base s t (obey_word kind x s) (obey_word kind x t)
+    both_outcome may = planted even_base alike kind x may allowed.order
+
+    both_planted : is_planted kind ≡ true → is_obeyed (step t).turn ≡ true → Both (obey_word kind x s) (obey_word kind x t)
     both_planted may h =
-        let o = planted even_base alike (kind_of_function (function_of x)) x may allowed.order in
+        let o = both_outcome may in
         let went = ap is_obeyed (o.turn
-        ∙ ap (λ (y : Obeyed). y.turn) (sym (at_t (kind_of_function (function_of x)) refl))) ∙ h in
+        ∙ ap (λ (y : Obeyed). y.turn) (sym (at_t kind refl))) ∙ h in
         let next : after s ≡ after t = λ i. within (p.size i) (p.counter i + 1) in
         record {
           turn = o.turn;
@@ -135,6 +142,22 @@ module _ {base : ℕ} (even_base : base % 2 ≡ 0) {s t : State} (p : Agree base
     by_step : (k : Option Kind) → kind_of_function (function_of x) ≡ k → Both (obey_word k x s) (obey_word k x t)
         → Both (step s) (step t)
     by_step k e h = subst (λ y. Both y (step t)) (sym (at_s k e)) (subst (Both (obey_word k x s)) (sym (at_t k e)) h)
+
+    turn_by : (k : Option Kind) → kind_of_function (function_of x) ≡ k → (obey_word k x s).turn ≡ (obey_word k x t).turn
+        → (step s).turn ≡ (step t).turn
+    turn_by k e h = ap (λ (y : Obeyed). y.turn) (at_s k e) ∙ h ∙ ap (λ (y : Obeyed). y.turn) (sym (at_t k e))
+
+    -- both turns are the same, whether the order is obeyed or not
+    pub same_turn : (step s).turn ≡ (step t).turn
+    same_turn =
+        elim (cases_eq (function_of x) 3) [
+          | inl e ↦ turn_by (Some E) (ap kind_of_function e) both_E.turn
+          | inr no3 ↦
+              elim (cases_eq (function_of x) 27) [
+                | inl e ↦ turn_by (Some G) (ap kind_of_function e) both_G.turn
+                | inr no27 ↦ turn_by kind refl (both_outcome (other_planted (function_of x) no3 no27)).turn
+              ]
+        ]
 
     pub steps : is_obeyed (step t).turn ≡ true
         → ((step s).turn ≡ (step t).turn) × Agree base (step s).state (step t).state
@@ -147,7 +170,7 @@ module _ {base : ℕ} (even_base : base % 2 ≡ 0) {s t : State} (p : Agree base
               | inr no3 ↦
                   elim (cases_eq (function_of x) 27) [
                     | inl e ↦ by_step (Some G) (ap kind_of_function e) both_G
-                    | inr no27 ↦ by_step (kind_of_function (function_of x)) refl
+                    | inr no27 ↦ by_step kind refl
                         (both_planted (other_planted (function_of x) no3 no27) h)
                   ]
             ]
@@ -181,11 +204,15 @@ module _ (base : ℕ) (m : State) (has : HasGuest base m) where
 
   -- the machine within its bounds once some orders are checked, and the guest
   after_sound : (q : ℕ) (c : Checked base q m) → IsSound c.last
-  after_sound q c = subst IsSound (ap (λ (y : Past). y.state) c.ran.is) (sound_after c.count m has.sound)
+  after_sound q c = subst IsSound (ap (λ (y : Past). y.state) c.ran.is) (sound_after (checked_orders g q) m has.sound)
+
+  -- the turn of a guest that agrees takes as many orders
+  same_orders : (s t : State) → next_word s ≡ next_word t → s.acc ≡ t.acc → turn_orders s ≡ turn_orders t
+  same_orders s t word acc = λ i. orders_by (function_of (word i)) (acc i)
 
   next : (q : ℕ) → Checked base q m → IsAllowed base g → IsAllowed base (state_after q g)
       → is_obeyed (step (state_after q g)).turn ≡ true → Checked base (suc q) m
-  unfolding past checked_codes
+  unfolding past checked_codes checked_orders
   next q c first ok obeyed =
       let gq = state_after q g in
       let a = c.last in
@@ -199,23 +226,23 @@ module _ (base : ℕ) (m : State) (has : HasGuest base m) where
       let codes : function_of (next_word (guest base a)) ∷ codes_of (step (guest base a)).turn
       ≡ function_of (next_word gq) ∷ codes_of (step gq).turn
       = (λ i. function_of (word i) ∷ codes_of (b.0 i)) in
-      let r = joined c.ran t.ran in
+      let orders : t.count ≡ turn_orders gq = t.exact ∙ same_orders (guest base a) gq word c.agree.acc in
+      let r = renamed (joined c.ran t.ran) (ap (λ cs. checked_codes g q ++ cs) codes)
+      (ap (λ n. (past q g).stops + n) (ap stops_of b.0)) in
       record {
         last = t.after;
-        count = c.count + t.count;
-        most = omega (arith, c.most, t.most);
-        ran = renamed r (ap (λ cs. checked_codes g q ++ cs) codes)
-            (ap (λ n. (past q g).stops + n) (ap stops_of b.0));
+        most = omega (arith, c.most, t.most, orders);
+        ran = subst (λ k. Ran (checked_orders g q + k) m (checked_codes g (suc q)) (past (suc q) g).stops t.after)
+            orders r;
         stands = t.stands;
         agree = agree_trans t.agree b.1;
         size = t.size ∙ c.size;
       }
 
   checks_from : (q : ℕ) → IsFollowed base q g → Checked base q m
-  unfolding past checked_codes
+  unfolding past checked_codes checked_orders
   checks_from zero h = record {
     last = m;
-    count = 0;
     most = omega arith;
     ran = none m;
     stands = has.stands;
@@ -236,7 +263,7 @@ module _ (base : ℕ) (m : State) (has : HasGuest base m) where
   -- the guest's orders up to a stop
   stops_from : (q : ℕ) → IsFollowed base q g → (past q g).stops ≡ 0 → IsAllowed base (state_after q g)
       → (step (state_after q g)).turn ≡ Stopped → ChecksToStop base (suc q) m
-  unfolding checked_codes
+  unfolding checked_codes checked_orders
   stops_from q h no_stop ok stop =
       let gq = state_after q g in
       let c = checks_from q h in
@@ -248,21 +275,47 @@ module _ (base : ℕ) (m : State) (has : HasGuest base m) where
       let t = turn_halts base has.even a a_sound.store (rw c.size has.room) c.stands
       (allowed has.even c.agree ok)
       (b.0 ∙ stop) in
-      let to_it = joined c.ran t.ran in
+      let orders : t.count + 17 ≡ turn_orders gq = t.exact ∙ same_orders (guest base a) gq word c.agree.acc in
       record {
         last = t.before;
-        count = c.count + t.count;
+        count = checked_orders g q + t.count;
+        exact = omega (arith, orders);
         most = omega (arith, c.most, t.most);
-        codes_are = ap (λ (y : Past). y.codes) to_it.is
-            ∙ (λ i. checked_codes g q ++ (function_of (word i) ∷ codes_of (sym stop i)));
-        free = to_it.free;
-        no_stops = ap (λ (y : Past). y.stops) to_it.is ∙ omega (arith, no_stop);
-        state_is = ap (λ (y : Past). y.state) to_it.is;
+        ran = renamed (joined c.ran t.ran)
+            (λ i. checked_codes g q ++ (function_of (word i) ∷ codes_of (sym stop i))) (omega (arith, no_stop));
+        counter = t.counter;
         stops = t.turn;
+      }
+
+  -- and up to one that can't be obeyed
+  blocked_from : (q : ℕ) → IsFollowed base q g → IsAllowed base (state_after q g)
+      → is_obeyed (step (state_after q g)).turn ≡ false → ChecksToBlock base q m
+  unfolding checked_orders
+  blocked_from q h ok stuck =
+      let gq = state_after q g in
+      let c = checks_from q h in
+      let a = c.last in
+      let a_sound : IsSound a = after_sound q c in
+      let g_sound : IsSound gq = sound_after q g (guest_sound base m has (first_allowed q h ok)) in
+      let turn_is = same_turn has.even c.agree ok a_sound.store g_sound.store in
+      let word : next_word (guest base a) ≡ next_word gq = same_word has.even c.agree ok in
+      let t = turn_stuck base has.even a a_sound.store (rw c.size has.room) c.stands
+      (allowed has.even c.agree ok)
+      (ap is_obeyed turn_is ∙ stuck) in
+      let orders : t.count + 17 ≡ turn_orders gq = t.exact ∙ same_orders (guest base a) gq word c.agree.acc in
+      record {
+        last = t.after;
+        count = checked_orders g q + t.count;
+        exact = omega (arith, orders);
+        ran = renamed (joined c.ran t.ran) (λ i. checked_codes g q ++ (function_of (word i) ∷ [])) (omega arith);
+        agree = agree_trans t.agree c.agree;
+        counter = t.counter;
+        blocked = t.turn ∙ turn_is;
       }
 
 pub checker_law : CheckerLaw
 checker_law = record {
   checks = λ base q m has h. checks_from base m has q h;
-  to_stop = λ base q m has h no_stop ok stop. stops_from base m has q h no_stop ok stop;
+  to_stop = λ base q m has h first ok. stops_from base m has q h first.no_stops ok first.stops;
+  to_block = λ base q m has h ok stuck. blocked_from base m has q h ok stuck;
 }

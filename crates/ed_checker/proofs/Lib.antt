@@ -9,3 +9,4 @@ pub mod Turns
 pub mod Follow
 pub mod Whole
 pub mod Guests
+pub mod Weights

@@ -54,6 +54,7 @@ pub record Stuck (base : ℕ) (m : State) : Type 0 where
   pub exact : count + 17 ≡ turn_orders (guest base m)
   pub most : count ≤ 35
   pub ran : Ran count m (function_of (next_word (guest base m)) ∷ []) 0 after
+  pub counter : after.counter ≡ base + 40
   pub turn : (step after).turn ≡ (step (guest base m)).turn
   pub agree : Agree base (guest base after) (guest base m)
 
@@ -61,8 +62,10 @@ pub record Stuck (base : ℕ) (m : State) : Type 0 where
 pub record Halts (base : ℕ) (m : State) : Type 0 where
   pub before : State
   pub count : ℕ
+  pub exact : count + 17 ≡ turn_orders (guest base m)
   pub most : count ≤ 18
   pub ran : Ran count m (function_of (next_word (guest base m)) ∷ []) 0 before
+  pub counter : before.counter ≡ base + 40
   pub turn : (step before).turn ≡ Stopped
 
 -- the kinds of all functions but 3 and 27 are obeyed in the routine's own place
@@ -274,6 +277,7 @@ module _ (base : ℕ) (even_base : base % 2 ≡ 0) (m : State) (store : IsStore 
       exact = to.exact;
       most = omega (arith, to.most);
       ran = reached;
+      counter = refl;
       turn = ap (λ (y : Obeyed). y.turn) at_m1 ∙ same_turn;
       agree = agree_with a1 (guest_acc f even_base o w2)
           (guest_counter f even_base o w2 c at0_is (omega (arith, c_fits)));
@@ -283,8 +287,10 @@ module _ (base : ℕ) (even_base : base % 2 ≡ 0) (m : State) (store : IsStore 
     halted h = record {
       before = m1;
       count = to.count;
+      exact = to.exact;
       most = to.most;
       ran = reached;
+      counter = refl;
       turn = ap (λ (y : Obeyed). y.turn) at_m1 ∙ same_turn ∙ h;
     }
 

@@ -159,6 +159,7 @@ module _ {base count : ℕ} {s t : State} {sheet full : Sheet} {ending : Ending}
         u.1,
         record {
           orders = r.count;
+          exact = rw h r.exact;
           most = r.most;
           answer_is = sym ((λ i. answer_by (at_g i).turn (r.exact i)) ∙ answer);
           state_is = state ∙ sym (ap (λ (p : Past). p.state) r.ran.is);
@@ -203,6 +204,7 @@ module _ {base count : ℕ} {s t : State} {sheet full : Sheet} {ending : Ending}
         omega (arith, r.exact),
         record {
           orders = r.count;
+          exact = rw h count;
           most = omega (arith, r.most);
           answer_is = sym (blocked_answer (step g).turn r.count h ∙ ap IsBlocked count);
           state_is = state ∙ sym (ap (λ (p : Past). p.state) r.ran.is);
@@ -211,7 +213,7 @@ module _ {base count : ℕ} {s t : State} {sheet full : Sheet} {ending : Ending}
           guest_is = subst (λ x. Agree base (guest base x) (step g).state) (sym state)
               (subst (Agree base (guest base r.after)) guest_same r.agree);
           stands = λ i. absurd (true≢false (sym i ∙ h));
-          blocked = λ i. ap (λ (x : State). (step x).turn) state ∙ r.turn;
+          blocked = λ i. (ap (λ (x : State). (step x).turn) state ∙ r.turn, ap (λ (x : State). x.counter) state ∙ r.counter);
         },
       )
 

@@ -2,7 +2,7 @@
 -- the text is this project's own). The routine takes 66 places from an even base on. It obeys the orders of another
 -- program, its guest, one by one: the guest's store, multiplier and tape are the machine's own, and the routine keeps
 -- the guest's counter and accumulator in its places.
-use Rattle.std.specs.Prelude.{◌≡◌, ◌⊎◌, ℕ, zero, suc, ◌+◌, ◌*◌, ◌/◌, ◌%◌, ◌^◌, ◌<◌, ◌≤◌, nat_eq, nat_lt, if◌then◌else◌}
+use Rattle.std.specs.Prelude.{◌≡◌, ◌⊎◌, ℕ, zero, suc, ◌+◌, ◌-◌, ◌*◌, ◌/◌, ◌%◌, ◌^◌, ◌<◌, ◌≤◌, nat_eq, nat_lt, if◌then◌else◌}
 use Rattle.std.specs.Prelude.{Bool, true, false, List, [], ◌∷◌, ◌++◌, Option, Some, None, codes}
 use Rattle.ed_words.specs.declared.size.Size.{Size}
 use Rattle.ed_words.specs.Sizes.{locations, within}
@@ -13,7 +13,7 @@ use Rattle.ed_orders.specs.declared.kind.Kind.{Kind}
 use Rattle.ed_orders.specs.declared.kind.Kind.TheVariants.{A, S, H, V, N, T, U, C, R, L, E, G, I, O, F, X, Y, Z}
 use Rattle.ed_machine.specs.State.{State}
 use Rattle.ed_machine.specs.OrderTable.{step, next_word}
-use Rattle.ed_machine.specs.Steps.{codes_of, state_after}
+use Rattle.ed_machine.specs.Steps.{codes_of, is_obeyed, state_after}
 use Rattle.ed_routines.specs.Catalogue.{named, with_h}
 use Rattle.ed_routines.specs.Standing.{HasWord}
 
@@ -24,6 +24,10 @@ length_of_checker = 66
 -- a location outside the routine
 abbrev pub IsOutsideChecker : ℕ → ℕ → Type 0
 IsOutsideChecker base a = (a < base) ⊎ (base + length_of_checker ≤ a)
+
+-- the place of the routine at which it plants the guest's order and obeys it
+abbrev pub planting_place : ℕ
+planting_place = 40
 
 -- the guest: the machine's store, multiplier, tape and size; its counter is the address of the order at the routine's
 -- first place, its accumulator is kept in three long locations, nothing was printed and no order is done
@@ -113,7 +117,8 @@ checked_codes g zero = []
 checked_codes g (suc q) = checked_codes g q
     ++ (function_of (next_word (state_after q g)) ∷ codes_of (step (state_after q g)).turn)
 
--- the orders that the routine obeys for one order of its guest, which has a function and an accumulator: 35 at the most
+-- how many orders the routine obeys for an order of its guest with a function and an accumulator: for E (3) and G (27)
+-- by whether it jumps, and for every other order as many as find out that it is none of these
 abbrev pub orders_by : ℕ → ℕ → ℕ
 orders_by function acc =
     if nat_eq function 3 then (if nat_lt acc (2 ^ 70) then 16 else 17)
@@ -123,9 +128,22 @@ orders_by function acc =
     else if nat_lt function 27 then 33
     else 35
 
--- how many orders the turn of a guest takes
+-- how many orders the turn of a guest takes: 35 at the most
 abbrev pub turn_orders : State → ℕ
 turn_orders g = orders_by (function_of (next_word g)) g.acc
+
+-- how many of them save the guest's accumulator and count its order, once it is obeyed
+abbrev pub saving_orders : ℕ
+saving_orders = 16
+
+-- how many orders are obeyed in a turn: where the guest's order can't be obeyed, neither it nor those that save
+abbrev pub orders_in_turn : State → ℕ
+orders_in_turn g = if is_obeyed (step g).turn then turn_orders g else turn_orders g - (1 + saving_orders)
+
+-- how many orders the routine obeys for the first q orders of a guest: the sum of their turns
+unfoldable pub checked_orders : State → ℕ → ℕ
+checked_orders g zero = 0
+checked_orders g (suc q) = checked_orders g q + turn_orders (state_after q g)
 
 -- whether a kind is that of Z
 abbrev pub is_Z : Option Kind → Bool

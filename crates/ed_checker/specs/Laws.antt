@@ -1,45 +1,64 @@
 -- What the checking routine does for many orders of its guest.
-use Rattle.std.specs.Prelude.{◌≡◌, ℕ, suc, ◌+◌, ◌*◌, ◌%◌, ◌<◌, ◌≤◌, true, List}
+use Rattle.std.specs.Prelude.{◌≡◌, ℕ, suc, ◌+◌, ◌*◌, ◌%◌, ◌<◌, ◌≤◌, true, false, List, [], ◌∷◌, ◌++◌}
+use Rattle.ed_words.specs.Words.{function_of}
 use Rattle.ed_words.specs.Sizes.{locations}
 use Rattle.ed_machine.specs.State.{State}
-use Rattle.ed_machine.specs.OrderTable.{step}
+use Rattle.ed_machine.specs.OrderTable.{next_word, step}
 use Rattle.ed_machine.specs.Sound.{IsSound}
 use Rattle.ed_machine.specs.Steps.{IsFree, is_obeyed, past, state_after}
 use Rattle.ed_machine.specs.declared.turn.Turn.TheVariants.{Stopped}
-use Rattle.ed_checker.specs.Checker.{Agree, CheckerStands, IsAllowed, checked_codes, guest}
+use Rattle.ed_checker.specs.Checker.{Agree, CheckerStands, IsAllowed, checked_codes, checked_orders, guest}
+use Rattle.ed_checker.specs.Checker.{planting_place, saving_orders}
 
 -- k orders, each obeyed, lead from s to t, print these codes, and so many of them are stops
 pub record Ran (k : ℕ) (s : State) (codes : List ℕ) (stops : ℕ) (t : State) : Type 0 where
   pub is : past k s ≡ record { state = t; codes = codes; stops = stops }
   pub free : IsFree k s
 
+-- the first q orders of a guest are obeyed, none of them is a stop, and the next one is: it is the first Z
+pub record StopsAfter (q : ℕ) (g : State) : Type 0 where
+  pub free : IsFree q g
+  pub no_stops : (past q g).stops ≡ 0
+  pub stops : (step (state_after q g)).turn ≡ Stopped
+
 -- the first q orders of the guest are allowed, and each is obeyed
 pub record IsFollowed (base q : ℕ) (g : State) : Type 0 where
   pub allowed : (j : ℕ) → j < q → IsAllowed base (state_after j g)
   pub obeyed : (j : ℕ) → j < q → is_obeyed (step (state_after j g)).turn ≡ true
 
--- the routine has obeyed q orders of its guest: it has printed their checked codes, it stands again, and its guest
--- agrees with the guest after these orders
+-- the routine has obeyed q orders of its guest, in the sum of their turns: it has printed their checked codes, it stands
+-- again, and its guest agrees with the guest after these orders
 pub record Checked (base q : ℕ) (m : State) : Type 0 where
   pub last : State
-  pub count : ℕ
-  pub most : count ≤ 35 * q
-  pub ran : Ran count m (checked_codes (guest base m) q) (past q (guest base m)).stops last
+  pub most : checked_orders (guest base m) q ≤ 35 * q
+  pub ran : Ran (checked_orders (guest base m) q) m (checked_codes (guest base m) q) (past q (guest base m)).stops last
   pub stands : CheckerStands base last
   pub agree : Agree base (guest base last) (state_after q (guest base m))
   pub size : last.size ≡ m.size
 
 -- the machine comes to a stop, which is the q-th order of the guest, and has then printed the checked codes of the q
--- orders
+-- orders; the stop and the orders that save behind it are all that is missing of the q turns
 pub record ChecksToStop (base q : ℕ) (m : State) : Type 0 where
   pub last : State
   pub count : ℕ
+  pub exact : count + (1 + saving_orders) ≡ checked_orders (guest base m) q
   pub most : count + 1 ≤ 35 * q
-  pub codes_are : (past count m).codes ≡ checked_codes (guest base m) q
-  pub free : IsFree count m
-  pub no_stops : (past count m).stops ≡ 0
-  pub state_is : state_after count m ≡ last
+  pub ran : Ran count m (checked_codes (guest base m) q) 0 last
+  pub counter : last.counter ≡ base + planting_place
   pub stops : (step last).turn ≡ Stopped
+
+-- behind q orders the guest comes to a word that is no order, or to an order that reads a tape with no row left: the
+-- machine has printed their checked codes and the function of that word, and it stands before that word at the planting
+-- place, blocked by the same cause, with the guest as it was
+pub record ChecksToBlock (base q : ℕ) (m : State) : Type 0 where
+  pub last : State
+  pub count : ℕ
+  pub exact : count + (1 + saving_orders) ≡ checked_orders (guest base m) (suc q)
+  pub ran : Ran count m (checked_codes (guest base m) q ++ (function_of (next_word (state_after q (guest base m))) ∷ []))
+      (past q (guest base m)).stops last
+  pub agree : Agree base (guest base last) (state_after q (guest base m))
+  pub counter : last.counter ≡ base + planting_place
+  pub blocked : (step last).turn ≡ (step (state_after q (guest base m))).turn
 
 -- a machine in which the routine stands
 pub record HasGuest (base : ℕ) (m : State) : Type 0 where
@@ -48,11 +67,13 @@ pub record HasGuest (base : ℕ) (m : State) : Type 0 where
   pub sound : IsSound m
   pub stands : CheckerStands base m
 
--- What holds of every guest: so many of its orders as are allowed and obeyed are checked, and where the next of them
--- is a stop, and the first, the machine comes to it.
+-- What holds of every guest: so many of its orders as are allowed and obeyed are checked; where the next of them is a
+-- stop, and the first, the machine comes to it; and where the next can't be obeyed, the machine is blocked there.
 pub record CheckerLaw : Type 0 where
   pub checks : (base q : ℕ) (m : State) → HasGuest base m → IsFollowed base q (guest base m) → Checked base q m
   pub to_stop : (base q : ℕ) (m : State) → HasGuest base m → IsFollowed base q (guest base m)
-      → (past q (guest base m)).stops ≡ 0
-      → IsAllowed base (state_after q (guest base m)) → (step (state_after q (guest base m))).turn ≡ Stopped
-      → ChecksToStop base (suc q) m
+      → StopsAfter q (guest base m) → IsAllowed base (state_after q (guest base m)) → ChecksToStop base (suc q) m
+  pub to_block : (base q : ℕ) (m : State) → HasGuest base m → IsFollowed base q (guest base m)
+      → IsAllowed base (state_after q (guest base m))
+      → is_obeyed (step (state_after q (guest base m))).turn ≡ false
+      → ChecksToBlock base q m

@@ -4,6 +4,7 @@ pub mod Runs
 pub mod Journeys
 pub mod NewLine
 pub mod Digits
+pub mod Walks
 pub mod Print
 pub mod PrintCall
 pub mod Lines

@@ -9,6 +9,7 @@ use Rattle.ed_machine.specs.Steps.{state_after}
 use Rattle.ed_paths.proofs.Frames.{Frame, Moment, state}
 use Rattle.ed_paths.proofs.Orders.{IsOrder}
 use Rattle.ed_paths.proofs.Paths.{Path, leads, each}
+use Rattle.ed_routines.proofs.Walks.{Walk, Weights, total, total_of_path, weight}
 use Rattle.ed_paths.proofs.Leads.{Leads}
 use Rattle.ed_paths.proofs.Standing.{Holds}
 use Rattle.ed_paths.proofs.Window.{patched, length_patched}
@@ -19,7 +20,7 @@ use Rattle.ed_routines.specs.Returns.{Keeps, Returned}
 use Rattle.ed_routines.proofs.Called.{IsCalled, image, holds_h, kept, beside, call_of, begins}
 use Rattle.ed_routines.proofs.Digits.{tens}
 use Rattle.ed_paths.proofs.Zeros.{flag_of, begun, spared}
-use Rattle.ed_routines.proofs.Print.{Given, Work, cells, run, whole}
+use Rattle.ed_routines.proofs.Print.{Given, Work, cells, print_weight, run, whole}
 use Rattle.ed_routines.proofs.Print.{before_tens, spelled, shows, spelled_is}
 use Rattle.ed_routines.proofs.Print.{shows_is, sum_is}
 
@@ -75,14 +76,17 @@ module _ {b h top : ℕ} {s : State} (o : IsCalled print (with_h h) b h top s) (
   abbrev end : Moment
   end = record (run given left 0 0 (Some (n % 10))) { counter = caller s + 2 }
 
-  path : Path f (print_orders n) moment (11 ∷ digits n) end
-  path =
+  walk : (w : Weights) → Walk w f (print_orders n) (print_weight w n) moment (11 ∷ digits n) end
+  walk w =
       let count : 78 + 8 * sum (tens n) + 4 * shows false (tens n) ≡ print_orders n =
       λ i. 78 + 8 * sum_is (tens n) i + 4 * shows_is (tens n) i in
       let codes : 11 ∷ spelled false (tens n) (n % 10) ≡ 11 ∷ digits n = λ i. 11 ∷ spelled_is (tens n) (n % 10) i in
-      subst (λ k. Path f k moment (11 ∷ digits n) end) count
-      (subst (λ cs. Path f (78 + 8 * sum (tens n) + 4 * shows false (tens n)) moment cs end) codes
-      (whole given first n s.last refl small))
+      subst (λ k. Walk w f k (print_weight w n) moment (11 ∷ digits n) end) count
+      (subst (λ cs. Walk w f (78 + 8 * sum (tens n) + 4 * shows false (tens n)) (print_weight w n) moment cs end) codes
+      (whole given w first n s.last refl small))
+
+  path : Path f (print_orders n) moment (11 ∷ digits n) end
+  path = (walk (record { plain = 1; middle = 1; taken = 1; passed_E = 1; passed_G = 1 })).path
 
   abbrev pub last : State
   last = record s {
@@ -108,6 +112,15 @@ module _ {b h top : ℕ} {s : State} (o : IsCalled print (with_h h) b h top s) (
       → j < print_orders n
       → P (state_after j s)
   keeps_below P is j l = subst (λ x. P (state_after j x)) starts (each P is path s.orders j l)
+
+  -- what is counted for each order that keeps below the place, by its kind and the accumulator, is the weight of the
+  -- routine's orders
+  pub weighs : (w : Weights) (of : State → ℕ)
+      → ((kind : Kind) (x : State) → IsOrder top kind x → of x ≡ weight w kind x.acc)
+      → total of (print_orders n) s ≡ print_weight w n
+  weighs w of by_order =
+      subst (λ x. total of (print_orders n) x ≡ print_weight w n) starts
+      (total_of_path w of by_order (walk w).path s.orders ∙ (walk w).weighs)
 
   module _ (t : State) (e : t ≡ last) where
     pub returned : Returned (print_orders n) s.tape (Some (n % 10)) s t

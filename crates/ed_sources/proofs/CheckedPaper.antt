@@ -1,24 +1,24 @@
 -- What the guest of `call check N` prints has room on the paper, and the machine's orders lead to its stop.
 use Rattle.std.proofs.Common.{◌≡◌, inl, inr, ℕ, zero, suc, ◌+◌, ◌*◌, ◌/◌, ◌%◌}
-use Rattle.std.proofs.Common.{◌<◌, ◌≤◌, refl, sym, subst, arith, true, true≢false}
+use Rattle.std.proofs.Common.{◌<◌, ◌≤◌, refl, sym, ap, subst, arith, true, true≢false}
 use Rattle.std.proofs.Common.{List, [], ◌∷◌, length, length-append}
 use Rattle.std.proofs.lemmas.Bool.{cases_lt}
 use Rattle.ed_words.specs.declared.size.Size.{Size}
 use Rattle.ed_words.specs.Words.{function_of}
 use Rattle.ed_machine.specs.State.{State}
 use Rattle.ed_machine.specs.OrderTable.{next_word, step}
-use Rattle.ed_machine.specs.Steps.{IsFree, codes_of, is_obeyed, past, state_after, stops_of}
+use Rattle.ed_machine.specs.Steps.{IsFree, Past, codes_of, is_obeyed, past, state_after, stops_of}
 use Rattle.ed_machine.specs.declared.turn.Turn.{Turn}
 use Rattle.ed_machine.specs.declared.turn.Turn.TheVariants.{Went, Printed, Stopped, NoOrder, NoTape}
 use Rattle.ed_loads.specs.EntryState.{entry_state}
 use Rattle.ed_paths.proofs.Leads.{goes_on}
-use Rattle.ed_routines.specs.Digits.{print_orders, sum, without_zeros}
+use Rattle.ed_routines.specs.Digits.{before_units, print_orders, sum, without_zeros}
 use Rattle.ed_checker.specs.Checker.{checked_codes, guest}
 use Rattle.ed_checker.specs.Laws.{ChecksToStop}
 use Rattle.ed_checker.proofs.Whole.{few_codes}
-use Rattle.ed_sources.proofs.CheckedPrint.{checks_print}
+use Rattle.ed_sources.proofs.CheckedPrint.{checks_print, count_is}
 use Rattle.ed_sources.proofs.Said.{check_lines}
-use Rattle.ed_sources.proofs.Stops.{LeadsToStop}
+use Rattle.ed_sources.proofs.Stops.{StopsAt}
 
 -- orders that are obeyed and no stops go on
 goes_of : (turn : Turn) → is_obeyed turn ≡ true → stops_of turn ≡ 0 → goes_on turn ≡ true
@@ -77,21 +77,20 @@ module _ (z : Size) (n : ℕ) (small : n < 65536) where
   abbrev c : ChecksToStop 112 (3 + print_orders n) (entry_state z (check_lines n))
   c = checks_print z n small
 
-  -- how many orders lead to the stop
-  abbrev pub check_count : ℕ
-  check_count = c.count
-
-  pub few_checked : suc check_count ≤ 35 * (3 + print_orders n)
-  few_checked = omega (arith, c.most)
-
-  pub check_ends : LeadsToStop check_count (entry_state z (check_lines n))
-      (checked_codes (guest 112 (entry_state z (check_lines n))) (3 + print_orders n))
-  check_ends = record {
-    last = c.last;
-    leads = record {
-      state_is = c.state_is;
-      codes_are = c.codes_are;
-      goes = all_go c.count (entry_state z (check_lines n)) c.free c.no_stops;
-    };
-    stops = c.stops;
-  }
+  pub check_ends : StopsAt (2550 + 244 * sum (before_units n) + 142 * length (before_units n))
+      (entry_state z (check_lines n)) (checked_codes (guest 112 (entry_state z (check_lines n))) (3 + print_orders n)) 152
+  check_ends =
+      subst (λ k. StopsAt k (entry_state z (check_lines n))
+      (checked_codes (guest 112 (entry_state z (check_lines n))) (3 + print_orders n)) 152) (count_is z n small)
+      (record {
+        to_stop = record {
+          last = c.last;
+          leads = record {
+            state_is = ap (λ (p : Past). p.state) c.ran.is;
+            codes_are = ap (λ (p : Past). p.codes) c.ran.is;
+            goes = all_go c.count (entry_state z (check_lines n)) c.ran.free (ap (λ (p : Past). p.stops) c.ran.is);
+          };
+          stops = c.stops;
+        };
+        counter = c.counter;
+      })

@@ -1,8 +1,8 @@
 -- The source of `call check N`: at its entry the checking routine stands, and its guest prints the number and stops.
-use Rattle.std.proofs.Common.{◌≡◌, inl, inr, ◌∙◌, ℕ, zero, suc, ◌+◌, ◌-◌, ◌%◌}
+use Rattle.std.proofs.Common.{◌≡◌, inl, inr, ◌∙◌, ℕ, zero, suc, ◌+◌, ◌-◌, ◌*◌, ◌/◌, ◌%◌}
 use Rattle.std.proofs.Common.{◌^◌, ◌<◌, ◌≤◌, refl, sym, ap, subst, arith, lit≤, lit<}
-use Rattle.std.proofs.Common.{Bool, true, false, ◌&&◌, ◌||◌, nat_eq, nat_lt, Some}
-use Rattle.std.proofs.Common.{List, [], ◌∷◌, ◌++◌, drop, get_or, set}
+use Rattle.std.proofs.Common.{Bool, true, false, ◌&&◌, ◌||◌, nat_eq, nat_le, nat_lt, Some}
+use Rattle.std.proofs.Common.{List, [], ◌∷◌, ◌++◌, drop, get_or, length, set}
 use Rattle.std.specs.Prelude.{replicate, unwrap_or}
 use Rattle.std.specs.List.{list_all}
 use Rattle.std.proofs.lemmas.Bool.{and_parts, cases_lt}
@@ -15,9 +15,9 @@ use Rattle.ed_words.proofs.Numbers.{eq_of, lt_of, lt_true}
 use Rattle.ed_words.proofs.SizeLemmas.{least, within_below}
 use Rattle.ed_store.specs.Cells.{long_at, short_at}
 use Rattle.ed_orders.specs.Kinds.{kind_of_function}
-use Rattle.ed_orders.specs.declared.kind.Kind.TheVariants.{A}
+use Rattle.ed_orders.specs.declared.kind.Kind.TheVariants.{A, G}
 use Rattle.ed_machine.specs.State.{State}
-use Rattle.ed_machine.specs.OrderTable.{next_word, obey_word, step}
+use Rattle.ed_machine.specs.OrderTable.{jumped, next_word, obey_word, place_of, step}
 use Rattle.ed_machine.specs.Sound.{IsSound}
 use Rattle.ed_machine.specs.Steps.{past, state_after}
 use Rattle.ed_notation.specs.Fold.{over, placed_at}
@@ -27,16 +27,23 @@ use Rattle.ed_library.specs.Routines.{is_working}
 use Rattle.ed_loads.specs.EntryState.{entry_state, own_words}
 use Rattle.ed_loads.proofs.Entries.{all_fit}
 use Rattle.ed_machine.proofs.Steps.{after_sum}
+use Rattle.ed_paths.proofs.Frames.{short}
 use Rattle.ed_paths.proofs.Leads.{Leads, free, joined, no_stops}
+use Rattle.ed_paths.proofs.Zeros.{begun, shown}
 use Rattle.ed_routines.specs.Catalogue.{print, with_h}
-use Rattle.ed_routines.specs.Digits.{digits, print_orders}
+use Rattle.ed_routines.specs.Digits.{before_units, digits, print_orders, sum}
 use Rattle.ed_routines.specs.Standing.{IsOutside, Stands, caller}
 use Rattle.ed_routines.proofs.Called.{IsCalled}
+use Rattle.ed_routines.proofs.Digits.{tens}
+use Rattle.ed_routines.proofs.Print.{before_tens, print_weight, shown_weight, shows_is, sum_is}
 use Rattle.ed_routines.proofs.PrintCall as print_call
-use Rattle.ed_checker.specs.Checker.{HasImage, IsAllowed, IsAllowedOrder, check, guest}
-use Rattle.ed_checker.specs.Laws.{ChecksToStop, HasGuest, IsFollowed}
+use Rattle.ed_routines.proofs.Walks.{total, total_sum}
+use Rattle.ed_checker.specs.Checker.{HasImage, IsAllowed, IsAllowedOrder, check, checked_orders, guest, orders_by}
+use Rattle.ed_checker.specs.Checker.{turn_orders}
+use Rattle.ed_checker.specs.Laws.{ChecksToStop, HasGuest, IsFollowed, StopsAfter}
 use Rattle.ed_checker.proofs.Follow.{checker_law}
 use Rattle.ed_checker.proofs.Guests.{allowed_below, size_after}
+use Rattle.ed_checker.proofs.Weights.{checked_total, turn_weighs, turn_weights}
 use Rattle.ed_sources.proofs.Along.{IsAt, before, has}
 use Rattle.ed_sources.proofs.AtEntry.{all_words, has_image, placed, word_at}
 use Rattle.ed_sources.proofs.CalledRoutines.{stop_at}
@@ -66,6 +73,26 @@ zeros_fit : (k i : ℕ) → get_or (replicate k 0) i 0 < 2 ^ 17
 zeros_fit zero i = lit< tt
 zeros_fit (suc k) zero = lit< tt
 zeros_fit (suc k) (suc i) = zeros_fit k i
+
+-- ---- what the orders of `print` weigh
+
+shown_is : (b : Bool) (q : ℕ) → shown_weight turn_weights b q ≡ 156 + 142 * length (shown b q)
+shown_is false zero = refl
+shown_is false (suc q) = refl
+shown_is true q = refl
+
+print_weight_is : (n : ℕ) → print_weight turn_weights n
+    ≡ 2481 + 244 * sum (before_units n) + 142 * length (before_units n)
+print_weight_is n =
+    let b1 : Bool = begun false (n / 10000) in
+    let b2 : Bool = begun b1 (n / 1000 % 10) in
+    let first = shown_is false (n / 10000) in
+    let second = shown_is b1 (n / 1000 % 10) in
+    let third = shown_is b2 (n / 100 % 10) in
+    let fourth = shown_is (before_tens n) (n / 10 % 10) in
+    let all = sum_is (tens n) in
+    let many = shows_is (tens n) in
+    omega (arith, first, second, third, fourth, all, many)
 
 module _ (z : Size) (n : ℕ) (small : n < 65536) where
   -- the machine at the entry, and the guest
@@ -319,13 +346,81 @@ module _ (z : Size) (n : ℕ) (small : n < 65536) where
   at_end : state_after (2 + count) g ≡ end
   at_end = leads.state_is
 
-  pub checks : ChecksToStop 112 (suc (2 + count)) m
-  checks =
-      checker_law.to_stop 112 (2 + count) m has_guest followed (no_stops (2 + count) g leads.goes)
-      (subst (IsAllowed 112) (sym at_end) end_allowed)
-      (ap (λ (x : State). (step x).turn) at_end ∙ stop_at end end_word)
+  to_stop : StopsAfter (2 + count) g
+  to_stop = record {
+    free = free leads;
+    no_stops = no_stops (2 + count) g leads.goes;
+    stops = ap (λ (x : State). (step x).turn) at_end ∙ stop_at end end_word;
+  }
 
+  -- the guest comes to its first Z
+  pub guest_stops : StopsAfter (2 + print_orders n) g
+  guest_stops = subst (λ x. StopsAfter (2 + print_orders x) g) number_is to_stop
+
+  checks : ChecksToStop 112 (suc (2 + count)) m
+  checks =
+      checker_law.to_stop 112 (2 + count) m has_guest followed to_stop (subst (IsAllowed 112) (sym at_end) end_allowed)
+
+  -- ---- the orders of its turns
+
+  first_turn : turn_orders g ≡ 35
+  first_turn = λ i. orders_by (function_of (first_word i)) (acc_is i)
+
+  jump_keeps : (b : Bool) (p : ℕ) (x : State) → (jumped b p x).state.acc ≡ x.acc
+  jump_keeps true p x = refl
+  jump_keeps false p x = refl
+
+  jump_is : state_after 2 g ≡ (obey_word (Some G) 110712 second).state
+  unfolding past step
+  jump_is = ap (λ (x : State). (step x).state) second_is
+      ∙ ap (λ w. (obey_word (kind_of_function (function_of w)) w second).state) second_word
+
+  second_acc : second.acc ≡ short 114800
+  second_acc =
+      sym (jump_keeps (nat_le (2 ^ 70) second.acc) (place_of second 110712) second)
+      ∙ ap (λ (x : State). x.acc) (sym jump_is ∙ third)
+
+  second_turn : turn_orders second ≡ 16
+  second_turn = λ i. orders_by (function_of (second_word i)) (second_acc i)
+
+  last_turn : turn_orders (state_after (2 + count) g) ≡ 35
+  last_turn = ap turn_orders at_end ∙ ap (λ w. orders_by (function_of w) end.acc) end_word
+
+  two_turns : total turn_orders 2 g ≡ 51
+  unfolding total
+  two_turns =
+      let a = ap turn_orders no_orders ∙ first_turn in
+      let b = ap turn_orders second_is ∙ second_turn in
+      omega (arith, a, b)
+
+  print_turns : total turn_orders count t ≡ print_weight turn_weights (short_at t.store 59)
+  print_turns = print_call.weighs printing low turn_weights turn_orders (λ kind x o. turn_weighs kind x o.kind_is)
+
+  turns_before : total turn_orders (2 + count) g ≡ 51 + print_weight turn_weights (short_at t.store 59)
+  turns_before =
+      total_sum turn_orders 2 count g
+      ∙ (λ i. two_turns i + total turn_orders count (third i))
+      ∙ ap (λ x. 51 + x) print_turns
+
+  all_turns : checked_orders g (suc (2 + count)) ≡ 86 + print_weight turn_weights (short_at t.store 59)
+  unfolding total
+  all_turns =
+      let before = turns_before in
+      let last = last_turn in
+      checked_total g (suc (2 + count)) ∙ omega (arith, before, last)
+
+  -- the guest's orders up to its first Z, which is the last of them, and as many orders of the machine as the formula
+  -- has lead to it
   pub checks_print : ChecksToStop 112 (3 + print_orders n) m
   checks_print =
       let e : suc (2 + count) ≡ 3 + print_orders n = ap (λ x. suc (2 + print_orders x)) number_is ∙ omega arith in
       subst (λ q. ChecksToStop 112 q m) e checks
+
+  pub count_is : checks_print.count ≡ 2550 + 244 * sum (before_units n) + 142 * length (before_units n)
+  count_is =
+      let e : suc (2 + count) ≡ 3 + print_orders n = ap (λ x. suc (2 + print_orders x)) number_is ∙ omega arith in
+      let turns : checked_orders g (3 + print_orders n) ≡ 86 + print_weight turn_weights n =
+      ap (checked_orders g) (sym e) ∙ all_turns ∙ ap (λ x. 86 + print_weight turn_weights x) number_is in
+      let exact = checks_print.exact in
+      let formula = print_weight_is n in
+      omega (arith, exact, turns, formula)

@@ -20,7 +20,7 @@ use Rattle.ed_sources.proofs.CalledMaths.{Divides, divides}
 use Rattle.ed_sources.proofs.CalledRoutines.{Passes, newline_passes, print_passes, stopped}
 use Rattle.ed_sources.proofs.Calling.{HasRoutine, IsBefore}
 use Rattle.ed_sources.proofs.SaidMaths.{divide_lines}
-use Rattle.ed_sources.proofs.Stops.{LeadsToStop, behind}
+use Rattle.ed_sources.proofs.Stops.{StopsAt, behind}
 
 -- the quotient and the remainder of a division in range are below 65536
 pub quotient_low : (n by : ℕ) → 1 ≤ by → n < 65536 * by → n / by < 65536
@@ -148,7 +148,7 @@ module _ (z : Size) (high low by : ℕ) (positive : 1 ≤ by) (fits : by ≤ 327
   still : short_at feeds.last.store 65 ≡ n % by
   still = feeds.words 65 (inl (lit< tt)) ∙ prints.words 65 (inl (lit< tt)) ∙ remainder
 
-  prints_last : LeadsToStop (2 + print_orders (n % by)) feeds.last (11 ∷ digits (n % by))
+  prints_last : StopsAt (2 + print_orders (n % by)) feeds.last (11 ∷ digits (n % by)) 64
   prints_last =
       let size = least z in
       stopped
@@ -160,24 +160,24 @@ module _ (z : Size) (high low by : ℕ) (positive : 1 ≤ by) (fits : by ≤ 327
       (inl (lit< tt)) (word_there at_last refl 64 53248
       (inl (lit< tt)) (lit≤ tt) (lit< tt) refl)
 
-  pub divide_ends : LeadsToStop
+  pub divide_ends : StopsAt
       (2 + divide_orders (n / by) + (2 + print_orders (n / by) + (7 + (2 + print_orders (n % by))))) s
-      (11 ∷ digits (n / by) ++ 18 ∷ 24 ∷ 11 ∷ digits (n % by))
+      (11 ∷ digits (n / by) ++ 18 ∷ 24 ∷ 11 ∷ digits (n % by)) 64
   divide_ends =
       let count : dividend 65 66 s / short_at s.store 67 ≡ n / by = λ i. number i / at_by i in
-      subst (λ q. LeadsToStop (2 + divide_orders q + (2 + print_orders (n / by) + (7 + (2 + print_orders (n % by))))) s
-      (11 ∷ digits (n / by) ++ 18 ∷ 24 ∷ 11 ∷ digits (n % by))) count
+      subst (λ q. StopsAt (2 + divide_orders q + (2 + print_orders (n / by) + (7 + (2 + print_orders (n % by))))) s
+      (11 ∷ digits (n / by) ++ 18 ∷ 24 ∷ 11 ∷ digits (n % by)) 64) count
       (behind takes.leads (behind prints.leads (behind feeds.leads prints_last)))
 
 -- so it is of `call divide N D`
 pub call_ends : (z : Size) (n by : ℕ) → IsDivisible n by
-    → LeadsToStop (2 + divide_orders (n / by) + (2 + print_orders (n / by) + (7 + (2 + print_orders (n % by)))))
-    (entry_state z (divide_lines (n / 65536) (n % 65536) by)) (11 ∷ digits (n / by) ++ 18 ∷ 24 ∷ 11 ∷ digits (n % by))
+    → StopsAt (2 + divide_orders (n / by) + (2 + print_orders (n / by) + (7 + (2 + print_orders (n % by)))))
+    (entry_state z (divide_lines (n / 65536) (n % 65536) by)) (11 ∷ digits (n / by) ++ 18 ∷ 24 ∷ 11 ∷ digits (n % by)) 64
 call_ends z n by made =
     let whole : 65536 * (n / 65536) + n % 65536 ≡ n = omega arith in
     let less = made.less in
-    subst (λ x. LeadsToStop (2 + divide_orders (x / by)
+    subst (λ x. StopsAt (2 + divide_orders (x / by)
     + (2 + print_orders (x / by) + (7 + (2 + print_orders (x % by)))))
     (entry_state z (divide_lines (n / 65536) (n % 65536) by))
-    (11 ∷ digits (x / by) ++ 18 ∷ 24 ∷ 11 ∷ digits (x % by))) whole
+    (11 ∷ digits (x / by) ++ 18 ∷ 24 ∷ 11 ∷ digits (x % by)) 64) whole
     (divide_ends z (n / 65536) (n % 65536) by made.positive made.divisor (omega arith) (omega arith))

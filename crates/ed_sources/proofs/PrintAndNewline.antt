@@ -12,7 +12,7 @@ use Rattle.ed_sources.proofs.AtEntry.{has_image, placed, word_at}
 use Rattle.ed_sources.proofs.CalledRoutines.{newline_passes, print_passes, stopped}
 use Rattle.ed_sources.proofs.Calling.{HasRoutine, IsBefore}
 use Rattle.ed_sources.proofs.Said.{newline_lines, print_lines}
-use Rattle.ed_sources.proofs.Stops.{LeadsToStop}
+use Rattle.ed_sources.proofs.Stops.{StopsAt}
 
 -- ---- `call print N`
 
@@ -33,7 +33,7 @@ module _ (z : Size) (n : ℕ) (small : n < 65536) where
   has_print : HasRoutine s print 60 (with_h 59)
   has_print = has at refl its_image (lit≤ tt) (lit≤ tt) (lit≤ tt) (lit≤ tt)
 
-  pub print_ends : LeadsToStop (2 + print_orders n) s (11 ∷ digits n)
+  pub print_ends : StopsAt (2 + print_orders n) s (11 ∷ digits n) 58
   print_ends =
       let size = least z in
       stopped
@@ -60,7 +60,7 @@ module _ (z : Size) where
   has_newline : HasRoutine s0 newline 60 []
   has_newline = has at_newline refl newline_image (lit≤ tt) (lit≤ tt) (lit≤ tt) (lit≤ tt)
 
-  pub newline_ends : LeadsToStop 7 s0 (18 ∷ 24 ∷ [])
+  pub newline_ends : StopsAt 7 s0 (18 ∷ 24 ∷ []) 58
   newline_ends =
       stopped (newline_passes before_newline has_newline) (inl (lit< tt))
       (word_at z newline_lines refl 58 (lit≤ tt) (lit< tt))

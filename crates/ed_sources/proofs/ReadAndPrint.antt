@@ -17,7 +17,7 @@ use Rattle.ed_sources.proofs.CalledRoutines.{Passes, ReadsNumber, print_passes, 
 use Rattle.ed_sources.proofs.Calling.{HasRoutine, IsBefore}
 use Rattle.ed_sources.proofs.Decimals.{are, are_digits}
 use Rattle.ed_sources.proofs.Said.{read_lines}
-use Rattle.ed_sources.proofs.Stops.{LeadsToStop, behind}
+use Rattle.ed_sources.proofs.Stops.{StopsAt, behind}
 
 -- the digit rows of a tape are the digits that it begins with, and then its other rows are left
 pub rows_are : (ds rest : List ℕ) → are_digits ds ≡ true → digit_rows (ds ++ 17 ∷ rest) ≡ ds
@@ -87,7 +87,7 @@ module _ (z : Size) (n : ℕ) (small : n < 65536) where
   has_print : HasRoutine takes.last print 86 (with_h 61)
   has_print = has at_print refl print_image (lit≤ tt) (lit≤ tt) (lit≤ tt) (lit≤ tt)
 
-  prints : LeadsToStop (2 + print_orders n) takes.last (11 ∷ digits n)
+  prints : StopsAt (2 + print_orders n) takes.last (11 ∷ digits n) 60
   prints =
       let size = least z in
       stopped
@@ -96,7 +96,7 @@ module _ (z : Size) (n : ℕ) (small : n < 65536) where
       number small)
       (inl (lit< tt)) (word_there at_print refl 60 53248 (inl (lit< tt)) (lit≤ tt) (lit< tt) refl)
 
-  pub read_ends : LeadsToStop (2 + (11 + 13 * length (digits n)) + (2 + print_orders n)) s (11 ∷ digits n)
+  pub read_ends : StopsAt (2 + (11 + 13 * length (digits n)) + (2 + print_orders n)) s (11 ∷ digits n) 60
   read_ends =
-      subst (λ (ds : List ℕ). LeadsToStop (2 + (11 + 13 * length ds) + (2 + print_orders n)) s (11 ∷ digits n)) rows
+      subst (λ (ds : List ℕ). StopsAt (2 + (11 + 13 * length ds) + (2 + print_orders n)) s (11 ∷ digits n) 60) rows
       (behind takes.leads prints)

@@ -17,7 +17,7 @@ use Rattle.ed_sources.proofs.CalledMaths.{TakesRoot, takes_root}
 use Rattle.ed_sources.proofs.CalledRoutines.{Passes, print_passes, stopped}
 use Rattle.ed_sources.proofs.Calling.{HasRoutine, IsBefore}
 use Rattle.ed_sources.proofs.SaidMaths.{root_lines}
-use Rattle.ed_sources.proofs.Stops.{LeadsToStop, behind}
+use Rattle.ed_sources.proofs.Stops.{StopsAt, behind}
 
 pub root_small : (n : ℕ) → n < 65536 → root_of n < 65536
 root_small n small = let low = few n (root_of n) (root_is n) small in omega arith
@@ -80,7 +80,7 @@ module _ (z : Size) (n : ℕ) (small : n < 65536) where
       has at_print refl print_image (lit≤ tt) (lit≤ tt)
       (lit≤ tt) (lit≤ tt)
 
-  prints : LeadsToStop (2 + print_orders r) takes.last (11 ∷ digits r)
+  prints : StopsAt (2 + print_orders r) takes.last (11 ∷ digits r) 60
   prints =
       let size = least z in
       stopped
@@ -89,5 +89,5 @@ module _ (z : Size) (n : ℕ) (small : n < 65536) where
       (inl (lit< tt)) (word_there at_print refl 60 53248 (inl (lit< tt))
       (lit≤ tt) (lit< tt) refl)
 
-  pub root_ends : LeadsToStop (2 + root_orders r + (2 + print_orders r)) s (11 ∷ digits r)
+  pub root_ends : StopsAt (2 + root_orders r + (2 + print_orders r)) s (11 ∷ digits r) 60
   root_ends = behind takes.leads prints

@@ -1,11 +1,17 @@
 -- Orders that lead to a stop, and the run that they are.
-use Rattle.std.proofs.Common.{◌≡◌, ◌∙◌, inl, inr, ℕ, suc, ◌+◌}
-use Rattle.std.proofs.Common.{◌≤◌, ap, arith, List, ◌++◌, length}
-use Rattle.std.proofs.Common.{append-nil}
+use Rattle.std.proofs.Common.{◌≡◌, ◌∙◌, inl, inr, ℕ, suc, ◌+◌, ◌-◌, ◌^◌, ◌<◌}
+use Rattle.std.proofs.Common.{◌≤◌, refl, sym, ap, arith, Bool, true, false, List, [], ◌∷◌, ◌++◌, length}
+use Rattle.std.proofs.Common.{append-nil, nat_le, nat_lt, Option, Some, None}
 use Rattle.std.proofs.lemmas.Bool.{cases_lt}
+use Rattle.ed_words.specs.Sizes.{locations, within}
+use Rattle.ed_words.specs.Words.{function_of}
+use Rattle.ed_words.proofs.SizeLemmas.{within_below}
+use Rattle.ed_orders.specs.Kinds.{kind_of_function}
+use Rattle.ed_orders.specs.declared.kind.Kind.{Kind}
+use Rattle.ed_orders.specs.declared.kind.Kind.TheVariants.{E, G, I, Z}
 use Rattle.ed_machine.specs.State.{State}
-use Rattle.ed_machine.specs.OrderTable.{step}
-use Rattle.ed_machine.specs.Steps.{IsFree, codes_of, is_obeyed, past, state_after}
+use Rattle.ed_machine.specs.OrderTable.{after, done_at, jumped, next_word, obey_word, place_of, step, took_row}
+use Rattle.ed_machine.specs.Steps.{IsFree, Past, codes_of, is_obeyed, past, state_after}
 use Rattle.ed_machine.specs.declared.turn.Turn.{Turn}
 use Rattle.ed_machine.specs.declared.turn.Turn.TheVariants.{Stopped as Stops}
 use Rattle.ed_machine.specs.declared.ending.Ending.TheVariants.{Stopped}
@@ -13,7 +19,9 @@ use Rattle.ed_run.specs.Run.{RunEnd, ran}
 use Rattle.ed_run.specs.Laws.{HasRoom}
 use Rattle.ed_run.proofs.Ends.{ends_once, ran_ends}
 use Rattle.ed_run.proofs.Places.{at_stop}
+use Rattle.ed_machine.proofs.Counts.{counted_after}
 use Rattle.ed_paths.proofs.Leads.{Leads, free, joined, no_stops}
+use Rattle.ed_checker.proofs.Guests.{size_after}
 
 -- k orders print the codes and lead to an order that stops the machine
 pub record LeadsToStop (k : ℕ) (s : State) (codes : List ℕ) : Type 0 where
@@ -21,10 +29,70 @@ pub record LeadsToStop (k : ℕ) (s : State) (codes : List ℕ) : Type 0 where
   pub leads : Leads k s codes last
   pub stops : (step last).turn ≡ Stops
 
--- the same after other orders
-pub behind : {a b : ℕ} {s t : State} {cs ds : List ℕ} → Leads a s cs t → LeadsToStop b t ds
-    → LeadsToStop (a + b) s (cs ++ ds)
-behind first o = record { last = o.last; leads = joined first o.leads; stops = o.stops }
+-- the same, with the location of that order
+pub record StopsAt (k : ℕ) (s : State) (codes : List ℕ) (place : ℕ) : Type 0 where
+  pub to_stop : LeadsToStop k s codes
+  pub counter : to_stop.last.counter ≡ place
+
+-- and behind other orders
+pub behind : {a b place : ℕ} {s t : State} {cs ds : List ℕ} → Leads a s cs t → StopsAt b t ds place
+    → StopsAt (a + b) s (cs ++ ds) place
+behind first o = record {
+  to_stop = record {
+    last = o.to_stop.last;
+    leads = joined first o.to_stop.leads;
+    stops = o.to_stop.stops;
+  };
+  counter = o.counter;
+}
+
+-- the order that stops the machine leaves it behind the stop
+stopped_state : (k : Option Kind) (w : ℕ) (x : State) → (obey_word k w x).turn ≡ Stops
+    → (obey_word k w x).state ≡ done_at (after x) x
+stopped_state (Some E) w x h = by_test (nat_lt x.acc (2 ^ 70)) h
+  where
+    by_test : (b : Bool) → (jumped b (place_of x w) x).turn ≡ Stops
+        → (jumped b (place_of x w) x).state ≡ done_at (after x) x
+    by_test true h = cc
+    by_test false h = refl
+stopped_state (Some G) w x h = by_test (nat_le (2 ^ 70) x.acc) h
+  where
+    by_test : (b : Bool) → (jumped b (place_of x w) x).turn ≡ Stops
+        → (jumped b (place_of x w) x).state ≡ done_at (after x) x
+    by_test true h = cc
+    by_test false h = refl
+stopped_state (Some I) w x h = by_tape x.tape h
+  where
+    by_tape : (rows : List ℕ) → (took_row rows w x).turn ≡ Stops → (took_row rows w x).state ≡ done_at (after x) x
+    by_tape [] h = cc
+    by_tape (row ∷ rows) h = cc
+stopped_state (Some Z) w x h = refl
+stopped_state None w x h = cc
+stopped_state (Some kind) w x h = cc
+
+step_stopped : (x : State) → (step x).turn ≡ Stops → (step x).state ≡ done_at (after x) x
+unfolding step
+step_stopped x h = stopped_state (kind_of_function (function_of (next_word x))) (next_word x) x h
+
+-- so the counter is behind it, and it is one order more
+pub record Halted {k place : ℕ} {s : State} {codes : List ℕ} (o : StopsAt k s codes place) : Type 0 where
+  pub counter : (step o.to_stop.last).state.counter ≡ place + 1
+  pub orders : (step o.to_stop.last).state.orders ≡ s.orders + k + 1
+
+pub halted : {k place : ℕ} {s : State} {codes : List ℕ} (o : StopsAt k s codes place) → place + 1 < locations s.size
+    → Halted o
+halted {k} {place} {s} o below =
+    let last = o.to_stop.last in
+    let leads = o.to_stop.leads in
+    let left : (step last).state ≡ done_at (after last) last = step_stopped last o.to_stop.stops in
+    let size : last.size ≡ s.size = ap (λ (x : State). x.size) (sym leads.state_is) ∙ size_after k s in
+    let orders : last.orders ≡ s.orders + k = ap (λ (x : State). x.orders) (sym leads.state_is)
+    ∙ counted_after k s (free leads) in
+    record {
+      counter = ap (λ (x : State). x.counter) left ∙ (λ i. within (size i) (o.counter i + 1))
+          ∙ within_below s.size (place + 1) below;
+      orders = ap (λ (x : State). x.orders) left ∙ ap (λ n. n + 1) orders;
+    }
 
 -- how a run ends that stops at an order
 pub record RanToStop (r : RunEnd) (codes : List ℕ) (last : State) : Type 0 where

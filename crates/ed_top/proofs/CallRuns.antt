@@ -1,9 +1,14 @@
 -- A call is the run of its source, from the state at its entry.
-use Rattle.std.proofs.Common.{◌≡◌, ◌∙◌, ℕ, suc, ◌-◌, ◌/◌, ◌%◌, ◌≤◌, refl}
-use Rattle.std.proofs.Common.{ap, subst, arith, lit≤, List, [], ◌∷◌}
+use Rattle.std.proofs.Common.{◌≡◌, ◌∙◌, ℕ, ◌+◌, ◌-◌, ◌*◌, ◌/◌, ◌%◌, ◌<◌, ◌≤◌, refl}
+use Rattle.std.proofs.Common.{ap, subst, arith, lit<, lit≤, List, [], ◌∷◌, ◌++◌}
 use Rattle.std.proofs.Common.{length, length-append}
-use Rattle.std.specs.Prelude.{None, Result, Ok, Err}
+use Rattle.std.specs.Prelude.{None, Result, Ok, Err, codes as codes_of_text}
+use Rattle.ed_words.specs.declared.size.Size.TheVariants.{Full}
+use Rattle.ed_words.proofs.SizeLemmas.{least}
+use Rattle.ed_machine.specs.State.{State}
+use Rattle.ed_machine.specs.OrderTable.{step}
 use Rattle.ed_words.specs.declared.memory.NoMemory.{NoMemory}
+use Rattle.ed_call.specs.Ranges.{IsCallInRange}
 use Rattle.ed_call.specs.declared.Call.{Call}
 use Rattle.ed_call.specs.declared.Call.TheVariants.{Print, Read, NewLine, Divide, Root, Check}
 use Rattle.ed_sources.specs.Calls.{call_text}
@@ -17,30 +22,35 @@ use Rattle.ed_sources.proofs.Faultless.{read_faultless, root_faultless, check_fa
 use Rattle.ed_sources.proofs.Papers.{digits_printed, lines_printed}
 use Rattle.ed_sources.proofs.DivideAndPrint.{call_ends, quotient_low, remainder_low}
 use Rattle.ed_sources.proofs.RootAndPrint.{root_ends, root_small}
-use Rattle.ed_sources.proofs.CheckedPaper.{check_ends, few_checked, room_for_codes}
+use Rattle.ed_sources.proofs.CheckedPaper.{check_ends, few_orders, room_for_codes}
+use Rattle.ed_sources.proofs.CheckedPrint.{guest_stops}
 use Rattle.ed_sources.proofs.PrintAndNewline.{newline_ends, print_ends}
 use Rattle.ed_sources.proofs.ReadAndPrint.{read_ends}
-use Rattle.ed_sources.proofs.Stops.{LeadsToStop, ran_to_stop}
+use Rattle.ed_sources.proofs.Stops.{StopsAt, halted, ran_to_stop}
 use Rattle.ed_maths.specs.Roots.{root_of}
+use Rattle.ed_maths.proofs.Greatest.{root_is}
+use Rattle.ed_maths.proofs.RootCall.{few as below_256}
 use Rattle.ed_routines.specs.Digits.{digits}
 use Rattle.ed_routines.proofs.Digits.{few_digits}
 use Rattle.ed_printer.specs.Paper.{paper}
 use Rattle.ed_run.specs.Run.{ran}
 use Rattle.ed_link.specs.Linked.{entry_of}
+use Rattle.ed_link.specs.Punch.{punched}
 use Rattle.ed_link.specs.Tapes.{cost}
+use Rattle.ed_link.proofs.Bounds.{rows_few}
 use Rattle.ed_loads.specs.EntryState.{entry_state}
-use Rattle.ed_report.specs.Notes.{entered}
+use Rattle.ed_report.specs.Notes.{at_after, entered}
 use Rattle.ed_command.specs.declared.command.Settings.{Settings}
 use Rattle.ed_words.specs.Texts.{Text}
-use Rattle.ed_top.specs.Outcome.{Outcome}
-use Rattle.ed_top.specs.Calls.{CallRuns, EachCallRuns, call_orders, call_prints, of_made_source}
+use Rattle.ed_top.specs.Calls.{CallRuns, EachCallRuns, GuestStops, call_entry, call_orders, call_prints, call_stop}
+use Rattle.ed_top.specs.Calls.{CallsByDefault, of_made_source, usual_settings}
 use Rattle.ed_top.specs.Headline.{RunsFromEntry}
-use Rattle.ed_top.specs.Runs.{paper_room, ran_outcome, status_of, with_post_mortem}
+use Rattle.ed_top.specs.Runs.{paper_room, ran_outcome, with_post_mortem}
 use Rattle.ed_top.specs.Sources.{OfSource, of_source, run_outcome}
 use Rattle.ed_top.specs.Private.Stages.{Replies}
 use Rattle.ed_top.specs.declared.reply.Reply.{Reply}
 use Rattle.ed_top.proofs.Sources.{accepted_is, headline}
-use Rattle.ed_top.proofs.Stopped.{nothing_after}
+use Rattle.ed_top.proofs.Stopped.{answered, nothing_after}
 
 -- what replies to a source that was made is what is answered of it
 pub made_replied : (s : Settings) (text input : Text) (r : Result Reply NoMemory) → input ≡ text
@@ -50,45 +60,75 @@ made_replied s text input (Err e) is replies =
 made_replied s text input (Ok reply) is replies =
     (replies.0, subst (λ (t : Text). OfSource s.size (run_outcome s) t replies.0) is replies.1, replies.2)
 
+-- what a call takes from its entry on
+orders_few : (call : Call) → IsCallInRange call → call_orders call ≤ 14000
+orders_few (Print n) small = let few = few_orders n small in omega arith
+orders_few (Read n) small = let few = few_orders n small in let long = few_digits n in omega arith
+orders_few NewLine made = lit≤ tt
+orders_few (Divide n by) made =
+    let first = few_orders (n / by) (quotient_low n by made.positive made.less) in
+    let second = few_orders (n % by) (remainder_low n by made.positive made.divisor) in
+    omega arith
+orders_few (Root n) small =
+    let low = below_256 n (root_of n) (root_is n) small in
+    let few = few_orders (root_of n) (root_small n small) in
+    omega arith
+orders_few (Check n) small = let few = few_orders n small in omega arith
+
 -- a call whose source is accepted, and which comes to its stop behind its codes
-runs : (s : Settings) (call : Call) {lines : List Line} {k : ℕ} {codes : List ℕ}
+runs : (s : Settings) (call : Call) {lines : List Line} {k place : ℕ} {codes : List ℕ}
     → program_of (call_text call) ≡ Ok lines → fault s.size lines ≡ None
-    → LeadsToStop k (entry_state s.size lines) codes → length codes ≤ 1000000 → suc k ≤ call_orders call
-    → paper codes ≡ call_prints s.size lines call → CallRuns s call
-runs s call {lines} {k} {codes} reads faultless stops few count text =
+    → StopsAt k (entry_state s.size lines) codes place → length codes ≤ 1000000
+    → (entry_of lines ≡ call_entry call) × (k + 1 ≡ call_orders call) × (place + 1 ≡ call_stop call) → place < 511
+    → paper codes ≡ call_prints s.size lines call → GuestStops s.size lines call
+    → (length (punched lines) ≤ 190) × (call_orders call ≤ 14000) → CallRuns s call
+runs s call {lines} {k} {place} {codes} reads faultless stops few are low text guest short =
     let accepted = read_is_accepted s.size (call_text call) lines reads faultless in
     let entry : RunsFromEntry s lines = headline s (call_text call) lines accepted in
+    let count = are.1 in
     record {
       lines = lines;
       accepted = accepted;
       answers = accepted_is s.size (run_outcome s) (call_text call) lines accepted;
       from_entry = entry;
-      prints = λ none plain fits.
+      few =
+          let items = short.0 in
+          let orders = short.1 in
+          omega (arith, entry.enters.cheap, rows_few (punched lines), items, orders);
+      guest_stops = guest;
+      ends = λ none plain fits.
           let left : ℕ = s.limit - cost lines in
-          let ended = ran_to_stop left paper_room k (entry_state s.size lines) codes stops few
-          (omega (arith, fits, count)) in
-          let same = entry.runs (omega (arith, fits))
-          ∙ (λ i. ran_outcome (entered (entry_of lines) (cost lines))
-          (with_post_mortem (plain i) (ran left (none i) paper_room (entry_state s.size lines))))
-          ∙ ap (ran_outcome (entered (entry_of lines) (cost lines)))
-          (nothing_after (ran left 0 paper_room (entry_state s.size lines))) in
-          record {
-            out_is = ap (λ (o : Outcome). o.out) same ∙ ap paper ended.codes_are ∙ text;
-            status_is = ap (λ (o : Outcome). o.status) same ∙ ap status_of ended.ending;
-          };
+          let first : State = entry_state s.size lines in
+          let before : Text = entered (entry_of lines) (cost lines) in
+          let size = least s.size in
+          let left_behind = halted stops (omega arith) in
+          let orders : (step stops.to_stop.last).state.orders ≡ cost lines + call_orders call =
+          omega (arith, left_behind.orders, count) in
+          let ended = ran_to_stop left paper_room k first codes stops.to_stop few (omega (arith, fits, count)) in
+          entry.runs (omega (arith, fits))
+          ∙ (λ i. ran_outcome before (with_post_mortem (plain i) (ran left (none i) paper_room first)))
+          ∙ ap (ran_outcome before) (nothing_after (ran left 0 paper_room first))
+          ∙ answered before (ran left 0 paper_room first) ended (left_behind.counter ∙ are.2) orders
+          ∙ (λ i. record {
+            out = text i;
+            note = entered (are.0 i) (cost lines)
+                ++ (at_after (codes_of_text "stopped") (call_stop call) (cost lines + call_orders call) ++ 10 ∷ []);
+            status = 0;
+          });
     }
 
 pub each_call_runs : EachCallRuns
 each_call_runs s (Print n) small =
     let few = few_digits n in
     runs s (Print n) (print_read n small) (print_faultless s.size n) (print_ends s.size n small) (omega arith)
-    (omega arith) (digits_printed n small)
+    (refl, omega arith, refl) (lit< tt) (digits_printed n small) tt (lit≤ tt, orders_few (Print n) small)
 each_call_runs s (Read n) small =
     let few = few_digits n in
-    runs s (Read n) (read_read n small) (read_faultless s.size n) (read_ends s.size n small) (omega arith) (omega arith)
-    (digits_printed n small)
+    runs s (Read n) (read_read n small) (read_faultless s.size n) (read_ends s.size n small) (omega arith)
+    (refl, omega arith, refl) (lit< tt) (digits_printed n small) tt (lit≤ tt, orders_few (Read n) small)
 each_call_runs s NewLine made =
-    runs s NewLine newline_read (newline_faultless s.size) (newline_ends s.size) (lit≤ tt) (lit≤ tt) refl
+    runs s NewLine newline_read (newline_faultless s.size) (newline_ends s.size) (lit≤ tt) (refl, refl, refl) (lit< tt)
+    refl tt (lit≤ tt, orders_few NewLine made)
 each_call_runs s (Divide n by) made =
     let few = few_digits (n / by) in
     let behind = few_digits (n % by) in
@@ -97,12 +137,31 @@ each_call_runs s (Divide n by) made =
     let divisor = made.divisor in
     let less = made.less in
     runs s (Divide n by) (divide_read n by made) (divide_faultless s.size (n / 65536) (n % 65536) by)
-    (call_ends s.size n by made) (omega arith) (omega arith)
-    (lines_printed (n / by) (n % by) (quotient_low n by positive less) (remainder_low n by positive divisor))
+    (call_ends s.size n by made) (omega arith) (refl, omega arith, refl) (lit< tt)
+    (lines_printed (n / by) (n % by) (quotient_low n by positive less) (remainder_low n by positive divisor)) tt
+    (lit≤ tt, orders_few (Divide n by) made)
 each_call_runs s (Root n) small =
     let few = few_digits (root_of n) in
-    runs s (Root n) (root_read n small) (root_faultless s.size n) (root_ends s.size n small) (omega arith) (omega arith)
-    (digits_printed (root_of n) (root_small n small))
+    runs s (Root n) (root_read n small) (root_faultless s.size n) (root_ends s.size n small) (omega arith)
+    (refl, omega arith, refl) (lit< tt) (digits_printed (root_of n) (root_small n small)) tt
+    (lit≤ tt, orders_few (Root n) small)
 each_call_runs s (Check n) small =
     runs s (Check n) (check_read n small) (check_faultless s.size n) (check_ends s.size n small)
-    (room_for_codes n _ small) (few_checked s.size n small) refl
+    (room_for_codes n _ small) (refl, omega arith, refl) (lit< tt) refl (guest_stops s.size n small)
+    (lit≤ tt, orders_few (Check n) small)
+
+-- with no option the limit is not below what any call takes
+pub calls_by_default : CallsByDefault
+calls_by_default = record {
+  usual = refl;
+  each = λ call made.
+      let c = each_call_runs usual_settings call made in
+      let few = c.few in
+      record {
+        lines = c.lines;
+        accepted = c.accepted;
+        few = few;
+        due = subst (OfSource Full (run_outcome usual_settings) (call_text call)) (c.ends refl refl (omega arith))
+            c.answers;
+      };
+}

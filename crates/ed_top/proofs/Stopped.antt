@@ -23,7 +23,7 @@ pub nothing_after : (r : RunEnd) → with_post_mortem None r ≡ r
 nothing_after r = ap (λ (codes : List ℕ). record r { codes = codes }) (append-nil r.codes)
 
 -- what is answered of a run that stopped
-answered : (before : Text) (r : RunEnd) {printed : List ℕ} {last : State} {at orders : ℕ} → RanToStop r printed last
+pub answered : (before : Text) (r : RunEnd) {printed : List ℕ} {last : State} {at orders : ℕ} → RanToStop r printed last
     → (step last).state.counter ≡ at → (step last).state.orders ≡ orders
     → ran_outcome before r
     ≡ record { out = paper printed; note = before ++ (at_after (codes "stopped") at orders ++ 10 ∷ []); status = 0 }

@@ -1,5 +1,5 @@
 -- What `call` answers (this project's own rule).
-use Rattle.std.specs.Prelude.{◌≡◌, ℕ, ◌+◌, ◌*◌, ◌/◌, ◌%◌, ◌≤◌, List, [], ◌∷◌, ◌++◌, length, None}
+use Rattle.std.specs.Prelude.{◌≡◌, ℕ, ◌+◌, ◌*◌, ◌/◌, ◌%◌, ◌≤◌, List, [], ◌∷◌, ◌++◌, codes, length, None, Some}
 use Rattle.std.specs.Fmt.{decimal}
 use Rattle.ed_call.specs.declared.Call.{Call}
 use Rattle.ed_call.specs.declared.Call.TheVariants.{Print, Read, NewLine, Divide, Root, Check}
@@ -8,17 +8,21 @@ use Rattle.ed_link.specs.Refusals.{IsAcceptedAs}
 use Rattle.ed_link.specs.Tapes.{cost}
 use Rattle.ed_loads.specs.EntryState.{entry_state}
 use Rattle.ed_printer.specs.Paper.{paper}
-use Rattle.ed_routines.specs.Digits.{digits, print_orders}
+use Rattle.ed_report.specs.Notes.{at_after, entered}
+use Rattle.ed_routines.specs.Digits.{before_units, digits, print_orders, sum}
 use Rattle.ed_maths.specs.Quotients.{divide_orders}
 use Rattle.ed_maths.specs.Roots.{root_of, root_orders}
-use Rattle.ed_checker.specs.Checker.{checked_codes, guest}
+use Rattle.ed_checker.specs.Checker.{checked_codes, guest, planting_place}
+use Rattle.ed_checker.specs.Laws.{StopsAfter}
 use Rattle.ed_words.specs.declared.size.Size.{Size}
+use Rattle.ed_words.specs.declared.size.Size.TheVariants.{Full}
 use Rattle.ed_call.specs.Ranges.{IsCallInRange}
 use Rattle.ed_sources.specs.Calls.{call_text}
+use Rattle.ed_command.specs.Settings.{options_by, settings_of}
 use Rattle.ed_command.specs.declared.command.Settings.{Settings}
 use Rattle.ed_words.specs.Texts.{Text}
 use Rattle.ed_top.specs.Outcome.{Outcome}
-use Rattle.ed_top.specs.Answer.{Answer, of_made}
+use Rattle.ed_top.specs.Answer.{Answer, IsDue, of_made}
 use Rattle.ed_top.specs.Sources.{OfSource, run_outcome}
 use Rattle.ed_top.specs.Headline.{RunsFromEntry}
 
@@ -45,19 +49,47 @@ call_prints z lines (Divide n by) = decimal (n / by) ++ 13 ∷ 10 ∷ decimal (n
 call_prints z lines (Root n) = decimal (root_of n)
 call_prints z lines (Check n) = paper (checked_codes (guest check_base (entry_state z lines)) (3 + print_orders n))
 
--- how many orders it obeys from its entry to its stop, that one included; `check` obeys no more than these
+-- how many orders it obeys from its entry to its stop, that one included
 abbrev pub call_orders : Call → ℕ
 call_orders (Print n) = 3 + print_orders n
 call_orders (Read n) = 16 + 13 * length (digits n) + print_orders n
 call_orders NewLine = 8
 call_orders (Divide n by) = 14 + divide_orders (n / by) + print_orders (n / by) + print_orders (n % by)
 call_orders (Root n) = 5 + root_orders (root_of n) + print_orders (root_of n)
-call_orders (Check n) = 35 * (3 + print_orders n)
+call_orders (Check n) = 2551 + 244 * sum (before_units n) + 142 * length (before_units n)
 
--- the outcome is a run that stopped and printed this text
-pub record Printed (text : Text) (o : Outcome) : Type 0 where
-  pub out_is : o.out ≡ text
-  pub status_is : o.status ≡ 0
+-- where its program is entered
+abbrev pub call_entry : Call → ℕ
+call_entry (Check n) = check_base
+call_entry call = 56
+
+-- and where the counter is after its stop
+abbrev pub call_stop : Call → ℕ
+call_stop (Print n) = 59
+call_stop (Read n) = 61
+call_stop NewLine = 59
+call_stop (Divide n by) = 65
+call_stop (Root n) = 61
+call_stop (Check n) = check_base + planting_place + 1
+
+-- what a call answers whose source has these lines and comes to its stop: its text, the entry with the cost of its
+-- tape, the stop with all orders, and the status 0
+abbrev pub call_outcome : Size → List Line → Call → Outcome
+call_outcome z lines call = record {
+  out = call_prints z lines call;
+  note = entered (call_entry call) (cost lines)
+      ++ (at_after (codes "stopped") (call_stop call) (cost lines + call_orders call) ++ 10 ∷ []);
+  status = 0;
+}
+
+-- no call takes more orders than these, those that read its tape included
+abbrev pub most_call_orders : ℕ
+most_call_orders = 40000
+
+-- the guest of `check` is obeyed up to its first Z, which is the last of its orders that are checked
+abbrev pub GuestStops : Size → List Line → Call → Type 0
+GuestStops z lines (Check n) = StopsAfter (2 + print_orders n) (guest check_base (entry_state z lines))
+GuestStops z lines call = Unit {0}
 
 -- the source of a call is accepted with these lines, so that what is answered is their run, and it is the run from the
 -- state at their entry
@@ -66,10 +98,30 @@ pub record CallRuns (s : Settings) (call : Call) : Type 0 where
   pub accepted : IsAcceptedAs s.size (call_text call) lines
   pub answers : OfSource s.size (run_outcome s) (call_text call) (run_outcome s lines)
   pub from_entry : RunsFromEntry s lines
-  -- and where the limit is not below the orders that it takes, it prints what is said of it
-  pub prints : s.resumes ≡ 0 → s.post_mortem ≡ None → cost lines + call_orders call ≤ s.limit
-      → Printed (call_prints s.size lines call) (run_outcome s lines)
+  pub few : cost lines + call_orders call ≤ most_call_orders
+  pub guest_stops : GuestStops s.size lines call
+  -- and where the limit is not below the orders that it takes, this is its outcome
+  pub ends : s.resumes ≡ 0 → s.post_mortem ≡ None → cost lines + call_orders call ≤ s.limit
+      → run_outcome s lines ≡ call_outcome s.size lines call
 
 -- so it is of each call with its numbers in range, as the reader of the command line leaves them
 abbrev pub EachCallRuns : Type 0
 EachCallRuns = (s : Settings) (call : Call) → IsCallInRange call → CallRuns s call
+
+-- ---- without an option
+
+-- the settings where no option is given
+abbrev pub usual_settings : Settings
+usual_settings = record { limit = 10000000; resumes = 0; size = Full; post_mortem = None }
+
+-- what is answered to a call without an option: its text, its exact note, and the status 0
+pub record CallEnds (call : Call) : Type 0 where
+  pub lines : List Line
+  pub accepted : IsAcceptedAs Full (call_text call) lines
+  pub few : cost lines + call_orders call ≤ most_call_orders
+  pub due : IsDue (call_answer call usual_settings) [] (call_outcome Full lines call)
+
+-- so it is of each call with its numbers in range
+pub record CallsByDefault : Type 0 where
+  pub usual : settings_of (options_by (λ name. [])) ≡ Some usual_settings
+  pub each : (call : Call) → IsCallInRange call → CallEnds call

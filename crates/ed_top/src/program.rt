@@ -2,7 +2,7 @@ ghost use Rattle.std.specs.Prelude.{Some, map, string_bytes};
 ghost use Rattle.ed_command.specs.Lines.{command_line};
 ghost use Rattle.ed_command.specs.Ranges.{IsInRange};
 ghost use Rattle.ed_top.specs.BothSizes.{EachSize};
-ghost use Rattle.ed_top.specs.Calls.{EachCallRuns};
+ghost use Rattle.ed_top.specs.Calls.{CallsByDefault, EachCallRuns};
 ghost use Rattle.ed_top.specs.Clause.{ProgramEnded, WritesLastLine, device};
 ghost use Rattle.ed_top.specs.Complete.{EachRunIsComplete};
 ghost use Rattle.ed_top.specs.Demos.{EachDemoRuns};
@@ -49,6 +49,7 @@ pub fn edsac<S: Source, K: Sink, L: Sink>(
     ensures complete { EachRunIsComplete }
     ensures headline { Headline }
     ensures calls { EachCallRuns }
+    ensures calls_by_default { CallsByDefault }
     ensures demos { EachDemoRuns }
     ensures first_orders { EachProgramRunsFrom31 }
     ensures tapes { EachTapeRunsFromEntry }

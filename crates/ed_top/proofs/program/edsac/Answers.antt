@@ -12,7 +12,7 @@ use Rattle.ed_top.specs.Clause.{Device, ProgramEnded, device}
 use Rattle.ed_io.proofs.Calls.{gains_none}
 use Rattle.ed_top.proofs.Endings.{none_due, with_due, with_no_memory}
 use Rattle.ed_top.proofs.BothSizes.{each_size}
-use Rattle.ed_top.proofs.CallRuns.{each_call_runs}
+use Rattle.ed_top.proofs.CallRuns.{calls_by_default, each_call_runs}
 use Rattle.ed_top.proofs.Completing.{each_complete}
 use Rattle.ed_top.proofs.DemoRuns.{each_demo_runs}
 use Rattle.ed_top.proofs.FirstEntries.{runs_from_31}
@@ -86,6 +86,15 @@ returns-in-Err-Usage-clause-calls g c = each_call_runs
 
 pub returns-in-Err-Memory-clause-calls : goal.returns-in-Err-Memory-clause-calls
 returns-in-Err-Memory-clause-calls g c = each_call_runs
+
+pub returns-in-Ok-clause-calls_by_default : goal.returns-in-Ok-clause-calls_by_default
+returns-in-Ok-clause-calls_by_default g c = calls_by_default
+
+pub returns-in-Err-Usage-clause-calls_by_default : goal.returns-in-Err-Usage-clause-calls_by_default
+returns-in-Err-Usage-clause-calls_by_default g c = calls_by_default
+
+pub returns-in-Err-Memory-clause-calls_by_default : goal.returns-in-Err-Memory-clause-calls_by_default
+returns-in-Err-Memory-clause-calls_by_default g c = calls_by_default
 
 pub returns-in-Ok-clause-demos : goal.returns-in-Ok-clause-demos
 returns-in-Ok-clause-demos g c = each_demo_runs
