@@ -5,7 +5,7 @@
 const fs = require('fs');
 const path = require('path');
 const { spawnSync } = require('child_process');
-const { Machine } = require('./machine.js');
+const { Machine, NO_CODE } = require('./machine.js');
 const { figuresOf } = require('./words.js');
 
 const [file, edsac, folder] = process.argv.slice(2);
@@ -87,7 +87,7 @@ function compareStates(name, text, counts) {
         compareSmall(name, text, counts); // a session has the whole store
         return;
     }
-    const script = counts.map((count, i) => `go ${count - (i ? counts[i - 1] : 0)}\nshow 0 1023\nshow acc\nshow mult\n`).join('');
+    const script = counts.map((count, i) => `go ${count - (i ? counts[i - 1] : 0)}\nshow 0 1023\nshow acc\nshow mult\nshow last\n`).join('');
     const told = program(['step', '--limit', '10000000'], `${script}${text.kind}\n${text.text}`);
     const moves = told.out.split(/^(?=at )/m);
     same(`${name}: moves`, moves.length, counts.length);
@@ -102,6 +102,7 @@ function compareStates(name, text, counts) {
         same(`${what}: store`, store.join('\n'), lines.slice(1, 1025).join('\n'));
         same(`${what}: accumulator`, `acc ${shown.acc}`, lines[1025]);
         same(`${what}: multiplier`, `mult ${shown.multiplier}`, lines[1026]);
+        same(`${what}: last printed`, `last ${shown.last === NO_CODE ? 'none' : shown.last}`, lines[1027]);
         pictures++;
     });
 }

@@ -58,14 +58,14 @@ void rattle_dealloc(char *block) {
 // A text may be one byte longer than the machine takes, so that the machine itself refuses it.
 static char text[262145], rows[524288], paper[2000000], digits[512], note[256], listing[65536], order[16];
 static u32 words[1024];
-static u64 registers[8], lengths[2];
+static u64 registers[9], lengths[2];
 
 static struct {
     void *at;
     u64 items;
 } rooms[] = {
     {text, sizeof text}, {rows, sizeof rows}, {words, 1024}, {digits, sizeof digits}, {paper, sizeof paper},
-    {note, sizeof note}, {registers, 8}, {lengths, 2}, {listing, sizeof listing}, {order, sizeof order},
+    {note, sizeof note}, {registers, 9}, {lengths, 2}, {listing, sizeof listing}, {order, sizeof order},
 };
 
 // Where the room of a kind is: 0 text, 1 rows, 2 words, 3 digits, 4 paper, 5 note, 6 registers, 7 lengths, 8 listing,

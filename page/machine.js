@@ -5,6 +5,7 @@ const ENDINGS = {
     0: 'stopped', 3: 'refused', 4: 'limit', 5: 'no order', 6: 'no tape', 7: 'paper full',
     10: 'no memory', 11: 'too long', 12: 'no room',
 };
+const NO_CODE = 32; // what stands for the last printed code where nothing was printed
 const ROOMS = ['text', 'rows', 'words', 'digits', 'paper', 'note', 'registers', 'lengths', 'listing', 'order'];
 
 // Whether this browser has memories of 64-bit addresses: a module with such a memory and nothing else is valid.
@@ -110,7 +111,7 @@ class Machine {
         if (status === 10 || status === 12) {
             return { status, ending: ENDINGS[status], note: '' };
         }
-        const [accLow, accHigh, multiplier, orders, rowsLeft, counter, printed, noted] = this.numbers('registers', BigUint64Array);
+        const [accLow, accHigh, multiplier, orders, rowsLeft, counter, last, printed, noted] = this.numbers('registers', BigUint64Array);
         const note = this.text('note', Number(noted));
         if (status === 3 || status === 11) {
             return { status, ending: ENDINGS[status], note };
@@ -125,10 +126,11 @@ class Machine {
             orders: Number(orders),
             rowsLeft: Number(rowsLeft),
             counter: Number(counter),
+            last: Number(last),
         };
     }
 }
 
 if (typeof module !== 'undefined') {
-    module.exports = { Machine, hasWideMemories };
+    module.exports = { Machine, NO_CODE, hasWideMemories };
 }

@@ -247,6 +247,7 @@ function draw() {
     by('order').textContent = `${order}  ${binary(word, 17)}`;
     by('acc').textContent = figures(shown.acc, 71);
     by('multiplier').textContent = figures(shown.multiplier, 35);
+    by('last').textContent = lastText(shown.last);
     drawPaper();
     if (document.activeElement !== by('at')) {
         by('at').value = shown.orders;
@@ -265,6 +266,11 @@ function drawPaper() {
         by('paper').textContent = said;
         by('paper').scrollTop = by('paper').scrollHeight;
     }
+}
+
+// The last printed code: its letter and its five digits, or that nothing was printed.
+function lastText(code) {
+    return code === NO_CODE ? page.words.say('noCode') : `${page.machine.letter(code)}  ${binary(code, 5)}`;
 }
 
 function didText() {
@@ -301,7 +307,7 @@ function drawButtons() {
 
 // A refused text has no picture.
 function drawNothing() {
-    for (const id of ['place', 'meaning', 'did', 'orders', 'counter', 'order', 'acc', 'multiplier', 'paper', 'look']) {
+    for (const id of ['place', 'meaning', 'did', 'orders', 'counter', 'order', 'acc', 'multiplier', 'last', 'paper', 'look']) {
         by(id).textContent = '';
     }
     if (page.shown.ending === 'refused' || page.shown.ending === 'too long') {

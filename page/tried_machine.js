@@ -84,6 +84,7 @@ async function examples(b) {
     await b.expect('the table of figures', await b.until(`document.querySelectorAll('#look tr').length === 33`), true);
     await b.set('figures', 'decimal');
     await b.expect('the registers in decimal', await b.text('multiplier'), (said) => /^-?[0-9.e-]+$/.test(said));
+    await b.expect('the last printed code', await b.text('last'), (said) => /^(\S {2}[01]{5}|nothing yet)$/.test(said));
     await b.set('figures', 'binary');
     await b.ask(`document.getElementById('lookBox').open = document.getElementById('listingBox').open = false; 0`);
 }

@@ -1,6 +1,7 @@
 //! Single orders of the machine, on worked values.
 
 use crate::support::{image_of, machine_with, obey, word_at};
+use ed_codes::tape_of_text;
 use ed_machine::Machine;
 use ed_words::Size;
 use std::process::Abort;
@@ -90,6 +91,29 @@ fn an_order_f_reads_the_last_printed_code_back(rt: HostRuntime) -> Result<(), Fa
         obey(&rt, &mut machine, orders);
         let found = first_difference(&rt, &machine, &[(32, at_32), (33, at_33)]);
         assert!(rt; found.is_none(), "{found:?} after {orders}");
+    }
+    Ok(())
+}
+
+/// A row, here 31, goes to the low end of a short location, and of the upper word of a long one, whose other word and
+/// sandwich digit become 0.
+#[test]
+fn an_order_i_reads_a_row(rt: HostRuntime) -> Result<(), Fail> {
+    let alloc = rt.alloc();
+    for (order, at_30, at_31) in [
+        ("I30F", 31, 7),
+        ("I31F", 7, 31),
+        ("I30D", 0, 31),
+        ("I31D", 0, 31),
+    ] {
+        let mut machine = Machine::cleared(alloc)?;
+        let image = image_of(alloc, order, [7, 7, 7, 7])?;
+        assert!(rt; image.len() <= 41);
+        let _no_rows = machine.start(&image, tape_of_text(alloc, b"VA")?);
+        obey(&rt, &mut machine, order);
+        let found = first_difference(&rt, &machine, &[(30, at_30), (31, at_31)]);
+        assert!(rt; found.is_none(), "{found:?} after {order}");
+        assert_eq!(rt; machine.rows_left().len(), 1, "{order}");
     }
     Ok(())
 }

@@ -48,6 +48,43 @@ fn the_checker_tells_the_words_that_a_tape_places(rt: HostRuntime) -> Result<(),
     Ok(())
 }
 
+/// One tape for each way of setting the directive and θ, and for each kind of ending: the value of θ that it leaves, the
+/// word that it places at 64, and its cost. T 64 K is the directive 20,608, which is 4096 · 5 + 2 · 64.
+const LINES: [(&str, u32, u32, u64); 9] = [
+    // Blank with K sets θ to 4096 · 16 + 2n and the directive; G with K to 4096 · 27 + 2n and the directive, less 2^17.
+    ("T64K.3KP@E64KPF", 86_150, 86_150, 162),
+    ("T64KG5KP@E64KPF", 138, 138, 162),
+    // A blank pair sets θ to the directive.
+    ("T64K..P@E64KPF", 20_608, 20_608, 151),
+    // Blank with Z sets θ to 65536 + 2n, θ and the directive, here 138 and 20,608.
+    ("T64KG5K.2ZP@E64KPF", 86_286, 86_286, 194),
+    // T with Z adds θ to the directive: θ is 120, and T 4 Z aims at 64.
+    ("T60KGKT4ZP7FE64KPF", 120, 14, 194),
+    // E with Z adds θ, 128, to the entry's address.
+    ("T64KGKP7FEZPF", 128, 14, 145),
+    // A code letter adds the content of 24 and its code: V is 31, and 100 F at 55 is the number 200.
+    ("T55KP100FT64KA1VE64KPF", 0, 114_890, 230),
+    // D is 1, and π is 1 more.
+    ("T64KP2#FE64KPF", 0, 5, 155),
+    ("T64KP2DE64KPF", 0, 5, 140),
+];
+
+#[test]
+fn each_line_of_the_notation(rt: HostRuntime) -> Result<(), Fail> {
+    let alloc = rt.alloc();
+    for (tape, theta, word, orders) in LINES {
+        let rows = rows_of(&rt, alloc, tape)?;
+        let checked = check(alloc, Size::Full, &Store::cleared(alloc)?, &rows)?;
+        let told = (
+            checked.theta().value(),
+            placed(&rt, &checked, 64),
+            checked.orders(),
+        );
+        assert!(rt; told == (theta, Some(word), orders), "{tape}: {told:?}");
+    }
+    Ok(())
+}
+
 /// A store with 5 at the location of θ.
 fn store_with_theta(alloc: Global) -> Result<Store, Fail> {
     let mut store = Store::cleared(alloc)?;

@@ -1,3 +1,4 @@
 mod Replies
 mod Endings
 mod Written
+mod TapeRows

@@ -1,11 +1,12 @@
 -- From what was written into buffers to the cause of an answer.
-use Rattle.std.proofs.Common.{◌≡◌, ◌≢◌, ◌≤◌, ℕ, refl, subst, sym, arith, Option, None, List, length}
-use Rattle.std.specs.Prelude.{IfSome, Ok}
+use Rattle.std.proofs.Common.{◌≡◌, ◌≢◌, ◌∙◌, ◌≤◌, ℕ, true≢false, inl, inr, refl, subst, sym, arith, Option, None, List, length}
+use Rattle.std.specs.Prelude.{◌↔◌, IfSome, IsTrue, Ok, Bool, false}
 use Rattle.ed_machine.specs.State.{State}
 use Rattle.ed_words.specs.Texts.{Text}
-use Rattle.ed_top.specs.Outcome.{Outcome}
-use Rattle.ed_top.specs.Answer.{Answer}
-use Rattle.ed_page.specs.Answers.{Buffers, HasBufferRoom, IsShown, IsTextTold, ShowsNone, Tells, TextBuffers}
+use Rattle.ed_top.specs.Outcome.{Outcome, too_long, too_long_outcome}
+use Rattle.ed_top.specs.Answer.{Answer, HasOneOutcome, IsDue, of_input}
+use Rattle.ed_page.specs.Answers.{Buffers, HasBufferRoom, HasPictureRoom, IsShown, IsTextTold, LacksLine, LacksRoom}
+use Rattle.ed_page.specs.Answers.{ShowsNone, Tells, TextBuffers}
 use Rattle.ed_page.specs.Pictures.{Pictures}
 use Rattle.ed_page.specs.Private.Stages.{Draws, IsAnswered, TellsOutcome, WritesBuffers, IsWrittenOut}
 use Rattle.ed_page.specs.declared.running.Shown.{Shown}
@@ -26,6 +27,10 @@ told_room o told out note g room = (
   subst (λ (t : Text). length t ≤ length out) (sym g.out_is) room.out_fits,
   subst (λ (t : Text). length t ≤ length note) (sym g.note_is) room.note_fits,
 )
+
+-- a test that failed refutes what it tells
+pub refuted : {P : Type 0} (b : Bool) → b ≡ false → (IsTrue b ↔ P) → P → ⊥
+refuted b e test p = true≢false (sym (test.1 p) ∙ e)
 
 twelve : ◌≢◌ {A = ℕ} 12 10
 twelve e = cc
@@ -85,13 +90,12 @@ picture_written {o} {told} {before = before} g words digits out_fits note_fits t
 
 -- there was no room for it
 pub picture_nowhere : (o : Outcome) (told : Told) (machine : Option State) (before : Buffers) → TellsOutcome told o
-    → (length before.words ≡ 1024 → length before.digits ≡ 512
-    → (length told.out.items ≤ length before.paper) × (length told.note.items ≤ length before.note) → ⊥)
+    → ((length told.out.items ≤ length before.paper) × (length told.note.items ≤ length before.note) → ⊥)
     → WritesBuffers o machine before before 12
 picture_nowhere o told machine before g none = (
   twelve,
   record {
-    no_room = λ e room. none room.words_are room.digits_are (told_room o told before.paper before.note g room.texts);
+    no_room = λ e room. none (told_room o told before.paper before.note g room.texts);
     kept = λ e. refl;
     shown = λ not12. absurd (not12 refl);
   },
@@ -99,31 +103,98 @@ picture_nowhere o told machine before g none = (
 
 -- what is told of a text was written
 pub text_told : (wanted : Answer) (text : Text) (told : Told) {before after : TextBuffers} {answer : ℕ}
+    → (LacksLine text before.note → ⊥)
     → IsAnswered wanted text (Ok told) → ((o : Outcome) → TellsOutcome told o → IsWrittenOut o before after answer)
     → IsTextTold wanted text before after answer
-text_told wanted text told answered written =
+text_told wanted text told room answered written =
     let is = written answered.0 answered.2 in
-    record { memory = λ e. absurd (is.0 e); told = λ not10. (answered.0, answered.1, is.1) }
+    record {
+      memory = λ e. absurd (is.0 e);
+      told = λ not10. (answered.0, answered.1, is.1);
+      early = λ lacks. absurd (room lacks);
+    }
 
 -- no memory was found
-pub text_unmade : (wanted : Answer) (text : Text) (before : TextBuffers) → IsTextTold wanted text before before 10
-text_unmade wanted text before = record { memory = λ e. refl; told = λ not10. absurd (not10 refl) }
+pub text_unmade : (wanted : Answer) (text : Text) (before : TextBuffers) → (LacksLine text before.note → ⊥)
+    → IsTextTold wanted text before before 10
+text_unmade wanted text before room = record {
+  memory = λ e. refl;
+  told = λ not10. absurd (not10 refl);
+  early = λ lacks. absurd (room lacks);
+}
 
 pub picture_unmade : (wanted : Answer) (Ends : Text → State → Type 0) (text : Text) (before : Buffers)
+    → (LacksRoom text before → ⊥)
     → IsShown wanted Ends text before before 10
-picture_unmade wanted Ends text before = record { memory = λ e. refl; told = λ not10. absurd (not10 refl) }
+picture_unmade wanted Ends text before room = record {
+  memory = λ e. refl;
+  told = λ not10. absurd (not10 refl);
+  early = λ lacks. absurd (room lacks);
+}
+
+-- there was no room, and no memory was needed to see it
+line_lacks : (answers : Text → Outcome → Type 0) (text : Text) (out note : List ℕ) → LacksLine text note → (o : Outcome)
+    → IsDue (of_input answers) text o → HasBufferRoom o out note → ⊥
+line_lacks answers text out note lacks o (inl due) room = absurd (omega (arith, due.0, lacks.0))
+line_lacks answers text out note lacks o (inr due) room =
+    let fits : length too_long ≤ length note =
+    subst (λ (x : Outcome). length x.note ≤ length note) (sym due.1) room.note_fits in
+    absurd (omega (arith, fits, lacks.1))
+
+pub text_early : (answers : Text → Outcome → Type 0) (text : Text) (before : TextBuffers) → LacksLine text before.note
+    → IsTextTold (of_input answers) text before before 12
+text_early answers text before lacks = record {
+  memory = λ e. absurd (twelve e);
+  told = λ not10. (
+    too_long_outcome,
+    inr (lacks.0, refl),
+    record {
+      no_room = λ e room. line_lacks answers text before.out before.note lacks too_long_outcome (inr (lacks.0, refl)) room;
+      kept = λ e. refl;
+      shown = λ not12. absurd (not12 refl);
+    },
+  );
+  early = λ l. refl;
+}
+
+room_lacks : (answers : Text → Outcome → Type 0) (text : Text) (before : Buffers) → LacksRoom text before → (o : Outcome)
+    → IsDue (of_input answers) text o → HasPictureRoom o before → ⊥
+room_lacks answers text before (inl words) o due room = words room.words_are
+room_lacks answers text before (inr (inl digits)) o due room = digits room.digits_are
+room_lacks answers text before (inr (inr line)) o due room =
+    line_lacks answers text before.paper before.note line o due room.texts
+
+pub picture_early : (answers : Text → Outcome → Type 0) (Ends : Text → State → Type 0) (text : Text) (before : Buffers)
+    → HasOneOutcome (of_input answers) → LacksRoom text before → IsShown (of_input answers) Ends text before before 12
+picture_early answers Ends text before one lacks =
+    let due = one.some text in
+    record {
+      memory = λ e. absurd (twelve e);
+      told = λ not10. (
+        due.0,
+        due.1,
+        record {
+          no_room = λ e room. room_lacks answers text before lacks due.0 due.1 room;
+          kept = λ e. refl;
+          shown = λ not12. absurd (not12 refl);
+        },
+      );
+      early = λ l. refl;
+    }
 
 -- what was drawn of a text is shown
 pub drawn_shown : (wanted : Answer) (Ends : Text → State → Type 0) (text : Text) (left : Shown)
     {before after : Buffers} {answer : ℕ}
+    → (LacksRoom text before → ⊥)
     → Draws wanted Ends text (Ok left)
     → ((o : Outcome) → TellsOutcome left.told o → WritesBuffers o left.machine before after answer)
     → IsShown wanted Ends text before after answer
-drawn_shown wanted Ends text left {after = after} drawn written =
+drawn_shown wanted Ends text left {after = after} room drawn written =
     let o = drawn.0 in
     let is = written o drawn.2 in
     record {
       memory = λ e. absurd (is.0 e);
+      early = λ lacks. absurd (room lacks);
       told = λ not10. (
         o,
         drawn.1,

@@ -1,6 +1,6 @@
 -- What the page is answered: what the program answers to the same text, with the cause of each answer (this project's
 -- own rules).
-use Rattle.std.specs.Prelude.{◌≡◌, ◌≢◌, ℕ, ◌≤◌, List, ◌++◌, length, drop, None}
+use Rattle.std.specs.Prelude.{◌≡◌, ◌≢◌, ◌⊎◌, ℕ, ◌<◌, ◌≤◌, List, ◌++◌, length, drop, None}
 use Rattle.ed_codes.specs.Reading.{reading, rows}
 use Rattle.ed_machine.specs.State.{State}
 use Rattle.ed_syntax.specs.declared.program.Line.{Line}
@@ -8,10 +8,10 @@ use Rattle.ed_link.specs.Refusals.{IsAcceptedAs}
 use Rattle.ed_link.specs.Tapes.{tape}
 use Rattle.ed_command.specs.declared.command.Settings.{Settings}
 use Rattle.ed_words.specs.Texts.{Text}
-use Rattle.ed_top.specs.Outcome.{Outcome, done}
+use Rattle.ed_top.specs.Outcome.{Outcome, done, too_long}
 use Rattle.ed_top.specs.Answer.{Answer, IsDue}
 use Rattle.ed_top.specs.Runs.{run_of}
-use Rattle.ed_page.specs.Pictures.{Pictures}
+use Rattle.ed_page.specs.Pictures.{Pictures, last_shown}
 use Rattle.ed_page.specs.declared.writing.Lengths.{Lengths}
 use Rattle.ed_page.specs.declared.writing.Registers.{Registers}
 
@@ -53,13 +53,18 @@ pub record TextBuffers : Type 0 where
 abbrev pub text_buffers : (out note : List ℕ) → Lengths → TextBuffers
 text_buffers out note lengths = record { out = out; note = note; lengths = lengths }
 
--- what the program answers to a text, written into two buffers; or no memory was found, which may always come (10),
--- and the buffers are as before
+-- a text is too long, and the buffer of the note has no room for the line that says so
+abbrev pub LacksLine : Text → List ℕ → Type 0
+LacksLine text note = (262144 < length text) × (length note < length too_long)
+
+-- what the program answers to a text, written into two buffers; or no memory was found (10), and the buffers are as
+-- before. 12 comes first where no memory is needed to see that there is no room
 pub record IsTextTold (wanted : Answer) (text : Text) (before after : TextBuffers) (answer : ℕ) : Type 0 where
   pub memory : answer ≡ 10 → after ≡ before
   pub told : answer ≢ 10 → (o : Outcome) × IsDue wanted text o
       × HasItsCause (HasBufferRoom o before.out before.note) (after ≡ before)
       (Tells o before.out before.note after.out after.note after.lengths.out after.lengths.note answer) answer
+  pub early : LacksLine text before.note → answer ≡ 12
 
 -- the rows of a source's tape
 abbrev pub source_rows : List Line → Outcome
@@ -95,7 +100,7 @@ pub record HasPictureRoom (o : Outcome) (b : Buffers) : Type 0 where
   pub digits_are : length b.digits ≡ 512
   pub texts : HasBufferRoom o b.paper b.note
 
--- the registers where no machine is shown: all are 0 but the lengths of the two texts
+-- the registers where no machine is shown: no code was printed, and all others are 0 but the lengths of the two texts
 abbrev pub blank_registers : (printed noted : ℕ) → Registers
 blank_registers printed noted = record {
   acc_low = 0;
@@ -104,6 +109,7 @@ blank_registers printed noted = record {
   orders = 0;
   rows_left = 0;
   counter = 0;
+  last = last_shown None;
   printed = printed;
   noted = noted;
 }
@@ -123,10 +129,25 @@ pub record Shows (Ends : Text → State → Type 0) (text : Text) (o : Outcome) 
   pub state : length text ≤ 262144 → (m : State) → Ends text m → Pictures m after.words after.digits after.registers
   pub none : ((m : State) → length text ≤ 262144 → Ends text m → ⊥) → ShowsNone before after
 
+-- a buffer of the store has the wrong length, or a text is too long and the line that says so has no room
+abbrev pub LacksRoom : Text → Buffers → Type 0
+LacksRoom text b = (length b.words ≢ 1024) ⊎ ((length b.digits ≢ 512) ⊎ LacksLine text b.note)
+
 -- what the program answers to a text, and the state in which its run ends, written into buffers; or no memory was
--- found, and the buffers are as before
+-- found (10), and the buffers are as before. 12 comes first where no memory is needed to see that there is no room
 pub record IsShown (wanted : Answer) (Ends : Text → State → Type 0) (text : Text) (before after : Buffers)
     (answer : ℕ) : Type 0 where
   pub memory : answer ≡ 10 → after ≡ before
   pub told : answer ≢ 10 → (o : Outcome) × IsDue wanted text o
       × HasItsCause (HasPictureRoom o before) (after ≡ before) (Shows Ends text o before after answer) answer
+  pub early : LacksRoom text before → answer ≡ 12
+
+-- ---- the tape of a picture
+
+-- rows are the end of others
+abbrev pub IsEndOf : (left all : List ℕ) → Type 0
+IsEndOf left all = (read : List ℕ) × (read ++ left ≡ all)
+
+-- the rows that are left where the run of a tape ends are the end of the tape's rows
+abbrev pub EachRunReadsOn : Type 0
+EachRunReadsOn = (s : Settings) (codes : List ℕ) → IsEndOf (run_of s codes).state.tape codes

@@ -1,6 +1,6 @@
 -- What the buffers of a picture hold: the words and digits of a store, and the registers (this project's own rules).
 use Rattle.std.specs.Prelude.{◌≡◌, ℕ, ◌*◌, ◌/◌, ◌%◌, ◌^◌, ◌<◌, Bool, true, false}
-use Rattle.std.specs.Prelude.{List, length, slice_index, None}
+use Rattle.std.specs.Prelude.{List, length, slice_index, Option, Some, None}
 use Rattle.ed_words.specs.Words.{digit}
 use Rattle.ed_words.specs.declared.size.Size.{Size}
 use Rattle.ed_words.specs.declared.size.Size.TheVariants.{Small, Full}
@@ -23,6 +23,11 @@ pub record PicturesStore (c : Cells) (words digits : List ℕ) : Type 0 where
   pub words_are : (a : ℕ) → a < 1024 → slice_index words a ≡ short_at c a
   pub digits_are : (k : ℕ) → k < 512 → slice_index digits k ≡ digit (sandwich_at c (2 * k))
 
+-- the last printed code, and 32, which is no code, where nothing was printed
+abbrev pub last_shown : Option ℕ → ℕ
+last_shown (Some code) = code
+last_shown None = 32
+
 -- the registers of a state, the accumulator in two parts
 pub record PicturesRegisters (s : State) (r : Registers) : Type 0 where
   pub acc_low : r.acc_low ≡ s.acc % 2 ^ 36
@@ -31,6 +36,7 @@ pub record PicturesRegisters (s : State) (r : Registers) : Type 0 where
   pub orders : r.orders ≡ s.orders
   pub rows_left : r.rows_left ≡ length s.tape
   pub counter : r.counter ≡ s.counter
+  pub last : r.last ≡ last_shown s.last
 
 -- a state
 pub record Pictures (s : State) (words digits : List ℕ) (r : Registers) : Type 0 where

@@ -17,4 +17,4 @@ mod writing;
 pub use pictures::{page_source, page_tape};
 pub use signs::{page_letter, page_order};
 pub use texts::{page_listing, page_source_rows, page_tape_rows};
-pub use writing::{Lengths, Registers};
+pub use writing::{Lengths, NO_CODE, Registers};

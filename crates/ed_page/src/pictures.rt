@@ -1,14 +1,15 @@
-ghost use Rattle.std.specs.Prelude.{◌≡◌, IfSome, length};
+ghost use Rattle.std.specs.Prelude.{◌≡◌, ◌≢◌, ◌⊎◌, ◌↔◌, IfSome, IsTrue, length};
 ghost use Rattle.ed_command.specs.declared.command.Action.TheVariants.{Run, Tape};
 ghost use Rattle.ed_top.specs.Outcome.{Outcome};
 ghost use Rattle.ed_top.specs.Output.{answer};
-ghost use Rattle.ed_page.specs.Answers.{IsShown, SourceEnds, TapeEnds, blank_registers, picture_buffers};
+ghost use Rattle.ed_page.specs.Answers.{EachRunReadsOn, IsShown, LacksLine, SourceEnds, TapeEnds, blank_registers};
+ghost use Rattle.ed_page.specs.Answers.{picture_buffers};
 ghost use Rattle.ed_page.specs.Pictures.{Pictures, asked};
 ghost use Rattle.ed_page.specs.Private.Stages.{Draws, TellsOutcome, WritesBuffers};
 
 use crate::running::{Shown, asked, run_linked, run_tape};
 use crate::sources::{linked_of, rows_of};
-use crate::told::{NO_MEMORY, NO_ROOM, Told, is_too_long};
+use crate::told::{NO_MEMORY, NO_ROOM, Told, is_too_long, lacks_line};
 use crate::writing::{Lengths, Registers, no_registers, registers_of, write_store};
 use ed_command::Settings;
 use ed_machine::Machine;
@@ -21,8 +22,9 @@ use std::alloc::Global;
 /// It writes 1,024 words, 512 sandwich digits, the teleprinter's text, the program's note and the registers, and
 /// answers the program's status: 0, 4, 5, 6 or 7 by the ending of the run, 3 if the text is refused, 11 if it is too
 /// long and 10 if no memory was found. With 10 nothing is written; with 3 and 11 no word and no digit is, and the
-/// registers are 0 but for the lengths of the texts. It answers 12, and writes nothing, if a buffer has the wrong
-/// length: 1,024 and 512, and for each text as many bytes as it has.
+/// registers show no code and are 0 but for the lengths of the texts. It answers 12, and writes nothing, if a buffer has
+/// the wrong length: 1,024 and 512, and for each text as many bytes as it has. The lengths of the store's buffers, and
+/// the room for the line on a text that is too long, are looked at before any memory is taken.
 #[unsafe(no_mangle)]
 pub extern "C" fn page_tape(
     alloc: Global,
@@ -36,10 +38,14 @@ pub extern "C" fn page_tape(
     note: &mut [u8],
     registers: &mut Registers,
 ) -> u32
-    ensures { let s = asked small orders resumes in IsShown (answer Tape s) (TapeEnds s) text.now
+    ensures shown { let s = asked small orders resumes in IsShown (answer Tape s) (TapeEnds s) text.now
         (picture_buffers words.old digits.old paper.old note.old registers.old)
         (picture_buffers words.new digits.new paper.new note.new registers.new) result }
+    ensures rows { EachRunReadsOn }
 {
+    if lacks_room(text, words, digits, note) {
+        return NO_ROOM;
+    }
     match tape_shown(alloc, asked(small, orders, resumes), text) {
         Ok(shown) => show(&shown, words, digits, paper, note, registers),
         Err(NoMemory) => NO_MEMORY,
@@ -61,14 +67,26 @@ pub extern "C" fn page_source(
     note: &mut [u8],
     registers: &mut Registers,
 ) -> u32
-    ensures { let s = asked small orders resumes in IsShown (answer Run s) (SourceEnds s) text.now
+    ensures shown { let s = asked small orders resumes in IsShown (answer Run s) (SourceEnds s) text.now
         (picture_buffers words.old digits.old paper.old note.old registers.old)
         (picture_buffers words.new digits.new paper.new note.new registers.new) result }
+    ensures rows { EachRunReadsOn }
 {
+    if lacks_room(text, words, digits, note) {
+        return NO_ROOM;
+    }
     match source_shown(alloc, asked(small, orders, resumes), text) {
         Ok(shown) => show(&shown, words, digits, paper, note, registers),
         Err(NoMemory) => NO_MEMORY,
     }
+}
+
+/// Whether it is seen before any memory is taken that a picture has no room.
+fn lacks_room(text: &[u8], words: &[u32], digits: &[u8], note: &[u8]) -> bool
+    ensures { IsTrue result ↔ ((length words.now ≢ 1024) ⊎ ((length digits.now ≢ 512)
+        ⊎ LacksLine text.now note.now)) }
+{
+    words.len() != 1024 || digits.len() != 512 || lacks_line(text, note)
 }
 
 /// What is shown of a tape's text.
@@ -99,7 +117,7 @@ fn source_shown(alloc: Global, settings: Settings, text: &[u8]) -> Result<Shown,
     }
 }
 
-/// Writes what is shown into buffers, where they have their lengths.
+/// Writes what is shown into buffers, where the texts have room.
 fn show(
     shown: &Shown,
     words: &mut [u32],
@@ -108,11 +126,13 @@ fn show(
     note: &mut [u8],
     registers: &mut Registers,
 ) -> u32
+    requires words { length words.old ≡ 1024 }
+    requires digits { length digits.old ≡ 512 }
     ensures { (o : Outcome) → TellsOutcome shown.now.told o → WritesBuffers o shown.now.machine
         (picture_buffers words.old digits.old paper.old note.old registers.old)
         (picture_buffers words.new digits.new paper.new note.new registers.new) result }
 {
-    if words.len() != 1024 || digits.len() != 512 || !shown.told.fits(paper, note) {
+    if !shown.told.fits(paper, note) {
         return NO_ROOM;
     }
     let lengths = shown.told.write(paper, note);

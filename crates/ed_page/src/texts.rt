@@ -12,7 +12,7 @@ ghost use Rattle.ed_page.specs.Private.Stages.{TellsOutcome, IsWrittenOut, IsAns
 
 use crate::running::size_of;
 use crate::sources::{linked_of, rows_of};
-use crate::told::{NO_MEMORY, NO_ROOM, Told, is_too_long};
+use crate::told::{NO_MEMORY, NO_ROOM, Told, is_too_long, lacks_line};
 use crate::writing::Lengths;
 use ed_codes::Code;
 use ed_link::{Linked, Placed};
@@ -23,7 +23,7 @@ use std::alloc::Global;
 
 /// Writes the codes of the rows of a tape's text, and answers 0; or writes the program's note, and answers 3 where the
 /// text is refused and 11 where it is too long. It answers 10 where no memory was found, and 12, with nothing written,
-/// where a buffer has no room.
+/// where a buffer has no room; before 10 where the text is too long and the line that says so has none.
 #[unsafe(no_mangle)]
 pub extern "C" fn page_tape_rows(
     alloc: Global,
@@ -35,6 +35,9 @@ pub extern "C" fn page_tape_rows(
     ensures { IsTextTold (of_rows (exactly done)) text.now (text_buffers rows.old note.old lengths.old)
         (text_buffers rows.new note.new lengths.new) result }
 {
+    if lacks_line(text, note) {
+        return NO_ROOM;
+    }
     match tape_rows(alloc, text) {
         Ok(told) => tell(&told, rows, note, lengths),
         Err(NoMemory) => NO_MEMORY,
@@ -55,6 +58,9 @@ pub extern "C" fn page_source_rows(
         (text_buffers rows.old note.old lengths.old)
         (text_buffers rows.new note.new lengths.new) result }
 {
+    if lacks_line(text, note) {
+        return NO_ROOM;
+    }
     match source_rows(alloc, size_of(small), text) {
         Ok(told) => tell(&told, rows, note, lengths),
         Err(NoMemory) => NO_MEMORY,
@@ -74,6 +80,9 @@ pub extern "C" fn page_listing(
     ensures { IsTextTold (answer Listing (asked small 0 0)) text.now (text_buffers listing.old note.old lengths.old)
         (text_buffers listing.new note.new lengths.new) result }
 {
+    if lacks_line(text, note) {
+        return NO_ROOM;
+    }
     match source_listing(alloc, size_of(small), text) {
         Ok(told) => tell(&told, listing, note, lengths),
         Err(NoMemory) => NO_MEMORY,

@@ -1,6 +1,6 @@
 ghost use Rattle.std.specs.Prelude.{◌≡◌, ◌≤◌, IfOk, IsTrue, ◌↔◌, length, nat_lt};
 ghost use Rattle.ed_top.specs.Outcome.{Outcome, done, refused, too_long_outcome};
-ghost use Rattle.ed_page.specs.Answers.{HasBufferRoom, Tells};
+ghost use Rattle.ed_page.specs.Answers.{LacksLine, Tells};
 ghost use Rattle.ed_page.specs.Private.Stages.{TellsOutcome};
 
 use crate::writing::{Lengths, write_text};
@@ -87,6 +87,13 @@ impl Told {
             note: self.note.len() as u64,
         }
     }
+}
+
+/// Whether a text is too long, and a buffer has no room for the line that says so.
+pub fn lacks_line(text: &[u8], note: &[u8]) -> bool
+    ensures { IsTrue result ↔ LacksLine text.now note.now }
+{
+    is_too_long(text) && note.len() < TOO_LONG.len()
 }
 
 /// Whether a text has more bytes than the program takes.

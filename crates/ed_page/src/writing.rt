@@ -2,9 +2,13 @@ ghost use Rattle.std.specs.Prelude.{◌≡◌, ℕ, ◌*◌, ◌<◌, ◌≤◌,
 ghost use Rattle.ed_words.specs.Words.{digit};
 ghost use Rattle.ed_store.specs.Cells.{short_at, sandwich_at};
 ghost use Rattle.ed_page.specs.Answers.{blank_registers};
-ghost use Rattle.ed_page.specs.Pictures.{PicturesStore, PicturesRegisters};
+ghost use Rattle.ed_page.specs.Pictures.{PicturesStore, PicturesRegisters, last_shown};
 
+use ed_codes::Code;
 use ed_machine::Machine;
+
+/// What stands for the last printed code where nothing was printed: a number that is no code.
+pub const NO_CODE: u64 = 32;
 
 /// The lengths of two texts in their buffers.
 #[repr(C)]
@@ -15,7 +19,7 @@ pub struct Lengths {
 }
 
 /// The registers of a machine, how much of its tape there is, and the lengths of the texts of a picture. Where no run
-/// is shown all but the lengths are 0.
+/// is shown no code was printed, and all others but the lengths are 0.
 #[repr(C)]
 #[derive(Clone, Copy, Debug, PartialEq, Eq)]
 pub struct Registers {
@@ -30,6 +34,8 @@ pub struct Registers {
     pub rows_left: u64,
     /// The location of the next order.
     pub counter: u64,
+    /// The last printed code, and `NO_CODE` where nothing was printed.
+    pub last: u64,
     /// How many bytes the teleprinter's text has.
     pub printed: u64,
     /// How many bytes the note has.
@@ -87,8 +93,19 @@ pub fn registers_of(machine: &Machine, lengths: Lengths) -> Registers
         orders: machine.orders_done(),
         rows_left: machine.rows_left().len() as u64,
         counter: u64::from(machine.counter()),
+        last: last_shown(machine.last_printed()),
         printed: lengths.out,
         noted: lengths.note,
+    }
+}
+
+/// The last printed code as a number, which is no code where nothing was printed.
+fn last_shown(last: Option<Code>) -> u64
+    ensures { result ≡ last_shown last }
+{
+    match last {
+        Some(code) => u64::from(code.value()),
+        None => NO_CODE,
     }
 }
 
@@ -103,6 +120,7 @@ pub fn no_registers(lengths: Lengths) -> Registers
         orders: 0,
         rows_left: 0,
         counter: 0,
+        last: NO_CODE,
         printed: lengths.out,
         noted: lengths.note,
     }

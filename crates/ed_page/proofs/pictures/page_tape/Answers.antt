@@ -1,18 +1,44 @@
-use Rattle.std.proofs.Common.{subst}
-use Rattle.std.specs.Prelude.{Ok}
+use Rattle.std.proofs.Common.{rules, subst}
+use Rattle.std.specs.Prelude.{Ok, Some}
 use Rattle.ed_command.specs.declared.command.Action.TheVariants.{Tape}
 use Rattle.ed_command.specs.declared.command.Settings.{Settings}
 use Rattle.ed_top.specs.Output.{answer}
-use Rattle.ed_page.specs.Answers.{TapeEnds}
+use Rattle.ed_top.proofs.OneOutcome.{line_once}
+use Rattle.ed_page.specs.Answers.{TapeEnds, picture_buffers}
 use Rattle.ed_page.specs.Pictures.{asked}
 use Rattle.ed_page.specs.Private.Stages.{Draws}
-use Rattle.ed_page.proofs.Written.{drawn_shown}
+use Rattle.ed_page.proofs.TapeRows.{each_run_reads_on}
+use Rattle.ed_page.proofs.Written.{drawn_shown, picture_early, picture_unmade, refuted}
 use Rattle.ed_page.proofs.pictures.page_tape.Goals as goal
 
-pub returns-in-Ok : goal.returns-in-Ok
-returns-in-Ok c =
+pub returns-in-Ok-clause-shown : goal.returns-in-Ok-clause-shown
+returns-in-Ok-clause-shown c =
     let s = asked c.args.small c.args.orders c.args.resumes in
     let text = c.args.text.now in
     drawn_shown (answer Tape s) (TapeEnds s) text c.in-Ok.shown
+    (refuted c.lacks_room.result c.if-lacks_room.false c.lacks_room.ensures)
     (subst (λ (x : Settings). Draws (answer Tape x) (TapeEnds x) text (Ok c.in-Ok.shown)) c.asked.ensures
     c.in-Ok.ensures) c.show.ensures
+
+pub returns-in-Ok-clause-rows : goal.returns-in-Ok-clause-rows
+returns-in-Ok-clause-rows c = each_run_reads_on
+
+pub returns-then-lacks_room-clause-shown : goal.returns-then-lacks_room-clause-shown
+returns-then-lacks_room-clause-shown c =
+    let s = asked c.args.small c.args.orders c.args.resumes in
+    picture_early _ (TapeEnds s) c.args.text.now
+    (picture_buffers c.args.words.now c.args.digits.now c.args.paper.now c.args.note.now c.args.registers.now)
+    (line_once (Some (record { action = Tape; settings = s }))) (c.lacks_room.ensures.0 (search rules))
+
+pub returns-then-lacks_room-clause-rows : goal.returns-then-lacks_room-clause-rows
+returns-then-lacks_room-clause-rows c = each_run_reads_on
+
+pub returns-in-Err-clause-shown : goal.returns-in-Err-clause-shown
+returns-in-Err-clause-shown c =
+    let s = asked c.args.small c.args.orders c.args.resumes in
+    picture_unmade (answer Tape s) (TapeEnds s) c.args.text.now
+    (picture_buffers c.args.words.now c.args.digits.now c.args.paper.now c.args.note.now c.args.registers.now)
+    (refuted c.lacks_room.result c.if-lacks_room.false c.lacks_room.ensures)
+
+pub returns-in-Err-clause-rows : goal.returns-in-Err-clause-rows
+returns-in-Err-clause-rows c = each_run_reads_on

@@ -1,0 +1,53 @@
+-- The rows that a run leaves are the end of its tape's rows.
+use Rattle.std.proofs.Common.{◌≡◌, ◌∙◌, ℕ, zero, suc, ◌^◌, refl, sym, ap, Bool, true, false, nat_le, nat_lt}
+use Rattle.std.proofs.Common.{List, [], ◌∷◌, ◌++◌, append_assoc, Option, Some, None}
+use Rattle.ed_words.specs.Words.{function_of}
+use Rattle.ed_orders.specs.Kinds.{kind_of_function}
+use Rattle.ed_orders.specs.declared.kind.Kind.{Kind}
+use Rattle.ed_orders.specs.declared.kind.Kind.TheVariants.{E, G, I}
+use Rattle.ed_machine.specs.State.{State}
+use Rattle.ed_machine.specs.OrderTable.{jumped, next_word, obey_word, place_of, step, took_row}
+use Rattle.ed_machine.specs.Steps.{past, state_after}
+use Rattle.ed_run.specs.Run.{ran, run_orders}
+use Rattle.ed_loads.specs.EntryState.{first_state}
+use Rattle.ed_top.specs.Runs.{paper_room, run_of}
+use Rattle.ed_page.specs.Answers.{EachRunReadsOn, IsEndOf}
+
+-- one order reads a row at the most
+by_order : (k : Option Kind) (w : ℕ) (s : State) → IsEndOf (obey_word k w s).state.tape s.tape
+by_order (Some E) w s = by_test (nat_lt s.acc (2 ^ 70))
+  where
+    by_test : (b : Bool) → IsEndOf (jumped b (place_of s w) s).state.tape s.tape
+    by_test true = ([], refl)
+    by_test false = ([], refl)
+by_order (Some G) w s = by_test (nat_le (2 ^ 70) s.acc)
+  where
+    by_test : (b : Bool) → IsEndOf (jumped b (place_of s w) s).state.tape s.tape
+    by_test true = ([], refl)
+    by_test false = ([], refl)
+by_order (Some I) w s = by_tape s.tape refl
+  where
+    by_tape : (rows : List ℕ) → s.tape ≡ rows → IsEndOf (took_row rows w s).state.tape s.tape
+    by_tape [] e = ([], refl)
+    by_tape (row ∷ rows) e = (row ∷ [], sym e)
+by_order None w s = ([], refl)
+by_order (Some k) w s = ([], refl)
+
+by_step : (s : State) → IsEndOf (step s).state.tape s.tape
+unfolding step
+by_step s = by_order (kind_of_function (function_of (next_word s))) (next_word s) s
+
+by_steps : (k : ℕ) (s : State) → IsEndOf (state_after k s).tape s.tape
+unfolding past
+by_steps zero s = ([], refl)
+by_steps (suc k) s =
+    let before = by_steps k s in
+    let here = by_step (state_after k s) in
+    let all = append_assoc before.0 here.0 (step (state_after k s)).state.tape
+    ∙ ap (λ (rows : List ℕ). before.0 ++ rows) here.1 ∙ before.1 in
+    (before.0 ++ here.0, all)
+
+pub each_run_reads_on : EachRunReadsOn
+unfolding ran first_state
+each_run_reads_on s codes =
+    let first = first_state s.size codes in by_steps (run_orders s.limit s.resumes paper_room first) first
