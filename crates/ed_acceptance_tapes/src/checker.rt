@@ -48,8 +48,8 @@ fn the_checker_tells_the_words_that_a_tape_places(rt: HostRuntime) -> Result<(),
     Ok(())
 }
 
-/// One tape for each way of setting the directive and θ, and for each kind of ending: the value of θ that it leaves, the
-/// word that it places at 64, and its cost. T 64 K is the directive 20,608, which is 4096 · 5 + 2 · 64.
+/// One tape for each way of setting the directive and θ, and for each kind of ending: the θ that it leaves, the word that
+/// it places at 64, and its cost. T 64 K is the directive 20,608, which is 4096 · 5 + 2 · 64.
 const LINES: [(&str, u32, u32, u64); 9] = [
     // Blank with K sets θ to 4096 · 16 + 2n and the directive; G with K to 4096 · 27 + 2n and the directive, less 2^17.
     ("T64K.3KP@E64KPF", 86_150, 86_150, 162),

@@ -128,7 +128,8 @@ module _ {base : ℕ} (even_base : base % 2 ≡ 0) {s t : State} (p : Agree base
     both_outcome : is_planted kind ≡ true → Outcome base s t (obey_word kind x s) (obey_word kind x t)
     both_outcome may = planted even_base alike kind x may allowed.order
 
-    both_planted : is_planted kind ≡ true → is_obeyed (step t).turn ≡ true → Both (obey_word kind x s) (obey_word kind x t)
+    both_planted : is_planted kind ≡ true → is_obeyed (step t).turn ≡ true
+        → Both (obey_word kind x s) (obey_word kind x t)
     both_planted may h =
         let o = both_outcome may in
         let went = ap is_obeyed (o.turn

@@ -1,7 +1,6 @@
 -- What the orders of a guest weigh, if an order weighs as many orders as its turn takes.
-use Rattle.std.proofs.Common.{◌≡◌, ℕ, zero, suc, ◌+◌, ◌^◌, refl, sym, ap, ◌∙◌, subst, arith}
-use Rattle.std.proofs.Common.{Bool, true, false, ◌&&◌, not, nat_eq, nat_lt, List, [], ◌∷◌, Option, Some, None, get_or}
-use Rattle.std.specs.Prelude.{if◌then◌else◌}
+use Rattle.std.proofs.Common.{◌≡◌, ℕ, zero, suc, ◌+◌, refl, ap, ◌∙◌, subst, arith}
+use Rattle.std.proofs.Common.{Bool, true, false, ◌&&◌, not, nat_eq, List, [], ◌∷◌, Option, Some, None, get_or}
 use Rattle.std.proofs.lemmas.Bool.{and_parts, not-true}
 use Rattle.ed_words.specs.Words.{function_of}
 use Rattle.ed_words.proofs.Numbers.{eq_of}

@@ -213,7 +213,10 @@ module _ {base count : ℕ} {s t : State} {sheet full : Sheet} {ending : Ending}
           guest_is = subst (λ x. Agree base (guest base x) (step g).state) (sym state)
               (subst (Agree base (guest base r.after)) guest_same r.agree);
           stands = λ i. absurd (true≢false (sym i ∙ h));
-          blocked = λ i. (ap (λ (x : State). (step x).turn) state ∙ r.turn, ap (λ (x : State). x.counter) state ∙ r.counter);
+          blocked = λ i. (
+            ap (λ (x : State). (step x).turn) state ∙ r.turn,
+            ap (λ (x : State). x.counter) state ∙ r.counter,
+          );
         },
       )
 

@@ -2,7 +2,8 @@
 -- the text is this project's own). The routine takes 66 places from an even base on. It obeys the orders of another
 -- program, its guest, one by one: the guest's store, multiplier and tape are the machine's own, and the routine keeps
 -- the guest's counter and accumulator in its places.
-use Rattle.std.specs.Prelude.{◌≡◌, ◌⊎◌, ℕ, zero, suc, ◌+◌, ◌-◌, ◌*◌, ◌/◌, ◌%◌, ◌^◌, ◌<◌, ◌≤◌, nat_eq, nat_lt, if◌then◌else◌}
+use Rattle.std.specs.Prelude.{◌≡◌, ◌⊎◌, ℕ, zero, suc, ◌+◌, ◌-◌, ◌*◌, ◌/◌, ◌%◌, ◌^◌, ◌<◌, ◌≤◌}
+use Rattle.std.specs.Prelude.{nat_eq, nat_lt, if◌then◌else◌}
 use Rattle.std.specs.Prelude.{Bool, true, false, List, [], ◌∷◌, ◌++◌, Option, Some, None, codes}
 use Rattle.ed_words.specs.declared.size.Size.{Size}
 use Rattle.ed_words.specs.Sizes.{locations, within}
@@ -117,8 +118,8 @@ checked_codes g zero = []
 checked_codes g (suc q) = checked_codes g q
     ++ (function_of (next_word (state_after q g)) ∷ codes_of (step (state_after q g)).turn)
 
--- how many orders the routine obeys for an order of its guest with a function and an accumulator: for E (3) and G (27)
--- by whether it jumps, and for every other order as many as find out that it is none of these
+-- how many orders the routine obeys for an order of its guest, by its function and the accumulator: an E (3) and a G
+-- (27) by whether they jump, every other order by how many tests show that it is neither
 abbrev pub orders_by : ℕ → ℕ → ℕ
 orders_by function acc =
     if nat_eq function 3 then (if nat_lt acc (2 ^ 70) then 16 else 17)
@@ -128,7 +129,7 @@ orders_by function acc =
     else if nat_lt function 27 then 33
     else 35
 
--- how many orders the turn of a guest takes: 35 at the most
+-- how many orders the turn of a guest takes: at most 35
 abbrev pub turn_orders : State → ℕ
 turn_orders g = orders_by (function_of (next_word g)) g.acc
 

@@ -26,8 +26,8 @@ pub record IsFollowed (base q : ℕ) (g : State) : Type 0 where
   pub allowed : (j : ℕ) → j < q → IsAllowed base (state_after j g)
   pub obeyed : (j : ℕ) → j < q → is_obeyed (step (state_after j g)).turn ≡ true
 
--- the routine has obeyed q orders of its guest, in the sum of their turns: it has printed their checked codes, it stands
--- again, and its guest agrees with the guest after these orders
+-- the routine has obeyed q orders of its guest, in the sum of their turns: it has printed their checked codes, it
+-- stands again, and its guest agrees with the guest after these orders
 pub record Checked (base q : ℕ) (m : State) : Type 0 where
   pub last : State
   pub most : checked_orders (guest base m) q ≤ 35 * q
@@ -37,7 +37,7 @@ pub record Checked (base q : ℕ) (m : State) : Type 0 where
   pub size : last.size ≡ m.size
 
 -- the machine comes to a stop, which is the q-th order of the guest, and has then printed the checked codes of the q
--- orders; the stop and the orders that save behind it are all that is missing of the q turns
+-- orders; only the stop and the orders that save after it are missing from the q turns
 pub record ChecksToStop (base q : ℕ) (m : State) : Type 0 where
   pub last : State
   pub count : ℕ
@@ -47,14 +47,15 @@ pub record ChecksToStop (base q : ℕ) (m : State) : Type 0 where
   pub counter : last.counter ≡ base + planting_place
   pub stops : (step last).turn ≡ Stopped
 
--- behind q orders the guest comes to a word that is no order, or to an order that reads a tape with no row left: the
+-- after q orders the guest reaches a word that is no order, or an order that reads a tape with no row left: the
 -- machine has printed their checked codes and the function of that word, and it stands before that word at the planting
 -- place, blocked by the same cause, with the guest as it was
 pub record ChecksToBlock (base q : ℕ) (m : State) : Type 0 where
   pub last : State
   pub count : ℕ
   pub exact : count + (1 + saving_orders) ≡ checked_orders (guest base m) (suc q)
-  pub ran : Ran count m (checked_codes (guest base m) q ++ (function_of (next_word (state_after q (guest base m))) ∷ []))
+  pub ran : Ran count m
+      (checked_codes (guest base m) q ++ (function_of (next_word (state_after q (guest base m))) ∷ []))
       (past q (guest base m)).stops last
   pub agree : Agree base (guest base last) (state_after q (guest base m))
   pub counter : last.counter ≡ base + planting_place
@@ -67,8 +68,8 @@ pub record HasGuest (base : ℕ) (m : State) : Type 0 where
   pub sound : IsSound m
   pub stands : CheckerStands base m
 
--- What holds of every guest: so many of its orders as are allowed and obeyed are checked; where the next of them is a
--- stop, and the first, the machine comes to it; and where the next can't be obeyed, the machine is blocked there.
+-- What holds of every guest: its orders are checked as long as they are allowed and obeyed. If the next one is its first
+-- stop, the machine reaches it; if the next one can't be obeyed, the machine is blocked there.
 pub record CheckerLaw : Type 0 where
   pub checks : (base q : ℕ) (m : State) → HasGuest base m → IsFollowed base q (guest base m) → Checked base q m
   pub to_stop : (base q : ℕ) (m : State) → HasGuest base m → IsFollowed base q (guest base m)

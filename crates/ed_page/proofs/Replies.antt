@@ -1,6 +1,6 @@
 -- From what is told and shown of a text to what the program answers.
 use Rattle.std.proofs.Common.{◌≡◌, ◌∙◌, ◌<◌, ◌≤◌, ℕ, Bool, inl, inr, refl, sym, ap}
-use Rattle.std.proofs.Common.{subst, arith, Option, Some, None, List, [], length}
+use Rattle.std.proofs.Common.{subst, arith, Some, None, List, [], length}
 use Rattle.std.specs.Prelude.{Result, Ok, Err, IfOk}
 use Rattle.ed_words.specs.declared.size.Size.{Size}
 use Rattle.ed_words.specs.declared.memory.NoMemory.{NoMemory}

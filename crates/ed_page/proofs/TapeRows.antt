@@ -10,10 +10,10 @@ use Rattle.ed_machine.specs.OrderTable.{jumped, next_word, obey_word, place_of, 
 use Rattle.ed_machine.specs.Steps.{past, state_after}
 use Rattle.ed_run.specs.Run.{ran, run_orders}
 use Rattle.ed_loads.specs.EntryState.{first_state}
-use Rattle.ed_top.specs.Runs.{paper_room, run_of}
+use Rattle.ed_top.specs.Runs.{paper_room}
 use Rattle.ed_page.specs.Answers.{EachRunReadsOn, IsEndOf}
 
--- one order reads a row at the most
+-- one order reads at most one row
 by_order : (k : Option Kind) (w : ℕ) (s : State) → IsEndOf (obey_word k w s).state.tape s.tape
 by_order (Some E) w s = by_test (nat_lt s.acc (2 ^ 70))
   where

@@ -1,5 +1,6 @@
 -- From what was written into buffers to the cause of an answer.
-use Rattle.std.proofs.Common.{◌≡◌, ◌≢◌, ◌∙◌, ◌≤◌, ℕ, true≢false, inl, inr, refl, subst, sym, arith, Option, None, List, length}
+use Rattle.std.proofs.Common.{◌≡◌, ◌≢◌, ◌∙◌, ◌≤◌, ℕ, true≢false, inl, inr, refl, subst, sym, arith}
+use Rattle.std.proofs.Common.{Option, None, List, length}
 use Rattle.std.specs.Prelude.{◌↔◌, IfSome, IsTrue, Ok, Bool, false}
 use Rattle.ed_machine.specs.State.{State}
 use Rattle.ed_words.specs.Texts.{Text}
@@ -149,7 +150,8 @@ text_early answers text before lacks = record {
     too_long_outcome,
     inr (lacks.0, refl),
     record {
-      no_room = λ e room. line_lacks answers text before.out before.note lacks too_long_outcome (inr (lacks.0, refl)) room;
+      no_room = λ e room.
+          line_lacks answers text before.out before.note lacks too_long_outcome (inr (lacks.0, refl)) room;
       kept = λ e. refl;
       shown = λ not12. absurd (not12 refl);
     },
@@ -157,8 +159,8 @@ text_early answers text before lacks = record {
   early = λ l. refl;
 }
 
-room_lacks : (answers : Text → Outcome → Type 0) (text : Text) (before : Buffers) → LacksRoom text before → (o : Outcome)
-    → IsDue (of_input answers) text o → HasPictureRoom o before → ⊥
+room_lacks : (answers : Text → Outcome → Type 0) (text : Text) (before : Buffers) → LacksRoom text before
+    → (o : Outcome) → IsDue (of_input answers) text o → HasPictureRoom o before → ⊥
 room_lacks answers text before (inl words) o due room = words room.words_are
 room_lacks answers text before (inr (inl digits)) o due room = digits room.digits_are
 room_lacks answers text before (inr (inr line)) o due room =

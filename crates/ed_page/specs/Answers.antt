@@ -58,7 +58,7 @@ abbrev pub LacksLine : Text → List ℕ → Type 0
 LacksLine text note = (262144 < length text) × (length note < length too_long)
 
 -- what the program answers to a text, written into two buffers; or no memory was found (10), and the buffers are as
--- before. 12 comes first where no memory is needed to see that there is no room
+-- before. 12 comes first if no memory is needed to see that there is no room
 pub record IsTextTold (wanted : Answer) (text : Text) (before after : TextBuffers) (answer : ℕ) : Type 0 where
   pub memory : answer ≡ 10 → after ≡ before
   pub told : answer ≢ 10 → (o : Outcome) × IsDue wanted text o
@@ -134,7 +134,7 @@ abbrev pub LacksRoom : Text → Buffers → Type 0
 LacksRoom text b = (length b.words ≢ 1024) ⊎ ((length b.digits ≢ 512) ⊎ LacksLine text b.note)
 
 -- what the program answers to a text, and the state in which its run ends, written into buffers; or no memory was
--- found (10), and the buffers are as before. 12 comes first where no memory is needed to see that there is no room
+-- found (10), and the buffers are as before. 12 comes first if no memory is needed to see that there is no room
 pub record IsShown (wanted : Answer) (Ends : Text → State → Type 0) (text : Text) (before after : Buffers)
     (answer : ℕ) : Type 0 where
   pub memory : answer ≡ 10 → after ≡ before

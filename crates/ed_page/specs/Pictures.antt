@@ -23,7 +23,7 @@ pub record PicturesStore (c : Cells) (words digits : List ℕ) : Type 0 where
   pub words_are : (a : ℕ) → a < 1024 → slice_index words a ≡ short_at c a
   pub digits_are : (k : ℕ) → k < 512 → slice_index digits k ≡ digit (sandwich_at c (2 * k))
 
--- the last printed code, and 32, which is no code, where nothing was printed
+-- the last printed code, or 32, which is not a code, if nothing was printed
 abbrev pub last_shown : Option ℕ → ℕ
 last_shown (Some code) = code
 last_shown None = 32

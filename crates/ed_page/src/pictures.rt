@@ -22,9 +22,9 @@ use std::alloc::Global;
 /// It writes 1,024 words, 512 sandwich digits, the teleprinter's text, the program's note and the registers, and
 /// answers the program's status: 0, 4, 5, 6 or 7 by the ending of the run, 3 if the text is refused, 11 if it is too
 /// long and 10 if no memory was found. With 10 nothing is written; with 3 and 11 no word and no digit is, and the
-/// registers show no code and are 0 but for the lengths of the texts. It answers 12, and writes nothing, if a buffer has
-/// the wrong length: 1,024 and 512, and for each text as many bytes as it has. The lengths of the store's buffers, and
-/// the room for the line on a text that is too long, are looked at before any memory is taken.
+/// registers show no code and are 0 except for the lengths of the texts. It answers 12, and writes nothing, if a buffer
+/// has the wrong length: 1,024 and 512, and for each text as many bytes as it has. The lengths of the store's buffers,
+/// and the room for the line on a text that is too long, are looked at before any memory is taken.
 #[unsafe(no_mangle)]
 pub extern "C" fn page_tape(
     alloc: Global,
@@ -117,7 +117,7 @@ fn source_shown(alloc: Global, settings: Settings, text: &[u8]) -> Result<Shown,
     }
 }
 
-/// Writes what is shown into buffers, where the texts have room.
+/// Writes what is shown into buffers, if the texts have room.
 fn show(
     shown: &Shown,
     words: &mut [u32],

@@ -7,7 +7,7 @@ ghost use Rattle.ed_page.specs.Pictures.{PicturesStore, PicturesRegisters, last_
 use ed_codes::Code;
 use ed_machine::Machine;
 
-/// What stands for the last printed code where nothing was printed: a number that is no code.
+/// What stands for the last printed code if nothing was printed: a number that is not a code.
 pub const NO_CODE: u64 = 32;
 
 /// The lengths of two texts in their buffers.
@@ -34,7 +34,7 @@ pub struct Registers {
     pub rows_left: u64,
     /// The location of the next order.
     pub counter: u64,
-    /// The last printed code, and `NO_CODE` where nothing was printed.
+    /// The last printed code, or `NO_CODE` if nothing was printed.
     pub last: u64,
     /// How many bytes the teleprinter's text has.
     pub printed: u64,
@@ -99,7 +99,7 @@ pub fn registers_of(machine: &Machine, lengths: Lengths) -> Registers
     }
 }
 
-/// The last printed code as a number, which is no code where nothing was printed.
+/// The last printed code as a number, which is not a code if nothing was printed.
 fn last_shown(last: Option<Code>) -> u64
     ensures { result ≡ last_shown last }
 {

@@ -177,7 +177,8 @@ module _ (given : Given) where
 
     -- the next power
     next : {j p before after rest flag count spare : ℕ} {last : Option ℕ} (v : ℕ) → Power j p before after → v < 2 ^ 17
-        → Walk w f 5 (5 * w.plain) (at j rest flag count spare v 27 last) [] (at (j + 1) rest flag count v after 32 last)
+        → Walk w f 5 (5 * w.plain) (at j rest flag count spare v 27 last) []
+        (at (j + 1) rest flag count v after 32 last)
     next {j} {after = after} v o low =
         let b = most f.size in let fits = f.fits in let is = o.next_is in let inside = o.inside in
         let second = at2 in

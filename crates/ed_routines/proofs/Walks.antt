@@ -1,11 +1,11 @@
 -- Paths whose orders are weighed: a weight for each kind of order, and for a jump by whether it is taken.
-use Rattle.std.proofs.Common.{◌≡◌, ℕ, zero, suc, ◌+◌, ◌*◌, ◌^◌, ◌<◌, ◌≤◌, refl, sym, ap, ◌∙◌}
+use Rattle.std.proofs.Common.{◌≡◌, ℕ, zero, suc, ◌+◌, ◌*◌, ◌^◌, ◌<◌, ◌≤◌, refl, ap, ◌∙◌}
 use Rattle.std.proofs.Common.{arith, nat_lt, List, [], ◌∷◌, ◌++◌}
 use Rattle.std.specs.Prelude.{if◌then◌else◌}
 use Rattle.ed_orders.specs.declared.kind.Kind.{Kind}
 use Rattle.ed_orders.specs.declared.kind.Kind.TheVariants.{E, F, G, H, L, N, X}
 use Rattle.ed_machine.specs.State.{State}
-use Rattle.ed_machine.specs.OrderTable.{Obeyed, step}
+use Rattle.ed_machine.specs.OrderTable.{step}
 use Rattle.ed_machine.specs.Steps.{state_after}
 use Rattle.ed_machine.specs.declared.turn.Turn.{Turn}
 use Rattle.ed_machine.specs.declared.turn.Turn.TheVariants.{Went, Printed}
@@ -62,7 +62,7 @@ module _ {n h : ℕ} {f : Frame n h} {w : Weights} where
     weighs = ap (λ x. weight w kind r.acc + x) rest.weighs;
   }
 
-  -- a walk behind a path
+  -- a walk after a path
   along : {a b v : ℕ} {r m t : Moment} {cs ds : List ℕ} (p : Path f a r cs m) → Walk w f b v m ds t
       → Walk w f (a + b) (weigh w p + v) r (cs ++ ds) t
   along {b = b} {v} stay next =
@@ -116,7 +116,8 @@ total_first of (suc k) s =
     let g = ap of (first_state k s) in
     omega (arith, e, g)
 
-pub total_sum : (of : State → ℕ) (a b : ℕ) (s : State) → total of (a + b) s ≡ total of a s + total of b (state_after a s)
+pub total_sum : (of : State → ℕ) (a b : ℕ) (s : State)
+    → total of (a + b) s ≡ total of a s + total of b (state_after a s)
 unfolding total
 total_sum of a zero s = let e : a + 0 ≡ a = omega arith in rw e (omega arith)
 total_sum of a (suc b) s =

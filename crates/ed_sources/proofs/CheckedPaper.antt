@@ -78,7 +78,8 @@ module _ (z : Size) (n : ℕ) (small : n < 65536) where
   c = checks_print z n small
 
   pub check_ends : StopsAt (2550 + 244 * sum (before_units n) + 142 * length (before_units n))
-      (entry_state z (check_lines n)) (checked_codes (guest 112 (entry_state z (check_lines n))) (3 + print_orders n)) 152
+      (entry_state z (check_lines n))
+      (checked_codes (guest 112 (entry_state z (check_lines n))) (3 + print_orders n)) 152
   check_ends =
       subst (λ k. StopsAt k (entry_state z (check_lines n))
       (checked_codes (guest 112 (entry_state z (check_lines n))) (3 + print_orders n)) 152) (count_is z n small)

@@ -353,7 +353,7 @@ module _ (z : Size) (n : ℕ) (small : n < 65536) where
     stops = ap (λ (x : State). (step x).turn) at_end ∙ stop_at end end_word;
   }
 
-  -- the guest comes to its first Z
+  -- the guest reaches its first Z
   pub guest_stops : StopsAfter (2 + print_orders n) g
   guest_stops = subst (λ x. StopsAfter (2 + print_orders x) g) number_is to_stop
 

@@ -172,7 +172,8 @@ module _ (z : Size) (high low by : ℕ) (positive : 1 ≤ by) (fits : by ≤ 327
 -- so it is of `call divide N D`
 pub call_ends : (z : Size) (n by : ℕ) → IsDivisible n by
     → StopsAt (2 + divide_orders (n / by) + (2 + print_orders (n / by) + (7 + (2 + print_orders (n % by)))))
-    (entry_state z (divide_lines (n / 65536) (n % 65536) by)) (11 ∷ digits (n / by) ++ 18 ∷ 24 ∷ 11 ∷ digits (n % by)) 64
+    (entry_state z (divide_lines (n / 65536) (n % 65536) by))
+    (11 ∷ digits (n / by) ++ 18 ∷ 24 ∷ 11 ∷ digits (n % by)) 64
 call_ends z n by made =
     let whole : 65536 * (n / 65536) + n % 65536 ≡ n = omega arith in
     let less = made.less in

@@ -34,7 +34,7 @@ pub record StopsAt (k : ℕ) (s : State) (codes : List ℕ) (place : ℕ) : Type
   pub to_stop : LeadsToStop k s codes
   pub counter : to_stop.last.counter ≡ place
 
--- and behind other orders
+-- and after other orders
 pub behind : {a b place : ℕ} {s t : State} {cs ds : List ℕ} → Leads a s cs t → StopsAt b t ds place
     → StopsAt (a + b) s (cs ++ ds) place
 behind first o = record {
@@ -46,7 +46,7 @@ behind first o = record {
   counter = o.counter;
 }
 
--- the order that stops the machine leaves it behind the stop
+-- the order that stops the machine moves its counter on
 stopped_state : (k : Option Kind) (w : ℕ) (x : State) → (obey_word k w x).turn ≡ Stops
     → (obey_word k w x).state ≡ done_at (after x) x
 stopped_state (Some E) w x h = by_test (nat_lt x.acc (2 ^ 70)) h
@@ -74,7 +74,7 @@ step_stopped : (x : State) → (step x).turn ≡ Stops → (step x).state ≡ do
 unfolding step
 step_stopped x h = stopped_state (kind_of_function (function_of (next_word x))) (next_word x) x h
 
--- so the counter is behind it, and it is one order more
+-- so the counter is at the next location, and it is one order more
 pub record Halted {k place : ℕ} {s : State} {codes : List ℕ} (o : StopsAt k s codes place) : Type 0 where
   pub counter : (step o.to_stop.last).state.counter ≡ place + 1
   pub orders : (step o.to_stop.last).state.orders ≡ s.orders + k + 1

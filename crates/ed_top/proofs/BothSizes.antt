@@ -1,5 +1,5 @@
 -- A run that stays in the first 512 locations is the same on both sizes of the store.
-use Rattle.std.proofs.Common.{◌≡◌, ◌∙◌, ℕ, zero, suc, ◌+◌, ◌^◌, ◌<◌, ◌≤◌, refl, sym, ap, arith}
+use Rattle.std.proofs.Common.{◌≡◌, ◌∙◌, ℕ, zero, suc, ◌+◌, ◌^◌, ◌<◌, ◌≤◌, refl, ap, arith}
 use Rattle.std.proofs.Common.{Bool, true, false, nat_eq, nat_lt, nat_le, Option, Some, None, List, [], ◌∷◌, ◌++◌, length}
 use Rattle.std.specs.Prelude.{if◌then◌else◌}
 use Rattle.std.proofs.lemmas.Bool.Decides.{nat_tests}
@@ -12,12 +12,10 @@ use Rattle.ed_orders.specs.declared.kind.Kind.TheVariants.{A, S, H, V, N, T, U, 
 use Rattle.ed_machine.specs.State.{State}
 use Rattle.ed_machine.specs.OrderTable.{Obeyed, jumped, next_word, obey_word, place_of, step, took_row}
 use Rattle.ed_machine.specs.Steps.{Past, codes_of, next_past, past, state_after, stops_of}
-use Rattle.ed_machine.specs.declared.turn.Turn.{Turn}
 use Rattle.ed_machine.specs.declared.ending.Ending.{Ending}
 use Rattle.ed_machine.specs.declared.ending.Ending.TheVariants.{Stopped, Limit, NoOrder, NoTape, PaperFull}
 use Rattle.ed_run.specs.Run.{EndsAfter, RunEnd, end_at, end_by, ran, run_orders}
 use Rattle.ed_run.proofs.Ends.{ends_once, ran_ends}
-use Rattle.ed_syntax.specs.declared.program.Line.{Line}
 use Rattle.ed_link.specs.Tapes.{tape}
 use Rattle.ed_loads.specs.EntryState.{first_state}
 use Rattle.ed_report.specs.Notes.{ending_line}

@@ -1,6 +1,6 @@
 -- Runs over devices whose calls never fail.
-use Rattle.std.proofs.Common.{◌≡◌, ◌≢◌, ◌⊎◌, inl, inr, ℕ, Bool, false, refl, sym, ap, subst, arith, ◌∙◌, [], ◌++◌}
-use Rattle.std.specs.Prelude.{Option, None, Some, if◌then◌else◌}
+use Rattle.std.proofs.Common.{◌≡◌, ◌≢◌, ◌⊎◌, inl, inr, ℕ, Bool, false, refl, sym, subst, arith, []}
+use Rattle.std.specs.Prelude.{None, Some, if◌then◌else◌}
 use Rattle.ed_io.specs.Bytes.{Gains}
 use Rattle.ed_io.specs.Causes.{next_count}
 use Rattle.ed_io.specs.Memory.{Roll}

@@ -1,5 +1,5 @@
 -- A run with a greater limit: the same where it ended before its limit, and else one that goes on.
-use Rattle.std.proofs.Common.{◌≡◌, ◌≢◌, ◌∙◌, ℕ, ◌+◌, ◌-◌, ◌<◌, ◌≤◌, refl, sym, ap, subst, arith}
+use Rattle.std.proofs.Common.{◌≡◌, ◌≢◌, ◌∙◌, ℕ, ◌+◌, ◌-◌, ◌≤◌, refl, sym, ap, arith}
 use Rattle.std.proofs.Common.{Bool, true, false, true≢false, nat_eq, nat_lt, nat_le, Option, Some, None, inl, inr}
 use Rattle.std.proofs.Common.{List, [], ◌∷◌, ◌++◌, length, append_assoc, append-nil}
 use Rattle.std.specs.Prelude.{if◌then◌else◌}
@@ -25,14 +25,13 @@ use Rattle.ed_printer.specs.declared.printer.Shift.TheVariants.{Letters}
 use Rattle.ed_syntax.specs.declared.program.Line.{Line}
 use Rattle.ed_link.specs.Tapes.{tape}
 use Rattle.ed_loads.specs.EntryState.{first_state}
-use Rattle.ed_command.specs.declared.command.Settings.{Settings}
 use Rattle.ed_command.specs.declared.command.Window.{Window}
 use Rattle.ed_top.specs.Outcome.{Outcome}
 use Rattle.ed_top.specs.FirstOrders.{first_state1, tape1_outcome}
 use Rattle.ed_top.specs.Output.{tape_outcome}
 use Rattle.ed_top.specs.Runs.{paper_room, post_mortem_codes, ran_outcome, status_of, with_post_mortem}
 use Rattle.ed_top.specs.Sources.{entered_before, run_outcome}
-use Rattle.ed_top.specs.Limits.{EachLimit, KeepsLimits, StartsWith, with_limit}
+use Rattle.ed_top.specs.Limits.{EachLimit, KeepsLimits, StartsWith}
 
 -- ---- ends
 

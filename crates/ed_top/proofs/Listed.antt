@@ -1,19 +1,15 @@
 -- What `listing` shows is what stands in the store at the entry.
-use Rattle.std.proofs.Common.{◌≡◌, ◌∙◌, ℕ, ◌-◌, sym, ap, arith, refl, List, []}
+use Rattle.std.proofs.Common.{◌≡◌, ◌∙◌, ℕ, ◌-◌, sym, ap, arith, refl, []}
 use Rattle.std.specs.Prelude.{Some}
 use Rattle.ed_machine.specs.State.{State}
 use Rattle.ed_machine.specs.Steps.{least, past}
-use Rattle.ed_printer.specs.Paper.{paper}
 use Rattle.ed_run.specs.Run.{RunEnd, ran}
-use Rattle.ed_syntax.specs.declared.program.Line.{Line}
 use Rattle.ed_link.specs.Linked.{entry_of}
 use Rattle.ed_link.specs.Tapes.{cost}
 use Rattle.ed_loads.specs.EntryState.{entry_state}
 use Rattle.ed_report.specs.Listings.{listing}
 use Rattle.ed_report.specs.Notes.{entered}
 use Rattle.ed_command.specs.declared.command.Settings.{Settings}
-use Rattle.ed_command.specs.declared.command.Window.{Window}
-use Rattle.ed_top.specs.Headline.{RunsFromEntry}
 use Rattle.ed_top.specs.Outcome.{Outcome}
 use Rattle.ed_top.specs.Runs.{paper_room, ran_outcome, with_post_mortem}
 use Rattle.ed_top.specs.Listed.{EachListedIsLoaded, listed_places, up_to_entry}

@@ -1,12 +1,10 @@
 -- What `punch` writes is the tape that `run` runs.
-use Rattle.std.proofs.Common.{◌≡◌, ℕ, inl, refl, Bool, List}
+use Rattle.std.proofs.Common.{ℕ, inl, refl}
 use Rattle.std.specs.Prelude.{replicate}
 use Rattle.std.proofs.lemmas.List.{length-replicate}
-use Rattle.ed_syntax.specs.declared.program.Line.{Line}
 use Rattle.ed_link.specs.Tapes.{arrival}
 use Rattle.ed_link.proofs.EachSource.{each_source as comes_to}
 use Rattle.ed_link.proofs.PunchedTexts.{text_is_tape}
-use Rattle.ed_command.specs.declared.command.Settings.{Settings}
 use Rattle.ed_top.specs.PunchedTapes.{EachPunchedIsRun}
 
 pub each_punched_is_run : EachPunchedIsRun

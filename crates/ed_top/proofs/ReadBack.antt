@@ -1,5 +1,5 @@
 -- The words that a post-mortem prints are read back from its codes.
-use Rattle.std.proofs.Common.{◌≡◌, ◌∙◌, ℕ, zero, suc, ◌+◌, ◌-◌, ◌*◌, ◌/◌, ◌%◌, ◌<◌, ◌≤◌, refl, sym, ap, subst, arith}
+use Rattle.std.proofs.Common.{◌≡◌, ◌∙◌, ℕ, zero, suc, ◌+◌, ◌/◌, ◌%◌, ◌<◌, ◌≤◌, refl, sym, ap, subst, arith}
 use Rattle.std.proofs.Common.{Bool, true, false, nat_eq, nat_lt, nat_le, inl, inr, lit≤}
 use Rattle.std.proofs.Common.{List, [], ◌∷◌, ◌++◌, drop, append_assoc}
 use Rattle.std.specs.Prelude.{if◌then◌else◌, slice_index}

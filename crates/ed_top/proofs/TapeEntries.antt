@@ -1,16 +1,13 @@
 -- A tape that is well formed from a cleared store is loaded as it means, and its run is that from its entry.
-use Rattle.std.proofs.Common.{◌≡◌, ◌∙◌, ℕ, zero, suc, ◌+◌, ◌-◌, ◌*◌, ◌<◌, ◌≤◌, refl, sym, ap, subst, arith}
-use Rattle.std.proofs.Common.{Bool, true, false, true≢false, nat_eq, nat_lt, nat_le, Option, Some, None, inl, inr}
+use Rattle.std.proofs.Common.{◌≡◌, ◌∙◌, ℕ, ◌+◌, ◌-◌, ◌*◌, ◌<◌, ◌≤◌, refl, sym, ap, arith}
+use Rattle.std.proofs.Common.{Bool, true, false, true≢false, nat_eq, nat_lt, nat_le, Option, Some, None, inl}
 use Rattle.std.proofs.Common.{List, [], ◌∷◌, ◌++◌, drop, set}
-use Rattle.std.specs.Prelude.{if◌then◌else◌, ◌&&◌, replicate, slice_index}
+use Rattle.std.specs.Prelude.{if◌then◌else◌, ◌&&◌, slice_index}
 use Rattle.std.proofs.Math.ListN.{get_or}
-use Rattle.std.proofs.lemmas.Bool.{cases_lt}
 use Rattle.std.proofs.lemmas.Bool.Decides.{nat_tests}
 use Rattle.std.proofs.lemmas.List.{drop-set-lt, drop-set-add, get_or-drop}
 use Rattle.ed_words.specs.declared.size.Size.{Size}
 use Rattle.ed_store.specs.Cells.{cleared_cells}
-use Rattle.ed_machine.specs.State.{State, cleared}
-use Rattle.ed_machine.specs.Steps.{state_after}
 use Rattle.ed_run.specs.Run.{RunEnd, ran}
 use Rattle.ed_run.proofs.Later.{ran_later}
 use Rattle.ed_printer.specs.Paper.{paper}
@@ -28,18 +25,16 @@ use Rattle.ed_notation.specs.Fold.{Note, aim_of, control_of, over, value_of, wor
 use Rattle.ed_notation.specs.Faults.{TapeEntry, ComesTo, WellFormed, is_place}
 use Rattle.ed_notation.specs.Openings.{IsDirective, opening}
 use Rattle.ed_notation.specs.Reading.{Verdict, Arrived, Faulty, part_word, reading_on, setting_of, taken}
-use Rattle.ed_notation.specs.Reading.{digit_taken, mark_taken, kay_sets, kay_taken, zed_sets, zed_taken, blank_taken}
-use Rattle.ed_notation.specs.Reading.{letter_taken, entry_by, part_of, set_by, placed_by, ReadingIsRules}
+use Rattle.ed_notation.specs.Reading.{kay_sets, zed_sets}
+use Rattle.ed_notation.specs.Reading.{letter_taken, entry_by, part_of, set_by, placed_by}
 use Rattle.ed_notation.proofs.Laws.{reading_is_rules}
 use Rattle.ed_initial.specs.Entry.{Comes}
-use Rattle.ed_initial.specs.Listing.{initial_orders}
 use Rattle.ed_initial.proofs.Quiet.{LeadsIn, comes_in}
 use Rattle.ed_loads.specs.EntryState.{first_state}
 use Rattle.ed_loads.proofs.Entries.{first_store, starts}
-use Rattle.ed_command.specs.declared.command.Settings.{Settings}
-use Rattle.ed_top.specs.Output.{OfWellFormed, first_note}
+use Rattle.ed_top.specs.Output.{first_note}
 use Rattle.ed_top.specs.Runs.{paper_room, post_mortem_codes, ran_outcome, run_of, with_post_mortem}
-use Rattle.ed_top.specs.TapeEntries.{EachTapeRunsFromEntry, tape_state}
+use Rattle.ed_top.specs.TapeEntries.{EachTapeRunsFromEntry}
 use Rattle.ed_top.proofs.FromEntry.{silent}
 
 -- ---- words that agree from 41 on

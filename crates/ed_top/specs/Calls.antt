@@ -72,8 +72,8 @@ call_stop (Divide n by) = 65
 call_stop (Root n) = 61
 call_stop (Check n) = check_base + planting_place + 1
 
--- what a call answers whose source has these lines and comes to its stop: its text, the entry with the cost of its
--- tape, the stop with all orders, and the status 0
+-- what a call answers whose source has these lines and reaches its stop: its text, the entry with the cost of its tape,
+-- the stop with all orders, and the status 0
 abbrev pub call_outcome : Size → List Line → Call → Outcome
 call_outcome z lines call = record {
   out = call_prints z lines call;

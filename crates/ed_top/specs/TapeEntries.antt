@@ -1,6 +1,6 @@
 -- What is shown of every well-formed tape: it leads to the entry that `check-tape` reports, and its run is that from
 -- there (this project's own rules).
-use Rattle.std.specs.Prelude.{◌≡◌, ℕ, ◌+◌, ◌-◌, ◌<◌, ◌≤◌, List, []}
+use Rattle.std.specs.Prelude.{◌≡◌, ℕ, ◌-◌, ◌<◌, ◌≤◌, List, []}
 use Rattle.ed_store.specs.Cells.{cleared_cells}
 use Rattle.ed_machine.specs.State.{State}
 use Rattle.ed_machine.specs.Steps.{past, state_after}

@@ -17,5 +17,6 @@ returns-then-lacks_line c =
 
 pub returns-in-Err : goal.returns-in-Err
 returns-in-Err c =
-    text_unmade (of_rows (exactly done)) c.args.text.now (text_buffers c.args.rows.now c.args.note.now c.args.lengths.now)
+    text_unmade (of_rows (exactly done)) c.args.text.now
+    (text_buffers c.args.rows.now c.args.note.now c.args.lengths.now)
     (refuted c.lacks_line.result c.if-lacks_line.false c.lacks_line.ensures)
