@@ -5,4 +5,5 @@ mod Parting
 pub mod Tales
 mod Passing
 mod Reached
-mod Runs
+mod Starts
+pub mod Runs

@@ -1,11 +1,11 @@
 -- Where parts end by the end of a program or at the limit, the run of the whole tape ends too.
 use Rattle.std.proofs.Common.{◌≡◌, ◌⊎◌, inl, inr, ℕ, zero, suc, ◌+◌, ◌-◌, ◌<◌, ◌≤◌, refl, sym, ap, ◌∙◌, subst, arith}
-use Rattle.std.proofs.Common.{Bool, true, false, Some, None, length}
+use Rattle.std.proofs.Common.{Bool, true, false, Some, None, List, [], ◌++◌, length, append_assoc, append-nil}
 use Rattle.std.proofs.lemmas.Bool.{cases_lt}
 use Rattle.ed_machine.specs.State.{State}
 use Rattle.ed_machine.specs.OrderTable.{step}
 use Rattle.ed_machine.specs.Sound.{IsSound}
-use Rattle.ed_machine.specs.Steps.{IsFree, Past, is_obeyed, past, state_after, stops_of}
+use Rattle.ed_machine.specs.Steps.{IsFree, Past, codes_of, is_obeyed, past, state_after, stops_of}
 use Rattle.ed_machine.specs.declared.turn.Turn.{Turn}
 use Rattle.ed_machine.specs.declared.turn.Turn.TheVariants.{Went, Printed, Stopped as Stops}
 use Rattle.ed_machine.specs.declared.turn.Turn.TheVariants.{NoOrder as IsNoOrder, NoTape as HasNoTape}
@@ -13,41 +13,60 @@ use Rattle.ed_machine.specs.declared.ending.Ending.{Ending}
 use Rattle.ed_machine.specs.declared.ending.Ending.TheVariants.{Stopped, Limit}
 use Rattle.ed_machine.proofs.SoundSteps.{sound_after}
 use Rattle.ed_machine.proofs.Steps.{after_sum, few_codes, free_more, free_sum, no_step, past_sum}
-use Rattle.ed_run.specs.Laws.{HasRoom}
+use Rattle.ed_run.specs.Laws.{AllWent, HasRoom}
 use Rattle.ed_run.specs.Run.{end_by}
 use Rattle.ed_run.proofs.Later.{quiet_stops}
 use Rattle.ed_run.proofs.Places as places
+use Rattle.ed_initial.specs.Entry.{IsStarted}
 use Rattle.ed_notation.specs.Faults.{TapeEntry}
 use Rattle.ed_notation.specs.declared.cause.TapeCause.{TapeCause}
+use Rattle.ed_loads.specs.EntryState.{first_state}
+use Rattle.ed_loads.proofs.Entries.{starts}
 use Rattle.ed_parts.specs.declared.tape.PartsEnd.TheVariants.{Ended, Faulty}
-use Rattle.ed_parts.specs.Laws.{Begins, EachEndIsTheRuns, EndsAsRun}
+use Rattle.ed_parts.specs.Laws.{Begins, EachEndIsTheRuns, EndsAsParts, EndsAsRun}
 use Rattle.ed_parts.specs.Parts.{Concludes, Finishes, GoesBack, IsTold, LeadsTo}
 use Rattle.ed_parts.specs.Parts.{TapePart, RunsOn, Told, cut, entry_done, part_entry_state}
-use Rattle.ed_parts.specs.Parts.{faulty, finished, first_part, part_behind}
+use Rattle.ed_parts.specs.Parts.{faulty, finished, first_part, last_printed, part_behind, printed_from}
 use Rattle.ed_parts.proofs.Programs.{home_within, limit_ends, next_ends, runs_within, some_end, stop_ends, way_stops}
 use Rattle.ed_parts.proofs.Reached.{leads_in}
+use Rattle.ed_parts.proofs.Starts.{sound_start}
 
 -- ---- orders one after the other
 
--- so many orders are obeyed, none of which is a stop, and lead there
-record Walks (k : ℕ) (s m : State) : Type 0 where
+-- so many orders are obeyed, none of which is a stop; they lead there and print these codes
+record Walks (k : ℕ) (s m : State) (codes : List ℕ) : Type 0 where
   there : m ≡ state_after k s
   free : IsFree k s
   stops : (past k s).stops ≡ 0
+  prints : (past k s).codes ≡ codes
 
 -- two walks, one after the other
-and_then : (a b : ℕ) {s m n : State} → Walks a s m → Walks b m n → Walks (a + b) s n
+and_then : (a b : ℕ) {s m n : State} {xs ys : List ℕ} → Walks a s m xs → Walks b m n ys → Walks (a + b) s n (xs ++ ys)
 and_then a b {s} first next = record {
   there = next.there ∙ ap (state_after b) first.there ∙ sym (after_sum a b s);
   free = free_sum a b s first.free (subst (IsFree b) first.there next.free);
   stops = ap (λ (p : Past). p.stops) (past_sum a b s)
       ∙ omega (arith, first.stops, next.stops, ap (λ (t : State). (past b t).stops) first.there);
+  prints = ap (λ (p : Past). p.codes) (past_sum a b s)
+      ∙ (λ i. first.prints i ++ (sym (ap (λ (t : State). (past b t).codes) first.there) ∙ next.prints) i);
 }
 
+quiet_codes : (k : ℕ) (s : State) → AllWent k s → (past k s).codes ≡ []
+unfolding past
+quiet_codes zero s went = refl
+quiet_codes (suc k) s went =
+    let before : (past k s).codes ≡ [] = quiet_codes k s (λ j h. went j (omega arith)) in
+    let turn = went k (omega arith) in
+    rw (before, turn) refl
+
 -- orders that only go on
-quiet_walk : (k : ℕ) (s : State) → ((j : ℕ) → j < k → (step (state_after j s)).turn ≡ Went)
-    → Walks k s (state_after k s)
-quiet_walk k s went = record { there = refl; free = λ j h. ap is_obeyed (went j h); stops = quiet_stops k s went }
+quiet_walk : (k : ℕ) (s : State) → AllWent k s → Walks k s (state_after k s) []
+quiet_walk k s went = record {
+  there = refl;
+  free = λ j h. ap is_obeyed (went j h);
+  stops = quiet_stops k s went;
+  prints = quiet_codes k s went;
+}
 
 -- ---- the walk of a program
 
@@ -86,8 +105,8 @@ module _ (left : ℕ) (m : State) where
       obeyed_of (step (state_after j m)).turn
       (sym (next_ends left m j (omega (arith, runs_within left m k runs)) (way_stops left m j way)) ∙ way.no_end)
 
-  run_walk : (k : ℕ) → RunsOn left k m → (past k m).stops ≡ 0 → Walks k m (state_after k m)
-  run_walk k runs none = record { there = refl; free = run_free k runs; stops = none }
+  run_walk : (k : ℕ) → RunsOn left k m → (past k m).stops ≡ 0 → Walks k m (state_after k m) (past k m).codes
+  run_walk k runs none = record { there = refl; free = run_free k runs; stops = none; prints = refl }
 
 -- ---- the end of the run
 
@@ -96,23 +115,27 @@ module _ (limit : ℕ) (s : State) where
   room k few free = record { obeyed = free; printed = omega (arith, few_codes k s) }
 
   -- at the limit
-  at_limit : (m : State) → Walks limit s m → EndsAsRun limit s Limit m
-  at_limit m w = record {
+  at_limit : (m : State) (codes : List ℕ) → Walks limit s m codes → EndsAsRun limit s Limit m codes
+  at_limit m codes w = record {
     orders = limit;
     ends = places.at_limit limit 0 (room limit (omega arith) w.free) (omega (arith, w.stops));
     state_is = w.there;
+    prints = w.prints;
   }
 
-  module _ (a left : ℕ) (m : State) (whole : a + left ≡ limit) (first : Walks a s m) where
+  module _ (a left : ℕ) (m : State) (before : List ℕ) (whole : a + left ≡ limit) (first : Walks a s m before) where
     -- no stop was obeyed
     without_stop : (k : ℕ) (ending : Ending) → Finishes left k m ending → (past k m).stops ≡ 0
-        → EndsAsRun limit s ending (state_after k m)
+        → EndsAsRun limit s ending (state_after k m) (before ++ (past k m).codes)
     without_stop k ending f none = by_place (cases_lt k left)
       where
-        walk : Walks (a + k) s (state_after k m)
+        codes : List ℕ
+        codes = before ++ (past k m).codes
+
+        walk : Walks (a + k) s (state_after k m) codes
         walk = and_then a k first (run_walk left m k f.runs none)
 
-        by_place : (k < left) ⊎ (left ≤ k) → EndsAsRun limit s ending (state_after k m)
+        by_place : (k < left) ⊎ (left ≤ k) → EndsAsRun limit s ending (state_after k m) codes
         by_place (inl low) =
             let turn : end_by (step (state_after k m)).turn false ≡ Some ending = sym (next_ends left m k low none)
             ∙ f.ends in
@@ -124,38 +147,43 @@ module _ (limit : ℕ) (s : State) where
                   (omega (arith, walk.stops))
                   (omega arith) (blocked_of _ _ ending at);
               state_is = walk.there;
+              prints = walk.prints;
             }
         by_place (inr high) =
             let e : k ≡ left = omega (arith, runs_within left m k f.runs) in
             let total : a + k ≡ limit = omega arith in
             let is : Limit ≡ ending = some_end Limit ending (sym (limit_ends left m k e none) ∙ f.ends) in
-            subst (λ (d : Ending). EndsAsRun limit s d (state_after k m)) is
-            (at_limit (state_after k m) (subst (λ n. Walks n s (state_after k m)) total walk))
+            subst (λ (d : Ending). EndsAsRun limit s d (state_after k m) codes) is
+            (at_limit (state_after k m) codes (subst (λ n. Walks n s (state_after k m) codes) total walk))
 
     -- the last one was a stop
     with_stop : (k : ℕ) (ending : Ending) → Finishes left k m ending → 0 < (past k m).stops
-        → EndsAsRun limit s ending (state_after k m)
+        → EndsAsRun limit s ending (state_after k m) (before ++ (past k m).codes)
     unfolding past
     with_stop zero ending f many = absurd (omega arith)
     with_stop (suc j) ending f many =
         let way = f.runs j (omega arith) in
         let none = way_stops left m j way in
         let stop : (step (state_after j m)).turn ≡ Stops = stop_of _ (omega (arith, none)) in
-        let walk : Walks (a + j) s (state_after j m) =
+        let walk : Walks (a + j) s (state_after j m) (before ++ (past j m).codes) =
         and_then a j first (run_walk left m j (λ i h. f.runs i (omega arith)) none) in
         let turn : (step (state_after (a + j) s)).turn ≡ Stops =
         ap (λ (t : State). (step t).turn) (sym walk.there) ∙ stop in
         let free : IsFree (suc (a + j)) s = free_more (a + j) s walk.free (ap is_obeyed turn) in
         let is : Stopped ≡ ending = some_end Stopped ending (sym (stop_ends left m (suc j) many) ∙ f.ends) in
         let within = runs_within left m (suc j) f.runs in
-        subst (λ (d : Ending). EndsAsRun limit s d (state_after (suc j) m)) is (record {
+        let codes = before ++ (past (suc j) m).codes in
+        subst (λ (d : Ending). EndsAsRun limit s d (state_after (suc j) m) codes) is (record {
           orders = suc (a + j);
           ends = places.at_stop limit 0 (room (suc (a + j)) (omega arith) free) walk.stops
               (omega arith) turn;
           state_is = ap (λ (t : State). (step t).state) walk.there;
+          prints = (λ i. walk.prints i ++ codes_of ((turn ∙ sym stop) i))
+              ∙ append_assoc before (past j m).codes (codes_of (step (state_after j m)).turn);
         })
 
-    program_ends : (k : ℕ) (ending : Ending) → Finishes left k m ending → EndsAsRun limit s ending (state_after k m)
+    program_ends : (k : ℕ) (ending : Ending) → Finishes left k m ending
+        → EndsAsRun limit s ending (state_after k m) (before ++ (past k m).codes)
     program_ends k ending f =
         elim (cases_lt 0 (past k m).stops) [
           | inl many ↦ with_stop k ending f many
@@ -164,46 +192,52 @@ module _ (limit : ℕ) (s : State) where
 
   -- ---- part by part
 
-  -- the parts up to here are orders of the run, and here one begins
-  record Along (p : TapePart) : Type 0 where
-    walk : Walks p.done s p.state
+  -- the parts up to here are orders of the run and printed this, and here one begins
+  record Along (p : TapePart) (before : List ℕ) : Type 0 where
+    walk : Walks p.done s p.state before
     within : p.done ≤ limit
     some : 1 ≤ p.number
     begins : Begins p
 
-  to_entry : (p : TapePart) (e : TapeEntry) → Along p → LeadsTo p e → Walks (entry_done p e) s (part_entry_state p e)
-  to_entry p e h leads =
-      and_then p.done e.cost h.walk (quiet_walk e.cost p.state (leads_in p e h.begins leads).went)
+  to_entry : (p : TapePart) (e : TapeEntry) (before : List ℕ) → Along p before → LeadsTo p e
+      → Walks (entry_done p e) s (part_entry_state p e) before
+  to_entry p e before h leads =
+      subst (λ (codes : List ℕ). Walks (entry_done p e) s (part_entry_state p e) codes) (append-nil before)
+      (and_then p.done e.cost h.walk (quiet_walk e.cost p.state (leads_in p e h.begins leads).went))
 
-  concludes : (p : TapePart) (t : Told) (ending : Ending) → Along p → Concludes limit (length s.tape) p t
-      → t.end ≡ Ended ending
-      → EndsAsRun limit s ending t.last
-  concludes p t ending h (faulty row cause fault is) end =
+  concludes : (p : TapePart) (before : List ℕ) (t : Told) (ending : Ending) → Along p before
+      → (told : Concludes limit (length s.tape) p t) → t.end ≡ Ended ending
+      → EndsAsRun limit s ending t.last (before ++ last_printed told)
+  concludes p before t ending h (faulty row cause fault is) end =
       absurd (no_fault _ _ _ ending (sym (ap (λ (x : Told). x.end) is) ∙ end))
-  concludes p t ending h (cut e leads short is) end =
+  concludes p before t ending h (cut e leads short is) end =
       let left = limit - p.done in
       let went = (leads_in p e h.begins leads).went in
       let walk = and_then p.done left h.walk
       (quiet_walk left p.state (λ j low. went j (omega (arith, h.within)))) in
       let total : p.done + left ≡ limit = omega (arith, h.within) in
+      let codes = before ++ [] in
       let same : Limit ≡ ending = ended_is _ _ (sym (ap (λ (x : Told). x.end) is) ∙ end) in
       let there : state_after left p.state ≡ t.last = sym (ap (λ (x : Told). x.last) is) in
-      subst (λ (d : Ending). EndsAsRun limit s d t.last) same
-      (subst (λ (x : State). EndsAsRun limit s Limit x) there
-      (at_limit (state_after left p.state) (subst (λ n. Walks n s (state_after left p.state)) total walk)))
-  concludes p t ending h (finished e k d leads within f is) end =
+      subst (λ (d : Ending). EndsAsRun limit s d t.last codes) same
+      (subst (λ (x : State). EndsAsRun limit s Limit x codes) there
+      (at_limit (state_after left p.state) codes
+      (subst (λ n. Walks n s (state_after left p.state) codes) total walk)))
+  concludes p before t ending h (finished e k d leads within f is) end =
+      let codes = before ++ (past k (part_entry_state p e)).codes in
       let same : d ≡ ending = ended_is _ _ (sym (ap (λ (x : Told). x.end) is) ∙ end) in
       let there : state_after k (part_entry_state p e) ≡ t.last = sym (ap (λ (x : Told). x.last) is) in
-      subst (λ (c : Ending). EndsAsRun limit s c t.last) same
-      (subst (λ (x : State). EndsAsRun limit s d x) there
-      (program_ends (entry_done p e) (limit - entry_done p e) (part_entry_state p e) (omega (arith, within))
-      (to_entry p e h leads) k d f))
+      subst (λ (c : Ending). EndsAsRun limit s c t.last codes) same
+      (subst (λ (x : State). EndsAsRun limit s d x codes) there
+      (program_ends (entry_done p e) (limit - entry_done p e) (part_entry_state p e) before (omega (arith, within))
+      (to_entry p e before h leads) k d f))
 
-  next_along : IsSound s → (p : TapePart) (b : GoesBack limit p) → Along p → Along (part_behind p b)
-  next_along sound p b h =
+  next_along : IsSound s → (p : TapePart) (before : List ℕ) (b : GoesBack limit p) → Along p before
+      → Along (part_behind p b) (before ++ (past b.orders (part_entry_state p b.entry)).codes)
+  next_along sound p before b h =
       let c = b.comes in
       let left = limit - entry_done p b.entry in
-      let walk = and_then (entry_done p b.entry) b.orders (to_entry p b.entry h b.leads)
+      let walk = and_then (entry_done p b.entry) b.orders (to_entry p b.entry before h b.leads)
       (run_walk left (part_entry_state p b.entry) b.orders c.runs c.stops) in
       let few = home_within left (part_entry_state p b.entry) b.orders c in
       let there : IsSound (part_behind p b).state =
@@ -215,24 +249,38 @@ module _ (limit : ℕ) (s : State) where
         begins = record { store = there.store; first = λ e. absurd (omega (arith, h.some)); further = λ e. c.home };
       }
 
-  ends : IsSound s → (n : ℕ) (t : Told) {p : TapePart} {ending : Ending} → Along p
-      → IsTold limit (length s.tape) n p t → t.end ≡ Ended ending → EndsAsRun limit s ending t.last
-  ends sound zero t {p} {ending} h told end = concludes p t ending h told end
-  ends sound (suc n) t {p} {ending} h told end =
-      let rest = ends sound n told.1 (next_along sound p told.0 h) told.2
+  ends : IsSound s → (n : ℕ) (t : Told) {p : TapePart} {ending : Ending} (before : List ℕ) → Along p before
+      → (told : IsTold limit (length s.tape) n p t) → t.end ≡ Ended ending
+      → EndsAsRun limit s ending t.last (before ++ printed_from limit (length s.tape) n p t told)
+  ends sound zero t {p} {ending} before h told end = concludes p before t ending h told end
+  ends sound (suc n) t {p} {ending} before h told end =
+      let codes = (past told.0.orders (part_entry_state p told.0.entry)).codes in
+      let later = printed_from limit (length s.tape) n (part_behind p told.0) told.1 told.2 in
+      let rest = ends sound n told.1 (before ++ codes) (next_along sound p before told.0 h) told.2
       (sym (ap (λ (x : Told). x.end) told.3) ∙ end) in
-      subst (λ (x : State). EndsAsRun limit s ending x) (sym (ap (λ (x : Told). x.last) told.3)) rest
+      subst (λ (x : State). EndsAsRun limit s ending x (before ++ (codes ++ later)))
+      (sym (ap (λ (x : Told). x.last) told.3))
+      (subst (λ (xs : List ℕ). EndsAsRun limit s ending told.1.last xs) (append_assoc before codes later) rest)
 
-pub each_end : EachEndIsTheRuns
-each_end limit s t ending sound started tells end =
-    let first : Along limit s (first_part s) = record {
+-- from every such state
+ends_from : (limit : ℕ) (s : State) → IsSound s → IsStarted s → EndsAsParts limit s
+ends_from limit s sound started t ending tells end =
+    let first : Along limit s (first_part s) [] = record {
       walk = record {
         there = no_step s;
         free = λ j h. absurd (omega arith);
         stops = quiet_stops 0 s (λ j h. absurd (omega arith));
+        prints = quiet_codes 0 s (λ j h. absurd (omega arith));
       };
       within = omega arith;
       some = omega arith;
       begins = record { store = sound.store; first = λ e. started; further = λ ne. absurd (ne refl) };
     } in
-    ends limit s sound tells.returns t first tells.told end
+    ends limit s sound tells.returns t [] first tells.told end
+
+pub each_end : EachEndIsTheRuns
+each_end = record {
+  of_text = λ limit z text codes read.
+      ends_from limit (first_state z codes) (sound_start z text codes read) (starts z codes);
+  from_start = ends_from;
+}

@@ -1,5 +1,7 @@
 -- What holds of every tape in parts.
-use Rattle.std.specs.Prelude.{ℕ, ◌≡◌, ◌≢◌, []}
+use Rattle.std.specs.Prelude.{ℕ, ◌≡◌, ◌≢◌, List, []}
+use Rattle.ed_words.specs.declared.size.Size.{Size}
+use Rattle.ed_codes.specs.Reading.{reading, rows}
 use Rattle.ed_store.specs.Cells.{IsStore}
 use Rattle.ed_machine.specs.State.{State}
 use Rattle.ed_machine.specs.Sound.{IsSound}
@@ -9,8 +11,9 @@ use Rattle.ed_run.specs.Run.{EndsAfter}
 use Rattle.ed_notation.specs.Faults.{TapeEntry}
 use Rattle.ed_initial.specs.Entry.{IsStarted, at_entry}
 use Rattle.ed_interlude.specs.Returned.{IsReturned}
+use Rattle.ed_loads.specs.EntryState.{first_state}
 use Rattle.ed_parts.specs.declared.tape.PartsEnd.TheVariants.{Ended}
-use Rattle.ed_parts.specs.Parts.{LeadsTo, TapePart, TapeTells, Told, part_entry_state}
+use Rattle.ed_parts.specs.Parts.{LeadsTo, TapePart, TapeTells, Told, part_entry_state, programs_printed}
 
 -- one thing is told of a tape, and only one
 pub record IsToldOnce (limit : ℕ) (s : State) : Type 0 where
@@ -36,15 +39,24 @@ pub record IsReached (p : TapePart) (e : TapeEntry) : Type 0 where
 abbrev pub EachEntryIsReached : Type 0
 EachEntryIsReached = (p : TapePart) (e : TapeEntry) → Begins p → LeadsTo p e → IsReached p e
 
--- the run of the whole tape, which is never resumed and whose paper never is full, ends so and in this state
-pub record EndsAsRun (limit : ℕ) (s : State) (ending : Ending) (last : State) : Type 0 where
+-- the run of the whole tape, which is never resumed and whose paper never is full, ends so and in this state, and prints
+-- these codes
+pub record EndsAsRun (limit : ℕ) (s : State) (ending : Ending) (last : State) (codes : List ℕ) : Type 0 where
   pub orders : ℕ
   pub ends : EndsAfter limit 0 limit s orders ending
   pub state_is : last ≡ state_after orders s
+  pub prints : (past orders s).codes ≡ codes
 
--- so it does wherever the parts of a tape end by the ending of a run, if its state is within the bounds of a machine
--- and stands at Start
-abbrev pub EachEndIsTheRuns : Type 0
-EachEndIsTheRuns =
-    (limit : ℕ) (s : State) (t : Told) (ending : Ending) → IsSound s → IsStarted s → TapeTells limit s t
-    → t.end ≡ Ended ending → EndsAsRun limit s ending t.last
+-- wherever the parts of a tape end by the ending of a run, the whole tape's does so, and prints what the programs print,
+-- one after the other
+abbrev pub EndsAsParts : ℕ → State → Type 0
+EndsAsParts limit s =
+    (t : Told) (ending : Ending) (tells : TapeTells limit s t) → t.end ≡ Ended ending
+    → EndsAsRun limit s ending t.last (programs_printed tells)
+
+-- so it is with every text of a tape on a cleared machine that is started on its rows; and from every state that stands
+-- at Start and is within the bounds of a machine
+pub record EachEndIsTheRuns : Type 0 where
+  pub of_text : (limit : ℕ) (z : Size) (text codes : List ℕ) → reading text ≡ rows codes
+      → EndsAsParts limit (first_state z codes)
+  pub from_start : (limit : ℕ) (s : State) → IsSound s → IsStarted s → EndsAsParts limit s

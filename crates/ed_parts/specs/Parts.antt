@@ -154,6 +154,25 @@ pub record TapeTells (limit : ℕ) (s : State) (t : Told) : Type 0 where
   pub returns : ℕ
   pub told : IsTold limit (length s.tape) returns (first_part s) t
 
+-- ---- what the programs print
+
+-- what the last part's program printed: nothing where a fault or the limit came before its entry
+abbrev pub last_printed : {limit rows : ℕ} {p : TapePart} {t : Told} → Concludes limit rows p t → List ℕ
+last_printed (faulty row cause fault is) = []
+last_printed (cut e leads short is) = []
+last_printed {p = p} (finished e k ending leads within ends is) = (past k (part_entry_state p e)).codes
+
+-- what the programs printed from a part on, one after the other
+abbrev pub printed_from : (limit rows n : ℕ) (p : TapePart) (t : Told) → IsTold limit rows n p t → List ℕ
+printed_from limit rows zero p t told = last_printed told
+printed_from limit rows (suc n) p t told =
+    (past told.0.orders (part_entry_state p told.0.entry)).codes
+    ++ printed_from limit rows n (part_behind p told.0) told.1 told.2
+
+-- what the programs of a tape printed
+abbrev pub programs_printed : {limit : ℕ} {s : State} {t : Told} → TapeTells limit s t → List ℕ
+programs_printed {limit} {s} {t} tells = printed_from limit (length s.tape) tells.returns (first_part s) t tells.told
+
 -- ---- where it breaks off
 
 -- after n parts that went back and wrote this text, this part begins

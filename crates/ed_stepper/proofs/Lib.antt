@@ -2,6 +2,7 @@ pub mod Walks
 pub mod Founds
 pub mod Keeping
 pub mod Listed
+pub mod Stands
 mod Heads
 mod Divisions
 mod Plays

@@ -65,13 +65,17 @@ abbrev pub last_word : Option ℕ → Text
 last_word (Some code) = decimal code
 last_word None = codes "none"
 
+-- the words of the locations from one to another
+abbrev pub words_shown : ℕ → ℕ → Stand → Text
+words_shown a b s = listing (stands_at s).store (range_with_len a (b + 1 - a))
+
 -- what a line writes
 abbrev pub writes : Command → Stand → Text
 writes Nothing s = []
 writes (Move aim) s = line_of_move aim s
 writes (Back n) s = line_at (moved_back n s) ends.Back
 writes (Trace n) s = trace_text (traced n s) ++ line_of_move (Orders n) s
-writes (Show a b) s = listing (stands_at s).store (range_with_len a (b + 1 - a))
+writes (Show a b) s = words_shown a b s
 writes Accumulator s = codes "acc " ++ decimal (stands_at s).acc ++ 10 ∷ []
 writes Multiplier s = codes "mult " ++ decimal (stands_at s).multiplier ++ 10 ∷ []
 writes LastPrinted s = codes "last " ++ last_word (stands_at s).last ++ 10 ∷ []

@@ -20,3 +20,7 @@ mod BothSizes
 mod Completing
 mod PunchedTapes
 mod Listed
+mod MoveEndings
+mod Stepped
+mod TapeWalks
+mod PartsRun

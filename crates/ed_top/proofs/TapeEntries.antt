@@ -36,6 +36,7 @@ use Rattle.ed_top.specs.Output.{first_note}
 use Rattle.ed_top.specs.Runs.{paper_room, post_mortem_codes, ran_outcome, run_of, with_post_mortem}
 use Rattle.ed_top.specs.TapeEntries.{EachTapeRunsFromEntry}
 use Rattle.ed_top.proofs.FromEntry.{silent}
+use Rattle.ed_top.proofs.TapeWalks.{steps_to_entry, traces_from_entry}
 
 -- ---- words that agree from 41 on
 
@@ -236,4 +237,6 @@ tapes_run_from_entry s codes e well to =
       short = λ below.
           ap (λ printed. paper (printed ++ post_mortem_codes s.post_mortem (run_of s codes).state))
           (silent s.limit s.resumes paper_room e.cost first in_order.went below);
+      traced = traces_from_entry s codes e in_order;
+      stepped = steps_to_entry s codes e in_order;
     }

@@ -20,3 +20,5 @@ pub mod ReadBack
 pub mod BothSizes
 pub mod PunchedTapes
 pub mod Listed
+pub mod Stepped
+pub mod PartsRun

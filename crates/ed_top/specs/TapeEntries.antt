@@ -1,6 +1,6 @@
 -- What is shown of every well-formed tape: it leads to the entry that `check-tape` reports, and its run is that from
 -- there (this project's own rules).
-use Rattle.std.specs.Prelude.{◌≡◌, ℕ, ◌-◌, ◌<◌, ◌≤◌, List, []}
+use Rattle.std.specs.Prelude.{◌≡◌, ℕ, ◌-◌, ◌<◌, ◌≤◌, List, [], ◌++◌}
 use Rattle.ed_store.specs.Cells.{cleared_cells}
 use Rattle.ed_machine.specs.State.{State}
 use Rattle.ed_machine.specs.Steps.{past, state_after}
@@ -10,18 +10,43 @@ use Rattle.ed_notation.specs.Faults.{TapeEntry, ComesTo, WellFormed}
 use Rattle.ed_initial.specs.Entry.{at_entry}
 use Rattle.ed_loads.specs.EntryState.{first_state}
 use Rattle.ed_report.specs.Entries.{entry_line}
+use Rattle.ed_stepper.specs.Scripts.{line_of_move, move_line, moved}
+use Rattle.ed_stepper.specs.declared.moves.Aim.TheVariants.{Entry}
+use Rattle.ed_stepper.specs.declared.moves.MoveEnd.TheVariants.{Entered}
+use Rattle.ed_trace.specs.Traces.{trace_to}
 use Rattle.ed_command.specs.declared.command.Settings.{Settings}
-use Rattle.ed_top.specs.Outcome.{done}
+use Rattle.ed_top.specs.Limits.{with_limit}
+use Rattle.ed_top.specs.Outcome.{Outcome, done}
 use Rattle.ed_top.specs.Output.{IsChecked, first_note, tape_outcome}
 use Rattle.ed_top.specs.Runs.{paper_room, post_mortem_codes, ran_outcome, run_of, with_post_mortem}
+use Rattle.ed_top.specs.Scripts.{stand_on}
+use Rattle.ed_top.specs.Traces.{letters_in, trace_outcome, traced_from}
 
 -- the state at the entry of a tape on a cleared machine
 abbrev pub tape_state : Settings → List ℕ → TapeEntry → State
 tape_state s codes e = at_entry (first_state s.size codes) e
 
+-- the trace of the run from there, with the limit less the cost
+abbrev pub traced_on : Settings → List ℕ → TapeEntry → Outcome
+traced_on s codes e = traced_from (with_limit (s.limit - e.cost) s) (tape_state s codes e)
+
+-- `trace` writes the letters of the orders that load the tape, and then those of the run from the entry; it ends as that
+-- run does
+pub record TracesFromEntry (s : Settings) (codes : List ℕ) (e : TapeEntry) : Type 0 where
+  pub letters : letters_in (trace_outcome s codes).out
+      ≡ letters_in (trace_to e.cost (first_state s.size codes)) ++ letters_in (traced_on s codes e).out
+  pub note_is : (trace_outcome s codes).note ≡ (traced_on s codes e).note
+  pub status_is : (trace_outcome s codes).status ≡ (traced_on s codes e).status
+
+-- a session that moves on to the entry stands there, after as many orders as the tape costs, and says so
+pub record StepsToEntry (s : Settings) (codes : List ℕ) (e : TapeEntry) : Type 0 where
+  pub stands : moved Entry (stand_on s codes) ≡ record (stand_on s codes) { done = e.cost }
+  pub line : line_of_move Entry (stand_on s codes) ≡ move_line e.at e.cost Entered
+
 -- `check-tape` reports the entry, its cost and its rows. The tape leads a cleared machine to the state at that entry, at
 -- that cost and with nothing printed. What `tape` answers, with a limit not below the cost, is the run from that state
--- with the limit less the cost; with a lower limit the run prints nothing, and a post-mortem is that of its state
+-- with the limit less the cost; with a lower limit the run prints nothing, and a post-mortem is that of its state.
+-- `trace` and `step` come to that entry as `tape` does
 pub record TapeRunsFromEntry (s : Settings) (codes : List ℕ) (e : TapeEntry) : Type 0 where
   pub checked : IsChecked s codes (done (entry_line e.at e.cost e.rows))
   pub enters : state_after e.cost (first_state s.size codes) ≡ tape_state s codes e
@@ -31,6 +56,8 @@ pub record TapeRunsFromEntry (s : Settings) (codes : List ℕ) (e : TapeEntry) :
       (with_post_mortem s.post_mortem (ran (s.limit - e.cost) s.resumes paper_room (tape_state s codes e)))
   pub short : s.limit < e.cost
       → (tape_outcome s codes).out ≡ paper (post_mortem_codes s.post_mortem (run_of s codes).state)
+  pub traced : e.cost ≤ s.limit → TracesFromEntry s codes e
+  pub stepped : e.cost ≤ s.limit → StepsToEntry s codes e
 
 -- so it is of every tape that is well formed from a cleared store, and of the entry that it comes to
 abbrev pub EachTapeRunsFromEntry : Type 0

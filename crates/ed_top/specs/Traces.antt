@@ -1,11 +1,13 @@
 -- What is answered of a run that is traced (this project's own rule).
-use Rattle.std.specs.Prelude.{ℕ, List}
+use Rattle.std.specs.Prelude.{ℕ, ◌==◌, List, not}
+use Rattle.std.specs.List.{filter}
 use Rattle.ed_machine.specs.State.{State}
 use Rattle.ed_run.specs.Run.{ran}
 use Rattle.ed_loads.specs.EntryState.{first_state}
 use Rattle.ed_report.specs.Notes.{ending_line}
 use Rattle.ed_trace.specs.Traces.{trace_of}
 use Rattle.ed_command.specs.declared.command.Settings.{Settings}
+use Rattle.ed_words.specs.Texts.{Text}
 use Rattle.ed_top.specs.Outcome.{Outcome}
 use Rattle.ed_top.specs.Runs.{status_of}
 
@@ -20,3 +22,7 @@ traced_from s start = record {
 -- `trace`: the run of the rows, traced
 abbrev pub trace_outcome : Settings → List ℕ → Outcome
 trace_outcome s codes = traced_from s (first_state s.size codes)
+
+-- the letters of a trace, without its line ends (10)
+abbrev pub letters_in : Text → Text
+letters_in = filter (λ byte. not (byte == 10))

@@ -3,7 +3,8 @@
 //! The contract of [`edsac`] is exact for every list of words and every input, over any source and any two sinks: the
 //! status and both texts are those of the definition, and the answers for a fault or for want of memory come with their
 //! cause and with what was written. The definition gives each input one outcome, which is a clause too; and so is
-//! that an accepted source is run from the state that its linked program means. Stands on all crates below.
+//! that an accepted source is run from the state that its linked program means. Further clauses are the laws between
+//! the commands. Stands on all crates below.
 #![tactic(auto)]
 
 mod calls;

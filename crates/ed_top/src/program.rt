@@ -12,8 +12,10 @@ ghost use Rattle.ed_top.specs.Limits.{EachLimit};
 ghost use Rattle.ed_top.specs.Listed.{EachListedIsLoaded};
 ghost use Rattle.ed_top.specs.Outcome.{no_memory};
 ghost use Rattle.ed_top.specs.Output.{EachLineHasOneOutcome, answer, output};
+ghost use Rattle.ed_top.specs.PartsRun.{EachTapeInPartsIsRun};
 ghost use Rattle.ed_top.specs.PunchedTapes.{EachPunchedIsRun};
 ghost use Rattle.ed_top.specs.ReadBack.{EachWordIsReadBack};
+ghost use Rattle.ed_top.specs.Stepped.{EachStepIsRun};
 ghost use Rattle.ed_top.specs.TapeEntries.{EachTapeRunsFromEntry};
 
 use crate::commands::{carry_out, reads_input};
@@ -58,6 +60,8 @@ pub fn edsac<S: Source, K: Sink, L: Sink>(
     ensures limits { EachLimit }
     ensures sizes { EachSize }
     ensures read_back { EachWordIsReadBack }
+    ensures stepped { EachStepIsRun }
+    ensures parts { EachTapeInPartsIsRun }
 {
     match read_words(alloc, words) {
         Ok(command) => run_command(alloc, command, source, out, note),

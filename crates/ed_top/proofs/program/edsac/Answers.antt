@@ -21,6 +21,8 @@ use Rattle.ed_top.proofs.Listed.{each_listed_is_loaded}
 use Rattle.ed_top.proofs.OneOutcome.{line_once}
 use Rattle.ed_top.proofs.PunchedTapes.{each_punched_is_run}
 use Rattle.ed_top.proofs.ReadBack.{each_word_is_read_back}
+use Rattle.ed_top.proofs.Stepped.{each_step_is_run}
+use Rattle.ed_top.proofs.PartsRun.{each_tape_in_parts}
 use Rattle.ed_top.proofs.Sources.{headline}
 use Rattle.ed_top.proofs.TapeEntries.{tapes_run_from_entry}
 use Rattle.ed_top.proofs.program.edsac.Goals as goal
@@ -176,3 +178,21 @@ returns-in-Err-Memory-clause-punched g c = each_punched_is_run
 
 pub returns-in-Err-Memory-clause-listed : goal.returns-in-Err-Memory-clause-listed
 returns-in-Err-Memory-clause-listed g c = each_listed_is_loaded
+
+pub returns-in-Ok-clause-stepped : goal.returns-in-Ok-clause-stepped
+returns-in-Ok-clause-stepped g c = each_step_is_run
+
+pub returns-in-Err-Usage-clause-stepped : goal.returns-in-Err-Usage-clause-stepped
+returns-in-Err-Usage-clause-stepped g c = each_step_is_run
+
+pub returns-in-Err-Memory-clause-stepped : goal.returns-in-Err-Memory-clause-stepped
+returns-in-Err-Memory-clause-stepped g c = each_step_is_run
+
+pub returns-in-Ok-clause-parts : goal.returns-in-Ok-clause-parts
+returns-in-Ok-clause-parts g c = each_tape_in_parts
+
+pub returns-in-Err-Usage-clause-parts : goal.returns-in-Err-Usage-clause-parts
+returns-in-Err-Usage-clause-parts g c = each_tape_in_parts
+
+pub returns-in-Err-Memory-clause-parts : goal.returns-in-Err-Memory-clause-parts
+returns-in-Err-Memory-clause-parts g c = each_tape_in_parts

@@ -1,0 +1,111 @@
+-- What every line of a script keeps of a session: its start and its limit, and that each order done was obeyed.
+use Rattle.std.proofs.Common.{◌≡◌, ℕ, ◌+◌, ◌≤◌, refl, subst, arith}
+use Rattle.std.proofs.Common.{Bool, true, false, nat_eq, Option, Some, None, is_some, List, [], ◌∷◌}
+use Rattle.std.specs.Prelude.{if◌then◌else◌}
+use Rattle.ed_words.proofs.Numbers.{eq_false}
+use Rattle.ed_machine.specs.State.{State}
+use Rattle.ed_machine.specs.OrderTable.{step}
+use Rattle.ed_machine.specs.Steps.{IsFree, is_obeyed, state_after}
+use Rattle.ed_machine.specs.declared.turn.Turn.{Turn}
+use Rattle.ed_machine.specs.declared.turn.Turn.TheVariants.{Went, Printed, Stopped, NoOrder, NoTape}
+use Rattle.ed_machine.proofs.LeastNumbers.{least_below, least_first}
+use Rattle.ed_machine.proofs.Steps.{free_sum}
+use Rattle.ed_words.specs.Texts.{Text}
+use Rattle.ed_stepper.specs.MoveEnds.{blocked_end, end_after, move_orders, or_else, own_end, stopped_after}
+use Rattle.ed_stepper.specs.Sessions.{Stand, left, stands_at}
+use Rattle.ed_stepper.specs.Scripts.{LeftBy, behind, is_too_far, left_by, moved, play, writes}
+use Rattle.ed_stepper.specs.declared.commands.Command.{Command}
+use Rattle.ed_stepper.specs.declared.commands.Command.TheVariants as commands
+use Rattle.ed_stepper.specs.declared.moves.Aim.{Aim}
+use Rattle.ed_stepper.specs.declared.moves.Aim.TheVariants.{Orders}
+use Rattle.ed_stepper.specs.declared.moves.MoveEnd.{MoveEnd}
+use Rattle.ed_stepper.specs.declared.moves.MoveEnd.TheVariants as ends
+
+-- ---- a move
+
+-- where a move has no end, the next order is obeyed
+none_of : (stop same : Bool) (own : Option MoveEnd) (turn : Turn) → same ≡ false
+    → (if stop then Some ends.Stopped else or_else own (if same then Some ends.Limit else blocked_end turn)) ≡ None
+    → is_obeyed turn ≡ true
+none_of true same own turn low h = let bad : Some ends.Stopped ≡ None = h in absurd (cc)
+none_of false true own turn low h = absurd (cc)
+none_of false false (Some end) turn low h = let bad : Some end ≡ None = h in absurd (cc)
+none_of false false None Went low h = refl
+none_of false false None (Printed code) low h = refl
+none_of false false None Stopped low h = refl
+none_of false false None (NoOrder function) low h = let bad : Some ends.NoOrder ≡ None = h in absurd (cc)
+none_of false false None NoTape low h = let bad : Some ends.NoTape ≡ None = h in absurd (cc)
+
+no_end : (o : Option MoveEnd) → is_some o ≡ false → o ≡ None
+no_end None h = refl
+no_end (Some end) h = absurd (cc)
+
+-- each order of a move is obeyed
+pub move_free : (aim : Aim) (n : ℕ) (s : State) → IsFree (move_orders aim n s) s
+unfolding move_orders
+move_free aim n s j below =
+    let test : ℕ → Bool = λ k. is_some (end_after aim n k s) in
+    let none : end_after aim n j s ≡ None = no_end _ (least_first test n j below) in
+    let most = least_below test n in
+    none_of (stopped_after j s) (nat_eq j n) (own_end aim j s) (step (state_after j s)).turn
+    (eq_false j n (omega (arith, below, most))) none
+
+pub move_within : (aim : Aim) (n : ℕ) (s : State) → move_orders aim n s ≤ n
+unfolding move_orders
+move_within aim n s = least_below _ n
+
+-- ---- a line, and lines one after the other
+
+-- a session that began so
+pub record Keeps (first t : Stand) : Type 0 where
+  pub start : t.start ≡ first.start
+  pub limit : t.limit ≡ first.limit
+  pub free : IsFree t.done t.start
+  pub most : t.done ≤ t.limit
+
+pub moved_keeps : (aim : Aim) {first t : Stand} → Keeps first t → Keeps first (moved aim t)
+moved_keeps aim {first} {t} k =
+    let n = move_orders aim (left t) (stands_at t) in
+    let few = move_within aim (left t) (stands_at t) in
+    record {
+      start = k.start;
+      limit = k.limit;
+      free = free_sum t.done n t.start k.free (move_free aim (left t) (stands_at t));
+      most = omega (arith, few, k.most);
+    }
+
+line_keeps : (c : Command) {first t : Stand} → Keeps first t → Keeps first (left_by c t)
+line_keeps commands.Nothing k = k
+line_keeps (commands.Move aim) k = moved_keeps aim k
+line_keeps (commands.Back n) k = record {
+  start = k.start;
+  limit = k.limit;
+  free = λ j below. k.free j (omega arith);
+  most = omega (arith, k.most);
+}
+line_keeps (commands.Trace n) k = moved_keeps (Orders n) k
+line_keeps (commands.Show a b) k = k
+line_keeps commands.Accumulator k = k
+line_keeps commands.Multiplier k = k
+line_keeps commands.LastPrinted k = k
+
+play_keeps : (ran : List Command) (line : ℕ) {first t : Stand} → Keeps first t → Keeps first (play line ran t).stand
+play_keeps [] line k = k
+play_keeps (c ∷ ran) line {first} {t} k =
+    by_test (is_too_far c t) (play_keeps ran (line + 1) (line_keeps c k))
+  where
+    by_test : (b : Bool) → Keeps first (play (line + 1) ran (left_by c t)).stand
+        → Keeps first (if b then record { text = []; stand = t; refused = Some (record { line = line; done = t.done }) }
+        else behind (writes c t) (play (line + 1) ran (left_by c t))).stand
+    by_test true rest = k
+    by_test false rest = rest
+
+-- wherever a line leaves a session
+pub left_keeps : {script : Text} {first t : Stand} → first.done ≡ 0 → LeftBy script first t → Keeps first t
+left_keeps {first = first} none l =
+    subst (Keeps first) l.stand (play_keeps l.ran 1 (record {
+      start = refl;
+      limit = refl;
+      free = λ j below. absurd (omega arith);
+      most = omega arith;
+    }))

@@ -1,0 +1,107 @@
+-- What `step` reports is what `trace`, `tape` and a post-mortem report after the same number of orders (this project's own
+-- rules).
+use Rattle.std.specs.Prelude.{◌≡◌, ℕ, ◌+◌, ◌-◌, ◌≤◌, List, ◌∷◌, [], ◌++◌, Option, Some, None, codes, length}
+use Rattle.std.specs.Fmt.{decimal}
+use Rattle.std.specs.List.{range_with_len}
+use Rattle.ed_machine.specs.Steps.{Past, past}
+use Rattle.ed_machine.specs.declared.ending.Ending.{Ending}
+use Rattle.ed_machine.specs.declared.ending.Ending.TheVariants.{Stopped, Limit, NoOrder, NoTape}
+use Rattle.ed_run.specs.Run.{RunEnd}
+use Rattle.ed_printer.specs.Paper.{paper}
+use Rattle.ed_postmortem.specs.Codes.{printed_codes}
+use Rattle.ed_report.specs.Listings.{listing}
+use Rattle.ed_report.specs.Traces.{trace_text}
+use Rattle.ed_stepper.specs.MoveEnds.{move_end}
+use Rattle.ed_stepper.specs.Scripts.{LeftBy, end_word, line_at, moved, traced, words_shown}
+use Rattle.ed_stepper.specs.Sessions.{Stand, left, stands_at}
+use Rattle.ed_stepper.specs.declared.moves.Aim.{Aim}
+use Rattle.ed_stepper.specs.declared.moves.Aim.TheVariants.{Orders}
+use Rattle.ed_stepper.specs.declared.moves.MoveEnd.{MoveEnd}
+use Rattle.ed_stepper.specs.declared.moves.MoveEnd.TheVariants as ends
+use Rattle.ed_command.specs.declared.command.Settings.{Settings}
+use Rattle.ed_command.specs.declared.command.Window.{Window}
+use Rattle.ed_words.specs.Texts.{Text}
+use Rattle.ed_top.specs.Output.{tape_outcome}
+use Rattle.ed_top.specs.Runs.{paper_room, run_of}
+use Rattle.ed_top.specs.Scripts.{stand_on}
+use Rattle.ed_top.specs.Traces.{letters_in, trace_outcome}
+
+-- ---- the run that is cut off where a session stands
+
+-- the same settings for a run that is cut off after the orders done in a session, and is resumed so often
+abbrev pub cut_at : Stand → ℕ → Settings → Settings
+cut_at t resumes s = record s { limit = t.done; resumes = resumes }
+
+-- the same settings with a post-mortem of a window
+abbrev pub with_window : Window → Settings → Settings
+with_window w s = record s { post_mortem = Some w }
+
+-- what the orders done in a session printed, and how many of them were stops
+abbrev pub way : Stand → Past
+way t = past t.done t.start
+
+-- such a run is resumed after each stop
+abbrev pub IsResumed : ℕ → Stand → Type 0
+IsResumed resumes t = (way t).stops ≤ resumes
+
+-- the paper of `tape` has room for what was printed; `trace` and `step` have no paper
+abbrev pub HasRoomFor : Stand → Type 0
+HasRoomFor t = length (way t).codes ≤ paper_room
+
+-- `at A after K`, A the counter and K the orders done
+abbrev pub at_text : Stand → Text
+at_text t = codes "at " ++ decimal (stands_at t).counter ++ codes " after " ++ decimal t.done
+
+-- `limit at A after K`
+abbrev pub limit_note : Stand → Text
+limit_note t = codes "limit " ++ at_text t ++ 10 ∷ []
+
+-- the ending of a run that the end of a move is; a move's own end is none
+abbrev pub ending_of : MoveEnd → Option Ending
+ending_of ends.Stopped = Some Stopped
+ending_of ends.NoOrder = Some NoOrder
+ending_of ends.NoTape = Some NoTape
+ending_of ends.Limit = Some Limit
+ending_of end = None
+
+-- how often a run is resumed that ends so after orders of which so many were stops: after each, but for one that ends it
+abbrev pub resumes_to : Ending → ℕ → ℕ
+resumes_to Stopped stops = stops - 1
+resumes_to ending stops = stops
+
+-- the run of rows with the limit of a session, resumed so often
+abbrev pub run_with : ℕ → Settings → List ℕ → RunEnd
+run_with resumes s rows = run_of (record s { resumes = resumes }) rows
+
+-- ---- the law
+
+-- a session that stands here, and a run that is cut off after as many orders and is resumed often enough, report the
+-- same place, state, words and letters
+pub record StepsAreRun (s : Settings) (rows : List ℕ) (t : Stand) (resumes : ℕ) : Type 0 where
+  -- the line of the move that left it here has the counter and the orders of the notes of `trace` and `tape`
+  pub line : (end : MoveEnd) → line_at t end ≡ at_text t ++ codes ": " ++ end_word end ++ 10 ∷ []
+  pub trace_note : (trace_outcome (cut_at t resumes s) rows).note ≡ limit_note t
+  pub tape_note : HasRoomFor t → (tape_outcome (cut_at t resumes s) rows).note ≡ limit_note t
+  -- what it shows, words, registers and the last printed code, is of the state in which that run of `tape` ends
+  pub state : HasRoomFor t → (run_of (cut_at t resumes s) rows).state ≡ stands_at t
+  -- so `show A B` lists the words of that run's store, and a post-mortem of the run prints these words after what the run
+  -- itself printed
+  pub shown : HasRoomFor t → (a b : ℕ)
+      → words_shown a b t ≡ listing (run_of (cut_at t resumes s) rows).state.store (range_with_len a (b + 1 - a))
+  pub printed : HasRoomFor t → (w : Window) → (tape_outcome (with_window w (cut_at t resumes s)) rows).out
+      ≡ paper ((way t).codes ++ printed_codes (stands_at t).store.words w.first w.count)
+  -- a line `trace N` writes the letters by which the trace up to its end is longer than the trace up to here
+  pub letters : (n : ℕ) → IsResumed resumes (moved (Orders n) t)
+      → letters_in (trace_outcome (cut_at (moved (Orders n) t) resumes s) rows).out
+      ≡ letters_in (trace_outcome (cut_at t resumes s) rows).out ++ letters_in (trace_text (traced n t))
+  -- a move on from here that ends otherwise than by its own end does so where the run of `tape` with the session's limit
+  -- ends, and says how
+  pub ends : (aim : Aim) (ending : Ending) → ending_of (move_end aim (left t) (stands_at t)) ≡ Some ending
+      → HasRoomFor (moved aim t)
+      → run_with (resumes_to ending (way (moved aim t)).stops) s rows
+      ≡ record { ending = ending; state = stands_at (moved aim t); codes = (way (moved aim t)).codes }
+
+-- so it is wherever a line of a script leaves a session on rows, those of a tape or of a source's tape
+abbrev pub EachStepIsRun : Type 0
+EachStepIsRun = (s : Settings) (script : Text) (rows : List ℕ) (t : Stand) (resumes : ℕ)
+    → LeftBy script (stand_on s rows) t → IsResumed resumes t → StepsAreRun s rows t resumes
