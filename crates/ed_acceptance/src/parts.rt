@@ -44,13 +44,6 @@ fn a_program_goes_back_and_the_tape_is_read_on(rt: HostRuntime) -> Result<(), Fa
         INTERLUDE.input,
         (0, INTERLUDE.out, INTERLUDE.note),
     )?;
-    expect(
-        &rt,
-        alloc,
-        "tape",
-        INTERLUDE.input,
-        (0, "A", INTERLUDE.note),
-    )?;
     expect(&rt, alloc, "parts", CUT.input, (3, CUT.out, CUT.note))
 }
 
