@@ -48,12 +48,11 @@ fn the_source_is_one_that_run_takes(rt: HostRuntime) -> Result<(), Fail> {
 
 #[test]
 fn the_least_and_the_greatest_sum(rt: HostRuntime) -> Result<(), Fail> {
-    let alloc = rt.alloc();
-    for (n, sum) in [(1u32, "339"), (112, "28190")] {
-        let answer = answer_of(alloc, format!(in alloc; "demo {n}")?.as_str(), b"no source")?;
-        assert_eq!(rt; answer.status, 0, "demo {n}");
-        assert_eq!(rt; answer.out.as_slice(), sum.as_bytes(), "demo {n}");
-        assert_eq!(rt; answer.unread, 9, "demo {n}");
+    for (line, sum) in [("demo 1", "339"), ("demo 112", "28190")] {
+        let answer = answer_of(rt.alloc(), line, b"no source")?;
+        assert_eq!(rt; answer.status, 0, "{line}");
+        assert_eq!(rt; answer.out.as_slice(), sum.as_bytes(), "{line}");
+        assert_eq!(rt; answer.unread, 9, "{line}");
     }
     Ok(())
 }
