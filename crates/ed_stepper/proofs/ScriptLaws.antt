@@ -8,7 +8,6 @@ use Rattle.ed_syntax.specs.Lines.{HasLines, lines_of}
 use Rattle.ed_syntax.proofs.SourceLaws.{lines_are_read, read_lines_are}
 use Rattle.ed_stepper.specs.ScriptLines.{EachScriptHasOneMeaning, HasBadLine, IsBadLine, IsFirstBadLine, IsScript}
 use Rattle.ed_stepper.specs.ScriptLines.{LinesSayCommands, and_more, no_command, no_more, too_many_lines}
-use Rattle.ed_stepper.specs.Scripts.{EachScriptIsPlayed, play}
 use Rattle.ed_stepper.specs.Private.CommandReading.{bad_from, bad_line, commands_of, line_commands, session_command}
 use Rattle.ed_stepper.specs.declared.commands.Command.{Command}
 use Rattle.ed_stepper.specs.declared.commands.Command.TheVariants.{Nothing}
@@ -217,7 +216,3 @@ one_meaning = record {
 pub none_is_bad : (script : Text) (o : Option ℕ) → o ≡ None → HasBadLine script o → bad_line script ≡ None
 none_is_bad script None e h = (script_is_read script h.0 h.1).0
 none_is_bad script (Some number) e h = absurd (cc)
-
--- what is played is what the commands do
-pub each_is_played : EachScriptIsPlayed
-each_is_played script commands s is = ap (λ cs. play 1 cs s) (script_is_read script commands is).1

@@ -10,7 +10,6 @@ use Rattle.ed_machine.specs.declared.turn.Turn.{Turn}
 use Rattle.ed_machine.specs.declared.turn.Turn.TheVariants.{Went, Printed, Stopped, NoOrder, NoTape}
 use Rattle.ed_machine.proofs.LeastNumbers.{least_below, least_first}
 use Rattle.ed_machine.proofs.Steps.{free_sum}
-use Rattle.ed_words.specs.Texts.{Text}
 use Rattle.ed_stepper.specs.MoveEnds.{blocked_end, end_after, move_orders, or_else, own_end, stopped_after}
 use Rattle.ed_stepper.specs.Sessions.{Stand, left, stands_at}
 use Rattle.ed_stepper.specs.Scripts.{LeftBy, behind, is_too_far, left_by, moved, play, writes}
@@ -101,7 +100,7 @@ play_keeps (c ∷ ran) line {first} {t} k =
     by_test false rest = rest
 
 -- wherever a line leaves a session
-pub left_keeps : {script : Text} {first t : Stand} → first.done ≡ 0 → LeftBy script first t → Keeps first t
+pub left_keeps : {all : List Command} {first t : Stand} → first.done ≡ 0 → LeftBy all first t → Keeps first t
 left_keeps {first = first} none l =
     subst (Keeps first) l.stand (play_keeps l.ran 1 (record {
       start = refl;

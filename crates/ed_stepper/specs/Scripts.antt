@@ -10,8 +10,7 @@ use Rattle.ed_report.specs.Listings.{listing}
 use Rattle.ed_report.specs.Traces.{functions_after, trace_text}
 use Rattle.ed_stepper.specs.MoveEnds.{move_end, move_orders}
 use Rattle.ed_stepper.specs.Sessions.{Stand, left, stands_at}
-use Rattle.ed_stepper.specs.ScriptLines.{IsFirstBadLine, IsScript, OfScript}
-use Rattle.ed_stepper.specs.Private.CommandReading.{commands_of}
+use Rattle.ed_stepper.specs.ScriptLines.{IsFirstBadLine, OfScript}
 use Rattle.ed_stepper.specs.declared.commands.Command.{Command}
 use Rattle.ed_stepper.specs.declared.commands.Command.TheVariants.{Nothing, Move, Back, Trace, Show}
 use Rattle.ed_stepper.specs.declared.commands.Command.TheVariants.{Accumulator, Multiplier, LastPrinted}
@@ -115,15 +114,6 @@ play k [] s = record { text = []; stand = s; refused = None }
 play k (command ∷ rest) s = if is_too_far command s
     then record { text = []; stand = s; refused = Some (record { line = k; done = s.done }) }
     else behind (writes command s) (play (k + 1) rest (left_by command s))
-
--- a script from its first line on, by the commands that are read in it
-abbrev pub played : Text → Stand → Played
-played script s = play 1 (commands_of script) s
-
--- what is played of a script is what its commands do
-abbrev pub EachScriptIsPlayed : Type 0
-EachScriptIsPlayed = (script : Text) (commands : List Command) (s : Stand) → IsScript script commands
-    → played script s ≡ play 1 commands s
 
 -- the first of the commands have run, each whole, and the session stands where they left it
 pub record LeftBy (commands : List Command) (s t : Stand) : Type 0 where

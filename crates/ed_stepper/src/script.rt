@@ -1,6 +1,6 @@
 //! Scripts: lines that move a session and show where it stands.
 ghost use Rattle.ed_stepper.specs.ScriptLines.{EachScriptHasOneMeaning, HasBadLine};
-ghost use Rattle.ed_stepper.specs.Scripts.{EachScriptIsPlayed, ScriptEnds};
+ghost use Rattle.ed_stepper.specs.Scripts.{ScriptEnds};
 
 use crate::commands::command_of;
 use crate::fronts::first_line;
@@ -54,14 +54,12 @@ pub fn bad_line(script: &[u8]) -> Option<u32>
 ///
 /// `BadCommand` comes before any line runs. Else the lines run one after the other, and the session stands where the
 /// last of them left it: `BackTooFar` and `Memory` leave it where the lines before did.
-#[tactic(auto, using(crate::proofs::ScriptLaws::each_is_played))]
 pub fn run_script(
     alloc: Global,
     session: &mut Session,
     script: &[u8],
 ) -> Result<Vec<u8>, ScriptFault>
-    ensures ends { ScriptEnds script.now session.old result session.new }
-    ensures played { EachScriptIsPlayed }
+    ensures { ScriptEnds script.now session.old result session.new }
 {
     if let Some(line) = bad_line(script) {
         return Err(ScriptFault::BadCommand { line });

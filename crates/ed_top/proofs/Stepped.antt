@@ -167,7 +167,7 @@ module _ (s : Settings) (rows : List ℕ) (resumes : ℕ) where
     }
 
 pub each_step_is_run : EachStepIsRun
-each_step_is_run s script rows t resumes left few =
+each_step_is_run s commands rows t resumes left few =
     let k : Keeps (stand_on s rows) t = left_keeps refl left in
     let there : record (stand_on s rows) { done = t.done } ≡ t =
     (λ i. record { start = sym k.start i; limit = sym k.limit i; done = t.done }) in

@@ -12,6 +12,7 @@ use Rattle.ed_postmortem.specs.Codes.{printed_codes}
 use Rattle.ed_report.specs.Listings.{listing}
 use Rattle.ed_report.specs.Traces.{trace_text}
 use Rattle.ed_stepper.specs.MoveEnds.{move_end}
+use Rattle.ed_stepper.specs.ScriptLines.{CommandList}
 use Rattle.ed_stepper.specs.Scripts.{LeftBy, end_word, line_at, moved, traced, words_shown}
 use Rattle.ed_stepper.specs.Sessions.{Stand, left, stands_at}
 use Rattle.ed_stepper.specs.declared.moves.Aim.{Aim}
@@ -103,5 +104,5 @@ pub record StepsAreRun (s : Settings) (rows : List ℕ) (t : Stand) (resumes : �
 
 -- so it is wherever a line of a script leaves a session on rows, those of a tape or of a source's tape
 abbrev pub EachStepIsRun : Type 0
-EachStepIsRun = (s : Settings) (script : Text) (rows : List ℕ) (t : Stand) (resumes : ℕ)
-    → LeftBy script (stand_on s rows) t → IsResumed resumes t → StepsAreRun s rows t resumes
+EachStepIsRun = (s : Settings) (commands : CommandList) (rows : List ℕ) (t : Stand) (resumes : ℕ)
+    → LeftBy commands (stand_on s rows) t → IsResumed resumes t → StepsAreRun s rows t resumes

@@ -10,16 +10,16 @@ loop-rest-init c =
     playing_first c.args.script.now _ c.args.session.now
     (none_is_bad c.args.script.now _ c.in_default.is c.bad_line.ensures.is) c.new-text.ensures.items
 
-pub returns-then-is_err-clause-ends : goal.returns-then-is_err-clause-ends
-returns-then-is_err-clause-ends c = (
+pub returns-then-is_err : goal.returns-then-is_err
+returns-then-is_err c = (
   commands_of c.args.script.now,
   good_script c.args.script.now (none_is_bad c.args.script.now _ c.in_default.is c.bad_line.ensures.is),
   playing_left (playing_next c.loop-rest.invariant c.first_line.result.1.now c.first_line.ensures.lines
       (sym c.command_of.ensures.is ∙ c.unwrap-command.ensures) c.in-Ok.ensures refl),
 )
 
-pub returns-in-Err-TooFar-clause-ends : goal.returns-in-Err-TooFar-clause-ends
-returns-in-Err-TooFar-clause-ends c =
+pub returns-in-Err-TooFar : goal.returns-in-Err-TooFar
+returns-in-Err-TooFar c =
     let far =
     playing_far c.loop-rest.invariant c.first_line.result.1.now c.first_line.ensures.lines
     (sym c.command_of.ensures.is ∙ c.unwrap-command.ensures)
@@ -29,8 +29,8 @@ returns-in-Err-TooFar-clause-ends c =
       rw c.in-Err-TooFar.field-0-is far,
     )
 
-pub returns-in-Err-Memory-clause-ends : goal.returns-in-Err-Memory-clause-ends
-returns-in-Err-Memory-clause-ends c = (
+pub returns-in-Err-Memory : goal.returns-in-Err-Memory
+returns-in-Err-Memory c = (
   commands_of c.args.script.now,
   good_script c.args.script.now (none_is_bad c.args.script.now _ c.in_default.is c.bad_line.ensures.is),
   playing_memory c.loop-rest.invariant c.first_line.result.1.now c.first_line.ensures.lines
@@ -44,8 +44,8 @@ loop-rest-preserved c =
     playing_next c.loop-rest.invariant c.first_line.result.1.now c.first_line.ensures.lines
     (sym c.command_of.ensures.is ∙ c.unwrap-command.ensures) c.in-Ok.ensures grown
 
-pub returns-clause-ends : goal.returns-clause-ends
-returns-clause-ends c =
+pub returns : goal.returns
+returns c =
     let none : c.loop-rest.rest.now ≡ [] = search rules in (
       commands_of c.args.script.now,
       good_script c.args.script.now (none_is_bad c.args.script.now _ c.in_default.is c.bad_line.ensures.is),
