@@ -1,15 +1,27 @@
-"""What the scripts of this folder share: the crates of crates.txt, and copies of them in which `rt ci` proves them."""
+"""What the scripts of this folder share: the crates of crates.txt, copies of them in which `rt ci` proves them, their code,
+the pages, and runs of the program and of `rt`."""
+import itertools
 import os
 import re
 import shutil
 import signal
 import subprocess
+import sys
 from pathlib import Path
 
 ROOT = Path(__file__).resolve().parent.parent
 CRATES = ROOT / "crates"
 # The parts of a crate that a proof of it reads.
 PARTS = ("src", "specs", "proofs")
+PROGRAM = "edsac"
+BUILT = CRATES / PROGRAM / "out" / PROGRAM
+# How long an answer of the program may take.
+SECONDS = 60
+# The beginning of an item of code, and of a definition in `specs/`, with its name.
+ITEM = re.compile(r'pub (?:const |unsafe |extern "C" )?(fn|struct|enum|trait|const|static|type) (\w+)')
+DEFINED = re.compile(r"^(?:abbrev pub|unfoldable pub|pub record|pub data|pub(?! mod)) ([^ :({]+)", re.M)
+
+# ---- the crates
 
 
 def stands_on():
@@ -25,6 +37,11 @@ def stands_on():
 def below(name, crates):
     """The crates that a crate stands on, near and far."""
     return set(crates[name]).union(*(below(other, crates) for other in crates[name]))
+
+
+def nearest(name, crates):
+    """The crates that a crate stands on without another between them, in the order of its line."""
+    return [other for other in crates[name] if not any(other in below(third, crates) for third in crates[name])]
 
 
 def files(name):
@@ -45,6 +62,108 @@ def copy(names, to):
     (to / "crates.txt").write_text("".join(line for line in lines if re.split(r"[ :]", line)[0] in names))
     for name in names:
         shutil.copytree(CRATES / name, to / "crates" / name, ignore=lambda at, found: {"out", "must-fail"} & set(found))
+
+
+# ---- their code
+
+
+def sources(name):
+    """The files of a crate's code."""
+    return sorted((CRATES / name / "src").rglob("*.rt"))
+
+
+def lines_above_tests(path):
+    """The lines of a file of code down to its tests."""
+    return list(itertools.takewhile(lambda line: line != "#[cfg(test)]", path.read_text().splitlines()))
+
+
+def without_generics(text):
+    """A line without what stands in angle brackets, as `impl Sink for StdSink` of `impl<W: Write> Sink for StdSink<W>`."""
+    kept, depth = [], 0
+    for at, sign in enumerate(text):
+        if sign == "<":
+            depth += 1
+        elif sign == ">" and text[at - 1] != "-":
+            depth -= 1
+        elif depth == 0:
+            kept.append(sign)
+    return "".join(kept)
+
+
+def exported(name):
+    """The names that the root file of a library declares or passes on. No module is passed on whole."""
+    root = CRATES / name / "src" / "lib.rt"
+    text = root.read_text()
+    names = {item.group(2) for item in map(ITEM.match, lines_above_tests(root)) if item}
+    for group in re.findall(r"^pub use [\w:]+::(\{[^}]*\}|\w+);", text, re.M):
+        names |= {name.strip() for name in group.strip("{}").split(",") if name.strip()}
+    for module in re.findall(r"^pub mod (\w+);", text, re.M):
+        sys.exit(f"surface: {root} has the public module {module}; pass its items on by name")
+    return names
+
+
+# ---- the pages
+
+
+def prose(page):
+    """The lines of a page that are not code."""
+    return [line for line in page.read_text().splitlines() if not line.startswith("    ")]
+
+
+def code(text):
+    """The parts of a page's text that stand four blanks in."""
+    return re.findall(r"(?:^    .*\n)+", text, re.M)
+
+
+def part(page, title):
+    """The part of a page below one of its headings, up to the next one of its level or above."""
+    text = page.read_text()
+    heading = re.search(rf"^(#+) {re.escape(title)}\n", text, re.M)
+    if not heading:
+        sys.exit(f"{page.relative_to(ROOT)} has no part {title}")
+    return re.split(rf"^#{{1,{len(heading[1])}}} ", text[heading.end() :], maxsplit=1, flags=re.M)[0]
+
+
+def rows(text):
+    """The cells of each row of a text's tables, without their heads. A stroke in code or after a backslash is text."""
+    bodies = re.findall(r"^\|.*\|\n\|[-| ]+\|\n((?:\|.*\|\n)*)", text, re.M)
+    found = []
+    for line in "".join(bodies).splitlines():
+        line = re.sub(r"`[^`]*`|\\\|", lambda kept: kept.group().replace("|", "\0"), line)
+        found.append([cell.strip().replace("\0", "|") for cell in line[1:-1].split("|")])
+    return found
+
+
+def transcript(lines):
+    """The commands of a transcript, each with what is shown below it; none if it doesn't begin with one."""
+    found = []
+    for line in lines:
+        if line.startswith("$ "):
+            found.append((line[2:], []))
+        elif found:
+            found[-1][1].append(line + "\n")
+        else:
+            break
+    return [(command, "".join(shown)) for command, shown in found]
+
+
+def end(script, failures, said):
+    """Ends a script: with its failures, a line each, or with a line that says what was tried."""
+    if failures:
+        sys.exit("\n".join(f"{script}: {failure}" for failure in failures))
+    print(said)
+
+
+# ---- runs
+
+
+def answer(program, words, stdin=b"", **streams):
+    """The status of a run of the program, and what it wrote on the two outputs that are pipes."""
+    streams["input" if isinstance(stdin, bytes) else "stdin"] = stdin
+    streams.setdefault("stdout", subprocess.PIPE)
+    streams.setdefault("stderr", subprocess.PIPE)
+    done = subprocess.run([program, *words], timeout=SECONDS, **streams)
+    return done.returncode, done.stdout, done.stderr
 
 
 class Run:
