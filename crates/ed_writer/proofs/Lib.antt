@@ -1,0 +1,4 @@
+pub mod Fronts
+pub mod Numerals
+pub mod Spelled
+pub mod Texts

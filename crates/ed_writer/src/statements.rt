@@ -1,0 +1,109 @@
+//! Statements.
+ghost use Rattle.std.specs.Prelude.{◌≡◌, ◌++◌, ◌∷◌, [], IfOk, codes, Some, true};
+ghost use Rattle.ed_writer.specs.Written.{base_text, length_letter, order_operand, row_letter, settings_after};
+ghost use Rattle.ed_writer.specs.Written.{statement_text};
+ghost use Rattle.ed_syntax.specs.Forms.{has_few_settings};
+
+use crate::operands::{push_order_operand, push_settings};
+use crate::text::{push, push_byte, push_letter, push_number, push_string};
+use arrayvec::ArrayVec;
+use ed_codes::Code;
+use ed_syntax::{Name, Operand, Setting, Statement};
+use ed_words::NoMemory;
+use std::alloc::Global;
+
+/// Adds the base of a segment, where it is given.
+fn push_base(alloc: Global, text: &mut Vec<u8>, base: Option<u16>) -> Result<(), NoMemory>
+    ensures { IfOk result (λ _. text.new.items ≡ text.old.items ++ base_text base) }
+{
+    match base {
+        Some(base) => {
+            push(text, b" at ")?;
+            push_number(alloc, text, u64::from(base))
+        }
+        None => Ok(()),
+    }
+}
+
+/// Adds an order.
+fn push_order(
+    alloc: Global,
+    text: &mut Vec<u8>,
+    function: Code,
+    operand: &Operand,
+    long: bool,
+) -> Result<(), NoMemory>
+    ensures { IfOk result (λ _. text.new.items
+        ≡ text.old.items ++ (row_letter function ∷ order_operand operand.now ++ 32 ∷ length_letter long ∷ [])) }
+{
+    push_letter(text, function)?;
+    push_order_operand(alloc, text, operand)?;
+    push(text, if long { b" D" } else { b" F" })
+}
+
+/// Adds a routine of the library under a name, with its settings.
+fn push_fetch(
+    alloc: Global,
+    text: &mut Vec<u8>,
+    routine: &Name,
+    name: &Name,
+    settings: &[Setting],
+) -> Result<(), NoMemory>
+    ensures { IfOk result (λ _. text.new.items
+        ≡ text.old.items ++ (codes "use " ++ (routine.now ++ (codes " as " ++ (name.now
+        ++ settings_after (codes " with ") settings.now))))) }
+{
+    push(text, b"use ")?;
+    push(text, routine.text().as_bytes())?;
+    push(text, b" as ")?;
+    push(text, name.text().as_bytes())?;
+    push_settings(alloc, text, settings)
+}
+
+/// Adds a statement.
+pub(crate) fn push_statement(
+    alloc: Global,
+    text: &mut Vec<u8>,
+    statement: &Statement,
+) -> Result<(), NoMemory>
+    ensures is { IfOk result (λ _. text.new.items ≡ text.old.items ++ statement_text statement.now) }
+    ensures few { IfOk result (λ _. has_few_settings (Some statement.now) ≡ true) }
+{
+    match statement {
+        Statement::Segment { name, base } => {
+            push(text, b"segment ")?;
+            push(text, name.text().as_bytes())?;
+            push_base(alloc, text, *base)
+        }
+        Statement::Order {
+            function,
+            operand,
+            length,
+        } => push_order(alloc, text, *function, operand, *length),
+        Statement::Number { value } => {
+            push(text, b"word ")?;
+            push_number(alloc, text, u64::from(value.value()))
+        }
+        Statement::Text { codes } => {
+            push(text, b"text ")?;
+            push_string(text, codes)
+        }
+        Statement::Fetch {
+            routine,
+            name,
+            settings,
+        } => push_fetch(alloc, text, routine, name, settings.as_slice()),
+        Statement::Enter { name } => {
+            push(text, b"enter ")?;
+            push(text, name.text().as_bytes())
+        }
+        Statement::Rows { codes } => {
+            push(text, b"data ")?;
+            push_string(text, codes)
+        }
+        Statement::Long { value } => {
+            push(text, b"long ")?;
+            push_number(alloc, text, value.value())
+        }
+    }
+}

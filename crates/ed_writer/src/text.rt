@@ -1,0 +1,54 @@
+//! Bytes, numbers and names at the end of a text.
+ghost use Rattle.std.specs.Prelude.{◌≡◌, ◌++◌, ◌∷◌, [], IfOk, map};
+ghost use Rattle.std.specs.Fmt.{decimal};
+ghost use Rattle.ed_writer.specs.Written.{row_letter, string_text};
+
+use arrayvec::ArrayVec;
+use ed_codes::{Code, byte_of};
+use ed_words::NoMemory;
+use std::alloc::Global;
+
+/// Adds bytes to a text.
+pub(crate) fn push(text: &mut Vec<u8>, bytes: &[u8]) -> Result<(), NoMemory>
+    ensures { IfOk result (λ _. text.new.items ≡ text.old.items ++ bytes.now) }
+{
+    match text.extend_from_slice(bytes) {
+        Ok(()) => Ok(()),
+        Err(_) => Err(NoMemory),
+    }
+}
+
+/// Adds a byte to a text.
+pub(crate) fn push_byte(text: &mut Vec<u8>, byte: u8) -> Result<(), NoMemory>
+    ensures { IfOk result (λ _. text.new.items ≡ text.old.items ++ byte ∷ []) }
+{
+    push(text, &[byte])
+}
+
+/// Adds the letter or sign of a code.
+pub(crate) fn push_letter(text: &mut Vec<u8>, code: Code) -> Result<(), NoMemory>
+    ensures { IfOk result (λ _. text.new.items ≡ text.old.items ++ row_letter code ∷ []) }
+{
+    push_byte(text, byte_of(code, false))
+}
+
+/// Adds a number in decimal.
+pub(crate) fn push_number(alloc: Global, text: &mut Vec<u8>, number: u64) -> Result<(), NoMemory>
+    ensures { IfOk result (λ _. text.new.items ≡ text.old.items ++ decimal number) }
+{
+    match format!(in alloc; "{number}") {
+        Ok(digits) => push(text, digits.as_bytes()),
+        Err(_) => Err(NoMemory),
+    }
+}
+
+/// Adds rows between quotes.
+pub(crate) fn push_string(text: &mut Vec<u8>, rows: &ArrayVec<Code, 120>) -> Result<(), NoMemory>
+    ensures { IfOk result (λ _. text.new.items ≡ text.old.items ++ string_text rows.now.items) }
+{
+    push_byte(text, b'"')?;
+    for row in rows.iter() {
+        push_letter(text, *row)?;
+    }
+    push_byte(text, b'"')
+}
