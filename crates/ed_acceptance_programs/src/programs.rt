@@ -1,9 +1,9 @@
 //! Each program beside a plain computation.
 
-use crate::support::{is_refused, prints};
+use crate::support::{is_refused, prints, tape_prints};
 use ed_programs::{
     Refusal, add_program, difference_program, fraction_program, greatest_program, hello_program,
-    multiply_program, sort_program,
+    mirror_program, multiply_program, sort_program,
 };
 use std::test::Fail;
 
@@ -389,6 +389,44 @@ fn fraction_prints_its_figures(rt: HostRuntime) -> Result<(), Fail> {
             Refusal::Divisor,
             "a divisor out of range",
         )?;
+    }
+    Ok(())
+}
+
+#[test]
+fn mirror_prints_backwards(rt: HostRuntime) -> Result<(), Fail> {
+    let alloc = rt.alloc();
+    for (letters, wanted) in [
+        ("A", "A"),
+        ("Z", "Z"),
+        ("AB", "BA"),
+        ("BA", "AB"),
+        ("EDSAC", "CASDE"),
+        ("CASDE", "EDSAC"),
+        ("LEVEL", "LEVEL"),
+        ("OTTO", "OTTO"),
+        ("ABC", "CBA"),
+        ("XYZ", "ZYX"),
+        ("WILKES", "SEKLIW"),
+        ("GILL", "LLIG"),
+        ("WHEELER", "RELEEHW"),
+        ("WORSLEY", "YELSROW"),
+        ("RENWICK", "KCIWNER"),
+        ("MAURICE", "ECIRUAM"),
+        ("HARTREE", "EERTRAH"),
+        ("CAMBRIDGE", "EGDIRBMAC"),
+        ("ABCDEFGHI", "IHGFEDCBA"),
+        ("ZZZZZZZZZ", "ZZZZZZZZZ"),
+    ] {
+        tape_prints(&rt, alloc, mirror_program(alloc, letters), wanted)?;
+    }
+    for (letters, cause) in [
+        ("", Refusal::Length),
+        ("ABCDEFGHIJ", Refusal::Length),
+        ("Edsac", Refusal::Letter),
+        ("AB#CD", Refusal::Letter),
+    ] {
+        is_refused(&rt, mirror_program(alloc, letters), cause, letters)?;
     }
     Ok(())
 }

@@ -10,16 +10,37 @@ use std::test::Fail;
 /// The most bytes that an output keeps.
 const ROOM: usize = 1 << 16;
 
-/// Checks that the program was given, and that its run prints a text and stops.
+/// Checks that the source was given, and that its run prints a text and stops.
 pub fn prints(
     rt: &impl Abort,
     alloc: Global,
     program: Result<String, Refusal>,
     wanted: &str,
 ) -> Result<(), Fail> {
+    answers(rt, alloc, "run", program, wanted)
+}
+
+/// Checks that the tape was given, and that its run prints a text and stops.
+pub fn tape_prints(
+    rt: &impl Abort,
+    alloc: Global,
+    tape: Result<String, Refusal>,
+    wanted: &str,
+) -> Result<(), Fail> {
+    answers(rt, alloc, "tape", tape, wanted)
+}
+
+/// Checks that there is a program, and that the command answers it with a text and status 0.
+fn answers(
+    rt: &impl Abort,
+    alloc: Global,
+    command: &str,
+    program: Result<String, Refusal>,
+    wanted: &str,
+) -> Result<(), Fail> {
     assert!(rt; program.is_ok(), "no program that prints {wanted}");
     if let Ok(program) = program {
-        let words = vec![in alloc; String::from_str(alloc, "run")?]?;
+        let words = vec![in alloc; String::from_str(alloc, command)?]?;
         let mut source = SureSource::new(program.as_bytes().to_vec(alloc)?);
         let mut out = SureSink::new(alloc, ROOM)?;
         let mut note = SureSink::new(alloc, ROOM)?;

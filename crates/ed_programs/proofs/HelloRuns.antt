@@ -68,13 +68,13 @@ abbrev fine : ℕ → Bool
 fine b = is_row_byte b
     && (bytes_eq (struck Letters (row (row_of b))) (b ∷ []) && (not (row (row_of b) == 11) && not (row (row_of b) == 15)))
 
-record Letter (b : ℕ) : Type 0 where
-  row_byte : is_row_byte b ≡ true
-  struck_is : struck Letters (row (row_of b)) ≡ b ∷ []
-  no_figures : (row (row_of b) == 11) ≡ false
-  no_letters : (row (row_of b) == 15) ≡ false
+pub record Letter (b : ℕ) : Type 0 where
+  pub row_byte : is_row_byte b ≡ true
+  pub struck_is : struck Letters (row (row_of b)) ≡ b ∷ []
+  pub no_figures : (row (row_of b) == 11) ≡ false
+  pub no_letters : (row (row_of b) == 15) ≡ false
 
-letter : (b : ℕ) → (nat_le 65 b && nat_le b 90) ≡ true → Letter b
+pub letter : (b : ℕ) → (nat_le 65 b && nat_le b 90) ≡ true → Letter b
 letter b h =
     let p = and_parts (nat_le 65 b) (nat_le b 90) h in
     let low = le_of 65 b p.0 in
@@ -90,7 +90,7 @@ letter b h =
       no_letters = not-true (row (row_of b) == 15) t.1;
     }
 
-are_rows : (q : Text) → list_all (λ b. nat_le 65 b && nat_le b 90) q ≡ true → list_all is_row_byte q ≡ true
+pub are_rows : (q : Text) → list_all (λ b. nat_le 65 b && nat_le b 90) q ≡ true → list_all is_row_byte q ≡ true
 are_rows [] h = refl
 are_rows (b ∷ q) h =
     let p = and_parts (nat_le 65 b && nat_le b 90) (list_all (λ b. nat_le 65 b && nat_le b 90) q) h in

@@ -41,3 +41,7 @@ pub mod FractionWhole
 pub mod FractionSaid
 pub mod FractionEnds
 pub mod FractionRuns
+pub mod TapeRuns
+pub mod MirrorProgram
+pub mod MirrorEnds
+pub mod MirrorRuns

@@ -7,3 +7,5 @@ pub mod Greatest
 pub mod Sort
 pub mod Difference
 pub mod Fraction
+pub mod Tapes
+pub mod Mirror

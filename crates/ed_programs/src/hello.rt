@@ -26,7 +26,7 @@ pub fn hello_program(alloc: Global, letters: &str) -> Result<String, Refusal>
 }
 
 /// Whether all of these bytes are capital letters.
-fn are_capitals(bytes: &[u8]) -> bool
+pub fn are_capitals(bytes: &[u8]) -> bool
     ensures { result ≡ list_all is_capital bytes.now }
 {
     bytes.iter().all(|byte| b'A' <= *byte && *byte <= b'Z')

@@ -6,8 +6,8 @@ use thiserror::Error;
 /// Why there is no program for some data.
 #[derive(Clone, Copy, Debug, PartialEq, Eq, Error)]
 pub enum Refusal {
-    /// The text has no letter, or more letters than the program's line takes.
-    #[error("the text must have 1 to 40 letters")]
+    /// The text has no letter, or more letters than the program takes.
+    #[error("the text has no letter, or more than the program takes")]
     Length,
     /// The text has a character that is no capital letter.
     #[error("the text must have capital letters only")]

@@ -1,0 +1,127 @@
+-- The outcome of a tape whose program comes to its stop, as what the command `tape` owes it.
+use Rattle.std.proofs.Common.{◌≡◌, ◌∙◌, inl, ℕ, ◌+◌, ◌-◌, ◌≤◌, refl, sym, ap, subst, arith, lit≤, true, List, []}
+use Rattle.std.proofs.Common.{◌∷◌, ◌++◌, codes, length, get_or}
+use Rattle.std.specs.Prelude.{None, Some, Option, Result, Ok, Err, String}
+use Rattle.std.specs.declared.alloc.Global.{Global}
+use Rattle.std.specs.List.{list_all}
+use Rattle.ed_words.proofs.Numbers.{eq_of}
+use Rattle.ed_words.specs.Texts.{Text}
+use Rattle.ed_report.specs.Notes.{at_after}
+use Rattle.ed_top.specs.Outcome.{Outcome}
+use Rattle.ed_words.specs.declared.size.Size.{Size}
+use Rattle.ed_codes.specs.Reading.{reading, rows}
+use Rattle.ed_store.specs.Cells.{cleared_cells}
+use Rattle.ed_machine.specs.State.{State}
+use Rattle.ed_machine.specs.OrderTable.{step}
+use Rattle.ed_notation.specs.Faults.{TapeEntry}
+use Rattle.ed_notation.specs.Openings.{IsDirective, opening}
+use Rattle.ed_notation.specs.Reading.{Arrived, reading_on}
+use Rattle.ed_notation.proofs.Laws.{reading_is_rules}
+use Rattle.ed_loads.specs.EntryState.{first_state}
+use Rattle.ed_loads.proofs.Entries.{first_store, starts}
+use Rattle.ed_initial.specs.Entry.{Comes}
+use Rattle.ed_initial.proofs.Quiet.{LeadsIn, comes_in}
+use Rattle.ed_run.specs.Run.{RunEnd, ran}
+use Rattle.ed_run.proofs.Later.{ran_later}
+use Rattle.ed_printer.specs.Paper.{paper}
+use Rattle.ed_paths.proofs.Standing.{Holds, Meets}
+use Rattle.ed_routines.proofs.Journeys.{ComesToStop}
+use Rattle.ed_sources.proofs.Stops.{LeadsToStop, ran_to_stop}
+use Rattle.ed_sources.proofs.Decimals.{among, numbers}
+use Rattle.ed_sources.proofs.Entries.{is_met}
+use Rattle.ed_command.specs.declared.command.Settings.{Settings}
+use Rattle.ed_top.specs.Answer.{OfReading, exactly}
+use Rattle.ed_top.specs.Output.{first_note, tape_outcome}
+use Rattle.ed_top.specs.Runs.{paper_room, ran_outcome, run_of, with_post_mortem}
+use Rattle.ed_top.specs.TapeEntries.{tape_state}
+use Rattle.ed_top.proofs.Stopped.{answered, nothing_after}
+use Rattle.ed_programs.specs.Programs.{GivesProgram}
+use Rattle.ed_programs.specs.Tapes.{TapePrints, TapeRuns}
+use Rattle.ed_programs.specs.declared.refusal.Refusal.{Refusal}
+
+meets_of : (o : Option ℕ) (w : ℕ) → is_met o w ≡ true → Meets o w
+meets_of None w h = tt
+meets_of (Some x) w h = eq_of w x h
+
+-- an image stands in words, by one test
+pub holds_in : (words : List ℕ) (image : List (Option ℕ)) (base : ℕ)
+    → list_all (λ i. is_met (get_or image i None) (get_or words (base + i) 0)) (numbers 0 (length image)) ≡ true
+    → Holds image words base
+holds_in words image base test i l =
+    meets_of (get_or image i None) (get_or words (base + i) 0)
+    (among (λ i. is_met (get_or image i None) (get_or words (base + i) 0)) 0 (length image) i test (omega arith)
+    (omega arith))
+
+-- rows are read to an entry from a cleared store, and from the store after Start, where the reading of the Initial
+-- Orders begins; both are computed
+pub record Arrives (z : Size) (tape_rows : List ℕ) (e : TapeEntry) : Type 0 where
+  pub cleared : reading_on z cleared_cells.words 0 9 first_note None tape_rows ≡ Arrived e
+  pub started : reading_on z (first_state z tape_rows).store.words 0 9 (opening (first_state z tape_rows).store.words) None
+      tape_rows
+      ≡ Arrived e
+
+first_directive : IsDirective 20568
+first_directive = record { no_1 = omega arith; no_2 = omega arith; no_4 = omega arith; most = lit≤ tt }
+
+module _ {z : Size} {tape_rows : List ℕ} {e : TapeEntry} (o : Arrives z tape_rows e) where
+  abbrev first : State
+  first = first_state z tape_rows
+
+  fresh : (first.size ≡ z) × (first.tape ≡ tape_rows) × (first.orders ≡ 0)
+  unfolding first_state
+  fresh = (refl, refl, refl)
+
+  comes_on : Comes first e
+  unfolding first_state
+  comes_on =
+      let rules = reading_is_rules z first.store.words (opening first.store.words) 9 tape_rows first_directive in
+      record { well = rules.well e o.started; comes = rules.comes e o.started }
+
+  leads_on : LeadsIn first e
+  leads_on = comes_in first e (first_store z tape_rows) (starts z tape_rows) comes_on
+
+-- a text that spells these rows, which come to this entry, and whose program comes to its stop from there
+pub tape_runs : (s : Settings) (tape : Text) (tape_rows : List ℕ) (e : TapeEntry) {k at : ℕ} {printed : List ℕ}
+    → reading tape ≡ rows tape_rows → length tape ≤ 262144 → Arrives s.size tape_rows e
+    → ComesToStop k (tape_state s tape_rows e) printed at → length printed ≤ paper_room
+    → TapeRuns s tape e.cost (k + 1) at (paper printed)
+tape_runs s tape tape_rows e {k} {at} {printed} reads short arrives stops few =
+    let rules = reading_is_rules s.size cleared_cells.words first_note 9 tape_rows first_directive in
+    let in_order = leads_on arrives in
+    let first : State = tape_state s tape_rows e in
+    let left : ℕ = s.limit - e.cost in
+    let to_stop : LeadsToStop k first printed =
+    record { last = stops.last; leads = stops.leads; stops = stops.stops } in
+    let none = (fresh arrives).2 in
+    let count : (step stops.last).state.orders ≡ e.cost + (k + 1) = omega (arith, stops.orders, none) in
+    record {
+      codes_of = tape_rows;
+      spelled = reads;
+      entry = e;
+      well = rules.well e arrives.cleared;
+      comes = rules.comes e arrives.cleared;
+      cost_is = refl;
+      outcome = λ no_resumes plain fits.
+          let ended = ran_to_stop left paper_room k first printed to_stop few (omega (arith, fits)) in
+          let whole : run_of s tape_rows ≡ ran left 0 paper_room first =
+          ran_later s.limit s.resumes paper_room e.cost (first_state s.size tape_rows) in_order.went
+          (omega (arith, fits))
+          ∙ (λ i. ran left (no_resumes i) paper_room (in_order.arrives i)) in
+          let answer = ap (λ (r : RunEnd). ran_outcome [] (with_post_mortem s.post_mortem r)) whole
+          ∙ (λ i. ran_outcome [] (with_post_mortem (plain i) (ran left 0 paper_room first)))
+          ∙ ap (ran_outcome []) (nothing_after (ran left 0 paper_room first))
+          ∙ answered [] (ran left 0 paper_room first) ended stops.counter count in
+          let due : Outcome = record {
+            out = paper printed;
+            note = at_after (codes "stopped") at (e.cost + (k + 1)) ++ 10 ∷ [];
+            status = 0;
+          } in
+          inl (short, subst (λ r. OfReading (exactly (tape_outcome s)) r due) (sym reads) answer);
+    }
+
+-- a law of a tape's text is one of the text that is answered
+pub tape_prints_of : {cost orders at : ℕ} {tape printed : Text} (r : Result (String Global) Refusal)
+    → GivesProgram None tape r → ((s : Settings) → TapeRuns s tape cost orders at printed) → TapePrints cost orders at printed r
+tape_prints_of {cost} {orders} {at} {printed = printed} (Ok text) gives law = λ s.
+    subst (λ (t : Text). TapeRuns s t cost orders at printed) (sym gives.1) (law s)
+tape_prints_of (Err refusal) gives law = tt
