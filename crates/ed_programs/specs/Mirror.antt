@@ -46,6 +46,7 @@ mirror_front =
 abbrev pub mirror_line : Text → Text
 mirror_line letters = decimal (length letters) ++ letters
 
+-- the whole tape
 abbrev pub mirror_text : Text → Text
 mirror_text letters = text_of_lines (mirror_front ++ mirror_line letters ∷ [])
 
