@@ -8,6 +8,7 @@ use Rattle.ed_programs.specs.Numbers.{numbers_line}
 use Rattle.ed_programs.specs.declared.refusal.Refusal.{Refusal}
 use Rattle.ed_programs.specs.declared.refusal.Refusal.TheVariants.{Number}
 
+-- the lines of the source, with the data put in
 abbrev pub add_source : ℕ → ℕ → List Text
 add_source a b =
     codes "; Reads two numbers from its tape, adds them and prints the sum."
@@ -33,6 +34,7 @@ add_source a b =
     ∷ numbers_line (a ∷ b ∷ [])
     ∷ []
 
+-- the whole text
 abbrev pub add_text : ℕ → ℕ → Text
 add_text a b = text_of_lines (add_source a b)
 

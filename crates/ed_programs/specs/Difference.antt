@@ -6,6 +6,7 @@ use Rattle.ed_routines.specs.Digits.{digits, print_orders}
 use Rattle.ed_sources.specs.Calls.{text_of_lines}
 use Rattle.ed_programs.specs.Numbers.{numbers_line}
 
+-- the lines of the source, with the data put in
 abbrev pub difference_source : ℕ → ℕ → List Text
 difference_source a b =
     codes "version 2"
@@ -37,6 +38,7 @@ difference_source a b =
     ∷ numbers_line (a ∷ b ∷ [])
     ∷ []
 
+-- the whole text
 abbrev pub difference_text : ℕ → ℕ → Text
 difference_text a b = text_of_lines (difference_source a b)
 

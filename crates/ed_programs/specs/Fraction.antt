@@ -10,6 +10,7 @@ use Rattle.ed_programs.specs.Numbers.{numbers_line}
 use Rattle.ed_programs.specs.declared.refusal.Refusal.{Refusal}
 use Rattle.ed_programs.specs.declared.refusal.Refusal.TheVariants.{Divisor}
 
+-- the lines of the source, with the data put in
 abbrev pub fraction_source : ℕ → ℕ → ℕ → List Text
 fraction_source upper lower places =
     codes "version 2"
@@ -66,6 +67,7 @@ fraction_source upper lower places =
     ∷ numbers_line (upper ∷ lower ∷ places ∷ [])
     ∷ []
 
+-- the whole text
 abbrev pub fraction_text : ℕ → ℕ → ℕ → Text
 fraction_text upper lower places = text_of_lines (fraction_source upper lower places)
 
@@ -93,6 +95,8 @@ figure_orders upper lower (suc n) =
     figure_orders upper lower n + 17
     + divide_orders (figure upper lower (n + 1)) + print_orders (figure upper lower (n + 1))
 
+-- the orders from the entry: 13 for each digit that is read, those of `divide` and `print` for the whole part, those of the
+-- figures, and 53 more
 abbrev pub fraction_orders : ℕ → ℕ → ℕ → ℕ
 fraction_orders upper lower places =
     13 * length (digits upper) + 13 * length (digits lower) + 13 * length (digits places)

@@ -7,15 +7,17 @@ use Rattle.ed_sources.specs.Calls.{text_of_lines}
 use Rattle.ed_programs.specs.declared.refusal.Refusal.{Refusal}
 use Rattle.ed_programs.specs.declared.refusal.Refusal.TheVariants.{Count}
 
--- lines with a number each, the first of them with the label
+-- lines with a number each
 abbrev pub lines_of_words : List ℕ → List Text
 lines_of_words [] = []
 lines_of_words (n ∷ ns) = (codes "word " ++ decimal n) ∷ lines_of_words ns
 
+-- the same, the first line with the label
 abbrev pub labelled_words : Text → List ℕ → List Text
 labelled_words label [] = []
 labelled_words label (n ∷ ns) = (label ++ codes ": word " ++ decimal n) ∷ lines_of_words ns
 
+-- the lines of the source, with the data put in
 abbrev pub greatest_source : List ℕ → List Text
 greatest_source ns =
     codes "version 2"
@@ -51,6 +53,7 @@ greatest_source ns =
     ∷ codes "enter main"
     ∷ []
 
+-- the whole text
 abbrev pub greatest_text : List ℕ → Text
 greatest_text ns = text_of_lines (greatest_source ns)
 

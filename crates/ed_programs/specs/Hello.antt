@@ -43,6 +43,7 @@ hello_source q =
     ∷ codes "enter main"
     ∷ []
 
+-- the whole text
 abbrev pub hello_text : Text → Text
 hello_text q = text_of_lines (hello_source q)
 

@@ -60,6 +60,7 @@ multiply_source a b c =
     ∷ codes "enter main"
     ∷ []
 
+-- the whole text
 abbrev pub multiply_text : ℕ → ℕ → ℕ → Text
 multiply_text a b c = text_of_lines (multiply_source a b c)
 
