@@ -137,7 +137,8 @@ async function kiosk(b) {
     await b.expect('every box is as it was', await b.run(stateOf), wanted);
     await b.expect('and nothing of a visitor is left', await b.run(() => [
         by('ask').hidden, by('linked').hidden, by('refusal').hidden, by('text').style.height,
-        editor.former === undefined, by('undo').disabled, document.body.textContent.includes('BOB'),
+        editor.former === undefined, by('undo').disabled,
+        [...document.body.children].some((node) => node.tagName !== 'SCRIPT' && node.textContent.includes('BOB')),
     ]),
         [true, true, true, '', true, true, false]);
     await screens(b);
