@@ -38,7 +38,7 @@ abbrev pub IsWriteFault : Bool → List Line → WriteFault → Type 0
 IsWriteFault two lines Memory = Unit {0}
 IsWriteFault two lines fault = write_fault two lines ≡ Some fault
 
--- where `version 2` has no place, no text says these lines, however they are spelled
+-- if `version 2` has no place, no text says these lines, however they are spelled
 abbrev pub HasNoText : Bool → List Line → WriteFault → Type 0
 HasNoText two lines NoVersionLine = (text : Text) → IsProgram text two lines → ⊥
 HasNoText two lines _ = Unit {0}

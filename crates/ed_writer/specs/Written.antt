@@ -32,7 +32,7 @@ operand_text (operands.Number n) = decimal n
 operand_text (operands.Label name plus) = name ++ plus_text plus
 operand_text (operands.Two first second minus) = first ++ (if minus then 45 else 43) ∷ second
 
--- the operand of an order, after a blank; the number 0 is left out
+-- the operand of an order, after a blank; nothing for the number 0
 abbrev pub order_operand : Operand → Text
 order_operand (operands.Number zero) = []
 order_operand o = 32 ∷ operand_text o
@@ -50,7 +50,7 @@ abbrev pub settings_after : Text → List Setting → Text
 settings_after before [] = []
 settings_after before (s ∷ ss) = before ++ (setting_text s ++ settings_after (codes ", ") ss)
 
--- the base of a segment, where it is given
+-- the base of a segment, if it has one
 abbrev pub base_text : Option ℕ → Text
 base_text None = []
 base_text (Some n) = codes " at " ++ decimal n

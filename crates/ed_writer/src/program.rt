@@ -13,6 +13,9 @@ use ed_syntax::{Line, Program};
 use ed_words::NoMemory;
 use std::alloc::Global;
 
+/// The most bytes of a line of a source.
+const LINE_BYTES: usize = 120;
+
 /// The text of a line's label and statement.
 fn form(alloc: Global, line: &Line) -> Result<Vec<u8>, NoMemory>
     ensures is { IfOk result (λ text. text.items ≡ form_text line.now.label line.now.statement) }
@@ -64,7 +67,7 @@ fn lines_text(alloc: Global, two: bool, lines: &[Line]) -> Result<Vec<u8>, Write
         let Ok(written) = line_text(alloc, two, line) else {
             return Err(WriteFault::Memory);
         };
-        if written.len() > 120 {
+        if written.len() > LINE_BYTES {
             return Err(WriteFault::LongLine { line: line.number });
         }
         if push_line(&mut text, &written).is_err() {
@@ -87,7 +90,9 @@ fn has_version_place(two: bool, lines: &[Line]) -> bool
     }
 }
 
-/// The text of a program, which says exactly its lines, or the reason that it is not written.
+/// The text of a program, which says exactly its lines.
+///
+/// `NoVersionLine` comes before `LongLine`, and `LongLine` is about the first line that is too long.
 pub fn text_of_program(alloc: Global, program: &Program) -> Result<Vec<u8>, WriteFault>
     ensures is { IfOk result (λ text. IsTextOf (program.now.version == 2) program.now.lines.items text.items) }
     ensures says { IfOk result (λ text. IsProgram text.items (program.now.version == 2) program.now.lines.items) }

@@ -12,7 +12,7 @@ use ed_syntax::{Name, Operand, Setting, Statement};
 use ed_words::NoMemory;
 use std::alloc::Global;
 
-/// Adds the base of a segment, where it is given.
+/// Adds the base of a segment, if it has one.
 fn push_base(alloc: Global, text: &mut Vec<u8>, base: Option<u16>) -> Result<(), NoMemory>
     ensures { IfOk result (λ _. text.new.items ≡ text.old.items ++ base_text base) }
 {

@@ -40,7 +40,7 @@ const FORMS: [(&str, &str); 27] = [
     ("data\"1949F32F\"", "data \"QOROFEWF\""),
 ];
 
-/// Sources of the examples count, hello and squares without their comments, which are written as they stand.
+/// Sources of the examples count, hello and squares without their comments, which are written unchanged.
 const EXAMPLES: [&str; 3] = [COUNT, HELLO, SQUARES];
 
 const COUNT: &str = "\
