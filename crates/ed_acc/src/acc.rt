@@ -1,4 +1,4 @@
-ghost use Rattle.std.specs.Prelude.{◌≡◌, ◌<◌, ◌≤◌, ◌^◌, ◌*◌, ◌/◌, ◌%◌, ◌+◌, ◌-◌, ◌↔◌, IsTrue, pos, neg_ℤ, ◌≤ℤ◌, ◌*ℤ◌};
+ghost use Rattle.std.specs.Prelude.{◌≡◌, ◌<◌, ◌≤◌, ◌^◌, ◌*◌, ◌/◌, ◌%◌, ◌+◌, ◌-◌, ◌↔◌, IsTrue, IsNone, IfSome, pos, neg_ℤ, ◌≤ℤ◌, ◌*ℤ◌};
 ghost use Rattle.ed_words.specs.Signed.{signed};
 ghost use Rattle.ed_acc.specs.Arithmetic.{collated, left71, minus71, minus_product, plus71, plus_product, right71};
 ghost use Rattle.ed_acc.specs.Arithmetic.{common, modulo71, product};
@@ -41,6 +41,20 @@ impl Acc {
         ensures { result ≡ 0 }
     {
         Acc { digits: 0 }
+    }
+
+    /// An accumulator that holds a number; none if it has more than 71 digits.
+    pub fn new(number: u128) -> Option<Acc>
+        ensures none { IsNone result ↔ (2 ^ 71 ≤ number) }
+        ensures some { IfSome result (λ a. a ≡ number) }
+    {
+        if number < MODULUS {
+            Some(Acc {
+                digits: number << 57,
+            })
+        } else {
+            None
+        }
     }
 
     /// The number, 0 to 2^71 - 1.

@@ -1,6 +1,7 @@
 pub mod State
 pub mod OrderTable
 pub mod Steps
+pub mod Reached
 pub mod Sound
 pub mod Start
 pub mod Sheet

@@ -6,6 +6,7 @@ ghost use Rattle.ed_machine.specs.State.{State, cleared};
 ghost use Rattle.ed_machine.specs.OrderTable.{step};
 ghost use Rattle.ed_machine.specs.Sound.{CountsOrders, StaysSound};
 ghost use Rattle.ed_machine.specs.Steps.{is_obeyed};
+ghost use Rattle.ed_machine.specs.Reached.{IsReached, state_of};
 ghost use Rattle.ed_machine.specs.Start.{EndsWith, started, with_image};
 
 mod obeying;
@@ -34,6 +35,23 @@ pub struct Machine {
     row: usize,
     last: Option<Code>,
     orders: u64,
+}
+
+/// Everything that a machine is at one moment, between two orders.
+#[derive(Drop)]
+pub struct Parts {
+    pub size: Size,
+    pub store: Store,
+    pub acc: Acc,
+    pub multiplier: Long,
+    /// The location of the next order.
+    pub counter: u16,
+    /// The rows that were not yet read.
+    pub tape: Vec<Code>,
+    /// The last printed code; none if nothing was printed.
+    pub last: Option<Code>,
+    /// How many orders were done.
+    pub orders: u64,
 }
 
 impl Model for Machine {
@@ -82,6 +100,27 @@ impl Machine {
             last: None,
             orders: 0,
         })
+    }
+
+    /// A machine in a state that Start and orders lead to, from its parts; the caller has to prove that they do. So no
+    /// program comes into a store but by Start and by orders.
+    pub fn reached(alloc: Global, parts: Parts) -> Machine
+        requires is { IsReached (state_of parts) }
+        requires counter { parts.counter < locations parts.size }
+        ensures { result ≡ state_of parts }
+    {
+        Machine {
+            alloc,
+            size: parts.size,
+            store: parts.store,
+            acc: parts.acc,
+            multiplier: parts.multiplier,
+            counter: parts.counter,
+            tape: parts.tape,
+            row: 0,
+            last: parts.last,
+            orders: parts.orders,
+        }
     }
 
     /// An equal machine.
