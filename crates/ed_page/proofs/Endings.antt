@@ -7,8 +7,8 @@ use Rattle.ed_run.specs.Run.{RunEnd}
 use Rattle.ed_report.specs.Notes.{ending_line}
 use Rattle.ed_command.specs.declared.command.Window.{Window}
 use Rattle.ed_words.specs.Texts.{Text}
-use Rattle.ed_top.specs.Outcome.{Outcome}
-use Rattle.ed_top.specs.Runs.{post_mortem_codes, ran_outcome, status_of, with_post_mortem}
+use Rattle.ed_answers.specs.Outcome.{Outcome}
+use Rattle.ed_answers.specs.Runs.{post_mortem_codes, ran_outcome, status_of, with_post_mortem}
 use Rattle.ed_page.specs.Private.Stages.{TellsOutcome, TellsRan, IsRunOf}
 use Rattle.ed_page.specs.declared.running.Ran.{Ran}
 use Rattle.ed_page.specs.declared.running.Shown.{Shown}

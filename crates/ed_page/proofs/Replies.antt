@@ -18,13 +18,13 @@ use Rattle.ed_link.specs.Tapes.{tape}
 use Rattle.ed_link.specs.declared.linked.Linked.{Linked}
 use Rattle.ed_report.specs.Notes.{source_fault_line, text_fault_line}
 use Rattle.ed_command.specs.declared.command.Settings.{Settings}
-use Rattle.ed_top.specs.Answer.{OfReading, exactly, of_input, of_rows}
+use Rattle.ed_answers.specs.Answer.{OfReading, exactly, of_input, of_rows}
 use Rattle.ed_words.specs.Texts.{Text}
-use Rattle.ed_top.specs.Outcome.{Outcome, refused, too_long_outcome}
-use Rattle.ed_top.specs.Output.{tape_outcome}
-use Rattle.ed_top.specs.Runs.{run_of}
-use Rattle.ed_top.specs.Sources.{of_source, run_outcome}
-use Rattle.ed_top.proofs.Sources.{accepted_is}
+use Rattle.ed_answers.specs.Outcome.{Outcome, refused, too_long_outcome}
+use Rattle.ed_answers.specs.Tapes.{tape_outcome}
+use Rattle.ed_answers.specs.Runs.{run_of}
+use Rattle.ed_answers.specs.Sources.{of_source, run_outcome}
+use Rattle.ed_answers.proofs.Sources.{accepted_is}
 use Rattle.ed_page.specs.Answers.{SourceEnds, TapeEnds}
 use Rattle.ed_page.specs.Private.Stages.{Draws, TellsOutcome, IsRunOf, LinksOrTells, RefusesTape, IsAnswered}
 use Rattle.ed_page.specs.declared.running.Shown.{Shown}

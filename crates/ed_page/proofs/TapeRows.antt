@@ -10,7 +10,7 @@ use Rattle.ed_machine.specs.OrderTable.{jumped, next_word, obey_word, place_of, 
 use Rattle.ed_machine.specs.Steps.{past, state_after}
 use Rattle.ed_run.specs.Run.{ran, run_orders}
 use Rattle.ed_loads.specs.EntryState.{first_state}
-use Rattle.ed_top.specs.Runs.{paper_room}
+use Rattle.ed_answers.specs.Runs.{paper_room}
 use Rattle.ed_page.specs.Answers.{EachRunReadsOn, IsEndOf}
 
 -- one order reads at most one row

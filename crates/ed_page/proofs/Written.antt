@@ -4,8 +4,8 @@ use Rattle.std.proofs.Common.{Option, None, List, length}
 use Rattle.std.specs.Prelude.{◌↔◌, IfSome, IsTrue, Ok, Bool, false}
 use Rattle.ed_machine.specs.State.{State}
 use Rattle.ed_words.specs.Texts.{Text}
-use Rattle.ed_top.specs.Outcome.{Outcome, too_long, too_long_outcome}
-use Rattle.ed_top.specs.Answer.{Answer, HasOneOutcome, IsDue, of_input}
+use Rattle.ed_answers.specs.Outcome.{Outcome, too_long, too_long_outcome}
+use Rattle.ed_answers.specs.Answer.{Answer, HasOneOutcome, IsDue, of_input}
 use Rattle.ed_page.specs.Answers.{Buffers, HasBufferRoom, HasPictureRoom, IsShown, IsTextTold, LacksLine, LacksRoom}
 use Rattle.ed_page.specs.Answers.{ShowsNone, Tells, TextBuffers}
 use Rattle.ed_page.specs.Pictures.{Pictures}

@@ -8,9 +8,9 @@ use Rattle.ed_link.specs.Refusals.{IsAcceptedAs}
 use Rattle.ed_link.specs.Tapes.{tape}
 use Rattle.ed_command.specs.declared.command.Settings.{Settings}
 use Rattle.ed_words.specs.Texts.{Text}
-use Rattle.ed_top.specs.Outcome.{Outcome, done, too_long}
-use Rattle.ed_top.specs.Answer.{Answer, IsDue}
-use Rattle.ed_top.specs.Runs.{run_of}
+use Rattle.ed_answers.specs.Outcome.{Outcome, done, too_long}
+use Rattle.ed_answers.specs.Answer.{Answer, IsDue}
+use Rattle.ed_answers.specs.Runs.{run_of}
 use Rattle.ed_page.specs.Pictures.{Pictures, last_shown}
 use Rattle.ed_page.specs.declared.writing.Lengths.{Lengths}
 use Rattle.ed_page.specs.declared.writing.Registers.{Registers}

@@ -1,6 +1,6 @@
 ghost use Rattle.std.specs.Prelude.{◌≡◌, ◌≢◌, ◌⊎◌, ◌↔◌, IfSome, IsTrue, length};
 ghost use Rattle.ed_command.specs.declared.command.Action.TheVariants.{Run, Tape};
-ghost use Rattle.ed_top.specs.Outcome.{Outcome};
+ghost use Rattle.ed_answers.specs.Outcome.{Outcome};
 ghost use Rattle.ed_top.specs.Output.{answer};
 ghost use Rattle.ed_page.specs.Answers.{EachRunReadsOn, IsShown, LacksLine, SourceEnds, TapeEnds, blank_registers};
 ghost use Rattle.ed_page.specs.Answers.{picture_buffers};

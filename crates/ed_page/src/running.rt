@@ -4,9 +4,9 @@ ghost use Rattle.ed_syntax.specs.declared.program.Line.{Line};
 ghost use Rattle.ed_link.specs.Answers.{IsLinked};
 ghost use Rattle.ed_link.specs.Tapes.{tape};
 ghost use Rattle.ed_report.specs.Notes.{ending_line, entered};
-ghost use Rattle.ed_top.specs.Output.{tape_outcome};
-ghost use Rattle.ed_top.specs.Runs.{run_of, status_of};
-ghost use Rattle.ed_top.specs.Sources.{run_outcome};
+ghost use Rattle.ed_answers.specs.Tapes.{tape_outcome};
+ghost use Rattle.ed_answers.specs.Runs.{run_of, status_of};
+ghost use Rattle.ed_answers.specs.Sources.{run_outcome};
 ghost use Rattle.ed_page.specs.Pictures.{asked, size_shown};
 ghost use Rattle.ed_page.specs.Private.Stages.{TellsOutcome, TellsRan, IsRunOf};
 

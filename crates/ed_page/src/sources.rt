@@ -1,7 +1,7 @@
 ghost use Rattle.std.specs.Prelude.{◌≡◌, ◌≢◌, IfOk};
 ghost use Rattle.ed_codes.specs.Reading.{reading};
 ghost use Rattle.ed_report.specs.Notes.{source_fault_line, text_fault_line};
-ghost use Rattle.ed_top.specs.Outcome.{refused};
+ghost use Rattle.ed_answers.specs.Outcome.{refused};
 ghost use Rattle.ed_page.specs.Private.Stages.{TellsOutcome, LinksOrTells, ReadsTape};
 
 use crate::told::Told;

@@ -1,5 +1,5 @@
 ghost use Rattle.std.specs.Prelude.{◌≡◌, ◌≤◌, IfOk, IsTrue, ◌↔◌, length, nat_lt};
-ghost use Rattle.ed_top.specs.Outcome.{Outcome, done, refused, too_long_outcome};
+ghost use Rattle.ed_answers.specs.Outcome.{Outcome, done, refused, too_long_outcome};
 ghost use Rattle.ed_page.specs.Answers.{LacksLine, Tells};
 ghost use Rattle.ed_page.specs.Private.Stages.{TellsOutcome};
 

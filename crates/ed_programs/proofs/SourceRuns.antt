@@ -11,9 +11,9 @@ use Rattle.ed_loads.specs.EntryState.{entry_state}
 use Rattle.ed_routines.proofs.Journeys.{ComesToStop}
 use Rattle.ed_sources.specs.Calls.{text_of_lines}
 use Rattle.ed_command.specs.declared.command.Settings.{Settings}
-use Rattle.ed_top.specs.Headline.{RunsFromEntry}
-use Rattle.ed_top.specs.Sources.{OfSource, run_outcome}
-use Rattle.ed_top.proofs.Sources.{accepted_is, headline}
+use Rattle.ed_answers.specs.Headline.{RunsFromEntry}
+use Rattle.ed_answers.specs.Sources.{OfSource, run_outcome}
+use Rattle.ed_answers.proofs.Sources.{accepted_is, headline}
 use Rattle.ed_top.proofs.Stopped.{stopped_outcome}
 use Rattle.ed_programs.specs.Programs.{SourceRuns}
 use Rattle.ed_programs.proofs.Answered.{are_short, is_due}

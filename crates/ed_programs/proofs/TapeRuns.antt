@@ -7,7 +7,7 @@ use Rattle.std.specs.List.{list_all}
 use Rattle.ed_words.proofs.Numbers.{eq_of}
 use Rattle.ed_words.specs.Texts.{Text}
 use Rattle.ed_report.specs.Notes.{at_after}
-use Rattle.ed_top.specs.Outcome.{Outcome}
+use Rattle.ed_answers.specs.Outcome.{Outcome}
 use Rattle.ed_words.specs.declared.size.Size.{Size}
 use Rattle.ed_codes.specs.Reading.{reading, rows}
 use Rattle.ed_store.specs.Cells.{cleared_cells}
@@ -30,9 +30,9 @@ use Rattle.ed_sources.proofs.Stops.{LeadsToStop, ran_to_stop}
 use Rattle.ed_sources.proofs.Decimals.{among, numbers}
 use Rattle.ed_sources.proofs.Entries.{is_met}
 use Rattle.ed_command.specs.declared.command.Settings.{Settings}
-use Rattle.ed_top.specs.Answer.{OfReading, exactly}
-use Rattle.ed_top.specs.Output.{first_note, tape_outcome}
-use Rattle.ed_top.specs.Runs.{paper_room, ran_outcome, run_of, with_post_mortem}
+use Rattle.ed_answers.specs.Answer.{OfReading, exactly}
+use Rattle.ed_answers.specs.Tapes.{first_note, tape_outcome}
+use Rattle.ed_answers.specs.Runs.{paper_room, ran_outcome, run_of, with_post_mortem}
 use Rattle.ed_top.specs.TapeEntries.{tape_state}
 use Rattle.ed_top.proofs.Stopped.{answered, nothing_after}
 use Rattle.ed_programs.specs.Programs.{GivesProgram}

@@ -11,8 +11,8 @@ use Rattle.ed_link.specs.Tapes.{cost}
 use Rattle.ed_report.specs.Notes.{at_after, entered}
 use Rattle.ed_command.specs.declared.command.Action.TheVariants.{Run}
 use Rattle.ed_command.specs.declared.command.Settings.{Settings}
-use Rattle.ed_top.specs.Answer.{IsDue}
-use Rattle.ed_top.specs.Headline.{RunsFromEntry}
+use Rattle.ed_answers.specs.Answer.{IsDue}
+use Rattle.ed_answers.specs.Headline.{RunsFromEntry}
 use Rattle.ed_top.specs.Output.{output}
 use Rattle.ed_programs.specs.declared.refusal.Refusal.{Refusal}
 use Rattle.ed_programs.specs.declared.refusal.Refusal.TheVariants.{Memory}

@@ -9,8 +9,9 @@ use Rattle.ed_notation.specs.Faults.{ComesTo, TapeEntry, WellFormed}
 use Rattle.ed_report.specs.Notes.{at_after}
 use Rattle.ed_command.specs.declared.command.Action.TheVariants.{Tape}
 use Rattle.ed_command.specs.declared.command.Settings.{Settings}
-use Rattle.ed_top.specs.Answer.{IsDue}
-use Rattle.ed_top.specs.Output.{first_note, output}
+use Rattle.ed_answers.specs.Answer.{IsDue}
+use Rattle.ed_top.specs.Output.{output}
+use Rattle.ed_answers.specs.Tapes.{first_note}
 use Rattle.ed_programs.specs.declared.refusal.Refusal.{Refusal}
 
 -- the text spells rows that are well formed and come to an entry at this cost, from which their run goes on (the law

@@ -7,7 +7,6 @@ use Rattle.ed_words.specs.declared.size.Size.TheVariants.{Full}
 use Rattle.ed_words.proofs.SizeLemmas.{least}
 use Rattle.ed_machine.specs.State.{State}
 use Rattle.ed_machine.specs.OrderTable.{step}
-use Rattle.ed_words.specs.declared.memory.NoMemory.{NoMemory}
 use Rattle.ed_call.specs.Ranges.{IsCallInRange}
 use Rattle.ed_call.specs.declared.Call.{Call}
 use Rattle.ed_call.specs.declared.Call.TheVariants.{Print, Read, NewLine, Divide, Root, Check}
@@ -44,19 +43,23 @@ use Rattle.ed_command.specs.declared.command.Settings.{Settings}
 use Rattle.ed_words.specs.Texts.{Text}
 use Rattle.ed_top.specs.Calls.{CallRuns, EachCallRuns, GuestStops, call_entry, call_orders, call_prints, call_stop}
 use Rattle.ed_top.specs.Calls.{CallsByDefault, of_made_source, usual_settings}
-use Rattle.ed_top.specs.Headline.{RunsFromEntry}
-use Rattle.ed_top.specs.Runs.{paper_room, ran_outcome, with_post_mortem}
-use Rattle.ed_top.specs.Sources.{OfSource, of_source, run_outcome}
-use Rattle.ed_top.specs.Private.Stages.{Replies}
-use Rattle.ed_top.specs.declared.reply.Reply.{Reply}
-use Rattle.ed_top.proofs.Sources.{accepted_is, headline}
+use Rattle.ed_answers.specs.Headline.{RunsFromEntry}
+use Rattle.ed_answers.specs.Runs.{paper_room, ran_outcome, with_post_mortem}
+use Rattle.ed_answers.specs.Sources.{OfSource, of_source, run_outcome}
+use Rattle.ed_answers.specs.Replies.{Replies}
+use Rattle.ed_answers.specs.declared.reply.Rejection.{Rejection}
+use Rattle.ed_answers.specs.declared.reply.Rejection.TheVariants as rejection
+use Rattle.ed_answers.specs.declared.reply.Reply.{Reply}
+use Rattle.ed_answers.proofs.Sources.{accepted_is, headline}
 use Rattle.ed_top.proofs.Stopped.{answered, nothing_after}
 
 -- what replies to a source that was made is what is answered of it
-pub made_replied : (s : Settings) (text input : Text) (r : Result Reply NoMemory) → input ≡ text
+pub made_replied : (s : Settings) (text input : Text) (r : Result Reply Rejection) → input ≡ text
     → Replies (of_source s.size (run_outcome s)) input r → Replies (of_made_source s text) [] r
-made_replied s text input (Err e) is replies =
+made_replied s text input (Err rejection.Memory) is replies =
     (replies.0, subst (λ (t : Text). OfSource s.size (run_outcome s) t replies.0) is replies.1, tt)
+made_replied s text input (Err (rejection.Refused reply)) is replies =
+    (replies.0, subst (λ (t : Text). OfSource s.size (run_outcome s) t replies.0) is replies.1, replies.2)
 made_replied s text input (Ok reply) is replies =
     (replies.0, subst (λ (t : Text). OfSource s.size (run_outcome s) t replies.0) is replies.1, replies.2)
 

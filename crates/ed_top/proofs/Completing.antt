@@ -5,8 +5,8 @@ use Rattle.ed_io.specs.Bytes.{Gains}
 use Rattle.ed_io.specs.Causes.{next_count}
 use Rattle.ed_io.specs.Memory.{Roll}
 use Rattle.ed_words.specs.Texts.{Text}
-use Rattle.ed_top.specs.Outcome.{Outcome}
-use Rattle.ed_top.specs.Answer.{Answer, IsDue, known, of_made, of_input}
+use Rattle.ed_answers.specs.Outcome.{Outcome}
+use Rattle.ed_answers.specs.Answer.{Answer, IsDue, known, of_made, of_input}
 use Rattle.ed_top.specs.Clause.{BrokeNote, BrokeOut, ForDue, ProgramEnded}
 use Rattle.ed_top.specs.Complete.{EachRunIsComplete, IsWhole, sure_sink, sure_source}
 use Rattle.ed_top.specs.Output.{output}

@@ -14,9 +14,9 @@ use Rattle.ed_sources.proofs.DemoFaultless.{demo_faultless}
 use Rattle.ed_sources.proofs.Papers.{digits_printed}
 use Rattle.ed_sources.proofs.SaidDemo.{demo_lines}
 use Rattle.ed_top.specs.Demos.{EachDemoRuns, demo_orders}
-use Rattle.ed_top.specs.Headline.{RunsFromEntry}
-use Rattle.ed_top.specs.Sources.{run_outcome}
-use Rattle.ed_top.proofs.Sources.{accepted_is, headline}
+use Rattle.ed_answers.specs.Headline.{RunsFromEntry}
+use Rattle.ed_answers.specs.Sources.{run_outcome}
+use Rattle.ed_answers.proofs.Sources.{accepted_is, headline}
 use Rattle.ed_top.proofs.Stopped.{stopped_outcome}
 
 pub each_demo_runs : EachDemoRuns

@@ -8,11 +8,13 @@ use Rattle.ed_parts.specs.declared.tape.PartsEnd.{PartsEnd}
 use Rattle.ed_parts.specs.declared.tape.PartsFault.{PartsFault}
 use Rattle.ed_parts.proofs.Tales.{each_told_once}
 use Rattle.ed_command.specs.declared.command.Settings.{Settings}
-use Rattle.ed_top.specs.Answer.{of_input}
+use Rattle.ed_answers.specs.Answer.{of_input}
 use Rattle.ed_top.specs.Clause.{Device, Wrote, WrotePart}
 use Rattle.ed_top.specs.Parts.{IsInParts, end_note, end_status, told_outcome}
-use Rattle.ed_top.specs.Private.Stages.{ForInput, IsToTell}
-use Rattle.ed_top.proofs.Replies.{HasOne, none_written}
+use Rattle.ed_top.specs.Private.Stages.{IsToTell}
+use Rattle.ed_answers.specs.Replies.{ForInput}
+use Rattle.ed_answers.proofs.Replies.{HasOne}
+use Rattle.ed_top.proofs.FirstParts.{none_written}
 
 pub parts_one : (s : Settings) → HasOne (IsInParts s)
 parts_one s = record {

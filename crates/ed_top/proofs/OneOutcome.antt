@@ -11,11 +11,12 @@ use Rattle.ed_command.specs.declared.command.Action.{Action}
 use Rattle.ed_command.specs.declared.command.Action.TheVariants.{Tape, CheckTape, Run, Punch, Listing, Library, Demo}
 use Rattle.ed_command.specs.declared.command.Action.TheVariants.{Call as CallOf, Tape1, CheckTape1, Step, Trace, Parts}
 use Rattle.ed_words.specs.Texts.{Text}
-use Rattle.ed_top.specs.Outcome.{Outcome, done, refused, too_long_outcome, usage_outcome}
-use Rattle.ed_top.specs.Answer.{HasOneOutcome, OfReading, WithinLimit, exactly, known, of_input, of_made, of_rows}
-use Rattle.ed_top.specs.FirstOrders.{tape1_outcome}
-use Rattle.ed_top.specs.Output.{EachLineHasOneOutcome, answer, tape_outcome}
-use Rattle.ed_top.specs.Sources.{OfSource, listing_outcome, of_source, punch_outcome, run_outcome}
+use Rattle.ed_answers.specs.Outcome.{Outcome, done, refused, too_long_outcome, usage_outcome}
+use Rattle.ed_answers.specs.Answer.{HasOneOutcome, OfReading, WithinLimit, exactly, known, of_input, of_made, of_rows}
+use Rattle.ed_answers.specs.FirstOrders.{tape1_outcome}
+use Rattle.ed_top.specs.Output.{EachLineHasOneOutcome, answer}
+use Rattle.ed_answers.specs.Tapes.{tape_outcome}
+use Rattle.ed_answers.specs.Sources.{OfSource, listing_outcome, of_source, punch_outcome, run_outcome}
 use Rattle.ed_top.specs.Scripts.{OfDivided, OfStep, OnInput, OnText, on_rows}
 use Rattle.ed_stepper.specs.Inputs.{Input, divided}
 use Rattle.ed_stepper.specs.ScriptLines.{CommandList, IsFirstBadLine, IsScript}
@@ -25,11 +26,11 @@ use Rattle.ed_stepper.specs.declared.inputs.TextKind.TheVariants as kinds
 use Rattle.ed_link.specs.Tapes.{tape}
 use Rattle.ed_sources.specs.Calls.{call_text}
 use Rattle.ed_sources.specs.Demo.{demo_text}
-use Rattle.ed_top.proofs.Sources.{some_outcome, source_outcome}
+use Rattle.ed_answers.proofs.Sources.{some_outcome, source_outcome}
 use Rattle.ed_top.specs.Traces.{trace_outcome}
-use Rattle.ed_top.proofs.Replies.{HasOne, exactly_one, text_outcome}
-use Rattle.ed_top.proofs.Checks.{checked_one}
-use Rattle.ed_top.proofs.FirstChecks.{checked1_one}
+use Rattle.ed_answers.proofs.Replies.{HasOne, exactly_one, text_outcome}
+use Rattle.ed_answers.proofs.Checks.{checked_one}
+use Rattle.ed_answers.proofs.FirstChecks.{checked1_one}
 use Rattle.ed_top.proofs.InParts.{parts_one}
 
 known_once : (due : Outcome) → HasOneOutcome (known due)

@@ -12,7 +12,7 @@ use Rattle.ed_stepper.specs.declared.script.ScriptFault.TheVariants.{BackTooFar,
 use Rattle.ed_stepper.specs.Sessions.{Stand}
 use Rattle.ed_stepper.proofs.ScriptLaws.{never_both, one_script}
 use Rattle.ed_report.specs.Notes.{too_far_line}
-use Rattle.ed_top.specs.Outcome.{done, refused}
+use Rattle.ed_answers.specs.Outcome.{done, refused}
 use Rattle.ed_notation.specs.Items.{spelled}
 use Rattle.ed_notation.specs.Spellings.{canonicals}
 use Rattle.ed_stepper.specs.declared.inputs.TextKind.{TextKind}
@@ -22,31 +22,33 @@ use Rattle.ed_link.specs.Tapes.{tape}
 use Rattle.ed_link.specs.declared.linked.Linked.{Linked}
 use Rattle.ed_command.specs.declared.command.Settings.{Settings}
 use Rattle.ed_words.specs.Texts.{Text}
-use Rattle.ed_top.specs.Answer.{of_input, of_made}
+use Rattle.ed_answers.specs.Answer.{of_input, of_made}
 use Rattle.ed_top.specs.Scripts.{OfDivided, OfStep, OnInput, OnText, on_reading, on_rows, played_outcome}
 use Rattle.ed_top.specs.Scripts.{script_outcome, stand_on}
-use Rattle.ed_top.specs.Private.Stages.{Gives, RefusesText, Replies}
-use Rattle.ed_top.specs.declared.reply.Reply.{Reply}
-use Rattle.ed_top.proofs.Sources.{as_input}
+use Rattle.ed_answers.specs.Replies.{Gives, RefusesText, Replies}
+use Rattle.ed_answers.specs.declared.reply.Rejection.{Rejection}
+use Rattle.ed_answers.specs.declared.reply.Rejection.TheVariants as rejection
+use Rattle.ed_answers.specs.declared.reply.Rejection.TheVariants.{Refused}
+use Rattle.ed_answers.specs.declared.reply.Reply.{Reply}
+use Rattle.ed_top.proofs.Made.{as_input}
 
 -- a tape's text that is refused
-pub text_refused : (s : Settings) (commands : CommandList) (r : Reading) (reply : Result Reply NoMemory)
-    → RefusesText r reply
-    → Replies (of_made (λ o. on_reading s commands r ≡ o)) [] reply
-text_refused s commands (rows codes) (Ok reply) w = absurd w
-text_refused s commands (no_row place byte) (Ok reply) w = (_, refl, w)
-text_refused s commands (open_comment place) (Ok reply) w = (_, refl, w)
-text_refused s commands r (Err e) w = (on_reading s commands r, refl, tt)
+pub text_refused : (s : Settings) (commands : CommandList) (r : Reading) (e : Rejection) → RefusesText r e
+    → Replies (of_made (λ o. on_reading s commands r ≡ o)) [] (Err e)
+text_refused s commands (rows codes) (Refused reply) w = absurd w
+text_refused s commands (no_row place byte) (Refused reply) w = (_, refl, w)
+text_refused s commands (open_comment place) (Refused reply) w = (_, refl, w)
+text_refused s commands r rejection.Memory w = (on_reading s commands r, refl, tt)
 
 -- an input that is divided so
-pub divided_replied : (s : Settings) (input : Text) (i : Input) (r : Result Reply NoMemory) → divided input ≡ Some i
+pub divided_replied : (s : Settings) (input : Text) (i : Input) (r : Result Reply Rejection) → divided input ≡ Some i
     → Replies (of_made (OfDivided s input (Some i))) [] r → Replies (of_input (OfStep s)) input r
 divided_replied s input i r is replies =
     as_input (OfStep s) input r
     (subst (λ (d : Option Input). Replies (of_made (OfDivided s input d)) [] r) (sym is) replies)
 
 -- what follows a script that has been looked at
-pub text_replied : (s : Settings) (script text : Text) (kind known : TextKind) (r : Result Reply NoMemory)
+pub text_replied : (s : Settings) (script text : Text) (kind known : TextKind) (r : Result Reply Rejection)
     → kind ≡ known → HasBadLine script None
     → ((commands : CommandList) → IsScript script commands → Replies (of_made (OnText s commands known text)) [] r)
     → Replies (of_made (OnInput s (record { script = script; kind = kind; text = text }))) [] r
@@ -54,11 +56,14 @@ text_replied s script text kind known r is good replies =
     subst (λ k. Replies (of_made (OnInput s (record { script = script; kind = k; text = text }))) [] r) (sym is)
     (replied r replies)
   where
-    replied : (r : Result Reply NoMemory)
+    replied : (r : Result Reply Rejection)
         → ((commands : CommandList) → IsScript script commands → Replies (of_made (OnText s commands known text)) [] r)
         → Replies (of_made (OnInput s (record { script = script; kind = known; text = text }))) [] r
     replied (Ok reply) replies = let x = replies good.0 good.1 in (x.0, inr (good.0, good.1, x.1), x.2)
-    replied (Err e) replies = let x = replies good.0 good.1 in (x.0, inr (good.0, good.1, x.1), x.2)
+    replied (Err (Refused reply)) replies =
+        let x = replies good.0 good.1 in (x.0, inr (good.0, good.1, x.1), x.2)
+    replied (Err rejection.Memory) replies =
+        let x = replies good.0 good.1 in (x.0, inr (good.0, good.1, x.1), x.2)
 
 -- what a script gives on rows, by what was played of it
 pub rows_given : (s : Settings) (codes : List ℕ) (script : Text) (commands : CommandList) (from t : Stand)
@@ -90,12 +95,10 @@ never_refused script from t fault line good ends fault_is =
     never_both script good.0 line good.1 bad.0
 
 -- a tape's text that is read
-pub tape_replied : (s : Settings) (commands : CommandList) (r : Reading) (codes : List ℕ)
-    (reply : Result Reply NoMemory)
-    → r ≡ rows codes → IfOk reply (λ reply. Gives reply (on_rows s commands codes))
-    → Replies (of_made (λ o. on_reading s commands r ≡ o)) [] reply
-tape_replied s commands r codes (Ok reply) is gives = (on_rows s commands codes, ap (on_reading s commands) is, gives)
-tape_replied s commands r codes (Err e) is gives = (on_rows s commands codes, ap (on_reading s commands) is, tt)
+pub tape_replied : (s : Settings) (commands : CommandList) (r : Reading) (codes : List ℕ) (reply : Reply)
+    → r ≡ rows codes → Gives reply (on_rows s commands codes)
+    → Replies (of_made (λ o. on_reading s commands r ≡ o)) [] (Ok reply)
+tape_replied s commands r codes reply is gives = (on_rows s commands codes, ap (on_reading s commands) is, gives)
 
 -- a tape that is punched
 pub punched_given : (s : Settings) (commands : CommandList) (k : Linked) (codes : List ℕ)

@@ -14,9 +14,9 @@ use Rattle.ed_report.specs.Notes.{at_after, entered}
 use Rattle.ed_routines.proofs.Journeys.{ComesToStop}
 use Rattle.ed_sources.proofs.Stops.{LeadsToStop, RanToStop, ran_to_stop}
 use Rattle.ed_command.specs.declared.command.Settings.{Settings}
-use Rattle.ed_top.specs.Headline.{RunsFromEntry}
-use Rattle.ed_top.specs.Runs.{paper_room, ran_outcome, with_post_mortem}
-use Rattle.ed_top.specs.Sources.{run_outcome}
+use Rattle.ed_answers.specs.Headline.{RunsFromEntry}
+use Rattle.ed_answers.specs.Runs.{paper_room, ran_outcome, with_post_mortem}
+use Rattle.ed_answers.specs.Sources.{run_outcome}
 
 -- no post-mortem prints nothing
 pub nothing_after : (r : RunEnd) → with_post_mortem None r ≡ r

@@ -32,10 +32,10 @@ use Rattle.ed_initial.specs.Entry.{Comes}
 use Rattle.ed_initial.proofs.Quiet.{LeadsIn, comes_in}
 use Rattle.ed_loads.specs.EntryState.{first_state}
 use Rattle.ed_loads.proofs.Entries.{first_store, starts}
-use Rattle.ed_top.specs.Output.{first_note}
-use Rattle.ed_top.specs.Runs.{paper_room, post_mortem_codes, ran_outcome, run_of, with_post_mortem}
+use Rattle.ed_answers.specs.Tapes.{first_note}
+use Rattle.ed_answers.specs.Runs.{paper_room, post_mortem_codes, ran_outcome, run_of, with_post_mortem}
 use Rattle.ed_top.specs.TapeEntries.{EachTapeRunsFromEntry}
-use Rattle.ed_top.proofs.FromEntry.{silent}
+use Rattle.ed_answers.proofs.FromEntry.{silent}
 use Rattle.ed_top.proofs.TapeWalks.{steps_to_entry, traces_from_entry}
 
 -- ---- words that agree from 41 on

@@ -1,18 +1,20 @@
 -- From what a command wrote on `out` to the outcome of a tape's text.
 use Rattle.std.proofs.Common.{◌≡◌, ◌∙◌, ◌<◌, ℕ, List, [], refl, sym, ap, subst}
-use Rattle.std.specs.Prelude.{Result, Ok, Err, IfOk}
-use Rattle.ed_words.specs.declared.memory.NoMemory.{NoMemory}
+use Rattle.std.specs.Prelude.{Result, Ok, Err}
 use Rattle.ed_codes.specs.Reading.{Reading, rows, reading}
 use Rattle.ed_words.specs.Texts.{Text}
-use Rattle.ed_top.specs.Outcome.{Outcome}
-use Rattle.ed_top.specs.Answer.{Answer, OfReading, exactly, known, of_input, of_made, of_rows}
+use Rattle.ed_answers.specs.Outcome.{Outcome}
+use Rattle.ed_answers.specs.Answer.{Answer, OfReading, exactly, known, of_input, of_made, of_rows}
 use Rattle.ed_top.specs.Clause.{Device, Wrote, WrotePart}
-use Rattle.ed_top.specs.Private.Stages.{Carried, ForInput, Gives, Replies, WritesReply}
-use Rattle.ed_top.specs.declared.reply.Reply.{Reply}
+use Rattle.ed_top.specs.Private.Stages.{Carried, WritesReply, WritesText}
+use Rattle.ed_answers.specs.Replies.{ForInput, Gives, Replies}
+use Rattle.ed_answers.specs.declared.reply.Rejection.{Rejection}
+use Rattle.ed_answers.specs.declared.reply.Rejection.TheVariants as rejection
+use Rattle.ed_answers.specs.declared.reply.Reply.{Reply}
 use Rattle.ed_top.specs.declared.devices.Rest.{Rest}
 use Rattle.ed_top.specs.declared.devices.Stop.{Stop}
 use Rattle.ed_top.specs.declared.devices.Stop.TheVariants.{Failed, Memory}
-use Rattle.ed_top.proofs.Replies.{none_written}
+use Rattle.ed_top.proofs.FirstParts.{none_written}
 
 for_more : (answer : Answer) (input : Text) (P Q : Outcome → Type 0) → ((o : Outcome) → P o → Q o) → ForInput answer
     input P → ForInput answer input Q
@@ -20,11 +22,10 @@ for_more (known o) input P Q more p = more o p
 for_more (of_made answers) input P Q more p = (p.0, p.1, more p.0 p.2)
 for_more (of_input answers) input P Q more p = (p.0, p.1, more p.0 p.2)
 
--- a reply that was written is carried out
-pub reply_carried : (answer : Answer) (input : Text) (reply : Result Reply NoMemory) (out : Device)
-    (r : Result Rest Stop)
-    → Replies answer input reply → WritesReply reply out r → Carried answer input out r
-reply_carried answer input (Ok reply) out (Ok rest) replies w = (
+-- a text that was written is carried out
+text_carried : (answer : Answer) (input : Text) (reply : Reply) (out : Device) (r : Result Rest Stop)
+    → ForInput answer input (Gives reply) → WritesText reply out r → Carried answer input out r
+text_carried answer input reply out (Ok rest) replies w = (
   low answer replies,
   for_more answer input _ _ (λ o gives. record {
     wrote = subst (λ (t : Text). Wrote out t) gives.out_is w.0;
@@ -38,37 +39,50 @@ reply_carried answer input (Ok reply) out (Ok rest) replies w = (
     low (known o) gives = rw w.2 gives.low
     low (of_made answers) gives = rw w.2 gives.2.low
     low (of_input answers) gives = rw w.2 gives.2.low
-reply_carried answer input (Ok reply) out (Err Failed) replies w =
+text_carried answer input reply out (Err Failed) replies w =
     (w.0, for_more answer input _ _ (λ o gives. subst (λ (t : Text). WrotePart out t) gives.out_is w.1) replies)
-reply_carried answer input (Ok reply) out (Err Memory) replies w = absurd w
-reply_carried answer input (Err e) out (Ok rest) replies w = absurd w
-reply_carried answer input (Err e) out (Err Failed) replies w = absurd w
-reply_carried answer input (Err e) out (Err Memory) replies w =
+text_carried answer input reply out (Err Memory) replies w = absurd w
+
+-- and so is a reply, whether it refuses the input or not
+pub reply_carried : (answer : Answer) (input : Text) (reply : Result Reply Rejection) (out : Device)
+    (r : Result Rest Stop)
+    → Replies answer input reply → WritesReply reply out r → Carried answer input out r
+reply_carried answer input (Ok reply) out r replies w = text_carried answer input reply out r replies w
+reply_carried answer input (Err (rejection.Refused reply)) out r replies w =
+    text_carried answer input reply out r replies w
+reply_carried answer input (Err rejection.Memory) out (Ok rest) replies w = absurd w
+reply_carried answer input (Err rejection.Memory) out (Err Failed) replies w = absurd w
+reply_carried answer input (Err rejection.Memory) out (Err Memory) replies w =
     (w.1, for_more answer input _ _ (λ o u. none_written out o.out w.0) replies)
 
--- and so is a reply with the outcome of a command that reads no input
-pub known_carried : {answer : Answer} {due : Outcome} (input : Text) (reply : Result Reply NoMemory) (out : Device)
-    (r : Result Rest Stop) → answer ≡ known due → IfOk reply (λ reply. Gives reply due) → WritesReply reply out r
-    → Carried answer input out r
-known_carried {due} input reply out r is gives w =
-    subst (λ (a : Answer). Carried a input out r) (sym is)
-    (reply_carried (known due) input reply out r (replied reply gives) w)
-  where
-    replied : (reply : Result Reply NoMemory) → IfOk reply (λ reply. Gives reply due) → Replies (known due) input reply
-    replied (Ok reply) gives = gives
-    replied (Err e) gives = tt
+-- a reply with an outcome that the input doesn't change
+replied_anew : (answers : Outcome → Type 0) (input : Text) (reply : Result Reply Rejection)
+    → Replies (of_made answers) [] reply → Replies (of_made answers) input reply
+replied_anew answers input (Ok reply) replies = replies
+replied_anew answers input (Err (rejection.Refused reply)) replies = replies
+replied_anew answers input (Err rejection.Memory) replies = replies
 
--- and a reply with an outcome that is said
-pub made_carried : {answer : Answer} {answers : Outcome → Type 0} (input : Text) (reply : Result Reply NoMemory)
+known_anew : (due : Outcome) (input : Text) (reply : Result Reply Rejection)
+    → Replies (known due) [] reply → Replies (known due) input reply
+known_anew due input (Ok reply) replies = replies
+known_anew due input (Err (rejection.Refused reply)) replies = replies
+known_anew due input (Err rejection.Memory) replies = replies
+
+-- of a command that reads no input
+pub known_carried : {answer : Answer} {due : Outcome} (input : Text) (reply : Result Reply Rejection) (out : Device)
+    (r : Result Rest Stop) → answer ≡ known due → Replies (known due) [] reply → WritesReply reply out r
+    → Carried answer input out r
+known_carried {due} input reply out r is replies w =
+    subst (λ (a : Answer). Carried a input out r) (sym is)
+    (reply_carried (known due) input reply out r (known_anew due input reply replies) w)
+
+-- and with an outcome that is said
+pub made_carried : {answer : Answer} {answers : Outcome → Type 0} (input : Text) (reply : Result Reply Rejection)
     (out : Device) (r : Result Rest Stop) → answer ≡ of_made answers → Replies (of_made answers) [] reply
     → WritesReply reply out r → Carried answer input out r
 made_carried {answers} input reply out r is replies w =
     subst (λ (a : Answer). Carried a input out r) (sym is)
-    (reply_carried (of_made answers) input reply out r (anew reply replies) w)
-  where
-    anew : (reply : Result Reply NoMemory) → Replies (of_made answers) [] reply → Replies (of_made answers) input reply
-    anew (Ok reply) replies = replies
-    anew (Err e) replies = replies
+    (reply_carried (of_made answers) input reply out r (replied_anew answers input reply replies) w)
 
 -- what was written of the rows as it came is that of the text
 pub rows_carried : (f : List ℕ → Outcome) (input : Text) (codes : List ℕ) (out : Device) (r : Result Rest Stop)

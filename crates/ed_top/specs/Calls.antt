@@ -21,10 +21,10 @@ use Rattle.ed_sources.specs.Calls.{call_text}
 use Rattle.ed_command.specs.Settings.{options_by, settings_of}
 use Rattle.ed_command.specs.declared.command.Settings.{Settings}
 use Rattle.ed_words.specs.Texts.{Text}
-use Rattle.ed_top.specs.Outcome.{Outcome}
-use Rattle.ed_top.specs.Answer.{Answer, IsDue, of_made}
-use Rattle.ed_top.specs.Sources.{OfSource, run_outcome}
-use Rattle.ed_top.specs.Headline.{RunsFromEntry}
+use Rattle.ed_answers.specs.Outcome.{Outcome}
+use Rattle.ed_answers.specs.Answer.{Answer, IsDue, of_made}
+use Rattle.ed_answers.specs.Sources.{OfSource, run_outcome}
+use Rattle.ed_answers.specs.Headline.{RunsFromEntry}
 
 -- the program makes a source, and answers its run
 abbrev pub of_made_source : Settings → Text → Answer

@@ -9,11 +9,11 @@ use Rattle.ed_report.specs.Notes.{at_after, entered}
 use Rattle.ed_routines.specs.Digits.{print_orders}
 use Rattle.ed_sources.specs.Demo.{demo_sum, demo_text}
 use Rattle.ed_command.specs.declared.command.Settings.{Settings}
-use Rattle.ed_top.specs.Answer.{Answer}
+use Rattle.ed_answers.specs.Answer.{Answer}
 use Rattle.ed_top.specs.Calls.{of_made_source}
-use Rattle.ed_top.specs.Headline.{RunsFromEntry}
-use Rattle.ed_top.specs.Outcome.{Outcome}
-use Rattle.ed_top.specs.Sources.{OfSource, run_outcome}
+use Rattle.ed_answers.specs.Headline.{RunsFromEntry}
+use Rattle.ed_answers.specs.Outcome.{Outcome}
+use Rattle.ed_answers.specs.Sources.{OfSource, run_outcome}
 
 -- `demo`: the run of its source
 abbrev pub demo_answer : ℕ → Settings → Answer

@@ -10,9 +10,9 @@ use Rattle.ed_parts.specs.Parts.{TapeTells, Told, programs_printed}
 use Rattle.ed_parts.specs.declared.tape.PartsEnd.TheVariants.{Ended}
 use Rattle.ed_command.specs.declared.command.Settings.{Settings}
 use Rattle.ed_words.specs.Texts.{Text}
-use Rattle.ed_top.specs.Output.{tape_outcome}
+use Rattle.ed_answers.specs.Tapes.{tape_outcome}
 use Rattle.ed_top.specs.Parts.{told_outcome}
-use Rattle.ed_top.specs.Runs.{paper_room, run_of, status_of}
+use Rattle.ed_answers.specs.Runs.{paper_room, run_of, status_of}
 
 -- the same settings for a run that is never resumed, with no post-mortem
 abbrev pub run_once : Settings → Settings

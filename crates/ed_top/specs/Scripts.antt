@@ -14,8 +14,8 @@ use Rattle.ed_stepper.specs.declared.inputs.TextKind.{TextKind}
 use Rattle.ed_stepper.specs.declared.inputs.TextKind.TheVariants as kinds
 use Rattle.ed_command.specs.declared.command.Settings.{Settings}
 use Rattle.ed_words.specs.Texts.{Text}
-use Rattle.ed_top.specs.Outcome.{Outcome, done, refused}
-use Rattle.ed_top.specs.Sources.{OfSource}
+use Rattle.ed_answers.specs.Outcome.{Outcome, done, refused}
+use Rattle.ed_answers.specs.Sources.{OfSource}
 
 -- a script that was played: its text; nothing of it where a line went back too far
 abbrev pub script_outcome : Option TooFar → Text → Outcome

@@ -22,8 +22,8 @@ use Rattle.ed_stepper.specs.declared.moves.MoveEnd.TheVariants as ends
 use Rattle.ed_command.specs.declared.command.Settings.{Settings}
 use Rattle.ed_command.specs.declared.command.Window.{Window}
 use Rattle.ed_words.specs.Texts.{Text}
-use Rattle.ed_top.specs.Output.{tape_outcome}
-use Rattle.ed_top.specs.Runs.{paper_room, run_of}
+use Rattle.ed_answers.specs.Tapes.{tape_outcome}
+use Rattle.ed_answers.specs.Runs.{paper_room, run_of}
 use Rattle.ed_top.specs.Scripts.{stand_on}
 use Rattle.ed_top.specs.Traces.{letters_in, trace_outcome}
 

@@ -15,10 +15,10 @@ use Rattle.ed_stepper.specs.declared.moves.Aim.TheVariants.{Entry}
 use Rattle.ed_stepper.specs.declared.moves.MoveEnd.TheVariants.{Entered}
 use Rattle.ed_trace.specs.Traces.{trace_to}
 use Rattle.ed_command.specs.declared.command.Settings.{Settings}
-use Rattle.ed_top.specs.Limits.{with_limit}
-use Rattle.ed_top.specs.Outcome.{Outcome, done}
-use Rattle.ed_top.specs.Output.{IsChecked, first_note, tape_outcome}
-use Rattle.ed_top.specs.Runs.{paper_room, post_mortem_codes, ran_outcome, run_of, with_post_mortem}
+use Rattle.ed_answers.specs.Limits.{with_limit}
+use Rattle.ed_answers.specs.Outcome.{Outcome, done}
+use Rattle.ed_answers.specs.Tapes.{IsChecked, first_note, tape_outcome}
+use Rattle.ed_answers.specs.Runs.{paper_room, post_mortem_codes, ran_outcome, run_of, with_post_mortem}
 use Rattle.ed_top.specs.Scripts.{stand_on}
 use Rattle.ed_top.specs.Traces.{letters_in, trace_outcome, traced_from}
 

@@ -8,8 +8,8 @@ use Rattle.ed_report.specs.Notes.{ending_line}
 use Rattle.ed_trace.specs.Traces.{trace_of}
 use Rattle.ed_command.specs.declared.command.Settings.{Settings}
 use Rattle.ed_words.specs.Texts.{Text}
-use Rattle.ed_top.specs.Outcome.{Outcome}
-use Rattle.ed_top.specs.Runs.{status_of}
+use Rattle.ed_answers.specs.Outcome.{Outcome}
+use Rattle.ed_answers.specs.Runs.{status_of}
 
 -- the trace of a run from a state, whose paper never is full, the line of its ending and its status
 abbrev pub traced_from : Settings → State → Outcome

@@ -1,18 +1,16 @@
 ghost use Rattle.std.specs.Prelude.{[]};
 ghost use Rattle.ed_command.specs.Ranges.{AreSettingsInRange};
 ghost use Rattle.ed_top.specs.Calls.{call_answer};
-ghost use Rattle.ed_top.specs.Private.Stages.{Replies};
+ghost use Rattle.ed_answers.specs.Replies.{Replies};
 
-use crate::reply::Reply;
-use crate::source::run;
+use ed_answers::{Rejection, Reply, run};
 use ed_call::Call;
 use ed_command::Settings;
 use ed_sources::call_source;
-use ed_words::NoMemory;
 use std::alloc::Global;
 
 /// `call`: the run of the source that calls a routine of the library.
-pub fn call_routine(alloc: Global, settings: Settings, call: Call) -> Result<Reply, NoMemory>
+pub fn call_routine(alloc: Global, settings: Settings, call: Call) -> Result<Reply, Rejection>
     requires { AreSettingsInRange settings }
     ensures { Replies (call_answer call settings) [] result }
 {

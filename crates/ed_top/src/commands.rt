@@ -1,21 +1,18 @@
 ghost use Rattle.std.specs.Prelude.{◌≡◌, ◌≤◌, length};
 ghost use Rattle.ed_command.specs.Ranges.{IsInRange};
-ghost use Rattle.ed_top.specs.Answer.{reads_input};
+ghost use Rattle.ed_answers.specs.Answer.{reads_input};
 ghost use Rattle.ed_top.specs.Clause.{device};
 ghost use Rattle.ed_top.specs.Private.Stages.{Carried};
 ghost use Rattle.ed_top.specs.Output.{answer};
 
 use crate::calls::call_routine;
-use crate::check::check_tape;
 use crate::demo::demo;
 use crate::devices::{Rest, Stop, write};
-use crate::first_orders::{check_tape1, tape1};
 use crate::library::list_library;
 use crate::parts::parts;
-use crate::source::{list, punch, run};
 use crate::step::step;
-use crate::tape::tape;
 use crate::trace::trace;
+use ed_answers::{check_tape, check_tape1, list, punch, run, tape, tape1};
 use ed_command::{Action, Command};
 use ed_io::Sink;
 use std::alloc::Global;

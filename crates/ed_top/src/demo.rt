@@ -1,17 +1,15 @@
 ghost use Rattle.std.specs.Prelude.{[]};
 ghost use Rattle.ed_command.specs.Ranges.{AreSettingsInRange, IsFromTo};
 ghost use Rattle.ed_top.specs.Demos.{demo_answer};
-ghost use Rattle.ed_top.specs.Private.Stages.{Replies};
+ghost use Rattle.ed_answers.specs.Replies.{Replies};
 
-use crate::reply::Reply;
-use crate::source::run;
+use ed_answers::{Rejection, Reply, run};
 use ed_command::Settings;
 use ed_sources::demo_source;
-use ed_words::NoMemory;
 use std::alloc::Global;
 
 /// `demo`: the run of the large source that a number makes.
-pub fn demo(alloc: Global, settings: Settings, n: u32) -> Result<Reply, NoMemory>
+pub fn demo(alloc: Global, settings: Settings, n: u32) -> Result<Reply, Rejection>
     requires number { IsFromTo 1 112 n }
     requires ranges { AreSettingsInRange settings }
     ensures { Replies (demo_answer n settings) [] result }

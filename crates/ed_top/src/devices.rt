@@ -1,11 +1,10 @@
 ghost use Rattle.std.specs.Prelude.{◌≡◌, ◌≢◌, ◌⊎◌, ◌≤◌, ◌<◌, length, IfOk, IfErr, MatchResult};
 ghost use Rattle.ed_io.specs.Bytes.{IsAtEnd, Loses};
 ghost use Rattle.ed_top.specs.Clause.{WritesLastLine, device};
-ghost use Rattle.ed_top.specs.Private.Stages.{HasInput, WritesReply, input_faults};
+ghost use Rattle.ed_top.specs.Private.Stages.{HasInput, WritesReply, WritesText, input_faults};
 
-use crate::reply::Reply;
+use ed_answers::{Rejection, Reply};
 use ed_io::{Failed, Sink, Source, write_all};
-use ed_words::NoMemory;
 use std::alloc::Global;
 
 /// The most bytes of input.
@@ -91,19 +90,27 @@ fn read_all<S: Source>(alloc: Global, source: &mut S) -> Result<Vec<u8>, InputSt
     Ok(input)
 }
 
-/// Writes the text of a reply on `out`.
-pub fn write<K: Sink>(out: &mut K, reply: Result<Reply, NoMemory>) -> Result<Rest, Stop>
+/// Writes the text of a reply on `out`, whether it refuses the input or not.
+pub fn write<K: Sink>(out: &mut K, reply: Result<Reply, Rejection>) -> Result<Rest, Stop>
     ensures { WritesReply reply (device K.held K.faults out.old out.new) result }
 {
     match reply {
-        Ok(reply) => match write_all(out, &reply.out) {
-            Ok(()) => Ok(Rest {
-                note: reply.note,
-                status: reply.status,
-            }),
-            Err(Failed) => Err(Stop::Failed),
-        },
-        Err(NoMemory) => Err(Stop::Memory),
+        Ok(reply) => write_text(out, reply),
+        Err(Rejection::Refused(reply)) => write_text(out, reply),
+        Err(Rejection::Memory) => Err(Stop::Memory),
+    }
+}
+
+/// Writes the text of a reply on `out`.
+fn write_text<K: Sink>(out: &mut K, reply: Reply) -> Result<Rest, Stop>
+    ensures { WritesText reply (device K.held K.faults out.old out.new) result }
+{
+    match write_all(out, &reply.out) {
+        Ok(()) => Ok(Rest {
+            note: reply.note,
+            status: reply.status,
+        }),
+        Err(Failed) => Err(Stop::Failed),
     }
 }
 

@@ -8,20 +8,13 @@
 #![tactic(auto)]
 
 mod calls;
-mod check;
 mod commands;
 mod demo;
 mod devices;
-mod first_orders;
 mod library;
 mod parts;
 mod program;
-mod reply;
-mod rows;
-mod running;
-mod source;
 mod step;
-mod tape;
 mod trace;
 
 pub use ed_sources::{call_source, demo_source};

@@ -1,17 +1,16 @@
-ghost use Rattle.std.specs.Prelude.{IfOk};
+ghost use Rattle.std.specs.Prelude.{[]};
 ghost use Rattle.ed_report.specs.Catalogue.{library_text};
-ghost use Rattle.ed_top.specs.Outcome.{done};
-ghost use Rattle.ed_top.specs.Private.Stages.{Gives};
+ghost use Rattle.ed_answers.specs.Answer.{known};
+ghost use Rattle.ed_answers.specs.Outcome.{done};
+ghost use Rattle.ed_answers.specs.Replies.{Replies};
 
-use crate::reply::Reply;
-use crate::source::done;
+use ed_answers::{Rejection, Reply};
 use ed_report::library_text;
-use ed_words::NoMemory;
 use std::alloc::Global;
 
 /// `library`: a line for each routine.
-pub fn list_library(alloc: Global) -> Result<Reply, NoMemory>
-    ensures { IfOk result (λ reply. Gives reply (done library_text)) }
+pub fn list_library(alloc: Global) -> Result<Reply, Rejection>
+    ensures { Replies (known (done library_text)) [] result }
 {
-    Ok(done(alloc, library_text(alloc)?))
+    Ok(Reply::done(alloc, library_text(alloc)?))
 }

@@ -1,12 +1,11 @@
 ghost use Rattle.std.specs.Prelude.{◌≡◌, ◌<◌, ◌≤◌, ◌^◌, [], List, ℕ, IfOk, length};
-ghost use Rattle.ed_top.specs.Answer.{of_input, of_rows};
+ghost use Rattle.ed_answers.specs.Answer.{of_input, of_rows};
 ghost use Rattle.ed_top.specs.Clause.{device};
 ghost use Rattle.ed_top.specs.Parts.{IsInParts, end_note, end_status};
 ghost use Rattle.ed_top.specs.Private.Stages.{Carried};
 
 use crate::devices::{Rest, Stop, write};
-use crate::rows::rows_of;
-use crate::running::status_of;
+use ed_answers::{rows_of, status_of};
 use ed_codes::Code;
 use ed_command::Settings;
 use ed_io::Sink;
@@ -30,7 +29,7 @@ pub fn parts<K: Sink>(
 {
     match rows_of(alloc, input) {
         Ok(rows) => read_parts(alloc, settings, rows, out),
-        Err(refusal) => write(out, refusal),
+        Err(rejection) => write(out, Err(rejection)),
     }
 }
 

@@ -1,29 +1,31 @@
 ghost use Rattle.std.specs.Prelude.{Some, map, string_bytes};
 ghost use Rattle.ed_command.specs.Lines.{command_line};
 ghost use Rattle.ed_command.specs.Ranges.{IsInRange};
-ghost use Rattle.ed_top.specs.BothSizes.{EachSize};
+ghost use Rattle.ed_answers.specs.BothSizes.{EachSize};
 ghost use Rattle.ed_top.specs.Calls.{CallsByDefault, EachCallRuns};
 ghost use Rattle.ed_top.specs.Clause.{ProgramEnded, WritesLastLine, device};
 ghost use Rattle.ed_top.specs.Complete.{EachRunIsComplete};
 ghost use Rattle.ed_top.specs.Demos.{EachDemoRuns};
-ghost use Rattle.ed_top.specs.FirstEntry.{EachProgramRunsFrom31};
-ghost use Rattle.ed_top.specs.Headline.{Headline};
-ghost use Rattle.ed_top.specs.Limits.{EachLimit};
-ghost use Rattle.ed_top.specs.Listed.{EachListedIsLoaded};
-ghost use Rattle.ed_top.specs.Outcome.{no_memory};
+ghost use Rattle.ed_answers.specs.FirstEntry.{EachProgramRunsFrom31};
+ghost use Rattle.ed_answers.specs.Headline.{Headline};
+ghost use Rattle.ed_answers.specs.Limits.{EachLimit};
+ghost use Rattle.ed_answers.specs.Listed.{EachListedIsLoaded};
+ghost use Rattle.ed_answers.specs.Outcome.{no_memory};
 ghost use Rattle.ed_top.specs.Output.{EachLineHasOneOutcome, answer, output};
 ghost use Rattle.ed_top.specs.PartsRun.{EachTapeInPartsIsRun};
-ghost use Rattle.ed_top.specs.PunchedTapes.{EachPunchedIsRun};
+ghost use Rattle.ed_answers.specs.PunchedTapes.{EachPunchedIsRun};
 ghost use Rattle.ed_top.specs.ReadBack.{EachWordIsReadBack};
 ghost use Rattle.ed_top.specs.Stepped.{EachStepIsRun};
 ghost use Rattle.ed_top.specs.TapeEntries.{EachTapeRunsFromEntry};
 
 use crate::commands::{carry_out, reads_input};
 use crate::devices::{InputStop, Stop, input_of, tell};
-use crate::reply::USAGE;
 use ed_command::{Command, CommandFault, read_words};
 use ed_io::{Sink, Source};
 use std::alloc::Global;
+
+const USAGE: &[u8] =
+    b"usage: edsac COMMAND [--limit N] [--resume N] [--post-mortem FROM,COUNT] [--store SIZE]\n";
 
 const READ_FAULT: &[u8] = b"read fault\n";
 

@@ -3,13 +3,11 @@ ghost use Rattle.ed_syntax.specs.declared.program.Line.{Line};
 ghost use Rattle.ed_link.specs.Answers.{IsLinked};
 ghost use Rattle.ed_link.specs.Tapes.{tape};
 ghost use Rattle.ed_stepper.specs.ScriptLines.{CommandList, HasBadLine, IsScript};
-ghost use Rattle.ed_top.specs.Answer.{of_input, of_made};
-ghost use Rattle.ed_top.specs.Private.Stages.{Gives, Replies};
+ghost use Rattle.ed_answers.specs.Answer.{of_input, of_made};
+ghost use Rattle.ed_answers.specs.Replies.{Gives, Replies};
 ghost use Rattle.ed_top.specs.Scripts.{OfStep, OnInput, OnText, on_rows};
 
-use crate::reply::{Reply, refusal};
-use crate::rows::rows_of;
-use crate::source::{done, linked_of};
+use ed_answers::{Rejection, Reply, linked_of, rows_of};
 use ed_codes::Code;
 use ed_command::Settings;
 use ed_link::Linked;
@@ -22,18 +20,18 @@ use ed_words::NoMemory;
 use std::alloc::Global;
 
 /// `step`: what the script writes that stands before the dividing line, on a machine started on what stands behind it.
-pub fn step(alloc: Global, settings: Settings, input: &[u8]) -> Result<Reply, NoMemory>
+pub fn step(alloc: Global, settings: Settings, input: &[u8]) -> Result<Reply, Rejection>
     requires { length input.now ≤ 262144 }
     ensures { Replies (of_input (OfStep settings)) input.now result }
 {
     match divide(input) {
         Some(divided) => step_divided(alloc, settings, divided),
-        None => Ok(refusal(alloc, no_text(alloc, line_count(input) + 1)?)),
+        None => Ok(Reply::refusal(alloc, no_text(alloc, line_count(input) + 1)?)),
     }
 }
 
 /// Looks at the script, then at the text.
-fn step_divided(alloc: Global, settings: Settings, divided: Divided<'_>) -> Result<Reply, NoMemory>
+fn step_divided(alloc: Global, settings: Settings, divided: Divided<'_>) -> Result<Reply, Rejection>
     ensures { Replies (of_made (OnInput settings (record {
       script = divided.entry.script.now;
       kind = divided.entry.kind;
@@ -41,7 +39,7 @@ fn step_divided(alloc: Global, settings: Settings, divided: Divided<'_>) -> Resu
     }))) [] result }
 {
     if let Some(line) = bad_line(divided.script) {
-        return Ok(refusal(alloc, bad_command(alloc, line)?));
+        return Ok(Reply::refusal(alloc, bad_command(alloc, line)?));
     }
     match divided.kind {
         TextKind::Tape => step_tape(alloc, settings, divided.script, divided.text),
@@ -55,15 +53,13 @@ fn step_tape(
     settings: Settings,
     script: &[u8],
     text: &[u8],
-) -> Result<Reply, NoMemory>
+) -> Result<Reply, Rejection>
     requires { HasBadLine script.now None }
     ensures { (commands : CommandList) → IsScript script.now commands
         → Replies (of_made (OnText settings commands TextKind.Tape text.now)) [] result }
 {
-    match rows_of(alloc, text) {
-        Ok(rows) => step_rows(alloc, settings, script, rows),
-        Err(refusal) => refusal,
-    }
+    let rows = rows_of(alloc, text)?;
+    Ok(step_rows(alloc, settings, script, rows)?)
 }
 
 /// Runs a script on the tape of a source, or refuses the source.
@@ -72,15 +68,13 @@ fn step_source(
     settings: Settings,
     script: &[u8],
     text: &[u8],
-) -> Result<Reply, NoMemory>
+) -> Result<Reply, Rejection>
     requires { HasBadLine script.now None }
     ensures { (commands : CommandList) → IsScript script.now commands
         → Replies (of_made (OnText settings commands TextKind.Source text.now)) [] result }
 {
-    match linked_of(alloc, settings.size, text) {
-        Ok(linked) => step_linked(alloc, settings, script, &linked),
-        Err(refusal) => refusal,
-    }
+    let linked = linked_of(alloc, settings.size, text)?;
+    Ok(step_linked(alloc, settings, script, &linked)?)
 }
 
 /// Runs a script on the tape of a linked program.
@@ -114,9 +108,9 @@ fn step_rows(
         return Err(NoMemory);
     };
     match run_script(alloc, &mut session, script) {
-        Ok(text) => Ok(done(alloc, text)),
+        Ok(text) => Ok(Reply::done(alloc, text)),
         Err(ScriptFault::BackTooFar { line, done: obeyed }) => {
-            Ok(refusal(alloc, back_too_far(alloc, line, obeyed)?))
+            Ok(Reply::refusal(alloc, back_too_far(alloc, line, obeyed)?))
         }
         Err(ScriptFault::BadCommand { .. }) => unreachable!(),
         Err(ScriptFault::Memory) => Err(NoMemory),

@@ -1,12 +1,11 @@
 ghost use Rattle.std.specs.Prelude.{[]};
-ghost use Rattle.ed_top.specs.Answer.{exactly, known, of_rows};
+ghost use Rattle.ed_answers.specs.Answer.{exactly, known, of_rows};
 ghost use Rattle.ed_top.specs.Clause.{device};
 ghost use Rattle.ed_top.specs.Private.Stages.{Carried};
 ghost use Rattle.ed_top.specs.Traces.{trace_outcome};
 
 use crate::devices::{Rest, Stop, write};
-use crate::rows::rows_of;
-use crate::running::status_of;
+use ed_answers::{rows_of, status_of};
 use ed_codes::Code;
 use ed_command::Settings;
 use ed_io::Sink;
@@ -27,7 +26,7 @@ pub fn trace<K: Sink>(
 {
     match rows_of(alloc, input) {
         Ok(rows) => trace_rows(alloc, settings, rows, out),
-        Err(refusal) => write(out, refusal),
+        Err(rejection) => write(out, Err(rejection)),
     }
 }
 

@@ -15,9 +15,9 @@ use Rattle.ed_link.specs.Answers.{IsLinked}
 use Rattle.ed_link.specs.Refusals.{IsAcceptedAs, IsRefused}
 use Rattle.ed_link.specs.declared.linked.Linked.{Linked}
 use Rattle.ed_report.specs.Notes.{source_fault_line, text_fault_line}
-use Rattle.ed_top.specs.Answer.{Answer, IsDue}
+use Rattle.ed_answers.specs.Answer.{Answer, IsDue}
 use Rattle.ed_words.specs.Texts.{Text}
-use Rattle.ed_top.specs.Outcome.{Outcome, refused}
+use Rattle.ed_answers.specs.Outcome.{Outcome, refused}
 use Rattle.ed_page.specs.Answers.{Buffers, HasItsCause, HasPictureRoom, HasBufferRoom, ShowsNone, Tells, TextBuffers}
 use Rattle.ed_page.specs.Pictures.{Pictures}
 use Rattle.ed_page.specs.declared.running.Ran.{Ran}

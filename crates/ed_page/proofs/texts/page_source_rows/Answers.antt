@@ -1,7 +1,7 @@
 use Rattle.std.proofs.Common.{rules, subst}
 use Rattle.std.specs.Prelude.{Ok}
 use Rattle.ed_words.specs.declared.size.Size.{Size}
-use Rattle.ed_top.specs.Sources.{of_source}
+use Rattle.ed_answers.specs.Sources.{of_source}
 use Rattle.ed_page.specs.Answers.{source_rows, text_buffers}
 use Rattle.ed_page.specs.Pictures.{size_shown}
 use Rattle.ed_page.specs.Private.Stages.{IsAnswered}

@@ -1,6 +1,6 @@
 use Rattle.std.proofs.Common.{rules}
-use Rattle.ed_top.specs.Answer.{exactly, of_rows}
-use Rattle.ed_top.specs.Outcome.{done}
+use Rattle.ed_answers.specs.Answer.{exactly, of_rows}
+use Rattle.ed_answers.specs.Outcome.{done}
 use Rattle.ed_page.specs.Answers.{text_buffers}
 use Rattle.ed_page.proofs.Written.{refuted, text_early, text_told, text_unmade}
 use Rattle.ed_page.proofs.texts.page_tape_rows.Goals as goal

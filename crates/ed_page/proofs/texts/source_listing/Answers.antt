@@ -1,5 +1,5 @@
 use Rattle.std.proofs.Common.{rules}
-use Rattle.ed_top.specs.Sources.{listing_outcome}
+use Rattle.ed_answers.specs.Sources.{listing_outcome}
 use Rattle.ed_page.proofs.Replies.{source_refused}
 use Rattle.ed_page.proofs.texts.source_listing.Goals as goal
 

@@ -1,5 +1,5 @@
 use Rattle.std.proofs.Common.{rules}
-use Rattle.ed_top.specs.Outcome.{done}
+use Rattle.ed_answers.specs.Outcome.{done}
 use Rattle.ed_page.proofs.Replies.{tape_refused}
 use Rattle.ed_page.proofs.texts.tape_rows.Goals as goal
 

@@ -1,8 +1,9 @@
 use Rattle.std.proofs.Common.{◌∙◌}
 use Rattle.ed_sources.specs.Calls.{call_text}
-use Rattle.ed_top.specs.Sources.{OfSource, run_outcome}
+use Rattle.ed_answers.specs.Sources.{OfSource, run_outcome}
 use Rattle.ed_top.proofs.CallRuns.{made_replied}
-use Rattle.ed_top.proofs.Sources.{none_replied, some_outcome}
+use Rattle.ed_answers.proofs.Sources.{some_outcome}
+use Rattle.ed_top.proofs.Made.{none_replied}
 use Rattle.ed_top.proofs.calls.call_routine.Goals as goal
 
 pub returns : goal.returns
@@ -12,5 +13,5 @@ pub returns-in_err-source : goal.returns-in_err-source
 returns-in_err-source c =
     let s = c.args.settings in
     none_replied (OfSource s.size (run_outcome s) (call_text c.args.call)) c.from_residual.result
-    c.from_residual.ensures.0
+    c.from_residual.ensures
     (some_outcome s.size (run_outcome s) (call_text c.args.call))

@@ -5,25 +5,25 @@ use Rattle.ed_command.specs.Lines.{command_line}
 use Rattle.ed_command.specs.declared.command.Command.{Command}
 use Rattle.ed_command.specs.declared.reading.CommandFault.{CommandFault}
 use Rattle.ed_command.specs.declared.reading.CommandFault.TheVariants.{Usage, Memory}
-use Rattle.ed_top.specs.Answer.{known}
-use Rattle.ed_top.specs.Outcome.{usage_outcome}
+use Rattle.ed_answers.specs.Answer.{known}
+use Rattle.ed_answers.specs.Outcome.{usage_outcome}
 use Rattle.ed_top.specs.Output.{output}
 use Rattle.ed_top.specs.Clause.{Device, ProgramEnded, device}
 use Rattle.ed_io.proofs.Calls.{gains_none}
 use Rattle.ed_top.proofs.Endings.{none_due, with_due, with_no_memory}
-use Rattle.ed_top.proofs.BothSizes.{each_size}
+use Rattle.ed_answers.proofs.BothSizes.{each_size}
 use Rattle.ed_top.proofs.CallRuns.{calls_by_default, each_call_runs}
 use Rattle.ed_top.proofs.Completing.{each_complete}
 use Rattle.ed_top.proofs.DemoRuns.{each_demo_runs}
-use Rattle.ed_top.proofs.FirstEntries.{runs_from_31}
-use Rattle.ed_top.proofs.Limits.{each_limit}
-use Rattle.ed_top.proofs.Listed.{each_listed_is_loaded}
+use Rattle.ed_answers.proofs.FirstEntries.{runs_from_31}
+use Rattle.ed_answers.proofs.Limits.{each_limit}
+use Rattle.ed_answers.proofs.Listed.{each_listed_is_loaded}
 use Rattle.ed_top.proofs.OneOutcome.{line_once}
-use Rattle.ed_top.proofs.PunchedTapes.{each_punched_is_run}
+use Rattle.ed_answers.proofs.PunchedTapes.{each_punched_is_run}
 use Rattle.ed_top.proofs.ReadBack.{each_word_is_read_back}
 use Rattle.ed_top.proofs.Stepped.{each_step_is_run}
 use Rattle.ed_top.proofs.PartsRun.{each_tape_in_parts}
-use Rattle.ed_top.proofs.Sources.{headline}
+use Rattle.ed_answers.proofs.Sources.{headline}
 use Rattle.ed_top.proofs.TapeEntries.{tapes_run_from_entry}
 use Rattle.ed_top.proofs.program.edsac.Goals as goal
 

@@ -3,7 +3,8 @@ use Rattle.std.specs.Prelude.{Ok}
 use Rattle.ed_top.specs.declared.devices.InputStop.TheVariants as input
 use Rattle.ed_top.specs.declared.devices.Stop.TheVariants as stop
 use Rattle.ed_words.specs.Texts.{Text}
-use Rattle.ed_top.specs.Private.Stages.{Carried, ForInput}
+use Rattle.ed_top.specs.Private.Stages.{Carried}
+use Rattle.ed_answers.specs.Replies.{ForInput}
 use Rattle.ed_top.specs.Output.{answer}
 use Rattle.ed_top.specs.Clause.{WritesLastLine, WrotePart, device}
 use Rattle.ed_io.proofs.Calls.{gains_none}

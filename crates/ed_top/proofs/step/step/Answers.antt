@@ -2,7 +2,7 @@ use Rattle.ed_stepper.specs.Inputs.{divided}
 use Rattle.ed_top.specs.Scripts.{OfStep}
 use Rattle.ed_top.proofs.OneOutcome.{divided_some}
 use Rattle.ed_top.proofs.Scripts.{divided_replied}
-use Rattle.ed_top.proofs.Sources.{as_input, none_replied}
+use Rattle.ed_top.proofs.Made.{as_input, none_replied}
 use Rattle.ed_top.proofs.step.step.Goals as goal
 
 pub returns-in_err-no_text-in-None : goal.returns-in_err-no_text-in-None
@@ -10,7 +10,7 @@ returns-in_err-no_text-in-None c =
     let s = c.args.settings in
     let input = c.args.input.now in
     as_input (OfStep s) input c.from_residual.result
-    (none_replied (OfStep s input) c.from_residual.result c.from_residual.ensures.0
+    (none_replied (OfStep s input) c.from_residual.result c.from_residual.ensures
     (divided_some s input (divided input)))
 
 pub returns-in-Some : goal.returns-in-Some

@@ -3,14 +3,14 @@ use Rattle.ed_stepper.specs.Inputs.{Input}
 use Rattle.ed_top.specs.Scripts.{OnInput}
 use Rattle.ed_top.proofs.OneOutcome.{input_some}
 use Rattle.ed_top.proofs.Scripts.{text_replied}
-use Rattle.ed_top.proofs.Sources.{none_replied}
+use Rattle.ed_top.proofs.Made.{none_replied}
 use Rattle.ed_top.proofs.step.step_divided.Goals as goal
 
 pub returns-in_err-bad_command : goal.returns-in_err-bad_command
 returns-in_err-bad_command c =
     let d = c.args.divided in
     let i : Input = record { script = d.script.now; kind = d.kind; text = d.text.now } in
-    none_replied (OnInput c.args.settings i) c.from_residual.result c.from_residual.ensures.0
+    none_replied (OnInput c.args.settings i) c.from_residual.result c.from_residual.ensures
     (input_some c.args.settings i)
 
 pub returns-in-Tape : goal.returns-in-Tape

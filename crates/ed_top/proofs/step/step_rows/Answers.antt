@@ -1,6 +1,6 @@
 use Rattle.std.proofs.Common.{◌≡◌, subst, rules}
-use Rattle.ed_top.specs.Outcome.{refused}
-use Rattle.ed_top.specs.Private.Stages.{Gives}
+use Rattle.ed_answers.specs.Outcome.{refused}
+use Rattle.ed_answers.specs.Replies.{Gives}
 use Rattle.ed_top.specs.Scripts.{stand_on}
 use Rattle.ed_top.proofs.Scripts.{far_given, never_refused, rows_given}
 use Rattle.ed_top.proofs.step.step_rows.Goals as goal

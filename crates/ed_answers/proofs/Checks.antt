@@ -1,0 +1,93 @@
+-- The check of rows from a cleared store: each list of rows has one outcome, and the check's answer is that.
+use Rattle.std.proofs.Common.{ap, ◌≡◌, ◌≢◌, ◌⊎◌, inl, inr, ◌∙◌, ℕ, List, refl, sym, subst, arith}
+use Rattle.std.specs.Prelude.{Result, Ok, Err, IfOk}
+use Rattle.ed_words.specs.declared.memory.NoMemory.{NoMemory}
+use Rattle.ed_store.specs.Cells.{Cells, cleared_cells}
+use Rattle.ed_notation.specs.Openings.{opening, IsDirective}
+use Rattle.ed_notation.specs.Reports.{Report}
+use Rattle.ed_notation.specs.Checks as checks
+use Rattle.ed_notation.specs.Faults.{ComesTo, TapeEntry, IsFault, WellFormed}
+use Rattle.ed_notation.specs.declared.cause.TapeCause.{TapeCause}
+use Rattle.ed_notation.specs.declared.cause.TapeFault.{TapeFault}
+use Rattle.ed_notation.specs.declared.cause.TapeFault.TheVariants.{At, Memory}
+use Rattle.ed_notation.specs.Reading.{ReadingIsRules}
+use Rattle.ed_notation.proofs.Laws.{reading_is_rules}
+use Rattle.ed_notation.proofs.Verdicts.{entry_once, fault_once}
+use Rattle.ed_report.specs.Notes.{rule_line, tape_fault_line}
+use Rattle.ed_command.specs.declared.command.Settings.{Settings}
+use Rattle.ed_answers.specs.Outcome.{Outcome, done, refused}
+use Rattle.ed_report.specs.Entries.{entry_line}
+use Rattle.ed_answers.specs.Tapes.{IsChecked, first_note}
+use Rattle.ed_answers.specs.Replies.{Gives}
+use Rattle.ed_answers.specs.declared.reply.Reply.{Reply}
+use Rattle.ed_answers.proofs.Replies.{HasOne}
+
+law : (s : Settings) (codes : List ℕ) → ReadingIsRules s.size cleared_cells.words first_note 9 codes
+law s codes =
+    let set : IsDirective 20568 = omega arith in
+    reading_is_rules s.size cleared_cells.words first_note 9 codes set
+
+-- the rows come to an entry or have a fault
+has_checked : (s : Settings) (codes : List ℕ) → (o : Outcome) × IsChecked s codes o
+has_checked s codes = by_case (law s codes).either
+  where
+    by_case : (WellFormed s.size cleared_cells.words first_note codes
+        × ((e : TapeEntry) × ComesTo cleared_cells.words first_note 9 codes e))
+        ⊎ ((row : ℕ) × (cause : TapeCause) × IsFault s.size cleared_cells.words first_note codes row cause)
+        → (o : Outcome) × IsChecked s codes o
+    by_case (inl (well, (entry, comes))) = (
+      done (entry_line entry.at entry.cost entry.rows),
+      inl (record {
+        well = well;
+        entry = entry;
+        comes = comes;
+        outcome = refl;
+      }),
+    )
+    by_case (inr (row, cause, fault)) =
+        (refused (rule_line row cause), inr (record { row = row; cause = cause; fault = fault; outcome = refl }))
+
+-- and not two of either
+checked_once : (s : Settings) (codes : List ℕ) (o other : Outcome) → IsChecked s codes o → IsChecked s codes other
+    → o ≡ other
+checked_once s codes o other (inl a) (inl b) =
+    let same : a.entry ≡ b.entry = entry_once (law s codes) a.well a.comes b.comes in
+    sym a.outcome ∙ ap (λ (e : TapeEntry). done (entry_line e.at e.cost e.rows)) same ∙ b.outcome
+checked_once s codes o other (inl a) (inr b) = absurd (a.well b.row b.cause b.fault.is)
+checked_once s codes o other (inr a) (inl b) = absurd (b.well a.row a.cause a.fault.is)
+checked_once s codes o other (inr a) (inr b) =
+    let same = fault_once (law s codes) a.fault b.fault in
+    sym a.outcome ∙ (λ i. refused (rule_line (same.0 i) (same.1 i))) ∙ b.outcome
+
+pub checked_one : (s : Settings) → HasOne (IsChecked s)
+checked_one s = record { some = has_checked s; once = checked_once s }
+
+-- the reply to a well-formed tape
+pub entry_found : (s : Settings) {codes : List ℕ} {store : Cells} {r : Report} {at orders count : ℕ}
+    (given : Result Reply NoMemory)
+    → store ≡ cleared_cells → checks.Accepts s.size store.words (opening store.words) 9 codes r
+    → at ≡ r.entry → orders ≡ r.orders → count ≡ r.rows
+    → IfOk given (λ reply. Gives reply (done (entry_line at orders count)))
+    → IfOk given (λ reply. (o : Outcome) × IsChecked s codes o × Gives reply o)
+entry_found s (Err e) is accepts a o n gives = tt
+entry_found s {codes} {r = r} {at = at} {orders} {count} (Ok reply) is accepts a o n gives =
+    let f : checks.Accepts s.size cleared_cells.words (opening cleared_cells.words) 9 codes r =
+    subst (λ (c : Cells). checks.Accepts s.size c.words (opening c.words) 9 codes r) is accepts in
+    let told : done (entry_line f.entry.at f.entry.cost f.entry.rows) ≡ done (entry_line at orders count) =
+    λ i. done (entry_line (sym (a ∙ f.entry_is) i) (sym (o ∙ f.orders_are) i) (sym (n ∙ f.rows_are) i)) in (
+      done (entry_line at orders count),
+      inl (record { well = f.well; entry = f.entry; comes = f.comes; outcome = told }),
+      gives,
+    )
+
+-- the reply to a tape with a fault
+pub fault_found : (s : Settings) (codes : List ℕ) {store : Cells} (fault : TapeFault) (given : Result Reply NoMemory)
+    → store ≡ cleared_cells → checks.AnswersCheck s.size store.words (opening store.words) 9 codes (Err fault)
+    → IfOk given (λ reply. Gives reply (refused (tape_fault_line fault))) → IfOk given (λ reply. fault ≢ Memory)
+    → IfOk given (λ reply. (o : Outcome) × IsChecked s codes o × Gives reply o)
+fault_found s codes fault (Err e) is answers gives other = tt
+fault_found s codes Memory (Ok reply) is answers gives other = absurd (other refl)
+fault_found s codes (At row cause) (Ok reply) is answers gives other =
+    let f : IsFault s.size cleared_cells.words (opening cleared_cells.words) codes row cause =
+    subst (λ (c : Cells). IsFault s.size c.words (opening c.words) codes row cause) is answers in
+    (refused (rule_line row cause), inr (record { row = row; cause = cause; fault = f; outcome = refl }), gives)

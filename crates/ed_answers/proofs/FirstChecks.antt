@@ -1,0 +1,66 @@
+-- The check of rows for Initial Orders 1: each list of rows has one outcome, and the check's answer is that.
+use Rattle.std.proofs.Common.{ap, ◌≡◌, ◌≢◌, ◌⊎◌, inl, inr, ◌∙◌, ℕ, List, refl, sym}
+use Rattle.std.specs.Prelude.{Result, Ok, Err, IfOk}
+use Rattle.ed_words.specs.declared.memory.NoMemory.{NoMemory}
+use Rattle.ed_initial1.specs.Faults.{Tape, Comes1, IsFault1}
+use Rattle.ed_initial1.specs.Checks.{Report1, Accepts1, Answers1, report1}
+use Rattle.ed_initial1.specs.declared.cause.Tape1Cause.{Tape1Cause}
+use Rattle.ed_initial1.specs.declared.cause.Tape1Fault.{Tape1Fault}
+use Rattle.ed_initial1.specs.declared.cause.Tape1Fault.TheVariants.{At, Memory}
+use Rattle.ed_initial1.proofs.Unique.{one_verdict}
+use Rattle.ed_report.specs.FirstNotes.{rule1_line, tape1_fault_line}
+use Rattle.ed_report.specs.Entries.{entry_line}
+use Rattle.ed_answers.specs.FirstOrders.{IsChecked1}
+use Rattle.ed_answers.specs.Outcome.{Outcome, done, refused}
+use Rattle.ed_answers.specs.Replies.{Gives}
+use Rattle.ed_answers.specs.declared.reply.Reply.{Reply}
+use Rattle.ed_answers.proofs.Replies.{HasOne}
+
+-- the line of a program
+abbrev told : Tape → Outcome
+told t = done (entry_line 31 (report1 t).orders (report1 t).rows)
+
+-- the rows come to a program or have a fault
+has_checked : (codes : List ℕ) → (o : Outcome) × IsChecked1 codes o
+has_checked codes = by_case (one_verdict codes).some
+  where
+    by_case : ((t : Tape) × Comes1 codes t) ⊎ ((row : ℕ) × (cause : Tape1Cause) × IsFault1 codes row cause)
+        → (o : Outcome) × IsChecked1 codes o
+    by_case (inl (t, comes)) = (told t, inl (record { tape = t; comes = comes; outcome = refl }))
+    by_case (inr (row, cause, fault)) =
+        (refused (rule1_line row cause), inr (record { row = row; cause = cause; fault = fault; outcome = refl }))
+
+-- and not two of either
+checked_once : (codes : List ℕ) (o other : Outcome) → IsChecked1 codes o → IsChecked1 codes other → o ≡ other
+checked_once codes o other (inl a) (inl b) =
+    sym a.outcome ∙ ap told ((one_verdict codes).program a.tape b.tape a.comes b.comes) ∙ b.outcome
+checked_once codes o other (inl a) (inr b) = absurd ((one_verdict codes).apart a.tape a.comes b.row b.cause b.fault.is)
+checked_once codes o other (inr a) (inl b) = absurd ((one_verdict codes).apart b.tape b.comes a.row a.cause a.fault.is)
+checked_once codes o other (inr a) (inr b) =
+    let same = (one_verdict codes).fault a.row b.row a.cause b.cause a.fault b.fault in
+    sym a.outcome ∙ (λ i. refused (rule1_line (same.0 i) (same.1 i))) ∙ b.outcome
+
+pub checked1_one : HasOne IsChecked1
+checked1_one = record { some = has_checked; once = checked_once }
+
+-- the reply to a tape without a fault
+pub program_found : {codes : List ℕ} {r : Report1} {orders count : ℕ} (given : Result Reply NoMemory) → Accepts1 codes r
+    → orders ≡ r.orders → count ≡ r.rows → IfOk given (λ reply. Gives reply (done (entry_line 31 orders count)))
+    → IfOk given (λ reply. (o : Outcome) × IsChecked1 codes o × Gives reply o)
+program_found (Err e) a o n gives = tt
+program_found {orders} {count} (Ok reply) a o n gives =
+    let cost : orders ≡ (report1 a.tape).orders = o ∙ ap (λ (x : Report1). x.orders) a.report_is in
+    let read : count ≡ (report1 a.tape).rows = n ∙ ap (λ (x : Report1). x.rows) a.report_is in
+    let outcome : told a.tape ≡ done (entry_line 31 orders count) =
+    λ i. done (entry_line 31 (sym cost i) (sym read i)) in
+    (done (entry_line 31 orders count), inl (record { tape = a.tape; comes = a.comes; outcome = outcome }), gives)
+
+-- the reply to a tape with a fault
+pub first_fault_found : (codes : List ℕ) (fault : Tape1Fault) (given : Result Reply NoMemory)
+    → Answers1 codes (Err fault)
+    → IfOk given (λ reply. Gives reply (refused (tape1_fault_line fault))) → IfOk given (λ reply. fault ≢ Memory)
+    → IfOk given (λ reply. (o : Outcome) × IsChecked1 codes o × Gives reply o)
+first_fault_found codes fault (Err e) answers gives other = tt
+first_fault_found codes Memory (Ok reply) answers gives other = absurd (other refl)
+first_fault_found codes (At row cause) (Ok reply) answers gives other =
+    (refused (rule1_line row cause), inr (record { row = row; cause = cause; fault = answers; outcome = refl }), gives)

@@ -1,0 +1,59 @@
+-- The run of a tape without a fault for Initial Orders 1 is the run from the state at its entry.
+use Rattle.std.proofs.Common.{◌∙◌, ℕ, ◌-◌, refl, ap, arith, Bool, false, [], List, drop}
+use Rattle.std.proofs.lemmas.List.{length-append, length-drop, length-replicate}
+use Rattle.std.specs.Prelude.{replicate}
+use Rattle.ed_initial1.specs.Listing.{first_orders}
+use Rattle.ed_printer.specs.Paper.{paper}
+use Rattle.ed_machine.specs.State.{cleared}
+use Rattle.ed_words.specs.declared.size.Size.TheVariants.{Full}
+use Rattle.ed_run.specs.Run.{ran}
+use Rattle.ed_run.proofs.Later.{ran_later}
+use Rattle.ed_initial1.specs.Entry.{IsStarted1, at_entry1}
+use Rattle.ed_initial1.specs.Faults.{Tape, Comes1}
+use Rattle.ed_initial1.proofs.Started.{is_started}
+use Rattle.ed_initial1.proofs.Opened.{HasItsLengths}
+use Rattle.ed_initial1.proofs.Walks.{Reaches}
+use Rattle.ed_initial1.proofs.Settled.{comes, all_went}
+use Rattle.ed_initial1.proofs.Whole.{leads_in}
+use Rattle.ed_answers.specs.FirstEntry.{EachProgramRunsFrom31, cost1}
+use Rattle.ed_answers.specs.FirstOrders.{first_state1}
+use Rattle.ed_answers.specs.Runs.{paper_room, ran_outcome}
+use Rattle.ed_answers.proofs.FromEntry.{silent}
+
+first_store : (codes : List ℕ) → HasItsLengths (first_state1 codes).store
+unfolding first_state1
+first_store codes = record {
+  words = omega (
+    arith,
+    length-append first_orders (drop 31 (replicate 1024 0)),
+    length-drop {A = ℕ} 31 (replicate 1024 0),
+    length-replicate {A = ℕ} 1024 0,
+  );
+  sandwich = length-replicate {A = Bool} 512 false;
+}
+
+starts : (codes : List ℕ) → IsStarted1 (first_state1 codes)
+unfolding first_state1
+starts codes = is_started codes (cleared Full) refl
+
+reaches : (codes : List ℕ) (t : Tape) → Comes1 codes t
+    → Reaches (cost1 t) (first_state1 codes) (at_entry1 (first_state1 codes) t)
+unfolding first_state1
+reaches codes t c = leads_in (first_state1 codes) (first_store codes) (starts codes) t c
+
+pub runs_from_31 : EachProgramRunsFrom31
+runs_from_31 s codes t c =
+    let first = first_state1 codes in
+    let k = cost1 t in
+    let r = reaches codes t c in
+    let went = all_went first (at_entry1 first t) k r in
+    let there = comes first (at_entry1 first t) k r in
+    record {
+      enters = there;
+      silent = r.silent;
+      runs = λ fits.
+          ap (ran_outcome [])
+          (ran_later s.limit s.resumes paper_room k first went fits
+          ∙ ap (ran (s.limit - k) s.resumes paper_room) there);
+      short = λ below. ap paper (silent s.limit s.resumes paper_room k first went below);
+    }

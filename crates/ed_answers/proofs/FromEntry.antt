@@ -1,0 +1,91 @@
+-- The run of an accepted source's tape is the run from the state at its entry.
+use Rattle.std.proofs.Common.{◌≡◌, ◌∙◌, ℕ, ◌-◌, ◌<◌, ◌≤◌, ◌++◌, Bool, refl, sym, ap, subst, arith, List, []}
+use Rattle.std.specs.Prelude.{if◌then◌else◌, Result, Ok, Err, IfOk}
+use Rattle.ed_words.specs.declared.memory.NoMemory.{NoMemory}
+use Rattle.ed_machine.specs.State.{State}
+use Rattle.ed_machine.specs.Steps.{least, past, state_after}
+use Rattle.ed_printer.specs.Paper.{paper}
+use Rattle.ed_run.specs.Run.{RunEnd, ran}
+use Rattle.ed_run.specs.Laws.{AllWent}
+use Rattle.ed_run.proofs.Later.{ran_later}
+use Rattle.ed_syntax.specs.declared.program.Line.{Line}
+use Rattle.ed_link.specs.Answers.{IsLinked}
+use Rattle.ed_link.specs.Linked.{entry_of}
+use Rattle.ed_link.specs.Tapes.{cost, tape}
+use Rattle.ed_link.specs.declared.linked.Linked.{Linked}
+use Rattle.ed_loads.specs.EntryState.{Enters, entry_state, first_state}
+use Rattle.ed_loads.specs.EntryWords.{EntryHasWords}
+use Rattle.ed_loads.proofs.Entries.{enters as enters_of}
+use Rattle.ed_report.specs.Notes.{entered}
+use Rattle.ed_command.specs.declared.command.Settings.{Settings}
+use Rattle.ed_words.specs.Texts.{Text}
+use Rattle.ed_words.proofs.Numbers.{le_true}
+use Rattle.ed_answers.specs.Runs.{paper_room, post_mortem_codes, ran_outcome, run_of, with_post_mortem}
+use Rattle.ed_answers.specs.Sources.{entered_before}
+use Rattle.ed_answers.specs.Headline.{RunsFromEntry}
+use Rattle.ed_answers.specs.Replies.{IsRan}
+use Rattle.ed_answers.specs.declared.running.Ran.{Ran}
+use Rattle.ed_answers.proofs.Keeping.{run_follows}
+
+-- ---- from the entry
+
+reached : (lines : List Line) (s : State) → cost lines ≤ s.orders
+    → entered_before lines s ≡ entered (entry_of lines) (cost lines)
+reached lines s h =
+    ap (λ (b : Bool). if b then entered (entry_of lines) (cost lines) else []) (le_true (cost lines) s.orders h)
+
+-- a run with no order prints nothing
+none_first : (resumes room : ℕ) (s : State) → (ran 0 resumes room s).codes ≡ []
+unfolding ran past least
+none_first resumes room s = refl
+
+-- nor does one whose limit is below the number of orders that neither print nor stop
+pub silent : (limit resumes room k : ℕ) (s : State) → AllWent k s → limit < k → (ran limit resumes room s).codes ≡ []
+silent limit resumes room k s went below =
+    let zero : limit - limit ≡ 0 = omega arith in
+    let later : ran limit resumes room s ≡ ran (limit - limit) resumes room (state_after limit s) =
+    ran_later limit resumes room limit s (λ j l. went j (omega (arith, l, below))) (omega arith) in
+    ap (λ (r : RunEnd). r.codes) (later ∙ ap (λ n. ran n resumes room (state_after limit s)) zero)
+    ∙ none_first resumes room (state_after limit s)
+
+-- the run from Start is that from the state at the entry, with the limit less the cost
+run_on : (s : Settings) (lines : List Line) → Enters s.size lines → cost lines ≤ s.limit
+    → run_of s (tape lines) ≡ ran (s.limit - cost lines) s.resumes paper_room (entry_state s.size lines)
+run_on s lines enters fits =
+    ran_later s.limit s.resumes paper_room (cost lines) (first_state s.size (tape lines)) enters.went fits
+    ∙ ap (ran (s.limit - cost lines) s.resumes paper_room) enters.state_is
+
+-- so a machine that was led to the entry of a linked program has only to go on
+pub goes_on : (s : Settings) (k : Linked) (entered : State) (r : Result Ran NoMemory) → entered.orders ≤ s.limit
+    → ((lines : List Line) → IsLinked s.size lines k → entered ≡ entry_state s.size lines)
+    → IfOk r (IsRan (ran (s.limit - entered.orders) s.resumes paper_room entered))
+    → IfOk r (λ ran. (lines : List Line) → IsLinked s.size lines k → IsRan (run_of s (tape lines)) ran)
+goes_on s k entered (Err e) fits at is = tt
+goes_on s k entered (Ok left) fits at is = λ lines linked.
+    let whole : entered.orders ≤ s.limit → IsRan (ran (s.limit - entered.orders) s.resumes paper_room entered) left
+    → IsRan (run_of s (tape lines)) left =
+    subst
+    (λ (t : State). t.orders ≤ s.limit → IsRan (ran (s.limit - t.orders) s.resumes paper_room t) left
+    → IsRan (run_of s (tape lines)) left)
+    (sym (at lines linked))
+    (λ few went. subst (λ (e : RunEnd). IsRan e left)
+    (sym (run_on s lines (enters_of s.size lines linked.loads) few)) went) in
+    whole fits is
+
+pub runs_from_entry : (s : Settings) (lines : List Line) → Enters s.size lines → EntryHasWords lines
+    → RunsFromEntry s lines
+runs_from_entry s lines enters has_words = record {
+  enters = enters;
+  has_words = has_words;
+  runs = λ fits.
+      let from : RunEnd = ran (s.limit - cost lines) s.resumes paper_room (entry_state s.size lines) in
+      let later : run_of s (tape lines) ≡ from = run_on s lines enters fits in
+      let kept : cost lines ≤ from.state.orders =
+      (run_follows (s.limit - cost lines) s.resumes paper_room (entry_state s.size lines)).later in
+      ap (λ (r : RunEnd). ran_outcome (entered_before lines r.state) (with_post_mortem s.post_mortem r)) later
+      ∙ ap (λ (before : Text). ran_outcome before (with_post_mortem s.post_mortem from))
+      (reached lines from.state kept);
+  short = λ below.
+      let none = silent s.limit s.resumes paper_room (cost lines) (first_state s.size (tape lines)) enters.went below in
+      ap (λ codes. paper (codes ++ post_mortem_codes s.post_mortem (run_of s (tape lines)).state)) none;
+}

@@ -1,0 +1,11 @@
+pub mod Replies
+pub mod Checks
+pub mod FirstChecks
+pub mod FirstEntries
+pub mod Keeping
+pub mod FromEntry
+pub mod Sources
+pub mod Limits
+pub mod BothSizes
+pub mod PunchedTapes
+pub mod Listed

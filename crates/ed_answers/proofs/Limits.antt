@@ -1,0 +1,242 @@
+-- A run with a greater limit: the same where it ended before its limit, and else one that goes on.
+use Rattle.std.proofs.Common.{◌≡◌, ◌≢◌, ◌∙◌, ℕ, ◌+◌, ◌-◌, ◌≤◌, refl, sym, ap, arith}
+use Rattle.std.proofs.Common.{Bool, true, false, true≢false, nat_eq, nat_lt, nat_le, Option, Some, None, inl, inr}
+use Rattle.std.proofs.Common.{List, [], ◌∷◌, ◌++◌, length, append_assoc, append-nil}
+use Rattle.std.specs.Prelude.{if◌then◌else◌}
+use Rattle.std.proofs.lemmas.Bool.{cases_lt}
+use Rattle.std.proofs.lemmas.Bool.Decides.{nat_tests}
+use Rattle.ed_words.specs.Texts.{Text}
+use Rattle.ed_words.proofs.Numbers.{eq_false}
+use Rattle.ed_machine.specs.State.{State}
+use Rattle.ed_machine.specs.OrderTable.{step}
+use Rattle.ed_machine.specs.Steps.{Past, past, state_after}
+use Rattle.ed_machine.specs.declared.turn.Turn.{Turn}
+use Rattle.ed_machine.specs.declared.turn.Turn.TheVariants.{Went, Printed, Stopped as Stops}
+use Rattle.ed_machine.specs.declared.turn.Turn.TheVariants.{NoOrder as IsNoOrder, NoTape as HasNoTape}
+use Rattle.ed_machine.specs.declared.ending.Ending.{Ending}
+use Rattle.ed_machine.specs.declared.ending.Ending.TheVariants.{Stopped, Limit, NoOrder, NoTape, PaperFull}
+use Rattle.ed_machine.proofs.LeastNumbers.{least_below}
+use Rattle.ed_machine.proofs.Steps.{past_sum}
+use Rattle.ed_run.specs.Run.{EndsAfter, RunEnd, end_at, end_by, ran, run_orders}
+use Rattle.ed_run.proofs.Ends.{ends_once, ran_ends}
+use Rattle.ed_printer.specs.Paper.{paper, paper_from, shift_after, struck}
+use Rattle.ed_printer.specs.declared.printer.Shift.{Shift}
+use Rattle.ed_printer.specs.declared.printer.Shift.TheVariants.{Letters}
+use Rattle.ed_syntax.specs.declared.program.Line.{Line}
+use Rattle.ed_link.specs.Tapes.{tape}
+use Rattle.ed_loads.specs.EntryState.{first_state}
+use Rattle.ed_command.specs.declared.command.Window.{Window}
+use Rattle.ed_answers.specs.Outcome.{Outcome}
+use Rattle.ed_answers.specs.FirstOrders.{first_state1, tape1_outcome}
+use Rattle.ed_answers.specs.Tapes.{tape_outcome}
+use Rattle.ed_answers.specs.Runs.{paper_room, post_mortem_codes, ran_outcome, status_of, with_post_mortem}
+use Rattle.ed_answers.specs.Sources.{entered_before, run_outcome}
+use Rattle.ed_answers.specs.Limits.{EachLimit, KeepsLimits, StartsWith}
+
+-- ---- ends
+
+some_is : (d e : Ending) → Some d ≡ Some e → d ≡ e
+some_is d e h = cc
+
+none_some : (e : Ending) → None ≡ Some e → ⊥
+none_some e h = cc
+
+-- at a number below both limits they play no part
+no_limit : (low high k : ℕ) → low ≤ high → k ≤ low → nat_eq k low ≡ false → nat_eq k high ≡ false
+no_limit low high k l below other = eq_false k high (grind (arith, nat_tests))
+
+-- an end before the limit stands with a greater limit
+end_stands : (low high resumes room k : ℕ) (p : Past) (e : Ending) → low ≤ high → k ≤ low → e ≢ Limit
+    → end_at low resumes room k p ≡ Some e → end_at high resumes room k p ≡ Some e
+end_stands low high resumes room k p e l below other =
+    by_tests (nat_lt resumes p.stops) (nat_eq k low) (nat_eq k high) (no_limit low high k l below)
+  where
+    by : Option Ending
+    by = end_by (step p.state).turn (nat_le room (length p.codes))
+
+    by_tests : (b c d : Bool) → (c ≡ false → d ≡ false)
+        → (if b then Some Stopped else if c then Some Limit else by) ≡ Some e
+        → (if b then Some Stopped else if d then Some Limit else by) ≡ Some e
+    by_tests true c d later h = h
+    by_tests false true d later h = absurd (other (sym (some_is Limit e h)))
+    by_tests false false true later h = absurd (true≢false (later refl))
+    by_tests false false false later h = h
+
+-- and a number below the limit at which there is no end
+none_stands : (low high resumes room k : ℕ) (p : Past) → low ≤ high → k ≤ low
+    → end_at low resumes room k p ≡ None → end_at high resumes room k p ≡ None
+none_stands low high resumes room k p l below =
+    by_tests (nat_lt resumes p.stops) (nat_eq k low) (nat_eq k high) (no_limit low high k l below)
+  where
+    by : Option Ending
+    by = end_by (step p.state).turn (nat_le room (length p.codes))
+
+    by_tests : (b c d : Bool) → (c ≡ false → d ≡ false)
+        → (if b then Some Stopped else if c then Some Limit else by) ≡ None
+        → (if b then Some Stopped else if d then Some Limit else by) ≡ None
+    by_tests true c d later h = absurd (none_some Stopped (sym h))
+    by_tests false true d later h = absurd (none_some Limit (sym h))
+    by_tests false false true later h = absurd (true≢false (later refl))
+    by_tests false false false later h = h
+
+-- a run that ends before its limit is the same with a greater one
+longer : (low high resumes room : ℕ) (s : State) → low ≤ high → (ran low resumes room s).ending ≢ Limit
+    → ran high resumes room s ≡ ran low resumes room s
+unfolding ran
+longer low high resumes room s l other =
+    let k = run_orders low resumes room s in
+    let ends = ran_ends low resumes room s in
+    let few : k ≤ low = least_below _ low in
+    let stands : EndsAfter high resumes room s k (ran low resumes room s).ending = record {
+      now = end_stands low high resumes room k (past k s) _ l few other ends.now;
+      first = λ j h. none_stands low high resumes room j (past j s) l (omega (arith, h, few)) (ends.first j h);
+    } in
+    let one = ends_once (ran_ends high resumes room s) stands in
+    λ i. record { ending = one.1 i; state = (past (one.0 i) s).state; codes = (past (one.0 i) s).codes }
+
+-- ---- a run that is cut off
+
+-- the next order doesn't end a run at its limit
+not_limit : (t : Turn) (full : Bool) → end_by t full ≡ Some Limit → ⊥
+not_limit (IsNoOrder function) full h = cc
+not_limit HasNoTape full h = cc
+not_limit (Printed code) true h = cc
+not_limit (Printed code) false h = none_some Limit h
+not_limit Went full h = none_some Limit h
+not_limit Stops full h = none_some Limit h
+
+-- so that end comes after as many orders as the limit allows
+at_limit : (low resumes room k : ℕ) (p : Past) → end_at low resumes room k p ≡ Some Limit → k ≡ low
+at_limit low resumes room k p = by_tests (nat_lt resumes p.stops) (nat_eq k low) refl
+  where
+    by : Option Ending
+    by = end_by (step p.state).turn (nat_le room (length p.codes))
+
+    by_tests : (b c : Bool) → nat_eq k low ≡ c
+        → (if b then Some Stopped else if c then Some Limit else by) ≡ Some Limit → k ≡ low
+    by_tests true c e h = absurd (cc)
+    by_tests false true e h = grind (arith, nat_tests)
+    by_tests false false e h = absurd (not_limit (step p.state).turn (nat_le room (length p.codes)) h)
+
+-- and a greater limit is reached later
+no_sooner : (low high resumes room : ℕ) (s : State) → low ≤ high → (ran low resumes room s).ending ≡ Limit
+    → (run_orders low resumes room s ≡ low) × (low ≤ run_orders high resumes room s)
+no_sooner low high resumes room s l is =
+    let ends = ran_ends low resumes room s in
+    let m = run_orders high resumes room s in
+    let high_ends = ran_ends high resumes room s in
+    let at : run_orders low resumes room s ≡ low = at_limit low resumes room _ _ (ends.now ∙ ap Some is) in
+    let late : low ≤ m = elim (cases_lt m low) [
+      | inl h ↦
+          absurd (none_some _
+          (sym (none_stands low high resumes room m (past m s) l (omega (arith, h))
+          (ends.first m (omega (arith, h, at)))) ∙ high_ends.now))
+      | inr h ↦ h
+    ] in
+    (at, late)
+
+cut : (low high resumes room : ℕ) (s : State) → low ≤ high → (ran low resumes room s).ending ≡ Limit
+    → StartsWith (ran high resumes room s).codes (ran low resumes room s).codes
+unfolding ran
+cut low high resumes room s l is =
+    let both = no_sooner low high resumes room s l is in
+    let m = run_orders high resumes room s in
+    let rest = past (m - low) (state_after low s) in
+    let whole : low + (m - low) ≡ m = omega (arith, both.1) in
+    let codes : (past m s).codes ≡ (past low s).codes ++ rest.codes =
+    ap (λ n. (past n s).codes) (sym whole) ∙ ap (λ (p : Past). p.codes) (past_sum low (m - low) s) in
+    (rest.codes, codes ∙ ap (λ n. (past n s).codes ++ rest.codes) (sym both.0))
+
+-- what a run prints is what the same run with a greater limit begins with
+starts : (low high resumes room : ℕ) (s : State) → low ≤ high
+    → StartsWith (ran high resumes room s).codes (ran low resumes room s).codes
+starts low high resumes room s l = by_ending (ran low resumes room s).ending refl
+  where
+    whole : (ran low resumes room s).ending ≢ Limit
+        → StartsWith (ran high resumes room s).codes (ran low resumes room s).codes
+    whole other = (
+      [],
+      ap (λ (r : RunEnd). r.codes) (longer low high resumes room s l other)
+          ∙ sym (append-nil (ran low resumes room s).codes),
+    )
+
+    by_ending : (e : Ending) → (ran low resumes room s).ending ≡ e
+        → StartsWith (ran high resumes room s).codes (ran low resumes room s).codes
+    by_ending Limit is = cut low high resumes room s l is
+    by_ending Stopped is = whole (λ e. cc)
+    by_ending NoOrder is = whole (λ e. cc)
+    by_ending NoTape is = whole (λ e. cc)
+    by_ending PaperFull is = whole (λ e. cc)
+
+-- ---- on paper
+
+paper_starts : (shift : Shift) (part rest : List ℕ) → StartsWith (paper_from shift (part ++ rest)) (paper_from shift part)
+paper_starts shift [] rest = (paper_from shift rest, refl)
+paper_starts shift (code ∷ part) rest =
+    let more = paper_starts (shift_after shift code) part rest in (
+      more.0,
+      ap (λ (t : Text). struck shift code ++ t) more.1
+          ∙ sym (append_assoc (struck shift code) (paper_from (shift_after shift code) part) more.0),
+    )
+
+-- a text that begins as another does, whatever both are called
+starts_as : {whole part new_whole new_part : Text} → new_whole ≡ whole → new_part ≡ part → StartsWith whole part
+    → StartsWith new_whole new_part
+starts_as {new_part = new_part} w p (rest, is) = (rest, w ∙ is ∙ ap (λ (t : Text). t ++ rest) (sym p))
+
+printed_starts : (whole part : List ℕ) → StartsWith whole part → StartsWith (paper whole) (paper part)
+printed_starts whole part (rest, is) = starts_as (ap paper is) refl (paper_starts Letters part rest)
+
+-- ---- outcomes
+
+-- no post-mortem adds no code
+none_added : (window : Option Window) (r : RunEnd) → window ≡ None → (with_post_mortem window r).codes ≡ r.codes
+none_added window r is =
+    ap (λ (w : Option Window). r.codes ++ post_mortem_codes w r.state) is ∙ append-nil r.codes
+
+-- of what is answered to the end of a run
+module _ (low high resumes : ℕ) (s : State) (give : RunEnd → Outcome) (more : low ≤ high) where
+  same_of : (give (ran low resumes paper_room s)).status ≡ status_of (ran low resumes paper_room s).ending
+      → (give (ran low resumes paper_room s)).status ≢ 4
+      → give (ran high resumes paper_room s) ≡ give (ran low resumes paper_room s)
+  same_of is other = ap give (longer low high resumes paper_room s more (λ e. other (is ∙ ap status_of e)))
+
+  begins_of : ((r : RunEnd) → (give r).out ≡ paper r.codes)
+      → StartsWith (give (ran high resumes paper_room s)).out (give (ran low resumes paper_room s)).out
+  begins_of out = starts_as (out _) (out _) (printed_starts _ _ (starts low high resumes paper_room s more))
+
+tape_keeps : (codes : List ℕ) → KeepsLimits (λ s. tape_outcome s codes)
+tape_keeps codes = record {
+  same = λ s more l.
+      same_of s.limit more s.resumes (first_state s.size codes)
+      (λ r. ran_outcome [] (with_post_mortem s.post_mortem r)) l refl;
+  begins = λ s more l none.
+      begins_of s.limit more s.resumes (first_state s.size codes)
+      (λ r. ran_outcome [] (with_post_mortem s.post_mortem r)) l
+      (λ r. ap paper (none_added s.post_mortem r none));
+}
+
+first_tape_keeps : (codes : List ℕ) → KeepsLimits (λ s. tape1_outcome s codes)
+first_tape_keeps codes = record {
+  same = λ s more l. same_of s.limit more s.resumes (first_state1 codes) (ran_outcome []) l refl;
+  begins = λ s more l none.
+      begins_of s.limit more s.resumes (first_state1 codes) (ran_outcome []) l (λ r. refl);
+}
+
+source_keeps : (lines : List Line) → KeepsLimits (λ s. run_outcome s lines)
+source_keeps lines = record {
+  same = λ s more l.
+      same_of s.limit more s.resumes (first_state s.size (tape lines))
+      (λ r. ran_outcome (entered_before lines r.state) (with_post_mortem s.post_mortem r)) l refl;
+  begins = λ s more l none.
+      begins_of s.limit more s.resumes (first_state s.size (tape lines))
+      (λ r. ran_outcome (entered_before lines r.state) (with_post_mortem s.post_mortem r)) l
+      (λ r. ap paper (none_added s.post_mortem r none));
+}
+
+pub each_limit : EachLimit
+each_limit = record {
+  tapes = tape_keeps;
+  first_tapes = first_tape_keeps;
+  sources = source_keeps;
+}

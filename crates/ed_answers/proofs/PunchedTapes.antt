@@ -1,0 +1,23 @@
+-- What `punch` writes is the tape that `run` runs.
+use Rattle.std.proofs.Common.{ℕ, inl, refl}
+use Rattle.std.specs.Prelude.{replicate}
+use Rattle.std.proofs.lemmas.List.{length-replicate}
+use Rattle.ed_link.specs.Tapes.{arrival}
+use Rattle.ed_link.proofs.EachSource.{each_source as comes_to}
+use Rattle.ed_link.proofs.PunchedTexts.{text_is_tape}
+use Rattle.ed_answers.specs.PunchedTapes.{EachPunchedIsRun}
+
+pub each_punched_is_run : EachPunchedIsRun
+each_punched_is_run s source lines accepted =
+    let loads = comes_to s.size source lines accepted (replicate 1024 0) (length-replicate {A = ℕ} 1024 0) in
+    record {
+      reads = text_is_tape s.size source lines accepted;
+      out_is = refl;
+      status_is = refl;
+      checked = inl (record {
+        well = loads.0;
+        entry = arrival (replicate 1024 0) lines;
+        comes = loads.1;
+        outcome = refl;
+      });
+    }

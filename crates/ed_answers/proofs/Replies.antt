@@ -1,0 +1,77 @@
+-- From what a command gives to the outcome of a tape's text.
+use Rattle.std.proofs.Common.{◌≡◌, ◌∙◌, ℕ, List, refl, sym, subst}
+use Rattle.std.specs.Prelude.{Result, Ok, Err, IsErr, IsErrAnd}
+use Rattle.ed_codes.specs.Reading.{Reading, rows, no_row, open_comment, reading}
+use Rattle.ed_codes.specs.declared.tape.TextFault.TheVariants.{NoRow, OpenComment}
+use Rattle.ed_report.specs.Notes.{text_fault_line}
+use Rattle.ed_words.specs.Texts.{Text}
+use Rattle.ed_answers.specs.Outcome.{Outcome, refused}
+use Rattle.ed_answers.specs.Answer.{of_rows, exactly, OfReading}
+use Rattle.ed_answers.specs.Replies.{Gives, RefusesText, Replies}
+use Rattle.ed_answers.specs.declared.reply.Rejection.{Rejection}
+use Rattle.ed_answers.specs.declared.reply.Rejection.TheVariants.{Memory, Refused}
+use Rattle.ed_answers.specs.declared.reply.Reply.{Reply}
+
+-- every list of rows has an outcome, and only one
+pub record HasOne (answers : List ℕ → Outcome → Type 0) : Type 0 where
+  pub some : (codes : List ℕ) → (o : Outcome) × answers codes o
+  pub once : (codes : List ℕ) (o other : Outcome) → answers codes o → answers codes other → o ≡ other
+
+pub exactly_one : (f : List ℕ → Outcome) → HasOne (exactly f)
+exactly_one f = record { some = λ codes. (f codes, refl); once = λ codes o other p q. sym p ∙ q }
+
+-- so every text has one
+pub text_outcome : (answers : List ℕ → Outcome → Type 0) → HasOne answers → (q : Reading)
+    → (o : Outcome) × OfReading answers q o × Unit {0}
+text_outcome answers one (rows codes) = let h = one.some codes in (h.0, h.1, tt)
+text_outcome answers one (no_row place byte) = (refused (text_fault_line (NoRow place byte)), refl, tt)
+text_outcome answers one (open_comment place) = (refused (text_fault_line (OpenComment place)), refl, tt)
+
+-- the reply to a text's rows is the reply to the text
+at_reading : (answers : List ℕ → Outcome → Type 0) (q : Reading) (codes : List ℕ) (o : Outcome) → q ≡ rows codes
+    → answers codes o
+    → OfReading answers q o
+at_reading answers q codes o is a = subst (λ (r : Reading). OfReading answers r o) (sym is) a
+
+-- where the rows have one outcome
+pub rows_replied : (answers : List ℕ → Outcome → Type 0) (input : Text) {codes seen : List ℕ} (reply : Reply)
+    → reading input ≡ rows codes → seen ≡ codes
+    → (o : Outcome) × answers seen o × Gives reply o → Replies (of_rows answers) input (Ok reply)
+rows_replied answers input {codes} reply is same gives = (
+  gives.0,
+  at_reading answers (reading input) codes gives.0 is (subst (λ (x : List ℕ). answers x gives.0) same gives.1),
+  gives.2,
+)
+
+-- where a function gives it
+pub exactly_replied : (f : List ℕ → Outcome) (input : Text) (codes : List ℕ) (reply : Reply)
+    → reading input ≡ rows codes → Gives reply (f codes) → Replies (of_rows (exactly f)) input (Ok reply)
+exactly_replied f input codes reply is gives =
+    (f codes, at_reading (exactly f) (reading input) codes (f codes) is refl, gives)
+
+-- the refusal of a text is the reply to it
+refused_at : (answers : List ℕ → Outcome → Type 0) (q : Reading) (reply : Reply) → RefusesText q (Refused reply)
+    → (o : Outcome) × OfReading answers q o × Gives reply o
+refused_at answers (rows codes) reply r = absurd r
+refused_at answers (no_row place byte) reply r = (refused (text_fault_line (NoRow place byte)), refl, r)
+refused_at answers (open_comment place) reply r = (refused (text_fault_line (OpenComment place)), refl, r)
+
+pub rejected : (answers : List ℕ → Outcome → Type 0) (input : Text) (e : Rejection) → HasOne answers
+    → RefusesText (reading input) e → Replies (of_rows answers) input (Err e)
+rejected answers input (Refused reply) one refuses = refused_at answers (reading input) reply refuses
+rejected answers input Memory one refuses = text_outcome answers one (reading input)
+
+-- a rejection that `?` hands on is the reply to a text
+pub refusal_replied : (answers : List ℕ → Outcome → Type 0) (input : Text) (r : Result Reply Rejection) (e : Rejection)
+    → HasOne answers → RefusesText (reading input) e → IsErr r × IsErrAnd r (λ handed. handed ≡ e)
+    → Replies (of_rows answers) input r
+refusal_replied answers input (Ok reply) e one refuses handed = absurd (cc)
+refusal_replied answers input (Err handed) e one refuses is =
+    rejected answers input handed one (subst (RefusesText (reading input)) (sym is.1) refuses)
+
+-- where no memory is found, there is an outcome all the same
+pub none_replied : (answers : List ℕ → Outcome → Type 0) (input : Text) (r : Result Reply Rejection) → HasOne answers
+    → IsErr r × IsErrAnd r (λ handed. handed ≡ Memory) → Replies (of_rows answers) input r
+none_replied answers input (Ok reply) one handed = absurd (cc)
+none_replied answers input (Err Memory) one is = text_outcome answers one (reading input)
+none_replied answers input (Err (Refused reply)) one is = absurd (cc)

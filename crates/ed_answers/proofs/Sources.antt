@@ -1,0 +1,170 @@
+-- From what is made of a source to the outcome of an input.
+use Rattle.std.proofs.Common.{◌≡◌, inl, inr, ◌∙◌, ℕ, Bool, refl, sym, ap, subst}
+use Rattle.std.proofs.Common.{Option, List, ◌++◌, map}
+use Rattle.std.specs.Prelude.{Result, Ok, Err, IfOk, IsErr, IsErrAnd}
+use Rattle.ed_words.specs.declared.size.Size.{Size}
+use Rattle.ed_words.specs.declared.memory.NoMemory.{NoMemory}
+use Rattle.ed_store.specs.Cells.{Cells}
+use Rattle.ed_machine.specs.State.{State}
+use Rattle.ed_notation.specs.Spellings.{canonicals, text_of}
+use Rattle.ed_machine.specs.declared.ending.Ending.{Ending}
+use Rattle.ed_run.specs.Run.{RunEnd}
+use Rattle.ed_printer.specs.Paper.{paper}
+use Rattle.ed_syntax.specs.declared.program.Line.{Line}
+use Rattle.ed_syntax.specs.declared.fault.SourceFault.{SourceFault}
+use Rattle.ed_syntax.specs.declared.fault.SourceFault.TheVariants.{At, Memory}
+use Rattle.ed_syntax.specs.Sources.{HasFormFault, IsProgram}
+use Rattle.ed_link.specs.Answers.{HasMeaningFault, IsLinked}
+use Rattle.ed_link.specs.Refusals.{IsAcceptedAs, IsAcceptedOrRefused, for_form, for_meaning}
+use Rattle.ed_link.proofs.EachSource.{one_answer}
+use Rattle.ed_link.specs.Linked.{linked}
+use Rattle.ed_link.specs.Tables.{table_of, words_from}
+use Rattle.ed_link.specs.Tapes.{after_text}
+use Rattle.ed_link.specs.declared.linked.Linked.{Linked}
+use Rattle.ed_link.specs.declared.linked.Placed.{Placed}
+use Rattle.ed_loads.specs.EntryState.{entry_state, entry_store}
+use Rattle.ed_loads.proofs.Entries.{each_source}
+use Rattle.ed_loads.proofs.EntryWords.{each_entry_has_words}
+use Rattle.ed_report.specs.Listings.{listing}
+use Rattle.ed_report.specs.Notes.{ending_line, source_fault_line}
+use Rattle.ed_command.specs.declared.command.Window.{Window}
+use Rattle.ed_words.specs.Texts.{Text}
+use Rattle.ed_answers.specs.Outcome.{Outcome, done, refused}
+use Rattle.ed_answers.specs.Runs.{post_mortem_codes, ran_outcome, status_of, with_post_mortem}
+use Rattle.ed_answers.specs.Sources.{OfSource, listing_outcome, of_source, punch_outcome}
+use Rattle.ed_answers.specs.Headline.{Headline}
+use Rattle.ed_answers.specs.Replies.{Refuses, Gives, LinksSource, Replies}
+use Rattle.ed_answers.specs.declared.reply.Rejection.{Rejection}
+use Rattle.ed_answers.specs.declared.reply.Rejection.TheVariants as rejection
+use Rattle.ed_answers.specs.declared.reply.Reply.{Reply}
+use Rattle.ed_answers.proofs.FromEntry.{runs_from_entry}
+
+-- ---- what is made of a source
+
+-- the two ends of a rejection are apart
+never : {reply : Reply} → ◌≡◌ {A = Rejection} (rejection.Refused reply) rejection.Memory → ⊥
+never same = cc
+
+pub accepted_is : (z : Size) (accepted : List Line → Outcome) (text : Text) (lines : List Line)
+    → IsAcceptedAs z text lines → OfSource z accepted text (accepted lines)
+accepted_is z accepted text lines a = inr (lines, a, refl)
+
+-- a source has an outcome, and only one
+pub some_outcome : (z : Size) (accepted : List Line → Outcome) (text : Text)
+    → (o : Outcome) × OfSource z accepted text o
+some_outcome z accepted text = by_answer (one_answer.every z text)
+  where
+    by_answer : IsAcceptedOrRefused z text → (o : Outcome) × OfSource z accepted text o
+    by_answer (inl a) = (accepted a.0, inr (a.0, a.1, refl))
+    by_answer (inr r) = (refused (source_fault_line (At r.0 r.1)), inl (r.0, r.1, r.2, refl))
+
+pub source_outcome : (z : Size) (accepted : List Line → Outcome) (text : Text) (o other : Outcome)
+    → OfSource z accepted text o → OfSource z accepted text other → o ≡ other
+source_outcome z accepted text o other (inl r) (inl q) =
+    let same = one_answer.one_fault z text r.0 q.0 r.1 q.1 r.2 q.2 in
+    sym r.3 ∙ (λ i. refused (source_fault_line (At (same.0 i) (same.1 i)))) ∙ q.3
+source_outcome z accepted text o other (inl r) (inr b) =
+    absurd (one_answer.never_both z text b.0 r.0 r.1 b.1 r.2)
+source_outcome z accepted text o other (inr a) (inl q) =
+    absurd (one_answer.never_both z text a.0 q.0 q.1 a.1 q.2)
+source_outcome z accepted text o other (inr a) (inr b) =
+    sym a.2 ∙ ap accepted (one_answer.one_program z text a.0 b.0 a.1 b.1) ∙ b.2
+
+-- a fault of form
+pub refused_form : (z : Size) (text : Text) (f : SourceFault) (e : Rejection)
+    → HasFormFault text f → Refuses (source_fault_line f) e → (f ≡ Memory → e ≡ rejection.Memory)
+    → LinksSource z text (Err e)
+refused_form z text f rejection.Memory is gives none = tt
+refused_form z text Memory (rejection.Refused reply) is gives none = absurd (never (none refl))
+refused_form z text (At line cause) (rejection.Refused reply) is gives none = (line, cause, for_form is, gives)
+
+-- a fault of meaning
+pub refused_meaning : (z : Size) {text : Text} {two : Bool} {lines : List Line} (f : SourceFault) (e : Rejection)
+    → IsProgram text two lines → HasMeaningFault z lines f → Refuses (source_fault_line f) e
+    → (f ≡ Memory → e ≡ rejection.Memory) → LinksSource z text (Err e)
+refused_meaning z f rejection.Memory p is gives none = tt
+refused_meaning z Memory (rejection.Refused reply) p is gives none = absurd (never (none refl))
+refused_meaning z (At line cause) (rejection.Refused reply) p is gives none = (line, cause, for_meaning p is, gives)
+
+-- a program that is linked
+pub linked_accepted : (z : Size) {text : Text} {two : Bool} {lines : List Line} (k : Linked) → IsProgram text two lines
+    → IsLinked z lines k → LinksSource z text (Ok k)
+linked_accepted z {two} {lines} k p is =
+    (lines, record { two = two; says = p; faultless = is.accepted }, is)
+
+-- ---- the outcome of an input
+
+-- of an accepted source
+pub linked_replied : (z : Size) (accepted : List Line → Outcome) (input : Text) (k : Linked) (reply : Reply)
+    → LinksSource z input (Ok k)
+    → ((lines : List Line) → IsLinked z lines k → Gives reply (accepted lines))
+    → Replies (of_source z accepted) input (Ok reply)
+linked_replied z accepted input k reply l g = (accepted l.0, accepted_is z accepted input l.0 l.1, g l.0 l.2)
+
+-- of one that is refused
+source_rejected : (z : Size) (accepted : List Line → Outcome) (input : Text) (e : Rejection)
+    → LinksSource z input (Err e) → Replies (of_source z accepted) input (Err e)
+source_rejected z accepted input (rejection.Refused reply) l =
+    (refused (source_fault_line (At l.0 l.1)), inl (l.0, l.1, l.2, refl), l.3)
+source_rejected z accepted input rejection.Memory l = let some = some_outcome z accepted input in (some.0, some.1, tt)
+
+-- where `?` hands it on
+pub source_refused : (z : Size) (accepted : List Line → Outcome) (input : Text) (r : Result Reply Rejection)
+    (e : Rejection) → LinksSource z input (Err e) → IsErr r × IsErrAnd r (λ handed. handed ≡ e)
+    → Replies (of_source z accepted) input r
+source_refused z accepted input (Ok reply) e l is = absurd (cc)
+source_refused z accepted input (Err handed) e l is =
+    source_rejected z accepted input handed (subst (λ (x : Rejection). LinksSource z input (Err x)) (sym is.1) l)
+
+-- of one for which no memory is found
+pub source_unanswered : (z : Size) (accepted : List Line → Outcome) (input : Text) (r : Result Reply Rejection)
+    → IsErr r × IsErrAnd r (λ handed. handed ≡ rejection.Memory) → Replies (of_source z accepted) input r
+source_unanswered z accepted input (Ok reply) is = absurd (cc)
+source_unanswered z accepted input (Err rejection.Memory) is =
+    let some = some_outcome z accepted input in (some.0, some.1, tt)
+source_unanswered z accepted input (Err (rejection.Refused reply)) is = absurd (cc)
+
+-- ---- that it is run from its entry
+
+pub headline : Headline
+headline s source lines a =
+    runs_from_entry s lines (each_source s.size source lines a) (each_entry_has_words s.size source lines a)
+
+-- ---- the reply of a run
+
+pub ran_gives : (window : Option Window) (before : Text) {note : Text} (r : RunEnd) {ending : Ending} {state : State}
+    {codes : List ℕ} {reply : Reply}
+    → ending ≡ r.ending → state ≡ r.state → codes ≡ r.codes → note ≡ before ++ ending_line ending state
+    → Gives reply (record {
+      out = paper (codes ++ post_mortem_codes window state);
+      note = note;
+      status = status_of ending;
+    })
+    → Gives reply (ran_outcome before (with_post_mortem window r))
+ran_gives window before {note} r {ending} {state} {codes} {reply} e s c n gives =
+    let line : note ≡ before ++ ending_line r.ending r.state = n ∙ (λ i. before ++ ending_line (e i) (s i)) in
+    let same : ◌≡◌ {A = Outcome}
+    (record { out = paper (codes ++ post_mortem_codes window state); note = note; status = status_of ending })
+    (ran_outcome before (with_post_mortem window r)) =
+    λ i. record { out = paper (c i ++ post_mortem_codes window (s i)); note = line i; status = status_of (e i) } in
+    subst (Gives reply) same gives
+
+-- ---- the tape and the listing
+
+pub punch_gives : (z : Size) (k : Linked) (r : Result Reply NoMemory)
+    → IfOk r (λ reply. Gives reply (done (text_of (canonicals k.items.items) ++ after_text k.after.items)))
+    → IfOk r (λ reply. (lines : List Line) → IsLinked z lines k → Gives reply (punch_outcome lines))
+punch_gives z k (Err e) gives = tt
+punch_gives z k (Ok reply) gives = λ lines is.
+    subst (Gives reply) (λ i. done (text_of (canonicals (is.items i)) ++ after_text (is.after i))) gives
+
+pub listing_gives : {z : Size} {lines : List Line} {k : Linked} {reply : Reply} {m : State} {store : Cells}
+    {places : List ℕ} {out : Text}
+    → IsLinked z lines k → m ≡ entry_state z lines → store ≡ m.store
+    → places ≡ map (λ (p : Placed). p.place) k.words.items
+    → out ≡ listing store places → Gives reply (done out) → Gives reply (listing_outcome lines)
+listing_gives {lines} {reply} {store} {places} is entry s p o gives =
+    let at : store ≡ entry_store lines = s ∙ ap (λ (x : State). x.store) entry in
+    let all : places ≡ map (λ (p : Placed). p.place) (words_from 0 (table_of (linked lines))) =
+    p ∙ ap (map (λ (p : Placed). p.place)) is.words in
+    subst (λ (t : Text). Gives reply (done t)) (o ∙ (λ i. listing (at i) (all i))) gives

@@ -1,0 +1,12 @@
+use Rattle.ed_answers.proofs.Checks.{entry_found, fault_found}
+use Rattle.ed_answers.proofs.check.check_rows.Goals as goal
+
+pub returns-in-Ok : goal.returns-in-Ok
+returns-in-Ok c =
+    entry_found c.args.settings _ c.in_ok-store.ensures c.in-Ok.ensures.answers c.entry.ensures c.orders.ensures
+    c.rows.ensures c.entry_reply.ensures
+
+pub returns : goal.returns
+returns c =
+    fault_found c.args.settings c.args.rows.now c.in-Err.fault _ c.in_ok-store.ensures
+    c.in-Err.ensures.answers c.fault_reply.ensures.is c.fault_reply.ensures.told

@@ -1,0 +1,11 @@
+use Rattle.std.proofs.Common.{◌≡◌, subst}
+use Rattle.std.specs.Prelude.{IfOk}
+use Rattle.ed_words.specs.declared.size.Size.{Size}
+use Rattle.ed_answers.proofs.Keeping.{first_size}
+use Rattle.ed_answers.proofs.running.run_rows.Goals as goal
+
+pub returns-clause-size : goal.returns-clause-size
+returns-clause-size c =
+    subst (λ (z : Size). IfOk c.run_machine.result (λ left. left.machine.size ≡ z))
+    (first_size c.args.settings.size c.args.rows.items c.in_ok-started.field-0 c.in_ok-started.ensures.is)
+    c.run_machine.ensures.size

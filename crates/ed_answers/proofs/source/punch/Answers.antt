@@ -1,0 +1,13 @@
+use Rattle.ed_answers.specs.Sources.{punch_outcome}
+use Rattle.ed_answers.proofs.Sources.{source_refused, source_unanswered}
+use Rattle.ed_answers.proofs.source.punch.Goals as goal
+
+pub returns-in_err-linked : goal.returns-in_err-linked
+returns-in_err-linked c =
+    let s = c.args.settings in
+    source_refused s.size punch_outcome c.args.input.now _ _ c.in_err-linked.ensures c.from_residual.ensures
+
+pub returns-in_err-punch_linked : goal.returns-in_err-punch_linked
+returns-in_err-punch_linked c =
+    let s = c.args.settings in
+    source_unanswered s.size punch_outcome c.args.input.now _ c.from_residual-in_err-punch_linked.ensures

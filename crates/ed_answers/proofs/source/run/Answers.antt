@@ -1,0 +1,13 @@
+use Rattle.ed_answers.specs.Sources.{run_outcome}
+use Rattle.ed_answers.proofs.Sources.{source_refused, source_unanswered}
+use Rattle.ed_answers.proofs.source.run.Goals as goal
+
+pub returns-in_err-linked : goal.returns-in_err-linked
+returns-in_err-linked c =
+    let s = c.args.settings in
+    source_refused s.size (run_outcome s) c.args.input.now _ _ c.in_err-linked.ensures c.from_residual.ensures
+
+pub returns-in_err-reply_to_linked : goal.returns-in_err-reply_to_linked
+returns-in_err-reply_to_linked c =
+    let s = c.args.settings in
+    source_unanswered s.size (run_outcome s) c.args.input.now _ c.from_residual-in_err-reply_to_linked.ensures

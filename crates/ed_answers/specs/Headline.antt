@@ -1,0 +1,35 @@
+-- What is shown of every source that is accepted: its tape leads to the state at the entry, and the run is that from
+-- there.
+use Rattle.std.specs.Prelude.{◌≡◌, ◌-◌, ◌<◌, ◌≤◌, List}
+use Rattle.ed_run.specs.Run.{ran}
+use Rattle.ed_syntax.specs.declared.program.Line.{Line}
+use Rattle.ed_link.specs.Refusals.{IsAcceptedAs}
+use Rattle.ed_link.specs.Linked.{entry_of}
+use Rattle.ed_link.specs.Tapes.{cost, tape}
+use Rattle.ed_loads.specs.EntryState.{Enters, entry_state}
+use Rattle.ed_loads.specs.EntryWords.{EntryHasWords}
+use Rattle.ed_printer.specs.Paper.{paper}
+use Rattle.ed_report.specs.Notes.{entered}
+use Rattle.ed_command.specs.declared.command.Settings.{Settings}
+use Rattle.ed_words.specs.Texts.{Text}
+use Rattle.ed_answers.specs.Runs.{paper_room, post_mortem_codes, ran_outcome, run_of, with_post_mortem}
+use Rattle.ed_answers.specs.Sources.{run_outcome}
+
+-- the punched tape leads a cleared machine of the size to the state at the entry, at its cost and with nothing
+-- printed; the store there has the words of the lines, each at its place; and what `run` answers, with a limit not
+-- below the cost, is the run from that state with the limit less the cost, and before its ending the entry and the
+-- cost; with a lower limit the run prints nothing. A post-mortem is in both cases that of the state in which the run
+-- ended
+pub record RunsFromEntry (s : Settings) (lines : List Line) : Type 0 where
+  pub enters : Enters s.size lines
+  pub has_words : EntryHasWords lines
+  pub runs : cost lines ≤ s.limit → run_outcome s lines
+      ≡ ran_outcome (entered (entry_of lines) (cost lines))
+      (with_post_mortem s.post_mortem (ran (s.limit - cost lines) s.resumes paper_room (entry_state s.size lines)))
+  pub short : s.limit < cost lines
+      → (run_outcome s lines).out ≡ paper (post_mortem_codes s.post_mortem (run_of s (tape lines)).state)
+
+-- so it is of every source that is accepted, whatever the limit, the resumes, the size and the post-mortem
+abbrev pub Headline : Type 0
+Headline =
+    (s : Settings) (source : Text) (lines : List Line) → IsAcceptedAs s.size source lines → RunsFromEntry s lines

@@ -1,0 +1,13 @@
+pub mod Outcome
+pub mod Answer
+pub mod Runs
+pub mod Tapes
+pub mod Sources
+pub mod FirstOrders
+pub mod Replies
+pub mod Headline
+pub mod FirstEntry
+pub mod Limits
+pub mod Listed
+pub mod PunchedTapes
+pub mod BothSizes

@@ -1,0 +1,32 @@
+-- What a greater limit changes (this project's own rules): nothing, if the run ended before its limit; else the run goes
+-- on from where it was cut off.
+use Rattle.std.specs.Prelude.{◌≡◌, ◌≢◌, ℕ, ◌≤◌, List, ◌++◌, None}
+use Rattle.ed_syntax.specs.declared.program.Line.{Line}
+use Rattle.ed_command.specs.declared.command.Settings.{Settings}
+use Rattle.ed_words.specs.Texts.{Text}
+use Rattle.ed_answers.specs.Outcome.{Outcome}
+use Rattle.ed_answers.specs.FirstOrders.{tape1_outcome}
+use Rattle.ed_answers.specs.Tapes.{tape_outcome}
+use Rattle.ed_answers.specs.Sources.{run_outcome}
+
+-- the same settings with another limit
+abbrev pub with_limit : ℕ → Settings → Settings
+with_limit n s = record s { limit = n }
+
+-- a text begins with another one
+abbrev pub StartsWith : Text → Text → Type 0
+StartsWith whole part = (rest : Text) × (whole ≡ part ++ rest)
+
+-- what runs answer, by their settings: one that ends otherwise than at its limit, which is status 4, answers the same
+-- with every greater limit; and what a run prints is what the same run with a greater limit begins with
+pub record KeepsLimits (outcome : Settings → Outcome) : Type 0 where
+  pub same : (s : Settings) (more : ℕ) → s.limit ≤ more → (outcome s).status ≢ 4
+      → outcome (with_limit more s) ≡ outcome s
+  pub begins : (s : Settings) (more : ℕ) → s.limit ≤ more → s.post_mortem ≡ None
+      → StartsWith (outcome (with_limit more s)).out (outcome s).out
+
+-- so it is of every tape, of every tape of May 1949, and of every source, those that the program makes included
+pub record EachLimit : Type 0 where
+  pub tapes : (codes : List ℕ) → KeepsLimits (λ s. tape_outcome s codes)
+  pub first_tapes : (codes : List ℕ) → KeepsLimits (λ s. tape1_outcome s codes)
+  pub sources : (lines : List Line) → KeepsLimits (λ s. run_outcome s lines)

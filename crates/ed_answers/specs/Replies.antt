@@ -1,0 +1,77 @@
+-- How a reply stands to the outcome that is due, and what stands in the way of one: a text that is refused.
+use Rattle.std.specs.Prelude.{◌≡◌, ℕ, ◌<◌, ◌++◌, List, Result, Ok, Err}
+use Rattle.ed_codes.specs.Reading.{Reading, rows, no_row, open_comment}
+use Rattle.ed_codes.specs.declared.tape.TextFault.TheVariants.{NoRow, OpenComment}
+use Rattle.ed_words.specs.declared.size.Size.{Size}
+use Rattle.ed_run.specs.Run.{RunEnd}
+use Rattle.ed_syntax.specs.declared.program.Line.{Line}
+use Rattle.ed_syntax.specs.declared.fault.SourceCause.{SourceCause}
+use Rattle.ed_syntax.specs.declared.fault.SourceFault.TheVariants.{At}
+use Rattle.ed_link.specs.Refusals.{IsAcceptedAs, IsRefused}
+use Rattle.ed_link.specs.Answers.{IsLinked}
+use Rattle.ed_link.specs.declared.linked.Linked.{Linked}
+use Rattle.ed_link.specs.Tapes.{tape}
+use Rattle.ed_command.specs.declared.command.Settings.{Settings}
+use Rattle.ed_report.specs.Notes.{ending_line, source_fault_line, text_fault_line}
+use Rattle.ed_words.specs.Texts.{Text}
+use Rattle.ed_answers.specs.Outcome.{Outcome, refused}
+use Rattle.ed_answers.specs.Answer.{Answer, known, of_made, of_input}
+use Rattle.ed_answers.specs.Runs.{run_of}
+use Rattle.ed_answers.specs.Sources.{entered_before}
+use Rattle.ed_answers.specs.declared.running.Ran.{Ran}
+use Rattle.ed_answers.specs.declared.source.NotedRun.{NotedRun}
+use Rattle.ed_answers.specs.declared.reply.Rejection.{Rejection}
+use Rattle.ed_answers.specs.declared.reply.Rejection.TheVariants.{Memory, Refused}
+use Rattle.ed_answers.specs.declared.reply.Reply.{Reply}
+
+-- this holds of the known outcome, or of one that is said, or of one of the input
+abbrev pub ForInput : Answer → Text → (Outcome → Type 0) → Type 0
+ForInput (known due) input P = P due
+ForInput (of_made answers) input P = (o : Outcome) × answers o × P o
+ForInput (of_input answers) input P = (o : Outcome) × answers input o × P o
+
+-- both texts and the status of a reply are those of the outcome; no reply has the status of a fault or of want of
+-- memory
+pub record Gives (reply : Reply) (o : Outcome) : Type 0 where
+  pub out_is : reply.out.items ≡ o.out
+  pub note_is : reply.note.items ≡ o.note
+  pub status_is : reply.status ≡ o.status
+  pub low : reply.status < 8
+
+-- a reply gives the outcome of an input, whether the input is refused or not; where no memory is found for it, there is
+-- such an outcome
+abbrev pub Replies : Answer → Text → Result Reply Rejection → Type 0
+Replies answer input (Ok reply) = ForInput answer input (Gives reply)
+Replies answer input (Err (Refused reply)) = ForInput answer input (Gives reply)
+Replies answer input (Err Memory) = ForInput answer input (λ o. Unit {0})
+
+-- a rejection refuses an input with a line, or no memory was found
+abbrev pub Refuses : Text → Rejection → Type 0
+Refuses line (Refused reply) = Gives reply (refused line)
+Refuses line Memory = Unit {0}
+
+-- a reply refuses a text for its fault
+abbrev pub RefusesText : Reading → Rejection → Type 0
+RefusesText r Memory = Unit {0}
+RefusesText (rows codes) (Refused reply) = ⊥
+RefusesText (no_row place byte) (Refused reply) = Gives reply (refused (text_fault_line (NoRow place byte)))
+RefusesText (open_comment place) (Refused reply) = Gives reply (refused (text_fault_line (OpenComment place)))
+
+-- a run that ended is the definition's
+pub record IsRan (r : RunEnd) (ran : Ran) : Type 0 where
+  pub ending_is : ran.ending ≡ r.ending
+  pub state_is : ran.machine ≡ r.state
+  pub codes_are : ran.paper.codes ≡ r.codes
+
+-- a run of a source that ended is that of its tape, with its note
+pub record IsRanOf (s : Settings) (lines : List Line) (noted : NotedRun) : Type 0 where
+  pub ran : IsRan (run_of s (tape lines)) noted.ran
+  pub note_is : noted.note.items
+      ≡ entered_before lines noted.ran.machine ++ ending_line noted.ran.ending noted.ran.machine
+
+-- the linked program of a source that is accepted, or the reply that refuses the source
+abbrev pub LinksSource : Size → Text → Result Linked Rejection → Type 0
+LinksSource z text (Ok k) = (lines : List Line) × IsAcceptedAs z text lines × IsLinked z lines k
+LinksSource z text (Err (Refused reply)) =
+    (k : ℕ) × (c : SourceCause) × IsRefused z text k c × Gives reply (refused (source_fault_line (At k c)))
+LinksSource z text (Err Memory) = Unit {0}

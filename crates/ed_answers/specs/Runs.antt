@@ -1,0 +1,47 @@
+-- Runs from Start, and what is answered of them (this project's own rules).
+use Rattle.std.specs.Prelude.{ℕ, ◌++◌, List, [], Option, Some, None}
+use Rattle.ed_printer.specs.Paper.{paper}
+use Rattle.ed_machine.specs.State.{State}
+use Rattle.ed_machine.specs.declared.ending.Ending.{Ending}
+use Rattle.ed_machine.specs.declared.ending.Ending.TheVariants.{Stopped, Limit, NoOrder, NoTape, PaperFull}
+use Rattle.ed_run.specs.Run.{RunEnd, ran}
+use Rattle.ed_postmortem.specs.Codes.{printed_codes}
+use Rattle.ed_loads.specs.EntryState.{first_state}
+use Rattle.ed_report.specs.Notes.{ending_line}
+use Rattle.ed_command.specs.declared.command.Settings.{Settings}
+use Rattle.ed_command.specs.declared.command.Window.{Window}
+use Rattle.ed_words.specs.Texts.{Text}
+use Rattle.ed_answers.specs.Outcome.{Outcome}
+
+-- the status of a run's ending
+abbrev pub status_of : Ending → ℕ
+status_of Stopped = 0
+status_of Limit = 4
+status_of NoOrder = 5
+status_of NoTape = 6
+status_of PaperFull = 7
+
+-- how many codes the paper holds
+abbrev pub paper_room : ℕ
+paper_room = 1000000
+
+-- the run of rows: from a cleared machine, started on them with the Initial Orders
+abbrev pub run_of : Settings → List ℕ → RunEnd
+run_of s codes = ran s.limit s.resumes paper_room (first_state s.size codes)
+
+-- the codes that a post-mortem prints of a state: those of the words at a window, and none where there is no window
+abbrev pub post_mortem_codes : Option Window → State → List ℕ
+post_mortem_codes None s = []
+post_mortem_codes (Some w) s = printed_codes s.store.words w.first w.count
+
+-- a run, with the codes of a post-mortem of the state in which it ended behind its own
+abbrev pub with_post_mortem : Option Window → RunEnd → RunEnd
+with_post_mortem window r = record r { codes = r.codes ++ post_mortem_codes window r.state }
+
+-- a run that ended: the teleprinter's bytes, the line of the ending behind what stands before it, and its status
+abbrev pub ran_outcome : Text → RunEnd → Outcome
+ran_outcome before r = record {
+  out = paper r.codes;
+  note = before ++ ending_line r.ending r.state;
+  status = status_of r.ending;
+}

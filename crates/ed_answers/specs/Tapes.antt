@@ -1,0 +1,52 @@
+-- What is answered to a tape: its run, and what its check says (this project's own rules).
+use Rattle.std.specs.Prelude.{◌≡◌, ◌⊎◌, ℕ, [], List}
+use Rattle.ed_words.specs.declared.size.Size.{Size}
+use Rattle.ed_store.specs.Cells.{cleared_cells}
+use Rattle.ed_notation.specs.Fold.{Note}
+use Rattle.ed_notation.specs.Openings.{opening}
+use Rattle.ed_notation.specs.Faults.{TapeEntry, ComesTo, IsFault, WellFormed}
+use Rattle.ed_notation.specs.declared.cause.TapeCause.{TapeCause}
+use Rattle.ed_report.specs.Entries.{entry_line}
+use Rattle.ed_report.specs.Notes.{rule_line}
+use Rattle.ed_command.specs.declared.command.Settings.{Settings}
+use Rattle.ed_answers.specs.Answer.{Answer, exactly, of_rows}
+use Rattle.ed_answers.specs.Outcome.{Outcome, done, refused}
+use Rattle.ed_answers.specs.Runs.{ran_outcome, run_of, with_post_mortem}
+
+-- ---- runs
+
+-- `tape`: the run of the rows, with the post-mortem that is asked for
+abbrev pub tape_outcome : Settings → List ℕ → Outcome
+tape_outcome s codes = ran_outcome [] (with_post_mortem s.post_mortem (run_of s codes))
+
+-- what `tape` answers
+abbrev pub tape_answer : Settings → Answer
+tape_answer s = of_rows (exactly (tape_outcome s))
+
+-- ---- checks
+
+-- the state of the notation before the first row, on a cleared store
+abbrev pub first_note : Note
+first_note = opening cleared_cells.words
+
+-- `check-tape` of a well-formed tape: the entry that the fold of its items comes to
+pub record OfWellFormed (z : Size) (codes : List ℕ) (o : Outcome) : Type 0 where
+  pub well : WellFormed z cleared_cells.words first_note codes
+  pub entry : TapeEntry
+  pub comes : ComesTo cleared_cells.words first_note 9 codes entry
+  pub outcome : done (entry_line entry.at entry.cost entry.rows) ≡ o
+
+-- `check-tape` of a tape with a fault: the first one
+pub record OfFaulty (z : Size) (codes : List ℕ) (o : Outcome) : Type 0 where
+  pub row : ℕ
+  pub cause : TapeCause
+  pub fault : IsFault z cleared_cells.words first_note codes row cause
+  pub outcome : refused (rule_line row cause) ≡ o
+
+-- `check-tape`
+abbrev pub IsChecked : Settings → List ℕ → Outcome → Type 0
+IsChecked s codes o = OfWellFormed s.size codes o ⊎ OfFaulty s.size codes o
+
+-- what `check-tape` answers
+abbrev pub check_tape_answer : Settings → Answer
+check_tape_answer s = of_rows (IsChecked s)

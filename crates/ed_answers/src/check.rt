@@ -1,0 +1,58 @@
+ghost use Rattle.std.specs.Prelude.{◌≡◌, ◌≢◌, ◌≤◌, ◌^◌, IfOk, length};
+ghost use Rattle.ed_report.specs.Notes.{tape_fault_line};
+ghost use Rattle.ed_answers.specs.Replies.{Gives, Replies};
+ghost use Rattle.ed_answers.specs.Outcome.{Outcome, done, refused};
+ghost use Rattle.ed_report.specs.Entries.{entry_line};
+ghost use Rattle.ed_answers.specs.Tapes.{IsChecked, check_tape_answer};
+
+use crate::reply::{Rejection, Reply};
+use crate::rows::rows_of;
+use ed_codes::Code;
+use ed_command::Settings;
+use ed_notation::{TapeFault, check};
+use ed_report::{entry_text, tape_fault};
+use ed_store::Store;
+use ed_words::NoMemory;
+use std::alloc::Global;
+
+/// `check-tape`: the entry that a text's rows come to from a cleared store, or their fault.
+pub fn check_tape(alloc: Global, settings: Settings, input: &[u8]) -> Result<Reply, Rejection>
+    requires { length input.now ≤ 2 ^ 32 }
+    ensures { Replies (check_tape_answer settings) input.now result }
+{
+    let rows = rows_of(alloc, input)?;
+    Ok(check_rows(alloc, settings, &rows)?)
+}
+
+fn check_rows(alloc: Global, settings: Settings, rows: &[Code]) -> Result<Reply, NoMemory>
+    requires { length rows.now ≤ 2 ^ 32 }
+    ensures { IfOk result (λ reply. (o : Outcome) × IsChecked settings rows.now o × Gives reply o) }
+{
+    let store = Store::cleared(alloc)?;
+    match check(alloc, settings.size, &store, rows) {
+        Ok(checked) => entry_reply(alloc, checked.entry(), checked.orders(), checked.rows()),
+        Err(fault) => fault_reply(alloc, &fault),
+    }
+}
+
+/// The reply to rows that are not a tape of the notation.
+fn fault_reply(alloc: Global, fault: &TapeFault) -> Result<Reply, NoMemory>
+    ensures is { IfOk result (λ reply. Gives reply (refused (tape_fault_line fault.now))) }
+    ensures told { IfOk result (λ _. fault.now ≢ TapeFault.Memory) }
+{
+    match fault {
+        TapeFault::Memory => Err(NoMemory),
+        TapeFault::At { .. } => Ok(Reply::refusal(alloc, tape_fault(alloc, fault)?)),
+    }
+}
+
+/// The reply to a well-formed tape.
+pub fn entry_reply(alloc: Global, entry: u16, orders: u64, rows: usize) -> Result<Reply, NoMemory>
+    ensures { IfOk result (λ reply. Gives reply (done (entry_line entry orders rows))) }
+{
+    Ok(Reply {
+        out: entry_text(alloc, entry, orders, rows)?,
+        note: Vec::new(alloc),
+        status: 0,
+    })
+}

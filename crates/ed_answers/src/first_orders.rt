@@ -1,0 +1,88 @@
+ghost use Rattle.std.specs.Prelude.{◌≡◌, ◌≢◌, ◌≤◌, ◌^◌, IfOk, length};
+ghost use Rattle.ed_report.specs.FirstNotes.{tape1_fault_line};
+ghost use Rattle.ed_answers.specs.FirstOrders.{IsChecked1, check_tape1_answer, first_state1, tape1_answer};
+ghost use Rattle.ed_answers.specs.FirstOrders.{run1_of, tape1_outcome};
+ghost use Rattle.ed_answers.specs.Outcome.{Outcome, refused};
+ghost use Rattle.ed_answers.specs.Replies.{Gives, IsRan, Replies};
+
+use crate::check::entry_reply;
+use crate::reply::{Rejection, Reply};
+use crate::rows::rows_of;
+use crate::running::{Ran, ran_reply, run_machine};
+use ed_codes::Code;
+use ed_command::Settings;
+use ed_initial1::{Tape1Fault, check1, orders1};
+use ed_machine::Machine;
+use ed_report::{ending_text, tape1_fault};
+use ed_words::{NoMemory, Size};
+use std::alloc::Global;
+
+/// Where the program of a tape of Initial Orders 1 is entered.
+const ENTRY: u16 = 31;
+
+/// `tape1`: the run of a text's rows under Initial Orders 1.
+pub fn tape1(alloc: Global, settings: Settings, input: &[u8]) -> Result<Reply, Rejection>
+    ensures { Replies (tape1_answer settings) input.now result }
+{
+    let rows = rows_of(alloc, input)?;
+    Ok(run_tape1(alloc, settings, rows)?)
+}
+
+/// The reply to rows.
+fn run_tape1(alloc: Global, settings: Settings, rows: Vec<Code>) -> Result<Reply, NoMemory>
+    ensures { IfOk result (λ reply. Gives reply (tape1_outcome settings rows.items)) }
+{
+    let ran = run_rows1(alloc, settings, rows)?;
+    let note = ending_text(alloc, ran.ending, &ran.machine)?;
+    ran_reply(alloc, &ran, note)
+}
+
+/// Runs a cleared machine of full size, started on rows with Initial Orders 1. Kept out of the callers, as the run of a
+/// tape is.
+#[inline(never)]
+pub fn run_rows1(alloc: Global, settings: Settings, rows: Vec<Code>) -> Result<Ran, NoMemory>
+    ensures { IfOk result (λ ran. IsRan (run1_of settings rows.items) ran) }
+{
+    run_machine(alloc, settings, started1(alloc, rows)?)
+}
+
+/// A cleared machine of full size, started on rows with Initial Orders 1.
+#[tactic(auto, unfolding(crate::specs::FirstOrders::first_state1))]
+fn started1(alloc: Global, rows: Vec<Code>) -> Result<Machine, NoMemory>
+    ensures is { IfOk result (λ m. m ≡ first_state1 rows.items) }
+    ensures orders { IfOk result (λ m. m.orders ≡ 0) }
+{
+    let mut machine = Machine::cleared_of(alloc, Size::Full)?;
+    machine.start(&orders1(), rows);
+    Ok(machine)
+}
+
+/// `check-tape1`: the entry at 31 that a text's rows come to under Initial Orders 1, or their fault.
+pub fn check_tape1(alloc: Global, input: &[u8]) -> Result<Reply, Rejection>
+    requires { length input.now ≤ 2 ^ 32 }
+    ensures { Replies check_tape1_answer input.now result }
+{
+    let rows = rows_of(alloc, input)?;
+    Ok(check_rows1(alloc, &rows)?)
+}
+
+fn check_rows1(alloc: Global, rows: &[Code]) -> Result<Reply, NoMemory>
+    requires { length rows.now ≤ 2 ^ 32 }
+    ensures { IfOk result (λ reply. (o : Outcome) × IsChecked1 rows.now o × Gives reply o) }
+{
+    match check1(alloc, rows) {
+        Ok(checked) => entry_reply(alloc, ENTRY, checked.orders(), checked.rows()),
+        Err(fault) => fault_reply1(alloc, &fault),
+    }
+}
+
+/// The reply to rows that are no tape of Initial Orders 1.
+fn fault_reply1(alloc: Global, fault: &Tape1Fault) -> Result<Reply, NoMemory>
+    ensures is { IfOk result (λ reply. Gives reply (refused (tape1_fault_line fault.now))) }
+    ensures told { IfOk result (λ _. fault.now ≢ Tape1Fault.Memory) }
+{
+    match fault {
+        Tape1Fault::Memory => Err(NoMemory),
+        Tape1Fault::At { .. } => Ok(Reply::refusal(alloc, tape1_fault(alloc, fault)?)),
+    }
+}

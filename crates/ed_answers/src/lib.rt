@@ -1,0 +1,23 @@
+//! What is answered to a text: the run or the check of a tape, for either Initial Orders, and the run, the tape and the
+//! listing of a source.
+//!
+//! The contract is that each reply is that of the definition: its two texts and its status. An input that is refused has
+//! a reply too, and want of memory has none. Among the definitions are the laws between these answers. Stands on
+//! `ed_loads`, `ed_initial1`, `ed_postmortem` and `ed_report`, and on `ed_command` for the settings of a run.
+#![tactic(auto)]
+
+mod check;
+mod first_orders;
+mod reply;
+mod rows;
+mod running;
+mod source;
+mod tapes;
+
+pub use check::check_tape;
+pub use first_orders::{check_tape1, run_rows1, tape1};
+pub use reply::{Rejection, Reply};
+pub use rows::rows_of;
+pub use running::{Ran, ran_reply, run_rows, status_of};
+pub use source::{NotedRun, linked_of, list, list_linked, punch, run, run_linked};
+pub use tapes::tape;

@@ -1,0 +1,74 @@
+ghost use Rattle.std.specs.Prelude.{◌≡◌, IfOk, IsErr};
+ghost use Rattle.ed_answers.specs.Replies.{Gives, Refuses};
+ghost use Rattle.ed_answers.specs.Outcome.{done, refused};
+
+use ed_words::NoMemory;
+use std::alloc::Global;
+
+/// What is answered to an input, in memory.
+#[derive(Drop)]
+pub struct Reply {
+    /// The text of the answer.
+    pub out: Vec<u8>,
+    /// The line on how it ended, or on what is at fault.
+    pub note: Vec<u8>,
+    /// The status of the program: 0, or 3 to 7.
+    pub status: u8,
+}
+
+/// Why there are no rows of a text, or no linked program of it.
+#[derive(Drop)]
+pub enum Rejection {
+    /// The text is refused, with this reply.
+    Refused(Reply),
+    /// No memory was found.
+    Memory,
+}
+
+impl Reply {
+    /// The reply of a command that is finished, with a text.
+    pub fn done(alloc: Global, out: Vec<u8>) -> Reply
+        ensures { Gives result (done out.items) }
+    {
+        Reply {
+            out,
+            note: Vec::new(alloc),
+            status: 0,
+        }
+    }
+
+    /// The reply that refuses an input, with a line.
+    pub fn refusal(alloc: Global, line: Vec<u8>) -> Reply
+        ensures { Gives result (refused line.items) }
+    {
+        Reply {
+            out: Vec::new(alloc),
+            note: line,
+            status: 3,
+        }
+    }
+}
+
+impl Rejection {
+    /// The rejection that says a line; want of memory if there was none for the line.
+    pub fn with_line(alloc: Global, line: Result<Vec<u8>, NoMemory>) -> Rejection
+        ensures line { IfOk line (λ v. Refuses v.items result) }
+        ensures memory { IsErr line → result ≡ Rejection.Memory }
+    {
+        match line {
+            Ok(line) => Rejection::Refused(Reply::refusal(alloc, line)),
+            Err(NoMemory) => Rejection::Memory,
+        }
+    }
+}
+
+impl From<NoMemory> for Rejection {
+    ghost use Rattle.std.specs.Prelude.{◌≡◌};
+    ghost use Rattle.ed_answers.specs.declared.reply.Rejection.TheVariants.{Memory};
+
+    ghost from_gives = { λ _ e. e ≡ Memory };
+
+    fn from(_none: NoMemory) -> Rejection {
+        Rejection::Memory
+    }
+}

@@ -1,0 +1,152 @@
+ghost use Rattle.std.specs.Prelude.{◌≡◌, ◌<◌, ◌≤◌, ◌+◌, ◌-◌, ◌^◌, ◌++◌, IfErr, IfOk, IfSome};
+ghost use Rattle.ed_run.specs.Run.{ran};
+ghost use Rattle.ed_printer.specs.Paper.{paper};
+ghost use Rattle.ed_postmortem.specs.Codes.{printed_codes};
+ghost use Rattle.ed_command.specs.Ranges.{AreSettingsInRange, IsWindowOf};
+ghost use Rattle.ed_answers.specs.Replies.{Gives, IsRan};
+ghost use Rattle.ed_answers.specs.Runs.{paper_room, post_mortem_codes, run_of, status_of};
+
+use crate::reply::Reply;
+use ed_codes::Code;
+use ed_command::{Settings, Window};
+use ed_loads::started;
+use ed_machine::{Ending, Machine, Paper};
+use ed_postmortem::{PmFault, post_mortem};
+use ed_report::{paper_text, papers_text};
+use ed_run::run;
+use ed_words::NoMemory;
+use std::alloc::Global;
+
+/// How many codes the paper of a run holds.
+const PAPER_ROOM: usize = 1_000_000;
+
+/// How many codes the paper of a post-mortem holds, which are enough for all words that can be printed.
+const POST_MORTEM_ROOM: usize = 9_680;
+
+/// A run that ended, with the machine and the paper that it leaves.
+#[derive(Drop)]
+pub struct Ran {
+    pub ending: Ending,
+    pub machine: Machine,
+    pub paper: Paper,
+}
+
+/// Runs a cleared machine of a size, started on the rows with the Initial Orders. Kept out of the callers: inlined into
+/// `main` it would run out of registers and take longer.
+#[inline(never)]
+pub fn run_rows(alloc: Global, settings: Settings, rows: Vec<Code>) -> Result<Ran, NoMemory>
+    ensures is { IfOk result (λ ran. IsRan (run_of settings rows.items) ran) }
+    ensures size { IfOk result (λ ran. ran.machine.size ≡ settings.size) }
+    ensures orders { IfOk result (λ ran. ran.machine.orders ≤ settings.limit) }
+{
+    run_machine(alloc, settings, started(alloc, settings.size, rows)?)
+}
+
+/// Runs a machine until it has done the orders of the limit, those that it has done before included.
+#[inline(always)]
+pub fn run_machine(alloc: Global, settings: Settings, mut machine: Machine) -> Result<Ran, NoMemory>
+    requires { machine.orders ≤ settings.limit }
+    ensures is { IfOk result (λ left.
+        IsRan (ran (settings.limit - machine.orders) settings.resumes paper_room machine) left) }
+    ensures size { IfOk result (λ left. left.machine.size ≡ machine.size) }
+    ensures orders { IfOk result (λ left. left.machine.orders ≤ settings.limit) }
+{
+    let mut paper = Paper::new(alloc, PAPER_ROOM)?;
+    let left = u64::from(settings.limit) - machine.orders_done();
+    let ending = run(&mut machine, left, settings.resumes, &mut paper);
+    Ok(Ran {
+        ending,
+        machine,
+        paper,
+    })
+}
+
+/// The reply of a run, with its note.
+pub fn ran_reply(alloc: Global, ran: &Ran, note: Vec<u8>) -> Result<Reply, NoMemory>
+    ensures { IfOk result (λ reply.
+        Gives reply (record {
+          out = paper ran.now.paper.codes;
+          note = note.items;
+          status = status_of ran.now.ending;
+        })) }
+{
+    Ok(Reply {
+        out: paper_text(alloc, ran.paper.codes())?,
+        note,
+        status: status_of(ran.ending),
+    })
+}
+
+/// The reply of a run, with the post-mortem that is asked for after it, printed in the shift that the run leaves. Its
+/// orders don't count against the limit.
+pub fn post_mortem_reply(
+    alloc: Global,
+    settings: Settings,
+    mut ran: Ran,
+    note: Vec<u8>,
+) -> Result<Reply, NoMemory>
+    requires ranges { AreSettingsInRange settings }
+    requires size { ran.machine.size ≡ settings.size }
+    requires orders { ran.machine.orders ≤ settings.limit }
+    ensures { IfOk result (λ reply. Gives reply (record {
+      out = paper (ran.paper.codes ++ post_mortem_codes settings.post_mortem ran.machine);
+      note = note.items;
+      status = status_of ran.ending;
+    })) }
+{
+    let after = post_mortem_of(alloc, settings.post_mortem, &mut ran.machine)?;
+    Ok(Reply {
+        out: papers_text(alloc, ran.paper.codes(), after.codes())?,
+        note,
+        status: status_of(ran.ending),
+    })
+}
+
+/// The paper of a post-mortem of the words at a window, or an empty one where there is no window.
+fn post_mortem_of(
+    alloc: Global,
+    window: Option<Window>,
+    machine: &mut Machine,
+) -> Result<Paper, NoMemory>
+    requires window { IfSome window (IsWindowOf machine.old.size) }
+    requires orders { machine.old.orders + 300000 ≤ 2 ^ 63 }
+    ensures { IfOk result (λ p. p.codes ≡ post_mortem_codes window machine.old) }
+{
+    match window {
+        Some(window) => match window_printed(alloc, window, machine) {
+            Ok(paper) => Ok(paper),
+            Err(_) => Err(NoMemory),
+        },
+        None => Paper::new(alloc, 0),
+    }
+}
+
+/// The paper of the words at a window. No post-mortem of it is refused: it lies in the store, and the paper has room.
+fn window_printed(alloc: Global, window: Window, machine: &mut Machine) -> Result<Paper, PmFault>
+    requires window { IsWindowOf machine.old.size window }
+    requires orders { machine.old.orders + 300000 ≤ 2 ^ 63 }
+    ensures is { IfOk result (λ p. p.codes ≡ printed_codes machine.old.store.words window.first window.count) }
+    ensures memory { IfErr result (λ fault. fault ≡ PmFault.Memory) }
+{
+    let Ok(mut paper) = Paper::new(alloc, POST_MORTEM_ROOM) else {
+        return Err(PmFault::Memory);
+    };
+    match post_mortem(alloc, machine, window.first, window.count, &mut paper) {
+        Ok(_) => Ok(paper),
+        Err(fault) => Err(fault),
+    }
+}
+
+/// The status of a run's ending.
+pub fn status_of(ending: Ending) -> u8
+    ensures is { result ≡ status_of ending }
+    ensures low { result < 8 }
+{
+    match ending {
+        Ending::Stopped => 0,
+        Ending::Limit => 4,
+        Ending::NoOrder => 5,
+        Ending::NoTape => 6,
+        Ending::PaperFull => 7,
+    }
+}

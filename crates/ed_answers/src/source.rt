@@ -1,0 +1,176 @@
+ghost use Rattle.std.specs.Prelude.{◌≡◌, ◌≤◌, ◌++◌, [], IfOk, List, map, nat_le, if◌then◌else◌};
+ghost use Rattle.ed_notation.specs.Spellings.{canonicals, text_of};
+ghost use Rattle.ed_syntax.specs.declared.program.Line.{Line};
+ghost use Rattle.ed_link.specs.Answers.{IsLinked};
+ghost use Rattle.ed_link.specs.Tapes.{after_text, cost, tape};
+ghost use Rattle.ed_loads.specs.EntryState.{entry_state};
+ghost use Rattle.ed_report.specs.Notes.{ending_line, entered, source_fault_line};
+ghost use Rattle.ed_command.specs.Ranges.{AreSettingsInRange};
+ghost use Rattle.ed_answers.specs.Outcome.{done};
+ghost use Rattle.ed_answers.specs.Replies.{Gives, IsRan, IsRanOf, LinksSource, Refuses, Replies};
+ghost use Rattle.ed_answers.specs.Runs.{run_of};
+ghost use Rattle.ed_answers.specs.Sources.{listing_answer, listing_outcome, punch_answer};
+ghost use Rattle.ed_answers.specs.Sources.{run_answer, run_outcome};
+
+use crate::reply::{Rejection, Reply};
+use crate::running::{Ran, post_mortem_reply, run_machine, run_rows};
+use ed_command::Settings;
+use ed_link::{Linked, Placed, link};
+use ed_loads::enter;
+use ed_machine::Machine;
+use ed_report::{ending_text, entered_text, listing, source_fault};
+use ed_syntax::{SourceFault, parse};
+use ed_words::{NoMemory, Size};
+use std::alloc::Global;
+
+/// The run of a source that ended, with the line on its entry and its end.
+#[derive(Drop)]
+pub struct NotedRun {
+    pub ran: Ran,
+    pub note: Vec<u8>,
+}
+
+/// `run`: the run of a source's tape.
+pub fn run(alloc: Global, settings: Settings, input: &[u8]) -> Result<Reply, Rejection>
+    requires { AreSettingsInRange settings }
+    ensures { Replies (run_answer settings) input.now result }
+{
+    let linked = linked_of(alloc, settings.size, input)?;
+    Ok(reply_to_linked(alloc, settings, &linked)?)
+}
+
+/// `punch`: the text of a source's tape.
+pub fn punch(alloc: Global, settings: Settings, input: &[u8]) -> Result<Reply, Rejection>
+    ensures { Replies (punch_answer settings) input.now result }
+{
+    let linked = linked_of(alloc, settings.size, input)?;
+    Ok(punch_linked(alloc, &linked)?)
+}
+
+/// `listing`: the locations of a source's linked program, with the words of the store at entry.
+pub fn list(alloc: Global, settings: Settings, input: &[u8]) -> Result<Reply, Rejection>
+    ensures { Replies (listing_answer settings) input.now result }
+{
+    let linked = linked_of(alloc, settings.size, input)?;
+    Ok(list_linked(alloc, settings.size, &linked)?)
+}
+
+/// The linked program of a source.
+pub fn linked_of(alloc: Global, size: Size, input: &[u8]) -> Result<Linked, Rejection>
+    ensures { LinksSource size input.now result }
+{
+    let program = match parse(alloc, input) {
+        Ok(program) => program,
+        Err(fault) => return Err(source_rejection(alloc, &fault)),
+    };
+    match link(alloc, size, &program) {
+        Ok(linked) => Ok(linked),
+        Err(fault) => Err(source_rejection(alloc, &fault)),
+    }
+}
+
+/// The rejection of a source with a fault.
+fn source_rejection(alloc: Global, fault: &SourceFault) -> Rejection
+    ensures is { Refuses (source_fault_line fault.now) result }
+    ensures memory { fault.now ≡ SourceFault.Memory → result ≡ Rejection.Memory }
+{
+    match fault {
+        SourceFault::Memory => Rejection::Memory,
+        SourceFault::At { .. } => Rejection::with_line(alloc, source_fault(alloc, fault)),
+    }
+}
+
+/// The reply to a source, by its linked program.
+fn reply_to_linked(alloc: Global, settings: Settings, linked: &Linked) -> Result<Reply, NoMemory>
+    requires ranges { AreSettingsInRange settings }
+    requires linked { (lines : List Line) × IsLinked settings.size lines linked.now }
+    ensures { IfOk result (λ reply. (lines : List Line) → IsLinked settings.size lines linked.now
+        → Gives reply (run_outcome settings lines)) }
+{
+    let noted = run_linked(alloc, settings, linked)?;
+    post_mortem_reply(alloc, settings, noted.ran, noted.note)
+}
+
+/// Runs the tape of a linked program.
+pub fn run_linked(alloc: Global, settings: Settings, linked: &Linked) -> Result<NotedRun, NoMemory>
+    requires { (lines : List Line) × IsLinked settings.size lines linked.now }
+    ensures is { IfOk result (λ noted. (lines : List Line) → IsLinked settings.size lines linked.now
+        → IsRanOf settings lines noted) }
+    ensures size { IfOk result (λ noted. noted.ran.machine.size ≡ settings.size) }
+    ensures orders { IfOk result (λ noted. noted.ran.machine.orders ≤ settings.limit) }
+{
+    let entered = enter(alloc, settings.size, linked)?;
+    let cost = entered.orders_done();
+    let ran = run_entered(alloc, settings, linked, entered)?;
+    let note = note_of(alloc, linked.entry, cost, &ran)?;
+    Ok(NotedRun { ran, note })
+}
+
+/// The run of a linked program's tape. The tape is read once: the run goes on from the machine that was led to the entry,
+/// and only a run whose limit is below the cost is obeyed from Start. Kept out of the callers, as the run of a tape is.
+#[inline(never)]
+fn run_entered(
+    alloc: Global,
+    settings: Settings,
+    linked: &Linked,
+    entered: Machine,
+) -> Result<Ran, NoMemory>
+    requires linked { (lines : List Line) × IsLinked settings.size lines linked.now }
+    requires entry { (lines : List Line) → IsLinked settings.size lines linked.now
+        → entered ≡ entry_state settings.size lines }
+    ensures is { IfOk result (λ ran. (lines : List Line) → IsLinked settings.size lines linked.now
+        → IsRan (run_of settings (tape lines)) ran) }
+    ensures size { IfOk result (λ ran. ran.machine.size ≡ settings.size) }
+    ensures orders { IfOk result (λ ran. ran.machine.orders ≤ settings.limit) }
+{
+    if entered.orders_done() <= u64::from(settings.limit) {
+        run_machine(alloc, settings, entered)
+    } else {
+        run_rows(alloc, settings, linked.rows()?)
+    }
+}
+
+/// The line of a run's ending, after the entry and its cost if these orders were obeyed.
+fn note_of(alloc: Global, entry: u16, cost: u64, ran: &Ran) -> Result<Vec<u8>, NoMemory>
+    ensures { IfOk result (λ bytes. bytes.items
+        ≡ (if nat_le cost ran.now.machine.orders then entered entry cost else [])
+        ++ ending_line ran.now.ending ran.now.machine) }
+{
+    if cost <= ran.machine.orders_done() {
+        entered_text(alloc, entry, cost, ran.ending, &ran.machine)
+    } else {
+        ending_text(alloc, ran.ending, &ran.machine)
+    }
+}
+
+/// The tape of a linked program.
+fn punch_linked(alloc: Global, linked: &Linked) -> Result<Reply, NoMemory>
+    ensures { IfOk result (λ reply.
+        Gives reply (done (text_of (canonicals linked.now.items.items) ++ after_text linked.now.after.items))) }
+{
+    Ok(Reply::done(alloc, linked.text()?))
+}
+
+/// The places of a linked program, with the words of the store at entry.
+pub fn list_linked(alloc: Global, size: Size, linked: &Linked) -> Result<Reply, NoMemory>
+    requires { (lines : List Line) × IsLinked size lines linked.now }
+    ensures { IfOk result (λ reply. (lines : List Line) → IsLinked size lines linked.now
+        → Gives reply (listing_outcome lines)) }
+{
+    let machine = enter(alloc, size, linked)?;
+    let places = places_of(alloc, &linked.words)?;
+    Ok(Reply::done(alloc, listing(alloc, machine.store(), &places)?))
+}
+
+/// The places of words.
+fn places_of(alloc: Global, words: &[Placed]) -> Result<Vec<u16>, NoMemory>
+    ensures { IfOk result (λ v. v.items ≡ map (λ p. p.place) words.now) }
+{
+    let mut places = Vec::new(alloc);
+    for placed in words {
+        if places.push(placed.place).is_err() {
+            return Err(NoMemory);
+        }
+    }
+    Ok(places)
+}
