@@ -2,3 +2,9 @@ mod Replies
 mod Endings
 mod Written
 mod TapeRows
+mod Goes
+mod OnTheWay
+mod PaperTails
+mod GoneOn
+mod RowCodes
+mod Stores

@@ -37,7 +37,7 @@ by_step : (s : State) → IsEndOf (step s).state.tape s.tape
 unfolding step
 by_step s = by_order (kind_of_function (function_of (next_word s))) (next_word s) s
 
-by_steps : (k : ℕ) (s : State) → IsEndOf (state_after k s).tape s.tape
+pub by_steps : (k : ℕ) (s : State) → IsEndOf (state_after k s).tape s.tape
 unfolding past
 by_steps zero s = ([], refl)
 by_steps (suc k) s =

@@ -1,3 +1,4 @@
 pub mod Answers
 pub mod Pictures
+pub mod Going
 pub mod Private

@@ -6,6 +6,9 @@
 //! `ed_report`, and on `ed_top` for what the program answers.
 #![tactic(auto)]
 
+mod going;
+mod papers;
+mod pictured;
 mod pictures;
 mod running;
 mod signs;
@@ -14,6 +17,8 @@ mod texts;
 mod told;
 mod writing;
 
+pub use going::page_go_on;
+pub use papers::page_paper;
 pub use pictures::{page_source, page_tape};
 pub use signs::{page_letter, page_order};
 pub use texts::{page_listing, page_source_rows, page_tape_rows};

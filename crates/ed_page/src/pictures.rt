@@ -1,10 +1,15 @@
-ghost use Rattle.std.specs.Prelude.{◌≡◌, ◌≢◌, ◌⊎◌, ◌↔◌, IfSome, IsTrue, length};
+ghost use Rattle.std.specs.Prelude.{◌≡◌, ◌≢◌, ◌⊎◌, ◌↔◌, IfSome, IsTrue, List, length, ℕ};
+ghost use Rattle.ed_codes.specs.Reading.{reading, rows};
+ghost use Rattle.ed_syntax.specs.declared.program.Line.{Line};
+ghost use Rattle.ed_link.specs.Refusals.{IsAcceptedAs};
+ghost use Rattle.ed_link.specs.Tapes.{tape};
 ghost use Rattle.ed_command.specs.declared.command.Action.TheVariants.{Run, Tape};
 ghost use Rattle.ed_answers.specs.Outcome.{Outcome};
 ghost use Rattle.ed_top.specs.Output.{answer};
 ghost use Rattle.ed_page.specs.Answers.{EachRunReadsOn, IsShown, LacksLine, SourceEnds, TapeEnds, blank_registers};
 ghost use Rattle.ed_page.specs.Answers.{picture_buffers};
-ghost use Rattle.ed_page.specs.Pictures.{Pictures, asked};
+ghost use Rattle.ed_page.specs.Going.{BeginsOnTheWay};
+ghost use Rattle.ed_page.specs.Pictures.{Pictures, asked, size_shown};
 ghost use Rattle.ed_page.specs.Private.Stages.{Draws, TellsOutcome, WritesBuffers};
 
 use crate::running::{Shown, asked, run_linked, run_tape};
@@ -42,6 +47,8 @@ pub extern "C" fn page_tape(
         (picture_buffers words.old digits.old paper.old note.old registers.old)
         (picture_buffers words.new digits.new paper.new note.new registers.new) result }
     ensures rows { EachRunReadsOn }
+    ensures next { (codes : List ℕ) → reading text.now ≡ rows codes
+        → BeginsOnTheWay small codes text.now words.new digits.new registers.new result }
 {
     if lacks_room(text, words, digits, note) {
         return NO_ROOM;
@@ -71,6 +78,8 @@ pub extern "C" fn page_source(
         (picture_buffers words.old digits.old paper.old note.old registers.old)
         (picture_buffers words.new digits.new paper.new note.new registers.new) result }
     ensures rows { EachRunReadsOn }
+    ensures next { (lines : List Line) → IsAcceptedAs (size_shown small) text.now lines
+        → BeginsOnTheWay small (tape lines) text.now words.new digits.new registers.new result }
 {
     if lacks_room(text, words, digits, note) {
         return NO_ROOM;

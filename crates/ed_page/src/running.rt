@@ -142,7 +142,7 @@ fn run_rows(alloc: Global, settings: Settings, rows: Vec<Code>) -> Result<Ran, N
 }
 
 /// The status of a run's ending.
-fn status_of(ending: Ending) -> u32
+pub fn status_of(ending: Ending) -> u32
     ensures is { result ≡ status_of ending }
     ensures low { result < 8 }
 {

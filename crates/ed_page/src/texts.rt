@@ -165,7 +165,7 @@ fn places_of(alloc: Global, words: &[Placed]) -> Result<Vec<u16>, NoMemory>
 }
 
 /// The codes of rows as bytes.
-fn bytes_of_rows(alloc: Global, rows: &[Code]) -> Result<Vec<u8>, NoMemory>
+pub fn bytes_of_rows(alloc: Global, rows: &[Code]) -> Result<Vec<u8>, NoMemory>
     ensures { IfOk result (λ v. v.items ≡ rows.now) }
 {
     let mut bytes = Vec::new(alloc);

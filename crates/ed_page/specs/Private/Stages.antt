@@ -20,6 +20,7 @@ use Rattle.ed_words.specs.Texts.{Text}
 use Rattle.ed_answers.specs.Outcome.{Outcome, refused}
 use Rattle.ed_page.specs.Answers.{Buffers, HasItsCause, HasPictureRoom, HasBufferRoom, ShowsNone, Tells, TextBuffers}
 use Rattle.ed_page.specs.Pictures.{Pictures}
+use Rattle.ed_page.specs.declared.going.Gone.{Gone}
 use Rattle.ed_page.specs.declared.running.Ran.{Ran}
 use Rattle.ed_page.specs.declared.running.Shown.{Shown}
 use Rattle.ed_page.specs.declared.told.Told.{Told}
@@ -95,3 +96,9 @@ pub record ShowsMachine (o : Outcome) (machine : Option State) (before after : B
 abbrev pub WritesBuffers : Outcome → Option State → (before after : Buffers) → ℕ → Type 0
 WritesBuffers o machine before after answer = (answer ≢ 10)
     × HasItsCause (HasPictureRoom o before) (after ≡ before) (ShowsMachine o machine before after answer) answer
+
+-- a run that went on is the definition's
+pub record IsGone (r : RunEnd) (gone : Gone) : Type 0 where
+  pub ending_is : gone.ending ≡ r.ending
+  pub state_is : gone.machine ≡ r.state
+  pub codes_are : gone.codes.items ≡ r.codes

@@ -1,5 +1,6 @@
-use Rattle.std.proofs.Common.{rules, subst}
+use Rattle.std.proofs.Common.{refl, rules, subst}
 use Rattle.std.specs.Prelude.{Ok, Some}
+use Rattle.ed_link.specs.Tapes.{tape}
 use Rattle.ed_command.specs.declared.command.Action.TheVariants.{Run}
 use Rattle.ed_command.specs.declared.command.Settings.{Settings}
 use Rattle.ed_top.specs.Output.{answer}
@@ -7,6 +8,8 @@ use Rattle.ed_top.proofs.OneOutcome.{line_once}
 use Rattle.ed_page.specs.Answers.{SourceEnds, picture_buffers}
 use Rattle.ed_page.specs.Pictures.{asked}
 use Rattle.ed_page.specs.Private.Stages.{Draws}
+use Rattle.ed_page.proofs.GoneOn.{begins_on}
+use Rattle.ed_page.proofs.RowCodes.{source_codes}
 use Rattle.ed_page.proofs.TapeRows.{each_run_reads_on}
 use Rattle.ed_page.proofs.Written.{drawn_shown, picture_early, picture_unmade, refuted}
 use Rattle.ed_page.proofs.pictures.page_source.Goals as goal
@@ -42,3 +45,16 @@ returns-in-Err-clause-shown c =
 
 pub returns-in-Err-clause-rows : goal.returns-in-Err-clause-rows
 returns-in-Err-clause-rows c = each_run_reads_on
+
+pub returns-in-Ok-clause-next : goal.returns-in-Ok-clause-next
+returns-in-Ok-clause-next c lines accepted =
+    let s = asked c.args.small c.args.orders c.args.resumes in
+    let text = c.args.text.now in
+    begins_on (answer Run s) (SourceEnds s) text _ _ _ c.args.small c.args.orders c.args.resumes (tape lines)
+    (returns-in-Ok-clause-shown c) (source_codes s.size text lines accepted) (lines, accepted, refl)
+
+pub returns-then-lacks_room-clause-next : goal.returns-then-lacks_room-clause-next
+returns-then-lacks_room-clause-next c lines accepted few not10 not12 = absurd (not12 refl)
+
+pub returns-in-Err-clause-next : goal.returns-in-Err-clause-next
+returns-in-Err-clause-next c lines accepted few not10 not12 = absurd (not10 refl)

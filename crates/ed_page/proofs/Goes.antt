@@ -1,0 +1,98 @@
+-- Where the run from the state of a picture ends, and that going on and on is going once.
+use Rattle.std.proofs.Common.{◌≡◌, ◌∙◌, ℕ, ◌+◌, ◌-◌, ◌<◌, ◌≤◌, ◌++◌, refl, sym, ap, arith, List, length, length-append}
+use Rattle.std.proofs.Common.{Bool, true, false, nat_eq, nat_lt, nat_le, Option, Some, None, is_some, unwrap_or}
+use Rattle.std.specs.Prelude.{if◌then◌else◌}
+use Rattle.std.proofs.lemmas.Bool.Decides.{nat_tests}
+use Rattle.ed_words.specs.declared.size.Size.{Size}
+use Rattle.ed_words.proofs.Numbers.{eq_false, lt_false}
+use Rattle.ed_machine.specs.State.{State}
+use Rattle.ed_machine.specs.OrderTable.{step}
+use Rattle.ed_machine.specs.Steps.{Past, least, past, state_after}
+use Rattle.ed_machine.specs.declared.ending.Ending.{Ending}
+use Rattle.ed_machine.specs.declared.ending.Ending.TheVariants.{Stopped, Limit}
+use Rattle.ed_machine.proofs.LeastNumbers.{least_on}
+use Rattle.ed_machine.proofs.Steps.{after_sum, no_step, past_sum}
+use Rattle.ed_run.specs.Run.{RunEnd, end_at, end_by, ran, run_orders}
+use Rattle.ed_run.proofs.Ends.{ran_ends}
+use Rattle.ed_loads.specs.EntryState.{first_state}
+use Rattle.ed_command.specs.declared.command.Settings.{Settings}
+use Rattle.ed_top.specs.Runs.{paper_room, run_of}
+use Rattle.ed_page.specs.Going.{GoingLaw, behind, on_the_way}
+
+-- where a run goes on, the next order ends nothing
+next_open : (limit resumes room k : ℕ) (p : Past) → end_at limit resumes room k p ≡ None
+    → end_by (step p.state).turn (nat_le room (length p.codes)) ≡ None
+next_open limit resumes room k p = by_tests (nat_lt resumes p.stops) (nat_eq k limit)
+  where
+    by : Option Ending
+    by = end_by (step p.state).turn (nat_le room (length p.codes))
+
+    by_tests : (b c : Bool) → (if b then Some Stopped else if c then Some Limit else by) ≡ None → by ≡ None
+    by_tests true c h = absurd (cc)
+    by_tests false true h = absurd (cc)
+    by_tests false false h = h
+
+-- stops never get fewer
+more_stops : (j k : ℕ) (s : State) → j ≤ k → (past j s).stops ≤ (past k s).stops
+more_stops j k s below =
+    let whole : j + (k - j) ≡ k = omega arith in
+    let stops : (past (j + (k - j)) s).stops ≡ (past j s).stops + (past (k - j) (state_after j s)).stops =
+    ap (λ (p : Past). p.stops) (past_sum j (k - j) s) in
+    let last : (past k s).stops ≡ (past j s).stops + (past (k - j) (state_after j s)).stops =
+    ap (λ n. (past n s).stops) (sym whole) ∙ stops in
+    omega (arith, last)
+
+-- the tests of an end, seen from later
+later_stops : (a b c : ℕ) → nat_lt (a + b) (a + c) ≡ nat_lt b c
+later_stops a b c = grind (arith, nat_tests)
+
+later_limit : (k m n : ℕ) → nat_eq (k + m) (k + n) ≡ nat_eq m n
+later_limit k m n = grind (arith, nat_tests)
+
+later_room : (a b c : ℕ) → nat_le a (b + c) ≡ nat_le (a - b) c
+later_room a b c = grind (arith, nat_tests)
+
+-- going on is going once
+goes_on : (limit resumes room orders more : ℕ) (s : State)
+    → let k = run_orders limit resumes room s in
+      let first = ran limit resumes room s in
+      ran (k + orders) ((past k s).stops + more) room s
+      ≡ behind (past k s) (ran orders more (room - length first.codes) first.state)
+unfolding ran
+goes_on limit resumes room orders more s =
+    let k = run_orders limit resumes room s in
+    let p = past k s in
+    let left = room - length p.codes in
+    let test : ℕ → Bool = λ j. is_some (end_at (k + orders) (p.stops + more) room j (past j s)) in
+    let later : ℕ → Bool = λ j. is_some (end_at orders more left j (past j p.state)) in
+    let none : (j : ℕ) → j < k → test j ≡ false = λ j l.
+    let open_at = next_open limit resumes room j (past j s) ((ran_ends limit resumes room s).first j l) in
+    let few = more_stops j k s (omega arith) in
+    rw (lt_false (p.stops + more) (past j s).stops (omega (arith, few)), eq_false j (k + orders) (omega (arith, l)), open_at) refl in
+    let at : (j : ℕ) → end_at (k + orders) (p.stops + more) room (k + j) (past (k + j) s)
+    ≡ end_at orders more left j (past j p.state) = λ j.
+    let q = past j p.state in
+    rw (past_sum k j s, later_stops p.stops more q.stops, later_limit k j orders, length-append p.codes q.codes, later_room room (length p.codes) (length q.codes)) refl in
+    let place : least test (k + orders) ≡ k + least later orders = least_on test later k orders none (λ j. ap is_some (at j)) in
+    let m = least later orders in
+    rw place (λ i. record {
+      ending = unwrap_or (at m i) Limit;
+      state = (past_sum k m s i).state;
+      codes = (past_sum k m s i).codes;
+    })
+
+-- a run from Start is one on the way
+pub from_start : (s : Settings) (codes : List ℕ)
+    → run_of s codes ≡ ran s.limit s.resumes paper_room (on_the_way s.size codes 0)
+from_start s codes = ap (ran s.limit s.resumes paper_room) (no_step (first_state s.size codes))
+
+-- and where a run ends is on the way
+pub stays : (z : Size) (codes : List ℕ) (k limit resumes room : ℕ)
+    → (j : ℕ) × ((ran limit resumes room (on_the_way z codes k)).state ≡ on_the_way z codes (k + j))
+unfolding ran
+stays z codes k limit resumes room =
+    let j = run_orders limit resumes room (on_the_way z codes k) in
+    (j, sym (after_sum k j (first_state z codes)))
+
+pub going_law : GoingLaw
+going_law = record { goes_on = goes_on; from_start = from_start; stays = stays }

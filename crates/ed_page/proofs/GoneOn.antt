@@ -1,0 +1,101 @@
+-- From a run that went on to the cause of an answer.
+use Rattle.std.proofs.Common.{◌≡◌, ◌≢◌, ◌∙◌, ℕ, ◌+◌, ◌-◌, ◌<◌, refl, sym, ap, subst, arith, lit<, List, [], length}
+use Rattle.std.specs.Prelude.{Bool}
+use Rattle.ed_machine.specs.State.{State}
+use Rattle.ed_machine.specs.declared.ending.Ending.{Ending}
+use Rattle.ed_machine.specs.declared.ending.Ending.TheVariants.{Stopped, Limit, NoOrder, NoTape, PaperFull}
+use Rattle.ed_machine.specs.Sheet.{Sheet}
+use Rattle.ed_run.specs.Run.{IsLeft, RunEnd, ran}
+use Rattle.ed_words.specs.Texts.{Text}
+use Rattle.ed_top.specs.Answer.{Answer}
+use Rattle.ed_top.specs.Runs.{paper_room, run_of, status_of}
+use Rattle.ed_page.specs.Answers.{Buffers, IsShown}
+use Rattle.ed_page.specs.Going.{AreCodes, BeginsOnTheWay, GoingBuffers, HasStoreRoom, IsGoneOn, IsOnTheWay, ShowsRun, on_the_way}
+use Rattle.ed_page.specs.Pictures.{Pictures, asked, size_shown}
+use Rattle.ed_page.specs.Private.Stages.{IsGone}
+use Rattle.ed_page.specs.declared.going.Gone.{Gone}
+use Rattle.ed_page.specs.declared.writing.Registers.{Registers}
+use Rattle.ed_page.proofs.Goes.{from_start, stays}
+
+low_status : (e : Ending) → status_of e < 8
+low_status Stopped = lit< tt
+low_status Limit = lit< tt
+low_status NoOrder = lit< tt
+low_status NoTape = lit< tt
+low_status PaperFull = lit< tt
+
+-- there was no room
+pub gone_nowhere : (r : RunEnd) (before : GoingBuffers) → (HasStoreRoom before → ⊥) → IsGoneOn r before before 12
+gone_nowhere r before none = record {
+  memory = λ e. absurd (cc);
+  gone = λ not10. record {
+    no_room = λ e room. none room;
+    kept = λ e. refl;
+    shown = λ not12. absurd (not12 refl);
+  };
+  early = λ n. refl;
+}
+
+-- no memory was found
+pub gone_unmade : (r : RunEnd) (before : GoingBuffers) → HasStoreRoom before → IsGoneOn r before before 10
+gone_unmade r before room = record {
+  memory = λ e. refl;
+  gone = λ not10. absurd (not10 refl);
+  early = λ none. absurd (none room);
+}
+
+-- where the run ends was written
+pub gone_shown : (r : RunEnd) (before after : GoingBuffers) (answer : ℕ) → HasStoreRoom before
+    → ShowsRun r before after answer → IsGoneOn r before after answer
+gone_shown r before after answer room shows =
+    let low : answer < 8 = subst (λ (n : ℕ). n < 8) (sym shows.status) (low_status r.ending) in
+    record {
+      memory = λ e. absurd (omega (arith, low, e));
+      gone = λ not10. record {
+        no_room = λ e has. absurd (omega (arith, low, e));
+        kept = λ e. absurd (omega (arith, low, e));
+        shown = λ not12. (room, shows);
+      };
+      early = λ none. absurd (none room);
+    }
+
+-- what is shown then is on the way again
+pub next_on : (small : Bool) (rows : List ℕ) (k limit resumes room : ℕ) (words digits : List ℕ) (registers : Registers)
+    → AreCodes rows
+    → Pictures (ran limit resumes room (on_the_way (size_shown small) rows k)).state words digits registers
+    → IsOnTheWay small rows words digits registers
+next_on small rows k limit resumes room words digits registers are pictures =
+    let on = stays (size_shown small) rows k limit resumes room in
+    record {
+      rows_are = are;
+      orders = k + on.0;
+      pictured = subst (λ (s : State). Pictures s words digits registers) on.1 pictures;
+    }
+
+-- what is shown of a text is on the way too
+pub begins_on : (wanted : Answer) (Ends : Text → State → Type 0) (text : Text) (before after : Buffers) (answer : ℕ)
+    (small : Bool) (limit resumes : ℕ) (rows : List ℕ)
+    → IsShown wanted Ends text before after answer → AreCodes rows
+    → Ends text (run_of (asked small limit resumes) rows).state
+    → BeginsOnTheWay small rows text after.words after.digits after.registers answer
+begins_on wanted Ends text before after answer small limit resumes rows shown are ends few not10 not12 =
+    let s = asked small limit resumes in
+    let pictures = ((shown.told not10).2.shown not12).1.state few (run_of s rows).state ends in
+    next_on small rows 0 limit resumes paper_room after.words after.digits after.registers are
+    (subst (λ (r : RunEnd). Pictures r.state after.words after.digits after.registers) (from_start s rows) pictures)
+
+-- a run on a fresh paper of so much room
+pub gone_of : (limit resumes room : ℕ) (m : State) (sheet full : Sheet) (gone : Gone)
+    → sheet ≡ record { codes = []; room = room }
+    → IsLeft (ran limit resumes (sheet.room - length sheet.codes) m) sheet gone.ending gone.machine full
+    → gone.codes.items ≡ full.codes → IsGone (ran limit resumes room m) gone
+gone_of limit resumes room m sheet full gone fresh left codes =
+    let whole : room - 0 ≡ room = omega arith in
+    let same : ran limit resumes (room - 0) m ≡ ran limit resumes room m = ap (λ n. ran limit resumes n m) whole in
+    let is : IsLeft (ran limit resumes (room - 0) m) (record { codes = []; room = room }) gone.ending gone.machine full =
+    subst (λ (x : Sheet). IsLeft (ran limit resumes (x.room - length x.codes) m) x gone.ending gone.machine full) fresh left in
+    record {
+      ending_is = is.ending_is ∙ ap (λ (r : RunEnd). r.ending) same;
+      state_is = is.state_is ∙ ap (λ (r : RunEnd). r.state) same;
+      codes_are = codes ∙ ap (λ (x : Sheet). x.codes) is.sheet_is ∙ ap (λ (r : RunEnd). r.codes) same;
+    }

@@ -1,0 +1,50 @@
+use Rattle.std.proofs.Common.{◌∙◌, ◌<◌, ◌≤◌, refl, sym, subst, arith}
+use Rattle.ed_words.specs.Sizes.{locations}
+use Rattle.ed_words.specs.declared.size.Size.{Size}
+use Rattle.ed_machine.specs.Reached.{IsReached}
+use Rattle.ed_machine.specs.State.{State}
+use Rattle.ed_page.specs.Pictures.{Pictures, size_shown}
+use Rattle.ed_page.specs.Going.{on_the_way}
+use Rattle.ed_page.proofs.OnTheWay.{fit_counter, fit_last, fit_multiplier, fit_rows, fit_words, most_places, shown_state, way_reached}
+use Rattle.ed_page.proofs.pictured.pictured.Goals as goal
+
+pub store_of-requires-clause-fit : goal.store_of-requires-clause-fit
+store_of-requires-clause-fit c = fit_words c.requires.picture c.requires.words
+
+pub of_number-requires : goal.of_number-requires
+of_number-requires c = fit_multiplier c.requires.picture
+
+pub overflow_cast-parts : goal.overflow_cast-parts
+overflow_cast-parts c =
+    let fits : c.args.registers.now.counter < locations (size_shown c.args.small) = fit_counter c.requires.picture in
+    let most : locations (size_shown c.args.small) ≤ 1024 = most_places (size_shown c.args.small) in
+    let low : c.args.registers.now.counter < 1024 = omega (arith, fits, most) in
+    omega (arith, low)
+
+pub rows_left-requires-clause-left : goal.rows_left-requires-clause-left
+rows_left-requires-clause-left c = fit_rows c.requires.picture
+
+pub overflow_cast-registers : goal.overflow_cast-registers
+overflow_cast-registers c =
+    let fits : c.args.registers.now.last ≤ 32 = fit_last c.requires.picture in omega (arith, fits)
+
+pub reached-requires-clause-is : goal.reached-requires-clause-is
+reached-requires-clause-is c =
+    let z = size_shown c.args.small in
+    let k = c.requires.picture.orders in
+    subst IsReached
+    (sym (shown_state z c.args.rows.now k _ c.requires.picture.rows_are c.requires.picture.pictured c.size_of.ensures
+    c.in_ok-store_of.ensures c.acc_of.ensures c.of_number.ensures refl c.in_ok-rows_left.ensures
+    c.new.ensures.none c.new.ensures.some refl))
+    (way_reached z c.args.rows.now k)
+
+pub reached-requires-clause-counter : goal.reached-requires-clause-counter
+reached-requires-clause-counter c =
+    subst (λ (z : Size). c.args.registers.now.counter < locations z) (sym c.size_of.ensures) (fit_counter c.requires.picture)
+
+pub returns : goal.returns
+returns c k pictures =
+    c.reached.ensures
+    ∙ shown_state (size_shown c.args.small) c.args.rows.now k _ c.requires.picture.rows_are pictures c.size_of.ensures
+    c.in_ok-store_of.ensures c.acc_of.ensures c.of_number.ensures refl c.in_ok-rows_left.ensures
+    c.new.ensures.none c.new.ensures.some refl

@@ -1,0 +1,108 @@
+-- Going on from a picture: the states that buffers picture, what they hold after more orders, and the text of the codes
+-- that were printed (this project's own rules).
+use Rattle.std.specs.Prelude.{◌≡◌, ◌≢◌, ℕ, ◌+◌, ◌-◌, ◌<◌, ◌≤◌, Bool, List, ◌++◌, length, reverse, slice_index}
+use Rattle.ed_words.specs.Texts.{Text}
+use Rattle.ed_words.specs.declared.size.Size.{Size}
+use Rattle.ed_printer.specs.Paper.{latest_shift, paper, paper_from}
+use Rattle.ed_machine.specs.State.{State}
+use Rattle.ed_machine.specs.Steps.{Past, past, state_after}
+use Rattle.ed_run.specs.Run.{RunEnd, ran, run_orders}
+use Rattle.ed_loads.specs.EntryState.{first_state}
+use Rattle.ed_command.specs.declared.command.Settings.{Settings}
+use Rattle.ed_top.specs.Runs.{paper_room, run_of, status_of}
+use Rattle.ed_page.specs.Answers.{HasItsCause, Holds}
+use Rattle.ed_page.specs.Pictures.{Pictures, size_shown}
+use Rattle.ed_page.specs.declared.writing.Registers.{Registers}
+
+-- ---- the states on the way
+
+-- the state after k orders from Start on the rows of a tape
+abbrev pub on_the_way : Size → List ℕ → ℕ → State
+on_the_way z rows k = state_after k (first_state z rows)
+
+-- each number is a code
+abbrev pub AreCodes : List ℕ → Type 0
+AreCodes codes = (i : ℕ) → slice_index codes i < 32
+
+-- buffers picture a state on the way of a tape with these rows
+pub record IsOnTheWay (small : Bool) (rows words digits : List ℕ) (registers : Registers) : Type 0 where
+  pub rows_are : AreCodes rows
+  pub orders : ℕ
+  pub pictured : Pictures (on_the_way (size_shown small) rows orders) words digits registers
+
+-- so is a picture that was written of a text, where these are the rows of its tape
+abbrev pub BeginsOnTheWay :
+    (small : Bool) (rows : List ℕ) (text : Text) (words digits : List ℕ) → Registers → (answer : ℕ) → Type 0
+BeginsOnTheWay small rows text words digits registers answer =
+    length text ≤ 262144 → answer ≢ 10 → answer ≢ 12 → IsOnTheWay small rows words digits registers
+
+-- ---- what going on leaves
+
+-- the buffers of a call that goes on; the room for codes is the paper that is left
+pub record GoingBuffers : Type 0 where
+  pub words : List ℕ
+  pub digits : List ℕ
+  pub codes : List ℕ
+  pub registers : Registers
+
+-- four buffers as one
+abbrev pub going_buffers : (words digits codes : List ℕ) → Registers → GoingBuffers
+going_buffers words digits codes registers =
+    record { words = words; digits = digits; codes = codes; registers = registers }
+
+-- the buffers of the store have their lengths
+abbrev pub HasStoreRoom : GoingBuffers → Type 0
+HasStoreRoom b = (length b.words ≡ 1024) × (length b.digits ≡ 512)
+
+-- buffers show where a run ended: its state, the codes that it printed at the head of theirs, how many they are, and the
+-- status of its ending; there is no note
+pub record ShowsRun (r : RunEnd) (before after : GoingBuffers) (answer : ℕ) : Type 0 where
+  pub state : Pictures r.state after.words after.digits after.registers
+  pub codes : Holds r.codes before.codes after.codes after.registers.printed
+  pub noted : after.registers.noted ≡ 0
+  pub status : answer ≡ status_of r.ending
+
+-- a run was written into buffers; or no memory was found (10), and the buffers are as before. 12 comes first, exactly if
+-- a buffer of the store has the wrong length
+pub record IsGoneOn (r : RunEnd) (before after : GoingBuffers) (answer : ℕ) : Type 0 where
+  pub memory : answer ≡ 10 → after ≡ before
+  pub gone : answer ≢ 10 → HasItsCause (HasStoreRoom before) (after ≡ before) (ShowsRun r before after answer) answer
+  pub early : (HasStoreRoom before → ⊥) → answer ≡ 12
+
+-- ---- laws
+
+-- a run behind orders that were obeyed: what they printed comes first
+abbrev pub behind : Past → RunEnd → RunEnd
+behind p r = record { ending = r.ending; state = r.state; codes = p.codes ++ r.codes }
+
+-- Wherever a run ended, going on from there is the one run from the beginning: with the orders that the first part
+-- obeyed and those of the second, the resumes that it used and those of the second, and the paper that it left. What a
+-- program shows of a tape is the run from Start, and where it ends is on the way; so is where any run from there ends.
+pub record GoingLaw : Type 0 where
+  pub goes_on : (limit resumes room orders more : ℕ) (s : State)
+      → let k = run_orders limit resumes room s in
+        let first = ran limit resumes room s in
+        ran (k + orders) ((past k s).stops + more) room s
+        ≡ behind (past k s) (ran orders more (room - length first.codes) first.state)
+  pub from_start : (s : Settings) (codes : List ℕ)
+      → run_of s codes ≡ ran s.limit s.resumes paper_room (on_the_way s.size codes 0)
+  pub stays : (z : Size) (codes : List ℕ) (k limit resumes room : ℕ)
+      → (j : ℕ) × ((ran limit resumes room (on_the_way z codes k)).state ≡ on_the_way z codes (k + j))
+
+-- ---- the text of codes
+
+-- the text that codes add to the paper after others: it is printed in the shift that these leave
+abbrev pub added_text : (before codes : List ℕ) → Text
+added_text before codes = paper_from (latest_shift (reverse before)) codes
+
+-- a paper is the text of its first codes, and what the others add
+abbrev pub PaperLaw : Type 0
+PaperLaw = (before codes : List ℕ) → paper (before ++ codes) ≡ paper before ++ added_text before codes
+
+-- the text that codes add was written at the head of a buffer, with its length, and the answer is 0; or there was no
+-- room (12) or no memory (10), and nothing was written
+pub record IsPaperTold (before codes buffer after : List ℕ) (n n_after answer : ℕ) : Type 0 where
+  pub memory : answer ≡ 10 → (after ≡ buffer) × (n_after ≡ n)
+  pub told : answer ≢ 10 → HasItsCause (length (added_text before codes) ≤ length buffer)
+      ((after ≡ buffer) × (n_after ≡ n))
+      (Holds (added_text before codes) buffer after n_after × (answer ≡ 0)) answer

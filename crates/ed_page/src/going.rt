@@ -1,0 +1,135 @@
+//! Going on from a picture that a call wrote.
+
+ghost use Rattle.std.specs.Prelude.{◌≡◌, ℕ, ◌+◌, ◌^◌, ◌≤◌, IfOk, length};
+ghost use Rattle.ed_run.specs.Run.{RunEnd, ran};
+ghost use Rattle.ed_page.specs.Going.{GoingLaw, IsGoneOn, IsOnTheWay, ShowsRun, going_buffers, on_the_way};
+ghost use Rattle.ed_page.specs.Pictures.{Pictures, size_shown};
+ghost use Rattle.ed_page.specs.Private.Stages.{IsGone};
+
+use crate::pictured::pictured;
+use crate::running::status_of;
+use crate::texts::bytes_of_rows;
+use crate::told::{NO_MEMORY, NO_ROOM};
+use crate::writing::{Lengths, Registers, registers_of, write_store, write_text};
+use ed_machine::{Ending, Machine, Paper};
+use ed_run::run;
+use ed_words::NoMemory;
+use std::alloc::Global;
+
+/// A run that went on: the machine where it ended, and the codes that it printed.
+#[derive(Drop)]
+pub struct Gone {
+    pub ending: Ending,
+    pub machine: Machine,
+    pub codes: Vec<u8>,
+}
+
+/// Goes on from a picture: obeys `orders` orders more, or those up to where the run ends before. Each Z up to so many
+/// `resumes` lets the run go on.
+///
+/// The words, digits and registers are those that this call, `page_tape` or `page_source` wrote for the tape that has
+/// these rows. Afterwards they are those of the state in which the run ends; `registers.orders` is still counted from
+/// Start. The room of `codes` is the paper that is left: the new codes are written at its head, and
+/// `registers.printed` is their number. The answer is the status of the ending, 0, 4, 5, 6 or 7; 12 if a buffer of the
+/// store has the wrong length, and 10 if no memory was found. With 10 and 12 nothing is written.
+#[unsafe(no_mangle)]
+pub extern "C" fn page_go_on(
+    alloc: Global,
+    rows: &[u8],
+    small: bool,
+    orders: u32,
+    resumes: u32,
+    words: &mut [u32],
+    digits: &mut [u8],
+    codes: &mut [u8],
+    registers: &mut Registers,
+) -> u32
+    requires picture { IsOnTheWay small rows.now words.old digits.old registers.old }
+    requires count { registers.old.orders + orders ≤ 2 ^ 63 }
+    ensures gone { (k : ℕ) → Pictures (on_the_way (size_shown small) rows.now k) words.old digits.old registers.old
+        → IsGoneOn (ran orders resumes (length codes.old) (on_the_way (size_shown small) rows.now k))
+        (going_buffers words.old digits.old codes.old registers.old)
+        (going_buffers words.new digits.new codes.new registers.new) result }
+    ensures next { IsOnTheWay small rows.now words.new digits.new registers.new }
+    ensures law { GoingLaw }
+{
+    if words.len() != 1024 || digits.len() != 512 {
+        return NO_ROOM;
+    }
+    match went_on(alloc, rows, small, orders, resumes, words, digits, codes.len(), registers) {
+        Ok(gone) => show(&gone, words, digits, codes, registers),
+        Err(NoMemory) => NO_MEMORY,
+    }
+}
+
+/// Where the run from a picture ends, on a paper of so much room.
+fn went_on(
+    alloc: Global,
+    rows: &[u8],
+    small: bool,
+    orders: u32,
+    resumes: u32,
+    words: &[u32],
+    digits: &[u8],
+    room: usize,
+    registers: &Registers,
+) -> Result<Gone, NoMemory>
+    requires words { length words.now ≡ 1024 }
+    requires digits { length digits.now ≡ 512 }
+    requires picture { IsOnTheWay small rows.now words.now digits.now registers.now }
+    requires count { registers.now.orders + orders ≤ 2 ^ 63 }
+    ensures gone { IfOk result (λ gone. (k : ℕ)
+        → Pictures (on_the_way (size_shown small) rows.now k) words.now digits.now registers.now
+        → IsGone (ran orders resumes room (on_the_way (size_shown small) rows.now k)) gone) }
+    ensures fits { IfOk result (λ gone. length gone.codes.items ≤ room) }
+{
+    let machine = pictured(alloc, small, rows, words, digits, registers)?;
+    go_on(alloc, machine, orders, resumes, room)
+}
+
+/// Obeys orders on a machine, onto a paper of so much room.
+fn go_on(
+    alloc: Global,
+    mut machine: Machine,
+    orders: u32,
+    resumes: u32,
+    room: usize,
+) -> Result<Gone, NoMemory>
+    requires { machine.orders + orders ≤ 2 ^ 63 }
+    ensures gone { IfOk result (IsGone (ran orders resumes room machine)) }
+    ensures fits { IfOk result (λ gone. length gone.codes.items ≤ room) }
+{
+    let mut paper = Paper::new(alloc, room)?;
+    let ending = run(&mut machine, u64::from(orders), resumes, &mut paper);
+    let codes = bytes_of_rows(alloc, paper.codes())?;
+    Ok(Gone {
+        ending,
+        machine,
+        codes,
+    })
+}
+
+/// Writes where a run ended, with the codes that it printed.
+fn show(
+    gone: &Gone,
+    words: &mut [u32],
+    digits: &mut [u8],
+    codes: &mut [u8],
+    registers: &mut Registers,
+) -> u32
+    requires words { length words.old ≡ 1024 }
+    requires digits { length digits.old ≡ 512 }
+    requires codes { length gone.now.codes.items ≤ length codes.old }
+    ensures { (r : RunEnd) → IsGone r gone.now → ShowsRun r
+        (going_buffers words.old digits.old codes.old registers.old)
+        (going_buffers words.new digits.new codes.new registers.new) result }
+{
+    write_text(&gone.codes, codes);
+    write_store(&gone.machine, words, digits);
+    let lengths = Lengths {
+        out: gone.codes.len() as u64,
+        note: 0,
+    };
+    *registers = registers_of(&gone.machine, lengths);
+    status_of(gone.ending)
+}

@@ -1,0 +1,98 @@
+//! The teleprinter's text of codes that were printed.
+
+ghost use Rattle.std.specs.Prelude.{◌≡◌, ◌<◌, ◌==◌, ◌||◌, IfOk, IfSome, List, ℕ, reverse};
+ghost use Rattle.std.specs.List.{find};
+ghost use Rattle.ed_printer.specs.Paper.{latest_shift};
+ghost use Rattle.ed_page.specs.Going.{AreCodes, IsPaperTold, PaperLaw, added_text};
+
+use crate::pictured::code_of;
+use crate::told::{NO_MEMORY, NO_ROOM};
+use crate::writing::write_text;
+use ed_printer::Printer;
+use ed_words::NoMemory;
+use std::alloc::Global;
+
+/// The answer where a text was written.
+const WRITTEN: u32 = 0;
+
+/// The code that sets figure shift.
+const FIGURE_SHIFT: u8 = 11;
+
+/// The code that sets letter shift.
+const LETTER_SHIFT: u8 = 15;
+
+/// Writes the text that codes add to the paper after the codes `before` them, and its length, and answers 0. It answers
+/// 12 if the buffer has no room, and 10 if no memory was found; nothing is written then.
+#[unsafe(no_mangle)]
+pub extern "C" fn page_paper(
+    alloc: Global,
+    before: &[u8],
+    codes: &[u8],
+    text: &mut [u8],
+    printed: &mut u64,
+) -> u32
+    requires before { AreCodes before.now }
+    requires codes { AreCodes codes.now }
+    ensures text { IsPaperTold before.now codes.now text.old text.new printed.old printed.new result }
+    ensures law { PaperLaw }
+{
+    match added_text(alloc, before, codes) {
+        Ok(added) => tell(&added, text, printed),
+        Err(NoMemory) => NO_MEMORY,
+    }
+}
+
+/// The text that codes add to the paper after others.
+fn added_text(alloc: Global, before: &[u8], codes: &[u8]) -> Result<Vec<u8>, NoMemory>
+    requires before { AreCodes before.now }
+    requires codes { AreCodes codes.now }
+    ensures { IfOk result (λ text. text.items ≡ added_text before.now codes.now) }
+{
+    let mut printer = printer_after(before);
+    let mut text = Vec::new(alloc);
+    for code in codes {
+        if printer.print(code_of(*code), &mut text).is_err() {
+            return Err(NoMemory);
+        }
+    }
+    Ok(text)
+}
+
+/// A printer in the shift that codes leave.
+fn printer_after(codes: &[u8]) -> Printer
+    ensures { result ≡ latest_shift (reverse codes.now) }
+{
+    let mut printer = Printer::new();
+    if let Some(shift) = last_shift_code(codes) {
+        printer.strike(code_of(shift));
+    }
+    printer
+}
+
+/// The last code that sets a shift.
+fn last_shift_code(codes: &[u8]) -> Option<u8>
+    ensures is { result ≡ find (λ code. code == 11 || code == 15) (reverse codes.now) }
+    ensures fits { IfSome result (λ code. code < 32) }
+{
+    codes.iter().rev().copied().find(|code| sets_shift(*code))
+}
+
+/// Whether a code sets a shift.
+fn sets_shift(code: u8) -> bool
+    ensures { result ≡ (code == 11 || code == 15) }
+{
+    code == FIGURE_SHIFT || code == LETTER_SHIFT
+}
+
+/// Writes a text and its length, if the buffer has room.
+fn tell(added: &[u8], text: &mut [u8], printed: &mut u64) -> u32
+    ensures { (before codes : List ℕ) → added.now ≡ added_text before codes
+        → IsPaperTold before codes text.old text.new printed.old printed.new result }
+{
+    if text.len() < added.len() {
+        return NO_ROOM;
+    }
+    write_text(added, text);
+    *printed = added.len() as u64;
+    WRITTEN
+}

@@ -1,0 +1,96 @@
+//! The machine that a picture shows, made of what stands in its buffers.
+
+ghost use Rattle.std.specs.Prelude.{◌≡◌, ℕ, ◌-◌, ◌/◌, ◌%◌, ◌^◌, ◌<◌, ◌≤◌, IfOk, drop, length, slice_index};
+ghost use Rattle.ed_store.specs.Cells.{Cells, IsStore};
+ghost use Rattle.ed_page.specs.Going.{AreCodes, IsOnTheWay, on_the_way};
+ghost use Rattle.ed_page.specs.Pictures.{Pictures, PicturesStore, size_shown};
+
+use crate::running::size_of;
+use crate::writing::Registers;
+use ed_acc::Acc;
+use ed_codes::Code;
+use ed_machine::{Machine, Parts};
+use ed_store::Store;
+use ed_words::{Halves, Long, NoMemory, Word};
+use std::alloc::Global;
+
+/// The machine that a picture shows, on the way of the tape that has these rows.
+pub fn pictured(
+    alloc: Global,
+    small: bool,
+    rows: &[u8],
+    words: &[u32],
+    digits: &[u8],
+    registers: &Registers,
+) -> Result<Machine, NoMemory>
+    requires words { length words.now ≡ 1024 }
+    requires digits { length digits.now ≡ 512 }
+    requires picture { IsOnTheWay small rows.now words.now digits.now registers.now }
+    ensures { IfOk result (λ m. (k : ℕ)
+        → Pictures (on_the_way (size_shown small) rows.now k) words.now digits.now registers.now
+        → m ≡ on_the_way (size_shown small) rows.now k) }
+{
+    let parts = Parts {
+        size: size_of(small),
+        store: store_of(alloc, words, digits)?,
+        acc: acc_of(registers),
+        multiplier: Long::of_number(registers.multiplier),
+        counter: registers.counter as u16,
+        tape: rows_left(alloc, rows, registers.rows_left as usize)?,
+        last: Code::new(registers.last as u8),
+        orders: registers.orders,
+    };
+    Ok(Machine::reached(alloc, parts))
+}
+
+/// The store with these words and sandwich digits.
+fn store_of(alloc: Global, words: &[u32], digits: &[u8]) -> Result<Store, NoMemory>
+    requires words { length words.now ≡ 1024 }
+    requires digits { length digits.now ≡ 512 }
+    requires fit { (a : ℕ) → slice_index words.now a < 2 ^ 17 }
+    ensures { IfOk result (λ s. (c : Cells) → IsStore c → PicturesStore c words.now digits.now → s ≡ c) }
+{
+    let mut store = Store::cleared(alloc)?;
+    for k in 0..512u16 {
+        let pair = usize::from(k);
+        let halves = Halves {
+            odd: Word::of_number(words[2 * pair + 1]),
+            sandwich: digits[pair] == 1,
+            even: Word::of_number(words[2 * pair]),
+        };
+        store.put_long(2 * k, Long::join(halves));
+    }
+    Ok(store)
+}
+
+/// The accumulator of its two parts.
+fn acc_of(registers: &Registers) -> Acc
+    ensures { (a : ℕ) → a < 2 ^ 71 → registers.now.acc_low ≡ a % 2 ^ 36 → registers.now.acc_high ≡ a / 2 ^ 36
+        → result ≡ a }
+{
+    let number = (u128::from(registers.acc_high) << 36) + u128::from(registers.acc_low);
+    Acc::new(number).unwrap_or(Acc::cleared())
+}
+
+/// So many rows that are left, the last ones.
+fn rows_left(alloc: Global, rows: &[u8], left: usize) -> Result<Vec<Code>, NoMemory>
+    requires rows { AreCodes rows.now }
+    requires left { left ≤ length rows.now }
+    ensures { IfOk result (λ v. v.items ≡ drop (length rows.now - left) rows.now) }
+{
+    let mut codes = Vec::new(alloc);
+    for row in &rows[rows.len() - left..] {
+        if codes.push(code_of(*row)).is_err() {
+            return Err(NoMemory);
+        }
+    }
+    Ok(codes)
+}
+
+/// The code of a number below 32.
+pub fn code_of(number: u8) -> Code
+    requires { number < 32 }
+    ensures { result ≡ number }
+{
+    Code::new(number).unwrap_or_default()
+}
