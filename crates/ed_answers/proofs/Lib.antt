@@ -9,3 +9,4 @@ pub mod Limits
 pub mod BothSizes
 pub mod PunchedTapes
 pub mod Listed
+pub mod OneOutcome

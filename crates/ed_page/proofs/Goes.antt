@@ -16,7 +16,7 @@ use Rattle.ed_run.specs.Run.{RunEnd, end_at, end_by, ran, run_orders}
 use Rattle.ed_run.proofs.Ends.{ran_ends}
 use Rattle.ed_loads.specs.EntryState.{first_state}
 use Rattle.ed_command.specs.declared.command.Settings.{Settings}
-use Rattle.ed_top.specs.Runs.{paper_room, run_of}
+use Rattle.ed_answers.specs.Runs.{paper_room, run_of}
 use Rattle.ed_page.specs.Going.{GoingLaw, behind, on_the_way}
 
 -- where a run goes on, the next order ends nothing

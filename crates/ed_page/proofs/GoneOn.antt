@@ -7,8 +7,8 @@ use Rattle.ed_machine.specs.declared.ending.Ending.TheVariants.{Stopped, Limit, 
 use Rattle.ed_machine.specs.Sheet.{Sheet}
 use Rattle.ed_run.specs.Run.{IsLeft, RunEnd, ran}
 use Rattle.ed_words.specs.Texts.{Text}
-use Rattle.ed_top.specs.Answer.{Answer}
-use Rattle.ed_top.specs.Runs.{paper_room, run_of, status_of}
+use Rattle.ed_answers.specs.Answer.{Answer}
+use Rattle.ed_answers.specs.Runs.{paper_room, run_of, status_of}
 use Rattle.ed_page.specs.Answers.{Buffers, IsShown}
 use Rattle.ed_page.specs.Going.{AreCodes, BeginsOnTheWay, GoingBuffers, HasStoreRoom, IsGoneOn, IsOnTheWay, ShowsRun, on_the_way}
 use Rattle.ed_page.specs.Pictures.{Pictures, asked, size_shown}

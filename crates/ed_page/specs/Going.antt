@@ -9,7 +9,7 @@ use Rattle.ed_machine.specs.Steps.{Past, past, state_after}
 use Rattle.ed_run.specs.Run.{RunEnd, ran, run_orders}
 use Rattle.ed_loads.specs.EntryState.{first_state}
 use Rattle.ed_command.specs.declared.command.Settings.{Settings}
-use Rattle.ed_top.specs.Runs.{paper_room, run_of, status_of}
+use Rattle.ed_answers.specs.Runs.{paper_room, run_of, status_of}
 use Rattle.ed_page.specs.Answers.{HasItsCause, Holds}
 use Rattle.ed_page.specs.Pictures.{Pictures, size_shown}
 use Rattle.ed_page.specs.declared.writing.Registers.{Registers}

@@ -1,9 +1,6 @@
 -- Whatever the words are, each input has one outcome.
-use Rattle.std.proofs.Common.{◌≡◌, ◌⊎◌, inl, inr, ◌∙◌, ◌≤◌, ◌<◌, ℕ, List, refl, sym, ap, subst, arith, length}
+use Rattle.std.proofs.Common.{◌≡◌, ◌⊎◌, inl, inr, ◌∙◌, ℕ, refl, sym, ap, subst}
 use Rattle.std.specs.Prelude.{Option, Some, None}
-use Rattle.ed_codes.specs.Reading.{Reading, rows, no_row, open_comment, reading}
-use Rattle.ed_words.specs.declared.size.Size.{Size}
-use Rattle.ed_syntax.specs.declared.program.Line.{Line}
 use Rattle.ed_report.specs.Catalogue.{library_text}
 use Rattle.ed_report.specs.Notes.{bad_command_line}
 use Rattle.ed_command.specs.declared.command.Settings.{Settings}
@@ -11,12 +8,12 @@ use Rattle.ed_command.specs.declared.command.Action.{Action}
 use Rattle.ed_command.specs.declared.command.Action.TheVariants.{Tape, CheckTape, Run, Punch, Listing, Library, Demo}
 use Rattle.ed_command.specs.declared.command.Action.TheVariants.{Call as CallOf, Tape1, CheckTape1, Step, Trace, Parts}
 use Rattle.ed_words.specs.Texts.{Text}
-use Rattle.ed_answers.specs.Outcome.{Outcome, done, refused, too_long_outcome, usage_outcome}
-use Rattle.ed_answers.specs.Answer.{HasOneOutcome, OfReading, WithinLimit, exactly, known, of_input, of_made, of_rows}
+use Rattle.ed_answers.specs.Outcome.{Outcome, done, refused, usage_outcome}
+use Rattle.ed_answers.specs.Answer.{HasOneOutcome, of_input}
 use Rattle.ed_answers.specs.FirstOrders.{tape1_outcome}
 use Rattle.ed_top.specs.Output.{EachLineHasOneOutcome, answer}
 use Rattle.ed_answers.specs.Tapes.{tape_outcome}
-use Rattle.ed_answers.specs.Sources.{OfSource, listing_outcome, of_source, punch_outcome, run_outcome}
+use Rattle.ed_answers.specs.Sources.{listing_outcome, punch_outcome, run_outcome}
 use Rattle.ed_top.specs.Scripts.{OfDivided, OfStep, OnInput, OnText, on_rows}
 use Rattle.ed_stepper.specs.Inputs.{Input, divided}
 use Rattle.ed_stepper.specs.ScriptLines.{CommandList, IsFirstBadLine, IsScript}
@@ -28,75 +25,11 @@ use Rattle.ed_sources.specs.Calls.{call_text}
 use Rattle.ed_sources.specs.Demo.{demo_text}
 use Rattle.ed_answers.proofs.Sources.{some_outcome, source_outcome}
 use Rattle.ed_top.specs.Traces.{trace_outcome}
-use Rattle.ed_answers.proofs.Replies.{HasOne, exactly_one, text_outcome}
+use Rattle.ed_answers.proofs.Replies.{exactly_one}
 use Rattle.ed_answers.proofs.Checks.{checked_one}
 use Rattle.ed_answers.proofs.FirstChecks.{checked1_one}
 use Rattle.ed_top.proofs.InParts.{parts_one}
-
-known_once : (due : Outcome) → HasOneOutcome (known due)
-known_once due = record { some = λ input. (due, refl); once = λ input o other p q. sym p ∙ q }
-
--- ---- the text of a tape
-
-text_once : (answers : List ℕ → Outcome → Type 0) (r : Reading) (o other : Outcome) → HasOne answers
-    → OfReading answers r o
-    → OfReading answers r other → o ≡ other
-text_once answers (rows codes) o other one p q = one.once codes o other p q
-text_once answers (no_row place byte) o other one p q = sym p ∙ q
-text_once answers (open_comment place) o other one p q = sym p ∙ q
-
--- an input that has an outcome has one where it may also be too long
-some_within : (answers : Text → Outcome → Type 0) (input : Text) (o : Outcome) → answers input o
-    → (o : Outcome) × WithinLimit answers input o
-some_within answers input o a = by_length (split (length input))
-  where
-    split : (n : ℕ) → (n ≤ 262144) ⊎ (262144 < n)
-    split n = grind arith
-
-    by_length : (length input ≤ 262144) ⊎ (262144 < length input) → (o : Outcome) × WithinLimit answers input o
-    by_length (inl few) = (o, inl (few, a))
-    by_length (inr many) = (too_long_outcome, inr (many, refl))
-
-within_once : (answers : Text → Outcome → Type 0) (input : Text) (o other : Outcome)
-    → (answers input o → answers input other → o ≡ other) → WithinLimit answers input o
-    → WithinLimit answers input other → o ≡ other
-within_once answers input o other once (inl p) (inl q) = once p.1 q.1
-within_once answers input o other once (inl p) (inr q) = absurd (omega (arith, p.0, q.0))
-within_once answers input o other once (inr p) (inl q) = absurd (omega (arith, p.0, q.0))
-within_once answers input o other once (inr p) (inr q) = sym p.1 ∙ q.1
-
-rows_once : (answers : List ℕ → Outcome → Type 0) → HasOne answers → HasOneOutcome (of_rows answers)
-rows_once answers one = record {
-  some = λ input.
-      let t = text_outcome answers one (reading input) in
-      some_within (λ input. OfReading answers (reading input)) input t.0 t.1;
-  once = λ input o other.
-      within_once (λ input. OfReading answers (reading input)) input o other
-      (text_once answers (reading input) o other one);
-}
-
--- ---- a source
-
--- where a function of the input gives the outcome
-input_once : (f : Text → Outcome) → HasOneOutcome (of_input (exactly f))
-input_once f = record {
-  some = λ input. some_within (exactly f) input (f input) refl;
-  once = λ input o other. within_once (exactly f) input o other (λ p q. sym p ∙ q);
-}
-
-source_once : (z : Size) (accepted : List Line → Outcome) → HasOneOutcome (of_source z accepted)
-source_once z accepted = record {
-  some = λ input. let s = some_outcome z accepted input in some_within (OfSource z accepted) input s.0 s.1;
-  once = λ input o other. within_once (OfSource z accepted) input o other (source_outcome z accepted input o other);
-}
-
--- a source that the program makes
-made_once : (z : Size) (accepted : List Line → Outcome) (text : Text)
-    → HasOneOutcome (of_made (OfSource z accepted text))
-made_once z accepted text = record {
-  some = λ input. some_outcome z accepted text;
-  once = λ input o other. source_outcome z accepted text o other;
-}
+use Rattle.ed_answers.proofs.OneOutcome.{known_once, made_once, rows_once, some_within, source_once, within_once}
 
 -- ---- a script and what follows it
 

@@ -1,0 +1,76 @@
+-- Each answer to a text gives it one outcome.
+use Rattle.std.proofs.Common.{◌≡◌, ◌∙◌, ◌⊎◌, ◌≤◌, ◌<◌, ℕ, List, inl, inr, refl, sym, arith, length}
+use Rattle.ed_words.specs.declared.size.Size.{Size}
+use Rattle.ed_words.specs.Texts.{Text}
+use Rattle.ed_codes.specs.Reading.{Reading, rows, no_row, open_comment, reading}
+use Rattle.ed_syntax.specs.declared.program.Line.{Line}
+use Rattle.ed_answers.specs.Answer.{HasOneOutcome, OfReading, WithinLimit, exactly, known, of_input, of_made, of_rows}
+use Rattle.ed_answers.specs.Outcome.{Outcome, too_long_outcome}
+use Rattle.ed_answers.specs.Sources.{OfSource, of_source}
+use Rattle.ed_answers.proofs.Replies.{HasOne, text_outcome}
+use Rattle.ed_answers.proofs.Sources.{some_outcome, source_outcome}
+
+pub known_once : (due : Outcome) → HasOneOutcome (known due)
+known_once due = record { some = λ input. (due, refl); once = λ input o other p q. sym p ∙ q }
+
+-- ---- the text of a tape
+
+pub text_once : (answers : List ℕ → Outcome → Type 0) (r : Reading) (o other : Outcome) → HasOne answers
+    → OfReading answers r o
+    → OfReading answers r other → o ≡ other
+text_once answers (rows codes) o other one p q = one.once codes o other p q
+text_once answers (no_row place byte) o other one p q = sym p ∙ q
+text_once answers (open_comment place) o other one p q = sym p ∙ q
+
+-- an input that has an outcome has one where it may also be too long
+pub some_within : (answers : Text → Outcome → Type 0) (input : Text) (o : Outcome) → answers input o
+    → (o : Outcome) × WithinLimit answers input o
+some_within answers input o a = by_length (split (length input))
+  where
+    split : (n : ℕ) → (n ≤ 262144) ⊎ (262144 < n)
+    split n = grind arith
+
+    by_length : (length input ≤ 262144) ⊎ (262144 < length input) → (o : Outcome) × WithinLimit answers input o
+    by_length (inl few) = (o, inl (few, a))
+    by_length (inr many) = (too_long_outcome, inr (many, refl))
+
+pub within_once : (answers : Text → Outcome → Type 0) (input : Text) (o other : Outcome)
+    → (answers input o → answers input other → o ≡ other) → WithinLimit answers input o
+    → WithinLimit answers input other → o ≡ other
+within_once answers input o other once (inl p) (inl q) = once p.1 q.1
+within_once answers input o other once (inl p) (inr q) = absurd (omega (arith, p.0, q.0))
+within_once answers input o other once (inr p) (inl q) = absurd (omega (arith, p.0, q.0))
+within_once answers input o other once (inr p) (inr q) = sym p.1 ∙ q.1
+
+pub rows_once : (answers : List ℕ → Outcome → Type 0) → HasOne answers → HasOneOutcome (of_rows answers)
+rows_once answers one = record {
+  some = λ input.
+      let t = text_outcome answers one (reading input) in
+      some_within (λ input. OfReading answers (reading input)) input t.0 t.1;
+  once = λ input o other.
+      within_once (λ input. OfReading answers (reading input)) input o other
+      (text_once answers (reading input) o other one);
+}
+
+-- ---- a source
+
+-- where a function of the input gives the outcome
+pub input_once : (f : Text → Outcome) → HasOneOutcome (of_input (exactly f))
+input_once f = record {
+  some = λ input. some_within (exactly f) input (f input) refl;
+  once = λ input o other. within_once (exactly f) input o other (λ p q. sym p ∙ q);
+}
+
+pub source_once : (z : Size) (accepted : List Line → Outcome) → HasOneOutcome (of_source z accepted)
+source_once z accepted = record {
+  some = λ input. let s = some_outcome z accepted input in some_within (OfSource z accepted) input s.0 s.1;
+  once = λ input o other. within_once (OfSource z accepted) input o other (source_outcome z accepted input o other);
+}
+
+-- a source that the program makes
+pub made_once : (z : Size) (accepted : List Line → Outcome) (text : Text)
+    → HasOneOutcome (of_made (OfSource z accepted text))
+made_once z accepted text = record {
+  some = λ input. some_outcome z accepted text;
+  once = λ input o other. source_outcome z accepted text o other;
+}
