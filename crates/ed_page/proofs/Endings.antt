@@ -9,8 +9,9 @@ use Rattle.ed_command.specs.declared.command.Window.{Window}
 use Rattle.ed_words.specs.Texts.{Text}
 use Rattle.ed_answers.specs.Outcome.{Outcome}
 use Rattle.ed_answers.specs.Runs.{post_mortem_codes, ran_outcome, status_of, with_post_mortem}
-use Rattle.ed_page.specs.Private.Stages.{TellsOutcome, TellsRan, IsRunOf}
-use Rattle.ed_page.specs.declared.running.Ran.{Ran}
+use Rattle.ed_page.specs.Private.Stages.{TellsOutcome, IsRunOf}
+use Rattle.ed_answers.specs.Replies.{IsRan}
+use Rattle.ed_answers.specs.declared.running.Ran.{Ran}
 use Rattle.ed_page.specs.declared.running.Shown.{Shown}
 
 -- no post-mortem prints nothing
@@ -18,17 +19,17 @@ no_codes : (window : Option Window) (r : RunEnd) → window ≡ None → r.codes
 no_codes window r none = ap (λ (w : Option Window). r.codes ++ post_mortem_codes w r.state) none ∙ append-nil r.codes
 
 pub run_shown : {window : Option Window} (before : Text) {note : Text} {r : RunEnd} {ran : Ran} {shown : Shown}
-    → window ≡ None → TellsRan r ran → note ≡ before ++ ending_line ran.ending ran.machine
-    → TellsOutcome shown.told (record { out = ran.text.items; note = note; status = status_of ran.ending })
+    → window ≡ None → IsRan r ran → note ≡ before ++ ending_line ran.ending ran.machine
+    → TellsOutcome shown.told (record { out = paper ran.paper.codes; note = note; status = status_of ran.ending })
     → shown.machine ≡ Some ran.machine
     → IsRunOf (ran_outcome before (with_post_mortem window r)) r shown
 run_shown {window} before {note} {r} {ran} {shown} none is n gives machine =
-    let out : ran.text.items ≡ paper (r.codes ++ post_mortem_codes window r.state) =
-    is.text_is ∙ ap paper (sym (no_codes window r none)) in
+    let out : paper ran.paper.codes ≡ paper (r.codes ++ post_mortem_codes window r.state) =
+    ap paper (is.codes_are ∙ sym (no_codes window r none)) in
     let line : note ≡ before ++ ending_line r.ending r.state =
     n ∙ (λ i. before ++ ending_line (is.ending_is i) (is.state_is i)) in
     let same : ◌≡◌ {A = Outcome}
-    (record { out = ran.text.items; note = note; status = status_of ran.ending })
+    (record { out = paper ran.paper.codes; note = note; status = status_of ran.ending })
     (ran_outcome before (with_post_mortem window r)) =
     λ i. record { out = out i; note = line i; status = status_of (is.ending_is i) } in
     record {

@@ -1,22 +1,18 @@
 -- From what is told and shown of a text to what the program answers.
-use Rattle.std.proofs.Common.{◌≡◌, ◌∙◌, ◌<◌, ◌≤◌, ℕ, Bool, inl, inr, refl, sym, ap}
+use Rattle.std.proofs.Common.{◌≡◌, ◌∙◌, ◌<◌, ◌≤◌, ℕ, inl, inr, refl, sym, ap}
 use Rattle.std.proofs.Common.{subst, arith, Some, None, List, [], length}
 use Rattle.std.specs.Prelude.{Result, Ok, Err, IfOk}
 use Rattle.ed_words.specs.declared.size.Size.{Size}
 use Rattle.ed_words.specs.declared.memory.NoMemory.{NoMemory}
 use Rattle.ed_codes.specs.Reading.{Reading, rows, no_row, open_comment, reading}
-use Rattle.ed_codes.specs.declared.tape.TextFault.TheVariants.{NoRow, OpenComment}
 use Rattle.ed_machine.specs.State.{State}
-use Rattle.ed_syntax.specs.Sources.{HasFormFault, IsProgram}
 use Rattle.ed_syntax.specs.declared.program.Line.{Line}
-use Rattle.ed_syntax.specs.declared.fault.SourceFault.{SourceFault}
-use Rattle.ed_syntax.specs.declared.fault.SourceFault.TheVariants.{At, Memory}
-use Rattle.ed_link.specs.Answers.{HasMeaningFault, IsLinked}
-use Rattle.ed_link.specs.Refusals.{for_form, for_meaning}
+use Rattle.ed_syntax.specs.declared.fault.SourceFault.TheVariants.{At}
+use Rattle.ed_link.specs.Answers.{IsLinked}
 use Rattle.ed_link.proofs.EachSource.{one_answer}
 use Rattle.ed_link.specs.Tapes.{tape}
 use Rattle.ed_link.specs.declared.linked.Linked.{Linked}
-use Rattle.ed_report.specs.Notes.{source_fault_line, text_fault_line}
+use Rattle.ed_report.specs.Notes.{source_fault_line}
 use Rattle.ed_command.specs.declared.command.Settings.{Settings}
 use Rattle.ed_answers.specs.Answer.{OfReading, exactly, of_input, of_rows}
 use Rattle.ed_words.specs.Texts.{Text}
@@ -26,7 +22,12 @@ use Rattle.ed_answers.specs.Runs.{run_of}
 use Rattle.ed_answers.specs.Sources.{of_source, run_outcome}
 use Rattle.ed_answers.proofs.Sources.{accepted_is}
 use Rattle.ed_page.specs.Answers.{SourceEnds, TapeEnds}
-use Rattle.ed_page.specs.Private.Stages.{Draws, TellsOutcome, IsRunOf, LinksOrTells, RefusesTape, IsAnswered}
+use Rattle.ed_page.specs.Private.Stages.{Draws, TellsOutcome, IsRunOf, IsAnswered, Retells}
+use Rattle.ed_page.specs.Private.Stages.{TellsAnswer, TellsRejection}
+use Rattle.ed_answers.specs.Replies.{LinksSource, RefusesText, Replies}
+use Rattle.ed_answers.specs.declared.reply.Rejection.{Rejection}
+use Rattle.ed_answers.specs.declared.reply.Rejection.TheVariants.{Memory, Refused}
+use Rattle.ed_answers.specs.declared.reply.Reply.{Reply}
 use Rattle.ed_page.specs.declared.running.Shown.{Shown}
 use Rattle.ed_page.specs.declared.told.Told.{Told}
 
@@ -59,18 +60,20 @@ pub rows_replied : (f : List ℕ → Outcome) (text : Text) (codes : List ℕ) (
 rows_replied f text codes (Ok told) few is gives = (f codes, inl (few, at_reading f (reading text) codes is), gives)
 rows_replied f text codes (Err e) few is gives = tt
 
--- a fault of it
-faulty : (f : List ℕ → Outcome) (r : Reading) (told : Told) → RefusesTape r (Ok told)
-    → (o : Outcome) × OfReading (exactly f) r o × TellsOutcome told o
-faulty f (rows codes) told r = absurd r
-faulty f (no_row place byte) told r = (refused (text_fault_line (NoRow place byte)), refl, r)
-faulty f (open_comment place) told r = (refused (text_fault_line (OpenComment place)), refl, r)
+-- a text that is refused
+refused_told : (f : List ℕ → Outcome) (q : Reading) (reply : Reply) (told : Told) → RefusesText q (Refused reply)
+    → Retells reply told → (o : Outcome) × OfReading (exactly f) q o × TellsOutcome told o
+refused_told f (rows codes) reply told refuses tells = absurd refuses
+refused_told f (no_row place byte) reply told refuses tells = (_, refl, tells _ refuses)
+refused_told f (open_comment place) reply told refuses tells = (_, refl, tells _ refuses)
 
-pub tape_refused : (f : List ℕ → Outcome) (text : Text) (r : Result Told NoMemory) → length text ≤ 262144
-    → RefusesTape (reading text) r
+pub tape_refused : (f : List ℕ → Outcome) (text : Text) (e : Rejection) (r : Result Told NoMemory)
+    → length text ≤ 262144 → RefusesText (reading text) e → TellsRejection e r
     → IsAnswered (of_rows (exactly f)) text r
-tape_refused f text (Ok told) few refuses = let o = faulty f (reading text) told refuses in (o.0, inl (few, o.1), o.2)
-tape_refused f text (Err e) few refuses = tt
+tape_refused f text (Refused reply) (Ok told) few refuses tells =
+    let o = refused_told f (reading text) reply told refuses tells in (o.0, inl (few, o.1), o.2)
+tape_refused f text Memory (Ok told) few refuses tells = absurd tells
+tape_refused f text e (Err none) few refuses tells = tt
 
 codes_of : Reading → List ℕ
 codes_of (rows codes) = codes
@@ -98,65 +101,52 @@ tape_drawn s text codes (Ok shown) few is ran = (
 )
 tape_drawn s text codes (Err e) few is ran = tt
 
-pub tape_refusal_drawn : (s : Settings) (text : Text) (told : Told) → length text ≤ 262144
-    → RefusesTape (reading text) (Ok told)
+pub tape_refusal_drawn : (s : Settings) (text : Text) (e : Rejection) (told : Told) → length text ≤ 262144
+    → RefusesText (reading text) e → TellsRejection e (Ok told)
     → Draws (of_rows (exactly (tape_outcome s))) (TapeEnds s) text (Ok (record { told = told; machine = None }))
-tape_refusal_drawn s text told few refuses =
-    let o = faulty (tape_outcome s) (reading text) told refuses in (
+tape_refusal_drawn s text Memory told few refuses tells = absurd tells
+tape_refusal_drawn s text (Refused reply) told few refuses tells =
+    let o = refused_told (tape_outcome s) (reading text) reply told refuses tells in (
       o.0,
       inl (few, o.1),
       o.2,
       record {
-        some = λ few m ends. absurd (subst (λ (r : Reading). RefusesTape r (Ok told)) ends.1 refuses);
+        some = λ few m ends. absurd (subst (λ (q : Reading). RefusesText q (Refused reply)) ends.1 refuses);
         none = λ nothing. refl;
       },
     )
 
 -- ---- a source
 
--- a fault of form
-pub refused_form : (z : Size) (text : Text) (f : SourceFault) (r : Result Told NoMemory)
-    → HasFormFault text f → IfOk r (λ told. TellsOutcome told (refused (source_fault_line f)))
-    → IfOk r (λ told. f ≡ Memory → ⊥)
-    → LinksOrTells z text (Err r)
-refused_form z text f (Err e) is gives told = tt
-refused_form z text Memory (Ok reply) is gives told = absurd (told refl)
-refused_form z text (At line cause) (Ok reply) is gives told = (line, cause, for_form is, gives)
-
--- a fault of meaning
-pub refused_meaning : (z : Size) {text : Text} {two : Bool} {lines : List Line} (f : SourceFault)
-    (r : Result Told NoMemory)
-    → IsProgram text two lines → HasMeaningFault z lines f
-    → IfOk r (λ told. TellsOutcome told (refused (source_fault_line f)))
-    → IfOk r (λ told. f ≡ Memory → ⊥) → LinksOrTells z text (Err r)
-refused_meaning z f (Err e) p is gives told = tt
-refused_meaning z Memory (Ok reply) p is gives told = absurd (told refl)
-refused_meaning z (At line cause) (Ok reply) p is gives told = (line, cause, for_meaning p is, gives)
-
--- a program that is linked
-pub linked_accepted : (z : Size) {text : Text} {two : Bool} {lines : List Line} (k : Linked) → IsProgram text two lines
-    → IsLinked z lines k → LinksOrTells z text (Ok k)
-linked_accepted z {two} {lines} k p is =
-    (lines, record { two = two; says = p; faultless = is.accepted }, is)
-
 pub linked_replied : (z : Size) (f : List Line → Outcome) (text : Text) (k : Linked) (r : Result Told NoMemory)
     → length text ≤ 262144
-    → LinksOrTells z text (Ok k)
+    → LinksSource z text (Ok k)
     → IfOk r (λ told. (lines : List Line) → IsLinked z lines k → TellsOutcome told (f lines))
     → IsAnswered (of_source z f) text r
 linked_replied z f text k (Ok told) few l gives =
     (f l.0, inl (few, accepted_is z f text l.0 l.1), gives l.0 l.2)
 linked_replied z f text k (Err e) few l gives = tt
 
-pub source_refused : (z : Size) (f : List Line → Outcome) (text : Text) (r : Result Told NoMemory)
-    → length text ≤ 262144
-    → LinksOrTells z text (Err r) → IsAnswered (of_source z f) text r
-source_refused z f text (Ok told) few l =
-    (refused (source_fault_line (At l.0 l.1)), inl (few, inl (l.0, l.1, l.2, refl)), l.3)
-source_refused z f text (Err e) few l = tt
+pub source_refused : (z : Size) (f : List Line → Outcome) (text : Text) (e : Rejection) (r : Result Told NoMemory)
+    → length text ≤ 262144 → LinksSource z text (Err e) → TellsRejection e r → IsAnswered (of_source z f) text r
+source_refused z f text (Refused reply) (Ok told) few l tells =
+    (refused (source_fault_line (At l.0 l.1)), inl (few, inl (l.0, l.1, l.2, refl)), tells _ l.3)
+source_refused z f text Memory (Ok told) few l tells = absurd tells
+source_refused z f text e (Err none) few l tells = tt
+
+-- what the program answers to a text is told
+pub answer_told : (answers : Text → Outcome → Type 0) (text : Text) (a : Result Reply Rejection)
+    (r : Result Told NoMemory) → length text ≤ 262144 → Replies (of_input answers) text a → TellsAnswer a r
+    → IsAnswered (of_input answers) text r
+answer_told answers text (Ok reply) (Ok told) few is tells = (is.0, inl (few, is.1), tells is.0 is.2)
+answer_told answers text (Ok reply) (Err e) few is tells = absurd tells
+answer_told answers text (Err (Refused reply)) (Ok told) few is tells = (is.0, inl (few, is.1), tells is.0 is.2)
+answer_told answers text (Err (Refused reply)) (Err e) few is tells = absurd tells
+answer_told answers text (Err Memory) (Ok told) few is tells = absurd tells
+answer_told answers text (Err Memory) (Err e) few is tells = tt
 
 pub source_drawn : (s : Settings) (text : Text) (k : Linked) (r : Result Shown NoMemory) → length text ≤ 262144
-    → LinksOrTells s.size text (Ok k)
+    → LinksSource s.size text (Ok k)
     → IfOk r (λ shown. (lines : List Line) → IsLinked s.size lines k
     → IsRunOf (run_outcome s lines) (run_of s (tape lines)) shown)
     → Draws (of_source s.size (run_outcome s)) (SourceEnds s) text r
@@ -177,13 +167,14 @@ source_drawn s text k (Ok shown) few l ran =
 source_drawn s text k (Err e) few l ran = tt
 
 -- a source that is refused is not accepted, so that no run of it ends
-pub source_refusal_drawn : (s : Settings) (text : Text) (told : Told) → length text ≤ 262144
-    → LinksOrTells s.size text (Err (Ok told))
+pub source_refusal_drawn : (s : Settings) (text : Text) (e : Rejection) (told : Told) → length text ≤ 262144
+    → LinksSource s.size text (Err e) → TellsRejection e (Ok told)
     → Draws (of_source s.size (run_outcome s)) (SourceEnds s) text (Ok (record { told = told; machine = None }))
-source_refusal_drawn s text told few l = (
+source_refusal_drawn s text Memory told few l tells = absurd tells
+source_refusal_drawn s text (Refused reply) told few l tells = (
   refused (source_fault_line (At l.0 l.1)),
   inl (few, inl (l.0, l.1, l.2, refl)),
-  l.3,
+  tells _ l.3,
   record {
     some = λ few m ends. absurd (one_answer.never_both s.size text ends.0 l.0 l.1 ends.1 l.2);
     none = λ nothing. refl;

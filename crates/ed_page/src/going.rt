@@ -7,10 +7,10 @@ ghost use Rattle.ed_page.specs.Pictures.{Pictures, size_shown};
 ghost use Rattle.ed_page.specs.Private.Stages.{IsGone};
 
 use crate::pictured::pictured;
-use crate::running::status_of;
 use crate::texts::bytes_of_rows;
 use crate::told::{NO_MEMORY, NO_ROOM};
 use crate::writing::{Lengths, Registers, registers_of, write_store, write_text};
+use ed_answers::status_of;
 use ed_machine::{Ending, Machine, Paper};
 use ed_run::run;
 use ed_words::NoMemory;
@@ -56,7 +56,17 @@ pub extern "C" fn page_go_on(
     if words.len() != 1024 || digits.len() != 512 {
         return NO_ROOM;
     }
-    match went_on(alloc, rows, small, orders, resumes, words, digits, codes.len(), registers) {
+    match went_on(
+        alloc,
+        rows,
+        small,
+        orders,
+        resumes,
+        words,
+        digits,
+        codes.len(),
+        registers,
+    ) {
         Ok(gone) => show(&gone, words, digits, codes, registers),
         Err(NoMemory) => NO_MEMORY,
     }
@@ -131,5 +141,5 @@ fn show(
         note: 0,
     };
     *registers = registers_of(&gone.machine, lengths);
-    status_of(gone.ending)
+    u32::from(status_of(gone.ending))
 }

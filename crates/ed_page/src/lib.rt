@@ -2,8 +2,8 @@
 //! the rows of tapes, the listing of a source, and the texts of rows and orders.
 //!
 //! The exports keep no state. Their contract is that each answer is the program's own to the same text, with its texts
-//! at the heads of the caller's buffers, and that each other answer has its cause. Stands on `ed_run`, `ed_loads` and
-//! `ed_report`, and on `ed_top` for what the program answers.
+//! at the heads of the caller's buffers, and that each other answer has its cause. Stands on `ed_answers` for what the program
+//! answers, and on `ed_run` and `ed_report`.
 #![tactic(auto)]
 
 mod going;
@@ -12,7 +12,6 @@ mod pictured;
 mod pictures;
 mod running;
 mod signs;
-mod sources;
 mod texts;
 mod told;
 mod writing;

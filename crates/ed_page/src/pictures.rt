@@ -3,9 +3,9 @@ ghost use Rattle.ed_codes.specs.Reading.{reading, rows};
 ghost use Rattle.ed_syntax.specs.declared.program.Line.{Line};
 ghost use Rattle.ed_link.specs.Refusals.{IsAcceptedAs};
 ghost use Rattle.ed_link.specs.Tapes.{tape};
-ghost use Rattle.ed_command.specs.declared.command.Action.TheVariants.{Run, Tape};
 ghost use Rattle.ed_answers.specs.Outcome.{Outcome};
-ghost use Rattle.ed_top.specs.Output.{answer};
+ghost use Rattle.ed_answers.specs.Sources.{run_answer};
+ghost use Rattle.ed_answers.specs.Tapes.{tape_answer};
 ghost use Rattle.ed_page.specs.Answers.{EachRunReadsOn, IsShown, LacksLine, SourceEnds, TapeEnds, blank_registers};
 ghost use Rattle.ed_page.specs.Answers.{picture_buffers};
 ghost use Rattle.ed_page.specs.Going.{BeginsOnTheWay};
@@ -13,9 +13,9 @@ ghost use Rattle.ed_page.specs.Pictures.{Pictures, asked, size_shown};
 ghost use Rattle.ed_page.specs.Private.Stages.{Draws, TellsOutcome, WritesBuffers};
 
 use crate::running::{Shown, asked, run_linked, run_tape};
-use crate::sources::{linked_of, rows_of};
-use crate::told::{NO_MEMORY, NO_ROOM, Told, is_too_long, lacks_line};
+use crate::told::{NO_MEMORY, NO_ROOM, Told, is_too_long, lacks_line, rejected};
 use crate::writing::{Lengths, Registers, no_registers, registers_of, write_store};
+use ed_answers::{linked_of, rows_of};
 use ed_command::Settings;
 use ed_machine::Machine;
 use ed_words::NoMemory;
@@ -43,7 +43,7 @@ pub extern "C" fn page_tape(
     note: &mut [u8],
     registers: &mut Registers,
 ) -> u32
-    ensures shown { let s = asked small orders resumes in IsShown (answer Tape s) (TapeEnds s) text.now
+    ensures shown { let s = asked small orders resumes in IsShown (tape_answer s) (TapeEnds s) text.now
         (picture_buffers words.old digits.old paper.old note.old registers.old)
         (picture_buffers words.new digits.new paper.new note.new registers.new) result }
     ensures rows { EachRunReadsOn }
@@ -74,7 +74,7 @@ pub extern "C" fn page_source(
     note: &mut [u8],
     registers: &mut Registers,
 ) -> u32
-    ensures shown { let s = asked small orders resumes in IsShown (answer Run s) (SourceEnds s) text.now
+    ensures shown { let s = asked small orders resumes in IsShown (run_answer s) (SourceEnds s) text.now
         (picture_buffers words.old digits.old paper.old note.old registers.old)
         (picture_buffers words.new digits.new paper.new note.new registers.new) result }
     ensures rows { EachRunReadsOn }
@@ -101,28 +101,28 @@ fn lacks_room(text: &[u8], words: &[u32], digits: &[u8], note: &[u8]) -> bool
 /// What is shown of a tape's text.
 fn tape_shown(alloc: Global, settings: Settings, text: &[u8]) -> Result<Shown, NoMemory>
     requires { settings.post_mortem ≡ None }
-    ensures { Draws (answer Tape settings) (TapeEnds settings) text.now result }
+    ensures { Draws (tape_answer settings) (TapeEnds settings) text.now result }
 {
     if is_too_long(text) {
         return Ok(Shown::refused(Told::too_long(alloc)?));
     }
     match rows_of(alloc, text) {
         Ok(rows) => run_tape(alloc, settings, rows),
-        Err(told) => Ok(Shown::refused(told?)),
+        Err(rejection) => Ok(Shown::refused(rejected(rejection)?)),
     }
 }
 
 /// What is shown of a source.
 fn source_shown(alloc: Global, settings: Settings, text: &[u8]) -> Result<Shown, NoMemory>
     requires { settings.post_mortem ≡ None }
-    ensures { Draws (answer Run settings) (SourceEnds settings) text.now result }
+    ensures { Draws (run_answer settings) (SourceEnds settings) text.now result }
 {
     if is_too_long(text) {
         return Ok(Shown::refused(Told::too_long(alloc)?));
     }
     match linked_of(alloc, settings.size, text) {
         Ok(linked) => run_linked(alloc, settings, &linked),
-        Err(told) => Ok(Shown::refused(told?)),
+        Err(rejection) => Ok(Shown::refused(rejected(rejection)?)),
     }
 }
 

@@ -1,23 +1,17 @@
-ghost use Rattle.std.specs.Prelude.{◌≡◌, IfOk, List, map};
-ghost use Rattle.ed_syntax.specs.declared.program.Line.{Line};
-ghost use Rattle.ed_link.specs.Answers.{IsLinked};
-ghost use Rattle.ed_command.specs.declared.command.Action.TheVariants.{Listing};
+ghost use Rattle.std.specs.Prelude.{◌≡◌, IfOk};
 ghost use Rattle.ed_answers.specs.Answer.{exactly, of_rows};
 ghost use Rattle.ed_answers.specs.Outcome.{Outcome, done};
-ghost use Rattle.ed_top.specs.Output.{answer};
-ghost use Rattle.ed_answers.specs.Sources.{listing_outcome, of_source};
+ghost use Rattle.ed_answers.specs.Sources.{listing_answer, of_source};
 ghost use Rattle.ed_page.specs.Answers.{IsTextTold, source_rows, text_buffers};
 ghost use Rattle.ed_page.specs.Pictures.{asked, size_shown};
 ghost use Rattle.ed_page.specs.Private.Stages.{TellsOutcome, IsWrittenOut, IsAnswered};
 
-use crate::running::size_of;
-use crate::sources::{linked_of, rows_of};
-use crate::told::{NO_MEMORY, NO_ROOM, Told, is_too_long, lacks_line};
+use crate::running::{asked, size_of};
+use crate::told::{NO_MEMORY, NO_ROOM, Told, is_too_long, lacks_line, rejected, told_of};
 use crate::writing::Lengths;
+use ed_answers::{linked_of, list, rows_of};
 use ed_codes::Code;
-use ed_link::{Linked, Placed};
-use ed_loads::enter;
-use ed_report::listing;
+use ed_command::Settings;
 use ed_words::{NoMemory, Size};
 use std::alloc::Global;
 
@@ -77,13 +71,13 @@ pub extern "C" fn page_listing(
     note: &mut [u8],
     lengths: &mut Lengths,
 ) -> u32
-    ensures { IsTextTold (answer Listing (asked small 0 0)) text.now (text_buffers listing.old note.old lengths.old)
+    ensures { IsTextTold (listing_answer (asked small 0 0)) text.now (text_buffers listing.old note.old lengths.old)
         (text_buffers listing.new note.new lengths.new) result }
 {
     if lacks_line(text, note) {
         return NO_ROOM;
     }
-    match source_listing(alloc, size_of(small), text) {
+    match source_listing(alloc, asked(small, 0, 0), text) {
         Ok(told) => tell(&told, listing, note, lengths),
         Err(NoMemory) => NO_MEMORY,
     }
@@ -110,7 +104,7 @@ fn tape_rows(alloc: Global, text: &[u8]) -> Result<Told, NoMemory>
     }
     match rows_of(alloc, text) {
         Ok(rows) => Ok(Told::done(alloc, bytes_of_rows(alloc, &rows)?)),
-        Err(told) => told,
+        Err(rejection) => rejected(rejection),
     }
 }
 
@@ -123,45 +117,18 @@ fn source_rows(alloc: Global, size: Size, text: &[u8]) -> Result<Told, NoMemory>
     }
     match linked_of(alloc, size, text) {
         Ok(linked) => Ok(Told::done(alloc, bytes_of_rows(alloc, &linked.rows()?)?)),
-        Err(told) => told,
+        Err(rejection) => rejected(rejection),
     }
 }
 
 /// What is told of the listing of a source.
-fn source_listing(alloc: Global, size: Size, text: &[u8]) -> Result<Told, NoMemory>
-    ensures { IsAnswered (of_source size listing_outcome) text.now result }
+fn source_listing(alloc: Global, settings: Settings, text: &[u8]) -> Result<Told, NoMemory>
+    ensures { IsAnswered (listing_answer settings) text.now result }
 {
     if is_too_long(text) {
         return Told::too_long(alloc);
     }
-    match linked_of(alloc, size, text) {
-        Ok(linked) => list_linked(alloc, size, &linked),
-        Err(told) => told,
-    }
-}
-
-/// The places of a linked program, with the words of the store at entry.
-fn list_linked(alloc: Global, size: Size, linked: &Linked) -> Result<Told, NoMemory>
-    requires { (lines : List Line) × IsLinked size lines linked.now }
-    ensures { IfOk result (λ told. (lines : List Line) → IsLinked size lines linked.now
-        → TellsOutcome told (listing_outcome lines)) }
-{
-    let machine = enter(alloc, size, linked)?;
-    let places = places_of(alloc, &linked.words)?;
-    Ok(Told::done(alloc, listing(alloc, machine.store(), &places)?))
-}
-
-/// The places of words.
-fn places_of(alloc: Global, words: &[Placed]) -> Result<Vec<u16>, NoMemory>
-    ensures { IfOk result (λ v. v.items ≡ map (λ p. p.place) words.now) }
-{
-    let mut places = Vec::new(alloc);
-    for placed in words {
-        if places.push(placed.place).is_err() {
-            return Err(NoMemory);
-        }
-    }
-    Ok(places)
+    told_of(list(alloc, settings, text))
 }
 
 /// The codes of rows as bytes.

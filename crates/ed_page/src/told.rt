@@ -1,9 +1,11 @@
 ghost use Rattle.std.specs.Prelude.{◌≡◌, ◌≤◌, IfOk, IsTrue, ◌↔◌, length, nat_lt};
-ghost use Rattle.ed_answers.specs.Outcome.{Outcome, done, refused, too_long_outcome};
+ghost use Rattle.ed_answers.specs.Outcome.{Outcome, done, too_long_outcome};
 ghost use Rattle.ed_page.specs.Answers.{LacksLine, Tells};
-ghost use Rattle.ed_page.specs.Private.Stages.{TellsOutcome};
+ghost use Rattle.ed_page.specs.Private.Stages.{TellsAnswer, TellsOutcome, TellsRejection};
+ghost use Rattle.ed_answers.specs.Replies.{Gives};
 
 use crate::writing::{Lengths, write_text};
+use ed_answers::{Rejection, Reply};
 use ed_words::NoMemory;
 use std::alloc::Global;
 
@@ -39,14 +41,14 @@ impl Told {
         }
     }
 
-    /// What is told where a text is refused with a line.
-    pub fn refusal(alloc: Global, line: Vec<u8>) -> Told
-        ensures { TellsOutcome result (refused line.items) }
+    /// What is told of a reply.
+    pub fn of_reply(reply: Reply) -> Told
+        ensures { (o : Outcome) → Gives reply o → TellsOutcome result o }
     {
         Told {
-            out: Vec::new(alloc),
-            note: line,
-            status: 3,
+            out: reply.out,
+            note: reply.note,
+            status: u32::from(reply.status),
         }
     }
 
@@ -86,6 +88,26 @@ impl Told {
             out: self.out.len() as u64,
             note: self.note.len() as u64,
         }
+    }
+}
+
+/// What is told of an answer, whether it refuses the text or not.
+pub fn told_of(answer: Result<Reply, Rejection>) -> Result<Told, NoMemory>
+    ensures { TellsAnswer answer result }
+{
+    match answer {
+        Ok(reply) => Ok(Told::of_reply(reply)),
+        Err(rejection) => rejected(rejection),
+    }
+}
+
+/// What is told of a text that is rejected.
+pub fn rejected(rejection: Rejection) -> Result<Told, NoMemory>
+    ensures { TellsRejection rejection result }
+{
+    match rejection {
+        Rejection::Refused(reply) => Ok(Told::of_reply(reply)),
+        Rejection::Memory => Err(NoMemory),
     }
 }
 

@@ -1,27 +1,18 @@
 -- How what is told and shown of a text stands to what the program answers.
-use Rattle.std.specs.Prelude.{◌≡◌, ◌≢◌, ℕ, ◌<◌, ◌≤◌, List, length, Option, None, Some, IfSome, Result, Ok, Err, Vec}
-use Rattle.std.specs.declared.alloc.Global.{Global}
-use Rattle.ed_words.specs.declared.size.Size.{Size}
+use Rattle.std.specs.Prelude.{◌≡◌, ◌≢◌, ℕ, ◌<◌, ◌≤◌, length, Option, None, Some, IfSome, Result, Ok, Err}
 use Rattle.ed_words.specs.declared.memory.NoMemory.{NoMemory}
-use Rattle.ed_codes.specs.Reading.{Reading, rows, no_row, open_comment}
-use Rattle.ed_codes.specs.declared.tape.TextFault.TheVariants.{NoRow, OpenComment}
 use Rattle.ed_machine.specs.State.{State}
-use Rattle.ed_printer.specs.Paper.{paper}
 use Rattle.ed_run.specs.Run.{RunEnd}
-use Rattle.ed_syntax.specs.declared.fault.SourceCause.{SourceCause}
-use Rattle.ed_syntax.specs.declared.fault.SourceFault.TheVariants.{At}
-use Rattle.ed_syntax.specs.declared.program.Line.{Line}
-use Rattle.ed_link.specs.Answers.{IsLinked}
-use Rattle.ed_link.specs.Refusals.{IsAcceptedAs, IsRefused}
-use Rattle.ed_link.specs.declared.linked.Linked.{Linked}
-use Rattle.ed_report.specs.Notes.{source_fault_line, text_fault_line}
 use Rattle.ed_answers.specs.Answer.{Answer, IsDue}
 use Rattle.ed_words.specs.Texts.{Text}
-use Rattle.ed_answers.specs.Outcome.{Outcome, refused}
+use Rattle.ed_answers.specs.Outcome.{Outcome}
+use Rattle.ed_answers.specs.Replies.{Gives}
+use Rattle.ed_answers.specs.declared.reply.Rejection.{Rejection}
+use Rattle.ed_answers.specs.declared.reply.Rejection.TheVariants.{Memory, Refused}
+use Rattle.ed_answers.specs.declared.reply.Reply.{Reply}
 use Rattle.ed_page.specs.Answers.{Buffers, HasItsCause, HasPictureRoom, HasBufferRoom, ShowsNone, Tells, TextBuffers}
 use Rattle.ed_page.specs.Pictures.{Pictures}
 use Rattle.ed_page.specs.declared.going.Gone.{Gone}
-use Rattle.ed_page.specs.declared.running.Ran.{Ran}
 use Rattle.ed_page.specs.declared.running.Shown.{Shown}
 use Rattle.ed_page.specs.declared.told.Told.{Told}
 
@@ -38,30 +29,22 @@ abbrev pub IsAnswered : Answer → Text → Result Told NoMemory → Type 0
 IsAnswered wanted text (Ok told) = (o : Outcome) × IsDue wanted text o × TellsOutcome told o
 IsAnswered wanted text (Err e) = Unit {0}
 
--- a fault of a tape's text is told
-abbrev pub RefusesTape : Reading → Result Told NoMemory → Type 0
-RefusesTape r (Err e) = Unit {0}
-RefusesTape (rows codes) (Ok told) = ⊥
-RefusesTape (no_row place byte) (Ok told) = TellsOutcome told (refused (text_fault_line (NoRow place byte)))
-RefusesTape (open_comment place) (Ok told) = TellsOutcome told (refused (text_fault_line (OpenComment place)))
+-- a reply is told as it is
+abbrev pub Retells : Reply → Told → Type 0
+Retells reply told = (o : Outcome) → Gives reply o → TellsOutcome told o
 
--- the rows of a tape's text, or its fault is told
-abbrev pub ReadsTape : Reading → Result (Vec ℕ Global) (Result Told NoMemory) → Type 0
-ReadsTape r (Ok v) = r ≡ rows v.items
-ReadsTape r (Err told) = RefusesTape r told
+-- what is told of a rejection is its reply; where no memory was found, nothing is
+abbrev pub TellsRejection : Rejection → Result Told NoMemory → Type 0
+TellsRejection (Refused reply) (Ok told) = Retells reply told
+TellsRejection (Refused reply) (Err e) = ⊥
+TellsRejection Memory (Ok told) = ⊥
+TellsRejection Memory (Err e) = Unit {0}
 
--- the linked program of a source that is accepted, or its fault is told
-abbrev pub LinksOrTells : Size → Text → Result Linked (Result Told NoMemory) → Type 0
-LinksOrTells z text (Ok k) = (lines : List Line) × IsAcceptedAs z text lines × IsLinked z lines k
-LinksOrTells z text (Err (Ok told)) =
-    (k : ℕ) × (c : SourceCause) × IsRefused z text k c × TellsOutcome told (refused (source_fault_line (At k c)))
-LinksOrTells z text (Err (Err e)) = Unit {0}
-
--- a run that ended is the definition's
-pub record TellsRan (r : RunEnd) (ran : Ran) : Type 0 where
-  pub ending_is : ran.ending ≡ r.ending
-  pub state_is : ran.machine ≡ r.state
-  pub text_is : ran.text.items ≡ paper r.codes
+-- what is told of an answer, whether it refuses the text or not
+abbrev pub TellsAnswer : Result Reply Rejection → Result Told NoMemory → Type 0
+TellsAnswer (Ok reply) (Ok told) = Retells reply told
+TellsAnswer (Ok reply) (Err e) = ⊥
+TellsAnswer (Err rejection) r = TellsRejection rejection r
 
 -- what is shown of a run is an outcome, and its machine
 pub record IsRunOf (o : Outcome) (r : RunEnd) (shown : Shown) : Type 0 where

@@ -1,10 +1,9 @@
 use Rattle.std.proofs.Common.{refl, rules, subst}
-use Rattle.std.specs.Prelude.{Ok, Some}
+use Rattle.std.specs.Prelude.{Ok}
 use Rattle.ed_link.specs.Tapes.{tape}
-use Rattle.ed_command.specs.declared.command.Action.TheVariants.{Run}
 use Rattle.ed_command.specs.declared.command.Settings.{Settings}
-use Rattle.ed_top.specs.Output.{answer}
-use Rattle.ed_top.proofs.OneOutcome.{line_once}
+use Rattle.ed_answers.specs.Sources.{run_answer, run_outcome}
+use Rattle.ed_answers.proofs.OneOutcome.{source_once}
 use Rattle.ed_page.specs.Answers.{SourceEnds, picture_buffers}
 use Rattle.ed_page.specs.Pictures.{asked}
 use Rattle.ed_page.specs.Private.Stages.{Draws}
@@ -18,9 +17,9 @@ pub returns-in-Ok-clause-shown : goal.returns-in-Ok-clause-shown
 returns-in-Ok-clause-shown c =
     let s = asked c.args.small c.args.orders c.args.resumes in
     let text = c.args.text.now in
-    drawn_shown (answer Run s) (SourceEnds s) text c.in-Ok.shown
+    drawn_shown (run_answer s) (SourceEnds s) text c.in-Ok.shown
     (refuted c.lacks_room.result c.if-lacks_room.false c.lacks_room.ensures)
-    (subst (λ (x : Settings). Draws (answer Run x) (SourceEnds x) text (Ok c.in-Ok.shown)) c.asked.ensures
+    (subst (λ (x : Settings). Draws (run_answer x) (SourceEnds x) text (Ok c.in-Ok.shown)) c.asked.ensures
     c.in-Ok.ensures) c.show.ensures
 
 pub returns-in-Ok-clause-rows : goal.returns-in-Ok-clause-rows
@@ -31,7 +30,7 @@ returns-then-lacks_room-clause-shown c =
     let s = asked c.args.small c.args.orders c.args.resumes in
     picture_early _ (SourceEnds s) c.args.text.now
     (picture_buffers c.args.words.now c.args.digits.now c.args.paper.now c.args.note.now c.args.registers.now)
-    (line_once (Some (record { action = Run; settings = s }))) (c.lacks_room.ensures.0 (search rules))
+    (source_once s.size (run_outcome s)) (c.lacks_room.ensures.0 (search rules))
 
 pub returns-then-lacks_room-clause-rows : goal.returns-then-lacks_room-clause-rows
 returns-then-lacks_room-clause-rows c = each_run_reads_on
@@ -39,7 +38,7 @@ returns-then-lacks_room-clause-rows c = each_run_reads_on
 pub returns-in-Err-clause-shown : goal.returns-in-Err-clause-shown
 returns-in-Err-clause-shown c =
     let s = asked c.args.small c.args.orders c.args.resumes in
-    picture_unmade (answer Run s) (SourceEnds s) c.args.text.now
+    picture_unmade (run_answer s) (SourceEnds s) c.args.text.now
     (picture_buffers c.args.words.now c.args.digits.now c.args.paper.now c.args.note.now c.args.registers.now)
     (refuted c.lacks_room.result c.if-lacks_room.false c.lacks_room.ensures)
 
@@ -50,7 +49,7 @@ pub returns-in-Ok-clause-next : goal.returns-in-Ok-clause-next
 returns-in-Ok-clause-next c lines accepted =
     let s = asked c.args.small c.args.orders c.args.resumes in
     let text = c.args.text.now in
-    begins_on (answer Run s) (SourceEnds s) text _ _ _ c.args.small c.args.orders c.args.resumes (tape lines)
+    begins_on (run_answer s) (SourceEnds s) text _ _ _ c.args.small c.args.orders c.args.resumes (tape lines)
     (returns-in-Ok-clause-shown c) (source_codes s.size text lines accepted) (lines, accepted, refl)
 
 pub returns-then-lacks_room-clause-next : goal.returns-then-lacks_room-clause-next

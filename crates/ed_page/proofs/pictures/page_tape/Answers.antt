@@ -1,9 +1,9 @@
 use Rattle.std.proofs.Common.{refl, rules, subst}
-use Rattle.std.specs.Prelude.{Ok, Some}
-use Rattle.ed_command.specs.declared.command.Action.TheVariants.{Tape}
+use Rattle.std.specs.Prelude.{Ok}
 use Rattle.ed_command.specs.declared.command.Settings.{Settings}
-use Rattle.ed_top.specs.Output.{answer}
-use Rattle.ed_top.proofs.OneOutcome.{line_once}
+use Rattle.ed_answers.specs.Tapes.{tape_answer, tape_outcome}
+use Rattle.ed_answers.proofs.Replies.{exactly_one}
+use Rattle.ed_answers.proofs.OneOutcome.{rows_once}
 use Rattle.ed_page.specs.Answers.{TapeEnds, picture_buffers}
 use Rattle.ed_page.specs.Pictures.{asked}
 use Rattle.ed_page.specs.Private.Stages.{Draws}
@@ -17,9 +17,9 @@ pub returns-in-Ok-clause-shown : goal.returns-in-Ok-clause-shown
 returns-in-Ok-clause-shown c =
     let s = asked c.args.small c.args.orders c.args.resumes in
     let text = c.args.text.now in
-    drawn_shown (answer Tape s) (TapeEnds s) text c.in-Ok.shown
+    drawn_shown (tape_answer s) (TapeEnds s) text c.in-Ok.shown
     (refuted c.lacks_room.result c.if-lacks_room.false c.lacks_room.ensures)
-    (subst (λ (x : Settings). Draws (answer Tape x) (TapeEnds x) text (Ok c.in-Ok.shown)) c.asked.ensures
+    (subst (λ (x : Settings). Draws (tape_answer x) (TapeEnds x) text (Ok c.in-Ok.shown)) c.asked.ensures
     c.in-Ok.ensures) c.show.ensures
 
 pub returns-in-Ok-clause-rows : goal.returns-in-Ok-clause-rows
@@ -30,7 +30,7 @@ returns-then-lacks_room-clause-shown c =
     let s = asked c.args.small c.args.orders c.args.resumes in
     picture_early _ (TapeEnds s) c.args.text.now
     (picture_buffers c.args.words.now c.args.digits.now c.args.paper.now c.args.note.now c.args.registers.now)
-    (line_once (Some (record { action = Tape; settings = s }))) (c.lacks_room.ensures.0 (search rules))
+    (rows_once _ (exactly_one (tape_outcome s))) (c.lacks_room.ensures.0 (search rules))
 
 pub returns-then-lacks_room-clause-rows : goal.returns-then-lacks_room-clause-rows
 returns-then-lacks_room-clause-rows c = each_run_reads_on
@@ -38,7 +38,7 @@ returns-then-lacks_room-clause-rows c = each_run_reads_on
 pub returns-in-Err-clause-shown : goal.returns-in-Err-clause-shown
 returns-in-Err-clause-shown c =
     let s = asked c.args.small c.args.orders c.args.resumes in
-    picture_unmade (answer Tape s) (TapeEnds s) c.args.text.now
+    picture_unmade (tape_answer s) (TapeEnds s) c.args.text.now
     (picture_buffers c.args.words.now c.args.digits.now c.args.paper.now c.args.note.now c.args.registers.now)
     (refuted c.lacks_room.result c.if-lacks_room.false c.lacks_room.ensures)
 
@@ -49,7 +49,7 @@ pub returns-in-Ok-clause-next : goal.returns-in-Ok-clause-next
 returns-in-Ok-clause-next c codes is =
     let s = asked c.args.small c.args.orders c.args.resumes in
     let text = c.args.text.now in
-    begins_on (answer Tape s) (TapeEnds s) text _ _ _ c.args.small c.args.orders c.args.resumes codes
+    begins_on (tape_answer s) (TapeEnds s) text _ _ _ c.args.small c.args.orders c.args.resumes codes
     (returns-in-Ok-clause-shown c) (read_codes text codes is) (codes, is, refl)
 
 pub returns-then-lacks_room-clause-next : goal.returns-then-lacks_room-clause-next

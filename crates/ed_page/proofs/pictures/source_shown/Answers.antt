@@ -1,23 +1,19 @@
 use Rattle.std.proofs.Common.{rules, sym, subst}
-use Rattle.std.specs.Prelude.{Result, Ok, Err}
-use Rattle.ed_words.specs.declared.memory.NoMemory.{NoMemory}
-use Rattle.ed_command.specs.declared.command.Action.TheVariants.{Run}
-use Rattle.ed_top.specs.Output.{answer}
+use Rattle.std.specs.Prelude.{Ok}
+use Rattle.ed_answers.specs.Sources.{run_answer}
 use Rattle.ed_page.specs.Answers.{SourceEnds}
-use Rattle.ed_page.specs.Private.Stages.{Draws, LinksOrTells}
+use Rattle.ed_page.specs.Private.Stages.{Draws}
 use Rattle.ed_page.specs.declared.running.Shown.{Shown}
-use Rattle.ed_page.specs.declared.told.Told.{Told}
 use Rattle.ed_page.proofs.Replies.{source_drawn, source_refusal_drawn}
 use Rattle.ed_page.proofs.pictures.source_shown.Goals as goal
 
-pub returns-in_ok-told-in-Err : goal.returns-in_ok-told-in-Err
-returns-in_ok-told-in-Err c =
+pub returns-in_ok-rejected-in-Err : goal.returns-in_ok-rejected-in-Err
+returns-in_ok-rejected-in-Err c =
     let s = c.args.settings in
     let text = c.args.text.now in
-    subst (λ (x : Shown). Draws (answer Run s) (SourceEnds s) text (Ok x)) (sym c.refused-in-Err.ensures)
-    (source_refusal_drawn s text c.in_ok-told-in-Err.field-0 (search rules)
-    (subst (λ (r : Result Told NoMemory). LinksOrTells s.size text (Err r)) c.in_ok-told-in-Err.was
-    c.in-Err.ensures))
+    subst (λ (x : Shown). Draws (run_answer s) (SourceEnds s) text (Ok x)) (sym c.refused-in-Err.ensures)
+    (source_refusal_drawn s text c.in-Err.rejection c.in_ok-rejected-in-Err.field-0 (search rules) c.in-Err.ensures
+    c.in_ok-rejected-in-Err.ensures)
 
 pub returns-in-Ok : goal.returns-in-Ok
 returns-in-Ok c =

@@ -1,7 +1,9 @@
 use Rattle.std.proofs.Common.{rules}
-use Rattle.ed_answers.specs.Sources.{listing_outcome}
-use Rattle.ed_page.proofs.Replies.{source_refused}
+use Rattle.ed_answers.specs.Sources.{OfSource, listing_outcome}
+use Rattle.ed_page.proofs.Replies.{answer_told}
 use Rattle.ed_page.proofs.texts.source_listing.Goals as goal
 
-pub returns-in-Err : goal.returns-in-Err
-returns-in-Err c = source_refused c.args.size listing_outcome c.args.text.now _ (search rules) c.in-Err.ensures
+pub returns : goal.returns
+returns c =
+    answer_told (OfSource c.args.settings.size listing_outcome) c.args.text.now _ _ (search rules) c.list.ensures
+    c.told_of.ensures
