@@ -6,7 +6,7 @@ ghost use Rattle.ed_programs.specs.Squares.{squares_cost, squares_orders, square
 use crate::refusal::{Refusal, program_of_text};
 use std::alloc::Global;
 
-/// The tape that prints the squares from 1 to 81: `examples/squares.tape1`. It is refused only for want of memory.
+/// The tape that prints the squares from 1 to 81: `examples/squares.tape1`. The only refusal is `Memory`.
 pub fn squares_program(alloc: Global) -> Result<String, Refusal>
     ensures is { GivesProgram None squares_text result }
     ensures law { FirstTapePrints squares_cost squares_orders 61 squares_prints result }

@@ -9,5 +9,4 @@ returns-clause-is c = written _ _ _ _ refl c.program_of_text.ensures c.format.en
 
 pub returns-clause-law : goal.returns-clause-law
 returns-clause-law c =
-    first_tape_prints_of c.program_of_text.result
-    (returns-clause-is c) squares_run
+    first_tape_prints_of c.program_of_text.result (returns-clause-is c) squares_run
