@@ -1,9 +1,9 @@
 //! Each program beside a plain computation.
 
-use crate::support::{is_refused, prints, tape_prints};
+use crate::support::{first_tape_prints, is_refused, prints, tape_prints};
 use ed_programs::{
     Refusal, add_program, difference_program, fraction_program, greatest_program, hello_program,
-    mirror_program, multiply_program, sort_program,
+    mirror_program, multiply_program, sort_program, squares_program,
 };
 use std::test::Fail;
 
@@ -429,4 +429,16 @@ fn mirror_prints_backwards(rt: HostRuntime) -> Result<(), Fail> {
         is_refused(&rt, mirror_program(alloc, letters), cause, letters)?;
     }
     Ok(())
+}
+
+#[test]
+fn squares_prints_nine_squares(rt: HostRuntime) -> Result<(), Fail> {
+    let alloc = rt.alloc();
+    let mut wanted = String::new(alloc);
+    for number in 1u32..=9 {
+        let square = number * number;
+        let line = format!(in alloc; "{}{}\r\n", square / 10, square % 10)?;
+        wanted.push_str(line.as_str())?;
+    }
+    first_tape_prints(&rt, alloc, squares_program(alloc), wanted.as_str())
 }

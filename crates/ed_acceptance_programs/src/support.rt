@@ -30,6 +30,16 @@ pub fn tape_prints(
     answers(rt, alloc, "tape", tape, wanted)
 }
 
+/// Checks that the tape of May 1949 was given, and that its run prints a text and stops.
+pub fn first_tape_prints(
+    rt: &impl Abort,
+    alloc: Global,
+    tape: Result<String, Refusal>,
+    wanted: &str,
+) -> Result<(), Fail> {
+    answers(rt, alloc, "tape1", tape, wanted)
+}
+
 /// Checks that there is a program, and that the command answers it with a text and status 0.
 fn answers(
     rt: &impl Abort,

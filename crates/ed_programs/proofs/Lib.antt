@@ -45,3 +45,6 @@ pub mod TapeRuns
 pub mod MirrorProgram
 pub mod MirrorEnds
 pub mod MirrorRuns
+pub mod FirstTapeRuns
+pub mod SquaresProgram
+pub mod SquaresRuns

@@ -1,8 +1,8 @@
 //! Whole programs, proved for all their data: for each a call that gives its source, or its tape, with the data put in.
 //!
-//! The contract of a call is the exact text, and what the command `run` (of a tape, `tape`) answers to it: the printed
-//! text in plain mathematics, the number of orders and the status. Stands on `ed_top`, and its proofs on the kit of
-//! `ed_paths`.
+//! The contract of a call is the exact text, and what the command `run` (of a tape, `tape` or `tape1`) answers to it:
+//! the printed text in plain mathematics, the number of orders and the status. Stands on `ed_top`, and its proofs on
+//! the kit of `ed_paths`.
 #![tactic(auto)]
 
 mod add;
@@ -14,6 +14,7 @@ mod mirror;
 mod multiply;
 mod refusal;
 mod sort;
+mod squares;
 
 pub use add::add_program;
 pub use difference::difference_program;
@@ -24,3 +25,4 @@ pub use mirror::mirror_program;
 pub use multiply::multiply_program;
 pub use refusal::Refusal;
 pub use sort::sort_program;
+pub use squares::squares_program;

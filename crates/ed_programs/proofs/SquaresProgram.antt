@@ -1,0 +1,194 @@
+-- The program of `examples/squares.tape1`: a loop that counts the tens of a square, in a loop over the squares.
+use Rattle.std.proofs.Common.{◌≡◌, ℕ, zero, suc, ◌+◌, ◌-◌, ◌*◌, ◌/◌, ◌%◌, ◌<◌, ◌≤◌, refl, arith, lit<, lit≤}
+use Rattle.std.proofs.Common.{List, [], ◌∷◌, Option, Some}
+use Rattle.std.proofs.lemmas.Nat.{mul-le}
+use Rattle.ed_words.specs.declared.size.Size.TheVariants.{Full}
+use Rattle.ed_paths.proofs.Frames.{Frame, Moment, short, state}
+use Rattle.ed_paths.proofs.Places.{own}
+use Rattle.ed_paths.proofs.Moves.{A, S, T, O, L, Z, E_jumps, G_jumps, G_stays}
+use Rattle.ed_paths.proofs.Shifts.{L512F}
+use Rattle.ed_paths.proofs.Paths.{Path, stay, on, prints, followed}
+use Rattle.ed_paths.proofs.Loops.{printed, quiet_rounds, varying}
+use Rattle.ed_routines.proofs.Journeys.{ComesToStop, along, to_stop}
+
+-- the cells that change
+pub record Work : Type 0 where
+  pub scrap : ℕ
+  pub square : ℕ
+  pub odd : ℕ
+  pub tens : ℕ
+  pub left : ℕ
+  pub units : ℕ
+
+-- its words from 31 on, and location 74, which its first order clears
+abbrev pub cells : Work → List ℕ
+cells k =
+    (20480 + 2 * 74) ∷ (36864 + 2 * 61) ∷ (20480 + 2 * 62) ∷ (114688 + 2 * 63) ∷ (114688 + 2 * 64) ∷ (20480 + 2 * 63)
+    ∷ (114688 + 2 * 64) ∷ (114688 + 2 * 65) ∷ (20480 + 2 * 64) ∷ (20480 + 2 * 69) ∷ (114688 + 2 * 63)
+    ∷ (49152 + 2 * 66) ∷ (110592 + 2 * 50) ∷ (20480 + 2 * 70) ∷ (114688 + 2 * 69) ∷ (114688 + 2 * 68)
+    ∷ (20480 + 2 * 69) ∷ (114688 + 2 * 70) ∷ (12288 + 2 * 42) ∷ (114688 + 2 * 66) ∷ 103424 ∷ (20480 + 2 * 71)
+    ∷ (36864 + 2 * 69) ∷ (36864 + 2 * 71) ∷ (36864 + 2 * 72) ∷ (36864 + 2 * 73) ∷ (114688 + 2 * 63)
+    ∷ (49152 + 2 * 67) ∷ (110592 + 2 * 33) ∷ 53248 ∷ 45056 ∷ k.scrap ∷ k.square ∷ k.odd ∷ 4 ∷ 20 ∷ 162 ∷ 4096
+    ∷ k.tens ∷ k.left ∷ k.units ∷ 73728 ∷ 98304 ∷ 0 ∷ []
+
+abbrev pub frame : Frame 44 0
+frame = record { size = Full; base = 31; top = 1024; under = lit≤ tt; fits = lit≤ tt }
+
+-- what is left of n after j tens were taken away, and what the cell for it holds then
+abbrev pub without : ℕ → ℕ → ℕ
+without n j = n - 10 * j
+
+abbrev pub left_after : ℕ → ℕ → ℕ → ℕ
+left_after old n zero = old
+left_after old n (suc j) = 2 * without n (suc j)
+
+-- the accumulator's number at the test for 81
+abbrev pub compared : ℕ → ℕ
+compared n = (130910 + 2 * n) % 131072
+
+-- the cells after j tens of the square n; v is the accumulator's number before, and e is the next odd number
+abbrev pub counting : Work → ℕ → ℕ → ℕ → ℕ → Work
+counting k v n e j = record {
+  scrap = v;
+  square = 2 * n;
+  odd = 2 * e;
+  tens = 4096 * j;
+  left = left_after k.left n j;
+  units = k.units;
+}
+
+-- and after its units
+abbrev pub after : Work → ℕ → ℕ → ℕ → Work
+after k v n e = record (counting k v n e (n / 10)) { units = 4096 * (n % 10) }
+
+-- the codes of a square: two figures, carriage return, line feed
+abbrev pub figures : ℕ → List ℕ
+figures n = n / 10 ∷ n % 10 ∷ 18 ∷ 24 ∷ []
+
+-- ---- a turn of the loop over the squares
+
+-- `around` has what stays during the program
+module _ (around : Moment) where
+  abbrev pub at : ℕ → ℕ → Work → Option ℕ → Moment
+  at i v k last = record around {
+    cells = cells k;
+    pairs = [];
+    acc = short v;
+    counter = 31 + i;
+    last = last;
+  }
+
+  -- one square n: the last one, q, and the odd number d; the next odd number is e
+  module _ (k : Work) (v q d n e : ℕ) (last : Option ℕ) (sum : q + d ≡ n) (next : d + 2 ≡ e) (few : n ≤ 81)
+      (small : d ≤ 17) where
+    adds : Path frame 9 (at 2 v (record k { square = 2 * q; odd = 2 * d }) last) []
+        (at 11 (2 * without n 0) (counting k v n e 0) last)
+    adds =
+        on (T 2 (own 31) _ refl refl)
+        (on (A 3 (own 32) (short (2 * q)) refl (omega arith))
+        (on (A 4 (own 33) (short (2 * n)) refl (omega arith))
+        (on (T 5 (own 32) _ refl refl)
+        (on (A 6 (own 33) (short (2 * d)) refl (omega arith))
+        (on (A 7 (own 34) (short (2 * e)) refl (omega arith))
+        (on (T 8 (own 33) _ refl refl)
+        (on (T 9 (own 38) 0 refl refl)
+        (on (A 10 (own 32) (short (2 * without n 0)) refl (omega arith)) stay))))))))
+
+    -- one more ten
+    ten : (j : ℕ) → j < n / 10
+        → Path frame 8 (at 11 (2 * without n j) (counting k v n e j) last) []
+        (at 11 (2 * without n (suc j)) (counting k v n e (suc j)) last)
+    ten j less =
+        on (S 11 (own 35) (short (2 * without n (suc j))) refl (omega arith))
+        (on (G_stays 12 (own 19) refl (omega arith))
+        (on (T 13 (own 39) _ refl refl)
+        (on (A 14 (own 38) (short (4096 * j)) refl (omega arith))
+        (on (A 15 (own 37) (short (4096 * suc j)) refl (omega arith))
+        (on (T 16 (own 38) _ refl refl)
+        (on (A 17 (own 39) (short (2 * without n (suc j))) refl (omega arith))
+        (on (E_jumps 18 (own 11) refl (omega arith)) stay)))))))
+
+    -- what is left are the units; both figures and a new line are printed
+    shows : Path frame 11 (at 11 (2 * without n (n / 10)) (counting k v n e (n / 10)) last) (figures n)
+        (at 28 (compared n) (after k v n e) (Some 24))
+    shows =
+        on (S 11 (own 35) (short (131052 + 2 * (n % 10))) refl (omega arith))
+        (on (G_jumps 12 (own 19) refl (omega arith))
+        (on (A 19 (own 35) (short (2 * (n % 10))) refl (omega arith))
+        (on (L 20 L512F (short (4096 * (n % 10))) refl (omega arith))
+        (on (T 21 (own 40) _ refl refl)
+        (prints (O 22 (own 38) (n / 10) refl (omega arith))
+        (prints (O 23 (own 40) (n % 10) refl (omega arith))
+        (prints (O 24 (own 41) 18 refl refl)
+        (prints (O 25 (own 42) 24 refl refl)
+        (on (A 26 (own 32) (short (2 * n)) refl (omega arith))
+        (on (S 27 (own 36) (short (compared n)) refl (omega arith)) stay))))))))))
+
+    prints_square : Path frame (9 + (n / 10 * 8 + 11)) (at 2 v (record k { square = 2 * q; odd = 2 * d }) last)
+        (figures n) (at 28 (compared n) (after k v n e) (Some 24))
+    prints_square =
+        followed adds
+        (followed (quiet_rounds (λ j. at 11 (2 * without n j) (counting k v n e j) last) (n / 10) ten) shows)
+
+  -- ---- the loop over the squares: turn i goes from the square of i to the next one
+
+  abbrev pub square_after : ℕ → ℕ
+  square_after i = suc i * suc i
+
+  abbrev pub number : ℕ → ℕ
+  number zero = 0
+  number (suc i) = compared (square_after i)
+
+  abbrev pub last_code : ℕ → Option ℕ
+  last_code zero = Some 11
+  last_code (suc i) = Some 24
+
+  -- as it is loaded, and after i turns
+  abbrev pub loaded : Work
+  loaded = record { scrap = 0; square = 0; odd = 2; tens = 0; left = 0; units = 0 }
+
+  abbrev pub work : ℕ → Work
+  work zero = loaded
+  work (suc i) = after (work i) (number i) (square_after i) (2 * suc i + 1)
+
+  abbrev pub before : ℕ → Moment
+  before i = at 2 (number i) (record (work i) { square = 2 * (i * i); odd = 2 * (2 * i + 1) }) (last_code i)
+
+  next_square : (i : ℕ) → i * i + (2 * i + 1) ≡ square_after i
+  next_square i = omega arith
+
+  -- the orders of a turn
+  abbrev pub turn_orders : ℕ → ℕ
+  turn_orders i = 9 + (square_after i / 10 * 8 + 11) + 1
+
+  turn : (i : ℕ) → i < 8 → Path frame (turn_orders i) (before i) (figures (square_after i)) (before (suc i))
+  turn i less =
+      let few : square_after i ≤ 8 * 8 = mul-le (suc i) (suc i) 8 8 (omega arith) (omega arith) in
+      followed
+      (prints_square (work i) (number i) (i * i) (2 * i + 1) (square_after i) (2 * suc i + 1) (last_code i)
+      (next_square i) (omega arith) (omega (arith, few)) (omega arith))
+      (on (G_jumps 28 (own 2) refl (omega (arith, few))) stay)
+
+  last_turn : Path frame (turn_orders 8) (before 8) (figures 81) (at 29 0 (work 9) (Some 24))
+  last_turn =
+      followed
+      (prints_square (work 8) (number 8) 64 17 81 19 (Some 24) refl refl (lit≤ tt) (lit≤ tt))
+      (on (G_stays 28 (own 2) refl (lit< tt)) stay)
+
+  -- ---- from the entry to the stop
+
+  abbrev pub entering : Moment
+  entering = at 0 0 loaded around.last
+
+  begins : Path frame 2 entering (11 ∷ []) (before 0)
+  begins = on (T 0 (own 43) 0 refl refl) (prints (O 1 (own 30) 11 refl refl) stay)
+
+  -- figure shift, and nine squares
+  abbrev pub all_codes : List ℕ
+  all_codes = 11 ∷ printed (λ i. figures (square_after i)) 9
+
+  whole : Path frame 383 entering all_codes (at 29 0 (work 9) (Some 24))
+  whole = followed begins (followed (varying turn_orders before (λ i. figures (square_after i)) 8 turn) last_turn)
+
+  pub squares_stop : (done : ℕ) → ComesToStop 383 (state frame entering done) all_codes 61
+  squares_stop done = to_stop (along whole) (Z 29 53248 refl refl) done

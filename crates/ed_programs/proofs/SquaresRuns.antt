@@ -1,0 +1,80 @@
+-- What `examples/squares.tape1` prints.
+use Rattle.std.proofs.Common.{◌≡◌, ℕ, refl, subst, List, [], ◌∷◌, length, lit≤}
+use Rattle.ed_words.proofs.Numbers.{le_of}
+use Rattle.ed_codes.specs.Reading.{reading, rows}
+use Rattle.ed_machine.specs.State.{State}
+use Rattle.ed_initial1.specs.Entry.{at_entry1}
+use Rattle.ed_initial1.specs.Faults.{Comes1, Tape}
+use Rattle.ed_initial1.specs.Items.{Item1, spelled1}
+use Rattle.ed_paths.proofs.Frames.{Moment, state}
+use Rattle.ed_paths.proofs.Window.{patched}
+use Rattle.ed_routines.proofs.Journeys.{ComesToStop}
+use Rattle.ed_command.specs.declared.command.Settings.{Settings}
+use Rattle.ed_top.specs.FirstOrders.{first_state1}
+use Rattle.ed_top.specs.Runs.{paper_room}
+use Rattle.ed_programs.specs.FirstTapes.{FirstTapeRuns}
+use Rattle.ed_programs.specs.Squares.{squares_cost, squares_orders, squares_prints, squares_text}
+use Rattle.ed_programs.proofs.FirstTapeRuns.{are_items, first_tape_runs, short_item}
+use Rattle.ed_programs.proofs.SquaresProgram.{all_codes, entering, frame, squares_stop}
+
+-- its items
+abbrev items : List Item1
+items =
+    short_item 5 (7 ∷ 4 ∷ []) ∷ short_item 9 (6 ∷ 1 ∷ []) ∷ short_item 5 (6 ∷ 2 ∷ []) ∷ short_item 28 (6 ∷ 3 ∷ [])
+    ∷ short_item 28 (6 ∷ 4 ∷ []) ∷ short_item 5 (6 ∷ 3 ∷ []) ∷ short_item 28 (6 ∷ 4 ∷ []) ∷ short_item 28 (6 ∷ 5 ∷ [])
+    ∷ short_item 5 (6 ∷ 4 ∷ []) ∷ short_item 5 (6 ∷ 9 ∷ []) ∷ short_item 28 (6 ∷ 3 ∷ []) ∷ short_item 12 (6 ∷ 6 ∷ [])
+    ∷ short_item 27 (5 ∷ 0 ∷ []) ∷ short_item 5 (7 ∷ 0 ∷ []) ∷ short_item 28 (6 ∷ 9 ∷ []) ∷ short_item 28 (6 ∷ 8 ∷ [])
+    ∷ short_item 5 (6 ∷ 9 ∷ []) ∷ short_item 28 (7 ∷ 0 ∷ []) ∷ short_item 3 (4 ∷ 2 ∷ []) ∷ short_item 28 (6 ∷ 6 ∷ [])
+    ∷ short_item 25 (5 ∷ 1 ∷ 2 ∷ []) ∷ short_item 5 (7 ∷ 1 ∷ []) ∷ short_item 9 (6 ∷ 9 ∷ [])
+    ∷ short_item 9 (7 ∷ 1 ∷ []) ∷ short_item 9 (7 ∷ 2 ∷ []) ∷ short_item 9 (7 ∷ 3 ∷ []) ∷ short_item 28 (6 ∷ 3 ∷ [])
+    ∷ short_item 12 (6 ∷ 7 ∷ []) ∷ short_item 27 (3 ∷ 3 ∷ []) ∷ short_item 13 [] ∷ short_item 11 [] ∷ short_item 0 []
+    ∷ short_item 0 [] ∷ short_item 0 (1 ∷ []) ∷ short_item 0 (2 ∷ []) ∷ short_item 0 (1 ∷ 0 ∷ [])
+    ∷ short_item 0 (8 ∷ 1 ∷ []) ∷ short_item 1 [] ∷ short_item 0 [] ∷ short_item 0 [] ∷ short_item 0 []
+    ∷ short_item 18 [] ∷ short_item 24 [] ∷ []
+
+abbrev program : Tape
+program = record { end = 74; items = items; rest = [] }
+
+abbrev tape_rows : List ℕ
+tape_rows = spelled1 items
+
+spells : reading squares_text ≡ rows tape_rows
+spells = refl
+
+comes : Comes1 tape_rows program
+comes = record {
+  rows_are = refl;
+  good = are_items items refl;
+  first = record { function = refl; short = refl; number = refl; low = lit≤ tt; high = lit≤ tt };
+  count = refl;
+}
+
+-- ---- at the entry
+
+abbrev entry : State
+entry = at_entry1 (first_state1 tape_rows) program
+
+abbrev around : Moment
+around = record {
+  words = entry.store.words;
+  digits = entry.store.sandwich;
+  cells = [];
+  pairs = [];
+  acc = 0;
+  multiplier = entry.multiplier;
+  counter = 31;
+  tape = entry.tape;
+  last = entry.last;
+}
+
+begins : state frame (entering around) entry.orders ≡ entry
+unfolding first_state1 patched
+begins = refl
+
+stops : ComesToStop 383 entry (all_codes around) 61
+stops = subst (λ (x : State). ComesToStop 383 x (all_codes around) 61) begins (squares_stop around entry.orders)
+
+pub squares_run : (s : Settings) → FirstTapeRuns s squares_text squares_cost squares_orders 61 squares_prints
+squares_run s =
+    first_tape_runs s squares_text tape_rows program spells (le_of (length squares_text) 262144 refl) comes stops
+    (le_of (length (all_codes around)) paper_room refl)

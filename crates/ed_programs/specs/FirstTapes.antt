@@ -1,0 +1,37 @@
+-- What is said of a whole tape of May 1949: what the command `tape1` answers to it.
+use Rattle.std.specs.Prelude.{◌≡◌, ℕ, ◌+◌, ◌≤◌, List, [], ◌∷◌, ◌++◌, codes, Some}
+use Rattle.std.specs.Prelude.{Result, Ok, Err, String, string_bytes}
+use Rattle.std.specs.declared.alloc.Global.{Global}
+use Rattle.ed_words.specs.Texts.{Text}
+use Rattle.ed_codes.specs.Reading.{reading, rows}
+use Rattle.ed_initial1.specs.Faults.{Comes1, Tape}
+use Rattle.ed_report.specs.Notes.{at_after}
+use Rattle.ed_command.specs.declared.command.Action.TheVariants.{Tape1}
+use Rattle.ed_command.specs.declared.command.Settings.{Settings}
+use Rattle.ed_top.specs.Answer.{IsDue}
+use Rattle.ed_top.specs.FirstEntry.{cost1}
+use Rattle.ed_top.specs.Output.{output}
+use Rattle.ed_programs.specs.declared.refusal.Refusal.{Refusal}
+
+-- the text spells rows that come to a program at this cost, whose run goes on from its entry at 31 (the law
+-- `first_orders`); and where the limit is at least this cost and the orders of the program together, what the command
+-- `tape1` owes the text is this paper, the note of a stop at a place after exactly these orders, and status 0
+pub record FirstTapeRuns (s : Settings) (tape : Text) (cost orders at : ℕ) (paper : Text) : Type 0 where
+  pub codes_of : List ℕ
+  pub spelled : reading tape ≡ rows codes_of
+  pub program : Tape
+  pub comes : Comes1 codes_of program
+  pub cost_is : cost1 program ≡ cost
+  pub outcome : s.resumes ≡ 0 → cost + orders ≤ s.limit
+      → IsDue (output (Some (record { action = Tape1; settings = s }))) tape (record {
+        out = paper;
+        note = at_after (codes "stopped") at (cost + orders) ++ 10 ∷ [];
+        status = 0;
+      })
+
+-- whatever the settings are, the tape that is answered is loaded and run in exactly these orders, prints this, and
+-- stops there
+abbrev pub FirstTapePrints : ℕ → ℕ → ℕ → Text → Result (String Global) Refusal → Type 0
+FirstTapePrints cost orders at paper (Ok tape) =
+    (s : Settings) → FirstTapeRuns s (string_bytes tape) cost orders at paper
+FirstTapePrints cost orders at paper (Err refusal) = Unit {0}
