@@ -45,3 +45,4 @@ pub mod TapeRuns
 pub mod MirrorProgram
 pub mod MirrorEnds
 pub mod MirrorRuns
+pub mod TwoPartsRuns

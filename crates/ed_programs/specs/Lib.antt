@@ -9,3 +9,5 @@ pub mod Difference
 pub mod Fraction
 pub mod Tapes
 pub mod Mirror
+pub mod TwoParts
+pub mod Interlude
