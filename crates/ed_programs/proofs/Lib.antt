@@ -46,3 +46,6 @@ pub mod MirrorProgram
 pub mod MirrorEnds
 pub mod MirrorRuns
 pub mod TwoPartsRuns
+pub mod InterludeLoads
+pub mod InterludeEnds
+pub mod InterludeRuns
