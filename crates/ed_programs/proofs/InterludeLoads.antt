@@ -33,7 +33,7 @@ pub record Entered (z : Size) (words : List ℕ) (start : Note) (base at : ℕ) 
         rest = rest;
       })
 
-entered : {z : Size} {words : List ℕ} {start last : Note} {is : List Item} {cost : ℕ} (base at : ℕ) (rest : List ℕ)
+pub entered : {z : Size} {words : List ℕ} {start last : Note} {is : List Item} {cost : ℕ} (base at : ℕ) (rest : List ℕ)
     → IsDirective start.directive → Reads z words start is last cost → last.directive ≡ 12288 + 2 * at → 44 ≤ at
     → at < locations z → Entered z words start base at is last cost rest
 entered {z} {words} {start} {last} {is} {cost} base at rest set reads aim low high =

@@ -10,6 +10,9 @@ use Rattle.std.proofs.lemmas.List.{length-map}
 use Rattle.ed_words.proofs.Numbers.{le_false, le_true, lt_of}
 use Rattle.ed_words.specs.Sizes.{locations}
 use Rattle.ed_words.specs.Texts.{Text}
+use Rattle.ed_words.specs.declared.size.Size.{Size}
+use Rattle.ed_words.proofs.SizeLemmas.{least}
+use Rattle.ed_machine.specs.State.{State}
 use Rattle.ed_codes.specs.Spelling.{row_of}
 use Rattle.ed_codes.specs.Text.{Spells, none, row}
 use Rattle.ed_codes.specs.Reading.{IsReadingOf, reading, rows}
@@ -17,17 +20,23 @@ use Rattle.ed_codes.proofs.Pieces.{spells_append}
 use Rattle.ed_codes.proofs.Readings.{has_one_reading}
 use Rattle.ed_notation.specs.Items.{AreDigits, rows_of, spelled}
 use Rattle.ed_notation.proofs.Canonical.{digits_are}
-use Rattle.ed_notation.specs.Openings.{IsDirective}
+use Rattle.ed_notation.specs.Faults.{ComesTo, TapeEntry, WellFormed}
+use Rattle.ed_notation.specs.Fold.{Note, address}
 use Rattle.ed_notation.specs.Spellings.{canonical, canonicals, digits_of}
 use Rattle.ed_notation.proofs.Steps.{plain}
+use Rattle.ed_initial.specs.Entry.{Comes}
+use Rattle.ed_interlude.specs.Returned.{ComesBack, directive}
 use Rattle.ed_loads.specs.EntryState.{first_state}
 use Rattle.ed_sources.specs.Calls.{text_of_lines}
-use Rattle.ed_sources.proofs.Decimals.{written}
+use Rattle.ed_sources.proofs.Decimals.{decimal_is, few_bytes, written}
 use Rattle.ed_command.specs.declared.command.Settings.{Settings}
 use Rattle.ed_programs.specs.Interlude.{interlude_front, interlude_line, interlude_parts, interlude_prints, interlude_rest}
 use Rattle.ed_programs.specs.Interlude.{interlude_room, interlude_text}
 use Rattle.ed_programs.specs.TwoParts.{TwoParts, TwoPartsRun}
-use Rattle.ed_programs.proofs.InterludeLoads.{interlude_items, program_items}
+use Rattle.ed_programs.proofs.Answered.{are_short, text_length}
+use Rattle.ed_programs.proofs.InterludeEnds.{back, back_store, entry, entry_on, interlude_away, interlude_leads}
+use Rattle.ed_programs.proofs.InterludeEnds.{program_away, program_stops, reopens, returned}
+use Rattle.ed_programs.proofs.InterludeLoads.{entered, interlude_items, interlude_reads, program_items, program_reads}
 use Rattle.ed_programs.proofs.TwoPartsRuns.{Course, numbers_of, two_parts_run}
 
 -- ---- the number on the tape
@@ -82,6 +91,12 @@ module _ (n : ℕ) (low : 10 ≤ n) (high : n < 1000) where
 
   figure_count : length (digits_of n) ≡ length (decimal n)
   figure_count = sym (length-map (digits_of n) (λ d. 48 + d)) ∙ ap length figures
+
+  few_figures : length (decimal n) ≤ 5
+  few_figures =
+      let few = few_bytes n (omega arith) in
+      let same = ap length (decimal_is n (omega arith)) in
+      omega (arith, few, same)
 
 -- ---- the rows of the text
 
@@ -146,3 +161,92 @@ text_reads n low high =
     (subst (Spells (front ++ (decimal n ++ behind_number))) (rows_are n)
     (spells_append front front_rows (decimal n ++ behind_number) (digits_of n ++ rows_behind) front_spells
     (spells_append (decimal n) (digits_of n) behind_number rows_behind (decimal_spells n low high) behind_spells))))
+
+-- ---- the course of the tape
+
+-- the loads: what the rows come to, and what those left at the return do
+module _ (z : Size) (n : ℕ) (low : 34 ≤ n) (small : n ≤ 510) (fits : 2 * n + 3 ≤ locations z) where
+  abbrev loaded : ℕ
+  loaded = 9 + (344 + 9 * length (digits_of n)) + 19
+
+  abbrev read : ℕ
+  read = length (spelled (canonicals (interlude_items n))) + 2
+
+  abbrev first : TapeEntry
+  first = entry z (tape_rows n) program_rows n loaded read small
+
+  reads : Comes (first_state z (tape_rows n)) first
+  unfolding first_state
+  reads =
+      let words = (first_state z (tape_rows n)).store.words in
+      let size = least z in
+      let e = entered 9 100 program_rows (omega arith) (interlude_reads z words n small) refl (lit≤ tt) (omega arith) in
+      record { well = e.well; comes = e.comes }
+
+  abbrev home : State
+  home = back z (tape_rows n) program_rows n loaded read small
+
+  abbrev second : TapeEntry
+  second = entry_on z (tape_rows n) program_rows n loaded read small low fits 26
+
+  reads_on : ComesBack home second
+  reads_on =
+      let words = home.store.words in
+      let size = least z in
+      let e = entered 2 64 [] (omega arith) (program_reads z words n 200 low fits) refl (lit≤ tt) (omega arith) in
+      let same = sym (reopens z (tape_rows n) program_rows n loaded read small low fits 26) in
+      record {
+        well = subst (λ (x : Note). WellFormed z words x program_rows) same e.well;
+        comes = subst (λ (x : Note). ComesTo words x 2 program_rows second) same e.comes;
+      }
+
+  abbrev course : Course z (tape_rows n) 68 (15 ∷ 21 ∷ 8 ∷ [])
+  course = record {
+    interlude = first;
+    reads = reads;
+    back = home;
+    orders = 5;
+    leads = interlude_leads z (tape_rows n) program_rows n loaded read small;
+    away = interlude_away z (tape_rows n) program_rows n loaded read small;
+    returned = returned z (tape_rows n) program_rows n loaded read small;
+    is_store = back_store z (tape_rows n) program_rows n loaded read small;
+    left = refl;
+    program = second;
+    reads_on = reads_on;
+    orders_on = 3;
+    stops = program_stops z (tape_rows n) program_rows n loaded read small low fits 26;
+    stays_away = program_away z (tape_rows n) program_rows n loaded read small low fits 26;
+  }
+
+  numbers_are : numbers_of course ≡ interlude_parts n
+  numbers_are =
+      let ds = digits_of n in
+      let few = figure_count n (omega arith) (omega arith) in
+      let cost : loaded ≡ 372 + 9 * length (decimal n) = omega (arith, few) in
+      let inner = length-append ((ds ++ []) ++ 17 ∷ []) entering_rows in
+      let outer = length-append (ds ++ []) (17 ∷ []) in
+      let same = ap length (append-nil ds) in
+      let count : read ≡ 35 + length (decimal n) = omega (arith, few, inner, outer, same) in
+      let there : address (directive home) ≡ 2 * n = omega arith in
+      λ i. record {
+        interlude = record { entry = 100; cost = cost i; rows = count i; orders = 5 };
+        returns_for = there i;
+        program = record { entry = 64; cost = 280; rows = 26; orders = 4 };
+        stop = 68;
+      }
+
+-- ---- what is owed
+
+pub each_number : (s : Settings) (n : ℕ) → 34 ≤ n → n ≤ 510 → interlude_room n ≤ locations s.size
+    → TwoPartsRun s (interlude_text n) (interlude_parts n) interlude_prints
+each_number s n low small fits =
+    let lines : List Text = interlude_front ++ interlude_line n ∷ interlude_rest in
+    let few = figure_count n (omega arith) (omega arith) in
+    let digits = few_figures n (omega arith) (omega arith) in
+    let together = length-append (decimal n) back_line in
+    let line = le_true (length (interlude_line n)) 120 (omega (arith, few, digits, together)) in
+    let are_all : are_short lines ≡ true = rw line refl in
+    let size : length (interlude_text n) ≤ 121 * 17 = text_length lines are_all in
+    subst (λ (t : TwoParts). TwoPartsRun s (interlude_text n) t interlude_prints) (numbers_are s.size n low small fits)
+    (two_parts_run s (interlude_text n) (tape_rows n) (text_reads n (omega arith) (omega arith)) (omega (arith, size))
+    (course s.size n low small fits) (lit≤ tt))
