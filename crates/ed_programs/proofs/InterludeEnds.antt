@@ -1,7 +1,7 @@
 -- The two programs of the tape `examples/interlude.tape`, for any number: the interlude from its entry to its return, and
 -- the program after it from its entry to its stop.
-use Rattle.std.proofs.Common.{◌≡◌, ◌≢◌, ◌∙◌, inl, inr, ℕ, zero, suc, ◌+◌, ◌-◌, ◌*◌, ◌/◌, ◌%◌, ◌^◌, ◌<◌, ◌≤◌, refl, sym, ap}
-use Rattle.std.proofs.Common.{subst, arith, lit<, lit≤, true, false, List, [], ◌∷◌, ◌++◌, Option, Some, None}
+use Rattle.std.proofs.Common.{◌≡◌, ◌∙◌, ℕ, zero, suc, ◌+◌, ◌-◌, ◌*◌, ◌≤◌, refl, ap}
+use Rattle.std.proofs.Common.{subst, arith, lit<, lit≤, true, false, List, [], ◌∷◌, Option, Some, None}
 use Rattle.std.proofs.Common.{drop, get_or, length, nat_eq, set}
 use Rattle.std.specs.Prelude.{slice_index}
 use Rattle.std.specs.List.{list_all}
@@ -13,7 +13,7 @@ use Rattle.ed_words.specs.Sizes.{locations}
 use Rattle.ed_words.specs.declared.size.Size.{Size}
 use Rattle.ed_store.specs.Cells.{IsStore, short_at}
 use Rattle.ed_machine.specs.State.{State}
-use Rattle.ed_notation.specs.Fold.{Note, over, word_with}
+use Rattle.ed_notation.specs.Fold.{over, word_with}
 use Rattle.ed_notation.specs.Faults.{TapeEntry}
 use Rattle.ed_notation.proofs.Contents.{length-over}
 use Rattle.ed_notation.proofs.Steps.{plain}
@@ -28,12 +28,12 @@ use Rattle.ed_paths.proofs.Leads.{Leads}
 use Rattle.ed_paths.proofs.Moves.{A, E_jumps, O, U, Z}
 use Rattle.ed_paths.proofs.Paths.{Path, leads, on, prints, stay}
 use Rattle.ed_paths.proofs.Places.{any, early, out, own}
-use Rattle.ed_paths.proofs.Standing.{Holds, Meets, filled, opens}
+use Rattle.ed_paths.proofs.Standing.{Holds, filled, opens}
 use Rattle.ed_paths.proofs.Window.{patched}
 use Rattle.ed_routines.proofs.Journeys.{ComesToStop, along, to_stop}
 use Rattle.ed_sources.proofs.Decimals.{among, numbers}
 use Rattle.ed_programs.proofs.InterludeLoads.{from_return, interlude_note, program_note, program_placed}
-use Rattle.ed_programs.proofs.TwoPartsRuns.{IsAway, StaysAbove, away, away_to_stop}
+use Rattle.ed_programs.proofs.TwoPartsRuns.{IsAway, away, away_to_stop}
 
 -- ---- the interlude
 

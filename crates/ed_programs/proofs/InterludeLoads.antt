@@ -1,6 +1,6 @@
--- What the two parts of the tape `examples/interlude.tape` come to, for any number.
-use Rattle.std.proofs.Common.{◌≡◌, ◌∙◌, ℕ, ◌+◌, ◌*◌, ◌/◌, ◌%◌, ◌^◌, ◌<◌, ◌≤◌, refl, sym, ap, subst, arith, lit<, lit≤, true}
-use Rattle.std.proofs.Common.{List, [], ◌∷◌, ◌++◌, append_assoc, append-nil, get_or, length, set}
+-- The loads of the two parts of the tape `examples/interlude.tape`, for any number: their entries, and what they cost.
+use Rattle.std.proofs.Common.{◌≡◌, ◌∙◌, ℕ, ◌+◌, ◌*◌, ◌/◌, ◌<◌, ◌≤◌, refl, sym, ap, subst, arith, lit≤, true}
+use Rattle.std.proofs.Common.{List, [], ◌∷◌, ◌++◌, get_or, length, set}
 use Rattle.std.proofs.lemmas.List.{get_or-set_other}
 use Rattle.ed_words.proofs.Numbers.{le_true}
 use Rattle.ed_words.proofs.SizeLemmas.{least, most}
@@ -10,15 +10,15 @@ use Rattle.ed_notation.specs.declared.item.Item.{Item}
 use Rattle.ed_notation.specs.Items.{rows_of, spelled}
 use Rattle.ed_notation.specs.Fold.{Note, cost_of, is_entry, over}
 use Rattle.ed_notation.specs.Openings.{IsDirective, opening}
-use Rattle.ed_notation.specs.Faults.{ComesTo, EndsSound, TapeEntry, WellFormed}
+use Rattle.ed_notation.specs.Faults.{ComesTo, EndsSound, WellFormed}
 use Rattle.ed_notation.specs.Spellings.{canonical, canonicals, digits_of}
 use Rattle.ed_notation.proofs.Canonical.{is_written}
-use Rattle.ed_notation.proofs.Placing.{all_letters, behind, block, block_cost, laid, placing_all}
+use Rattle.ed_notation.proofs.Placing.{all_letters, block, laid, placing_all}
 use Rattle.ed_notation.proofs.Sound.{sound_well}
 use Rattle.ed_notation.proofs.Steps.{Enters, Reads, aiming, aiming_entry, entering_at, plain, reads_both, reads_none}
 use Rattle.ed_notation.proofs.Steps.{reads_one, setting_theta}
 
--- items before an entry item P F, read from a state of the notation, and the entry that they come to
+-- items before an entry item P F, and the entry to which they lead from a state of the notation
 pub record Entered (z : Size) (words : List ℕ) (start : Note) (base at : ℕ) (is : List Item) (last : Note) (cost : ℕ)
     (rest : List ℕ) : Type 0 where
   pub well : WellFormed z words start (spelled (canonicals is) ++ (rows_of (canonical (plain 0 0 17)) ++ rest))
@@ -64,7 +64,7 @@ entered {z} {words} {start} {last} {is} {cost} base at rest set reads aim low hi
 
 -- ---- the interlude
 
--- its items: the orders, of which the last is the number
+-- its orders as items; the last one is the number
 abbrev orders : ℕ → List Item
 orders n =
     plain 28 6 18 ∷ plain 28 6 18 ∷ plain 7 45 17 ∷ plain 28 5 18 ∷ plain 3 25 17 ∷ plain 5 0 17 ∷ plain 0 n 17 ∷ []

@@ -1,13 +1,12 @@
 -- The text of `examples/interlude.tape`, for any number in range, and what the commands `parts` and `tape` owe it.
-use Rattle.std.proofs.Common.{◌≡◌, ◌∙◌, inl, inr, ℕ, ◌+◌, ◌-◌, ◌*◌, ◌/◌, ◌%◌, ◌<◌, ◌≤◌, refl, sym, ap, subst, arith, lit<, lit≤}
-use Rattle.std.proofs.Common.{true, false, Bool, ◌⊎◌, List, [], ◌∷◌, ◌++◌, append_assoc, append-nil, codes, length, length-append}
-use Rattle.std.proofs.Common.{map, nat_le, nat_lt, Some}
+use Rattle.std.proofs.Common.{◌≡◌, ◌∙◌, inl, inr, ℕ, ◌+◌, ◌-◌, ◌*◌, ◌/◌, ◌%◌, ◌<◌, ◌≤◌, refl, sym, ap, subst, arith, lit≤}
+use Rattle.std.proofs.Common.{true, List, [], ◌∷◌, ◌++◌, append_assoc, append-nil, codes, length, length-append}
+use Rattle.std.proofs.Common.{Some}
 use Rattle.std.specs.Fmt.{decimal}
-use Rattle.std.specs.List.{list_all}
-use Rattle.std.proofs.lemmas.Bool.{and_parts, cases_lt}
+use Rattle.std.proofs.lemmas.Bool.{cases_lt}
 use Rattle.std.proofs.lemmas.Fmt.{decimal_digit, decimal_step}
 use Rattle.std.proofs.lemmas.List.{length-map}
-use Rattle.ed_words.proofs.Numbers.{le_false, le_true, lt_of}
+use Rattle.ed_words.proofs.Numbers.{le_false, le_true}
 use Rattle.ed_words.specs.Sizes.{locations}
 use Rattle.ed_words.specs.Texts.{Text}
 use Rattle.ed_words.specs.declared.size.Size.{Size}
@@ -164,7 +163,7 @@ text_reads n low high =
 
 -- ---- the course of the tape
 
--- the loads: what the rows come to, and what those left at the return do
+-- the two loads: the entry to which the rows lead, and the one to which the rows left at the return lead
 module _ (z : Size) (n : ℕ) (low : 34 ≤ n) (small : n ≤ 510) (fits : 2 * n + 3 ≤ locations z) where
   abbrev loaded : ℕ
   loaded = 9 + (344 + 9 * length (digits_of n)) + 19

@@ -1,9 +1,9 @@
 -- A tape whose first program returns to the Initial Orders and whose second one comes to its stop, as what the commands
 -- `parts` and `tape` owe it.
 use Rattle.std.proofs.Common.{◌≡◌, ◌≢◌, ◌∙◌, inl, ℕ, zero, suc, ◌+◌, ◌-◌, ◌<◌, ◌≤◌, refl, sym, ap, subst, arith}
-use Rattle.std.proofs.Common.{true, false, List, [], ◌∷◌, ◌++◌, append_assoc, codes, length, length-append, ◌⊎◌, inr}
+use Rattle.std.proofs.Common.{true, false, List, [], ◌∷◌, ◌++◌, append_assoc, codes, length, length-append, inr}
 use Rattle.std.proofs.lemmas.Bool.{cases_lt}
-use Rattle.std.specs.Prelude.{None, Some, Option, Result, Ok, Err, String}
+use Rattle.std.specs.Prelude.{None, Some, Result, Ok, Err, String}
 use Rattle.std.specs.declared.alloc.Global.{Global}
 use Rattle.ed_words.proofs.Numbers.{eq_false, lt_false, lt_true}
 use Rattle.ed_words.specs.Sizes.{locations}
@@ -19,12 +19,11 @@ use Rattle.ed_machine.specs.declared.turn.Turn.TheVariants.{Went, Printed, Stopp
 use Rattle.ed_machine.specs.declared.ending.Ending.TheVariants.{Stopped}
 use Rattle.ed_machine.proofs.Counts.{counted_after}
 use Rattle.ed_machine.proofs.Steps.{next_state, next_stops}
-use Rattle.ed_run.specs.Run.{RunEnd, end_by, ran}
+use Rattle.ed_run.specs.Run.{end_by, ran}
 use Rattle.ed_printer.specs.Paper.{paper}
 use Rattle.ed_notation.specs.Fold.{address}
-use Rattle.ed_notation.specs.Faults.{ComesTo, TapeEntry, WellFormed}
+use Rattle.ed_notation.specs.Faults.{TapeEntry}
 use Rattle.ed_notation.specs.Items.{rows_of, spelled}
-use Rattle.ed_notation.specs.Openings.{opening}
 use Rattle.ed_initial.specs.Entry.{Comes, at_entry}
 use Rattle.ed_initial.proofs.Quiet.{LeadsIn, comes_in}
 use Rattle.ed_interlude.specs.Returned.{ComesBack, IsReturned, directive}
@@ -47,8 +46,8 @@ use Rattle.ed_command.specs.declared.command.Settings.{Settings}
 use Rattle.ed_top.specs.Answer.{OfReading, exactly}
 use Rattle.ed_top.specs.Outcome.{Outcome}
 use Rattle.ed_top.specs.Output.{tape_outcome}
-use Rattle.ed_top.specs.Parts.{IsInParts, told_outcome}
-use Rattle.ed_top.specs.Runs.{paper_room, ran_outcome, run_of, with_post_mortem}
+use Rattle.ed_top.specs.Parts.{IsInParts}
+use Rattle.ed_top.specs.Runs.{paper_room, ran_outcome, with_post_mortem}
 use Rattle.ed_top.proofs.Stopped.{answered, nothing_after}
 use Rattle.ed_programs.specs.Programs.{GivesProgram}
 use Rattle.ed_programs.specs.TwoParts.{TwoParts, TwoPartsPrint, TwoPartsRun, orders_to_program, orders_to_return}
@@ -285,9 +284,9 @@ module _ {z : Size} {tape_rows : List ℕ} {at : ℕ} {printed : List ℕ} (c : 
         let more : length start.tape - length two.state.tape + c.program.rows ≡ c.interlude.rows + c.program.rows =
         omega (arith, read, far) in
         (λ i.
-            (entry_line c.interlude.at (none i) (some i)
-            ++ returned_line (address (directive (there i))) (none i + c.orders))
-            ++ entry_line c.program.at (none i + c.orders + c.program.cost) (more i))
+        (entry_line c.interlude.at (none i) (some i)
+        ++ returned_line (address (directive (there i))) (none i + c.orders))
+        ++ entry_line c.program.at (none i + c.orders + c.program.cost) (more i))
         ∙ append_assoc (entry_line c.interlude.at c.interlude.cost c.interlude.rows)
         (returned_line t.returns_for (orders_to_return t))
         (entry_line c.program.at (orders_to_program t) (c.interlude.rows + c.program.rows))

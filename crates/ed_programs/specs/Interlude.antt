@@ -30,7 +30,7 @@ interlude_line number = codes "P" ++ (decimal number ++ codes "F        [106: th
 abbrev pub interlude_rest : List Text
 interlude_rest =
     codes "E100K PF    [enter it]"
-    ∷ codes "[The program has returned. H is twice the number, and so is the location of the next word.]"
+    ∷ codes "[The interlude has returned. H is twice the number, and so is the location of the next word.]"
     ∷ codes "*F HF IF    [letter shift, H, I]"
     ∷ codes "T64K"
     ∷ codes "OH O1H O2H  [64: print the words at H, H + 1 and H + 2]"

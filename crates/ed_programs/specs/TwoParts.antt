@@ -14,15 +14,15 @@ use Rattle.ed_top.specs.Answer.{IsDue}
 use Rattle.ed_top.specs.Output.{output}
 use Rattle.ed_programs.specs.declared.refusal.Refusal.{Refusal}
 
--- a part of a tape: where it is entered, the orders and the rows that lead there, and the orders of its program up to
--- its return or its stop
+-- a part of a tape: its entry point, the orders and the rows that lead there, and the orders of its program up to its
+-- return or its stop
 pub record PartRun : Type 0 where
   pub entry : ℕ
   pub cost : ℕ
   pub rows : ℕ
   pub orders : ℕ
 
--- a tape in two parts: the interlude, the location for which it returns, the program, and where that stops
+-- a tape in two parts: the interlude, the location for which it returns, the program, and its stop
 pub record TwoParts : Type 0 where
   pub interlude : PartRun
   pub returns_for : ℕ
@@ -68,7 +68,8 @@ pub record TwoPartsRun (s : Settings) (tape : Text) (t : TwoParts) (paper : Text
         status = 0;
       })
 
--- whatever the settings are, if the store has so many locations, the tape that is answered goes so and prints this
+-- whatever the settings are, if the store has this many locations, the tape that is answered runs in these parts and
+-- prints this
 abbrev pub TwoPartsPrint : ℕ → TwoParts → Text → Result (String Global) Refusal → Type 0
 TwoPartsPrint room t paper (Ok tape) = (s : Settings) → room ≤ locations s.size
     → TwoPartsRun s (string_bytes tape) t paper

@@ -42,7 +42,7 @@ fn interlude_tape(alloc: Global, number: u16) -> Result<String, Refusal>
         TF          [105: the order T, with no address yet]\n\
         P{number}F        [106: the number]\n\
         E100K PF    [enter it]\n\
-        [The program has returned. H is twice the number, and so is the location of the next word.]\n\
+        [The interlude has returned. H is twice the number, and so is the location of the next word.]\n\
         *F HF IF    [letter shift, H, I]\n\
         T64K\n\
         OH O1H O2H  [64: print the words at H, H + 1 and H + 2]\n\

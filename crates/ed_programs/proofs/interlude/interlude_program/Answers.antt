@@ -1,4 +1,3 @@
-use Rattle.std.proofs.Common.{◌≤◌, arith}
 use Rattle.ed_programs.proofs.InterludeRuns.{each_number}
 use Rattle.ed_programs.proofs.TwoPartsRuns.{two_parts_print_of}
 use Rattle.ed_programs.proofs.interlude.interlude_program.Goals as goal
