@@ -1,6 +1,6 @@
-[A tape that works out where its own words go. The first part is an interlude: it doubles a number, and leaves
-the double at 45, where the letter H refers to it. It also makes an order T with the double as its address, and
-returns with that order to the Initial Orders, which read on and put the next words there.
+[A tape that works out where its own words go. The first part is an interlude: it doubles a number, and
+leaves the double at 45, where the letter H refers to it. It also makes an order T with the double as its
+address, and returns with that order to the Initial Orders, which read on and put the next words there.
 Look for: the order T at 105, an order that is never obeyed: the loader uses it as its directive.]
 T100K GK
 A6@ A6@     [100: twice the number]

@@ -1,5 +1,5 @@
--- The two programs of the tape `examples/interlude.tape`, for any number: the interlude from its entry to its return, and
--- the program after it from its entry to its stop.
+-- The two programs of the tape `examples/interlude.tape`, for any number: the interlude from its entry to its return,
+-- and the program after it from its entry to its stop.
 use Rattle.std.proofs.Common.{◌≡◌, ◌∙◌, ℕ, zero, suc, ◌+◌, ◌-◌, ◌*◌, ◌≤◌, refl, ap}
 use Rattle.std.proofs.Common.{subst, arith, lit<, lit≤, true, false, List, [], ◌∷◌, Option, Some, None}
 use Rattle.std.proofs.Common.{drop, get_or, length, nat_eq, set}
@@ -345,4 +345,5 @@ module _ (z : Size) (tape_rows rest : List ℕ) (n cost read : ℕ) (small : n �
     pub program_away : IsAway 4 m
     program_away =
         subst (λ (x : State). IsAway 4 x) begins_on
-        (away_to_stop (leads path_on m.orders) (away path_on (lit≤ tt, (lit≤ tt, (lit≤ tt, tt))) m.orders) (omega arith))
+        (away_to_stop (leads path_on m.orders) (away path_on (lit≤ tt, (lit≤ tt, (lit≤ tt, tt))) m.orders)
+        (omega arith))

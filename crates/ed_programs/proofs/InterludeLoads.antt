@@ -92,7 +92,8 @@ module _ (z : Size) (words : List ℕ) (n : ℕ) (small : n ≤ 510) where
       let head = reads_one z words (plain 5 100 14) refl (aiming z words (opening words) 100 (lit≤ tt))
       (reads_one z words (plain 27 0 14) refl (setting_theta z words n1 100 (lit≤ tt) refl) (reads_none z words n2)) in
       let high = least z in
-      let places = placing_all {z = z} {words = words} words {note = n2} 100 (orders n) letters refl (lit≤ tt) (omega arith) (λ j l. refl) in
+      let places = placing_all {z = z} {words = words} words {note = n2} 100 (orders n) letters refl (lit≤ tt)
+      (omega arith) (λ j l. refl) in
       let tail = reads_one z words (plain 3 100 14) refl (aiming_entry z words n3 100 (lit≤ tt))
       (reads_none z words interlude_note) in
       let all = reads_both z words head (reads_both z words places tail) in

@@ -1,5 +1,6 @@
 -- The text of `examples/interlude.tape`, for any number in range, and what the commands `parts` and `tape` owe it.
-use Rattle.std.proofs.Common.{◌≡◌, ◌∙◌, inl, inr, ℕ, ◌+◌, ◌-◌, ◌*◌, ◌/◌, ◌%◌, ◌<◌, ◌≤◌, refl, sym, ap, subst, arith, lit≤}
+use Rattle.std.proofs.Common.{◌≡◌, ◌∙◌, inl, inr, ℕ, ◌+◌, ◌-◌, ◌*◌, ◌/◌, ◌%◌, ◌<◌, ◌≤◌, refl, sym, ap, subst}
+use Rattle.std.proofs.Common.{arith, lit≤}
 use Rattle.std.proofs.Common.{true, List, [], ◌∷◌, ◌++◌, append_assoc, append-nil, codes, length, length-append}
 use Rattle.std.proofs.Common.{Some}
 use Rattle.std.specs.Fmt.{decimal}
@@ -29,7 +30,8 @@ use Rattle.ed_loads.specs.EntryState.{first_state}
 use Rattle.ed_sources.specs.Calls.{text_of_lines}
 use Rattle.ed_sources.proofs.Decimals.{decimal_is, few_bytes, written}
 use Rattle.ed_command.specs.declared.command.Settings.{Settings}
-use Rattle.ed_programs.specs.Interlude.{interlude_front, interlude_line, interlude_parts, interlude_prints, interlude_rest}
+use Rattle.ed_programs.specs.Interlude.{interlude_front, interlude_line, interlude_parts, interlude_prints}
+use Rattle.ed_programs.specs.Interlude.{interlude_rest}
 use Rattle.ed_programs.specs.Interlude.{interlude_room, interlude_text}
 use Rattle.ed_programs.specs.TwoParts.{TwoParts, TwoPartsRun}
 use Rattle.ed_programs.proofs.Answered.{are_short, text_length}

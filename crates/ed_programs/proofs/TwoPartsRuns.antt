@@ -38,7 +38,8 @@ use Rattle.ed_routines.proofs.Journeys.{ComesToStop, stop_after}
 use Rattle.ed_report.specs.Entries.{entry_line, returned_line}
 use Rattle.ed_report.specs.Notes.{at_after}
 use Rattle.ed_sources.proofs.Stops.{LeadsToStop, ran_to_stop}
-use Rattle.ed_parts.specs.Parts.{ComesHome, Concludes, Finishes, GoesBack, IsUnderWay, LeadsTo, RunsOn, TapePart, TapeTells}
+use Rattle.ed_parts.specs.Parts.{ComesHome, Concludes, Finishes, GoesBack, IsUnderWay, LeadsTo, RunsOn, TapePart}
+use Rattle.ed_parts.specs.Parts.{TapeTells}
 use Rattle.ed_parts.specs.Parts.{Told, entry_done, entry_told, finished, first_part, part_behind, part_entry_state}
 use Rattle.ed_parts.specs.Parts.{program_end, told_lines}
 use Rattle.ed_parts.specs.declared.tape.PartsEnd.TheVariants.{Ended}
@@ -67,7 +68,9 @@ StaysAbove (on {r = r} first rest) = (44 ≤ r.counter) × StaysAbove rest
 StaysAbove (prints {r = r} first rest) = (44 ≤ r.counter) × StaysAbove rest
 
 above_is_away : (s : State) → 44 ≤ s.counter → (state_after 0 s).counter ≢ 25
-above_is_away s above is = let same = ap (λ (x : State). x.counter) (no_state s) in absurd (omega (arith, same, is, above))
+above_is_away s above is =
+    let same = ap (λ (x : State). x.counter) (no_state s) in
+    absurd (omega (arith, same, is, above))
 
 pub away : {n h : ℕ} {f : Frame n h} {k : ℕ} {r t : Moment} {cs : List ℕ} (p : Path f k r cs t) → StaysAbove p
     → (done : ℕ) → IsAway k (state f r done)
@@ -114,7 +117,8 @@ module _ (left : ℕ) (s : State) where
       → ComesHome left k s
   comes_home {k} leads far fits home = record {
     runs = λ j l.
-        under_way j (omega arith) (no_stops j s (λ i m. leads.goes i (omega arith))) (obeyed_of _ (leads.goes j l)) (far j l);
+        under_way j (omega arith) (no_stops j s (λ i m. leads.goes i (omega arith)))
+        (obeyed_of _ (leads.goes j l)) (far j l);
     stops = no_stops k s leads.goes;
     home = subst (λ (x : State). IsReturned x) (sym leads.state_is) home;
   }

@@ -11,9 +11,9 @@ use Rattle.ed_programs.specs.declared.refusal.Refusal.TheVariants.{Place}
 -- the lines before the number
 abbrev pub interlude_front : List Text
 interlude_front =
-    codes "[A tape that works out where its own words go. The first part is an interlude: it doubles a number, and leaves"
-    ∷ codes "the double at 45, where the letter H refers to it. It also makes an order T with the double as its address, and"
-    ∷ codes "returns with that order to the Initial Orders, which read on and put the next words there."
+    codes "[A tape that works out where its own words go. The first part is an interlude: it doubles a number, and"
+    ∷ codes "leaves the double at 45, where the letter H refers to it. It also makes an order T with the double as its"
+    ∷ codes "address, and returns with that order to the Initial Orders, which read on and put the next words there."
     ∷ codes "Look for: the order T at 105, an order that is never obeyed: the loader uses it as its directive.]"
     ∷ codes "T100K GK"
     ∷ codes "A6@ A6@     [100: twice the number]"

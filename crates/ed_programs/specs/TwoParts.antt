@@ -29,13 +29,15 @@ pub record TwoParts : Type 0 where
   pub program : PartRun
   pub stop : ℕ
 
--- the orders done at the return, at the entry of the program, and at its stop
+-- the orders done at the return
 abbrev pub orders_to_return : TwoParts → ℕ
 orders_to_return t = t.interlude.cost + t.interlude.orders
 
+-- the orders done at the entry of the program
 abbrev pub orders_to_program : TwoParts → ℕ
 orders_to_program t = orders_to_return t + t.program.cost
 
+-- the orders done at its stop
 abbrev pub orders_to_stop : TwoParts → ℕ
 orders_to_stop t = orders_to_program t + t.program.orders
 

@@ -29,11 +29,9 @@ fn interlude_tape(alloc: Global, number: u16) -> Result<String, Refusal>
     ensures { GivesProgram None (interlude_text number) result }
 {
     program_of_text(format!(in alloc;
-        "[A tape that works out where its own words go. The first part is an interlude: it doubles a number, and \
-        leaves\n\
-        the double at 45, where the letter H refers to it. It also makes an order T with the double as its address, \
-        and\n\
-        returns with that order to the Initial Orders, which read on and put the next words there.\n\
+        "[A tape that works out where its own words go. The first part is an interlude: it doubles a number, and\n\
+        leaves the double at 45, where the letter H refers to it. It also makes an order T with the double as its\n\
+        address, and returns with that order to the Initial Orders, which read on and put the next words there.\n\
         Look for: the order T at 105, an order that is never obeyed: the loader uses it as its directive.]\n\
         T100K GK\n\
         A6@ A6@     [100: twice the number]\n\
