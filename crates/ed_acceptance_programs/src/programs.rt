@@ -1,9 +1,9 @@
 //! Each program beside a plain computation.
 
-use crate::support::{first_tape_prints, is_refused, prints, tape_prints};
+use crate::support::{first_tape_prints, is_refused, parts_are, prints, tape_prints};
 use ed_programs::{
     Refusal, add_program, difference_program, fraction_program, greatest_program, hello_program,
-    mirror_program, multiply_program, sort_program, squares_program,
+    interlude_program, mirror_program, multiply_program, sort_program, squares_program,
 };
 use std::test::Fail;
 
@@ -441,4 +441,40 @@ fn squares_prints_nine_squares(rt: HostRuntime) -> Result<(), Fail> {
         wanted.push_str(line.as_str())?;
     }
     first_tape_prints(&rt, alloc, squares_program(alloc), wanted.as_str())
+}
+
+#[test]
+fn interlude_doubles_its_number(rt: HostRuntime) -> Result<(), Fail> {
+    let alloc = rt.alloc();
+    for number in [
+        34, 35, 49, 50, 51, 52, 53, 54, 64, 98, 99, 100, 101, 127, 128, 254, 255, 256, 509, 510,
+    ] {
+        let figures = if number < 100 { 2u16 } else { 3 };
+        let (double, rows) = (2 * number, 35 + figures);
+        let entered = 372 + 9 * figures;
+        let wanted = format!(in alloc;
+            "entry 100 after {entered} orders, {rows} rows\n\
+            returned for {double} after {} orders\n\
+            entry 64 after {} orders, {} rows\n",
+            entered + 5,
+            entered + 285,
+            rows + 26
+        )?;
+        parts_are(
+            &rt,
+            alloc,
+            interlude_program(alloc, number),
+            wanted.as_str(),
+        )?;
+        tape_prints(&rt, alloc, interlude_program(alloc, number), "HI")?;
+    }
+    for number in [0, 33, 511, 65535] {
+        is_refused(
+            &rt,
+            interlude_program(alloc, number),
+            Refusal::Place,
+            "words that have no place",
+        )?;
+    }
+    Ok(())
 }

@@ -40,6 +40,16 @@ pub fn first_tape_prints(
     answers(rt, alloc, "tape1", tape, wanted)
 }
 
+/// Checks that the tape was given, and that its parts are reported by these lines, up to a stop.
+pub fn parts_are(
+    rt: &impl Abort,
+    alloc: Global,
+    tape: Result<String, Refusal>,
+    wanted: &str,
+) -> Result<(), Fail> {
+    answers(rt, alloc, "parts", tape, wanted)
+}
+
 /// Checks that there is a program, and that the command answers it with a text and status 0.
 fn answers(
     rt: &impl Abort,

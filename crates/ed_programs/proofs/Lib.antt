@@ -48,3 +48,7 @@ pub mod MirrorRuns
 pub mod FirstTapeRuns
 pub mod SquaresProgram
 pub mod SquaresRuns
+pub mod TwoPartsRuns
+pub mod InterludeLoads
+pub mod InterludeEnds
+pub mod InterludeRuns

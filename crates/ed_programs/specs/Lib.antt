@@ -11,3 +11,5 @@ pub mod Tapes
 pub mod Mirror
 pub mod FirstTapes
 pub mod Squares
+pub mod TwoParts
+pub mod Interlude

@@ -1,8 +1,8 @@
 //! Whole programs, proved for all their data: for each a call that gives its source, or its tape, with the data put in.
 //!
-//! The contract of a call is the exact text, and what the command `run` (of a tape, `tape` or `tape1`) answers to it:
-//! the printed text in plain mathematics, the number of orders and the status. Stands on `ed_top`, and its proofs on
-//! the kit of `ed_paths`.
+//! The contract of a call is the exact text, and what the command `run` (of a tape, `tape`, `tape1` or `parts`) answers
+//! to it: the printed text in plain mathematics, the number of orders and the status. Stands on `ed_top`, and its proofs
+//! on the kit of `ed_paths`.
 #![tactic(auto)]
 
 mod add;
@@ -10,6 +10,7 @@ mod difference;
 mod fraction;
 mod greatest;
 mod hello;
+mod interlude;
 mod mirror;
 mod multiply;
 mod refusal;
@@ -21,6 +22,7 @@ pub use difference::difference_program;
 pub use fraction::fraction_program;
 pub use greatest::greatest_program;
 pub use hello::hello_program;
+pub use interlude::interlude_program;
 pub use mirror::mirror_program;
 pub use multiply::multiply_program;
 pub use refusal::Refusal;

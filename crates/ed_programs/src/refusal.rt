@@ -21,6 +21,9 @@ pub enum Refusal {
     /// The lower number of a fraction is 0 or above 6,553.
     #[error("the lower number must be from 1 to 6553")]
     Divisor,
+    /// The words of the program would not be in the store beside its orders.
+    #[error("the number must be from 34 to 510")]
+    Place,
     /// No memory for the text of the program.
     #[error("no memory")]
     Memory,

@@ -1,0 +1,349 @@
+-- The two programs of the tape `examples/interlude.tape`, for any number: the interlude from its entry to its return,
+-- and the program after it from its entry to its stop.
+use Rattle.std.proofs.Common.{◌≡◌, ◌∙◌, ℕ, zero, suc, ◌+◌, ◌-◌, ◌*◌, ◌≤◌, refl, ap}
+use Rattle.std.proofs.Common.{subst, arith, lit<, lit≤, true, false, List, [], ◌∷◌, Option, Some, None}
+use Rattle.std.proofs.Common.{drop, get_or, length, nat_eq, set}
+use Rattle.std.specs.Prelude.{slice_index}
+use Rattle.std.specs.List.{list_all}
+use Rattle.std.proofs.lemmas.List.{get_or-append_right, get_or-drop, get_or-set_other, get_or-set_same, length-append}
+use Rattle.std.proofs.lemmas.List.{length-drop, length-set}
+use Rattle.ed_words.proofs.Numbers.{eq_of, lt_true}
+use Rattle.ed_words.proofs.SizeLemmas.{least, most}
+use Rattle.ed_words.specs.Sizes.{locations}
+use Rattle.ed_words.specs.declared.size.Size.{Size}
+use Rattle.ed_store.specs.Cells.{IsStore, short_at}
+use Rattle.ed_machine.specs.State.{State}
+use Rattle.ed_notation.specs.Fold.{over, word_with}
+use Rattle.ed_notation.specs.Faults.{TapeEntry}
+use Rattle.ed_notation.proofs.Contents.{length-over}
+use Rattle.ed_notation.proofs.Steps.{plain}
+use Rattle.ed_initial.specs.Entry.{at_entry, entry_words}
+use Rattle.ed_initial.specs.Listing.{initial_orders}
+use Rattle.ed_initial.specs.Rests.{initial_words}
+use Rattle.ed_interlude.specs.Returned.{AreListed, IsReturned, directive, reopening}
+use Rattle.ed_loads.specs.EntryState.{first_state}
+use Rattle.ed_loads.proofs.Entries.{all_fit}
+use Rattle.ed_paths.proofs.Frames.{Frame, Moment, short, state}
+use Rattle.ed_paths.proofs.Leads.{Leads}
+use Rattle.ed_paths.proofs.Moves.{A, E_jumps, O, U, Z}
+use Rattle.ed_paths.proofs.Paths.{Path, leads, on, prints, stay}
+use Rattle.ed_paths.proofs.Places.{any, early, out, own}
+use Rattle.ed_paths.proofs.Standing.{Holds, filled, opens}
+use Rattle.ed_paths.proofs.Window.{patched}
+use Rattle.ed_routines.proofs.Journeys.{ComesToStop, along, to_stop}
+use Rattle.ed_sources.proofs.Decimals.{among, numbers}
+use Rattle.ed_programs.proofs.InterludeLoads.{from_return, interlude_note, program_note, program_placed}
+use Rattle.ed_programs.proofs.TwoPartsRuns.{IsAway, away, away_to_stop}
+
+-- ---- the interlude
+
+-- its words, with the number in the last one
+abbrev pub cells : ℕ → List ℕ
+cells n = 114900 ∷ 114900 ∷ 28762 ∷ 114898 ∷ 12338 ∷ 20480 ∷ word_with 0 n false 0 ∷ []
+
+module _ (z : Size) (tape_rows rest : List ℕ) (n cost read : ℕ) (small : n ≤ 510) where
+  abbrev pub entry : TapeEntry
+  entry = record {
+    at = 100;
+    word = 0;
+    cost = cost;
+    rows = read;
+    note = interlude_note z (first_state z tape_rows).store.words n small;
+    last = plain 0 0 17;
+    rest = rest;
+  }
+
+  abbrev pub s : State
+  s = at_entry (first_state z tape_rows) entry
+
+  long : length s.store.words ≡ 1024
+  unfolding first_state
+  long = refl
+
+  same : patched 0 s.store.words 100 (cells n) ≡ s.store.words
+  unfolding first_state patched
+  same = refl
+
+  abbrev f : Frame 7 0
+  f = record {
+    size = z;
+    base = 100;
+    top = locations z;
+    under = let size = least z in omega arith;
+    fits = omega arith;
+  }
+
+  abbrev at : ℕ → List ℕ → ℕ → Moment
+  at i words acc = record {
+    words = words;
+    digits = s.store.sandwich;
+    cells = cells n;
+    pairs = [];
+    acc = acc;
+    multiplier = s.multiplier;
+    counter = 100 + i;
+    tape = rest;
+    last = s.last;
+  }
+
+  begins : state f (at 0 s.store.words 0) s.orders ≡ s
+  unfolding first_state
+  begins = λ i. record s { store = record { words = same i; sandwich = s.store.sandwich } }
+
+  -- the moment of the return
+  abbrev returning : Moment
+  returning = record (at 0 (set s.store.words 45 (4 * n)) (short (20480 + 4 * n))) { counter = 25 }
+
+  abbrev path : Path f 5 (at 0 s.store.words 0) [] returning
+  path =
+      let size = least z in
+      on (A 0 (own 6) (short (2 * n)) refl (omega arith))
+      (on (A 1 (own 6) (short (4 * n)) refl (omega arith))
+      (on (U 2 (out 45 (early 45 (lit≤ tt) (lit< tt) long)) _ refl refl)
+      (on (A 3 (own 5) (short (20480 + 4 * n)) refl (omega arith))
+      (on (E_jumps 4 (any 25 (omega arith)) refl (omega arith)) stay))))
+
+  abbrev pub back : State
+  back = state f returning (s.orders + 5)
+
+  pub interlude_leads : Leads 5 s [] back
+  interlude_leads = subst (λ (x : State). Leads 5 x [] back) begins (leads path s.orders)
+
+  pub interlude_away : IsAway 5 s
+  interlude_away =
+      subst (λ (x : State). IsAway 5 x) begins
+      (away path (lit≤ tt, (lit≤ tt, (lit≤ tt, (lit≤ tt, (lit≤ tt, tt))))) s.orders)
+
+  -- the Initial Orders are as they were
+  listed : (first count : ℕ)
+      → list_all (λ i. nat_eq (short_at back.store i) (slice_index initial_orders i)) (numbers first count) ≡ true
+      → AreListed back.store first (first + count)
+  listed first count test i low high =
+      eq_of (short_at back.store i) (slice_index initial_orders i)
+      (among (λ i. nat_eq (short_at back.store i) (slice_index initial_orders i)) first count i test low high)
+
+  pub returned : IsReturned back
+  unfolding first_state patched
+  returned = record {
+    counter = refl;
+    low = listed 2 18 refl;
+    middle = listed 21 1 refl;
+    high = listed 23 17 refl;
+    one = refl;
+    multiplier = refl;
+    leaves = omega arith;
+  }
+
+  pub back_store : IsStore back.store
+  unfolding first_state patched
+  back_store = record {
+    words_are = refl;
+    digits_are = refl;
+    fits =
+        let a = lt_true (4 * n) 131072 (omega arith) in
+        let b = lt_true (word_with 0 n false 0) 131072 (omega arith) in
+        all_fit back.store.words (rw (a, b) refl);
+  }
+
+  -- what the letter H stands for, and θ
+  letter_h : get_or back.store.words 45 0 ≡ 4 * n
+  unfolding first_state patched
+  letter_h = refl
+
+  theta : get_or back.store.words 42 0 ≡ 200
+  unfolding first_state patched
+  theta = refl
+
+  back_long : length back.store.words ≡ 1024
+  unfolding first_state patched
+  back_long = refl
+
+  -- ---- the program after it
+
+  module _ (low : 34 ≤ n) (fits : 2 * n + 3 ≤ locations z) (end : ℕ) where
+    abbrev W : List ℕ
+    W = back.store.words
+
+    pub reopens : reopening back ≡ from_return z W n 200 low fits
+    reopens =
+        let d : directive back ≡ 20480 + 2 * (2 * n) = omega arith in
+        λ i. record { directive = d i; theta = theta i; placed = [] }
+
+    abbrev pub entry_on : TapeEntry
+    entry_on = record {
+      at = 64;
+      word = 0;
+      cost = 280;
+      rows = end;
+      note = program_note z W n 200 low fits;
+      last = plain 0 0 17;
+      rest = [];
+    }
+
+    abbrev pub m : State
+    m = at_entry back entry_on
+
+    -- a word from 44 on is the last one that was placed there
+    abbrev contents : List ℕ
+    contents = over (program_placed z W n 200 low fits) W
+
+    placed_there : (a : ℕ) → 44 ≤ a → get_or m.store.words a 0 ≡ get_or contents a 0
+    placed_there a above =
+        let there : 44 + (a - 44) ≡ a = omega arith in
+        get_or-append_right (initial_words (entry_words entry_on)) (drop 44 contents) 44 a 0 refl above
+        ∙ get_or-drop 44 contents (a - 44) 0
+        ∙ ap (λ x. get_or contents x 0) there
+
+    -- the words that are printed, and over them the orders that print them
+    abbrev one : List ℕ
+    one = set W (2 * n) 61440
+
+    abbrev two : List ℕ
+    two = set one (2 * n + 1) 86016
+
+    abbrev three : List ℕ
+    three = set two (2 * n + 1 + 1) 32768
+
+    abbrev order : ℕ → ℕ
+    order i = word_with 9 i false (get_or W 45 0)
+
+    order_is : (i : ℕ) → i ≤ 2 → order i ≡ 36864 + 2 * (2 * n + i)
+    order_is i few = omega (arith, letter_h)
+
+    lengths : (length one ≡ 1024) × (length two ≡ 1024) × (length three ≡ 1024)
+    lengths =
+        let a : length one ≡ 1024 = length-set W (2 * n) 61440 ∙ back_long in
+        let b : length two ≡ 1024 = length-set one (2 * n + 1) 86016 ∙ a in
+        (a, b, length-set two (2 * n + 1 + 1) 32768 ∙ b)
+
+    abbrev four : List ℕ
+    four = set three 64 (order 0)
+
+    abbrev five : List ℕ
+    five = set four 65 (order 1)
+
+    abbrev six : List ℕ
+    six = set five 66 (order 2)
+
+    above : (a : ℕ) → 68 ≤ a → get_or m.store.words a 0 ≡ get_or three a 0
+    above a l =
+        placed_there a (omega arith)
+        ∙ get_or-set_other six 67 a 53248 0 (omega arith)
+        ∙ get_or-set_other five 66 a (order 2) 0 (omega arith)
+        ∙ get_or-set_other four 65 a (order 1) 0 (omega arith)
+        ∙ get_or-set_other three 64 a (order 0) 0 (omega arith)
+
+    record Letters : Type 0 where
+      shift : get_or m.store.words (2 * n) 0 ≡ 61440
+      first : get_or m.store.words (2 * n + 1) 0 ≡ 86016
+      second : get_or m.store.words (2 * n + 2) 0 ≡ 32768
+
+    letters : Letters
+    letters =
+        let size = most z in
+        let long = back_long in
+        let l = lengths in
+        let l0 = l.0 in
+        let l1 = l.1 in
+        let next : 2 * n + 2 ≡ 2 * n + 1 + 1 = omega arith in
+        record {
+          shift = above (2 * n) (omega arith) ∙ get_or-set_other two (2 * n + 1 + 1) (2 * n) 32768 0 (omega arith)
+              ∙ get_or-set_other one (2 * n + 1) (2 * n) 86016 0 (omega arith)
+              ∙ get_or-set_same W (2 * n) 61440 0 (omega arith);
+          first = above (2 * n + 1) (omega arith)
+              ∙ get_or-set_other two (2 * n + 1 + 1) (2 * n + 1) 32768 0 (omega arith)
+              ∙ get_or-set_same one (2 * n + 1) 86016 0 (omega arith);
+          second = ap (λ a. get_or m.store.words a 0) next ∙ above (2 * n + 1 + 1) (omega arith)
+              ∙ get_or-set_same two (2 * n + 1 + 1) 32768 0 (omega arith);
+        }
+
+    abbrev image : List (Option ℕ)
+    image =
+        Some (36864 + 2 * (2 * n)) ∷ Some (36864 + 2 * (2 * n + 1)) ∷ Some (36864 + 2 * (2 * n + 2)) ∷ Some 53248
+        ∷ None ∷ []
+
+    holds : Holds image m.store.words 64
+    holds zero l =
+        let size = most z in
+        let long = lengths.2 in
+        let here : order 0 ≡ 36864 + 2 * (2 * n) = omega (arith, order_is 0 (lit≤ tt)) in
+        placed_there 64 (lit≤ tt)
+        ∙ get_or-set_other six 67 64 53248 0 (omega arith) ∙ get_or-set_other five 66 64 (order 2) 0 (omega arith)
+        ∙ get_or-set_other four 65 64 (order 1) 0 (omega arith)
+        ∙ get_or-set_same three 64 (order 0) 0 (omega arith) ∙ here
+    holds (suc zero) l =
+        let long = length-set three 64 (order 0) ∙ lengths.2 in
+        placed_there 65 (lit≤ tt)
+        ∙ get_or-set_other six 67 65 53248 0 (omega arith) ∙ get_or-set_other five 66 65 (order 2) 0 (omega arith)
+        ∙ get_or-set_same four 65 (order 1) 0 (omega arith) ∙ order_is 1 (lit≤ tt)
+    holds (suc (suc zero)) l =
+        let long = length-set four 65 (order 1) ∙ length-set three 64 (order 0) ∙ lengths.2 in
+        placed_there 66 (lit≤ tt)
+        ∙ get_or-set_other six 67 66 53248 0 (omega arith)
+        ∙ get_or-set_same five 66 (order 2) 0 (omega arith) ∙ order_is 2 (lit≤ tt)
+    holds (suc (suc (suc zero))) l =
+        let long = length-set five 66 (order 2) ∙ length-set four 65 (order 1) ∙ length-set three 64 (order 0)
+        ∙ lengths.2 in
+        placed_there 67 (lit≤ tt) ∙ get_or-set_same six 67 53248 0 (omega arith)
+    holds (suc (suc (suc (suc zero)))) l = tt
+    holds (suc (suc (suc (suc (suc i))))) l = absurd (omega arith)
+
+    m_long : length m.store.words ≡ 1024
+    m_long =
+        let own : length (initial_words (entry_words entry_on)) ≡ 44 = refl in
+        let both = length-append (initial_words (entry_words entry_on)) (drop 44 contents) in
+        let less = length-drop 44 contents in
+        let all = length-over (program_placed z W n 200 low fits) W in
+        omega (arith, own, both, less, all, back_long)
+
+    abbrev cells_on : List ℕ
+    cells_on = filled image m.store.words 64 0
+
+    same_on : patched 0 m.store.words 64 cells_on ≡ m.store.words
+    same_on = opens image m.store.words 64 (omega (arith, m_long)) holds
+
+    abbrev g : Frame 5 0
+    g = record {
+      size = z;
+      base = 64;
+      top = locations z;
+      under = let size = least z in omega arith;
+      fits = omega arith;
+    }
+
+    abbrev at_on : ℕ → Option ℕ → Moment
+    at_on i last = record {
+      words = m.store.words;
+      digits = m.store.sandwich;
+      cells = cells_on;
+      pairs = [];
+      acc = 0;
+      multiplier = m.multiplier;
+      counter = 64 + i;
+      tape = [];
+      last = last;
+    }
+
+    begins_on : state g (at_on 0 m.last) m.orders ≡ m
+    begins_on = λ i. record m { store = record { words = same_on i; sandwich = m.store.sandwich } }
+
+    abbrev path_on : Path g 3 (at_on 0 m.last) (15 ∷ 21 ∷ 8 ∷ []) (at_on 3 (Some 8))
+    path_on =
+        let shown = λ (a x : ℕ) (is : get_or m.store.words a 0 ≡ x). ap (λ (ws : List ℕ). get_or ws a 0) same_on ∙ is in
+        let a = shown (2 * n) 61440 letters.shift in
+        let b = shown (2 * n + 1) 86016 letters.first in
+        let c = shown (2 * n + 2) 32768 letters.second in
+        prints (O 0 (any (2 * n) (omega arith)) 15 refl (omega (arith, a)))
+        (prints (O 1 (any (2 * n + 1) (omega arith)) 21 refl (omega (arith, b)))
+        (prints (O 2 (any (2 * n + 2) (omega arith)) 8 refl (omega (arith, c))) stay))
+
+    pub program_stops : ComesToStop 3 m (15 ∷ 21 ∷ 8 ∷ []) 68
+    program_stops =
+        subst (λ (x : State). ComesToStop 3 x (15 ∷ 21 ∷ 8 ∷ []) 68) begins_on
+        (to_stop (along path_on) (Z 3 53248 refl refl) m.orders)
+
+    pub program_away : IsAway 4 m
+    program_away =
+        subst (λ (x : State). IsAway 4 x) begins_on
+        (away_to_stop (leads path_on m.orders) (away path_on (lit≤ tt, (lit≤ tt, (lit≤ tt, tt))) m.orders)
+        (omega arith))

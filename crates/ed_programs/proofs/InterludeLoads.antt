@@ -1,0 +1,152 @@
+-- The loads of the two parts of the tape `examples/interlude.tape`, for any number: their entries, and what they cost.
+use Rattle.std.proofs.Common.{◌≡◌, ◌∙◌, ℕ, ◌+◌, ◌*◌, ◌/◌, ◌<◌, ◌≤◌, refl, sym, ap, subst, arith, lit≤, true}
+use Rattle.std.proofs.Common.{List, [], ◌∷◌, ◌++◌, get_or, length, set}
+use Rattle.std.proofs.lemmas.List.{get_or-set_other}
+use Rattle.ed_words.proofs.Numbers.{le_true}
+use Rattle.ed_words.proofs.SizeLemmas.{least, most}
+use Rattle.ed_words.specs.Sizes.{locations}
+use Rattle.ed_words.specs.declared.size.Size.{Size}
+use Rattle.ed_notation.specs.declared.item.Item.{Item}
+use Rattle.ed_notation.specs.Items.{rows_of, spelled}
+use Rattle.ed_notation.specs.Fold.{Note, cost_of, is_entry, over}
+use Rattle.ed_notation.specs.Openings.{IsDirective, opening}
+use Rattle.ed_notation.specs.Faults.{ComesTo, EndsSound, WellFormed}
+use Rattle.ed_notation.specs.Spellings.{canonical, canonicals, digits_of}
+use Rattle.ed_notation.proofs.Canonical.{is_written}
+use Rattle.ed_notation.proofs.Placing.{all_letters, block, laid, placing_all}
+use Rattle.ed_notation.proofs.Sound.{sound_well}
+use Rattle.ed_notation.proofs.Steps.{Enters, Reads, aiming, aiming_entry, entering_at, plain, reads_both, reads_none}
+use Rattle.ed_notation.proofs.Steps.{reads_one, setting_theta}
+
+-- items before an entry item P F, and the entry to which they lead from a state of the notation
+pub record Entered (z : Size) (words : List ℕ) (start : Note) (base at : ℕ) (is : List Item) (last : Note) (cost : ℕ)
+    (rest : List ℕ) : Type 0 where
+  pub well : WellFormed z words start (spelled (canonicals is) ++ (rows_of (canonical (plain 0 0 17)) ++ rest))
+  pub comes : ComesTo words start base (spelled (canonicals is) ++ (rows_of (canonical (plain 0 0 17)) ++ rest))
+      (record {
+        at = at;
+        word = 0;
+        cost = base + cost + 19;
+        rows = length (spelled (canonicals is)) + 2;
+        note = last;
+        last = plain 0 0 17;
+        rest = rest;
+      })
+
+pub entered : {z : Size} {words : List ℕ} {start last : Note} {is : List Item} {cost : ℕ} (base at : ℕ) (rest : List ℕ)
+    → IsDirective start.directive → Reads z words start is last cost → last.directive ≡ 12288 + 2 * at → 44 ≤ at
+    → at < locations z → Entered z words start base at is last cost rest
+entered {z} {words} {start} {last} {is} {cost} base at rest set reads aim low high =
+    let e : Enters z words last at = entering_at z words last at aim low high in
+    let enters : is_entry last (plain 0 0 17) ≡ true = e.enters in
+    let m = most z in
+    let three : last.directive / 4096 ≡ 3 = omega (arith, aim) in
+    let end : cost_of last (canonical (plain 0 0 17)) ≡ 19 = rw three refl in
+    record {
+      well = sound_well (canonicals is) rest set reads.are_read reads.are_sound (is_written (plain 0 0 17) refl)
+          (ap (λ (n : Note). is_entry n (plain 0 0 17)) reads.folds ∙ enters)
+          (subst (λ (n : Note). EndsSound z words n (canonical (plain 0 0 17))) (sym reads.folds) e.sound);
+      comes = record {
+        before = canonicals is;
+        last = canonical (plain 0 0 17);
+        are_read = reads.are_read;
+        is_written = is_written (plain 0 0 17) refl;
+        note_is = sym reads.folds;
+        is_entry = enters;
+        rows_are = refl;
+        last_is = refl;
+        at_is = sym e.place;
+        word_is = refl;
+        cost_is = omega (arith, reads.costs_are, end);
+        read_is = refl;
+      };
+    }
+
+-- ---- the interlude
+
+-- its orders as items; the last one is the number
+abbrev orders : ℕ → List Item
+orders n =
+    plain 28 6 18 ∷ plain 28 6 18 ∷ plain 7 45 17 ∷ plain 28 5 18 ∷ plain 3 25 17 ∷ plain 5 0 17 ∷ plain 0 n 17 ∷ []
+
+abbrev pub interlude_items : ℕ → List Item
+interlude_items n = plain 5 100 14 ∷ plain 27 0 14 ∷ (orders n ++ plain 3 100 14 ∷ [])
+
+module _ (z : Size) (words : List ℕ) (n : ℕ) (small : n ≤ 510) where
+  abbrev pub interlude_placed : List (ℕ × ℕ)
+  interlude_placed = laid 100 (block words 200 (orders n)) []
+
+  abbrev pub interlude_note : Note
+  interlude_note = record { directive = 12488; theta = 200; placed = interlude_placed }
+
+  letters : all_letters (orders n) ≡ true
+  letters = let a = le_true n 32767 (omega arith) in rw a refl
+
+  pub interlude_reads : Reads z words (opening words) (interlude_items n) interlude_note
+      (344 + 9 * length (digits_of n))
+  interlude_reads =
+      let theta : ℕ = (opening words).theta in
+      let n1 : Note = record { directive = 20680; theta = theta; placed = [] } in
+      let n2 : Note = record { directive = 20680; theta = 200; placed = [] } in
+      let n3 : Note = record { directive = 20694; theta = 200; placed = interlude_placed } in
+      let head = reads_one z words (plain 5 100 14) refl (aiming z words (opening words) 100 (lit≤ tt))
+      (reads_one z words (plain 27 0 14) refl (setting_theta z words n1 100 (lit≤ tt) refl) (reads_none z words n2)) in
+      let high = least z in
+      let places = placing_all {z = z} {words = words} words {note = n2} 100 (orders n) letters refl (lit≤ tt)
+      (omega arith) (λ j l. refl) in
+      let tail = reads_one z words (plain 3 100 14) refl (aiming_entry z words n3 100 (lit≤ tt))
+      (reads_none z words interlude_note) in
+      let all = reads_both z words head (reads_both z words places tail) in
+      record {
+        are_read = all.are_read;
+        are_sound = all.are_sound;
+        folds = all.folds;
+        costs_are = all.costs_are ∙ omega arith;
+      }
+
+-- ---- the program
+
+-- its items: the words that are printed, and the orders that print them
+abbrev printed_words : List Item
+printed_words = plain 15 0 17 ∷ plain 21 0 17 ∷ plain 8 0 17 ∷ []
+
+abbrev printing_orders : List Item
+printing_orders = plain 9 0 21 ∷ plain 9 1 21 ∷ plain 9 2 21 ∷ plain 13 0 17 ∷ []
+
+abbrev pub program_items : List Item
+program_items = printed_words ++ plain 5 64 14 ∷ (printing_orders ++ plain 3 64 14 ∷ [])
+
+module _ (z : Size) (words : List ℕ) (n theta : ℕ) (low : 34 ≤ n) (fits : 2 * n + 3 ≤ locations z) where
+  abbrev pub from_return : Note
+  from_return = record { directive = 20480 + 2 * (2 * n); theta = theta; placed = [] }
+
+  abbrev words_placed : List (ℕ × ℕ)
+  words_placed = laid (2 * n) (block words theta printed_words) []
+
+  abbrev pub program_placed : List (ℕ × ℕ)
+  program_placed = laid 64 (block words theta printing_orders) words_placed
+
+  abbrev pub program_note : Note
+  program_note = record { directive = 12416; theta = theta; placed = program_placed }
+
+  -- the words that are printed stand from 68 on
+  apart : (j : ℕ) → j < 56 → get_or (over words_placed words) j 0 ≡ get_or words j 0
+  apart j l =
+      get_or-set_other (set (set words (2 * n) 61440) (2 * n + 1) 86016) (2 * n + 1 + 1) j 32768 0 (omega arith)
+      ∙ get_or-set_other (set words (2 * n) 61440) (2 * n + 1) j 86016 0 (omega arith)
+      ∙ get_or-set_other words (2 * n) j 61440 0 (omega arith)
+
+  pub program_reads : Reads z words from_return program_items program_note 259
+  program_reads =
+      let n1 : Note = record { directive = 20480 + 2 * (2 * n + 3); theta = theta; placed = words_placed } in
+      let n2 : Note = record { directive = 20608; theta = theta; placed = words_placed } in
+      let n3 : Note = record { directive = 20616; theta = theta; placed = program_placed } in
+      let high = least z in
+      let first = placing_all {z = z} {words = words} words {note = from_return} (2 * n) printed_words refl refl
+      (omega arith) (omega arith) (λ j l. refl) in
+      let aims = reads_one z words (plain 5 64 14) refl (aiming z words n1 64 (lit≤ tt)) (reads_none z words n2) in
+      let second = placing_all {z = z} {words = words} words {note = n2} 64 printing_orders refl refl (lit≤ tt)
+      (omega arith) apart in
+      let tail = reads_one z words (plain 3 64 14) refl (aiming_entry z words n3 64 (lit≤ tt))
+      (reads_none z words program_note) in
+      reads_both z words first (reads_both z words aims (reads_both z words second tail))

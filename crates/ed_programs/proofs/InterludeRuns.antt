@@ -1,0 +1,253 @@
+-- The text of `examples/interlude.tape`, for any number in range, and what the commands `parts` and `tape` owe it.
+use Rattle.std.proofs.Common.{◌≡◌, ◌∙◌, inl, inr, ℕ, ◌+◌, ◌-◌, ◌*◌, ◌/◌, ◌%◌, ◌<◌, ◌≤◌, refl, sym, ap, subst}
+use Rattle.std.proofs.Common.{arith, lit≤}
+use Rattle.std.proofs.Common.{true, List, [], ◌∷◌, ◌++◌, append_assoc, append-nil, codes, length, length-append}
+use Rattle.std.proofs.Common.{Some}
+use Rattle.std.specs.Fmt.{decimal}
+use Rattle.std.proofs.lemmas.Bool.{cases_lt}
+use Rattle.std.proofs.lemmas.Fmt.{decimal_digit, decimal_step}
+use Rattle.std.proofs.lemmas.List.{length-map}
+use Rattle.ed_words.proofs.Numbers.{le_false, le_true}
+use Rattle.ed_words.specs.Sizes.{locations}
+use Rattle.ed_words.specs.Texts.{Text}
+use Rattle.ed_words.specs.declared.size.Size.{Size}
+use Rattle.ed_words.proofs.SizeLemmas.{least}
+use Rattle.ed_machine.specs.State.{State}
+use Rattle.ed_codes.specs.Spelling.{row_of}
+use Rattle.ed_codes.specs.Text.{Spells, none, row}
+use Rattle.ed_codes.specs.Reading.{IsReadingOf, reading, rows}
+use Rattle.ed_codes.proofs.Pieces.{spells_append}
+use Rattle.ed_codes.proofs.Readings.{has_one_reading}
+use Rattle.ed_notation.specs.Items.{AreDigits, rows_of, spelled}
+use Rattle.ed_notation.proofs.Canonical.{digits_are}
+use Rattle.ed_notation.specs.Faults.{ComesTo, TapeEntry, WellFormed}
+use Rattle.ed_notation.specs.Fold.{Note, address}
+use Rattle.ed_notation.specs.Spellings.{canonical, canonicals, digits_of}
+use Rattle.ed_notation.proofs.Steps.{plain}
+use Rattle.ed_initial.specs.Entry.{Comes}
+use Rattle.ed_interlude.specs.Returned.{ComesBack, directive}
+use Rattle.ed_loads.specs.EntryState.{first_state}
+use Rattle.ed_sources.specs.Calls.{text_of_lines}
+use Rattle.ed_sources.proofs.Decimals.{decimal_is, few_bytes, written}
+use Rattle.ed_command.specs.declared.command.Settings.{Settings}
+use Rattle.ed_programs.specs.Interlude.{interlude_front, interlude_line, interlude_parts, interlude_prints}
+use Rattle.ed_programs.specs.Interlude.{interlude_rest}
+use Rattle.ed_programs.specs.Interlude.{interlude_room, interlude_text}
+use Rattle.ed_programs.specs.TwoParts.{TwoParts, TwoPartsRun}
+use Rattle.ed_programs.proofs.Answered.{are_short, text_length}
+use Rattle.ed_programs.proofs.InterludeEnds.{back, back_store, entry, entry_on, interlude_away, interlude_leads}
+use Rattle.ed_programs.proofs.InterludeEnds.{program_away, program_stops, reopens, returned}
+use Rattle.ed_programs.proofs.InterludeLoads.{entered, interlude_items, interlude_reads, program_items, program_reads}
+use Rattle.ed_programs.proofs.TwoPartsRuns.{Course, numbers_of, two_parts_run}
+
+-- ---- the number on the tape
+
+digit_row : (d : ℕ) → d < 10 → row_of (48 + d) ≡ Some d
+digit_row d l =
+    let a = le_true 48 (48 + d) (omega arith) in
+    let b = le_true (48 + d) 57 (omega arith) in
+    let c : 48 + d - 48 ≡ d = omega arith in
+    rw (a, b) (ap Some c)
+
+digits_spell : (ds : List ℕ) → AreDigits ds → Spells (written ds) ds
+digits_spell [] h = none
+digits_spell (d ∷ ds) h = row (48 + d) d (written ds) ds (digit_row d h.0) (digits_spell ds h.1)
+
+-- a number of two or three figures is written in decimal as the loader's items spell it
+module _ (n : ℕ) (low : 10 ≤ n) (high : n < 1000) where
+  two : n < 100 → written (digits_of n) ≡ decimal n
+  two few =
+      let a = le_false 10000 n (omega arith) in
+      let b = le_false 1000 n (omega arith) in
+      let c = le_false 100 n few in
+      let d = le_true 10 n low in
+      let e = le_true 1 n (omega arith) in
+      let units : n / 1 % 10 ≡ n % 10 = omega arith in
+      let tens : n / 10 % 10 ≡ n / 10 = omega arith in
+      let last = decimal_step n low (omega arith) in
+      let first = decimal_digit (n / 10) (omega arith) in
+      rw (a, b, c, d, e, units, tens, last, first) refl
+
+  three : 100 ≤ n → written (digits_of n) ≡ decimal n
+  three many =
+      let a = le_false 10000 n (omega arith) in
+      let b = le_false 1000 n (omega arith) in
+      let c = le_true 100 n many in
+      let d = le_true 10 n low in
+      let e = le_true 1 n (omega arith) in
+      let units : n / 1 % 10 ≡ n % 10 = omega arith in
+      let hundreds : n / 100 % 10 ≡ n / 10 / 10 = omega arith in
+      let last = decimal_step n low (omega arith) in
+      let middle = decimal_step (n / 10) (omega arith) (omega arith) in
+      let first = decimal_digit (n / 10 / 10) (omega arith) in
+      rw (a, b, c, d, e, units, hundreds, last, middle, first) refl
+
+  figures : written (digits_of n) ≡ decimal n
+  figures = elim (cases_lt n 100) [ inl few ↦ two few | inr many ↦ three many ]
+
+  decimal_spells : Spells (decimal n) (digits_of n)
+  decimal_spells =
+      subst (λ (t : Text). Spells t (digits_of n)) figures
+      (digits_spell (digits_of n) (digits_are n (omega arith)).digits)
+
+  figure_count : length (digits_of n) ≡ length (decimal n)
+  figure_count = sym (length-map (digits_of n) (λ d. 48 + d)) ∙ ap length figures
+
+  few_figures : length (decimal n) ≤ 5
+  few_figures =
+      let few = few_bytes n (omega arith) in
+      let same = ap length (decimal_is n (omega arith)) in
+      omega (arith, few, same)
+
+-- ---- the rows of the text
+
+abbrev front : Text
+front = text_of_lines interlude_front ++ codes "P"
+
+abbrev back_line : Text
+back_line = codes "F        [106: the number]"
+
+abbrev behind_number : Text
+behind_number = back_line ++ 10 ∷ text_of_lines interlude_rest
+
+pub text_is : (n : ℕ) → front ++ (decimal n ++ behind_number) ≡ interlude_text n
+text_is n =
+    let rest = text_of_lines interlude_rest in
+    ap (λ (t : Text). front ++ t)
+    (sym (append_assoc (decimal n ++ back_line) (10 ∷ []) rest ∙ append_assoc (decimal n) back_line (10 ∷ rest)))
+
+-- the items up to the number, and those after it
+abbrev last_rows : List ℕ
+last_rows = rows_of (canonical (plain 0 0 17))
+
+abbrev pub program_rows : List ℕ
+program_rows = spelled (canonicals program_items) ++ (last_rows ++ [])
+
+abbrev front_rows : List ℕ
+front_rows =
+    spelled (canonicals (plain 5 100 14 ∷ plain 27 0 14 ∷ plain 28 6 18 ∷ plain 28 6 18 ∷ plain 7 45 17 ∷ plain 28 5 18
+    ∷ plain 3 25 17 ∷ plain 5 0 17 ∷ [])) ++ 0 ∷ []
+
+abbrev entering_rows : List ℕ
+entering_rows = spelled (canonicals (plain 3 100 14 ∷ []))
+
+abbrev rows_behind : List ℕ
+rows_behind = 17 ∷ (entering_rows ++ (last_rows ++ program_rows))
+
+abbrev pub tape_rows : ℕ → List ℕ
+tape_rows n = spelled (canonicals (interlude_items n)) ++ (last_rows ++ program_rows)
+
+rows_are : (n : ℕ) → front_rows ++ (digits_of n ++ rows_behind) ≡ tape_rows n
+rows_are n =
+    let ds = digits_of n in
+    ap (λ (x : List ℕ). front_rows ++ x)
+    (sym (append_assoc ((ds ++ []) ++ 17 ∷ []) entering_rows (last_rows ++ program_rows)
+    ∙ append_assoc (ds ++ []) (17 ∷ []) (entering_rows ++ (last_rows ++ program_rows))
+    ∙ ap (λ (x : List ℕ). x ++ rows_behind) (append-nil ds)))
+
+front_spells : Spells front front_rows
+front_spells =
+    let reads : reading front ≡ rows front_rows = refl in
+    subst (IsReadingOf front) reads (has_one_reading.every front)
+
+behind_spells : Spells behind_number rows_behind
+behind_spells =
+    let reads : reading behind_number ≡ rows rows_behind = refl in
+    subst (IsReadingOf behind_number) reads (has_one_reading.every behind_number)
+
+pub text_reads : (n : ℕ) → 10 ≤ n → n < 1000 → reading (interlude_text n) ≡ rows (tape_rows n)
+text_reads n low high =
+    has_one_reading.only (interlude_text n) (rows (tape_rows n))
+    (subst (λ (t : Text). Spells t (tape_rows n)) (text_is n)
+    (subst (Spells (front ++ (decimal n ++ behind_number))) (rows_are n)
+    (spells_append front front_rows (decimal n ++ behind_number) (digits_of n ++ rows_behind) front_spells
+    (spells_append (decimal n) (digits_of n) behind_number rows_behind (decimal_spells n low high) behind_spells))))
+
+-- ---- the course of the tape
+
+-- the two loads: the entry to which the rows lead, and the one to which the rows left at the return lead
+module _ (z : Size) (n : ℕ) (low : 34 ≤ n) (small : n ≤ 510) (fits : 2 * n + 3 ≤ locations z) where
+  abbrev loaded : ℕ
+  loaded = 9 + (344 + 9 * length (digits_of n)) + 19
+
+  abbrev read : ℕ
+  read = length (spelled (canonicals (interlude_items n))) + 2
+
+  abbrev first : TapeEntry
+  first = entry z (tape_rows n) program_rows n loaded read small
+
+  reads : Comes (first_state z (tape_rows n)) first
+  unfolding first_state
+  reads =
+      let words = (first_state z (tape_rows n)).store.words in
+      let size = least z in
+      let e = entered 9 100 program_rows (omega arith) (interlude_reads z words n small) refl (lit≤ tt) (omega arith) in
+      record { well = e.well; comes = e.comes }
+
+  abbrev home : State
+  home = back z (tape_rows n) program_rows n loaded read small
+
+  abbrev second : TapeEntry
+  second = entry_on z (tape_rows n) program_rows n loaded read small low fits 26
+
+  reads_on : ComesBack home second
+  reads_on =
+      let words = home.store.words in
+      let size = least z in
+      let e = entered 2 64 [] (omega arith) (program_reads z words n 200 low fits) refl (lit≤ tt) (omega arith) in
+      let same = sym (reopens z (tape_rows n) program_rows n loaded read small low fits 26) in
+      record {
+        well = subst (λ (x : Note). WellFormed z words x program_rows) same e.well;
+        comes = subst (λ (x : Note). ComesTo words x 2 program_rows second) same e.comes;
+      }
+
+  abbrev course : Course z (tape_rows n) 68 (15 ∷ 21 ∷ 8 ∷ [])
+  course = record {
+    interlude = first;
+    reads = reads;
+    back = home;
+    orders = 5;
+    leads = interlude_leads z (tape_rows n) program_rows n loaded read small;
+    away = interlude_away z (tape_rows n) program_rows n loaded read small;
+    returned = returned z (tape_rows n) program_rows n loaded read small;
+    is_store = back_store z (tape_rows n) program_rows n loaded read small;
+    left = refl;
+    program = second;
+    reads_on = reads_on;
+    orders_on = 3;
+    stops = program_stops z (tape_rows n) program_rows n loaded read small low fits 26;
+    stays_away = program_away z (tape_rows n) program_rows n loaded read small low fits 26;
+  }
+
+  numbers_are : numbers_of course ≡ interlude_parts n
+  numbers_are =
+      let ds = digits_of n in
+      let few = figure_count n (omega arith) (omega arith) in
+      let cost : loaded ≡ 372 + 9 * length (decimal n) = omega (arith, few) in
+      let inner = length-append ((ds ++ []) ++ 17 ∷ []) entering_rows in
+      let outer = length-append (ds ++ []) (17 ∷ []) in
+      let same = ap length (append-nil ds) in
+      let count : read ≡ 35 + length (decimal n) = omega (arith, few, inner, outer, same) in
+      let there : address (directive home) ≡ 2 * n = omega arith in
+      λ i. record {
+        interlude = record { entry = 100; cost = cost i; rows = count i; orders = 5 };
+        returns_for = there i;
+        program = record { entry = 64; cost = 280; rows = 26; orders = 4 };
+        stop = 68;
+      }
+
+-- ---- what is owed
+
+pub each_number : (s : Settings) (n : ℕ) → 34 ≤ n → n ≤ 510 → interlude_room n ≤ locations s.size
+    → TwoPartsRun s (interlude_text n) (interlude_parts n) interlude_prints
+each_number s n low small fits =
+    let lines : List Text = interlude_front ++ interlude_line n ∷ interlude_rest in
+    let few = figure_count n (omega arith) (omega arith) in
+    let digits = few_figures n (omega arith) (omega arith) in
+    let together = length-append (decimal n) back_line in
+    let line = le_true (length (interlude_line n)) 120 (omega (arith, few, digits, together)) in
+    let are_all : are_short lines ≡ true = rw line refl in
+    let size : length (interlude_text n) ≤ 121 * 17 = text_length lines are_all in
+    subst (λ (t : TwoParts). TwoPartsRun s (interlude_text n) t interlude_prints) (numbers_are s.size n low small fits)
+    (two_parts_run s (interlude_text n) (tape_rows n) (text_reads n (omega arith) (omega arith)) (omega (arith, size))
+    (course s.size n low small fits) (lit≤ tt))

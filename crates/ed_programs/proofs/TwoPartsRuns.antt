@@ -1,0 +1,359 @@
+-- A tape whose first program returns to the Initial Orders and whose second one comes to its stop, as what the commands
+-- `parts` and `tape` owe it.
+use Rattle.std.proofs.Common.{◌≡◌, ◌≢◌, ◌∙◌, inl, ℕ, zero, suc, ◌+◌, ◌-◌, ◌<◌, ◌≤◌, refl, sym, ap, subst, arith}
+use Rattle.std.proofs.Common.{true, false, List, [], ◌∷◌, ◌++◌, append_assoc, codes, length, length-append, inr}
+use Rattle.std.proofs.lemmas.Bool.{cases_lt}
+use Rattle.std.specs.Prelude.{None, Some, Result, Ok, Err, String}
+use Rattle.std.specs.declared.alloc.Global.{Global}
+use Rattle.ed_words.proofs.Numbers.{eq_false, lt_false, lt_true}
+use Rattle.ed_words.specs.Sizes.{locations}
+use Rattle.ed_words.specs.Texts.{Text}
+use Rattle.ed_words.specs.declared.size.Size.{Size}
+use Rattle.ed_codes.specs.Reading.{reading, rows}
+use Rattle.ed_store.specs.Cells.{IsStore}
+use Rattle.ed_machine.specs.State.{State}
+use Rattle.ed_machine.specs.OrderTable.{Obeyed, step}
+use Rattle.ed_machine.specs.Steps.{is_obeyed, past, state_after, stops_of}
+use Rattle.ed_machine.specs.declared.turn.Turn.{Turn}
+use Rattle.ed_machine.specs.declared.turn.Turn.TheVariants.{Went, Printed, Stopped as Stops, NoOrder, NoTape}
+use Rattle.ed_machine.specs.declared.ending.Ending.TheVariants.{Stopped}
+use Rattle.ed_machine.proofs.Counts.{counted_after}
+use Rattle.ed_machine.proofs.Steps.{next_state, next_stops}
+use Rattle.ed_run.specs.Run.{end_by, ran}
+use Rattle.ed_printer.specs.Paper.{paper}
+use Rattle.ed_notation.specs.Fold.{address}
+use Rattle.ed_notation.specs.Faults.{TapeEntry}
+use Rattle.ed_notation.specs.Items.{rows_of, spelled}
+use Rattle.ed_initial.specs.Entry.{Comes, at_entry}
+use Rattle.ed_initial.proofs.Quiet.{LeadsIn, comes_in}
+use Rattle.ed_interlude.specs.Returned.{ComesBack, IsReturned, directive}
+use Rattle.ed_interlude.proofs.Resumed.{leads_back}
+use Rattle.ed_loads.specs.EntryState.{first_state}
+use Rattle.ed_loads.proofs.Entries.{first_store, starts}
+use Rattle.ed_paths.proofs.Frames.{Frame, Moment, state}
+use Rattle.ed_paths.proofs.Leads.{Leads, free, goes_on, joined, no_stops, obeyed_of}
+use Rattle.ed_paths.proofs.Paths.{Path, no_state, on, prints, stay}
+use Rattle.ed_paths.proofs.Paths as paths
+use Rattle.ed_routines.proofs.Journeys.{ComesToStop, stop_after}
+use Rattle.ed_report.specs.Entries.{entry_line, returned_line}
+use Rattle.ed_report.specs.Notes.{at_after}
+use Rattle.ed_sources.proofs.Stops.{LeadsToStop, ran_to_stop}
+use Rattle.ed_parts.specs.Parts.{ComesHome, Concludes, Finishes, GoesBack, IsUnderWay, LeadsTo, RunsOn, TapePart}
+use Rattle.ed_parts.specs.Parts.{TapeTells}
+use Rattle.ed_parts.specs.Parts.{Told, entry_done, entry_told, finished, first_part, part_behind, part_entry_state}
+use Rattle.ed_parts.specs.Parts.{program_end, told_lines}
+use Rattle.ed_parts.specs.declared.tape.PartsEnd.TheVariants.{Ended}
+use Rattle.ed_command.specs.declared.command.Settings.{Settings}
+use Rattle.ed_top.specs.Answer.{OfReading, exactly}
+use Rattle.ed_top.specs.Outcome.{Outcome}
+use Rattle.ed_top.specs.Output.{tape_outcome}
+use Rattle.ed_top.specs.Parts.{IsInParts}
+use Rattle.ed_top.specs.Runs.{paper_room, ran_outcome, with_post_mortem}
+use Rattle.ed_top.proofs.Stopped.{answered, nothing_after}
+use Rattle.ed_programs.specs.Programs.{GivesProgram}
+use Rattle.ed_programs.specs.TwoParts.{TwoParts, TwoPartsPrint, TwoPartsRun, orders_to_program, orders_to_return}
+use Rattle.ed_programs.specs.TwoParts.{orders_to_stop, two_parts_lines, two_parts_note}
+use Rattle.ed_programs.specs.declared.refusal.Refusal.{Refusal}
+
+-- ---- a program of a part
+
+-- before each of k orders the machine is not at the place of a return
+abbrev pub IsAway : ℕ → State → Type 0
+IsAway k s = (j : ℕ) → j < k → (state_after j s).counter ≢ 25
+
+-- before each order of a path the counter is after the Initial Orders
+abbrev pub StaysAbove : {n h : ℕ} {f : Frame n h} {k : ℕ} {r t : Moment} {cs : List ℕ} → Path f k r cs t → Type 0
+StaysAbove stay = Unit {0}
+StaysAbove (on {r = r} first rest) = (44 ≤ r.counter) × StaysAbove rest
+StaysAbove (prints {r = r} first rest) = (44 ≤ r.counter) × StaysAbove rest
+
+above_is_away : (s : State) → 44 ≤ s.counter → (state_after 0 s).counter ≢ 25
+above_is_away s above is =
+    let same = ap (λ (x : State). x.counter) (no_state s) in
+    absurd (omega (arith, same, is, above))
+
+pub away : {n h : ℕ} {f : Frame n h} {k : ℕ} {r t : Moment} {cs : List ℕ} (p : Path f k r cs t) → StaysAbove p
+    → (done : ℕ) → IsAway k (state f r done)
+away stay above done j l = absurd (omega arith)
+away {f = f} (on {r = r} first rest) above done zero l = above_is_away (state f r done) above.0
+away {f = f} (prints {r = r} first rest) above done zero l = above_is_away (state f r done) above.0
+away {f = f} (on {r = r} first rest) above done (suc j) l =
+    subst (λ (x : State). x.counter ≢ 25)
+    (sym (paths.first_state j (state f r done) ∙ ap (λ (o : Obeyed). state_after j o.state) (first.does done)))
+    (away rest above.1 (done + 1) j (omega arith))
+away {f = f} (prints {r = r} first rest) above done (suc j) l =
+    subst (λ (x : State). x.counter ≢ 25)
+    (sym (paths.first_state j (state f r done) ∙ ap (λ (o : Obeyed). state_after j o.state) (first.does done)))
+    (away rest above.1 (done + 1) j (omega arith))
+
+-- and before the order at which it stops
+pub away_to_stop : {k : ℕ} {s t : State} {cs : List ℕ} → Leads k s cs t → IsAway k s → t.counter ≢ 25 → IsAway (k + 1) s
+away_to_stop {k} {s} leads before last j l =
+    elim (cases_lt j k) [
+      | inl below ↦ before j below
+      | inr here ↦
+          let e : k ≡ j = omega arith in
+          subst (λ n. (state_after n s).counter ≢ 25) e
+          (subst (λ (x : State). x.counter ≢ 25) (sym leads.state_is) last)
+    ]
+
+no_end : (turn : Turn) → is_obeyed turn ≡ true → end_by turn false ≡ None
+no_end Went e = refl
+no_end (Printed code) e = refl
+no_end Stops e = refl
+no_end (NoOrder function) e = cc
+no_end NoTape e = cc
+
+module _ (left : ℕ) (s : State) where
+  under_way : (k : ℕ) → k < left → (past k s).stops ≡ 0 → is_obeyed (step (state_after k s)).turn ≡ true
+      → (state_after k s).counter ≢ 25 → IsUnderWay left k s
+  under_way k below none obeyed place =
+      let a = lt_false 0 (past k s).stops (omega (arith, none)) in
+      let b = eq_false k left (omega arith) in
+      record { no_end = rw (a, b) (no_end _ obeyed); away = λ home. place home.counter }
+
+  -- it leads back to the Initial Orders
+  pub comes_home : {k : ℕ} {t : State} {cs : List ℕ} → Leads k s cs t → IsAway k s → k ≤ left → IsReturned t
+      → ComesHome left k s
+  comes_home {k} leads far fits home = record {
+    runs = λ j l.
+        under_way j (omega arith) (no_stops j s (λ i m. leads.goes i (omega arith)))
+        (obeyed_of _ (leads.goes j l)) (far j l);
+    stops = no_stops k s leads.goes;
+    home = subst (λ (x : State). IsReturned x) (sym leads.state_is) home;
+  }
+
+  -- it comes to its stop
+  pub finishes : {k at : ℕ} {cs : List ℕ} → ComesToStop k s cs at → IsAway (k + 1) s → k + 1 ≤ left
+      → Finishes left (k + 1) s Stopped
+  finishes {k} o far fits = record { runs = runs; ends = ends; stopped = λ home. refl }
+    where
+      turn : (step (state_after k s)).turn ≡ Stops
+      turn = ap (λ (x : State). (step x).turn) o.leads.state_is ∙ o.stops
+
+      none : (past k s).stops ≡ 0
+      none = no_stops k s o.leads.goes
+
+      runs : RunsOn left (k + 1) s
+      runs j l =
+          elim (cases_lt j k) [
+            | inl below ↦
+                under_way j (omega arith) (no_stops j s (λ i m. o.leads.goes i (omega arith)))
+                (obeyed_of _ (o.leads.goes j below)) (far j l)
+            | inr here ↦
+                let e : k ≡ j = omega arith in
+                subst (λ n. IsUnderWay left n s) e
+                (under_way k (omega arith) none (ap is_obeyed turn) (far k (omega arith)))
+          ]
+
+      some : 0 < (past (k + 1) s).stops
+      some = let one = ap stops_of turn in omega (arith, next_stops k s, none, one)
+
+      ends : program_end left (k + 1) s ≡ Some Stopped
+      ends = let a = lt_true 0 (past (k + 1) s).stops some in rw a refl
+
+-- ---- a tape
+
+-- how a tape goes whose interlude is entered and returns, and whose program is entered and comes to its stop
+pub record Course (z : Size) (tape_rows : List ℕ) (at : ℕ) (printed : List ℕ) : Type 0 where
+  pub interlude : TapeEntry
+  pub reads : Comes (first_state z tape_rows) interlude
+  pub back : State
+  pub orders : ℕ
+  pub leads : Leads orders (at_entry (first_state z tape_rows) interlude) [] back
+  pub away : IsAway orders (at_entry (first_state z tape_rows) interlude)
+  pub returned : IsReturned back
+  pub is_store : IsStore back.store
+  pub left : back.tape ≡ interlude.rest
+  pub program : TapeEntry
+  pub reads_on : ComesBack back program
+  pub orders_on : ℕ
+  pub stops : ComesToStop orders_on (at_entry back program) printed at
+  pub stays_away : IsAway (orders_on + 1) (at_entry back program)
+
+-- the same in plain numbers
+abbrev pub numbers_of : {z : Size} {tape_rows : List ℕ} {at : ℕ} {printed : List ℕ} → Course z tape_rows at printed
+    → TwoParts
+numbers_of {at = at} c = record {
+  interlude = record {
+    entry = c.interlude.at;
+    cost = c.interlude.cost;
+    rows = c.interlude.rows;
+    orders = c.orders;
+  };
+  returns_for = address (directive c.back);
+  program = record {
+    entry = c.program.at;
+    cost = c.program.cost;
+    rows = c.program.rows;
+    orders = c.orders_on + 1;
+  };
+  stop = at;
+}
+
+module _ {z : Size} {tape_rows : List ℕ} {at : ℕ} {printed : List ℕ} (c : Course z tape_rows at printed) where
+  abbrev t : TwoParts
+  t = numbers_of c
+
+  abbrev start : State
+  start = first_state z tape_rows
+
+  fresh : (start.tape ≡ tape_rows) × (start.orders ≡ 0)
+  unfolding first_state
+  fresh = (refl, refl)
+
+  first : LeadsIn start c.interlude
+  first = comes_in start c.interlude (first_store z tape_rows) (starts z tape_rows) c.reads
+
+  second : LeadsIn c.back c.program
+  second = leads_back c.back c.program c.is_store c.returned c.reads_on
+
+  count : c.back.orders ≡ orders_to_return t
+  count =
+      let there = ap (λ (x : State). x.orders) (sym c.leads.state_is) in
+      let counted = counted_after c.orders (at_entry start c.interlude) (free c.leads) in
+      let none = fresh.1 in
+      omega (arith, there, counted, none)
+
+  read : length start.tape ≡ c.interlude.rows + length c.back.tape
+  read =
+      let o = c.reads.comes in
+      let all = ap length o.rows_are in
+      let both = length-append (spelled o.before) (rows_of o.last ++ c.interlude.rest) in
+      let last = length-append (rows_of o.last) c.interlude.rest in
+      let rest = ap length c.left in
+      omega (arith, all, both, last, rest, o.read_is)
+
+  -- ---- `parts`
+
+  module _ (limit : ℕ) (fits : orders_to_stop t ≤ limit) where
+    abbrev one : TapePart
+    one = first_part start
+
+    abbrev goes_back : GoesBack limit one
+    goes_back = record {
+      entry = c.interlude;
+      leads = record { well = c.reads.well; comes = c.reads.comes };
+      within = omega (arith, fits);
+      orders = c.orders;
+      comes = subst (λ (x : State). ComesHome (limit - entry_done one c.interlude) c.orders x) (sym first.arrives)
+          (comes_home _ _ c.leads c.away (omega (arith, fits)) c.returned);
+    }
+
+    abbrev two : TapePart
+    two = part_behind one goes_back
+
+    there : two.state ≡ c.back
+    there = ap (state_after c.orders) first.arrives ∙ c.leads.state_is
+
+    leads_on : LeadsTo two c.program
+    leads_on =
+        subst (λ (x : State). LeadsTo (record { number = 2; done = two.done; state = x }) c.program) (sym there)
+        (record { well = c.reads_on.well; comes = c.reads_on.comes })
+
+    entered : part_entry_state two c.program ≡ at_entry c.back c.program
+    entered = ap (state_after c.program.cost) there ∙ second.arrives
+
+    abbrev end : Told
+    end = record {
+      text = entry_told (length start.tape) two c.program;
+      end = Ended Stopped;
+      last = state_after (c.orders_on + 1) (part_entry_state two c.program);
+    }
+
+    concludes : Concludes limit (length start.tape) two end
+    concludes =
+        finished c.program (c.orders_on + 1) Stopped leads_on (omega (arith, fits))
+        (subst (λ (x : State). Finishes (limit - entry_done two c.program) (c.orders_on + 1) x Stopped) (sym entered)
+        (finishes _ _ c.stops c.stays_away (omega (arith, fits))))
+        refl
+
+    abbrev whole : Told
+    whole = record end { text = told_lines (length start.tape) one goes_back ++ end.text }
+
+    tells : TapeTells limit start whole
+    tells = record { returns = 1; told = (goes_back, end, concludes, refl) }
+
+    last_is : end.last ≡ (step c.stops.last).state
+    last_is =
+        ap (state_after (c.orders_on + 1)) entered
+        ∙ sym (next_state c.orders_on (at_entry c.back c.program) refl refl)
+        ∙ ap (λ (x : State). (step x).state) c.stops.leads.state_is
+
+    lines : whole.text ≡ two_parts_lines t
+    lines =
+        let none : 0 + c.interlude.cost ≡ c.interlude.cost = omega arith in
+        let some : length start.tape - length start.tape + c.interlude.rows ≡ c.interlude.rows = omega arith in
+        let far = ap (λ (x : State). length x.tape) there in
+        let more : length start.tape - length two.state.tape + c.program.rows ≡ c.interlude.rows + c.program.rows =
+        omega (arith, read, far) in
+        (λ i.
+        (entry_line c.interlude.at (none i) (some i)
+        ++ returned_line (address (directive (there i))) (none i + c.orders))
+        ++ entry_line c.program.at (none i + c.orders + c.program.cost) (more i))
+        ∙ append_assoc (entry_line c.interlude.at c.interlude.cost c.interlude.rows)
+        (returned_line t.returns_for (orders_to_return t))
+        (entry_line c.program.at (orders_to_program t) (c.interlude.rows + c.program.rows))
+
+    note : at_after (codes "stopped") end.last.counter end.last.orders ++ 10 ∷ [] ≡ two_parts_note t
+    note =
+        let counter : end.last.counter ≡ at = ap (λ (x : State). x.counter) last_is ∙ c.stops.counter in
+        let before = ap (λ (x : State). x.orders) last_is in
+        let orders : end.last.orders ≡ orders_to_stop t = omega (arith, before, c.stops.orders, count) in
+        λ i. at_after (codes "stopped") (counter i) (orders i) ++ 10 ∷ []
+
+  -- ---- `tape`
+
+  loads : {s : State} {e : TapeEntry} → LeadsIn s e → Leads e.cost s [] (at_entry s e)
+  loads l = record {
+    state_is = l.arrives;
+    codes_are = l.prints_none;
+    goes = λ j below. ap goes_on (l.went j below);
+  }
+
+  to_stop : ComesToStop (orders_to_program t + c.orders_on) start printed at
+  to_stop =
+      let none = fresh.1 in
+      stop_after (joined (joined (loads first) c.leads) (loads second)) (omega (arith, count, none)) c.stops
+
+-- a text that spells the rows of such a tape
+pub two_parts_run : (s : Settings) (tape : Text) (tape_rows : List ℕ) {at : ℕ} {printed : List ℕ}
+    → reading tape ≡ rows tape_rows → length tape ≤ 262144 → (c : Course s.size tape_rows at printed)
+    → length printed ≤ paper_room → TwoPartsRun s tape (numbers_of c) (paper printed)
+two_parts_run s tape tape_rows {at} {printed} reads short c few =
+    let t : TwoParts = numbers_of c in
+    record {
+      codes_of = tape_rows;
+      spelled = reads;
+      parts = λ fits.
+          let due : Outcome = record { out = two_parts_lines t; note = two_parts_note t; status = 0 } in
+          let told : IsInParts s tape_rows due = record {
+            told = whole c s.limit fits;
+            tells = tells c s.limit fits;
+            outcome = λ i. record { out = lines c s.limit fits i; note = note c s.limit fits i; status = 0 };
+          } in
+          inl (short, subst (λ r. OfReading (IsInParts s) r due) (sym reads) told);
+      whole = λ no_resumes plain fits.
+          let due : Outcome = record { out = paper printed; note = two_parts_note t; status = 0 } in
+          let first : State = first_state s.size tape_rows in
+          let o = to_stop c in
+          let end : LeadsToStop (orders_to_program t + c.orders_on) first printed =
+          record { last = o.last; leads = o.leads; stops = o.stops } in
+          let none = (fresh c).1 in
+          let count : (step o.last).state.orders ≡ orders_to_stop t = omega (arith, o.orders, none) in
+          let ended = ran_to_stop s.limit paper_room (orders_to_program t + c.orders_on) first printed end few
+          (omega (arith, fits)) in
+          let answer : tape_outcome s tape_rows ≡ due =
+          (λ i. ran_outcome [] (with_post_mortem (plain i) (ran s.limit (no_resumes i) paper_room first)))
+          ∙ ap (ran_outcome []) (nothing_after (ran s.limit 0 paper_room first))
+          ∙ answered [] (ran s.limit 0 paper_room first) ended o.counter count in
+          inl (short, subst (λ r. OfReading (exactly (tape_outcome s)) r due) (sym reads) answer);
+    }
+
+-- a law of a tape's text is one of the text that is answered
+pub two_parts_print_of : {room : ℕ} {t : TwoParts} {tape printed : Text} (r : Result (String Global) Refusal)
+    → GivesProgram None tape r
+    → ((s : Settings) → room ≤ locations s.size → TwoPartsRun s tape t printed) → TwoPartsPrint room t printed r
+two_parts_print_of {t = t} {printed = printed} (Ok text) gives law = λ s fits.
+    subst (λ (x : Text). TwoPartsRun s x t printed) (sym gives.1) (law s fits)
+two_parts_print_of (Err refusal) gives law = tt
