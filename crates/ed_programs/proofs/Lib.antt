@@ -45,3 +45,7 @@ pub mod TapeRuns
 pub mod MirrorProgram
 pub mod MirrorEnds
 pub mod MirrorRuns
+pub mod GuestNames
+pub mod GuestTexts
+pub mod GuestStands
+pub mod GuestRuns

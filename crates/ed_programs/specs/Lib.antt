@@ -9,3 +9,4 @@ pub mod Difference
 pub mod Fraction
 pub mod Tapes
 pub mod Mirror
+pub mod Guests
