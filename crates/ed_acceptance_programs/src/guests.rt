@@ -3,6 +3,7 @@
 use crate::support::prints;
 use ed_programs::checked_program;
 use std::alloc::{AllocError, Global};
+use std::process::Abort;
 use std::test::Fail;
 
 /// The guest of `examples/checked.edsac`, without its comments.
@@ -28,6 +29,11 @@ const EXAMPLE: &str = "version 2\n\
     _space: ! F\n\
     _scrap: P F";
 
+/// Checks that the run of the guest's source prints a text and stops.
+fn checks(rt: &impl Abort, alloc: Global, guest: &str, wanted: &str) -> Result<(), Fail> {
+    prints(rt, alloc, checked_program(alloc, guest), wanted)
+}
+
 /// A guest that prints these letters one by one.
 fn printing(alloc: Global, letters: &str) -> Result<String, AllocError> {
     let mut guest = String::from_str(alloc, "segment main\nO shift F\n")?;
@@ -52,14 +58,21 @@ fn obeying(alloc: Global, functions: &str) -> Result<String, AllocError> {
 #[test]
 fn each_letter_follows_its_order(rt: HostRuntime) -> Result<(), Fail> {
     let alloc = rt.alloc();
-    for letters in ["A", "Z", "HELLO", "EDSAC", "CHECKED", "ABCDEFGHIJKLMNOPQRSTUVWXYZ"] {
+    for letters in [
+        "A",
+        "Z",
+        "HELLO",
+        "EDSAC",
+        "CHECKED",
+        "ABCDEFGHIJKLMNOPQRSTUVWXYZ",
+    ] {
         let mut wanted = String::from_str(alloc, "O")?;
         for letter in letters.chars() {
             wanted.push_str(format!(in alloc; "O{letter}")?.as_str())?;
         }
         wanted.push_str("Z")?;
         let guest = printing(alloc, letters)?;
-        prints(&rt, alloc, checked_program(alloc, guest.as_str()), wanted.as_str())?;
+        checks(&rt, alloc, guest.as_str(), wanted.as_str())?;
     }
     Ok(())
 }
@@ -67,10 +80,19 @@ fn each_letter_follows_its_order(rt: HostRuntime) -> Result<(), Fail> {
 #[test]
 fn each_order_is_its_letter(rt: HostRuntime) -> Result<(), Fail> {
     let alloc = rt.alloc();
-    for functions in ["", "A", "AS", "HVN", "TUC", "HVYXRLT", "AAAAAAAAAA", "CASHRUNTVLXY"] {
+    for functions in [
+        "",
+        "A",
+        "AS",
+        "HVN",
+        "TUC",
+        "HVYXRLT",
+        "AAAAAAAAAA",
+        "CASHRUNTVLXY",
+    ] {
         let wanted = format!(in alloc; "{functions}Z")?;
         let guest = obeying(alloc, functions)?;
-        prints(&rt, alloc, checked_program(alloc, guest.as_str()), wanted.as_str())?;
+        checks(&rt, alloc, guest.as_str(), wanted.as_str())?;
     }
     Ok(())
 }
@@ -97,7 +119,7 @@ fn each_turn_of_a_loop_is_printed(rt: HostRuntime) -> Result<(), Fail> {
             wanted.push_str("TAAUG")?;
         }
         wanted.push_str("EZ")?;
-        prints(&rt, alloc, checked_program(alloc, guest.as_str()), wanted.as_str())?;
+        checks(&rt, alloc, guest.as_str(), wanted.as_str())?;
     }
     Ok(())
 }
@@ -105,10 +127,10 @@ fn each_turn_of_a_loop_is_printed(rt: HostRuntime) -> Result<(), Fail> {
 #[test]
 fn the_example_is_printed(rt: HostRuntime) -> Result<(), Fail> {
     let alloc = rt.alloc();
-    prints(
+    checks(
         &rt,
         alloc,
-        checked_program(alloc, EXAMPLE),
+        EXAMPLE,
         "OO TOAAATAAUGO TOBAATAAUGO TOCAATAAUGZ",
     )
 }

@@ -37,7 +37,7 @@ other_line homes (Some (Fetch r n ts)) later none = refl
 other_line homes (Some (Enter n)) later none = absurd (none n refl)
 other_line homes (Some (Rows codes)) later none = refl
 
--- and so do lines of which none is one
+-- and so do lines without one
 first_enter : (homes : List Home) (ahead rest : List Line) → (HasEnter ahead → ⊥)
     → entry_from homes (ahead ++ rest) ≡ entry_from homes rest
 first_enter homes [] rest none = refl
@@ -54,7 +54,8 @@ first_enter homes (l ∷ ahead) rest none =
 -- ---- the name
 
 -- what lines define, and what more lines do
-homes_append : (s : Spot) (xs ys : List Line) → homes_from s (xs ++ ys) ≡ homes_from s xs ++ homes_from (spot_from s xs) ys
+homes_append : (s : Spot) (xs ys : List Line)
+    → homes_from s (xs ++ ys) ≡ homes_from s xs ++ homes_from (spot_from s xs) ys
 homes_append s [] ys = refl
 homes_append s (x ∷ xs) ys =
     ap (λ (hs : List Home). defined x s ++ hs) (homes_append (passed x.statement s) xs ys)

@@ -30,7 +30,8 @@ use Rattle.ed_top.specs.Headline.{RunsFromEntry}
 use Rattle.ed_top.specs.Sources.{OfSource, run_outcome}
 use Rattle.ed_top.proofs.Sources.{accepted_is, headline}
 use Rattle.ed_top.proofs.Stopped.{stopped_outcome}
-use Rattle.ed_programs.specs.Guests.{ChecksGuest, ComesToZ, EachGuestIsChecked, EntersChecker, checker_base, entry_guest}
+use Rattle.ed_programs.specs.Guests.{ChecksGuest, StopsAtZ, EachGuestIsChecked, EntersChecker}
+use Rattle.ed_programs.specs.Guests.{checker_base, entry_guest}
 use Rattle.ed_programs.specs.Guests.{ChecksItsGuest, checked_text, stopped_orders}
 use Rattle.ed_programs.specs.Programs.{GivesProgram, SourceRuns}
 use Rattle.ed_programs.specs.declared.refusal.Refusal.{Refusal}
@@ -38,7 +39,7 @@ use Rattle.ed_programs.proofs.GuestNames.{entry_is}
 use Rattle.ed_programs.proofs.GuestStands.{guest_is, has_guest}
 use Rattle.ed_programs.proofs.GuestTexts.{enters_from_main, source_short}
 
--- ---- the machine comes to the guest's Z
+-- ---- the machine stops at the guest's Z
 
 -- orders that are obeyed, none of them a stop, go on
 goes_of : (turn : Turn) → is_obeyed turn ≡ true → stops_of turn ≡ 0 → goes_on turn ≡ true
@@ -76,13 +77,13 @@ stops_at base q m c = record {
   counter = c.counter;
 }
 
--- as a program comes to its stop, in the turns of its guest
+-- the machine stops there after the turns of its guest
 record Checked (base q : ℕ) (m g : State) : Type 0 where
   count : ℕ
   exact : count + 17 ≡ checked_orders g (suc q)
   comes : ComesToStop count m (checked_codes g (suc q)) (base + planting_place + 1)
 
-checked_to_stop : (base q : ℕ) (m : State) → HasGuest base m → ComesToZ base q (guest base m)
+checked_to_stop : (base q : ℕ) (m : State) → HasGuest base m → StopsAtZ base q (guest base m)
     → Checked base q m (guest base m)
 checked_to_stop base q m has z =
     let c = checker_law.to_stop base q m has z.followed z.stops z.allowed in
@@ -103,7 +104,7 @@ checked_to_stop base q m has z =
     }
 
 -- the guest's first order is in the store
-first_below : (base q : ℕ) (g : State) → ComesToZ base q g → g.counter + 1 < locations g.size
+first_below : (base q : ℕ) (g : State) → StopsAtZ base q g → g.counter + 1 < locations g.size
 first_below base zero g z = subst (λ (x : State). x.counter + 1 < locations x.size) (sym (no_step g)) z.allowed.next
 first_below base (suc q) g z =
     subst (λ (x : State). x.counter + 1 < locations x.size) (sym (no_step g))
@@ -123,7 +124,7 @@ module _ (s : Settings) (source : Text) (lines : List Line) (c : EntersChecker l
   g = entry_guest s.size lines c.first
 
   -- the guest of the machine is the guest of the source
-  stopped : (q : ℕ) → ComesToZ base q g → Checked base q m g
+  stopped : (q : ℕ) → StopsAtZ base q g → Checked base q m g
   stopped q z =
       let size = most s.size in
       let next = first_below base q g z in
@@ -131,12 +132,12 @@ module _ (s : Settings) (source : Text) (lines : List Line) (c : EntersChecker l
       let same = guest_is s.size source lines accepted c low in
       subst (λ (x : State). Checked base q m x) same
       (checked_to_stop base q m (has_guest s.size source lines accepted c low)
-      (subst (ComesToZ base q) (sym same) z))
+      (subst (StopsAtZ base q) (sym same) z))
 
   entry : RunsFromEntry s lines
   entry = headline s source lines accepted
 
-  runs : (q : ℕ) → ComesToZ base q g → length (checked_codes g (suc q)) ≤ 1000000
+  runs : (q : ℕ) → StopsAtZ base q g → length (checked_codes g (suc q)) ≤ 1000000
       → SourceRuns s source (stopped_orders g (suc q)) (base + planting_place + 1) (paper (checked_codes g (suc q)))
   runs q z few =
       let o = stopped q z in
@@ -164,8 +165,8 @@ pub each_guest : EachGuestIsChecked
 each_guest = checks
 
 -- so it is of the source that is made for a guest
-pub checks_from_main : (program : Result (String Global) Refusal) (text : Text) → GivesProgram None (checked_text text) program
-    → ChecksItsGuest program
+pub checks_from_main : (program : Result (String Global) Refusal) (text : Text)
+    → GivesProgram None (checked_text text) program → ChecksItsGuest program
 checks_from_main (Err refusal) text gives = tt
 checks_from_main (Ok program) text gives = λ s lines accepted.
     let says : IsProgram (checked_text text) accepted.two lines =

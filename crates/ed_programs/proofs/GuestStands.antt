@@ -1,6 +1,8 @@
 -- At the entry of a source that enters the checking routine the routine stands, and finds the guest at H.
-use Rattle.std.proofs.Common.{◌≡◌, ◌∙◌, ℕ, zero, suc, ◌+◌, ◌-◌, ◌*◌, ◌/◌, ◌%◌, ◌^◌, ◌<◌, ◌≤◌, refl, sym, ap, subst, arith, lit<}
-use Rattle.std.proofs.Common.{Bool, true, false, true≢false, ◌&&◌, ◌||◌, nat_eq, nat_le, List, ◌++◌, get_or, length, map, Some}
+use Rattle.std.proofs.Common.{◌≡◌, ◌∙◌, ℕ, zero, suc, ◌+◌, ◌-◌, ◌*◌, ◌/◌, ◌%◌, ◌^◌, ◌<◌, ◌≤◌}
+use Rattle.std.proofs.Common.{refl, sym, ap, subst, arith, lit<}
+use Rattle.std.proofs.Common.{Bool, true, false, true≢false, ◌&&◌, ◌||◌, nat_eq, nat_le, List}
+use Rattle.std.proofs.Common.{◌++◌, get_or, length, map, Some}
 use Rattle.std.specs.Prelude.{◌==◌, None, if◌then◌else◌, position, slice_index}
 use Rattle.std.proofs.lemmas.Bool.{and_parts}
 use Rattle.std.proofs.lemmas.Bool.Decides.{nat_tests}
@@ -222,7 +224,9 @@ module _ (z : Size) (source : Text) (lines : List Line) (accepted : IsAcceptedAs
       };
     }
 
-    acc_is : long_at m.store (base + 60) * 2 ^ 36 + 4 * long_at m.store (base + 62) + long_at m.store (base + 64) / 2 ^ 32 ≡ 0
+    acc_is : long_at m.store (base + 60) * 2 ^ 36 + 4 * long_at m.store (base + 62)
+        + long_at m.store (base + 64) / 2 ^ 32
+        ≡ 0
     acc_is = λ i. no_high i * 2 ^ 36 + 4 * no_middle i + no_low i / 2 ^ 32
 
     pub guest_is : guest base m ≡ entry_guest z lines c.first

@@ -20,7 +20,8 @@ use Rattle.ed_programs.proofs.Answered.{are_short}
 
 -- ---- how long it is
 
-say_short : (two : Bool) (k : ℕ) (lines : List Text) (said : List Line) → LinesSay two k lines said → are_short lines ≡ true
+say_short : (two : Bool) (k : ℕ) (lines : List Text) (said : List Line) → LinesSay two k lines said
+    → are_short lines ≡ true
 say_short two _ _ _ (no_more k) = refl
 say_short two _ _ _ (and_more k line lines f said s h) =
     and_from _ _ (le_true (length line) 120 s.plain.short) (say_short two (k + 1) lines said h)
@@ -74,9 +75,17 @@ lines_ahead [] rest = record { first = []; more = []; lines_are = first_feed res
 lines_ahead (b ∷ []) rest = by_tests (b == 10) (b == 13) refl refl
   where
     by_tests : (feed return : Bool) → (b == 10) ≡ feed → (b == 13) ≡ return → Ahead (b ∷ 10 ∷ rest) rest
-    by_tests true return e r = record { first = []; more = [] ∷ []; lines_are = rw e (ap (λ (ls : List Text). [] ∷ ls) (first_feed rest)) }
+    by_tests true return e r = record {
+      first = [];
+      more = [] ∷ [];
+      lines_are = rw e (ap (λ (ls : List Text). [] ∷ ls) (first_feed rest));
+    }
     by_tests false true e r = record { first = []; more = []; lines_are = rw (e, r) refl }
-    by_tests false false e r = record { first = b ∷ []; more = []; lines_are = rw (e, r) (ap (with_byte b) (first_feed rest)) }
+    by_tests false false e r = record {
+      first = b ∷ [];
+      more = [];
+      lines_are = rw (e, r) (ap (with_byte b) (first_feed rest));
+    }
 lines_ahead (b ∷ c ∷ front) rest =
     by_tests (b == 10) (b == 13) (c == 10) refl refl refl (lines_ahead (c ∷ front) rest) (lines_ahead front rest)
   where
@@ -226,7 +235,8 @@ pub enters_from_main : (guest : Text) (two : Bool) (said : List Line) → IsProg
 enters_from_main guest two said p =
     let e = ends_with guest (text_of_lines last_texts) two said p in
     let last : e.behind ≡ last_lines e.number =
-    read_once (lines_from two e.number last_texts) e.behind (last_lines e.number) e.read (last_read two e.number e.few) in
+    read_once (lines_from two e.number last_texts) e.behind (last_lines e.number) e.read
+    (last_read two e.number e.few) in
     let all : said ≡ e.before ++ last_lines e.number = e.said_are ∙ ap (λ (ls : List Line). e.before ++ ls) last in
     record {
       enters = record {

@@ -49,3 +49,4 @@ pub mod GuestNames
 pub mod GuestTexts
 pub mod GuestStands
 pub mod GuestRuns
+pub mod GuestSample

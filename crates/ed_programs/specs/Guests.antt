@@ -60,26 +60,26 @@ entry_guest z lines first =
     record (entry_state z lines) { counter = operand_number (homes_of lines) None first; orders = 0 }
 
 -- the first q orders of a guest are allowed and obeyed, none of them is a stop, and the next one is an allowed Z
-pub record ComesToZ (base q : ℕ) (g : State) : Type 0 where
+pub record StopsAtZ (base q : ℕ) (g : State) : Type 0 where
   pub followed : IsFollowed base q g
   pub stops : StopsAfter q g
   pub allowed : IsAllowed base (state_after q g)
 
--- the orders that the machine obeys for the first q orders of a guest, the last of which is its Z: the sum of their
--- turns without the orders that save after it
+-- the orders that the machine obeys for the first q orders of a guest. The last one is its Z, so this is the sum of
+-- their turns without the orders that save after a turn
 abbrev pub stopped_orders : State → ℕ → ℕ
 stopped_orders g q = checked_orders g q - saving_orders
 
 -- ---- the law
 
 -- the program is entered where the routine stands, and the guest that the routine finds there is the machine with its
--- counter at H. If that guest comes to a Z after q orders, and the paper has room, the run prints the checked codes of
+-- counter at H. If that guest stops at a Z after q orders, and the paper has room, the run prints the checked codes of
 -- these orders and of the Z, in exactly their turns, and stops at the routine's planting place
 pub record ChecksGuest (s : Settings) (source : Text) (lines : List Line) (c : EntersChecker lines) : Type 0 where
   pub entry : entry_of lines ≡ checker_base c.before
   pub finds : operand_number (homes_of lines) None c.first < 1024
       → guest (checker_base c.before) (entry_state s.size lines) ≡ entry_guest s.size lines c.first
-  pub runs : (q : ℕ) → ComesToZ (checker_base c.before) q (entry_guest s.size lines c.first)
+  pub runs : (q : ℕ) → StopsAtZ (checker_base c.before) q (entry_guest s.size lines c.first)
       → length (checked_codes (entry_guest s.size lines c.first) (suc q)) ≤ paper_room
       → SourceRuns s source (stopped_orders (entry_guest s.size lines c.first) (suc q))
       (checker_base c.before + planting_place + 1) (paper (checked_codes (entry_guest s.size lines c.first) (suc q)))
@@ -106,3 +106,13 @@ abbrev pub ChecksItsGuest : Result (String Global) Refusal → Type 0
 ChecksItsGuest (Ok program) = (s : Settings) (lines : List Line) → IsAcceptedAs s.size (string_bytes program) lines
     → ChecksFromMain s (string_bytes program) lines
 ChecksItsGuest (Err refusal) = Unit {0}
+
+-- ---- one guest
+
+-- a guest of three lines, which prints A and stops
+abbrev pub sample_guest : Text
+sample_guest = codes "segment main" ++ 10 ∷ codes "O letter F" ++ 10 ∷ codes "Z F" ++ 10 ∷ codes "letter: A F"
+
+-- its source is accepted, and the run prints O with the letter that this order prints, and Z
+abbrev pub SampleIsChecked : Type 0
+SampleIsChecked = (s : Settings) → SourceRuns s (checked_text sample_guest) 54 101 (codes "OAZ")

@@ -1,5 +1,5 @@
 ghost use Rattle.std.specs.Prelude.{None};
-ghost use Rattle.ed_programs.specs.Guests.{ChecksItsGuest, EachGuestIsChecked, checked_text};
+ghost use Rattle.ed_programs.specs.Guests.{ChecksItsGuest, EachGuestIsChecked, SampleIsChecked, checked_text};
 ghost use Rattle.ed_programs.specs.Programs.{GivesProgram};
 
 use crate::refusal::{Refusal, program_of_text};
@@ -11,6 +11,7 @@ pub fn checked_program(alloc: Global, guest: &str) -> Result<String, Refusal>
     ensures is { GivesProgram None (checked_text guest.now) result }
     ensures law { ChecksItsGuest result }
     ensures sources { EachGuestIsChecked }
+    ensures sample { SampleIsChecked }
 {
     program_of_text(format!(in alloc;
         "{guest}\n\
