@@ -5,6 +5,8 @@
 #![tactic(auto)]
 
 #[cfg(test)]
+mod guests;
+#[cfg(test)]
 mod programs;
 #[cfg(test)]
 mod support;

@@ -52,3 +52,8 @@ pub mod TwoPartsRuns
 pub mod InterludeLoads
 pub mod InterludeEnds
 pub mod InterludeRuns
+pub mod GuestNames
+pub mod GuestTexts
+pub mod GuestStands
+pub mod GuestRuns
+pub mod GuestSample

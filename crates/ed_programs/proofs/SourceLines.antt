@@ -27,7 +27,7 @@ pub data Says (two : Bool) : ℕ → List Text → List Line → Type 0 where
       → Says two k (line ∷ lines) (l ∷ program)
 
 -- lines that say so are read so, if there are at most 2000
-said_lines : {two : Bool} {k : ℕ} {lines : List Text} {program : List Line} → Says two k lines program
+pub said_lines : {two : Bool} {k : ℕ} {lines : List Text} {program : List Line} → Says two k lines program
     → k + length lines ≤ 2001 → lines_from two k lines ≡ Ok program
 said_lines ends few = refl
 said_lines {two} {k} (says {line = line} {lines = lines} {program = program} here rest) few =

@@ -13,3 +13,4 @@ pub mod FirstTapes
 pub mod Squares
 pub mod TwoParts
 pub mod Interlude
+pub mod Guests

@@ -6,6 +6,7 @@
 #![tactic(auto)]
 
 mod add;
+mod checked;
 mod difference;
 mod fraction;
 mod greatest;
@@ -18,6 +19,7 @@ mod sort;
 mod squares;
 
 pub use add::add_program;
+pub use checked::checked_program;
 pub use difference::difference_program;
 pub use fraction::fraction_program;
 pub use greatest::greatest_program;

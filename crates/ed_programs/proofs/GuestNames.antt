@@ -1,0 +1,179 @@
+-- A source that enters the checking routine is entered where the routine stands.
+use Rattle.std.proofs.Common.{◌≡◌, ◌∙◌, inl, inr, ℕ, refl, sym, ap, subst, Bool, true, false, true≢false}
+use Rattle.std.proofs.Common.{List, [], ◌∷◌, ◌++◌, append_assoc, if◌then◌else◌}
+use Rattle.std.specs.Prelude.{Option, Some, None, not, ◌&&◌, ◌||◌, is_some, option_map, unwrap_or}
+use Rattle.std.specs.Str.{bytes_eq}
+use Rattle.std.proofs.lemmas.Slice.Eq.{bytes_eq-Decides}
+use Rattle.ed_words.specs.declared.size.Size.{Size}
+use Rattle.ed_syntax.specs.declared.program.Statement.{Statement}
+use Rattle.ed_syntax.specs.declared.program.Statement.TheVariants.{Segment, Order, Number, Text, Long, Fetch, Enter}
+use Rattle.ed_syntax.specs.declared.program.Statement.TheVariants.{Rows}
+use Rattle.ed_syntax.specs.declared.program.Line.{Line}
+use Rattle.ed_syntax.specs.declared.fault.SourceCause.TheVariants as causes
+use Rattle.ed_symbols.specs.declared.spots.Spot.{Spot}
+use Rattle.ed_symbols.specs.declared.homes.Home.{Home}
+use Rattle.ed_symbols.specs.Places.{first_spot, passed}
+use Rattle.ed_symbols.specs.Names.{defined, home_of, home_place, homes_from, is_home, is_local, label_home, listed}
+use Rattle.ed_symbols.specs.Names.{name_home, place_on, same_segment}
+use Rattle.ed_symbols.specs.Faults.{defines_again, is_again}
+use Rattle.ed_symbols.specs.NameFaults.{spot_after, spot_from}
+use Rattle.ed_symbols.proofs.AgainSentences.{s6}
+use Rattle.ed_link.specs.Faults.{HasEnter, HasNoFault, IsData, on_line}
+use Rattle.ed_link.specs.Linked.{entered_place, entry_from, entry_of, homes_of}
+use Rattle.ed_programs.specs.Guests.{EntersChecker, checker_base}
+
+-- ---- the line that enters
+
+-- a line that is no `enter` leaves the entry to the lines after it
+other_line : (homes : List Home) (st : Option Statement) (later : ℕ)
+    → ((name : List ℕ) → st ≡ Some (Enter name) → ⊥) → entered_place homes st later ≡ later
+other_line homes None later none = refl
+other_line homes (Some (Segment n b)) later none = refl
+other_line homes (Some (Order f o d)) later none = refl
+other_line homes (Some (Number v)) later none = refl
+other_line homes (Some (Text codes)) later none = refl
+other_line homes (Some (Long v)) later none = refl
+other_line homes (Some (Fetch r n ts)) later none = refl
+other_line homes (Some (Enter n)) later none = absurd (none n refl)
+other_line homes (Some (Rows codes)) later none = refl
+
+-- and so do lines without one
+first_enter : (homes : List Home) (ahead rest : List Line) → (HasEnter ahead → ⊥)
+    → entry_from homes (ahead ++ rest) ≡ entry_from homes rest
+first_enter homes [] rest none = refl
+first_enter homes (l ∷ ahead) rest none =
+    other_line homes l.statement (entry_from homes (ahead ++ rest))
+    (λ name e. none ([], l, record { after = ahead; lines_are = refl }, (name, e)))
+    ∙ first_enter homes ahead rest (λ h. none (
+      l ∷ h.0,
+      h.1,
+      record { after = h.2.after; lines_are = ap (λ (x : List Line). l ∷ x) h.2.lines_are },
+      h.3,
+    ))
+
+-- ---- the name
+
+-- what lines define, and what more lines do
+homes_append : (s : Spot) (xs ys : List Line)
+    → homes_from s (xs ++ ys) ≡ homes_from s xs ++ homes_from (spot_from s xs) ys
+homes_append s [] ys = refl
+homes_append s (x ∷ xs) ys =
+    ap (λ (hs : List Home). defined x s ++ hs) (homes_append (passed x.statement s) xs ys)
+    ∙ sym (append_assoc (defined x s) (homes_from (passed x.statement s) xs)
+    (homes_from (spot_from (passed x.statement s) xs) ys))
+
+-- a name that isn't defined by the first ones
+later_home : (g : Option ℕ) (name : List ℕ) (hs rest : List Home) → is_some (home_of g name hs) ≡ false
+    → home_of g name (hs ++ rest) ≡ home_of g name rest
+later_home g name [] rest none = refl
+later_home g name (h ∷ hs) rest none = by_test (is_home g name h) none (later_home g name hs rest)
+  where
+    by_test : (t : Bool) → is_some (if t then Some h else home_of g name hs) ≡ false
+        → (is_some (home_of g name hs) ≡ false → home_of g name (hs ++ rest) ≡ home_of g name rest)
+        → (if t then Some h else home_of g name (hs ++ rest)) ≡ home_of g name rest
+    by_test true none more = absurd (true≢false none)
+    by_test false none more = more none
+
+-- a line outside all segments sees no local name
+no_local : (a : Option ℕ) → same_segment a None ≡ false
+no_local None = refl
+no_local (Some k) = refl
+
+local_unseen : (name : List ℕ) → is_local name ≡ true → (hs : List Home) → home_of None name hs ≡ None
+local_unseen name e [] = refl
+local_unseen name e (h ∷ hs) =
+    let inside = no_local h.segment in
+    by_test (bytes_eq h.name name) (is_local name) (same_segment h.segment None) e inside (local_unseen name e hs)
+  where
+    by_test : (t is same : Bool) → is ≡ true → same ≡ false → home_of None name hs ≡ None
+        → (if t && (not is || same) then Some h else home_of None name hs) ≡ None
+    by_test true true false e inside rest = rest
+    by_test true true true e inside rest = absurd (true≢false inside)
+    by_test true false same e inside rest = absurd (true≢false (sym e))
+    by_test false is same e inside rest = rest
+
+or_false : (x y : Bool) → (x || y) ≡ false → y ≡ false
+or_false true y h = absurd (true≢false h)
+or_false false y h = h
+
+not_so : (b : Bool) → (b ≡ true → ⊥) → b ≡ false
+not_so true h = absurd (h refl)
+not_so false h = refl
+
+module _ (z : Size) (lines : List Line) (faultless : HasNoFault z lines) (c : EntersChecker lines) where
+  -- no line before the one that enters is an `enter`
+  none_ahead : HasEnter c.ahead → ⊥
+  none_ahead h =
+      faultless _ causes.Enter
+      (on_line c.follows (inl (
+        h,
+        λ empty. clash (sym empty.1 ∙ c.enters),
+        λ rows. subst IsData c.enters rows,
+      )))
+    where
+      clash : ◌≡◌ {A = Option Statement} None (Some (Enter c.name)) → ⊥
+      clash e = absurd (cc)
+
+  entered : entry_of lines ≡ unwrap_or (place_on (homes_of lines) None c.name) 0
+  entered =
+      ap (entry_from (homes_of lines)) c.follows.lines_are
+      ∙ first_enter (homes_of lines) c.ahead (c.entering ∷ c.follows.after) none_ahead
+      ∙ ap (λ st. entered_place (homes_of lines) st (entry_from (homes_of lines) c.follows.after)) c.enters
+
+  -- the name that is entered has a place, so it is not local
+  is_global : is_local c.name ≡ false
+  is_global = not_so (is_local c.name) (λ e.
+      faultless _ causes.LabelUnknown
+      (on_line c.follows (inr (c.name, c.enters, ap (option_map home_place) (local_unseen c.name e (homes_of lines))))))
+
+  abbrev spot : Spot
+  spot = spot_after c.before
+
+  abbrev home : Home
+  home = record { name = c.name; place = checker_base c.before; segment = None }
+
+  abbrev labels : List Home
+  labels = listed (label_home c.using.label c.using.statement spot)
+
+  abbrev earlier : List Home
+  earlier = homes_from first_spot c.before
+
+  names : name_home c.using.statement spot ≡ Some home
+  names = ap (λ st. name_home st spot) c.uses
+
+  -- no line up to the `use` defines its name
+  new : is_some (home_of None c.name (earlier ++ labels)) ≡ false
+  new =
+      let once : (defines_again earlier c.using spot ≡ true) → ⊥ =
+      λ t. faultless _ causes.LabelTwice (on_line c.stands ((s6 c.before c.using).says t)) in
+      let again : is_again (earlier ++ labels) (name_home c.using.statement spot) ≡ false =
+      or_false (is_again earlier (label_home c.using.label c.using.statement spot)) _
+      (not_so (defines_again earlier c.using spot) once) in
+      sym (ap (is_again (earlier ++ labels)) names) ∙ again
+
+  abbrev later : List Home
+  later = homes_from (passed c.using.statement spot) c.stands.after
+
+  all_homes : homes_of lines ≡ (earlier ++ labels) ++ home ∷ later
+  all_homes =
+      ap (homes_from first_spot) c.stands.lines_are
+      ∙ homes_append first_spot c.before (c.using ∷ c.stands.after)
+      ∙ ap (λ (o : Option Home). earlier ++ ((labels ++ listed o) ++ later)) names
+      ∙ ap (λ (hs : List Home). earlier ++ hs) (append_assoc labels (home ∷ []) later)
+      ∙ sym (append_assoc earlier labels (home ∷ later))
+
+  itself : home_of None c.name (home ∷ later) ≡ Some home
+  itself =
+      let same : bytes_eq c.name c.name ≡ true = (bytes_eq-Decides c.name c.name).1 refl in
+      let global = is_global in
+      rw (same, global) refl
+
+  pub placed : place_on (homes_of lines) None c.name ≡ Some (checker_base c.before)
+  placed =
+      ap (option_map home_place)
+      (ap (home_of None c.name) all_homes
+      ∙ later_home None c.name (earlier ++ labels) (home ∷ later) new
+      ∙ itself)
+
+  pub entry_is : entry_of lines ≡ checker_base c.before
+  entry_is = entered ∙ ap (λ (o : Option ℕ). unwrap_or o 0) placed

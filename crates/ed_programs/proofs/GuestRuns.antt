@@ -1,0 +1,179 @@
+-- What the command `run` owes a source that enters the checking routine.
+use Rattle.std.proofs.Common.{◌≡◌, inl, inr, ℕ, zero, suc, ◌+◌, ◌<◌, ◌≤◌, refl, sym, ap, subst, arith}
+use Rattle.std.proofs.Common.{true, true≢false, List, length}
+use Rattle.std.specs.Prelude.{None, Result, Ok, Err, String, string_bytes}
+use Rattle.std.specs.declared.alloc.Global.{Global}
+use Rattle.std.proofs.lemmas.Bool.{cases_lt}
+use Rattle.ed_words.specs.Sizes.{locations}
+use Rattle.ed_words.proofs.SizeLemmas.{most}
+use Rattle.ed_words.specs.Texts.{Text}
+use Rattle.ed_machine.specs.State.{State}
+use Rattle.ed_machine.specs.OrderTable.{step}
+use Rattle.ed_machine.specs.Steps.{IsFree, Past, is_obeyed, past, state_after, stops_of}
+use Rattle.ed_machine.specs.declared.turn.Turn.{Turn}
+use Rattle.ed_machine.specs.declared.turn.Turn.TheVariants.{Went, Printed, Stopped, NoOrder, NoTape}
+use Rattle.ed_machine.proofs.Steps.{no_step}
+use Rattle.ed_paths.proofs.Leads.{goes_on}
+use Rattle.ed_routines.proofs.Journeys.{ComesToStop}
+use Rattle.ed_syntax.specs.Sources.{IsProgram}
+use Rattle.ed_syntax.specs.declared.program.Line.{Line}
+use Rattle.ed_link.specs.Linked.{homes_of, operand_number}
+use Rattle.ed_link.specs.Refusals.{IsAcceptedAs}
+use Rattle.ed_loads.specs.EntryState.{entry_state}
+use Rattle.ed_printer.specs.Paper.{paper}
+use Rattle.ed_checker.specs.Checker.{checked_codes, checked_orders, guest, planting_place}
+use Rattle.ed_checker.specs.Laws.{ChecksToStop, HasGuest}
+use Rattle.ed_checker.proofs.Follow.{checker_law}
+use Rattle.ed_sources.proofs.Stops.{StopsAt, halted}
+use Rattle.ed_command.specs.declared.command.Settings.{Settings}
+use Rattle.ed_top.specs.Headline.{RunsFromEntry}
+use Rattle.ed_top.specs.Sources.{OfSource, run_outcome}
+use Rattle.ed_top.proofs.Sources.{accepted_is, headline}
+use Rattle.ed_top.proofs.Stopped.{stopped_outcome}
+use Rattle.ed_programs.specs.Guests.{ChecksGuest, StopsAtZ, EachGuestIsChecked, EntersChecker}
+use Rattle.ed_programs.specs.Guests.{checker_base, entry_guest}
+use Rattle.ed_programs.specs.Guests.{ChecksItsGuest, checked_text, stopped_orders}
+use Rattle.ed_programs.specs.Programs.{GivesProgram, SourceRuns}
+use Rattle.ed_programs.specs.declared.refusal.Refusal.{Refusal}
+use Rattle.ed_programs.proofs.GuestNames.{entry_is}
+use Rattle.ed_programs.proofs.GuestStands.{guest_is, has_guest}
+use Rattle.ed_programs.proofs.GuestTexts.{enters_from_main, source_short}
+
+-- ---- the machine stops at the guest's Z
+
+-- orders that are obeyed, none of them a stop, go on
+goes_of : (turn : Turn) → is_obeyed turn ≡ true → stops_of turn ≡ 0 → goes_on turn ≡ true
+goes_of Went o e = refl
+goes_of (Printed code) o e = refl
+goes_of Stopped o e = absurd (omega (arith, e))
+goes_of (NoOrder function) o e = absurd (true≢false (sym o))
+goes_of NoTape o e = absurd (true≢false (sym o))
+
+all_go : (k : ℕ) (s : State) → IsFree k s → (past k s).stops ≡ 0 → (j : ℕ) → j < k
+    → goes_on (step (state_after j s)).turn ≡ true
+unfolding past
+all_go zero s free none j l = absurd (omega arith)
+all_go (suc k) s free none j l =
+    elim (cases_lt j k) [
+      | inl below ↦ all_go k s (λ i m. free i (omega arith)) (omega (arith, none)) j below
+      | inr here ↦
+          let e : k ≡ j = omega arith in
+          subst (λ i. goes_on (step (state_after i s)).turn ≡ true) e
+          (goes_of (step (state_after k s)).turn (free k (omega arith)) (omega (arith, none)))
+    ]
+
+stops_at : (base q : ℕ) (m : State) (c : ChecksToStop base q m)
+    → StopsAt c.count m (checked_codes (guest base m) q) (base + planting_place)
+stops_at base q m c = record {
+  to_stop = record {
+    last = c.last;
+    leads = record {
+      state_is = ap (λ (p : Past). p.state) c.ran.is;
+      codes_are = ap (λ (p : Past). p.codes) c.ran.is;
+      goes = all_go c.count m c.ran.free (ap (λ (p : Past). p.stops) c.ran.is);
+    };
+    stops = c.stops;
+  };
+  counter = c.counter;
+}
+
+-- the machine stops there after the turns of its guest
+record Checked (base q : ℕ) (m g : State) : Type 0 where
+  count : ℕ
+  exact : count + 17 ≡ checked_orders g (suc q)
+  comes : ComesToStop count m (checked_codes g (suc q)) (base + planting_place + 1)
+
+checked_to_stop : (base q : ℕ) (m : State) → HasGuest base m → StopsAtZ base q (guest base m)
+    → Checked base q m (guest base m)
+checked_to_stop base q m has z =
+    let c = checker_law.to_stop base q m has z.followed z.stops z.allowed in
+    let there = stops_at base (suc q) m c in
+    let room = has.room in
+    let end = halted there (omega (arith, room)) in
+    let exact = c.exact in
+    record {
+      count = c.count;
+      exact = omega (arith, exact);
+      comes = record {
+        last = there.to_stop.last;
+        leads = there.to_stop.leads;
+        stops = there.to_stop.stops;
+        counter = end.counter;
+        orders = end.orders;
+      };
+    }
+
+-- the guest's first order is in the store
+first_below : (base q : ℕ) (g : State) → StopsAtZ base q g → g.counter + 1 < locations g.size
+first_below base zero g z = subst (λ (x : State). x.counter + 1 < locations x.size) (sym (no_step g)) z.allowed.next
+first_below base (suc q) g z =
+    subst (λ (x : State). x.counter + 1 < locations x.size) (sym (no_step g))
+    (z.followed.allowed 0 (omega arith)).next
+
+-- ---- the law
+
+module _ (s : Settings) (source : Text) (lines : List Line) (c : EntersChecker lines)
+    (accepted : IsAcceptedAs s.size source lines) where
+  abbrev base : ℕ
+  base = checker_base c.before
+
+  abbrev m : State
+  m = entry_state s.size lines
+
+  abbrev g : State
+  g = entry_guest s.size lines c.first
+
+  -- the guest of the machine is the guest of the source
+  stopped : (q : ℕ) → StopsAtZ base q g → Checked base q m g
+  stopped q z =
+      let size = most s.size in
+      let next = first_below base q g z in
+      let low : operand_number (homes_of lines) None c.first < 1024 = omega (arith, next, size) in
+      let same = guest_is s.size source lines accepted c low in
+      subst (λ (x : State). Checked base q m x) same
+      (checked_to_stop base q m (has_guest s.size source lines accepted c low)
+      (subst (StopsAtZ base q) (sym same) z))
+
+  entry : RunsFromEntry s lines
+  entry = headline s source lines accepted
+
+  runs : (q : ℕ) → StopsAtZ base q g → length (checked_codes g (suc q)) ≤ 1000000
+      → SourceRuns s source (stopped_orders g (suc q)) (base + planting_place + 1) (paper (checked_codes g (suc q)))
+  runs q z few =
+      let o = stopped q z in
+      let exact = o.exact in
+      let count : o.count + 1 ≡ stopped_orders g (suc q) = omega (arith, exact) in
+      subst (λ k. SourceRuns s source k (base + planting_place + 1) (paper (checked_codes g (suc q)))) count (record {
+        lines = lines;
+        accepted = accepted;
+        from_entry = entry;
+        outcome = λ none plain fits. inl (
+          source_short source accepted.two lines accepted.says,
+          subst (OfSource s.size (run_outcome s) source) (stopped_outcome s entry o.comes few none plain fits)
+              (accepted_is s.size (run_outcome s) source lines accepted),
+        );
+      })
+
+  pub checks : ChecksGuest s source lines c
+  checks = record {
+    entry = entry_is s.size lines accepted.faultless c;
+    finds = guest_is s.size source lines accepted c;
+    runs = runs;
+  }
+
+pub each_guest : EachGuestIsChecked
+each_guest = checks
+
+-- so it is of the source that is made for a guest
+pub checks_from_main : (program : Result (String Global) Refusal) (text : Text)
+    → GivesProgram None (checked_text text) program → ChecksItsGuest program
+checks_from_main (Err refusal) text gives = tt
+checks_from_main (Ok program) text gives = λ s lines accepted.
+    let says : IsProgram (checked_text text) accepted.two lines =
+    subst (λ (t : Text). IsProgram t accepted.two lines) gives.1 accepted.says in
+    let main = enters_from_main text accepted.two lines says in
+    record {
+      enters = main.enters;
+      first = main.first;
+      checks = checks s (string_bytes program) lines main.enters accepted;
+    }

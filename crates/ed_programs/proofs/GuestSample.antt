@@ -1,0 +1,195 @@
+-- A guest of three lines, for which all that the law asks is shown: it prints A and stops.
+use Rattle.std.proofs.Common.{◌≡◌, ◌∙◌, inl, ℕ, zero, suc, ◌+◌, ◌-◌, ◌*◌, ◌/◌, ◌^◌, ◌<◌, ◌≤◌}
+use Rattle.std.proofs.Common.{refl, sym, ap, subst, arith, lit<, lit≤}
+use Rattle.std.proofs.Common.{true, false, List, [], ◌∷◌, ◌++◌, length, take, Some, codes, pos}
+use Rattle.std.specs.Prelude.{None, Ok, unwrap_or}
+use Rattle.ed_words.specs.declared.size.Size.{Size}
+use Rattle.ed_words.specs.declared.size.Size.TheVariants.{Small, Full}
+use Rattle.ed_words.specs.Words.{function_of}
+use Rattle.ed_words.proofs.SizeLemmas.{least}
+use Rattle.ed_words.specs.Texts.{Text}
+use Rattle.ed_store.specs.Cells.{short_at}
+use Rattle.ed_orders.specs.Kinds.{kind_of_function}
+use Rattle.ed_orders.specs.declared.kind.Kind.TheVariants.{O}
+use Rattle.ed_machine.specs.State.{State}
+use Rattle.ed_machine.specs.OrderTable.{next_word, obey_word, step}
+use Rattle.ed_machine.specs.Steps.{codes_of, is_obeyed, past, state_after, stops_of}
+use Rattle.ed_machine.specs.declared.turn.Turn.TheVariants.{Printed, Stopped}
+use Rattle.ed_machine.proofs.Steps.{no_step}
+use Rattle.ed_notation.specs.Fold.{placed_at}
+use Rattle.ed_library.specs.Images.{parameter_store}
+use Rattle.ed_syntax.specs.Private.Grammar.{settings}
+use Rattle.ed_syntax.specs.Private.SourceReading.{program_of}
+use Rattle.ed_syntax.specs.declared.program.Operand.TheVariants.{Label}
+use Rattle.ed_syntax.specs.declared.program.Statement.TheVariants.{Enter}
+use Rattle.ed_syntax.specs.declared.program.Line.{Line}
+use Rattle.ed_link.specs.Private.FaultTests.{fault}
+use Rattle.ed_link.proofs.EachSource.{read_is_accepted}
+use Rattle.ed_checker.specs.Checker.{IsAllowed, IsAllowedOrder, checked_codes, checked_orders, orders_by}
+use Rattle.ed_sources.specs.Calls.{text_of_lines}
+use Rattle.ed_sources.proofs.AtEntry.{placed, word_at}
+use Rattle.ed_printer.specs.Paper.{paper}
+use Rattle.ed_programs.specs.Guests.{EntersChecker, SampleIsChecked, StopsAtZ, entry_guest, use_check}
+use Rattle.ed_programs.specs.Guests.{stopped_orders}
+use Rattle.ed_programs.specs.Programs.{SourceRuns}
+use Rattle.ed_programs.proofs.GuestRuns.{each_guest}
+use Rattle.ed_programs.proofs.NumberLines.{use_mark}
+use Rattle.ed_programs.proofs.SourceLines.{AreMarked, Marked, lines_said, source_read}
+
+-- ---- the source
+
+abbrev texts : List Text
+texts =
+    codes "segment main"
+    ∷ codes "O letter F"
+    ∷ codes "Z F"
+    ∷ codes "letter: A F"
+    ∷ codes "use check as c with H=main"
+    ∷ codes "enter c"
+    ∷ []
+
+abbrev marks : List Marked
+marks = use_mark 5 (codes "check") (codes "c") (codes "main") ∷ []
+
+abbrev lines : List Line
+lines = lines_said false 1 texts marks
+
+marked : AreMarked false texts marks
+unfolding settings
+marked = (refl, tt)
+
+read : program_of (text_of_lines texts) ≡ Ok lines
+read = source_read false texts marks refl refl refl marked (lit≤ tt)
+
+faultless : (z : Size) → fault z lines ≡ None
+faultless Small = refl
+faultless Full = refl
+
+abbrev using : Line
+using = record { number = 5; label = None; statement = use_check (codes "c") (Label (codes "main") (pos 0)) }
+
+abbrev entering : Line
+entering = record { number = 6; label = None; statement = Some (Enter (codes "c")) }
+
+abbrev enters : EntersChecker lines
+enters = record {
+  name = codes "c";
+  first = Label (codes "main") (pos 0);
+  before = take 4 lines;
+  using = using;
+  stands = record { after = entering ∷ []; lines_are = refl };
+  uses = refl;
+  ahead = take 5 lines;
+  entering = entering;
+  follows = record { after = []; lines_are = refl };
+  enters = refl;
+}
+
+module _ (z : Size) where
+  -- ---- its two orders
+
+  abbrev g : State
+  g = entry_guest z lines (Label (codes "main") (pos 0))
+
+  word : (a : ℕ) → 44 ≤ a → a < 1024 → short_at g.store a ≡ unwrap_or (placed_at (placed lines) a) 0
+  word = word_at z lines refl
+
+  -- O 58 F
+  first_word : next_word g ≡ 36980
+  unfolding parameter_store
+  first_word = word 56 (lit≤ tt) (lit< tt)
+
+  letter : short_at g.store 58 ≡ 114688
+  unfolding parameter_store
+  letter = word 58 (lit≤ tt) (lit< tt)
+
+  first_turn : (step g).turn ≡ Printed 28
+  unfolding step
+  first_turn =
+      ap (λ w. (obey_word (kind_of_function (function_of w)) w g).turn) first_word
+      ∙ ap (λ w. Printed (w * 2 ^ 18 / 2 ^ 30)) letter
+
+  abbrev second : State
+  second = (obey_word (Some O) 36980 g).state
+
+  second_is : state_after 1 g ≡ second
+  unfolding past step
+  second_is = ap (λ w. (obey_word (kind_of_function (function_of w)) w g).state) first_word
+
+  -- Z F
+  second_word : next_word second ≡ 53248
+  unfolding parameter_store
+  second_word = word 57 (lit≤ tt) (lit< tt)
+
+  second_turn : (step second).turn ≡ Stopped
+  unfolding step
+  second_turn = ap (λ w. (obey_word (kind_of_function (function_of w)) w second).turn) second_word
+
+  -- ---- what the law asks of it
+
+  first_allowed : IsAllowed 60 g
+  first_allowed =
+      let size = least z in
+      record {
+        outside = inl (lit< tt);
+        next = omega arith;
+        order = subst (λ w. IsAllowedOrder (kind_of_function (function_of w)) 60 w z) (sym first_word) (inl (lit< tt));
+      }
+
+  second_allowed : IsAllowed 60 second
+  second_allowed =
+      let size = least z in
+      record {
+        outside = inl (lit< tt);
+        next = omega arith;
+        order = subst (λ w. IsAllowedOrder (kind_of_function (function_of w)) 60 w z) (sym second_word) tt;
+      }
+
+  allowed : (j : ℕ) → j < 1 → IsAllowed 60 (state_after j g)
+  allowed zero l = subst (IsAllowed 60) (no_step g) first_allowed
+  allowed (suc j) l = absurd (omega arith)
+
+  obeyed : (j : ℕ) → j < 1 → is_obeyed (step (state_after j g)).turn ≡ true
+  obeyed zero l = ap (λ (x : State). is_obeyed (step x).turn) (sym (no_step g)) ∙ ap is_obeyed first_turn
+  obeyed (suc j) l = absurd (omega arith)
+
+  no_stops : (past 1 g).stops ≡ 0
+  unfolding past
+  no_stops = ap (λ t. 0 + stops_of t) first_turn
+
+  after_first : (step (state_after 1 g)).turn ≡ Stopped
+  after_first = ap (λ (x : State). (step x).turn) second_is ∙ second_turn
+
+  stops : StopsAtZ 60 1 g
+  stops = record {
+    followed = record { allowed = allowed; obeyed = obeyed };
+    stops = record { free = obeyed; no_stops = no_stops; stops = after_first };
+    allowed = subst (IsAllowed 60) (sym second_is) second_allowed;
+  }
+
+  -- ---- what is printed, and in how many orders
+
+  next : next_word (state_after 1 g) ≡ 53248
+  next = ap next_word second_is ∙ second_word
+
+  codes_are : checked_codes g 2 ≡ 9 ∷ 28 ∷ 13 ∷ []
+  unfolding checked_codes past
+  codes_are = λ i.
+      ([] ++ (function_of (first_word i) ∷ codes_of (first_turn i)))
+      ++ (function_of (next i) ∷ codes_of (after_first i))
+
+  orders_are : stopped_orders g 2 ≡ 54
+  unfolding checked_orders past
+  orders_are = λ i.
+      0 + orders_by (function_of (first_word i)) g.acc
+      + orders_by (function_of (next i)) (state_after 1 g).acc - 16
+
+pub sample_is_checked : SampleIsChecked
+sample_is_checked s =
+    let z = s.size in
+    let source = text_of_lines texts in
+    let accepted = read_is_accepted z source lines read (faultless z) in
+    let few = subst (λ (cs : List ℕ). length cs ≤ 1000000) (sym (codes_are z)) (lit≤ tt) in
+    let runs = (each_guest s source lines enters accepted).runs 1 (stops z) few in
+    subst (λ k. SourceRuns s source k 101 (codes "OAZ")) (orders_are z)
+    (subst (λ (cs : List ℕ). SourceRuns s source (stopped_orders (g z) 2) 101 (paper cs)) (codes_are z) runs)

@@ -1,0 +1,233 @@
+-- At the entry of a source that enters the checking routine the routine stands, and finds the guest at H.
+use Rattle.std.proofs.Common.{◌≡◌, ◌∙◌, ℕ, zero, suc, ◌+◌, ◌-◌, ◌*◌, ◌/◌, ◌%◌, ◌^◌, ◌<◌, ◌≤◌}
+use Rattle.std.proofs.Common.{refl, sym, ap, subst, arith, lit<}
+use Rattle.std.proofs.Common.{Bool, true, false, true≢false, ◌&&◌, ◌||◌, nat_eq, nat_le, List}
+use Rattle.std.proofs.Common.{◌++◌, get_or, length, map, Some}
+use Rattle.std.specs.Prelude.{◌==◌, None, if◌then◌else◌, position, slice_index}
+use Rattle.std.proofs.lemmas.Bool.{and_parts}
+use Rattle.std.proofs.lemmas.Bool.Decides.{nat_tests}
+use Rattle.std.proofs.lemmas.List.{get_or-replicate}
+use Rattle.std.proofs.lemmas.List.Quantifiers.{position-Some}
+use Rattle.std.proofs.Math.ListN.{get_or-map}
+use Rattle.ed_words.specs.declared.size.Size.{Size}
+use Rattle.ed_words.specs.Sizes.{locations}
+use Rattle.ed_words.specs.Words.{address_of, joined}
+use Rattle.ed_words.proofs.SizeLemmas.{least, most}
+use Rattle.ed_words.specs.Texts.{Text}
+use Rattle.ed_codes.specs.Spelling.{letters, row_of}
+use Rattle.ed_codes.specs.Text.{Spells, none, row, spacing, comment}
+use Rattle.ed_codes.specs.Reading.{IsReadingOf, reading, rows}
+use Rattle.ed_codes.proofs.Below.{from_below}
+use Rattle.ed_codes.proofs.Every.{every_text}
+use Rattle.ed_store.specs.Cells.{even, long_at, odd, sandwich_at, short_at}
+use Rattle.ed_machine.specs.State.{State}
+use Rattle.ed_machine.specs.Sound.{IsSound}
+use Rattle.ed_machine.proofs.SoundSteps.{sound_after}
+use Rattle.ed_notation.specs.declared.item.Item.{Item}
+use Rattle.ed_library.specs.Entries.{entry}
+use Rattle.ed_library.specs.Images.{image_word, parameter_store, routine_word}
+use Rattle.ed_library.specs.Routines.{is_working, routine_item, table_item}
+use Rattle.ed_syntax.specs.declared.program.Line.{Line}
+use Rattle.ed_symbols.specs.NameFaults.{spot_after}
+use Rattle.ed_notation.specs.Spellings.{canonicals, text_of}
+use Rattle.ed_link.specs.Linked.{data_behind, first_place, homes_of, operand_number}
+use Rattle.ed_link.specs.Punch.{punched}
+use Rattle.ed_link.specs.Refusals.{IsAcceptedAs}
+use Rattle.ed_link.specs.Tapes.{after_text, cost, tape}
+use Rattle.ed_link.specs.Words.{LinePlaces, words_of_line}
+use Rattle.ed_link.proofs.PunchedTexts.{text_is_tape}
+use Rattle.ed_link.proofs.WordLaws.{each_word_stands}
+use Rattle.ed_loads.specs.EntryState.{entry_state, first_state}
+use Rattle.ed_loads.proofs.Entries.{each_source, first_store}
+use Rattle.ed_loads.proofs.EntryWords.{each_entry_has_words}
+use Rattle.ed_routines.specs.Catalogue.{with_h}
+use Rattle.ed_checker.specs.Checker.{HasImage, check, guest}
+use Rattle.ed_checker.specs.Laws.{HasGuest}
+use Rattle.ed_programs.specs.Guests.{EntersChecker, checker_base, entry_guest}
+use Rattle.ed_programs.proofs.GuestNames.{entry_is}
+
+-- ---- the machine that is started on the tape of a source
+
+some_is : (a b : ℕ) → Some a ≡ Some b → a ≡ b
+some_is a b e = cc
+
+spelled_code : (byte code : ℕ) → row_of byte ≡ Some code → code < 32
+spelled_code byte code = by_digit (nat_le 48 byte && nat_le byte 57) refl
+  where
+    by_digit : (b : Bool) → (nat_le 48 byte && nat_le byte 57) ≡ b
+        → (if b then Some (byte - 48) else position (λ l. l == byte) letters) ≡ Some code → code < 32
+    by_digit true is e =
+        let few : byte ≤ 57 = let p = (and_parts (nat_le 48 byte) (nat_le byte 57) is).1 in grind (arith, nat_tests) in
+        omega (arith, some_is (byte - 48) code e)
+    by_digit false is e = (position-Some (λ l. l == byte) letters code 0 e).0
+
+rows_fit : {text all : List ℕ} → Spells text all → (i : ℕ) → slice_index all i < 32
+rows_fit none i = lit< tt
+rows_fit (row byte code text all is rest) zero = spelled_code byte code is
+rows_fit (row byte code text all is rest) (suc i) = rows_fit rest i
+rows_fit (spacing byte text all is rest) i = rows_fit rest i
+rows_fit (comment inside text all is rest) i = rows_fit rest i
+
+read_fit : (text all : List ℕ) → reading text ≡ rows all → (i : ℕ) → slice_index all i < 32
+read_fit text all read = rows_fit {text = text} (subst (IsReadingOf text) read (every_text text))
+
+sound_start : (z : Size) (source : Text) (lines : List Line) → IsAcceptedAs z source lines
+    → IsSound (first_state z (tape lines))
+unfolding first_state
+sound_start z source lines a = record {
+  store = first_store z (tape lines);
+  acc = lit< tt;
+  multiplier = lit< tt;
+  counter = let size = least z in omega arith;
+  tape = read_fit (text_of (canonicals (punched lines)) ++ after_text (data_behind lines)) (tape lines)
+      (text_is_tape z source lines a);
+  last = lit< tt;
+}
+
+sound_entry : (z : Size) (source : Text) (lines : List Line) → IsAcceptedAs z source lines
+    → IsSound (entry_state z lines)
+sound_entry z source lines a =
+    subst IsSound (each_source z source lines a).state_is
+    (sound_after (cost lines) (first_state z (tape lines)) (sound_start z source lines a))
+
+-- ---- the words of the routine
+
+-- the word of an item that ends with F or θ is the same for all parameters
+same_word : (ps qs : List ℕ) (base : ℕ) (i : Item) → (nat_eq i.end 17 || nat_eq i.end 18) ≡ true
+    → routine_word ps base i ≡ routine_word qs base i
+same_word ps qs base i = by_tests (nat_eq i.end 17) (nat_eq i.end 18) refl refl
+  where
+    by_tests : (a b : Bool) → nat_eq i.end 17 ≡ a → nat_eq i.end 18 ≡ b → (a || b) ≡ true
+        → routine_word ps base i ≡ routine_word qs base i
+    by_tests true b e f h = rw e refl
+    by_tests false true e f h = rw (e, f) refl
+    by_tests false false e f h = absurd (true≢false (sym h))
+
+abbrev ends_alone : ℕ → Bool
+ends_alone i =
+    is_working check i || (nat_eq (routine_item check i).end 17 || nat_eq (routine_item check i).end 18)
+
+-- H is in the word of a working place alone
+any_h : (h base i : ℕ) → i < 66 → is_working check i ≡ false
+    → image_word check i base (with_h h) ≡ image_word check i base (with_h 0)
+any_h h base i l steady =
+    let test : ends_alone i ≡ true = from_below ends_alone 66 i refl l in
+    same_word (with_h h) (with_h 0) base (routine_item check i) (rw steady at test)
+
+abbrev table_words : ℕ → ℕ → List ℕ
+table_words h base = map (λ row. routine_word (with_h h) base (table_item row)) (entry check).items
+
+table_word : (h base i : ℕ) → get_or (table_words h base) i 0 ≡ image_word check i base (with_h h)
+unfolding parameter_store
+table_word h base i =
+    get_or-map (λ row. routine_word (with_h h) base (table_item row)) (entry check).items i (0, 0, false, 0)
+
+-- the first word fetches the order at H
+fetches : (h base : ℕ) → h < 1024 → image_word check 0 base (with_h h) ≡ 114688 + 2 * h
+unfolding parameter_store
+fetches h base low = omega arith
+
+address_is : (h : ℕ) → h < 1024 → address_of (114688 + 2 * h) ≡ h
+address_is h low = omega arith
+
+module _ (z : Size) (source : Text) (lines : List Line) (accepted : IsAcceptedAs z source lines)
+    (c : EntersChecker lines) where
+  abbrev base : ℕ
+  base = checker_base c.before
+
+  abbrev h : ℕ
+  h = operand_number (homes_of lines) None c.first
+
+  abbrev m : State
+  m = entry_state z lines
+
+  words_are : words_of_line (homes_of lines) (spot_after c.before) c.using.statement ≡ table_words h base
+  words_are = ap (words_of_line (homes_of lines) (spot_after c.before)) c.uses
+
+  places : (i : ℕ) → i < 66 → LinePlaces lines c.before c.using (base + i) (get_or (table_words h base) i 0)
+  places i l = record {
+    index = i;
+    below = subst (λ (ws : List ℕ). i < length ws) (sym words_are) l;
+    place_is = ap (λ st. first_place st (spot_after c.before) + i) (sym c.uses);
+    word_is = ap (λ (ws : List ℕ). get_or ws i 0) (sym words_are);
+  }
+
+  word : (i : ℕ) → i < 66 → short_at m.store (base + i) ≡ get_or (table_words h base) i 0
+  word i l =
+      (each_entry_has_words z source lines accepted).lines_have c.before c.using (base + i) _ c.stands (places i l)
+
+  room : base + 66 ≤ locations z
+  room =
+      let w = each_word_stands z lines accepted.faultless in
+      let there = w.stands c.before c.using (base + 65) _ c.stands (places 65 (lit< tt)) in
+      let in_store = (w.within (base + 65) _ there).1 in
+      omega (arith, in_store)
+
+  even_base : base % 2 ≡ 0
+  even_base = omega arith
+
+  image : HasImage base m
+  image i l = record {
+    has = λ steady. word i l ∙ table_word h base i ∙ any_h h base i l steady;
+  }
+
+  -- the long words of the guest's accumulator are 0
+  no_digit : (a : ℕ) → a < 1024 → sandwich_at m.store a ≡ false
+  no_digit a low = get_or-replicate 512 (a / 2) false false (omega arith)
+
+  no_long : (k : ℕ) → k % 2 ≡ 0 → k + 1 < 66 → get_or (table_words h base) k 0 ≡ 0
+      → get_or (table_words h base) (k + 1) 0 ≡ 0 → long_at m.store (base + k) ≡ 0
+  no_long k by_two l low high =
+      let size = most z in
+      let fits = room in
+      let pair = even_base in
+      let upper : odd (base + k) ≡ base + (k + 1) = omega (arith, pair, by_two) in
+      let lower : even (base + k) ≡ base + k = omega (arith, pair, by_two) in
+      let digit = no_digit (base + k) (omega (arith, size, fits, l)) in
+      let first : short_at m.store (odd (base + k)) ≡ 0 =
+      ap (short_at m.store) upper ∙ word (k + 1) l ∙ high in
+      let second : short_at m.store (even (base + k)) ≡ 0 =
+      ap (short_at m.store) lower ∙ word k (omega (arith, l)) ∙ low in
+      λ i. joined (first i) (digit i) (second i)
+
+  no_high : long_at m.store (base + 60) ≡ 0
+  no_high = no_long 60 refl (lit< tt) refl refl
+
+  no_middle : long_at m.store (base + 62) ≡ 0
+  no_middle = no_long 62 refl (lit< tt) refl refl
+
+  no_low : long_at m.store (base + 64) ≡ 0
+  no_low = no_long 64 refl (lit< tt) refl refl
+
+  module _ (in_range : h < 1024) where
+    first_word : short_at m.store base ≡ 114688 + 2 * h
+    first_word =
+        let here : base ≡ base + 0 = omega arith in
+        ap (short_at m.store) here ∙ word 0 (lit< tt) ∙ table_word h base 0 ∙ fetches h base in_range
+
+    address : address_of (short_at m.store base) ≡ h
+    address = ap address_of first_word ∙ address_is h in_range
+
+    pub has_guest : HasGuest base m
+    has_guest = record {
+      even = even_base;
+      room = room;
+      sound = sound_entry z source lines accepted;
+      stands = record {
+        counter = entry_is z lines accepted.faultless c;
+        acc = refl;
+        image = image;
+        fetch = first_word ∙ ap (λ n. 114688 + 2 * n) (sym address);
+        middle = subst (λ x. x < 2 ^ 34) (sym no_middle) (lit< tt);
+        low = subst (λ x. x % 2 ^ 32 ≡ 0) (sym no_low) refl;
+        low_few = subst (λ x. x < 2 ^ 34) (sym no_low) (lit< tt);
+      };
+    }
+
+    acc_is : long_at m.store (base + 60) * 2 ^ 36 + 4 * long_at m.store (base + 62)
+        + long_at m.store (base + 64) / 2 ^ 32
+        ≡ 0
+    acc_is = λ i. no_high i * 2 ^ 36 + 4 * no_middle i + no_low i / 2 ^ 32
+
+    pub guest_is : guest base m ≡ entry_guest z lines c.first
+    guest_is = λ i. record m { counter = address i; acc = acc_is i; last = None; orders = 0 }

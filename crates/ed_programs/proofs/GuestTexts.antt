@@ -1,0 +1,258 @@
+-- The text of an accepted source is never too long for the program, and ends with the lines that its text ends with.
+use Rattle.std.proofs.Common.{◌≡◌, ◌∙◌, ℕ, ◌+◌, ◌*◌, ◌≤◌, refl, sym, ap, subst, arith, Bool, true, false}
+use Rattle.std.proofs.Common.{List, [], ◌∷◌, ◌++◌, length, length-append, append_assoc, nat_le, if◌then◌else◌, lit≤}
+use Rattle.std.specs.Prelude.{◌==◌, Some, None, Result, Ok, codes, pos}
+use Rattle.std.proofs.lemmas.Bool.{and_from, and_parts}
+use Rattle.ed_words.proofs.Numbers.{le_of, le_true}
+use Rattle.ed_words.specs.Texts.{Text}
+use Rattle.ed_syntax.specs.Lines.{HasLines, nothing, last, ended, lines_of, with_byte, without_return}
+use Rattle.ed_syntax.specs.Sources.{IsProgram, LinesSay, no_more, and_more}
+use Rattle.ed_syntax.specs.declared.program.Line.{Line}
+use Rattle.ed_syntax.specs.Private.Grammar.{settings}
+use Rattle.ed_syntax.specs.Private.SourceReading.{Fault, and_lines, line_of, lines_from}
+use Rattle.ed_syntax.specs.declared.program.Operand.TheVariants.{Label}
+use Rattle.ed_syntax.specs.declared.program.Statement.TheVariants.{Enter}
+use Rattle.ed_syntax.proofs.SourceLaws.{lines_are_read, say_is_read}
+use Rattle.ed_sources.specs.Calls.{text_of_lines}
+use Rattle.ed_programs.specs.Guests.{EntersChecker, checked_text, use_check}
+use Rattle.ed_programs.proofs.SourceLines.{Says, ends, said_lines, says}
+use Rattle.ed_programs.proofs.Answered.{are_short}
+
+-- ---- how long it is
+
+say_short : (two : Bool) (k : ℕ) (lines : List Text) (said : List Line) → LinesSay two k lines said
+    → are_short lines ≡ true
+say_short two _ _ _ (no_more k) = refl
+say_short two _ _ _ (and_more k line lines f said s h) =
+    and_from _ _ (le_true (length line) 120 s.plain.short) (say_short two (k + 1) lines said h)
+
+-- a line end has at most two bytes
+end_short : (line : Text) → length line ≤ length (without_return line) + 1
+end_short [] = lit≤ tt
+end_short (b ∷ []) = by_test (b == 13)
+  where
+    by_test : (t : Bool) → 1 ≤ length (if t then [] else b ∷ []) + 1
+    by_test true = lit≤ tt
+    by_test false = lit≤ tt
+end_short (b ∷ c ∷ bs) = let rest = end_short (c ∷ bs) in omega (arith, rest)
+
+text_short : (text : Text) (lines : List Text) → HasLines text lines → are_short lines ≡ true
+    → length text ≤ 122 * length lines
+text_short _ _ nothing h = lit≤ tt
+text_short _ _ (last b bs plain) h =
+    let p = and_parts (nat_le (length (b ∷ bs)) 120) true h in
+    let few = le_of (length (b ∷ bs)) 120 p.0 in
+    omega (arith, few)
+text_short _ _ (ended line text lines plain more) h =
+    let p = and_parts (nat_le (length (without_return line)) 120) (are_short lines) h in
+    let few = le_of (length (without_return line)) 120 p.0 in
+    let end = end_short line in
+    let rest = text_short text lines more p.1 in
+    let all = length-append line (10 ∷ text) in
+    omega (arith, few, end, rest, all)
+
+-- a source that says some lines has at most 262,144 bytes
+pub source_short : (text : Text) (two : Bool) (said : List Line) → IsProgram text two said → length text ≤ 262144
+source_short text two said p =
+    let few = p.few in
+    let short = text_short text p.lines p.has_lines (say_short two 1 p.lines said p.says) in
+    omega (arith, few, short)
+
+-- ---- how it ends
+
+-- the lines of a text that goes on after a line feed: at least one, and then those of what follows
+record Ahead (text rest : Text) : Type 0 where
+  first : Text
+  more : List Text
+  lines_are : lines_of text ≡ first ∷ (more ++ lines_of rest)
+
+first_feed : (rest : Text) → lines_of (10 ∷ rest) ≡ [] ∷ lines_of rest
+first_feed [] = refl
+first_feed (b ∷ bs) = refl
+
+lines_ahead : (front rest : Text) → Ahead (front ++ 10 ∷ rest) rest
+lines_ahead [] rest = record { first = []; more = []; lines_are = first_feed rest }
+lines_ahead (b ∷ []) rest = by_tests (b == 10) (b == 13) refl refl
+  where
+    by_tests : (feed return : Bool) → (b == 10) ≡ feed → (b == 13) ≡ return → Ahead (b ∷ 10 ∷ rest) rest
+    by_tests true return e r = record {
+      first = [];
+      more = [] ∷ [];
+      lines_are = rw e (ap (λ (ls : List Text). [] ∷ ls) (first_feed rest));
+    }
+    by_tests false true e r = record { first = []; more = []; lines_are = rw (e, r) refl }
+    by_tests false false e r = record {
+      first = b ∷ [];
+      more = [];
+      lines_are = rw (e, r) (ap (with_byte b) (first_feed rest));
+    }
+lines_ahead (b ∷ c ∷ front) rest =
+    by_tests (b == 10) (b == 13) (c == 10) refl refl refl (lines_ahead (c ∷ front) rest) (lines_ahead front rest)
+  where
+    by_tests : (feed return next : Bool) → (b == 10) ≡ feed → (b == 13) ≡ return → (c == 10) ≡ next
+        → Ahead (c ∷ (front ++ 10 ∷ rest)) rest → Ahead (front ++ 10 ∷ rest) rest
+        → Ahead (b ∷ c ∷ (front ++ 10 ∷ rest)) rest
+    by_tests true return next e r n one two = record {
+      first = [];
+      more = one.first ∷ one.more;
+      lines_are = rw e (ap (λ (ls : List Text). [] ∷ ls) one.lines_are);
+    }
+    by_tests false true true e r n one two = record {
+      first = [];
+      more = two.first ∷ two.more;
+      lines_are = rw (e, r, n) (ap (λ (ls : List Text). [] ∷ ls) two.lines_are);
+    }
+    by_tests false true false e r n one two = record {
+      first = b ∷ one.first;
+      more = one.more;
+      lines_are = rw (e, r, n) (ap (with_byte b) one.lines_are);
+    }
+    by_tests false false next e r n one two = record {
+      first = b ∷ one.first;
+      more = one.more;
+      lines_are = rw (e, r) (ap (with_byte b) one.lines_are);
+    }
+
+-- what the last of some lines say, and what the lines before them say
+pub record Last (two : Bool) (start : ℕ) (lines rest : List Text) (said : List Line) : Type 0 where
+  pub number : ℕ
+  pub before : List Line
+  pub behind : List Line
+  pub said_are : said ≡ before ++ behind
+  pub number_is : number + length rest ≡ start + length lines
+  pub says : LinesSay two number rest behind
+
+no_lines : (first : Text) (more : List Text) → ◌≡◌ {A = List Text} [] (first ∷ more) → ⊥
+no_lines first more e = absurd (cc)
+
+rest_of : (line other : Text) (lines others : List Text) → line ∷ lines ≡ other ∷ others → lines ≡ others
+rest_of line other lines others e = cc
+
+last_say : (two : Bool) (k : ℕ) (lines : List Text) (said : List Line) → LinesSay two k lines said
+    → (front rest : List Text) → lines ≡ front ++ rest → Last two k lines rest said
+last_say two k lines said s [] rest e = record {
+  number = k;
+  before = [];
+  behind = said;
+  said_are = refl;
+  number_is = ap (λ (ls : List Text). k + length ls) (sym e);
+  says = subst (λ (ls : List Text). LinesSay two k ls said) e s;
+}
+last_say two _ _ _ (no_more k) (first ∷ front) rest e = absurd (no_lines first (front ++ rest) e)
+last_say two _ _ _ (and_more k line lines f said s h) (first ∷ front) rest e =
+    let l = last_say two (k + 1) lines said h front rest (rest_of line first lines (front ++ rest) e) in
+    let number = l.number_is in
+    record {
+      number = l.number;
+      before = record { number = k; label = f.label; statement = f.statement } ∷ l.before;
+      behind = l.behind;
+      said_are = ap (λ (x : List Line). record { number = k; label = f.label; statement = f.statement } ∷ x) l.said_are;
+      number_is = omega (arith, number);
+      says = l.says;
+    }
+
+-- a source whose text ends with these lines says them last
+record EndsWith (two : Bool) (rest : List Text) (said : List Line) : Type 0 where
+  number : ℕ
+  before : List Line
+  behind : List Line
+  said_are : said ≡ before ++ behind
+  read : lines_from two number rest ≡ Ok behind
+  few : number + length rest ≤ 2001
+
+ends_with : (front rest : Text) (two : Bool) (said : List Line) → IsProgram (front ++ 10 ∷ rest) two said
+    → EndsWith two (lines_of rest) said
+ends_with front rest two said p =
+    let a = lines_ahead front rest in
+    let l = last_say two 1 p.lines said p.says (a.first ∷ a.more) (lines_of rest)
+    (sym (lines_are_read (front ++ 10 ∷ rest) p.lines p.has_lines) ∙ a.lines_are) in
+    let number = l.number_is in
+    let most = p.few in
+    let few : l.number + length (lines_of rest) ≤ 2001 = omega (arith, number, most) in
+    record {
+      number = l.number;
+      before = l.before;
+      behind = l.behind;
+      said_are = l.said_are;
+      read = say_is_read two l.number (lines_of rest) l.behind l.says (omega (arith, few));
+      few = few;
+    }
+
+-- ---- the source that is made for a guest
+
+-- its last two lines
+abbrev use_line : ℕ → Line
+use_line k = record { number = k; label = None; statement = use_check (codes "c") (Label (codes "main") (pos 0)) }
+
+abbrev enter_line : ℕ → Line
+enter_line k = record { number = k; label = None; statement = Some (Enter (codes "c")) }
+
+abbrev use_text : Text
+use_text = codes "use check as c with H=main"
+
+abbrev enter_text : Text
+enter_text = codes "enter c"
+
+-- what they say, whether or not one is the first line, which alone may have a version
+use_said : (two : Bool) (k : ℕ) (rest : List Line)
+    → and_lines k (line_of two k use_text) (Ok rest) ≡ Ok (use_line k ∷ rest)
+unfolding settings
+use_said two k rest = by_test (k == 1) refl
+  where
+    by_test : (t : Bool) → (k == 1) ≡ t → and_lines k (line_of two k use_text) (Ok rest) ≡ Ok (use_line k ∷ rest)
+    by_test true e = rw e refl
+    by_test false e = rw e refl
+
+enter_said : (two : Bool) (k : ℕ) (rest : List Line)
+    → and_lines k (line_of two k enter_text) (Ok rest) ≡ Ok (enter_line k ∷ rest)
+enter_said two k rest = by_test (k == 1) refl
+  where
+    by_test : (t : Bool) → (k == 1) ≡ t → and_lines k (line_of two k enter_text) (Ok rest) ≡ Ok (enter_line k ∷ rest)
+    by_test true e = rw e refl
+    by_test false e = rw e refl
+
+abbrev last_texts : List Text
+last_texts = use_text ∷ enter_text ∷ []
+
+abbrev last_lines : ℕ → List Line
+last_lines k = use_line k ∷ enter_line (k + 1) ∷ []
+
+last_read : (two : Bool) (k : ℕ) → k + 2 ≤ 2001 → lines_from two k last_texts ≡ Ok (last_lines k)
+last_read two k few =
+    let all : Says two k last_texts (last_lines k) = says (use_said two k) (says (enter_said two (k + 1)) ends) in
+    said_lines all few
+
+read_once : (r : Result (List Line) Fault) (ls others : List Line) → r ≡ Ok ls → r ≡ Ok others → ls ≡ others
+read_once r ls others e f = cc
+
+-- it enters the routine over the order at main
+pub record EntersFromMain (lines : List Line) : Type 0 where
+  pub enters : EntersChecker lines
+  pub first : enters.first ≡ Label (codes "main") (pos 0)
+
+pub enters_from_main : (guest : Text) (two : Bool) (said : List Line) → IsProgram (checked_text guest) two said
+    → EntersFromMain said
+enters_from_main guest two said p =
+    let e = ends_with guest (text_of_lines last_texts) two said p in
+    let last : e.behind ≡ last_lines e.number =
+    read_once (lines_from two e.number last_texts) e.behind (last_lines e.number) e.read
+    (last_read two e.number e.few) in
+    let all : said ≡ e.before ++ last_lines e.number = e.said_are ∙ ap (λ (ls : List Line). e.before ++ ls) last in
+    record {
+      enters = record {
+        name = codes "c";
+        first = Label (codes "main") (pos 0);
+        before = e.before;
+        using = use_line e.number;
+        stands = record { after = enter_line (e.number + 1) ∷ []; lines_are = all };
+        uses = refl;
+        ahead = e.before ++ use_line e.number ∷ [];
+        entering = enter_line (e.number + 1);
+        follows = record {
+          after = [];
+          lines_are = all ∙ sym (append_assoc e.before (use_line e.number ∷ []) (enter_line (e.number + 1) ∷ []));
+        };
+        enters = refl;
+      };
+      first = refl;
+    }
