@@ -1,5 +1,5 @@
 -- Where the run from the state of a picture ends, and that going on and on is going once.
-use Rattle.std.proofs.Common.{◌≡◌, ◌∙◌, ℕ, ◌+◌, ◌-◌, ◌<◌, ◌≤◌, ◌++◌, refl, sym, ap, arith, List, length, length-append}
+use Rattle.std.proofs.Common.{◌≡◌, ◌∙◌, ℕ, ◌+◌, ◌-◌, ◌<◌, ◌≤◌, refl, sym, ap, arith, List, length, length-append}
 use Rattle.std.proofs.Common.{Bool, true, false, nat_eq, nat_lt, nat_le, Option, Some, None, is_some, unwrap_or}
 use Rattle.std.specs.Prelude.{if◌then◌else◌}
 use Rattle.std.proofs.lemmas.Bool.Decides.{nat_tests}
@@ -12,7 +12,7 @@ use Rattle.ed_machine.specs.declared.ending.Ending.{Ending}
 use Rattle.ed_machine.specs.declared.ending.Ending.TheVariants.{Stopped, Limit}
 use Rattle.ed_machine.proofs.LeastNumbers.{least_on}
 use Rattle.ed_machine.proofs.Steps.{after_sum, no_step, past_sum}
-use Rattle.ed_run.specs.Run.{RunEnd, end_at, end_by, ran, run_orders}
+use Rattle.ed_run.specs.Run.{end_at, end_by, ran, run_orders}
 use Rattle.ed_run.proofs.Ends.{ran_ends}
 use Rattle.ed_loads.specs.EntryState.{first_state}
 use Rattle.ed_command.specs.declared.command.Settings.{Settings}
@@ -55,9 +55,9 @@ later_room a b c = grind (arith, nat_tests)
 -- going on is going once
 goes_on : (limit resumes room orders more : ℕ) (s : State)
     → let k = run_orders limit resumes room s in
-      let first = ran limit resumes room s in
-      ran (k + orders) ((past k s).stops + more) room s
-      ≡ behind (past k s) (ran orders more (room - length first.codes) first.state)
+    let first = ran limit resumes room s in
+    ran (k + orders) ((past k s).stops + more) room s
+    ≡ behind (past k s) (ran orders more (room - length first.codes) first.state)
 unfolding ran
 goes_on limit resumes room orders more s =
     let k = run_orders limit resumes room s in

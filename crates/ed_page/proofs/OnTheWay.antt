@@ -1,7 +1,7 @@
 -- The states on the way of a tape: they are within their bounds, a machine can come to them, and a picture shows one of
 -- them alone.
-use Rattle.std.proofs.Common.{◌≡◌, ◌∙◌, ℕ, ◌+◌, ◌-◌, ◌*◌, ◌/◌, ◌%◌, ◌^◌, ◌<◌, ◌≤◌, refl, sym, ap, subst, arith, lit<, lit≤, rules}
-use Rattle.std.proofs.Common.{Bool, true, false, Option, Some, None, List, ◌++◌, drop, get_or, length, length-append}
+use Rattle.std.proofs.Common.{◌≡◌, ◌∙◌, ℕ, ◌+◌, ◌-◌, ◌/◌, ◌%◌, ◌^◌, ◌<◌, ◌≤◌, refl, sym, ap, subst, arith, lit<, lit≤, rules}
+use Rattle.std.proofs.Common.{Bool, Option, Some, None, List, ◌++◌, drop, get_or, length, length-append}
 use Rattle.std.specs.Prelude.{◌↔◌, IfSome, IsNone, unwrap_or}
 use Rattle.std.proofs.Math.Seq.{drop-append_seam}
 use Rattle.ed_words.specs.Sizes.{locations}

@@ -9,7 +9,7 @@ use Rattle.ed_printer.specs.Paper.{latest_shift, paper, paper_from, shift_after,
 use Rattle.ed_printer.specs.declared.printer.Shift.{Shift}
 use Rattle.ed_printer.specs.declared.printer.Shift.TheVariants.{Figures, Letters}
 use Rattle.ed_printer.proofs.Latest.{in_latest_shift}
-use Rattle.ed_page.specs.Going.{PaperLaw, added_text}
+use Rattle.ed_page.specs.Going.{PaperLaw}
 
 pub paper_law : PaperLaw
 paper_law before [] = ap paper (append-nil before) ∙ sym (append-nil (paper before))

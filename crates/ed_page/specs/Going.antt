@@ -81,9 +81,9 @@ behind p r = record { ending = r.ending; state = r.state; codes = p.codes ++ r.c
 pub record GoingLaw : Type 0 where
   pub goes_on : (limit resumes room orders more : ℕ) (s : State)
       → let k = run_orders limit resumes room s in
-        let first = ran limit resumes room s in
-        ran (k + orders) ((past k s).stops + more) room s
-        ≡ behind (past k s) (ran orders more (room - length first.codes) first.state)
+      let first = ran limit resumes room s in
+      ran (k + orders) ((past k s).stops + more) room s
+      ≡ behind (past k s) (ran orders more (room - length first.codes) first.state)
   pub from_start : (s : Settings) (codes : List ℕ)
       → run_of s codes ≡ ran s.limit s.resumes paper_room (on_the_way s.size codes 0)
   pub stays : (z : Size) (codes : List ℕ) (k limit resumes room : ℕ)

@@ -56,7 +56,17 @@ pub extern "C" fn page_go_on(
     if words.len() != 1024 || digits.len() != 512 {
         return NO_ROOM;
     }
-    match went_on(alloc, rows, small, orders, resumes, words, digits, codes.len(), registers) {
+    match went_on(
+        alloc,
+        rows,
+        small,
+        orders,
+        resumes,
+        words,
+        digits,
+        codes.len(),
+        registers,
+    ) {
         Ok(gone) => show(&gone, words, digits, codes, registers),
         Err(NoMemory) => NO_MEMORY,
     }

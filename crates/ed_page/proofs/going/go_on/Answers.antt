@@ -1,4 +1,4 @@
-use Rattle.std.proofs.Common.{◌∙◌, ap, subst, ℕ}
+use Rattle.std.proofs.Common.{◌∙◌, subst, ℕ}
 use Rattle.ed_run.specs.Run.{ran}
 use Rattle.ed_page.specs.Private.Stages.{IsGone}
 use Rattle.ed_page.specs.declared.going.Gone.{Gone}

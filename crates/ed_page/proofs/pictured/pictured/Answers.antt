@@ -2,9 +2,7 @@ use Rattle.std.proofs.Common.{◌∙◌, ◌<◌, ◌≤◌, refl, sym, subst, a
 use Rattle.ed_words.specs.Sizes.{locations}
 use Rattle.ed_words.specs.declared.size.Size.{Size}
 use Rattle.ed_machine.specs.Reached.{IsReached}
-use Rattle.ed_machine.specs.State.{State}
-use Rattle.ed_page.specs.Pictures.{Pictures, size_shown}
-use Rattle.ed_page.specs.Going.{on_the_way}
+use Rattle.ed_page.specs.Pictures.{size_shown}
 use Rattle.ed_page.proofs.OnTheWay.{fit_counter, fit_last, fit_multiplier, fit_rows, fit_words, most_places, shown_state, way_reached}
 use Rattle.ed_page.proofs.pictured.pictured.Goals as goal
 
