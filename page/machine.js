@@ -112,20 +112,20 @@ class Machine {
         if (status === 10 || status === 12) {
             return { status, ending: ENDINGS[status], note: '' };
         }
-        const [printed, noted] = Array.from(this.numbers('registers', BigUint64Array).slice(7), Number);
-        const note = this.text('note', noted);
+        const shown = this.state(status);
+        const note = this.text('note', shown.noted);
         if (status === 3 || status === 11) {
             return { status, ending: ENDINGS[status], note };
         }
-        return { ...this.state(status), note, paper: this.text('paper', printed) };
+        return { ...shown, note, paper: this.text('paper', shown.printed) };
     }
 
     // What a call wrote of the machine's state.
     state(status) {
-        const registers = this.numbers('registers', BigUint64Array).slice();
-        const [accLow, accHigh, multiplier, orders, rowsLeft, counter, last] = registers;
+        const [accLow, accHigh, multiplier, orders, rowsLeft, counter, last, printed, noted] = this.numbers('registers', BigUint64Array);
         return {
-            status, ending: ENDINGS[status], registers,
+            status, ending: ENDINGS[status],
+            registers: this.numbers('registers', BigUint64Array).slice(),
             words: this.numbers('words', Uint32Array).slice(),
             digits: this.bytes('digits', 512).slice(),
             acc: (accHigh << 36n) | accLow,
@@ -134,11 +134,13 @@ class Machine {
             rowsLeft: Number(rowsLeft),
             counter: Number(counter),
             last: Number(last),
+            printed: Number(printed),
+            noted: Number(noted),
         };
     }
 
-    // The machine at so many orders after a picture on the way of a tape, or where its run ended before. The words,
-    // digits and registers are handed back as a call wrote them, and the new codes are put behind those before.
+    // The machine a number of orders after a picture on the way of a tape, or where its run ended before. The words,
+    // digits and registers are handed back as a call wrote them, and the new codes follow those before.
     goOn(way, from, orders, resumes = 0) {
         if (this.mounted !== way.rows) {
             this.bytes('tape', way.rows.length).set(way.rows);
@@ -154,9 +156,8 @@ class Machine {
             return { status, ending: ENDINGS[status], note: '' };
         }
         const shown = this.state(status);
-        const printed = Number(shown.registers[7]);
-        way.codes.set(this.bytes('codes', printed), from.printed);
-        return Object.assign(shown, { note: '', way, printed: from.printed + printed });
+        way.codes.set(this.bytes('codes', shown.printed), from.printed);
+        return Object.assign(shown, { note: '', way, printed: from.printed + shown.printed });
     }
 
     // The text that the codes of a way from one count to another add to its paper.

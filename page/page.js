@@ -19,7 +19,7 @@ const page = {
     letters: [], // of each code
     refusal: undefined, // what is wrong with the text, where it is refused
     way: undefined, // from Start, as far as the machine came
-    fault: undefined, // why there is none
+    fault: undefined, // why there is no way
     shown: undefined, // the picture that is drawn
     before: undefined, // the picture with which it is compared
     running: undefined, // how far a run is, and when it was seen last

@@ -348,7 +348,7 @@ async function farOn(b) {
         true,
     );
     const [middle, most] = [backs[100], backs[199]].map((ms) => ms.toFixed(1));
-    console.log(`  order 50,000,000 in ${far.toFixed(0)} ms, and one order back in ${middle} ms, ${most} at the most`);
+    console.log(`  order 50,000,000 in ${far.toFixed(0)} ms, and one order back in ${middle} ms, at most ${most}`);
     await b.expect('one order back in 50 ms', backs[0], (ms) => ms < 50);
     await b.click('start');
     await b.set('at', '1000');
