@@ -6,12 +6,13 @@ const fs = require('fs');
 const path = require('path');
 const { spawnSync } = require('child_process');
 const { Machine, NO_CODE } = require('./machine.js');
+const { Way } = require('./way.js');
 const { figuresOf } = require('./words.js');
 
 const [file, edsac, folder] = process.argv.slice(2);
 const machine = new Machine(new WebAssembly.Module(fs.readFileSync(file)));
 const seen = new Map();
-let pictures = 0, small = 0, figures = 0, wrong = 0;
+let pictures = 0, gone = 0, small = 0, figures = 0, wrong = 0;
 
 function program(words, input) {
     const ran = spawnSync(edsac, words, { input, maxBuffer: 1 << 26 });
@@ -40,6 +41,38 @@ function compareRun(name, text, orders, resumes) {
     same(`${what}: paper`, shown.paper || '', told.out);
     same(`${what}: blocks in use`, Number(machine.exports.blocks()), 0);
     return shown;
+}
+
+const parts = ['status', 'orders', 'counter', 'acc', 'multiplier', 'rowsLeft', 'last'];
+
+// A picture that was gone on to, beside the one from Start.
+function compareGone(what, shown, wanted) {
+    same(what, parts.map((part) => shown[part]).join(), parts.map((part) => wanted[part]).join());
+    same(`${what}: words`, shown.words.join(), wanted.words.join());
+    same(`${what}: digits`, shown.digits.join(), wanted.digits.join());
+    same(`${what}: paper`, shown.way.text(0, shown.printed), wanted.paper);
+    same(`${what}: blocks in use`, Number(machine.exports.blocks()), 0);
+    gone++;
+}
+
+// Going on in pieces, from each count to the next, and back to it from Start; then past two stops.
+function compareGoing(name, text, counts) {
+    const way = new Way(machine, text, machine.rows(text).out);
+    let near = way.first;
+    for (const count of [0, ...counts]) {
+        const wanted = machine.picture(text, count);
+        near = way.at(count, near);
+        compareGone(`${name} gone on to ${count}`, near, wanted);
+        compareGone(`${name} gone to ${count}`, way.at(count), wanted);
+        const half = Math.floor(near.printed / 2);
+        same(`${name} gone on to ${count}: the end of its paper`, way.text(0, half) + way.text(half, near.printed), wanted.paper);
+    }
+    for (let stops = 1; stops <= 2 && near.ending === 'stopped'; stops++) {
+        way.stops.add(near.orders);
+        const count = near.orders + 500;
+        near = way.at(count, near);
+        compareGone(`${name} gone past ${stops} stops`, near, machine.picture(text, count, stops));
+    }
 }
 
 // Words of the small store after a count of orders, beside the program's post-mortem: it prints those from 144 on as
@@ -88,12 +121,13 @@ function compareStates(name, text, counts) {
         return;
     }
     const script = counts.map((count, i) => `go ${count - (i ? counts[i - 1] : 0)}\nshow 0 1023\nshow acc\nshow mult\nshow last\n`).join('');
-    const told = program(['step', '--limit', '10000000'], `${script}${text.kind}\n${text.text}`);
+    const told = program(['step', '--limit', '100000000'], `${script}${text.kind}\n${text.text}`);
+    const way = new Way(machine, text, machine.rows(text).out);
     const moves = told.out.split(/^(?=at )/m);
     same(`${name}: moves`, moves.length, counts.length);
     moves.forEach((move, i) => {
         const lines = move.trimEnd().split('\n');
-        const shown = machine.picture(text, counts[i]);
+        const shown = way.at(counts[i]);
         const what = `${name} after ${counts[i]}`;
         const [, counter, orders] = lines[0].match(/^at (\d+) after (\d+): /) || [];
         same(`${what}: counter`, shown.counter, Number(counter));
@@ -194,6 +228,7 @@ function compareAll(name, text, furthest) {
     compareRun(name, text, furthest, 2);
     const counts = [...new Set(some.filter((count) => count <= end))].sort((a, b) => a - b);
     compareStates(name, text, counts);
+    compareGoing(name, text, counts);
 }
 
 for (const name of fs.readdirSync(folder).sort()) {
@@ -210,6 +245,12 @@ for (let seed = 1; seed <= 200; seed++) {
     const kind = seed % 2 ? 'tape' : 'source';
     compareAll(`made ${kind} ${seed}`, { kind, text: kind === 'tape' ? madeTape(next) : madeSource(next), small: next(5) === 0 }, 3000);
 }
+for (const name of ['endless.tape', 'squares.edsac']) {
+    const kind = name.endsWith('.tape') ? 'tape' : 'source';
+    const text = { kind, text: fs.readFileSync(path.join(folder, name), 'utf8'), small: false };
+    const end = Math.min(machine.picture(text, 5000000).orders, 50000000);
+    compareStates(`${name}, far on`, text, kind === 'tape' ? [262144, 1000000, 50000000, 99999999] : [end - 200, end]);
+}
 compareAll('a tape with an open comment', { kind: 'tape', text: 'T64K [GK', small: false }, 100);
 compareAll('a source with a fault after line 1000', { kind: 'source', text: `${'\n'.repeat(1499)}%\n`, small: false }, 100);
 compareTexts('too long', { kind: 'tape', text: ' '.repeat(262145), small: false });
@@ -222,7 +263,7 @@ for (const ending of ['stopped', 'limit', 'no order', 'no tape', 'refused']) {
     same(`some run ends with ${ending}`, seen.has(ending), true);
 }
 const endings = [...seen].map(([ending, count]) => `${ending} ${count}`).join(', ');
-console.log(`${path.basename(file)}: ${pictures} pictures compared with the program, ${small} post-mortems of the small store, `
+console.log(`${path.basename(file)}: ${pictures} pictures compared with the program, ${gone} gone on to, ${small} post-mortems of the small store, `
     + `${figures} rows with the loader, ${wrong} differences; endings ${endings}; `
     + `the memory grew to ${machine.exports.memory.buffer.byteLength >> 20} MiB`);
 process.exit(wrong ? 1 : 0);

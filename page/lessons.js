@@ -20,7 +20,7 @@ function isDue(due, shown, machine, text) {
         return false;
     }
     if (due.kind === 'paper') {
-        return sumOf(seenOf(shown.paper)) === due.sum;
+        return sumOf(seenOf(shown.way.text(0, shown.printed))) === due.sum;
     }
     if (due.kind === 'place') {
         return sumOf(machine.order(shown.words[due.place])) === due.sum;
@@ -53,7 +53,7 @@ function checkLesson() {
         by('checked').textContent = page.words.say('isRefused');
         return;
     }
-    const isRight = isDue(lesson.due, pictureAt(FURTHEST), page.machine, page.program.text);
+    const isRight = isDue(lesson.due, pictureAt(TRIED), page.machine, page.program.text);
     const isWrong = lesson.due.kind === 'paper' ? 'isWrongPaper' : 'isWrong';
     by('checked').textContent = page.words.say(isRight ? 'isRight' : isWrong);
 }

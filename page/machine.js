@@ -6,7 +6,7 @@ const ENDINGS = {
     10: 'no memory', 11: 'too long', 12: 'no room',
 };
 const NO_CODE = 32; // what stands for the last printed code where nothing was printed
-const ROOMS = ['text', 'rows', 'words', 'digits', 'paper', 'note', 'registers', 'lengths', 'listing', 'order'];
+const ROOMS = ['text', 'rows', 'words', 'digits', 'paper', 'note', 'registers', 'lengths', 'listing', 'order', 'tape', 'codes'];
 
 // Whether this browser has memories of 64-bit addresses: a module with such a memory and nothing else is valid.
 function hasWideMemories() {
@@ -22,6 +22,7 @@ class Machine {
     begin() {
         this.exports = new WebAssembly.Instance(this.module, {}).exports;
         this.orders = new Map();
+        this.mounted = undefined; // the rows in the room of the tape
         this.rooms = {};
         ROOMS.forEach((name, kind) => {
             this.rooms[name] = { at: BigInt(this.exports.room(kind)), items: this.exports.room_items(kind) };
@@ -111,23 +112,60 @@ class Machine {
         if (status === 10 || status === 12) {
             return { status, ending: ENDINGS[status], note: '' };
         }
-        const [accLow, accHigh, multiplier, orders, rowsLeft, counter, last, printed, noted] = this.numbers('registers', BigUint64Array);
-        const note = this.text('note', Number(noted));
+        const shown = this.state(status);
+        const note = this.text('note', shown.noted);
         if (status === 3 || status === 11) {
             return { status, ending: ENDINGS[status], note };
         }
+        return { ...shown, note, paper: this.text('paper', shown.printed) };
+    }
+
+    // What a call wrote of the machine's state.
+    state(status) {
+        const [accLow, accHigh, multiplier, orders, rowsLeft, counter, last, printed, noted] = this.numbers('registers', BigUint64Array);
         return {
-            status, ending: ENDINGS[status], note,
+            status, ending: ENDINGS[status],
+            registers: this.numbers('registers', BigUint64Array).slice(),
             words: this.numbers('words', Uint32Array).slice(),
             digits: this.bytes('digits', 512).slice(),
-            paper: this.text('paper', Number(printed)),
             acc: (accHigh << 36n) | accLow,
             multiplier,
             orders: Number(orders),
             rowsLeft: Number(rowsLeft),
             counter: Number(counter),
             last: Number(last),
+            printed: Number(printed),
+            noted: Number(noted),
         };
+    }
+
+    // The machine a number of orders after a picture on the way of a tape, or where its run ended before. The words,
+    // digits and registers are handed back as a call wrote them, and the new codes follow those before.
+    goOn(way, from, orders, resumes = 0) {
+        if (this.mounted !== way.rows) {
+            this.bytes('tape', way.rows.length).set(way.rows);
+            this.mounted = way.rows;
+        }
+        this.numbers('words', Uint32Array).set(from.words);
+        this.bytes('digits', 512).set(from.digits);
+        this.numbers('registers', BigUint64Array).set(from.registers);
+        const { at, items } = this.rooms.codes;
+        const status = this.call('page_go_on', this.rooms.tape.at, BigInt(way.rows.length), way.small ? 1 : 0, orders, resumes,
+            'words', 'digits', at, items - BigInt(from.printed), 'registers');
+        if (status === 10 || status === 12) {
+            return { status, ending: ENDINGS[status], note: '' };
+        }
+        const shown = this.state(status);
+        way.codes.set(this.bytes('codes', shown.printed), from.printed);
+        return Object.assign(shown, { note: '', way, printed: from.printed + shown.printed });
+    }
+
+    // The text that the codes of a way from one count to another add to its paper.
+    paper(way, from, to) {
+        this.bytes('codes', to).set(way.codes.subarray(0, to));
+        const { at } = this.rooms.codes;
+        const status = this.call('page_paper', at, BigInt(from), at + BigInt(from), BigInt(to - from), 'paper', 'lengths');
+        return status === 0 ? this.text('paper', Number(this.numbers('lengths', BigUint64Array)[0])) : '';
     }
 }
 

@@ -1,7 +1,8 @@
 'use strict';
 // The page: its buttons, the pictures that they ask for, and its languages.
-const FURTHEST = 2000000; // orders: a picture there takes a glance, since each one begins at Start
-const TAIL = 20000; // characters of the paper that are laid out
+const FURTHEST = 100000000; // orders: the program goes no further either
+const TRIED = 2000000; // orders of a run to its end that nobody watches
+const TAIL = 8000; // codes of the paper that are laid out
 const DRAWN_ROWS = 7000; // of a tape as a picture
 const LONGEST_FRAME = 250; // milliseconds: a tab that was hidden doesn't catch up
 const by = (id) => document.getElementById(id);
@@ -17,9 +18,10 @@ const page = {
     labels: [], // what is beside each row
     letters: [], // of each code
     refusal: undefined, // what is wrong with the text, where it is refused
+    way: undefined, // from Start, as far as the machine came
+    fault: undefined, // why there is no way
     shown: undefined, // the picture that is drawn
     before: undefined, // the picture with which it is compared
-    stops: [], // after how many orders the machine was seen to stop
     running: undefined, // how far a run is, and when it was seen last
     tour: undefined, // the story that is told
     touched: false, // a browser lets a page sound only once somebody has touched it
@@ -38,10 +40,13 @@ function faultOf(fault) {
     return isMemory ? { ending: 'no memory', note: '' } : { ending: 'fault', note: String(fault.message) };
 }
 
-// The picture after a count of orders; each stop that was seen before it is passed.
-function pictureAt(orders) {
+// The picture after a count of orders; each stop that was seen before it is passed. A picture that is near helps.
+function pictureAt(orders, near) {
+    if (page.way === undefined) {
+        return page.fault;
+    }
     try {
-        return page.machine.picture(page.program, orders, page.stops.filter((stop) => stop < orders).length);
+        return page.way.at(orders, near);
     } catch (fault) {
         return faultOf(fault);
     }
@@ -51,8 +56,8 @@ function pictureAt(orders) {
 function show(shown, before) {
     const was = page.shown;
     const isNewStop = shown.ending === 'stopped' && !(was && was.ending === 'stopped' && was.orders === shown.orders);
-    if (shown.ending === 'stopped' && !page.stops.includes(shown.orders)) {
-        page.stops.push(shown.orders);
+    if (shown.ending === 'stopped') {
+        shown.way.stops.add(shown.orders);
     }
     page.before = before && before.words ? before : undefined;
     page.shown = shown;
@@ -64,7 +69,7 @@ function show(shown, before) {
 
 // Shows the machine after a count of orders, beside the picture given, or else that of the order before.
 function look(orders, beside) {
-    const shown = pictureAt(Math.max(0, Math.min(Math.floor(orders) || 0, FURTHEST)));
+    const shown = pictureAt(Math.max(0, Math.min(Math.floor(orders) || 0, FURTHEST)), page.shown);
     show(shown, beside || (shown.orders > 0 ? pictureAt(shown.orders - 1) : EMPTY));
 }
 
@@ -72,13 +77,14 @@ function look(orders, beside) {
 function begin() {
     halt();
     page.program = textNow();
-    page.stops = [];
-    page.shown = undefined;
+    page.shown = page.way = undefined;
     let told;
     try {
         told = page.machine.rows(page.program);
+        page.way = new Way(page.machine, page.program, told.out);
     } catch (fault) {
-        told = { ...faultOf(fault), out: new Uint8Array(0) };
+        page.fault = faultOf(fault);
+        told = { ...page.fault, out: new Uint8Array(0) };
     }
     page.rows = told.out;
     page.labels = labelsOf(page.rows, (code) => page.letters[code]);
@@ -259,8 +265,9 @@ function draw() {
 
 // The end of the paper: no more than a browser lays out at once.
 function drawPaper() {
-    const paper = page.shown.paper.slice(-TAIL).replace(/\r/g, '');
-    const left = page.shown.paper.length - TAIL;
+    const { way, printed } = page.shown;
+    const left = Math.max(0, printed - TAIL);
+    const paper = way.text(left, printed).replace(/\r/g, '');
     const said = left > 0 ? `[${page.words.say('lines', { count: page.words.number(left) })}]\n${paper}` : paper;
     if (by('paper').textContent !== said) {
         by('paper').textContent = said;
@@ -369,7 +376,11 @@ function drawTrace() {
     const { orders } = page.shown, first = Math.max(0, orders - 12);
     const lineOf = ({ words, counter, orders: done }) => [
         page.words.number(done + 1).padStart(9), String(counter).padStart(4), page.machine.order(words[counter])].join('  ');
-    by('trace').textContent = Array.from({ length: orders - first }, (_, k) => lineOf(pictureAt(first + k))).join('\n');
+    const lines = [];
+    for (let shown = pictureAt(first); lines.length < orders - first; shown = pictureAt(shown.orders + 1, shown)) {
+        lines.push(lineOf(shown));
+    }
+    by('trace').textContent = lines.join('\n');
 }
 
 // The tape of a source, as a text: an item on each line, and what follows the entry on one.

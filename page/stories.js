@@ -109,7 +109,7 @@ class Tour {
         const isBusy = ({ ending, counter }) => ending === 'limit' && counter < LOADER && counter !== WAITS;
         let shown = from;
         do {
-            shown = pictureAt(shown.orders + 1);
+            shown = pictureAt(shown.orders + 1, shown);
         } while (isBusy(shown) && shown.orders < from.orders + LONGEST_ITEM);
         return shown;
     }
@@ -128,7 +128,7 @@ class Tour {
             if (!(await this.tell(0.2, 'told.on'))) {
                 return;
             }
-            show(pictureAt(Math.round(from + ((entry - from) * k) / 24)), page.shown);
+            show(pictureAt(Math.round(from + ((entry - from) * k) / 24), page.shown), page.shown);
         }
         await this.tell(4, 'told.program');
     }
@@ -147,7 +147,7 @@ class Tour {
             return from;
         }
         let [low, high] = [from, 2 * from + 64];
-        while (!hasLeft(high) && high < FURTHEST) {
+        while (!hasLeft(high) && high < TRIED) {
             [low, high] = [high, 2 * high];
         }
         while (high - low > 1) {
@@ -181,7 +181,7 @@ class Tour {
     async tellProgram() {
         for (let order = 0; order < ORDERS && page.shown.ending === 'limit'; order++) {
             const from = page.shown;
-            show(pictureAt(from.orders + 1), from);
+            show(pictureAt(from.orders + 1, from), from);
             if (!(await this.tell(order < 5 ? 3.5 : 2.5, ...this.orderOf(from, page.shown)))) {
                 return;
             }
@@ -202,14 +202,14 @@ class Tour {
 
     // The rest of the program, up to its end, in at most 18 seconds.
     async runOn() {
-        const end = pictureAt(FURTHEST);
+        const end = pictureAt(TRIED, page.shown);
         const from = page.shown.orders, left = end.orders - from;
         const frames = Math.min(180, Math.max(1, Math.ceil(left / 65)));
         for (let k = 1; k < frames; k++) {
             if (!(await this.tell(0.1, 'told.fast'))) {
                 return;
             }
-            show(pictureAt(from + Math.round((left * k) / frames)), page.shown);
+            show(pictureAt(from + Math.round((left * k) / frames), page.shown), page.shown);
         }
         show(end, page.shown);
     }

@@ -188,8 +188,10 @@ async function noScript(b) {
     b.session = was;
 }
 
-// The time of a picture on an order that jumps to itself and on the loads of bench/: the middle of eleven tries, and
-// the least of them, which other work on the processor doesn't touch.
+const FRAME = 25000; // the most orders of a frame: a quarter of a second at 100,000 orders a second
+
+// The time of a frame of a run, with its picture drawn, on an order that jumps to itself and on the loads of bench/: the
+// middle of eleven tries, and the least of them, which other work on the processor doesn't touch.
 async function speed(b, name) {
     const loads = ['examples/endless.tape', ...['short', 'long', 'squares', 'print'].map((one) => `bench/${one}.tape`)];
     await b.choose('endless.tape');
@@ -202,21 +204,15 @@ async function speed(b, name) {
     });
     for (const load of loads) {
         await b.type(fs.readFileSync(load, 'utf8'));
-        const picture = (orders) => timesOf(() => page.machine.picture(page.program, orders));
-        const times = await b.ask(`[1000, 100000, 1000000].map(${picture})`);
-        const middle = times.map((ms) => ms[5].toFixed(1)).join(', ');
-        console.log(`  ${load}: a picture after 1,000, 100,000 and 1,000,000 orders in ${middle} ms`);
-        await b.expect(
-            `${load} runs so far`,
-            await b.ask('page.machine.picture(page.program, 1000000).orders'),
-            1000000,
-        );
-        await b.expect(`${load}: a picture in 50 ms`, Math.max(...times.map((ms) => ms[0])), (ms) => ms < 50);
+        const frame = (orders) => {
+            look(orders);
+            return [page.shown.orders, timesOf(() => look(page.shown.orders + FRAME, page.shown))];
+        };
+        const frames = await b.ask(`[10, 1000000, 10000000].map(${frame.toString().replace('FRAME', FRAME)})`);
+        const told = frames.map(([orders, ms]) => `${ms[5].toFixed(1)} at ${orders}`).join(', ');
+        console.log(`  ${load}: a frame of ${FRAME} orders, in ms: ${told}`);
+        await b.expect(`${load}: a frame in 16 ms`, Math.max(...frames.map(([, ms]) => ms[0])), (ms) => ms <= 16);
     }
-    const frame = (orders) => timesOf((k) => look(orders + k, page.shown));
-    const frames = await b.ask(`[10, 100000, 1000000].map(${frame})`);
-    const middle = frames.map((ms) => ms[5].toFixed(1)).join(', ');
-    console.log(`  a frame of a run, with its picture drawn, at order 10, 100,000 and 1,000,000: ${middle} ms`);
     const drawing = await b.ask(`(() => { const since = performance.now();
         for (let i = 0; i < 20; i++) { store.rows.clear(); draw(); } return (performance.now() - since) / 20; })()`);
     console.log(`  with ${name} memories; all of a picture drawn in ${drawing.toFixed(1)} ms`);

@@ -144,11 +144,10 @@ async function faults(b) {
         .map((fault) => faultOf(fault).ending));
     await b.expect('what an exception means', kinds, ['fault', 'no memory', 'no memory']);
     const thrown = await b.run(() => {
-        const was = page.machine.picture;
-        page.machine.picture = () => { throw new TypeError('odd'); };
+        page.machine.goOn = () => { throw new TypeError('odd'); };
         look(3);
         const said = by('ending').textContent;
-        page.machine.picture = was;
+        delete page.machine.goOn;
         begin();
         return said;
     });
@@ -285,9 +284,9 @@ async function runs(b) {
     );
     await b.set('at', '999999999');
     await b.expect(
-        'no further than two million',
+        'no further than the program',
         [await b.text('orders'), (await b.text('ending')).length > 10],
-        ['2,000,000', true],
+        ['100,000,000', true],
     );
     await b.choose('letter.tape');
     await b.ask('document.activeElement.blur(); 0');
@@ -308,16 +307,52 @@ async function longPaper(b) {
     await b.type(fs.readFileSync('bench/print.tape', 'utf8'));
     const ms = await b.run(() => {
         const since = performance.now();
-        look(2000000);
+        look(100000000);
         return performance.now() - since;
     });
-    const [all, laid] = await b.ask('[page.shown.paper.length, by("paper").textContent.length]');
+    const [all, laid] = await b.ask('[page.shown.printed, by("paper").textContent.length]');
     const memory = await b.ask('page.machine.exports.memory.buffer.byteLength');
     const took = `run and drawn in ${ms.toFixed(0)} ms; the memory has ${memory >> 20} MiB`;
-    console.log(`  a paper of ${all} characters: ${laid} of them laid out; ${took}`);
+    console.log(`  a paper of ${all} codes: ${laid} characters of it laid out; ${took}`);
+    await b.expect('the paper is full', [all, await b.ask('page.shown.ending')], [1000000, 'paper full']);
     await b.expect('the memory stays below its most', memory, (bytes) => bytes < 32 << 20);
-    await b.expect('a long paper is not laid out whole', [all > 100000, laid < 20200], [true, true]);
+    await b.expect('a long paper is not laid out whole', [laid > 5000, laid < 8200], [true, true]);
+    const back = await b.run(() => {
+        const since = performance.now();
+        look(page.shown.orders - 1);
+        return performance.now() - since;
+    });
+    await b.expect('a step back from a long paper doesn\'t freeze the page', back, (took) => took < 100);
     await b.choose('letter.tape');
 }
 
-module.exports = { firstTape, loaderOnItself, examples, faults, otherForms, ownWork, runs, longPaper };
+// Order 50,000,000, and back by 200 orders, one after the other.
+async function farOn(b) {
+    await b.choose('endless.tape');
+    const far = await b.run(() => {
+        const since = performance.now();
+        look(50000000);
+        return performance.now() - since;
+    });
+    await b.expect('order 50,000,000', await b.text('orders'), '50,000,000');
+    const backs = await b.run(() => Array.from({ length: 200 }, () => {
+        const since = performance.now();
+        back();
+        return performance.now() - since;
+    }).sort((one, two) => one - two));
+    await b.expect('and 200 orders back', await b.text('orders'), '49,999,800');
+    const state = ({ words, acc, counter }) => [[...words].join(), String(acc), counter].join();
+    await b.expect(
+        'the state there is that of a picture from Start',
+        await b.ask(`(${state})(page.shown) === (${state})(page.machine.picture(page.program, 49999800))`),
+        true,
+    );
+    const [middle, most] = [backs[100], backs[199]].map((ms) => ms.toFixed(1));
+    console.log(`  order 50,000,000 in ${far.toFixed(0)} ms, and one order back in ${middle} ms, at most ${most}`);
+    await b.expect('one order back in 50 ms', backs[0], (ms) => ms < 50);
+    await b.click('start');
+    await b.set('at', '1000');
+    await b.choose('letter.tape');
+}
+
+module.exports = { firstTape, loaderOnItself, examples, faults, otherForms, ownWork, runs, longPaper, farOn };

@@ -76,7 +76,7 @@ class Words {
         if (before.rowsLeft !== after.rowsLeft) {
             said.push(this.say('did.row', { letter: machine.letter(rows[rows.length - before.rowsLeft]) }));
         }
-        if (after.paper.length > before.paper.length) {
+        if (addedBetween(before, after) !== '') {
             const text = printedBetween(before, after);
             said.push(text ? this.say('did.printed', { text }) : this.say('did.moved'));
         }
@@ -113,8 +113,9 @@ function changedPlaces(before, after) {
     return [...after.words.keys()].filter((place) => before.words[place] !== after.words[place]);
 }
 
-// What was printed between two pictures, on one line.
-const printedBetween = (before, after) => after.paper.slice(before.paper.length).replace(/\s/g, ' ').trim();
+// What was printed between two pictures, and the same on one line.
+const addedBetween = (before, after) => after.way.text(before.printed, after.printed);
+const printedBetween = (before, after) => addedBetween(before, after).replace(/\s/g, ' ').trim();
 
 // Whether an order of the program changed an order near it: both words are orders of one function, and only their
 // addresses differ.

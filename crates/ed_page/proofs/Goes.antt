@@ -17,7 +17,7 @@ use Rattle.ed_run.proofs.Ends.{ran_ends}
 use Rattle.ed_loads.specs.EntryState.{first_state}
 use Rattle.ed_command.specs.declared.command.Settings.{Settings}
 use Rattle.ed_answers.specs.Runs.{paper_room, run_of}
-use Rattle.ed_page.specs.Going.{GoingLaw, behind, on_the_way}
+use Rattle.ed_page.specs.Going.{GoingLaw, on_the_way, run_following}
 
 -- where a run goes on, the next order ends nothing
 next_open : (limit resumes room k : ℕ) (p : Past) → end_at limit resumes room k p ≡ None
@@ -57,7 +57,7 @@ goes_on : (limit resumes room orders more : ℕ) (s : State)
     → let k = run_orders limit resumes room s in
     let first = ran limit resumes room s in
     ran (k + orders) ((past k s).stops + more) room s
-    ≡ behind (past k s) (ran orders more (room - length first.codes) first.state)
+    ≡ run_following (past k s) (ran orders more (room - length first.codes) first.state)
 unfolding ran
 goes_on limit resumes room orders more s =
     let k = run_orders limit resumes room s in

@@ -1,4 +1,4 @@
--- The states on the way of a tape: they are within their bounds, a machine can come to them, and a picture shows one of
+-- The states on the way of a tape: they are within their bounds, Start and orders lead to them, and a picture shows one of
 -- them alone.
 use Rattle.std.proofs.Common.{◌≡◌, ◌∙◌, ℕ, ◌+◌, ◌-◌, ◌/◌, ◌%◌, ◌^◌, ◌<◌, ◌≤◌, refl, sym, ap, subst, arith, lit<, lit≤, rules}
 use Rattle.std.proofs.Common.{Bool, Option, Some, None, List, ◌++◌, drop, get_or, length, length-append}

@@ -24,7 +24,7 @@ paper_law before (code ∷ codes) =
     ∙ ap (λ (s : Shift). (paper before ++ struck shift code) ++ paper_from s codes) next
     ∙ append_assoc (paper before) (struck shift code) (paper_from (shift_after shift code) codes)
 
--- the shift that a code sets, and letter shift if there is none
+-- the shift that a code sets, or letter shift if no code sets one
 abbrev pub shift_set : Option ℕ → Shift
 shift_set None = Letters
 shift_set (Some code) = shift_after Letters code

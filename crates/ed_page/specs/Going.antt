@@ -71,9 +71,9 @@ pub record IsGoneOn (r : RunEnd) (before after : GoingBuffers) (answer : ℕ) : 
 
 -- ---- laws
 
--- a run behind orders that were obeyed: what they printed comes first
-abbrev pub behind : Past → RunEnd → RunEnd
-behind p r = record { ending = r.ending; state = r.state; codes = p.codes ++ r.codes }
+-- a run that follows orders: what they printed comes first
+abbrev pub run_following : Past → RunEnd → RunEnd
+run_following p r = record { ending = r.ending; state = r.state; codes = p.codes ++ r.codes }
 
 -- Wherever a run ended, going on from there is the one run from the beginning: with the orders that the first part
 -- obeyed and those of the second, the resumes that it used and those of the second, and the paper that it left. What a
@@ -83,7 +83,7 @@ pub record GoingLaw : Type 0 where
       → let k = run_orders limit resumes room s in
       let first = ran limit resumes room s in
       ran (k + orders) ((past k s).stops + more) room s
-      ≡ behind (past k s) (ran orders more (room - length first.codes) first.state)
+      ≡ run_following (past k s) (ran orders more (room - length first.codes) first.state)
   pub from_start : (s : Settings) (codes : List ℕ)
       → run_of s codes ≡ ran s.limit s.resumes paper_room (on_the_way s.size codes 0)
   pub stays : (z : Size) (codes : List ℕ) (k limit resumes room : ℕ)

@@ -24,8 +24,8 @@ pub struct Gone {
     pub codes: Vec<u8>,
 }
 
-/// Goes on from a picture: obeys `orders` orders more, or those up to where the run ends before. Each Z up to so many
-/// `resumes` lets the run go on.
+/// Goes on from a picture: obeys `orders` orders more, or those up to where the run ends before. Each of the first
+/// `resumes` Z orders lets the run go on.
 ///
 /// The words, digits and registers are those that this call, `page_tape` or `page_source` wrote for the tape that has
 /// these rows. Afterwards they are those of the state in which the run ends; `registers.orders` is still counted from

@@ -72,7 +72,7 @@ fn acc_of(registers: &Registers) -> Acc
     Acc::new(number).unwrap_or(Acc::cleared())
 }
 
-/// So many rows that are left, the last ones.
+/// The rows that are left, the last ones of a tape.
 fn rows_left(alloc: Global, rows: &[u8], left: usize) -> Result<Vec<Code>, NoMemory>
     requires rows { AreCodes rows.now }
     requires left { left ≤ length rows.now }

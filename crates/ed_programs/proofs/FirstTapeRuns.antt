@@ -27,11 +27,11 @@ use Rattle.ed_report.specs.Notes.{at_after}
 use Rattle.ed_routines.proofs.Journeys.{ComesToStop}
 use Rattle.ed_sources.proofs.Stops.{LeadsToStop, ran_to_stop}
 use Rattle.ed_command.specs.declared.command.Settings.{Settings}
-use Rattle.ed_top.specs.Answer.{OfReading, exactly}
-use Rattle.ed_top.specs.FirstEntry.{cost1}
-use Rattle.ed_top.specs.FirstOrders.{first_state1, run1_of, tape1_outcome}
-use Rattle.ed_top.specs.Outcome.{Outcome}
-use Rattle.ed_top.specs.Runs.{paper_room, ran_outcome}
+use Rattle.ed_answers.specs.Answer.{OfReading, exactly}
+use Rattle.ed_answers.specs.FirstEntry.{cost1}
+use Rattle.ed_answers.specs.FirstOrders.{first_state1, run1_of, tape1_outcome}
+use Rattle.ed_answers.specs.Outcome.{Outcome}
+use Rattle.ed_answers.specs.Runs.{paper_room, ran_outcome}
 use Rattle.ed_top.proofs.Stopped.{answered}
 use Rattle.ed_programs.specs.FirstTapes.{FirstTapePrints, FirstTapeRuns}
 use Rattle.ed_programs.specs.Programs.{GivesProgram}

@@ -26,9 +26,9 @@ use Rattle.ed_checker.specs.Laws.{ChecksToStop, HasGuest}
 use Rattle.ed_checker.proofs.Follow.{checker_law}
 use Rattle.ed_sources.proofs.Stops.{StopsAt, halted}
 use Rattle.ed_command.specs.declared.command.Settings.{Settings}
-use Rattle.ed_top.specs.Headline.{RunsFromEntry}
-use Rattle.ed_top.specs.Sources.{OfSource, run_outcome}
-use Rattle.ed_top.proofs.Sources.{accepted_is, headline}
+use Rattle.ed_answers.specs.Headline.{RunsFromEntry}
+use Rattle.ed_answers.specs.Sources.{OfSource, run_outcome}
+use Rattle.ed_answers.proofs.Sources.{accepted_is, headline}
 use Rattle.ed_top.proofs.Stopped.{stopped_outcome}
 use Rattle.ed_programs.specs.Guests.{ChecksGuest, StopsAtZ, EachGuestIsChecked, EntersChecker}
 use Rattle.ed_programs.specs.Guests.{checker_base, entry_guest}

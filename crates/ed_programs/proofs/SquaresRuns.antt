@@ -10,8 +10,8 @@ use Rattle.ed_paths.proofs.Frames.{Moment, state}
 use Rattle.ed_paths.proofs.Window.{patched}
 use Rattle.ed_routines.proofs.Journeys.{ComesToStop}
 use Rattle.ed_command.specs.declared.command.Settings.{Settings}
-use Rattle.ed_top.specs.FirstOrders.{first_state1}
-use Rattle.ed_top.specs.Runs.{paper_room}
+use Rattle.ed_answers.specs.FirstOrders.{first_state1}
+use Rattle.ed_answers.specs.Runs.{paper_room}
 use Rattle.ed_programs.specs.FirstTapes.{FirstTapeRuns}
 use Rattle.ed_programs.specs.Squares.{squares_cost, squares_orders, squares_prints, squares_text}
 use Rattle.ed_programs.proofs.FirstTapeRuns.{are_items, first_tape_runs, short_item}

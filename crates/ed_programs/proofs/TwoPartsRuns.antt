@@ -44,11 +44,11 @@ use Rattle.ed_parts.specs.Parts.{Told, entry_done, entry_told, finished, first_p
 use Rattle.ed_parts.specs.Parts.{program_end, told_lines}
 use Rattle.ed_parts.specs.declared.tape.PartsEnd.TheVariants.{Ended}
 use Rattle.ed_command.specs.declared.command.Settings.{Settings}
-use Rattle.ed_top.specs.Answer.{OfReading, exactly}
-use Rattle.ed_top.specs.Outcome.{Outcome}
-use Rattle.ed_top.specs.Output.{tape_outcome}
+use Rattle.ed_answers.specs.Answer.{OfReading, exactly}
+use Rattle.ed_answers.specs.Outcome.{Outcome}
+use Rattle.ed_answers.specs.Tapes.{tape_outcome}
 use Rattle.ed_top.specs.Parts.{IsInParts}
-use Rattle.ed_top.specs.Runs.{paper_room, ran_outcome, with_post_mortem}
+use Rattle.ed_answers.specs.Runs.{paper_room, ran_outcome, with_post_mortem}
 use Rattle.ed_top.proofs.Stopped.{answered, nothing_after}
 use Rattle.ed_programs.specs.Programs.{GivesProgram}
 use Rattle.ed_programs.specs.TwoParts.{TwoParts, TwoPartsPrint, TwoPartsRun, orders_to_program, orders_to_return}

@@ -8,8 +8,8 @@ use Rattle.ed_initial1.specs.Faults.{Comes1, Tape}
 use Rattle.ed_report.specs.Notes.{at_after}
 use Rattle.ed_command.specs.declared.command.Action.TheVariants.{Tape1}
 use Rattle.ed_command.specs.declared.command.Settings.{Settings}
-use Rattle.ed_top.specs.Answer.{IsDue}
-use Rattle.ed_top.specs.FirstEntry.{cost1}
+use Rattle.ed_answers.specs.Answer.{IsDue}
+use Rattle.ed_answers.specs.FirstEntry.{cost1}
 use Rattle.ed_top.specs.Output.{output}
 use Rattle.ed_programs.specs.declared.refusal.Refusal.{Refusal}
 
