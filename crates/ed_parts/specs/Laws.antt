@@ -31,13 +31,13 @@ pub record Begins (p : TapePart) : Type 0 where
   pub further : p.number ≢ 1 → IsReturned p.state
 
 -- the Initial Orders lead it to the state at its entry, cell by cell, and print nothing on the way
-pub record IsReached (p : TapePart) (e : TapeEntry) : Type 0 where
+pub record IsEntryReached (p : TapePart) (e : TapeEntry) : Type 0 where
   pub state_is : part_entry_state p e ≡ at_entry p.state e
   pub silent : (past e.cost p.state).codes ≡ []
 
 -- so it is with every part
 abbrev pub EachEntryIsReached : Type 0
-EachEntryIsReached = (p : TapePart) (e : TapeEntry) → Begins p → LeadsTo p e → IsReached p e
+EachEntryIsReached = (p : TapePart) (e : TapeEntry) → Begins p → LeadsTo p e → IsEntryReached p e
 
 -- the run of the whole tape, which is never resumed and whose paper never is full, ends so and in this state, and prints
 -- these codes
