@@ -1,5 +1,5 @@
 //! What a web page shows of the machine: pictures of the run of a tape, for either Initial Orders, or of a source,
-//! after so many orders from Start, the rows of tapes, the listing of a source, and the texts of rows and orders.
+//! after a number of orders from Start, the rows of tapes, the listing of a source, and the texts of rows and orders.
 //!
 //! The exports keep no state. Their contract is that each answer is the program's own to the same text, with its texts
 //! at the heads of the caller's buffers, and that each other answer has its cause. Stands on `ed_answers` for what the program
