@@ -17,7 +17,7 @@ out = pathlib.Path(sys.argv[1])
 here = pathlib.Path("page")
 
 FIRST = ["letter.tape", "name.tape", "digits.tape", "hello.edsac", "squares.edsac", "roots.edsac"]
-KINDS = {".tape": "tape", ".edsac": "source"}
+KINDS = {".tape": "tape", ".tape1": "tape1", ".edsac": "source"}
 CODE = ["machine", "way", "words", "draw", "strip", "share", "editor", "stories", "lessons", "kiosk", "page"]
 
 

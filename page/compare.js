@@ -7,7 +7,7 @@ const path = require('path');
 const { spawnSync } = require('child_process');
 const { Machine, NO_CODE } = require('./machine.js');
 const { Way } = require('./way.js');
-const { figuresOf } = require('./words.js');
+const { figuresOf, figuresOf1 } = require('./words.js');
 
 const [file, edsac, folder] = process.argv.slice(2);
 const machine = new Machine(new WebAssembly.Module(fs.readFileSync(file)));
@@ -27,11 +27,13 @@ function same(what, got, wanted) {
 }
 
 const storeOf = (small) => ['--store', small ? '512' : '1024'];
+const COMMANDS = { source: 'run', tape: 'tape', tape1: 'tape1' };
+const KINDS = { '.tape': 'tape', '.tape1': 'tape1', '.edsac': 'source' };
 
 // What the program tells of a run that ends after so many orders, beside the picture there.
 function compareRun(name, text, orders, resumes) {
-    const options = ['--limit', String(orders), '--resume', String(resumes), ...storeOf(text.small)];
-    const told = program([text.kind === 'source' ? 'run' : 'tape', ...options], text.text);
+    const size = text.kind === 'tape1' ? [] : storeOf(text.small);
+    const told = program([COMMANDS[text.kind], '--limit', String(orders), '--resume', String(resumes), ...size], text.text);
     const shown = machine.picture(text, orders, resumes);
     pictures++;
     seen.set(shown.ending, (seen.get(shown.ending) || 0) + 1);
@@ -90,24 +92,25 @@ function compareSmall(name, text, counts) {
         if (orders.some((order) => '#*.@!&'.includes(order[0]))) {
             continue;
         }
-        const command = text.kind === 'source' ? 'run' : 'tape';
-        const told = program([command, '--limit', String(count), '--post-mortem', '144,368', ...storeOf(true)], text.text);
+        const told = program([COMMANDS[text.kind], '--limit', String(count), '--post-mortem', '144,368', ...storeOf(true)], text.text);
         const wanted = orders.map((order) => order.replace(/^.(?=[FD])/, '$&0')).join('\n');
         same(`${name} after ${count}: words`, told.out.replace(/\r/g, '').trimEnd().slice(-wanted.length), wanted);
         small++;
     }
 }
 
-// Which rows the loader itself reads as digits, by its order at 9, beside those that the page labels as figures.
+// Which rows the loader itself reads as digits, by its order at 9, or at 11 in May 1949, beside those that the page labels
+// as figures.
 function compareFigures(name, text) {
     const rows = machine.rows(text).out;
-    const labelled = figuresOf(rows, (code) => machine.letter(code));
+    const isFirst = text.kind === 'tape1', places = isFirst ? 31 : 41, reads = isFirst ? 11 : 9;
+    const labelled = isFirst ? figuresOf1(rows) : figuresOf(rows, (code) => machine.letter(code));
     let before = machine.picture(text, 0);
-    for (let orders = 1; orders < 1500 && before.words && before.ending === 'limit' && before.counter < 41; orders++) {
+    for (let orders = 1; orders < 1500 && before.words && before.ending === 'limit' && before.counter < places; orders++) {
         const shown = machine.picture(text, orders);
         if (shown.rowsLeft < before.rowsLeft) {
             const at = rows.length - before.rowsLeft;
-            same(`${name}: row ${at} is a figure`, labelled[at], before.counter === 9 && rows[at] < 10);
+            same(`${name}: row ${at} is a figure`, labelled[at], before.counter === reads && rows[at] < 10);
             figures++;
         }
         before = shown;
@@ -144,8 +147,8 @@ function compareStates(name, text, counts) {
 // The rows of the tape, and the listing.
 function compareTexts(name, text) {
     const rows = machine.rows(text);
-    if (text.kind === 'tape') {
-        const told = program(['tape', '--limit', '1'], text.text);
+    if (text.kind !== 'source') {
+        const told = program([text.kind, '--limit', '1'], text.text);
         const isRefused = [3, 11].includes(told.status);
         same(`${name}: rows`, rows.status, isRefused ? told.status : 0);
         same(`${name}: note of the rows`, rows.note, isRefused ? told.note : '');
@@ -194,6 +197,11 @@ function madeTape(next) {
     return `T64K GK ${items.join(' ')} EZPF ${LETTERS[next(32)]}${LETTERS[next(32)]}`;
 }
 
+function madeTape1(next) {
+    const items = Array.from({ length: 3 + next(20) }, () => `${ORDERS[next(18)]}${next(3) ? 31 + next(24) : ''}${'SSSL'[next(4)]}`);
+    return `T${31 + items.length + next(3)}S ${items.join(' ')} ZS ${LETTERS[next(32)]}`;
+}
+
 function madeSource(next) {
     const lines = ['segment main'];
     const names = ['one', 'two', 'three'];
@@ -227,23 +235,30 @@ function compareAll(name, text, furthest) {
     [...new Set(some)].forEach((count) => compareRun(name, text, count, 0));
     compareRun(name, text, furthest, 2);
     const counts = [...new Set(some.filter((count) => count <= end))].sort((a, b) => a - b);
-    compareStates(name, text, counts);
+    if (text.kind !== 'tape1') { // the program has no session of such a tape
+        compareStates(name, text, counts);
+    }
     compareGoing(name, text, counts);
 }
 
 for (const name of fs.readdirSync(folder).sort()) {
-    const kind = { '.tape': 'tape', '.edsac': 'source' }[path.extname(name)];
+    const kind = KINDS[path.extname(name)];
     if (kind) {
         const text = fs.readFileSync(path.join(folder, name), 'utf8');
         compareAll(name, { kind, text, small: false }, 400000);
         compareFigures(name, { kind, text, small: false });
-        compareAll(`${name} in the small store`, { kind, text, small: true }, 20000);
+        if (kind !== 'tape1') {
+            compareAll(`${name} in the small store`, { kind, text, small: true }, 20000);
+        }
     }
 }
 for (let seed = 1; seed <= 200; seed++) {
     const next = sequence(seed);
     const kind = seed % 2 ? 'tape' : 'source';
     compareAll(`made ${kind} ${seed}`, { kind, text: kind === 'tape' ? madeTape(next) : madeSource(next), small: next(5) === 0 }, 3000);
+}
+for (let seed = 1; seed <= 40; seed++) {
+    compareAll(`made tape of May 1949 ${seed}`, { kind: 'tape1', text: madeTape1(sequence(seed)), small: false }, 3000);
 }
 for (const name of ['endless.tape', 'squares.edsac']) {
     const kind = name.endsWith('.tape') ? 'tape' : 'source';
@@ -252,6 +267,8 @@ for (const name of ['endless.tape', 'squares.edsac']) {
     compareStates(`${name}, far on`, text, kind === 'tape' ? [262144, 1000000, 50000000, 99999999] : [end - 200, end]);
 }
 compareAll('a tape with an open comment', { kind: 'tape', text: 'T64K [GK', small: false }, 100);
+compareAll('a tape of May 1949 with an open comment', { kind: 'tape1', text: 'T35S [O34S', small: false }, 100);
+compareAll('a tape of May 1949 that is empty', { kind: 'tape1', text: '', small: false }, 100);
 compareAll('a source with a fault after line 1000', { kind: 'source', text: `${'\n'.repeat(1499)}%\n`, small: false }, 100);
 compareTexts('too long', { kind: 'tape', text: ' '.repeat(262145), small: false });
 same(

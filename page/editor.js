@@ -10,9 +10,12 @@ const editor = {
     timer: undefined,
 };
 
-const textNow = () => ({
-    text: by('text').value, kind: by('isSource').checked ? 'source' : 'tape', small: by('small').checked,
-});
+const KIND_BOXES = { tape: 'isTape', tape1: 'isTape1', source: 'isSource' };
+
+function textNow() {
+    const kind = Object.keys(KIND_BOXES).find((one) => by(KIND_BOXES[one]).checked);
+    return { text: by('text').value, kind, small: kind !== 'tape1' && by('small').checked };
+}
 
 // The parts of a text, each with its class: what is matched has the class of its group.
 function matchedParts(text, form) {
@@ -100,7 +103,7 @@ function put(program) {
     }
     by('undo').disabled = editor.former === undefined;
     by('text').value = program.text;
-    by(program.kind === 'source' ? 'isSource' : 'isTape').checked = true;
+    by(KIND_BOXES[program.kind]).checked = true;
     if (program.small !== undefined && by('small').checked !== program.small) {
         by('small').checked = program.small;
         tanks();

@@ -107,8 +107,9 @@ class Machine {
     // The machine after so many orders from Start, or where its run ended before.
     picture(program, limit, resumes = 0) {
         const [at, length] = this.put(program.text);
-        const status = this.call(program.kind === 'source' ? 'page_source' : 'page_tape', at, length, program.small ? 1 : 0,
-            limit, resumes, 'words', 'digits', 'paper', 'note', 'registers');
+        const name = { source: 'page_source', tape: 'page_tape', tape1: 'page_tape1' }[program.kind];
+        const size = program.kind === 'tape1' ? [] : [program.small ? 1 : 0]; // May 1949 has the full store alone
+        const status = this.call(name, at, length, ...size, limit, resumes, 'words', 'digits', 'paper', 'note', 'registers');
         if (status === 10 || status === 12) {
             return { status, ending: ENDINGS[status], note: '' };
         }

@@ -77,6 +77,8 @@ function look(orders, beside) {
 function begin() {
     halt();
     page.program = textNow();
+    by('small').disabled = page.program.kind === 'tape1'; // the loader of May 1949 has the full store alone
+    tanks();
     page.shown = page.way = undefined;
     let told;
     try {
@@ -87,7 +89,7 @@ function begin() {
         told = { ...page.fault, out: new Uint8Array(0) };
     }
     page.rows = told.out;
-    page.labels = labelsOf(page.rows, (code) => page.letters[code]);
+    page.labels = labelsOf(page.rows, (code) => page.letters[code], page.program.kind);
     tellRefusal(told);
     look(0);
     drawListing();
@@ -282,7 +284,7 @@ function lastText(code) {
 
 function didText() {
     if (page.before === EMPTY) {
-        return page.words.say('atStart');
+        return page.words.say(page.program.kind === 'tape1' ? 'atStart1' : 'atStart');
     }
     return page.before && page.shown.orders - page.before.orders === 1
         ? page.words.say('before', { said: page.words.changes(page.before, page.shown, page.machine, page.rows) }) : '';
@@ -334,13 +336,15 @@ function tellRefusal(told) {
     const isUntold = ['no memory', 'no room', 'fault'].includes(told.ending);
     const { text, kind } = page.program;
     page.refusal = told.note && !isUntold ? page.words.refusal(told.note, text, kind) : undefined;
-    by('refusal').hidden = !isUntold && page.refusal === undefined;
+    const form = formOf(text), isMisread = form !== kind && text.trim() !== '';
+    const isOther = isMisread && form !== 'source' && kind !== 'source'; // a tape of the other loader is not refused
+    by('refusal').hidden = !isUntold && !isOther && page.refusal === undefined;
     by('mark').hidden = page.refusal === undefined;
-    by('switch').hidden = page.refusal === undefined || kindOf('', text) === kind;
-    by('switch').textContent = page.words.say(kind === 'source' ? 'asTape' : 'asSource');
+    by('switch').hidden = !isOther && (page.refusal === undefined || !isMisread);
+    by('switch').textContent = page.words.say(`as.${form}`);
     by('text').setAttribute('aria-invalid', String(page.refusal !== undefined));
     by('refused').textContent = page.refusal ? page.words.say('refuses', { note: told.note.trim(), ...page.refusal })
-        : isUntold ? page.words.say(key, { note: told.note }) : '';
+        : isUntold ? page.words.say(key, { note: told.note }) : isOther ? page.words.say(`looks.${form}`) : '';
 }
 
 function markRefusal() {
@@ -449,7 +453,7 @@ function fill(id, choices) {
 }
 
 function tanks() {
-    const count = by('small').checked ? 16 : 32;
+    const count = textNow().small ? 16 : 32;
     const nameOf = (tank) => page.words.say('placesFrom', { first: 32 * tank, last: 32 * tank + 31 });
     fill('tank', Array.from({ length: count }, (_, tank) => [String(tank), nameOf(tank)]));
 }
@@ -545,9 +549,8 @@ async function openFile() {
     if (!file) {
         return;
     }
-    const isOther = /\.tape1$/i.test(file.name);
-    if (isOther || file.size > LONGEST) {
-        by('shared').textContent = page.words.say(isOther ? 'otherLoader' : 'badFile');
+    if (file.size > LONGEST) {
+        by('shared').textContent = page.words.say('badFile');
         return;
     }
     by('shared').textContent = '';
@@ -621,12 +624,12 @@ function listen() {
     press('undo', undo);
     press('punch', punch);
     press('switch', () => {
-        by(by('isSource').checked ? 'isTape' : 'isSource').checked = true;
+        by(KIND_BOXES[formOf(by('text').value)]).checked = true;
         begin();
     });
     press('save', () => {
         const { text, kind } = textNow();
-        saveFile(kind === 'source' ? 'program.edsac' : 'program.tape', text, 'text/plain');
+        saveFile(`program.${kind === 'source' ? 'edsac' : kind}`, text, 'text/plain');
     });
     press('open', () => by('file').click());
     press('link', makeLink);
@@ -656,7 +659,7 @@ function listenToBoxes() {
     by('tank').onchange = () => { follow(false); drawLook(); };
     by('figures').onchange = draw;
     by('small').onchange = () => { tanks(); begin(); };
-    by('isTape').onchange = by('isSource').onchange = begin;
+    by('isTape').onchange = by('isTape1').onchange = by('isSource').onchange = begin;
     by('text').oninput = typed;
     by('text').onscroll = follows;
     by('file').onchange = openFile;

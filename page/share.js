@@ -46,7 +46,7 @@ async function unpacked(letters) {
             bytes = await through(bytes, new DecompressionStream('deflate-raw'), 2 * LONGEST);
         }
         const [kind, small, orders, text] = JSON.parse(new TextDecoder('utf-8', { fatal: true }).decode(bytes));
-        const isWhole = (kind === 'tape' || kind === 'source') && typeof text === 'string' && text.length <= LONGEST
+        const isWhole = ['tape', 'tape1', 'source'].includes(kind) && typeof text === 'string' && text.length <= LONGEST
             && Number.isInteger(orders) && orders >= 0 && (small === 0 || small === 1);
         return isWhole ? { kind, small: small === 1, orders, text } : undefined;
     } catch (fault) {
@@ -67,10 +67,16 @@ function saveFile(name, text, type) {
     setTimeout(() => URL.revokeObjectURL(address), 1000);
 }
 
-// A source has lines of words, and a tape has none.
-const kindOf = (name, text) => (/\.edsac$/i.test(name) ? 'source' : /\.tape$/i.test(name) ? 'tape'
-    : /^\s*(segment|enter|version)\b/m.test(text) ? 'source' : 'tape');
+// A source has lines of words. A tape of May 1949 begins with T, a number and S, and a later tape doesn't.
+const formOf = (text) => (/^\s*(segment|enter|version)\b/m.test(text) ? 'source'
+    : /^\s*T\s*(\d\s*)+S/.test(text.replace(/\[[^\]]*\]/g, '')) ? 'tape1' : 'tape');
+
+// The kind of a file: by its name, or else by its form.
+const kindOf = (name, text) => {
+    const ending = (name.match(/\.(edsac|tape1|tape)$/i) || ['', ''])[1].toLowerCase();
+    return { edsac: 'source', tape: 'tape', tape1: 'tape1' }[ending] || formOf(text);
+};
 
 if (typeof module !== 'undefined') {
-    module.exports = { packed, unpacked, kindOf, LONGEST };
+    module.exports = { packed, unpacked, formOf, kindOf, LONGEST };
 }

@@ -2,13 +2,15 @@
 // The stories that the page tells by itself: what a tape is to do, how it fills the store, how its program works, and an
 // end that invites. What is shown comes from the machine's pictures; an item of the tape is what the loader reads between
 // two pictures in which it waits for the next one.
-const WAITS = 34; // the place of the loader's order that reads the first row of an item
+const WAITS = { tape: 34, source: 34, tape1: 7 }; // the place of the loader's order that reads the first row of an item
+const OWN = { tape: 44, source: 44, tape1: 31 }; // the first place that the loader doesn't use itself
 const STORIES = [
     { name: 'letter', example: 'letter.tape' },
     { name: 'name' },
     { name: 'changes', example: 'hello.edsac' },
     { name: 'disc', example: 'disc.edsac' },
     { name: 'sum', example: 'add.edsac' },
+    { name: 'first', example: 'squares.tape1' },
     { name: 'own' }, // what stands in the box
 ];
 const ITEMS = 9, ORDERS = 9; // how many are told one by one
@@ -97,7 +99,7 @@ class Tour {
 
     // The loader's own first orders, as one picture.
     async tellLoader() {
-        if (!(await this.tell(6, 'told.loader'))) {
+        if (!(await this.tell(6, page.program.kind === 'tape1' ? 'told.loader1' : 'told.loader'))) {
             return;
         }
         show(this.toNextItem(page.shown), page.shown);
@@ -106,7 +108,8 @@ class Tour {
 
     // The picture in which the loader waits for its next item, or has left.
     toNextItem(from) {
-        const isBusy = ({ ending, counter }) => ending === 'limit' && counter < LOADER && counter !== WAITS;
+        const { kind } = page.program;
+        const isBusy = ({ ending, counter }) => ending === 'limit' && counter < placesOf(kind) && counter !== WAITS[kind];
         let shown = from;
         do {
             shown = pictureAt(shown.orders + 1, shown);
@@ -134,14 +137,14 @@ class Tour {
     }
 
     isReading() {
-        return page.shown.ending === 'limit' && page.shown.counter < LOADER;
+        return page.shown.ending === 'limit' && page.shown.counter < placesOf(page.program.kind);
     }
 
     // After how many orders the loader has left: found by halves, since before it the counter is in the loader.
     entryAfter(from) {
         const hasLeft = (orders) => {
             const shown = pictureAt(orders);
-            return shown.ending !== 'limit' || shown.counter >= LOADER;
+            return shown.ending !== 'limit' || shown.counter >= placesOf(page.program.kind);
         };
         if (hasLeft(from)) {
             return from;
@@ -161,15 +164,19 @@ class Tour {
     itemOf(from, to) {
         const first = page.rows.length - from.rowsLeft, last = page.rows.length - to.rowsLeft;
         const item = page.labels.slice(first, last).join('');
-        const places = changedPlaces(from, to).filter((place) => place >= LOADER + 3);
+        const places = changedPlaces(from, to).filter((place) => place >= OWN[page.program.kind]);
         if (places.length === 1) {
             const order = page.machine.order(to.words[places[0]]);
+            if (page.program.kind === 'tape1') {
+                return places[0] === FIRST_LOADER ? ['told.first1', { item, place: item.slice(1, -1) - 1 }]
+                    : ['told.stored', { item, place: places[0] }];
+            }
             return [order === item ? 'told.stored' : 'told.landed', { item, order, place: places[0] }];
         }
         if (places.length > 1) {
             return ['told.landedMany', { item, place: places.join(', ') }];
         }
-        if (to.counter >= LOADER) {
+        if (to.counter >= placesOf(page.program.kind)) {
             return ['told.enter', { item }];
         }
         const number = item.slice(1, -1);

@@ -92,7 +92,7 @@ async function kiosk(b) {
     );
     await b.ask('page.hurry = 0.005; page.shift = 0; page.clock = () => performance.now() + page.shift; 0');
     const later = (seconds) => b.ask(`page.shift += ${seconds * 1000}; page.kiosk.look(); 0`);
-    for (const name of ['letter', 'name', 'changes', 'disc', 'sum', 'letter']) {
+    for (const name of ['letter', 'name', 'changes', 'disc', 'sum', 'first', 'letter']) {
         await b.expect(
             `its stories rotate: ${name}`,
             [await b.ask('by("stories").value'), await b.until('page.tour === undefined')],

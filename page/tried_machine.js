@@ -223,6 +223,31 @@ async function otherForms(b) {
     await b.ask('editor.isOwn = false; 0');
 }
 
+// A text that is meant for another loader is recognised, and one click goes on with that loader.
+async function otherLoaders(b) {
+    const seen = '[by("refusal").hidden, by("switch").hidden, by("switch").textContent, page.program.kind]';
+    for (const [name, kind, box, says] of [
+        ['squares.tape1', 'tape1', 'isTape', 'Read it as a tape of May 1949'],
+        ['squares.tape1', 'tape1', 'isSource', 'Read it as a tape of May 1949'],
+        ['letter.tape', 'tape', 'isTape1', 'Read it as a tape'],
+        ['hello.edsac', 'source', 'isTape1', 'Read it as a source'],
+    ]) {
+        await b.choose(name);
+        await b.expect(`${name} is read by its loader`, await b.ask(seen), (told) => told[0] === true && told[3] === kind);
+        await b.click(box);
+        await b.expect(`${name} as something else`, (await b.ask(seen)).slice(0, 3), [false, false, says]);
+        await b.click('switch');
+        await b.expect(`${name} goes on`, await b.ask(seen), (told) => told[0] === true && told[3] === kind);
+    }
+    await b.choose('squares.tape1');
+    await b.expect('the small store is not for it', await b.ask('[by("small").disabled, page.program.small]'), [true, false]);
+    await b.expect('31 orders', await b.text('did'),
+        'Start: the store was cleared, and the machine put 31 orders into places 0 to 30. They are the loader of May 1949. '
+        + 'Its programs begin at place 31.');
+    await b.choose('letter.tape');
+    await b.expect('and is for others', await b.ask('by("small").disabled'), false);
+}
+
 async function ownWork(b) {
     await b.choose('letter.tape');
     await b.type('T64K GK ZF EZPF');
@@ -355,4 +380,4 @@ async function farOn(b) {
     await b.choose('letter.tape');
 }
 
-module.exports = { firstTape, loaderOnItself, examples, faults, otherForms, ownWork, runs, longPaper, farOn };
+module.exports = { firstTape, loaderOnItself, examples, faults, otherForms, otherLoaders, ownWork, runs, longPaper, farOn };

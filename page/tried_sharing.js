@@ -68,13 +68,14 @@ async function files(b) {
         await open('own.txt', 'segment main\r\nZ F\r\nenter main\r\n'),
         ['segment main\nZ F\nenter main\n', true],
     );
-    await open('cubes.tape1', 'PF');
-    await b.expect('a tape of May 1949', await b.text('shared'), (said) => said.startsWith('This is a tape of May 1949.'));
+    await open('cubes.tape1', 'T33S ZS');
+    await b.expect('a tape of May 1949', await b.ask('[page.program.kind, by("isTape1").checked]'), ['tape1', true]);
+    await open('own.tape', 'T64K GK ZF EZPF');
     const [kept] = await open('long.tape', ' '.repeat(262145));
     await b.expect(
         'a long file is refused',
         [kept.length, await b.text('shared')],
-        [28, 'This file is longer than a program can be.'],
+        [15, 'This file is longer than a program can be.'],
     );
     await b.choose('letter.tape');
 }

@@ -2,9 +2,11 @@
 // The stories to their ends, and the lessons with their answers.
 const fs = require('fs');
 
+const SQUARES = [1, 4, 9, 16, 25, 36, 49, 64, 81].map((square) => String(square).padStart(2, '0')).join('\n');
+
 async function stories(b) {
     await b.ask('page.hurry = 0.01; 0');
-    const printed = { letter: 'A', name: 'ADA', changes: 'HELLO', sum: '1981' };
+    const printed = { letter: 'A', name: 'ADA', changes: 'HELLO', sum: '1981', first: SQUARES };
     for (const name of await b.ask('STORIES.map((story) => story.name)')) {
         if (name === 'own') {
             await b.choose('digits.tape');

@@ -4,8 +4,8 @@
 //   node page/units.js
 const fs = require('fs');
 const path = require('path');
-const { Words, signAt, lineAt, hintFor, figuresOf, shiftOf } = require('./words.js');
-const { packed, unpacked, kindOf } = require('./share.js');
+const { Words, signAt, lineAt, hintFor, figuresOf, figuresOf1, shiftOf } = require('./words.js');
+const { packed, unpacked, formOf, kindOf } = require('./share.js');
 const { printable, tapeOf } = require('./stories.js');
 const { sumOf, seenOf } = require('./lessons.js');
 const { punchedOf } = require('./draw.js');
@@ -159,6 +159,9 @@ const figured = (text) => figuresOf(codes(text), (code) => LETTERS[code]).map((i
 same('the figures of a tape', figured('T64KGKO2@ZFAFEZPF'), '-99---' + '-9-' + '----' + '----');
 same('what follows the entry is not the loader\'s', figured('E64KPF12F'), '-99-' + '--' + '---');
 same('no figure without an item', figured('12'), '-9');
+const figured1 = (text) => figuresOf1(codes(text)).map((is) => (is ? '9' : '-')).join('');
+same('the figures of a tape of May 1949', figured1('T34SO33SZSPS12'), '-99--99-------');
+same('what follows its last word is not the loader\'s', figured1('T33SZS12S'), '-99------');
 same('blank tape has no hole, erase has five', ['.', '*'].map((sign) => punchedOf(LETTERS.indexOf(sign))), [0, 31]);
 same(
     'names that the teleprinter can print',
@@ -175,6 +178,20 @@ same(
     [kindOf('a.tape', 'segment'), kindOf('a.edsac', ''), kindOf('a.txt', '; x\nsegment main'), kindOf('a.txt', 'T64K')],
     ['tape', 'source', 'source', 'tape'],
 );
+same(
+    'a tape of May 1949 by its name or its form',
+    [kindOf('a.tape1', 'T64K'), kindOf('a.TAPE1', ''), kindOf('a.tape', 'T35S'), kindOf('a.txt', 'T35S')],
+    ['tape1', 'tape1', 'tape', 'tape1'],
+);
+same(
+    'the form of a text',
+    ['[T9K] T 7\n4 S', 'TS', 'T64K GK', 'A5S', '', 'segment main'].map(formOf),
+    ['tape1', 'tape', 'tape', 'tape', 'tape', 'source'],
+);
+for (const name of fs.readdirSync(path.join(__dirname, '../examples')).filter((one) => /\.(tape1?|edsac)$/.test(one))) {
+    const text = fs.readFileSync(path.join(__dirname, '../examples', name), 'utf8');
+    same(`the form of ${name}`, formOf(text), kindOf(name, text));
+}
 const whole = (parts) => parts.map(([, part]) => part).join('');
 for (const [kind, text] of [['source', 'a: A b F ; x\ntext "A;B"\n'], ['tape', 'T64K [x] GK']]) {
     same(`no character of a ${kind} is lost`, whole(partsOf(text, kind)), text);
@@ -207,6 +224,8 @@ same(
         const shared = { kind: 'tape', small: true, orders: 7, text };
         same(`a link of ${text.length} characters there and back`, await unpacked(await packed(shared)), shared);
     }
+    const first = { kind: 'tape1', small: false, orders: 7, text: 'T35S' };
+    same('a link of a tape of May 1949', await unpacked(await packed(first)), first);
     same(
         'a link that would fill the memory',
         await unpacked(await packed({ kind: 'tape', small: false, orders: 0, text: 'A'.repeat(600000) })),

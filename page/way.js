@@ -5,7 +5,7 @@ const KEPT_EACH = 1 << 18; // orders from one picture that is kept to the next
 
 class Way {
     constructor(machine, program, rows) {
-        Object.assign(this, { machine, rows, small: program.small });
+        Object.assign(this, { machine, rows, kind: program.kind, small: program.small });
         this.codes = new Uint8Array(Number(machine.rooms.codes.items)); // that were printed so far
         this.kept = []; // the picture after each so many orders, as far as the machine came
         this.stops = new Set(); // after how many orders the machine was seen to stop

@@ -4,6 +4,9 @@
 // here says what the machine does next.
 
 const LOADER = 41; // places of the Initial Orders
+const FIRST_LOADER = 31; // places of those of May 1949, which is also where their programs begin
+
+const placesOf = (kind) => (kind === 'tape1' ? FIRST_LOADER : LOADER);
 
 // A language: its texts, by their keys. A key with a dot names a text of a part.
 class Words {
@@ -63,7 +66,8 @@ class Words {
         const said = [];
         for (const place of changedPlaces(before, after)) {
             const [old, now] = [before.words[place], after.words[place]];
-            const own = place < LOADER && before.counter < LOADER ? 'loader'
+            const loader = placesOf(after.way.kind);
+            const own = place < loader && before.counter < loader ? 'loader'
                 : isOwnOrder(before, after, place, machine) ? 'self' : undefined;
             const form = own ? (word) => machine.order(word) : (word) => this.described(word, machine);
             said.push(this.say(`did.${own || 'word'}`, { place, old: form(old), now: form(now) }));
@@ -122,7 +126,7 @@ const printedBetween = (before, after) => addedBetween(before, after).replace(/\
 function isOwnOrder(before, after, place, machine) {
     const [old, now] = [machine.order(before.words[place]), machine.order(after.words[place])];
     const areOrders = !'PQWRJK#*.@!&'.includes(old[0]) && Math.abs(signed(before.words[place])) >= 2048;
-    return before.counter >= LOADER && areOrders && old[0] === now[0] && old.at(-1) === now.at(-1);
+    return before.counter >= placesOf(after.way.kind) && areOrders && old[0] === now[0] && old.at(-1) === now.at(-1);
 }
 
 // An order's parts, by its text: the letter, the place that it names, and whether it is long.
@@ -207,12 +211,28 @@ function figuresOf(rows, letter) {
     return isFigure;
 }
 
+// Which rows of a tape the loader of May 1949 reads as figures. Each item is a function, then digits up to a row of 10 and
+// more, which ends it. The first item goes to place 31, and its number is one more than the place of the last.
+function figuresOf1(rows) {
+    const isFigure = new Array(rows.length).fill(false);
+    for (let at = 0, place = FIRST_LOADER, end = FIRST_LOADER + 1; at < rows.length && place < end; place++) {
+        let number = 0;
+        for (at++; at < rows.length && rows[at] < 10; at++) {
+            isFigure[at] = true;
+            number = 10 * number + rows[at];
+        }
+        at++;
+        end = place === FIRST_LOADER ? number : end;
+    }
+    return isFigure;
+}
+
 // What stands beside each row of a tape.
-function labelsOf(rows, letter) {
-    const isFigure = figuresOf(rows, letter);
+function labelsOf(rows, letter, kind) {
+    const isFigure = kind === 'tape1' ? figuresOf1(rows) : figuresOf(rows, letter);
     return Array.from(rows, (row, at) => (isFigure[at] ? String(row) : letter(row)));
 }
 
 if (typeof module !== 'undefined') {
-    module.exports = { Words, namedBy, signed, signAt, lineAt, hintFor, figuresOf, labelsOf, shiftOf, orderOf };
+    module.exports = { Words, namedBy, signed, signAt, lineAt, hintFor, figuresOf, figuresOf1, labelsOf, shiftOf, orderOf };
 }

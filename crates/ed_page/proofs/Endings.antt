@@ -1,5 +1,5 @@
 -- From a run that ended to what the program answers of it.
-use Rattle.std.proofs.Common.{◌≡◌, ◌∙◌, sym, ap, subst, Option, Some, None, ◌++◌}
+use Rattle.std.proofs.Common.{◌≡◌, ◌∙◌, ℕ, refl, sym, ap, subst, Option, Some, None, List, [], ◌++◌}
 use Rattle.std.proofs.lemmas.List.{append-nil}
 use Rattle.ed_machine.specs.State.{State}
 use Rattle.ed_printer.specs.Paper.{paper}
@@ -18,21 +18,35 @@ use Rattle.ed_page.specs.declared.running.Shown.{Shown}
 no_codes : (window : Option Window) (r : RunEnd) → window ≡ None → r.codes ++ post_mortem_codes window r.state ≡ r.codes
 no_codes window r none = ap (λ (w : Option Window). r.codes ++ post_mortem_codes w r.state) none ∙ append-nil r.codes
 
-pub run_shown : {window : Option Window} (before : Text) {note : Text} {r : RunEnd} {ran : Ran} {shown : Shown}
-    → window ≡ None → IsRan r ran → note ≡ before ++ ending_line ran.ending ran.machine
+-- a run that ended, whose codes may stand written otherwise
+ended : (before : Text) {note : Text} {r : RunEnd} {ran : Ran} {shown : Shown} (codes : List ℕ) → r.codes ≡ codes
+    → IsRan r ran → note ≡ before ++ ending_line ran.ending ran.machine
     → TellsOutcome shown.told (record { out = paper ran.paper.codes; note = note; status = status_of ran.ending })
     → shown.machine ≡ Some ran.machine
-    → IsRunOf (ran_outcome before (with_post_mortem window r)) r shown
-run_shown {window} before {note} {r} {ran} {shown} none is n gives machine =
-    let out : paper ran.paper.codes ≡ paper (r.codes ++ post_mortem_codes window r.state) =
-    ap paper (is.codes_are ∙ sym (no_codes window r none)) in
+    → IsRunOf (ran_outcome before (record r { codes = codes })) r shown
+ended before {note} {r} {ran} {shown} codes same_codes is n gives machine =
+    let out : paper ran.paper.codes ≡ paper codes = ap paper (is.codes_are ∙ same_codes) in
     let line : note ≡ before ++ ending_line r.ending r.state =
     n ∙ (λ i. before ++ ending_line (is.ending_is i) (is.state_is i)) in
     let same : ◌≡◌ {A = Outcome}
     (record { out = paper ran.paper.codes; note = note; status = status_of ran.ending })
-    (ran_outcome before (with_post_mortem window r)) =
+    (ran_outcome before (record r { codes = codes })) =
     λ i. record { out = out i; note = line i; status = status_of (is.ending_is i) } in
     record {
       told = subst (TellsOutcome shown.told) same gives;
       machine = machine ∙ ap (λ (s : State). Some s) is.state_is;
     }
+
+pub run1_shown : {note : Text} {r : RunEnd} {ran : Ran} {shown : Shown}
+    → IsRan r ran → note ≡ ending_line ran.ending ran.machine
+    → TellsOutcome shown.told (record { out = paper ran.paper.codes; note = note; status = status_of ran.ending })
+    → shown.machine ≡ Some ran.machine → IsRunOf (ran_outcome [] r) r shown
+run1_shown {r = r} is n gives machine = ended [] r.codes refl is n gives machine
+
+pub run_shown : {window : Option Window} (before : Text) {note : Text} {r : RunEnd} {ran : Ran} {shown : Shown}
+    → window ≡ None → IsRan r ran → note ≡ before ++ ending_line ran.ending ran.machine
+    → TellsOutcome shown.told (record { out = paper ran.paper.codes; note = note; status = status_of ran.ending })
+    → shown.machine ≡ Some ran.machine
+    → IsRunOf (ran_outcome before (with_post_mortem window r)) r shown
+run_shown {window} before {r = r} none is n gives machine =
+    ended before (r.codes ++ post_mortem_codes window r.state) (sym (no_codes window r none)) is n gives machine

@@ -3,7 +3,6 @@ use Rattle.std.proofs.Common.{◌≡◌, ◌∙◌, ℕ, ◌+◌, ◌-◌, ◌<�
 use Rattle.std.proofs.Common.{Bool, true, false, nat_eq, nat_lt, nat_le, Option, Some, None, is_some, unwrap_or}
 use Rattle.std.specs.Prelude.{if◌then◌else◌}
 use Rattle.std.proofs.lemmas.Bool.Decides.{nat_tests}
-use Rattle.ed_words.specs.declared.size.Size.{Size}
 use Rattle.ed_words.proofs.Numbers.{eq_false, lt_false}
 use Rattle.ed_machine.specs.State.{State}
 use Rattle.ed_machine.specs.OrderTable.{step}
@@ -16,8 +15,9 @@ use Rattle.ed_run.specs.Run.{end_at, end_by, ran, run_orders}
 use Rattle.ed_run.proofs.Ends.{ran_ends}
 use Rattle.ed_loads.specs.EntryState.{first_state}
 use Rattle.ed_command.specs.declared.command.Settings.{Settings}
+use Rattle.ed_answers.specs.FirstOrders.{first_state1, run1_of}
 use Rattle.ed_answers.specs.Runs.{paper_room, run_of}
-use Rattle.ed_page.specs.Going.{GoingLaw, on_the_way, run_following}
+use Rattle.ed_page.specs.Going.{GoingLaw, run_following}
 
 -- where a run goes on, the next order ends nothing
 next_open : (limit resumes room k : ℕ) (p : Past) → end_at limit resumes room k p ≡ None
@@ -83,16 +83,19 @@ goes_on limit resumes room orders more s =
 
 -- a run from Start is one on the way
 pub from_start : (s : Settings) (codes : List ℕ)
-    → run_of s codes ≡ ran s.limit s.resumes paper_room (on_the_way s.size codes 0)
+    → run_of s codes ≡ ran s.limit s.resumes paper_room (state_after 0 (first_state s.size codes))
 from_start s codes = ap (ran s.limit s.resumes paper_room) (no_step (first_state s.size codes))
 
+pub from_start1 : (s : Settings) (codes : List ℕ)
+    → run1_of s codes ≡ ran s.limit s.resumes paper_room (state_after 0 (first_state1 codes))
+from_start1 s codes = ap (ran s.limit s.resumes paper_room) (no_step (first_state1 codes))
+
 -- and where a run ends is on the way
-pub stays : (z : Size) (codes : List ℕ) (k limit resumes room : ℕ)
-    → (j : ℕ) × ((ran limit resumes room (on_the_way z codes k)).state ≡ on_the_way z codes (k + j))
+pub stays : (first : State) (k limit resumes room : ℕ)
+    → (j : ℕ) × ((ran limit resumes room (state_after k first)).state ≡ state_after (k + j) first)
 unfolding ran
-stays z codes k limit resumes room =
-    let j = run_orders limit resumes room (on_the_way z codes k) in
-    (j, sym (after_sum k j (first_state z codes)))
+stays first k limit resumes room =
+    let j = run_orders limit resumes room (state_after k first) in (j, sym (after_sum k j first))
 
 pub going_law : GoingLaw
-going_law = record { goes_on = goes_on; from_start = from_start; stays = stays }
+going_law = record { goes_on = goes_on; from_start = from_start; from_start1 = from_start1; stays = stays }

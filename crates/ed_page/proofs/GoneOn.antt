@@ -1,21 +1,21 @@
 -- From a run that went on to the cause of an answer.
 use Rattle.std.proofs.Common.{◌≡◌, ◌∙◌, ℕ, ◌+◌, ◌-◌, ◌<◌, refl, sym, ap, subst, arith, lit<, List, [], length}
-use Rattle.std.specs.Prelude.{Bool}
 use Rattle.ed_machine.specs.State.{State}
 use Rattle.ed_machine.specs.declared.ending.Ending.{Ending}
 use Rattle.ed_machine.specs.declared.ending.Ending.TheVariants.{Stopped, Limit, NoOrder, NoTape, PaperFull}
 use Rattle.ed_machine.specs.Sheet.{Sheet}
+use Rattle.ed_machine.specs.Steps.{state_after}
 use Rattle.ed_run.specs.Run.{IsLeft, RunEnd, ran}
 use Rattle.ed_words.specs.Texts.{Text}
 use Rattle.ed_answers.specs.Answer.{Answer}
-use Rattle.ed_answers.specs.Runs.{paper_room, run_of, status_of}
+use Rattle.ed_answers.specs.Runs.{paper_room, status_of}
 use Rattle.ed_page.specs.Answers.{Buffers, IsShown}
-use Rattle.ed_page.specs.Going.{AreCodes, BeginsOnTheWay, GoingBuffers, HasStoreRoom, IsGoneOn, IsOnTheWay, ShowsRun, on_the_way}
-use Rattle.ed_page.specs.Pictures.{Pictures, asked, size_shown}
+use Rattle.ed_page.specs.Going.{AreCodes, BeginsOnTheWay, GoingBuffers, HasStoreRoom, IsGoneOn, IsOnTheWay, ShowsRun}
+use Rattle.ed_page.specs.Pictures.{Pictures}
 use Rattle.ed_page.specs.Private.Stages.{IsGone}
 use Rattle.ed_page.specs.declared.going.Gone.{Gone}
 use Rattle.ed_page.specs.declared.writing.Registers.{Registers}
-use Rattle.ed_page.proofs.Goes.{from_start, stays}
+use Rattle.ed_page.proofs.Goes.{stays}
 
 low_status : (e : Ending) → status_of e < 8
 low_status Stopped = lit< tt
@@ -60,12 +60,11 @@ gone_shown r before after answer room shows =
     }
 
 -- what is shown then is on the way again
-pub next_on : (small : Bool) (rows : List ℕ) (k limit resumes room : ℕ) (words digits : List ℕ) (registers : Registers)
-    → AreCodes rows
-    → Pictures (ran limit resumes room (on_the_way (size_shown small) rows k)).state words digits registers
-    → IsOnTheWay small rows words digits registers
-next_on small rows k limit resumes room words digits registers are pictures =
-    let on = stays (size_shown small) rows k limit resumes room in
+pub next_on : (first : State) (rows : List ℕ) (k limit resumes room : ℕ) (words digits : List ℕ) (registers : Registers)
+    → AreCodes rows → Pictures (ran limit resumes room (state_after k first)).state words digits registers
+    → IsOnTheWay first rows words digits registers
+next_on first rows k limit resumes room words digits registers are pictures =
+    let on = stays first k limit resumes room in
     record {
       rows_are = are;
       orders = k + on.0;
@@ -74,15 +73,14 @@ next_on small rows k limit resumes room words digits registers are pictures =
 
 -- what is shown of a text is on the way too
 pub begins_on : (wanted : Answer) (Ends : Text → State → Type 0) (text : Text) (before after : Buffers) (answer : ℕ)
-    (small : Bool) (limit resumes : ℕ) (rows : List ℕ)
+    (first : State) (limit resumes : ℕ) (rows : List ℕ) (run : RunEnd)
     → IsShown wanted Ends text before after answer → AreCodes rows
-    → Ends text (run_of (asked small limit resumes) rows).state
-    → BeginsOnTheWay small rows text after.words after.digits after.registers answer
-begins_on wanted Ends text before after answer small limit resumes rows shown are ends few not10 not12 =
-    let s = asked small limit resumes in
-    let pictures = ((shown.told not10).2.shown not12).1.state few (run_of s rows).state ends in
-    next_on small rows 0 limit resumes paper_room after.words after.digits after.registers are
-    (subst (λ (r : RunEnd). Pictures r.state after.words after.digits after.registers) (from_start s rows) pictures)
+    → run ≡ ran limit resumes paper_room (state_after 0 first) → Ends text run.state
+    → BeginsOnTheWay first rows text after.words after.digits after.registers answer
+begins_on wanted Ends text before after answer first limit resumes rows run shown are from_first ends few not10 not12 =
+    let pictures = ((shown.told not10).2.shown not12).1.state few run.state ends in
+    next_on first rows 0 limit resumes paper_room after.words after.digits after.registers are
+    (subst (λ (r : RunEnd). Pictures r.state after.words after.digits after.registers) from_first pictures)
 
 -- a run on a fresh paper of so much room
 pub gone_of : (limit resumes room : ℕ) (m : State) (sheet full : Sheet) (gone : Gone)

@@ -1,9 +1,10 @@
--- The states on the way of a tape: they are within their bounds, Start and orders lead to them, and a picture shows one of
--- them alone.
+-- The states on the way of a tape, from Start with either Initial Orders: they are within their bounds, Start and orders
+-- lead to them, and a picture shows one of them alone.
 use Rattle.std.proofs.Common.{◌≡◌, ◌∙◌, ℕ, ◌+◌, ◌-◌, ◌/◌, ◌%◌, ◌^◌, ◌<◌, ◌≤◌, refl, sym, ap, subst, arith, lit<, lit≤, rules}
-use Rattle.std.proofs.Common.{Bool, Option, Some, None, List, ◌++◌, drop, get_or, length, length-append}
-use Rattle.std.specs.Prelude.{◌↔◌, IfSome, IsNone, unwrap_or}
+use Rattle.std.proofs.Common.{Bool, false, inl, inr, Option, Some, None, List, ◌++◌, drop, get_or, length, length-append}
+use Rattle.std.specs.Prelude.{◌↔◌, IfSome, IsNone, replicate, unwrap_or}
 use Rattle.std.proofs.Math.Seq.{drop-append_seam}
+use Rattle.std.proofs.lemmas.List.{length-drop, length-replicate}
 use Rattle.ed_words.specs.Sizes.{locations}
 use Rattle.ed_words.specs.declared.size.Size.{Size}
 use Rattle.ed_words.specs.declared.size.Size.TheVariants.{Small, Full}
@@ -12,12 +13,15 @@ use Rattle.ed_machine.specs.State.{State, cleared}
 use Rattle.ed_machine.specs.Reached.{IsReached}
 use Rattle.ed_machine.specs.Reached.IsReached.{clear, start, obey}
 use Rattle.ed_machine.specs.Sound.{IsSound}
+use Rattle.ed_machine.specs.Steps.{state_after}
 use Rattle.ed_machine.proofs.Keeping.{steps_follow}
 use Rattle.ed_machine.proofs.SoundSteps.{sound_after}
 use Rattle.ed_initial.specs.Listing.{initial_orders}
 use Rattle.ed_loads.specs.EntryState.{first_state}
-use Rattle.ed_loads.proofs.Entries.{first_store}
-use Rattle.ed_page.specs.Going.{AreCodes, IsOnTheWay, on_the_way}
+use Rattle.ed_loads.proofs.Entries.{all_fit, first_store}
+use Rattle.ed_initial1.specs.Listing.{first_orders}
+use Rattle.ed_answers.specs.FirstOrders.{first_state1}
+use Rattle.ed_page.specs.Going.{AreCodes, CanGoOn, IsAfterStart}
 use Rattle.ed_page.specs.Pictures.{Pictures, PicturesStore, last_shown, size_shown}
 use Rattle.ed_page.specs.declared.writing.Registers.{Registers}
 use Rattle.ed_page.proofs.Stores.{words_fit}
@@ -38,18 +42,67 @@ first_sound z rows are = record {
   last = lit< tt;
 }
 
--- its bounds
-pub way_sound : (z : Size) (rows : List ℕ) (k : ℕ) → AreCodes rows → IsSound (on_the_way z rows k)
-way_sound z rows k are = sound_after k (first_state z rows) (first_sound z rows are)
+-- what Start places of the Initial Orders of May 1949, and 0
+abbrev first_words1 : List ℕ
+first_words1 = first_orders ++ drop 31 (replicate 1024 0)
 
--- Start and orders lead to it
-pub way_reached : (z : Size) (rows : List ℕ) (k : ℕ) → IsReached (on_the_way z rows k)
-unfolding first_state
-way_reached z rows k = obey k (first_state z rows) (start initial_orders rows (cleared z) (omega arith) (clear z))
+first_length1 : length first_words1 ≡ 1024
+first_length1 =
+    omega (
+      arith,
+      length-append first_orders (drop 31 (replicate 1024 0)),
+      length-drop {A = ℕ} 31 (replicate 1024 0),
+      length-replicate {A = ℕ} 1024 0,
+    )
 
-pub way_size : (z : Size) (rows : List ℕ) (k : ℕ) → (on_the_way z rows k).size ≡ z
+first_sound1 : (rows : List ℕ) → AreCodes rows → IsSound (first_state1 rows)
+unfolding first_state1
+first_sound1 rows are = record {
+  store = record {
+    words_are = first_length1;
+    digits_are = length-replicate {A = Bool} 512 false;
+    fits = all_fit first_words1 refl;
+  };
+  acc = lit< tt;
+  multiplier = lit< tt;
+  counter = lit< tt;
+  tape = are;
+  last = lit< tt;
+}
+
+-- a state with which a way begins: its bounds, that Start led to it, its size and its rows
+pub record IsFirst (z : Size) (rows : List ℕ) (first : State) : Type 0 where
+  pub sound : IsSound first
+  pub reached : IsReached first
+  pub size_is : first.size ≡ z
+  pub tape_is : first.tape ≡ rows
+
+first_is : (z : Size) (rows : List ℕ) → AreCodes rows → IsFirst z rows (first_state z rows)
 unfolding first_state
-way_size z rows k = (steps_follow k (first_state z rows)).size_is
+first_is z rows are = record {
+  sound = first_sound z rows are;
+  reached = start initial_orders rows (cleared z) (omega arith) (clear z);
+  size_is = refl;
+  tape_is = refl;
+}
+
+first_is1 : (rows : List ℕ) → AreCodes rows → IsFirst Full rows (first_state1 rows)
+unfolding first_state1
+first_is1 rows are = record {
+  sound = first_sound1 rows are;
+  reached = start first_orders rows (cleared Full) (omega arith) (clear Full);
+  size_is = refl;
+  tape_is = refl;
+}
+
+-- each state after Start is one
+pub is_first : {small : Bool} {rows : List ℕ} {first : State} → AreCodes rows → IsAfterStart small rows first
+    → IsFirst (size_shown small) rows first
+is_first {small} {rows} are (inl is) =
+    subst (IsFirst (size_shown small) rows) (sym is) (first_is (size_shown small) rows are)
+is_first {rows = rows} {first} are (inr is) =
+    subst (λ (small : Bool). IsFirst (size_shown small) rows first) (sym is.0)
+    (subst (IsFirst Full rows) (sym is.1) (first_is1 rows are))
 
 -- its rows are the last ones of the tape
 last_rows : (read left all : List ℕ) → read ++ left ≡ all → drop (length all - length left) all ≡ left
@@ -58,14 +111,27 @@ last_rows read left all is =
     let few : length all - length left ≡ length read = omega (arith, many) in
     ap (λ n. drop n all) few ∙ ap (λ (xs : List ℕ). drop (length read) xs) (sym is) ∙ drop-append_seam read left
 
-pub way_rows : (z : Size) (rows : List ℕ) (k : ℕ)
-    → drop (length rows - length (on_the_way z rows k).tape) rows ≡ (on_the_way z rows k).tape
-unfolding first_state
-way_rows z rows k = let is = by_steps k (first_state z rows) in last_rows is.0 (on_the_way z rows k).tape rows is.1
+-- the states on the way
+module _ {z : Size} {rows : List ℕ} {first : State} (is : IsFirst z rows first) (k : ℕ) where
+  -- their bounds
+  pub way_sound : IsSound (state_after k first)
+  way_sound = sound_after k first is.sound
 
-pub way_left : (z : Size) (rows : List ℕ) (k : ℕ) → length (on_the_way z rows k).tape ≤ length rows
-unfolding first_state
-way_left z rows k = (steps_follow k (first_state z rows)).fewer
+  -- Start and orders lead to them
+  pub way_reached : IsReached (state_after k first)
+  way_reached = obey k first is.reached
+
+  pub way_size : (state_after k first).size ≡ z
+  way_size = (steps_follow k first).size_is ∙ is.size_is
+
+  pub way_rows : drop (length rows - length (state_after k first).tape) rows ≡ (state_after k first).tape
+  way_rows =
+      let ends = by_steps k first in
+      last_rows ends.0 (state_after k first).tape rows (ends.1 ∙ is.tape_is)
+
+  pub way_left : length (state_after k first).tape ≤ length rows
+  way_left =
+      subst (λ (xs : List ℕ). length (state_after k first).tape ≤ length xs) is.tape_is (steps_follow k first).fewer
 
 -- the number that stands for the last printed code is below 33
 pub shown_fits : (last : Option ℕ) → unwrap_or last 0 < 32 → last_shown last ≤ 32
@@ -87,30 +153,33 @@ same_state s t size store acc multiplier counter tape last orders = λ i. record
 }
 
 -- what a picture shows of a state on the way is within its bounds
-module _ {small : Bool} {rows words digits : List ℕ} {r : Registers}
-    (p : IsOnTheWay small rows words digits r) where
+module _ {small : Bool} {rows words digits : List ℕ} {r : Registers} (p : CanGoOn small rows words digits r) where
   abbrev shown : State
-  shown = on_the_way (size_shown small) rows p.orders
+  shown = state_after p.way.orders p.first
+
+  pub begun : IsFirst (size_shown small) rows p.first
+  begun = is_first p.way.rows_are p.begins
 
   sound : IsSound shown
-  sound = way_sound (size_shown small) rows p.orders p.rows_are
+  sound = way_sound begun p.way.orders
 
   pub fit_words : length words ≡ 1024 → (a : ℕ) → get_or words a 0 < 2 ^ 17
-  fit_words = words_fit shown.store words digits sound.store p.pictured.store
+  fit_words = words_fit shown.store words digits sound.store p.way.pictured.store
 
   pub fit_multiplier : r.multiplier < 2 ^ 35
-  fit_multiplier = subst (λ n. n < 2 ^ 35) (sym p.pictured.registers.multiplier) sound.multiplier
+  fit_multiplier = subst (λ n. n < 2 ^ 35) (sym p.way.pictured.registers.multiplier) sound.multiplier
 
   pub fit_counter : r.counter < locations (size_shown small)
   fit_counter =
-      subst (λ n. n < locations (size_shown small)) (sym p.pictured.registers.counter)
-      (subst (λ (z : Size). shown.counter < locations z) (way_size (size_shown small) rows p.orders) sound.counter)
+      subst (λ n. n < locations (size_shown small)) (sym p.way.pictured.registers.counter)
+      (subst (λ (z : Size). shown.counter < locations z) (way_size begun p.way.orders) sound.counter)
 
   pub fit_last : r.last ≤ 32
-  fit_last = subst (λ n. n ≤ 32) (sym p.pictured.registers.last) (shown_fits shown.last sound.last)
+  fit_last = subst (λ n. n ≤ 32) (sym p.way.pictured.registers.last) (shown_fits shown.last sound.last)
 
   pub fit_rows : r.rows_left ≤ length rows
-  fit_rows = subst (λ n. n ≤ length rows) (sym p.pictured.registers.rows_left) (way_left (size_shown small) rows p.orders)
+  fit_rows =
+      subst (λ n. n ≤ length rows) (sym p.way.pictured.registers.rows_left) (way_left begun p.way.orders)
 
 pub most_places : (z : Size) → locations z ≤ 1024
 most_places Small = lit≤ tt
@@ -128,18 +197,19 @@ last_is (Some read) None n none some is low = absurd (not_none read (none.1 (ome
 last_is (Some read) (Some code) n none some is low = ap Some (some ∙ is)
 
 -- a state that was made of what a picture shows is the state that it shows
-pub shown_state : (z : Size) (rows : List ℕ) (k : ℕ) {words digits : List ℕ} {r : Registers} (t : State)
-    → AreCodes rows → Pictures (on_the_way z rows k) words digits r → t.size ≡ z
+pub shown_state : {z : Size} {rows : List ℕ} {first : State} → IsFirst z rows first → (k : ℕ)
+    {words digits : List ℕ} {r : Registers} (t : State)
+    → Pictures (state_after k first) words digits r → t.size ≡ z
     → ((c : Cells) → IsStore c → PicturesStore c words digits → t.store ≡ c)
     → ((a : ℕ) → a < 2 ^ 71 → r.acc_low ≡ a % 2 ^ 36 → r.acc_high ≡ a / 2 ^ 36 → t.acc ≡ a)
     → t.multiplier ≡ r.multiplier → t.counter ≡ r.counter → t.tape ≡ drop (length rows - r.rows_left) rows
     → (IsNone t.last ↔ (32 ≤ r.last)) → IfSome t.last (λ code. code ≡ r.last) → t.orders ≡ r.orders
-    → t ≡ on_the_way z rows k
-shown_state z rows k t are p size store acc multiplier counter tape none some orders =
-    let s = on_the_way z rows k in
-    let sound = way_sound z rows k are in
+    → t ≡ state_after k first
+shown_state {rows = rows} {first} is k t p size store acc multiplier counter tape none some orders =
+    let s = state_after k first in
+    let sound = way_sound is k in
     let g = p.registers in
-    same_state s t (size ∙ sym (way_size z rows k)) (store s.store sound.store p.store)
+    same_state s t (size ∙ sym (way_size is k)) (store s.store sound.store p.store)
     (acc s.acc sound.acc g.acc_low g.acc_high) (multiplier ∙ g.multiplier) (counter ∙ g.counter)
-    (tape ∙ ap (λ n. drop (length rows - n) rows) g.rows_left ∙ way_rows z rows k)
+    (tape ∙ ap (λ n. drop (length rows - n) rows) g.rows_left ∙ way_rows is k)
     (last_is t.last s.last _ none some g.last sound.last) (orders ∙ g.orders)

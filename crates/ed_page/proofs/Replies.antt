@@ -17,11 +17,11 @@ use Rattle.ed_command.specs.declared.command.Settings.{Settings}
 use Rattle.ed_answers.specs.Answer.{OfReading, exactly, of_input, of_rows}
 use Rattle.ed_words.specs.Texts.{Text}
 use Rattle.ed_answers.specs.Outcome.{Outcome, refused, too_long_outcome}
-use Rattle.ed_answers.specs.Tapes.{tape_outcome}
 use Rattle.ed_answers.specs.Runs.{run_of}
 use Rattle.ed_answers.specs.Sources.{of_source, run_outcome}
 use Rattle.ed_answers.proofs.Sources.{accepted_is}
-use Rattle.ed_page.specs.Answers.{SourceEnds, TapeEnds}
+use Rattle.ed_run.specs.Run.{RunEnd}
+use Rattle.ed_page.specs.Answers.{RowsEnd, SourceEnds}
 use Rattle.ed_page.specs.Private.Stages.{Draws, TellsOutcome, IsRunOf, IsAnswered, Retells}
 use Rattle.ed_page.specs.Private.Stages.{TellsAnswer, TellsRejection}
 use Rattle.ed_answers.specs.Replies.{LinksSource, RefusesText, Replies}
@@ -84,29 +84,31 @@ same_codes : (r : Reading) (codes others : List ℕ) → r ≡ rows codes → r 
 unfolding codes_of
 same_codes r codes others is same = ap codes_of (sym is ∙ same)
 
-pub tape_drawn : (s : Settings) (text : Text) (codes : List ℕ) (r : Result Shown NoMemory) → length text ≤ 262144
-    → reading text ≡ rows codes → IfOk r (IsRunOf (tape_outcome s codes) (run_of s codes))
-    → Draws (of_rows (exactly (tape_outcome s))) (TapeEnds s) text r
-tape_drawn s text codes (Ok shown) few is ran = (
-  tape_outcome s codes,
-  inl (few, at_reading (tape_outcome s) (reading text) codes is),
+pub tape_drawn : (outcome : List ℕ → Outcome) (run : List ℕ → RunEnd) (text : Text) (codes : List ℕ)
+    (r : Result Shown NoMemory) → length text ≤ 262144
+    → reading text ≡ rows codes → IfOk r (IsRunOf (outcome codes) (run codes))
+    → Draws (of_rows (exactly outcome)) (RowsEnd run) text r
+tape_drawn outcome run text codes (Ok shown) few is ran = (
+  outcome codes,
+  inl (few, at_reading outcome (reading text) codes is),
   ran.told,
   record {
     some = λ few m ends.
         ran.machine
-        ∙ ap (λ (xs : List ℕ). Some (run_of s xs).state) (same_codes (reading text) codes ends.0 is ends.1)
+        ∙ ap (λ (xs : List ℕ). Some (run xs).state) (same_codes (reading text) codes ends.0 is ends.1)
         ∙ ap (λ (t : State). Some t) (sym ends.2);
-    none = λ nothing. absurd (nothing (run_of s codes).state few (codes, is, refl));
+    none = λ nothing. absurd (nothing (run codes).state few (codes, is, refl));
   },
 )
-tape_drawn s text codes (Err e) few is ran = tt
+tape_drawn outcome run text codes (Err e) few is ran = tt
 
-pub tape_refusal_drawn : (s : Settings) (text : Text) (e : Rejection) (told : Told) → length text ≤ 262144
+pub tape_refusal_drawn : (outcome : List ℕ → Outcome) (run : List ℕ → RunEnd) (text : Text) (e : Rejection)
+    (told : Told) → length text ≤ 262144
     → RefusesText (reading text) e → TellsRejection e (Ok told)
-    → Draws (of_rows (exactly (tape_outcome s))) (TapeEnds s) text (Ok (record { told = told; machine = None }))
-tape_refusal_drawn s text Memory told few refuses tells = absurd tells
-tape_refusal_drawn s text (Refused reply) told few refuses tells =
-    let o = refused_told (tape_outcome s) (reading text) reply told refuses tells in (
+    → Draws (of_rows (exactly outcome)) (RowsEnd run) text (Ok (record { told = told; machine = None }))
+tape_refusal_drawn outcome run text Memory told few refuses tells = absurd tells
+tape_refusal_drawn outcome run text (Refused reply) told few refuses tells =
+    let o = refused_told outcome (reading text) reply told refuses tells in (
       o.0,
       inl (few, o.1),
       o.2,

@@ -10,8 +10,9 @@ use Rattle.ed_machine.specs.OrderTable.{jumped, next_word, obey_word, place_of, 
 use Rattle.ed_machine.specs.Steps.{past, state_after}
 use Rattle.ed_run.specs.Run.{ran, run_orders}
 use Rattle.ed_loads.specs.EntryState.{first_state}
+use Rattle.ed_answers.specs.FirstOrders.{first_state1}
 use Rattle.ed_answers.specs.Runs.{paper_room}
-use Rattle.ed_page.specs.Answers.{EachRunReadsOn, IsEndOf}
+use Rattle.ed_page.specs.Answers.{EachRun1ReadsOn, EachRunReadsOn, IsEndOf}
 
 -- one order reads at most one row
 by_order : (k : Option Kind) (w : ℕ) (s : State) → IsEndOf (obey_word k w s).state.tape s.tape
@@ -51,3 +52,8 @@ pub each_run_reads_on : EachRunReadsOn
 unfolding ran first_state
 each_run_reads_on s codes =
     let first = first_state s.size codes in by_steps (run_orders s.limit s.resumes paper_room first) first
+
+pub each_run1_reads_on : EachRun1ReadsOn
+unfolding ran first_state1
+each_run1_reads_on s codes =
+    let first = first_state1 codes in by_steps (run_orders s.limit s.resumes paper_room first) first

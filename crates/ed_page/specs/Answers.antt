@@ -10,7 +10,9 @@ use Rattle.ed_command.specs.declared.command.Settings.{Settings}
 use Rattle.ed_words.specs.Texts.{Text}
 use Rattle.ed_answers.specs.Outcome.{Outcome, done, too_long}
 use Rattle.ed_answers.specs.Answer.{Answer, IsDue}
+use Rattle.ed_answers.specs.FirstOrders.{run1_of}
 use Rattle.ed_answers.specs.Runs.{run_of}
+use Rattle.ed_run.specs.Run.{RunEnd}
 use Rattle.ed_page.specs.Pictures.{Pictures, last_shown}
 use Rattle.ed_page.specs.declared.writing.Lengths.{Lengths}
 use Rattle.ed_page.specs.declared.writing.Registers.{Registers}
@@ -72,9 +74,17 @@ source_rows lines = done (tape lines)
 
 -- ---- pictures
 
+-- a text spells rows, and their run ends in a state
+abbrev pub RowsEnd : (run : List ℕ → RunEnd) → Text → State → Type 0
+RowsEnd run text m = (codes : List ℕ) × (reading text ≡ rows codes) × (m ≡ (run codes).state)
+
 -- the run of a tape's text ends in a state
 abbrev pub TapeEnds : Settings → Text → State → Type 0
-TapeEnds s text m = (codes : List ℕ) × (reading text ≡ rows codes) × (m ≡ (run_of s codes).state)
+TapeEnds s = RowsEnd (run_of s)
+
+-- so does its run with the Initial Orders of May 1949
+abbrev pub Tape1Ends : Settings → Text → State → Type 0
+Tape1Ends s = RowsEnd (run1_of s)
 
 -- the run of a source's tape ends in a state
 abbrev pub SourceEnds : Settings → Text → State → Type 0
@@ -151,3 +161,7 @@ IsEndOf left all = (read : List ℕ) × (read ++ left ≡ all)
 -- the rows that are left where the run of a tape ends are the end of the tape's rows
 abbrev pub EachRunReadsOn : Type 0
 EachRunReadsOn = (s : Settings) (codes : List ℕ) → IsEndOf (run_of s codes).state.tape codes
+
+-- so are those that are left with the Initial Orders of May 1949
+abbrev pub EachRun1ReadsOn : Type 0
+EachRun1ReadsOn = (s : Settings) (codes : List ℕ) → IsEndOf (run1_of s codes).state.tape codes

@@ -1,14 +1,14 @@
 -- Going on from a picture: the states that buffers picture, what they hold after more orders, and the text of the codes
 -- that were printed (this project's own rules).
-use Rattle.std.specs.Prelude.{◌≡◌, ◌≢◌, ℕ, ◌+◌, ◌-◌, ◌<◌, ◌≤◌, Bool, List, ◌++◌, length, reverse, slice_index}
+use Rattle.std.specs.Prelude.{◌≡◌, ◌≢◌, ℕ, ◌+◌, ◌-◌, ◌<◌, ◌≤◌, ◌⊎◌, Bool, false, List, ◌++◌, length, reverse, slice_index}
 use Rattle.ed_words.specs.Texts.{Text}
-use Rattle.ed_words.specs.declared.size.Size.{Size}
 use Rattle.ed_printer.specs.Paper.{latest_shift, paper, paper_from}
 use Rattle.ed_machine.specs.State.{State}
 use Rattle.ed_machine.specs.Steps.{Past, past, state_after}
 use Rattle.ed_run.specs.Run.{RunEnd, ran, run_orders}
 use Rattle.ed_loads.specs.EntryState.{first_state}
 use Rattle.ed_command.specs.declared.command.Settings.{Settings}
+use Rattle.ed_answers.specs.FirstOrders.{first_state1, run1_of}
 use Rattle.ed_answers.specs.Runs.{paper_room, run_of, status_of}
 use Rattle.ed_page.specs.Answers.{HasItsCause, Holds}
 use Rattle.ed_page.specs.Pictures.{Pictures, size_shown}
@@ -16,25 +16,32 @@ use Rattle.ed_page.specs.declared.writing.Registers.{Registers}
 
 -- ---- the states on the way
 
--- the state after k orders from Start on the rows of a tape
-abbrev pub on_the_way : Size → List ℕ → ℕ → State
-on_the_way z rows k = state_after k (first_state z rows)
+-- a state after Start on the rows of a tape: with the 41 Initial Orders on a machine of this size, or with the 31 of May
+-- 1949 on one of full size
+abbrev pub IsAfterStart : (small : Bool) (rows : List ℕ) → State → Type 0
+IsAfterStart small rows s = (s ≡ first_state (size_shown small) rows) ⊎ ((small ≡ false) × (s ≡ first_state1 rows))
 
 -- each number is a code
 abbrev pub AreCodes : List ℕ → Type 0
 AreCodes codes = (i : ℕ) → slice_index codes i < 32
 
--- buffers picture a state on the way of a tape with these rows
-pub record IsOnTheWay (small : Bool) (rows words digits : List ℕ) (registers : Registers) : Type 0 where
+-- buffers picture the state after some number of orders from a first one, on the way of a tape with these rows
+pub record IsOnTheWay (first : State) (rows words digits : List ℕ) (registers : Registers) : Type 0 where
   pub rows_are : AreCodes rows
   pub orders : ℕ
-  pub pictured : Pictures (on_the_way (size_shown small) rows orders) words digits registers
+  pub pictured : Pictures (state_after orders first) words digits registers
 
--- so is a picture that was written of a text, where these are the rows of its tape
+-- so they do from Start on these rows, with one of the two Initial Orders
+pub record CanGoOn (small : Bool) (rows words digits : List ℕ) (registers : Registers) : Type 0 where
+  pub first : State
+  pub begins : IsAfterStart small rows first
+  pub way : IsOnTheWay first rows words digits registers
+
+-- a picture that was written of a text is on the way from a first state, where these are the rows of its tape
 abbrev pub BeginsOnTheWay :
-    (small : Bool) (rows : List ℕ) (text : Text) (words digits : List ℕ) → Registers → (answer : ℕ) → Type 0
-BeginsOnTheWay small rows text words digits registers answer =
-    length text ≤ 262144 → answer ≢ 10 → answer ≢ 12 → IsOnTheWay small rows words digits registers
+    (first : State) (rows : List ℕ) (text : Text) (words digits : List ℕ) → Registers → (answer : ℕ) → Type 0
+BeginsOnTheWay first rows text words digits registers answer =
+    length text ≤ 262144 → answer ≢ 10 → answer ≢ 12 → IsOnTheWay first rows words digits registers
 
 -- ---- what going on leaves
 
@@ -77,7 +84,8 @@ run_following p r = record { ending = r.ending; state = r.state; codes = p.codes
 
 -- Wherever a run ended, going on from there is the one run from the beginning: with the orders that the first part
 -- obeyed and those of the second, the resumes that it used and those of the second, and the paper that it left. What a
--- program shows of a tape is the run from Start, and where it ends is on the way; so is where any run from there ends.
+-- program shows of a tape is the run from Start, with either Initial Orders, and where it ends is on the way; so is where
+-- any run from there ends.
 pub record GoingLaw : Type 0 where
   pub goes_on : (limit resumes room orders more : ℕ) (s : State)
       → let k = run_orders limit resumes room s in
@@ -85,9 +93,11 @@ pub record GoingLaw : Type 0 where
       ran (k + orders) ((past k s).stops + more) room s
       ≡ run_following (past k s) (ran orders more (room - length first.codes) first.state)
   pub from_start : (s : Settings) (codes : List ℕ)
-      → run_of s codes ≡ ran s.limit s.resumes paper_room (on_the_way s.size codes 0)
-  pub stays : (z : Size) (codes : List ℕ) (k limit resumes room : ℕ)
-      → (j : ℕ) × ((ran limit resumes room (on_the_way z codes k)).state ≡ on_the_way z codes (k + j))
+      → run_of s codes ≡ ran s.limit s.resumes paper_room (state_after 0 (first_state s.size codes))
+  pub from_start1 : (s : Settings) (codes : List ℕ)
+      → run1_of s codes ≡ ran s.limit s.resumes paper_room (state_after 0 (first_state1 codes))
+  pub stays : (first : State) (k limit resumes room : ℕ)
+      → (j : ℕ) × ((ran limit resumes room (state_after k first)).state ≡ state_after (k + j) first)
 
 -- ---- the text of codes
 

@@ -1,9 +1,11 @@
 //! Going on from a picture that a call wrote.
 
 ghost use Rattle.std.specs.Prelude.{◌≡◌, ℕ, ◌+◌, ◌^◌, ◌≤◌, IfOk, length};
+ghost use Rattle.ed_machine.specs.State.{State};
+ghost use Rattle.ed_machine.specs.Steps.{state_after};
 ghost use Rattle.ed_run.specs.Run.{RunEnd, ran};
-ghost use Rattle.ed_page.specs.Going.{GoingLaw, IsGoneOn, IsOnTheWay, ShowsRun, going_buffers, on_the_way};
-ghost use Rattle.ed_page.specs.Pictures.{Pictures, size_shown};
+ghost use Rattle.ed_page.specs.Going.{CanGoOn, GoingLaw, IsAfterStart, IsGoneOn, IsOnTheWay, ShowsRun, going_buffers};
+ghost use Rattle.ed_page.specs.Pictures.{Pictures};
 ghost use Rattle.ed_page.specs.Private.Stages.{IsGone};
 
 use crate::pictured::pictured;
@@ -27,11 +29,12 @@ pub struct Gone {
 /// Goes on from a picture: obeys `orders` orders more, or those up to where the run ends before. Each of the first
 /// `resumes` Z orders lets the run go on.
 ///
-/// The words, digits and registers are those that this call, `page_tape` or `page_source` wrote for the tape that has
-/// these rows. Afterwards they are those of the state in which the run ends; `registers.orders` is still counted from
-/// Start. The room of `codes` is the paper that is left: the new codes are written at its head, and
-/// `registers.printed` is their number. The answer is the status of the ending, 0, 4, 5, 6 or 7; 12 if a buffer of the
-/// store has the wrong length, and 10 if no memory was found. With 10 and 12 nothing is written.
+/// The words, digits and registers are those that this call, `page_tape`, `page_tape1` or `page_source` wrote for the
+/// tape that has these rows; after `page_tape1` the store is not small. Afterwards they are those of the state in which
+/// the run ends; `registers.orders` is still counted from Start. The room of `codes` is the paper that is left: the new
+/// codes are written at its head, and `registers.printed` is their number. The answer is the status of the ending, 0, 4,
+/// 5, 6 or 7; 12 if a buffer of the store has the wrong length, and 10 if no memory was found. With 10 and 12 nothing is
+/// written.
 #[unsafe(no_mangle)]
 pub extern "C" fn page_go_on(
     alloc: Global,
@@ -44,13 +47,16 @@ pub extern "C" fn page_go_on(
     codes: &mut [u8],
     registers: &mut Registers,
 ) -> u32
-    requires picture { IsOnTheWay small rows.now words.old digits.old registers.old }
+    requires picture { CanGoOn small rows.now words.old digits.old registers.old }
     requires count { registers.old.orders + orders ≤ 2 ^ 63 }
-    ensures gone { (k : ℕ) → Pictures (on_the_way (size_shown small) rows.now k) words.old digits.old registers.old
-        → IsGoneOn (ran orders resumes (length codes.old) (on_the_way (size_shown small) rows.now k))
+    ensures gone { (first : State) → IsAfterStart small rows.now first → (k : ℕ)
+        → Pictures (state_after k first) words.old digits.old registers.old
+        → IsGoneOn (ran orders resumes (length codes.old) (state_after k first))
         (going_buffers words.old digits.old codes.old registers.old)
         (going_buffers words.new digits.new codes.new registers.new) result }
-    ensures next { IsOnTheWay small rows.now words.new digits.new registers.new }
+    ensures next { (first : State) → IsAfterStart small rows.now first
+        → IsOnTheWay first rows.now words.old digits.old registers.old
+        → IsOnTheWay first rows.now words.new digits.new registers.new }
     ensures law { GoingLaw }
 {
     if words.len() != 1024 || digits.len() != 512 {
@@ -86,11 +92,11 @@ fn went_on(
 ) -> Result<Gone, NoMemory>
     requires words { length words.now ≡ 1024 }
     requires digits { length digits.now ≡ 512 }
-    requires picture { IsOnTheWay small rows.now words.now digits.now registers.now }
+    requires picture { CanGoOn small rows.now words.now digits.now registers.now }
     requires count { registers.now.orders + orders ≤ 2 ^ 63 }
-    ensures gone { IfOk result (λ gone. (k : ℕ)
-        → Pictures (on_the_way (size_shown small) rows.now k) words.now digits.now registers.now
-        → IsGone (ran orders resumes room (on_the_way (size_shown small) rows.now k)) gone) }
+    ensures gone { IfOk result (λ gone. (first : State) → IsAfterStart small rows.now first → (k : ℕ)
+        → Pictures (state_after k first) words.now digits.now registers.now
+        → IsGone (ran orders resumes room (state_after k first)) gone) }
     ensures fits { IfOk result (λ gone. length gone.codes.items ≤ room) }
 {
     let machine = pictured(alloc, small, rows, words, digits, registers)?;

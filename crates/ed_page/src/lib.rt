@@ -1,5 +1,5 @@
-//! What a web page shows of the machine: pictures of the run of a tape or of a source after so many orders from Start,
-//! the rows of tapes, the listing of a source, and the texts of rows and orders.
+//! What a web page shows of the machine: pictures of the run of a tape, for either Initial Orders, or of a source,
+//! after a number of orders from Start, the rows of tapes, the listing of a source, and the texts of rows and orders.
 //!
 //! The exports keep no state. Their contract is that each answer is the program's own to the same text, with its texts
 //! at the heads of the caller's buffers, and that each other answer has its cause. Stands on `ed_answers` for what the program
@@ -18,7 +18,7 @@ mod writing;
 
 pub use going::page_go_on;
 pub use papers::page_paper;
-pub use pictures::{page_source, page_tape};
+pub use pictures::{page_source, page_tape, page_tape1};
 pub use signs::{page_letter, page_order};
 pub use texts::{page_listing, page_source_rows, page_tape_rows};
 pub use writing::{Lengths, NO_CODE, Registers};

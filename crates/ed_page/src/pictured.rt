@@ -1,9 +1,11 @@
 //! The machine that a picture shows, made of what stands in its buffers.
 
 ghost use Rattle.std.specs.Prelude.{◌≡◌, ℕ, ◌-◌, ◌/◌, ◌%◌, ◌^◌, ◌<◌, ◌≤◌, IfOk, drop, length, slice_index};
+ghost use Rattle.ed_machine.specs.State.{State};
+ghost use Rattle.ed_machine.specs.Steps.{state_after};
 ghost use Rattle.ed_store.specs.Cells.{Cells, IsStore};
-ghost use Rattle.ed_page.specs.Going.{AreCodes, IsOnTheWay, on_the_way};
-ghost use Rattle.ed_page.specs.Pictures.{Pictures, PicturesStore, size_shown};
+ghost use Rattle.ed_page.specs.Going.{AreCodes, CanGoOn, IsAfterStart};
+ghost use Rattle.ed_page.specs.Pictures.{Pictures, PicturesStore};
 
 use crate::running::size_of;
 use crate::writing::Registers;
@@ -25,10 +27,9 @@ pub fn pictured(
 ) -> Result<Machine, NoMemory>
     requires words { length words.now ≡ 1024 }
     requires digits { length digits.now ≡ 512 }
-    requires picture { IsOnTheWay small rows.now words.now digits.now registers.now }
-    ensures { IfOk result (λ m. (k : ℕ)
-        → Pictures (on_the_way (size_shown small) rows.now k) words.now digits.now registers.now
-        → m ≡ on_the_way (size_shown small) rows.now k) }
+    requires picture { CanGoOn small rows.now words.now digits.now registers.now }
+    ensures { IfOk result (λ m. (first : State) → IsAfterStart small rows.now first → (k : ℕ)
+        → Pictures (state_after k first) words.now digits.now registers.now → m ≡ state_after k first) }
 {
     let parts = Parts {
         size: size_of(small),

@@ -1,18 +1,20 @@
-ghost use Rattle.std.specs.Prelude.{◌≡◌, ◌≢◌, ◌⊎◌, ◌↔◌, IfSome, IsTrue, List, length, ℕ};
+ghost use Rattle.std.specs.Prelude.{◌≡◌, ◌≢◌, ◌⊎◌, ◌↔◌, IfSome, IsTrue, List, false, length, ℕ};
 ghost use Rattle.ed_codes.specs.Reading.{reading, rows};
 ghost use Rattle.ed_syntax.specs.declared.program.Line.{Line};
 ghost use Rattle.ed_link.specs.Refusals.{IsAcceptedAs};
 ghost use Rattle.ed_link.specs.Tapes.{tape};
+ghost use Rattle.ed_loads.specs.EntryState.{first_state};
+ghost use Rattle.ed_answers.specs.FirstOrders.{first_state1, tape1_answer};
 ghost use Rattle.ed_answers.specs.Outcome.{Outcome};
 ghost use Rattle.ed_answers.specs.Sources.{run_answer};
 ghost use Rattle.ed_answers.specs.Tapes.{tape_answer};
 ghost use Rattle.ed_page.specs.Answers.{EachRunReadsOn, IsShown, LacksLine, SourceEnds, TapeEnds, blank_registers};
-ghost use Rattle.ed_page.specs.Answers.{picture_buffers};
+ghost use Rattle.ed_page.specs.Answers.{EachRun1ReadsOn, Tape1Ends, picture_buffers};
 ghost use Rattle.ed_page.specs.Going.{BeginsOnTheWay};
 ghost use Rattle.ed_page.specs.Pictures.{Pictures, asked, size_shown};
 ghost use Rattle.ed_page.specs.Private.Stages.{Draws, TellsOutcome, WritesBuffers};
 
-use crate::running::{Shown, asked, run_linked, run_tape};
+use crate::running::{Shown, asked, run_linked, run_tape, run_tape1};
 use crate::told::{NO_MEMORY, NO_ROOM, Told, is_too_long, lacks_line, rejected};
 use crate::writing::{Lengths, Registers, no_registers, registers_of, write_store};
 use ed_answers::{linked_of, rows_of};
@@ -48,12 +50,42 @@ pub extern "C" fn page_tape(
         (picture_buffers words.new digits.new paper.new note.new registers.new) result }
     ensures rows { EachRunReadsOn }
     ensures next { (codes : List ℕ) → reading text.now ≡ rows codes
-        → BeginsOnTheWay small codes text.now words.new digits.new registers.new result }
+        → BeginsOnTheWay (first_state (size_shown small) codes) codes text.now words.new digits.new registers.new result }
 {
     if lacks_room(text, words, digits, note) {
         return NO_ROOM;
     }
     match tape_shown(alloc, asked(small, orders, resumes), text) {
+        Ok(shown) => show(&shown, words, digits, paper, note, registers),
+        Err(NoMemory) => NO_MEMORY,
+    }
+}
+
+/// Shows the machine of full store after `orders` orders from Start on a tape's text with the Initial Orders of May 1949,
+/// as `page_tape` does with the others.
+#[unsafe(no_mangle)]
+pub extern "C" fn page_tape1(
+    alloc: Global,
+    text: &[u8],
+    orders: u32,
+    resumes: u32,
+    words: &mut [u32],
+    digits: &mut [u8],
+    paper: &mut [u8],
+    note: &mut [u8],
+    registers: &mut Registers,
+) -> u32
+    ensures shown { let s = asked false orders resumes in IsShown (tape1_answer s) (Tape1Ends s) text.now
+        (picture_buffers words.old digits.old paper.old note.old registers.old)
+        (picture_buffers words.new digits.new paper.new note.new registers.new) result }
+    ensures rows { EachRun1ReadsOn }
+    ensures next { (codes : List ℕ) → reading text.now ≡ rows codes
+        → BeginsOnTheWay (first_state1 codes) codes text.now words.new digits.new registers.new result }
+{
+    if lacks_room(text, words, digits, note) {
+        return NO_ROOM;
+    }
+    match tape1_shown(alloc, asked(false, orders, resumes), text) {
         Ok(shown) => show(&shown, words, digits, paper, note, registers),
         Err(NoMemory) => NO_MEMORY,
     }
@@ -79,7 +111,8 @@ pub extern "C" fn page_source(
         (picture_buffers words.new digits.new paper.new note.new registers.new) result }
     ensures rows { EachRunReadsOn }
     ensures next { (lines : List Line) → IsAcceptedAs (size_shown small) text.now lines
-        → BeginsOnTheWay small (tape lines) text.now words.new digits.new registers.new result }
+        → BeginsOnTheWay (first_state (size_shown small) (tape lines)) (tape lines) text.now
+        words.new digits.new registers.new result }
 {
     if lacks_room(text, words, digits, note) {
         return NO_ROOM;
@@ -108,6 +141,19 @@ fn tape_shown(alloc: Global, settings: Settings, text: &[u8]) -> Result<Shown, N
     }
     match rows_of(alloc, text) {
         Ok(rows) => run_tape(alloc, settings, rows),
+        Err(rejection) => Ok(Shown::refused(rejected(rejection)?)),
+    }
+}
+
+/// What is shown of a tape's text with the Initial Orders of May 1949.
+fn tape1_shown(alloc: Global, settings: Settings, text: &[u8]) -> Result<Shown, NoMemory>
+    ensures { Draws (tape1_answer settings) (Tape1Ends settings) text.now result }
+{
+    if is_too_long(text) {
+        return Ok(Shown::refused(Told::too_long(alloc)?));
+    }
+    match rows_of(alloc, text) {
+        Ok(rows) => run_tape1(alloc, settings, rows),
         Err(rejection) => Ok(Shown::refused(rejected(rejection)?)),
     }
 }

@@ -3,6 +3,7 @@ ghost use Rattle.ed_printer.specs.Paper.{paper};
 ghost use Rattle.ed_syntax.specs.declared.program.Line.{Line};
 ghost use Rattle.ed_link.specs.Answers.{IsLinked};
 ghost use Rattle.ed_link.specs.Tapes.{tape};
+ghost use Rattle.ed_answers.specs.FirstOrders.{run1_of, tape1_outcome};
 ghost use Rattle.ed_answers.specs.Tapes.{tape_outcome};
 ghost use Rattle.ed_answers.specs.Runs.{run_of, status_of};
 ghost use Rattle.ed_answers.specs.Sources.{run_outcome};
@@ -10,7 +11,7 @@ ghost use Rattle.ed_page.specs.Pictures.{asked, size_shown};
 ghost use Rattle.ed_page.specs.Private.Stages.{TellsOutcome, IsRunOf};
 
 use crate::told::Told;
-use ed_answers::{Ran, ran_reply, run_linked as run_source, run_rows};
+use ed_answers::{Ran, ran_reply, run_linked as run_source, run_rows, run_rows1};
 use ed_codes::Code;
 use ed_command::Settings;
 use ed_link::Linked;
@@ -76,6 +77,15 @@ pub fn run_tape(alloc: Global, settings: Settings, rows: Vec<Code>) -> Result<Sh
     ensures { IfOk result (IsRunOf (tape_outcome settings rows.items) (run_of settings rows.items)) }
 {
     let ran = run_rows(alloc, settings, rows)?;
+    let note = ending_text(alloc, ran.ending, &ran.machine)?;
+    Shown::of_run(alloc, ran, note)
+}
+
+/// What is shown of the run of rows with the Initial Orders of May 1949.
+pub fn run_tape1(alloc: Global, settings: Settings, rows: Vec<Code>) -> Result<Shown, NoMemory>
+    ensures { IfOk result (IsRunOf (tape1_outcome settings rows.items) (run1_of settings rows.items)) }
+{
+    let ran = run_rows1(alloc, settings, rows)?;
     let note = ending_text(alloc, ran.ending, &ran.machine)?;
     Shown::of_run(alloc, ran, note)
 }

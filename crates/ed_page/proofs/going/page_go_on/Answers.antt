@@ -6,10 +6,9 @@ pub returns-then-words-ne1024-clause-law : goal.returns-then-words-ne1024-clause
 returns-then-words-ne1024-clause-law c = going_law
 
 pub returns-in-Ok-clause-next : goal.returns-in-Ok-clause-next
-returns-in-Ok-clause-next c =
-    let k = c.requires.picture.orders in
-    let gone = c.in-Ok.ensures.gone k c.requires.picture.pictured in
-    next_on c.args.small c.args.rows.now k c.args.orders c.args.resumes _ _ _ _ c.requires.picture.rows_are
+returns-in-Ok-clause-next c first begins way =
+    let gone = c.in-Ok.ensures.gone first begins way.orders way.pictured in
+    next_on first c.args.rows.now way.orders c.args.orders c.args.resumes _ _ _ _ way.rows_are
     (c.show.ensures _ gone).state
 
 pub returns-in-Ok-clause-law : goal.returns-in-Ok-clause-law

@@ -3,7 +3,8 @@ use Rattle.ed_words.specs.Sizes.{locations}
 use Rattle.ed_words.specs.declared.size.Size.{Size}
 use Rattle.ed_machine.specs.Reached.{IsReached}
 use Rattle.ed_page.specs.Pictures.{size_shown}
-use Rattle.ed_page.proofs.OnTheWay.{fit_counter, fit_last, fit_multiplier, fit_rows, fit_words, most_places, shown_state, way_reached}
+use Rattle.ed_page.proofs.OnTheWay.{begun, fit_counter, fit_last, fit_multiplier, fit_rows, fit_words, is_first, most_places}
+use Rattle.ed_page.proofs.OnTheWay.{shown_state, way_reached}
 use Rattle.ed_page.proofs.pictured.pictured.Goals as goal
 
 pub store_of-requires-clause-fit : goal.store_of-requires-clause-fit
@@ -28,21 +29,22 @@ overflow_cast-registers c =
 
 pub reached-requires-clause-is : goal.reached-requires-clause-is
 reached-requires-clause-is c =
-    let z = size_shown c.args.small in
-    let k = c.requires.picture.orders in
+    let p = c.requires.picture in
+    let k = p.way.orders in
+    let first = begun p in
     subst IsReached
-    (sym (shown_state z c.args.rows.now k _ c.requires.picture.rows_are c.requires.picture.pictured c.size_of.ensures
+    (sym (shown_state first k _ p.way.pictured c.size_of.ensures
     c.in_ok-store_of.ensures c.acc_of.ensures c.of_number.ensures refl c.in_ok-rows_left.ensures
     c.new.ensures.none c.new.ensures.some refl))
-    (way_reached z c.args.rows.now k)
+    (way_reached first k)
 
 pub reached-requires-clause-counter : goal.reached-requires-clause-counter
 reached-requires-clause-counter c =
     subst (λ (z : Size). c.args.registers.now.counter < locations z) (sym c.size_of.ensures) (fit_counter c.requires.picture)
 
 pub returns : goal.returns
-returns c k pictures =
+returns c first begins k pictures =
     c.reached.ensures
-    ∙ shown_state (size_shown c.args.small) c.args.rows.now k _ c.requires.picture.rows_are pictures c.size_of.ensures
+    ∙ shown_state (is_first c.requires.picture.way.rows_are begins) k _ pictures c.size_of.ensures
     c.in_ok-store_of.ensures c.acc_of.ensures c.of_number.ensures refl c.in_ok-rows_left.ensures
     c.new.ensures.none c.new.ensures.some refl

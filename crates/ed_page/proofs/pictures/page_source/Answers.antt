@@ -2,11 +2,13 @@ use Rattle.std.proofs.Common.{refl, rules, subst}
 use Rattle.std.specs.Prelude.{Ok}
 use Rattle.ed_link.specs.Tapes.{tape}
 use Rattle.ed_command.specs.declared.command.Settings.{Settings}
+use Rattle.ed_answers.specs.Runs.{run_of}
 use Rattle.ed_answers.specs.Sources.{run_answer, run_outcome}
 use Rattle.ed_answers.proofs.OneOutcome.{source_once}
 use Rattle.ed_page.specs.Answers.{SourceEnds, picture_buffers}
 use Rattle.ed_page.specs.Pictures.{asked}
 use Rattle.ed_page.specs.Private.Stages.{Draws}
+use Rattle.ed_page.proofs.Goes.{from_start}
 use Rattle.ed_page.proofs.GoneOn.{begins_on}
 use Rattle.ed_page.proofs.RowCodes.{source_codes}
 use Rattle.ed_page.proofs.TapeRows.{each_run_reads_on}
@@ -49,8 +51,8 @@ pub returns-in-Ok-clause-next : goal.returns-in-Ok-clause-next
 returns-in-Ok-clause-next c lines accepted =
     let s = asked c.args.small c.args.orders c.args.resumes in
     let text = c.args.text.now in
-    begins_on (run_answer s) (SourceEnds s) text _ _ _ c.args.small c.args.orders c.args.resumes (tape lines)
-    (returns-in-Ok-clause-shown c) (source_codes s.size text lines accepted) (lines, accepted, refl)
+    begins_on (run_answer s) (SourceEnds s) text _ _ _ _ c.args.orders c.args.resumes (tape lines) (run_of s (tape lines))
+    (returns-in-Ok-clause-shown c) (source_codes s.size text lines accepted) (from_start s (tape lines)) (lines, accepted, refl)
 
 pub returns-then-lacks_room-clause-next : goal.returns-then-lacks_room-clause-next
 returns-then-lacks_room-clause-next c lines accepted few not10 not12 = absurd (not12 refl)

@@ -1,12 +1,14 @@
 use Rattle.std.proofs.Common.{refl, rules, subst}
 use Rattle.std.specs.Prelude.{Ok}
 use Rattle.ed_command.specs.declared.command.Settings.{Settings}
+use Rattle.ed_answers.specs.Runs.{run_of}
 use Rattle.ed_answers.specs.Tapes.{tape_answer, tape_outcome}
 use Rattle.ed_answers.proofs.Replies.{exactly_one}
 use Rattle.ed_answers.proofs.OneOutcome.{rows_once}
 use Rattle.ed_page.specs.Answers.{TapeEnds, picture_buffers}
 use Rattle.ed_page.specs.Pictures.{asked}
 use Rattle.ed_page.specs.Private.Stages.{Draws}
+use Rattle.ed_page.proofs.Goes.{from_start}
 use Rattle.ed_page.proofs.GoneOn.{begins_on}
 use Rattle.ed_page.proofs.RowCodes.{read_codes}
 use Rattle.ed_page.proofs.TapeRows.{each_run_reads_on}
@@ -49,8 +51,8 @@ pub returns-in-Ok-clause-next : goal.returns-in-Ok-clause-next
 returns-in-Ok-clause-next c codes is =
     let s = asked c.args.small c.args.orders c.args.resumes in
     let text = c.args.text.now in
-    begins_on (tape_answer s) (TapeEnds s) text _ _ _ c.args.small c.args.orders c.args.resumes codes
-    (returns-in-Ok-clause-shown c) (read_codes text codes is) (codes, is, refl)
+    begins_on (tape_answer s) (TapeEnds s) text _ _ _ _ c.args.orders c.args.resumes codes (run_of s codes)
+    (returns-in-Ok-clause-shown c) (read_codes text codes is) (from_start s codes) (codes, is, refl)
 
 pub returns-then-lacks_room-clause-next : goal.returns-then-lacks_room-clause-next
 returns-then-lacks_room-clause-next c codes is few not10 not12 = absurd (not12 refl)
