@@ -8,6 +8,7 @@ pub mod HelloEntry
 pub mod HelloEnds
 pub mod SourceRuns
 pub mod HelloRuns
+pub mod ProgramEntry
 pub mod MultiplyProgram
 pub mod NumberLines
 pub mod DataLines
