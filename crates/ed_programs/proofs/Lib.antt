@@ -12,8 +12,6 @@ pub mod ProgramEntry
 pub mod MultiplyProgram
 pub mod NumberLines
 pub mod DataLines
-pub mod MultiplySaid
-pub mod MultiplyEnds
 pub mod MultiplyRuns
 pub mod Answered
 pub mod Texts

@@ -45,7 +45,7 @@ module _ (z : Size) (lines : List Line) (fit : have_places (placed lines) ≡ tr
       routine_at z lines fit (frame_at n z few) r base parameters test (omega arith) high refl (omega arith) (inr apart)
 
   -- the n words from 56 on are the cells
-  module _ {n : ℕ} (few : n ≤ 456) (cells : List ℕ) (are : words_from (placed lines) 56 n ≡ cells) where
+  module _ (n : ℕ) (few : n ≤ 456) (cells : List ℕ) (are : words_from (placed lines) 56 n ≡ cells) where
     same : patched 0 s.store.words 56 cells ≡ s.store.words
     same =
         let all = all_words z lines in
