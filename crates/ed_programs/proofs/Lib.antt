@@ -9,6 +9,7 @@ pub mod HelloEnds
 pub mod SourceRuns
 pub mod HelloRuns
 pub mod ProgramEntry
+pub mod NumberShown
 pub mod MultiplyProgram
 pub mod NumberLines
 pub mod DataLines
