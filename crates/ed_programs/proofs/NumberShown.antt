@@ -1,15 +1,22 @@
 -- A number on a line of its own: the calls of `print` and of `newline` as one line of a journey.
-use Rattle.std.proofs.Common.{◌≡◌, ◌∙◌, ◌⊎◌, inl, inr, ℕ, ◌+◌, ◌*◌, ◌%◌, ◌<◌, ◌≤◌, arith, subst, false, List, [], ◌∷◌, ◌++◌, refl, Some, get_or, length}
+use Rattle.std.proofs.Common.{◌≡◌, ◌∙◌, ◌⊎◌, inl, inr, ℕ, ◌+◌, ◌*◌, ◌%◌, ◌<◌, ◌≤◌, arith, subst, false, List, [], ◌∷◌, ◌++◌, refl, Some, append-nil, get_or, length}
 use Rattle.ed_library.specs.Routines.{is_working, place_count}
 use Rattle.ed_paths.proofs.Frames.{Frame, Moment, short}
 use Rattle.ed_paths.proofs.Moves.{Jumps, Reads}
+use Rattle.ed_paths.proofs.Paths.{Path}
 use Rattle.ed_paths.proofs.Places.{any, own}
 use Rattle.ed_paths.proofs.Window.{get_own}
 use Rattle.ed_routines.specs.Catalogue.{newline, print, with_h}
 use Rattle.ed_routines.specs.Digits.{digits, print_orders}
 use Rattle.ed_routines.specs.Returns.{IsOther}
-use Rattle.ed_routines.proofs.Journeys.{HasRoutine, IsIn, Journey, after_call, elsewhere, has_after, no_working, stays, still_in, then}
+use Rattle.ed_routines.proofs.Journeys.{HasRoutine, IsIn, Journey, along, after_call, elsewhere, has_after, no_working, stays, still_in, then}
 use Rattle.ed_routines.proofs.Lines.{newline_left, newline_line, newline_returns, number_at, print_goes, print_left, print_line}
+
+-- a journey, and a path after it that prints nothing
+pub then_on : {n h : ℕ} {f : Frame n h} {a b : ℕ} {r m t : Moment} {codes : List ℕ} → Journey f a r codes m
+    → Path f b m [] t → Journey f (a + b) r codes t
+then_on {f = f} {a} {b} {r} {t = t} {codes} first path =
+    subst (λ (cs : List ℕ). Journey f (a + b) r cs t) (append-nil codes) (then first (along path))
 
 module _ {n h : ℕ} {f : Frame n h} {r : Moment} (o : IsIn f r) where
   -- the moment after the calls in the cells i and i + 2, with these words in the store
