@@ -18,8 +18,6 @@ pub mod Answered
 pub mod Texts
 pub mod Changes
 pub mod AddProgram
-pub mod AddSaid
-pub mod AddEnds
 pub mod AddRuns
 pub mod GreatestProgram
 pub mod GreatestSaid
@@ -32,8 +30,6 @@ pub mod SortSaid
 pub mod SortEnds
 pub mod SortRuns
 pub mod DifferenceProgram
-pub mod DifferenceSaid
-pub mod DifferenceEnds
 pub mod DifferenceRuns
 pub mod Divides
 pub mod FractionProgram
