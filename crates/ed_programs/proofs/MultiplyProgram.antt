@@ -1,6 +1,6 @@
 -- The program of `examples/answer5.edsac`, at any base and for all its numbers: a routine of its own that multiplies by
 -- adding, and one that calls two routines of the library.
-use Rattle.std.proofs.Common.{◌≡◌, ◌∙◌, inl, inr, ℕ, suc, ◌+◌, ◌-◌, ◌*◌, ◌%◌, ◌<◌, ◌≤◌, refl, sym, ap, subst, arith, lit<, lit≤}
+use Rattle.std.proofs.Common.{◌≡◌, ◌∙◌, ℕ, suc, ◌+◌, ◌-◌, ◌*◌, ◌<◌, ◌≤◌, refl, sym, ap, subst, arith, lit<, lit≤}
 use Rattle.std.proofs.Common.{List, [], ◌∷◌, ◌++◌, Some, get_or, length}
 use Rattle.ed_words.proofs.SizeLemmas.{most}
 use Rattle.ed_paths.proofs.Frames.{Frame, Moment, short, state}
@@ -8,12 +8,11 @@ use Rattle.ed_paths.proofs.Places.{early, any, own, out}
 use Rattle.ed_paths.proofs.Orders.{word_is}
 use Rattle.ed_paths.proofs.Moves.{A, S, T, U, E_jumps, G_jumps, G_stays, Z}
 use Rattle.ed_paths.proofs.Paths.{Path, stay, on, followed}
-use Rattle.ed_paths.proofs.Window.{get_own}
 use Rattle.ed_routines.specs.Catalogue.{newline, print, with_h}
 use Rattle.ed_routines.specs.Digits.{digits, print_orders}
 use Rattle.ed_paths.proofs.Loops.{quiet_rounds}
-use Rattle.ed_routines.proofs.Journeys.{ComesToStop, HasRoutine, IsIn, Journey, along, after_call, elsewhere, has_after, no_working}
-use Rattle.ed_routines.proofs.Journeys.{still_in, then, to_stop}
+use Rattle.ed_routines.proofs.Journeys.{ComesToStop, HasRoutine, IsIn, Journey, along}
+use Rattle.ed_routines.proofs.Journeys.{then, to_stop}
 use Rattle.ed_programs.proofs.NumberShown.{HasShown, shows_number, then_on}
 
 -- the cells that change: the two links, the factors, the product and a spare cell

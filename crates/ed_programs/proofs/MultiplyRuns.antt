@@ -1,5 +1,5 @@
 -- What the source of `examples/answer5.edsac` prints, for any numbers: its lines, its entry and its law.
-use Rattle.std.proofs.Common.{◌≡◌, ◌∙◌, ℕ, ◌+◌, ◌*◌, ◌<◌, ◌≤◌, true, List, [], ◌∷◌, ◌++◌, refl, ap, arith}
+use Rattle.std.proofs.Common.{◌∙◌, ℕ, ◌+◌, ◌*◌, ◌<◌, true, List, [], ◌∷◌, ◌++◌, refl, ap, arith}
 use Rattle.std.proofs.Common.{append_assoc, codes, length-append, lit≤}
 use Rattle.std.specs.Fmt.{decimal}
 use Rattle.ed_words.specs.declared.size.Size.{Size}

@@ -1,5 +1,5 @@
 -- A number on a line of its own: the calls of `print` and of `newline` as one line of a journey.
-use Rattle.std.proofs.Common.{◌≡◌, ◌∙◌, ◌⊎◌, inl, inr, ℕ, ◌+◌, ◌*◌, ◌%◌, ◌<◌, ◌≤◌, arith, subst, false, List, [], ◌∷◌, ◌++◌, refl, Some, append-nil, get_or, length}
+use Rattle.std.proofs.Common.{◌≡◌, ◌∙◌, ◌⊎◌, inl, inr, ℕ, ◌+◌, ◌*◌, ◌%◌, ◌<◌, ◌≤◌, arith, subst, false, List, [], ◌∷◌, ◌++◌, refl, Some, append-nil, get_or}
 use Rattle.ed_library.specs.Routines.{is_working, place_count}
 use Rattle.ed_paths.proofs.Frames.{Frame, Moment, short}
 use Rattle.ed_paths.proofs.Moves.{Jumps, Reads}
