@@ -1,5 +1,6 @@
 -- What the source of `examples/add.edsac` prints, for any two numbers: its lines, its entry and its law.
-use Rattle.std.proofs.Common.{◌≡◌, ℕ, ◌+◌, ◌*◌, ◌<◌, true, false, List, [], ◌∷◌, refl, sym, arith, append-nil, codes, length, lit≤}
+use Rattle.std.proofs.Common.{◌≡◌, ℕ, ◌+◌, ◌*◌, ◌<◌, true, false, List, [], ◌∷◌, refl, sym, arith, append-nil, codes}
+use Rattle.std.proofs.Common.{length, lit≤}
 use Rattle.ed_words.proofs.Numbers.{le_true, lt_true}
 use Rattle.ed_words.specs.declared.size.Size.{Size}
 use Rattle.ed_library.specs.Images.{parameter_store}
@@ -70,8 +71,8 @@ module _ (a b : ℕ) (small : a + b < 65536) where
       prints = routine_after z lines refl (lit≤ tt) print 94 (with_h 68) refl (lit≤ tt) (lit≤ tt) (lit≤ tt);
     }
 
-    ends : ComesToStop (13 * length (digits a) + 13 * length (digits b) + print_orders (a + b) + 33) (entry_state z lines)
-        (11 ∷ digits (a + b)) 68
+    ends : ComesToStop (13 * length (digits a) + 13 * length (digits b) + print_orders (a + b) + 33)
+        (entry_state z lines) (11 ∷ digits (a + b)) 68
     unfolding given
     ends =
         stops_from_entry z lines refl 14 (lit≤ tt) (cells 56 70 94 0 0) refl refl (number_rows ns)

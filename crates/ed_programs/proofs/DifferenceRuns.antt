@@ -1,5 +1,6 @@
 -- What the source of `examples/difference.edsac` prints, for any two numbers: its lines, its entry and its law.
-use Rattle.std.proofs.Common.{◌≡◌, ℕ, ◌+◌, ◌*◌, ◌<◌, true, List, [], ◌∷◌, refl, sym, arith, append-nil, codes, length, lit≤, nat_lt}
+use Rattle.std.proofs.Common.{◌≡◌, ℕ, ◌+◌, ◌*◌, ◌<◌, true, List, [], ◌∷◌, refl, sym, arith, append-nil, codes, length}
+use Rattle.std.proofs.Common.{lit≤, nat_lt}
 use Rattle.std.specs.Prelude.{if◌then◌else◌}
 use Rattle.ed_words.proofs.Numbers.{le_true, lt_true}
 use Rattle.ed_words.specs.declared.size.Size.{Size}
@@ -17,7 +18,8 @@ use Rattle.ed_sources.proofs.Papers.{digits_printed}
 use Rattle.ed_command.specs.declared.command.Settings.{Settings}
 use Rattle.ed_programs.specs.Numbers.{numbers_line}
 use Rattle.ed_programs.specs.Programs.{SourceRuns}
-use Rattle.ed_programs.specs.Difference.{difference_orders, difference_prints, difference_source, difference_text, distance}
+use Rattle.ed_programs.specs.Difference.{difference_orders, difference_prints, difference_source, difference_text}
+use Rattle.ed_programs.specs.Difference.{distance}
 use Rattle.ed_programs.proofs.DifferenceProgram.{Given, difference_stops, cells}
 use Rattle.ed_programs.proofs.DataLines.{are_small, data_mark, data_plain, data_says, data_short, number_rows}
 use Rattle.ed_programs.proofs.NumberLines.{use_mark}
@@ -71,14 +73,17 @@ module _ (a b : ℕ) (first : a < 65536) (second : b < 65536) where
       prints = routine_after z lines refl (lit≤ tt) print 100 (with_h 72) refl (lit≤ tt) (lit≤ tt) (lit≤ tt);
     }
 
-    ends : ComesToStop (13 * length (digits a) + 13 * length (digits b) + (if nat_lt b a then 3 else 0) + print_orders (distance a b) + 34) (entry_state z lines)
+    ends : ComesToStop (13 * length (digits a) + 13 * length (digits b) + (if nat_lt b a then 3 else 0)
+        + print_orders (distance a b) + 34) (entry_state z lines)
         (11 ∷ digits (distance a b)) 72
     unfolding given
     ends =
         stops_from_entry z lines refl 19 (lit≤ tt) (cells 56 76 100 0 0 0) refl refl (number_rows ns)
         (sym (append-nil (number_rows ns))) (difference_stops given a b first second (entry_state z lines).orders)
 
-  pub each_difference : (s : Settings) → SourceRuns s (difference_text a b) (difference_orders a b) 72 (difference_prints a b)
+  pub each_difference : (s : Settings)
+      → SourceRuns s (difference_text a b) (difference_orders a b) 72 (difference_prints a b)
   each_difference s =
       let few = few_digits (distance a b) in
-      program_runs s (difference_source a b) said (ends s.size) (omega arith) (omega arith) (digits_printed (distance a b) (omega arith))
+      program_runs s (difference_source a b) said (ends s.size) (omega arith) (omega arith)
+      (digits_printed (distance a b) (omega arith))

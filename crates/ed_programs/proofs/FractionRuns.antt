@@ -1,5 +1,6 @@
 -- What the source of `examples/fraction.edsac` prints, for any fraction in range: its lines, its entry and its law.
-use Rattle.std.proofs.Common.{◌≡◌, ℕ, ◌+◌, ◌*◌, ◌/◌, ◌<◌, ◌≤◌, Bool, true, false, List, [], ◌∷◌, ◌++◌, refl, arith, append-nil, codes, length, length-append, lit≤}
+use Rattle.std.proofs.Common.{◌≡◌, ℕ, ◌+◌, ◌*◌, ◌/◌, ◌<◌, ◌≤◌, Bool, true, false, List, [], ◌∷◌, ◌++◌, refl, arith}
+use Rattle.std.proofs.Common.{append-nil, codes, length, length-append, lit≤}
 use Rattle.std.specs.Prelude.{None, pos}
 use Rattle.std.proofs.lemmas.List.{length-replicate}
 use Rattle.ed_words.proofs.Numbers.{le_true, lt_true}

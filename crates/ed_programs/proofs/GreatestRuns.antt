@@ -1,5 +1,7 @@
 -- What the source of `examples/answer6.edsac` prints, for any eight numbers: its lines, its entry and its law.
-use Rattle.std.proofs.Common.{◌≡◌, ℕ, ◌+◌, ◌*◌, ◌<◌, true, List, [], ◌∷◌, refl, arith, codes, get_or, length, lit<, lit≤, nat_lt}
+use Rattle.std.proofs.Common.{◌≡◌, ◌∙◌, ℕ, ◌+◌, ◌*◌, ◌<◌, ◌≤◌, true, List, [], ◌∷◌, refl, ap, arith, codes, drop}
+use Rattle.std.proofs.Common.{get_or}
+use Rattle.std.proofs.Common.{length, lit<, lit≤, nat_lt}
 use Rattle.std.proofs.lemmas.Bool.{and_parts}
 use Rattle.ed_words.proofs.Numbers.{lt_of}
 use Rattle.ed_words.proofs.SizeLemmas.{least}
@@ -12,17 +14,19 @@ use Rattle.ed_routines.specs.Catalogue.{print, with_h}
 use Rattle.ed_routines.specs.Digits.{digits, print_orders}
 use Rattle.ed_routines.proofs.Digits.{few_digits}
 use Rattle.ed_routines.proofs.Journeys.{ComesToStop}
-use Rattle.ed_sources.proofs.AtEntry.{all_words, word_at}
+use Rattle.ed_sources.proofs.AtEntry.{all_words, have_places, placed, word_at}
 use Rattle.ed_sources.proofs.CallsAccepted.{decimal_plain}
 use Rattle.ed_sources.proofs.Entries.{frame_at, moment_at}
 use Rattle.ed_sources.proofs.Papers.{digits_printed}
 use Rattle.ed_command.specs.declared.command.Settings.{Settings}
-use Rattle.ed_programs.specs.Greatest.{greatest_of, greatest_orders, greatest_prints, greatest_source, greatest_text, rises}
+use Rattle.ed_programs.specs.Greatest.{greatest_of, greatest_orders, greatest_prints, greatest_source, greatest_text}
+use Rattle.ed_programs.specs.Greatest.{rises}
 use Rattle.ed_programs.specs.Programs.{SourceRuns}
 use Rattle.ed_programs.proofs.GreatestProgram.{Given, Stand, Turning, cells, getting, greatest_stops}
 use Rattle.ed_programs.proofs.DataLines.{are_small, small_at}
-use Rattle.ed_programs.proofs.NumberLines.{front_short, labelled, plain_front, plain_mark, use_mark, word_mark, word_says, word_short}
-use Rattle.ed_programs.proofs.ProgramEntry.{routine_after, stops_from_entry}
+use Rattle.ed_programs.proofs.NumberLines.{front_short, labelled, plain_front, plain_mark, use_mark, word_mark}
+use Rattle.ed_programs.proofs.NumberLines.{word_says, word_short}
+use Rattle.ed_programs.proofs.ProgramEntry.{routine_after, stops_from_entry, words_from}
 use Rattle.ed_programs.proofs.SourceLines.{Marked, lines_said}
 use Rattle.ed_programs.proofs.SourceRuns.{AreSaid, program_runs}
 
@@ -33,6 +37,18 @@ greatest_small (n ∷ ns) h =
     let here = lt_of n 65536 p.0 in
     let rest = greatest_small ns p.1 in
     omega arith
+
+-- numbers that stand in the source from a place on stand there at its entry
+pub numbers_stand : (z : Size) (lines : List Line) → have_places (placed lines) ≡ true → (q : ℕ) (ns : List ℕ) → 44 ≤ q
+    → q + length ns ≤ 1024 → words_from (placed lines) q (length ns) ≡ ns → are_small ns ≡ true
+    → Stand (entry_state z lines).store.words q ns
+numbers_stand z lines fit q [] low high are small = tt
+numbers_stand z lines fit q (n ∷ ns) low high are small =
+    let p = and_parts (nat_lt n 65536) (are_small ns) small in (
+      word_at z lines fit q low (omega arith) ∙ ap (λ (xs : List ℕ). get_or xs 0 0) are,
+      lt_of n 65536 p.0,
+      numbers_stand z lines fit (q + 1) ns (omega arith) (omega arith) (ap (λ (xs : List ℕ). drop 1 xs) are) p.1,
+    )
 
 module _ (a b c d e f g h : ℕ) (small : are_small (a ∷ b ∷ c ∷ d ∷ e ∷ f ∷ g ∷ h ∷ []) ≡ true) where
   abbrev ns : List ℕ
@@ -52,7 +68,8 @@ module _ (a b c d e f g h : ℕ) (small : are_small (a ∷ b ∷ c ∷ d ∷ e �
   said : AreSaid true (greatest_source ns) marks
   unfolding settings
   said =
-      let list = labelled true 29 (codes "list") (λ t h. h) (lit≤ tt) (λ t h. rw h refl) (λ t n r. rw (n, r) refl) a (below 0 (lit< tt)) in
+      let list = labelled true 29 (codes "list")
+      (λ t h. h) (lit≤ tt) (λ t h. rw h refl) (λ t n r. rw (n, r) refl) a (below 0 (lit< tt)) in
       let p0 = decimal_plain a (below 0 (lit< tt)) in
       let p1 = decimal_plain b (below 1 (lit< tt)) in
       let p2 = decimal_plain c (below 2 (lit< tt)) in
@@ -103,8 +120,7 @@ module _ (a b c d e f g h : ℕ) (small : are_small (a ∷ b ∷ c ∷ d ∷ e �
     }
 
     stand : Stand (entry_state z lines).store.words 79 ns
-    stand =
-        (word_at z lines refl 79 (lit≤ tt) (lit< tt), below 0 (lit< tt), (word_at z lines refl 80 (lit≤ tt) (lit< tt), below 1 (lit< tt), (word_at z lines refl 81 (lit≤ tt) (lit< tt), below 2 (lit< tt), (word_at z lines refl 82 (lit≤ tt) (lit< tt), below 3 (lit< tt), (word_at z lines refl 83 (lit≤ tt) (lit< tt), below 4 (lit< tt), (word_at z lines refl 84 (lit≤ tt) (lit< tt), below 5 (lit< tt), (word_at z lines refl 85 (lit≤ tt) (lit< tt), below 6 (lit< tt), (word_at z lines refl 86 (lit≤ tt) (lit< tt), below 7 (lit< tt), tt))))))))
+    stand = numbers_stand z lines refl 79 ns (lit≤ tt) (lit≤ tt) refl small
 
     ends : ComesToStop (104 + 3 * rises 0 ns + print_orders (greatest_of ns) + 3) (entry_state z lines)
         (11 ∷ digits (greatest_of ns)) 76

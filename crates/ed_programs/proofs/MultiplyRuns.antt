@@ -46,9 +46,12 @@ module _ (a b c : ℕ) (o : AreFactors a b c) where
   said : AreSaid true (multiply_source a b c) marks
   unfolding settings
   said =
-      let twelve = labelled true 17 (codes "_twelve") (λ t h. h) (lit≤ tt) (λ t h. rw h refl) (λ t n r. rw (n, r) refl) c o.third in
-      let left = labelled true 33 (codes "left") (λ t h. h) (lit≤ tt) (λ t h. rw h refl) (λ t n r. rw (n, r) refl) a o.left in
-      let right = labelled true 34 (codes "right") (λ t h. h) (lit≤ tt) (λ t h. rw h refl) (λ t n r. rw (n, r) refl) b o.right in
+      let twelve = labelled true 17 (codes "_twelve")
+      (λ t h. h) (lit≤ tt) (λ t h. rw h refl) (λ t n r. rw (n, r) refl) c o.third in
+      let left = labelled true 33 (codes "left")
+      (λ t h. h) (lit≤ tt) (λ t h. rw h refl) (λ t n r. rw (n, r) refl) a o.left in
+      let right = labelled true 34 (codes "right")
+      (λ t h. h) (lit≤ tt) (λ t h. rw h refl) (λ t n r. rw (n, r) refl) b o.right in
       let p = decimal_plain a o.left in let q = decimal_plain b o.right in let r = decimal_plain c o.third in
       let x = front_short (codes "_twelve: word ") (lit≤ tt) c o.third in
       let y = front_short (codes "left: word ") (lit≤ tt) a o.left in
@@ -85,7 +88,8 @@ module _ (a b c : ℕ) (o : AreFactors a b c) where
         (multiply_stops given (moment_at (entry_state z lines)) is_around work o.left o.product o.third o.square
         (entry_state z lines).orders)
 
-  pub each_product : (s : Settings) → SourceRuns s (multiply_text a b c) (multiply_orders a b c) 68 (multiply_prints a b c)
+  pub each_product : (s : Settings)
+      → SourceRuns s (multiply_text a b c) (multiply_orders a b c) 68 (multiply_prints a b c)
   each_product s =
       let few = few_digits (a * b) in
       let also = few_digits (c * c) in

@@ -1,5 +1,6 @@
 -- A number on a line of its own: the calls of `print` and of `newline` as one line of a journey.
-use Rattle.std.proofs.Common.{◌≡◌, ◌∙◌, ◌⊎◌, inl, inr, ℕ, ◌+◌, ◌*◌, ◌%◌, ◌<◌, ◌≤◌, arith, subst, false, List, [], ◌∷◌, ◌++◌, refl, Some, append-nil, get_or}
+use Rattle.std.proofs.Common.{◌≡◌, ◌∙◌, ◌⊎◌, inl, inr, ℕ, ◌+◌, ◌*◌, ◌%◌, ◌<◌, ◌≤◌, arith, subst, false, List, [], ◌∷◌}
+use Rattle.std.proofs.Common.{◌++◌, refl, Some, append-nil, get_or}
 use Rattle.ed_library.specs.Routines.{is_working, place_count}
 use Rattle.ed_paths.proofs.Frames.{Frame, Moment, short}
 use Rattle.ed_paths.proofs.Moves.{Jumps, Reads}
@@ -9,8 +10,10 @@ use Rattle.ed_paths.proofs.Window.{get_own}
 use Rattle.ed_routines.specs.Catalogue.{newline, print, with_h}
 use Rattle.ed_routines.specs.Digits.{digits, print_orders}
 use Rattle.ed_routines.specs.Returns.{IsOther}
-use Rattle.ed_routines.proofs.Journeys.{HasRoutine, IsIn, Journey, along, after_call, elsewhere, has_after, no_working, stays, still_in, then}
-use Rattle.ed_routines.proofs.Lines.{newline_left, newline_line, newline_returns, number_at, print_goes, print_left, print_line}
+use Rattle.ed_routines.proofs.Journeys.{HasRoutine, IsIn, Journey, along, after_call, elsewhere, has_after, no_working}
+use Rattle.ed_routines.proofs.Journeys.{stays, still_in, then}
+use Rattle.ed_routines.proofs.Lines.{newline_left, newline_line, newline_returns, number_at, print_goes, print_left}
+use Rattle.ed_routines.proofs.Lines.{print_line}
 
 -- a journey, and a path after it that prints nothing
 pub then_on : {n h : ℕ} {f : Frame n h} {a b : ℕ} {r m t : Moment} {codes : List ℕ} → Journey f a r codes m

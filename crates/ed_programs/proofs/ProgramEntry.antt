@@ -1,5 +1,6 @@
 -- A source's program at its entry: its cells and the routines of the library after them, each by one test.
-use Rattle.std.proofs.Common.{◌≡◌, ◌∙◌, inr, ℕ, zero, suc, ◌+◌, ◌<◌, ◌≤◌, refl, sym, ap, subst, arith, true, List, [], ◌∷◌, get_or, length}
+use Rattle.std.proofs.Common.{◌≡◌, ◌∙◌, inr, ℕ, zero, suc, ◌+◌, ◌<◌, ◌≤◌, refl, sym, ap, subst, arith, true, List, []}
+use Rattle.std.proofs.Common.{◌∷◌, get_or, length}
 use Rattle.std.specs.Prelude.{unwrap_or}
 use Rattle.ed_words.proofs.SizeLemmas.{least}
 use Rattle.ed_words.specs.declared.size.Size.{Size}

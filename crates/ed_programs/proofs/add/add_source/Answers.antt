@@ -12,4 +12,5 @@ front = text_of_lines (take 20 (add_source 0 0)) ++ codes "data " ++ 34 ∷ []
 
 pub returns : goal.returns
 returns c =
-    written _ _ _ _ (data_last front (decimal c.args.first ∷ decimal c.args.second ∷ [])) c.program_of_text.ensures c.format.ensures.ok
+    written _ _ _ _
+    (data_last front (decimal c.args.first ∷ decimal c.args.second ∷ [])) c.program_of_text.ensures c.format.ensures.ok

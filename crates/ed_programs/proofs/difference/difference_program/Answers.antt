@@ -13,7 +13,8 @@ front = text_of_lines (take 26 (difference_source 0 0)) ++ codes "data " ++ 34 �
 
 pub returns-clause-is : goal.returns-clause-is
 returns-clause-is c =
-    written _ _ _ _ (data_last front (decimal c.args.first ∷ decimal c.args.second ∷ [])) c.program_of_text.ensures c.format.ensures.ok
+    written _ _ _ _
+    (data_last front (decimal c.args.first ∷ decimal c.args.second ∷ [])) c.program_of_text.ensures c.format.ensures.ok
 
 pub returns-clause-law : goal.returns-clause-law
 returns-clause-law c =

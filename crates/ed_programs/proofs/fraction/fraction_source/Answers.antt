@@ -12,5 +12,6 @@ front = text_of_lines (take 51 (fraction_source 0 0 0)) ++ codes "data " ++ 34 �
 
 pub returns : goal.returns
 returns c =
-    written _ _ _ _ (data_last front (decimal c.args.upper ∷ decimal c.args.lower ∷ decimal c.args.places ∷ []))
+    written _ _ _ _
+    (data_last front (decimal c.args.upper ∷ decimal c.args.lower ∷ decimal c.args.places ∷ []))
     c.program_of_text.ensures c.format.ensures.ok
