@@ -62,7 +62,8 @@ module _ (u l n : ℕ) (first : u < 65536) (some : 1 ≤ l) (few : l ≤ 6553) (
       let z = lt_true n 65536 third in
       let small : are_small three ≡ true = rw (x, y, z) refl in
       let plain = data_plain true 52 three (lit≤ tt) (lit≤ tt) (lit≤ tt) small in
-      let short = le_true (length (numbers_line three)) 120 (data_short true 52 three (lit≤ tt) (lit≤ tt) (lit≤ tt) small) in
+      let short = le_true (length (numbers_line three)) 120
+      (data_short true 52 three (lit≤ tt) (lit≤ tt) (lit≤ tt) small) in
       record {
         plain = rw plain refl;
         short = rw short refl;
@@ -114,4 +115,5 @@ module _ (u l n : ℕ) (first : u < 65536) (some : 1 ≤ l) (few : l ≤ 6553) (
       let a = length-append (digits (u / l)) (23 ∷ figure_codes u l n) in
       let b = few_digits (u / l) in
       let c = few_codes u l n in
-      program_runs s (fraction_source u l n) said (ends s.size) (omega arith) (omega arith) (all_shown u l n (u / l) low)
+      program_runs s (fraction_source u l n) said (ends s.size) (omega arith) (omega arith)
+      (all_shown u l n (u / l) low)

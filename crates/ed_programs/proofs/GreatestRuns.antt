@@ -57,7 +57,8 @@ module _ (a b c d e f g h : ℕ) (small : are_small (a ∷ b ∷ c ∷ d ∷ e �
   abbrev marks : List Marked
   marks =
       word_mark 29 (codes "list") a ∷ plain_mark 30 b ∷ plain_mark 31 c ∷ plain_mark 32 d ∷ plain_mark 33 e
-      ∷ plain_mark 34 f ∷ plain_mark 35 g ∷ plain_mark 36 h ∷ use_mark 37 (codes "print") (codes "p") (codes "greatest") ∷ []
+      ∷ plain_mark 34 f ∷ plain_mark 35 g ∷ plain_mark 36 h
+      ∷ use_mark 37 (codes "print") (codes "p") (codes "greatest") ∷ []
 
   abbrev lines : List Line
   lines = lines_said true 1 (greatest_source ns) marks
@@ -129,13 +130,15 @@ module _ (a b c d e f g h : ℕ) (small : are_small (a ∷ b ∷ c ∷ d ∷ e �
         let first : Turning = record { q = 79; left = 0; most = 0; scrap = 0 } in
         stops_from_entry z lines refl 23 (lit≤ tt) (cells 56 87 88 (getting 79) (getting 79) 0 0) refl refl [] refl
         (greatest_stops given first ns
-        (record { stand = stand; ends = refl; from = lit≤ tt; small = lit< tt; low = lit< tt }) refl (entry_state z lines).orders)
+        (record { stand = stand; ends = refl; from = lit≤ tt; small = lit< tt; low = lit< tt }) refl
+        (entry_state z lines).orders)
 
   eight_run : (s : Settings) → SourceRuns s (greatest_text ns) (greatest_orders ns) 76 (greatest_prints ns)
   eight_run s =
       let low = greatest_small ns small in
       let few = few_digits (greatest_of ns) in
-      program_runs s (greatest_source ns) said (ends s.size) (omega arith) (omega arith) (digits_printed (greatest_of ns) low)
+      program_runs s (greatest_source ns) said (ends s.size) (omega arith) (omega arith)
+      (digits_printed (greatest_of ns) low)
 
 -- eight numbers below 65536
 pub record AreEight (ns : List ℕ) : Type 0 where

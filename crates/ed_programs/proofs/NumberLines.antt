@@ -95,7 +95,8 @@ use_mark k routine name at = record {
 
 -- a line with `word N` after its label: what its front makes of it is computed from the label
 pub labelled : (two : Bool) (k : ℕ) (label : Text)
-    → ((bytes : Text) → list_all is_line_byte bytes ≡ true → list_all is_line_byte ((label ++ codes ": word ") ++ bytes) ≡ true)
+    → ((bytes : Text) → list_all is_line_byte bytes ≡ true
+    → list_all is_line_byte ((label ++ codes ": word ") ++ bytes) ≡ true)
     → length (label ++ codes ": word ") ≤ 20
     → ((bytes : Text) → parts_of bytes ≡ Some (run bytes ∷ [])
     → parts_of ((label ++ codes ": word ") ++ bytes) ≡ Some (label_parts label ++ run (codes "word") ∷ run bytes ∷ []))

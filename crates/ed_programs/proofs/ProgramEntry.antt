@@ -57,7 +57,8 @@ module _ (z : Size) (lines : List Line) (fit : have_places (placed lines) ≡ tr
 
     -- so a stop of the program, from the moment at its entry, is a stop of the source
     pub stops_from_entry : {k at : ℕ} {codes : List ℕ} → entry_of lines ≡ 56 → (tape : List ℕ) → tape ≡ s.tape
-        → ComesToStop k (state (frame_at n z few) (record (moment_at s) { cells = cells; tape = tape }) s.orders) codes at
+        → ComesToStop k (state (frame_at n z few) (record (moment_at s) { cells = cells; tape = tape }) s.orders) codes
+        at
         → ComesToStop k s codes at
     stops_from_entry {k} {at} {codes} first tape rows =
         subst (λ (x : State). ComesToStop k x codes at) (λ i. record s {

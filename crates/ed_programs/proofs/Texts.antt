@@ -52,5 +52,6 @@ pub data_last : (front : Text) (ts : List Text)
     → front ++ with_ends ts (34 ∷ 10 ∷ []) ≡ front ++ (((with_ends ts [] ++ 34 ∷ []) ++ 10 ∷ []) ++ [])
 data_last front ts =
     ap (λ (t : Text). front ++ t)
-    (sym (append-nil ((with_ends ts [] ++ 34 ∷ []) ++ 10 ∷ []) ∙ ap (λ (t : Text). t ++ 10 ∷ []) (ends_append ts [] (34 ∷ []))
+    (sym (append-nil ((with_ends ts [] ++ 34 ∷ []) ++ 10 ∷ [])
+    ∙ ap (λ (t : Text). t ++ 10 ∷ []) (ends_append ts [] (34 ∷ []))
     ∙ ends_append ts (34 ∷ []) (10 ∷ [])))
