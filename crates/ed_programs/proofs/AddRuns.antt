@@ -1,35 +1,84 @@
--- What the source of `examples/add.edsac` prints, for any two numbers.
-use Rattle.std.proofs.Common.{◌≡◌, ℕ, ◌+◌, ◌*◌, ◌<◌, true, false, List, [], ◌∷◌, refl, subst, arith, length, lit≤}
+-- What the source of `examples/add.edsac` prints, for any two numbers: its lines, its entry and its law.
+use Rattle.std.proofs.Common.{◌≡◌, ℕ, ◌+◌, ◌*◌, ◌<◌, true, false, List, [], ◌∷◌, refl, sym, arith, append-nil, codes}
+use Rattle.std.proofs.Common.{length, lit≤}
 use Rattle.ed_words.proofs.Numbers.{le_true, lt_true}
-use Rattle.ed_words.specs.Texts.{Text}
+use Rattle.ed_words.specs.declared.size.Size.{Size}
+use Rattle.ed_library.specs.Images.{parameter_store}
+use Rattle.ed_syntax.specs.Private.Grammar.{settings}
+use Rattle.ed_syntax.specs.declared.program.Line.{Line}
+use Rattle.ed_loads.specs.EntryState.{entry_state}
+use Rattle.ed_routines.specs.Catalogue.{print, read, with_h}
 use Rattle.ed_routines.specs.Digits.{digits, print_orders}
 use Rattle.ed_routines.proofs.Digits.{few_digits}
-use Rattle.ed_printer.specs.Paper.{paper}
+use Rattle.ed_routines.proofs.Journeys.{ComesToStop}
+use Rattle.ed_sources.proofs.AtEntry.{all_words}
+use Rattle.ed_sources.proofs.Entries.{frame_at, moment_at}
 use Rattle.ed_sources.proofs.Papers.{digits_printed}
 use Rattle.ed_command.specs.declared.command.Settings.{Settings}
-use Rattle.ed_programs.specs.Add.{add_orders, add_prints, add_source, add_text}
 use Rattle.ed_programs.specs.Numbers.{numbers_line}
 use Rattle.ed_programs.specs.Programs.{SourceRuns}
-use Rattle.ed_programs.proofs.AddEnds.{add_ends}
-use Rattle.ed_programs.proofs.AddSaid.{add_faultless, add_read}
-use Rattle.ed_programs.proofs.Answered.{are_short}
-use Rattle.ed_programs.proofs.DataLines.{are_small, data_short}
-use Rattle.ed_programs.proofs.SourceRuns.{source_runs}
+use Rattle.ed_programs.specs.Add.{add_orders, add_prints, add_source, add_text}
+use Rattle.ed_programs.proofs.AddProgram.{Given, add_stops, cells}
+use Rattle.ed_programs.proofs.DataLines.{are_small, data_mark, data_plain, data_says, data_short, number_rows}
+use Rattle.ed_programs.proofs.NumberLines.{use_mark}
+use Rattle.ed_programs.proofs.ProgramEntry.{routine_after, stops_from_entry}
+use Rattle.ed_programs.proofs.SourceLines.{Marked, lines_said}
+use Rattle.ed_programs.proofs.SourceRuns.{AreSaid, program_runs}
 
-pub each_sum : (s : Settings) (a b : ℕ) → a + b < 65536
-    → SourceRuns s (add_text a b) (add_orders a b) 68 (add_prints a b)
-each_sum s a b small =
-    let ns : List ℕ = a ∷ b ∷ [] in
-    let low = lt_true a 65536 (omega arith) in
-    let few = lt_true b 65536 (omega arith) in
-    let are : are_small ns ≡ true = rw (low, few) refl in
-    let line = le_true (length (numbers_line ns)) 120 (data_short false 21 ns (lit≤ tt) (lit≤ tt) (lit≤ tt) are) in
-    let short : are_short (add_source a b) ≡ true = rw line refl in
-    let codes_few = few_digits (a + b) in
-    let count : 13 * length (digits a) + 13 * length (digits b) + print_orders (a + b) + 33 + 1
-    ≡ 13 * length (digits a) + 13 * length (digits b) + print_orders (a + b) + 34 = omega arith in
-    subst (λ (t : Text). SourceRuns s (add_text a b) (13 * length (digits a) + 13 * length (digits b) + print_orders (a + b) + 34) 68 t)
-    (digits_printed (a + b) small)
-    (subst (λ k. SourceRuns s (add_text a b) k 68 (paper (11 ∷ digits (a + b)))) count
-    (source_runs s (add_source a b) short (lit≤ tt) (add_read a b are) (add_faultless s.size a b)
-    (add_ends s.size a b small) (omega arith)))
+module _ (a b : ℕ) (small : a + b < 65536) where
+  abbrev ns : List ℕ
+  ns = a ∷ b ∷ []
+
+  abbrev marks : List Marked
+  marks =
+      use_mark 18 (codes "read") (codes "r") (codes "value") ∷ use_mark 19 (codes "print") (codes "p") (codes "value")
+      ∷ data_mark 21 ns ∷ []
+
+  abbrev lines : List Line
+  lines = lines_said false 1 (add_source a b) marks
+
+  said : AreSaid false (add_source a b) marks
+  unfolding settings
+  said =
+      let x = lt_true a 65536 (omega arith) in
+      let y = lt_true b 65536 (omega arith) in
+      let are : are_small ns ≡ true = rw (x, y) refl in
+      let plain = data_plain false 21 ns (lit≤ tt) (lit≤ tt) (lit≤ tt) are in
+      let short = le_true (length (numbers_line ns)) 120 (data_short false 21 ns (lit≤ tt) (lit≤ tt) (lit≤ tt) are) in
+      record {
+        plain = rw plain refl;
+        short = rw short refl;
+        few = lit≤ tt;
+        version = refl;
+        read = refl;
+        marked = (refl, (refl, (data_says false 21 ns (lit≤ tt) (lit≤ tt) (lit≤ tt) are, tt)));
+        small = refl;
+        full = refl;
+      }
+
+  module _ (z : Size) where
+    given : Given
+    unfolding parameter_store
+    given = record {
+      f = frame_at 14 z (lit≤ tt);
+      above = lit≤ tt;
+      r = 70;
+      p = 94;
+      other = lit≤ tt;
+      around = moment_at (entry_state z lines);
+      all = all_words z lines;
+      reads = routine_after z lines refl (lit≤ tt) read 70 (with_h 68) refl (lit≤ tt) (lit≤ tt) (lit≤ tt);
+      prints = routine_after z lines refl (lit≤ tt) print 94 (with_h 68) refl (lit≤ tt) (lit≤ tt) (lit≤ tt);
+    }
+
+    ends : ComesToStop (13 * length (digits a) + 13 * length (digits b) + print_orders (a + b) + 33)
+        (entry_state z lines) (11 ∷ digits (a + b)) 68
+    unfolding given
+    ends =
+        stops_from_entry z lines refl 14 (lit≤ tt) (cells 56 70 94 0 0) refl refl (number_rows ns)
+        (sym (append-nil (number_rows ns))) (add_stops given a b small (entry_state z lines).orders)
+
+  pub each_sum : (s : Settings) → SourceRuns s (add_text a b) (add_orders a b) 68 (add_prints a b)
+  each_sum s =
+      let few = few_digits (a + b) in
+      program_runs s (add_source a b) said (ends s.size) (omega arith) (omega arith) (digits_printed (a + b) small)

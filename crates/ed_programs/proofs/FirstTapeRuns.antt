@@ -1,5 +1,5 @@
 -- The outcome of a tape of May 1949 whose program comes to its stop, as what the command `tape1` owes it.
-use Rattle.std.proofs.Common.{◌≡◌, ◌∙◌, inl, ℕ, ◌+◌, ◌-◌, ◌≤◌, refl, sym, ap, subst, arith, Bool, true, false}
+use Rattle.std.proofs.Common.{◌≡◌, ◌∙◌, inl, ℕ, ◌+◌, ◌-◌, ◌≤◌, refl, sym, subst, arith, Bool, true, false}
 use Rattle.std.proofs.Common.{◌&&◌, nat_le, nat_lt, List, [], ◌∷◌, ◌++◌, codes, length}
 use Rattle.std.specs.Prelude.{None, Result, Ok, Err, String}
 use Rattle.std.specs.List.{list_all}
@@ -7,21 +7,14 @@ use Rattle.std.specs.declared.alloc.Global.{Global}
 use Rattle.std.proofs.lemmas.Bool.{and_parts}
 use Rattle.ed_words.proofs.Numbers.{le_of, lt_of}
 use Rattle.ed_words.specs.Texts.{Text}
-use Rattle.ed_words.specs.declared.size.Size.TheVariants.{Full}
 use Rattle.ed_codes.specs.Reading.{reading, rows}
 use Rattle.ed_machine.specs.OrderTable.{step}
-use Rattle.ed_machine.specs.State.{State, cleared}
+use Rattle.ed_machine.specs.State.{State}
 use Rattle.ed_notation.specs.Items.{AreDigits}
-use Rattle.ed_initial1.specs.Entry.{IsStarted1, at_entry1}
+use Rattle.ed_initial1.specs.Entry.{at_entry1}
 use Rattle.ed_initial1.specs.Faults.{Comes1, Tape}
 use Rattle.ed_initial1.specs.Items.{AreItems, Item1, item_number}
-use Rattle.ed_initial1.proofs.Opened.{HasItsLengths}
-use Rattle.ed_initial1.proofs.Settled.{all_went, comes}
-use Rattle.ed_initial1.proofs.Started.{is_started}
-use Rattle.ed_initial1.proofs.Walks.{Reaches}
-use Rattle.ed_initial1.proofs.Whole.{leads_in}
 use Rattle.ed_run.specs.Run.{ran}
-use Rattle.ed_run.proofs.Later.{ran_later}
 use Rattle.ed_printer.specs.Paper.{paper}
 use Rattle.ed_report.specs.Notes.{at_after}
 use Rattle.ed_routines.proofs.Journeys.{ComesToStop}
@@ -29,9 +22,10 @@ use Rattle.ed_sources.proofs.Stops.{LeadsToStop, ran_to_stop}
 use Rattle.ed_command.specs.declared.command.Settings.{Settings}
 use Rattle.ed_answers.specs.Answer.{OfReading, exactly}
 use Rattle.ed_answers.specs.FirstEntry.{cost1}
-use Rattle.ed_answers.specs.FirstOrders.{first_state1, run1_of, tape1_outcome}
+use Rattle.ed_answers.specs.FirstOrders.{first_state1, tape1_outcome}
 use Rattle.ed_answers.specs.Outcome.{Outcome}
 use Rattle.ed_answers.specs.Runs.{paper_room, ran_outcome}
+use Rattle.ed_answers.proofs.FirstEntries.{runs_from_31}
 use Rattle.ed_top.proofs.Stopped.{answered}
 use Rattle.ed_programs.specs.FirstTapes.{FirstTapePrints, FirstTapeRuns}
 use Rattle.ed_programs.specs.Programs.{GivesProgram}
@@ -68,25 +62,10 @@ are_items (i ∷ is) h =
 
 -- ---- the run from 31
 
-module _ {tape_rows : List ℕ} {t : Tape} (o : Comes1 tape_rows t) where
-  abbrev first : State
-  first = first_state1 tape_rows
-
-  lengths : HasItsLengths first.store
-  unfolding first_state1
-  lengths = record { words = refl; sandwich = refl }
-
-  starts : IsStarted1 first
-  unfolding first_state1
-  starts = is_started tape_rows (cleared Full) refl
-
-  fresh : first.orders ≡ 0
-  unfolding first_state1
-  fresh = refl
-
-  reaches : Reaches (cost1 t) first (at_entry1 first t)
-  unfolding first_state1
-  reaches = leads_in first lengths starts t o
+-- no order is done at the start
+fresh : (tape_rows : List ℕ) → (first_state1 tape_rows).orders ≡ 0
+unfolding first_state1
+fresh tape_rows = refl
 
 -- a text that spells rows that come to a program, which comes to its stop from its entry
 pub first_tape_runs : (s : Settings) (tape : Text) (tape_rows : List ℕ) (t : Tape) {k at : ℕ} {printed : List ℕ}
@@ -97,11 +76,9 @@ first_tape_runs s tape tape_rows t {k} {at} {printed} reads short o stops few =
     let first : State = first_state1 tape_rows in
     let entry : State = at_entry1 first t in
     let left : ℕ = s.limit - cost1 t in
-    let went = all_went first entry (cost1 t) (reaches o) in
-    let there : ◌≡◌ {A = State} _ entry = comes first entry (cost1 t) (reaches o) in
     let to_stop : LeadsToStop k entry printed =
     record { last = stops.last; leads = stops.leads; stops = stops.stops } in
-    let none = fresh o in
+    let none = fresh tape_rows in
     let count : (step stops.last).state.orders ≡ cost1 t + (k + 1) = omega (arith, stops.orders, none) in
     record {
       codes_of = tape_rows;
@@ -111,16 +88,15 @@ first_tape_runs s tape tape_rows t {k} {at} {printed} reads short o stops few =
       cost_is = refl;
       outcome = λ no_resumes fits.
           let ended = ran_to_stop left paper_room k entry printed to_stop few (omega (arith, fits)) in
-          let whole : run1_of s tape_rows ≡ ran left 0 paper_room entry =
-          ran_later s.limit s.resumes paper_room (cost1 t) first went (omega (arith, fits))
-          ∙ (λ i. ran left (no_resumes i) paper_room (there i)) in
           let due : Outcome = record {
             out = paper printed;
             note = at_after (codes "stopped") at (cost1 t + (k + 1)) ++ 10 ∷ [];
             status = 0;
           } in
           let answer : tape1_outcome s tape_rows ≡ due =
-          ap (ran_outcome []) whole ∙ answered [] (ran left 0 paper_room entry) ended stops.counter count in
+          (runs_from_31 s tape_rows t o).runs (omega (arith, fits))
+          ∙ (λ i. ran_outcome [] (ran left (no_resumes i) paper_room entry))
+          ∙ answered [] (ran left 0 paper_room entry) ended stops.counter count in
           inl (short, subst (λ r. OfReading (exactly (tape1_outcome s)) r due) (sym reads) answer);
     }
 

@@ -1,6 +1,6 @@
 -- The program of `examples/answer5.edsac`, at any base and for all its numbers: a routine of its own that multiplies by
 -- adding, and one that calls two routines of the library.
-use Rattle.std.proofs.Common.{◌≡◌, ◌∙◌, inl, inr, ℕ, suc, ◌+◌, ◌-◌, ◌*◌, ◌%◌, ◌<◌, ◌≤◌, refl, sym, ap, subst, arith, lit<, lit≤}
+use Rattle.std.proofs.Common.{◌≡◌, ◌∙◌, ℕ, suc, ◌+◌, ◌-◌, ◌*◌, ◌<◌, ◌≤◌, refl, sym, ap, subst, arith, lit<, lit≤}
 use Rattle.std.proofs.Common.{List, [], ◌∷◌, ◌++◌, Some, get_or, length}
 use Rattle.ed_words.proofs.SizeLemmas.{most}
 use Rattle.ed_paths.proofs.Frames.{Frame, Moment, short, state}
@@ -8,13 +8,12 @@ use Rattle.ed_paths.proofs.Places.{early, any, own, out}
 use Rattle.ed_paths.proofs.Orders.{word_is}
 use Rattle.ed_paths.proofs.Moves.{A, S, T, U, E_jumps, G_jumps, G_stays, Z}
 use Rattle.ed_paths.proofs.Paths.{Path, stay, on, followed}
-use Rattle.ed_paths.proofs.Window.{get_own}
 use Rattle.ed_routines.specs.Catalogue.{newline, print, with_h}
 use Rattle.ed_routines.specs.Digits.{digits, print_orders}
 use Rattle.ed_paths.proofs.Loops.{quiet_rounds}
-use Rattle.ed_routines.proofs.Journeys.{ComesToStop, HasRoutine, IsIn, Journey, along, after_call, elsewhere, has_after, no_working}
-use Rattle.ed_routines.proofs.Journeys.{still_in, then, to_stop}
-use Rattle.ed_routines.proofs.Lines.{newline_left, newline_line, newline_returns, number_at, print_goes, print_left, print_line}
+use Rattle.ed_routines.proofs.Journeys.{ComesToStop, HasRoutine, IsIn, Journey, along}
+use Rattle.ed_routines.proofs.Journeys.{then, to_stop}
+use Rattle.ed_programs.proofs.NumberShown.{HasShown, shows_number, then_on}
 
 -- the cells that change: the two links, the factors, the product and a spare cell
 pub record Work : Type 0 where
@@ -146,7 +145,7 @@ module _ (given : Given) where
     record Shown (m v : ℕ) (k : Work) : Type 0 where
       around_now : Moment
       is : IsAround given around_now
-      journey : Journey f (2 + ((2 + print_orders v) + (7 + 1))) (at around 32 (114688 + 2 * (f.base + m)) k)
+      journey : Journey f (2 + ((9 + print_orders v) + 1)) (at around 32 (114688 + 2 * (f.base + m)) k)
           (11 ∷ digits v ++ 18 ∷ 24 ∷ []) (at around_now (m + 2) 0 (record k { shows = link m }))
 
     shows : (m : ℕ) (k : Work) → m + 3 ≤ 40 → k.product < 65536 → Shown m k.product k
@@ -156,38 +155,17 @@ module _ (given : Given) where
         let back : f.base + (m + 2) < f.top = omega arith in
         let v : ℕ = k.product in
         let now : Work = record k { shows = link m } in
-        let called : Moment = at around 34 0 now in
-        let in_first : IsIn f called = record { above = above; all = all; own = refl } in
-        let first : Path f 2 (at around 32 (114688 + 2 * (f.base + m)) k) [] called =
+        let in_call : IsIn f (at around 34 0 now) = record { above = above; all = all; own = refl } in
+        let first : Path f 2 (at around 32 (114688 + 2 * (f.base + m)) k) [] (at around 34 0 now) =
         on (A 32 (out 3 (early 3 above (lit< tt) all)) (short (link m)) refl (omega arith))
         (on (T 33 (own 38) _ refl refl) stay) in
-        let number : number_at in_first 29 ≡ v = get_own 0 around.words f.base (cells f.base c p w now) 29 (lit< tt) in
-        let goes = print_goes in_first {w = p} 34 29 number (lit< tt) small o.prints.apart in
-        let left : List ℕ = print_left in_first p 34 29 v in
-        let prints = print_line in_first 34 29 o.prints number (lit< tt) small (lit≤ tt) refl refl refl in
-        let printed : Moment = after_call in_first p 34 left (Some (v % 10)) in
-        let in_second : IsIn f printed = still_in in_first 34 left (Some (v % 10)) o.prints goes (lit≤ tt) in
-        let prints_still : HasRoutine f printed.words print p (with_h (f.base + 29)) =
-        has_after in_first 34 left (Some (v % 10)) o.prints goes (lit≤ tt) o.prints (λ j l free. no_working j free) in
-        let lines_still : HasRoutine f printed.words newline w [] =
-        has_after in_first 34 left (Some (v % 10)) o.prints goes (lit≤ tt) o.lines
-        (λ j l free. elsewhere (w + j) (inr (omega arith))) in
-        let turned : List ℕ = newline_left in_second w 36 in
-        let lined : Moment = after_call in_second w 36 turned (Some 24) in
-        let in_third : IsIn f lined = still_in in_second 36 turned (Some 24) lines_still (newline_returns in_second 36) (lit≤ tt) in
-        let prints_last : HasRoutine f lined.words print p (with_h (f.base + 29)) =
-        has_after in_second 36 turned (Some 24) lines_still (newline_returns in_second 36) (lit≤ tt) prints_still
-        (λ j l free. elsewhere (p + j) (inl (omega arith))) in
-        let lines_last : HasRoutine f lined.words newline w [] =
-        has_after in_second 36 turned (Some 24) lines_still (newline_returns in_second 36) (lit≤ tt) lines_still
-        (λ j l free. no_working j free) in
-        let around_now : Moment = record around { words = lined.words; last = Some 24 } in
+        let shown : HasShown in_call 34 29 p w v =
+        shows_number in_call 34 29 v o.prints o.lines other refl small (lit< tt) (lit≤ tt) refl refl refl refl refl in
         record {
-          around_now = around_now;
-          is = record { all = in_third.all; at3 = prints_last.at3; prints = prints_last; lines = lines_last };
-          journey = then (along first) (then prints
-              (then (newline_line in_second 36 lines_still (lit≤ tt) refl refl refl)
-              (along (on (E_jumps 38 (any (f.base + (m + 2)) back) refl (lit< tt)) stay))));
+          around_now = record around { words = shown.words; last = Some 24 };
+          is = record { all = shown.still_in.all; at3 = shown.prints.at3; prints = shown.prints; lines = shown.lines };
+          journey = then (along first)
+              (then_on shown.journey (on (E_jumps 38 (any (f.base + (m + 2)) back) refl (lit< tt)) stay));
         }
 
   -- ---- the program
@@ -229,8 +207,8 @@ module _ (given : Given) where
       (then (along (followed third (followed (multiplies now one.is 7 k2 (lit≤ tt) few_c small_c) fourth)))
       two.journey)) in
       let count : 2 + ((4 + (k.left * 9 + 5)) + 2)
-      + (2 + ((2 + print_orders (k.left * k.right)) + (7 + 1))
-      + (5 + ((4 + (c * 9 + 5)) + 2) + (2 + ((2 + print_orders (c * c)) + (7 + 1)))))
+      + (2 + ((9 + print_orders (k.left * k.right)) + 1)
+      + (5 + ((4 + (c * 9 + 5)) + 2) + (2 + ((9 + print_orders (c * c)) + 1))))
       ≡ 9 * k.left + 9 * c + print_orders (k.left * k.right) + print_orders (c * c) + 53 = omega arith in
       subst (λ n. ComesToStop n (state f (at around 0 0 k) done) (both_shown (k.left * k.right) (c * c)) (f.base + 12)) count
       (to_stop whole (Z 11 53248 refl refl) done)

@@ -1,30 +1,29 @@
--- What the source of `examples/answer5.edsac` prints, for any numbers.
-use Rattle.std.proofs.Common.{◌≡◌, ◌∙◌, ℕ, ◌+◌, ◌*◌, ◌<◌, ◌≤◌, true, List, [], ◌∷◌, ◌++◌, refl, ap, subst, arith}
-use Rattle.std.proofs.Common.{append_assoc, codes, length, length-append, lit≤}
+-- What the source of `examples/answer5.edsac` prints, for any numbers: its lines, its entry and its law.
+use Rattle.std.proofs.Common.{◌∙◌, ℕ, ◌+◌, ◌*◌, ◌<◌, true, List, [], ◌∷◌, ◌++◌, refl, ap, arith}
+use Rattle.std.proofs.Common.{append_assoc, codes, length-append, lit≤}
 use Rattle.std.specs.Fmt.{decimal}
-use Rattle.ed_words.proofs.Numbers.{le_true}
-use Rattle.ed_words.specs.Texts.{Text}
+use Rattle.ed_words.specs.declared.size.Size.{Size}
+use Rattle.ed_library.specs.Images.{parameter_store}
+use Rattle.ed_syntax.specs.Private.Grammar.{settings}
+use Rattle.ed_syntax.specs.declared.program.Line.{Line}
+use Rattle.ed_loads.specs.EntryState.{entry_state}
 use Rattle.ed_printer.specs.Paper.{paper}
+use Rattle.ed_routines.specs.Catalogue.{newline, print, with_h}
 use Rattle.ed_routines.specs.Digits.{digits, print_orders}
 use Rattle.ed_routines.proofs.Digits.{few_digits}
-use Rattle.ed_sources.proofs.Decimals.{decimal_is, few_bytes}
+use Rattle.ed_routines.proofs.Journeys.{ComesToStop}
+use Rattle.ed_sources.proofs.AtEntry.{all_words}
+use Rattle.ed_sources.proofs.CallsAccepted.{decimal_plain}
+use Rattle.ed_sources.proofs.Entries.{frame_at, moment_at}
 use Rattle.ed_sources.proofs.Papers.{number_shown}
 use Rattle.ed_command.specs.declared.command.Settings.{Settings}
 use Rattle.ed_programs.specs.Programs.{SourceRuns}
 use Rattle.ed_programs.specs.Multiply.{multiply_orders, multiply_prints, multiply_source, multiply_text}
-use Rattle.ed_programs.proofs.Answered.{are_short}
-use Rattle.ed_programs.proofs.SourceRuns.{source_runs}
-use Rattle.ed_programs.proofs.MultiplyEnds.{multiply_ends}
-use Rattle.ed_programs.proofs.MultiplySaid.{multiply_faultless, multiply_read}
-
--- two numbers, each on a line
-lines_shown : (n m : ℕ) → n < 65536 → m < 65536
-    → paper ((11 ∷ digits n ++ 18 ∷ 24 ∷ []) ++ (11 ∷ digits m ++ 18 ∷ 24 ∷ []))
-    ≡ decimal n ++ 13 ∷ 10 ∷ (decimal m ++ 13 ∷ 10 ∷ [])
-lines_shown n m small few =
-    ap paper (append_assoc (11 ∷ digits n) (18 ∷ 24 ∷ []) (11 ∷ digits m ++ 18 ∷ 24 ∷ []))
-    ∙ number_shown n small (18 ∷ 24 ∷ 11 ∷ digits m ++ 18 ∷ 24 ∷ [])
-    ∙ ap (λ (x : List ℕ). decimal n ++ 13 ∷ 10 ∷ x) (number_shown m few (18 ∷ 24 ∷ []))
+use Rattle.ed_programs.proofs.MultiplyProgram.{Given, IsAround, Work, both_shown, cells, multiply_stops}
+use Rattle.ed_programs.proofs.NumberLines.{front_short, labelled, use_mark, word_mark}
+use Rattle.ed_programs.proofs.ProgramEntry.{routine_after, stops_from_entry}
+use Rattle.ed_programs.proofs.SourceLines.{Marked, lines_said}
+use Rattle.ed_programs.proofs.SourceRuns.{AreSaid, program_runs}
 
 -- numbers whose products `print` can print
 pub record AreFactors (a b c : ℕ) : Type 0 where
@@ -34,33 +33,70 @@ pub record AreFactors (a b c : ℕ) : Type 0 where
   pub third : c < 65536
   pub square : c * c < 65536
 
--- no line of the source is longer than 120 bytes
-short_lines : (a b c : ℕ) → AreFactors a b c → are_short (multiply_source a b c) ≡ true
-short_lines a b c o =
-    let x : length (decimal a) ≤ 5 = few_decimal a o.left in
-    let y : length (decimal b) ≤ 5 = few_decimal b o.right in
-    let z : length (decimal c) ≤ 5 = few_decimal c o.third in
-    let first = le_true (length (codes "_twelve: word " ++ decimal c)) 120 (omega arith) in
-    let second = le_true (length (codes "left: word " ++ decimal a)) 120 (omega arith) in
-    let third = le_true (length (codes "right: word " ++ decimal b)) 120 (omega arith) in
-    rw (first, second, third) refl
-  where
-    few_decimal : (n : ℕ) → n < 65536 → length (decimal n) ≤ 5
-    few_decimal n small = subst (λ (t : Text). length t ≤ 5) (decimal_is n small) (few_bytes n small)
+module _ (a b c : ℕ) (o : AreFactors a b c) where
+  -- the lines with data, and the `use` line with H
+  abbrev marks : List Marked
+  marks =
+      word_mark 17 (codes "_twelve") c ∷ word_mark 33 (codes "left") a ∷ word_mark 34 (codes "right") b
+      ∷ use_mark 46 (codes "print") (codes "p") (codes "product") ∷ []
 
-pub each_product : (s : Settings) (a b c : ℕ) → AreFactors a b c
-    → SourceRuns s (multiply_text a b c) (multiply_orders a b c) 68 (multiply_prints a b c)
-each_product s a b c o =
-    let few = few_digits (a * b) in
-    let also = few_digits (c * c) in
-    let x = length-append (digits (a * b)) (18 ∷ 24 ∷ []) in
-    let y = length-append (digits (c * c)) (18 ∷ 24 ∷ []) in
-    let z = length-append (11 ∷ digits (a * b) ++ 18 ∷ 24 ∷ []) (11 ∷ digits (c * c) ++ 18 ∷ 24 ∷ []) in
-    let count : 9 * a + 9 * c + print_orders (a * b) + print_orders (c * c) + 53 + 1
-    ≡ 9 * a + 9 * c + print_orders (a * b) + print_orders (c * c) + 54 = omega arith in
-    subst (λ k. SourceRuns s (multiply_text a b c) k 68 (decimal (a * b) ++ 13 ∷ 10 ∷ (decimal (c * c) ++ 13 ∷ 10 ∷ []))) count
-    (subst (λ (t : Text). SourceRuns s (multiply_text a b c)
-    (9 * a + 9 * c + print_orders (a * b) + print_orders (c * c) + 53 + 1) 68 t)
-    (lines_shown (a * b) (c * c) o.product o.square)
-    (source_runs s (multiply_source a b c) (short_lines a b c o) (lit≤ tt) (multiply_read a b c o.left o.right o.third) (multiply_faultless s.size a b c)
-    (multiply_ends s.size a b c o.left o.product o.third o.square) (omega arith)))
+  abbrev lines : List Line
+  lines = lines_said true 1 (multiply_source a b c) marks
+
+  said : AreSaid true (multiply_source a b c) marks
+  unfolding settings
+  said =
+      let twelve = labelled true 17 (codes "_twelve")
+      (λ t h. h) (lit≤ tt) (λ t h. rw h refl) (λ t n r. rw (n, r) refl) c o.third in
+      let left = labelled true 33 (codes "left")
+      (λ t h. h) (lit≤ tt) (λ t h. rw h refl) (λ t n r. rw (n, r) refl) a o.left in
+      let right = labelled true 34 (codes "right")
+      (λ t h. h) (lit≤ tt) (λ t h. rw h refl) (λ t n r. rw (n, r) refl) b o.right in
+      let p = decimal_plain a o.left in let q = decimal_plain b o.right in let r = decimal_plain c o.third in
+      let x = front_short (codes "_twelve: word ") (lit≤ tt) c o.third in
+      let y = front_short (codes "left: word ") (lit≤ tt) a o.left in
+      let u = front_short (codes "right: word ") (lit≤ tt) b o.right in
+      record {
+        plain = rw (r, p, q) refl;
+        short = rw (x, y, u) refl;
+        few = lit≤ tt;
+        version = refl;
+        read = refl;
+        marked = (twelve, (left, (right, (refl, tt))));
+        small = refl;
+        full = refl;
+      }
+
+  module _ (z : Size) where
+    abbrev given : Given
+    given = record { f = frame_at 40 z (lit≤ tt); above = lit≤ tt; c = c; p = 96; w = 148; other = lit≤ tt }
+
+    is_around : IsAround given (moment_at (entry_state z lines))
+    unfolding parameter_store
+    is_around = record {
+      all = all_words z lines;
+      at3 = refl;
+      prints = routine_after z lines refl (lit≤ tt) print 96 (with_h 85) refl (lit≤ tt) (lit≤ tt) (lit≤ tt);
+      lines = routine_after z lines refl (lit≤ tt) newline 148 [] refl (lit≤ tt) (lit≤ tt) (lit≤ tt);
+    }
+
+    ends : ComesToStop (9 * a + 9 * c + print_orders (a * b) + print_orders (c * c) + 53) (entry_state z lines)
+        (both_shown given (a * b) (c * c)) 68
+    ends =
+        let work : Work = record { link = 0; left = a; right = b; product = 0; scrap = 0; shows = 0 } in
+        stops_from_entry z lines refl 40 (lit≤ tt) (cells 56 c 96 148 work) refl refl [] refl
+        (multiply_stops given (moment_at (entry_state z lines)) is_around work o.left o.product o.third o.square
+        (entry_state z lines).orders)
+
+  pub each_product : (s : Settings)
+      → SourceRuns s (multiply_text a b c) (multiply_orders a b c) 68 (multiply_prints a b c)
+  each_product s =
+      let few = few_digits (a * b) in
+      let also = few_digits (c * c) in
+      let x = length-append (digits (a * b)) (18 ∷ 24 ∷ []) in
+      let y = length-append (digits (c * c)) (18 ∷ 24 ∷ []) in
+      let z = length-append (11 ∷ digits (a * b) ++ 18 ∷ 24 ∷ []) (11 ∷ digits (c * c) ++ 18 ∷ 24 ∷ []) in
+      program_runs s (multiply_source a b c) said (ends s.size) (omega arith) (omega arith)
+      (ap paper (append_assoc (11 ∷ digits (a * b)) (18 ∷ 24 ∷ []) (11 ∷ digits (c * c) ++ 18 ∷ 24 ∷ []))
+      ∙ number_shown (a * b) o.product (18 ∷ 24 ∷ 11 ∷ digits (c * c) ++ 18 ∷ 24 ∷ [])
+      ∙ ap (λ (x : List ℕ). decimal (a * b) ++ 13 ∷ 10 ∷ x) (number_shown (c * c) o.square (18 ∷ 24 ∷ [])))

@@ -15,7 +15,7 @@ use Rattle.ed_syntax.specs.declared.program.Statement.TheVariants as statements
 use Rattle.ed_routines.specs.Digits.{digits}
 use Rattle.ed_sources.proofs.Decimals.{are, decimal_is, digit_bytes, few_bytes, line_bytes, run_bytes, some_digit}
 use Rattle.ed_sources.proofs.Decimals.{value_is, written}
-use Rattle.ed_sources.proofs.Said.{a_number, number_parts}
+use Rattle.ed_sources.proofs.Said.{a_number, label_parts, number_parts}
 use Rattle.ed_syntax.specs.declared.program.Operand.TheVariants as operands
 use Rattle.ed_programs.proofs.SourceLines.{Marked, by_parts}
 
@@ -92,3 +92,20 @@ use_mark k routine name at = record {
   statement = statements.Fetch routine name
       (array (record { letter = 21; operand = operands.Label at (pos 0) } ∷ []));
 }
+
+-- a line with `word N` after its label: what its front makes of it is computed from the label
+pub labelled : (two : Bool) (k : ℕ) (label : Text)
+    → ((bytes : Text) → list_all is_line_byte bytes ≡ true
+    → list_all is_line_byte ((label ++ codes ": word ") ++ bytes) ≡ true)
+    → length (label ++ codes ": word ") ≤ 20
+    → ((bytes : Text) → parts_of bytes ≡ Some (run bytes ∷ [])
+    → parts_of ((label ++ codes ": word ") ++ bytes) ≡ Some (label_parts label ++ run (codes "word") ∷ run bytes ∷ []))
+    → ((bytes : Text) → is_number bytes ≡ true → nat_le (value bytes) 131071 ≡ true
+    → form_at two k (label_parts label ++ run (codes "word") ∷ run bytes ∷ [])
+    ≡ Some (Some (record { label = Some label; statement = Some (statements.Number (modulo 17 (pos (value bytes)))) })))
+    → (n : ℕ) → n < 65536 → line_of two k ((label ++ codes ": word ") ++ decimal n)
+    ≡ Ok (record { label = Some label; statement = Some (statements.Number n) })
+labelled two k label plain short parts form n small =
+    let front : IsWordFront two k (label ++ codes ": word ") (Some label) (label_parts label) =
+    record { plain = plain; short = short; parts = parts; form = form } in
+    word_says front n small

@@ -1,5 +1,5 @@
 -- What a call that writes a program's text answers.
-use Rattle.std.proofs.Common.{◌≡◌, ◌∙◌, inl, ℕ, List, [], ◌∷◌, ◌++◌, ap, sym, refl, subst, append_assoc}
+use Rattle.std.proofs.Common.{◌≡◌, ◌∙◌, inl, ℕ, List, [], ◌∷◌, ◌++◌, ap, sym, refl, subst, append_assoc, append-nil}
 use Rattle.std.specs.Prelude.{Result, Ok, Err, None, Some, IfOk, IfSome, String, string_bytes}
 use Rattle.std.specs.declared.alloc.AllocError.{AllocError}
 use Rattle.std.specs.declared.alloc.Global.{Global}
@@ -36,3 +36,22 @@ texts_append [] ys = refl
 texts_append (x ∷ xs) ys =
     append_assoc (x ++ 10 ∷ []) (text_of_lines xs) (text_of_lines ys)
     ∙ ap (λ (t : Text). (x ++ 10 ∷ []) ++ t) (texts_append xs ys)
+
+-- texts, each with an F after it, and then the rest: the numbers of a `data` line
+abbrev pub with_ends : List Text → Text → Text
+with_ends [] rest = rest
+with_ends (t ∷ ts) rest = t ++ 70 ∷ with_ends ts rest
+
+ends_append : (ts : List Text) (rest more : Text) → with_ends ts rest ++ more ≡ with_ends ts (rest ++ more)
+ends_append [] rest more = refl
+ends_append (t ∷ ts) rest more =
+    append_assoc t (70 ∷ with_ends ts rest) more ∙ ap (λ (x : Text). t ++ 70 ∷ x) (ends_append ts rest more)
+
+-- the last line of a text, if it is a `data` line with these numbers
+pub data_last : (front : Text) (ts : List Text)
+    → front ++ with_ends ts (34 ∷ 10 ∷ []) ≡ front ++ (((with_ends ts [] ++ 34 ∷ []) ++ 10 ∷ []) ++ [])
+data_last front ts =
+    ap (λ (t : Text). front ++ t)
+    (sym (append-nil ((with_ends ts [] ++ 34 ∷ []) ++ 10 ∷ [])
+    ∙ ap (λ (t : Text). t ++ 10 ∷ []) (ends_append ts [] (34 ∷ []))
+    ∙ ends_append ts (34 ∷ []) (10 ∷ [])))

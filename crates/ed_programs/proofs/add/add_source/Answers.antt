@@ -1,25 +1,16 @@
-use Rattle.std.proofs.Common.{◌≡◌, ◌∙◌, [], ◌∷◌, ◌++◌, ap, append_assoc, append-nil, codes, sym, take}
+use Rattle.std.proofs.Common.{[], ◌∷◌, ◌++◌, codes, take}
 use Rattle.std.specs.Fmt.{decimal}
 use Rattle.ed_words.specs.Texts.{Text}
 use Rattle.ed_sources.specs.Calls.{text_of_lines}
 use Rattle.ed_programs.specs.Add.{add_source}
-use Rattle.ed_programs.proofs.Texts.{written}
+use Rattle.ed_programs.proofs.Texts.{data_last, written}
 use Rattle.ed_programs.proofs.add.add_source.Goals as goal
 
 -- the text before the numbers
 abbrev front : Text
 front = text_of_lines (take 20 (add_source 0 0)) ++ codes "data " ++ 34 ∷ []
 
-pieces : (first second : Text)
-    → front ++ (first ++ 70 ∷ (second ++ 70 ∷ 34 ∷ 10 ∷ []))
-    ≡ front ++ ((((first ++ 70 ∷ (second ++ 70 ∷ [])) ++ 34 ∷ []) ++ 10 ∷ []) ++ [])
-pieces first second =
-    ap (λ (t : Text). front ++ t)
-    (sym (append-nil (((first ++ 70 ∷ (second ++ 70 ∷ [])) ++ 34 ∷ []) ++ 10 ∷ [])
-    ∙ append_assoc (first ++ 70 ∷ (second ++ 70 ∷ [])) (34 ∷ []) (10 ∷ [])
-    ∙ append_assoc first (70 ∷ (second ++ 70 ∷ [])) (34 ∷ 10 ∷ [])
-    ∙ ap (λ (t : Text). first ++ 70 ∷ t) (append_assoc second (70 ∷ []) (34 ∷ 10 ∷ []))))
-
 pub returns : goal.returns
 returns c =
-    written _ _ _ _ (pieces (decimal c.args.first) (decimal c.args.second)) c.program_of_text.ensures c.format.ensures.ok
+    written _ _ _ _
+    (data_last front (decimal c.args.first ∷ decimal c.args.second ∷ [])) c.program_of_text.ensures c.format.ensures.ok

@@ -9,7 +9,7 @@ returns-then-product_of-lt-LIMIT-2-clause-law c =
     let product : a * b < 65536 = subst (λ n. n < 65536) c.product_of.ensures c.if-product_of-lt-LIMIT.true in
     let square : d * d < 65536 =
     subst (λ n. n < 65536) c.product_of-then-product_of-lt-LIMIT.ensures c.if-product_of-lt-LIMIT-2.true in
-    prints_of c.multiply_source.result c.multiply_source.ensures (λ s. each_product s a b d (record {
+    prints_of c.multiply_source.result c.multiply_source.ensures (each_product a b d (record {
       left = c.ranges.left.fits;
       right = c.ranges.right.fits;
       product = product;

@@ -1,0 +1,68 @@
+-- A source's program at its entry: its cells and the routines of the library after them, each by one test.
+use Rattle.std.proofs.Common.{◌≡◌, ◌∙◌, inr, ℕ, zero, suc, ◌+◌, ◌<◌, ◌≤◌, refl, sym, ap, subst, arith, true, List, []}
+use Rattle.std.proofs.Common.{◌∷◌, get_or, length}
+use Rattle.std.specs.Prelude.{unwrap_or}
+use Rattle.ed_words.proofs.SizeLemmas.{least}
+use Rattle.ed_words.specs.declared.size.Size.{Size}
+use Rattle.ed_machine.specs.State.{State}
+use Rattle.ed_notation.specs.Fold.{placed_at}
+use Rattle.ed_library.specs.Routines.{place_count}
+use Rattle.ed_syntax.specs.declared.program.Line.{Line}
+use Rattle.ed_link.specs.Linked.{entry_of}
+use Rattle.ed_loads.specs.EntryState.{entry_state}
+use Rattle.ed_paths.proofs.Frames.{state}
+use Rattle.ed_paths.proofs.Window.{patched, patched_self}
+use Rattle.ed_sources.proofs.AtEntry.{all_words, has_image, have_places, placed, word_at}
+use Rattle.ed_sources.proofs.Entries.{frame_at, moment_at, routine_at}
+use Rattle.ed_routines.proofs.Journeys.{ComesToStop, HasRoutine}
+
+-- the n words from the place a on
+abbrev pub words_from : List (ℕ × ℕ) → ℕ → ℕ → List ℕ
+words_from ps a zero = []
+words_from ps a (suc n) = unwrap_or (placed_at ps a) 0 ∷ words_from ps (a + 1) n
+
+words_long : (ps : List (ℕ × ℕ)) (a n : ℕ) → length (words_from ps a n) ≡ n
+words_long ps a zero = refl
+words_long ps a (suc n) = ap suc (words_long ps (a + 1) n)
+
+nth_word : (ps : List (ℕ × ℕ)) (a n j : ℕ) → j < n
+    → get_or (words_from ps a n) j 0 ≡ unwrap_or (placed_at ps (a + j)) 0
+nth_word ps a zero j l = absurd (omega arith)
+nth_word ps a (suc n) zero l = let e : a + 0 ≡ a = omega arith in rw e refl
+nth_word ps a (suc n) (suc j) l =
+    let e : a + 1 + j ≡ a + suc j = omega arith in
+    nth_word ps (a + 1) n j (omega arith) ∙ ap (λ x. unwrap_or (placed_at ps x) 0) e
+
+module _ (z : Size) (lines : List Line) (fit : have_places (placed lines) ≡ true) where
+  abbrev s : State
+  s = entry_state z lines
+
+  -- a routine of the library after a piece of n cells
+  pub routine_after : {n : ℕ} (few : n ≤ 456) (r base : ℕ) (parameters : List ℕ)
+      → has_image (placed lines) r base parameters ≡ true → 56 + n ≤ base → base < 512 → base + place_count r ≤ 512
+      → HasRoutine (frame_at n z few) s.store.words r base parameters
+  routine_after {n} few r base parameters test apart reached high =
+      let size = least z in
+      routine_at z lines fit (frame_at n z few) r base parameters test (omega arith) high refl (omega arith) (inr apart)
+
+  -- the n words from 56 on are the cells
+  module _ (n : ℕ) (few : n ≤ 456) (cells : List ℕ) (are : words_from (placed lines) 56 n ≡ cells) where
+    same : patched 0 s.store.words 56 cells ≡ s.store.words
+    same =
+        let all = all_words z lines in
+        let long : length cells ≡ n = sym (ap (λ (cs : List ℕ). length cs) are) ∙ words_long (placed lines) 56 n in
+        patched_self 0 s.store.words 56 cells (omega arith) (λ j l.
+        ap (λ (cs : List ℕ). get_or cs j 0) (sym are) ∙ nth_word (placed lines) 56 n j (omega (arith, l, long))
+        ∙ sym (word_at z lines fit (56 + j) (omega arith) (omega (arith, l, long))))
+
+    -- so a stop of the program, from the moment at its entry, is a stop of the source
+    pub stops_from_entry : {k at : ℕ} {codes : List ℕ} → entry_of lines ≡ 56 → (tape : List ℕ) → tape ≡ s.tape
+        → ComesToStop k (state (frame_at n z few) (record (moment_at s) { cells = cells; tape = tape }) s.orders) codes
+        at
+        → ComesToStop k s codes at
+    stops_from_entry {k} {at} {codes} first tape rows =
+        subst (λ (x : State). ComesToStop k x codes at) (λ i. record s {
+          store = record { words = same i; sandwich = s.store.sandwich };
+          counter = sym first i;
+          tape = rows i;
+        })
