@@ -1,5 +1,5 @@
-//! What a call of a library routine asks for, and the ranges of its numbers. A crate of its own, since the reader of
-//! the command line and the maker of the program's sources both use it. Stands on std alone.
+//! The calls of library routines that a command may ask for, and the ranges of their numbers. This is a crate of its
+//! own, since the reader of the command line and the maker of the program's sources both use it. Stands on std alone.
 #![tactic(auto)]
 
 /// A call of a library routine with its numbers.
@@ -13,13 +13,13 @@ pub enum Call {
     NewLine,
     /// Divides `n` by `by`, and prints the quotient and the remainder.
     Divide {
-        /// The number that is divided.
+        /// The dividend.
         n: u32,
-        /// The number that it is divided by.
+        /// The divisor.
         by: u16,
     },
-    /// Prints the whole square root of a number.
+    /// Prints the integer square root of a number.
     Root(u16),
-    /// Prints a number, as the checking routine checks it.
+    /// Prints a number under the checking routine.
     Check(u16),
 }

@@ -1,9 +1,9 @@
-//! The outside: where the input of the program comes from, and where its output goes.
+//! Devices: where the input of the program comes from, and where its output goes.
 //!
 //! The contract is that of the two traits: which bytes a call takes, and that a device counts each call that fails and
-//! no other. The devices over memory report their bytes and fail exactly where their list says; those over std's
-//! readers and writers report what these report, until a write fails. Stands on `ed_words` for the answer of want of
-//! memory.
+//! no other. The devices over memory report their bytes and fail exactly at the calls in their list; those over std's
+//! readers and writers report what these report, until a write fails. Stands on `ed_words` for the answer that no
+//! memory was found.
 #![tactic(auto)]
 
 mod device;

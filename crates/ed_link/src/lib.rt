@@ -1,8 +1,8 @@
-//! Linking: a source becomes its linked program and the tape that is punched of it.
+//! Linking: a source becomes its linked program and the tape that is punched from it.
 //!
-//! The contract is that `link` answers Ok exactly where no line of the source has a fault of meaning, each said by a
-//! sentence of its own, and else the least fault; that each source is accepted with one list of lines or refused for
-//! one fault; and that the tape of what it answers is well formed from every store and comes to the linked program at
+//! The contract is that `link` answers Ok exactly if no line of the source has a fault of meaning, each stated by a
+//! sentence of its own, and else the first fault; that each source is accepted with one list of lines or refused for
+//! one fault; and that the tape of what it answers is well formed from every store and reaches the linked program at
 //! its entry, by the fold of the notation. Stands on `ed_words`, `ed_codes`, `ed_notation`, `ed_syntax`, `ed_library`
 //! and `ed_symbols`.
 #![tactic(auto)]

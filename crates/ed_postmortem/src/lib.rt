@@ -1,8 +1,8 @@
-//! The post-mortem: a tape that prints the words which a program left in the store, one line a word.
+//! The post-mortem: a tape that prints the words that a program left in the store, one line a word.
 //!
 //! The contract is that on any machine exactly the codes of those words are printed, in exactly the orders that the
-//! tape and the words cost, and that every refusal comes exactly where it is due and changes nothing. It goes through
-//! the Initial Orders and a run, order by order. Stands on `ed_initial`, `ed_run` and `ed_paths`.
+//! tape and the words cost, and that every refusal comes exactly when it is due and changes nothing. The proof goes
+//! through the Initial Orders and a run, order by order. Stands on `ed_initial`, `ed_run` and `ed_paths`.
 #![tactic(auto)]
 
 mod fault;
