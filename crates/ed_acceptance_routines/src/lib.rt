@@ -1,4 +1,4 @@
-//! Tests of the library's routines: what they print, read, divide and take roots of, where they stand, and how many
+//! Tests of the library's routines: what they print, read, divide and take roots of, at which bases, and how many
 //! orders they take.
 //!
 //! The contract of this crate is nothing: it has no public item and no code but its tests. Their expected values come

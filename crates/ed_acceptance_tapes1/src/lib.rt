@@ -1,4 +1,4 @@
-//! Tests of Initial Orders 1: their words, what the check says of their tapes, and what they do with them.
+//! Tests of Initial Orders 1: their words, the reports of the check on their tapes, and what they do with them.
 //!
 //! The contract of this crate is nothing: it has no public item and no code but its tests. Their expected values come
 //! from the listing of May 1949, from the description of its notation and from worked examples, never from the

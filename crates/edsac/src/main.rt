@@ -1,7 +1,7 @@
 //! The program `edsac`: its words, standard input, standard output as `out` and standard error as `note`.
 //!
 //! What it does is the contract of `ed_top::edsac`; this file only hands over the arguments and the streams.
-//! Arguments of which one is no text are no line, and are handed over as no words at all, which are none either.
+//! If an argument is not UTF-8, no words are passed on, which is a usage error.
 #![tactic(auto)]
 
 use ed_io::{StdSink, StdSource};
@@ -21,7 +21,7 @@ fn main(rt: HostRuntime) -> ExitCode {
     ExitCode::from(status)
 }
 
-/// The words after the program's name; none where one of them is no text.
+/// The words after the program's name; no words if one of them is not UTF-8.
 fn words(rt: &HostRuntime) -> Result<Vec<String>, AllocError> {
     let mut words = Vec::new(rt.alloc());
     match std::env::args(rt) {
