@@ -72,14 +72,14 @@ impl Acc {
         self.digits >= 1 << 127
     }
 
-    /// Adds a short word at the most significant digits.
+    /// Adds a short word to the most significant digits.
     pub fn add_short(&mut self, word: Word)
         ensures { self.new ≡ plus71 self.old (word * 2 ^ 18 * 2 ^ 36) }
     {
         self.add_long(Long::of_short(word));
     }
 
-    /// Adds a long word at the most significant digits.
+    /// Adds a long word to the most significant digits.
     #[tactic(auto, unfolding(crate::specs::Arithmetic::plus71))]
     pub fn add_long(&mut self, long: Long)
         ensures { self.new ≡ plus71 self.old (long * 2 ^ 36) }
@@ -87,14 +87,14 @@ impl Acc {
         self.add(u128::from(long.value()) << 36);
     }
 
-    /// Subtracts a short word at the most significant digits.
+    /// Subtracts a short word from the most significant digits.
     pub fn sub_short(&mut self, word: Word)
         ensures { self.new ≡ minus71 self.old (word * 2 ^ 18 * 2 ^ 36) }
     {
         self.sub_long(Long::of_short(word));
     }
 
-    /// Subtracts a long word at the most significant digits.
+    /// Subtracts a long word from the most significant digits.
     #[tactic(auto, unfolding(crate::specs::Arithmetic::minus71))]
     pub fn sub_long(&mut self, long: Long)
         ensures { self.new ≡ minus71 self.old (long * 2 ^ 36) }
@@ -116,7 +116,7 @@ impl Acc {
         self.subtract(wrapped(product(m, x)));
     }
 
-    /// Adds the digits that two long words have in common, at the most significant digits.
+    /// Adds the digits that two long words have in common to the most significant digits.
     #[tactic(auto, unfolding(crate::specs::Arithmetic::collated))]
     pub fn collate(&mut self, m: Long, x: Long)
         ensures { self.new ≡ collated self.old m x }

@@ -29,7 +29,7 @@ const GUESTS: [(&str, &str, End); 13] = [
     ("O90FI90FO90FI94DO94DZF", "57", End::Stopped(6)),
     // A jump back, a hundred times.
     ("T98FA96FS97FU96FE60FZF", "", End::Stopped(506)),
-    // The least significant digits of an accumulator of 71 digits 1 are shifted to the most significant end.
+    // The least significant digits of an accumulator of 71 digits 1 are shifted to the upper end.
     ("S90FRFRFRFRFLDLFLFLFLFLFT94DZF", "", End::Stopped(13)),
     // No order, and no row.
     ("A90FP5F", "", End::Blocked(1)),

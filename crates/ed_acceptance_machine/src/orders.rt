@@ -22,7 +22,7 @@ fn first_difference(
     None
 }
 
-/// An accumulator of 1 in units of 2^-70 is the word 1, added at the most significant digits and shifted right by 54
+/// An accumulator of 1 in units of 2^-70 is the word 1, added to the most significant digits and shifted right by 54
 /// places: three times 15 (R F) and once 9 (R 128 F). The word 1, subtracted and shifted in the same way, is -1, which
 /// is 2^71 - 1. Collation adds: the common digits of 6 and 3 are 2, and the accumulator holds 1 already. The word 65536
 /// is the accumulator's sign, which a shift left by one place drops.
@@ -118,7 +118,7 @@ fn an_order_i_reads_a_row(rt: HostRuntime) -> Result<(), Fail> {
     Ok(())
 }
 
-/// 65536 at the most significant digits of the accumulator is exactly -1, which is negative; 0 is not.
+/// 65536 as the most significant digits of the accumulator is exactly -1, which is negative; 0 is not.
 #[test]
 fn the_jumps_at_0_and_at_minus_1(rt: HostRuntime) -> Result<(), Fail> {
     for (orders, number, counter) in [

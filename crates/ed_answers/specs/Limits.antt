@@ -1,5 +1,5 @@
 -- What a greater limit changes (this project's own rules): nothing, if the run ended before its limit; else the run
--- continues from where it was cut off.
+-- continues from the state in which it was cut off.
 use Rattle.std.specs.Prelude.{◌≡◌, ◌≢◌, ℕ, ◌≤◌, List, ◌++◌, None}
 use Rattle.ed_syntax.specs.declared.program.Line.{Line}
 use Rattle.ed_command.specs.declared.command.Settings.{Settings}

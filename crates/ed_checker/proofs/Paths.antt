@@ -65,7 +65,7 @@ moment b o w acc at last = record {
   last = last;
 }
 
--- the three long words of a saved accumulator, the last with its two digits at the most significant end
+-- the three long words of a saved accumulator, the last with its two digits at the upper end
 pub record IsSaved (high middle low : ℕ) : Type 0 where
   pub digits : ℕ
   pub few : digits < 4

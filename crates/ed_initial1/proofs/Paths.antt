@@ -73,7 +73,7 @@ moment q w words digit0 acc counter tape = record {
   last = q.last;
 }
 
--- the accumulator between L 0 L and the order at 25: a word at its most significant end, and after it what is left of
+-- the accumulator between L 0 L and the order at 25: a word at its upper end, and after it what is left of
 -- the ending row, whose length digit is l
 abbrev pub with_row : ℕ → ℕ → ℕ
 with_row l u = u * 2 ^ 54 + (2 + 5 * l) * 2 ^ 51

@@ -23,7 +23,7 @@ pub some_text : (cs : List ℕ) → 0 < length cs → after_text cs ≡ line_fro
 some_text [] h = absurd (omega arith)
 some_text (c ∷ cs) h = refl
 
--- if there are none there is no text
+-- if there are no rows there is no text
 pub no_text : (cs : List ℕ) → cs ≡ [] → Spells (after_text cs) cs
 no_text cs e = rw e none
 

@@ -24,7 +24,7 @@ pub record Obeyed : Type 0 where
 abbrev pub place_of : State → ℕ → ℕ
 place_of s w = within s.size (address_of w)
 
--- the 35 digits at a location: the long word of its pair, or its short word at the most significant end
+-- the 35 digits at a location: the long word of its pair, or its short word at the upper end
 abbrev pub read_at : Bool → Cells → ℕ → ℕ
 read_at true c n = long_at c n
 read_at false c n = short_at c n * 2 ^ 18
@@ -33,7 +33,7 @@ read_at false c n = short_at c n * 2 ^ 18
 abbrev pub operand35 : ℕ → State → ℕ
 operand35 w s = read_at (is_long w) s.store (place_of s w)
 
--- the same at the most significant end of the accumulator's 71 digits
+-- the same at the upper end of the accumulator's 71 digits
 abbrev pub operand71 : ℕ → State → ℕ
 operand71 w s = operand35 w s * 2 ^ 36
 

@@ -36,7 +36,7 @@ pub record Reader : Type 0 where
 abbrev pub reads : Reader → Option Part → List ℕ → Verdict
 reads p part rows = reading_on p.size p.words p.row p.cost p.note part rows
 
--- so many rows and orders later, in this state
+-- the reader this many rows and orders later, in this state
 abbrev pub passed : Reader → ℕ → ℕ → Note → Reader
 passed p rows orders note = record {
   size = p.size;

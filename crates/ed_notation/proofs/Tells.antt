@@ -32,7 +32,7 @@ abbrev pub Tells : Reader → List ℕ → Verdict → Type 0
 Tells p tape (Faulty row cause) = TellsFault p tape row cause
 Tells p tape (Arrived e) = TellsEntry p tape e
 
--- one more item before the rows of which a verdict is known
+-- one more item before rows whose verdict is known
 before : (p : Reader) (w : Written) (rows : List ℕ) (v : Verdict) → IsWritten w → is_entry p.note (item w) ≡ false
     → Tells (behind p w) rows v → Tells p (rows_of w ++ rows) v
 before p w rows (Faulty row cause) good goes t =

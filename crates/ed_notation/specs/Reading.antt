@@ -135,7 +135,7 @@ entry_by words row cost note part c rest at = record {
   rest = rest;
 }
 
--- the reading of these rows, the first of which has this number, between two items or inside one
+-- the reading of these rows, between two items or inside one; the first of them is row number `row`
 unfoldable pub reading_on : Size → List ℕ → ℕ → ℕ → Note → Option Part → List ℕ → Verdict
 reading_on z words row cost note part [] = Faulty row EndOfTape
 reading_on z words row cost note None (f ∷ rows) =

@@ -9,7 +9,7 @@ use ed_codes::Code;
 pub struct Item {
     /// The function row.
     pub function: Code,
-    /// The number of the digit rows, 0 if there are none; at most 32767 in an item that can be spelled.
+    /// The number of the digit rows, 0 without any; at most 32767 in an item that can be spelled.
     pub number: u16,
     /// Whether a π follows the number.
     pub mark: bool,

@@ -68,7 +68,7 @@ module _ (limit rows : ℕ) (p : TapePart) where
         gains = none_of a t.1.text;
       }
 
-  -- after the lines of a part that returned, a text of which a first part is written
+  -- after the lines of a part that returned, a first part of a text is written
   back_breaks : (b : GoesBack limit p) (a c : Option (List ℕ)) → GainsPart a c (told_lines rows p b)
       → BreaksTold limit rows p a c
   back_breaks b a c g =

@@ -83,7 +83,7 @@ pub record IsUnderWay (left k : ℕ) (s : State) : Type 0 where
 abbrev pub RunsOn : ℕ → ℕ → State → Type 0
 RunsOn left k s = (j : ℕ) → j < k → IsUnderWay left j s
 
--- the program returns after k orders, none of which was a stop
+-- the program returns after k orders without a stop
 pub record ComesHome (left k : ℕ) (s : State) : Type 0 where
   pub runs : RunsOn left k s
   pub stops : (past k s).stops ≡ 0

@@ -9,7 +9,7 @@ use Rattle.ed_store.specs.Cells.{Cells}
 use Rattle.ed_machine.specs.State.{State}
 use Rattle.ed_paths.proofs.Window.{patched, get_below, set_below, get_above, set_above}
 
--- the accumulator that holds a short number at its most significant end, and a long one
+-- the accumulator that holds a short number at its upper end, and a long one
 abbrev pub short : ℕ → ℕ
 short x = x * 2 ^ 54
 

@@ -89,7 +89,7 @@ module _ {n h : ℕ} {f : Frame n h} {r : Moment} where
       ) refl)
 
   -- T, U: the most significant digits of the accumulator are written there, and T clears it. `T` and `U` are for one
-  -- that has that number at its most significant end and nothing else: both last arguments may be `refl`, and the
+  -- that has that number at its upper end and nothing else: both last arguments may be `refl`, and the
   -- number `_`
   pub T_top : (i : ℕ) (p : Place f r) (u : ℕ) → Writes i 5 p → fitting f r p (r.acc / 2 ^ 54) (r.acc / 2 ^ 36) ≡ u
       → Moves f KindT r (record (put f r p u) { acc = 0; counter = f.base + (i + 1) })

@@ -85,7 +85,7 @@ module _ {n h : ℕ} (f : Frame n h) (r : Moment) where
   value (pair_out q a) = joined (get_or r.words (q + 1) 0) (get_or r.digits (q / 2) false) (get_or r.words q 0)
   value (any q b) = get_or (all_words f r) q 0 * 2 ^ 18
 
-  -- the accumulator that holds the number u for this location at its most significant end
+  -- the accumulator that holds the number u for this location at its upper end
   abbrev pub at_top : Place f r → ℕ → ℕ
   at_top (own j) u = short u
   at_top (pair j p e) u = long u

@@ -63,7 +63,7 @@ module _ (given : Given) where
   abbrev pub f : Frame 84 0
   f = record { size = size; base = 56; top = locations size; under = room; fits = omega arith }
 
-  -- its words, the short number at the most significant end of the accumulator, the multiplier, the cell of the next
+  -- its words, the short number at the upper end of the accumulator, the multiplier, the cell of the next
   -- order, and the last code
   abbrev pub moment : Work → ℕ → ℕ → ℕ → Option ℕ → Moment
   moment w top m i last = record {

@@ -108,7 +108,7 @@ call_of {n} {pairs} {b} {h} {top} {s} low within = record {
   last = s.last;
 }
 
--- a moment of a call: the words around the routine and in its cells, the number at the most significant end of the
+-- a moment of a call: the words around the routine and in its cells, the number at the upper end of the
 -- accumulator, and the cell of the next order
 abbrev pub moment : {n pairs : ℕ} → Call n pairs → List ℕ → List ℕ → ℕ → ℕ → Moment
 moment call words cells top i = record {

@@ -108,7 +108,7 @@ pub record Played : Type 0 where
 abbrev pub behind : Text → Played → Played
 behind text p = record p { text = text ++ p.text }
 
--- lines one after the other, the first of which has the number k, until one goes back too far
+-- lines one after the other until one goes back too far; the first of them has the number k
 abbrev pub play : ℕ → List Command → Stand → Played
 play k [] s = record { text = []; stand = s; refused = None }
 play k (command ∷ rest) s = if is_too_far command s

@@ -1,4 +1,4 @@
-//! The lines of a script, each of which says a command.
+//! The lines of a script. Each line says a command.
 ghost use Rattle.std.specs.Prelude.{◌≡◌, ◌≤◌, IfSome, option_map};
 ghost use Rattle.ed_words.specs.Decimals.{number_within};
 ghost use Rattle.ed_stepper.specs.Private.CommandReading.{session_command, of_one, of_three, of_two};

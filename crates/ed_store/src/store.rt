@@ -6,7 +6,7 @@ use ed_words::{Long, NoMemory, Word};
 use std::alloc::Global;
 use std::marker::Model;
 
-/// The number of pairs of locations of a store, of which a machine may reach only the lower half.
+/// The number of pairs of locations of a store. A machine may reach only the lower half of them.
 const PAIRS: usize = 512;
 
 /// 1,024 words and the sandwich digits of their 512 pairs.
