@@ -16,16 +16,16 @@ cells b e w order scrap =
     ∷ (110592 + 2 * (b + 0)) ∷ (20480 + 2 * (b + 12)) ∷ (114688 + 2 * (b + 8)) ∷ (110592 + 2 * w) ∷ 53248
     ∷ (36864 + 2 * e) ∷ scrap ∷ []
 
--- the order that prints what stands at q
+-- the order that prints the word at q
 abbrev pub printing : ℕ → ℕ
 printing q = 36864 + 2 * q
 
--- the codes stand in words from a place on, each at the head of its word
+-- the codes are in words from a location upwards, each in the first digits of its word
 abbrev pub Spells : List ℕ → ℕ → List ℕ → Type 0
 Spells ws q [] = Unit {0}
 Spells ws q (c ∷ cs) = (get_or ws q 0 ≡ 4096 * c) × (c < 32) × Spells ws (q + 1) cs
 
--- where the program stands, and what is around it
+-- the base of the program, and what is around it
 pub record Given : Type 0 where
   pub f : Frame 13 0
   pub above : 56 ≤ f.base

@@ -1,6 +1,6 @@
 -- What the lines of a source say: most lines by computation, those with data by a proof.
 --
--- This is the one module that speaks of the reader of sources.
+-- Only this module uses the definitions of how a source is read.
 use Rattle.std.proofs.Common.{◌≡◌, ◌∙◌, ℕ, suc, ◌+◌, ◌-◌, ◌≤◌, Bool, true, false, List, [], ◌∷◌, ap, sym, refl, subst, arith, length, nat_lt}
 use Rattle.std.proofs.Common.{get_or, nat_eq, lit≤}
 use Rattle.std.specs.Prelude.{◌==◌, ◌||◌, ◌&&◌, Option, Some, None, if◌then◌else◌, Result, Ok, Err, is_ok}

@@ -1,4 +1,4 @@
--- The outcome of a tape whose program comes to its stop, as what the command `tape` owes it.
+-- The outcome of a tape whose program reaches its stop, as what the command `tape` owes it.
 use Rattle.std.proofs.Common.{◌≡◌, ◌∙◌, inl, ℕ, ◌+◌, ◌-◌, ◌≤◌, refl, sym, ap, subst, arith, lit≤, true, List, []}
 use Rattle.std.proofs.Common.{◌∷◌, ◌++◌, codes, length, get_or}
 use Rattle.std.specs.Prelude.{None, Some, Option, Result, Ok, Err, String}
@@ -80,7 +80,7 @@ module _ {z : Size} {tape_rows : List ℕ} {e : TapeEntry} (o : Arrives z tape_r
   leads_on : LeadsIn first e
   leads_on = comes_in first e (first_store z tape_rows) (starts z tape_rows) comes_on
 
--- a text that spells these rows, which come to this entry, and whose program comes to its stop from there
+-- a text that spells these rows, which reach this entry, and whose program reaches its stop from there
 pub tape_runs : (s : Settings) (tape : Text) (tape_rows : List ℕ) (e : TapeEntry) {k at : ℕ} {printed : List ℕ}
     → reading tape ≡ rows tape_rows → length tape ≤ 262144 → Arrives s.size tape_rows e
     → ComesToStop k (tape_state s tape_rows e) printed at → length printed ≤ paper_room
