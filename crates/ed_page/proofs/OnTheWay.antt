@@ -42,7 +42,7 @@ first_sound z rows are = record {
   last = lit< tt;
 }
 
--- what Start places of the Initial Orders of May 1949, and 0
+-- the words of the Initial Orders of May 1949 that Start places, and 0
 abbrev first_words1 : List ℕ
 first_words1 = first_orders ++ drop 31 (replicate 1024 0)
 

@@ -20,7 +20,7 @@ use Rattle.ed_paths.proofs.Loops.{all_spent, quiet_walks, walked}
 abbrev pub getting : ℕ → ℕ
 getting q = 114688 + 2 * q
 
--- its words at b, where the list ends before e and `print` stands at p: the two orders that get a number, the greatest
+-- its words at b; the list ends before e, and `print` is at p. The two orders that get a number, the greatest
 -- and a cell for what is thrown away change
 abbrev pub cells : ℕ → ℕ → ℕ → ℕ → ℕ → ℕ → ℕ → List ℕ
 cells b e p look take greatest scrap =
@@ -47,7 +47,7 @@ abbrev pub Stand : List ℕ → ℕ → List ℕ → Type 0
 Stand ws q [] = Unit {0}
 Stand ws q (n ∷ ns) = (get_or ws q 0 ≡ n) × (n < 65536) × Stand ws (q + 1) ns
 
--- what changes as the loop goes round: the number's place, what is left of the comparison, the greatest so far, and
+-- what changes as the loop goes round: the number's location, what is left of the comparison, the greatest so far, and
 -- what was thrown away
 pub record Turning : Type 0 where
   pub q : ℕ

@@ -8,7 +8,7 @@ use Rattle.ed_paths.proofs.Moves.{A, S, T, U, O, G_jumps, G_stays}
 use Rattle.ed_paths.proofs.Paths.{Path, stay, on, prints, followed}
 use Rattle.ed_paths.proofs.Loops.{walks, all_printed}
 
--- its words at b, where the place e is after the text and `newline` stands at w: the order that prints, and a cell for
+-- its words at b, where the location e is after the text and `newline` is at w: the order that prints, and a cell for
 -- what is thrown away, change
 abbrev pub cells : ℕ → ℕ → ℕ → ℕ → ℕ → List ℕ
 cells b e w order scrap =
@@ -36,7 +36,7 @@ pub record Given : Type 0 where
   pub all : length around.words ≡ 1024
   pub at2 : get_or around.words 2 0 ≡ 2
 
--- what changes as the loop goes round: the letter's place, what is left of the comparison, what was thrown away, and
+-- what changes as the loop goes round: the letter's location, what is left of the comparison, what was discarded, and
 -- the last code
 pub record Turning : Type 0 where
   pub q : ℕ

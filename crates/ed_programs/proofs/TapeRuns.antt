@@ -43,7 +43,7 @@ meets_of : (o : Option ℕ) (w : ℕ) → is_met o w ≡ true → Meets o w
 meets_of None w h = tt
 meets_of (Some x) w h = eq_of w x h
 
--- an image stands in words, by one test
+-- an image is in words, by one test
 pub holds_in : (words : List ℕ) (image : List (Option ℕ)) (base : ℕ)
     → list_all (λ i. is_met (get_or image i None) (get_or words (base + i) 0)) (numbers 0 (length image)) ≡ true
     → Holds image words base

@@ -29,7 +29,7 @@ pub record FirstTapeRuns (s : Settings) (tape : Text) (cost orders at : ℕ) (pa
         status = 0;
       })
 
--- whatever the settings are, the tape that is answered is loaded and run in exactly these orders, prints this, and
+-- for all settings, the tape that is answered is loaded and run in exactly these orders, prints this, and
 -- stops there
 abbrev pub FirstTapePrints : ℕ → ℕ → ℕ → Text → Result (String Global) Refusal → Type 0
 FirstTapePrints cost orders at paper (Ok tape) =
