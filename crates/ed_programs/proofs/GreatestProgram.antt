@@ -21,7 +21,7 @@ abbrev pub getting : ℕ → ℕ
 getting q = 114688 + 2 * q
 
 -- its words at b; the list ends before e, and `print` is at p. The two orders that get a number, the greatest
--- and a cell for what is thrown away change
+-- and a cell for what is discarded change
 abbrev pub cells : ℕ → ℕ → ℕ → ℕ → ℕ → ℕ → ℕ → List ℕ
 cells b e p look take greatest scrap =
     (20480 + 2 * (b + 22)) ∷ look ∷ (49152 + 2 * (b + 20)) ∷ (110592 + 2 * (b + 7)) ∷ (20480 + 2 * (b + 22)) ∷ take
@@ -48,7 +48,7 @@ Stand ws q [] = Unit {0}
 Stand ws q (n ∷ ns) = (get_or ws q 0 ≡ n) × (n < 65536) × Stand ws (q + 1) ns
 
 -- what changes as the loop goes round: the number's location, what is left of the comparison, the greatest so far, and
--- what was thrown away
+-- what was discarded
 pub record Turning : Type 0 where
   pub q : ℕ
   pub left : ℕ

@@ -9,7 +9,7 @@ use Rattle.ed_paths.proofs.Paths.{Path, stay, on, prints, followed}
 use Rattle.ed_paths.proofs.Loops.{walks, all_printed}
 
 -- its words at b, where the location e is after the text and `newline` is at w: the order that prints, and a cell for
--- what is thrown away, change
+-- what is discarded, change
 abbrev pub cells : ℕ → ℕ → ℕ → ℕ → ℕ → List ℕ
 cells b e w order scrap =
     (20480 + 2 * (b + 12)) ∷ order ∷ (114688 + 2 * (b + 1)) ∷ 114692 ∷ (28672 + 2 * (b + 1)) ∷ (49152 + 2 * (b + 11))

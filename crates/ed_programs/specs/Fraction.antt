@@ -71,7 +71,7 @@ fraction_source upper lower places =
 abbrev pub fraction_text : ℕ → ℕ → ℕ → Text
 fraction_text upper lower places = text_of_lines (fraction_source upper lower places)
 
--- why numbers below 65536 are refused as its data
+-- why numbers below 65536 are refused as its data, if they are
 abbrev pub fraction_refusal : ℕ → Option Refusal
 fraction_refusal lower = if nat_le 1 lower && nat_le lower 6553 then None else Some Divisor
 

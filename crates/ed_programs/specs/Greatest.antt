@@ -57,7 +57,7 @@ greatest_source ns =
 abbrev pub greatest_text : List ℕ → Text
 greatest_text ns = text_of_lines (greatest_source ns)
 
--- why numbers below 65536 are refused as the data of `examples/answer6.edsac`
+-- why numbers below 65536 are refused as the data of `examples/answer6.edsac`, if they are
 abbrev pub greatest_refusal : List ℕ → Option Refusal
 greatest_refusal ns = if length ns == 8 then None else Some Count
 

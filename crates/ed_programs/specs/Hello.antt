@@ -55,7 +55,7 @@ of_letters letters = 42 ∷ letters
 abbrev pub is_capital : ℕ → Bool
 is_capital b = nat_le 65 b && nat_le b 90
 
--- why a text is refused as the data of `examples/hello.edsac`
+-- why a text is refused as the data of `examples/hello.edsac`, if it is
 abbrev pub hello_refusal : Text → Option Refusal
 hello_refusal letters =
     if length letters == 0 || nat_lt 40 (length letters) then Some Length

@@ -42,7 +42,7 @@ interlude_rest =
 abbrev pub interlude_text : ℕ → Text
 interlude_text number = text_of_lines (interlude_front ++ interlude_line number ∷ interlude_rest)
 
--- why a number is refused: the words, from its double upwards, must be above the program and in the store
+-- why a number is refused, if it is: the words, from its double upwards, must be above the program and in the store
 abbrev pub interlude_refusal : ℕ → Option Refusal
 interlude_refusal number = if nat_lt number 34 || nat_lt 510 number then Some Place else None
 

@@ -64,7 +64,7 @@ multiply_source a b c =
 abbrev pub multiply_text : ℕ → ℕ → ℕ → Text
 multiply_text a b c = text_of_lines (multiply_source a b c)
 
--- why three numbers below 65536 are refused as the data of `examples/answer5.edsac`
+-- why three numbers below 65536 are refused as the data of `examples/answer5.edsac`, if they are
 abbrev pub multiply_refusal : ℕ → ℕ → ℕ → Option Refusal
 multiply_refusal a b c = if nat_lt (a * b) 65536 && nat_lt (c * c) 65536 then None else Some Number
 
