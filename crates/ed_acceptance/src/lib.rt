@@ -1,7 +1,7 @@
 //! Tests of the program: whole runs of `ed_top::edsac` on words and an input, and the devices that it uses.
 //!
-//! The contract of this crate is nothing: it has no public item and no code but its tests. Their expected values come
-//! from the description of the machine and from worked examples, never from the program's own output. Stands on the
+//! This crate has no contract: it has no public item, and no code except its tests. Their expected values come
+//! from the description of the machine and from worked examples, never from the program's own output. Depends on the
 //! crates of the program.
 #![tactic(auto)]
 

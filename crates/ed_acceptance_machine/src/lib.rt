@@ -1,7 +1,7 @@
 //! Tests of the machine and its parts: each public call once on its happy path, and single orders on worked values.
 //!
-//! The contract of this crate is nothing: it has no public item and no code but its tests. Their expected values come
-//! from the description of the machine and from worked examples, never from the program's own output. Stands on the
+//! This crate has no contract: it has no public item, and no code except its tests. Their expected values come
+//! from the description of the machine and from worked examples, never from the program's own output. Depends on the
 //! crates up to the machine, its runs and the printed paper.
 #![tactic(auto)]
 

@@ -1,7 +1,7 @@
-//! Tests of the proved programs: each is run on twenty data, at the ends of their ranges too, beside a plain
-//! computation, and is refused for data just out of range.
+//! Tests of the proved programs: each is run on twenty data, the ends of their ranges included, and compared
+//! with a plain computation; data just out of range are refused.
 //!
-//! The contract of this crate is nothing: it has no public item and no code but its tests. Stands on `ed_programs`.
+//! This crate has no contract: it has no public item, and no code except its tests. Depends on `ed_programs`.
 #![tactic(auto)]
 
 #[cfg(test)]

@@ -1,8 +1,8 @@
 //! Tests of the library's routines: what they print, read, divide and take roots of, at which bases, and how many
 //! orders they take.
 //!
-//! The contract of this crate is nothing: it has no public item and no code but its tests. Their expected values come
-//! from the numbers themselves, and from counts made by hand, never from the program's own output. Stands on
+//! This crate has no contract: it has no public item, and no code except its tests. Their expected values come
+//! from the numbers themselves, and from counts made by hand, never from the program's own output. Depends on
 //! the crates up to the routines.
 #![tactic(auto)]
 

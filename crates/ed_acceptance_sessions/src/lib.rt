@@ -1,7 +1,7 @@
 //! Tests of sessions, scripts and traces.
 //!
-//! The contract of this crate is nothing: it has no public item and no code but its tests. Their expected values come
-//! from the description of scripts and from worked examples, never from the program's own output. Stands on the crates
+//! This crate has no contract: it has no public item, and no code except its tests. Their expected values come
+//! from the description of scripts and from worked examples, never from the program's own output. Depends on the crates
 //! up to the sessions and the traces.
 #![tactic(auto)]
 

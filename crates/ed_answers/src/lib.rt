@@ -3,7 +3,8 @@
 //!
 //! The contract is that each reply is that of the definition: its two texts and its status. An input that is refused
 //! has a reply too; that no memory was found is not a reply. Among the definitions are the laws between these answers.
-//! Stands on `ed_loads`, `ed_initial1`, `ed_postmortem` and `ed_report`, and on `ed_command` for the settings of a run.
+//! Depends on `ed_loads`, `ed_initial1`, `ed_postmortem` and `ed_report`, and on `ed_command` for the settings of a
+//! run.
 #![tactic(auto)]
 
 mod check;

@@ -1,5 +1,5 @@
 //! The calls of library routines that a command may ask for, and the ranges of their numbers. This is a crate of its
-//! own, since the reader of the command line and the maker of the program's sources both use it. Stands on std alone.
+//! own, since the reader of the command line and the maker of the program's sources both use it. Depends on std alone.
 #![tactic(auto)]
 
 /// A call of a library routine with its numbers.

@@ -2,7 +2,7 @@
 //! each.
 //!
 //! The contract is that one turn of the routine does to its guest what the order table says of the guest's next order,
-//! in at most 35 orders, and that the routine is then at the start of a turn again. Stands on `ed_machine`, `ed_run`,
+//! in at most 35 orders, and that the routine is then at the start of a turn again. Depends on `ed_machine`, `ed_run`,
 //! `ed_library` and `ed_routines`, and is proved over `ed_paths`.
 #![tactic(auto)]
 

@@ -2,7 +2,7 @@
 //!
 //! The contract is a loading theorem, like that of `ed_initial`: on a tape without a fault the orders, obeyed one by
 //! one, lead to the state that its items mean, at their cost; and every other tape has one fault, which `check1`
-//! answers. Stands on `ed_initial`, `ed_notation` and `ed_paths`.
+//! answers. Depends on `ed_initial`, `ed_notation` and `ed_paths`.
 #![tactic(auto)]
 
 mod cause;

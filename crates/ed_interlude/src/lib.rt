@@ -1,7 +1,7 @@
 //! Interludes: programs that do their work while a tape is read, and return to the Initial Orders.
 //!
 //! The contract is the loading theorem from a machine that returned: the rows left, if they are well formed under the
-//! directive that the program left, lead to the entry that the notation means. Stands on `ed_notation` and
+//! directive that the program left, lead to the entry that the notation means. Depends on `ed_notation` and
 //! `ed_initial`.
 #![tactic(auto)]
 

@@ -2,7 +2,7 @@
 //!
 //! The contract is that of the two traits: which bytes a call takes, and that a device counts each call that fails and
 //! no other. The devices over memory report their bytes and fail exactly at the calls in their list; those over std's
-//! readers and writers report what these report, until a write fails. Stands on `ed_words` for the answer that no
+//! readers and writers report what these report, until a write fails. Depends on `ed_words` for the answer that no
 //! memory was found.
 #![tactic(auto)]
 

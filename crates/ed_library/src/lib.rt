@@ -2,7 +2,7 @@
 //!
 //! The contract is that every reader gives what the catalogue's tables say, that each routine of the catalogue can be
 //! linked and their names are in ascending order, and that an image's word is what the notation makes of the item, with
-//! θ twice the base and with the preset parameters. Stands on `ed_words`, `ed_codes`, `ed_notation` and `arrayvec`.
+//! θ twice the base and with the preset parameters. Depends on `ed_words`, `ed_codes`, `ed_notation` and `arrayvec`.
 #![tactic(auto)]
 
 mod catalogue;

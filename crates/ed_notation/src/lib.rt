@@ -1,7 +1,7 @@
 //! The notation of the tape: items, the rows that spell them, what they do and cost, and the faults of a tape.
 //!
 //! The contract is the notation written down without a machine, as a fold over items: `check` answers exactly what that
-//! fold gives, or the tape's one fault; spelled items are read back, and no other items. Stands on `ed_words`,
+//! fold gives, or the tape's one fault; spelled items are read back, and no other items. Depends on `ed_words`,
 //! `ed_store` and `ed_codes`.
 #![tactic(auto)]
 

@@ -2,8 +2,8 @@
 //! after a number of orders from Start, the rows of tapes, the listing of a source, and the texts of rows and orders.
 //!
 //! The exports keep no state. Their contract is that each answer is the program's own to the same text, with its texts
-//! at the beginnings of the caller's buffers, and that each other answer has its cause. Stands on `ed_answers` for what
-//! the program answers, and on `ed_run` and `ed_report`.
+//! at the beginnings of the caller's buffers, and that each other answer has its cause. Depends on `ed_answers` for
+//! what the program answers, and on `ed_run` and `ed_report`.
 #![tactic(auto)]
 
 mod going;

@@ -2,7 +2,7 @@
 //!
 //! The contract is that on any machine exactly the codes of those words are printed, in exactly the orders that the
 //! tape and the words cost, and that every refusal comes exactly when it is due and changes nothing. The proof goes
-//! through the Initial Orders and a run, order by order. Stands on `ed_initial`, `ed_run` and `ed_paths`.
+//! through the Initial Orders and a run, order by order. Depends on `ed_initial`, `ed_run` and `ed_paths`.
 #![tactic(auto)]
 
 mod fault;

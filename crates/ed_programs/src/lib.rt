@@ -1,7 +1,7 @@
 //! Whole programs, proved for all their data: for each a call that gives its source, or its tape, with the data put in.
 //!
 //! The contract of a call is the exact text, and what the command `run` (for a tape, `tape`, `tape1` or `parts`)
-//! answers to it: the printed text in plain mathematics, the number of orders and the status. Stands on `ed_top`, and
+//! answers to it: the printed text in plain mathematics, the number of orders and the status. Depends on `ed_top`, and
 //! its proofs on the kit of `ed_paths`.
 #![tactic(auto)]
 

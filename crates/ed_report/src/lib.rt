@@ -1,7 +1,7 @@
 //! Texts to be written: what was printed, on one paper or on two, words of a store in lines, the routines of the
 //! library, the letters of orders, and the lines that report faults, entries and endings.
 //!
-//! The contract is that each text is exact to the byte. Stands on `ed_machine`, `ed_printer`, `ed_notation`,
+//! The contract is that each text is exact to the byte. Depends on `ed_machine`, `ed_printer`, `ed_notation`,
 //! `ed_initial1`, `ed_library` and `ed_syntax`.
 #![tactic(auto)]
 

@@ -1,6 +1,6 @@
 //! Runs of the machine onto a paper, order by order.
 //!
-//! The contract is that `run` is the definition's run; it changes the machine by `Machine::step` alone. Stands on
+//! The contract is that `run` is the definition's run; it changes the machine by `Machine::step` alone. Depends on
 //! `ed_machine`.
 #![tactic(auto)]
 

@@ -2,7 +2,7 @@
 //!
 //! The contract is that each text is exact to the byte, and that it is an accepted source whatever its numbers are
 //! (that of a call on a store of either size). What the run of a call and that of `demo` print is stated in `ed_top`,
-//! by lemmas that are proved here. Stands on `ed_call`, `ed_loads` and `ed_routines`.
+//! by lemmas that are proved here. Depends on `ed_call`, `ed_loads` and `ed_routines`.
 #![tactic(auto)]
 
 mod calls;

@@ -4,7 +4,7 @@
 //! that each move ends after the least number of orders for which one of its ends holds. What the lines of a script say
 //! is a relation with one row for each form: each text is a script that says one list of commands, or has one first bad
 //! line. What the commands write is exact to the byte; an input is divided at its first line that announces a text.
-//! Stands on `ed_initial`, `ed_syntax` and `ed_report`.
+//! Depends on `ed_initial`, `ed_syntax` and `ed_report`.
 #![tactic(auto)]
 
 mod commands;

@@ -3,7 +3,7 @@
 //! The contract is that `parse` answers the lines that a text spells, by a relation with one row for each form, or else
 //! the first line that has a fault of form, with its fault; and that each text has one of these and never both. What
 //! holds of every program is its type's invariant: at most 2,000 lines, numbered from 1 without a gap, each of a form
-//! of the version's grammar with its numbers in their ranges. Stands on `ed_words`, `ed_codes` and `arrayvec`.
+//! of the version's grammar with its numbers in their ranges. Depends on `ed_words`, `ed_codes` and `arrayvec`.
 #![tactic(auto)]
 
 mod fault;

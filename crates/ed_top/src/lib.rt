@@ -4,7 +4,7 @@
 //! status and both texts are those of the definition, and the answers for a fault or for no memory come with their
 //! cause and with what was written. The definition gives each input one outcome, which is a clause too; and so is
 //! that an accepted source is run from the state that its linked program means. Further clauses are the laws between
-//! the commands. Stands on all crates below.
+//! the commands. Depends on all crates below.
 #![tactic(auto)]
 
 mod calls;

@@ -3,7 +3,7 @@
 //! The contract is that `text_of_program` answers the one text that the definition has for a program, and that this
 //! text says exactly the program's lines, by the relation of `ed_syntax`; so `parse` reads them in it. A program is
 //! refused for two reasons only: it has no line for `version 2`, and then no text says its lines; or the text of a line
-//! is too long. Stands on `ed_syntax`, `ed_codes`, `ed_words` and `arrayvec`.
+//! is too long. Depends on `ed_syntax`, `ed_codes`, `ed_words` and `arrayvec`.
 #![tactic(auto)]
 
 mod fault;
