@@ -26,7 +26,7 @@ abbrev pub LineHasWord : List Line → Line → ℕ → Type 0
 LineHasWord before l p = (first_place l.statement (spot_after before) ≤ p)
     × (p < end_place l.statement (spot_after before))
 
--- the line is an `enter` of a name that stands for this location
+-- the line is an `enter` of a name with this location
 abbrev pub EntersAt : List Line → Line → ℕ → Type 0
 EntersAt lines l p = (name : List ℕ) × (l.statement ≡ Some (Enter name))
     × (place_on (homes_of lines) None name ≡ Some p)

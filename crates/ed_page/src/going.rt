@@ -32,8 +32,8 @@ pub struct Gone {
 /// The words, digits and registers are those that this call, `page_tape`, `page_tape1` or `page_source` wrote for the
 /// tape that has these rows; after `page_tape1` the store is not small. Afterwards they are those of the state in which
 /// the run ends; `registers.orders` is still counted from Start. The room of `codes` is the paper that is left: the new
-/// the run ends; `registers.orders` is still counted from Start. The room of `codes` is the paper that is left: the new
-/// 4, 5, 6 or 7; 12 if a buffer of the store has the wrong length, and 10 if no memory was found. With 10 and 12
+/// codes are written at its beginning, and `registers.printed` is their number. The answer is the status of the ending:
+/// 0, 4, 5, 6 or 7; 12 if a buffer of the store has the wrong length, and 10 if no memory was found. With 10 and 12
 /// nothing is written.
 #[unsafe(no_mangle)]
 pub extern "C" fn page_go_on(

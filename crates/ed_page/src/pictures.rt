@@ -123,7 +123,7 @@ pub extern "C" fn page_source(
     }
 }
 
-/// Whether it is known before any memory is taken that a picture has no room.
+/// Whether a buffer is known, before any memory is taken, to have no room for a picture.
 fn lacks_room(text: &[u8], words: &[u32], digits: &[u8], note: &[u8]) -> bool
     ensures { IsTrue result ↔ ((length words.now ≢ 1024) ⊎ ((length digits.now ≢ 512)
         ⊎ LacksLine text.now note.now)) }
