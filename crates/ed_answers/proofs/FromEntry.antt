@@ -55,7 +55,7 @@ run_on s lines enters fits =
     ran_later s.limit s.resumes paper_room (cost lines) (first_state s.size (tape lines)) enters.went fits
     ∙ ap (ran (s.limit - cost lines) s.resumes paper_room) enters.state_is
 
--- so a machine that was led to the entry of a linked program has only to go on
+-- so the run of a machine that was led to the entry of a linked program only has to continue
 pub goes_on : (s : Settings) (k : Linked) (entered : State) (r : Result Ran NoMemory) → entered.orders ≤ s.limit
     → ((lines : List Line) → IsLinked s.size lines k → entered ≡ entry_state s.size lines)
     → IfOk r (IsRan (ran (s.limit - entered.orders) s.resumes paper_room entered))

@@ -41,7 +41,7 @@ use Rattle.ed_answers.proofs.FromEntry.{runs_from_entry}
 
 -- ---- what is made of a source
 
--- the two ends of a rejection are apart
+-- a rejection with a reply is not the rejection `Memory`
 never : {reply : Reply} → ◌≡◌ {A = Rejection} (rejection.Refused reply) rejection.Memory → ⊥
 never same = cc
 

@@ -114,7 +114,7 @@ size_before text place b after e =
     let left : length text - place ≡ suc (length after) = sym (length-drop place text) ∙ ap length e in
     length-take-le place text (omega (arith, left))
 
--- the reading gets as far as the offset
+-- the reading reaches the offset
 stopped : (text : List ℕ) (place byte : ℕ) (after : List ℕ) (s : StopsAt text place byte after)
     → reading text ≡ with_rows s.rows (reading_from None place (byte ∷ after))
 stopped text place byte after s =

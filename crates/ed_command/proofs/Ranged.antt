@@ -142,7 +142,7 @@ short_in made numbers more =
     mapped (IsFromTo 0 65535) IsCallInRange made (one_number 0 65535 numbers) (λ n h. more n h.1)
     (one_within 0 65535 numbers)
 
--- one of two
+-- a call of two numbers
 either_in : {A : Type 0} (P : A → Type 0) (c : Bool) (first second : Option A) → IfSome first P → IfSome second P
     → IfSome (if c then first else second) P
 either_in P true first second f s = f

@@ -1,5 +1,5 @@
 -- The answers that the public clauses of `parse` and `link` alone allow for texts that a wrong program would answer
--- differently: for each such text there is one, beside that no memory was found.
+-- differently: for each such text there is one, apart from the answer that no memory was found.
 use Rattle.std.proofs.Common.{◌≡◌, ◌⊎◌, inl, inr, ℕ, ◌<◌, ◌≤◌, Bool, false, List, [], ◌∷◌, refl, arith}
 use Rattle.std.specs.Prelude.{◌==◌, codes, Some, None, Result, Ok, Err, IfOk, IfErr}
 use Rattle.ed_words.specs.declared.size.Size.{Size}

@@ -67,6 +67,6 @@ shift_places w fits h =
 pub right_places : (w : ℕ) → w < 2 ^ 17 → kind_of_function (function_of w) ≡ Some R → places w ≤ 15
 right_places w fits h = shift_places w fits (ap is_shift h)
 
--- an order L shifts by at most 15 places (13 in truth)
+-- an order L shifts by at most 15 places (in fact at most 13)
 pub left_places : (w : ℕ) → w < 2 ^ 17 → kind_of_function (function_of w) ≡ Some L → places w ≤ 15
 left_places w fits h = shift_places w fits (ap is_shift h)

@@ -19,7 +19,7 @@ use Rattle.ed_answers.specs.FirstOrders.{first_state1, run1_of}
 use Rattle.ed_answers.specs.Runs.{paper_room, run_of}
 use Rattle.ed_page.specs.Going.{GoingLaw, run_following}
 
--- if a run goes on, the next order ends nothing
+-- if a run goes on, the next order doesn't end it
 next_open : (limit resumes room k : ℕ) (p : Past) → end_at limit resumes room k p ≡ None
     → end_by (step p.state).turn (nat_le room (length p.codes)) ≡ None
 next_open limit resumes room k p = by_tests (nat_lt resumes p.stops) (nat_eq k limit)
@@ -32,7 +32,7 @@ next_open limit resumes room k p = by_tests (nat_lt resumes p.stops) (nat_eq k l
     by_tests false true h = absurd (cc)
     by_tests false false h = h
 
--- stops never get fewer
+-- the number of stops never decreases
 more_stops : (j k : ℕ) (s : State) → j ≤ k → (past j s).stops ≤ (past k s).stops
 more_stops j k s below =
     let whole : j + (k - j) ≡ k = omega arith in

@@ -13,7 +13,7 @@ use Rattle.ed_interlude.specs.Returned.{IsReturned, reopening}
 use Rattle.ed_interlude.proofs.Resumed.{is_directive}
 use Rattle.ed_parts.specs.Parts.{HasFault, LeadsTo, TapePart, base_of, first_part, note_of}
 
--- the directive under which a part begins is one
+-- the directive under which a part begins is an order P, E or T
 abbrev pub Opens : TapePart → Type 0
 Opens p = IsDirective (note_of p).directive
 

@@ -39,7 +39,7 @@ pub record IsEntryReached (p : TapePart) (e : TapeEntry) : Type 0 where
 abbrev pub EachEntryIsReached : Type 0
 EachEntryIsReached = (p : TapePart) (e : TapeEntry) → Begins p → LeadsTo p e → IsEntryReached p e
 
--- the run of the whole tape, which is never resumed and whose paper never is full, has this ending and this last state,
+-- the run of the whole tape, which is never resumed and whose paper is never full, has this ending and this last state,
 -- and prints these codes
 pub record EndsAsRun (limit : ℕ) (s : State) (ending : Ending) (last : State) (codes : List ℕ) : Type 0 where
   pub orders : ℕ

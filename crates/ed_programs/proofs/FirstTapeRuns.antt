@@ -1,4 +1,4 @@
--- The outcome of a tape of May 1949 whose program reaches its stop, as what the command `tape1` owes it.
+-- The outcome of a tape of May 1949 whose program reaches its stop, as the answer of the command `tape1`.
 use Rattle.std.proofs.Common.{◌≡◌, ◌∙◌, inl, ℕ, ◌+◌, ◌-◌, ◌≤◌, refl, sym, subst, arith, Bool, true, false}
 use Rattle.std.proofs.Common.{◌&&◌, nat_le, nat_lt, List, [], ◌∷◌, ◌++◌, codes, length}
 use Rattle.std.specs.Prelude.{None, Result, Ok, Err, String}

@@ -75,7 +75,7 @@ orders_by false = 16
 abbrev pub orders : Turning → ℕ → ℕ
 orders x n = orders_by (nat_lt n x.most)
 
--- how many orders all turns are, and which number is the greatest after them
+-- the number of orders of all turns, and which number is the greatest after them
 spent_is : (x : Turning) (ns : List ℕ) → all_spent orders next x ns ≡ 13 * length ns + 3 * rises x.most ns
 spent_is x [] = omega arith
 spent_is x (n ∷ ns) = by_test (λ y. spent_is y ns) (nat_lt n x.most)

@@ -24,7 +24,7 @@ use Rattle.ed_programs.specs.Guests.{EntersChecker, checker_base}
 
 -- ---- the line that enters
 
--- a line that is no `enter` leaves the entry to the lines after it
+-- a line that is not an `enter` leaves the entry to the lines after it
 other_line : (homes : List Home) (st : Option Statement) (later : ℕ)
     → ((name : List ℕ) → st ≡ Some (Enter name) → ⊥) → entered_place homes st later ≡ later
 other_line homes None later none = refl

@@ -1,4 +1,4 @@
--- What the command `run` owes a source that enters the checking routine.
+-- What the command `run` answers to a source that enters the checking routine.
 use Rattle.std.proofs.Common.{◌≡◌, inl, inr, ℕ, zero, suc, ◌+◌, ◌<◌, ◌≤◌, refl, sym, ap, subst, arith}
 use Rattle.std.proofs.Common.{true, true≢false, List, length}
 use Rattle.std.specs.Prelude.{None, Result, Ok, Err, String, string_bytes}

@@ -1,4 +1,5 @@
--- The text of `examples/interlude.tape`, for any number in range, and what the commands `parts` and `tape` owe it.
+-- The text of `examples/interlude.tape`, for any number in range, and what the commands `parts` and `tape` answer to
+-- it.
 use Rattle.std.proofs.Common.{◌≡◌, ◌∙◌, inl, inr, ℕ, ◌+◌, ◌-◌, ◌*◌, ◌/◌, ◌%◌, ◌<◌, ◌≤◌, refl, sym, ap, subst}
 use Rattle.std.proofs.Common.{arith, lit≤}
 use Rattle.std.proofs.Common.{true, List, [], ◌∷◌, ◌++◌, append_assoc, append-nil, codes, length, length-append}
@@ -236,7 +237,7 @@ module _ (z : Size) (n : ℕ) (low : 34 ≤ n) (small : n ≤ 510) (fits : 2 * n
         stop = 68;
       }
 
--- ---- what is owed
+-- ---- the answers
 
 pub each_number : (s : Settings) (n : ℕ) → 34 ≤ n → n ≤ 510 → interlude_room n ≤ locations s.size
     → TwoPartsRun s (interlude_text n) (interlude_parts n) interlude_prints

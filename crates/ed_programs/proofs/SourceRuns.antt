@@ -1,4 +1,4 @@
--- The outcome of a source whose program reaches its stop, as what the command `run` owes it.
+-- The outcome of a source whose program reaches its stop, as the answer of the command `run`.
 use Rattle.std.proofs.Common.{◌≡◌, ℕ, ◌+◌, ◌≤◌, Bool, true, subst, arith, List, length}
 use Rattle.std.specs.Prelude.{None, Ok}
 use Rattle.std.specs.List.{list_all}

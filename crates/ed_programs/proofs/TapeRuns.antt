@@ -1,4 +1,4 @@
--- The outcome of a tape whose program reaches its stop, as what the command `tape` owes it.
+-- The outcome of a tape whose program reaches its stop, as the answer of the command `tape`.
 use Rattle.std.proofs.Common.{◌≡◌, ◌∙◌, inl, ℕ, ◌+◌, ◌-◌, ◌≤◌, refl, sym, ap, subst, arith, lit≤, true, List, []}
 use Rattle.std.proofs.Common.{◌∷◌, ◌++◌, codes, length, get_or}
 use Rattle.std.specs.Prelude.{None, Some, Option, Result, Ok, Err, String}

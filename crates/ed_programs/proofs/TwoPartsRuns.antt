@@ -1,5 +1,5 @@
--- A tape whose first program returns to the Initial Orders and whose second one reaches its stop, as what the commands
--- `parts` and `tape` owe it.
+-- A tape whose first program returns to the Initial Orders and whose second one reaches its stop, as the answers of the
+-- commands `parts` and `tape`.
 use Rattle.std.proofs.Common.{◌≡◌, ◌≢◌, ◌∙◌, inl, ℕ, zero, suc, ◌+◌, ◌-◌, ◌<◌, ◌≤◌, refl, sym, ap, subst, arith}
 use Rattle.std.proofs.Common.{true, false, List, [], ◌∷◌, ◌++◌, append_assoc, codes, length, length-append, inr}
 use Rattle.std.proofs.lemmas.Bool.{cases_lt}

@@ -14,8 +14,8 @@ use Rattle.ed_top.specs.Output.{output}
 use Rattle.ed_programs.specs.declared.refusal.Refusal.{Refusal}
 
 -- the text spells rows that give a program at this cost, whose run continues from its entry at 31 (the law
--- `first_orders`); and if the limit is at least this cost and the orders of the program together, what the command
--- `tape1` owes the text is this paper, the note of a stop at a location after exactly these orders, and status 0
+-- `first_orders`); and if the limit is at least this cost and the orders of the program together, the answer of the
+-- command `tape1` to the text is this paper, the note of a stop at a location after exactly these orders, and status 0
 pub record FirstTapeRuns (s : Settings) (tape : Text) (cost orders at : ℕ) (paper : Text) : Type 0 where
   pub codes_of : List ℕ
   pub spelled : reading tape ≡ rows codes_of

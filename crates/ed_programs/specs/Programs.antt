@@ -19,7 +19,7 @@ use Rattle.ed_programs.specs.declared.refusal.Refusal.{Refusal}
 use Rattle.ed_programs.specs.declared.refusal.Refusal.TheVariants.{Memory}
 
 -- the source is accepted with these lines, and its run is that from the state at their entry; and if the limit is at
--- least the orders up to the entry and those of the program together, what the command `run` owes it is this text, the
+-- least the orders up to the entry and those of the program together, the answer of the command `run` is this text, the
 -- note of a stop at a location after exactly these orders, and status 0
 pub record SourceRuns (s : Settings) (source : Text) (orders at : ℕ) (text : Text) : Type 0 where
   pub lines : List Line

@@ -15,8 +15,8 @@ use Rattle.ed_answers.specs.Tapes.{first_note}
 use Rattle.ed_programs.specs.declared.refusal.Refusal.{Refusal}
 
 -- the text spells rows that are well formed and reach an entry at this cost, from which their run continues (the law
--- `tapes`); and if the limit is at least this cost and the orders of the program together, what the command `tape`
--- owes the text is this paper, the note of a stop at a location after exactly these orders, and status 0
+-- `tapes`); and if the limit is at least this cost and the orders of the program together, the answer of the command
+-- `tape` to the text is this paper, the note of a stop at a location after exactly these orders, and status 0
 pub record TapeRuns (s : Settings) (tape : Text) (cost orders at : ℕ) (paper : Text) : Type 0 where
   pub codes_of : List ℕ
   pub spelled : reading tape ≡ rows codes_of

@@ -52,8 +52,8 @@ two_parts_lines t =
 abbrev pub two_parts_note : TwoParts → Text
 two_parts_note t = at_after (codes "stopped") t.stop (orders_to_stop t) ++ 10 ∷ []
 
--- the text spells rows; and if the limit is at least the orders up to the stop, `parts` owes it these lines, and
--- `tape` this paper, each with the note of the stop and status 0
+-- the text spells rows; and if the limit is at least the orders up to the stop, the answer of `parts` is these lines
+-- and that of `tape` is this paper, each with the note of the stop and status 0
 pub record TwoPartsRun (s : Settings) (tape : Text) (t : TwoParts) (paper : Text) : Type 0 where
   pub codes_of : List ℕ
   pub spelled : reading tape ≡ rows codes_of

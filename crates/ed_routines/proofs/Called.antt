@@ -55,7 +55,7 @@ called all stands outside = record {
   within = within_size stands outside;
 }
 
--- a location outside a routine is beside its cells, in as many words as a store has
+-- a location outside a routine is outside its cells in the words of a store
 pub beside : {r b h : ℕ} {s : State} (words : List ℕ) → length words ≡ 1024 → IsOutside r b h s
     → Beside words b (place_count r) h
 beside {s = s} words all out =

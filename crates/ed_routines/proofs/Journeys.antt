@@ -82,7 +82,7 @@ pub record Returns (r w : ℕ) (s : State) (k : ℕ) (codes ds : List ℕ) (l : 
   pub long : length (patched 0 s.store.words w ds) ≡ 1024
   pub keeps : (q : ℕ) → IsOther r w q → get_or (patched 0 s.store.words w ds) q 0 ≡ get_or s.store.words q 0
 
--- a routine is in the words beside a piece
+-- a routine is in the words outside a piece
 pub record HasRoutine {n h : ℕ} (f : Frame n h) (words : List ℕ) (r w : ℕ) (parameters : List ℕ) : Type 0 where
   pub low : 56 ≤ w
   pub fits : w + place_count r ≤ locations f.size
@@ -99,7 +99,7 @@ pub record IsIn {n h : ℕ} (f : Frame n h) (r : Moment) : Type 0 where
   pub own : length r.cells ≡ n
 
 module _ {n h : ℕ} {f : Frame n h} {r : Moment} (o : IsIn f r) where
-  -- a word beside the piece
+  -- a word outside the piece
   pub beside_word : (q : ℕ) → (q < f.base) ⊎ (f.base + n ≤ q) → get_or (all_words f r) q 0 ≡ get_or r.words q 0
   beside_word q (inl l) =
       let own = o.own in let all = o.all in let size = most f.size in let under = f.under in let fits = f.fits in

@@ -143,7 +143,7 @@ module _ {limit resumes : ℕ} {s : State} {sheet : Sheet} {k : ℕ} {m : State}
         sheet_is = now.1;
       }
 
--- an order that was obeyed ends no run if the paper has room or nothing is printed
+-- an order that was obeyed doesn't end the run if the paper has room or nothing is printed
 pub none_ends : (turn : Turn) (full : Bool) → is_obeyed turn ≡ true → (full ≡ false) ⊎ (prints turn ≡ false)
     → end_by turn full ≡ None
 none_ends Went full obeyed either = refl

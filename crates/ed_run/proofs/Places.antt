@@ -1,4 +1,4 @@
--- When a run ends whose orders are obeyed as far as it goes.
+-- When a run ends, if each of its orders is obeyed and has room.
 use Rattle.std.proofs.Common.{◌≡◌, ℕ, suc, ◌+◌, ◌-◌, ◌<◌, ◌≤◌, refl, sym, ap}
 use Rattle.std.proofs.Common.{◌∙◌, arith, Bool, true, false, true≢false, nat_le}
 use Rattle.std.proofs.Common.{length, length-append, Some, None}
@@ -24,7 +24,7 @@ next_stops : (j : ℕ) (s : State) → (past (suc j) s).stops ≡ (past j s).sto
 unfolding past
 next_stops j s = refl
 
--- codes and stops never get fewer
+-- the numbers of codes and of stops never decrease
 grows : (j d : ℕ) (s : State)
     → ((past j s).stops ≤ (past (j + d) s).stops) × (length (past j s).codes ≤ length (past (j + d) s).codes)
 grows j d s =
@@ -34,7 +34,7 @@ grows j d s =
     ap (λ (p : Past). length p.codes) (past_sum j d s) ∙ length-append (past j s).codes later.codes in
     (omega (arith, stops), omega (arith, codes))
 
--- an order that is obeyed ends nothing if it prints nothing or has room
+-- an order that is obeyed doesn't end the run if it prints nothing or has room
 goes_by : (turn : Turn) (full : Bool) → is_obeyed turn ≡ true → (full ≡ true → length (codes_of turn) ≡ 0)
     → end_by turn full ≡ None
 goes_by Went full o h = refl
@@ -55,7 +55,7 @@ not_before limit resumes {room} {k} {s} r below j l few =
     (goes_by (step (state_after j s)).turn (nat_le room (length (past j s).codes)) (r.obeyed j l)
     (λ full. let m = le_of room (length (past j s).codes) full in omega (arith, m, most, r.printed, next_codes j s)))
 
--- a number of stops that is small at the end was so all the way
+-- a bound on the number of stops at the end is one at each order before
 was_few : (k j n : ℕ) (s : State) → j ≤ k → (past k s).stops ≤ n → (past j s).stops ≤ n
 was_few k j n s l h =
     let whole : j + (k - j) ≡ k = omega arith in

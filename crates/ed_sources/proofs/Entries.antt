@@ -29,10 +29,10 @@ meets_of None w h = tt
 meets_of (Some x) w h = eq_of w x h
 
 module _ (z : Size) (lines : List Line) where
-  -- as far as the words below a location are known
+  -- if the words below a location are known
   module _ (word : ℕ → Option ℕ) (top : ℕ)
       (word_is : (a : ℕ) → 44 ≤ a → a < top → short_at (entry_state z lines).store a ≡ unwrap_or (word a) 0) where
-    -- an image is at a base
+    -- a store holds an image at a base
     pub holds_by : (image : List (Option ℕ)) (base : ℕ)
         → list_all (λ i. is_met (get_or image i None) (unwrap_or (word (base + i)) 0)) (numbers 0 (length image)) ≡ true
         → 44 ≤ base → base + length image ≤ top → Holds image (entry_state z lines).store.words base
@@ -43,7 +43,7 @@ module _ (z : Size) (lines : List Line) where
         let here = word_is (base + i) (omega arith) (omega arith) in
         rw here (meets_of (get_or image i None) (unwrap_or (word (base + i)) 0) met)
 
-    -- and so does a routine of the library beside a piece
+    -- and a routine of the library outside a piece
     pub routine_by : {n h : ℕ} (f : Frame n h) (r base : ℕ) (parameters : List ℕ)
         → list_all (λ i. nat_eq (unwrap_or (word (base + i)) 0) (image_word r i base parameters))
         (numbers 0 (place_count r)) ≡ true

@@ -104,7 +104,7 @@ found_any g name (h ∷ homes) = by_test (is_home g name h) (found_any g name ho
     by_test true e = refl
     by_test false e = e
 
--- the definition is one again, after these
+-- the definition defines again a name of these
 abbrev IsAgain : List Home → Option Home → Type 0
 IsAgain earlier o = (h : Home) × (o ≡ Some h) × (other : Home) × Contains earlier other × AreAlike h other
 

@@ -133,7 +133,7 @@ first_fault = source_answer _ (Err _) refl
 lone_return : IsFormFault (codes "ZF\nZF" ++ 13 ∷ []) 2 BadByte
 lone_return = source_answer _ (Err _) refl
 
--- the version counts for all lines
+-- the version applies to all lines
 version_two : IsProgram (codes "version 2\n_c: long 5") true (
     record { number = 1; label = None; statement = None }
     ∷ record { number = 2; label = Some (codes "_c"); statement = Some (statements.Long 5) } ∷ [])

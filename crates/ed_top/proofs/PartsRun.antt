@@ -32,7 +32,7 @@ use Rattle.ed_top.proofs.MoveEndings.{ran_is}
 
 -- ---- on a paper that has room
 
--- what doesn't end a run whose paper never is full doesn't end one whose paper has room
+-- what doesn't end a run whose paper is never full doesn't end one whose paper has room
 none_by : (turn : Turn) (full other : Bool) → (prints turn ≡ true → other ≡ false) → end_by turn full ≡ None
     → end_by turn other ≡ None
 none_by Went full other room h = refl

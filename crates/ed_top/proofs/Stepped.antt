@@ -127,7 +127,7 @@ module _ (s : Settings) (rows : List ℕ) (resumes : ℕ) where
   abbrev after : ℕ → Stand
   after n = record (stand_on s rows) { done = n }
 
-  -- the run of `trace`, whose paper never is full
+  -- the run of `trace`, whose paper is never full
   trace_cut : (n : ℕ) → IsFree n first → (past n first).stops ≤ resumes
       → (run_orders n resumes n first ≡ n)
       × (ran n resumes n first ≡ record { ending = Limit; state = state_after n first; codes = (past n first).codes })

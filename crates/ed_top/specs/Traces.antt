@@ -11,7 +11,7 @@ use Rattle.ed_words.specs.Texts.{Text}
 use Rattle.ed_answers.specs.Outcome.{Outcome}
 use Rattle.ed_answers.specs.Runs.{status_of}
 
--- the trace of a run from a state, whose paper never is full, the line of its ending and its status
+-- the trace of a run from a state, whose paper is never full, the line of its ending and its status
 abbrev pub traced_from : Settings → State → Outcome
 traced_from s start = record {
   out = trace_of s.limit s.resumes start;

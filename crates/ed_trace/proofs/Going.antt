@@ -1,4 +1,4 @@
--- One more order of a run whose paper never is full.
+-- One more order of a run whose paper is never full.
 use Rattle.std.proofs.Common.{◌≡◌, ◌⊎◌, inl, inr, ℕ, ◌+◌, ◌<◌, ◌≤◌, refl, sym, ap, ◌∙◌, arith, below_more}
 use Rattle.std.proofs.Common.{Bool, true, false, nat_le, Some, None, length}
 use Rattle.ed_words.proofs.Numbers.{eq_false, eq_true, le_false, lt_false, lt_true}

@@ -14,7 +14,7 @@ use Rattle.ed_trace.specs.declared.tracing.TraceFault.TheVariants.{Failed, Memor
 abbrev pub trace_to : ℕ → State → List ℕ
 trace_to k s = trace_text (functions_after k s)
 
--- the trace of the orders that a run obeys; its paper has as much room as the run has orders, so it never is full
+-- the trace of the orders that a run obeys; its paper has as much room as the run has orders, so it is never full
 abbrev pub trace_of : ℕ → ℕ → State → List ℕ
 trace_of limit resumes s = trace_to (run_orders limit resumes limit s) s
 
