@@ -84,7 +84,7 @@ named_by : (z : Size) (first count : Option ℕ) (c : Bool)
 named_by z first count true = in_window z first count
 named_by z first count false = tt
 
--- the window, where there is one
+-- the window, if there is one
 abbrev HasWindow : Size → Option Window → Type 0
 HasWindow z w = IfSome w (IsWindowOf z)
 

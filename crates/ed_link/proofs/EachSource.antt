@@ -45,7 +45,7 @@ every z text = by_meaning (has_one_meaning.every text)
     by_meaning (inl p) = of_lines z text p.0 p.1 p.2
     by_meaning (inr f) = inr (f.0, f.1, for_form f.2)
 
--- two faults of meaning of one source are one
+-- two faults of meaning of one source are equal
 same_fault : (z : Size) (text : Text) (two also : Bool) (lines others : List Line) (k other : ℕ)
     (c another : SourceCause) → IsProgram text two lines → IsProgram text also others → IsMeaningFault z lines k c
     → IsMeaningFault z others other another → (k ≡ other) × (c ≡ another)

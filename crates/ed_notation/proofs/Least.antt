@@ -15,7 +15,7 @@ named_is : (c : TapeCause) → named (cause_number c) ≡ c
 named_is EndOfTape = refl
 named_is c = refl
 
--- causes of one number are one
+-- causes with the same number are equal
 pub same : (a b : TapeCause) → cause_number a ≡ cause_number b → a ≡ b
 same a b e = sym (named_is a) ∙ ap named e ∙ named_is b
 

@@ -1,4 +1,4 @@
--- The reading of a tape row by row, a plain program beside the rules over items. `ReadingAlwaysIsRules`, at the end,
+-- The reading of a tape row by row, a plain program next to the rules over items. `ReadingAlwaysIsRules`, at the end,
 -- says that both agree on every tape; the contract of `check` states it.
 use Rattle.std.specs.Prelude.{ℕ, ◌≡◌, ◌⊎◌, ◌+◌, ◌*◌, ◌%◌, ◌^◌, true, false, nat_eq, nat_lt, nat_le, ◌<◌, ◌≤◌}
 use Rattle.std.specs.Prelude.{if◌then◌else◌, Option, Some, None, List, [], ◌∷◌}

@@ -95,7 +95,7 @@ first_is1 rows are = record {
   tape_is = refl;
 }
 
--- each state after Start is one
+-- each state after Start is such a state
 pub is_first : {small : Bool} {rows : List ℕ} {first : State} → AreCodes rows → IsAfterStart small rows first
     → IsFirst (size_shown small) rows first
 is_first {small} {rows} are (inl is) =

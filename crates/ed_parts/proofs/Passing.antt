@@ -190,7 +190,7 @@ returned_is {limit} {p} b {last} {word} {done} {order} is is_word is_order count
     ∙ address_is (directive (part_behind p b).state) word whole leaves.least leaves.most in
     λ i. returned_line (same i) (count i)
 
--- a text made as one that is the same
+-- a text that was made, as an equal text
 pub made_as : (r : Result (Vec ℕ Global) NoMemory) (xs ys : List ℕ) → xs ≡ ys
     → IfOk r (λ bytes. bytes.items ≡ xs) → IfOk r (λ bytes. bytes.items ≡ ys)
 made_as r xs ys is made = subst (λ (t : List ℕ). IfOk r (λ bytes. bytes.items ≡ t)) is made

@@ -22,7 +22,7 @@ limit_ends limit resumes room p = by_stops (nat_lt resumes p.stops) refl
     by_stops true e = rw e refl
     by_stops false e = rw (e, same) refl
 
--- an option that is one
+-- an option that has a value is the option of that value
 is_of : (o : Option Ending) (d : Ending) → is_some o ≡ true → o ≡ Some (unwrap_or o d)
 is_of None d h = absurd (true≢false (sym h))
 is_of (Some e) d h = refl

@@ -9,7 +9,7 @@ use Rattle.ed_store.specs.Cells.{Cells, IsStore, cleared_cells, even, odd, short
 use Rattle.ed_store.specs.Cells.{sandwich_at, long_at, with_short, with_long}
 use Rattle.ed_store.specs.Packed.{cell_words, sandwich_digits, unpacked, ArePacked}
 
--- two stores with the same words and digits are one
+-- two stores with the same words and digits are equal
 cells_equal : (a b : Cells) → a.words ≡ b.words → a.sandwich ≡ b.sandwich → a ≡ b
 cells_equal a b words digits = λ i. record { words = words i; sandwich = digits i }
 

@@ -429,7 +429,7 @@ every_source text = go (program_of text) refl
     go (Ok said) e = inl (is_two (lines_of text), said, source_answer text (Ok said) e)
     go (Err x) e = inr (x.line, x.cause, source_answer text (Err x) e)
 
--- an answer is one
+-- two answers of one call are the same
 one_answer : (r : Result (List Line) Fault) (said others : List Line) → r ≡ Ok said → r ≡ Ok others → said ≡ others
 one_answer r said others e f = cc
 

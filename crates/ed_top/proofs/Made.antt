@@ -25,7 +25,7 @@ handed_on answers (Ok reply) e replies is = absurd (cc)
 handed_on answers (Err handed) e replies is =
     subst (λ (x : Rejection). Replies (of_made answers) [] (Err x)) (sym is.1) replies
 
--- an outcome of an input is one that is stated of it, and the other way round
+-- an outcome of an input is one that is stated of it, and conversely
 pub as_made : (answers : Text → Outcome → Type 0) (input : Text) (r : Result Reply Rejection)
     → Replies (of_input answers) input r → Replies (of_made (answers input)) [] r
 as_made answers input (Ok reply) replies = replies

@@ -44,7 +44,7 @@ none_is ending h = cc
 some_is : {A : Type 0} (x y : A) → Some x ≡ Some y → x ≡ y
 some_is x y h = cc
 
--- at the limit there is one
+-- at the limit there is an end
 ends_at_limit : (aim : Aim) (left : ℕ) (s : State) → is_some (end_after aim left left s) ≡ true
 ends_at_limit aim left s = by_tests (stopped_after left s) (own_end aim left s) (nat_eq left left) (eq_true left left refl)
   where
