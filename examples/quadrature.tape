@@ -18,7 +18,7 @@
 
    subroutine N, an ordinate over 48: y = 1/4
           |
-   +--> y = y + 8y (1/8 - uy), where u = (1+x)/4: y comes to 1/(8u) = 1/(2(1+x))
+   +--> y = y + 8y (1/8 - uy), where u = (1+x)/4: y approaches 1/(8u) = 1/(2(1+x))
    |      |
    +-yes- fewer than six times?
           | no
