@@ -33,7 +33,7 @@ use Rattle.ed_parts.proofs.Tales.{behind_opens, from_entry, some_told}
 
 -- ---- texts
 
--- a first part of a text is one of a longer text
+-- a prefix of a text is one of a longer text
 longer : (a b : Option (List ℕ)) (xs ys text : List ℕ) → text ≡ xs ++ ys → GainsPart a b xs → GainsPart a b text
 longer a b xs ys text is g = record {
   part = g.part;
@@ -42,7 +42,7 @@ longer a b xs ys text is g = record {
   gains = g.gains;
 }
 
--- a text, and a first part of the one after it
+-- a text, and a prefix of the one after it
 and_part : (a b c : Option (List ℕ)) (xs ys : List ℕ) → Gains a b xs → GainsPart b c ys → GainsPart a c (xs ++ ys)
 and_part a b c xs ys whole g = record {
   part = xs ++ g.part;
@@ -51,7 +51,7 @@ and_part a b c xs ys whole g = record {
   gains = gains_more a b c xs g.part whole g.gains;
 }
 
--- nothing is a first part of every text
+-- the empty text is a prefix of every text
 none_of : (a : Option (List ℕ)) (text : List ℕ) → GainsPart a a text
 none_of a text = record { part = []; rest = text; whole = refl; gains = gains_none a }
 
@@ -68,7 +68,7 @@ module _ (limit rows : ℕ) (p : TapePart) where
         gains = none_of a t.1.text;
       }
 
-  -- after the lines of a part that returned, a first part of a text is written
+  -- after the lines of a part that returned, a prefix of a text is written
   back_breaks : (b : GoesBack limit p) (a c : Option (List ℕ)) → GainsPart a c (told_lines rows p b)
       → BreaksTold limit rows p a c
   back_breaks b a c g =

@@ -199,7 +199,7 @@ pub data WritesLine (limit rows : ℕ) (p : TapePart) (l : PartLine) : Type 0 wh
       → WritesLine limit rows p l
 
 -- the write of a line of this part failed: the machine is in the state in which the line is written, and the lines
--- before it and a first part of it have been written
+-- before it and a prefix of it have been written
 pub record LineFailed (limit rows : ℕ) (p : TapePart) (last : State) (before after : Option (List ℕ)) : Type 0 where
   pub line : PartLine
   pub is : WritesLine limit rows p line
@@ -237,7 +237,7 @@ pub record BreaksOff (limit : ℕ) (s : State) (fault : PartsFault) (last : Stat
 
 -- ---- the answer
 
--- the whole text is on the sink; or, if a write failed or no memory was found, a first part of it, and the clause says
+-- the whole text is on the sink; or, if a write failed or no memory was found, a prefix of it, and the clause says
 -- which state the machine is in and which lines have been written
 abbrev pub PartsAnswer : ℕ → State → Result PartsEnd PartsFault → State → Option (List ℕ) → Option (List ℕ) → Type 0
 PartsAnswer limit s (Ok end) last before after =

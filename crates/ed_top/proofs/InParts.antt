@@ -60,7 +60,7 @@ module _ (s : Settings) (codes : List ℕ) {start : State} (is : start ≡ first
     },
   )
 
-  -- a first part of them is
+  -- a prefix of them is
   pub parts_broken : (fault : PartsFault) (last : State)
       → PartsAnswer s.limit start (Err fault) last out.before out.after
       → ForInput (of_input (λ _. IsInParts s codes)) [] (λ o. WrotePart out o.out)

@@ -46,7 +46,7 @@ pub grows : (k : ℕ) (s m : State) (l : ℕ) (full : Bool) → m ≡ state_afte
 grows k s m l full is at ends =
     (λ i. traced_letters k s ++ (at ∙ ap letter is) i ∷ line_end (ends i)) ∙ sym (next_traced k s)
 
--- the letters of the first orders are the first part of those of more of them
+-- the letters of the first orders are a prefix of those of more orders
 pub more_traced : (j i : ℕ) (s : State) → (rest : List ℕ) × (traced_letters (j + i) s ≡ traced_letters j s ++ rest)
 more_traced j zero s = let e : j + 0 ≡ j =
     omega arith in ([], ap (λ k. traced_letters k s) e ∙ sym (append-nil (traced_letters j s)))

@@ -19,7 +19,7 @@ abbrev pub trace_of : ℕ → ℕ → State → List ℕ
 trace_of limit resumes s = trace_to (run_orders limit resumes limit s) s
 
 -- a write failed, that of a line of 50 letters or of the run's last line: the full lines before it had been written,
--- and a first part of the line itself; no order was obeyed after those of the line
+-- and a prefix of the line itself; no order was obeyed after those of the line
 pub record TraceBroke (limit resumes : ℕ) (s last : State) (before after : Option (List ℕ)) : Type 0 where
   -- the number of orders in the lines before it, and the number obeyed
   pub written : ℕ
@@ -36,7 +36,7 @@ pub record TraceBroke (limit resumes : ℕ) (s last : State) (before after : Opt
   pub line : trace_to orders s ≡ trace_to written s ++ (part ++ rest)
   pub gains : Gains before after (trace_to written s ++ part)
 
--- the run was made and its whole trace written; or a write failed, and a first part of the trace was written; or no
+-- the run was made and its whole trace written; or a write failed, and a prefix of the trace was written; or no
 -- memory was found, nothing was written and no order obeyed
 abbrev pub TraceEnds : ℕ → ℕ → State → Result Ending TraceFault → State → Option (List ℕ) → Option (List ℕ) → Type 0
 TraceEnds limit resumes s (Ok ending) last before after =

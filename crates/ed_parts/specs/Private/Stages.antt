@@ -31,7 +31,7 @@ pub record IsArrival (rows : ℕ) (p : TapePart) (a : Arrival) (e : TapeEntry) :
   pub orders_are : a.orders ≡ e.cost
   pub rows_are : a.rows ≡ read_before rows p + e.rows
 
--- a sink has gained a first part of the report from a part onwards
+-- a sink has gained a prefix of the report from a part onwards
 pub record BreaksTold (limit rows : ℕ) (p : TapePart) (before after : Option (List ℕ)) : Type 0 where
   pub returns : ℕ
   pub tale : Told
