@@ -99,8 +99,8 @@ function compareSmall(name, text, counts) {
     }
 }
 
-// Which rows the loader itself reads as digits, by its order at 9, or at 11 in May 1949, beside those that the page
-// labels as figures.
+// Which rows the loader itself reads as digits, by its order at 9, or at 11 in May 1949, beside those that the page labels
+// as figures.
 function compareFigures(name, text) {
     const rows = machine.rows(text).out;
     const isFirst = text.kind === 'tape1', places = isFirst ? 31 : 41, reads = isFirst ? 11 : 9;

@@ -5,7 +5,7 @@ const ENDINGS = {
     0: 'stopped', 3: 'refused', 4: 'limit', 5: 'no order', 6: 'no tape', 7: 'paper full',
     10: 'no memory', 11: 'too long', 12: 'no room',
 };
-const NO_CODE = 32; // the last printed code if nothing was printed
+const NO_CODE = 32; // what stands for the last printed code where nothing was printed
 const ROOMS = ['text', 'rows', 'words', 'digits', 'paper', 'note', 'registers', 'lengths', 'listing', 'order', 'tape', 'codes'];
 
 // Whether this browser has memories of 64-bit addresses: a module with such a memory and nothing else is valid.
@@ -140,8 +140,8 @@ class Machine {
         };
     }
 
-    // The machine a number of orders after a picture on the way of a tape, or at the end of its run if that came first.
-    // The words, digits and registers are handed back as a call wrote them, and the new codes follow the earlier ones.
+    // The machine a number of orders after a picture on the way of a tape, or where its run ended before. The words,
+    // digits and registers are handed back as a call wrote them, and the new codes follow those before.
     goOn(way, from, orders, resumes = 0) {
         if (this.mounted !== way.rows) {
             this.bytes('tape', way.rows.length).set(way.rows);

@@ -1,9 +1,9 @@
 'use strict';
-// The stories that the page shows by itself: what a tape is for, how it fills the store, how its program works, and an
-// end that invites. What is shown comes from the machine's pictures; an item of the tape is what the loader reads
-// between two pictures in which it waits for the next one.
-const WAITS = { tape: 34, source: 34, tape1: 7 }; // the loader's order that reads the first row of an item
-const OWN = { tape: 44, source: 44, tape1: 31 }; // the first location that the loader doesn't use itself
+// The stories that the page tells by itself: what a tape is to do, how it fills the store, how its program works, and an
+// end that invites. What is shown comes from the machine's pictures; an item of the tape is what the loader reads between
+// two pictures in which it waits for the next one.
+const WAITS = { tape: 34, source: 34, tape1: 7 }; // the place of the loader's order that reads the first row of an item
+const OWN = { tape: 44, source: 44, tape1: 31 }; // the first place that the loader doesn't use itself
 const STORIES = [
     { name: 'letter', example: 'letter.tape' },
     { name: 'name' },
@@ -223,7 +223,7 @@ class Tour {
     }
 }
 
-// The location in an order's address.
+// The place in an order's address.
 const addressOf = (word) => Math.floor((word % 4096) / 2) % 1024;
 
 if (typeof module !== 'undefined') {

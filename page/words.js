@@ -129,22 +129,22 @@ function isOwnOrder(before, after, place, machine) {
     return before.counter >= placesOf(after.way.kind) && areOrders && old[0] === now[0] && old.at(-1) === now.at(-1);
 }
 
-// An order's parts, by its text: the letter, the location that it names, and whether it is long.
+// An order's parts, by its text: the letter, the place that it names, and whether it is long.
 function orderOf(word, text, small) {
     const number = Number(text.slice(1, -1) || '0');
     return { word, letter: text[0], long: text.endsWith('D'), address: number % (small ? 512 : 1024) };
 }
 
-// How far a shift order shifts: 1 plus the position of its word's last digit 1.
+// How far a shift order shifts: 1 and the place of its word's last digit 1.
 const shiftOf = (order) => 32 - Math.clz32(order.word & -order.word);
 
-// The location that an order names, if it names one.
+// The place that an order names, where it names one.
 function namedBy(word, text, small) {
     const order = orderOf(word, text, small);
     return 'ASHVNTUCEGIOF'.includes(order.letter) ? order.address : -1;
 }
 
-// A word as a whole number: below 0 if its first digit is 1.
+// A word as a whole number: below 0 where its first digit is 1.
 const signed = (word) => (word >= 65536 ? word - 131072 : word);
 
 // The sign that begins at a byte of a text. What a reader takes for one sign, such as an emoji, stays whole.
@@ -186,8 +186,8 @@ function hintFor(cause, part, kind) {
     return { S7: 'word', S16: 'enter' }[cause];
 }
 
-// Which rows of a tape the loader reads as figures. It reads one item after the other: a function, then digits up to a
-// row of 11 or more, which ends it. The item after an E that ends with K or Z, or a G that ends with Z, is the last:
+// Which rows of a tape the loader reads as figures. It reads an item after the other: a function, then digits up to a
+// row of 11 and more, which ends it. The item after an E that ends with K or Z, or a G that ends with Z, is the last:
 // what follows is the program's own.
 function figuresOf(rows, letter) {
     const isFigure = new Array(rows.length).fill(false);
@@ -200,7 +200,7 @@ function figuresOf(rows, letter) {
         }
         const ends = at < rows.length ? letter(rows[at]) : '';
         if (ends === '#') {
-            at++; // a pi comes before the letter that ends the item
+            at++; // a pi stands before the letter that ends the item
         }
         at++;
         if (isLast) {
@@ -227,7 +227,7 @@ function figuresOf1(rows) {
     return isFigure;
 }
 
-// The text beside each row of a tape.
+// What stands beside each row of a tape.
 function labelsOf(rows, letter, kind) {
     const isFigure = kind === 'tape1' ? figuresOf1(rows) : figuresOf(rows, letter);
     return Array.from(rows, (row, at) => (isFigure[at] ? String(row) : letter(row)));

@@ -83,7 +83,7 @@ pub extern "C" fn page_listing(
     }
 }
 
-/// Writes the texts into two buffers, if they have room.
+/// Writes what is told into two buffers, where they have room.
 fn tell(told: &Told, out: &mut [u8], note: &mut [u8], lengths: &mut Lengths) -> u32
     ensures { (o : Outcome) → TellsOutcome told.now o → IsWrittenOut o (text_buffers out.old note.old lengths.old)
         (text_buffers out.new note.new lengths.new) result }
@@ -121,7 +121,7 @@ fn source_rows(alloc: Global, size: Size, text: &[u8]) -> Result<Told, NoMemory>
     }
 }
 
-/// The listing of a source, or the refusal.
+/// What is told of the listing of a source.
 fn source_listing(alloc: Global, settings: Settings, text: &[u8]) -> Result<Told, NoMemory>
     ensures { IsAnswered (listing_answer settings) text.now result }
 {

@@ -41,7 +41,7 @@ impl Told {
         }
     }
 
-    /// The texts of a reply.
+    /// What is told of a reply.
     pub fn of_reply(reply: Reply) -> Told
         ensures { (o : Outcome) → Gives reply o → TellsOutcome result o }
     {

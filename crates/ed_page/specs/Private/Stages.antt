@@ -1,4 +1,4 @@
--- How the texts and pictures for a text relate to what the program answers.
+-- How what is told and shown of a text stands to what the program answers.
 use Rattle.std.specs.Prelude.{◌≡◌, ◌≢◌, ℕ, ◌<◌, ◌≤◌, length, Option, None, Some, IfSome, Result, Ok, Err}
 use Rattle.ed_words.specs.declared.memory.NoMemory.{NoMemory}
 use Rattle.ed_machine.specs.State.{State}
