@@ -1,7 +1,7 @@
-//! Tests of the proved programs: each is run on twenty data, at the ends of their ranges too, beside a plain
-//! computation, and is refused for data just out of range.
+//! Tests: each program with a law beside a plain computation.
 //!
-//! The contract of this crate is nothing: it has no public item and no code but its tests. Stands on `ed_programs`.
+//! Each is run on twenty data, at the ends of their ranges too, and is refused for data just out of range. Stands on
+//! `ed_programs`.
 #![tactic(auto)]
 
 #[cfg(test)]

@@ -1,8 +1,7 @@
-//! Tests of sessions, scripts and traces.
+//! Tests: sessions far on and back; the lines of scripts and what they write; traces.
 //!
-//! The contract of this crate is nothing: it has no public item and no code but its tests. Their expected values come
-//! from the description of scripts and from worked examples, never from the program's own output. Stands on the crates
-//! up to the sessions and the traces.
+//! Expected values come from the description of scripts and from worked examples, never from the program's own output.
+//! Stands on the crates up to the sessions and the traces.
 #![tactic(auto)]
 
 #[cfg(test)]

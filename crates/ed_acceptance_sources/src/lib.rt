@@ -1,9 +1,7 @@
-//! Tests of a source and of the library: the forms of its lines, the places of its lines and names, its first fault,
-//! the routines that it may use, and what it is linked to.
+//! Tests: the lines, places and names of a source, its linking, and the texts of the library.
 //!
-//! The contract of this crate is nothing: it has no public item and no code but its tests. Their expected values come
-//! from the grammar, the rules of places and the written texts of the routines. Stands on `ed_codes`, `ed_notation`,
-//! `ed_syntax`, `ed_library`, `ed_symbols`, `ed_link` and `arrayvec`.
+//! Expected values come from the grammar, the rules of places and the written texts of the routines. Stands on
+//! `ed_codes`, `ed_notation`, `ed_syntax`, `ed_library`, `ed_symbols`, `ed_link` and `arrayvec`.
 #![tactic(auto)]
 
 #[cfg(test)]

@@ -1,5 +1,7 @@
-//! What a call of a library routine asks for, and the ranges of its numbers. A crate of its own, since the reader of
-//! the command line and the maker of the program's sources both use it. Stands on std alone.
+//! A call of a library routine: what it asks for.
+//!
+//! Contract: no call: a type and the ranges of its numbers, which both the command line and the maker of sources use.
+//! Stands on std alone.
 #![tactic(auto)]
 
 /// A call of a library routine with its numbers.

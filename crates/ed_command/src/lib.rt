@@ -1,9 +1,8 @@
-//! The words of the command line, read as one command with its settings.
+//! The command line: its words, read as one command with its settings.
 //!
-//! The contract is that of [`read_words`]: it answers the command that the words are, with its numbers in range, a
-//! usage fault exactly where they are none, or want of memory. The words are read by `clap`; the definition is a
-//! table of lines and a function on lists of words. Stands on `ed_words` for the size of a store and on `ed_call` for
-//! the calls of routines.
+//! Contract: the command exactly if the words are a line of the table, its numbers in range. Other words are a usage
+//! fault. `clap` reads the words; the definition is a table of lines. Stands on `ed_words` for the size of a store and
+//! on `ed_call`.
 #![tactic(auto)]
 
 mod command;

@@ -1,9 +1,8 @@
-//! The outside: where the input of the program comes from, and where its output goes.
+//! Sources, sinks, writing all of a text: where the input comes from, and where the output goes.
 //!
-//! The contract is that of the two traits: which bytes a call takes, and that a device counts each call that fails and
-//! no other. The devices over memory report their bytes and fail exactly where their list says; those over std's
-//! readers and writers report what these report, until a write fails. Stands on `ed_words` for the answer of want of
-//! memory.
+//! Contract: bytes are taken and given in order; a failure only if the device counted one. Devices over memory report
+//! their bytes and fail exactly where their list says. Those over std's readers and writers report what these report,
+//! until a write fails. Stands on `ed_words`.
 #![tactic(auto)]
 
 mod device;

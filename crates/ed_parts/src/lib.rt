@@ -1,9 +1,7 @@
-//! Tapes in parts: programs that go back to the Initial Orders, which then read on.
+//! Tapes whose programs return to the Initial Orders, reported during the run: a line for each entry and each return.
 //!
-//! The contract is that a sink gains exactly the lines of the entries and returns that the definition tells of a tape,
-//! each as it comes, or a first part of them where a write fails; that the definition tells one thing of every tape;
-//! and that the Initial Orders lead every part to its entry. Stands on `ed_interlude`, `ed_run`, `ed_io` and
-//! `ed_report`.
+//! Contract: the lines of entries and returns, or the beginning of them if a write fails; one report for each tape. The
+//! Initial Orders lead every part to its entry. Stands on `ed_interlude`, `ed_run`, `ed_io` and `ed_report`.
 #![tactic(auto)]
 
 mod part;

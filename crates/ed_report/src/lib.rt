@@ -1,8 +1,8 @@
-//! Texts for the outside: what was printed, on one paper or on two, words of a store in lines, the routines of the
-//! library, the letters of orders, and the lines that tell of faults, entries and endings.
+//! Texts for the outside: printed papers, listings, the library, traces, and the lines about faults, entries and
+//! endings.
 //!
-//! The contract is that each text is exact to the byte. Stands on `ed_machine`, `ed_printer`, `ed_notation`,
-//! `ed_initial1`, `ed_library` and `ed_syntax`.
+//! Contract: each text is exact to the byte. Stands on `ed_machine`, `ed_printer`, `ed_notation`, `ed_initial1`,
+//! `ed_library` and `ed_syntax`.
 #![tactic(auto)]
 
 mod ending;

@@ -1,9 +1,8 @@
-//! Symbols: the places of a source's lines and names, and the faults of its names.
+//! Places and names of a source: its symbol table, the location of each line, and the faults of its names.
 //!
-//! The contract is that the answers are those of the definitions: the place before a line by the sums of the words of
-//! the lines before it, the place of a name and the segment to which it belongs by its first definition. The fault is
-//! that of the least line that has one, and there the least number, each said by a sentence of its own; each source has
-//! one such fault or none. Stands on `ed_words`, `ed_codes`, `ed_syntax` and `ed_library`.
+//! Contract: the place of every line and name, or the least fault of names. A line's place follows from the words of
+//! the lines before it, and a name's from its first definition. One sentence says each fault. Stands on `ed_words`,
+//! `ed_codes`, `ed_syntax` and `ed_library`.
 #![tactic(auto)]
 
 mod faults;
