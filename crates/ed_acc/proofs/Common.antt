@@ -18,7 +18,7 @@ one_more n k d digit =
     let split : n % 2 ^ suc k ≡ n / 2 ^ k % 2 * 2 ^ k + n % 2 ^ k = rw e at (mod-pow-add n 1 k) in
     rw (split, digit) (omega arith)
 
--- the common digits among the lowest k places are those of std's bitwise `and`
+-- the common digits below place k are those of std's bitwise `and`
 common_is_and : (k m x : ℕ) → common k m x ≡ bit_and m x % 2 ^ k
 unfolding common
 common_is_and zero m x = omega arith

@@ -43,7 +43,7 @@ module _ (x y : ℤ) (left : IsWithin (2 ^ 34) x) (right : IsWithin (2 ^ 34) y) 
   product_within = record { low = omega (arith, ints, small); high = omega (arith, ints, small) }
 
 module _ (a : ℕ) (p : ℤ) (within : IsWithin (2 ^ 70) p) where
-  -- a product and 2^71 are a whole number from 0 upwards
+  -- a product plus 2^71 is not negative
   raised : p +ℤ pos (2 ^ 71) ≡ pos (nat_abs (p +ℤ pos (2 ^ 71)))
   raised = omega (arith, ints, within.low, within.high)
 
@@ -69,7 +69,7 @@ module _ (a : ℕ) (p : ℤ) (within : IsWithin (2 ^ 70) p) where
   pub passed : to_z w128 (of_z w128 p) ≡ p
   passed = to_z-of_z w128 p (omega (arith, ints, within.low, within.high))
 
-  -- a product added, and taken away, after it was brought below 2^71
+  -- a product added, and subtracted, after it was reduced below 2^71
   pub plus_wrapped : modulo71 (pos a +ℤ p) ≡ (a + modulo71 p) % 2 ^ 71
   plus_wrapped = sum_wrapped _ raised
 

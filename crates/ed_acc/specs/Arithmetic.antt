@@ -4,7 +4,7 @@ use Rattle.std.specs.Prelude.{ℕ, zero, suc, ◌+◌, ◌*◌, ◌/◌, ◌%◌
 use Rattle.std.specs.Int.{int_div_euclid, int_rem_euclid}
 use Rattle.ed_words.specs.Signed.{signed}
 
--- a whole number modulo 2^71, from 0 upwards for a negative one too
+-- a whole number modulo 2^71; the remainder of a negative number is not negative either
 abbrev pub modulo71 : ℤ → ℕ
 modulo71 z = unsigned_abs (int_rem_euclid z (pos (2 ^ 71)))
 
@@ -12,7 +12,7 @@ modulo71 z = unsigned_abs (int_rem_euclid z (pos (2 ^ 71)))
 unfoldable pub plus71 : ℕ → ℕ → ℕ
 plus71 acc n = (acc + n) % 2 ^ 71
 
--- the accumulator with a number taken away
+-- the accumulator with a number subtracted
 unfoldable pub minus71 : ℕ → ℕ → ℕ
 minus71 acc n = modulo71 (pos acc -ℤ pos n)
 
@@ -24,23 +24,23 @@ product m x = pos 4 *ℤ (signed 35 m *ℤ signed 35 x)
 unfoldable pub plus_product : ℕ → ℕ → ℕ → ℕ
 plus_product acc m x = modulo71 (pos acc +ℤ product m x)
 
--- the accumulator with that product taken away
+-- the accumulator with that product subtracted
 unfoldable pub minus_product : ℕ → ℕ → ℕ → ℕ
 minus_product acc m x = modulo71 (pos acc -ℤ product m x)
 
--- the sum of 2^i over the lowest k places i where two numbers both have the digit 1
+-- the sum of 2^i over all i below k at which both numbers have the digit 1
 unfoldable pub common : ℕ → ℕ → ℕ → ℕ
 common zero m x = 0
 common (suc k) m x = common k m x + 2 ^ k * (m / 2 ^ k % 2 * (x / 2 ^ k % 2))
 
--- the accumulator with the common digits of two long words added
+-- the accumulator with the digits that two long words have in common added
 unfoldable pub collated : ℕ → ℕ → ℕ → ℕ
 collated acc m x = (acc + 2 ^ 36 * common 35 m x) % 2 ^ 71
 
--- the accumulator shifted p places to the left: digits that leave at the top are lost
+-- the accumulator shifted p places to the left; digits shifted out at the top are lost
 unfoldable pub left71 : ℕ → ℕ → ℕ
 left71 acc p = (acc * 2 ^ p) % 2 ^ 71
 
--- the accumulator, read as a signed number, shifted p places to the right: the next whole number below the quotient
+-- the accumulator, read as a signed number, shifted p places to the right: the quotient by 2^p, rounded down
 unfoldable pub right71 : ℕ → ℕ → ℕ
 right71 acc p = modulo71 (int_div_euclid (signed 71 acc) (pos (2 ^ p)))

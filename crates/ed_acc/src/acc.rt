@@ -6,14 +6,14 @@ ghost use Rattle.ed_acc.specs.Arithmetic.{common, modulo71, product};
 use ed_words::{Long, Word};
 use std::marker::Model;
 
-/// How many numbers an accumulator has.
+/// The number of values of an accumulator.
 const MODULUS: u128 = 1 << 71;
 
-/// The accumulator: 71 binary digits, read as the number 0 to 2^71 - 1, in units of 2^-70. From 2^70 on its value as a
-/// fraction is negative.
+/// The accumulator: 71 binary digits, read as the number 0 to 2^71 - 1, in units of 2^-70. As a fraction it is negative
+/// from 2^70 upwards.
 #[derive(Clone, Copy, Debug, PartialEq, Eq)]
 pub struct Acc {
-    /// The number times 2^57: the first digit is the first of 128, so that what leaves at the top is lost.
+    /// The number times 2^57: its most significant digit is that of the 128, so digits shifted out at the top are lost.
     digits: u128,
 }
 
@@ -43,7 +43,7 @@ impl Acc {
         Acc { digits: 0 }
     }
 
-    /// An accumulator that holds a number; none if it has more than 71 digits.
+    /// An accumulator that holds a number; None if the number has more than 71 digits.
     pub fn new(number: u128) -> Option<Acc>
         ensures none { IsNone result ↔ (2 ^ 71 ≤ number) }
         ensures some { IfSome result (λ a. a ≡ number) }
@@ -72,14 +72,14 @@ impl Acc {
         self.digits >= 1 << 127
     }
 
-    /// Adds a short word at the top digits.
+    /// Adds a short word to the most significant digits.
     pub fn add_short(&mut self, word: Word)
         ensures { self.new ≡ plus71 self.old (word * 2 ^ 18 * 2 ^ 36) }
     {
         self.add_long(Long::of_short(word));
     }
 
-    /// Adds a long word at the top digits.
+    /// Adds a long word to the most significant digits.
     #[tactic(auto, unfolding(crate::specs::Arithmetic::plus71))]
     pub fn add_long(&mut self, long: Long)
         ensures { self.new ≡ plus71 self.old (long * 2 ^ 36) }
@@ -87,14 +87,14 @@ impl Acc {
         self.add(u128::from(long.value()) << 36);
     }
 
-    /// Takes away a short word at the top digits.
+    /// Subtracts a short word from the most significant digits.
     pub fn sub_short(&mut self, word: Word)
         ensures { self.new ≡ minus71 self.old (word * 2 ^ 18 * 2 ^ 36) }
     {
         self.sub_long(Long::of_short(word));
     }
 
-    /// Takes away a long word at the top digits.
+    /// Subtracts a long word from the most significant digits.
     #[tactic(auto, unfolding(crate::specs::Arithmetic::minus71))]
     pub fn sub_long(&mut self, long: Long)
         ensures { self.new ≡ minus71 self.old (long * 2 ^ 36) }
@@ -109,14 +109,14 @@ impl Acc {
         self.add(wrapped(product(m, x)));
     }
 
-    /// Takes away the product of two signed long words.
+    /// Subtracts the product of two signed long words.
     pub fn sub_product(&mut self, m: Long, x: Long)
         ensures { self.new ≡ minus_product self.old m x }
     {
         self.subtract(wrapped(product(m, x)));
     }
 
-    /// Adds the digits that two long words have in common, at the top digits.
+    /// Adds the digits that two long words have in common to the most significant digits.
     #[tactic(auto, unfolding(crate::specs::Arithmetic::collated))]
     pub fn collate(&mut self, m: Long, x: Long)
         ensures { self.new ≡ collated self.old m x }
@@ -149,7 +149,7 @@ impl Acc {
         }
     }
 
-    /// Rounds to a long word: adds 1 at the place below its digits.
+    /// Rounds to a long word: adds 1 just below its least significant digit.
     #[tactic(auto, unfolding(crate::specs::Arithmetic::plus71))]
     pub fn round(&mut self)
         ensures { self.new ≡ plus71 self.old (2 ^ 35) }
@@ -164,14 +164,14 @@ impl Acc {
         self.digits = 0;
     }
 
-    /// The top 17 digits.
+    /// The 17 most significant digits.
     pub fn top_short(&self) -> Word
         ensures { result ≡ self.now / 2 ^ 54 }
     {
         Word::of_number((self.value() >> 54) as u32)
     }
 
-    /// The top 35 digits.
+    /// The 35 most significant digits.
     pub fn top_long(&self) -> Long
         ensures { result ≡ self.now / 2 ^ 36 }
     {
@@ -186,7 +186,7 @@ impl Acc {
         self.digits = self.digits.wrapping_add(number << 57);
     }
 
-    /// Takes away a number.
+    /// Subtracts a number.
     fn subtract(&mut self, number: u128)
         requires { number < 2 ^ 71 }
         ensures { self.new ≡ (self.old + 2 ^ 71 - number) % 2 ^ 71 }
@@ -203,7 +203,7 @@ impl Acc {
     }
 }
 
-/// The same number of places. The remainder lets the compiler see that a shift by them stays within one of the
+/// The number of places unchanged; the remainder lets the compiler see that a shift by them stays within one of the
 /// processor's words.
 fn few_places(p: u8) -> u8
     requires { p ≤ 15 }

@@ -1,4 +1,4 @@
-//! What `check-tape` says of a tape.
+//! The answers of `check-tape`.
 
 use crate::support::answer_of;
 use ed_codes::{Code, byte_of};
@@ -6,7 +6,7 @@ use std::alloc::Global;
 use std::process::Abort;
 use std::test::Fail;
 
-/// Checks that a command line says a line of a tape: on `out` where the tape is well formed, and else on `note`.
+/// Checks that a command line gives this line for a tape: on `out` if the tape is well formed, otherwise on `note`.
 fn says(
     rt: &impl Abort,
     alloc: Global,
@@ -155,7 +155,7 @@ fn a_store_of_512_locations_ends_sooner(rt: HostRuntime) -> Result<(), Fail> {
     Ok(())
 }
 
-/// What is said of the tape of a function row and a row behind it.
+/// The line for the tape of a function row and a row after it.
 fn verdict_of_two(function: u8, row: u8) -> &'static str {
     match (function, row) {
         (b'.', b'.') => "row 2: N1 end of tape",

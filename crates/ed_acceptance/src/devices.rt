@@ -1,4 +1,4 @@
-//! Each device through the trait that the program uses it by.
+//! Each device through the trait by which the program uses it.
 
 use ed_io::{
     Failed, MemorySink, MemorySource, Sink, Source, StdSink, StdSource, SureSink, SureSource,

@@ -1,4 +1,4 @@
-//! Runs over devices that take and give few bytes a call, and of which one call fails.
+//! Runs over devices that take and give few bytes a call, with one call that fails.
 
 use crate::sources::LETTER;
 use crate::support::words_of;
@@ -8,7 +8,7 @@ use std::alloc::Global;
 use std::process::Abort;
 use std::test::Fail;
 
-/// A run: its command, its input, and the two texts that it writes where no call fails.
+/// A run: its command, its input, and the two texts that it writes if no call fails.
 #[derive(Clone, Copy)]
 pub struct Run {
     pub command: &'static str,
@@ -52,21 +52,21 @@ const TRACE: Run = Run {
     note: "limit at 34 after 9\n",
 };
 
-/// No device has so many calls in these runs.
+/// More calls than any device has in these runs.
 const CALLS: u64 = 100;
 
-/// What a run of the program came to.
+/// The result of a run of the program.
 #[derive(Drop)]
 struct Outcome {
     status: u8,
     out: Vec<u8>,
     note: Vec<u8>,
-    /// How many calls failed, of all three devices.
+    /// The number of calls that failed, of all three devices.
     faults: u64,
 }
 
-/// Runs the program with its input in pieces of 7 bytes and its texts in pieces of 3, where these calls of the input,
-/// of out and of note fail.
+/// Runs the program with its input in pieces of 7 bytes and its texts in pieces of 3; these calls of the input, of out
+/// and of note fail.
 fn outcome_of(
     alloc: Global,
     run: &Run,
@@ -89,7 +89,7 @@ fn outcome_of(
     })
 }
 
-/// How many writes of 3 bytes a text takes.
+/// The number of writes of 3 bytes that a text takes.
 fn writes_of(text: &str) -> u64 {
     text.len().div_ceil(3) as u64
 }
@@ -139,7 +139,7 @@ fn writes_fail(rt: &impl Abort, alloc: Global, run: &Run) -> Result<(), Fail> {
     Ok(())
 }
 
-/// How many bytes the first calls write, where each line goes out in pieces of 3.
+/// The number of bytes that the first calls write, if each line is written in pieces of 3.
 fn bytes_of_calls(text: &str, calls: u64) -> u64 {
     let mut left = calls;
     let mut bytes = 0u64;

@@ -34,7 +34,7 @@ fn runs_under_the_first_orders(rt: HostRuntime) -> Result<(), Fail> {
         ("tape1", "", 6, "", "no tape at 7 after 5\n"),
         ("tape1", "T35S", 6, "", "no tape at 7 after 44\n"),
         ("tape1", "T3", 6, "", "no tape at 11 after 19\n"),
-        // The program reads a row behind its own tape: I 35 S and Z S.
+        // The program reads a row after its own tape: I 35 S and Z S.
         (
             "tape1",
             "T36SI35SZSPSPSE",

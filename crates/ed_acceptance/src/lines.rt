@@ -1,4 +1,4 @@
-//! The lines that tell a fault, and the command of a line of words.
+//! The lines that report a fault, and the command of a line of words.
 
 use crate::support::words_of;
 use ed_codes::TextFault;

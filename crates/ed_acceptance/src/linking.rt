@@ -1,10 +1,10 @@
-//! A source of as many lines as there may be.
+//! A source of the greatest number of lines.
 
 use crate::support::expect;
 use std::alloc::Global;
 use std::test::Fail;
 
-/// A source of 2,000 lines: 900 orders of a segment, and lines that are empty but for a comment.
+/// A source of 2,000 lines: 900 orders of a segment, and lines with nothing but a comment.
 fn longest(alloc: Global) -> Result<String, Fail> {
     let orders = "A m+9 F\n".repeat(alloc, 900)?;
     let comments = "; nothing\n".repeat(alloc, 1098)?;

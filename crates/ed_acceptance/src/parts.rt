@@ -1,4 +1,4 @@
-//! `parts`: tapes whose programs go back to the Initial Orders.
+//! `parts`: tapes whose programs return to the Initial Orders.
 
 use crate::faults::{Run, writes_of_lines_fail};
 use crate::support::{answer_of, expect};
@@ -9,7 +9,7 @@ use ed_words::Size;
 use std::alloc::Global;
 use std::test::Fail;
 
-/// The program of the first part prints A and goes back with the order T 200 F; that of the second one stops.
+/// The program of the first part prints A and returns with the order T 200 F; that of the second one stops.
 const INTERLUDE: Run = Run {
     command: "parts",
     input: "T100KGKO4@A3@E25FT200FAFE100KPFGKZFE200KPF",
@@ -26,7 +26,7 @@ const CUT: Run = Run {
     note: "part 2, row 33: N1 end of tape\n",
 };
 
-/// After how many orders each of the lines is written, and after how many the run stops.
+/// The number of orders after which each line is written, and after which the run stops.
 const LINES: [(u64, &str); 4] = [
     (326, "entry 100 after 326 orders, 31 rows\n"),
     (329, "returned for 200 after 329 orders\n"),
@@ -72,7 +72,7 @@ fn machine_on(alloc: Global, tape: &str) -> Result<Machine, Fail> {
     }
 }
 
-/// The lines that are written where no more than so many orders are allowed.
+/// The lines that are written if at most `limit` orders are allowed.
 fn lines_within(alloc: Global, limit: u64) -> Result<String, Fail> {
     let mut text = String::new(alloc);
     for (orders, line) in LINES {
@@ -161,7 +161,7 @@ fn programs_that_end_as_those_of_tapes_do(rt: HostRuntime) -> Result<(), Fail> {
             CUT.out,
             "part 2, row 31: N1 end of tape\n",
         ),
-        // The directive T 1023 F is a return, and T 1024 F is none.
+        // The directive T 1023 F is a return, and T 1024 F is not.
         (
             "T100KGKO4@A3@E25FT1023FAFE100KPF GKZFE1023KPF",
             0,
@@ -196,7 +196,7 @@ fn programs_that_end_as_those_of_tapes_do(rt: HostRuntime) -> Result<(), Fail> {
             "entry 100 after 261 orders, 25 rows\n",
             "stopped at 201 after 331\n",
         ),
-        // So too, but an item that sets a T directive comes to 25 as a program that goes back does.
+        // The same, but an item that sets a T directive reaches 25 as a program that returns does.
         (
             "T100KGKE34FE100KPF T200KZFE200KPF",
             0,

@@ -1,4 +1,4 @@
-//! The option `--post-mortem`: what is printed behind a run.
+//! The option `--post-mortem`: what is printed after a run.
 
 use crate::support::{answer_of, expect};
 use std::test::Fail;
@@ -126,7 +126,7 @@ fn in_both_sizes_and_both_shifts(rt: HostRuntime) -> Result<(), Fail> {
     Ok(())
 }
 
-/// A post-mortem of 880 words, the most that there are: of the words from 146 on, each is 0.
+/// A post-mortem of 880 words, the most possible: the words from 146 upwards are 0.
 #[test]
 fn of_the_whole_store(rt: HostRuntime) -> Result<(), Fail> {
     let alloc = rt.alloc();

@@ -7,7 +7,7 @@ use std::test::Fail;
 pub const LETTER: &str =
     "segment main\nO mark F\nO letter F\nZ F\nmark: * F\nletter: A F\nenter main\n";
 
-/// The same with a stop at its head.
+/// The same with a stop as its first order.
 const STOPS_FIRST: &str =
     "segment main\nZ F\nO mark F\nO letter F\nZ F\nmark: * F\nletter: A F\nenter main\n";
 

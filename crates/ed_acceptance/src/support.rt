@@ -9,13 +9,13 @@ use std::test::Fail;
 /// The most bytes that an output keeps.
 const ROOM: usize = 1 << 21;
 
-/// What a run of the program answered.
+/// The answer of a run of the program.
 #[derive(Drop)]
 pub struct Answer {
     pub status: u8,
     pub out: Vec<u8>,
     pub note: Vec<u8>,
-    /// How many bytes of the input were not read.
+    /// The number of bytes of the input that were not read.
     pub unread: usize,
 }
 

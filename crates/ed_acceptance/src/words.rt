@@ -1,4 +1,4 @@
-//! Command lines: the options, and words that are no line.
+//! Command lines: the options, and words that are not a command.
 
 use crate::support::{answer_of, expect};
 use std::test::Fail;

@@ -1,11 +1,11 @@
-//! What guests of the checking routine come to.
+//! How guests of the checking routine end.
 
 use crate::support::{BASE, End, entered, follow};
 use std::process::Abort;
 use std::test::Fail;
 
-/// Orders that bring about an accumulator: 0, one with all 71 digits set, the lowest two digits alone, and a positive
-/// and a negative one of many digits.
+/// Orders that set the accumulator: to 0, to all 71 digits 1, to the least significant two digits alone, and to a
+/// positive and a negative number of many digits.
 const ACCUMULATORS: [(&str, u32); 5] = [
     ("", 0),
     ("S90FRFRFRFRF", 5),
@@ -14,38 +14,38 @@ const ACCUMULATORS: [(&str, u32); 5] = [
     ("H92FV91FS90DRD", 4),
 ];
 
-/// Each order that a guest may have but Z, short and long.
+/// Each order that a guest may have except Z, short and long.
 const ORDERS: [&str; 28] = [
     "A90F", "A92D", "S90F", "S92D", "H90F", "H92D", "V90F", "V92D", "N90F", "N92D", "T94F", "T94D",
     "U94F", "U94D", "C90F", "C92D", "RD", "R4F", "LD", "LF", "E89F", "G89F", "I94F", "I94D",
     "O90F", "O92D", "XF", "YF",
 ];
 
-/// Guests with the rows left on their tapes, and what they come to.
+/// Guests with the rows left on their tapes, and how they end.
 const GUESTS: [(&str, &str, End); 13] = [
     // Both jumps, taken and not taken.
     ("E62FZFS90FE61FG66FZFA90FG61FZF", "", End::Stopped(7)),
-    // The same place is printed, and read into.
+    // The same location is printed, and read into.
     ("O90FI90FO90FI94DO94DZF", "57", End::Stopped(6)),
     // A jump back, a hundred times.
     ("T98FA96FS97FU96FE60FZF", "", End::Stopped(506)),
-    // The low digits of an accumulator of 71 digits set come to the top.
+    // The least significant digits of an accumulator of 71 digits 1 are shifted to the upper end.
     ("S90FRFRFRFRFLDLFLFLFLFLFT94DZF", "", End::Stopped(13)),
     // No order, and no row.
     ("A90FP5F", "", End::Blocked(1)),
     ("I94FI94FZF", "3", End::Blocked(1)),
-    // What the routine cannot take: F, and orders and jumps that reach it.
+    // What the routine cannot obey: F, and orders and jumps that use its locations.
     ("XFF94FZF", "", End::Refused(1)),
     ("A100FZF", "", End::Refused(0)),
     ("T165FZF", "", End::Refused(0)),
     ("T164DZF", "", End::Refused(0)),
     ("E130FZF", "", End::Refused(0)),
     ("E62DZFZF", "", End::Refused(0)),
-    // What stands just outside of it.
+    // Locations just outside of it.
     ("A99FS166FA166DA98DZF", "", End::Stopped(5)),
 ];
 
-/// The guest's accumulator is kept at the places 60 to 65.
+/// The guest's accumulator is kept in the words 60 to 65 of the routine.
 #[test]
 fn a_guest_begins_with_a_clear_accumulator(rt: HostRuntime) -> Result<(), Fail> {
     let machine = entered(&rt, rt.alloc(), "ZF", "", BASE)?;

@@ -10,10 +10,10 @@ use std::alloc::Global;
 use std::process::Abort;
 use std::test::Fail;
 
-/// The place of the routine. The guest stands from 60 on, its last order at 89 and its data from 90 on.
+/// The base of the routine. The guest begins at 60, its last order is at 89 and its data begin at 90.
 pub const BASE: u16 = 100;
 
-/// What a guest comes to, and the number of its orders that were checked.
+/// How a guest ended, and the number of its orders that were checked.
 #[derive(Clone, Copy, Debug, PartialEq, Eq)]
 pub enum End {
     Stopped(u32),
@@ -56,7 +56,7 @@ pub fn entered(
     Ok(machine)
 }
 
-/// One turn of the routine, where it stands and can take its guest's order.
+/// One turn of the routine, if it is at the start of one and can obey its guest's order.
 fn turn(machine: &mut Machine, paper: &mut Paper) -> Option<Checking> {
     if machine.size().value() < BASE + 66 || machine.orders_done() >= 1 << 40 {
         return None;
@@ -70,7 +70,7 @@ fn turn(machine: &mut Machine, paper: &mut Paper) -> Option<Checking> {
     Some(check_one(machine, BASE, paper))
 }
 
-/// One order of the guest alone, with the codes that the routine is to print for it.
+/// One order of the guest alone, with the codes that the routine should print for it.
 fn alone(rt: &impl Abort, machine: &mut Machine, paper: &mut Paper) -> Turn {
     assert!(rt; machine.counter() < 1024 && machine.orders_done() < 1 << 40);
     if let Some(function) = Code::new(machine.word(machine.counter()).order().function) {
@@ -83,7 +83,7 @@ fn alone(rt: &impl Abort, machine: &mut Machine, paper: &mut Paper) -> Turn {
     turn
 }
 
-/// The guest's accumulator, in the routine's places.
+/// The guest's accumulator, in the routine's words.
 fn guest_acc(machine: &Machine) -> u128 {
     let high = u128::from(machine.long(BASE + HIGH).value());
     let middle = u128::from(machine.long(BASE + MIDDLE).value());
@@ -91,8 +91,8 @@ fn guest_acc(machine: &Machine) -> u128 {
     (high << 36) + 4 * middle + (low >> 32)
 }
 
-/// Whether the guest that is checked is as the one alone, outside the routine and the Initial Orders, which end with
-/// the place that they enter.
+/// Whether the guest that is checked is in the same state as the one alone, outside the routine and from location 56
+/// upwards: below that the Initial Orders leave what they entered.
 fn agree(checked: &Machine, alone: &Machine) -> bool {
     for a in 56..1024 {
         if BASE <= a && a < BASE + 66 {

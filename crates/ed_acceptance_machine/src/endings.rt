@@ -22,7 +22,7 @@ fn ending_of_run(rt: &impl Abort, machine: &mut Machine, paper: &mut Paper) -> E
     run(machine, 1000, 0, paper)
 }
 
-/// A cleared machine started on a tape that prints A, with two blank rows behind its own.
+/// A cleared machine started on a tape that prints A, with two blank rows after its own.
 fn started_machine(alloc: Global) -> Result<Machine, Fail> {
     let mut machine = Machine::cleared(alloc)?;
     let rows = tape_of_text(alloc, b"T64KGKO2@ZFAFEZPF..")?;

@@ -41,7 +41,7 @@ fn letter_of(word: Word) -> Result<u8, Fail> {
     Ok(byte_of(Code::new(word.order().function).ok_or("no code")?, false))
 }
 
-/// What a word that changes nothing answers, with no row left on the tape: none for an order that is obeyed.
+/// What a word that changes nothing answers, with no row left on the tape; None for an order that is obeyed.
 fn blocked(order: Word) -> Result<Option<Turn>, Fail> {
     let turn = match letter_of(order)? {
         b'I' => Turn::NoTape,
@@ -79,7 +79,7 @@ fn every_word_that_is_no_order_and_every_read_without_a_row_changes_nothing(
     Ok(())
 }
 
-/// Whether the turn of an order is one that its letter may have, and the row that it left is as it should be.
+/// Whether the turn of an order is one that its letter may have, and the row that it left is right.
 fn is_turn_of(letter: u8, turn: Turn, rows_left: usize) -> bool {
     let letters = match turn {
         Turn::Went => b"ASHVNTUCRLEGIFXY".as_slice(),

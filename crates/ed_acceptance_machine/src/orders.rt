@@ -7,7 +7,7 @@ use ed_words::Size;
 use std::process::Abort;
 use std::test::Fail;
 
-/// The first word that differs from the wanted ones, at its place.
+/// The index of the first word that differs from the wanted ones, and that word.
 fn first_difference(
     rt: &impl Abort,
     machine: &Machine,
@@ -22,10 +22,10 @@ fn first_difference(
     None
 }
 
-/// An accumulator of 1 in units of 2^-70 is the word 1, added at the top and shifted right by 54 places: three times 15
-/// (R F) and once 9 (R 128 F). The word 1 subtracted and so shifted is -1, which is 2^71 - 1. Collation adds: the
-/// common digits of 6 and 3 are 2, and the accumulator holds 1 already. The word 65536 is the accumulator's sign, which
-/// a shift left by one place drops.
+/// An accumulator of 1 in units of 2^-70 is the word 1, added to the most significant digits and shifted right by 54
+/// places: three times 15 (R F) and once 9 (R 128 F). The word 1, subtracted and shifted in the same way, is -1, which
+/// is 2^71 - 1. Collation adds: the common digits of 6 and 3 are 2, and the accumulator holds 1 already. The word 65536
+/// is the accumulator's sign, which a shift left by one place drops.
 #[test]
 fn the_accumulator_after_orders(rt: HostRuntime) -> Result<(), Fail> {
     for (orders, data, acc) in [
@@ -95,8 +95,8 @@ fn an_order_f_reads_the_last_printed_code_back(rt: HostRuntime) -> Result<(), Fa
     Ok(())
 }
 
-/// A row, here 31, goes to the low end of a short location, and of the upper word of a long one, whose other word and
-/// sandwich digit become 0.
+/// A row, here 31, goes to the least significant digits of a short location, or of the upper word of a long one, whose
+/// other word and sandwich digit become 0.
 #[test]
 fn an_order_i_reads_a_row(rt: HostRuntime) -> Result<(), Fail> {
     let alloc = rt.alloc();
@@ -118,7 +118,7 @@ fn an_order_i_reads_a_row(rt: HostRuntime) -> Result<(), Fail> {
     Ok(())
 }
 
-/// 65536 at the top of the accumulator is exactly -1, which is negative; 0 is not.
+/// 65536 as the most significant digits of the accumulator is exactly -1, which is negative; 0 is not.
 #[test]
 fn the_jumps_at_0_and_at_minus_1(rt: HostRuntime) -> Result<(), Fail> {
     for (orders, number, counter) in [
@@ -137,7 +137,7 @@ fn the_jumps_at_0_and_at_minus_1(rt: HostRuntime) -> Result<(), Fail> {
     Ok(())
 }
 
-/// Start sets the counter and the tape, and leaves the registers. 28 is the code of the word 114688.
+/// Start sets the counter and the tape, and does not change the registers. 28 is the code of the word 114688.
 #[test]
 fn a_second_start_leaves_the_registers(rt: HostRuntime) -> Result<(), Fail> {
     let alloc = rt.alloc();

@@ -65,8 +65,8 @@ fn codes_and_the_rows_of_a_text(rt: HostRuntime) -> Result<(), Fail> {
 /// The signs of the codes 0 to 31 in a tape's text.
 const SIGNS: &[u8] = b"PQWERTYUIOJ#SZK*.F@D!HNM&LXGABCV";
 
-/// What a byte alone is as a tape's text: the number of its one row, or none if it is spacing; 32 if it is refused as
-/// no row, and 33 if it opens a comment.
+/// The expected answer to one byte as a tape's text: the number of its row, or None if it is spacing; 32 if it is
+/// refused as no row, and 33 if it opens a comment.
 fn of_byte(byte: u8) -> Option<usize> {
     match byte {
         b'0'..=b'9' => Some(usize::from(byte - b'0')),
@@ -76,7 +76,7 @@ fn of_byte(byte: u8) -> Option<usize> {
     }
 }
 
-/// The same of what `tape_of_text` answers to that byte alone.
+/// The same for what `tape_of_text` answers to that byte.
 fn answered(alloc: Global, byte: u8) -> Result<Option<usize>, Fail> {
     match tape_of_text(alloc, &[byte]) {
         Ok(rows) => Ok(rows.first().map(|row| usize::from(row.value()))),

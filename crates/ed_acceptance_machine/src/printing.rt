@@ -23,7 +23,7 @@ fn the_printer(rt: HostRuntime) -> Result<(), Fail> {
     Ok(())
 }
 
-/// Blank, carriage return, space and line feed leave the shift as it is: after each of them the code of Q prints 1.
+/// Blank, carriage return, space and line feed keep the shift: after each of them the code of Q prints 1.
 #[test]
 fn the_codes_that_print_no_sign_leave_figure_shift(rt: HostRuntime) -> Result<(), Fail> {
     let struck = codes(rt.alloc(), &[11, 16, 1, 18, 1, 20, 1, 24, 1])?;
@@ -32,7 +32,7 @@ fn the_codes_that_print_no_sign_leave_figure_shift(rt: HostRuntime) -> Result<()
     Ok(())
 }
 
-/// What the codes 0 to 31 print in letter shift, one after the other, but for the two that change the shift.
+/// What the codes 0 to 31 print in letter shift, one after the other, except the two that change the shift.
 const LETTERS: &str = "PQWERTYUIOJSZKF\rD HNM\nLXGABCV";
 
 /// What they print in figure shift. The code of J prints nothing there.

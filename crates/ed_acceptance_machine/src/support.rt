@@ -8,8 +8,8 @@ use std::alloc::Global;
 use std::process::Abort;
 use std::test::Fail;
 
-/// The word of an order that is written as its letter, its number in decimal, and F or D. A number from 1024 on has the
-/// spare digit, as in the text of an order.
+/// The word of an order that is written as its letter, its number in decimal, and F or D. A number of 1024 or more has
+/// the spare digit, as in the text of an order.
 fn word_of_order(text: &str) -> Option<Word> {
     let [letter, digits @ .., length] = text.as_bytes() else {
         return None;
@@ -40,7 +40,7 @@ pub fn image_of(alloc: Global, orders: &str, data: [u32; 4]) -> Result<Vec<Word>
     Ok(image)
 }
 
-/// A cleared machine with these orders at the head of its store and these four words at 30 to 33.
+/// A cleared machine with these orders from location 0 and these four words at 30 to 33.
 pub fn machine_with(
     rt: &impl Abort,
     alloc: Global,
@@ -67,7 +67,7 @@ pub fn word_at(rt: &impl Abort, machine: &Machine, address: u16) -> u32 {
     machine.word(address).value()
 }
 
-/// Obeys the next orders, so many as are written.
+/// Obeys the next orders, as many as the text has.
 pub fn obey(rt: &impl Abort, machine: &mut Machine, orders: &str) {
     for order in orders.split_whitespace() {
         match next_turn(rt, machine) {

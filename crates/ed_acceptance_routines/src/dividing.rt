@@ -1,4 +1,4 @@
-//! What `divide` leaves.
+//! The results of `divide`.
 ghost use Rattle.std.specs.Prelude.{◌≡◌, ℕ, IsTrue};
 ghost use Rattle.ed_maths.specs.Quotients.{IsDivision, divide, with_hnm};
 ghost use Rattle.ed_routines.specs.Standing.{IsOutside};
@@ -12,7 +12,7 @@ use std::alloc::Global;
 use std::process::Abort;
 use std::test::Fail;
 
-/// Where the routine, its caller and its three words stand.
+/// The locations of the routine, its caller and its three words.
 #[derive(Clone, Copy)]
 struct Site {
     size: Size,
@@ -23,7 +23,7 @@ struct Site {
     by: u16,
 }
 
-/// Words before and behind the routine, on both sizes.
+/// Words before and after the routine, on both sizes.
 const SITES: [Site; 3] = [
     Site {
         size: Size::Full,
@@ -51,7 +51,8 @@ const SITES: [Site; 3] = [
     },
 ];
 
-/// A number, its divisor, the quotient and the remainder, and the orders: 212 less the digits 1 of the quotient.
+/// A number, its divisor, the quotient and the remainder, and the number of orders: 212 less the digits 1 of the
+/// quotient.
 const DIVISIONS: [(u32, u32, u32, u32, u64); 12] = [
     (0, 1, 0, 0, 212),
     (6, 7, 0, 6, 212),
@@ -82,7 +83,7 @@ fn with_hnm(high: u16, low: u16, by: u16) -> Parameters
     ]
 }
 
-/// Whether the three words are such as can be divided.
+/// Whether the three words can be divided.
 fn is_division(machine: &Machine, base: u16, high: u16, low: u16, by: u16) -> bool
     ensures { IsTrue result → IsDivision base high low by machine.now }
 {
@@ -110,7 +111,7 @@ fn item(number: u32) -> (u32, &'static str) {
     (number / 2, if number % 2 == 1 { "D" } else { "F" })
 }
 
-/// The machine in which the routine stands and has just been called with these numbers.
+/// A machine that has the routine and has just called it with these numbers.
 fn called(
     rt: &impl Abort,
     alloc: Global,
@@ -137,7 +138,7 @@ fn called(
     entered(rt, alloc, size, &tape)
 }
 
-/// Divides at a site, and says what is wrong, if anything.
+/// Divides at a site, and answers what is wrong, if anything.
 fn divided(
     rt: &impl Abort,
     machine: &mut Machine,

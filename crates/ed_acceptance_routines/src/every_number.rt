@@ -6,12 +6,12 @@ use ed_routines::print_integer;
 use std::process::Abort;
 use std::test::Fail;
 
-/// Where it stands, and the location of the number.
+/// The base of the routine, and the location of the number.
 const BASE: u16 = 60;
 
 const H: u16 = 200;
 
-/// Prints the number of a machine that counts, and says what was printed wrong, if anything.
+/// Prints the number of a machine that counts, and answers what was printed wrong, if anything.
 fn printed(rt: &impl Abort, machine: &mut Machine, number: u32, paper: &mut Paper) -> &'static str {
     assert!(rt; stands_at(machine, PRINT, BASE, H));
     assert!(rt;

@@ -1,4 +1,4 @@
-//! Tests: what the library's routines print, read, divide and take roots of, at several places on both sizes.
+//! Tests: what the library's routines print, read, divide and take roots of, at several bases on both sizes.
 //!
 //! Expected values come from the numbers themselves and from counts made by hand, never from the program's own output.
 //! Stands on the crates up to the routines.

@@ -7,7 +7,7 @@ use ed_routines::{Back, new_line, print_integer};
 use std::process::Abort;
 use std::test::Fail;
 
-/// Numbers, their decimal digits, and the orders that they take: 78, and 8 for each unit of the digits before the
+/// Numbers, their decimal digits, and the number of orders that they take: 78, 8 times the sum of the digits before the
 /// last one, and 4 for each of these digits.
 const NUMBERS: [(u32, &str, u64); 11] = [
     (0, "0", 78),
@@ -23,7 +23,7 @@ const NUMBERS: [(u32, &str, u64); 11] = [
     (65_535, "65535", 246),
 ];
 
-/// Runs `print`, which stands where it was put.
+/// Runs `print` at the base where it was placed.
 fn print(rt: &impl Abort, machine: &mut Machine, places: &Places, paper: &mut Paper) -> Back {
     let Places { base, h, .. } = *places;
     assert!(rt; stands_at(machine, PRINT, base, h));

@@ -1,4 +1,4 @@
-//! What `read` reads, and when a routine stands.
+//! What `read` reads, and when a routine is at a base.
 
 use crate::support::{PLACES, Places, READ, called, stands_at};
 use ed_codes::{Code, byte_of};
@@ -8,7 +8,7 @@ use ed_routines::{ReadBack, read_integer};
 use std::process::Abort;
 use std::test::Fail;
 
-/// Rows, the number that they leave, and the orders that they take: 11, and 13 for each digit row.
+/// Rows, the number that they give, and the number of orders: 11, and 13 for each digit row.
 const ROWS: [(&str, u32, u64); 8] = [
     ("F", 0, 11),
     ("7F", 7, 24),
@@ -23,7 +23,7 @@ const ROWS: [(&str, u32, u64); 8] = [
 /// Tapes that end in digit rows, and the orders after which they end.
 const ENDS: [(&str, u64); 3] = [("", 3), ("42", 29), ("000000", 81)];
 
-/// Runs `read`, which stands where it was put.
+/// Runs `read` at the base where it was placed.
 fn read(rt: &impl Abort, machine: &mut Machine, places: &Places) -> ReadBack {
     let Places { base, h, .. } = *places;
     assert!(rt; stands_at(machine, READ, base, h));

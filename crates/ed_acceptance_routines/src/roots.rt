@@ -1,4 +1,4 @@
-//! `root` for every number of which it takes one.
+//! `root` for every number that it accepts.
 ghost use Rattle.std.specs.Prelude.{◌≡◌};
 ghost use Rattle.ed_maths.specs.Roots.{with_hn};
 
@@ -11,7 +11,7 @@ use std::alloc::Global;
 use std::process::Abort;
 use std::test::Fail;
 
-/// Where the routine and its caller stand, and the locations of the number and the root.
+/// The bases of the routine and its caller, and the locations of the number and the root.
 #[derive(Clone, Copy)]
 struct Site {
     size: Size,
@@ -21,7 +21,7 @@ struct Site {
     target: u16,
 }
 
-/// Words before and behind the routine, on both sizes.
+/// Words before and after the routine, on both sizes.
 const SITES: [Site; 3] = [
     Site {
         size: Size::Full,
@@ -61,8 +61,8 @@ fn with_hn(source: u16, target: u16) -> Parameters
     ]
 }
 
-/// The machine in which the routine stands and has just been called with the number 0, by a program that adds 1 to
-/// the number and calls it again, in six orders.
+/// A machine that has the routine and has just called it with the number 0, by a program that adds 1 to the number and
+/// calls it again, in six orders.
 fn counting(rt: &impl Abort, alloc: Global, site: &Site) -> Result<Machine, Fail> {
     let Site {
         size,
@@ -81,7 +81,7 @@ fn counting(rt: &impl Abort, alloc: Global, site: &Site) -> Result<Machine, Fail
     entered(rt, alloc, size, &tape)
 }
 
-/// Takes the root of a machine that counts, and says what is wrong, if anything.
+/// Takes the root of a machine that counts, and answers what is wrong, if anything.
 fn rooted(rt: &impl Abort, machine: &mut Machine, site: &Site, number: u32) -> &'static str {
     let Site {
         base,

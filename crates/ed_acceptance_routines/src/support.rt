@@ -1,4 +1,4 @@
-//! What the tests share: a machine in which a routine stands and is called.
+//! What the tests share: a machine that has a routine and calls it.
 ghost use Rattle.std.specs.Prelude.{◌≡◌, ◌<◌, ◌≤◌, IsTrue};
 ghost use Rattle.ed_library.specs.Entries.{how_many};
 ghost use Rattle.ed_routines.specs.Catalogue.{with_h};
@@ -30,13 +30,13 @@ pub const READ: u16 = 4;
 /// The index of `root`.
 pub const ROOT: u16 = 5;
 
-/// Where a routine and its caller stand, and the location that the routine is given.
+/// The bases of a routine and its caller, and the location that the routine is given.
 #[derive(Clone, Copy)]
 pub struct Places {
     pub size: Size,
     pub base: u16,
     pub caller: u16,
-    /// The location behind the call.
+    /// The location after the call.
     pub back: u16,
     pub h: u16,
 }
@@ -81,7 +81,7 @@ fn with_h(h: u16) -> Parameters
     ]
 }
 
-/// Whether the routine with an index stands at a base with H = 2h, and is called. No routine stands above 1000 here.
+/// Whether the routine with an index is at a base with H = 2h, and is called. No routine here is above 1000.
 pub fn stands_at(machine: &Machine, index: u16, base: u16, h: u16) -> bool
     requires { index < how_many }
     ensures { IsTrue result → Stands index (with_h h) base machine.now }
@@ -89,8 +89,7 @@ pub fn stands_at(machine: &Machine, index: u16, base: u16, h: u16) -> bool
     stands_with(machine, index, base, &with_h(h))
 }
 
-/// Whether the routine with an index stands at a base with these parameters, and is called. No routine stands above
-/// 1000 here.
+/// Whether the routine with an index is at a base with these parameters, and is called. No routine here is above 1000.
 pub fn stands_with(machine: &Machine, index: u16, base: u16, parameters: &Parameters) -> bool
     requires { index < how_many }
     ensures { IsTrue result → Stands index parameters.now base machine.now }
@@ -118,8 +117,8 @@ pub fn text_of(rt: &impl Abort, alloc: Global, routine: Routine) -> Result<Strin
     Ok(text)
 }
 
-/// A machine in which a routine stands and has just been called with the number 0 at h, by a program that adds 1 to
-/// the number and calls it again, within six orders.
+/// A machine that has a routine and has just called it with the number 0 at h, by a program that adds 1 to the number
+/// and calls it again, within six orders.
 pub fn counting(
     rt: &impl Abort,
     alloc: Global,
@@ -136,7 +135,7 @@ pub fn counting(
     entered(rt, alloc, Size::Full, &tape)
 }
 
-/// A machine in which the routine stands and has just been called, with a number at h, and rows left on the tape.
+/// A machine that has the routine and has just called it, with a number at h, and rows left on the tape.
 pub fn called(
     rt: &impl Abort,
     alloc: Global,

@@ -1,11 +1,11 @@
-//! A session on an endless loop, far on and often back.
+//! A session on an endless loop, far forward and often back.
 
 use crate::support::{LOOP, session_on};
 use ed_stepper::{BackFault, MoveEnd, Moved};
 use std::test::Fail;
 
-/// The latest copy is that after 9,961,472 orders, 152 times 65,536, so that each move back obeys at most 2,000 orders.
-/// From the start, or from the earliest copy, they would be 20,000,000,000 in all, which no test has the time for.
+/// The latest copy is that after 9,961,472 orders, 152 times 65,536, so each move back obeys at most 2,000 orders. From
+/// the start, or from the earliest copy, they would be 20,000,000,000 in all, which no test has the time for.
 #[test]
 fn far_on_and_often_back(rt: HostRuntime) -> Result<(), Fail> {
     let alloc = rt.alloc();

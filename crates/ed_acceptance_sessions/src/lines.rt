@@ -1,4 +1,4 @@
-//! Which lines are lines of a script.
+//! Which lines are commands of a script.
 
 use ed_stepper::bad_line;
 use std::test::Fail;
@@ -37,7 +37,7 @@ const LINES: [&str; 30] = [
     "show  last",
 ];
 
-/// Lines that are none: a number beyond its range or out of form, a part too few or too many, other words, a tab.
+/// Lines that are not commands: a number out of its range or form, a part too few or too many, other words, a tab.
 const OTHERS: [&str; 47] = [
     "go",
     "go 0",

@@ -73,7 +73,7 @@ fn written(
     Ok(run_script(alloc, &mut session, script.as_bytes())?)
 }
 
-/// How many lines a text has, and its first and last line.
+/// The number of lines of a text, and its first and last line.
 fn ends_of(text: &[u8]) -> (usize, &[u8], &[u8]) {
     let lines = text.split(|byte| *byte == b'\n').count();
     let first = text.split(|byte| *byte == b'\n').next().unwrap_or(text);

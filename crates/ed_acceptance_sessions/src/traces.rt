@@ -8,7 +8,7 @@ use std::alloc::Global;
 use std::process::Abort;
 use std::test::Fail;
 
-/// What a trace answers on a sink.
+/// The answer of a trace on a sink.
 fn traced(
     rt: &impl Abort,
     alloc: Global,
@@ -21,7 +21,7 @@ fn traced(
     Ok(trace_run(alloc, &mut machine, limit, 0, out))
 }
 
-/// A sink that takes at most seven bytes a call, of whose calls these fail.
+/// A sink that takes at most seven bytes a call; these of its calls fail.
 fn sink(alloc: Global, failing: Vec<u64>) -> Result<MemorySink, Fail> {
     Ok(MemorySink::in_pieces(alloc, 100_000, failing, 7)?)
 }

@@ -6,7 +6,7 @@ use ed_words::Size;
 use std::alloc::Global;
 use std::test::Fail;
 
-/// The faults of meaning, by their numbers from 6 on.
+/// The faults of meaning, by their numbers from 6.
 const CAUSES: [SourceCause; 12] = [
     SourceCause::LabelTwice,
     SourceCause::LabelUnknown,
@@ -22,10 +22,10 @@ const CAUSES: [SourceCause; 12] = [
     SourceCause::SandwichDigit,
 ];
 
-/// Greater than the number of each fault: none.
+/// A number greater than that of any fault.
 const NONE: usize = 18;
 
-/// Two lines for each fault, in rising order of its number. The second has the fault and no other.
+/// Two lines for each fault, in ascending order of its number. The second has the fault and no other.
 const FAULTY: [&str; 12] = [
     "segment c at 100\na: Z F\n",
     "segment d at 110\nA nowhere F\n",
@@ -41,7 +41,7 @@ const FAULTY: [&str; 12] = [
     "segment q at 210\nlong -1\n",
 ];
 
-/// What stands before a line, that line's number, and the fault that a word of the line has there.
+/// Lines before a line, that line's number, and the fault that a word of the line has there.
 const SETTINGS: [(&str, u32, usize); 7] = [
     ("segment c at 100\n", 5, NONE),
     ("use newline as c\n", 5, 9),
@@ -52,9 +52,9 @@ const SETTINGS: [(&str, u32, usize); 7] = [
     ("segment c at 100\nenter m\n", 6, 16),
 ];
 
-/// A line of which the name that it defines is left out: what stands before that name and behind it, the least fault
-/// that the line has wherever it stands, and the least of those faults that it can have by what stands before it, as a
-/// routine's words stand in no segment and a routine that is unknown has none.
+/// A line without the name that it defines: the text before that name and after it, the least fault that the line has
+/// everywhere, and the least fault that it can have depending on the lines before it (a routine's words are in no
+/// segment, and an unknown routine has none).
 const LINES: [(&str, &str, usize, usize); 11] = [
     ("", ": Z F\n", NONE, 9),
     ("", ": A nowhere F\n", 7, 9),
@@ -69,7 +69,7 @@ const LINES: [(&str, &str, usize, usize); 11] = [
     ("use sine as ", " with H=a-1000,N=nowhere\n", 7, 16),
 ];
 
-/// Lines that have faults behind what stands before them: their place, and the least of their faults.
+/// Lines that have faults after other lines: their index, and the least of their faults.
 const OTHERS: [(&str, u32, usize); 7] = [
     (
         "segment c at 1022\nsegment d at 1022\ntext \"ABC\"\n",
@@ -92,7 +92,7 @@ const OTHERS: [(&str, u32, usize); 7] = [
     ("segment c at 1023\nuse newline as d\nenter d\n", 5, 12),
 ];
 
-/// The program of some lines, behind two that define m and a at 56.
+/// The program of some lines, after two that define m and a at 56.
 fn source(alloc: Global, lines: &str) -> Result<String, Fail> {
     Ok(format!(in alloc; "version 2\nsegment m\na: Z F\n{lines}enter m\n")?)
 }

@@ -1,4 +1,4 @@
-//! Tests: the lines, places and names of a source, its linking, and the texts of the library.
+//! Tests: the lines, locations and names of a source, its linking, and the texts of the library.
 //!
 //! Expected values come from the grammar, the rules of places and the written texts of the routines. Stands on
 //! `ed_codes`, `ed_notation`, `ed_syntax`, `ed_library`, `ed_symbols`, `ed_link` and `arrayvec`.

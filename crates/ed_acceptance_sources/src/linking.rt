@@ -9,12 +9,12 @@ use std::test::Fail;
 /// The program of seven lines that prints A.
 const FIRST: &[u8] = b"segment main\nO mark F\nO letter F\nZ F\nmark: * F\nletter: A F\nenter main";
 
-/// Two segments with local names, operands of two names, a long word at an odd place, a routine and data.
+/// Two segments with local names, operands of two names, a long word at an odd location, a routine and data.
 const SECOND: &[u8] =
     b"version 2\nsegment m\na: A _l F\n_l: A _l D\nP _l-a F\nv: long 17179869185\nsegment t\n_l: A _l F\nS v D\n\
     use newline as n\nG n F\nenter t\ndata \"4F2\"";
 
-/// The same without the order behind the routine, which stands outside a segment.
+/// The same without the order after the routine, which is outside a segment.
 const THIRD: &[u8] =
     b"version 2\nsegment m\na: A _l F\n_l: A _l D\nP _l-a F\nv: long 17179869185\nsegment t\n_l: A _l F\nS v D\n\
     use newline as n\nenter t\ndata \"4F2\"";

@@ -1,4 +1,4 @@
-//! Each kind of operand at its edges, in a first segment, in one at a place, and in the settings of a use.
+//! Each kind of operand at its edges, in a first segment, in one at a base, and in the settings of a use.
 
 use crate::support::{fault_of, linked};
 use ed_syntax::SourceCause;
@@ -8,8 +8,8 @@ use std::alloc::Global;
 use std::process::Abort;
 use std::test::Fail;
 
-/// A source of which an operand is left out, on line 3: what stands before it and behind it, and the tape of the source
-/// up to that operand's item and from it on.
+/// A source without one operand, on line 3: the text before it and after it, and the tape of the source up to that
+/// operand's item and from it.
 struct Frame {
     head: &'static str,
     tail: &'static str,
@@ -17,7 +17,7 @@ struct Frame {
     punched_tail: &'static str,
 }
 
-/// The operand stands at 56, where m is; _l is 57.
+/// The operand is in the word at 56, where m is; _l is 57.
 const FIRST: Frame = Frame {
     head: "version 2\nsegment m\nA ",
     tail: " F\n_l: Z F\nsegment t at 1023\nZ F\nsegment s at 0\nenter m\n",
@@ -25,7 +25,7 @@ const FIRST: Frame = Frame {
     punched_tail: "\nZF\nT1023K\nGK\nZF\nE56K\nPF\n",
 };
 
-/// The operand stands at 100, where m is; _l is 101.
+/// The operand is in the word at 100, where m is; _l is 101.
 const AT_100: Frame = Frame {
     head: "version 2\nsegment m at 100\nA ",
     tail: " F\n_l: Z F\nsegment t at 1023\nZ F\nsegment s at 0\nenter m\n",

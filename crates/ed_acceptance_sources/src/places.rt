@@ -1,4 +1,4 @@
-//! The places of a source's lines and names, and the first fault of its names.
+//! The locations of a source's lines and names, and the first fault of its names.
 
 use ed_symbols::resolve;
 use ed_syntax::{Name, SourceCause, SourceFault, parse};
@@ -7,7 +7,7 @@ use std::test::Fail;
 /// The program of seven lines that prints A.
 const FIRST: &[u8] = b"segment main\nO mark F\nO letter F\nZ F\nmark: * F\nletter: A F\nenter main";
 
-/// A source with a routine, a long word and a text, at odd places all.
+/// A source with a routine, a long word and a text, all at odd locations.
 const ODD: &[u8] =
     b"version 2\nsegment m\n_x: Z F\nuse newline as n\nsegment s\n_x: long 1\nq: text \"ABC\"\nr: word 1";
 
@@ -22,7 +22,7 @@ fn fault_of(rt: &HostRuntime, text: &[u8]) -> Option<(u32, Option<SourceCause>)>
     }
 }
 
-/// The place before a line of a source.
+/// The location before a line of a source.
 fn place_before(rt: &HostRuntime, text: &[u8], line: u32) -> Option<u32> {
     let program = parse(rt.alloc(), text).ok()?;
     let places = resolve(rt.alloc(), &program).ok()?;
@@ -32,14 +32,14 @@ fn place_before(rt: &HostRuntime, text: &[u8], line: u32) -> Option<u32> {
     Some(places.line_place(line))
 }
 
-/// The place of a name in a source.
+/// The location of a name in a source.
 fn place_of(rt: &HostRuntime, text: &[u8], name: &str) -> Option<u32> {
     let program = parse(rt.alloc(), text).ok()?;
     let places = resolve(rt.alloc(), &program).ok()?;
     places.label(&Name::new(name)?)
 }
 
-/// The place of a name on a line of a source.
+/// The location of a name on a line of a source.
 fn place_on(rt: &HostRuntime, text: &[u8], line: u32, name: &str) -> Option<u32> {
     let program = parse(rt.alloc(), text).ok()?;
     let places = resolve(rt.alloc(), &program).ok()?;

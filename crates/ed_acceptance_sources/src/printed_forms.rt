@@ -1,4 +1,4 @@
-//! Texts of random forms, with random blanks, comments and zeros in front of numbers, are read back as these forms.
+//! Texts of random forms, with random blanks, comments and leading zeros, are read back as these forms.
 ghost use Rattle.std.specs.Prelude.{◌<◌, ◌^◌};
 
 use arrayvec::ArrayVec;
@@ -7,7 +7,7 @@ use ed_syntax::{Line, Name, Operand, Setting, Statement, parse};
 use ed_words::{Long, Word};
 use std::alloc::Global;
 
-/// How many sources are printed, and how many lines each has: 20,000 forms in all.
+/// The number of sources that are printed, and the number of lines of each: 20,000 forms in all.
 const SOURCES: u32 = 10;
 
 const LINES: u32 = 2000;
@@ -18,7 +18,7 @@ const LETTERS: [&str; 32] = [
     "D", "!", "H", "N", "M", "&", "L", "X", "G", "A", "B", "C", "V",
 ];
 
-/// Names that may stand anywhere, some of them words of the forms.
+/// Names that may stand anywhere, some of them keywords.
 const NAMES: [&str; 8] = [
     "a",
     "main",
@@ -33,13 +33,13 @@ const NAMES: [&str; 8] = [
 /// Names that may stand as labels and in operands of version 2.
 const LOCAL_NAMES: [&str; 4] = ["_1", "_c", "_0_", "_abcdefghijklmno"];
 
-/// What stands before a run, which may touch the run before it nowhere.
+/// What may precede a run, which must be apart from the run before it.
 const BLANKS: [&str; 4] = [" ", "\t", "  ", "\t \t"];
 
-/// What stands before a sign.
+/// What may precede a sign.
 const FEW_BLANKS: [&str; 4] = ["", " ", "", "\t"];
 
-/// What stands before a number.
+/// What may precede a number.
 const ZEROS: [&str; 4] = ["", "", "0", "000"];
 
 /// The letters of settings, with their codes.
@@ -52,17 +52,17 @@ const SETTINGS: [(&str, u8); 6] = [
     ("X", 26),
 ];
 
-/// What stands after a form.
+/// What may follow a form.
 const COMMENTS: [&str; 4] = ["", " \t", ";", " ; A 5 F; \" none"];
 
-/// Numbers that come one after the other, each from the one before.
+/// A sequence of numbers, each made from the one before.
 #[derive(Drop)]
 struct Sequence {
     last: u32,
 }
 
 impl Sequence {
-    /// The next number, as one of so many.
+    /// The next number, reduced to one of 0 to `count` - 1.
     fn below(&mut self, count: u32) -> u32
         requires { 0 < count }
         ensures { result < count }
@@ -84,7 +84,7 @@ struct Writer {
 }
 
 impl Writer {
-    /// Writes a name, a number or a word of the forms.
+    /// Writes a name, a number or a keyword.
     fn run(&mut self, run: &str) -> Option<()> {
         let blanks = BLANKS[self.sequence.below(4) as usize];
         self.text.push_str(blanks).ok()?;
@@ -153,7 +153,7 @@ impl Writer {
         Some(Operand::Label { name, plus })
     }
 
-    /// Writes a number from 0 to `most` or from -`least` to 0, and answers it modulo `most` and 1 more.
+    /// Writes a number from 0 to `most` or from -`least` to 0, and answers it modulo `most` + 1.
     fn integer(&mut self, alloc: Global, least: u64, most: u64) -> Option<u64>
         requires least { least < 2 ^ 36 }
         requires most { most < 2 ^ 36 }
@@ -312,7 +312,7 @@ impl Writer {
     }
 }
 
-/// A source by its number, and the lines that it is made of.
+/// A source by its number, and the lines from which it was printed.
 fn printed(alloc: Global, source: u32) -> Option<(String, Vec<Line>)> {
     let mut writer = Writer {
         text: String::new(alloc),
@@ -347,7 +347,7 @@ fn printed(alloc: Global, source: u32) -> Option<(String, Vec<Line>)> {
     Some((writer.text, lines))
 }
 
-/// The first line of a source that isn't read as what it was printed from; 0 where there is none.
+/// The first line of a source that is read differently from what it was printed from; 0 if there is none.
 fn first_difference(alloc: Global, source: u32) -> Option<u32> {
     let (text, lines) = printed(alloc, source)?;
     let program = parse(alloc, text.as_bytes()).ok()?;

@@ -7,7 +7,7 @@ use std::alloc::Global;
 use std::process::Abort;
 use std::test::Fail;
 
-/// What is written down of a routine.
+/// What is expected of a routine.
 #[derive(Clone, Copy)]
 struct Sheet {
     name: &'static str,

@@ -11,7 +11,7 @@ pub fn linked(alloc: Global, size: Size, text: &[u8]) -> Option<Linked> {
     link(alloc, size, &program).ok()
 }
 
-/// The first fault of a source, of form or of meaning, with its line; line 0 where it has none.
+/// The first fault of a source, of form or of meaning, with its line; line 0 if it has none.
 pub fn fault_of(alloc: Global, size: Size, text: &[u8]) -> Option<(u32, Option<SourceCause>)> {
     let fault = match parse(alloc, text) {
         Ok(program) => link(alloc, size, &program).err(),

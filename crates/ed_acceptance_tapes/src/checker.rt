@@ -1,4 +1,4 @@
-//! What the checker says of a tape.
+//! The reports of the checker on tapes.
 
 ghost use Rattle.std.specs.Prelude.{◌≡◌, ◌≤◌, ◌%◌, IfOk};
 
@@ -16,7 +16,7 @@ fn placed(rt: &impl Abort, checked: &Checked, address: u16) -> Option<u32> {
     Some(checked.word(address)?.value())
 }
 
-/// A directive that aims at a place of the store.
+/// A directive that aims at a location of the store.
 fn directive(rt: &impl Abort, number: u32) -> Result<Word, Fail>
     ensures { IfOk result (λ w. (w % 2 ≡ 0) × (20480 ≤ w) × (w ≤ 22526)) }
 {
@@ -48,8 +48,8 @@ fn the_checker_tells_the_words_that_a_tape_places(rt: HostRuntime) -> Result<(),
     Ok(())
 }
 
-/// One tape for each way of setting the directive and θ, and for each kind of ending: the θ that it leaves, the word that
-/// it places at 64, and its cost. T 64 K is the directive 20,608, which is 4096 · 5 + 2 · 64.
+/// One tape for each way of setting the directive and θ, and for each kind of ending: the θ that it leaves, the word
+/// that it places at 64, and its cost. T 64 K is the directive 20,608, which is 4096 · 5 + 2 · 64.
 const LINES: [(&str, u32, u32, u64); 9] = [
     // Blank with K sets θ to 4096 · 16 + 2n and the directive; G with K to 4096 · 27 + 2n and the directive, less 2^17.
     ("T64K.3KP@E64KPF", 86_150, 86_150, 162),

@@ -90,7 +90,7 @@ fn tapes_are_loaded_at_their_cost(rt: HostRuntime) -> Result<(), Fail> {
         ("...PKT64KGKO2@ZFAFEZPF", 64, 242),
         ("T64K..PZGKO2@ZFAFEZPF", 64, 234),
         ("T45KP100FT64KA1HE64KPF", 64, 230),
-        // An entry in the loader is no notation, and yet the orders obey it.
+        // An entry in the loader is not part of the notation, and yet the orders obey it.
         ("EZPF", 0, 51),
     ] {
         let mut machine = started(rt.alloc(), Size::Full, tape)?;

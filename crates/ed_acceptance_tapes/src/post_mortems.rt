@@ -10,7 +10,7 @@ use std::alloc::Global;
 use std::process::Abort;
 use std::test::Fail;
 
-/// How many words can be printed at once on a machine of 1,024 locations.
+/// The number of words that can be printed at once on a machine of 1,024 locations.
 const MOST: u32 = 880;
 
 /// The room that is enough for these.
@@ -29,7 +29,7 @@ fn printed(
     post_mortem(alloc, machine, first, count, paper)
 }
 
-/// The place of the first code on a paper that isn't the wanted one; a paper that ends too early differs there.
+/// The index of the first code on a paper that isn't the wanted one; a paper that ends too early differs there.
 fn first_difference(paper: &Paper, wanted: &[u8]) -> Option<usize> {
     for (place, code) in paper.codes().iter().enumerate() {
         if wanted.get(place) != Some(&code.value()) {
@@ -109,7 +109,7 @@ fn parts(word: u32) -> (u8, u32, bool) {
     ((word / 4096 % 32) as u8, word % 4096 / 2, word % 2 == 1)
 }
 
-/// The tape that places these many words from one on, one after the other from 144 on.
+/// The tape that places `count` words, the number `from` and those after it, from location 144 upwards.
 fn tape_of_words(alloc: Global, from: u32, count: u32) -> Result<String, Fail> {
     let mut tape = String::from_str(alloc, "T144K")?;
     for word in from..from.saturating_add(count) {

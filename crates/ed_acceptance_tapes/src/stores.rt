@@ -1,4 +1,4 @@
-//! The store at the entry of a tape, beside what the checker tells of it.
+//! The store at the entry of a tape, beside the checker's report.
 
 use crate::support::{LETTER, loaded, rows_of, start_on, started, stops};
 use ed_initial::Loaded;
@@ -24,8 +24,8 @@ fn used_machine(rt: &impl Abort, alloc: Global, size: Size) -> Result<Machine, F
     Ok(machine)
 }
 
-/// The first location from 44 on that holds neither what the tape placed there nor, where it placed nothing, what stood
-/// there before, or whose sandwich digit is another one.
+/// The first location above 43 that holds neither what the tape placed there nor, if it placed nothing, what was there
+/// before, or whose sandwich digit is another one.
 fn first_difference(machine: &Machine, before: &Machine, checked: &Checked) -> Option<u16> {
     for place in 44..1024 {
         let wanted = checked.word(place).unwrap_or(before.word(place));
@@ -36,7 +36,7 @@ fn first_difference(machine: &Machine, before: &Machine, checked: &Checked) -> O
     None
 }
 
-/// Loads a tape on a used machine, and compares with what the checker tells.
+/// Loads a tape on a used machine, and compares with the checker's report.
 fn is_as_checked(rt: &impl Abort, alloc: Global, size: Size, tape: &str) -> Result<(), Fail> {
     let mut machine = used_machine(rt, alloc, size)?;
     let before = machine.copy()?;

@@ -13,7 +13,7 @@ use std::test::Fail;
 /// The tape that prints A.
 pub const LETTER: &str = "T64KGKO2@ZFAFEZPF";
 
-/// The rows of a tape's text, of which there are few.
+/// The rows of a tape's text, which has few.
 pub fn rows_of(rt: &impl Abort, alloc: Global, tape: &str) -> Result<Vec<Code>, Fail>
     ensures { IfOk result (λ rows. length rows.items < 1000) }
 {
@@ -45,7 +45,7 @@ pub fn loaded(rt: &impl Abort, machine: &mut Machine) -> Loaded {
     load(machine)
 }
 
-/// Obeys the next order, and tells whether it was a stop.
+/// Obeys the next order, and answers whether it was a stop.
 pub fn stops(rt: &impl Abort, machine: &mut Machine) -> bool {
     assert!(rt; machine.orders_done() < 1 << 20);
     machine.step() == ed_machine::Turn::Stopped

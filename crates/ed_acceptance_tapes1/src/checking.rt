@@ -1,4 +1,4 @@
-//! What the check says of a tape.
+//! The reports of the check on tapes.
 
 use crate::support::{LETTER, fault_of, rows_of};
 use ed_initial1::Tape1Cause::{BadRow, EndOfTape, FirstWord, NumberTooLarge};
@@ -10,7 +10,7 @@ fn the_check_tells_what_a_tape_comes_to(rt: HostRuntime) -> Result<(), Fail> {
     let alloc = rt.alloc();
     for (tape, orders, rows, end) in [
         (LETTER, 120, 12, 35),
-        // The rows behind the last item are not read, whatever they are.
+        // The rows after the last item are not read, whatever they are.
         ("T35SO34SZSAS*", 120, 12, 35),
         ("T32S", 43, 4, 32),
         ("T33SPS", 62, 6, 33),

@@ -25,7 +25,7 @@ fn the_words_of_the_listing(rt: HostRuntime) {
     }
 }
 
-/// What the tape of a letter leaves at the entry, by location, where it is not as listed.
+/// What the tape of a letter leaves at the entry, by location, if it is not as listed.
 const AT_THE_ENTRY: [(u16, u32); 9] = [
     (0, 114_688),
     (1, 0),
@@ -48,7 +48,7 @@ fn wanted(place: u16) -> Option<u32> {
     WORDS.get(usize::from(place)).copied()
 }
 
-/// The first location that doesn't hold what the orders and the tape of a letter leave there, or, from 35 on, the word
+/// The first location that doesn't hold what the orders and the tape of a letter leave there, or, above 34, the word
 /// before.
 fn first_difference(machine: &Machine, before: &Machine) -> Option<u16> {
     for place in 0..1024 {
@@ -79,8 +79,8 @@ fn largest(rt: &impl Abort, alloc: Global, item: &str) -> Result<Vec<Code>, Fail
     rows_of(rt, alloc, tape.as_str())
 }
 
-/// A short program that leaves 1 in the sandwich digit of the pair 0, 1: A 4 F, R D, T 0 D and Z F, and the word 1 of
-/// which half is taken.
+/// A short program that leaves 1 in the sandwich digit of the pair 0, 1: A 4 F, R D, T 0 D and Z F, and the word 1,
+/// which is halved.
 const HALVES_A_WORD: [u32; 5] = [114_696, 16_385, 20_481, 53_248, 1];
 
 /// Runs that program.
@@ -149,7 +149,7 @@ fn tapes_are_loaded_at_their_cost(rt: HostRuntime) -> Result<(), Fail> {
         ("T32S", 43),
         ("T33SPS", 62),
         ("T34S50L*32767S", 141),
-        // No notation, and yet the orders obey it: the word of the first item is that of T 35 S.
+        // Not in the notation, and yet the orders obey it: the word of the first item is that of T 35 S.
         ("R2083SO34SZSAS", 140),
     ] {
         let mut machine = started(rt.alloc(), rows_of(&rt, rt.alloc(), tape)?)?;

@@ -13,7 +13,7 @@ use std::test::Fail;
 /// Two items, for 31 and 32.
 const TAPE: &str = "T33SA5L";
 
-/// The fault of that tape with a code at a place, if it has one then.
+/// The fault of that tape with this code as its row `place`, if it has one then.
 fn wanted(place: usize, code: u8) -> Option<(usize, Tape1Cause)> {
     match (place, code) {
         (0, 5) => None,
@@ -26,7 +26,7 @@ fn wanted(place: usize, code: u8) -> Option<(usize, Tape1Cause)> {
         (2, 0..=1) => Some((3, FirstWord)),
         (2, 2..=3) => None,
         (2, 4..=9) => Some((7, EndOfTape)),
-        // the first item is longer, and A is no row of it
+        // the first item is longer, and A may not be a row of it
         (3, 0..=9) => Some((4, BadRow)),
         (3, 12) => None,
         (1 | 2 | 3, 12 | 25) => Some((place, FirstWord)),
@@ -39,7 +39,7 @@ fn wanted(place: usize, code: u8) -> Option<(usize, Tape1Cause)> {
     }
 }
 
-/// The tape with a code at a place.
+/// The tape with another code as one of its rows.
 fn replaced(rt: &impl Abort, alloc: Global, place: usize, code: Code) -> Result<Vec<Code>, Fail>
     ensures { IfOk result (λ rows. length rows.items < 10000) }
 {
@@ -51,8 +51,8 @@ fn replaced(rt: &impl Abort, alloc: Global, place: usize, code: Code) -> Result<
     Ok(rows)
 }
 
-/// The orders that read rows without a fault and come to the end of the tape, where the next order is I: one more than
-/// they cost between two items, since T at 6 stands before it.
+/// The number of orders that read rows without a fault up to the end of the tape, where the next order is I: one more
+/// than they cost between two items, since T at 6 comes before it.
 fn orders_to_the_end(rt: &impl Abort, rows: &[Code]) -> u64 {
     let mut orders = 4;
     let mut inside = false;
@@ -70,8 +70,7 @@ fn orders_to_the_end(rt: &impl Abort, rows: &[Code]) -> u64 {
     if inside { orders } else { orders + 1 }
 }
 
-/// Whether rows are loaded as the check tells of them. Where they have a fault other than their end, the orders may do
-/// anything.
+/// Whether rows are loaded as the check reports. If they have a fault other than their end, the orders may do anything.
 fn are_loaded_as_told(rt: &impl Abort, alloc: Global, rows: Vec<Code>) -> Result<bool, Fail>
     requires { length rows.items < 10000 }
 {
@@ -96,8 +95,8 @@ fn are_loaded_as_told(rt: &impl Abort, alloc: Global, rows: Vec<Code>) -> Result
     }
 }
 
-/// The first code that makes a difference at a place: the check doesn't answer what is wanted, or the rows are not
-/// loaded as it tells.
+/// The first code that makes a difference as this row: the check doesn't answer what is wanted, or the rows are not
+/// loaded as it reports.
 fn first_difference(rt: &impl Abort, alloc: Global, place: usize) -> Result<Option<u8>, Fail> {
     for number in 0..32 {
         let rows = replaced(rt, alloc, place, Code::new(number).ok_or("no code")?)?;

@@ -12,7 +12,7 @@ use std::test::Fail;
 /// The tape that prints A: it clears 35, prints the letter at 34 and stops.
 pub const LETTER: &str = "T35SO34SZSAS";
 
-/// The rows of a tape's text, of which there are few.
+/// The rows of a tape's text, which has few.
 pub fn rows_of(rt: &impl Abort, alloc: Global, tape: &str) -> Result<Vec<Code>, Fail>
     ensures { IfOk result (λ rows. length rows.items < 10000) }
 {
@@ -37,7 +37,7 @@ pub fn loaded(rt: &impl Abort, machine: &mut Machine) -> Loaded1 {
     load1(machine)
 }
 
-/// The fault that a check tells, or none.
+/// The fault that a check reports, if any.
 pub fn fault_of(told: &Result<Checked1, Tape1Fault>) -> Result<Option<(usize, Tape1Cause)>, Fail> {
     match told {
         Ok(_) => Ok(None),
@@ -46,7 +46,7 @@ pub fn fault_of(told: &Result<Checked1, Tape1Fault>) -> Result<Option<(usize, Ta
     }
 }
 
-/// The first location whose word is not what a check tells of it.
+/// The first location whose word is not the one that a check reports.
 pub fn misplaced(machine: &Machine, checked: &Checked1) -> Option<u16> {
     for place in 31..1024 {
         if let Some(word) = checked.word(place) {

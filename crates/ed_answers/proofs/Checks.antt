@@ -27,7 +27,7 @@ law s codes =
     let set : IsDirective 20568 = omega arith in
     reading_is_rules s.size cleared_cells.words first_note 9 codes set
 
--- the rows come to an entry or have a fault
+-- the rows reach an entry or have a fault
 has_checked : (s : Settings) (codes : List ℕ) → (o : Outcome) × IsChecked s codes o
 has_checked s codes = by_case (law s codes).either
   where

@@ -20,7 +20,7 @@ use Rattle.ed_answers.proofs.Replies.{HasOne}
 abbrev told : Tape → Outcome
 told t = done (entry_line 31 (report1 t).orders (report1 t).rows)
 
--- the rows come to a program or have a fault
+-- the rows give a program or have a fault
 has_checked : (codes : List ℕ) → (o : Outcome) × IsChecked1 codes o
 has_checked codes = by_case (one_verdict codes).some
   where

@@ -1,4 +1,4 @@
--- What a run keeps: the size of a machine, and how many orders are done in it.
+-- What a run keeps: the size of a machine, and a bound on the count of its orders.
 use Rattle.std.proofs.Common.{◌≡◌, ◌∙◌, ℕ, ◌+◌, ◌≤◌, ap, arith, List}
 use Rattle.ed_words.specs.declared.size.Size.{Size}
 use Rattle.ed_machine.specs.State.{State}
@@ -24,7 +24,7 @@ pub first_size : (z : Size) (rows : List ℕ) (s : State) → s ≡ first_state 
 unfolding first_state
 first_size z rows s is = ap (λ (t : State). t.size) is
 
--- and with at most as many orders more as its limit
+-- it counts at most as many further orders as its limit
 pub ran_orders : (limit resumes room : ℕ) (s last : State) → last ≡ (ran limit resumes room s).state
     → last.orders ≤ s.orders + limit
 ran_orders limit resumes room s last e =

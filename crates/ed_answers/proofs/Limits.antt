@@ -1,4 +1,4 @@
--- A run with a greater limit: the same where it ended before its limit, and else one that goes on.
+-- A run with a greater limit: the same if it ended before its limit, else one that continues.
 use Rattle.std.proofs.Common.{◌≡◌, ◌≢◌, ◌∙◌, ℕ, ◌+◌, ◌-◌, ◌≤◌, refl, sym, ap, arith}
 use Rattle.std.proofs.Common.{Bool, true, false, true≢false, nat_eq, nat_lt, nat_le, Option, Some, None, inl, inr}
 use Rattle.std.proofs.Common.{List, [], ◌∷◌, ◌++◌, length, append_assoc, append-nil}
@@ -41,11 +41,11 @@ some_is d e h = cc
 none_some : (e : Ending) → None ≡ Some e → ⊥
 none_some e h = cc
 
--- at a number below both limits they play no part
+-- at a number below both limits they make no difference
 no_limit : (low high k : ℕ) → low ≤ high → k ≤ low → nat_eq k low ≡ false → nat_eq k high ≡ false
 no_limit low high k l below other = eq_false k high (grind (arith, nat_tests))
 
--- an end before the limit stands with a greater limit
+-- an end before the limit is the end with a greater limit too
 end_stands : (low high resumes room k : ℕ) (p : Past) (e : Ending) → low ≤ high → k ≤ low → e ≢ Limit
     → end_at low resumes room k p ≡ Some e → end_at high resumes room k p ≡ Some e
 end_stands low high resumes room k p e l below other =
@@ -62,7 +62,7 @@ end_stands low high resumes room k p e l below other =
     by_tests false false true later h = absurd (true≢false (later refl))
     by_tests false false false later h = h
 
--- and a number below the limit at which there is no end
+-- the same for a number below the limit at which there is no end
 none_stands : (low high resumes room k : ℕ) (p : Past) → low ≤ high → k ≤ low
     → end_at low resumes room k p ≡ None → end_at high resumes room k p ≡ None
 none_stands low high resumes room k p l below =
@@ -147,7 +147,7 @@ cut low high resumes room s l is =
     ap (λ n. (past n s).codes) (sym whole) ∙ ap (λ (p : Past). p.codes) (past_sum low (m - low) s) in
     (rest.codes, codes ∙ ap (λ n. (past n s).codes ++ rest.codes) (sym both.0))
 
--- what a run prints is what the same run with a greater limit begins with
+-- the text that a run prints is the beginning of what the same run prints with a greater limit
 starts : (low high resumes room : ℕ) (s : State) → low ≤ high
     → StartsWith (ran high resumes room s).codes (ran low resumes room s).codes
 starts low high resumes room s l = by_ending (ran low resumes room s).ending refl
@@ -179,7 +179,7 @@ paper_starts shift (code ∷ part) rest =
           ∙ sym (append_assoc (struck shift code) (paper_from (shift_after shift code) part) more.0),
     )
 
--- a text that begins as another does, whatever both are called
+-- whether a text begins with another doesn't depend on how the two are written
 starts_as : {whole part new_whole new_part : Text} → new_whole ≡ whole → new_part ≡ part → StartsWith whole part
     → StartsWith new_whole new_part
 starts_as {new_part = new_part} w p (rest, is) = (rest, w ∙ is ∙ ap (λ (t : Text). t ++ rest) (sym p))
@@ -194,7 +194,7 @@ none_added : (window : Option Window) (r : RunEnd) → window ≡ None → (with
 none_added window r is =
     ap (λ (w : Option Window). r.codes ++ post_mortem_codes w r.state) is ∙ append-nil r.codes
 
--- of what is answered to the end of a run
+-- from the answers to the end of a run
 module _ (low high resumes : ℕ) (s : State) (give : RunEnd → Outcome) (more : low ≤ high) where
   same_of : (give (ran low resumes paper_room s)).status ≡ status_of (ran low resumes paper_room s).ending
       → (give (ran low resumes paper_room s)).status ≢ 4

@@ -1,4 +1,4 @@
--- What `listing` shows is what stands in the store at the entry.
+-- What `listing` shows is what the store holds at the entry.
 use Rattle.std.proofs.Common.{◌≡◌, ◌∙◌, ℕ, ◌-◌, sym, ap, arith, refl, []}
 use Rattle.std.specs.Prelude.{Some}
 use Rattle.ed_machine.specs.State.{State}
@@ -15,7 +15,7 @@ use Rattle.ed_answers.specs.Runs.{paper_room, ran_outcome, with_post_mortem}
 use Rattle.ed_answers.specs.Listed.{EachListedIsLoaded, listed_places, up_to_entry}
 use Rattle.ed_answers.proofs.Sources.{headline}
 
--- a run of no order leaves the state as it is
+-- a run of no order leaves the state unchanged
 no_order : (resumes room : ℕ) (s : State) → (ran 0 resumes room s).state ≡ s
 unfolding ran past least
 no_order resumes room s = refl

@@ -22,7 +22,7 @@ text_once answers (rows codes) o other one p q = one.once codes o other p q
 text_once answers (no_row place byte) o other one p q = sym p ∙ q
 text_once answers (open_comment place) o other one p q = sym p ∙ q
 
--- an input that has an outcome has one where it may also be too long
+-- an input that has an outcome has one too if inputs may be too long
 pub some_within : (answers : Text → Outcome → Type 0) (input : Text) (o : Outcome) → answers input o
     → (o : Outcome) × WithinLimit answers input o
 some_within answers input o a = by_length (split (length input))
@@ -54,7 +54,7 @@ rows_once answers one = record {
 
 -- ---- a source
 
--- where a function of the input gives the outcome
+-- if a function of the input gives the outcome
 pub input_once : (f : Text → Outcome) → HasOneOutcome (of_input (exactly f))
 input_once f = record {
   some = λ input. some_within (exactly f) input (f input) refl;

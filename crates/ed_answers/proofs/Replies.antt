@@ -33,7 +33,7 @@ at_reading : (answers : List ℕ → Outcome → Type 0) (q : Reading) (codes : 
     → OfReading answers q o
 at_reading answers q codes o is a = subst (λ (r : Reading). OfReading answers r o) (sym is) a
 
--- where the rows have one outcome
+-- if the rows have one outcome
 pub rows_replied : (answers : List ℕ → Outcome → Type 0) (input : Text) {codes seen : List ℕ} (reply : Reply)
     → reading input ≡ rows codes → seen ≡ codes
     → (o : Outcome) × answers seen o × Gives reply o → Replies (of_rows answers) input (Ok reply)
@@ -43,7 +43,7 @@ rows_replied answers input {codes} reply is same gives = (
   gives.2,
 )
 
--- where a function gives it
+-- if a function gives it
 pub exactly_replied : (f : List ℕ → Outcome) (input : Text) (codes : List ℕ) (reply : Reply)
     → reading input ≡ rows codes → Gives reply (f codes) → Replies (of_rows (exactly f)) input (Ok reply)
 exactly_replied f input codes reply is gives =
@@ -61,7 +61,7 @@ pub rejected : (answers : List ℕ → Outcome → Type 0) (input : Text) (e : R
 rejected answers input (Refused reply) one refuses = refused_at answers (reading input) reply refuses
 rejected answers input Memory one refuses = text_outcome answers one (reading input)
 
--- a rejection that `?` hands on is the reply to a text
+-- a rejection passed on by `?` is the reply to a text
 pub refusal_replied : (answers : List ℕ → Outcome → Type 0) (input : Text) (r : Result Reply Rejection) (e : Rejection)
     → HasOne answers → RefusesText (reading input) e → IsErr r × IsErrAnd r (λ handed. handed ≡ e)
     → Replies (of_rows answers) input r
@@ -69,7 +69,7 @@ refusal_replied answers input (Ok reply) e one refuses handed = absurd (cc)
 refusal_replied answers input (Err handed) e one refuses is =
     rejected answers input handed one (subst (RefusesText (reading input)) (sym is.1) refuses)
 
--- where no memory is found, there is an outcome all the same
+-- if no memory is found, there is an outcome all the same
 pub none_replied : (answers : List ℕ → Outcome → Type 0) (input : Text) (r : Result Reply Rejection) → HasOne answers
     → IsErr r × IsErrAnd r (λ handed. handed ≡ Memory) → Replies (of_rows answers) input r
 none_replied answers input (Ok reply) one handed = absurd (cc)

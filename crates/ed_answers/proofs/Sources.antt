@@ -108,7 +108,7 @@ source_rejected z accepted input (rejection.Refused reply) l =
     (refused (source_fault_line (At l.0 l.1)), inl (l.0, l.1, l.2, refl), l.3)
 source_rejected z accepted input rejection.Memory l = let some = some_outcome z accepted input in (some.0, some.1, tt)
 
--- where `?` hands it on
+-- if it is passed on by `?`
 pub source_refused : (z : Size) (accepted : List Line → Outcome) (input : Text) (r : Result Reply Rejection)
     (e : Rejection) → LinksSource z input (Err e) → IsErr r × IsErrAnd r (λ handed. handed ≡ e)
     → Replies (of_source z accepted) input r

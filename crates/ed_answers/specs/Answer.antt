@@ -1,5 +1,4 @@
--- What a command answers: one outcome, where it reads no input, or to each input its outcome (this project's own
--- rules).
+-- What a command answers: one outcome if it reads no input, else an outcome for each input (this project's own rules).
 use Rattle.std.specs.Prelude.{◌≡◌, ◌⊎◌, ℕ, ◌≤◌, ◌<◌, Bool, true, false, List, length}
 use Rattle.ed_codes.specs.Reading.{Reading, rows, no_row, open_comment, reading}
 use Rattle.ed_codes.specs.declared.tape.TextFault.TheVariants.{NoRow, OpenComment}
@@ -7,8 +6,8 @@ use Rattle.ed_report.specs.Notes.{text_fault_line}
 use Rattle.ed_words.specs.Texts.{Text}
 use Rattle.ed_answers.specs.Outcome.{Outcome, refused, too_long_outcome}
 
--- no input is read, and this is the outcome, or this says which one it is; or an input is read, and this says which
--- outcome an input of at most 262,144 bytes has
+-- no input is read, and this is the outcome, or this says which outcomes it may be; or an input is read, and this says
+-- which outcome an input of at most 262,144 bytes has
 pub data Answer : Type 1 where
   known : Outcome → Answer
   of_made : (Outcome → Type 0) → Answer
@@ -34,18 +33,18 @@ reads_input (known due) = false
 reads_input (of_made answers) = false
 reads_input (of_input answers) = true
 
--- the outcome of an input that has at most 262,144 bytes, or of one that is too long
+-- the outcome of an input of at most 262,144 bytes, or of one that is too long
 abbrev pub WithinLimit : (Text → Outcome → Type 0) → Text → Outcome → Type 0
 WithinLimit answers input o = ((length input ≤ 262144) × answers input o)
     ⊎ ((262144 < length input) × (too_long_outcome ≡ o))
 
--- the outcome that is due to an input
+-- the outcome that is due for an input
 abbrev pub IsDue : Answer → Text → Outcome → Type 0
 IsDue (known due) input o = due ≡ o
 IsDue (of_made answers) input o = answers o
 IsDue (of_input answers) input o = WithinLimit answers input o
 
--- an outcome is due to each input, and only one
+-- each input has exactly one outcome
 pub record HasOneOutcome (answer : Answer) : Type 0 where
   pub some : (input : Text) → (o : Outcome) × IsDue answer input o
   pub once : (input : Text) (o other : Outcome) → IsDue answer input o → IsDue answer input other → o ≡ other

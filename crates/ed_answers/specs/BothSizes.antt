@@ -27,27 +27,27 @@ names_location Y = false
 names_location Z = false
 names_location kind = true
 
--- a word that is an order and names a location names one below 512
+-- if a word is an order and names a location, the location is below 512
 abbrev pub NamesBelow : Option Kind → ℕ → Type 0
 NamesBelow None w = Unit {0}
 NamesBelow (Some kind) w = names_location kind ≡ true → address_of w < 512
 
--- the order at the counter names no location from 512 on, and is not at the end of the smaller store
+-- the order at the counter names no location above 511, and is not at the end of the smaller store
 pub record StaysBelow (s : State) : Type 0 where
   pub named : NamesBelow (kind_of_function (function_of (next_word s))) (next_word s)
   pub next : s.counter < 511
 
--- so it is with each order that the run of a tape obeys on the smaller store
+-- the same for each order that the run of a tape obeys on the smaller store
 abbrev pub RunStaysBelow : Settings → List ℕ → Type 0
 RunStaysBelow s codes =
     (j : ℕ) → j < run_orders s.limit s.resumes paper_room (first_state Small codes)
     → StaysBelow (state_after j (first_state Small codes))
 
--- the same settings for a store of a size
+-- the same settings for a store of this size
 abbrev pub with_store : Size → Settings → Settings
 with_store z s = record s { size = z }
 
--- such a run answers the same on both sizes: of a tape, and of the tape of a source
+-- such a run has the same answer on both sizes: the run of a tape, and of the tape of a source
 pub record EachSize : Type 0 where
   pub tapes : (s : Settings) (codes : List ℕ) → RunStaysBelow s codes
       → tape_outcome (with_store Full s) codes ≡ tape_outcome (with_store Small s) codes

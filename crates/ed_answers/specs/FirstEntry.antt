@@ -1,5 +1,5 @@
--- What is shown of every tape without a fault for Initial Orders 1: it leads to the state at the entry, and what
--- `tape1` answers is the run from there.
+-- What holds of every tape without a fault for Initial Orders 1: it leads to the state at the entry, and the answer of
+-- `tape1` is the run from there.
 use Rattle.std.specs.Prelude.{◌≡◌, ℕ, ◌-◌, ◌<◌, ◌≤◌, List, []}
 use Rattle.ed_machine.specs.Steps.{past, state_after}
 use Rattle.ed_run.specs.Run.{ran}
@@ -10,13 +10,13 @@ use Rattle.ed_command.specs.declared.command.Settings.{Settings}
 use Rattle.ed_answers.specs.FirstOrders.{first_state1, tape1_outcome}
 use Rattle.ed_answers.specs.Runs.{paper_room, ran_outcome}
 
--- the orders that load a tape
+-- the number of orders that load a tape
 abbrev pub cost1 : Tape → ℕ
 cost1 t = (report1 t).orders
 
--- the 31 orders lead a cleared machine to the state at the entry, at the tape's cost and with nothing printed; and what
--- `tape1` answers, with a limit not below the cost, is the run from that state with the limit less the cost; with a
--- lower limit nothing is printed
+-- the 31 orders lead a cleared machine to the state at the entry, at the tape's cost and with nothing printed. With a
+-- limit not below the cost, the answer of `tape1` is the run from that state with the limit less the cost; with a lower
+-- limit nothing is printed.
 pub record RunsFrom31 (s : Settings) (codes : List ℕ) (t : Tape) : Type 0 where
   pub enters : state_after (cost1 t) (first_state1 codes) ≡ at_entry1 (first_state1 codes) t
   pub silent : (past (cost1 t) (first_state1 codes)).codes ≡ []
@@ -24,6 +24,6 @@ pub record RunsFrom31 (s : Settings) (codes : List ℕ) (t : Tape) : Type 0 wher
       ≡ ran_outcome [] (ran (s.limit - cost1 t) s.resumes paper_room (at_entry1 (first_state1 codes) t))
   pub short : s.limit < cost1 t → (tape1_outcome s codes).out ≡ []
 
--- so it is with every tape that comes to a program
+-- the same for every tape that gives a program
 abbrev pub EachProgramRunsFrom31 : Type 0
 EachProgramRunsFrom31 = (s : Settings) (codes : List ℕ) (t : Tape) → Comes1 codes t → RunsFrom31 s codes t

@@ -1,4 +1,4 @@
--- What the program answers to a tape of Initial Orders 1 (this project's own rules).
+-- The program's answers to a tape of Initial Orders 1 (this project's own rules).
 use Rattle.std.specs.Prelude.{◌≡◌, ◌⊎◌, ℕ, [], List}
 use Rattle.ed_words.specs.declared.size.Size.TheVariants.{Full}
 use Rattle.ed_machine.specs.State.{State, cleared}
@@ -27,17 +27,17 @@ run1_of s codes = ran s.limit s.resumes paper_room (first_state1 codes)
 abbrev pub tape1_outcome : Settings → List ℕ → Outcome
 tape1_outcome s codes = ran_outcome [] (run1_of s codes)
 
--- what `tape1` answers
+-- the answer of `tape1`
 abbrev pub tape1_answer : Settings → Answer
 tape1_answer s = of_rows (exactly (tape1_outcome s))
 
--- `check-tape1` of a tape without a fault: what it comes to, which is entered at 31
+-- `check-tape1` for a tape without a fault: its program, which is entered at 31
 pub record OfProgram (codes : List ℕ) (o : Outcome) : Type 0 where
   pub tape : Tape
   pub comes : Comes1 codes tape
   pub outcome : done (entry_line 31 (report1 tape).orders (report1 tape).rows) ≡ o
 
--- `check-tape1` of a tape with a fault
+-- `check-tape1` for a tape with a fault
 pub record OfFirstFault (codes : List ℕ) (o : Outcome) : Type 0 where
   pub row : ℕ
   pub cause : Tape1Cause
@@ -48,6 +48,6 @@ pub record OfFirstFault (codes : List ℕ) (o : Outcome) : Type 0 where
 abbrev pub IsChecked1 : List ℕ → Outcome → Type 0
 IsChecked1 codes o = OfProgram codes o ⊎ OfFirstFault codes o
 
--- what `check-tape1` answers
+-- the answer of `check-tape1`
 abbrev pub check_tape1_answer : Answer
 check_tape1_answer = of_rows IsChecked1

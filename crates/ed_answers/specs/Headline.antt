@@ -1,4 +1,4 @@
--- What is shown of every source that is accepted: its tape leads to the state at the entry, and the run is that from
+-- What holds of every source that is accepted: its tape leads to the state at the entry, and its run is the run from
 -- there.
 use Rattle.std.specs.Prelude.{◌≡◌, ◌-◌, ◌<◌, ◌≤◌, List}
 use Rattle.ed_run.specs.Run.{ran}
@@ -15,11 +15,11 @@ use Rattle.ed_words.specs.Texts.{Text}
 use Rattle.ed_answers.specs.Runs.{paper_room, post_mortem_codes, ran_outcome, run_of, with_post_mortem}
 use Rattle.ed_answers.specs.Sources.{run_outcome}
 
--- the punched tape leads a cleared machine of the size to the state at the entry, at its cost and with nothing
--- printed; the store there has the words of the lines, each at its place; and what `run` answers, with a limit not
--- below the cost, is the run from that state with the limit less the cost, and before its ending the entry and the
--- cost; with a lower limit the run prints nothing. A post-mortem is in both cases that of the state in which the run
--- ended
+-- the punched tape leads a cleared machine of the size to the state at the entry, at its cost and with nothing printed;
+-- the store there has the words of the lines, each at its location. With a limit not below the cost, the answer of
+-- `run` is the run from that state with the limit less the cost, and the note before its ending gives the entry and the
+-- cost; with a lower limit the run prints nothing. In both cases a post-mortem is that of the state in which the run
+-- ended.
 pub record RunsFromEntry (s : Settings) (lines : List Line) : Type 0 where
   pub enters : Enters s.size lines
   pub has_words : EntryHasWords lines
@@ -29,7 +29,7 @@ pub record RunsFromEntry (s : Settings) (lines : List Line) : Type 0 where
   pub short : s.limit < cost lines
       → (run_outcome s lines).out ≡ paper (post_mortem_codes s.post_mortem (run_of s (tape lines)).state)
 
--- so it is of every source that is accepted, whatever the limit, the resumes, the size and the post-mortem
+-- the same for every source that is accepted, whatever the limit, the resumes, the size and the post-mortem
 abbrev pub Headline : Type 0
 Headline =
     (s : Settings) (source : Text) (lines : List Line) → IsAcceptedAs s.size source lines → RunsFromEntry s lines

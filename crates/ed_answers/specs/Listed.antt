@@ -1,4 +1,4 @@
--- What `listing` shows is what stands in the store at the entry (this project's own rules).
+-- What `listing` shows is what the store holds at the entry (this project's own rules).
 use Rattle.std.specs.Prelude.{◌≡◌, ℕ, List, map, Some}
 use Rattle.ed_machine.specs.Steps.{state_after}
 use Rattle.ed_printer.specs.Paper.{paper}
@@ -15,7 +15,7 @@ use Rattle.ed_command.specs.declared.command.Window.{Window}
 use Rattle.ed_words.specs.Texts.{Text}
 use Rattle.ed_answers.specs.Sources.{listing_outcome, run_outcome}
 
--- the places of the linked program, in rising order
+-- the locations of the linked program, in ascending order
 abbrev pub listed_places : List Line → List ℕ
 listed_places lines = map (λ p. p.place) (words_from 0 (table_of (linked lines)))
 
@@ -23,15 +23,15 @@ listed_places lines = map (λ p. p.place) (words_from 0 (table_of (linked lines)
 abbrev pub up_to_entry : Settings → List Line → Window → Settings
 up_to_entry s lines w = record s { limit = cost lines; post_mortem = Some w }
 
--- the lines of `listing` are the words that stand in the store after the orders that the tape costs; and they are those
--- of which `run` prints a post-mortem, with a limit equal to that cost, and nothing else
+-- the lines of `listing` show the words that the store holds after the orders that the tape costs; with a limit equal
+-- to that cost, `run` with a post-mortem prints the same words, and nothing else
 pub record ListedIsLoaded (s : Settings) (lines : List Line) : Type 0 where
   pub listed : (listing_outcome lines).out
       ≡ listing (state_after (cost lines) (first_state s.size (tape lines))).store (listed_places lines)
   pub shown : (w : Window) → (run_outcome (up_to_entry s lines w) lines).out
       ≡ paper (printed_codes (entry_store lines).words w.first w.count)
 
--- so it is of every source that is accepted
+-- the same for every source that is accepted
 abbrev pub EachListedIsLoaded : Type 0
 EachListedIsLoaded =
     (s : Settings) (source : Text) (lines : List Line) → IsAcceptedAs s.size source lines → ListedIsLoaded s lines

@@ -12,16 +12,16 @@ use Rattle.ed_answers.specs.Outcome.{done}
 use Rattle.ed_answers.specs.Tapes.{IsChecked, tape_outcome}
 use Rattle.ed_answers.specs.Sources.{punch_outcome, run_outcome}
 
--- the text that `punch` writes of these lines is that of a tape, whose rows are those of the source's tape. `tape` on it
--- prints what `run` prints of the source and ends with its status, for the same limit, resumes, size and post-mortem;
--- and `check-tape` reports the entry and the cost that stand in the note of `run`, and the rows up to the entry
+-- the text that `punch` writes for these lines is that of a tape, and its rows are those of the source's tape. On that
+-- tape `tape` prints what `run` prints for the source and ends with its status, for the same limit, resumes, size and
+-- post-mortem; and `check-tape` reports the entry and the cost in the note of `run`, and the rows up to the entry
 pub record PunchedIsRun (s : Settings) (lines : List Line) : Type 0 where
   pub reads : reading (punch_outcome lines).out ≡ rows (tape lines)
   pub out_is : (tape_outcome s (tape lines)).out ≡ (run_outcome s lines).out
   pub status_is : (tape_outcome s (tape lines)).status ≡ (run_outcome s lines).status
   pub checked : IsChecked s (tape lines) (done (entry_line (entry_of lines) (cost lines) (length (punched_rows lines))))
 
--- so it is of every source that is accepted
+-- the same for every source that is accepted
 abbrev pub EachPunchedIsRun : Type 0
 EachPunchedIsRun =
     (s : Settings) (source : Text) (lines : List Line) → IsAcceptedAs s.size source lines → PunchedIsRun s lines

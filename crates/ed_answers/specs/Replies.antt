@@ -1,4 +1,4 @@
--- How a reply stands to the outcome that is due, and what stands in the way of one: a text that is refused.
+-- How a reply relates to the outcome that is due, and what can prevent one: a text that is refused.
 use Rattle.std.specs.Prelude.{◌≡◌, ℕ, ◌<◌, ◌++◌, List, Result, Ok, Err}
 use Rattle.ed_codes.specs.Reading.{Reading, rows, no_row, open_comment}
 use Rattle.ed_codes.specs.declared.tape.TextFault.TheVariants.{NoRow, OpenComment}
@@ -24,28 +24,27 @@ use Rattle.ed_answers.specs.declared.reply.Rejection.{Rejection}
 use Rattle.ed_answers.specs.declared.reply.Rejection.TheVariants.{Memory, Refused}
 use Rattle.ed_answers.specs.declared.reply.Reply.{Reply}
 
--- this holds of the known outcome, or of one that is said, or of one of the input
+-- this holds of the known outcome, or of one that is allowed, or of one for the input
 abbrev pub ForInput : Answer → Text → (Outcome → Type 0) → Type 0
 ForInput (known due) input P = P due
 ForInput (of_made answers) input P = (o : Outcome) × answers o × P o
 ForInput (of_input answers) input P = (o : Outcome) × answers input o × P o
 
--- both texts and the status of a reply are those of the outcome; no reply has the status of a fault or of want of
--- memory
+-- both texts and the status of a reply are those of the outcome; no reply has the status of a fault or of no memory
 pub record Gives (reply : Reply) (o : Outcome) : Type 0 where
   pub out_is : reply.out.items ≡ o.out
   pub note_is : reply.note.items ≡ o.note
   pub status_is : reply.status ≡ o.status
   pub low : reply.status < 8
 
--- a reply gives the outcome of an input, whether the input is refused or not; where no memory is found for it, there is
--- such an outcome
+-- a reply gives the outcome of an input, whether the input is refused or not; if no memory is found for the reply,
+-- there is such an outcome
 abbrev pub Replies : Answer → Text → Result Reply Rejection → Type 0
 Replies answer input (Ok reply) = ForInput answer input (Gives reply)
 Replies answer input (Err (Refused reply)) = ForInput answer input (Gives reply)
 Replies answer input (Err Memory) = ForInput answer input (λ o. Unit {0})
 
--- a rejection refuses an input with a line, or no memory was found
+-- a rejection refuses an input with a line, or reports that no memory was found
 abbrev pub Refuses : Text → Rejection → Type 0
 Refuses line (Refused reply) = Gives reply (refused line)
 Refuses line Memory = Unit {0}
@@ -57,7 +56,7 @@ RefusesText (rows codes) (Refused reply) = ⊥
 RefusesText (no_row place byte) (Refused reply) = Gives reply (refused (text_fault_line (NoRow place byte)))
 RefusesText (open_comment place) (Refused reply) = Gives reply (refused (text_fault_line (OpenComment place)))
 
--- a run that ended is the definition's
+-- a run that ended is the one of the definition
 pub record IsRan (r : RunEnd) (ran : Ran) : Type 0 where
   pub ending_is : ran.ending ≡ r.ending
   pub state_is : ran.machine ≡ r.state

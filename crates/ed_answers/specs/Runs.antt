@@ -1,4 +1,4 @@
--- Runs from Start, and what is answered of them (this project's own rules).
+-- Runs from Start, and their answers (this project's own rules).
 use Rattle.std.specs.Prelude.{ℕ, ◌++◌, List, [], Option, Some, None}
 use Rattle.ed_printer.specs.Paper.{paper}
 use Rattle.ed_machine.specs.State.{State}
@@ -21,7 +21,7 @@ status_of NoOrder = 5
 status_of NoTape = 6
 status_of PaperFull = 7
 
--- how many codes the paper holds
+-- the number of codes that the paper holds
 abbrev pub paper_room : ℕ
 paper_room = 1000000
 
@@ -29,16 +29,16 @@ paper_room = 1000000
 abbrev pub run_of : Settings → List ℕ → RunEnd
 run_of s codes = ran s.limit s.resumes paper_room (first_state s.size codes)
 
--- the codes that a post-mortem prints of a state: those of the words at a window, and none where there is no window
+-- the codes that a post-mortem prints of a state: those of the words in a window, or none without a window
 abbrev pub post_mortem_codes : Option Window → State → List ℕ
 post_mortem_codes None s = []
 post_mortem_codes (Some w) s = printed_codes s.store.words w.first w.count
 
--- a run, with the codes of a post-mortem of the state in which it ended behind its own
+-- a run, with the codes of a post-mortem of the state in which it ended after its own
 abbrev pub with_post_mortem : Option Window → RunEnd → RunEnd
 with_post_mortem window r = record r { codes = r.codes ++ post_mortem_codes window r.state }
 
--- a run that ended: the teleprinter's bytes, the line of the ending behind what stands before it, and its status
+-- a run that ended: the teleprinter's bytes; a text, and the line of the ending after it; and the status
 abbrev pub ran_outcome : Text → RunEnd → Outcome
 ran_outcome before r = record {
   out = paper r.codes;

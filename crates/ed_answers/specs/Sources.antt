@@ -1,4 +1,4 @@
--- What the program answers to a source (this project's own rules).
+-- The program's answers to a source (this project's own rules).
 use Rattle.std.specs.Prelude.{◌≡◌, ◌⊎◌, ℕ, ◌++◌, [], List, map, nat_le, if◌then◌else◌}
 use Rattle.ed_words.specs.declared.size.Size.{Size}
 use Rattle.ed_machine.specs.State.{State}
@@ -20,23 +20,23 @@ use Rattle.ed_answers.specs.Outcome.{Outcome, done, refused}
 use Rattle.ed_answers.specs.Answer.{Answer, of_input}
 use Rattle.ed_answers.specs.Runs.{ran_outcome, run_of, with_post_mortem}
 
--- the outcome of a source on a machine of a size: where it is refused, the line of its fault; where it is accepted,
--- what a function gives for its lines
+-- the outcome of a source on a machine of this size: if it is refused, the line of its fault; if it is accepted, what a
+-- function gives for its lines
 abbrev pub OfSource : Size → (List Line → Outcome) → Text → Outcome → Type 0
 OfSource z accepted text o =
     ((k : ℕ) × (c : SourceCause) × IsRefused z text k c × (refused (source_fault_line (At k c)) ≡ o))
     ⊎ ((lines : List Line) × IsAcceptedAs z text lines × (accepted lines ≡ o))
 
--- the input is a source, and this is answered where it is accepted
+-- the input is a source, and this is the answer if it is accepted
 abbrev pub of_source : Size → (List Line → Outcome) → Answer
 of_source z accepted = of_input (OfSource z accepted)
 
--- what stands before the line of an ending: where the run obeyed the orders that the tape costs up to its entry, the
--- entry and these orders
+-- the text before the line of an ending: if the run obeyed all orders that the tape costs up to its entry, the entry
+-- and their number
 abbrev pub entered_before : List Line → State → Text
 entered_before lines s = if nat_le (cost lines) s.orders then entered (entry_of lines) (cost lines) else []
 
--- `run`: the run of the punched tape, with the post-mortem that is asked for
+-- `run`: the run of the punched tape, with the post-mortem that is requested
 abbrev pub run_outcome : Settings → List Line → Outcome
 run_outcome s lines =
     let r = run_of s (tape lines) in ran_outcome (entered_before lines r.state) (with_post_mortem s.post_mortem r)
@@ -45,18 +45,18 @@ run_outcome s lines =
 abbrev pub punch_outcome : List Line → Outcome
 punch_outcome lines = done (text_of (canonicals (punched lines)) ++ after_text (data_behind lines))
 
--- `listing`: the places of the linked program, with the words of the store at entry
+-- `listing`: the locations of the linked program, with the words of the store at the entry
 abbrev pub listing_outcome : List Line → Outcome
 listing_outcome lines = done (listing (entry_store lines) (map (λ p. p.place) (words_from 0 (table_of (linked lines)))))
 
--- what `run` answers
+-- the answer of `run`
 abbrev pub run_answer : Settings → Answer
 run_answer s = of_source s.size (run_outcome s)
 
--- what `punch` answers
+-- the answer of `punch`
 abbrev pub punch_answer : Settings → Answer
 punch_answer s = of_source s.size punch_outcome
 
--- what `listing` answers
+-- the answer of `listing`
 abbrev pub listing_answer : Settings → Answer
 listing_answer s = of_source s.size listing_outcome

@@ -1,4 +1,4 @@
--- What is answered to a tape: its run, and what its check says (this project's own rules).
+-- The program's answers to a tape: its run, and its check (this project's own rules).
 use Rattle.std.specs.Prelude.{◌≡◌, ◌⊎◌, ℕ, [], List}
 use Rattle.ed_words.specs.declared.size.Size.{Size}
 use Rattle.ed_store.specs.Cells.{cleared_cells}
@@ -15,11 +15,11 @@ use Rattle.ed_answers.specs.Runs.{ran_outcome, run_of, with_post_mortem}
 
 -- ---- runs
 
--- `tape`: the run of the rows, with the post-mortem that is asked for
+-- `tape`: the run of the rows, with the post-mortem that is requested
 abbrev pub tape_outcome : Settings → List ℕ → Outcome
 tape_outcome s codes = ran_outcome [] (with_post_mortem s.post_mortem (run_of s codes))
 
--- what `tape` answers
+-- the answer of `tape`
 abbrev pub tape_answer : Settings → Answer
 tape_answer s = of_rows (exactly (tape_outcome s))
 
@@ -29,14 +29,14 @@ tape_answer s = of_rows (exactly (tape_outcome s))
 abbrev pub first_note : Note
 first_note = opening cleared_cells.words
 
--- `check-tape` of a well-formed tape: the entry that the fold of its items comes to
+-- `check-tape` for a well-formed tape: the entry that the fold of its items reaches
 pub record OfWellFormed (z : Size) (codes : List ℕ) (o : Outcome) : Type 0 where
   pub well : WellFormed z cleared_cells.words first_note codes
   pub entry : TapeEntry
   pub comes : ComesTo cleared_cells.words first_note 9 codes entry
   pub outcome : done (entry_line entry.at entry.cost entry.rows) ≡ o
 
--- `check-tape` of a tape with a fault: the first one
+-- `check-tape` for a tape with a fault: the first one
 pub record OfFaulty (z : Size) (codes : List ℕ) (o : Outcome) : Type 0 where
   pub row : ℕ
   pub cause : TapeCause
@@ -47,6 +47,6 @@ pub record OfFaulty (z : Size) (codes : List ℕ) (o : Outcome) : Type 0 where
 abbrev pub IsChecked : Settings → List ℕ → Outcome → Type 0
 IsChecked s codes o = OfWellFormed s.size codes o ⊎ OfFaulty s.size codes o
 
--- what `check-tape` answers
+-- the answer of `check-tape`
 abbrev pub check_tape_answer : Settings → Answer
 check_tape_answer s = of_rows (IsChecked s)

@@ -15,7 +15,7 @@ use ed_store::Store;
 use ed_words::NoMemory;
 use std::alloc::Global;
 
-/// `check-tape`: the entry that a text's rows come to from a cleared store, or their fault.
+/// `check-tape`: the entry that a text's rows reach from a cleared store, or their fault.
 pub fn check_tape(alloc: Global, settings: Settings, input: &[u8]) -> Result<Reply, Rejection>
     requires { length input.now ≤ 2 ^ 32 }
     ensures { Replies (check_tape_answer settings) input.now result }

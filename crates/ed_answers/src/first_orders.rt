@@ -17,7 +17,7 @@ use ed_report::{ending_text, tape1_fault};
 use ed_words::{NoMemory, Size};
 use std::alloc::Global;
 
-/// Where the program of a tape of Initial Orders 1 is entered.
+/// The location at which the program of a tape of Initial Orders 1 is entered.
 const ENTRY: u16 = 31;
 
 /// `tape1`: the run of a text's rows under Initial Orders 1.
@@ -37,8 +37,8 @@ fn run_tape1(alloc: Global, settings: Settings, rows: Vec<Code>) -> Result<Reply
     ran_reply(alloc, &ran, note)
 }
 
-/// Runs a cleared machine of full size, started on rows with Initial Orders 1. Kept out of the callers, as the run of a
-/// tape is.
+/// Runs a cleared machine of full size, started on rows with Initial Orders 1. This is a function of its own for the
+/// same reason as the run of a tape.
 #[inline(never)]
 pub fn run_rows1(alloc: Global, settings: Settings, rows: Vec<Code>) -> Result<Ran, NoMemory>
     ensures { IfOk result (λ ran. IsRan (run1_of settings rows.items) ran) }
@@ -57,7 +57,7 @@ fn started1(alloc: Global, rows: Vec<Code>) -> Result<Machine, NoMemory>
     Ok(machine)
 }
 
-/// `check-tape1`: the entry at 31 that a text's rows come to under Initial Orders 1, or their fault.
+/// `check-tape1`: the entry at 31 that a text's rows reach under Initial Orders 1, or their fault.
 pub fn check_tape1(alloc: Global, input: &[u8]) -> Result<Reply, Rejection>
     requires { length input.now ≤ 2 ^ 32 }
     ensures { Replies check_tape1_answer input.now result }
@@ -76,7 +76,7 @@ fn check_rows1(alloc: Global, rows: &[Code]) -> Result<Reply, NoMemory>
     }
 }
 
-/// The reply to rows that are no tape of Initial Orders 1.
+/// The reply to rows that are not a tape of Initial Orders 1.
 fn fault_reply1(alloc: Global, fault: &Tape1Fault) -> Result<Reply, NoMemory>
     ensures is { IfOk result (λ reply. Gives reply (refused (tape1_fault_line fault.now))) }
     ensures told { IfOk result (λ _. fault.now ≢ Tape1Fault.Memory) }

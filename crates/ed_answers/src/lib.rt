@@ -1,4 +1,4 @@
-//! What is answered to a text: the run or the check of a tape, for either Initial Orders, and the run, the tape and the
+//! The answers to a text: the run or the check of a tape, for either Initial Orders, and the run, the tape and the
 //! listing of a source.
 //!
 //! Contract: the reply to a tape, to a tape of May 1949 and to a source is that of the definition; the laws between

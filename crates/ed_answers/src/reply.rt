@@ -5,18 +5,18 @@ ghost use Rattle.ed_answers.specs.Outcome.{done, refused};
 use ed_words::NoMemory;
 use std::alloc::Global;
 
-/// What is answered to an input, in memory.
+/// The answer to an input, in memory.
 #[derive(Drop)]
 pub struct Reply {
     /// The text of the answer.
     pub out: Vec<u8>,
-    /// The line on how it ended, or on what is at fault.
+    /// The line on how the command ended, or on the fault.
     pub note: Vec<u8>,
     /// The status of the program: 0, or 3 to 7.
     pub status: u8,
 }
 
-/// Why there are no rows of a text, or no linked program of it.
+/// Why a text gives no rows, or no linked program.
 #[derive(Drop)]
 pub enum Rejection {
     /// The text is refused, with this reply.
@@ -50,7 +50,7 @@ impl Reply {
 }
 
 impl Rejection {
-    /// The rejection that says a line; want of memory if there was none for the line.
+    /// The rejection with a line, or the one that no memory was found if there was none for the line.
     pub fn with_line(alloc: Global, line: Result<Vec<u8>, NoMemory>) -> Rejection
         ensures line { IfOk line (λ v. Refuses v.items result) }
         ensures memory { IsErr line → result ≡ Rejection.Memory }

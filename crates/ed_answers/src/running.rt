@@ -17,10 +17,10 @@ use ed_run::run;
 use ed_words::NoMemory;
 use std::alloc::Global;
 
-/// How many codes the paper of a run holds.
+/// The number of codes that the paper of a run holds.
 const PAPER_ROOM: usize = 1_000_000;
 
-/// How many codes the paper of a post-mortem holds, which are enough for all words that can be printed.
+/// The number of codes that the paper of a post-mortem holds: enough for all words that can be printed.
 const POST_MORTEM_ROOM: usize = 9_680;
 
 /// A run that ended, with the machine and the paper that it leaves.
@@ -31,8 +31,8 @@ pub struct Ran {
     pub paper: Paper,
 }
 
-/// Runs a cleared machine of a size, started on the rows with the Initial Orders. Kept out of the callers: inlined into
-/// `main` it would run out of registers and take longer.
+/// Runs a cleared machine of this size, started on the rows with the Initial Orders. This is a function of its own
+/// because inlined into `main` it would run out of registers and take longer.
 #[inline(never)]
 pub fn run_rows(alloc: Global, settings: Settings, rows: Vec<Code>) -> Result<Ran, NoMemory>
     ensures is { IfOk result (λ ran. IsRan (run_of settings rows.items) ran) }
@@ -42,7 +42,7 @@ pub fn run_rows(alloc: Global, settings: Settings, rows: Vec<Code>) -> Result<Ra
     run_machine(alloc, settings, started(alloc, settings.size, rows)?)
 }
 
-/// Runs a machine until it has done the orders of the limit, those that it has done before included.
+/// Runs a machine until it has obeyed as many orders as the limit, including those that it obeyed before.
 #[inline(always)]
 pub fn run_machine(alloc: Global, settings: Settings, mut machine: Machine) -> Result<Ran, NoMemory>
     requires { machine.orders ≤ settings.limit }
@@ -77,7 +77,7 @@ pub fn ran_reply(alloc: Global, ran: &Ran, note: Vec<u8>) -> Result<Reply, NoMem
     })
 }
 
-/// The reply of a run, with the post-mortem that is asked for after it, printed in the shift that the run leaves. Its
+/// The reply of a run, with the post-mortem that is requested after it, printed in the shift that the run leaves. Its
 /// orders don't count against the limit.
 pub fn post_mortem_reply(
     alloc: Global,
@@ -102,7 +102,7 @@ pub fn post_mortem_reply(
     })
 }
 
-/// The paper of a post-mortem of the words at a window, or an empty one where there is no window.
+/// The paper of a post-mortem of the words in a window, or an empty one without a window.
 fn post_mortem_of(
     alloc: Global,
     window: Option<Window>,
@@ -121,7 +121,7 @@ fn post_mortem_of(
     }
 }
 
-/// The paper of the words at a window. No post-mortem of it is refused: it lies in the store, and the paper has room.
+/// The paper of the words in a window. No post-mortem of it is refused: it is within the store, and the paper has room.
 fn window_printed(alloc: Global, window: Window, machine: &mut Machine) -> Result<Paper, PmFault>
     requires window { IsWindowOf machine.old.size window }
     requires orders { machine.old.orders + 300000 ≤ 2 ^ 63 }

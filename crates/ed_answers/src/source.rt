@@ -47,7 +47,7 @@ pub fn punch(alloc: Global, settings: Settings, input: &[u8]) -> Result<Reply, R
     Ok(punch_linked(alloc, &linked)?)
 }
 
-/// `listing`: the locations of a source's linked program, with the words of the store at entry.
+/// `listing`: the locations of a source's linked program, with the words of the store at the entry.
 pub fn list(alloc: Global, settings: Settings, input: &[u8]) -> Result<Reply, Rejection>
     ensures { Replies (listing_answer settings) input.now result }
 {
@@ -106,8 +106,8 @@ pub fn run_linked(alloc: Global, settings: Settings, linked: &Linked) -> Result<
     Ok(NotedRun { ran, note })
 }
 
-/// The run of a linked program's tape. The tape is read once: the run goes on from the machine that was led to the entry,
-/// and only a run whose limit is below the cost is obeyed from Start. Kept out of the callers, as the run of a tape is.
+/// The run of a linked program's tape. The tape is read once: the run continues from the machine that was led to the
+/// entry. Only a run whose limit is below the cost is obeyed from Start. A function of its own like the run of a tape.
 #[inline(never)]
 fn run_entered(
     alloc: Global,
@@ -151,7 +151,7 @@ fn punch_linked(alloc: Global, linked: &Linked) -> Result<Reply, NoMemory>
     Ok(Reply::done(alloc, linked.text()?))
 }
 
-/// The places of a linked program, with the words of the store at entry.
+/// The locations of a linked program, with the words of the store at the entry.
 pub fn list_linked(alloc: Global, size: Size, linked: &Linked) -> Result<Reply, NoMemory>
     requires { (lines : List Line) × IsLinked size lines linked.now }
     ensures { IfOk result (λ reply. (lines : List Line) → IsLinked size lines linked.now
@@ -162,7 +162,7 @@ pub fn list_linked(alloc: Global, size: Size, linked: &Linked) -> Result<Reply, 
     Ok(Reply::done(alloc, listing(alloc, machine.store(), &places)?))
 }
 
-/// The places of words.
+/// The locations of words.
 fn places_of(alloc: Global, words: &[Placed]) -> Result<Vec<u16>, NoMemory>
     ensures { IfOk result (λ v. v.items ≡ map (λ p. p.place) words.now) }
 {

@@ -15,13 +15,13 @@ pub enum Call {
     NewLine,
     /// Divides `n` by `by`, and prints the quotient and the remainder.
     Divide {
-        /// The number that is divided.
+        /// The dividend.
         n: u32,
-        /// The number that it is divided by.
+        /// The divisor.
         by: u16,
     },
-    /// Prints the whole square root of a number.
+    /// Prints the integer square root of a number.
     Root(u16),
-    /// Prints a number, as the checking routine checks it.
+    /// Prints a number under the checking routine.
     Check(u16),
 }

@@ -44,7 +44,7 @@ agree_trans p q = record {
   tape = p.tape ∙ q.tape;
 }
 
--- two guests that agree, of which the second is allowed its next order
+-- two guests that agree, if the second is allowed its next order
 module _ {base : ℕ} (even_base : base % 2 ≡ 0) {s t : State} (p : Agree base s t) (ok : IsAllowed base t) where
   same_word : next_word s ≡ next_word t
   same_word = ap (short_at s.store) p.counter ∙ p.words t.counter ok.outside
@@ -77,7 +77,7 @@ module _ {base : ℕ} (even_base : base % 2 ≡ 0) {s t : State} (p : Agree base
     turn : a.turn ≡ b.turn
     agree : Agree base a.state b.state
 
-  -- both go on at the same place
+  -- both go on at the same location
   both_moved : {n m : ℕ} → n ≡ m
       → Both (record { state = done_at n s; turn = Went }) (record { state = done_at m t; turn = Went })
   both_moved e = record {
@@ -176,7 +176,7 @@ module _ {base : ℕ} (even_base : base % 2 ≡ 0) {s t : State} (p : Agree base
                   ]
             ]
 
--- ---- the guest of a machine in which the routine stands
+-- ---- the guest of a machine that has the routine
 
 guest_fits : (base : ℕ) (m : State) → HasGuest base m → (guest base m).acc < 2 ^ 71
 guest_fits base m h =

@@ -1,4 +1,4 @@
--- A program each of whose orders keeps below the checking routine can be its guest.
+-- A program whose orders all stay below the checking routine can be its guest.
 use Rattle.std.proofs.Common.{◌≡◌, inl, ◌∙◌, ℕ, zero, suc, ◌+◌, ◌%◌, ◌<◌, ◌≤◌, refl}
 use Rattle.std.proofs.Common.{sym, subst, arith, Bool, true, false, true≢false, Option, Some, None}
 use Rattle.std.proofs.Common.{List, [], ◌∷◌, nat_lt, nat_le, ◌^◌}
@@ -49,7 +49,7 @@ module _ (base : ℕ) (even_base : base % 2 ≡ 0) (s : State) (room : base + 66
   by_kind I o = near (o.near refl)
   by_kind O o = near (o.near refl)
 
--- an order that keeps below the routine, and is followed by a place below it, is allowed
+-- an order that stays below the routine, and is followed by a location below it, is allowed
 pub allowed_below : (base : ℕ) → base % 2 ≡ 0 → (kind : Kind) (s : State) → IsOrder base kind s
     → base + 66 ≤ locations s.size
     → IsAllowed base s

@@ -1,4 +1,4 @@
--- A machine in which the routine stands, as a state of its paths, and back.
+-- A machine that has the routine, as a state of its paths, and back.
 use Rattle.std.proofs.Common.{◌≡◌, ◌∷◌, inl, inr, ℕ, zero, suc, ◌+◌, ◌-◌, ◌*◌, ◌/◌, ◌%◌}
 use Rattle.std.proofs.Common.{◌<◌, ◌≤◌, refl, sym, ap, ◌∙◌, arith, lit<, lit≤}
 use Rattle.std.proofs.Common.{false, List, [], Option, None, length, get_or}
@@ -27,7 +27,7 @@ use Rattle.ed_checker.proofs.Saving.{whole}
 abbrev pub around : State → Around
 around s = record { words = s.store.words; digits = s.store.sandwich; multiplier = s.multiplier; tape = s.tape }
 
--- a state that has these words and sandwich digits in the routine's places
+-- a state with these words and sandwich digits in the routine's locations
 pub record HasCells (f : Frame 66 30) (w : Work) (s : State) : Type 0 where
   pub size : f.size ≡ s.size
   pub word_count : length s.store.words ≡ 1024
@@ -56,7 +56,7 @@ opened f even w s at h counter =
 abbrev check_image : ℕ → List (Option ℕ)
 check_image b = image check b (0 ∷ [])
 
--- it stands in a store
+-- the image is in a store
 holds_image : {b : ℕ} {s : State} → b ≤ 1024 → HasImage b s → Holds (check_image b) s.store.words b
 holds_image low h =
     let makes : Makes (with_h 0) (0 ∷ []) = more (lit≤ tt) refl none in
@@ -115,7 +115,7 @@ module _ (base : ℕ) (even_base : base % 2 ≡ 0) (s : State) (is_store : IsSto
     digits = pair_is;
   }
 
--- what the guest is of a state of the paths
+-- the guest of a state of the paths
 module _ (f : Frame 66 30) (even : f.base % 2 ≡ 0) (o : Around) (w : Work) where
   abbrev at_turn : Option ℕ → ℕ → State
   at_turn last k = state f (moment f.base o w 0 0 last) k
@@ -148,7 +148,7 @@ module _ (f : Frame 66 30) (even : f.base % 2 ≡ 0) (o : Around) (w : Work) whe
   pub guest_acc : (guest f.base the_state).acc ≡ whole w.high w.middle w.low
   guest_acc = rw (high_is, middle_is, low_is) refl
 
-  -- the image stays that of a state from which the routine's own words come
+  -- the image is still that of a state if the routine's own words come from it
   image_is : {m : State} → HasImage f.base m → HasImage f.base the_state
   image_is {m} h i l = record {
     has = λ free.
@@ -165,7 +165,7 @@ module _ (f : Frame 66 30) (even : f.base % 2 ≡ 0) (o : Around) (w : Work) whe
         ∙ (h i l).has free;
   }
 
-  -- the routine stands at the beginning of a turn
+  -- the routine is at the beginning of a turn
   pub stands_again : {c k : ℕ} {last : Option ℕ} {m : State} → w.at0 ≡ 114688 + 2 * c → c < 1024
       → HasImage f.base m → IsSaved w.high w.middle w.low → CheckerStands f.base (at_turn last k)
   stands_again {c} fetch room old saved =
@@ -181,7 +181,7 @@ module _ (f : Frame 66 30) (even : f.base % 2 ≡ 0) (o : Around) (w : Work) whe
         low_few = rw (low_is, low) (omega arith);
       }
 
--- outside the routine, a state of its paths is as the state that it was made from
+-- outside the routine, a state of its paths is the state from which it was made
 module _ (f : Frame 66 30) (w : Work) (t : State) (same : f.size ≡ t.size)
     (words_are : length t.store.words ≡ 1024) (digits_are : length t.store.sandwich ≡ 512) where
   word : (a : ℕ) → IsOutsideChecker f.base a

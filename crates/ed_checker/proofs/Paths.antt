@@ -1,4 +1,5 @@
--- The routine's paths: the guest's order fetched, the tests, the 71 digits brought back and saved, the guest's counter.
+-- The routine's paths: it fetches the guest's order, tests it, restores and saves the 71 digits, and advances the
+-- guest's counter.
 use Rattle.std.proofs.Common.{◌≡◌, ℕ, ◌+◌, ◌-◌, ◌*◌, ◌/◌, ◌%◌, ◌^◌, ◌<◌, ◌≤◌, refl, arith}
 use Rattle.std.proofs.Common.{lit<, Bool, nat_eq, List, [], ◌∷◌, Option, Some, get_or}
 use Rattle.ed_paths.proofs.Sums.{parted}
@@ -10,7 +11,7 @@ use Rattle.ed_paths.proofs.Moves.{A, S, T_top, U_top, R, L, E_jumps, E_stays, G_
 use Rattle.ed_paths.proofs.Paths.{Path, stay, on, prints, followed}
 use Rattle.ed_checker.proofs.Saving.{high_of, middle_of, low_of, whole}
 
--- the routine's changing words: its places 0, 40, 58 and 59, and its three long words
+-- the routine's changing words: 0, 40, 58 and 59, and its three long words
 pub record Work : Type 0 where
   pub at0 : ℕ
   pub at40 : ℕ
@@ -20,7 +21,7 @@ pub record Work : Type 0 where
   pub middle : ℕ
   pub low : ℕ
 
--- the routine's words, with those of its six last places
+-- the routine's words, with those of its last six locations
 abbrev pub cells_with : ℕ → Work → ℕ → ℕ → ℕ → ℕ → ℕ → ℕ → List ℕ
 cells_with b w a60 a61 a62 a63 a64 a65 =
     w.at0 ∷ (28672 + 2 * (b + 40)) ∷ (36864 + 2 * (b + 40)) ∷ (12288 + 2 * (b + 13)) ∷ (49152 + 2 * (b + 53))
@@ -40,7 +41,7 @@ abbrev pub cells : ℕ → Work → List ℕ
 cells b w = cells_with b w (w.high % 2 ^ 17) (w.high / 2 ^ 18) (w.middle % 2 ^ 17) (w.middle / 2 ^ 18)
     (w.low % 2 ^ 17) (w.low / 2 ^ 18)
 
--- the sandwich digits of its three long words, which are the pairs from the 30th on
+-- the sandwich digits of its three long words, from that of pair 30 upwards
 abbrev pub pairs : Work → List Bool
 pairs w = nat_eq (w.high / 2 ^ 17 % 2) 1 ∷ nat_eq (w.middle / 2 ^ 17 % 2) 1 ∷ nat_eq (w.low / 2 ^ 17 % 2) 1 ∷ []
 
@@ -64,7 +65,7 @@ moment b o w acc at last = record {
   last = last;
 }
 
--- the three long words of a saved accumulator, the lowest with its two digits at the top
+-- the three long words of a saved accumulator, the last with its two digits at the upper end
 pub record IsSaved (high middle low : ℕ) : Type 0 where
   pub digits : ℕ
   pub few : digits < 4
@@ -73,7 +74,7 @@ pub record IsSaved (high middle low : ℕ) : Type 0 where
   pub high_fits : high < 2 ^ 35
 
 module _ (f : Frame 66 30) (f_even : f.base % 2 ≡ 0) (o : Around) where
-  -- places 22 to 25: the guest's counter is one more
+  -- words 22 to 25: the guest's counter is increased by one
   pub advance : (w : Work) (last : Option ℕ) → w.at0 + 2 < 2 ^ 17
       → Path f 4 (moment f.base o w 0 22 last) [] (moment f.base o (record w { at0 = w.at0 + 2 }) 0 0 last)
   advance w last h =
@@ -82,7 +83,7 @@ module _ (f : Frame 66 30) (f_even : f.base % 2 ≡ 0) (o : Around) where
       (on (T_top 24 (own 0) (w.at0 + 2) refl (omega arith))
       (on (E_jumps 25 (own 0) refl (lit< tt)) stay)))
 
-  -- places 26 to 29: the guest's counter is the place of a jump
+  -- words 26 to 29: the guest's counter is the location of a jump
   pub jump : (w : Work) (acc : ℕ) (last : Option ℕ) → w.at58 < 2 ^ 17
       → Path f 4 (moment f.base o w acc 26 last) []
       (moment f.base o (record w { at59 = acc / 2 ^ 54; at0 = w.at58 }) 0 0 last)
@@ -92,7 +93,7 @@ module _ (f : Frame 66 30) (f_even : f.base % 2 ≡ 0) (o : Around) where
       (on (T_top 28 (own 0) w.at58 refl (omega arith))
       (on (E_jumps 29 (own 0) refl (lit< tt)) stay)))
 
-  -- places 30 to 39: the accumulator is brought back
+  -- words 30 to 39: the accumulator is restored
   pub restore : {acc : ℕ} {last : Option ℕ} (w : Work) → IsSaved w.high w.middle w.low
       → Path f 10 (moment f.base o w acc 30 last) []
       (moment f.base o (record w { at59 = acc / 2 ^ 54 }) (whole w.high w.middle w.low) 40 last)
@@ -114,7 +115,7 @@ module _ (f : Frame 66 30) (f_even : f.base % 2 ≡ 0) (o : Around) where
       (on (R 38 R4F (4 * w.middle + l) refl (omega arith, omega arith))
       (on (A 39 (pair 60 0 f_even) (whole w.high w.middle w.low) refl (rw (parted w.high) (omega arith))) stay)))))))))
 
-  -- places 41 to 52: the accumulator is saved
+  -- words 41 to 52: the accumulator is saved
   pub save : (w : Work) (a : ℕ) (last : Option ℕ) → a < 2 ^ 71
       → Path f 12 (moment f.base o w a 41 last) []
       (moment f.base o (record w { high = high_of a; middle = middle_of a; low = low_of a }) 0 22 last)
@@ -134,7 +135,7 @@ module _ (f : Frame 66 30) (f_even : f.base % 2 ≡ 0) (o : Around) where
       (on (T_top 51 (pair 64 2 f_even) (low_of a) refl (omega arith))
       (on (E_jumps 52 (own 22) refl (lit< tt)) stay)))))))))))
 
-  -- places 0 to 2: the guest's order is fetched, planted, and its function printed
+  -- words 0 to 2: the guest's order is fetched and copied, and its function printed
   pub fetch : {c x : ℕ} {last : Option ℕ} (w : Work) → w.at0 ≡ 114688 + 2 * c → IsOutside f o.words c
       → get_or o.words c 0 ≡ x → x < 2 ^ 17
       → Path f 3 (moment f.base o w 0 0 last) (x / 4096 ∷ [])
@@ -144,7 +145,7 @@ module _ (f : Frame 66 30) (f_even : f.base % 2 ≡ 0) (o : Around) where
       (on (U_top 1 (own 40) x refl (omega arith))
       (prints (O 2 (own 40) (x / 4096) refl (omega arith)) stay))
 
-  -- places 3 to 16: the tests, for a function that is neither E nor G
+  -- words 3 to 16: the tests, for a function that is neither E nor G
   pub below_E : (w : Work) (x : ℕ) (last : Option ℕ) → x < 12288
       → Path f 3 (moment f.base o w (x * 2 ^ 54) 3 last) [] (moment f.base o w ((x + 118784) * 2 ^ 54) 30 last)
   below_E w x last h =
@@ -177,7 +178,8 @@ module _ (f : Frame 66 30) (f_even : f.base % 2 ≡ 0) (o : Around) where
       (on (S 6 (own 55) ((x - 114688) * 2 ^ 54) refl (omega arith, omega arith))
       (on (E_jumps 7 (own 30) refl (omega arith)) stay))))
 
-  -- for E and G the place of the jump is made an A order, and the saved accumulator comes to the top
+  -- for E and G the address of the jump is made an A order, and the saved accumulator is brought to the most
+  -- significant end
   at_E : {last : Option ℕ} (w : Work) (x : ℕ) → (12288 ≤ x) × (x < 16384) → w.high < 2 ^ 35
       → Path f 8 (moment f.base o w (x * 2 ^ 54) 3 last) []
       (moment f.base o (record w { at58 = x + 102400 }) (w.high * 2 ^ 36) 20 last)
@@ -208,7 +210,7 @@ module _ (f : Frame 66 30) (f_even : f.base % 2 ≡ 0) (o : Around) where
       (on (T_top 9 (own 58) (x + 4096) refl (omega arith))
       (on (A 10 (pair 60 0 f_even) (w.high * 2 ^ 36) refl (rw (parted w.high) (omega arith))) stay)))))))
 
-  -- an E or G order of the guest, from place 3 to the beginning of the next turn: the four cases
+  -- an E or G order of the guest, from word 3 to the beginning of the next turn: the four cases
   pub E_taken : {last : Option ℕ} (w : Work) (x : ℕ) → (12288 ≤ x) × (x < 16384) → w.high < 2 ^ 34
       → Path f 13 (moment f.base o w (x * 2 ^ 54) 3 last) []
       (moment f.base o (record w { at0 = x + 102400; at58 = x + 102400; at59 = w.high * 2 ^ 36 / 2 ^ 54 }) 0 0 last)

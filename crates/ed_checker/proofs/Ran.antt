@@ -1,4 +1,4 @@
--- What so many orders of the machine come to: where they lead, what they print, and how many of them are stops.
+-- What k orders of the machine do: where they lead, what they print, and how many of them are stops.
 use Rattle.std.proofs.Common.{◌≡◌, ◌⊎◌, inl, inr, ◌∙◌, ℕ, ◌+◌, ◌-◌}
 use Rattle.std.proofs.Common.{◌<◌, ◌≤◌, refl, sym, ap, subst, arith, true}
 use Rattle.std.proofs.Common.{List, [], ◌++◌}
@@ -11,7 +11,7 @@ use Rattle.ed_paths.proofs.Leads.{Leads, free, no_stops}
 use Rattle.ed_machine.proofs.Steps.{past_after, past_sum, after_sum}
 use Rattle.ed_checker.specs.Laws.{Ran}
 
--- orders behind orders
+-- orders after orders
 pub joined : {a b n l : ℕ} {cs ds : List ℕ} {s m t : State} → Ran a s cs n m → Ran b m ds l t
     → Ran (a + b) s (cs ++ ds) (n + l) t
 joined {a} {b} {n} {l} {cs} {ds} {s} {m} {t} g h = record {

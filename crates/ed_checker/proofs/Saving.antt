@@ -1,7 +1,7 @@
--- Saving the 71 digits of an accumulator in three long words, and bringing them back: the numbers alone.
+-- Saving the 71 digits of an accumulator in three long words, and restoring them: the numbers alone.
 use Rattle.std.proofs.Common.{◌≡◌, ℕ, ◌+◌, ◌*◌, ◌/◌, ◌%◌, ◌^◌, ◌<◌, arith}
 
--- the three longs of an accumulator
+-- the three long words of an accumulator
 abbrev pub high_of : ℕ → ℕ
 high_of a = a / 2 ^ 36
 
@@ -11,11 +11,11 @@ middle_of a = a % 2 ^ 36 / 4
 abbrev pub low_of : ℕ → ℕ
 low_of a = a % 4 * 2 ^ 32
 
--- the accumulator of three longs
+-- the accumulator of three long words
 abbrev pub whole : ℕ → ℕ → ℕ → ℕ
 whole high middle low = high * 2 ^ 36 + 4 * middle + low / 2 ^ 32
 
--- what was saved is brought back
+-- what was saved is restored
 pub saved : (a : ℕ) → whole (high_of a) (middle_of a) (low_of a) ≡ a
 saved a = omega arith
 

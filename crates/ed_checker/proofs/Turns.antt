@@ -35,7 +35,7 @@ use Rattle.ed_checker.proofs.Ran.{joined, one, along}
 use Rattle.ed_checker.proofs.Opening.{around, HasCells, opened, frame, work, holds}
 use Rattle.ed_checker.proofs.Opening.{guest_counter, guest_acc, stands_again, alike_around}
 
--- what a turn does: k orders lead from m to t, where the routine stands again and the guest is past its order
+-- what a turn does: k orders lead from m to t, where the routine is at the start of a turn and the guest past its order
 pub record Turned (base : ℕ) (m : State) : Type 0 where
   pub after : State
   pub count : ℕ
@@ -47,7 +47,7 @@ pub record Turned (base : ℕ) (m : State) : Type 0 where
   pub agree : Agree base (guest base after) (step (guest base m)).state
   pub size : after.size ≡ m.size
 
--- where the guest's order cannot be obeyed: the routine comes to it, and is stopped by the same cause
+-- if the guest's order cannot be obeyed: the routine reaches it, and is stopped by the same cause
 pub record Stuck (base : ℕ) (m : State) : Type 0 where
   pub after : State
   pub count : ℕ
@@ -58,7 +58,7 @@ pub record Stuck (base : ℕ) (m : State) : Type 0 where
   pub turn : (step after).turn ≡ (step (guest base m)).turn
   pub agree : Agree base (guest base after) (guest base m)
 
--- where the guest's order is a stop: the machine stops at it
+-- if the guest's order is a stop: the machine stops at it
 pub record Halts (base : ℕ) (m : State) : Type 0 where
   pub before : State
   pub count : ℕ
@@ -68,7 +68,7 @@ pub record Halts (base : ℕ) (m : State) : Type 0 where
   pub counter : before.counter ≡ base + 40
   pub turn : (step before).turn ≡ Stopped
 
--- the kinds of all functions but 3 and 27 are obeyed in the routine's own place
+-- the kinds of all functions but 3 and 27 are obeyed at the routine's own location
 abbrev all_but : List (Option Kind) → ℕ → Bool
 all_but [] i = true
 all_but (k ∷ ks) i = (is_planted k || (nat_eq i 3 || nat_eq i 27)) && all_but ks (i + 1)
@@ -163,14 +163,14 @@ module _ (base : ℕ) (even_base : base % 2 ≡ 0) (m : State) (store : IsStore 
       by_side (inl l) = let all = store.words_are in inl (l, omega (arith, c_fits))
       by_side (inr g) = inr g
 
-  -- the words after the order is planted
+  -- the words after the order is copied
   abbrev w1 : Work
   w1 = record w0 { at40 = x }
 
   fetched : Path f 3 (moment base o w0 0 0 m.last) (n ∷ []) (moment base o w1 (x * 2 ^ 54) 3 (Some n))
   fetched = fetch f even_base o w0 at0_is c_outside refl x_fits
 
-  -- the routine comes to the planted order
+  -- the routine reaches the copied order
   record Arrives : Type 0 where
     count : ℕ
     most : count ≤ 18
@@ -240,14 +240,14 @@ module _ (base : ℕ) (even_base : base % 2 ≡ 0) (m : State) (store : IsStore 
     abbrev w2 : Work
     w2 = record w1 { at59 = to.at59 }
 
-    -- the machine at the planted order
+    -- the machine at the copied order
     abbrev m1 : State
     m1 = state f (moment base o w2 g.acc 40 (Some n)) (m.orders + to.count)
 
     reached : Ran to.count m (n ∷ []) 0 m1
     reached = subst (λ s. Ran to.count s (n ∷ []) 0 m1) begins (along (leads to.runs m.orders))
 
-    -- what the planted order does, to the machine and to the guest
+    -- what the copied order does, to the machine and to the guest
     abbrev r1 : Obeyed
     r1 = obey_word (kind_of_function n) x m1
 
@@ -414,7 +414,7 @@ module _ (base : ℕ) (even_base : base % 2 ≡ 0) (m : State) (store : IsStore 
         size = refl;
       }
 
-  -- an E or G order as it stands
+  -- an E or G order as a word, without further digits
   plain_word : (j : ℕ) → n ≡ j → IsPlainJump base x m.size → x ≡ 4096 * j + 2 * address_of x
   plain_word j e p =
       let s = p.short in

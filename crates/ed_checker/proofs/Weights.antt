@@ -1,4 +1,4 @@
--- What the orders of a guest weigh, if an order weighs as many orders as its turn takes.
+-- The weights of a guest's orders, if the weight of an order is the number of orders of its turn.
 use Rattle.std.proofs.Common.{◌≡◌, ℕ, zero, suc, ◌+◌, refl, ap, ◌∙◌, subst, arith}
 use Rattle.std.proofs.Common.{Bool, true, false, ◌&&◌, not, nat_eq, List, [], ◌∷◌, Option, Some, None, get_or}
 use Rattle.std.proofs.lemmas.Bool.{and_parts, not-true}
@@ -25,7 +25,7 @@ weighs_as n (Some G) = nat_eq n 27
 weighs_as n (Some kind) =
     not (nat_eq n 3) && (not (nat_eq n 27) && nat_eq (orders_by n 0) (weight turn_weights kind 0))
 
--- whether each function from one on has
+-- whether each function from the first one upwards has
 abbrev all_weigh : List (Option Kind) → ℕ → Bool
 all_weigh [] i = true
 all_weigh (k ∷ ks) i = weighs_as i k && all_weigh ks (i + 1)
@@ -40,7 +40,7 @@ weighs_at (k ∷ ks) i (suc n) h =
     subst (λ j. weighs_as j (get_or ks n None) ≡ true) e
     (weighs_at ks (i + 1) n (and_parts (weighs_as i k) (all_weigh ks (i + 1)) h).1)
 
--- an order that is no jump: the accumulator doesn't count
+-- an order that is no jump: the accumulator makes no difference
 no_jump : (n v acc : ℕ) → (not (nat_eq n 3) && (not (nat_eq n 27) && nat_eq (orders_by n 0) v)) ≡ true
     → orders_by n acc ≡ v
 no_jump n v acc h =

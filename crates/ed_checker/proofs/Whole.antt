@@ -40,7 +40,7 @@ few_stops Stopped = lit≤ tt
 few_stops (NoOrder function) = lit≤ tt
 few_stops NoTape = lit≤ tt
 
--- a state that no order leaves
+-- a state in which no order can be obeyed
 same_state : (k : Option Kind) (w : ℕ) (s : State) → is_obeyed (obey_word k w s).turn ≡ false
     → ((obey_word k w s).state ≡ s) × (codes_of (obey_word k w s).turn ≡ [])
 same_state (Some E) w s h = absurd (by_test (nat_lt s.acc (2 ^ 70)) h)
@@ -83,7 +83,7 @@ answer_of (Some I) w n s h = by_tape s.tape h
 answer_of None w n s h = absurd (true≢false (sym h))
 answer_of (Some k) w n s h = refl
 
--- the answer where the order is blocked
+-- the answer if the order is blocked
 blocked_answer : (t : Turn) (n : ℕ) → is_obeyed t ≡ false → answer_by t n ≡ IsBlocked n
 blocked_answer Went n h = absurd (true≢false h)
 blocked_answer (Printed code) n h = absurd (true≢false h)
@@ -100,7 +100,8 @@ blocked_end Stopped full h = absurd (true≢false h)
 blocked_end (NoOrder function) full h = (EndsNoOrder, refl, inl refl)
 blocked_end NoTape full h = (EndsNoTape, refl, inr refl)
 
--- a run of as many orders as a turn takes, from a state in which the routine stands and its guest's order is allowed
+-- a run of as many orders as a turn takes, from a state in which the routine is at the start of one and its guest's
+-- order is allowed
 pub record IsTurn (base count : ℕ) (s t : State) (sheet full : Sheet) (ending : Ending) : Type 0 where
   pub even : base % 2 ≡ 0
   pub store : IsStore s.store
@@ -119,7 +120,7 @@ module _ {base count : ℕ} {s t : State} {sheet full : Sheet} {ending : Ending}
   runs : IsRun (turn_orders g) 1 s sheet ending t full
   runs = subst (λ k. IsRun k 1 s sheet ending t full) o.count_is o.run
 
-  -- how many codes the paper takes
+  -- the number of codes that the paper takes
   abbrev space_left : ℕ
   space_left = sheet.room - length sheet.codes
 

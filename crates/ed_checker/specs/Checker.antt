@@ -1,7 +1,7 @@
--- The checking routine and its guest (a checking routine of this kind is told of by Wilkes, Wheeler and Gill 1951;
--- the text is this project's own). The routine takes 66 places from an even base on. It obeys the orders of another
--- program, its guest, one by one: the guest's store, multiplier and tape are the machine's own, and the routine keeps
--- the guest's counter and accumulator in its places.
+-- The checking routine and its guest (Wilkes, Wheeler and Gill 1951 describe a checking routine of this kind; the text
+-- is this project's own). The routine takes 66 locations from an even base. It obeys the orders of another program, its
+-- guest, one by one. The guest's store, multiplier and tape are the machine's own; the routine keeps the guest's
+-- counter and accumulator in its own locations.
 use Rattle.std.specs.Prelude.{◌≡◌, ◌⊎◌, ℕ, zero, suc, ◌+◌, ◌-◌, ◌*◌, ◌/◌, ◌%◌, ◌^◌, ◌<◌, ◌≤◌}
 use Rattle.std.specs.Prelude.{nat_eq, nat_lt, if◌then◌else◌}
 use Rattle.std.specs.Prelude.{Bool, true, false, List, [], ◌∷◌, ◌++◌, Option, Some, None, codes}
@@ -18,7 +18,7 @@ use Rattle.ed_machine.specs.Steps.{codes_of, is_obeyed, state_after}
 use Rattle.ed_routines.specs.Catalogue.{named, with_h}
 use Rattle.ed_routines.specs.Standing.{HasWord}
 
--- how many places the routine takes
+-- the number of locations of the routine
 abbrev pub length_of_checker : ℕ
 length_of_checker = 66
 
@@ -26,12 +26,12 @@ length_of_checker = 66
 abbrev pub IsOutsideChecker : ℕ → ℕ → Type 0
 IsOutsideChecker base a = (a < base) ⊎ (base + length_of_checker ≤ a)
 
--- the place of the routine at which it plants the guest's order and obeys it
+-- the location, from the base, to which the routine copies the guest's order and obeys it
 abbrev pub planting_place : ℕ
 planting_place = 40
 
--- the guest: the machine's store, multiplier, tape and size; its counter is the address of the order at the routine's
--- first place, its accumulator is kept in three long locations, nothing was printed and no order is done
+-- the guest: the machine's store, multiplier, tape and size; its counter is the address in the routine's first word,
+-- its accumulator is in three long words; nothing was printed and no order obeyed
 abbrev pub guest : ℕ → State → State
 guest base s = record s {
   counter = address_of (short_at s.store base);
@@ -40,8 +40,8 @@ guest base s = record s {
   orders = 0;
 }
 
--- two states agree: they differ at most in the words and sandwich digits of the routine's places, the last printed
--- code and the orders done
+-- two states agree: they differ at most in the words and sandwich digits of the routine's locations, the last printed
+-- code and the count of orders
 pub record Agree (base : ℕ) (s t : State) : Type 0 where
   pub size : s.size ≡ t.size
   pub words : (a : ℕ) → IsOutsideChecker base a → short_at s.store a ≡ short_at t.store a
@@ -51,7 +51,7 @@ pub record Agree (base : ℕ) (s t : State) : Type 0 where
   pub counter : s.counter ≡ t.counter
   pub tape : s.tape ≡ t.tape
 
--- an order reaches no place of the routine: its location, or both of its pair where it is long, is outside
+-- an order uses no location of the routine: its location, or both of its pair if it is long, is outside
 abbrev pub Reaches : Bool → ℕ → ℕ → Type 0
 Reaches true base p = IsOutsideChecker base (even p) × IsOutsideChecker base (odd p)
 Reaches false base p = IsOutsideChecker base p
@@ -63,7 +63,7 @@ pub record IsPlainJump (base w : ℕ) (z : Size) : Type 0 where
   pub below : address_of w < locations z
   pub outside : IsOutsideChecker base (address_of w)
 
--- what the routine asks of an order of the guest, by its kind; its location is taken modulo the size
+-- what the routine requires of an order of the guest, by its kind; its location is taken modulo the size
 abbrev pub IsAllowedOrder : Option Kind → ℕ → ℕ → Size → Type 0
 IsAllowedOrder (Some F) base w z = ⊥
 IsAllowedOrder (Some E) base w z = IsPlainJump base w z
@@ -85,7 +85,7 @@ IsAllowedOrder (Some Y) base w z = Unit {0}
 IsAllowedOrder (Some Z) base w z = Unit {0}
 IsAllowedOrder None base w z = Unit {0}
 
--- what the routine asks of the guest for its next order
+-- what the routine requires of the guest for its next order
 pub record IsAllowed (base : ℕ) (g : State) : Type 0 where
   pub outside : IsOutsideChecker base g.counter
   pub next : g.counter + 1 < locations g.size
@@ -95,17 +95,17 @@ pub record IsAllowed (base : ℕ) (g : State) : Type 0 where
 abbrev pub check : ℕ
 check = named (codes "check")
 
--- each place of the routine is a working one, or holds its word of the library's text; its parameter H is in the word
--- of a working place alone
+-- each word of the routine is a working one, or is the one of the library's text; its parameter H is in the word of a
+-- working location alone
 abbrev pub HasImage : ℕ → State → Type 0
 HasImage base s = (i : ℕ) → i < length_of_checker → HasWord check (with_h 0) base s i
 
--- the routine stands at a base, at the beginning of a turn
+-- the routine is at a base, at the beginning of a turn
 pub record CheckerStands (base : ℕ) (s : State) : Type 0 where
   pub counter : s.counter ≡ base
   pub acc : s.acc ≡ 0
   pub image : HasImage base s
-  -- the first place holds A c F, without the spare digit
+  -- the first word is A c F, without the spare digit
   pub fetch : short_at s.store base ≡ 114688 + 2 * address_of (short_at s.store base)
   pub middle : long_at s.store (base + 62) < 2 ^ 34
   -- the lowest long word is 0, 1, 2 or 3 times 2^32
@@ -118,8 +118,8 @@ checked_codes g zero = []
 checked_codes g (suc q) = checked_codes g q
     ++ (function_of (next_word (state_after q g)) ∷ codes_of (step (state_after q g)).turn)
 
--- how many orders the routine obeys for an order of its guest, by its function and the accumulator: an E (3) and a G
--- (27) by whether they jump, every other order by how many tests show that it is neither
+-- the number of orders that the routine obeys for an order of its guest, by its function and the accumulator: for E (3)
+-- and G (27) by whether they jump, for any other order by the number of tests that show that it is neither
 abbrev pub orders_by : ℕ → ℕ → ℕ
 orders_by function acc =
     if nat_eq function 3 then (if nat_lt acc (2 ^ 70) then 16 else 17)
@@ -129,7 +129,7 @@ orders_by function acc =
     else if nat_lt function 27 then 33
     else 35
 
--- how many orders the turn of a guest takes: at most 35
+-- the number of orders of a turn of this guest: at most 35
 abbrev pub turn_orders : State → ℕ
 turn_orders g = orders_by (function_of (next_word g)) g.acc
 
@@ -137,11 +137,11 @@ turn_orders g = orders_by (function_of (next_word g)) g.acc
 abbrev pub saving_orders : ℕ
 saving_orders = 16
 
--- how many orders are obeyed in a turn: where the guest's order can't be obeyed, neither it nor those that save
+-- the number of orders obeyed in a turn; if the guest's order can't be obeyed, neither it nor those that save are
 abbrev pub orders_in_turn : State → ℕ
 orders_in_turn g = if is_obeyed (step g).turn then turn_orders g else turn_orders g - (1 + saving_orders)
 
--- how many orders the routine obeys for the first q orders of a guest: the sum of their turns
+-- the number of orders that the routine obeys for the first q orders of a guest: the sum of their turns
 unfoldable pub checked_orders : State → ℕ → ℕ
 checked_orders g zero = 0
 checked_orders g (suc q) = checked_orders g q + turn_orders (state_after q g)

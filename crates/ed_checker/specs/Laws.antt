@@ -10,7 +10,7 @@ use Rattle.ed_machine.specs.declared.turn.Turn.TheVariants.{Stopped}
 use Rattle.ed_checker.specs.Checker.{Agree, CheckerStands, IsAllowed, checked_codes, checked_orders, guest}
 use Rattle.ed_checker.specs.Checker.{planting_place, saving_orders}
 
--- k orders, each obeyed, lead from s to t, print these codes, and so many of them are stops
+-- k orders, each obeyed, lead from s to t, print these codes, and include this number of stops
 pub record Ran (k : ℕ) (s : State) (codes : List ℕ) (stops : ℕ) (t : State) : Type 0 where
   pub is : past k s ≡ record { state = t; codes = codes; stops = stops }
   pub free : IsFree k s
@@ -26,8 +26,8 @@ pub record IsFollowed (base q : ℕ) (g : State) : Type 0 where
   pub allowed : (j : ℕ) → j < q → IsAllowed base (state_after j g)
   pub obeyed : (j : ℕ) → j < q → is_obeyed (step (state_after j g)).turn ≡ true
 
--- the routine has obeyed q orders of its guest, in the sum of their turns: it has printed their checked codes, it
--- stands again, and its guest agrees with the guest after these orders
+-- the routine has obeyed q orders of its guest, in the sum of their turns: it has printed their checked codes, it is at
+-- the start of a turn again, and its guest agrees with the guest after these orders
 pub record Checked (base q : ℕ) (m : State) : Type 0 where
   pub last : State
   pub most : checked_orders (guest base m) q ≤ 35 * q
@@ -36,7 +36,7 @@ pub record Checked (base q : ℕ) (m : State) : Type 0 where
   pub agree : Agree base (guest base last) (state_after q (guest base m))
   pub size : last.size ≡ m.size
 
--- the machine comes to a stop, which is the q-th order of the guest, and has then printed the checked codes of the q
+-- the machine reaches a stop, which is the q-th order of the guest, and has by then printed the checked codes of the q
 -- orders; only the stop and the orders that save after it are missing from the q turns
 pub record ChecksToStop (base q : ℕ) (m : State) : Type 0 where
   pub last : State
@@ -48,8 +48,8 @@ pub record ChecksToStop (base q : ℕ) (m : State) : Type 0 where
   pub stops : (step last).turn ≡ Stopped
 
 -- after q orders the guest reaches a word that is no order, or an order that reads a tape with no row left: the
--- machine has printed their checked codes and the function of that word, and it stands before that word at the planting
--- place, blocked by the same cause, with the guest as it was
+-- machine has printed their checked codes and the function of that word, and it is at its copy of that word, blocked by
+-- the same cause, with the guest unchanged
 pub record ChecksToBlock (base q : ℕ) (m : State) : Type 0 where
   pub last : State
   pub count : ℕ
@@ -68,8 +68,8 @@ pub record HasGuest (base : ℕ) (m : State) : Type 0 where
   pub sound : IsSound m
   pub stands : CheckerStands base m
 
--- What holds of every guest: its orders are checked as long as they are allowed and obeyed. If the next one is its first
--- stop, the machine reaches it; if the next one can't be obeyed, the machine is blocked there.
+-- What holds of every guest: its orders are checked as long as they are allowed and obeyed. If the next one is its
+-- first stop, the machine reaches it; if the next one can't be obeyed, the machine is blocked there.
 pub record CheckerLaw : Type 0 where
   pub checks : (base q : ℕ) (m : State) → HasGuest base m → IsFollowed base q (guest base m) → Checked base q m
   pub to_stop : (base q : ℕ) (m : State) → HasGuest base m → IsFollowed base q (guest base m)

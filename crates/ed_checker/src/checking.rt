@@ -8,10 +8,10 @@ use crate::guest::{is_stop, turn_orders};
 use ed_machine::{Ending, Machine, Paper};
 use ed_run::run;
 
-/// What one turn of the routine did, and how many orders the machine obeyed.
+/// What one turn of the routine did, and the number of orders that the machine obeyed.
 #[derive(Clone, Copy, Debug, PartialEq, Eq)]
 pub enum Checking {
-    /// The guest obeyed an order that is no Z.
+    /// The guest obeyed an order other than Z.
     Went { orders: u64 },
     /// The guest obeyed a Z.
     Stopped { orders: u64 },
@@ -19,8 +19,8 @@ pub enum Checking {
     Blocked { orders: u64 },
 }
 
-/// Obeys the orders of one turn of the routine that stands at `base`: it prints the function of the guest's next order,
-/// and obeys it.
+/// Obeys the orders of one turn of the routine at `base`: it prints the function of the guest's next order, and obeys
+/// that order.
 pub fn check_one(machine: &mut Machine, base: u16, paper: &mut Paper) -> Checking
     requires even { base % 2 ≡ 0 }
     requires fits { base + 66 ≤ locations machine.old.size }
@@ -31,7 +31,7 @@ pub fn check_one(machine: &mut Machine, base: u16, paper: &mut Paper) -> Checkin
     ensures turn { ChecksOne base machine.old machine.new paper.old paper.new result }
     ensures law { CheckerLaw }
 {
-    // The contract of `word` tells the proof that the store is one.
+    // The contract of `word` gives the proof that the store is one.
     let _ = machine.word(0);
     let stops = is_stop(machine, base);
     let orders = turn_orders(machine, base);

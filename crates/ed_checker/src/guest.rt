@@ -41,7 +41,7 @@ pub(crate) fn guest_acc(machine: &Machine, base: u16) -> u128
     (high << 36) + 4 * middle + (low >> 32)
 }
 
-/// How many orders the routine obeys for the guest's next one.
+/// The number of orders that the routine obeys for the guest's next one.
 pub(crate) fn turn_orders(machine: &Machine, base: u16) -> u64
     requires { base + 66 ≤ locations machine.now.size }
     ensures is { result ≡ turn_orders (guest base machine.now) }

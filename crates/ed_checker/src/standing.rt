@@ -11,9 +11,10 @@ use ed_machine::Machine;
 use ed_routines::has_image as has_image_of;
 use ed_words::Word;
 
-/// Whether the routine stands at `base`, at the beginning of a turn.
+/// Whether the routine is at `base`, at the beginning of a turn.
 ///
-/// The counter is the base, the accumulator is 0, and the longs at `MIDDLE` and `LOW` are such as the routine saves.
+/// The counter is the base, the accumulator is 0, and the long words at `MIDDLE` and `LOW` are as the routine saves
+/// them.
 pub fn checker_stands(machine: &Machine, base: u16) -> bool
     requires even { base % 2 ≡ 0 }
     requires fits { base + 66 ≤ locations machine.now.size }
@@ -42,7 +43,7 @@ pub fn checker_stands(machine: &Machine, base: u16) -> bool
     low < 1 << 34
 }
 
-/// Whether the first place holds A c F without the spare digit.
+/// Whether the first word is A c F without the spare digit.
 fn fetches(machine: &Machine, base: u16) -> bool
     requires { base ≤ 1023 }
     ensures { IsTrue result ↔ (short_at machine.now.store base
@@ -52,7 +53,7 @@ fn fetches(machine: &Machine, base: u16) -> bool
     word.value() == 114688 + 2 * u32::from(word.order().address)
 }
 
-/// Whether each place of the routine but its working places holds its word.
+/// Whether each word of the routine but the working ones is in the store.
 fn has_image(machine: &Machine, base: u16) -> bool
     requires { base + 66 ≤ locations machine.now.size }
     ensures { IsTrue result ↔ HasImage base machine.now }

@@ -12,20 +12,20 @@ use Rattle.ed_codes.specs.Reading.{Reading, rows, no_row, open_comment, with_row
 use Rattle.ed_codes.specs.Reading.{row_or_fault, reading_from, reading, IsReadingOf}
 use Rattle.ed_codes.proofs.Pieces.{spells_append}
 
--- what the bytes behind a front say: their rows, or the fault of the whole text
+-- what the bytes after a front say: their rows, or the fault of the whole text
 abbrev Says : List ℕ → List ℕ → Reading → Type 0
 Says front own (rows codes) = Spells own codes
 Says front own (no_row place byte) = HasNoRow (front ++ own) place byte
 Says front own (open_comment place) = HasOpenComment (front ++ own) place
 
--- a piece moves from the front to the bytes behind it
+-- a piece moves from the front to the bytes after it
 moved : (front piece rest own : List ℕ) (r : Reading) → (front ++ piece) ++ rest ≡ front ++ own
     → ((codes : List ℕ) → Spells rest codes → Spells own codes) → Says (front ++ piece) rest r → Says front own r
 moved front piece rest own (rows codes) e grown h = grown codes h
 moved front piece rest own (no_row place byte) e grown h = subst (λ (l : List ℕ). HasNoRow l place byte) e h
 moved front piece rest own (open_comment place) e grown h = subst (λ (l : List ℕ). HasOpenComment l place) e h
 
--- a row moves so, and is then the first of the rows
+-- a row moves the same way, and is then the first of the rows
 moved_row : (front rest : List ℕ) (byte code : ℕ) (r : Reading) → row_of byte ≡ Some code
     → Says (front ++ byte ∷ []) rest r → Says front (byte ∷ rest) (with_row code r)
 moved_row front rest byte code (rows codes) e h = row byte code rest codes e h
@@ -34,7 +34,7 @@ moved_row front rest byte code (no_row place b) e h =
 moved_row front rest byte code (open_comment place) e h =
     subst (λ (l : List ℕ). HasOpenComment l place) (append_assoc front (byte ∷ []) rest) h
 
--- the front, up to a place, is a list of pieces
+-- the front, up to an offset, is a list of pieces
 record Front (front : List ℕ) (place : ℕ) : Type 0 where
   codes : List ℕ
   place_is : place ≡ length front
@@ -52,7 +52,7 @@ more {front} {piece} {codes} p s e =
       spells = spells_append front p.codes piece codes p.spells s;
     }
 
--- a byte stands behind them
+-- a byte stands after them
 stops : {front : List ℕ} {place : ℕ} (byte : ℕ) (after : List ℕ) → Front front place
     → StopsAt (front ++ byte ∷ after) place byte after
 stops {front} byte after p = record {
@@ -61,13 +61,13 @@ stops {front} byte after p = record {
   here = rw p.place_is (drop-append_seam front (byte ∷ after));
 }
 
--- what is claimed of some bytes behind a front of pieces: outside comments, and in one that began behind the front
+-- what is claimed of some bytes after a front of pieces: outside comments, and in one that began after the front
 record Read (rest : List ℕ) : Type 0 where
   outside : (front : List ℕ) (place : ℕ) → Front front place → Says front rest (reading_from None place rest)
   within : (front inside : List ℕ) (start place : ℕ) → Front front start → place ≡ start + 1 + length inside
       → has_close inside ≡ false → Says front (91 ∷ inside ++ rest) (reading_from (Some start) place rest)
 
--- no `]` stands in two lists joined
+-- there is no `]` in two lists joined
 no_close : (xs ys : List ℕ) → has_close xs ≡ false → has_close ys ≡ false → has_close (xs ++ ys) ≡ false
 no_close [] ys e f = f
 no_close (x ∷ xs) ys e f = by_first (x == 93) e (λ d. no_close xs ys d f)
@@ -161,7 +161,7 @@ read (byte ∷ rest) = record {
   within = λ front inside start place p at unclosed. within_byte byte inside (read rest) p at unclosed;
 }
 
--- the reading of a text says what the text has
+-- the reading of a text says what is true of the text
 pub every_text : (text : List ℕ) → IsReadingOf text (reading text)
 every_text text = by_reading (reading text) ((read text).outside [] 0 (record {
   codes = [];

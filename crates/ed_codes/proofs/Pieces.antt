@@ -24,28 +24,28 @@ spells_append _ _ b y (comment inside text rows e s) t =
     let whole = comment inside (text ++ b) (rows ++ y) e (spells_append text rows b y s t) in
     subst (λ (l : List ℕ). Spells (91 ∷ l) (rows ++ y)) (sym (append_assoc inside (93 ∷ text) b)) whole
 
--- a piece with no row moves the place over it
+-- a piece with no row moves the offset past it
 no_row_more : (text rows piece : List ℕ) (i j : ℕ) → take j text ≡ take i text ++ piece → Spells (take i text) rows
     → Spells piece [] → Spells (take j text) rows
 no_row_more text rows piece i j grown s p =
     let all = spells_append (take i text) rows piece [] s p in
     rw grown (subst (λ (r : List ℕ). Spells (take i text ++ piece) r) (append-nil rows) all)
 
--- the place moves over a spacing byte
+-- the offset moves past a spacing byte
 pub past_spacing : (text rows : List ℕ) (i : ℕ) → i < length text → Spells (take i text) rows
     → is_spacing (get_or text i 0) ≡ true → Spells (take (i + 1) text) rows
 past_spacing text rows i lt s e =
     let byte = get_or text i 0 in
     no_row_more text rows (byte ∷ []) i (i + 1) (take_more text i 0 lt) s (spacing byte [] [] e none)
 
--- the place moves over a row
+-- the offset moves past a row
 pub past_row : (text rows : List ℕ) (i code : ℕ) → i < length text → Spells (take i text) rows
     → row_of (get_or text i 0) ≡ Some code → Spells (take (i + 1) text) (rows ++ code ∷ [])
 past_row text rows i code lt s e =
     let byte = get_or text i 0 in
     rw (take_more text i 0 lt) (spells_append (take i text) rows (byte ∷ []) (code ∷ []) s (row byte code [] [] e none))
 
--- no `]` stands among the first n bytes
+-- there is no `]` among the first n bytes
 no_close_before : (text : List ℕ) (n : ℕ) → n ≤ length text → ((k : ℕ) → k < n → (get_or text k 0 == 93) ≡ false)
     → has_close (take n text) ≡ false
 no_close_before text zero le other = refl
@@ -56,7 +56,7 @@ no_close_before text (suc n) le other =
     let here : (get_or text n 0 == 93) ≡ false = other n (omega arith) in
     more ∙ rw (before, here) refl
 
--- no `]` stands in a text in which none is found
+-- a text in which no `]` is found has none
 pub never_closes : (text : List ℕ) → position (λ b. b == 93) text ≡ None → has_close text ≡ false
 never_closes text = by_test (nat_lt (position_or_len (λ b. b == 93) text) (length text)) refl
   where
@@ -69,11 +69,11 @@ never_closes text = by_test (nat_lt (position_or_len (λ b. b == 93) text) (leng
         (λ k lt. fails_before_first (λ b. b == 93) text k 0 (omega arith)) in
         rw (take_all (length text) text (omega arith)) at among
 
--- what stands from a `[` on
+-- the bytes from a `[` onwards
 pub opened : (text : List ℕ) (i : ℕ) → i < length text → get_or text i 0 ≡ 91 → drop i text ≡ 91 ∷ drop (i + 1) text
 opened text i lt opens = drop_more text i 0 lt ∙ ap (λ (b : ℕ). b ∷ drop (i + 1) text) opens
 
--- the bytes of a comment that begins at the place i and has n bytes inside
+-- the bytes of a comment that begins at the offset i and has n bytes inside
 comment_taken : (text : List ℕ) (i n : ℕ) → i < length text → get_or text i 0 ≡ 91 → n < length (drop (i + 1) text)
     → get_or (drop (i + 1) text) n 0 ≡ 93
     → take (i + n + 2) text ≡ take i text ++ (91 ∷ take n (drop (i + 1) text) ++ 93 ∷ [])
@@ -86,7 +86,7 @@ comment_taken text i n lt opens inner closes =
     ∙ ap (λ (l : List ℕ). take i text ++ take (suc (n + 1)) l) (opened text i lt opens)
     ∙ ap (λ (l : List ℕ). take i text ++ 91 ∷ l) closed
 
--- the place moves over a comment
+-- the offset moves past a comment
 pub past_comment : (text rows : List ℕ) (i n : ℕ) → i < length text → Spells (take i text) rows → get_or text i 0 ≡ 91
     → position (λ b. b == 93) (drop (i + 1) text) ≡ Some n → Spells (take (i + n + 2) text) rows
 past_comment text rows i n lt s opens found =

@@ -24,7 +24,7 @@ with_rows (code ∷ codes) r = with_row code (with_rows codes r)
 
 -- ---- one byte
 
--- a byte that passes a test is none that fails it
+-- a byte that passes a test is not one that fails it
 other_byte : (test : ℕ → Bool) (b k : ℕ) → test b ≡ true → test k ≡ false → (b == k) ≡ false
 other_byte test b k passes fails = by_test (b == k) refl
   where
@@ -114,7 +114,7 @@ size_before text place b after e =
     let left : length text - place ≡ suc (length after) = sym (length-drop place text) ∙ ap length e in
     length-take-le place text (omega (arith, left))
 
--- the reading comes as far as the place
+-- the reading gets as far as the offset
 stopped : (text : List ℕ) (place byte : ℕ) (after : List ℕ) (s : StopsAt text place byte after)
     → reading text ≡ with_rows s.rows (reading_from None place (byte ∷ after))
 stopped text place byte after s =

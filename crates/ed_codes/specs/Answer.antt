@@ -1,4 +1,4 @@
--- What the answer of `tape_of_text` says of the text. The answer for want of memory says nothing.
+-- What an answer of `tape_of_text` states about the text. The answer that no memory was found states nothing.
 use Rattle.std.specs.Prelude.{◌≡◌, ℕ, List, Result, Ok, Err, Vec}
 use Rattle.std.specs.declared.alloc.Global.{Global}
 use Rattle.ed_codes.specs.Text.{Spells, HasNoRow, HasOpenComment}
@@ -7,7 +7,7 @@ use Rattle.ed_codes.specs.declared.code.Code.{Code}
 use Rattle.ed_codes.specs.declared.tape.TextFault.{TextFault}
 use Rattle.ed_codes.specs.declared.tape.TextFault.TheVariants.{NoRow, OpenComment, Memory}
 
--- the rows are what the text spells, and a fault is the one that it has
+-- the rows are those that the text spells, and a fault is the text's only one
 abbrev pub ReadsText : List ℕ → Result (Vec Code Global) TextFault → Type 0
 ReadsText text (Ok v) = Spells text v.items
 ReadsText text (Err (NoRow place byte)) = HasNoRow text place byte

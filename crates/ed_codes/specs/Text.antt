@@ -3,11 +3,11 @@ use Rattle.std.specs.Prelude.{◌≡◌, ℕ, ◌==◌, ◌||◌, Bool, true, fa
 use Rattle.std.specs.List.{list_any}
 use Rattle.ed_codes.specs.Spelling.{row_of}
 
--- a byte that is no row and no fault: a space (32), tab (9), carriage return (13) or line feed (10)
+-- a byte that spells no row and is no fault: a space (32), tab (9), carriage return (13) or line feed (10)
 abbrev pub is_spacing : ℕ → Bool
 is_spacing byte = byte == 32 || (byte == 9 || (byte == 13 || byte == 10))
 
--- a `]` (93) is among the bytes
+-- whether the bytes contain a `]` (93)
 abbrev pub has_close : List ℕ → Bool
 has_close text = list_any (λ b. b == 93) text
 
@@ -21,13 +21,13 @@ pub data Spells : List ℕ → List ℕ → Type 0 where
   comment : (inside text rows : List ℕ) → has_close inside ≡ false → Spells text rows
       → Spells (91 ∷ inside ++ 93 ∷ text) rows
 
--- the bytes before the place are a list of pieces; the byte stands there, and `after` follows it
+-- the bytes before this offset are a list of pieces; the byte is at the offset, and `after` follows it
 pub record StopsAt (text : List ℕ) (place byte : ℕ) (after : List ℕ) : Type 0 where
   pub rows : List ℕ
   pub before : Spells (take place text) rows
   pub here : drop place text ≡ byte ∷ after
 
--- the first fault is a byte at the place that begins no piece and no comment
+-- the first fault is a byte at this offset that begins no piece and no comment
 pub record HasNoRow (text : List ℕ) (place byte : ℕ) : Type 0 where
   pub after : List ℕ
   pub stops : StopsAt text place byte after
@@ -35,7 +35,7 @@ pub record HasNoRow (text : List ℕ) (place byte : ℕ) : Type 0 where
   pub no_spacing : is_spacing byte ≡ false
   pub no_comment : (byte == 91) ≡ false
 
--- the first fault is a comment that begins at the place and never ends
+-- the first fault is a comment that begins at this offset and never ends
 pub record HasOpenComment (text : List ℕ) (place : ℕ) : Type 0 where
   pub after : List ℕ
   pub stops : StopsAt text place 91 after

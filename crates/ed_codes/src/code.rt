@@ -34,7 +34,7 @@ impl Default for Code {
 const LETTERS: &[u8; 32] = b"PQWERTYUIOJ#SZK*.F@D!HNM&LXGABCV";
 
 impl Code {
-    /// The code of a number, which is below 32.
+    /// The code of a number below 32; None for any other.
     pub fn new(n: u8) -> Option<Code>
         ensures none { IsNone result ↔ (32 ≤ n) }
         ensures some { IfSome result (λ c. c ≡ n) }
@@ -55,7 +55,7 @@ impl Code {
     }
 }
 
-/// The place of a byte among the letters and signs.
+/// The index of a byte among the letters and signs.
 fn letter_place(byte: u8) -> Option<usize>
     ensures place { result ≡ position (λ l. l == byte) letters }
     ensures bound { IfSome result (λ k. k < 32) }
@@ -63,7 +63,8 @@ fn letter_place(byte: u8) -> Option<usize>
     LETTERS.iter().position(|letter| *letter == byte)
 }
 
-/// The row that a byte of a tape text spells: a digit its number, a letter or sign its code. No other byte spells one.
+/// The row that a byte of a tape text spells: a digit its number, a letter or sign its code. No other byte spells a
+/// row.
 pub fn row_of_byte(byte: u8) -> Option<Code>
     ensures { result ≡ row_of byte }
 {
@@ -80,7 +81,7 @@ pub fn row_of_byte(byte: u8) -> Option<Code>
     }
 }
 
-/// The byte that spells a code: for the codes 0 to 9 the digit where `as_digit`, else the letter or sign.
+/// The byte that spells a code: a digit if `as_digit` and the code is 0 to 9, else the letter or sign.
 pub fn byte_of(code: Code, as_digit: bool) -> u8
     ensures is { result ≡ byte_of code as_digit }
     ensures back { row_of result ≡ Some code }

@@ -10,25 +10,25 @@ use thiserror::Error;
 /// Why a tape text gives no rows. The message of each variant is its name.
 #[derive(Clone, Copy, Debug, PartialEq, Eq, Error)]
 pub enum TextFault {
-    /// A byte that spells no row, at its place, counted from 0.
+    /// A byte that spells no row, at this offset in bytes, counted from 0.
     #[error("NoRow")]
     NoRow { place: usize, byte: u8 },
-    /// A comment that never ends, at the place of its `[`, counted from 0.
+    /// A comment that never ends, at the offset of its `[` in bytes, counted from 0.
     #[error("OpenComment")]
     OpenComment { place: usize },
-    /// No memory for the rows.
+    /// No memory was found for the rows.
     #[error("Memory")]
     Memory,
 }
 
-/// Whether a byte is one of the four that are no rows and no fault.
+/// Whether a byte is one of the four that spell no row and are no fault.
 fn is_spacing(byte: u8) -> bool
     ensures { result ≡ is_spacing byte }
 {
     matches!(byte, b' ' | b'\t' | b'\r' | b'\n')
 }
 
-/// How many bytes stand before the first `]`.
+/// The number of bytes before the first `]`, if there is one.
 fn comment_length(after: &[u8]) -> Option<usize>
     ensures place { result ≡ position (λ b. b == 93) after.now }
     ensures bound { IfSome result (λ n. n < length after.now) }
@@ -36,8 +36,8 @@ fn comment_length(after: &[u8]) -> Option<usize>
     after.iter().position(|byte| *byte == b']')
 }
 
-/// The rows of a tape text, or its first fault. Spaces, tabs, carriage returns and line feeds stand for nothing, and
-/// neither does a comment, which goes from a `[` to the next `]`.
+/// The rows of a tape text, or its first fault. Spaces, tabs, carriage returns and line feeds are skipped, and so are
+/// comments, which go from a `[` to the next `]`.
 pub fn tape_of_text(alloc: Global, text: &[u8]) -> Result<Vec<Code>, TextFault>
     ensures spelled { ReadsText text.now result }
     ensures exact { AnswersText (reading text.now) result }

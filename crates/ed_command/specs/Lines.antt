@@ -30,7 +30,7 @@ abbrev pub division : Option ℕ → Option ℕ → Option Call
 division (Some n) (Some by) = if nat_lt n (65536 * by) then Some (Divide n by) else None
 division _ _ = None
 
--- two arguments, the number that is divided and the one that it is divided by, 1 to 32,767
+-- two arguments, the dividend and the divisor, which is 1 to 32,767
 abbrev pub with_division : List Text → Option Call
 with_division (n ∷ by ∷ []) = division (number n) (number_within 1 32767 by)
 with_division _ = None
@@ -49,7 +49,7 @@ call_of (name ∷ numbers) =
 
 -- ---- lines
 
--- a line: the word of a command, what it does by its arguments, and the options that it may have
+-- a line: its first word, its action by its arguments, and the options that it may have
 pub record Line : Type 0 where
   pub word : Text
   pub action : List Text → Option Action
@@ -59,15 +59,15 @@ pub record Line : Type 0 where
 abbrev pub table_line : Text → (List Text → Option Action) → List Text → Line
 table_line word action options = record { word = word; action = action; options = options }
 
--- the names of the options: how many orders may be obeyed
+-- the names of the options: the limit of orders
 abbrev pub limit : Text
 limit = codes "limit"
 
--- how often the machine is started again
+-- how often the machine is restarted after a stop
 abbrev pub resume : Text
 resume = codes "resume"
 
--- which words are printed after the run
+-- the words to print after the run
 abbrev pub post_mortem : Text
 post_mortem = codes "post-mortem"
 
@@ -103,7 +103,7 @@ abbrev pub command : Option Action → Option Settings → Option Command
 command (Some action) (Some settings) = Some (record { action = action; settings = settings })
 command _ _ = None
 
--- the command of an action, where only these options are given
+-- the command of an action, if only these options are given
 abbrev pub with_only : List Text → Options → Option Action → Option Command
 with_only names o action = if has_only names o then command action (settings_of o) else None
 

@@ -17,7 +17,7 @@ IsFromTo least most n = (least ≤ n) × (n ≤ most)
 abbrev pub IsWindowOf : Size → Window → Type 0
 IsWindowOf z w = (144 ≤ w.first) × (w.first + w.count ≤ locations z)
 
--- the numbers of an action; no other has any
+-- the numbers of an action; only `call` and `demo` have one
 abbrev pub IsActionInRange : Action → Type 0
 IsActionInRange (doing.Call call) = IsCallInRange call
 IsActionInRange (doing.Demo n) = IsFromTo 1 112 n

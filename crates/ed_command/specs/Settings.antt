@@ -1,4 +1,4 @@
--- The options of the command line and what they set (this project's own rule). An option is given once at most.
+-- The options of the command line and what they set (this project's own rule). An option is given at most once.
 use Rattle.std.specs.Prelude.{ℕ, ◌&&◌, ◌||◌, Bool, true, false, List, [], ◌∷◌}
 use Rattle.std.specs.Prelude.{Option, Some, None, codes, option_map, option_and_then}
 use Rattle.std.specs.List.{list_any}
@@ -11,7 +11,7 @@ use Rattle.ed_command.specs.Windows.{size_named, window_named}
 use Rattle.ed_command.specs.declared.command.Settings.{Settings}
 use Rattle.ed_command.specs.declared.command.Window.{Window}
 
--- the values that are given to each of the four options
+-- the values given for each of the four options
 pub record Options : Type 0 where
   pub limits : List Text
   pub resumes : List Text
@@ -27,7 +27,7 @@ options_by values = record {
   stores = values (codes "store");
 }
 
--- the value of an option that is given once at most, or what stands for it where it isn't given
+-- the value of an option that may be given once, or its default if omitted
 abbrev pub option_value : {A : Type 0} → A → (Text → Option A) → List Text → Option A
 option_value default read [] = Some default
 option_value default read (value ∷ []) = read value
@@ -37,7 +37,7 @@ option_value default read _ = None
 abbrev pub limit_of : Options → Option ℕ
 limit_of o = option_value 10000000 (number_within 1 100000000) o.limits
 
--- `--resume`: how often the machine is started again after a stop, 0 to 1000
+-- `--resume`: how often the machine is restarted after a stop, 0 to 1000
 abbrev pub resumes_of : Options → Option ℕ
 resumes_of o = option_value 0 (number_within 0 1000) o.resumes
 
@@ -45,11 +45,11 @@ resumes_of o = option_value 0 (number_within 0 1000) o.resumes
 abbrev pub size_of : Options → Option Size
 size_of o = option_value Full size_named o.stores
 
--- `--post-mortem`: which locations are printed after the run, if any; they end with the store
+-- `--post-mortem`: which locations are printed after the run, if any; they are within the store
 abbrev pub post_mortem_of : Size → Options → Option (Option Window)
 post_mortem_of z o = option_value None (λ text. option_map Some (window_named z text)) o.post_mortems
 
--- the settings, where each is given aright
+-- the settings, if each of them is valid
 abbrev pub all_settings : Size → Option ℕ → Option ℕ → Option (Option Window) → Option Settings
 all_settings z (Some limit) (Some resumes) (Some post_mortem) =
     Some (record { limit = limit; resumes = resumes; size = z; post_mortem = post_mortem })
@@ -64,7 +64,7 @@ abbrev pub is_none_given : List Text → Bool
 is_none_given [] = true
 is_none_given (value ∷ values) = false
 
--- an option is not given, or its name is one of these
+-- an option is omitted, or its name is one of these
 abbrev pub may_be_given : List Text → Text → List Text → Bool
 may_be_given names name values = is_none_given values || list_any (λ n. bytes_eq n name) names
 

@@ -18,7 +18,7 @@ abbrev pub size_named : Text → Option Size
 size_named text =
     if bytes_eq text (codes "512") then Some Small else if bytes_eq text (codes "1024") then Some Full else None
 
--- the locations from `first` on, `count` of them, where they lie from 144 to the end of a store
+-- the locations from `first` upwards, `count` of them, if they are at 144 or above and within a store
 abbrev pub window : Size → Option ℕ → Option ℕ → Option Window
 window z (Some first) (Some count) =
     if nat_le 144 first && nat_le (first + count) (locations z)

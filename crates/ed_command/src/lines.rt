@@ -54,7 +54,7 @@ fn command_named(word: &str, arguments: &[&str], options: &Options<'_>) -> Optio
     }
 }
 
-/// The command of an action, where only these options are given.
+/// The command of an action, if only these options are given.
 fn with_only(names: &[&str], options: &Options<'_>, action: Option<Action>) -> Option<Command>
     ensures { result ≡ with_only (map (λ n. n.now) names.now) (options_in options.now) action }
 {
@@ -68,7 +68,7 @@ fn with_only(names: &[&str], options: &Options<'_>, action: Option<Action>) -> O
     }
 }
 
-/// An action that has no argument.
+/// An action that takes no argument.
 fn alone(action: Action, arguments: &[&str]) -> Option<Action>
     ensures { result ≡ alone action (map (λ a. a.now) arguments.now) }
 {
@@ -111,7 +111,7 @@ fn call_of(arguments: &[&str]) -> Option<Call>
     }
 }
 
-/// The call `newline`, which has no number.
+/// The call `newline`, which takes no number.
 fn new_line(numbers: &[&str]) -> Option<Call>
     ensures { result ≡ alone Call.NewLine (map (λ a. a.now) numbers.now) }
 {

@@ -77,7 +77,7 @@ impl Options<'_> {
     }
 }
 
-/// The number of an option that is given once at most, or what stands for it.
+/// The number of an option that may be given once, or its default.
 fn number_setting(values: &[&str], default: u32, least: u32, most: u32) -> Option<u32>
     ensures { result ≡ option_value default (number_within least most) (map (λ v. v.now) values.now) }
 {
@@ -88,14 +88,14 @@ fn number_setting(values: &[&str], default: u32, least: u32, most: u32) -> Optio
     }
 }
 
-/// The window of `--post-mortem` where it is given.
+/// The window of a given `--post-mortem`.
 fn given_window(text: &str, size: Size) -> Option<Option<Window>>
     ensures { result ≡ option_map Some (window_named size text.now) }
 {
     Some(Some(window_named(text, size)?))
 }
 
-/// Whether an option is not given, or its name is one of these.
+/// Whether an option is omitted, or its name is one of these.
 fn may_be_given(names: &[&str], name: &str, values: &[&str]) -> bool
     ensures { result ≡ may_be_given (map (λ n. n.now) names.now) name.now (map (λ v. v.now) values.now) }
 {

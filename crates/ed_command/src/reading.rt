@@ -18,13 +18,13 @@ use std::alloc::Global;
 /// Why there is no command.
 #[derive(Clone, Copy, Debug, PartialEq, Eq)]
 pub enum CommandFault {
-    /// The words are no line of a command.
+    /// The words are not a command.
     Usage,
     /// No memory was found.
     Memory,
 }
 
-/// Reads the words after the program's name. Want of memory is an answer to any words.
+/// Reads the words after the program's name. For any words, no memory may be found.
 #[tactic(auto, unfolding(crate::specs::Lines::command_line))]
 pub fn read_words(alloc: Global, words: &[String]) -> Result<Command, CommandFault>
     ensures is { AnswersWords (command_line (map string_bytes words.now)) result }

@@ -25,7 +25,7 @@ pub(crate) fn window_named(text: &str, size: Size) -> Option<Window>
     }
 }
 
-/// The locations from `first` on, `count` of them, where the store of this size has them from 144 on.
+/// The locations from `first` upwards, `count` of them, if they are at 144 or above and within the store.
 fn window(first: Option<u32>, count: Option<u32>, size: Size) -> Option<Window>
     ensures { result ≡ window size first count }
 {

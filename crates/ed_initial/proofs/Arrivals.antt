@@ -43,7 +43,7 @@ record IsLast (s : State) (m : ℕ) (what : Event) : Type 0 where
   fits : m < 17
   not_goes : what ≡ Goes → ⊥
 
--- where it is known, the walk ends there
+-- if that order is known, the walk ends there
 module _ {s : State} {m : ℕ} {what : Event} (f : IsLast s m what) where
   not_past : (k : ℕ) → IsWalk k s → k ≤ m
   not_past k h = elim (cases_lt m k) [ inl l ↦ absurd (f.not_goes (sym f.last ∙ h m l)) | inr g ↦ g ]
@@ -56,7 +56,7 @@ module _ {s : State} {m : ℕ} {what : Event} (f : IsLast s m what) where
         | inr g ↦ let e : m ≡ k = omega arith in inr (subst (λ j. event (state_after j s) ≡ what) e f.last)
       ]
 
-  -- an end of another kind is none
+  -- there is no end of another kind
   no_other : (k : ℕ) {other : Event} → IsWalk k s → event (state_after k s) ≡ other → (other ≡ Goes → ⊥)
       → what ≡ other
   no_other k h e not_going =
@@ -81,14 +81,14 @@ module _ {s : State} {m : ℕ} {what : Event} (f : IsLast s m what) where
   not_stray (sounded before count less h e) a b = b (no_other before h e (λ x. cc))
   not_stray {k} (too_long e h) a b = let fits = f.fits in omega (arith, not_past k h)
 
--- a walk that comes to a rest after so many orders
+-- a walk that reaches a rest after m + 1 orders
 rests_at : {s : State} {m : ℕ} → IsLast s m Rests → (r : Rested) → WalkEnds s r
     → r ≡ At (state_after (suc m) s).counter (suc m)
 rests_at f (Entered at k) h = absurd (let e = no_other f h.before h.walk h.last (λ x. cc) in cc)
 rests_at f (At place k) h = let o = settled f h (λ x. cc) in λ i. At (o.place_is i) (o.count i)
 rests_at f (Lost k) h = absurd (not_stray f h (λ x. cc) (λ x. cc))
 
--- a walk that enters the program after so many orders
+-- a walk that enters the program after m + 1 orders
 enters_at : {s : State} {m : ℕ} → IsLast s m Enters → (r : Rested) → WalkEnds s r
     → r ≡ Entered (state_after (suc m) s).counter (suc m)
 enters_at f (At at k) h = absurd (let e = no_other f h.before h.walk h.last (λ x. cc) in cc)

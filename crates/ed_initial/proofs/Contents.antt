@@ -1,4 +1,4 @@
--- The words from 44 on, and the value of a code letter in the store.
+-- The words from 44 upwards, and the value of a code letter in the store.
 use Rattle.std.proofs.Common.{◌≡◌, ℕ, ◌+◌, ◌-◌, ◌≤◌, refl, ◌∙◌, arith, inl}
 use Rattle.std.proofs.Common.{inr, List, ◌++◌, get_or, drop}
 use Rattle.std.proofs.lemmas.Bool.{cases_eq}
@@ -9,7 +9,7 @@ use Rattle.ed_initial.specs.Rests.{Working}
 use Rattle.ed_initial.proofs.Paths.{cells}
 use Rattle.ed_words.proofs.Numbers.{eq_false}
 
--- what stands at the place of a code letter is its value: 0 at 41, θ at 42, 1 at 43, and a word of the program after
+-- the location of a code letter holds its value: 0 at 41, θ at 42, 1 at 43, and a word of the program above
 -- them
 pub value_here : (w : Working) (contents : List ℕ) (c : ℕ) → 17 ≤ c → w.at41 ≡ 0 → w.at43 ≡ 1
     → get_or (patched 0 contents 0 (cells w)) (24 + c) 0 ≡ value_of contents w.at42 c

@@ -25,7 +25,7 @@ both_not false b c h = refl
 pub quiet : {top : ℕ} {kind : Kind} (s : State) → IsOrder top kind s → is_calm kind s.counter ≡ true → enters s ≡ false
 quiet {kind = kind} s o h = rw o.kind_is (both_not (nat_eq s.counter 22) (is_E (Some kind)) (nat_lt s.acc (2 ^ 70)) h)
 
--- one that goes on comes to no rest
+-- an order that goes on reaches no rest
 pub passes : (q : Bool) (place : ℕ) → (q && not (is_rest place)) ≡ true → (q ≡ true) × (is_rest place ≡ false)
 passes q place h = let p = and_parts q (not (is_rest place)) h in (p.0, not-true (is_rest place) p.1)
 

@@ -68,7 +68,7 @@ module _ (row : AtRow) where
     pub few : k ≤ 17
     pub part_is : IsPartSoFar next
 
-  -- the item is closed, and leaves a state of the notation
+  -- the item ends, and leaves a state of the notation
   pub record Closes (next : Note) (k : ℕ) : Type 0 where
     pub scratch : Scratch
     pub path : ToRest f k here (between f ws scratch next rows)
@@ -140,7 +140,7 @@ module _ (row : AtRow) (good : IsNote row.note) (phase : IsPartSoFar row.part) w
         part_is = record { function = phase.function; number = phase.number; blank = λ h. cc };
       })
 
-  -- what the item leaves in the changing words behind K, Z or blank
+  -- the words that the item changes, after K, Z or blank
   abbrev left : ℕ → Scratch
   left end = begun part end (12320 + 2 * end)
 

@@ -24,12 +24,12 @@ use Rattle.ed_initial.proofs.Goes.{Goes, joined, along, whole}
 use Rattle.ed_words.proofs.Numbers.{lt_of}
 use Rattle.ed_initial.proofs.Inside.{between, inside, AtRow, Follows, follows}
 
--- the machine at the entry, when it has done so many orders
+-- the machine at the entry, after this number of orders
 abbrev pub entered : Kept → List ℕ → TapeEntry → ℕ → State
 entered f ws e orders = state f
     (moment f (entry_words e) (over e.note.placed ws) false (e.word * 2 ^ 54) e.at e.rest) orders
 
--- a load goes on from a state, which it came to at a cost, up to an entry
+-- a load goes on from a state, which it reached at a cost, up to an entry
 pub record Reaches (f : Kept) (ws : List ℕ) (first cost : ℕ) (s : State) (e : TapeEntry) : Type 0 where
   pub steps : ℕ
   pub middle : State
@@ -38,7 +38,7 @@ pub record Reaches (f : Kept) (ws : List ℕ) (first cost : ℕ) (s : State) (e 
   pub enters_by : step middle ≡ record { state = entered f ws e (first + e.cost); turn = Went }
   pub cost_is : cost + suc steps ≡ e.cost
 
--- where a load rests: what the rest leaves open, the rows read and the orders done, and the state of the notation
+-- where a load rests: what the rest leaves open, the rows read and the orders obeyed, and the state of the notation
 pub record Rest : Type 0 where
   pub scratch : Scratch
   pub row : ℕ
@@ -76,7 +76,7 @@ module _ (f : Kept) (ws : List ℕ) (first : ℕ) where
   rests r None rows = between f ws r.scratch r.note rows
   rests r (Some part) rows = inside f ws part r.scratch.at1 r.scratch.at20 r.note rows
 
-  -- what is shown of the rows of a tape
+  -- what holds for the rows of a tape
   abbrev Loads : List ℕ → Type 0
   Loads rows = (r : Rest) (p : Option Part) (e : TapeEntry) → IsNote r.note → IsPhase p
       → reads (reader r) p rows ≡ Arrived e

@@ -13,7 +13,7 @@ use Rattle.ed_paths.proofs.Window.{patched, patched_one, headed}
 use Rattle.ed_initial.proofs.Paths.{Kept, state, ToRest, cells, moment, start_path}
 use Rattle.ed_initial.proofs.Inside.{between}
 
--- what stays during a load from this state
+-- what does not change during a load from this state
 abbrev pub frame : (s : State) → IsStore s.store → Kept
 frame s store = record {
   size = s.size;
@@ -22,7 +22,7 @@ frame s store = record {
   last = s.last;
 }
 
--- the changing words: those of the listing, and what stood behind it
+-- the changing words: those of the listing, and the words after it
 abbrev pub listed : List ℕ → Working
 listed ws = record {
   at0 = 20480;

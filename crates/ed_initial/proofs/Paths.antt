@@ -22,14 +22,14 @@ use Rattle.ed_initial.specs.Load.{is_E, enters}
 use Rattle.ed_initial.specs.Rests.{Working}
 use Rattle.ed_initial.specs.Walks.{is_rest}
 
--- what stays during a load
+-- what does not change during a load
 pub record Kept : Type 0 where
   pub size : Size
   pub digits : List Bool
   pub room : 20 < length digits
   pub last : Option ℕ
 
--- the 44 words from 0 on, with the digit of the pair 40, 41
+-- the 44 words from 0 upwards, with the digit of the pair 40, 41
 abbrev pub piece : Kept → Frame 44 20
 piece f = record {
   size = f.size;
@@ -42,18 +42,18 @@ piece f = record {
 abbrev pub state : Kept → Moment → ℕ → State
 state f r k = piece_state (piece f) r k
 
--- whether an order is no E at 22, which may enter the program
+-- whether an order is not an E at 22, which may enter the program
 abbrev pub is_calm : Kind → ℕ → Bool
 is_calm kind c = not (is_E (Some kind) && nat_eq c 22)
 
--- orders one after the other, none of which comes to a rest
+-- orders one after the other, none of which reaches a rest
 pub data Walk (f : Kept) : ℕ → Moment → Moment → Type 0 where
   stay : {r : Moment} → Walk f 0 r r
   on : {k : ℕ} {kind : Kind} {r m t : Moment} → Moves (piece f) kind r m
       → (is_calm kind r.counter && not (is_rest m.counter)) ≡ true
       → Walk f k m t → Walk f (suc k) r t
 
--- the same with one order more, which comes to a rest
+-- the same with one more order, which reaches a rest
 pub data ToRest (f : Kept) : ℕ → Moment → Moment → Type 0 where
   ends : {k : ℕ} {kind : Kind} {r m t : Moment} → Walk f k r m → Moves (piece f) kind m t
       → is_calm kind m.counter ≡ true
@@ -69,7 +69,7 @@ followed {b = b} stay h = let e : 0 + b ≡ b = omega arith in rw e h
 followed {b = b} (on {k = k} first away rest) h =
     let e : suc k + b ≡ suc (k + b) = omega arith in rw e (on first away (followed rest h))
 
--- the words of the 44 places
+-- the words of the 44 locations
 abbrev pub cells : Working → List ℕ
 cells w =
     w.at0 ∷ w.at1 ∷ 2 ∷ 28676 ∷ 114766 ∷ 16392 ∷ 126976 ∷ 102416 ∷ 20480 ∷ 32770 ∷ 114690
@@ -77,7 +77,7 @@ cells w =
     ∷ w.at22 ∷ 114732 ∷ 114692 ∷ 20524 ∷ 12356 ∷ 114774 ∷ 12304 ∷ 114772 ∷ 114768 ∷ 12338 ∷ 114732
     ∷ 20564 ∷ 32849 ∷ 114769 ∷ 16416 ∷ 20561 ∷ 12304 ∷ 11 ∷ w.at40 ∷ w.at41 ∷ w.at42 ∷ w.at43 ∷ []
 
--- the machine between two orders of a load; `words` are those of the store, of which the first 44 do not count
+-- the machine between two orders of a load; `words` are those of the store; the first 44 of them make no difference
 abbrev pub moment : Kept → Working → List ℕ → Bool → ℕ → ℕ → List ℕ → Moment
 moment f w words digit40 acc counter tape = record {
   words = words;
@@ -91,7 +91,7 @@ moment f w words digit40 acc counter tape = record {
   last = f.last;
 }
 
--- the rests 9 and 34 are none of the places 27 to 33
+-- the rests 9 and 34 are not among the locations 27 to 33
 away : (c : ℕ) → 11 ≤ c → c < 17 → not (is_rest (16 + c)) ≡ true
 away c low high = let e : is_rest (16 + c) ≡ false = grind (arith, nat_tests) in rw e refl
 
@@ -164,7 +164,7 @@ module _ (f : Kept) (w : Working) (words : List ℕ) (digit40 : Bool) where
       (on (L 7 L8F (short u) refl (omega arith)) refl stay))))))))
       (T 8 (own 0) u refl refl) refl
 
-  -- a row from 11 on, up to the branch on it
+  -- a row of 11 or more, up to the branch on it
   ending_row : (c : ℕ) (rest : List ℕ) → 11 ≤ c → c < 32
       → Walk f 6 (at w 0 9 (c ∷ rest)) (at (record w { at1 = c }) (short ((2 ^ 17 + 2 * c - 33) % 2 ^ 17)) 15 rest)
   ending_row c rest low most =
@@ -175,7 +175,7 @@ module _ (f : Kept) (w : Working) (words : List ℕ) (digit40 : Bool) where
       (on (L 13 LD (short (2 * (c - 11))) refl (omega arith)) refl
       (on (S 14 (own 39) (short ((2 ^ 17 + 2 * c - 33) % 2 ^ 17)) refl (omega arith)) refl stay)))))
 
-  -- a row of 11 to 16, up to the place that it names
+  -- a row of 11 to 16, up to the location that it names
   control_row : (c : ℕ) (rest : List ℕ) → 11 ≤ c → c < 17 → w.at0 < 2 ^ 16
       → Walk f 12 (at w 0 9 (c ∷ rest)) (at (record w { at1 = c; at20 = 12320 + 2 * c }) (short w.at0) (16 + c) rest)
   control_row c rest low most fits =

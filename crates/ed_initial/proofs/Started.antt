@@ -1,4 +1,4 @@
--- A machine that Start has just made stands at the first of the Initial Orders, and a well-formed tape comes to an
+-- A machine on which Start has just acted is at the first of the Initial Orders, and a well-formed tape reaches an
 -- entry.
 use Rattle.std.proofs.Common.{ℕ, inl, inr, refl, arith, List, drop}
 use Rattle.std.proofs.Math.ListN.{get_or-append}

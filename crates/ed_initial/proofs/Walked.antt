@@ -33,7 +33,7 @@ pub walk_of : {s t : State} {r : Rested} → IsStore s.store → WalkEnds s r �
     → IsWalked s t r
 walk_of store ends is = record { store = store; ends = ends; is = is }
 
--- from a state that stands at the head of a path
+-- from a state at the beginning of a path
 moved : {f : Kept} {k : ℕ} {a b : Moment} {s t : State} {r : Rested} (orders : ℕ) → IsWalked s t r
     → s ≡ state f a orders → ToRest f k a b → is_rest b.counter ≡ true → k ≤ 17
     → (r ≡ At b.counter k) × (t ≡ state f b (orders + k))

@@ -3,7 +3,7 @@ ghost use Rattle.ed_initial.specs.Listing.{initial_orders, listed_order};
 
 use ed_words::{Order, Word};
 
-// The codes of the functions that the listing has.
+// The codes of the functions in the listing.
 
 const P: u8 = 0;
 
@@ -35,7 +35,7 @@ const F: bool = false;
 
 const D: bool = true;
 
-/// The word of an order of a listing: `length` is true where it is long.
+/// The word of an order of a listing; `length` is true if the order is long.
 pub fn order(function: u8, address: u16, length: bool) -> Word
     requires function { function < 32 }
     requires address { address < 1024 }

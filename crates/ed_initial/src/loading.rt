@@ -15,10 +15,10 @@ pub enum Loaded {
     Entered {
         /// The location of its first order.
         at: u16,
-        /// The number of orders obeyed, the entering one included.
+        /// The number of orders obeyed, including the one that enters.
         orders: u64,
     },
-    /// The load went wrong, which it does only on a tape that is not well formed.
+    /// The load went wrong; that happens only on a tape that is not well formed.
     Lost {
         /// The number of orders obeyed.
         orders: u64,
@@ -27,8 +27,8 @@ pub enum Loaded {
 
 /// Obeys the Initial Orders until they enter the program of the tape.
 ///
-/// It is lost where an order prints, stops or cannot be obeyed before that, or where 17 orders for each row of tape
-/// and 9 more were obeyed.
+/// It is lost if an order before that prints, stops or cannot be obeyed, or after 17 orders for each row of tape and 9
+/// more.
 pub fn load(machine: &mut Machine) -> Loaded
     requires started { IsStarted machine.old }
     requires room { machine.old.orders + (17 * length machine.old.tape + 9) ≤ 2 ^ 63 }
@@ -40,14 +40,14 @@ pub fn load(machine: &mut Machine) -> Loaded
         (e : TapeEntry) × Comes machine.old e × IsLoaded machine.old e result machine.new }
 {
     let rows = machine.rows_left().len() as u64;
-    // The contract of `word` tells the proof that the store is one.
+    // The contract of `word` gives the proof that the store is one.
     let _ = machine.word(0);
     obey_orders(machine, 17 * rows + 9)
 }
 
-/// Obeys orders, `bound` of them at the most, until an E order at 22 jumps or the load is lost.
+/// Obeys at most `bound` orders, until an E order at 22 jumps or the load is lost.
 ///
-/// `load` is this from a started machine; from any other it says no more than how it ended.
+/// `load` is this call on a started machine; for any other machine it only reports how it ended.
 pub fn obey_orders(machine: &mut Machine, bound: u64) -> Loaded
     requires { machine.old.orders + bound ≤ 2 ^ 63 }
     ensures ends { EndsAs machine.old bound result }

@@ -14,7 +14,7 @@ ghost use Rattle.ed_initial.specs.Walks.{Inside, WalkEnds, is_rest, part_so_far,
 use crate::turns::{is_entering, is_obeyed, is_went};
 use ed_machine::Machine;
 
-/// Where a walk to the next rest ended.
+/// How a walk to the next rest ended.
 #[derive(Clone, Copy, Debug, PartialEq, Eq)]
 pub enum Rested {
     /// The program was entered.
@@ -38,11 +38,11 @@ pub enum Rested {
     },
 }
 
-/// Obeys orders up to the next rest of the Initial Orders, which come to one with each row of a well-formed tape.
+/// Obeys orders up to the next rest of the Initial Orders; they reach one with each row of a well-formed tape.
 ///
-/// After each order, in this order: it is `Entered` where an E order at 22 jumped, `At` where the counter is 9 or 34,
-/// and `Lost` where the order printed or stopped, or where it was the seventeenth. An order that cannot be obeyed
-/// ends it as `Lost` too.
+/// The tests after each order are, in this order: `Entered` if an E order at 22 jumped, `At` if the counter is 9 or 34,
+/// and `Lost` if the order printed or stopped, or was the seventeenth. An order that cannot be obeyed ends the walk as
+/// `Lost` too.
 pub fn to_rest(machine: &mut Machine) -> Rested
     requires begins { BeginsWalk machine.old }
     requires room { machine.old.orders + 17 ≤ 2 ^ 63 }
@@ -61,12 +61,12 @@ pub fn to_rest(machine: &mut Machine) -> Rested
         → IsBegun b → BreaksNone o.size o.store.words note b c → o.tape ≡ c ∷ rows
         → machine.old ≡ rest9 (part_so_far b) at1 at20 note o → DoesItemRow o note b c rows result machine.new }
 {
-    // The contract of `word` tells the proof that the store is one.
+    // The contract of `word` gives the proof that the store is one.
     let _ = machine.word(0);
     walk(machine)
 }
 
-/// Obeys 17 orders at the most, up to the next rest.
+/// Obeys at most 17 orders, up to the next rest.
 fn walk(machine: &mut Machine) -> Rested
     requires { machine.old.orders + 17 ≤ 2 ^ 63 }
     ensures ends { WalkEnds machine.old result }
@@ -93,7 +93,7 @@ fn walk(machine: &mut Machine) -> Rested
     Rested::Lost { orders: 17 }
 }
 
-/// Whether a place is that of a rest.
+/// Whether a location is that of a rest.
 fn is_rest(place: u16) -> bool
     ensures { result ≡ is_rest place }
 {

@@ -18,7 +18,7 @@ pub fn begin(machine: &mut Machine, rows: Vec<Code>) -> Vec<Code>
     machine.start(&orders(), rows)
 }
 
-/// Whether the machine stands at the first of the Initial Orders, with the locations 0 to 40 as Start leaves them.
+/// Whether the machine is at the first of the Initial Orders, with the locations 0 to 40 as Start leaves them.
 pub fn is_started(machine: &Machine) -> bool
     ensures { IsTrue result ↔ IsStarted machine.now }
 {

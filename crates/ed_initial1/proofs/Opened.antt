@@ -30,7 +30,7 @@ pub record HasItsLengths (c : Cells) : Type 0 where
 abbrev pub kept : State → Kept
 kept s = record { digits = s.store.sandwich; last = s.last }
 
--- the words that change, as the listing has them, and what stands at 31
+-- the words that change, as the listing has them, and the word at 31
 abbrev pub listed : List ℕ → Working
 listed ws = record { at0 = 20480; at1 = 86020; at2 = 20480; at3 = 12300; at25 = 20542; at31 = get_or ws 31 0 }
 

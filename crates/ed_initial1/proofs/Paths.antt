@@ -14,11 +14,11 @@ use Rattle.ed_paths.proofs.Orders.{word_is}
 use Rattle.ed_paths.proofs.Shifts.{R4F, R16F, LD, L8F}
 use Rattle.ed_paths.proofs.Moves.{Moves, A, S, T, T_top, U, H, V, I, R, L, E_jumps, E_stays, G_jumps, G_stays}
 
--- the 31 orders and the first word behind them, at 0 of a store of full size, with the digit of the pair 0, 1
+-- the 31 orders and the first word after them, at 0 of a store of full size, with the digit of the pair 0, 1
 abbrev pub piece : Frame 32 0
 piece = record { size = Full; base = 0; top = 1024; under = lit≤ tt; fits = lit≤ tt }
 
--- orders one after the other, none of which comes to 31
+-- orders one after the other, none of which reaches 31
 pub data Walk : ℕ → Moment → Moment → Type 0 where
   stay : {r : Moment} → Walk 0 r r
   on : {k : ℕ} {kind : Kind} {r m t : Moment} → Moves piece kind r m → nat_eq m.counter 31 ≡ false → Walk k m t
@@ -29,7 +29,7 @@ followed {b = b} stay next = let e : 0 + b ≡ b = omega arith in rw e next
 followed {b = b} (on {k = k} first away rest) next =
     let e : suc k + b ≡ suc (k + b) = omega arith in rw e (on first away (followed rest next))
 
--- the same with one order more, which comes to 31
+-- the same with one more order, which reaches 31
 pub data ToProgram : ℕ → Moment → Moment → Type 0 where
   ends : {k : ℕ} {kind : Kind} {r m t : Moment} → Walk k r m → Moves piece kind m t → nat_eq t.counter 31 ≡ true
       → ToProgram (suc k) r t
@@ -59,7 +59,7 @@ pub record Kept : Type 0 where
   pub digits : List Bool
   pub last : Option ℕ
 
--- the machine between two orders of a load; `words` are those of the store, of which the first 32 do not count
+-- the machine between two orders of a load; `words` are those of the store; the first 32 of them make no difference
 abbrev pub moment : Kept → Working → List ℕ → Bool → ℕ → ℕ → List ℕ → Moment
 moment q w words digit0 acc counter tape = record {
   words = words;
@@ -73,12 +73,12 @@ moment q w words digit0 acc counter tape = record {
   last = q.last;
 }
 
--- the accumulator between L 0 L and the order at 25: a word at its top, and behind it what is left of the ending row,
--- whose length digit is l
+-- the accumulator between L 0 L and the order at 25: a word at its upper end, and after it what is left of
+-- the ending row, whose length digit is l
 abbrev pub with_row : ℕ → ℕ → ℕ
 with_row l u = u * 2 ^ 54 + (2 + 5 * l) * 2 ^ 51
 
--- the same of an item's word
+-- the same for an item's word
 abbrev pub with_word : Item1 → ℕ
 with_word i = with_row (digit i.long) (word1 i)
 
@@ -170,7 +170,7 @@ module _ (q : Kept) (w : Working) (words : List ℕ) (digit0 : Bool) where
   first_placed i here =
       let low = bit i.long in on (T_top 25 (own 31) (word1 i) (word_is here) (omega arith)) refl stay
 
-  -- or at a place a behind it
+  -- or at a location a above it
   pub placed : (i : Item1) (a : ℕ) {rest : List ℕ} → w.at25 ≡ 20480 + 2 * a → (32 ≤ a) × (a < 1024)
       → Walk 1 (at w (with_word i) 25 rest) (moment q w (set words a (word1 i)) digit0 0 26 rest)
   placed i a here range =

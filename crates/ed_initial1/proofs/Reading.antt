@@ -1,4 +1,4 @@
--- The reading of a tape row by row, and that it finds the one fault that the rules have, or the one program.
+-- The reading of a tape row by row, and that it finds the one fault that the rules give, or the one program.
 use Rattle.std.proofs.Common.{◌≡◌, ℕ, ◌+◌, ◌*◌, ◌<◌, ◌≤◌, refl, sym, ap, ◌∙◌, arith, Bool, true, false, not, nat_eq}
 use Rattle.std.proofs.Common.{nat_lt, nat_le}
 use Rattle.std.proofs.Common.{if◌then◌else◌, Option, Some, None, List, [], ◌∷◌, ◌++◌, length, length-append}
@@ -34,7 +34,7 @@ began c = record { function = c; digits = [] }
 abbrev pub ended : List Item1 → Begun1 → Bool → List Item1
 ended before b long = before ++ (record { begun = b; long = long } ∷ [])
 
--- the place e of T e S, and whether the items reach up to it
+-- the location e of T e S, and whether the items reach up to it
 abbrev pub end_of : List Item1 → ℕ
 end_of [] = 0
 end_of (i ∷ is) = item_number i
@@ -162,7 +162,7 @@ faulty rows row before part rest cause h is = record {
   breaks = is;
 }
 
--- behind an item more
+-- after one more item
 pub item_more : {rows : List ℕ} {row : ℕ} {before : List Item1} {b : Begun1} {c : ℕ} (long : Bool) {rest : List ℕ}
     → Here rows row before (Some b) (c ∷ rest) → c ≡ ending_row long → rows ≡ spelled1 (ended before b long) ++ rest
 item_more {before = before} {b} long {rest} h is =
@@ -182,7 +182,7 @@ pub goes_on_more : (is : List Item1) → BeginsWith (end_of is) is → 31 + leng
 goes_on_more [] first less = absurd first
 goes_on_more (i ∷ is) first less = (first, less)
 
--- what the rest of the rows comes to, from wherever it is read on
+-- the result of the rest of the rows, from any row onwards
 abbrev Follows : List ℕ → List ℕ → Type 0
 Follows rows rest =
     (row : ℕ) (before : List Item1) (part : Option Begun1) → Here rows row before part rest
@@ -262,7 +262,7 @@ right rows = sound rows rows 0 [] None (record {
   row_is = refl;
 })
 
--- a tape that breaks no rule comes to a whole program
+-- a tape that breaks no rule gives a whole program
 pub programmed : (rows : List ℕ) → WellFormed1 rows → (t : Tape) × Comes1 rows t
 programmed rows well = by_verdict (verdict rows) (right rows)
   where

@@ -14,7 +14,7 @@ use Rattle.ed_initial1.proofs.Paths.{Walk, followed, stay, ToProgram, then, Work
 use Rattle.ed_initial1.proofs.Paths.{start_path, function_path}
 use Rattle.ed_initial1.proofs.Paths.{digit_path, ending_path, first_placed, placed, counted, goes_back, goes_on}
 
--- the rows of items with others behind them
+-- the rows of items with others after them
 abbrev pub tape_of : List Item1 → List ℕ → List ℕ
 tape_of [] rest = rest
 tape_of (i ∷ is) rest = i.begun.function ∷ (i.begun.digits ++ (ending_row i.long ∷ tape_of is rest))
@@ -36,7 +36,7 @@ abbrev pub thirds : ℕ → List Item1 → ℕ
 thirds y [] = y
 thirds y (i ∷ is) = thirds (third y i.begun.digits) is
 
--- words placed from a location on
+-- words placed from a location upwards
 abbrev pub written : List ℕ → ℕ → List ℕ → List ℕ
 written ws a [] = ws
 written ws a (v ∷ vs) = written (set ws a v) (a + 1) vs
@@ -72,7 +72,7 @@ first_word e i first =
     let s = ap digit first.short in
     omega (arith, first)
 
--- what is kept between two items behind the first: the order at 25 places the next word at a, and it and n words more
+-- what holds between two items after the first: the order at 25 places the next word at a, and that word and n more
 -- reach up to e
 record IsCounted (w : Working) (a e n : ℕ) : Type 0 where
   next : w.at25 ≡ 20480 + 2 * a
@@ -113,7 +113,7 @@ module _ (q : Kept) where
       then (counted q w ws b 0 rises (omega arith, lit< tt) (omega arith))
       (goes_on q (record w { at25 = 20480 + 2 * e }) ws b rest)
 
-  -- or back to the rest at 6: the accumulator has how many words are still to come, negatively
+  -- or back to the rest at 6: the accumulator holds the number of words still to come, as a negative number
   abbrev to_come : ℕ → ℕ → ℕ
   to_come a e = 2 ^ 17 - 2 * (e - a)
 
@@ -125,7 +125,7 @@ module _ (q : Kept) where
       followed (counted q w ws b (to_come a e) rises (omega arith, omega arith) (omega arith))
       (goes_back q (record w { at25 = 20480 + 2 * a }) ws b (to_come a e) rest (omega arith))
 
-  -- the items behind the first one
+  -- the items after the first one
   loop : {ws : List ℕ} (w : Working) {b : Bool} {acc a e : ℕ} (i : Item1) (is : List Item1) {rest : List ℕ}
       → AreItems (i ∷ is) → IsCounted w a e (length is)
       → ToProgram (costs1 (i ∷ is)) (moment q w ws b acc 6 (tape_of (i ∷ is) rest))

@@ -1,4 +1,4 @@
--- A machine of full size that Start has just made stands at the first of the 31 orders.
+-- A machine of full size on which Start has just acted is at the first of the 31 orders.
 use Rattle.std.proofs.Common.{◌≡◌, ℕ, refl, List, drop}
 use Rattle.std.proofs.Math.ListN.{get_or-append}
 use Rattle.ed_words.specs.declared.size.Size.TheVariants.{Full}

@@ -16,7 +16,7 @@ more_quiet k s quiet e is went stays =
     below_more (λ j. GoesOn1 (state_after j s)) k quiet
     (subst GoesOn1 e (record { went = went; stays = subst (λ (x : State). at_31 x ≡ false) is stays }))
 
--- it prints or stops, and does not come to 31
+-- it prints or stops, and does not reach 31
 pub sounded_now : (k : ℕ) {bound : ℕ} {s t u : State} → k + 1 ≤ bound → IsQuiet1 k s → t ≡ state_after k s
     → u ≡ (step t).state
     → is_obeyed (step t).turn ≡ true → is_went (step t).turn ≡ false → at_31 u ≡ false → IsLost1 s bound (k + 1)

@@ -1,5 +1,5 @@
--- The reading finds each fault and each program that the rules have: so a tape has one of them alone, and one at the
--- most.
+-- The reading finds each fault and each program that the rules give: so a tape has exactly one fault or exactly one
+-- program.
 use Rattle.std.proofs.Common.{◌⊎◌, inl, inr, ◌≡◌, ℕ, suc, ◌+◌, ◌*◌, ◌<◌, ◌≤◌, refl, sym, ap, ◌∙◌, arith, Bool, true}
 use Rattle.std.proofs.Common.{false, ◌&&◌, not, nat_eq, nat_lt}
 use Rattle.std.proofs.Common.{if◌then◌else◌, Option, Some, None, List, [], ◌∷◌, ◌++◌, length, length-append}
@@ -61,7 +61,7 @@ reads_digits before row b (d ∷ ds) rest good fits =
     ∙ (λ i. read (e i) before
     (Some (record { function = b.function; digits = append_assoc b.digits (d ∷ []) ds i })) rest)
 
--- behind an item
+-- after an item
 abbrev behind : ℕ → List Item1 → List ℕ → Verdict
 behind row is rest =
     if reaches_end is then Whole (record { end = end_of is; items = is; rest = rest }) else read row is None rest
@@ -116,7 +116,7 @@ less_of : (is : List Item1) (i : Item1) (js : List Item1) → IsLoading (is ++ (
 less_of [] i js h = h
 less_of (x ∷ xs) i js h = h
 
--- items behind which loading goes on
+-- items after which loading goes on
 reads_all : (is before : List Item1) (row : ℕ) (rest : List ℕ) → AreItems is → IsLoading (before ++ is)
     → read row before None (spelled1 is ++ rest) ≡ read (row + length (spelled1 is)) (before ++ is) None rest
 reads_all [] before row rest good goes =
@@ -133,7 +133,7 @@ reads_all (i ∷ is) before row rest good goes =
     ∙ rw on (reads_all is (before ++ (i ∷ [])) (row + length (rows_of1 i)) rest good.1 (rw (snoc before i is) goes)
     ∙ (λ k. read (e k) (snoc before i is k) None rest))
 
--- items that come to a program
+-- items that give a program
 reads_whole : (i : Item1) (is before : List Item1) (row : ℕ) (rest : List ℕ) → AreItems (i ∷ is)
     → BeginsWith (end_of (before ++ (i ∷ is))) (before ++ (i ∷ is))
     → 31 + length (before ++ (i ∷ is)) ≡ end_of (before ++ (i ∷ is))
@@ -217,8 +217,8 @@ finds_items (i ∷ is) e rest good first count =
 finds_program : (rows : List ℕ) (t : Tape) → Comes1 rows t → verdict rows ≡ Whole t
 finds_program rows t c = ap (λ x. read 0 [] None x) c.rows_are ∙ finds_items t.items t.end t.rest c.good c.first c.count
 
--- a tape that comes to a program breaks no rule; a tape comes to one program, and breaks one rule at one row, at the
--- most
+-- a tape that gives a program breaks no rule; a tape gives at most one program, and has at most one fault, at one
+-- row
 pub no_fault : (rows : List ℕ) (t : Tape) → Comes1 rows t → WellFormed1 rows
 no_fault rows t c row cause f = let e : Whole t ≡ Faulty row cause = sym (finds_program rows t c)
     ∙ finds_fault rows row cause f in cc

@@ -32,7 +32,7 @@ quiet (on {r = r} first away rest) done (suc j) h =
     subst GoesOn1 (sym (first_state j (state r done) ∙ ap (λ (o : Obeyed). state_after j o.state) (first.does done)))
     (quiet rest (done + 1) j (omega arith))
 
--- all orders but the last go on, the last one comes to 31, and none of them prints
+-- all orders but the last go on, the last one reaches 31, and none of them prints
 pub record Reaches (k : ℕ) (s t : State) : Type 0 where
   pub before : ℕ
   pub count : k ≡ suc before

@@ -1,4 +1,4 @@
--- The theorem of Initial Orders 1: a load of a tape that comes to a whole program ends at 31, at its cost, in the state
+-- The theorem of Initial Orders 1: a load of a tape that gives a whole program ends at 31, at its cost, in the state
 -- at the entry.
 use Rattle.std.proofs.Common.{◌≡◌, ℕ, ◌+◌, ◌*◌, ◌≤◌, refl, sym, ap, ◌∙◌, subst, arith, List, [], ◌∷◌, ◌++◌, length}
 use Rattle.std.proofs.Common.{length-append}
@@ -51,7 +51,7 @@ reached {s} store started {e} (i ∷ is) rest rows good first count =
     subst (λ x. Reaches k x (entry_of s e (i ∷ is) rest)) start
     (subst (λ x. Reaches k (state (begins s (tape_of (i ∷ is) rest)) s.orders) x) end (reaches path s.orders))
 
--- the same of a tape
+-- the same for a tape
 pub leads_in : (s : State) → HasItsLengths s.store → IsStarted1 s → (t : Tape) → Comes1 s.tape t
     → Reaches (4 + costs1 t.items) s (at_entry1 s t)
 leads_in s store started t c = reached store started t.items t.rest c.rows_are c.good c.first c.count
@@ -85,6 +85,6 @@ module _ (s u : State) (r : Loaded1) (store : IsStore s.store) (started : IsStar
             (cleared s started t.end t.items t.rest c.first);
       }
 
-  -- where no program is asked for
+  -- if no program is asked for
   pub total_load : WellFormed1 s.tape → (t : Tape) × Comes1 s.tape t × IsLoaded1 s t r u
   total_load well = let p = programmed s.tape well in (p.0, p.1, whole_load p.0 p.1)

@@ -1,4 +1,4 @@
--- What a check tells of a tape of Initial Orders 1.
+-- What a check reports of a tape of Initial Orders 1.
 use Rattle.std.specs.Prelude.{ℕ, ◌≡◌, ◌⊎◌, ◌+◌, ◌-◌, ◌*◌, ◌≤◌, ◌&&◌, nat_le, nat_lt, List, Option, Some, None, Result}
 use Rattle.std.specs.Prelude.{Ok, Err}
 use Rattle.std.specs.Prelude.{length, slice_index, if◌then◌else◌}
@@ -8,18 +8,18 @@ use Rattle.ed_initial1.specs.declared.cause.Tape1Fault.TheVariants.{At, Memory}
 use Rattle.ed_initial1.specs.Items.{spelled1, words, costs1}
 use Rattle.ed_initial1.specs.Faults.{Tape, Comes1, IsFault1, WellFormed1}
 
--- the cost in orders, the rows read up to the end of the last item, the place e, and the words of 31 to e - 1
+-- the cost in orders, the rows read up to the end of the last item, the location e, and the words of 31 to e - 1
 pub record Report1 : Type 0 where
   pub orders : ℕ
   pub rows : ℕ
   pub end : ℕ
   pub words : List ℕ
 
--- the word that the tape places at a location, none outside 31 to e - 1
+-- the word that the tape places at a location, or None outside 31 to e - 1
 abbrev pub placed_word : Report1 → ℕ → Option ℕ
 placed_word r a = if nat_le 31 a && nat_lt a r.end then Some (slice_index r.words (a - 31)) else None
 
--- what a check tells of the tape that the rows come to
+-- the report of a check for a tape
 abbrev pub report1 : Tape → Report1
 report1 t = record {
   orders = 4 + costs1 t.items;
@@ -28,7 +28,7 @@ report1 t = record {
   words = words t.items;
 }
 
--- the answer for a tape without a fault: what it comes to, and that it costs no more than 14 orders a row and 4
+-- the answer for a tape without a fault: its report, and that it costs at most 14 orders a row and 4
 pub record Accepts1 (rows : List ℕ) (r : Report1) : Type 0 where
   pub well : WellFormed1 rows
   pub tape : Tape
@@ -42,13 +42,13 @@ Answers1 rows (Ok r) = Accepts1 rows r
 Answers1 rows (Err (At row cause)) = IsFault1 rows row cause
 Answers1 rows (Err Memory) = Unit {0}
 
--- a tape comes to a whole program or has a fault; to one program and one fault at the most, and not to both
+-- a tape gives a whole program or has a fault; at most one program and at most one fault, and never both
 pub record HasOneVerdict (rows : List ℕ) : Type 0 where
   pub some : ((t : Tape) × Comes1 rows t) ⊎ ((row : ℕ) × (cause : Tape1Cause) × IsFault1 rows row cause)
   pub program : (t u : Tape) → Comes1 rows t → Comes1 rows u → t ≡ u
   pub fault : (r q : ℕ) (a b : Tape1Cause) → IsFault1 rows r a → IsFault1 rows q b → (r ≡ q) × (a ≡ b)
   pub apart : (t : Tape) → Comes1 rows t → WellFormed1 rows
 
--- so it is with every tape
+-- every tape has one verdict
 abbrev pub EachTapeHasOneVerdict : Type 0
 EachTapeHasOneVerdict = (rows : List ℕ) → HasOneVerdict rows

@@ -12,13 +12,13 @@ use Rattle.ed_initial1.specs.Listing.{first_orders}
 use Rattle.ed_initial1.specs.Items.{Item1, item_number, ending_row, words, costs1, item_digits, last_of}
 use Rattle.ed_initial1.specs.Faults.{Tape}
 
--- the machine is of full size and stands at the first of the 31 orders
+-- the machine is of full size and at the first of the 31 orders
 pub record IsStarted1 (s : State) : Type 0 where
   pub size : s.size ≡ Full
   pub counter : s.counter ≡ 0
   pub orders : (i : ℕ) → i < 31 → short_at s.store i ≡ slice_index first_orders i
 
--- an item that stands for none
+-- an item to use if a tape has no items
 abbrev pub no_item : Item1
 no_item = record { begun = record { function = 0; digits = [] }; long = false }
 
@@ -26,7 +26,7 @@ no_item = record { begun = record { function = 0; digits = [] }; long = false }
 abbrev pub last_item : Tape → Item1
 last_item t = last_of no_item t.items
 
--- the locations 0 to 30: the listing, but for five words that the orders have changed
+-- the locations 0 to 30: the listing, except for five words that the orders have changed
 abbrev pub left_orders : Tape → List ℕ
 left_orders t =
     slice_set (slice_set (slice_set (slice_set (slice_set first_orders

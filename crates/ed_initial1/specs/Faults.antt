@@ -1,5 +1,5 @@
--- What a tape of Initial Orders 1 comes to, and where and what its fault is (this project's own rules: what the orders
--- would do with a faulty tape is no notation).
+-- The program that a tape of Initial Orders 1 gives, or where its fault is and which (this project's own rules; what
+-- the orders would do with a faulty tape is not part of the notation).
 use Rattle.std.specs.Prelude.{ℕ, ◌≡◌, ◌⊎◌, ◌+◌, ◌*◌, ◌<◌, ◌≤◌, Bool, true, false, ◌&&◌, ◌||◌, not, nat_eq, nat_lt}
 use Rattle.std.specs.Prelude.{nat_le}
 use Rattle.std.specs.Prelude.{Option, Some, None, List, [], ◌∷◌, ◌++◌, length}
@@ -8,14 +8,14 @@ use Rattle.ed_initial1.specs.declared.cause.Tape1Cause.{Tape1Cause}
 use Rattle.ed_initial1.specs.declared.cause.Tape1Cause.TheVariants.{EndOfTape, BadRow, NumberTooLarge, FirstWord}
 use Rattle.ed_initial1.specs.Items.{Begun1, Item1, item_number, begun_rows1, spelled1, IsBegun1, AreItems, IsFirst}
 
--- the numbers of the rules; of two rules broken at one row the less is the fault
+-- the numbers of the rules; if two rules are broken at one row, the one with the lesser number is the fault
 abbrev pub rule : Tape1Cause → ℕ
 rule EndOfTape = 1
 rule BadRow = 2
 rule NumberTooLarge = 3
 rule FirstWord = 4
 
--- what is read of a tape: the place that T e S names, the items, and the rows left behind them
+-- what is read of a tape: the location e that T e S names, the items, and the rows left after them
 pub record Tape : Type 0 where
   pub end : ℕ
   pub items : List Item1
@@ -26,29 +26,29 @@ abbrev pub BeginsWith : ℕ → List Item1 → Type 0
 BeginsWith e [] = ⊥
 BeginsWith e (i ∷ is) = IsFirst e i
 
--- the rows come to a whole program: items of which the first is T e S, one for each of the locations 31 to e - 1
+-- the rows begin with a whole program: T e S, and in all one item for each of the locations 31 to e - 1
 pub record Comes1 (rows : List ℕ) (t : Tape) : Type 0 where
   pub rows_are : rows ≡ spelled1 t.items ++ t.rest
   pub good : AreItems t.items
   pub first : BeginsWith t.end t.items
   pub count : 31 + length t.items ≡ t.end
 
--- whole items behind which loading goes on: none, or the first is T e S and they do not reach e - 1
+-- loading goes on after these items: there are none, or the first is T e S and they do not reach e - 1
 abbrev pub IsLoading : List Item1 → Type 0
 IsLoading [] = Unit {0}
 IsLoading (i ∷ is) = IsFirst (item_number i) i × (31 + length (i ∷ is) < item_number i)
 
--- the rows of a part of an item, none between two items
+-- the rows of a part of an item; there are none between two items
 abbrev pub part_rows1 : Option Begun1 → List ℕ
 part_rows1 None = []
 part_rows1 (Some b) = begun_rows1 b
 
--- a part of an item is so far without a fault
+-- a part of an item is without a fault so far
 abbrev pub IsPart1 : Option Begun1 → Type 0
 IsPart1 None = Unit {0}
 IsPart1 (Some b) = IsBegun1 b
 
--- a row as it is read: behind whole items and a part of its own item, while loading goes on
+-- the row is read: whole items come before it and then a part of its own item, while loading goes on
 pub record IsRead1 (rows : List ℕ) (row : ℕ) : Type 0 where
   pub before : List Item1
   pub part : Option Begun1
@@ -73,24 +73,24 @@ is_none (i ∷ is) = false
 abbrev pub ends1 : ℕ → Bool
 ends1 c = nat_eq c 12 || nat_eq c 25
 
--- whether the row c breaks the rule behind a part of an item: one line for each rule
+-- whether the row c breaks the rule after a part of an item: one line for each rule
 abbrev pub breaks1 : Tape1Cause → List Item1 → Begun1 → ℕ → Bool
 breaks1 EndOfTape before b c = false
 breaks1 BadRow before b c = not (nat_lt c 10) && not (ends1 c)
 breaks1 NumberTooLarge before b c = nat_lt c 10 && nat_lt 32767 (10 * digits_number 0 b.digits + c)
 breaks1 FirstWord before b c = ends1 c && (is_none before && not (is_first b c))
 
--- whether the rule is the first one, that the rows go on
+-- whether the rule is the first one: the tape must not end here
 abbrev pub is_end_of_tape1 : Tape1Cause → Bool
 is_end_of_tape1 EndOfTape = true
 is_end_of_tape1 cause = false
 
--- whether the rule is the second one, on rows that stand in no item
+-- whether the rule is the second one, which rows between items can break
 abbrev pub is_bad_row1 : Tape1Cause → Bool
 is_bad_row1 BadRow = true
 is_bad_row1 cause = false
 
--- whether the rule is broken where so much has been read and these rows are left
+-- whether the rule is broken when these items and this part have been read and these rows are left
 abbrev pub broken1 : List Item1 → Option Begun1 → List ℕ → Tape1Cause → Bool
 broken1 before part [] cause = is_end_of_tape1 cause
 broken1 before None (c ∷ rest) cause = is_bad_row1 cause && not (nat_lt c 32)
@@ -101,7 +101,7 @@ pub record Breaks1 (rows : List ℕ) (row : ℕ) (cause : Tape1Cause) : Type 0 w
   pub stands : IsRead1 rows row
   pub breaks : broken1 stands.before stands.part stands.rest cause ≡ true
 
--- the fault of a tape: the least row at which a rule is broken, and there the rule with the least number
+-- the fault of a tape: the first row at which a rule is broken, and the rule with the least number broken there
 pub record IsFault1 (rows : List ℕ) (row : ℕ) (cause : Tape1Cause) : Type 0 where
   pub is : Breaks1 rows row cause
   pub least : (r : ℕ) (other : Tape1Cause) → Breaks1 rows r other → (row < r) ⊎ ((row ≡ r) × (rule cause ≤ rule other))

@@ -1,6 +1,6 @@
 -- Items of the tape of Initial Orders 1: a function row, digit rows, and S or L (the listing of May 1949; that a number
--- stays at most 32767 is this project's own rule). Rows are whole numbers here. One of 32 or more is no row and breaks
--- a rule wherever it is read; no tape has such a row.
+-- is at most 32767 is this project's own rule). Rows are natural numbers here. A number of 32 or more is not a row and
+-- breaks a rule wherever it is read; no real tape has one.
 use Rattle.std.specs.Prelude.{ℕ, ◌≡◌, ◌+◌, ◌*◌, ◌%◌, ◌^◌, ◌<◌, ◌≤◌, Bool, true, false, List, [], ◌∷◌, ◌++◌, length}
 use Rattle.ed_words.specs.Words.{digit}
 use Rattle.ed_notation.specs.Items.{digits_number, AreDigits}
@@ -10,7 +10,7 @@ pub record Begun1 : Type 0 where
   pub function : ℕ
   pub digits : List ℕ
 
--- a whole item, ended by L where it is long and by S where it is not
+-- a whole item; it ends with L if it is long and with S if it is short
 pub record Item1 : Type 0 where
   pub begun : Begun1
   pub long : Bool
@@ -43,7 +43,7 @@ pub record IsBegun1 (b : Begun1) : Type 0 where
   pub digits : AreDigits b.digits
   pub fits : digits_number 0 b.digits ≤ 32767
 
--- each item begins as an item may
+-- the rows of each item before its ending row are right
 abbrev pub AreItems : List Item1 → Type 0
 AreItems [] = Unit {0}
 AreItems (i ∷ is) = IsBegun1 i.begun × AreItems is
@@ -57,11 +57,11 @@ abbrev pub words : List Item1 → List ℕ
 words [] = []
 words (i ∷ is) = word1 i ∷ words is
 
--- the orders that read an item: 5 for its function row, 10 for a digit row, 14 for its ending row
+-- the number of orders that read an item: 5 for its function row, 10 for each digit row, 14 for its ending row
 abbrev pub cost_of1 : Item1 → ℕ
 cost_of1 i = 5 + 10 * length i.begun.digits + 14
 
--- the orders that read items one after the other
+-- the number of orders that read items one after the other
 abbrev pub costs1 : List Item1 → ℕ
 costs1 [] = 0
 costs1 (i ∷ is) = cost_of1 i + costs1 is
@@ -71,12 +71,12 @@ abbrev pub item_digits : List Item1 → List ℕ
 item_digits [] = []
 item_digits (i ∷ is) = i.begun.digits ++ item_digits is
 
--- the last of some things, and one before them where there are none
+-- the last item of a list, or the given one if the list is empty
 abbrev pub last_of : {A : Type 0} → A → List A → A
 last_of a [] = a
 last_of a (x ∷ xs) = last_of x xs
 
--- the item is T e S with e from 32 to 1023: the words go to 31 up to e - 1
+-- the item is T e S with e from 32 to 1023: words are placed from 31 to e - 1
 pub record IsFirst (e : ℕ) (i : Item1) : Type 0 where
   pub function : i.begun.function ≡ 5
   pub short : i.long ≡ false

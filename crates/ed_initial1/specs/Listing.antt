@@ -3,7 +3,7 @@
 use Rattle.std.specs.Prelude.{ℕ, Bool, true, false, List, [], ◌∷◌}
 use Rattle.ed_initial.specs.Listing.{listed_order, P, E, R, T, U, I, H, G, A, V, S as subtract, L as left}
 
--- the words in the order of their places, each written as its order
+-- the words in the order of their locations, each written as an order
 abbrev pub first_orders : List ℕ
 first_orders =
     listed_order T 0 S ∷ listed_order H 2 S ∷ listed_order T 0 S ∷ listed_order E 6 S ∷ listed_order P 1 S

@@ -1,5 +1,5 @@
--- How a load ends: the program is entered where the counter comes to 31; before that, any turn but a quiet one, or too
--- many orders, is the end of a load that is lost (this project's own rule).
+-- How a load ends. The program is entered when the counter reaches 31. Before that, a turn that prints, stops or
+-- cannot be obeyed, or too many orders, ends a load that is lost (this project's own rule).
 use Rattle.std.specs.Prelude.{ℕ, suc, ◌≡◌, ◌<◌, ◌≤◌, Bool, true, false, nat_eq}
 use Rattle.ed_machine.specs.State.{State}
 use Rattle.ed_machine.specs.OrderTable.{step}
@@ -13,7 +13,7 @@ use Rattle.ed_initial1.specs.declared.loading.Loaded1.TheVariants.{Entered, Lost
 abbrev pub at_31 : State → Bool
 at_31 s = nat_eq s.counter 31
 
--- an order of a load that goes on: it neither prints nor stops, and the counter does not come to 31
+-- an order of a load that goes on: it neither prints nor stops, and the counter does not reach 31
 pub record GoesOn1 (s : State) : Type 0 where
   pub went : (step s).turn ≡ Went
   pub stays : at_31 (step s).state ≡ false
@@ -22,7 +22,7 @@ pub record GoesOn1 (s : State) : Type 0 where
 abbrev pub IsQuiet1 : ℕ → State → Type 0
 IsQuiet1 k s = (j : ℕ) → j < k → GoesOn1 (state_after j s)
 
--- the last of k orders is the first that comes to 31
+-- the last of k orders is the first that reaches 31
 pub record IsEntered1 (s : State) (bound k : ℕ) : Type 0 where
   pub before : ℕ
   pub count : k ≡ suc before
@@ -32,7 +32,7 @@ pub record IsEntered1 (s : State) (bound k : ℕ) : Type 0 where
   pub enters : at_31 (step (state_after before s)).state ≡ true
 
 -- the load is lost after k orders: all orders that it may take went on, the next one cannot be obeyed, or the last one
--- printed or stopped and did not come to 31
+-- printed or stopped and did not reach 31
 pub data IsLost1 (s : State) (bound k : ℕ) : Type 0 where
   ran_out : k ≡ bound → IsQuiet1 k s → IsLost1 s bound k
   blocked : k < bound → IsQuiet1 k s → is_obeyed (step (state_after k s)).turn ≡ false → IsLost1 s bound k
@@ -40,12 +40,12 @@ pub data IsLost1 (s : State) (bound k : ℕ) : Type 0 where
       → is_obeyed (step (state_after before s)).turn ≡ true → is_went (step (state_after before s)).turn ≡ false
       → at_31 (step (state_after before s)).state ≡ false → IsLost1 s bound k
 
--- how a load from a state ends that takes a number of orders at the most
+-- how a load from a state ends when it may take at most `bound` orders
 abbrev pub EndsAs1 : State → ℕ → Loaded1 → Type 0
 EndsAs1 s bound (Entered orders) = IsEntered1 s bound orders
 EndsAs1 s bound (Lost orders) = IsLost1 s bound orders
 
--- the orders of a load
+-- the number of orders of a load
 abbrev pub orders_of1 : Loaded1 → ℕ
 orders_of1 (Entered orders) = orders
 orders_of1 (Lost orders) = orders

@@ -1,13 +1,13 @@
-/// What is wrong with a tape of Initial Orders 1. At one row the first one that applies is the fault.
+/// What is wrong with a tape of Initial Orders 1. If several apply at one row, the first is the fault.
 #[derive(Clone, Copy, Debug, PartialEq, Eq)]
 pub enum Tape1Cause {
     /// The rows end before loading has ended: the row is the number of rows.
     EndOfTape,
-    /// Behind a function row, a row that is neither a digit nor S nor L.
+    /// After a function row, a row that is neither a digit nor S nor L.
     BadRow,
     /// A digit row that brings the number of its item above 32767.
     NumberTooLarge,
-    /// The ending row of the first item, where that item is not T e S with e from 32 to 1023.
+    /// The ending row of the first item, if that item is not T e S with e from 32 to 1023.
     FirstWord,
 }
 

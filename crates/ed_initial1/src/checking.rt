@@ -9,7 +9,7 @@ use ed_codes::Code;
 use ed_words::Word;
 use std::alloc::Global;
 
-/// Whether a tape of Initial Orders 1 is without a fault: what it comes to, or its fault.
+/// Whether a tape of Initial Orders 1 is without a fault: its cost, rows and words, or its fault.
 ///
 /// The law says that every tape has one of the two and never both, whether or not memory is found.
 pub fn check1(alloc: Global, rows: &[Code]) -> Result<Checked1, Tape1Fault>
@@ -65,7 +65,7 @@ fn read_rows(alloc: Global, rows: &[Code]) -> Result<Checked1, Tape1Fault>
     })
 }
 
-/// The place behind the last word, once an item with this number has ended: the first item names it.
+/// The location after the last word, once an item with this number has ended: the first item names it.
 fn end_behind(first: bool, number: u16, end: u16) -> u16
     ensures { result ≡ if first then number else end }
 {

@@ -4,7 +4,7 @@ ghost use Rattle.ed_initial1.specs.Listing.{first_orders};
 use ed_initial::order;
 use ed_words::Word;
 
-// The codes of the functions that the listing has. Those of S and L have names, since the letters are lengths here.
+// The codes of the functions in the listing. Those of S and L have names, since these letters are lengths here.
 
 const P: u8 = 0;
 

@@ -12,12 +12,12 @@ const ENTRY: u16 = 31;
 /// How a load by Initial Orders 1 ended.
 #[derive(Clone, Copy, Debug, PartialEq, Eq)]
 pub enum Loaded1 {
-    /// The counter came to 31, where the program begins.
+    /// The counter reached 31, where the program begins.
     Entered {
         /// The number of orders obeyed.
         orders: u64,
     },
-    /// The load went wrong, which it does only on a tape with a fault.
+    /// The load went wrong; that happens only on a tape with a fault.
     Lost {
         /// The number of orders obeyed.
         orders: u64,
@@ -26,8 +26,8 @@ pub enum Loaded1 {
 
 /// Obeys Initial Orders 1 until they enter the program of the tape at 31.
 ///
-/// It is lost where an order prints, stops or cannot be obeyed before that, or where 14 orders for each row of tape and
-/// 4 more were obeyed.
+/// It is lost if an order before that prints, stops or cannot be obeyed, or after 14 orders for each row of tape and 4
+/// more.
 pub fn load1(machine: &mut Machine) -> Loaded1
     requires started { IsStarted1 machine.old }
     requires room { machine.old.orders + (14 * length machine.old.tape + 4) ≤ 2 ^ 63 }
@@ -38,12 +38,12 @@ pub fn load1(machine: &mut Machine) -> Loaded1
         × IsLoaded1 machine.old t result machine.new }
 {
     let rows = machine.rows_left().len() as u64;
-    // The contract of `word` tells the proof that the store is one.
+    // The contract of `word` gives the proof that the store is one.
     let _ = machine.word(0);
     obey_orders(machine, 14 * rows + 4)
 }
 
-/// Obeys orders, `bound` of them at the most, until the counter is 31 or the load is lost.
+/// Obeys at most `bound` orders, until the counter is 31 or the load is lost.
 fn obey_orders(machine: &mut Machine, bound: u64) -> Loaded1
     requires { machine.old.orders + bound ≤ 2 ^ 63 }
     ensures ends { EndsAs1 machine.old bound result }

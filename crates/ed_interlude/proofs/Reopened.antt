@@ -1,4 +1,4 @@
--- The state of a machine that came back, as the paths see it, and the two orders that plant the directive.
+-- The state of a machine that returned, as the paths see it, and the two orders that place the directive.
 use Rattle.std.proofs.Common.{◌≡◌, ℕ, suc, ◌+◌, ◌/◌, ◌^◌, ◌<◌, ◌≤◌, refl, sym}
 use Rattle.std.proofs.Common.{ap, ◌∙◌, arith, lit<, false, Bool, List, ◌∷◌, ◌++◌}
 use Rattle.std.proofs.Common.{length, get_or, drop, take, drop-cons}
@@ -33,7 +33,7 @@ one_more : (ws : List ℕ) (k w : ℕ) (xs : List ℕ) → k < length ws → get
     → w ∷ xs ≡ drop k ws
 one_more ws k w xs l h e = ap (λ x. x ∷ xs) (sym h) ∙ ap (λ x. get_or ws k 0 ∷ x) e ∙ sym (drop-cons ws k 0 l)
 
--- a list from a stretch of its items on
+-- a list from a sublist of its items onwards
 stretch : (cs ws : List ℕ) (k m : ℕ) → k + length cs ≡ m → m ≤ length ws
     → ((j : ℕ) → j < length cs → get_or ws (k + j) 0 ≡ get_or cs j 0) → cs ++ drop m ws ≡ drop k ws
 stretch cs ws k m e l h =
@@ -83,7 +83,7 @@ reopened s store back =
     ∙ set-get_or s.store.sandwich 20 false in
     same_state s refl words digits (sym back.multiplier) (sym back.counter)
 
--- the two orders: the word at the top of the accumulator is planted at 22
+-- the two orders: the 17 most significant digits of the accumulator are placed at 22
 pub return_path : (f : Kept) (w : Working) (words : List ℕ) (digit40 : Bool) (acc u : ℕ) (tape : List ℕ)
     → acc / 2 ^ 54 ≡ u
     → ToRest f 2 (moment f w words digit40 acc 25 tape) (moment f (record w { at22 = u }) words digit40 0 34 tape)

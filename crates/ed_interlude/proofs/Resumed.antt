@@ -1,5 +1,5 @@
--- A load that is taken up again: from a machine that came back a well-formed rest of a tape leads to the state at the
--- entry, by the induction that serves the load of a whole tape.
+-- A load that is resumed: from a machine that returned, a well-formed rest of a tape leads to the state at the
+-- entry, by the same induction as the load of a whole tape.
 use Rattle.std.proofs.Common.{◌≡◌, ◌+◌, ◌*◌, ◌^◌, ◌<◌, refl, ap, ◌∙◌, subst}
 use Rattle.std.proofs.Common.{arith, inl, inr, false, None, get_or, length}
 use Rattle.ed_store.specs.Cells.{IsStore}
@@ -77,6 +77,6 @@ module _ (s t : State) (r : Loaded) (store : IsStore s.store) (back : IsReturned
       ended (17 * length s.tape + 2) (leads_back s e store back h)
       (cost_fits s.store.words (reopening s) 2 s.tape e h.comes) ends is
 
-  -- where no entry is asked for
+  -- if no entry is asked for
   pub total_resume : IsRestWellFormed s → (e : TapeEntry) × ComesBack s e × IsLoaded s e r t
   total_resume well = let h = comes_back s back well in (h.0, h.1, resumed_load h.0 h.1)

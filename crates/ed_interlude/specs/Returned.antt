@@ -1,4 +1,4 @@
--- A program that came back to the Initial Orders, and what they then read (what Initial Orders 2 of Wilkes, Wheeler and
+-- A program that returned to the Initial Orders, and what they read next (what Initial Orders 2 of Wilkes, Wheeler and
 -- Gill 1951 do at 25: the order in the accumulator becomes their directive).
 use Rattle.std.specs.Prelude.{ℕ, ◌≡◌, ◌+◌, ◌*◌, ◌/◌, ◌%◌, ◌^◌, ◌<◌, ◌≤◌, slice_index}
 use Rattle.ed_store.specs.Cells.{Cells, short_at}
@@ -8,22 +8,22 @@ use Rattle.ed_notation.specs.Openings.{opening_with}
 use Rattle.ed_notation.specs.Faults.{TapeEntry, WellFormed, ComesTo}
 use Rattle.ed_initial.specs.Listing.{initial_orders}
 
--- the locations from `first` up to `end`, itself left out, hold the Initial Orders
+-- the locations from `first` to before `end` hold the Initial Orders
 abbrev pub AreListed : Cells → ℕ → ℕ → Type 0
 AreListed c first end = (i : ℕ) → first ≤ i → i < end → short_at c i ≡ slice_index initial_orders i
 
--- the directive that a program left: the word at the top of the accumulator
+-- the directive that a program left: the most significant 17 digits of the accumulator
 abbrev pub directive : State → ℕ
 directive s = s.acc / 2 ^ 54
 
--- that word is an order T with no length digit and an address of 1023 at the most
+-- that word is an order T with length digit F and an address of at most 1023
 pub record LeavesDirective (s : State) : Type 0 where
   pub even : directive s % 2 ≡ 0
   pub least : 20480 ≤ directive s
   pub most : directive s ≤ 20480 + 2 * 1023
 
--- the machine came back: it stands at 25, the Initial Orders and their constants are as they left them, and the
--- directive is in the accumulator
+-- the machine returned: it is at 25, the Initial Orders and their constants are as they left them, and the directive is
+-- in the accumulator
 pub record IsReturned (s : State) : Type 0 where
   pub counter : s.counter ≡ 25
   pub low : AreListed s.store 2 20
@@ -33,15 +33,15 @@ pub record IsReturned (s : State) : Type 0 where
   pub multiplier : s.multiplier ≡ 20480 * 2 ^ 18
   pub leaves : LeavesDirective s
 
--- the notation where the program left it: its directive, θ as 42 holds it, and no word placed
+-- the state of the notation that the program left: its directive, θ from location 42, and no word placed
 abbrev pub reopening : State → Note
 reopening s = opening_with (directive s) s.store.words
 
--- the rows left are well formed under what the program left
+-- the rows left are well formed when read in that state
 abbrev pub IsRestWellFormed : State → Type 0
 IsRestWellFormed s = WellFormed s.size s.store.words (reopening s) s.tape
 
--- and they come to an entry at its cost: 2 orders, and then its items
+-- the rows left also reach an entry at its cost: 2 orders, and then those of its items
 pub record ComesBack (s : State) (e : TapeEntry) : Type 0 where
   pub well : IsRestWellFormed s
   pub comes : ComesTo s.store.words (reopening s) 2 s.tape e

@@ -12,7 +12,8 @@ use ed_machine::Machine;
 use ed_notation::{Checked, TapeFault, check_from};
 use std::alloc::Global;
 
-/// Whether the rows left are well formed under the directive that a program left: what they come to, or their fault.
+/// Whether the rows left are well formed under the directive that a program left: their entry and words, or their
+/// fault.
 ///
 /// The rows of a fault and of the entry count from the first row left; `orders` is the cost of `resume`.
 pub fn check_rest(alloc: Global, machine: &Machine) -> Result<Checked, TapeFault>
@@ -33,8 +34,8 @@ pub fn check_rest(alloc: Global, machine: &Machine) -> Result<Checked, TapeFault
 
 /// Obeys the Initial Orders from a return until they enter the next program of the tape.
 ///
-/// It is lost where an order prints, stops or cannot be obeyed before that, or where 17 orders for each row left and 2
-/// more were obeyed; never where the rows left are well formed.
+/// It is lost if an order before that prints, stops or cannot be obeyed, or after 17 orders for each row left and 2
+/// more; never if the rows left are well formed.
 pub fn resume(machine: &mut Machine) -> Loaded
     requires returned { IsReturned machine.old }
     requires room { machine.old.orders + (17 * length machine.old.tape + 2) ≤ 2 ^ 63 }
@@ -45,7 +46,7 @@ pub fn resume(machine: &mut Machine) -> Loaded
         (e : TapeEntry) × ComesBack machine.old e × IsLoaded machine.old e result machine.new }
 {
     let rows = machine.rows_left().len() as u64;
-    // The contract of `word` tells the proof that the store is one.
+    // The contract of `word` gives the proof that the store is one.
     let _ = machine.word(0);
     obey_orders(machine, 17 * rows + 2)
 }

@@ -11,19 +11,19 @@ const RETURN: u16 = 25;
 /// The location of the constant 1.
 const ONE: u16 = 43;
 
-/// What the multiplier holds: the ten sixteenths of the conversion from decimal.
+/// What the multiplier holds: ten sixteenths, for the conversion from decimal.
 const MULTIPLIER: u64 = 20480 << 18;
 
 /// The order T 0 F, the least directive of a return.
 const LEAST: u32 = 20480;
 
-/// The order T 1023 F, the greatest one.
+/// The order T 1023 F, the greatest directive of a return.
 const MOST: u32 = LEAST + 2 * 1023;
 
-/// Whether a program came back to the Initial Orders, so that they can read on.
+/// Whether a program returned to the Initial Orders in such a state that they can read on.
 ///
-/// The machine stands at 25, the locations 2 to 19, 21 and 23 to 39 hold the Initial Orders, 43 holds 1, the multiplier
-/// is as it was, and the accumulator has an order T with no length digit at its top.
+/// The machine is at 25, the locations 2 to 19, 21 and 23 to 39 hold the Initial Orders, 43 holds 1, the multiplier is
+/// unchanged, and the most significant digits of the accumulator are an order T with length digit F.
 pub fn is_returned(machine: &Machine) -> bool
     ensures { IsTrue result ↔ IsReturned machine.now }
 {
@@ -36,14 +36,14 @@ pub fn is_returned(machine: &Machine) -> bool
         && are_listed(machine, 23, 40)
 }
 
-/// The word at the top of the accumulator, which is the directive that a program leaves where it comes back.
+/// The 17 most significant digits of the accumulator, which are the directive that a program leaves when it returns.
 pub fn directive(machine: &Machine) -> Word
     ensures { result ≡ directive machine.now }
 {
     Word::of_number((machine.acc() >> 54) as u32)
 }
 
-/// Whether that word is an order T with no length digit and an address of 1023 at the most.
+/// Whether that word is an order T with length digit F and an address of at most 1023.
 fn leaves_directive(machine: &Machine) -> bool
     ensures { IsTrue result ↔ LeavesDirective machine.now }
 {
@@ -51,7 +51,7 @@ fn leaves_directive(machine: &Machine) -> bool
     word % 2 == 0 && LEAST <= word && word <= MOST
 }
 
-/// Whether the locations from `first` up to `end`, itself left out, hold the Initial Orders.
+/// Whether the locations from `first` to before `end` hold the Initial Orders.
 fn are_listed(machine: &Machine, first: u16, end: u16) -> bool
     requires { end ≤ 41 }
     ensures { IsTrue result ↔ AreListed machine.now.store first end }

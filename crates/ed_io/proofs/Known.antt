@@ -1,4 +1,4 @@
--- What std's clauses on known bytes give where all values of a type report bytes, or none does.
+-- What std's clauses on known bytes give if all values of a type report bytes, or none does.
 use Rattle.std.proofs.Common.{take, length, ◌≡◌, ◌∙◌, ◌<◌, ℕ, List, [], ◌++◌, sym, ap}
 use Rattle.std.specs.Prelude.{Option, Some, None, nat_lt, Bool, true, false, if◌then◌else◌}
 use Rattle.std.specs.Io.KnownBytes.{Appends, Consumes, Keeps}

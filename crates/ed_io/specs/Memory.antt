@@ -38,6 +38,6 @@ pub record Roll : Type 0 where
 abbrev pub new_roll : ℕ → Roll
 new_roll room = record { held = []; room = room; is_over = false }
 
--- its bytes, as long as it took no more than it keeps
+-- its bytes, as long as it has taken no more than it keeps
 abbrev pub told : Roll → Option (List ℕ)
 told r = if r.is_over then None else Some r.held

@@ -6,16 +6,16 @@ ghost use Rattle.ed_io.specs.Causes.{HasCause, faults_after};
 #[derive(Clone, Copy, Debug, PartialEq, Eq)]
 pub struct Failed;
 
-/// Where input comes from.
+/// A device that input is read from.
 pub trait Source {
-    /// The bytes that are left, where the source reports them.
+    /// The bytes that are left, if the source reports them.
     ghost left: { Self → Option (List ℕ) };
 
-    /// How many calls have failed, up to 2^64 - 1. A call raises it by one if it fails, and else leaves it.
+    /// The number of calls that have failed, at most 2^64 - 1. A call raises it by one if it fails, and only then.
     ghost faults: { Self → ℕ };
 
-    /// Hands over the next bytes at the front of a piece, and answers how many they are: 0 is the end of input, where
-    /// the piece is not empty.
+    /// Hands over the next bytes at the front of a piece, and answers their number. For a piece that is not empty, 0
+    /// means the end of the input.
     fn read(&mut self, into: &mut [u8]) -> Result<usize, Failed>
         ensures within { IsWithin result into.new }
         ensures bytes { Reads (left self.old) (left self.new) result into.new }
@@ -23,15 +23,15 @@ pub trait Source {
         ensures faults { faults self.new ≡ faults_after result (faults self.old) };
 }
 
-/// Where output goes.
+/// A device that output is written to.
 pub trait Sink {
-    /// The bytes that it holds, where the sink reports them.
+    /// The bytes that it holds, if the sink reports them.
     ghost held: { Self → Option (List ℕ) };
 
-    /// How many calls have failed, up to 2^64 - 1. A call raises it by one if it fails, and else leaves it.
+    /// The number of calls that have failed, at most 2^64 - 1. A call raises it by one if it fails, and only then.
     ghost faults: { Self → ℕ };
 
-    /// Takes the first bytes of a piece, and answers how many they are: at least 1, where the piece is not empty.
+    /// Takes the first bytes of a piece, and answers their number: at least 1 if the piece is not empty.
     fn write(&mut self, piece: &[u8]) -> Result<usize, Failed>
         ensures within { IsWithin result piece.now }
         ensures some { TakesSome result piece.now }

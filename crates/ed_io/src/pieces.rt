@@ -1,6 +1,6 @@
 ghost use Rattle.std.specs.Prelude.{◌≡◌, ◌≤◌, ◌+◌, ◌++◌, length, min, take, vec_capacity, vec_len};
 
-/// Copies as many bytes to the front of a piece as fit, and at most `most`.
+/// Copies as many bytes to the front of a piece as fit, at most `most`.
 pub(crate) fn hand_over(into: &mut [u8], left: &[u8], most: usize) -> usize
     ensures count { result ≡ min most (min (length into.old) (length left.now)) }
     ensures bytes { take result into.new ≡ take result left.now }

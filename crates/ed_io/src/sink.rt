@@ -9,8 +9,8 @@ use ed_words::NoMemory;
 use std::alloc::Global;
 use std::marker::Model;
 
-/// A sink over memory reserved when it is made. A call fails where a list says, or where the sink is full and the piece
-/// is not empty.
+/// A sink over memory that is reserved when it is made. A call fails if its number is in a list, or if the sink is full
+/// and the piece is not empty.
 #[derive(Drop)]
 pub struct MemorySink {
     bytes: Vec<u8>,
@@ -40,15 +40,15 @@ impl Model for MemorySink {
 }
 
 impl MemorySink {
-    /// A sink with room for `room` bytes, of which no call fails before it is full.
+    /// A sink with room for `room` bytes, whose calls never fail before it is full.
     pub fn new(alloc: Global, room: usize) -> Result<MemorySink, NoMemory>
         ensures { IfOk result (λ s. s ≡ new_page room [] usize.MAX) }
     {
         MemorySink::with_faults(alloc, room, Vec::new(alloc))
     }
 
-    /// A sink whose calls of `write` fail where their numbers stand in `failing`, counted from 0. Where memory is
-    /// refused the list is dropped.
+    /// A sink whose calls of `write` fail if their numbers, counted from 0, are in `failing`. If no memory is found,
+    /// the list is dropped.
     pub fn with_faults(
         alloc: Global,
         room: usize,
@@ -89,7 +89,7 @@ impl MemorySink {
         &self.bytes
     }
 
-    /// How many calls have failed, up to 2^64 - 1.
+    /// The number of calls that have failed, at most 2^64 - 1.
     pub fn faults(&self) -> u64
         ensures { result ≡ self.now.faults }
     {

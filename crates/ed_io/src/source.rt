@@ -7,7 +7,7 @@ use crate::pieces::hand_over;
 use crate::{Failed, Source};
 use std::marker::Model;
 
-/// A source over bytes in memory, whose calls fail where a list says.
+/// A source over bytes in memory, whose calls fail if their numbers are in a list.
 #[derive(Drop)]
 pub struct MemorySource {
     bytes: Vec<u8>,
@@ -36,7 +36,7 @@ impl Model for MemorySource {
 }
 
 impl MemorySource {
-    /// A source with these bytes left. The calls of `read` whose numbers stand in `failing` fail, counted from 0.
+    /// A source with these bytes left. The calls of `read` whose numbers, counted from 0, are in `failing` fail.
     pub fn new(bytes: Vec<u8>, failing: Vec<u64>) -> MemorySource
         ensures { result ≡ new_supply bytes.items failing.items usize.MAX }
     {
@@ -65,7 +65,7 @@ impl MemorySource {
         &self.bytes[self.at..]
     }
 
-    /// How many calls have failed, up to 2^64 - 1.
+    /// The number of calls that have failed, at most 2^64 - 1.
     pub fn faults(&self) -> u64
         ensures { result ≡ self.now.faults }
     {

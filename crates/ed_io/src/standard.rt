@@ -8,7 +8,7 @@ use crate::{Failed, Sink, Source};
 use std::io::{Read, Stderr, Stdin, Stdout, Write};
 use std::marker::Model;
 
-/// A reader of a type whose values all report the bytes that are left, or all report none.
+/// A reader of a type all of whose values report the bytes that are left, or none of whose values do.
 pub trait SteadyRead: Read {
     ghost steady: { (s t : Self) → Alike (Self.remaining s) (Self.remaining t) };
 }
@@ -21,7 +21,7 @@ impl SteadyRead for Stdin {
     ghost steady = { λ _ _. tt };
 }
 
-/// A writer of a type whose values all report the bytes that they hold, or all report none.
+/// A writer of a type all of whose values report the bytes that they hold, or none of whose values do.
 pub trait SteadyWrite: Write {
     ghost steady: { (s t : Self) → Alike (Self.contents s) (Self.contents t) };
 }
@@ -54,7 +54,7 @@ impl<R: SteadyRead> Model for StdSource<R> {
 }
 
 impl<R: SteadyRead> StdSource<R> {
-    /// A source over this reader, of which no call has failed.
+    /// A source over this reader. No call of it has failed yet.
     pub fn new(reader: R) -> StdSource<R>
         ensures { result ≡ record { known = R.remaining reader; faults = 0 } }
     {
@@ -84,7 +84,7 @@ impl<R: SteadyRead> Source for StdSource<R> {
 }
 
 /// A sink over a writer of std. Its bytes are those that the writer reports, until a call fails; from then on it
-/// reports none, since a writer that refuses a flush may have taken the bytes.
+/// reports no bytes, since a writer that refuses a flush may have taken them.
 #[derive(Drop)]
 pub struct StdSink<W: SteadyWrite> {
     writer: W,
@@ -100,7 +100,7 @@ impl<W: SteadyWrite> Model for StdSink<W> {
 }
 
 impl<W: SteadyWrite> StdSink<W> {
-    /// A sink over this writer, of which no call has failed.
+    /// A sink over this writer. No call of it has failed yet.
     pub fn new(writer: W) -> StdSink<W>
         ensures { result ≡ record { known = W.contents writer; faults = 0 } }
     {
@@ -113,8 +113,8 @@ impl<W: SteadyWrite> Sink for StdSink<W> {
 
     ghost faults = { λ s. s.faults };
 
-    /// Writes and flushes. A writer that takes no byte of a piece that is not empty has failed, and so has one that
-    /// refuses to flush.
+    /// Writes and flushes. A writer has failed if it takes no byte of a piece that is not empty, or if it refuses to
+    /// flush.
     fn write(&mut self, piece: &[u8]) -> Result<usize, Failed>
         ensures within { IsWithin result piece.now }
         ensures some { TakesSome result piece.now }
@@ -132,7 +132,7 @@ impl<W: SteadyWrite> Sink for StdSink<W> {
     }
 }
 
-/// Writes and flushes, and gives the number of bytes taken: none where the writer failed.
+/// Writes and flushes, and gives the number of bytes taken; None if the writer failed.
 fn write_through<W: Write>(writer: &mut W, piece: &[u8]) -> Option<usize>
     ensures within { IfSome result (λ k. k ≤ length piece.now) }
     ensures some { IfSome result (λ k. 0 < length piece.now → 0 < k) }
@@ -152,7 +152,7 @@ mod tests {
     use super::*;
     use std::io;
 
-    /// Gives its text a byte a call, but for the call with this number, which fails.
+    /// Gives its text one byte a call, except that the call with this number fails.
     #[derive(Drop)]
     struct Dripping<'a> {
         text: &'a [u8],

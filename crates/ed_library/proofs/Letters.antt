@@ -1,4 +1,4 @@
--- The values of code letters in a routine: the preset parameters have theirs, and every other one but θ and D has 0.
+-- The values of code letters in a routine: those of the preset parameters, and 0 for every other one but θ and D.
 use Rattle.std.proofs.Common.{◌≡◌, ◌≢◌, ◌∙◌, ℕ, ◌+◌, ◌-◌, ◌<◌, ◌≤◌, ◌⊎◌, inl, inr, refl}
 use Rattle.std.proofs.Common.{ap, arith, false, nat_eq, List, length, get_or, replicate}
 use Rattle.std.proofs.lemmas.Bool.{cases_eq}
@@ -7,7 +7,7 @@ use Rattle.std.proofs.lemmas.List.{get_or-append_right, get_or-replicate, get_or
 use Rattle.ed_notation.specs.Fold.{value_of}
 use Rattle.ed_library.specs.Images.{parameter_store}
 
--- a letter behind D has the content of its location
+-- a letter above D has the content of its location
 content : (ps : List ℕ) (theta c : ℕ) → 19 < c
     → value_of (parameter_store ps) theta c ≡ get_or (parameter_store ps) (24 + c) 0
 content ps theta c high =

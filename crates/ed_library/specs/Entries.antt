@@ -1,10 +1,10 @@
--- The catalogue of the library: its routines in order of name (this project's own). A routine is its index in the
--- catalogue in all that follows, counted from 0.
+-- The catalogue of the library: its routines in order of name (this project's own). Everywhere below, a routine is
+-- given by its index in the catalogue, counted from 0.
 use Rattle.std.specs.Prelude.{ℕ, Bool, List, [], ◌∷◌, length, slice_index_or, codes}
 use Rattle.ed_library.specs.declared.tables.TheConstants.{CHECK, DIVIDE, NEWLINE, PRINT, READ, ROOT}
 
--- what the catalogue says of a routine: its name, the letters of its preset parameters, the places of its own text that
--- it changes, and its items, each a function, a number, whether a π stands behind the number, and an ending row
+-- what the catalogue says of a routine: its name, the letters of its preset parameters, the offsets of the words of its
+-- own that it changes, and its items, each a function, a number, whether a π follows the number, and an ending row
 pub record Routine : Type 0 where
   pub name : List ℕ
   pub parameters : List ℕ
@@ -36,10 +36,10 @@ catalogue =
 abbrev pub how_many : ℕ
 how_many = length catalogue
 
--- what stands for a routine that the catalogue hasn't
+-- an entry for an index that is not in the catalogue
 abbrev pub no_entry : Routine
 no_entry = record { name = []; parameters = []; working = []; items = [] }
 
--- what the catalogue says of a routine
+-- the entry of a routine in the catalogue
 abbrev pub entry : ℕ → Routine
 entry r = slice_index_or catalogue r no_entry

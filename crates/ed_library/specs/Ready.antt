@@ -1,4 +1,4 @@
--- What holds of the whole catalogue: its routines can be linked, and stand in order of name (this project's own rule).
+-- What holds of the whole catalogue: its routines can be linked, and are in order of name (this project's own rule).
 use Rattle.std.specs.Prelude.{ℕ, ◌==◌, Bool, true, false, ◌&&◌, nat_le, nat_lt, List, [], ◌∷◌, length, if◌then◌else◌}
 use Rattle.std.specs.List.{list_all, list_any}
 use Rattle.ed_notation.specs.Spellings.{is_spellable}
@@ -9,35 +9,35 @@ use Rattle.ed_library.specs.Routines.{table_item}
 abbrev pub is_parameter : ℕ → Bool
 is_parameter c = nat_le 21 c && nat_le c 26
 
--- whether numbers rise
+-- whether each number is greater than the one before it
 abbrev pub are_rising : List ℕ → Bool
 are_rising [] = true
 are_rising (a ∷ []) = true
 are_rising (a ∷ b ∷ cs) = nat_lt a b && are_rising (b ∷ cs)
 
--- whether an item can be spelled, and ends with F, θ, D or one of these letters
+-- whether an item can be spelled and ends with F, θ, D or one of these letters
 abbrev pub is_ready_row : List ℕ → (ℕ × ℕ × Bool × ℕ) → Bool
 is_ready_row letters row = is_spellable (table_item row) && list_any (λ c. c == row.3) (17 ∷ 18 ∷ 19 ∷ letters)
 
--- whether the letters of a routine are those of parameters, in rising order
+-- whether the letters of a routine are those of parameters, in ascending order
 abbrev pub are_letters : List ℕ → Bool
 are_letters letters = are_rising letters && list_all is_parameter letters
 
--- whether a routine can be linked: it has items, it changes places of its own text, and its letters and its items are
--- ready
+-- whether a routine can be linked: it has items, the words that it changes are its own, and its letters and its items
+-- are ready
 abbrev pub is_ready : Routine → Bool
 is_ready e =
     (nat_lt 0 (length e.items) && list_all (λ p. nat_lt p (length e.items)) e.working)
     && (are_letters e.parameters && list_all (is_ready_row e.parameters) e.items)
 
--- whether one name stands before another
+-- whether one name sorts before another
 abbrev pub comes_before : List ℕ → List ℕ → Bool
 comes_before [] [] = false
 comes_before [] (b ∷ bs) = true
 comes_before (a ∷ more) [] = false
 comes_before (a ∷ more) (b ∷ bs) = if a == b then comes_before more bs else nat_lt a b
 
--- whether routines stand in order of name, no name twice
+-- whether routines are in order of name, no name twice
 abbrev pub are_ordered : List Routine → Bool
 are_ordered [] = true
 are_ordered (e ∷ []) = true

@@ -1,4 +1,5 @@
-//! The routines as plain numbers. A further routine is a table, an entry of the catalogue in `specs/`, and an arm here.
+//! The routines as plain numbers. To add a routine takes a table, an entry of the catalogue in `specs/`, and an arm
+//! here.
 ghost use Rattle.std.specs.Prelude.{◌≡◌, ◌<◌, true};
 ghost use Rattle.std.specs.List.{list_all};
 ghost use Rattle.ed_library.specs.Entries.{entry, how_many};
@@ -292,11 +293,11 @@ pub(crate) const SIZE: u16 = 6;
 pub(crate) struct Entry {
     /// The name by which a source uses the routine.
     pub(crate) name: &'static str,
-    /// The letters of the preset parameters, in rising order.
+    /// The letters of the preset parameters, in ascending order.
     pub(crate) parameters: &'static [u8],
-    /// The places of the routine's own text that it changes.
+    /// The offsets of the routine's own words that it changes.
     pub(crate) working: &'static [u16],
-    /// The items, one a place.
+    /// The items, one for each word.
     pub(crate) items: &'static [(u8, u16, bool, u8)],
 }
 

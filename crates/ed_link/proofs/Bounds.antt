@@ -1,4 +1,4 @@
--- How many rows a line gives.
+-- The number of rows that a line gives.
 use Rattle.std.proofs.Common.{◌≡◌, ℕ, ◌+◌, ◌*◌, ◌/◌, ◌%◌, ◌^◌, ◌≤◌, subst, arith, lit≤, Bool, true, false, nat_eq}
 use Rattle.std.proofs.Common.{nat_le, if◌then◌else◌, Option, Some, None}
 use Rattle.std.proofs.Common.{List, [], ◌∷◌, ◌++◌, length, map, length-append}
@@ -33,7 +33,7 @@ mark_few false = lit≤ tt
 one : (p n : ℕ) → length (digit_at p n) ≤ 1
 one p n = digit_few p n (nat_le p n)
 
--- a number has 5 digit rows at the most
+-- a number has at most 5 digit rows
 digits_few : (n : ℕ) → length (digits_of n) ≤ 5
 digits_few n =
     let e = digit_at 1 n in
@@ -53,7 +53,7 @@ digits_few n =
       one 1 n,
     )
 
--- an item has 8 rows at the most
+-- an item has at most 8 rows
 pub rows_few : (is : List Item) → length (spelled (canonicals is)) ≤ 8 * length is
 rows_few [] = lit≤ tt
 rows_few (i ∷ is) =
@@ -115,7 +115,7 @@ long_few : (b : Bool) (v w : ℕ) → length (map word_item ((if b then 0 ∷ []
 long_few true v w = lit≤ tt
 long_few false v w = lit≤ tt
 
--- a line gives 240 items at the most
+-- a line gives at most 240 items
 pub items_few : (homes : List Home) (s : Spot) (st : Option Statement) → IsFew st → length (items_of homes s st) ≤ 240
 items_few homes s None h = lit≤ tt
 items_few homes s (Some (Segment name base)) h = lit≤ tt
@@ -147,7 +147,7 @@ items_few homes s (Some (Fetch routine name ts)) h =
 items_few homes s (Some (Enter name)) h = lit≤ tt
 items_few homes s (Some (Rows codes)) h = lit≤ tt
 
--- a line gives 120 rows behind the program at the most
+-- a line gives at most 120 rows after the program
 pub data_few : (st : Option Statement) → IsFew st → length (data_of st) ≤ 120
 data_few None h = lit≤ tt
 data_few (Some (Segment name base)) h = lit≤ tt

@@ -31,7 +31,7 @@ found_in text k r [] h = cc
 found_in text k r (e ∷ es) h =
     found_by k r (length es) (bytes_eq e.name text) (find_from text (k + 1) es) (found_in text (k + 1) r es) h
 
--- what holds of all holds of one that is among them
+-- what holds of all holds of one among them
 one_of : (test : ℕ → Bool) (cs : List ℕ) (c : ℕ) → list_all test cs ≡ true → list_any (λ x. x == c) cs ≡ true
     → test c ≡ true
 one_of test [] c h g = cc
@@ -47,7 +47,7 @@ record IsClosed (e : Routine) : Type 0 where
   letters : list_all is_parameter e.parameters ≡ true
   rows : list_all (is_ready_row e.parameters) e.items ≡ true
 
--- what it means that a routine is ready
+-- what it means for a routine to be ready
 of_ready : (e : Routine) → is_ready e ≡ true → IsClosed e
 of_ready e h =
     let p = and_parts (nat_lt 0 (length e.items) && list_all (λ q. nat_lt q (length e.items)) e.working)

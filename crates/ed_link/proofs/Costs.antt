@@ -1,4 +1,4 @@
--- What reading the punched tape costs doesn't depend on the store.
+-- The cost of reading the punched tape doesn't depend on the store.
 use Rattle.std.proofs.Common.{◌≡◌, ℕ, ◌+◌, refl, ap, ◌∙◌, arith, Bool, true, false, nat_eq, List, [], ◌∷◌}
 use Rattle.std.proofs.lemmas.Bool.Decides.{nat_tests}
 use Rattle.ed_words.specs.declared.size.Size.{Size}
@@ -26,7 +26,7 @@ pub passes_no_zed : {z : Size} {words : List ℕ} {note last : Note} {is : List 
 passes_no_zed stays = tt
 passes_no_zed (goes d e p) = (e, passes_no_zed p)
 
--- the directive behind K, a code letter and an item goes by the directive before it alone
+-- the directive after K, a code letter or an item depends only on the directive before it
 same_kay : (c : Control) (m n : Note) (i : Item) → m.directive ≡ n.directive
     → (with_kay c m i).directive ≡ (with_kay c n i).directive
 same_kay ThetaByBlank m n i e = e
@@ -57,7 +57,7 @@ same_act Digit words others m n i z e = e
 same_act Mark words others m n i z e = e
 same_act Other words others m n i z e = e
 
--- so does the cost of an ending row
+-- the cost of an ending row depends only on it too
 same_end : (r : RowKind) (m n : Note) → m.directive ≡ n.directive → end_cost r m ≡ end_cost r n
 same_end Letter m n e = ap (λ d. end_cost Letter (record { directive = d; theta = 0; placed = [] })) e
 same_end Zed m n e = refl
@@ -71,7 +71,7 @@ not_zed : (c : ℕ) → nat_eq c 13 ≡ false → is_zed (row_kind c) ≡ false
 unfolding is_zed
 not_zed c h = grind (arith, nat_tests)
 
--- so does the cost of items, none of which ends with Z
+-- so does the cost of items if none of them ends with Z
 pub same_costs : (words others : List ℕ) (m n : Note) (is : List Item) → NoZed is → m.directive ≡ n.directive
     → costs words m (canonicals is) ≡ costs others n (canonicals is)
 same_costs words others m n [] h e = refl

@@ -1,4 +1,4 @@
--- Each source is accepted or refused, and the tape of each one that is accepted comes to its linked program.
+-- Each source is accepted or refused, and the tape of each one that is accepted reaches its linked program.
 use Rattle.std.proofs.Common.{◌≡◌, ◌∙◌, inl, inr, ℕ, Bool, true, List, refl, sym, ap}
 use Rattle.std.specs.Prelude.{Option, Some, None, Ok}
 use Rattle.std.specs.List.{list_all}
@@ -107,7 +107,7 @@ read_is_accepted z text lines p none = record {
   faultless = (read_law z text lines p).accepted none;
 }
 
--- and in a source that is accepted none is found
+-- and in a source that is accepted no fault is found
 pub accepted_is_read : (z : Size) (text : Text) (lines : List Line) → IsAcceptedAs z text lines → fault z lines ≡ None
 accepted_is_read z text lines a =
     (read_law z text lines (program_is_read text a.two lines a.says)).accepts a.faultless

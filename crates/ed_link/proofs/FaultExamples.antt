@@ -44,7 +44,7 @@ lacking = codes "segment main" ++ 10 ∷ codes "here: Z F" ++ 10 ∷ []
 no_enter_is : IsMeaningFault Full (source lacking) 3 causes.Enter
 no_enter_is = refused Full lacking refl refl
 
--- one line with S6 and S7, of which S6 is the fault
+-- one line with S6 and S7; S6 is the fault
 abbrev again : List ℕ
 again = codes "segment main" ++ 10 ∷ codes "main: A x F" ++ 10 ∷ codes "enter main" ++ 10 ∷ []
 
@@ -59,7 +59,7 @@ over = codes "segment main at 60" ++ 10 ∷ codes "Z F" ++ 10 ∷ codes "segment
 over_is : IsMeaningFault Full (source over) 5 causes.Overlap
 over_is = refused Full over refl refl
 
--- the last place of a half, and the one after it
+-- the last location of the small store, and the one after it
 abbrev half : List ℕ
 half = codes "segment main at 511" ++ 10 ∷ codes "Z F" ++ 10 ∷ codes "Z F" ++ 10 ∷ codes "enter main" ++ 10 ∷ []
 
@@ -69,7 +69,7 @@ half_is = refused Small half refl refl
 half_full : HasNoFault Full (source half)
 half_full = taken Full half refl refl
 
--- below the place 44 and below 56, and an order outside every segment
+-- below location 44 and below 56, and an order outside every segment
 abbrev low : List ℕ
 low = codes "segment main at 43" ++ 10 ∷ codes "Z F" ++ 10 ∷ codes "enter main" ++ 10 ∷ []
 
@@ -123,14 +123,14 @@ version_two = (
   refused Full (second (codes "_c: long 5") (codes "enter t")) refl refl,
 )
 
--- the last place of the parameters
+-- the last location of the parameters
 abbrev parameters : List ℕ
 parameters = codes "segment main at 55" ++ 10 ∷ codes "Z F" ++ 10 ∷ codes "enter main" ++ 10 ∷ []
 
 parameters_is : IsMeaningFault Full (source parameters) 2 causes.ParameterStore
 parameters_is = refused Full parameters refl refl
 
--- by hand, without the law: an order at the place 43, and an order at 60 over one that a line before it placed there
+-- by hand, without the law: an order at location 43, and an order at 60 over one that an earlier line placed there
 abbrev at_place : ℕ → Line
 at_place p = record { number = 1; label = None; statement = Some (Segment (codes "main") (Some p)) }
 

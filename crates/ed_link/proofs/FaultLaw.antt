@@ -1,4 +1,4 @@
--- The fault that is looked for is that of the definition, and none is found where the source has none.
+-- The fault that is looked for is that of the definition, and no fault is found if the source has none.
 use Rattle.std.proofs.Common.{◌≡◌, ◌⊎◌, inl, inr, ℕ, ◌+◌, ◌<◌, ◌≤◌, refl, sym, ap, ◌∙◌, subst, arith}
 use Rattle.std.proofs.Common.{Bool, true, false, ◌||◌, Option, Some, None, List, [], ◌∷◌, ◌++◌, length, nat_le}
 use Rattle.std.proofs.Common.{length-append, if◌then◌else◌}
@@ -34,7 +34,7 @@ use Rattle.ed_symbols.proofs.FaultPasses.{first, finds, Finds, Numbered}
 use Rattle.ed_symbols.proofs.NameLaw.{AtLine, SaysLeast, found_says, numbers, say_names, spot_snoc}
 use Rattle.ed_link.proofs.LineFaults.{OfMeaning, of_meaning, name_has_cause, few, cause_is_name}
 
--- ---- the passes of the code, by what stands before a line
+-- ---- the passes of the code, by what comes before a line
 
 runs_snoc : (s : Spot) (b : List Line) (l : Line)
     → runs_from s (b ++ l ∷ []) ≡ runs_from s b ++ word_run l.statement (spot_from s b) ∷ []

@@ -225,7 +225,7 @@ s9 before l = record {
 
 -- ---- S10 to S12
 
--- a place is in a run
+-- a location is in an extent
 abbrev IsIn : ℕ × ℕ → ℕ → Type 0
 IsIn run p = (run.0 ≤ p) × (p < run.1)
 
@@ -240,7 +240,7 @@ meets_tests : (a b c d p : ℕ) → IsIn (a, b) p → IsIn (c, d) p → meets (a
 meets_tests a b c d p h g =
     lt_true (max a c) (min b d) (omega (arith, h.0, h.1, g.0, g.1))
 
--- a line needs a place, by its statement and spot alone
+-- a line needs a location, by its statement and spot alone
 abbrev NeedsAt : List Home → Option Statement → Spot → ℕ → Type 0
 NeedsAt homes st s p = ((first_place st s ≤ p) × (p < end_place st s))
     ⊎ ((name : List ℕ) × (st ≡ Some (Enter name)) × (place_on homes None name ≡ Some p))
@@ -308,12 +308,12 @@ s12 z lines before l = past (homes_of lines) l.statement (spot_after before) (lo
 
 -- ---- S13
 
--- the places of the words of the lines from a spot on
+-- the extents of the words of the lines from a spot onwards
 abbrev pub runs_from : Spot → List Line → List (ℕ × ℕ)
 runs_from s [] = []
 runs_from s (l ∷ lines) = word_run l.statement s ∷ runs_from (passed l.statement s) lines
 
--- a line of these, from a spot on, has a word at a place of the run
+-- one of these lines, from a spot onwards, has a word at a location of the extent
 abbrev Shares : ℕ × ℕ → Spot → List Line → Type 0
 Shares run s lines = (p : ℕ) × IsIn run p × (earlier : List Line) × (e : Line) × StandsAfter lines earlier e
     × IsIn (word_run e.statement (spot_from s earlier)) p

@@ -1,4 +1,4 @@
--- A source that is linked has no fault, and its tape comes to its linked program.
+-- A source that is linked has no fault, and its tape reaches its linked program.
 use Rattle.std.proofs.Common.{◌≡◌, refl, ap, ◌∙◌, subst, Bool, true, None, List, length}
 use Rattle.std.specs.List.{list_all}
 use Rattle.ed_words.specs.declared.size.Size.{Size}
@@ -23,7 +23,7 @@ use Rattle.ed_link.specs.Private.Building.{first_past, IsBuilt, IsFinished}
 use Rattle.ed_link.proofs.Accepted.{accepted_law}
 use Rattle.ed_link.proofs.FaultLaw.{fault_law}
 
--- what the code has made of lines without a fault is what linking answers of them
+-- what the code has built from lines without a fault is the answer of linking
 pub finished : {z : Size} {lines : List Line} {homes : List Home} {any : Bool} {b : Built} {k : Linked} (two : Bool)
     → list_all is_ready catalogue ≡ true → AreNumbered lines → list_all (is_line two) lines ≡ true
     → homes ≡ homes_of lines → any ≡ any_enter lines

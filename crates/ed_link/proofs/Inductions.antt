@@ -1,4 +1,4 @@
--- The tape of an accepted source comes to its linked program.
+-- The tape of an accepted source reaches its linked program.
 use Rattle.std.proofs.Common.{◌≡◌, ℕ, ◌+◌, ◌*◌, ◌<◌, ◌≤◌, refl, sym, ap, ◌∙◌, subst, arith}
 use Rattle.std.proofs.Common.{Bool, true, false, not, ◌&&◌, Option, Some, None, List, [], ◌∷◌, ◌++◌, length}
 use Rattle.std.proofs.Common.{append_assoc, is_some, is_none, if◌then◌else◌}
@@ -50,13 +50,13 @@ none_of : (b : Bool) (cause : SourceCause) (rest : Option SourceCause) → (if b
 none_of true cause rest h = cc
 none_of false cause rest h = (refl, h)
 
--- no fault of a line and none of the lines behind it
+-- neither the line nor a later one has a fault
 later_of : (n : ℕ) (cause : Option SourceCause) (rest : Option SourceFault) → or_later n cause rest ≡ None
     → (cause ≡ None) × (rest ≡ None)
 later_of n None rest h = (refl, h)
 later_of n (Some cause) rest h = cc
 
--- places that a line may take: those of the store behind the parameters
+-- locations that a line may take: those of the store after the parameters
 abbrev pub IsClear : Size → ℕ × ℕ → Type 0
 IsClear z run = (meets run (0, 44) ≡ false) × (meets run (44, 56) ≡ false)
     × (meets run (locations z, run.1) ≡ false)
@@ -79,7 +79,7 @@ faultless z homes any past l s h =
     in let a16 = none_of _ _ _ a15.1 in
     record { clear = (a10.0, a11.0, a12.0); routine = a14.0; settings = a15.0; misplaced = a16.0 }
 
--- places without a fault
+-- locations without a fault
 fits : (z : Size) (a b : ℕ) → a < b → IsClear z (a, b) → (56 ≤ a) × (b ≤ locations z)
 fits z a b some clear =
     let below = clear.0 in
@@ -118,7 +118,7 @@ module _ (tables : list_all is_ready catalogue ≡ true) (z : Size) where
       let f = fits z base (base + length (entry r).items) (omega (arith, some)) clear in
       (some, f.0, f.1, are_known ts tables text r e (not-false (sets ts (Some r)) s))
 
-  -- so has every line without a fault that is no `enter`
+  -- so has every line without a fault that is not an `enter`
   sound_line : {homes : List Home} {any : Bool} {past : LinesBefore} {n : ℕ} {label : Option (List ℕ)} {s : Spot}
       (two : Bool) (st : Option Statement) → is_line two (record { number = n; label = label; statement = st }) ≡ true
       → IsFaultless z homes any past (record { number = n; label = label; statement = st }) s → is_enter st ≡ false
@@ -136,7 +136,7 @@ module _ (tables : list_all is_ready catalogue ≡ true) (z : Size) where
   sound_line two (Some (Enter name)) formed f e = cc
   sound_line two st formed f e = tt
 
--- behind the `enter` line
+-- after the `enter` line
 
 record IsBehind (homes : List Home) (theta : ℕ) (s : Spot) (lines : List SourceLine) : Type 0 where
   items : punched_from homes s lines ≡ []
@@ -147,7 +147,7 @@ misplaced : (x : Bool) → ((x || true) && true) ≡ false → ⊥
 misplaced true h = cc
 misplaced false h = cc
 
--- a line behind `enter` gives nothing
+-- a line after `enter` gives nothing
 behind_line : {homes : List Home} {theta : ℕ} {s : Spot} {n : ℕ} {label : Option (List ℕ)} {lines : List SourceLine}
     (st : Option Statement) → is_misplaced true true (record { number = n; label = label; statement = st }) ≡ false
     → IsBehind homes theta (passed st s) lines
@@ -158,7 +158,7 @@ behind_line {s = s} (Some (Rows codes)) m b =
     let q = lt_same s.place in record { items = b.items; placed = b.placed; theta_is = rw q b.theta_is }
 behind_line {label = label} (Some st) m b = absurd (misplaced (is_some label) m)
 
--- so do all lines behind it
+-- nor do all later lines
 behind : {homes : List Home} {theta : ℕ} {s : Spot} (z : Size) (any : Bool) (past : LinesBefore)
     (lines : List SourceLine) → past.entered ≡ true
     → fault_from z homes any past s lines ≡ None → IsBehind homes theta s lines
@@ -184,19 +184,19 @@ pub record Ends (z : Size) (words : List ℕ) (homes : List Home) (theta : ℕ) 
   pub theta_is : last.theta ≡ theta_from theta s lines
   pub placed : last.placed ≡ reverse (placed_from homes s lines) ++ note.placed
 
--- a line that is no `enter` leaves the entry to the lines behind it
+-- a line that is not an `enter` leaves the entry to the later lines
 entry_later : (homes : List Home) (st : Option Statement) (later : ℕ) → is_enter st ≡ false
     → entered_place homes st later ≡ later
 entry_later homes (Some (Enter name)) later h = cc
 entry_later homes st later h = refl
 
--- the place of an `enter` without a fault
+-- the location of an `enter` without a fault
 placed_entry : (z : Size) (found : Option ℕ) → is_none found ≡ false → IsClear z (run_at found)
     → (56 ≤ unwrap_or found 0) × (unwrap_or found 0 + 1 ≤ locations z)
 placed_entry z None e clear = cc
 placed_entry z (Some q) e clear = fits z q (q + 1) (omega arith) clear
 
--- lines from a spot on that have their forms and no fault, one of which is the first `enter`
+-- lines from a spot onwards that have their forms and no fault; one of them is the first `enter`
 pub record AreFaultless (z : Size) (homes : List Home) (any two : Bool) (past : LinesBefore) (earlier : List Home)
     (s : Spot) (lines : List SourceLine) : Type 0 where
   pub formed : list_all (is_line two) lines ≡ true
@@ -207,7 +207,7 @@ pub record AreFaultless (z : Size) (homes : List Home) (any two : Bool) (past : 
 
 module _ {z : Size} {words : List ℕ} {homes : List Home} {any : Bool} (tables : list_all is_ready catalogue ≡ true)
     (whole : length words ≡ 1024) (two : Bool) where
-  -- a line that is no `enter` line
+  -- a line that is not an `enter` line
   going : {l : SourceLine} {lines : List SourceLine} {past : LinesBefore} {s : Spot} {note : Note} {theta : ℕ}
       → IsFaultless z homes any past l s → is_enter l.statement ≡ false → is_line two l ≡ true → IsReady theta s note
       → ((next : Note) (t : ℕ) → IsReady t (passed l.statement s) next

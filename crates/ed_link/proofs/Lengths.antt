@@ -11,7 +11,7 @@ pub put_all_length : (table : List (Option ℕ)) (ps : List (ℕ × ℕ)) → le
 put_all_length table [] = refl
 put_all_length table (p ∷ ps) = put_all_length (set table p.0 (Some p.1)) ps ∙ length-set table p.0 (Some p.1)
 
--- a table of 1024 times nothing is the empty one
+-- a table of 1024 empty cells is the empty one
 pub empty_is : (xs : List (Option ℕ)) → xs ≡ replicate 1024 None → xs ≡ empty_table
 unfolding empty_table
 empty_is xs h = h
@@ -27,7 +27,7 @@ pub put_all_append : (table : List (Option ℕ)) (ps qs : List (ℕ × ℕ))
 put_all_append table [] qs = refl
 put_all_append table (p ∷ ps) qs = put_all_append (set table p.0 (Some p.1)) ps qs
 
--- one row's word more of those that stand one after the other
+-- one more row's word, of those one after the other
 pub put_more : {more whole : List (Option ℕ)} (word : ℕ × ℕ × Bool × ℕ → ℕ) (rows : List (ℕ × ℕ × Bool × ℕ))
     (k base : ℕ) (table : List (Option ℕ))
     → k < length rows → more ≡ set table (base + k) (Some (word (get_or rows k (0, 0, false, 0))))

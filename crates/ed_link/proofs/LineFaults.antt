@@ -1,4 +1,4 @@
--- A line has the fault with the least number that its tests answer, and no fault where they answer none.
+-- A line has the fault with the least number that its tests answer, and no fault if they answer none.
 use Rattle.std.proofs.Common.{ℕ, ◌≤◌, refl, arith}
 use Rattle.std.proofs.Common.{Bool, List, [], ◌∷◌}
 use Rattle.std.specs.List.{list_any}
@@ -61,7 +61,7 @@ few lines before l causes.Parameters h = absurd h
 few lines before l causes.Enter h = absurd h
 few lines before l causes.SandwichDigit h = absurd h
 
--- and each with such a number is one of names
+-- each fault with such a number is one of names
 pub cause_is_name : (z : Size) (lines before : List Line) (l : Line) (c : SourceCause)
     → LineHasCause z lines before l c → number_of c ≤ 8 → LineHasNameFault lines before l c
 cause_is_name z lines before l causes.BadByte h low = absurd h
@@ -83,7 +83,7 @@ cause_is_name z lines before l causes.Enter h low = absurd (omega (arith, low))
 cause_is_name z lines before l causes.SandwichDigit h low = absurd (omega (arith, low))
 
 module _ (z : Size) (lines before : List Line) (l : Line) where
-  -- the faults of meaning that are none of names
+  -- the faults of meaning that are not faults of names
   abbrev pub OfMeaning : SourceCause → Type 0
   OfMeaning c = LineHasCause z lines before l c × (9 ≤ number_of c)
 

@@ -27,7 +27,7 @@ use Rattle.ed_link.proofs.Bounds.{items_few, data_few}
 use Rattle.ed_words.proofs.SizeLemmas.{most}
 use Rattle.ed_link.proofs.Inductions.{faultless}
 
--- a base is not behind its place
+-- a base is not above its location
 pub base_under : (st : Option Statement) (s : Spot) → s.base ≤ s.place → (passed st s).base ≤ (passed st s).place
 base_under None s h = h
 base_under (Some (Segment name base)) s h = omega arith
@@ -39,7 +39,7 @@ base_under (Some (Enter name)) s h = h
 base_under (Some (Rows codes)) s h = h
 base_under (Some (Long v)) s h = omega arith
 
--- a line without a fault needs places below 1024
+-- a line without a fault needs locations below 1024
 pub reach_fits : (z : Size) (homes : List Home) (any : Bool) (past : LinesBefore) (l : Line) (s : Spot)
     → cause_of z homes any past l s ≡ None
     → (reach homes l.statement s).0 < (reach homes l.statement s).1 → (reach homes l.statement s).1 ≤ 1024
@@ -51,13 +51,13 @@ reach_fits z homes any past l s h some =
     of : (a b n : ℕ) → n ≤ 1024 → a < b → meets (a, b) (n, b) ≡ false → b ≤ 1024
     of a b n i j k = grind (arith, nat_tests)
 
--- a line without a fault leaves the fault to the lines behind it
+-- a line without a fault leaves the fault to the later lines
 pub goes_on : (z : Size) (homes : List Home) (any : Bool) (past : LinesBefore) (s : Spot) (l : Line) (lines : List Line)
     → cause_of z homes any past l s ≡ None
     → fault_from z homes any past s (l ∷ lines) ≡ fault_from z homes any (past_of past l s) (passed l.statement s) lines
 goes_on z homes any past s l lines h = rw h refl
 
--- what is made of the lines so far: what they leave for those behind them, the spot behind them, and what is built
+-- what is made of the lines so far: what they leave for later lines, the spot after them, and what is built
 pub record Made : Type 0 where
   pub past : LinesBefore
   pub spot : Spot
@@ -79,7 +79,7 @@ pub record Doing (z : Size) (homes : List Home) (any : Bool) (lines : List Line)
   pub few_items : length m.built.items.items ≤ 240 * n
   pub few_rows : length m.built.after.items ≤ 120 * n
 
--- what the code says of one line more
+-- what the code says of one more line
 pub record Does (z : Size) (homes : List Home) (any : Bool) (l : Line) (m m' : Made) : Type 0 where
   pub cause : cause_of z homes any m.past l m.spot ≡ None
   pub few : IsFew l.statement

@@ -31,21 +31,21 @@ use Rattle.ed_link.proofs.Passes.{Passes, stays, join, at}
 use Rattle.ed_link.proofs.Orders.{split, laid_pass, order_pass, headed_pass, unheaded}
 use Rattle.ed_link.proofs.Uses.{AreKnown, all, holds, image_pass, reversed}
 
--- no place is before itself
+-- no location is before itself
 pub lt_same : (a : ℕ) → nat_lt a a ≡ false
 lt_same a = lt_false a a (omega arith)
 
--- a place is itself
+-- a location is equal to itself
 eq_same : (a : ℕ) → nat_eq a a ≡ true
 eq_same a = eq_true a a refl
 
--- the state of the notation where a line stands
+-- the state of the notation at a line
 pub record IsReady (theta : ℕ) (s : Spot) (note : Note) : Type 0 where
   pub base : s.base ≤ s.place
   pub follows : nat_eq s.place s.base ≡ false → (note.directive ≡ 20480 + 2 * s.place) × (note.theta ≡ 2 * s.base)
   pub theta_is : note.theta ≡ theta
 
--- θ behind a line
+-- θ after a line
 abbrev pub theta_behind : ℕ → ℕ → Spot → ℕ
 theta_behind theta first next = if nat_lt first next.place then 2 * next.base else theta
 
@@ -64,7 +64,7 @@ IsUse z ts base None = ⊥
 IsUse z ts base (Some r) = (0 < length (entry r).items) × (56 ≤ base) × (base + length (entry r).items ≤ locations z)
     × AreKnown ts (entry r).items
 
--- what a line needs that is no `enter` line
+-- what a line other than an `enter` line needs
 abbrev pub IsSound : Size → Spot → Option Statement → Type 0
 IsSound z s (Some (Order f o long)) = (56 ≤ s.place) × (s.place + 1 ≤ locations z)
 IsSound z s (Some (Number w)) = (56 ≤ s.place) × (s.place + 1 ≤ locations z)
@@ -75,7 +75,7 @@ IsSound z s (Some (Fetch routine name ts)) = IsUse z ts.items (even_from s.place
 IsSound z s (Some (Enter name)) = ⊥
 IsSound z s st = Unit {0}
 
--- where a `long` leaves the place
+-- the location after a `long`
 pub long_spot : (s : Spot) (v : ℕ)
     → record s { place = s.place + length (long_words s.place v) } ≡ passed (Some (Long v)) s
 long_spot s v = λ i. record s { place = by_test (nat_eq (s.place % 2) 1) refl i }

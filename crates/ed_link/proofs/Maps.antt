@@ -1,4 +1,4 @@
--- The words by rising place are the map of the words in the order of the lines.
+-- The words in ascending order of location are the map of the words in the order of the lines.
 use Rattle.std.proofs.Common.{◌≡◌, ℕ, zero, suc, ◌+◌, ◌<◌, refl, sym, ap, ◌∙◌, arith, Bool, true, false, nat_eq}
 use Rattle.std.proofs.Common.{if◌then◌else◌, Option, Some, None}
 use Rattle.std.proofs.Common.{List, [], ◌∷◌, ◌++◌, length, get_or, set}
@@ -39,13 +39,13 @@ table_is ps a h =
     let l : a < length empty_table = omega (arith, empty_length) in
     put_is ps [] empty_table a l (empty_none a h) ∙ ap (λ x. placed_at x a) (append-nil (reverse ps))
 
--- no word stands below the first place
+-- there is no word below the first location
 below : (t : List (Option ℕ)) (b a : ℕ) → a < b → word_at (words_from b t) a ≡ None
 below [] b a h = refl
 below (None ∷ t) b a h = below t (b + 1) a (omega arith)
 below (Some w ∷ t) b a h = let e = eq_false b a (omega arith) in rw e (below t (b + 1) a (omega arith))
 
--- the word at a place
+-- the word at a location
 at : (t : List (Option ℕ)) (b k : ℕ) → word_at (words_from b t) (b + k) ≡ get_or t k None
 at [] b k = refl
 at (None ∷ t) b zero = below t (b + 1) (b + 0) (omega arith)
@@ -56,7 +56,7 @@ at (Some w ∷ t) b (suc k) =
     let n = eq_false b (b + suc k) (omega arith) in
     rw n (rw e (at t (b + 1) k))
 
--- the words by rising place are the map
+-- the words in ascending order of location are the map
 pub words_are : (ps : List (ℕ × ℕ)) (a : ℕ) → a < 1024
     → word_at (words_from 0 (table_of ps)) a ≡ placed_at (reverse ps) a
 words_are ps a h =

@@ -1,5 +1,5 @@
--- What the public clauses of `parse` and `link` alone leave as answers to texts that a wrong program would answer
--- otherwise: for each such text one, beside that no memory was found.
+-- The answers that the public clauses of `parse` and `link` alone allow for texts that a wrong program would answer
+-- differently: for each such text there is one, beside that no memory was found.
 use Rattle.std.proofs.Common.{◌≡◌, ◌⊎◌, inl, inr, ℕ, ◌<◌, ◌≤◌, Bool, false, List, [], ◌∷◌, refl, arith}
 use Rattle.std.specs.Prelude.{◌==◌, codes, Some, None, Result, Ok, Err, IfOk, IfErr}
 use Rattle.ed_words.specs.declared.size.Size.{Size}
@@ -160,7 +160,7 @@ parameters_missing : (r : Result Linked SourceFault)
 parameters_missing =
     only_link (codes "segment m\nZF\nuse print as p\nenter m") 3 causes.Parameters refl refl
 
--- S16 for want of an `enter` is one line after the last
+-- S16 because there is no `enter` is one line after the last
 enter_missing : (r : Result Linked SourceFault) → MeetsLink Full (source (codes "segment m\nZF")) r
     → RefusesLink 3 causes.Enter r
 enter_missing = only_link (codes "segment m\nZF") 3 causes.Enter refl refl

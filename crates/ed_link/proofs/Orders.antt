@@ -50,11 +50,11 @@ word_is words note w false e h = let m : w % 2 ≡ 0 = grind (arith, nat_tests)
 small : (w : ℕ) → is_spellable (word_item w) ≡ true → w < 2 ^ 17
 small w h = let f : w / 4096 < 32 = function_fits (word_item w) h in omega arith
 
--- what is placed first stands last
+-- what is placed first is last in the list
 pub placed_more : (p : ℕ × ℕ) (ps m : List (ℕ × ℕ)) → reverse ps ++ (p ∷ m) ≡ reverse (p ∷ ps) ++ m
 placed_more p ps m = sym (ap (λ x. x ++ m) (reverse-append (p ∷ []) ps) ∙ append_assoc (reverse ps) (p ∷ []) m)
 
--- words one after the other are placed in a row
+-- words one after the other are placed in consecutive locations
 pub laid_pass : {z : Size} {words : List ℕ} {placed : List (ℕ × ℕ)} (base : ℕ) (ws : List ℕ) (place : ℕ)
     → AreSpellable (map word_item ws) → 44 ≤ place → place + length ws ≤ locations z
     → Passes z words (at place base placed) (map word_item ws)
@@ -105,7 +105,7 @@ order_pass {z} {words} {placed} homes s f o long low high =
     its_word n false true h = omega arith
     its_word n false false h = omega arith
 
--- items behind the head of their segment
+-- items after the head of their segment
 
 pub headed_pass : {z : Size} {words : List ℕ} {note last : Note} {is : List Item} (place base : ℕ) (first : Bool)
     → nat_eq place base ≡ first → place < locations z → 0 < length is
@@ -125,7 +125,7 @@ headed_pass {z} {words} {note} {last} {is = i ∷ is} place base false e high so
     } in
     subst (λ (x : Note). Passes z words x (i ∷ is) last) n p
 
--- items behind a head can be spelled
+-- items after a head can be spelled
 pub unheaded : (is : List Item) (first : Bool) (base : ℕ) → AreSpellable (headed is first base) → AreSpellable is
 unheaded [] first base are = tt
 unheaded (i ∷ is) true base are = are.1.1

@@ -1,4 +1,4 @@
--- The places of a linked program's words lie in the store.
+-- The locations of a linked program's words are in the store.
 use Rattle.std.proofs.Common.{◌≡◌, ◌∙◌, ◌<◌, ◌+◌, ℕ, zero, suc, sym, ap, subst}
 use Rattle.std.proofs.Common.{arith, Option, Some, None, List, [], ◌∷◌, length, map}
 use Rattle.std.specs.Prelude.{All}
@@ -11,7 +11,7 @@ use Rattle.ed_link.specs.declared.linked.Linked.{Linked}
 use Rattle.ed_link.specs.declared.linked.Placed.{Placed}
 use Rattle.ed_link.proofs.Lengths.{empty_length, put_all_length}
 
--- the places of words by rising place are below the end of their table
+-- the locations of words in ascending order are below the end of their table
 below : (n : ℕ) (table : List (Option ℕ))
     → All (λ a. a < n + length table) (map (λ (p : Placed). p.place) (words_from n table))
 below n [] k d h = absurd (omega (arith, h))

@@ -38,7 +38,7 @@ use Rattle.ed_link.proofs.Texts.{both_read}
 
 -- ---- the rows after the items
 
--- a code that is read back where there is one, and 32 where there is none
+-- a code that is read back; 32 if there is none
 back_of : (r : Option ℕ) (c : ℕ) → c < 32 → (unwrap_or r 32 == c) ≡ true → r ≡ Some c
 back_of None c below same = let e = (Decides-eqb 32 c).0 same in absurd (omega (arith, below, e))
 back_of (Some r) c below same = ap Some ((Decides-eqb r c).0 same)

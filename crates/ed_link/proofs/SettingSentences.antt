@@ -1,4 +1,4 @@
--- The same for the fault S15, of what a `use` sets.
+-- The same for the fault S15, which is about the settings of a `use`.
 use Rattle.std.proofs.Common.{◌≡◌, ℕ, refl, sym, ap, ◌∙◌, subst, arith}
 use Rattle.std.proofs.Common.{Bool, true, false, not, ◌||◌, Option, Some, None, List, [], ◌∷◌, length}
 use Rattle.std.proofs.Common.{is_some, nat_eq, if◌then◌else◌}

@@ -140,7 +140,7 @@ use_spelled homes ts base found r =
 
 -- ---- lines
 
--- a line that is no `enter` line, in a segment that begins at its place or before
+-- a line other than an `enter` line, in a segment that begins at its location or below
 pub line_spelled : list_all is_ready catalogue ≡ true
     → (z : Size) (homes : List Home) (s : Spot) (st : Option Statement)
     → ((x : Statement) → st ≡ Some x → (two : Bool) × IsStatement two x) → IsSound z s st → s.base ≤ s.place

@@ -11,23 +11,23 @@ use Rattle.ed_codes.proofs.Readings.{has_one_reading}
 use Rattle.ed_notation.specs.Spellings.{line_from}
 use Rattle.ed_link.specs.Tapes.{after_text}
 
--- a text that reads as rows, and one that spells rows behind it
+-- a text that reads as rows, and one after it that spells rows
 pub both_read : (before after : List ℕ) (cs ds : List ℕ) → reading before ≡ rows cs → Spells after ds
     → reading (before ++ after) ≡ rows (cs ++ ds)
 both_read before after cs ds e s =
     let b : Spells before cs = subst (λ (r : Reading). IsReadingOf before r) e (has_one_reading.every before) in
     has_one_reading.only (before ++ after) (rows (cs ++ ds)) (spells_append before cs after ds b s)
 
--- where there are rows their text is a line
+-- if there are rows their text is a line
 pub some_text : (cs : List ℕ) → 0 < length cs → after_text cs ≡ line_from true cs
 some_text [] h = absurd (omega arith)
 some_text (c ∷ cs) h = refl
 
--- where there are none there is no text
+-- if there are no rows there is no text
 pub no_text : (cs : List ℕ) → cs ≡ [] → Spells (after_text cs) cs
 no_text cs e = rw e none
 
--- behind the last row a line feed is left
+-- after the last row a line feed is left
 pub last_spells : (cs : List ℕ) (k : ℕ) → length cs ≤ k → Spells (line_from true (drop k cs)) (drop k cs)
 last_spells cs k h = rw (drop_all k cs h) (spacing 10 [] [] refl none)
 

@@ -24,7 +24,7 @@ use_words {before} {behind} {r} {ps = ps} table homes ts base h p q f =
     ∙ ap (λ (x : List (Option ℕ)). put_all x (image homes ts base (Some r))) q
     ∙ put_all_append table (presets homes ts) (image homes ts base (Some r)))
 
--- the routine's places are within the table, also behind the parameters
+-- the routine's locations are within the table, also after the parameters
 pub use_fits : {before : List (Option ℕ)} {r : ℕ} {found : Option ℕ} (table : List (Option ℕ)) (ps : List (ℕ × ℕ))
     (base : ℕ)
     → before ≡ put_all table ps

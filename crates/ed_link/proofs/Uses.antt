@@ -64,14 +64,14 @@ letter_kind c l h = six (λ x. row_kind x ≡ Letter) (refl, refl, refl, refl, r
 spelled_number : (i : Item) → is_spellable i ≡ true → i.number ≤ 32767
 spelled_number i h = grind (arith, nat_tests)
 
--- what is placed later stands before
+-- what is placed later comes first in the list
 pub reversed : (ps qs m : List (ℕ × ℕ)) → reverse qs ++ (reverse ps ++ m) ≡ reverse (ps ++ qs) ++ m
 reversed ps qs m = sym (append_assoc (reverse qs) (reverse ps) m) ∙ ap (λ x. x ++ m) (sym (reverse-append ps qs))
 
 -- ---- preset parameters
 
 module _ (words : List ℕ) (homes : List Home) (ts : List Setting) where
-  -- the word of a letter that is set stands in its location
+  -- the word of a letter that is set is in its location
   abbrev pub IsHeld : List (ℕ × ℕ) → ℕ → Type 0
   IsHeld placed c = (o : Operand) → set_to ts c ≡ Some o
       → get_or (over placed words) (24 + c) 0 ≡ 2 * operand_number homes None o
@@ -207,7 +207,7 @@ parameter_is homes ts c l h =
     six (λ x. get_or (parameters homes ts) (x - 21) 0 ≡ parameter homes (set_to ts x))
     (refl, refl, refl, refl, refl, refl) c l h
 
--- the value of a letter of a parameter is what stands in its location
+-- the value of a letter of a parameter is the content of its location
 content : (contents : List ℕ) (theta c : ℕ) → 21 ≤ c → value_of contents theta c ≡ get_or contents (24 + c) 0
 content contents theta c l =
     let a = eq_false c 17 (omega arith) in

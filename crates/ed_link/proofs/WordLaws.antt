@@ -35,18 +35,18 @@ use Rattle.ed_link.specs.Words.{routine_words}
 use Rattle.ed_link.proofs.Lines.{long_spot}
 use Rattle.ed_link.proofs.Orders.{placed_more}
 
--- ---- words with their places
+-- ---- words with their locations
 
--- the word is among them at the place
+-- the word is among them, at the location
 abbrev Among : List (ℕ × ℕ) → ℕ → ℕ → Type 0
 Among [] a w = ⊥
 Among (p ∷ ps) a w = ((p.0 ≡ a) × (p.1 ≡ w)) ⊎ Among ps a w
 
--- none is
+-- no word is at the location
 abbrev Nowhere : List (ℕ × ℕ) → ℕ → Type 0
 Nowhere ps a = (w : ℕ) → Among ps a w → ⊥
 
--- what the last ones leave at a place over those before: one of them, or what stood there
+-- the word at a location after the last ones were placed over those before: one of them, or the one that was there
 abbrev Found : List (ℕ × ℕ) → List (ℕ × ℕ) → ℕ → Type 0
 Found ps m a = ((w : ℕ) × Among ps a w × (placed_at (reverse ps ++ m) a ≡ Some w))
     ⊎ (Nowhere ps a × (placed_at (reverse ps ++ m) a ≡ placed_at m a))
@@ -71,7 +71,7 @@ found (p ∷ ps) m a = by_rest (found ps (p ∷ m) a)
     by_rest (inl h) = inl (h.0, inr h.1, cut ∙ h.2)
     by_rest (inr h) = by_test (nat_eq p.0 a) refl h.0 h.1
 
--- a place that some of them have, all with one word
+-- a location that some of them have, all with one word
 settled : (ps m : List (ℕ × ℕ)) (a w : ℕ) → Among ps a w → ((v : ℕ) → Among ps a v → v ≡ w)
     → placed_at (reverse ps ++ m) a ≡ Some w
 settled ps m a w h one = by_found (found ps m a)
@@ -80,7 +80,7 @@ settled ps m a w h one = by_found (found ps m a)
     by_found (inl f) = f.2 ∙ ap Some (one f.0 f.1)
     by_found (inr f) = absurd (f.0 w h)
 
--- a place that none of them has
+-- a location that none of them has
 passed_over : (ps m : List (ℕ × ℕ)) (a : ℕ) → Nowhere ps a → placed_at (reverse ps ++ m) a ≡ placed_at m a
 passed_over ps m a none = by_found (found ps m a)
   where
@@ -88,7 +88,7 @@ passed_over ps m a none = by_found (found ps m a)
     by_found (inl f) = absurd (none f.0 f.1)
     by_found (inr f) = f.1
 
--- in three parts, of which the last has nothing at the place, and the second one word
+-- in three parts: the last has nothing at the location, and the second one word
 between : (xs ys zs : List (ℕ × ℕ)) (a w : ℕ) → Nowhere zs a → Among ys a w → ((v : ℕ) → Among ys a v → v ≡ w)
     → placed_at (reverse (xs ++ (ys ++ zs))) a ≡ Some w
 between xs ys zs a w none h one =
@@ -150,7 +150,7 @@ module _ (homes : List Home) (s : Spot) where
       ap (λ n. base + n)
       (length-map (entry r).items (λ row. routine_word (parameters homes ts) base (table_item row)))
 
-  -- they fill the places of the line
+  -- they fill the locations of the line
   fills : (st : Option Statement) → first_place st s + length (words_of_line homes s st) ≡ end_place st s
   fills None = omega arith
   fills (Some (Segment n b)) = omega arith
@@ -281,7 +281,7 @@ of_a_line homes s (l ∷ lines) a w h =
         let r = more g in
         (l ∷ r.0, r.1, record { after = r.2.after; lines_are = ap (λ x. l ∷ x) r.2.lines_are }, r.3)
 
--- the place of a parameter is below those of the program
+-- the location of a parameter is below those of the program
 low_letter : (c : ℕ) → Contains parameter_letters c → c ≤ 26
 low_letter c h =
     let test = All-contains (λ x. nat_le x 26 ≡ true) parameter_letters c

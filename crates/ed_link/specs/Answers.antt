@@ -1,4 +1,4 @@
--- What linking answers, by the definitions of the linked program, the punched tape and the faults.
+-- The answers of linking, by the definitions of the linked program, the punched tape and the faults.
 use Rattle.std.specs.Prelude.{◌≡◌, ℕ, ◌<◌, reverse, List}
 use Rattle.ed_words.specs.declared.size.Size.{Size}
 use Rattle.ed_notation.specs.Fold.{placed_at}
@@ -15,7 +15,7 @@ use Rattle.ed_link.specs.Tables.{table_of, word_at, words_from}
 use Rattle.ed_link.specs.Labels.{labels}
 use Rattle.ed_link.specs.Tapes.{ComesToLinked}
 
--- an answer that is a fault of meaning says which one it is
+-- if an answer is a fault of meaning, it is the source's
 abbrev pub HasMeaningFault : Size → List Line → SourceFault → Type 0
 HasMeaningFault z lines (At k c) = IsMeaningFault z lines k c
 HasMeaningFault z lines Memory = Unit {0}
@@ -30,10 +30,10 @@ pub record IsLinked (z : Size) (lines : List Line) (k : Linked) : Type 0 where
   pub entry : k.entry ≡ entry_of lines
   pub after : k.after.items ≡ data_behind lines
   pub labels : k.labels.items ≡ labels (homes_of lines)
-  -- the tape comes to the linked program, from every store
+  -- from every store, reading the tape gives the linked program
   pub loads : ComesToLinked z lines
 
--- whatever source has no fault, its tape comes to its linked program, from every store
+-- for every source without a fault, reading its tape gives its linked program, from every store
 abbrev pub EachSourceComes : Type 0
 EachSourceComes =
     (z : Size) (source : Text) (lines : List Line) → IsAcceptedAs z source lines → ComesToLinked z lines

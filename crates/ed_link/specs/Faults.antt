@@ -1,6 +1,6 @@
--- The faults of names and of meaning of a source, S6 to S17: for each one sentence over the lines and their places. No
--- sentence knows of another one, and none goes through the lines one by one (this project's own rule). The sentences of
--- S6 to S8 are those of names.
+-- The faults of names and of meaning of a source, S6 to S17: one sentence for each, over the lines and their locations.
+-- No sentence depends on another one, and none goes through the lines one by one (this project's own rule). The
+-- sentences of S6 to S8 are those of names.
 use Rattle.std.specs.Prelude.{◌≡◌, ◌⊎◌, ℕ, ◌+◌, ◌/◌, ◌%◌, ◌^◌, ◌<◌, ◌≤◌}
 use Rattle.std.specs.Prelude.{List, length, map, Option, Some, None}
 use Rattle.std.specs.List.{Contains}
@@ -21,7 +21,7 @@ use Rattle.ed_link.specs.Linked.{first_place, end_place, homes_of}
 
 -- ---- where a line stands
 
--- the line that stands after these lines has a word at the place
+-- the line after these lines has a word at this location
 abbrev pub LineHasWord : List Line → Line → ℕ → Type 0
 LineHasWord before l p = (first_place l.statement (spot_after before) ≤ p)
     × (p < end_place l.statement (spot_after before))
@@ -31,7 +31,7 @@ abbrev pub EntersAt : List Line → Line → ℕ → Type 0
 EntersAt lines l p = (name : List ℕ) × (l.statement ≡ Some (Enter name))
     × (place_on (homes_of lines) None name ≡ Some p)
 
--- the line needs the place: for a word of its own, or to enter there
+-- the line needs this location: for one of its words, or to enter there
 abbrev pub NeedsPlace : List Line → List Line → Line → ℕ → Type 0
 NeedsPlace lines before l p = LineHasWord before l p ⊎ EntersAt lines l p
 
@@ -68,7 +68,7 @@ abbrev pub IsUse : Option Statement → Type 0
 IsUse (Some (Fetch routine name settings)) = Unit {0}
 IsUse st = ⊥
 
--- none of the lines is a `use`
+-- no line is a `use`
 abbrev pub HasNoUse : List Line → Type 0
 HasNoUse lines = (before : List Line) (l : Line) → StandsAfter lines before l → IsUse l.statement → ⊥
 
@@ -88,15 +88,15 @@ abbrev pub IsOutsideSegments : List Line → Line → Type 0
 IsOutsideSegments before l = (InSegment before → ⊥)
     × (((name : List ℕ) × (l.label ≡ Some name)) ⊎ PlacesWords l.statement)
 
--- S10 to S12: a word of the line, or the place of an `enter`'s label, is from one place on and below another
+-- S10 and S11: a word of the line, or the location that an `enter` names, is at `from` or above and below `below`
 abbrev pub NeedsWithin : List Line → List Line → Line → ℕ → ℕ → Type 0
 NeedsWithin lines before l from below = (p : ℕ) × NeedsPlace lines before l p × (from ≤ p) × (p < below)
 
--- S12: the same for the size of the store and more
+-- S12: a word of the line, or the location that an `enter` names, is at `from`, the size of the store, or above
 abbrev pub NeedsPast : List Line → List Line → Line → ℕ → Type 0
 NeedsPast lines before l from = (p : ℕ) × NeedsPlace lines before l p × (from ≤ p)
 
--- S13: a word's place holds a word of an earlier line
+-- S13: a word of the line is at the location of a word of an earlier line
 abbrev pub Overlaps : List Line → Line → Type 0
 Overlaps before l = (p : ℕ) × LineHasWord before l p
     × (earlier : List Line) × (e : Line) × StandsAfter before earlier e × LineHasWord earlier e p
@@ -106,7 +106,7 @@ abbrev pub UsesUnknown : Option Statement → Type 0
 UsesUnknown (Some (Fetch routine name settings)) = find routine ≡ None
 UsesUnknown st = ⊥
 
--- exactly these letters are set, each once: as many as there are, and each of them
+-- exactly these letters are set, each once: as many settings as letters, and each letter is set
 pub record SetExactly (letters set : List ℕ) : Type 0 where
   pub as_many : length set ≡ length letters
   pub each : (c : ℕ) → Contains letters c → Contains set c
@@ -117,17 +117,17 @@ SetsOtherwise (Some (Fetch routine name settings)) = (r : ℕ) × (find routine 
     × (SetExactly (entry r).parameters (map letter_set settings.items) → ⊥)
 SetsOtherwise st = ⊥
 
--- S16: any form but `data` after an `enter`; `data` with no `enter` before it, where the source has one
+-- S16: any form but `data` after an `enter`; `data` with no `enter` before it, in a source that has one
 abbrev pub IsMisplaced : List Line → List Line → Line → Type 0
 IsMisplaced lines before l =
     (HasEnter before × ((l.label ≡ None) × (l.statement ≡ None) → ⊥) × (IsData l.statement → ⊥))
     ⊎ ((HasEnter before → ⊥) × IsData l.statement × HasEnter lines)
 
--- S17: a `long` whose bit between its two halves is 1
+-- S17: a `long` whose sandwich digit, between its two halves, is 1
 abbrev pub HasSandwichDigit : Line → Type 0
 HasSandwichDigit l = (v : ℕ) × (l.statement ≡ Some (Long v)) × (v / 2 ^ 17 % 2 ≡ 1)
 
--- the line that stands after these lines has the fault; S1 to S5 are faults of form, which no line has that is read
+-- the line after these lines has the fault; S1 to S5 are faults of form, which no line of a program has
 abbrev pub LineHasCause : Size → List Line → List Line → Line → SourceCause → Type 0
 LineHasCause z lines before l causes.LabelTwice = DefinesAgain before l
 LineHasCause z lines before l causes.LabelUnknown = NamesUnknown lines before l
@@ -152,7 +152,7 @@ pub data SourceHasFault (z : Size) (lines : List Line) : ℕ → SourceCause →
   -- S16 too, at the number of lines plus 1: no line is an `enter`
   no_enter : (HasEnter lines → ⊥) → SourceHasFault z lines (length lines + 1) causes.Enter
 
--- the fault of meaning of a source: that of the least line that has one, and there the least number
+-- the fault of meaning of a source: that of the first line that has one, and there the one with the least number
 pub record IsMeaningFault (z : Size) (lines : List Line) (k : ℕ) (cause : SourceCause) : Type 0 where
   pub is : SourceHasFault z lines k cause
   pub least : (other : ℕ) (rule : SourceCause) → SourceHasFault z lines other rule

@@ -19,7 +19,7 @@ use Rattle.ed_symbols.specs.Places.{even_from, passed, segment_at, first_spot}
 use Rattle.ed_symbols.specs.Names.{place_on, homes_from}
 use Rattle.ed_symbols.specs.Faults.{operand_value}
 
--- a value as the number of an order; 0 for none and for one that no order holds, which an accepted source hasn't
+-- a value as the number of an order; 0 for None and for a value that no order holds; an accepted source has neither
 abbrev pub order_number : Option ℤ → ℕ
 order_number None = 0
 order_number (Some v) = if int_lt v (pos 0) || int_lt (pos 32767) v then 0 else unsigned_abs v
@@ -28,7 +28,7 @@ order_number (Some v) = if int_lt v (pos 0) || int_lt (pos 32767) v then 0 else 
 abbrev pub operand_number : List Home → Option ℕ → Operand → ℕ
 operand_number homes segment o = order_number (operand_value homes segment o)
 
--- the words of a `long` from a place on: 0 at a place that it leaves, and then the even and the odd half
+-- the words of a `long` from a location upwards: 0 at a location that it skips, then the even and the odd half
 abbrev pub long_words : ℕ → ℕ → List ℕ
 long_words place v = (if nat_eq (place % 2) 1 then 0 ∷ [] else []) ++ v % 2 ^ 17 ∷ v / 2 ^ 18 ∷ []
 
@@ -40,16 +40,16 @@ line_words homes s (Some (Text codes)) = map (λ c. 4096 * c) codes.items
 line_words homes s (Some (Long v)) = long_words s.place v
 line_words homes s _ = []
 
--- words and their places, from a place on
+-- words with their locations, from `place` upwards
 abbrev pub laid : ℕ → List ℕ → List (ℕ × ℕ)
 laid place [] = []
 laid place (w ∷ ws) = (place, w) ∷ laid (place + 1) ws
 
--- the codes of the letters of parameters, H N M & L X; their words stand in the locations 45 to 50
+-- the codes of the letters of parameters, H N M & L X; their words are in the locations 45 to 50
 abbrev pub parameter_letters : List ℕ
 parameter_letters = 21 ∷ 22 ∷ 23 ∷ 24 ∷ 25 ∷ 26 ∷ []
 
--- what a letter is set to
+-- the operand to which a letter is set
 abbrev pub set_to : List Setting → ℕ → Option Operand
 set_to [] c = None
 set_to (t ∷ ts) c = if nat_eq t.letter c then Some t.operand else set_to ts c
@@ -63,7 +63,7 @@ preset homes (Some o) c = (24 + c, 2 * operand_number homes None o) ∷ []
 abbrev pub presets : List Home → List Setting → List (ℕ × ℕ)
 presets homes ts = flat_map (λ c. preset homes (set_to ts c) c) parameter_letters
 
--- the word of a letter, 0 where it isn't set
+-- the word of a letter's setting, 0 if it isn't set
 abbrev pub parameter : List Home → Option Operand → ℕ
 parameter homes None = 0
 parameter homes (Some o) = 2 * operand_number homes None o
@@ -84,32 +84,32 @@ placed_by_line homes s (Some (Fetch routine name ts)) = presets homes ts.items
     ++ image homes ts.items (even_from s.place) (find routine)
 placed_by_line homes s st = laid s.place (line_words homes s st)
 
--- what the lines from a spot on place, one after the other
+-- what the lines from a spot onwards place, one after the other
 abbrev pub placed_from : List Home → Spot → List Line → List (ℕ × ℕ)
 placed_from homes s [] = []
 placed_from homes s (l ∷ lines) = placed_by_line homes s l.statement ++ placed_from homes (passed l.statement s) lines
 
--- the place of the first `enter` line's name, 0 where there is none
+-- the location that an `enter` line names, and for any other line that of the later lines
 abbrev pub entered_place : List Home → Option Statement → ℕ → ℕ
 entered_place homes (Some (Enter name)) later = unwrap_or (place_on homes None name) 0
 entered_place homes st later = later
 
--- the same of lines
+-- the location that the first `enter` line names, 0 if there is no such line
 abbrev pub entry_from : List Home → List Line → ℕ
 entry_from homes [] = 0
 entry_from homes (l ∷ lines) = entered_place homes l.statement (entry_from homes lines)
 
--- the first place of a line's words
+-- the location of a line's first word
 abbrev pub first_place : Option Statement → Spot → ℕ
 first_place (Some (Segment name base)) s = (passed (Some (Segment name base)) s).place
 first_place (Some (Fetch routine name ts)) s = even_from s.place
 first_place st s = s.place
 
--- the place behind a line's words
+-- the location after a line's words
 abbrev pub end_place : Option Statement → Spot → ℕ
 end_place st s = (passed st s).place
 
--- θ behind the lines from a spot on: twice the base of the last `use` or segment with a word, and else what it was
+-- θ after the lines from a spot onwards: twice the base of the last `use` or segment with a word, else unchanged
 abbrev pub theta_from : ℕ → Spot → List Line → ℕ
 theta_from theta s [] = theta
 theta_from theta s (l ∷ lines) =
@@ -117,21 +117,21 @@ theta_from theta s (l ∷ lines) =
     (if nat_lt (first_place l.statement s) (end_place l.statement s) then 2 * (passed l.statement s).base else theta)
     (passed l.statement s) lines
 
--- the rows of the tape behind the program
+-- the rows that a line puts on the tape after the program
 abbrev pub data_rows : Option Statement → List ℕ
 data_rows (Some (Rows codes)) = codes.items
 data_rows st = []
 
--- those of all lines
+-- the rows that all lines put there
 abbrev pub data_behind : List Line → List ℕ
 data_behind [] = []
 data_behind (l ∷ lines) = data_rows l.statement ++ data_behind lines
 
--- what the names of a source stand for
+-- the definitions of the names of a source
 abbrev pub homes_of : List Line → List Home
 homes_of lines = homes_from first_spot lines
 
--- the words of the linked program with their places, in the order of the lines; at a place the last one stands
+-- the words of the linked program with their locations, in the order of the lines; the last word at a location counts
 abbrev pub linked : List Line → List (ℕ × ℕ)
 linked lines = placed_from (homes_of lines) first_spot lines
 

@@ -1,4 +1,4 @@
--- What the crate's own functions say of each other. No public clause cites these definitions, so that nothing here
--- has to be read to know what linking answers.
+-- What the crate's own functions state for each other. No public clause cites these definitions, so nobody has to read
+-- them to know what linking answers.
 pub mod Building
 pub mod FaultTests

@@ -1,5 +1,5 @@
--- What becomes of a source: it is accepted with its lines, or refused at one line for one fault. Its faults of form
--- come before those of meaning (this project's own rule).
+-- The verdict on a source: it is accepted with its lines, or refused at one line for one fault. Its faults of form come
+-- before those of meaning (this project's own rule).
 use Rattle.std.specs.Prelude.{◌≡◌, ◌⊎◌, ℕ, Bool, List}
 use Rattle.ed_words.specs.declared.size.Size.{Size}
 use Rattle.ed_words.specs.Texts.{Text}
@@ -14,7 +14,7 @@ pub record IsAcceptedAs (z : Size) (text : Text) (lines : List Line) : Type 0 wh
   pub says : IsProgram text two lines
   pub faultless : HasNoFault z lines
 
--- the source is refused at this line for this fault: one of form, or one of meaning where no line has one of form
+-- the source is refused at this line for this fault: one of form, or one of meaning if no line has a fault of form
 pub data IsRefused (z : Size) (text : Text) : ℕ → SourceCause → Type 0 where
   for_form : {k : ℕ} {c : SourceCause} → IsFormFault text k c → IsRefused z text k c
   for_meaning : {two : Bool} {lines : List Line} {k : ℕ} {c : SourceCause} → IsProgram text two lines

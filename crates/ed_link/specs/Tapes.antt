@@ -1,4 +1,4 @@
--- What the punched tape comes to: the linked program, from every store.
+-- What reading the punched tape gives: the linked program, from every store.
 use Rattle.std.specs.Prelude.{◌≡◌, ℕ, ◌+◌, ◌*◌, true, false, List, [], ◌∷◌, ◌++◌, length, reverse, slice_index}
 use Rattle.ed_words.specs.declared.size.Size.{Size}
 use Rattle.ed_syntax.specs.declared.program.Line.{Line}
@@ -19,11 +19,11 @@ punched_rows lines = spelled (canonicals (punched lines))
 abbrev pub tape : List Line → List ℕ
 tape lines = punched_rows lines ++ data_behind lines
 
--- the orders that read the tape up to the entry, 9 at the start among them
+-- the number of orders that read the tape up to the entry, with 9 at the start
 abbrev pub cost : List Line → ℕ
 cost lines = 9 + costs [] (opening []) (canonicals (punched lines))
 
--- the entry to which the tape comes from a store
+-- the entry that the tape reaches from a store
 abbrev pub arrival : List ℕ → List Line → TapeEntry
 arrival words lines = record {
   at = entry_of lines;
@@ -39,14 +39,14 @@ arrival words lines = record {
   rest = data_behind lines;
 }
 
--- from every store the tape is well formed and comes to that entry
+-- from every store, the tape is well formed and reaches that entry
 abbrev pub ComesToLinked : Size → List Line → Type 0
 ComesToLinked z lines =
     (words : List ℕ) → length words ≡ 1024
     → WellFormed z words (opening words) (tape lines)
     × ComesTo words (opening words) 9 (tape lines) (arrival words lines)
 
--- the text of the rows behind the items: a line where there are any, digits as digits and other rows as letters or
+-- the text of the rows after the items: one line if there are any, digits as digits and other rows as letters or signs
 -- signs
 abbrev pub after_text : List ℕ → List ℕ
 after_text [] = []

@@ -1,5 +1,5 @@
--- What the words of a linked program are: those of its lines, each at its place, and the parameters that its `use`
--- lines set (this project's own rule).
+-- The words of a linked program: those of its lines, each at its location, and the parameters that its `use` lines set
+-- (this project's own rule).
 use Rattle.std.specs.Prelude.{◌≡◌, ◌⊎◌, ℕ, ◌+◌, ◌*◌, ◌<◌, ◌≤◌, List, [], length, map, reverse, slice_index}
 use Rattle.std.specs.Prelude.{Option, Some, None}
 use Rattle.std.specs.List.{Contains}
@@ -28,19 +28,19 @@ routine_words homes ts base None = []
 routine_words homes ts base (Some r) =
     map (λ row. routine_word (parameters homes ts) base (table_item row)) (entry r).items
 
--- the words of a line, one for each of its places; those of a `use` are its routine's
+-- the words of a line, one for each of its locations; those of a `use` are its routine's
 abbrev pub words_of_line : List Home → Spot → Option Statement → List ℕ
 words_of_line homes s (Some (Fetch routine name ts)) = routine_words homes ts.items (even_from s.place) (find routine)
 words_of_line homes s st = line_words homes s st
 
--- the line that stands after these lines has this word at this place
+-- the line after these lines has this word at this location
 pub record LinePlaces (lines before : List Line) (l : Line) (place word : ℕ) : Type 0 where
   pub index : ℕ
   pub below : index < length (words_of_line (homes_of lines) (spot_after before) l.statement)
   pub place_is : place ≡ first_place l.statement (spot_after before) + index
   pub word_is : word ≡ slice_index (words_of_line (homes_of lines) (spot_after before) l.statement) index
 
--- the line is a `use` that sets the parameter of this place to this word
+-- the line is a `use` that sets the parameter at this location to this word
 pub record LineSets (lines : List Line) (l : Line) (place word : ℕ) : Type 0 where
   pub routine : List ℕ
   pub name : List ℕ
@@ -53,17 +53,17 @@ pub record LineSets (lines : List Line) (l : Line) (place word : ℕ) : Type 0 w
   pub place_is : place ≡ 24 + letter
   pub word_is : word ≡ 2 * operand_number (homes_of lines) None operand
 
--- the word of the linked program at a place, if it has one there
+-- the word of the linked program at a location, if it has one there
 abbrev pub linked_word : List Line → ℕ → Option ℕ
 linked_word lines place = placed_at (reverse (linked lines)) place
 
--- no line after this one sets the parameter of the place
+-- no line after this one sets the parameter at this location
 abbrev pub IsLastSet : List Line → List Line → ℕ → Type 0
 IsLastSet lines after place =
     (before : List Line) (l : Line) (word : ℕ) → StandsAfter after before l → LineSets lines l place word → ⊥
 
--- the words of the linked program: each line has its words at its places, the last `use` that sets a parameter decides
--- it, no other place has a word, and each place is one of the store
+-- the words of the linked program: each line has its words at its locations, the last `use` that sets a parameter
+-- decides it, no other location has a word, and each location is in the store
 pub record WordsStand (z : Size) (lines : List Line) : Type 0 where
   pub stands : (before : List Line) (l : Line) (place word : ℕ) → StandsAfter lines before l
       → LinePlaces lines before l place word → linked_word lines place ≡ Some word
@@ -74,6 +74,6 @@ pub record WordsStand (z : Size) (lines : List Line) : Type 0 where
       × (LinePlaces lines before l place word ⊎ LineSets lines l place word)
   pub within : (place word : ℕ) → linked_word lines place ≡ Some word → (44 ≤ place) × (place < locations z)
 
--- in each source without a fault of meaning the words stand so
+-- every source without a fault of meaning has its words this way
 abbrev pub EachWordStands : Type 0
 EachWordStands = (z : Size) (lines : List Line) → HasNoFault z lines → WordsStand z lines

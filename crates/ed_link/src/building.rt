@@ -1,4 +1,4 @@
-//! What the lines of a source come to, one line after the other.
+//! What is built from the lines of a source, one line after the other.
 ghost use Rattle.std.specs.Prelude.{◌≡◌, ◌≤◌, ◌<◌, ◌^◌, ◌+◌, ◌++◌, ◌∷◌, ◌||◌, replicate, None, Some, [], IfOk, OnOk};
 ghost use Rattle.std.specs.Prelude.{length, unwrap_or, ℕ};
 ghost use Rattle.ed_notation.specs.Spellings.{AreSpellable};
@@ -42,11 +42,11 @@ fn push_rows(rows: &mut Vec<Code>, statement: &Option<Statement>) -> Result<(), 
     }
 }
 
-/// What has been made of the lines.
+/// What has been built from the lines so far.
 #[derive(Drop)]
 pub(crate) struct Built {
     pub(crate) items: Vec<Item>,
-    /// The words by their places.
+    /// The words by their locations.
     pub(crate) table: Vec<Option<Word>>,
     pub(crate) entry: Option<u16>,
     pub(crate) after: Vec<Code>,
@@ -72,7 +72,7 @@ fn with_entry(
     }
 }
 
-/// Adds what one more line comes to.
+/// Adds what one more line gives.
 fn add_line(
     built: &mut Built,
     homes: &[Home],
@@ -102,7 +102,7 @@ fn add_line(
     Ok(())
 }
 
-/// Leaves what one more line leaves for the lines behind it.
+/// Notes what one more line leaves for the lines after it.
 fn pass_line(past: &mut Past, spot: Spot, statement: &Option<Statement>) -> Result<(), NoMemory>
     requires place { spot.place ≤ 2 ^ 30 }
     requires segments { spot.segments ≤ 2000 }
@@ -116,7 +116,7 @@ fn pass_line(past: &mut Past, spot: Spot, statement: &Option<Statement>) -> Resu
     Ok(())
 }
 
-/// Nothing, so many times.
+/// A table of `count` empty cells.
 fn nothing(alloc: Global, count: usize) -> Result<Vec<Option<Word>>, NoMemory>
     ensures { IfOk result (λ v. v.items ≡ replicate count None) }
 {
@@ -180,7 +180,7 @@ fn start(alloc: Global) -> Result<Built, NoMemory>
     })
 }
 
-/// What the lines come to, or the least of their faults S9 to S17.
+/// What the lines give, or the first of their faults S9 to S17.
 pub(crate) fn build(
     alloc: Global,
     size: Size,

@@ -17,7 +17,7 @@ use ed_symbols::{Home, Spot, even, find_place};
 use ed_syntax::{Line, Setting, SourceCause, SourceFault, Statement};
 use ed_words::Size;
 
-/// The first place of a line's words.
+/// The location of a line's first word.
 pub(crate) fn first_place(statement: &Option<Statement>, spot: Spot) -> u32
     requires place { spot.place ≤ 2 ^ 30 }
     requires segments { spot.segments ≤ 2000 }
@@ -30,7 +30,7 @@ pub(crate) fn first_place(statement: &Option<Statement>, spot: Spot) -> u32
     }
 }
 
-/// The places of a line's words.
+/// The extent of a line's words.
 pub(crate) fn run_of(statement: &Option<Statement>, spot: Spot) -> (u64, u64)
     requires place { spot.place ≤ 2 ^ 30 }
     requires segments { spot.segments ≤ 2000 }
@@ -42,7 +42,7 @@ pub(crate) fn run_of(statement: &Option<Statement>, spot: Spot) -> (u64, u64)
     )
 }
 
-/// The places that a line needs.
+/// The extent that a line needs.
 fn reach(homes: &[Home], statement: &Option<Statement>, spot: Spot) -> (u64, u64)
     requires place { spot.place ≤ 2 ^ 30 }
     requires segments { spot.segments ≤ 2000 }
@@ -57,14 +57,14 @@ fn reach(homes: &[Home], statement: &Option<Statement>, spot: Spot) -> (u64, u64
     }
 }
 
-/// Whether one of some places is from a place on and below another.
+/// Whether two extents overlap.
 fn meets(run: (u64, u64), other: (u64, u64)) -> bool
     ensures { result ≡ meets run other }
 {
     run.0.max(other.0) < run.1.min(other.1)
 }
 
-/// Whether one of some places is among earlier ones.
+/// Whether an extent overlaps one of others.
 fn meets_any(run: (u64, u64), others: &[(u64, u64)]) -> bool
     ensures { result ≡ list_any (λ other. meets run other) others.now }
 {
@@ -76,7 +76,7 @@ fn meets_any(run: (u64, u64), others: &[(u64, u64)]) -> bool
     false
 }
 
-/// Whether a line has to stand in a segment, and doesn't.
+/// Whether a line must be in a segment, and isn't.
 fn is_outside(line: &Line, spot: Spot) -> bool
     ensures { result ≡ is_outside line.now spot }
 {
@@ -123,7 +123,7 @@ fn sets(settings: &[Setting], routine: Routine) -> bool
     settings.len() == parameters.len() && are_set(settings, &parameters)
 }
 
-/// Whether a line is a `use` that sets other letters than the routine's parameters.
+/// Whether a line is a `use` that doesn't set exactly the routine's parameters.
 fn sets_otherwise(statement: &Option<Statement>) -> bool
     ensures { result ≡ sets_otherwise statement.now }
 {
@@ -149,7 +149,7 @@ pub(crate) fn is_enter(statement: &Option<Statement>) -> bool
     matches!(statement, Some(Statement::Enter { .. }))
 }
 
-/// Whether a line is out of the order of `enter` and `data`.
+/// Whether a line breaks the order of `enter` and `data`.
 fn is_misplaced(entered: bool, any: bool, line: &Line) -> bool
     ensures { result ≡ is_misplaced entered any line.now }
 {
@@ -174,13 +174,13 @@ fn has_sandwich(statement: &Option<Statement>) -> bool
 /// What the lines before a line leave.
 #[derive(Drop)]
 pub(crate) struct Past {
-    /// The places of their words.
+    /// The extents of their words.
     pub(crate) runs: Vec<(u64, u64)>,
     /// Whether one of them is an `enter`.
     pub(crate) entered: bool,
 }
 
-/// Of the faults S9 to S17 of a line the one with the least number.
+/// The fault of a line with the least number, among S9 to S17.
 pub(crate) fn cause_of(
     size: Size,
     homes: &[Home],
@@ -230,7 +230,7 @@ pub(crate) fn any_enter(lines: &[Line]) -> bool
     false
 }
 
-/// The sooner of a fault and another, if there is one.
+/// The earlier of a fault and another, if there is one.
 pub(crate) fn sooner(fault: SourceFault, other: Option<SourceFault>) -> SourceFault
     ensures { Some result ≡ sooner (Some fault) other }
 {
@@ -246,7 +246,7 @@ pub(crate) fn sooner(fault: SourceFault, other: Option<SourceFault>) -> SourceFa
     }
 }
 
-/// The sooner of a fault, if there is one, and another.
+/// The earlier of a fault, if there is one, and another.
 pub(crate) fn sooner_than(fault: Option<SourceFault>, other: SourceFault) -> SourceFault
     ensures { Some result ≡ sooner fault (Some other) }
 {

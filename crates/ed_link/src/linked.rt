@@ -1,4 +1,4 @@
-//! What linking makes of a source.
+//! The result of linking a source.
 ghost use Rattle.std.specs.Prelude.{◌≡◌, ◌≤◌, ◌+◌, ◌^◌, ◌++◌, true, length, IfOk, OnOk};
 ghost use Rattle.std.specs.List.{list_all};
 ghost use Rattle.ed_codes.specs.Reading.{reading, rows};
@@ -12,14 +12,14 @@ use ed_notation::{Item, rows_of_items, text_of_items};
 use ed_syntax::Name;
 use ed_words::{NoMemory, Word};
 
-/// A word of the linked program and its place.
+/// A word of the linked program and its location.
 #[derive(Clone, Copy, Debug, PartialEq, Eq)]
 pub struct Placed {
     pub place: u16,
     pub word: Word,
 }
 
-/// A name and the place for which it stands.
+/// A name and the location for which it stands.
 #[derive(Clone, Copy, Debug, PartialEq, Eq)]
 pub struct LabelPlace {
     pub name: Name,
@@ -29,22 +29,22 @@ pub struct LabelPlace {
 /// A linked program with its punched tape.
 #[derive(Drop)]
 pub struct Linked {
-    /// The punched items; each can be spelled, and their rows and those behind them are at most 2^22.
+    /// The punched items; each can be spelled, and their rows and those after them are at most 2^22.
     pub items: Vec<Item>,
-    /// The words of the linked program, by rising place.
+    /// The words of the linked program, in ascending order of location.
     pub words: Vec<Placed>,
     /// Where the program begins.
     pub entry: u16,
-    /// The names that aren't local and stand for an address, with their places, in the order of their definitions.
+    /// The names that aren't local and stand for an address, with their locations, in the order of their definitions.
     pub labels: Vec<LabelPlace>,
-    /// The rows of the tape behind the program.
+    /// The rows of the tape after the program.
     pub after: Vec<Code>,
     ghost spellable: { list_all is_spellable items.items ≡ true },
     ghost few: { length (spelled (canonicals items.items)) + length after.items ≤ 2 ^ 22 },
 }
 
 impl Linked {
-    /// The rows of the tape: those of the items, then those behind them.
+    /// The rows of the tape: those of the items, then those after them.
     #[tactic(auto, using(crate::proofs::Spellable::are_spellable))]
     pub fn rows(&self) -> Result<Vec<Code>, NoMemory>
         ensures is { IfOk result (λ v. v.items ≡ spelled (canonicals self.now.items.items) ++ self.now.after.items) }
@@ -57,8 +57,8 @@ impl Linked {
         }
     }
 
-    /// The text of the tape: a line for each item, and a line of the rows behind them, where there are any. Its rows
-    /// are those of `rows`.
+    /// The text of the tape: a line for each item, and a line of the rows after them, if there are any. Its rows are
+    /// those of `rows`.
     #[tactic(auto, using(crate::proofs::Spellable::are_spellable, crate::proofs::Texts::both_read))]
     pub fn text(&self) -> Result<Vec<u8>, NoMemory>
         ensures is { IfOk result
@@ -72,7 +72,7 @@ impl Linked {
     }
 }
 
-/// Adds a line of rows, where there are any.
+/// Adds a line of rows, if there are any.
 #[tactic(auto, using(crate::proofs::Texts::some_text, crate::proofs::Texts::no_text))]
 fn push_after(text: &mut Vec<u8>, rows: &[Code]) -> Result<(), NoMemory>
     ensures is { OnOk result (text.new.items ≡ text.old.items ++ after_text rows.now) }

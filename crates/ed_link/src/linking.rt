@@ -20,7 +20,7 @@ use ed_syntax::{Program, SourceFault};
 use ed_words::{NoMemory, Size};
 use std::alloc::Global;
 
-/// Links a source for a machine of a size: the linked program with its punched tape, or the least fault of meaning.
+/// Links a source for a machine of a size: the linked program with its punched tape, or the first fault of meaning.
 pub fn link(alloc: Global, size: Size, program: &Program) -> Result<Linked, SourceFault>
     ensures linked { IfOk result (λ k. IsLinked size program.now.lines.items k) }
     ensures fault { IfErr result (λ e. HasMeaningFault size program.now.lines.items e) }
@@ -34,7 +34,7 @@ pub fn link(alloc: Global, size: Size, program: &Program) -> Result<Linked, Sour
     }
 }
 
-/// The same where it is known what the names stand for, and what is wrong with them.
+/// The same, given the definitions of the names and their first fault.
 fn link_names(
     alloc: Global,
     size: Size,
@@ -72,7 +72,7 @@ fn link_names(
     }
 }
 
-/// The names that a linked program tells.
+/// The names that a linked program reports.
 fn labels_of(alloc: Global, homes: &[Home]) -> Result<Vec<LabelPlace>, NoMemory>
     ensures { IfOk result (λ v. v.items ≡ labels homes.now) }
 {
@@ -91,7 +91,7 @@ fn labels_of(alloc: Global, homes: &[Home]) -> Result<Vec<LabelPlace>, NoMemory>
     Ok(labels)
 }
 
-/// The linked program of what was made of the lines.
+/// The linked program made from what was built of the lines.
 #[tactic(auto, using(crate::proofs::Spellable::all_spellable, crate::proofs::Bounds::tape_few))]
 fn finish(alloc: Global, homes: &[Home], built: Built) -> Result<Linked, SourceFault>
     requires spellable { AreSpellable built.items.items }

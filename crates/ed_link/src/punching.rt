@@ -150,7 +150,7 @@ fn push_order(
     }
 }
 
-/// Adds the head of a segment where a line is its first.
+/// Adds the head of a segment, if a line is its first with a word.
 fn push_heads(items: &mut Vec<Item>, spot: Spot) -> Result<(), NoMemory>
     requires spellable { AreSpellable items.old.items }
     requires base { spot.base ≤ 32767 }
@@ -189,7 +189,7 @@ fn push_long(items: &mut Vec<Item>, place: u32, value: Long) -> Result<(), NoMem
     push_word(items, halves.odd)
 }
 
-/// Adds the items of a parameter, where it is set.
+/// Adds the items of a parameter, if it is set.
 fn push_preset(
     items: &mut Vec<Item>,
     homes: &[Home],
@@ -330,7 +330,7 @@ pub(crate) fn push_line(
     }
 }
 
-/// The place of a name, which is in the store, and 0 where there is none.
+/// The location of a name, if it is in the store, and 0 if there is none.
 pub(crate) fn entry_of(homes: &[Home], name: &Name) -> u16
     requires { unwrap_or (place_on homes.now None name.now) 0 ≤ 32767 }
     ensures is { result ≡ unwrap_or (place_on homes.now None name.now) 0 }

@@ -23,7 +23,7 @@ use ed_syntax::{Name, Operand, Setting, Statement};
 use ed_words::{Long, NoMemory, Word};
 use std::alloc::Global;
 
-/// Puts a word at a place.
+/// Puts a word at a location.
 fn put(table: &mut Vec<Option<Word>>, place: u32, word: Word)
     requires { place < length table.old.items }
     ensures { table.new.items ≡ put_all table.old.items ((place, word) ∷ []) }
@@ -74,7 +74,7 @@ fn put_long(table: &mut Vec<Option<Word>>, place: u32, value: Long)
     put(table, at + 1, halves.odd);
 }
 
-/// Puts the word of a parameter, where it is set.
+/// Puts the word of a parameter, if it is set.
 fn put_preset(table: &mut Vec<Option<Word>>, homes: &[Home], settings: &[Setting], letter: u8)
     requires letter { letter ≤ 26 }
     requires table { 51 ≤ length table.old.items }
@@ -180,7 +180,7 @@ pub(crate) fn put_line(
     }
 }
 
-/// The words of a table with their places, by rising place.
+/// The words of a table with their locations, in ascending order.
 pub(crate) fn words_of(alloc: Global, table: &[Option<Word>]) -> Result<Vec<Placed>, NoMemory>
     requires { length table.now ≡ 1024 }
     ensures { IfOk result (λ v. v.items ≡ words_from 0 table.now) }

@@ -62,7 +62,7 @@ first_length =
       length-replicate {A = ℕ} 1024 0,
     )
 
--- words that pass the test are below 2^17, and so is what stands behind the last
+-- words that pass the test are below 2^17, and so is 0, for any index past the last
 pub all_fit : (ws : List ℕ) → list_all (λ w. nat_lt w (2 ^ 17)) ws ≡ true → (i : ℕ) → slice_index ws i < 2 ^ 17
 all_fit [] h i = lit≤ tt
 all_fit (w ∷ ws) h zero = lt_of w (2 ^ 17) (and_parts _ _ h).0

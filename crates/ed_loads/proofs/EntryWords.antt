@@ -1,4 +1,4 @@
--- The words of a source's lines stand in the store at its entry.
+-- The store at the entry of a source has the words of its lines.
 use Rattle.std.proofs.Common.{◌≡◌, ℕ, ◌+◌, ◌-◌, ◌<◌, ◌≤◌, refl, ap, ◌∙◌, arith, Bool, true, false}
 use Rattle.std.proofs.Common.{List, [], ◌∷◌, length, drop, get_or, nat_eq, Option, Some, None}
 use Rattle.std.specs.Prelude.{replicate, reverse, unwrap_or}
@@ -18,7 +18,7 @@ use Rattle.ed_link.proofs.WordLaws.{each_word_stands}
 use Rattle.ed_loads.specs.EntryState.{entry_store, own_words}
 use Rattle.ed_loads.specs.EntryWords.{EachEntryHasWords, EntryHasWords, IsFreePlace}
 
--- places are those of the store where each that has a word is
+-- all words of a list have locations of the store if each does
 are_places : (ps : List (ℕ × ℕ)) → ((a w : ℕ) → placed_at ps a ≡ Some w → a < 1024) → ArePlaces ps
 are_places [] within = tt
 are_places (p ∷ ps) within = (first, are_places ps (λ a w e. by_test a w (nat_eq p.0 a) refl e))
@@ -59,7 +59,7 @@ module _ (z : Size) (lines : List Line) (w : WordsStand z lines) where
   are = are_places (reverse (linked lines))
       (λ a v e. let p = w.within a v e in let m = most z in omega (arith, p.1, m))
 
-  -- a place with a word
+  -- a location with a word
   has : (a v : ℕ) → linked_word lines a ≡ Some v → short_at (entry_store lines) a ≡ v
   has a v e =
       let p = w.within a v e in

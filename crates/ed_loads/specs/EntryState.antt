@@ -37,7 +37,7 @@ own_words lines = record {
   at43 = 1;
 }
 
--- the store at the entry: those words, and from 44 on the linked program's words over 0; every sandwich digit is 0
+-- the store at the entry: those words, and from 44 upwards the linked program's words over 0; every sandwich digit is 0
 abbrev pub entry_store : List Line → Cells
 entry_store lines = record {
   words = initial_words (own_words lines) ++ drop 44 (over (reverse (linked lines)) (replicate 1024 0));
@@ -57,9 +57,8 @@ entry_state z lines = record {
   orders = cost lines;
 }
 
--- a cleared machine that is started on the punched tape comes to that state after the stated cost, which is at most 17
--- orders a row of the punched items and 9 more; each of these orders neither prints nor stops, so that nothing is
--- printed
+-- a cleared machine that is started on the punched tape reaches that state after the stated cost, which is at most 17
+-- orders for each row of the punched items, and 9 more; none of these orders prints or stops, so nothing is printed
 pub record Enters (z : Size) (lines : List Line) : Type 0 where
   pub state_is : state_after (cost lines) (first_state z (tape lines)) ≡ entry_state z lines
   pub silent : (past (cost lines) (first_state z (tape lines))).codes ≡ []

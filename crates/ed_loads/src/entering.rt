@@ -12,7 +12,7 @@ use ed_machine::Machine;
 use ed_words::{NoMemory, Size};
 use std::alloc::Global;
 
-/// A cleared machine of a size, started on rows with the Initial Orders.
+/// A cleared machine of this size, started on rows with the Initial Orders.
 #[tactic(auto, unfolding(crate::specs::EntryState::first_state))]
 pub fn started(alloc: Global, size: Size, rows: Vec<Code>) -> Result<Machine, NoMemory>
     ensures is { IfOk result (λ m. m ≡ first_state size rows.items) }
@@ -25,7 +25,7 @@ pub fn started(alloc: Global, size: Size, rows: Vec<Code>) -> Result<Machine, No
     Ok(machine)
 }
 
-/// A cleared machine of a size, started on the tape of a linked program and led to its entry by the Initial Orders.
+/// A cleared machine of this size, started on the tape of a linked program and led to its entry by the Initial Orders.
 pub fn enter(alloc: Global, size: Size, linked: &Linked) -> Result<Machine, NoMemory>
     ensures entry { IfOk result
         (λ m. (lines : List Line) → IsLinked size lines linked.now → m ≡ entry_state size lines) }

@@ -1,4 +1,4 @@
--- Steps that are each an order obeyed are counted.
+-- Steps that each obey an order are counted.
 use Rattle.std.proofs.Common.{◌≡◌, zero, suc, ◌+◌, arith}
 use Rattle.ed_machine.specs.OrderTable.{step}
 use Rattle.ed_machine.specs.Steps.{past, state_after}

@@ -1,4 +1,4 @@
--- What orders keep: the size of a machine, no row more on its tape, and how many orders are done in them.
+-- What orders keep: the size of a machine, no new row on its tape, and how many orders are counted.
 use Rattle.std.proofs.Common.{◌≡◌, ◌∙◌, ℕ, zero, suc, ◌+◌, ◌≤◌, Bool, true, false, true≢false, refl, sym, ap, arith}
 use Rattle.std.proofs.Common.{Option, Some, None, List, [], ◌∷◌, length}
 use Rattle.ed_orders.specs.declared.kind.Kind.{Kind}
@@ -8,19 +8,19 @@ use Rattle.ed_machine.specs.OrderTable.{Obeyed, blocked, jumped, obey_word, plac
 use Rattle.ed_machine.specs.Steps.{is_obeyed, past, state_after}
 use Rattle.ed_machine.specs.declared.turn.Turn.{Turn}
 
--- a state that a number of orders at the most lead to
+-- a state reached by at most a number of orders
 pub record Follows (most : ℕ) (s t : State) : Type 0 where
   pub size_is : t.size ≡ s.size
   pub fewer : length t.tape ≤ length s.tape
   pub later : s.orders ≤ t.orders
   pub soon : t.orders ≤ s.orders + most
 
--- what one order leaves, and that it is counted where it was obeyed
+-- the state that one order leaves, and that the order is counted if it was obeyed
 pub record Leaves (s : State) (o : Obeyed) : Type 0 where
   pub follows : Follows 1 s o.state
   pub count : is_obeyed o.turn ≡ true → o.state.orders ≡ s.orders + 1
 
--- one order more is done
+-- one more order is counted
 one_more : (s : State) (o : Obeyed) → o.state.size ≡ s.size → length o.state.tape ≤ length s.tape
     → o.state.orders ≡ s.orders + 1 → Leaves s o
 one_more s o size rows orders = record {
@@ -33,7 +33,7 @@ reads_none : (s : State) (o : Obeyed) → o.state.size ≡ s.size → o.state.ta
     → Leaves s o
 reads_none s o size tape orders = let e = ap length tape in one_more s o size (omega arith) orders
 
--- none is
+-- no order is obeyed
 none_more : (s : State) (turn : Turn) → is_obeyed turn ≡ false → Leaves s (blocked turn s)
 none_more s turn not_obeyed = record {
   follows = record { size_is = refl; fewer = omega arith; later = omega arith; soon = omega arith };

@@ -1,10 +1,10 @@
--- The least number below a bound at which a test holds.
+-- The least number below a bound for which a test holds.
 use Rattle.std.proofs.Common.{◌≡◌, ◌⊎◌, inl, inr, ℕ, zero, suc, ◌+◌, ◌<◌, ◌≤◌, refl}
 use Rattle.std.proofs.Common.{sym, ap, ◌∙◌, arith, Bool, true, false, true≢false}
 use Rattle.std.specs.Prelude.{if◌then◌else◌}
 use Rattle.ed_machine.specs.Steps.{least}
 
--- the number that is found is the bound at the most
+-- the number that is found is at most the bound
 pub least_below : (test : ℕ → Bool) (n : ℕ) → least test n ≤ n
 unfolding least
 least_below test zero = omega arith
@@ -14,7 +14,7 @@ least_below test (suc n) = by_test (test (least test n)) (least_below test n)
     by_test true h = omega arith
     by_test false h = omega arith
 
--- no number below n is found where the test fails at each
+-- no number below n is found if the test fails at each
 pub least_none : (test : ℕ → Bool) (n : ℕ) → ((j : ℕ) → j < n → test j ≡ false) → least test n ≡ n
 unfolding least
 least_none test zero fails = refl
@@ -42,7 +42,7 @@ least_found test (suc n) k holds fails below =
         rw (before, here) (sym is)
     by_place (inr lower) found = let before : least test n ≡ k = found lower in rw (before, holds) refl
 
--- the number that is found passes the test where the bound does
+-- the number that is found passes the test if the bound does
 pub least_holds : (test : ℕ → Bool) (n : ℕ) → test n ≡ true → test (least test n) ≡ true
 unfolding least
 least_holds test zero h = h
@@ -80,7 +80,7 @@ least_first test (suc n) j h = by_test (test (least test n)) refl h (λ below. l
     by_test true e h before = before h
     by_test false e h before = let k : least test n ≡ n = least_end test n e in by_place (grind arith) e before
 
--- a test that fails at the first k numbers is found where the test from k on is, and k more
+-- if a test fails at the first k numbers, the number found is k more than that found by the test from k onwards
 pub least_on : (test later : ℕ → Bool) (k m : ℕ) → ((j : ℕ) → j < k → test j ≡ false)
     → ((j : ℕ) → test (k + j) ≡ later j)
     → least test (k + m) ≡ k + least later m

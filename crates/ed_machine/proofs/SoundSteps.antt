@@ -130,7 +130,7 @@ module _ (s : State) (h : IsSound s) where
     last = h.last;
   }
 
-  -- one more order done, with the counter at a place or at the next
+  -- one more order counted, with the counter at a location or at the next
   done : (n : ℕ) → n < locations s.size → IsSound (done_at n s)
   done n below = record {
     store = h.store;

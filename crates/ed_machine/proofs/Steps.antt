@@ -1,4 +1,4 @@
--- Where steps lead: none, one more, and some behind others.
+-- Where steps lead: none, one more, and some after others.
 use Rattle.std.proofs.Common.{◌≡◌, ◌⊎◌, inl, inr, ℕ, zero, suc, ◌+◌, ◌-◌, ◌<◌, ◌≤◌, refl, sym, ap, ◌∙◌, subst, arith}
 use Rattle.std.proofs.Common.{add-one, below_more, true, ◌++◌, append_assoc, append-nil, length, length-append}
 use Rattle.std.proofs.lemmas.Bool.{cases_lt}
@@ -27,7 +27,7 @@ pub next_stops : (k : ℕ) (s : State)
     → (past (k + 1) s).stops ≡ (past k s).stops + stops_of (step (state_after k s)).turn
 next_stops k s = ap (λ (p : Past). p.stops) (past_next k s)
 
--- ---- some behind others
+-- ---- some after others
 
 -- what was printed and the stops of both, in the state that the later ones lead to
 abbrev pub past_after : Past → Past → Past
@@ -67,11 +67,11 @@ each_sum P a b s first more j h = by_place (cases_lt j a)
         let e : a + (j - a) ≡ j = omega arith in
         subst P (sym (after_sum a (j - a) s) ∙ ap (λ k. state_after k s) e) (more (j - a) (omega arith))
 
--- orders obeyed behind orders obeyed
+-- orders obeyed after orders obeyed
 pub free_sum : (a b : ℕ) (s : State) → IsFree a s → IsFree b (state_after a s) → IsFree (a + b) s
 free_sum = each_sum (λ (x : State). is_obeyed (step x).turn ≡ true)
 
--- one more order obeyed behind some
+-- one more order obeyed after some
 pub free_more : (k : ℕ) (s : State) → IsFree k s → is_obeyed (step (state_after k s)).turn ≡ true → IsFree (suc k) s
 free_more k s free more j h =
     below_more (λ j. is_obeyed (step (state_after j s)).turn ≡ true) k free more j (omega arith)

@@ -1,6 +1,6 @@
--- The order table: what one order does (Wilkes, Wheeler and Gill 1951; that O prints at once, the whole row of F,
--- that X does nothing, and that a long order with an odd address uses the pair that holds it, are this project's own
--- rules).
+-- The order table: what one order does (Wilkes, Wheeler and Gill 1951; that O prints at once, that F copies the whole
+-- row, that X does nothing, and that a long order with an odd address uses the pair of that location, are this
+-- project's own rules).
 use Rattle.std.specs.Prelude.{ℕ, List, [], ◌∷◌, Option, Some, None, unwrap_or, Bool}
 use Rattle.std.specs.Prelude.{true, false, ◌+◌, ◌*◌, ◌/◌, ◌^◌, nat_lt, nat_le}
 use Rattle.ed_words.specs.Words.{function_of, address_of, is_long}
@@ -24,7 +24,7 @@ pub record Obeyed : Type 0 where
 abbrev pub place_of : State → ℕ → ℕ
 place_of s w = within s.size (address_of w)
 
--- the 35 digits at a place: the long word of its pair, or its short word at the high end
+-- the 35 digits at a location: the long word of its pair, or its short word at the upper end
 abbrev pub read_at : Bool → Cells → ℕ → ℕ
 read_at true c n = long_at c n
 read_at false c n = short_at c n * 2 ^ 18
@@ -33,11 +33,11 @@ read_at false c n = short_at c n * 2 ^ 18
 abbrev pub operand35 : ℕ → State → ℕ
 operand35 w s = read_at (is_long w) s.store (place_of s w)
 
--- the same at the high end of the accumulator's 71 digits
+-- the same at the upper end of the accumulator's 71 digits
 abbrev pub operand71 : ℕ → State → ℕ
 operand71 w s = operand35 w s * 2 ^ 36
 
--- the store with a number written at a place: the first where the order is short, the second where it is long
+-- the store with a number written at a location: `short` if the order is short, `long` if it is long
 abbrev pub written_at : Bool → Cells → ℕ → ℕ → ℕ → Cells
 written_at true c n short long = with_long c n long
 written_at false c n short long = with_short c n short
@@ -50,15 +50,15 @@ written w s short long = written_at (is_long w) s.store (place_of s w) short lon
 abbrev pub after : State → ℕ
 after s = within s.size (s.counter + 1)
 
--- a state with one more order done and the counter at a place
+-- a state with one more order obeyed and the counter at a location
 abbrev pub done_at : ℕ → State → State
 done_at n s = record s { counter = n; orders = s.orders + 1 }
 
--- an order that goes on at the next location
+-- an order after which the machine goes on at the next location
 abbrev pub went : State → Obeyed
 went s = record { state = done_at (after s) s; turn = Went }
 
--- an order that jumps to a place where a test holds, and else goes on
+-- an order that jumps to a location if a test holds, and goes on otherwise
 abbrev pub jumped : Bool → ℕ → State → Obeyed
 jumped true n s = record { state = done_at n s; turn = Went }
 jumped false n s = went s
@@ -67,11 +67,11 @@ jumped false n s = went s
 abbrev pub printed : ℕ → State → Obeyed
 printed code s = record { state = record (done_at (after s) s) { last = Some code }; turn = Printed code }
 
--- an order that stops the machine, with the counter past it
+-- an order that stops the machine, with the counter after it
 abbrev pub stopped : State → Obeyed
 stopped s = record { state = done_at (after s) s; turn = Stopped }
 
--- a state that no order leaves
+-- a state in which no order can be obeyed
 abbrev pub blocked : Turn → State → Obeyed
 blocked turn s = record { state = s; turn = turn }
 
@@ -80,7 +80,7 @@ abbrev pub took_row : List ℕ → ℕ → State → Obeyed
 took_row [] w s = blocked NoTape s
 took_row (row ∷ rows) w s = went (record s { store = written w s row (row * 2 ^ 18); tape = rows })
 
--- the last printed code, and 0 where nothing was printed
+-- the last printed code, or 0 if nothing was printed
 abbrev pub last_code : State → ℕ
 last_code s = unwrap_or s.last 0
 
@@ -105,7 +105,7 @@ obey X w s = went s
 obey Y w s = went (record s { acc = plus71 s.acc (2 ^ 35) })
 obey Z w s = stopped s
 
--- a word obeyed as the order that it is, if it is one
+-- a word obeyed as an order, if its function is one
 abbrev pub obey_word : Option Kind → ℕ → State → Obeyed
 obey_word None w s = blocked (NoOrder (function_of w)) s
 obey_word (Some kind) w s = obey kind w s

@@ -1,4 +1,4 @@
--- The states that a machine can come to: by Start and by orders from a cleared machine, and in no other way.
+-- The states that a machine can reach: by Start and by orders from a cleared machine, and in no other way.
 use Rattle.std.specs.Prelude.{ℕ, ◌≤◌, List, length}
 use Rattle.ed_words.specs.declared.size.Size.{Size}
 use Rattle.ed_machine.specs.State.{State, cleared}

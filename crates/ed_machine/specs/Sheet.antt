@@ -1,7 +1,7 @@
--- Paper: the codes printed so far, and how many it holds at the most.
+-- Paper: the codes printed so far, and the most codes that it holds.
 use Rattle.std.specs.Prelude.{ℕ, List}
 
--- a paper of a teleprinter
+-- the paper of a teleprinter
 pub record Sheet : Type 0 where
   pub codes : List ℕ
   pub room : ℕ

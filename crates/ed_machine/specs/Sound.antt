@@ -1,4 +1,4 @@
--- The bounds that states of machines keep, and how orders are counted.
+-- The bounds that every state of a machine keeps, and how orders are counted.
 use Rattle.std.specs.Prelude.{◌≡◌, ℕ, ◌+◌, ◌^◌, ◌<◌, slice_index}
 use Rattle.ed_words.specs.Sizes.{locations}
 use Rattle.ed_store.specs.Cells.{IsStore}
@@ -15,10 +15,10 @@ pub record IsSound (s : State) : Type 0 where
   pub tape : (i : ℕ) → slice_index s.tape i < 32
   pub last : last_code s < 32
 
--- steps lead from a state within its bounds to another
+-- every step from a state within its bounds leads to a state within its bounds
 abbrev pub StaysSound : Type 0
 StaysSound = (k : ℕ) (s : State) → IsSound s → IsSound (state_after k s)
 
--- k steps that are each an order obeyed are k orders done
+-- if each of k steps obeyed an order, the count of orders grew by k
 abbrev pub CountsOrders : Type 0
 CountsOrders = (k : ℕ) (s : State) → IsFree k s → (state_after k s).orders ≡ s.orders + k

@@ -1,10 +1,10 @@
--- Start: an image of words at the head of the store, and a tape mounted (this project's own rule: all else stays, the
--- accumulator and the sandwich digits included).
+-- Start: an image of words in the first locations of the store, and a tape mounted (this project's own rule: all else
+-- stays, the accumulator and the sandwich digits included).
 use Rattle.std.specs.Prelude.{◌≡◌, ℕ, List, ◌++◌, drop, length}
 use Rattle.ed_store.specs.Cells.{Cells}
 use Rattle.ed_machine.specs.State.{State}
 
--- the store with the words of an image from 0 upwards
+-- the store with the words of an image from location 0 upwards
 abbrev pub with_image : List ℕ → Cells → Cells
 with_image image c = record { words = image ++ drop (length image) c.words; sandwich = c.sandwich }
 

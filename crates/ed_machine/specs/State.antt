@@ -4,7 +4,7 @@ use Rattle.std.specs.Prelude.{ℕ, List, [], Option, None}
 use Rattle.ed_words.specs.declared.size.Size.{Size}
 use Rattle.ed_store.specs.Cells.{Cells, cleared_cells}
 
--- everything that a machine is at one moment, between two orders
+-- the whole state of a machine between two orders
 pub record State : Type 0 where
   -- how many locations the orders reach
   pub size : Size
@@ -13,13 +13,13 @@ pub record State : Type 0 where
   -- the accumulator, in units of 2^-70
   pub acc : ℕ
   pub multiplier : ℕ
-  -- the place of the next order
+  -- the location of the next order
   pub counter : ℕ
   -- the rows of tape not yet read
   pub tape : List ℕ
   -- the last printed code
   pub last : Option ℕ
-  -- the number of orders done
+  -- the number of orders obeyed
   pub orders : ℕ
 
 -- the state of a cleared machine: 0 everywhere, no tape, nothing printed

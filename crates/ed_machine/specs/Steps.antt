@@ -1,5 +1,5 @@
--- Many orders one after the other. A state that no order leaves stays as it is, so a number of steps always leads to a
--- state; `IsFree` says that each of them was an order obeyed.
+-- Many orders one after the other. A state in which no order can be obeyed stays the same, so any number of steps leads
+-- to a state; `IsFree` says that each of them obeyed an order.
 use Rattle.std.specs.Prelude.{◌≡◌, ℕ, zero, suc, ◌+◌, ◌<◌, List, [], ◌∷◌, ◌++◌, Bool, true, false, if◌then◌else◌}
 use Rattle.ed_machine.specs.State.{State}
 use Rattle.ed_machine.specs.OrderTable.{step}
@@ -14,7 +14,7 @@ codes_of Stopped = []
 codes_of (NoOrder function) = []
 codes_of NoTape = []
 
--- the stops that a turn is
+-- how many stops a turn is: 1 or 0
 abbrev pub stops_of : Turn → ℕ
 stops_of Stopped = 1
 stops_of Went = 0
@@ -22,7 +22,7 @@ stops_of (Printed code) = 0
 stops_of (NoOrder function) = 0
 stops_of NoTape = 0
 
--- a turn that obeyed an order
+-- whether a turn obeyed an order
 abbrev pub is_obeyed : Turn → Bool
 is_obeyed Went = true
 is_obeyed (Printed code) = true
@@ -41,7 +41,7 @@ pub record Past : Type 0 where
   pub codes : List ℕ
   pub stops : ℕ
 
--- one order more
+-- the same after one more order
 abbrev pub next_past : Past → Past
 next_past p = record {
   state = (step p.state).state;
@@ -62,7 +62,7 @@ state_after k s = (past k s).state
 abbrev pub IsFree : ℕ → State → Type 0
 IsFree k s = (j : ℕ) → j < k → is_obeyed (step (state_after j s)).turn ≡ true
 
--- the least number below n at which a test holds, and n where there is none
+-- the least number below n for which a test holds, or n if it holds for none
 unfoldable pub least : (ℕ → Bool) → ℕ → ℕ
 least test zero = zero
 least test (suc n) = if test (least test n) then least test n else suc n

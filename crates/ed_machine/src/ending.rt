@@ -3,7 +3,7 @@
 pub enum Ending {
     /// A Z order was obeyed, and no resume was left.
     Stopped,
-    /// As many orders were obeyed as the run was allowed.
+    /// The run obeyed as many orders as its limit.
     Limit,
     /// The word at the counter is no order.
     NoOrder,

@@ -37,7 +37,7 @@ pub struct Machine {
     orders: u64,
 }
 
-/// Everything that a machine is at one moment, between two orders.
+/// The whole state of a machine between two orders.
 #[derive(Drop)]
 pub struct Parts {
     pub size: Size,
@@ -46,11 +46,11 @@ pub struct Parts {
     pub multiplier: Long,
     /// The location of the next order.
     pub counter: u16,
-    /// The rows that were not yet read.
+    /// The rows not yet read.
     pub tape: Vec<Code>,
-    /// The last printed code; none if nothing was printed.
+    /// The last printed code; None if nothing was printed.
     pub last: Option<Code>,
-    /// How many orders were done.
+    /// The number of orders obeyed.
     pub orders: u64,
 }
 
@@ -83,7 +83,7 @@ impl Machine {
         Machine::cleared_of(alloc, Size::Full)
     }
 
-    /// A cleared machine of a size.
+    /// A cleared machine of a given size.
     pub fn cleared_of(alloc: Global, size: Size) -> Result<Machine, NoMemory>
         ensures { IfOk result (λ m. m ≡ cleared size) }
     {
@@ -102,8 +102,8 @@ impl Machine {
         })
     }
 
-    /// A machine in a state that Start and orders lead to, from its parts; the caller has to prove that they do. So no
-    /// program comes into a store but by Start and by orders.
+    /// A machine in a state that Start and orders lead to, from its parts; the caller has to prove that they do. So a
+    /// program gets into a store only by Start and by orders.
     pub fn reached(alloc: Global, parts: Parts) -> Machine
         requires is { IsReached (state_of parts) }
         requires counter { parts.counter < locations parts.size }
@@ -161,9 +161,9 @@ impl Machine {
 
     /// Obeys the order at the counter.
     ///
-    /// `NoOrder` comes exactly where the word at the counter is no order, `NoTape` exactly where it is an I order and
-    /// no row is left; both change nothing. Two laws of the order table stand with it: steps keep the bounds of a
-    /// state, and steps that are each an order obeyed are counted.
+    /// The answer is `NoOrder` exactly if the word at the counter is no order, and `NoTape` exactly if it is an I order
+    /// and no row is left; both change nothing. Two laws of the order table are stated here too: steps keep the bounds
+    /// of a state, and steps that each obey an order are counted.
     #[inline(always)]
     #[tactic(auto, unfolding(crate::specs::OrderTable::step))]
     pub fn step(&mut self) -> Turn
@@ -183,7 +183,7 @@ impl Machine {
         }
     }
 
-    /// How many locations the orders reach.
+    /// The number of locations that the orders reach.
     pub fn size(&self) -> Size
         ensures is { result ≡ self.now.size }
         ensures counter { self.now.counter < locations self.now.size }
@@ -247,21 +247,21 @@ impl Machine {
         self.counter
     }
 
-    /// The number of orders done since the machine was cleared.
+    /// The number of orders obeyed since the machine was cleared.
     pub fn orders_done(&self) -> u64
         ensures { result ≡ self.now.orders }
     {
         self.orders
     }
 
-    /// The rows of the tape that were not yet read.
+    /// The rows of the tape not yet read.
     pub fn rows_left(&self) -> &[Code]
         ensures { result.now ≡ self.now.tape }
     {
         &self.tape[self.row..]
     }
 
-    /// The last printed code; none where nothing was printed since the machine was cleared.
+    /// The last printed code; None if nothing was printed since the machine was cleared.
     pub fn last_printed(&self) -> Option<Code>
         ensures { result ≡ self.now.last }
     {

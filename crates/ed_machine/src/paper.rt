@@ -8,7 +8,7 @@ use ed_words::NoMemory;
 use std::alloc::Global;
 use std::marker::Model;
 
-/// The codes that were printed, with room for so many. The room is taken when the paper is made.
+/// The codes printed so far, and room for a fixed number of them. The room is allocated when the paper is made.
 #[derive(Drop)]
 pub struct Paper {
     codes: Vec<Code>,
@@ -34,7 +34,7 @@ impl Paper {
         }
     }
 
-    /// Adds a code at the end where there is room, and says whether there was.
+    /// Adds a code at the end if there is room, and answers whether there was.
     pub fn push(&mut self, code: Code) -> bool
         ensures full { IsFalse result ↔ (self.old.room ≤ length self.old.codes) }
         ensures added { OnTrue result (self.new ≡ record self.old { codes = self.old.codes ++ code ∷ [] }) }
@@ -55,7 +55,7 @@ impl Paper {
         &self.codes
     }
 
-    /// For how many codes there still is room.
+    /// The number of codes for which there still is room.
     pub fn room_left(&self) -> usize
         ensures is { result ≡ self.now.room - length self.now.codes }
         ensures fits { length self.now.codes ≤ self.now.room }

@@ -1,5 +1,5 @@
--- The routine `divide`, by its listing. The long word at place 38 is four times a number that begins as the dividend
--- and ends as the remainder and the quotient side by side.
+-- The routine `divide`, by its listing. Its long word at 38 is four times a number that begins as the dividend and ends
+-- as the remainder and the quotient side by side.
 use Rattle.std.proofs.Common.{◌≡◌, ℕ, zero, suc, ◌+◌, ◌-◌, ◌*◌, ◌/◌, ◌%◌, ◌^◌}
 use Rattle.std.proofs.Common.{◌<◌, ◌≤◌, refl, arith, lit<, Bool, true, false}
 use Rattle.std.proofs.Common.{nat_eq, List, [], ◌∷◌, get_or, set, length}
@@ -27,8 +27,8 @@ pub record Long : Type 0 where
 abbrev pub parts : ℕ → Long
 parts v = record { even = v % 2 ^ 17; odd = v / 2 ^ 18; digit = nat_eq (v / 2 ^ 17 % 2) 1 }
 
--- the cells that change: the order that returns, the count of turns, what sets a digit of the quotient, the number,
--- and a spare cell
+-- the words that change: the order that returns, the count of turns, what sets a digit of the quotient, the number,
+-- and a spare word
 pub record Work : Type 0 where
   pub at32 : ℕ
   pub at35 : ℕ
@@ -51,13 +51,13 @@ cells b high low by w =
 abbrev pub digits : Work → List Bool
 digits w = w.at36.digit ∷ w.at38.digit ∷ []
 
--- the number at a place that is a long word by its parts
+-- the number at a location that holds a long word, by its parts
 whole_long : (a v u : ℕ) → (a + v * 2 ^ 36) % 2 ^ 71 ≡ u
     → (a + joined (v / 2 ^ 18) (nat_eq (v / 2 ^ 17 % 2) 1) (v % 2 ^ 17) * 2 ^ 36) % 2 ^ 71 ≡ u
 whole_long a v u e = rw (parted v) e
 
--- a call of the routine, its three places, and the words around it, with the halves h and l of the dividend and the
--- divisor d at these places
+-- a call of the routine, its three locations, and the words around it, with the halves h and l of the dividend and the
+-- divisor d at these locations
 pub record Given : Type 0 where
   pub call : Call 41 18
   pub even : call.frame.base % 2 ≡ 0

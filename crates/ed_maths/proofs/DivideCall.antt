@@ -1,4 +1,4 @@
--- `divide` from the library's table to what it does.
+-- `divide`, from the library's table to what it does.
 use Rattle.std.proofs.Common.{◌≡◌, ◌≢◌, ℕ, zero, suc, ◌+◌, ◌-◌, ◌*◌, ◌/◌, ◌%◌, ◌^◌}
 use Rattle.std.proofs.Common.{◌<◌, refl, sym, ap, ◌∙◌, subst, arith, false}
 use Rattle.std.proofs.Common.{List, [], ◌∷◌, get_or, set, length, inl, inr}
@@ -24,7 +24,7 @@ use Rattle.ed_maths.proofs.Quotient.{numbers}
 use Rattle.ed_maths.proofs.Ones.{few_ones}
 use Rattle.ed_maths.proofs.Divide.{Given, Work, cells, digits, run, work, whole}
 
--- `divide` is called in a state, and all is below a place
+-- `divide` is called in a state, and all is below a location
 pub record CallsDivide (b high low by top : ℕ) (s : State) : Type 0 where
   pub all : length s.store.words ≡ 1024
   pub all_digits : length s.store.sandwich ≡ 512
@@ -169,11 +169,11 @@ module _ {b high low by top : ℕ} {s : State} (o : CallsDivide b high low by to
       let long : length ws ≡ 1024 = length-set (set s.store.words high (n % d)) low (n / d) ∙ long_set (n % d) in
       length_patched 0 ws b (cells b high low by left) (omega (arith, long, fits)) ∙ long
 
-  -- so many orders lead behind the call
+  -- that many orders lead to the order after the call
   pub leads_to : Leads (divide_orders (n / d)) s [] last
   leads_to = subst (λ x. Leads (divide_orders (n / d)) x [] last) begins (leads path s.orders)
 
-  -- what holds of every order that keeps below the place holds before each of them
+  -- what holds of every order that stays below the location holds before each of them
   pub keeps_below : (P : State → Type 0) → ((kind : Kind) (x : State) → IsOrder top kind x → P x) → (j : ℕ)
       → j < divide_orders (n / d)
       → P (state_after j s)

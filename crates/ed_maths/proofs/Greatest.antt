@@ -1,4 +1,4 @@
--- The square root of a number, in whole numbers, is one.
+-- The integer square root of a number is the greatest whose square is at most that number.
 use Rattle.std.proofs.Common.{◌≡◌, ℕ, zero, suc, ◌+◌, ◌*◌, ◌<◌, refl, arith, Bool, true, false, nat_le}
 use Rattle.std.specs.Prelude.{if◌then◌else◌}
 use Rattle.ed_words.proofs.Numbers.{le_of, not_le_of}

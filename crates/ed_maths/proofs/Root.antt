@@ -1,4 +1,5 @@
--- The routine `root`, by its listing: the odd numbers 1, 3, 5 and so on are taken away from the number while they go.
+-- The routine `root`, by its listing: it subtracts the odd numbers 1, 3, 5 and so on from the number, as long as it
+-- can.
 use Rattle.std.proofs.Common.{◌≡◌, ℕ, zero, suc, ◌+◌, ◌-◌, ◌*◌, ◌^◌, ◌<◌, ◌≤◌, refl, arith}
 use Rattle.std.proofs.Common.{List, [], ◌∷◌, get_or, set, length, lit<}
 use Rattle.ed_words.proofs.SizeLemmas.{most}
@@ -9,7 +10,7 @@ use Rattle.ed_paths.proofs.Moves.{A, S, T, T_top, R, E_jumps, G_jumps, G_stays}
 use Rattle.ed_paths.proofs.Paths.{Path, stay, on, followed}
 use Rattle.ed_routines.proofs.Called.{Call, moment}
 
--- the cells that change: the order that returns, what is left of the number, and the next odd number
+-- the words that change: the order that returns, what is left of the number, and the next odd number
 pub record Work : Type 0 where
   pub at18 : ℕ
   pub at21 : ℕ
@@ -24,7 +25,7 @@ cells b source target w =
     ∷ (12288 + 2 * (b + 6)) ∷ (20480 + 2 * (b + 21)) ∷ (114688 + 2 * (b + 22)) ∷ 16385 ∷ (20480 + 2 * target)
     ∷ w.at18 ∷ 1 ∷ 2 ∷ w.at21 ∷ w.at22 ∷ []
 
--- a call of the routine, its two places, and the words around it, with the number n at the first
+-- a call of the routine, its two locations, and the words around it, with the number n at the first
 pub record Given : Type 0 where
   pub call : Call 23 0
   pub source : ℕ
@@ -65,7 +66,7 @@ module _ (given : Given) where
       (on (A 4 (own 19) (short 1) refl refl)
       (on (T 5 (own 22) _ refl refl) stay)))))
 
-  -- an odd number goes
+  -- an odd number can be subtracted
   turn : (x y o e : ℕ) → y + o ≡ x → x < 65536 → o + 2 ≡ e
       → Path f 8 (run ws (rest x o) 0 6) [] (run ws (rest y e) 0 6)
   turn x y o e less fits next =
@@ -95,7 +96,7 @@ module _ (given : Given) where
       (omega arith))
       (loop j (k + 1) (x - (2 * k + 1)) (omega arith) (rw (← a) fits)))
 
-  -- the next one doesn't, and is one more than twice the root
+  -- the next one cannot, and is one more than twice the root
   closed : (x r : ℕ) → x < 2 * r + 1 → r < 256
       → Path f 8 (run ws (rest x (2 * r + 1)) 0 6) []
       (record (run (set ws target r) (rest (x + 2 ^ 17 - (2 * r + 1)) (2 * r + 1)) 0 0) { counter = m + 2 })

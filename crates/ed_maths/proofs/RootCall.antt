@@ -1,4 +1,4 @@
--- `root` from the library's table to what it does.
+-- `root`, from the library's table to what it does.
 use Rattle.std.proofs.Common.{◌≡◌, ◌≢◌, ℕ, ◌+◌, ◌-◌, ◌*◌, ◌^◌, ◌<◌, refl, ap, ◌∙◌, subst, arith}
 use Rattle.std.proofs.Common.{List, [], ◌∷◌, get_or, set, length, inl, inr}
 use Rattle.std.proofs.lemmas.Bool.{cases_lt}
@@ -36,7 +36,7 @@ few n r is small =
     too_large : (k : ℕ) → (256 + k) * (256 + k) < 65536 → ⊥
     too_large k h = let e : (256 + k) * (256 + k) ≡ 65536 + 512 * k + k * k = omega arith in omega arith
 
--- `root` is called in a state, for the root r of the number at one place, and all is below a place
+-- `root` is called in a state, for the root r of the number at one location, and all is below a location
 pub record CallsRoot (b source target top r : ℕ) (s : State) : Type 0 where
   pub all : length s.store.words ≡ 1024
   pub stands : Stands root (with_hn source target) b s
@@ -116,17 +116,17 @@ module _ {b source target top r : ℕ} {s : State} (o : CallsRoot b source targe
       let long : length ws ≡ 1024 = length-set s.store.words target r ∙ o.all in
       length_patched 0 ws b (cells b source target left) (omega (arith, long, fits)) ∙ long
 
-  -- so many orders lead behind the call
+  -- that many orders lead to the order after the call
   pub leads_to : Leads (root_orders r) s [] last
   leads_to = subst (λ x. Leads (root_orders r) x [] last) starts (leads path s.orders)
 
-  -- what holds of every order that keeps below the place holds before each of them
+  -- what holds of every order that stays below the location holds before each of them
   pub keeps_below : (P : State → Type 0) → ((kind : Kind) (x : State) → IsOrder top kind x → P x) → (j : ℕ)
       → j < root_orders r
       → P (state_after j s)
   keeps_below P order j l = subst (λ x. P (state_after j x)) starts (each P order path s.orders j l)
 
-  -- a word at no working place stays, and the root stands at its target
+  -- a word outside the working locations is unchanged, and the root is at its target
   stays : (i : ℕ) → i ≢ target → IsOther root b i → get_or last.store.words i 0 ≡ get_or s.store.words i 0
   stays i other free =
       kept hs free ws (cells b source target left) refl refl still

@@ -1,4 +1,4 @@
--- What `divide` does: a number of 32 binary digits, whose halves stand in two words, is divided by a third (this
+-- What `divide` does: it divides a number of 32 binary digits, whose halves are in two words, by a third word (this
 -- project's own rule).
 use Rattle.std.specs.Prelude.{◌≡◌, ◌≢◌, ◌⊎◌, ℕ, zero, suc, ◌+◌, ◌-◌, ◌*◌, ◌/◌}
 use Rattle.std.specs.Prelude.{◌%◌, ◌<◌, ◌≤◌, false, List, [], ◌∷◌, codes}
@@ -17,7 +17,7 @@ divide = named (codes "divide")
 abbrev pub with_hnm : ℕ → ℕ → ℕ → List ℕ
 with_hnm high low by = 2 * high ∷ 2 * low ∷ 2 * by ∷ 0 ∷ 0 ∷ 0 ∷ []
 
--- the number of which two words are the halves
+-- the number whose halves are in these two locations
 abbrev pub dividend : ℕ → ℕ → State → ℕ
 dividend high low s = 65536 * short_at s.store high + short_at s.store low
 
@@ -26,11 +26,11 @@ unfoldable pub ones : ℕ → ℕ → ℕ
 ones zero q = 0
 ones (suc k) q = q % 2 + ones k (q / 2)
 
--- how many orders `divide` takes for a quotient
+-- the number of orders that `divide` takes for a quotient
 abbrev pub divide_orders : ℕ → ℕ
 divide_orders q = 212 - ones 16 q
 
--- three places outside the routine, with a divisor of 1 to 32767 above the high word, and a low word of 16 digits
+-- three locations outside the routine: a divisor of 1 to 32767, a high word below it, and a low word of 16 digits
 pub record IsDivision (base high low by : ℕ) (s : State) : Type 0 where
   pub high_outside : IsOutside divide base high s
   pub low_outside : IsOutside divide base low s
@@ -43,13 +43,13 @@ pub record IsDivision (base high low by : ℕ) (s : State) : Type 0 where
   pub less : short_at s.store high < short_at s.store by
   pub small : short_at s.store low < 65536
 
--- a pair of locations whose sandwich digit `divide` leaves: neither 36 and 37 nor 38 and 39 of its places
+-- a pair of locations whose sandwich digit `divide` does not change: not that of its words 36 and 37 or 38 and 39
 pub record IsOtherPair (base pair : ℕ) : Type 0 where
   pub other : (pair < base / 2 + 18) ⊎ (base / 2 + 20 ≤ pair)
 
--- the quotient stands at the low place and the remainder at the high one; control is behind the call and the
--- accumulator clear; and no other word has changed but the working places, no sandwich digit but of pairs of these,
--- and nothing else
+-- the quotient is in the low location and the remainder in the high one; the counter is after the call, the accumulator
+-- is clear, and the orders are counted; otherwise only words in working locations have changed, and sandwich digits of
+-- pairs of these
 pub record Divided (base high low by : ℕ) (s t : State) : Type 0 where
   pub quotient : short_at t.store low ≡ dividend high low s / short_at s.store by
   pub remainder : short_at t.store high ≡ dividend high low s % short_at s.store by

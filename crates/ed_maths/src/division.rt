@@ -7,9 +7,9 @@ ghost use Rattle.ed_maths.specs.Quotients.{Divided, IsDivision, divide, divide_o
 use ed_machine::Machine;
 use ed_routines::{Back, obey_count, way_back};
 
-/// Runs `divide`, which stands at the even `base` with H = 2 · high, N = 2 · low and M = 2 · by: the number whose
-/// halves are the words at `high` and `low`, the one at `low` below 65536, is divided by the word at `by`, which is 1
-/// to 32767 and above the one at `high`. The quotient is then at `low` and the remainder at `high`.
+/// Runs `divide` at the even `base` with H = 2 · high, N = 2 · low and M = 2 · by: it divides the number whose halves
+/// are the words at `high` and `low`, the one at `low` below 65536, by the word at `by`, which is 1 to 32767 and
+/// greater than the one at `high`. The quotient is then at `low` and the remainder at `high`.
 pub fn divide_integers(machine: &mut Machine, base: u16, high: u16, low: u16, by: u16) -> Back
     requires stands { Stands divide (with_hnm high low by) base machine.old }
     requires even { base % 2 ≡ 0 }

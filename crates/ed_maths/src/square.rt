@@ -7,7 +7,7 @@ ghost use Rattle.ed_maths.specs.Roots.{IsRoot, root, root_orders, with_hn};
 use ed_machine::Machine;
 use ed_routines::{Back, obey_count, way_back};
 
-/// Runs `root`, which stands at `base` with H = 2 · source and N = 2 · target: it puts the square root of the word at
+/// Runs `root` at `base` with H = 2 · source and N = 2 · target: it puts the integer square root of the word at
 /// `source`, which is below 65536, at `target`.
 pub fn square_root(machine: &mut Machine, base: u16, source: u16, target: u16) -> Back
     requires stands { Stands root (with_hn source target) base machine.old }
@@ -30,7 +30,7 @@ pub fn square_root(machine: &mut Machine, base: u16, source: u16, target: u16) -
     Back { at, orders }
 }
 
-/// The greatest number whose square is a number at the most.
+/// The greatest number whose square is at most a number.
 fn root_of(number: u32) -> u16
     requires { number < 65536 }
     ensures is { IsRoot number result }

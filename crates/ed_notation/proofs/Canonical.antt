@@ -144,7 +144,7 @@ spellable_law i = record {
   spellable = λ rows s. subst (λ (j : Item). is_spellable j ≡ true) s.item_is (spelled_can_be s.written s.good);
 }
 
--- behind the last item
+-- after the last item
 pub rest_none : (is : List Item) (rows : List ℕ) (k : ℕ) → length is ≤ k
     → rows ++ spelled (canonicals (drop k is)) ≡ spelled (canonicals is) → rows ≡ spelled (canonicals is)
 rest_none is rows k l h =

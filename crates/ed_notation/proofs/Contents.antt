@@ -1,4 +1,4 @@
--- The contents of all locations are the map's where it has the location, and else the store's.
+-- The content of a location is the map's if it has the location, and the store's otherwise.
 use Rattle.std.proofs.Common.{◌≡◌, ◌≢◌, ℕ, ◌<◌, refl, sym, ◌∙◌, arith, Bool, true, false, nat_eq, if◌then◌else◌, Option}
 use Rattle.std.proofs.Common.{Some, None, List, [], ◌∷◌, length, get_or, set}
 use Rattle.std.specs.Prelude.{unwrap_or}
@@ -37,7 +37,7 @@ content_is words l (p ∷ placed) a are = by_test (nat_eq p.0 a) refl (content_i
 abbrev word_where : Bool → ℕ → Option ℕ
 word_where marked word = if marked then Some word else None
 
--- the word placed at a location, as marks and contents tell it
+-- the word placed at a location, by marks and contents
 pub word_is : (words : List ℕ) → length words ≡ 1024 → (placed : List (ℕ × ℕ)) (a : ℕ) → a < 1024 → ArePlaces placed
     → word_where (get_or (marked placed) a false) (get_or (over placed words) a 0) ≡ placed_at placed a
 word_is words l [] a h are = rw (get_or-replicate 1024 a false false h) refl

@@ -1,4 +1,4 @@
--- The directive is a P, an E or a T at every row that the reader comes to.
+-- The directive is a P, an E or a T at every row that the reader reaches.
 use Rattle.std.proofs.Common.{◌≡◌, ◌≢◌, ℕ, ◌+◌, ◌*◌, ◌≤◌, refl, subst, arith, Bool, true, false}
 use Rattle.std.proofs.Common.{nat_lt, nat_le, if◌then◌else◌, List}
 use Rattle.ed_words.specs.declared.size.Size.{Size}

@@ -23,7 +23,8 @@ use Rattle.ed_notation.proofs.Directives.{KeepsDirective, keeps}
 use Rattle.ed_words.proofs.Numbers.{lt_true, lt_false}
 use Rattle.std.proofs.Math.Bool.{and-false}
 
--- where the reader stands: the store that it reads for, the rows and orders behind it, and the state of the notation
+-- where the reader is: the store that it reads for, the number of rows and orders before it, and the state of the
+-- notation
 pub record Reader : Type 0 where
   pub size : Size
   pub words : List ℕ
@@ -31,11 +32,11 @@ pub record Reader : Type 0 where
   pub cost : ℕ
   pub note : Note
 
--- what it comes to from there
+-- the result of its reading from there
 abbrev pub reads : Reader → Option Part → List ℕ → Verdict
 reads p part rows = reading_on p.size p.words p.row p.cost p.note part rows
 
--- so many rows and orders further, in this state
+-- the reader this many rows and orders later, in this state
 abbrev pub passed : Reader → ℕ → ℕ → Note → Reader
 passed p rows orders note = record {
   size = p.size;
@@ -45,7 +46,7 @@ passed p rows orders note = record {
   note = note;
 }
 
--- behind an item, and inside one
+-- after an item, and inside one
 abbrev pub behind : Reader → Written → Reader
 behind p w = passed p (length (rows_of w)) (cost_of p.note w) (act p.words p.note (item w))
 

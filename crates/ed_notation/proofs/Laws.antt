@@ -74,7 +74,7 @@ module _ (z : Size) (words : List ℕ) (start : Note) (base : ℕ) (rows : List 
             rw (sym (row_same h), sym (cause_same h)) f.least;
       }
 
-  -- where the reader comes to an entry, no rule is broken
+  -- if the reader reaches an entry, no rule is broken
   pub arrived_well : {e : TapeEntry} → answer ≡ Arrived e → WellFormed z words start rows
   arrived_well h row cause b = let f = broken_found base set b in not_both (sym f.is ∙ h)
 
@@ -113,7 +113,7 @@ module _ (z : Size) (words : List ℕ) (start : Note) (base : ℕ) (rows : List 
   kept {n = n} well e (inr h) =
       absurd (no_fault well n (record { at = h.at; cause = h.cause; is = e ∙ h.is; before = h.before }))
 
-  -- where no rule is broken the reader comes to the entry of the items
+  -- if no rule is broken the reader reaches the entry of the items
   pub comes_arrived : (e : TapeEntry) → WellFormed z words start rows → ComesTo words start base rows e
       → answer ≡ Arrived e
   comes_arrived e well c =

@@ -30,12 +30,12 @@ is_number c = record { least = lit≤ tt; most = lit< tt }
 pub one_least : (c : TapeCause) → 1 ≤ cause_number c
 one_least c = (is_number c).least
 
--- the numbers of the list run up from n
+-- the numbers of the list ascend from n
 abbrev AreNumbered : ℕ → List TapeCause → Type 0
 AreNumbered n [] = Unit {0}
 AreNumbered n (c ∷ cs) = (cause_number c ≡ n) × AreNumbered (n + 1) cs
 
--- the first cause for which the test is true has a number no greater
+-- the first cause for which the test is true has a number that is no greater
 pub record Found (f : TapeCause → Bool) (cs : List TapeCause) (k : TapeCause) : Type 0 where
   pub found : TapeCause
   pub is : first_of f cs ≡ Some found
@@ -68,7 +68,7 @@ found_if : (f : TapeCause → Bool) (c k : TapeCause) (cs : List TapeCause) (x :
 found_if f c k cs true e ih h = let q : Some c ≡ Some k = (rw e at h) in rw (some_is c k q) at e
 found_if f c k cs false e ih h = ih (rw e at h)
 
--- and for it the test is true
+-- and the test is true for it
 pub found_is : (f : TapeCause → Bool) (cs : List TapeCause) (k : TapeCause) → first_of f cs ≡ Some k → f k ≡ true
 found_is f [] k h = cc
 found_is f (c ∷ cs) k h = found_if f c k cs (f c) refl (found_is f cs k) h

@@ -42,7 +42,7 @@ pub record Holds (words : List ℕ) (note : Note) (setting : Setting) (contents 
   pub marks_are : marked note.placed ≡ marks
   pub places : ArePlaces note.placed
 
--- where the loop stands at a row: the state of the notation there, from which the reader goes on
+-- the loop at a row: the state of the notation there, from which the reader goes on
 pub record StandsAt (k : Check) (row cost : ℕ) (setting : Setting) (part : Option Part) (contents : List ℕ)
     (marks : List Bool) : Type 0 where
   pub note : Note
@@ -190,7 +190,7 @@ module _ {k : Check} {row cost : ℕ} {setting : Setting} {contents : List ℕ} 
           locations_are = a.locations_are;
         }
 
--- where the rows end
+-- at the end of the rows
 pub at_end : {k : Check} {row cost : ℕ} {setting : Setting} {part : Option Part} {contents : List ℕ} {marks : List Bool}
     → StandsAt k row cost setting part contents marks → row ≡ length k.rows
     → IsFault k.size k.words k.start k.rows (length k.rows) EndOfTape

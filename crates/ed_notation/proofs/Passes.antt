@@ -1,4 +1,5 @@
--- Whatever the items before a row are, the reader comes to the row as the fold has it, or finds a fault before it.
+-- Whatever the items before a row are, the reader reaches the row in the state that the fold gives, or finds a fault
+-- before it.
 use Rattle.std.proofs.Common.{◌≡◌, ℕ, ◌+◌, ◌<◌, ◌≤◌, ◌⊎◌, inl, inr, refl, sym, ap, ◌∙◌, arith, lit≤, Bool, true, false}
 use Rattle.std.proofs.Common.{◌&&◌, not, nat_lt, Option, Some, None, List, []}
 use Rattle.std.proofs.Common.{◌∷◌, ◌++◌, length, length-append, append_assoc}
@@ -24,7 +25,7 @@ bad_row BadRow true h = cc
 bad_row BadRow false h = record { least = lit≤ tt; test = refl }
 bad_row cause t h = cc
 
--- the same from a verdict that is one with it
+-- the same for a verdict that is equal to it
 carried : {v w x : Verdict} {n d : ℕ} → v ≡ w → Goes w x n d → Goes v x n d
 carried e (inl h) = inl (e ∙ h.0, h.1)
 carried {n = n} e (inr h) = inr (early_later e (let l : n ≤ n = omega arith in l) h)
@@ -67,7 +68,7 @@ many (w ∷ ws) p rest set are =
     let e = ap (λ x. reads p None x) (append_assoc (rows_of w) (spelled ws) rest) in
     rw (sym l, sym k) (carried e (chained (omega arith) a ih))
 
--- and the part of an item behind them
+-- and the part of an item after them
 to_part : (p : Reader) (part : Option Begun) (rest : List ℕ) → IsPart part
     → reads p None (part_rows part ++ rest) ≡ reads (inside p part) (reader_part part) rest
 to_part p None rest is =
@@ -76,7 +77,7 @@ to_part p None rest is =
     rw (r, k) refl
 to_part p (Some b) rest is = begun_read p b rest is
 
--- where a rule is broken the reader finds a fault, with a number no greater
+-- if a rule is broken the reader finds a fault, with a number that is no greater
 record Refuses (v : Verdict) (row : ℕ) (cause : TapeCause) : Type 0 where
   found : TapeCause
   is : v ≡ Faulty row found
@@ -109,7 +110,7 @@ no_later {row = row} l (inl e) f =
     record { at = row; found = r.found; is = e.0 ∙ r.is; least = inr (refl, r.least) }
 no_later l (inr h) f = record { at = h.at; found = h.cause; is = h.is; least = inl (omega (arith, l, h.before)) }
 
--- where a tape breaks a rule the reader finds a fault, no later than it
+-- if a tape breaks a rule the reader finds a fault, no later than it
 pub broken_found : {z : Size} {words : List ℕ} {start : Note} (base : ℕ) {rows : List ℕ} {row : ℕ} {cause : TapeCause}
     → IsDirective start.directive → Breaks z words start rows row cause
     → NoLater (reading_on z words 0 base start None rows) row cause

@@ -33,13 +33,13 @@ letter_of kind h = cc
 code_of : (c : ℕ) → row_kind c ≡ Letter → c < 32
 code_of c h = grind (arith, nat_tests)
 
--- the words that items place, by θ and by what stands below 56, where the values of the letters are
+-- the words that items place, by θ and by the words below 56, which hold the values of the letters
 abbrev pub block : List ℕ → ℕ → List Item → List ℕ
 block contents theta [] = []
 block contents theta (i ∷ is) = word_with i.function i.number i.mark (value_of contents theta i.end)
     ∷ block contents theta is
 
--- words placed one after the other from a place on
+-- words placed one after the other from a location upwards
 abbrev pub laid : ℕ → List ℕ → List (ℕ × ℕ) → List (ℕ × ℕ)
 laid a [] placed = placed
 laid a (w ∷ ws) placed = laid (a + 1) ws ((a, w) ∷ placed)
@@ -49,7 +49,7 @@ abbrev pub block_cost : List Item → ℕ
 block_cost [] = 0
 block_cost (i ∷ is) = begun_cost (canonical i).begun + 17 + block_cost is
 
--- a store with words laid over it from a place on
+-- a store with words laid over it from a location upwards
 abbrev pub with_block : List ℕ → ℕ → List ℕ → List ℕ
 with_block words a ws = take a words ++ (ws ++ drop (a + length ws) words)
 
@@ -72,7 +72,7 @@ none_laid [] (suc a) h = absurd (omega arith)
 none_laid (x ∷ xs) (suc a) h = let e : suc a + 0 ≡ suc (a + 0) = omega arith
     in rw e (ap (λ l. x ∷ l) (none_laid xs a (omega arith)))
 
--- words laid one after the other stand so in the store
+-- words laid one after the other are in the store in that order
 pub over_laid : (words : List ℕ) (a : ℕ) (ws : List ℕ) (placed : List (ℕ × ℕ)) → a + length ws ≤ length words
     → over (laid a ws placed) words ≡ with_block (over placed words) a ws
 over_laid words a [] placed h = sym (none_laid (over placed words) a (omega (arith, length-over placed words)))
@@ -84,7 +84,7 @@ value_same : (xs ys : List ℕ) (theta c : ℕ) → c < 32 → ((j : ℕ) → j 
     → value_of ys theta c ≡ value_of xs theta c
 value_same xs ys theta c h same = let e = same (24 + c) (omega arith) in rw e refl
 
--- the state behind items that place words
+-- the state after items that place words
 abbrev pub behind : List ℕ → Note → ℕ → List Item → Note
 behind contents note a is = record {
   directive = 20480 + 2 * (a + length is);
@@ -92,8 +92,8 @@ behind contents note a is = record {
   placed = laid a (block contents note.theta is) note.placed;
 }
 
--- items that place words under T a K, from 56 on, are read without a fault and place their words in a row; `contents`
--- is what stands below 56
+-- items that place words under T a K, from 56 upwards, are read without a fault and place their words one after the
+-- other; `contents` are the words below 56
 pub placing_all : {z : Size} {words : List ℕ} (contents : List ℕ) {note : Note} (a : ℕ) (is : List Item)
     → all_letters is ≡ true → note.directive ≡ 20480 + 2 * a → 56 ≤ a → a + length is ≤ locations z
     → ((j : ℕ) → j < 56 → get_or (over note.placed words) j 0 ≡ get_or contents j 0)

@@ -1,4 +1,4 @@
--- A tape is well formed where its items break no rule, and only there.
+-- A tape is well formed if and only if its items break no rule.
 use Rattle.std.proofs.Common.{◌≡◌, ℕ, ◌+◌, refl, sym, ap, ◌∙◌, arith, Bool, true, false, subst, None, Some, List, []}
 use Rattle.std.proofs.Common.{◌∷◌, ◌++◌}
 use Rattle.std.proofs.Common.{length, length-append, append_assoc}
@@ -54,7 +54,7 @@ many (w ∷ ws) p rest set are sound =
     let e = ap (λ x. reads p None x) (append_assoc (rows_of w) (spelled ws) rest) in
     rw (sym l, sym k) (e ∙ a.0 ∙ ih.0, ih.1)
 
--- it comes to the entry item
+-- it reaches the entry item
 last_read : (p : Reader) (w : Written) (rest : List ℕ) → IsDirective p.note.directive → IsWritten w
     → is_entry p.note (item w) ≡ true → EndsSound p.size p.words p.note w
     → reads p None (rows_of w ++ rest)

@@ -80,7 +80,7 @@ module _ (z : Size) (words : List ℕ) where
             ∙ ap (λ k. k + costs words m ws) a.costs_are ∙ ap (λ k. c + k) b.costs_are;
       }
 
-  -- K breaks no rule where its function sets something and its number is a place
+  -- K breaks no rule if its function sets something and its number is a location
   pub kay_sound : (note : Note) (f n : ℕ) → bad_kay (control_of f) ≡ false → n ≤ 1023
       → EndsSound z words note (canonical (plain f n 14))
   kay_sound note f n good few BadControl = good
@@ -97,7 +97,7 @@ module _ (z : Size) (words : List ℕ) where
       → Does note (plain 3 p 14) (record note { directive = 12288 + 2 * p })
   aiming_entry note p h = record { goes_on = refl; sound = kay_sound note 3 p refl h; acts = refl }
 
-  -- G K under a T directive: θ is twice the place
+  -- G K under a T directive: θ is twice the location
   pub setting_theta : (note : Note) (p : ℕ) → p ≤ 1023 → note.directive ≡ 20480 + 2 * p
       → Does note (plain 27 0 14) (record note { theta = 2 * p })
   setting_theta note p h d = record {

@@ -1,4 +1,4 @@
--- Whatever the reader answers, there are items that say so.
+-- Whatever the reader answers, there are items that say the same.
 use Rattle.std.proofs.Common.{◌≡◌, ℕ, ◌+◌, refl, sym, ap, ◌∙◌, subst, arith, lit≤, Bool, true, false, nat_lt}
 use Rattle.std.proofs.Common.{Option, Some, None, List, [], ◌∷◌, ◌++◌, length, length-append, append_assoc}
 use Rattle.ed_notation.specs.declared.cause.TapeCause.{TapeCause}
@@ -17,7 +17,7 @@ use Rattle.ed_notation.proofs.Follow.{Reader, reads, passed, behind, inside, fol
 use Rattle.ed_notation.proofs.Follow.{reader_part, function_read}
 use Rattle.ed_words.proofs.Numbers.{lt_of}
 
--- what is told of the rows of a tape by items from where the reader stands: the fault, or the entry
+-- what items say of the rows of a tape, from where the reader is: the fault, or the entry
 pub record TellsFault (p : Reader) (tape : List ℕ) (row : ℕ) (cause : TapeCause) : Type 0 where
   pub offset : ℕ
   pub row_is : row ≡ p.row + offset
@@ -32,7 +32,7 @@ abbrev pub Tells : Reader → List ℕ → Verdict → Type 0
 Tells p tape (Faulty row cause) = TellsFault p tape row cause
 Tells p tape (Arrived e) = TellsEntry p tape e
 
--- an item before what is told
+-- one more item before rows whose verdict is known
 before : (p : Reader) (w : Written) (rows : List ℕ) (v : Verdict) → IsWritten w → is_entry p.note (item w) ≡ false
     → Tells (behind p w) rows v → Tells p (rows_of w ++ rows) v
 before p w rows (Faulty row cause) good goes t =
@@ -78,7 +78,7 @@ before p w rows (Arrived e) good goes t =
       };
     }
 
--- a rule that is broken behind a part of an item
+-- a rule that is broken after a part of an item
 at_end : (p : Reader) (part : Option Begun) (rest : List ℕ) (cause : TapeCause) → IsPart part
     → broken p.size p.words p.note part rest cause ≡ true
     → TellsFault p (part_rows part ++ rest) (inside p part).row cause
@@ -99,7 +99,7 @@ at_end p part rest cause is h = record {
   };
 }
 
--- what is told of rows behind every part of an item
+-- what is known of rows after every part of an item
 abbrev Told : List ℕ → Type 0
 Told rows = (p : Reader) (part : Option Begun) → IsDirective p.note.directive → IsPart part
     → Tells p (part_rows part ++ rows) (reads (inside p part) (reader_part part) rows)

@@ -88,7 +88,7 @@ text_spells (w ∷ ws) h =
 pub text_reads : (ws : List Written) → AreWritten ws → reading (text_of ws) ≡ rows (spelled ws)
 text_reads ws h = has_one_reading.only (text_of ws) (rows (spelled ws)) (text_spells ws h)
 
--- behind the last line
+-- after the last line
 pub text_end : (is : List Item) (text : List ℕ) (k : ℕ) → length is ≤ k
     → text ++ text_of (canonicals (drop k is)) ≡ text_of (canonicals is) → text ≡ text_of (canonicals is)
 text_end is text k l h =

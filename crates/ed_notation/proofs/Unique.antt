@@ -11,7 +11,7 @@ use Rattle.ed_notation.specs.Items.{ends, item, items}
 use Rattle.ed_notation.specs.Spellings.{AreWritten, SpellsAll, NoSpellingBeginsAnother}
 use Rattle.ed_notation.proofs.Tests.{RowMeans, row_means}
 
--- an ending row is 13 at least
+-- an ending row is at least 13
 ends_high : (b : Begun) (c : ℕ) → ends (row_kind c) b ≡ true → 13 ≤ c
 ends_high b c = by_kind (row_kind c) (row_means c)
   where
@@ -33,7 +33,7 @@ record Same (ds ds' : List ℕ) (m m' : Bool) (e e' : ℕ) (a a' : List ℕ) : T
   end : e ≡ e'
   rest : a ≡ a'
 
--- the rows behind a function row
+-- the rows after a function row
 tails : {ds ds' : List ℕ} {m m' : Bool} {e e' : ℕ} {a a' : List ℕ} → AreDigits ds → AreDigits ds' → 13 ≤ e → 13 ≤ e'
     → ds ++ (mark_rows m ++ (e ∷ a)) ≡ ds' ++ (mark_rows m' ++ (e' ∷ a')) → Same ds ds' m m' e e' a a'
 tails {ds = []} {ds' = []} {m = true} {m' = true} p q h k x =

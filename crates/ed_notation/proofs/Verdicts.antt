@@ -1,4 +1,4 @@
--- A list of rows comes to one entry, or has one fault.
+-- A list of rows reaches one entry, or has one fault.
 use Rattle.std.proofs.Common.{◌≡◌, ℕ, sym, ◌∙◌, List}
 use Rattle.ed_words.specs.declared.size.Size.{Size}
 use Rattle.ed_notation.specs.Fold.{Note}

@@ -44,7 +44,7 @@ faults :
     × IsRefused Small (codes "T511KPFPF") 8 StoreEnd
     -- no entry
     × IsRefused Full (codes "T511KPFPF") 9 EndOfTape
-    -- a number too large, and a word for the loader's place
+    -- a number too large, and a word for a location of the loader
     × IsRefused Full (codes "P32768F") 5 NumberTooLarge
     × IsRefused Full (codes "T20KPF") 5 LoaderStore
     -- blanks that are no pair
@@ -71,7 +71,7 @@ entries :
     × (entered (whole Full (codes "T64KP32767DE64KPF")) ≡ 64 ∷ 176 ∷ 17 ∷ [])
     × (entered (whole Full (codes "T64KGKA2#@EZPF")) ≡ 64 ∷ 160 ∷ 14 ∷ [])
     × (entered (whole Full (codes "T45KP100FT64KA1HE64KPF")) ≡ 64 ∷ 230 ∷ 22 ∷ [])
-    -- a directive in place of another
+    -- a directive instead of another
     × (entered (whole Full (codes "T20KT64KPFE64KPF")) ≡ 64 ∷ 171 ∷ 16 ∷ [])
     -- two blanks, three, and two under a place
     × (entered (whole Full (codes "..PKT64KGKO2@ZFAFEZPF")) ≡ 64 ∷ 233 ∷ 21 ∷ [])

@@ -1,4 +1,4 @@
--- What a check answers.
+-- The answers of a check.
 use Rattle.std.specs.Prelude.{ℕ, ◌≡◌, ◌<◌, Bool, true, false, List, [], ◌∷◌, slice_index}
 use Rattle.std.specs.Prelude.{slice_set, replicate, Result, Ok, Err, length, unwrap_or}
 use Rattle.ed_words.specs.declared.size.Size.{Size}
@@ -10,8 +10,8 @@ use Rattle.ed_notation.specs.Openings.{opening_with}
 use Rattle.ed_notation.specs.Faults.{TapeEntry, IsFault, WellFormed, ComesTo, EndsSound, AreSound}
 use Rattle.ed_notation.specs.Reports.{Report, word_in}
 
--- the answer for a well-formed tape: no rule is broken at any row, there are items that the first rows spell and that
--- the fold takes without a fault, the last alone an entry item, and the report is what their fold tells
+-- the answer for a well-formed tape: no rule is broken at any row; the first rows spell items that the fold takes
+-- without a fault, and only the last is an entry item; the report is what their fold gives
 pub record Accepts (z : Size) (words : List ℕ) (start : Note) (base : ℕ) (rows : List ℕ) (r : Report) : Type 0 where
   pub well : WellFormed z words start rows
   pub entry : TapeEntry
@@ -30,23 +30,23 @@ AnswersCheck z words start base rows (Ok r) = Accepts z words start base rows r
 AnswersCheck z words start base rows (Err (At row cause)) = IsFault z words start rows row cause
 AnswersCheck z words start base rows (Err Memory) = Unit {0}
 
--- where words were placed
+-- for each location, whether a word was placed there
 abbrev pub marked : List (ℕ × ℕ) → List Bool
 marked [] = replicate 1024 false
 marked (p ∷ placed) = slice_set (marked placed) p.0 true
 
--- the places are locations
+-- all words are placed at locations of the store
 abbrev pub ArePlaces : List (ℕ × ℕ) → Type 0
 ArePlaces [] = Unit {0}
 ArePlaces (p ∷ placed) = (p.0 < 1024) × ArePlaces placed
 
--- the content of a location is the word that was placed there, and else the store's
+-- the content of a location is the word that was placed there, or the store's if none was
 abbrev pub ContentIsMapOrStore : Type 0
 ContentIsMapOrStore =
     (words : List ℕ) → length words ≡ 1024 → (placed : List (ℕ × ℕ)) (a : ℕ) → ArePlaces placed
     → slice_index (over placed words) a ≡ unwrap_or (placed_at placed a) (slice_index words a)
 
--- what the reading of a well-formed tape leaves: the contents of all locations, and where words were placed
+-- the state after the reading of a well-formed tape: the contents of all locations, and where words were placed
 pub record Arrives (z : Size) (words : List ℕ) (start : Note) (base : ℕ) (rows : List ℕ) (r : Reached)
     (contents : List ℕ) (marks : List Bool) : Type 0 where
   pub well : WellFormed z words start rows
@@ -61,7 +61,7 @@ pub record Arrives (z : Size) (words : List ℕ) (start : Note) (base : ℕ) (ro
   pub places : ArePlaces entry.note.placed
   pub locations_are : length words ≡ 1024
 
--- the answer of a reading over a copy of the store, with what it leaves there
+-- the answer of a reading on a copy of the store, and the state of that copy after it
 abbrev pub ReadsCopy : Size → List ℕ → ℕ → ℕ → List ℕ → Result Reached TapeFault → List ℕ → List Bool → Type 0
 ReadsCopy z words directive base rows (Ok r) contents marks =
     Arrives z words (opening_with directive words) base rows r contents marks

@@ -1,5 +1,5 @@
--- Where a tape is well formed, and where and what its fault is (this project's own rules: what the Initial Orders would
--- do with such a tape is no notation).
+-- When a tape is well formed, and otherwise where its fault is and which (this project's own rules; what the Initial
+-- Orders would do with a faulty tape is not part of the notation).
 use Rattle.std.specs.Prelude.{ℕ, ◌≡◌, ◌⊎◌, ◌+◌, ◌*◌, ◌%◌, ◌<◌, ◌≤◌, Bool, true}
 use Rattle.std.specs.Prelude.{false, ◌&&◌, ◌||◌, not, nat_eq, nat_lt, nat_le}
 use Rattle.std.specs.Prelude.{Option, Some, None, List, [], ◌∷◌, ◌++◌, length}
@@ -23,7 +23,7 @@ use Rattle.ed_notation.specs.Items.{is_blank_row, item, item_of, items}
 use Rattle.ed_notation.specs.Fold.{Note, item_word, address, control_of, aim_of}
 use Rattle.ed_notation.specs.Fold.{enters_at, act, is_entry, fold, costs, cost_of}
 
--- the numbers of the rules; of two rules broken at one row the less is the fault
+-- the numbers of the rules; if two rules are broken at one row, the one with the lesser number is the fault
 abbrev pub cause_number : TapeCause → ℕ
 cause_number EndOfTape = 1
 cause_number BadRow = 2
@@ -36,7 +36,7 @@ cause_number NoPlace = 8
 cause_number EntryNegative = 9
 cause_number EntryInLoader = 10
 
--- an order P, E or T with no length digit and an address below 1024
+-- whether a word is an order P, E or T with length digit F and an address below 1024
 abbrev pub is_place : ℕ → Bool
 is_place x =
     nat_eq (x % 2) 0 && (nat_lt x 2048 || ((nat_le 12288 x && nat_lt x 14336) || (nat_le 20480 x && nat_lt x 22528)))
@@ -52,7 +52,7 @@ bad_zed Neither = true
 bad_zed ThetaByG = true
 bad_zed control = false
 
--- whether what Z would set goes past the store: a directive that is no place, or a sum for θ of 65536 or more
+-- whether what Z would set is out of range: a directive that `is_place` refuses, or a sum for θ of 65536 or more
 abbrev pub past_zed : Control → Note → Item → Bool
 past_zed Directive note i = not (is_place (4096 * i.function + 2 * i.number + note.theta))
 past_zed ThetaByBlank note i = nat_le 65536 (2 * i.number + note.theta)
@@ -63,12 +63,12 @@ abbrev pub places_at : Aim → Bool
 places_at Places = true
 places_at aim = false
 
--- whether a code letter has no place to go to, under a P directive
+-- whether a code letter has no location to go to, under a P directive
 abbrev pub is_nowhere : Aim → Bool
 is_nowhere Nowhere = true
 is_nowhere aim = false
 
--- whether the row c, of this kind, breaks the rule behind the rows of b: one line for each case of a rule
+-- whether the row c, of this kind, breaks the rule after the rows of b: one line for each case of a rule
 abbrev pub breaks : TapeCause → RowKind → Size → List ℕ → Note → Begun → ℕ → Bool
 breaks BadRow Other z words note b c = true
 breaks BadRow Blank z words note b c = not (is_blank_row b)
@@ -89,17 +89,17 @@ breaks EntryNegative Letter z words note b c =
 breaks EntryInLoader Letter z words note b c = enters_at (aim_of note.directive) && nat_lt (address note.directive) 44
 breaks cause kind z words note b c = false
 
--- whether the rule is the first one, that the rows go on
+-- whether the rule is the first one: the tape must not end here
 abbrev pub is_end_of_tape : TapeCause → Bool
 is_end_of_tape EndOfTape = true
 is_end_of_tape cause = false
 
--- whether the rule is the second one, on rows that stand in no item
+-- whether the rule is the second one, which rows between items can break
 abbrev pub is_bad_row : TapeCause → Bool
 is_bad_row BadRow = true
 is_bad_row cause = false
 
--- whether the rule is broken where so much of an item has been read and these rows are left
+-- whether the rule is broken when this part of an item has been read and these rows are left
 abbrev pub broken : Size → List ℕ → Note → Option Begun → List ℕ → TapeCause → Bool
 broken z words note part [] cause = is_end_of_tape cause
 broken z words note None (c ∷ rest) cause = is_bad_row cause && not (nat_lt c 32)
@@ -111,17 +111,17 @@ AreRead words note [] = Unit {0}
 AreRead words note (w ∷ ws) = IsWritten w × (is_entry note (item w) ≡ false)
     × AreRead words (act words note (item w)) ws
 
--- the rows of a part of an item, none between two items
+-- the rows of a part of an item; there are none between two items
 abbrev pub part_rows : Option Begun → List ℕ
 part_rows None = []
 part_rows (Some b) = begun_rows b
 
--- a part of an item is so far without a fault
+-- a part of an item is without a fault so far
 abbrev pub IsPart : Option Begun → Type 0
 IsPart None = Unit {0}
 IsPart (Some b) = IsBegun b
 
--- a row as it is read: behind whole items, none of them an entry item, and a part of its own item
+-- the row is read: whole items come before it, no entry item among them, and then a part of its own item
 pub record IsRead (words : List ℕ) (start : Note) (rows : List ℕ) (row : ℕ) : Type 0 where
   pub before : List Written
   pub part : Option Begun
@@ -137,7 +137,7 @@ pub record Breaks (z : Size) (words : List ℕ) (start : Note) (rows : List ℕ)
   pub stands : IsRead words start rows row
   pub breaks : broken z words (fold words start (items stands.before)) stands.part stands.rest cause ≡ true
 
--- the fault of a tape: the least row at which a rule is broken, and there the rule with the least number
+-- the fault of a tape: the first row at which a rule is broken, and the rule with the least number broken there
 pub record IsFault (z : Size) (words : List ℕ) (start : Note) (rows : List ℕ) (row : ℕ) (cause : TapeCause) :
     Type 0 where
   pub is : Breaks z words start rows row cause
@@ -148,8 +148,8 @@ pub record IsFault (z : Size) (words : List ℕ) (start : Note) (rows : List ℕ
 abbrev pub WellFormed : Size → List ℕ → Note → List ℕ → Type 0
 WellFormed z words start rows = (row : ℕ) (cause : TapeCause) → Breaks z words start rows row cause → ⊥
 
--- the entry that a tape comes to: its address, the entry item and its word, the cost in orders and the rows read up to
--- it, the state of the notation there, and the rows that are left
+-- the entry that a tape reaches: its address, the entry item and its word, the cost in orders and the number of rows
+-- read up to it, the state of the notation there, and the rows that are left
 pub record TapeEntry : Type 0 where
   pub at : ℕ
   pub word : ℕ
@@ -159,8 +159,8 @@ pub record TapeEntry : Type 0 where
   pub last : Item
   pub rest : List ℕ
 
--- the first rows of the tape spell items of which the last alone is an entry item, and the entry is what their fold
--- tells; `base` is the cost before the first row
+-- the first rows of the tape spell items, only the last of them an entry item, and the entry is what their fold gives;
+-- `base` is the cost before the first row
 pub record ComesTo (words : List ℕ) (start : Note) (base : ℕ) (rows : List ℕ) (e : TapeEntry) : Type 0 where
   pub before : List Written
   pub last : Written

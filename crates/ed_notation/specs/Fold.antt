@@ -1,5 +1,5 @@
 -- What items do one after the other, and what reading them costs (Wilkes, Wheeler and Gill 1951, and what the Initial
--- Orders do). No machine is spoken of: the state of the notation is a directive, θ and a finite map over a store.
+-- Orders do). No machine is involved: the state of the notation is a directive, θ and a finite map over a store.
 use Rattle.std.specs.Prelude.{ℕ, ◌+◌, ◌*◌, ◌/◌, ◌%◌, ◌^◌, Bool, true, false, ◌||◌, nat_eq, if◌then◌else◌, Option}
 use Rattle.std.specs.Prelude.{Some, None, List, [], ◌∷◌, length, slice_index, slice_set}
 use Rattle.ed_words.specs.Words.{digit}
@@ -12,7 +12,7 @@ use Rattle.ed_notation.specs.declared.kind.Aim.{Aim}
 use Rattle.ed_notation.specs.declared.kind.Aim.TheVariants.{Places, Enters, Nowhere, Unset}
 use Rattle.ed_notation.specs.Items.{row_kind, Begun, Written, item}
 
--- the state of the notation: the directive, θ, and the words placed so far with their places, the last one first
+-- the state of the notation: the directive, θ, and the words placed so far with their locations, the latest first
 pub record Note : Type 0 where
   pub directive : ℕ
   pub theta : ℕ
@@ -23,12 +23,12 @@ abbrev pub placed_at : List (ℕ × ℕ) → ℕ → Option ℕ
 placed_at [] a = None
 placed_at (p ∷ placed) a = if nat_eq p.0 a then Some p.1 else placed_at placed a
 
--- the contents of all locations: the map's where it has the location, and else the store's
+-- the contents of all locations: the word placed there last, or the store's if none was
 abbrev pub over : List (ℕ × ℕ) → List ℕ → List ℕ
 over [] words = words
 over (p ∷ placed) words = slice_set (over placed words) p.0 p.1
 
--- the value of a code letter over the contents: 0 for F, θ for θ, 1 for D, and else the content of location 24 + code
+-- the value of a code letter over the contents: 0 for F, θ for θ, 1 for D, else the content of location 24 + code
 abbrev pub value_of : List ℕ → ℕ → ℕ → ℕ
 value_of contents theta c =
     if nat_eq c 17 then 0
@@ -36,7 +36,7 @@ value_of contents theta c =
     else if nat_eq c 19 then 1
     else slice_index contents (24 + c)
 
--- the word of a function, a number, a mark and the value of a code letter
+-- the word with this function, number and mark, and the value of a code letter added
 abbrev pub word_with : ℕ → ℕ → Bool → ℕ → ℕ
 word_with function number mark value = (4096 * function + 2 * number + digit mark + value) % 2 ^ 17
 
@@ -75,7 +75,7 @@ abbrev pub with_zed : Control → Note → Item → Note
 with_zed ThetaByBlank note i = record note { theta = (65536 + 2 * i.number + note.theta + note.directive) % 2 ^ 17 }
 with_zed control note i = record note { directive = 4096 * i.function + 2 * i.number + note.theta }
 
--- a code letter: nothing is set at an entry; else the word is placed, and the directive moves on
+-- a code letter: at an entry it sets nothing; otherwise the word is placed, and the directive advances by one location
 abbrev pub with_letter : Aim → Note → ℕ → Note
 with_letter Enters note word = note
 with_letter aim note word = record {
@@ -92,11 +92,11 @@ acted Zed words note i = with_zed (control_of i.function) note i
 acted Letter words note i = with_letter (aim_of note.directive) note (item_word words note i)
 acted kind words note i = note
 
--- the state behind an item
+-- the state after an item
 abbrev pub act : List ℕ → Note → Item → Note
 act words note i = acted (row_kind i.end) words note i
 
--- the state behind items one after the other
+-- the state after items one after the other
 abbrev pub fold : List ℕ → Note → List Item → Note
 fold words note [] = note
 fold words note (i ∷ is) = fold words (act words note i) is
@@ -115,12 +115,12 @@ entering kind note = false
 abbrev pub is_entry : Note → Item → Bool
 is_entry note i = entering (row_kind i.end) note
 
--- the orders that read the rows before an ending row: 6 for the function row, 9 a digit row, 15 for π
+-- the number of orders that read the rows before an ending row: 6 for the function row, 9 for each digit row, 15 for π
 abbrev pub begun_cost : Begun → ℕ
 begun_cost b = 6 + 9 * length b.digits + 15 * digit b.mark
 
--- the orders that read an ending row: 16 for K, 17 for Z, 14 for the second blank of a pair, and for a code letter 13
--- at the entry item and else 17
+-- the number of orders that read an ending row: 16 for K, 17 for Z, 14 for the second blank of a pair, and for a code
+-- letter 13 at the entry item and 17 elsewhere
 abbrev pub end_cost : RowKind → Note → ℕ
 end_cost Kay note = 16
 end_cost Zed note = 17
@@ -128,11 +128,11 @@ end_cost Blank note = 14
 end_cost Letter note = if enters_at (aim_of note.directive) then 13 else 17
 end_cost kind note = 0
 
--- the orders that read an item
+-- the number of orders that read an item
 abbrev pub cost_of : Note → Written → ℕ
 cost_of note w = begun_cost w.begun + end_cost (row_kind w.end) note
 
--- the orders that read items one after the other
+-- the number of orders that read items one after the other
 abbrev pub costs : List ℕ → Note → List Written → ℕ
 costs words note [] = 0
 costs words note (w ∷ ws) = cost_of note w + costs words (act words note (item w)) ws

@@ -1,7 +1,7 @@
--- Items of the tape and the rows that spell them (Wilkes, Wheeler and Gill 1951; that a number stays at most 32767, and
--- that a blank row stands inside no item but a blank pair, are this project's own rules).
--- Rows are whole numbers here. One of 32 or more is no row and breaks a rule wherever it is read; no tape has such a
--- row.
+-- Items of the tape and the rows that spell them (Wilkes, Wheeler and Gill 1951; that a number is at most 32767, and
+-- that no blank row stands inside an item other than a blank pair, are this project's own rules).
+-- Rows are natural numbers here. A number of 32 or more is not a row and breaks a rule wherever it is read; no real
+-- tape has one.
 use Rattle.std.specs.Prelude.{ℕ, ◌≡◌, ◌+◌, ◌*◌, ◌<◌, ◌≤◌, Bool, true, false}
 use Rattle.std.specs.Prelude.{◌&&◌, not, nat_eq, nat_lt, nat_le, if◌then◌else◌}
 use Rattle.std.specs.Prelude.{List, [], ◌∷◌, ◌++◌}
@@ -9,7 +9,7 @@ use Rattle.ed_notation.specs.declared.item.Item.{Item}
 use Rattle.ed_notation.specs.declared.kind.RowKind.{RowKind}
 use Rattle.ed_notation.specs.declared.kind.RowKind.TheVariants.{Digit, Mark, Zed, Kay, Blank, Letter, Other}
 
--- what a row is inside an item, behind its function row: the digits 0 to 9, π, Z, K, blank and the code letters
+-- the kind of a row inside an item, after its function row: the digits 0 to 9, π, Z, K, blank and the code letters
 abbrev pub row_kind : ℕ → RowKind
 row_kind c =
     if nat_lt c 10 then Digit
@@ -20,18 +20,18 @@ row_kind c =
     else if nat_le 17 c && nat_lt c 32 then Letter
     else Other
 
--- an item as far as it has been punched: its function row, its digit rows, and whether a π stands behind them
+-- an item as far as it has been punched: its function row, its digit rows, and whether a π follows them
 pub record Begun : Type 0 where
   pub function : ℕ
   pub digits : List ℕ
   pub mark : Bool
 
--- a whole item as it stands on the tape
+-- a whole item, row by row
 pub record Written : Type 0 where
   pub begun : Begun
   pub end : ℕ
 
--- the number n with these digits behind it
+-- the number n with these digits appended
 abbrev pub digits_number : ℕ → List ℕ → ℕ
 digits_number n [] = n
 digits_number n (d ∷ ds) = digits_number (10 * n + d) ds
@@ -70,7 +70,7 @@ pub record IsBegun (b : Begun) : Type 0 where
   pub digits : AreDigits b.digits
   pub fits : digits_number 0 b.digits ≤ 32767
 
--- whether it is a function row 16 and no more
+-- whether it is a function row 16 alone
 abbrev pub is_blank_row : Begun → Bool
 is_blank_row b = is_empty b.digits && (not b.mark && nat_eq b.function 16)
 

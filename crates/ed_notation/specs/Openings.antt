@@ -1,12 +1,12 @@
--- Where the reading of a tape begins (Wilkes, Wheeler and Gill 1951, and what the Initial Orders do).
+-- The states in which the reading of a tape begins (Wilkes, Wheeler and Gill 1951, and what the Initial Orders do).
 use Rattle.std.specs.Prelude.{ℕ, ◌≢◌, ◌≤◌, ◌/◌, List, [], slice_index}
 use Rattle.ed_notation.specs.Fold.{Note}
 
--- the state from which the rest of a tape is read under a directive: θ is the content of location 42, no word is placed
+-- the state in which the rest of a tape is read under a directive: θ is the content of location 42, no word is placed
 abbrev pub opening_with : ℕ → List ℕ → Note
 opening_with directive words = record { directive = directive; theta = slice_index words 42; placed = [] }
 
--- the state from which a whole tape is read: its directive is T 44 F
+-- the state in which a whole tape is read: its directive is T 44 F
 abbrev pub opening : List ℕ → Note
 opening words = opening_with 20568 words
 

@@ -1,5 +1,5 @@
--- The reading of a tape row by row: the plain program beside the rules over items. That both say the same of every tape
--- is `ReadingAlwaysIsRules`, at the end, which the contract of `check` has.
+-- The reading of a tape row by row, a plain program beside the rules over items. `ReadingAlwaysIsRules`, at the end,
+-- says that both agree on every tape; the contract of `check` states it.
 use Rattle.std.specs.Prelude.{ℕ, ◌≡◌, ◌⊎◌, ◌+◌, ◌*◌, ◌%◌, ◌^◌, true, false, nat_eq, nat_lt, nat_le, ◌<◌, ◌≤◌}
 use Rattle.std.specs.Prelude.{if◌then◌else◌, Option, Some, None, List, [], ◌∷◌}
 use Rattle.ed_words.specs.declared.size.Size.{Size}
@@ -45,7 +45,7 @@ kay_sets control setting part =
     if nat_lt 1023 part.number then Refused StoreEnd
     else Ended (record setting { theta = (4096 * part.function + 2 * part.number + setting.directive) % 2 ^ 17 }) 16
 
--- the row K, which a mark before it forbids
+-- the row K, which may not follow a mark
 abbrev pub kay_taken : Control → Setting → Part → Taken
 kay_taken control setting part = if part.mark then Refused BadControl else kay_sets control setting part
 
@@ -60,7 +60,7 @@ zed_sets ThetaByBlank setting part =
     else Ended (record setting { theta = (65536 + 2 * part.number + setting.theta + setting.directive) % 2 ^ 17 }) 17
 zed_sets control setting part = Refused BadControl
 
--- the row Z, which a mark before it forbids
+-- the row Z, which may not follow a mark
 abbrev pub zed_taken : Control → Setting → Part → Taken
 zed_taken control setting part = if part.mark then Refused BadControl else zed_sets control setting part
 
@@ -98,12 +98,12 @@ taken z Letter contents setting part c =
     letter_taken z (aim_of setting.directive) setting (part_word contents setting part c)
 taken z Other contents setting part c = Refused BadRow
 
--- what a tape comes to
+-- the result of reading a tape
 pub data Verdict : Type 0 where
   Faulty : ℕ → TapeCause → Verdict
   Arrived : TapeEntry → Verdict
 
--- an item of which the function row alone has been read
+-- an item whose function row alone has been read
 abbrev pub part_of : ℕ → Part
 part_of f = record { function = f; number = 0; mark = false; blank = nat_eq f 16 }
 
@@ -135,7 +135,7 @@ entry_by words row cost note part c rest at = record {
   rest = rest;
 }
 
--- the reading of the rows from a row on, between two items or inside one
+-- the reading of these rows, between two items or inside one; the first of them is row number `row`
 unfoldable pub reading_on : Size → List ℕ → ℕ → ℕ → Note → Option Part → List ℕ → Verdict
 reading_on z words row cost note part [] = Faulty row EndOfTape
 reading_on z words row cost note None (f ∷ rows) =
@@ -165,7 +165,7 @@ IsTaken setting (Ended next k) = k ≤ 17
 IsTaken setting (Placed at word) = (at < 1024) × (setting.directive < 24576)
 IsTaken setting (Entered at) = at < 1024
 
--- the reading and the rules over items say the same of every tape, from every opening state
+-- the reading and the rules over items agree on this tape, from this opening state
 pub record ReadingIsRules (z : Size) (words : List ℕ) (start : Note) (base : ℕ) (rows : List ℕ) : Type 0 where
   pub faulty : (row : ℕ) (cause : TapeCause) → reading_on z words 0 base start None rows ≡ Faulty row cause
       → IsFault z words start rows row cause
@@ -175,7 +175,7 @@ pub record ReadingIsRules (z : Size) (words : List ℕ) (start : Note) (base : �
   pub comes : (e : TapeEntry) → reading_on z words 0 base start None rows ≡ Arrived e → ComesTo words start base rows e
   pub arrived : (e : TapeEntry) → WellFormed z words start rows → ComesTo words start base rows e
       → reading_on z words 0 base start None rows ≡ Arrived e
-  -- every tape is well formed and comes to an entry, or has a fault
+  -- every tape is well formed and reaches an entry, or has a fault
   pub either : (WellFormed z words start rows × ((e : TapeEntry) × ComesTo words start base rows e))
       ⊎ ((row : ℕ) × (cause : TapeCause) × IsFault z words start rows row cause)
 

@@ -18,7 +18,7 @@ pub record SpellsAll (is : List Item) (rows : List ℕ) : Type 0 where
   pub items_are : items written ≡ is
   pub rows_are : spelled written ≡ rows
 
--- the digit of a number at a power of ten, none where the number is less
+-- the digit of a number at a power of ten, or no digit if the number is less than the power
 abbrev pub digit_at : ℕ → ℕ → List ℕ
 digit_at p n = if nat_le p n then (n / p % 10) ∷ [] else []
 
@@ -48,7 +48,7 @@ abbrev pub AreSpellable : List Item → Type 0
 AreSpellable [] = Unit {0}
 AreSpellable (i ∷ is) = (is_spellable i ≡ true) × AreSpellable is
 
--- the digits have no zero at their head
+-- the digits don't begin with a zero
 abbrev pub NoLeadingZero : List ℕ → Type 0
 NoLeadingZero [] = Unit {0}
 NoLeadingZero (d ∷ ds) = d ≢ 0
@@ -74,8 +74,8 @@ pub record SpellableIsSpelled (i : Item) : Type 0 where
   pub spelled : is_spellable i ≡ true → (rows : List ℕ) × SpellsItem i rows
   pub spellable : (rows : List ℕ) → SpellsItem i rows → is_spellable i ≡ true
 
--- the bytes of an item's rows from one on and a line feed: the function row is a letter or sign, a digit row a digit,
--- and every other row a letter or sign
+-- the bytes of an item's rows, from some row on, and a line feed: the function row is a letter or sign, a digit row a
+-- digit, and every other row a letter or sign
 abbrev pub line_from : Bool → List ℕ → List ℕ
 line_from as_digit [] = 10 ∷ []
 line_from as_digit (c ∷ rows) = byte_of c as_digit ∷ line_from true rows

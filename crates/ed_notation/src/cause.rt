@@ -1,9 +1,10 @@
-/// Why a tape is not well formed, in the order of the rules' numbers: of two rules broken at one row the first is told.
+/// Why a tape is not well formed, in the order of the rules' numbers: if two rules are broken at one row, the first is
+/// reported.
 #[derive(Clone, Copy, Debug, PartialEq, Eq)]
 pub enum TapeCause {
-    /// The rows end before an entry item is whole.
+    /// The rows end before an entry item is complete.
     EndOfTape,
-    /// A row that no item has there: J, S or erase inside an item, or a blank that makes no blank pair.
+    /// A row that is not allowed there: J, S or erase inside an item, or a blank that makes no blank pair.
     BadRow,
     /// A digit row that brings the number above 32767.
     NumberTooLarge,
@@ -13,7 +14,7 @@ pub enum TapeCause {
     BadControl,
     /// A word to be placed below location 44.
     LoaderStore,
-    /// A word or an entry past the store's end, or a K or Z whose number or sum is too large.
+    /// A word or an entry beyond the end of the store, or a K or Z whose number or sum is too large.
     StoreEnd,
     /// A code letter under a P directive.
     NoPlace,
@@ -28,7 +29,7 @@ pub enum TapeCause {
 pub enum TapeFault {
     /// The fault of the tape. Rows count from 0.
     At {
-        /// The row, which is the number of rows where the tape ends too early.
+        /// The row; if the tape ends too early, the number of rows.
         row: usize,
         /// The rule that is broken there.
         cause: TapeCause,

@@ -6,7 +6,7 @@ use ed_store::Store;
 use ed_words::Word;
 use std::marker::Model;
 
-/// What `check` tells of a well-formed tape.
+/// What `check` reports of a well-formed tape.
 #[derive(Drop)]
 pub struct Checked {
     reached: Reached,
@@ -33,7 +33,7 @@ impl Model for Checked {
 }
 
 impl Checked {
-    /// Where a tape was entered, with the store that it left and where it placed words.
+    /// The entry of a tape, the store that the tape left, and where it placed words.
     pub(crate) fn new(reached: Reached, contents: Store, placed: Vec<bool>) -> Checked
         requires { length placed.items ≡ 1024 }
         ensures { result ≡ record {
@@ -59,14 +59,14 @@ impl Checked {
         self.reached.entry
     }
 
-    /// How many orders read the tape up to the entry.
+    /// The number of orders that read the tape up to the entry.
     pub fn orders(&self) -> u64
         ensures { result ≡ self.now.orders }
     {
         self.reached.orders
     }
 
-    /// How many rows were read up to the entry item's end.
+    /// The number of rows read up to the entry item's end.
     pub fn rows(&self) -> usize
         ensures { result ≡ self.now.rows }
     {
@@ -80,7 +80,7 @@ impl Checked {
         self.reached.theta
     }
 
-    /// The last word that the tape placed at an address, and none where it placed none.
+    /// The last word that the tape placed at an address; None if it placed none there.
     pub fn word(&self, a: u16) -> Option<Word>
         requires { a < 1024 }
         ensures { result ≡ word_in self.now a }

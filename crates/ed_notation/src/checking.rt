@@ -11,16 +11,16 @@ use ed_store::Store;
 use ed_words::{Size, Word};
 use std::alloc::Global;
 
-/// How many locations a store has.
+/// The number of locations of a store.
 const LOCATIONS: usize = 1024;
 
 /// The word of T 44 F, the directive that the Initial Orders begin with.
 const FIRST_DIRECTIVE: u32 = 20568;
 
-/// Where θ stands in a store.
+/// The location of θ in a store.
 const THETA: u16 = 42;
 
-/// Whether a whole tape is well formed from a store, for a machine of this size: what it comes to, or its fault.
+/// Whether a whole tape is well formed from a store, for a machine of this size: its entry and words, or its fault.
 pub fn check(alloc: Global, size: Size, store: &Store, rows: &[Code]) -> Result<Checked, TapeFault>
     requires { length rows.now ≤ 2 ^ 32 }
     ensures answers { AnswersCheck size store.now.words (opening store.now.words) 9 rows.now result }
@@ -32,7 +32,7 @@ pub fn check(alloc: Global, size: Size, store: &Store, rows: &[Code]) -> Result<
     check_opened(alloc, size, store, directive, 9, rows)
 }
 
-/// Whether the rest of a tape is well formed from a store, where it is read on under the directive that a program left.
+/// Whether the rest of a tape is well formed from a store, when read on under the directive that a program left.
 pub fn check_from(
     alloc: Global,
     size: Size,
@@ -50,7 +50,7 @@ pub fn check_from(
     check_opened(alloc, size, store, directive, 2, rows)
 }
 
-/// Whether rows are well formed from a store and a directive. The first row comes after `base` orders.
+/// Whether rows are well formed from a store and a directive. `base` orders come before the first row.
 fn check_opened(
     alloc: Global,
     size: Size,

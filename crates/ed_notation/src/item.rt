@@ -9,15 +9,15 @@ use ed_codes::Code;
 pub struct Item {
     /// The function row.
     pub function: Code,
-    /// The number of the digit rows, 0 where there are none; at most 32767 in an item that can be spelled.
+    /// The number of the digit rows, 0 without any; at most 32767 in an item that can be spelled.
     pub number: u16,
-    /// Whether a π stands behind the number.
+    /// Whether a π follows the number.
     pub mark: bool,
     /// The ending row: K, Z, a code letter, or the second blank of a blank pair.
     pub end: Code,
 }
 
-/// Whether an item can be spelled: the test for the condition of the calls that spell items.
+/// Whether an item can be spelled: callers test with it what the calls that spell items require.
 #[tactic(auto, using(crate::proofs::Canonical::spellable_law))]
 pub fn spellable(item: &Item) -> bool
     ensures is { result ≡ is_spellable item.now }

@@ -5,7 +5,7 @@ ghost use Rattle.ed_notation.specs.Fold.{control_of, aim_of};
 use ed_codes::Code;
 use ed_words::Word;
 
-/// What a row is inside an item.
+/// The kind of a row inside an item.
 #[derive(Clone, Copy)]
 pub enum RowKind {
     /// 0 to 9.
@@ -24,7 +24,7 @@ pub enum RowKind {
     Other,
 }
 
-/// What the function of an item sets where K or Z ends it.
+/// What the function of an item sets if K or Z ends the item.
 #[derive(Clone, Copy)]
 pub enum Control {
     /// P, E and T.
@@ -42,9 +42,9 @@ pub enum Control {
 pub enum Aim {
     /// T: the item's word is placed.
     Places,
-    /// E: control enters.
+    /// E: the program is entered.
     Enters,
-    /// P: there is no place.
+    /// P: there is no location to place the word.
     Nowhere,
     /// No other order is ever a directive.
     Unset,

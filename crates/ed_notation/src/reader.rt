@@ -18,17 +18,17 @@ pub struct Setting {
     pub theta: Word,
 }
 
-/// An item of which the function row and perhaps more rows have been read.
+/// An item whose function row, and perhaps more rows, have been read.
 #[derive(Clone, Copy)]
 pub struct Part {
     pub function: Code,
     pub number: u16,
     pub mark: bool,
-    /// Whether it is a function row 16 and no more.
+    /// Whether it is a function row 16 alone.
     pub blank: bool,
 }
 
-/// What a row inside an item does. The numbers are orders.
+/// What a row inside an item does. The numbers are numbers of orders.
 #[derive(Clone, Copy)]
 pub enum Taken {
     /// The row breaks a rule.
@@ -39,7 +39,7 @@ pub enum Taken {
     Ended(Setting, u64),
     /// The item ends and its word is placed at an address.
     Placed(u16, Word),
-    /// The entry item ends, and control enters an address.
+    /// The entry item ends, and the program is entered at an address.
     Entered(u16),
 }
 
@@ -52,7 +52,7 @@ pub struct Reached {
     pub theta: Word,
 }
 
-/// What a row inside an item does, over the store with the words in it that were placed so far.
+/// What a row inside an item does, over the store with the words placed so far.
 pub fn take(size: Size, contents: &Store, setting: &Setting, part: &Part, row: Code) -> Taken
     requires { part.now.number ≤ 32767 }
     ensures is { result ≡ taken size (row_kind row) contents.now.words setting.now part.now row }
@@ -112,7 +112,7 @@ impl Part {
         Taken::Longer(self.longer(self.number, true), 15)
     }
 
-    /// The item with one more row, which is no blank pair any more.
+    /// The item with one more row, after which it can't be a blank pair.
     fn longer(&self, number: u16, mark: bool) -> Part
         ensures { result ≡ record self.now { number = number; mark = mark; blank = false } }
     {
@@ -124,7 +124,7 @@ impl Part {
         }
     }
 
-    /// A blank row, which ends a blank pair and nothing else.
+    /// A blank row, which may only end a blank pair.
     fn take_blank(&self, setting: &Setting) -> Taken
         ensures is { result ≡ blank_taken setting.now self.now }
         ensures fits { IsTaken setting.now result }
@@ -246,7 +246,7 @@ impl Setting {
         }
     }
 
-    /// The setting at the next place.
+    /// The setting with the directive advanced by one location.
     pub fn moved_on(&self) -> Setting
         requires { self.now.directive + 2 < 2 ^ 17 }
         ensures { result ≡ record self.now { directive = self.now.directive + 2 } }
@@ -294,7 +294,7 @@ impl Setting {
     }
 }
 
-/// Whether a word is an order P, E or T with no length digit and an address below 1024.
+/// Whether a word is an order P, E or T with length digit F and an address below 1024.
 fn is_place(word: u32) -> bool
     ensures { result ≡ is_place word }
 {

@@ -65,7 +65,7 @@ fn push_item(rows: &mut Vec<Code>, item: &Item) -> Result<(), NoMemory>
     Ok(())
 }
 
-/// The digit row at a power of ten, where the number reaches it.
+/// The digit row at a power of ten, unless the number is less than the power.
 fn push_digit(rows: &mut Vec<Code>, number: u16, power: u16) -> Result<(), NoMemory>
     requires { 0 < power }
     ensures { IfOk result (λ v. rows.new.items ≡ rows.old.items ++ digit_at power number) }

@@ -84,7 +84,7 @@ from_letter f k e = by_test (nat_lt f 32) refl
     by_test true t = ap (λ row. unwrap_or row 0) (sym (letter_back f (lt_of f 32 t)) ∙ same)
     by_test false t = let none = sym (ap row_of (get_or_past letters f 0 (not_lt_of f 32 t))) ∙ same in absurd (cc)
 
--- a function is an order's exactly where the order's letter spells it
+-- a function is an order's if and only if the order's letter spells it
 pub by_letter : FunctionIsByLetter
 by_letter f k = (
   λ e. (own k).letter ∙ ap (λ n. byte_of n false ∷ []) (sym (from_kind f k e)),

@@ -22,7 +22,7 @@ places_are w some fits =
     by_zeros : (t : ℕ) → w / 2 ^ t % 2 ≡ 1 → ((i : ℕ) → i < t → w / 2 ^ i % 2 ≡ 0) → IsPlaces w (t + 1)
     by_zeros t odd least = let e : t + 1 - 1 ≡ t = omega arith in record { odd = rw e odd; least = rw e least }
 
--- the least digit 1 of a number stands among the lowest j digits where any does
+-- the last digit 1 of a number is among the lowest j digits if any of these is 1
 zeros_within : (k j n : ℕ) → 0 < n % 2 ^ j → j ≤ k → count_trailing_zeros k n < j
 unfolding count_trailing_zeros
 zeros_within zero zero n some h = absurd (omega arith)

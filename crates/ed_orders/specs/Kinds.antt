@@ -1,5 +1,5 @@
--- Which functions are orders: each order's function is the code of its letter (Wilkes, Wheeler and Gill 1951; the
--- orders X, and F as it is here, are this project's own rule).
+-- Which functions are orders: an order's function is the code of its letter (Wilkes, Wheeler and Gill 1951; the order
+-- X, and F as it is here, are this project's own rules).
 use Rattle.std.specs.Prelude.{◌≡◌, ◌↔◌, ℕ, List, [], ◌∷◌, Option, Some, None, false, codes, slice_index_or}
 use Rattle.ed_codes.specs.Spelling.{byte_of}
 use Rattle.ed_orders.specs.declared.kind.Kind.{Kind}
@@ -13,7 +13,7 @@ kinds =
     ∷ None ∷ Some F ∷ None ∷ None ∷ None ∷ Some H ∷ Some N ∷ None
     ∷ None ∷ Some L ∷ Some X ∷ Some G ∷ Some A ∷ None ∷ Some C ∷ Some V ∷ []
 
--- the kind of a function: none where it is no order, as it is from 32 on
+-- the order of a function, or None if it is not one, as for 32 and above
 abbrev pub kind_of_function : ℕ → Option Kind
 kind_of_function f = slice_index_or kinds f None
 
@@ -38,6 +38,6 @@ letter_of X = codes "X"
 letter_of Y = codes "Y"
 letter_of Z = codes "Z"
 
--- a function is an order's exactly where the order's letter spells it as a tape code
+-- a function is an order's if and only if, as a tape code, it is spelled by the order's letter
 abbrev pub FunctionIsByLetter : Type 0
 FunctionIsByLetter = (f : ℕ) (k : Kind) → (kind_of_function f ≡ Some k) ↔ (letter_of k ≡ byte_of f false ∷ [])

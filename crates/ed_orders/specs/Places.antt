@@ -1,8 +1,8 @@
--- How far a shift order shifts: by the place of its word's least digit 1 (Wilkes, Wheeler and Gill 1951).
+-- How far a shift order shifts: by the position of the last digit 1 of its word (Wilkes, Wheeler and Gill 1951).
 use Rattle.std.specs.Prelude.{◌≡◌, ℕ, ◌+◌, ◌-◌, ◌/◌, ◌%◌, ◌^◌, ◌<◌}
 use Rattle.std.specs.Int.{w32, trailing_zeros}
 
--- 1 plus the place of a word's least digit 1, as `IsPlaces` says; the zeros behind that digit are as many as its place
+-- 1 plus the position of a word's least significant digit 1, counted from 0, as `IsPlaces` says
 unfoldable pub places : ℕ → ℕ
 places w = trailing_zeros w32 w + 1
 

@@ -1,14 +1,14 @@
--- The text of an order, as Wilkes, Wheeler and Gill (1951) write one, but for the spare digit, which counts as 1024 in
--- the number, and a number 0, which isn't written (this project's own rule).
+-- The text of an order, as Wilkes, Wheeler and Gill (1951) write one, with two rules of this project's own: the spare
+-- digit counts as 1024 in the number, and a number 0 isn't written.
 use Rattle.std.specs.Prelude.{ℕ, ◌/◌, ◌%◌, ◌==◌, List, [], ◌∷◌, ◌++◌, codes, decimal, slice_index, if◌then◌else◌}
 use Rattle.ed_words.specs.Words.{function_of, is_long}
 use Rattle.ed_codes.specs.Spelling.{letters}
 
--- the number of a word's text: its spare digit and address as one number
+-- the number in a word's text: its spare digit and address as one number
 abbrev pub text_number : ℕ → ℕ
 text_number w = w / 2 % 2048
 
--- a number in decimal, and nothing for 0
+-- a number in decimal, or no digits for 0
 abbrev pub number_text : ℕ → List ℕ
 number_text n = if n == 0 then [] else decimal n
 

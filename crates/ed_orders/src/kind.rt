@@ -24,9 +24,9 @@ pub enum Kind {
     R,
     /// Shift left.
     L,
-    /// Jump where the accumulator isn't negative.
+    /// Jump if the accumulator isn't negative.
     E,
-    /// Jump where the accumulator is negative.
+    /// Jump if the accumulator is negative.
     G,
     /// Read a row of the tape.
     I,
@@ -42,8 +42,8 @@ pub enum Kind {
     Z,
 }
 
-/// The kind of a function: none where it is no order, as it is from 32 on. Each order's function is the tape code that
-/// its letter spells.
+/// The order of a function; None if it is not one, as for 32 and above. Each order's function is the tape code that its
+/// letter spells.
 #[tactic(auto, using(crate::proofs::KindLetters::by_letter))]
 pub fn kind_of(function: u8) -> Option<Kind>
     ensures is { result ≡ kind_of_function function }

@@ -3,7 +3,8 @@ ghost use Rattle.ed_orders.specs.Places.{IsPlaces, places};
 
 use ed_words::Word;
 
-/// How many places a shift order shifts, 1 to 17: counted over the whole word, spare digit and length included.
+/// The number of places that a shift order shifts, 1 to 17: from the position of the last digit 1 of the whole word,
+/// spare digit and length included.
 pub fn places(word: Word) -> u8
     requires { 0 < word }
     ensures is { result ≡ places word }

@@ -37,7 +37,7 @@ fn length_letter(word: Word) -> u8
     if word.order().length { b'D' } else { b'F' }
 }
 
-/// Writes a number in decimal, and nothing for 0.
+/// Writes a number in decimal; 0 is not written.
 #[tactic(auto, using(crate::proofs::Numerals::four_digits))]
 fn push_number(text: &mut ArrayString<12>, number: u16)
     requires few { number < 2048 }

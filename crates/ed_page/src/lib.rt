@@ -1,8 +1,8 @@
 //! A static library for a web page: pictures of the machine in the run of a tape or a source, the rows of tapes, and
 //! the texts of rows, orders and listings.
 //!
-//! Contract: each picture and text is what the program answers to the same text, in the caller's buffers, and a picture
-//! is gone on from; every other answer has its cause. The exports keep no state. Stands on `ed_answers`, and on
+//! Contract: each picture and text is what the program answers to the same text, in the caller's buffers, and a run can
+//! continue from a picture; every other answer has its cause. The exports keep no state. Stands on `ed_answers`, and on
 //! `ed_run` and `ed_report`.
 #![tactic(auto)]
 

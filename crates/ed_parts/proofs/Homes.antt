@@ -1,4 +1,4 @@
--- Whether a machine came back can be told.
+-- Whether a machine has returned can be decided.
 use Rattle.std.proofs.Common.{◌≡◌, ◌⊎◌, inl, inr, ℕ, zero, suc, ◌+◌, ◌*◌, ◌%◌, ◌^◌, ◌<◌, ◌≤◌, arith, get_or}
 use Rattle.std.proofs.lemmas.Bool.{cases_eq, cases_lt}
 use Rattle.ed_store.specs.Cells.{Cells, short_at}
@@ -41,7 +41,7 @@ leaves s = by_parts (cases_eq (directive s % 2) 0) (at_most 20480 (directive s))
     by_parts (inl a) (inl b) (inr never) = inr (λ l. never l.most)
     by_parts (inl a) (inl b) (inl c) = inl (record { even = a; least = b; most = c })
 
--- the parts of a return that stand in the store
+-- the parts of a return that are in the store
 abbrev pub IsListedWhole : Cells → Type 0
 IsListedWhole c = AreListed c 2 20 × AreListed c 21 22 × AreListed c 23 40
 

@@ -1,4 +1,4 @@
--- From the stages of a part to what is told.
+-- From the stages of a part to the report.
 use Rattle.std.proofs.Common.{◌≡◌, ◌⊎◌, inl, inr, ℕ, suc, ◌+◌, ◌-◌, ◌*◌, ◌/◌, ◌%◌, ◌≤◌, refl, sym, ap, ◌∙◌}
 use Rattle.std.proofs.Common.{subst, arith, List, [], ◌++◌, append_assoc, length}
 use Rattle.std.specs.Prelude.{Option, Result, Ok, Err, IfOk, Vec}
@@ -42,7 +42,7 @@ longer a b xs ys text is g = record {
   gains = g.gains;
 }
 
--- a text, and a first part of the one behind it
+-- a text, and a first part of the one after it
 and_part : (a b c : Option (List ℕ)) (xs ys : List ℕ) → Gains a b xs → GainsPart b c ys → GainsPart a c (xs ++ ys)
 and_part a b c xs ys whole g = record {
   part = xs ++ g.part;
@@ -68,7 +68,7 @@ module _ (limit rows : ℕ) (p : TapePart) where
         gains = none_of a t.1.text;
       }
 
-  -- behind the lines of a part that went back, a text of which a first part is written
+  -- after the lines of a part that returned, a first part of a text is written
   back_breaks : (b : GoesBack limit p) (a c : Option (List ℕ)) → GainsPart a c (told_lines rows p b)
       → BreaksTold limit rows p a c
   back_breaks b a c g =
@@ -93,7 +93,7 @@ module _ (limit rows : ℕ) (p : TapePart) where
           back_breaks (record { entry = e; leads = leads; within = within; orders = h.0; comes = h.1 }) a c
           (longer a c (entry_told rows p e) _ _ refl g)
 
-  -- where it breaks off
+  -- the part breaks off at the line of its entry
   pub entry_stops : (e : TapeEntry) {last : State} {a c : Option (List ℕ)} → LeadsTo p e → entry_done p e ≤ limit
       → last ≡ part_entry_state p e → (fault : PartsFault) → GainsPart a c (entry_told rows p e)
       → (fault ≡ Memory → c ≡ a) → BreaksPart limit rows p fault last a c
@@ -157,7 +157,7 @@ module _ {limit rows : ℕ} {p first : TapePart} {a c : Option (List ℕ)} (h : 
       let whole = h.completes 0 q.0 q.1 in
       (whole.0, _, whole.1, q.2, q.3, gains_more a c d h.text q.0.text h.gains q.4)
 
-  -- it goes back
+  -- it returns
   pub goes_back : (b : GoesBack limit p) → Gains c d (told_lines rows p b)
       → Ahead limit rows first (part_behind p b) a d
   goes_back b g = record {
@@ -178,7 +178,7 @@ module _ {limit rows : ℕ} {p first : TapePart} {a c : Option (List ℕ)} (h : 
 address_is : (d w : ℕ) → w ≡ d → 20480 ≤ d → d ≤ 20480 + 2 * 1023 → w / 2 % 1024 ≡ d % 4096 / 2
 address_is d w is least most = omega arith
 
--- the line of the return, by what the code has of it
+-- the line of the return, as the code makes it
 pub returned_is : {limit : ℕ} {p : TapePart} (b : GoesBack limit p) {last : State} {word done : ℕ} {order : Order}
     → last ≡ (part_behind p b).state → word ≡ directive last → order ≡ order_of word → done ≡ (part_behind p b).done
     → returned_line order.address done ≡ return_told p b
@@ -195,7 +195,7 @@ pub made_as : (r : Result (Vec ℕ Global) NoMemory) (xs ys : List ℕ) → xs �
     → IfOk r (λ bytes. bytes.items ≡ xs) → IfOk r (λ bytes. bytes.items ≡ ys)
 made_as r xs ys is made = subst (λ (t : List ℕ). IfOk r (λ bytes. bytes.items ≡ t)) is made
 
--- the line of the entry, by what the code has of it
+-- the line of the entry, as the code makes it
 pub entry_is : (rows : ℕ) (p : TapePart) (e : TapeEntry) {at orders count : ℕ} → at ≡ e.at → orders ≡ e.cost
     → count ≡ read_before rows p + e.rows → entry_line at (p.done + orders) count ≡ entry_told rows p e
 entry_is rows p e a o n = λ i. entry_line (a i) (p.done + o i) (n i)
@@ -228,7 +228,7 @@ module _ (limit : ℕ) (p : TapePart) (e : TapeEntry) {cost : ℕ} {m : State} (
   pub behind_is : (k : ℕ) {last : State} → last ≡ state_after k m → last ≡ state_after k (part_entry_state p e)
   behind_is k is = is ∙ ap (λ (s : State). state_after k s) there
 
--- the part behind a return: the rows that it has left, and the orders done in its state and up to it
+-- the part after a return: the rows that it has left, and the orders counted in its state and up to it
 pub record Later (limit : ℕ) (p q : TapePart) : Type 0 where
   pub fewer : length q.state.tape ≤ length p.state.tape
   pub soon : q.state.orders ≤ p.state.orders + (q.done - p.done)
@@ -248,7 +248,7 @@ behind_later limit p b =
       within = omega (arith, few, b.within);
     }
 
--- nothing is told yet
+-- nothing is reported yet
 pub ahead_first : (limit rows : ℕ) (p : TapePart) (a : Option (List ℕ)) → Ahead limit rows p p a a
 ahead_first limit rows p a = record {
   returns = 0;
@@ -258,7 +258,7 @@ ahead_first limit rows p a = record {
   completes = λ n rest told. (n, told);
 }
 
--- a part went back, and the tape goes on with the next one
+-- a part returned, and the tape goes on with the next one
 pub record Onward (limit rows : ℕ) (first p q : TapePart) (a d : Option (List ℕ)) : Type 0 where
   pub ahead : Ahead limit rows first q a d
   pub home : IsReturned q.state

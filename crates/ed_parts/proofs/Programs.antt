@@ -1,4 +1,4 @@
--- A program that may obey so many orders ends or comes back, at one number of orders.
+-- A program that may obey at most a number of orders ends or returns, after exactly one number of them.
 use Rattle.std.proofs.Common.{◌≡◌, ◌⊎◌, inl, inr, ℕ, zero, suc, ◌+◌, ◌≢◌, ◌<◌, ◌≤◌, refl, sym, ap, ◌∙◌, subst, arith}
 use Rattle.std.proofs.Common.{below_more, false, Option, Some, None}
 use Rattle.std.proofs.lemmas.Bool.{cases_lt, cases_order}
@@ -32,12 +32,12 @@ no_end ending h = cc
 pub some_end : (d e : Ending) → Some d ≡ Some e → d ≡ e
 some_end d e h = cc
 
--- a program came back or ended
+-- a program returned or ended
 abbrev pub CameTo : ℕ → State → Type 0
 CameTo left s = (k : ℕ) × (ComesHome left k s ⊎ ((ending : Ending) × Finishes left k s ending))
 
 module _ (left : ℕ) (s : State) where
-  -- behind a stop the end is that
+  -- after a stop the end is that stop
   pub stop_ends : (k : ℕ) → 0 < (past k s).stops → program_end left k s ≡ Some Stopped
   stop_ends k h = let a = lt_true 0 (past k s).stops h in rw a refl
 
@@ -48,7 +48,7 @@ module _ (left : ℕ) (s : State) where
       let b = eq_true k left is in
       rw (a, b) refl
 
-  -- and else by the next order
+  -- and otherwise by the next order
   pub next_ends : (k : ℕ) → k < left → (past k s).stops ≡ 0
       → program_end left k s ≡ end_by (step (state_after k s)).turn false
   next_ends k below none =
@@ -63,7 +63,7 @@ module _ (left : ℕ) (s : State) where
   not_stopped (IsNoOrder function) h = cc
   not_stopped HasNoTape h = cc
 
-  -- where no stop was obeyed, the end is none
+  -- if no stop was obeyed, the end is not a stop
   no_stop_end : (k : ℕ) → (past k s).stops ≡ 0 → program_end left k s ≡ Some Stopped → ⊥
   no_stop_end k none is = by_place (cases_order k left)
     where
@@ -101,7 +101,7 @@ module _ (left : ℕ) (s : State) where
         | inr none ↦ omega arith
       ]
 
-  -- it comes back at one number of orders
+  -- it returns after one number of orders
   pub home_once : (j k : ℕ) → ComesHome left j s → ComesHome left k s → j ≡ k
   home_once j k a b = by_place (cases_order j k)
     where
@@ -136,7 +136,7 @@ module _ (left : ℕ) (s : State) where
   one_more : (k : ℕ) → RunsOn left k s → IsUnderWay left k s → RunsOn left (k + 1) s
   one_more k runs here = below_more (λ j. IsUnderWay left j s) k runs here
 
-  -- what it came to after k orders, or what it comes to if it is still under way
+  -- what it did by k orders, or what it does after that if it is still under way
   here_or_on : (k : ℕ) → RunsOn left k s → (IsUnderWay left k s → CameTo left s) → CameTo left s
   here_or_on k runs on = by_home (home_or_not (state_after k s)) (cases_lt 0 (past k s).stops)
     where
@@ -171,7 +171,7 @@ module _ (left : ℕ) (s : State) where
 
 -- such a program
 module _ {left : ℕ} {s : State} {k : ℕ} {m : State} (r : Running left s k m) where
-  -- it has come back
+  -- it has returned
   pub is_home : IsReturned m → ComesHome left k s
   is_home home = record { runs = r.runs; stops = r.stops; home = subst (λ t. IsReturned t) r.state home }
 
@@ -220,7 +220,7 @@ module _ {left : ℕ} {s : State} {k : ℕ} {m : State} (r : Running left s k m)
       stops = stops_more ∙ on.no_stop;
     }
 
--- it comes to its limit
+-- it reaches its limit
 pub at_limit : {left : ℕ} {s m : State} → Running left s left m → (IsReturned m → ⊥) → Finishes left left s Limit
 at_limit {left} {s} r away = record {
   runs = r.runs;

@@ -11,7 +11,7 @@ use Rattle.ed_interlude.proofs.Resumed.{leads_back}
 use Rattle.ed_parts.specs.Laws.{Begins, EachEntryIsReached}
 use Rattle.ed_parts.specs.Parts.{LeadsTo, TapePart}
 
--- what a part comes to, from an opening that is one of two
+-- what a part reaches, from an opening that is one of two
 record Comes (p : TapePart) (b : Bool) (e : TapeEntry) : Type 0 where
   well : WellFormed p.state.size p.state.store.words (if b then opening p.state.store.words else reopening p.state)
       p.state.tape

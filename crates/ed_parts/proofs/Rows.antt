@@ -1,4 +1,4 @@
--- How far into a tape faults and entries lie, and that no part is read for nothing.
+-- How far into a tape faults and entries are, and that every part reads at least one row.
 use Rattle.std.proofs.Common.{◌≡◌, ℕ, ◌+◌, ◌≤◌, ap, ◌∙◌, arith, Bool, true, false, nat_eq, if◌then◌else◌, ◌++◌}
 use Rattle.std.proofs.Common.{length, length-append}
 use Rattle.ed_notation.specs.Items.{rows_of, spelled}

@@ -1,4 +1,4 @@
--- Where parts end by the end of a program or at the limit, the run of the whole tape ends too.
+-- If parts end by the end of a program or at the limit, the run of the whole tape ends too.
 use Rattle.std.proofs.Common.{◌≡◌, ◌⊎◌, inl, inr, ℕ, zero, suc, ◌+◌, ◌-◌, ◌<◌, ◌≤◌, refl, sym, ap, ◌∙◌, subst, arith}
 use Rattle.std.proofs.Common.{Bool, true, false, Some, None, List, [], ◌++◌, length, append_assoc, append-nil}
 use Rattle.std.proofs.lemmas.Bool.{cases_lt}
@@ -33,7 +33,7 @@ use Rattle.ed_parts.proofs.Starts.{sound_start}
 
 -- ---- orders one after the other
 
--- so many orders are obeyed, none of which is a stop; they lead there and print these codes
+-- k orders are obeyed, none of which is a stop; they lead from s to m and print these codes
 record Walks (k : ℕ) (s m : State) (codes : List ℕ) : Type 0 where
   there : m ≡ state_after k s
   free : IsFree k s

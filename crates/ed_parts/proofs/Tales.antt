@@ -1,4 +1,4 @@
--- One thing is told of a tape in parts, and only one.
+-- There is exactly one report on a tape in parts.
 use Rattle.std.proofs.Common.{◌≡◌, ◌⊎◌, inl, inr, ℕ, zero, suc, ◌+◌, ◌-◌, ◌<◌, ◌≤◌, refl, sym, ap, ◌∙◌, subst, arith}
 use Rattle.std.proofs.Common.{[], ◌++◌, length}
 use Rattle.std.proofs.lemmas.Bool.{cases_lt}
@@ -19,14 +19,14 @@ use Rattle.ed_parts.proofs.Parting.{Opens, entry_once, fault_once, fault_or_entr
 use Rattle.ed_parts.proofs.Programs.{comes_to, end_once, home_once, home_or_end}
 use Rattle.ed_parts.proofs.Rows.{some_cost}
 
--- the part behind a return opens with a directive
+-- the part after a return opens with a directive
 pub behind_opens : {limit : ℕ} (p : TapePart) (b : GoesBack limit p) → Opens (part_behind p b)
 behind_opens p b = home_opens (part_behind p b) b.comes.home
 
 module _ (limit rows : ℕ) where
   -- ---- there is one
 
-  -- a part that is entered is the last one, or goes back
+  -- a part that is entered is the last one, or returns
   pub from_entry : (p : TapePart) (e : TapeEntry) → LeadsTo p e → entry_done p e ≤ limit
       → ((k : ℕ) × (ending : Ending) × Finishes (limit - entry_done p e) k (part_entry_state p e) ending)
       ⊎ ((k : ℕ) × ComesHome (limit - entry_done p e) k (part_entry_state p e))
@@ -109,7 +109,7 @@ module _ (limit rows : ℕ) where
       })
       ∙ sym also
 
-  -- a part that goes back is not the last one
+  -- a part that returns is not the last one
   ends_no_back : (p : TapePart) (t : Told) → Opens p → Concludes limit rows p t → GoesBack limit p → ⊥
   ends_no_back p t opens (faulty row cause a is) b = not_both p row cause b.entry a b.leads
   ends_no_back p t opens (cut e a low is) b =
@@ -121,7 +121,7 @@ module _ (limit rows : ℕ) where
       subst (λ (x : TapeEntry). Finishes (limit - entry_done p x) j (part_entry_state p x) d) same f in
       home_or_end (limit - entry_done p b.entry) (part_entry_state p b.entry) b.orders j d b.comes there
 
-  -- it goes back at one number of orders
+  -- it returns after one number of orders
   pub record BackOnce (p : TapePart) (b c : GoesBack limit p) : Type 0 where
     pub part_is : part_behind p b ≡ part_behind p c
     pub lines_are : told_lines rows p b ≡ told_lines rows p c

@@ -15,12 +15,12 @@ use Rattle.ed_loads.specs.EntryState.{first_state}
 use Rattle.ed_parts.specs.declared.tape.PartsEnd.TheVariants.{Ended}
 use Rattle.ed_parts.specs.Parts.{LeadsTo, TapePart, TapeTells, Told, part_entry_state, programs_printed}
 
--- one thing is told of a tape, and only one
+-- there is exactly one report on a tape
 pub record IsToldOnce (limit : ℕ) (s : State) : Type 0 where
   pub some : (t : Told) × TapeTells limit s t
   pub once : (t u : Told) → TapeTells limit s t → TapeTells limit s u → t ≡ u
 
--- so it is with every tape
+-- the same for every tape
 abbrev pub EachTapeIsToldOnce : Type 0
 EachTapeIsToldOnce = (limit : ℕ) (s : State) → IsToldOnce limit s
 
@@ -30,32 +30,32 @@ pub record Begins (p : TapePart) : Type 0 where
   pub first : p.number ≡ 1 → IsStarted p.state
   pub further : p.number ≢ 1 → IsReturned p.state
 
--- the Initial Orders lead it to the state at its entry, cell by cell, and print nothing on the way
+-- the Initial Orders lead the part to the state at its entry, cell by cell, and print nothing on the way
 pub record IsEntryReached (p : TapePart) (e : TapeEntry) : Type 0 where
   pub state_is : part_entry_state p e ≡ at_entry p.state e
   pub silent : (past e.cost p.state).codes ≡ []
 
--- so it is with every part
+-- the same for every part
 abbrev pub EachEntryIsReached : Type 0
 EachEntryIsReached = (p : TapePart) (e : TapeEntry) → Begins p → LeadsTo p e → IsEntryReached p e
 
--- the run of the whole tape, which is never resumed and whose paper never is full, ends so and in this state, and prints
--- these codes
+-- the run of the whole tape, which is never resumed and whose paper never is full, has this ending and this last state,
+-- and prints these codes
 pub record EndsAsRun (limit : ℕ) (s : State) (ending : Ending) (last : State) (codes : List ℕ) : Type 0 where
   pub orders : ℕ
   pub ends : EndsAfter limit 0 limit s orders ending
   pub state_is : last ≡ state_after orders s
   pub prints : (past orders s).codes ≡ codes
 
--- wherever the parts of a tape end by the ending of a run, the whole tape's does so, and prints what the programs print,
--- one after the other
+-- if the parts of a tape end by the ending of a run, the run of the whole tape ends the same way and prints what the
+-- programs print, one after the other
 abbrev pub EndsAsParts : ℕ → State → Type 0
 EndsAsParts limit s =
     (t : Told) (ending : Ending) (tells : TapeTells limit s t) → t.end ≡ Ended ending
     → EndsAsRun limit s ending t.last (programs_printed tells)
 
--- so it is with every text of a tape on a cleared machine that is started on its rows; and from every state that stands
--- at Start and is within the bounds of a machine
+-- the same for every text of a tape, on a cleared machine that is started on its rows; and for every state at Start
+-- that is within the bounds of a machine
 pub record EachEndIsTheRuns : Type 0 where
   pub of_text : (limit : ℕ) (z : Size) (text codes : List ℕ) → reading text ≡ rows codes
       → EndsAsParts limit (first_state z codes)

@@ -1,4 +1,4 @@
--- Tapes in parts: programs that go back to the Initial Orders at 25, which then read on, and what is told of such tapes
+-- Tapes in parts: programs that return to the Initial Orders at 25, which then read on, and the report on such a tape
 -- (this project's own rule). All states are those of the order table, from the one in which the first part begins.
 use Rattle.std.specs.Prelude.{ℕ, zero, suc, ◌≡◌, ◌⊎◌, ◌+◌, ◌-◌, ◌<◌, ◌≤◌, nat_eq, if◌then◌else◌}
 use Rattle.std.specs.Prelude.{Option, Some, None, List, [], ◌++◌, length}
@@ -21,7 +21,7 @@ use Rattle.ed_parts.specs.declared.tape.PartsEnd.TheVariants.{Ended, Faulty}
 use Rattle.ed_parts.specs.declared.tape.PartsFault.{PartsFault}
 use Rattle.ed_parts.specs.declared.tape.PartsFault.TheVariants.{Failed, Memory}
 
--- a part as it begins: its number, counted from 1, the orders done from Start up to it, and the state
+-- a part as it begins: its number, counted from 1, the number of orders from Start up to it, and the state
 pub record TapePart : Type 0 where
   pub number : ℕ
   pub done : ℕ
@@ -33,11 +33,12 @@ first_part s = record { number = 1; done = 0; state = s }
 
 -- ---- the reading of a part
 
--- the state of the notation before its first row: that of a whole tape, and in a further part what the program left
+-- the state of the notation before its first row: that of a whole tape, and in a further part the one that the program
+-- left
 abbrev pub note_of : TapePart → Note
 note_of p = if nat_eq p.number 1 then opening p.state.store.words else reopening p.state
 
--- the orders before its first row
+-- the number of orders before its first row
 abbrev pub base_of : TapePart → ℕ
 base_of p = if nat_eq p.number 1 then 9 else 2
 
@@ -45,80 +46,80 @@ base_of p = if nat_eq p.number 1 then 9 else 2
 abbrev pub HasFault : TapePart → ℕ → TapeCause → Type 0
 HasFault p row cause = IsFault p.state.size p.state.store.words (note_of p) p.state.tape row cause
 
--- its rows are well formed, and come to this entry
+-- its rows are well formed, and reach this entry
 pub record LeadsTo (p : TapePart) (e : TapeEntry) : Type 0 where
   pub well : WellFormed p.state.size p.state.store.words (note_of p) p.state.tape
   pub comes : ComesTo p.state.store.words (note_of p) (base_of p) p.state.tape e
 
--- how many of the tape's rows were read before it
+-- the number of the tape's rows that were read before the part
 abbrev pub read_before : ℕ → TapePart → ℕ
 read_before rows p = rows - length p.state.tape
 
--- the orders done at its entry
+-- the number of orders up to its entry
 abbrev pub entry_done : TapePart → TapeEntry → ℕ
 entry_done p e = p.done + e.cost
 
--- the state there
+-- the state at its entry
 abbrev pub part_entry_state : TapePart → TapeEntry → State
 part_entry_state p e = state_after e.cost p.state
 
--- the line of its entry
+-- the line that reports its entry
 abbrev pub entry_told : ℕ → TapePart → TapeEntry → List ℕ
 entry_told rows p e = entry_line e.at (entry_done p e) (read_before rows p + e.rows)
 
 -- ---- its program
 
--- how a program that may obey so many orders ends after k of them, if it does: as a run that is never resumed. What it
--- prints is dropped, so that no paper is full
+-- how a program that may obey `left` orders ends after k of them, if it does: as a run that is never resumed. What it
+-- prints is dropped, so no paper is ever full.
 abbrev pub program_end : ℕ → ℕ → State → Option Ending
 program_end left k s = end_at left 0 1 k (record (past k s) { codes = [] })
 
--- it has not ended after k orders and has not come back
+-- the program has not ended after k orders and has not returned
 pub record IsUnderWay (left k : ℕ) (s : State) : Type 0 where
   pub no_end : program_end left k s ≡ None
   pub away : IsReturned (state_after k s) → ⊥
 
--- it has neither ended nor come back after any number of orders below k
+-- the program has neither ended nor returned after any number of orders below k
 abbrev pub RunsOn : ℕ → ℕ → State → Type 0
 RunsOn left k s = (j : ℕ) → j < k → IsUnderWay left j s
 
--- it comes back after k orders, none of which was a stop
+-- the program returns after k orders without a stop
 pub record ComesHome (left k : ℕ) (s : State) : Type 0 where
   pub runs : RunsOn left k s
   pub stops : (past k s).stops ≡ 0
   pub home : IsReturned (state_after k s)
 
--- it ends after k orders; where it also came back there, the end is a stop, which goes before a return
+-- the program ends after k orders; if it also returned then, the end is a stop, which takes precedence over a return
 pub record Finishes (left k : ℕ) (s : State) (ending : Ending) : Type 0 where
   pub runs : RunsOn left k s
   pub ends : program_end left k s ≡ Some ending
   pub stopped : IsReturned (state_after k s) → ending ≡ Stopped
 
--- ---- what is told
+-- ---- the report
 
--- what is told of a tape in parts: the lines, how it ended, and the state in which it did
+-- the report on a tape in parts: the lines, how it ended, and the state in which it ended
 pub record Told : Type 0 where
   pub text : List ℕ
   pub end : PartsEnd
   pub last : State
 
--- the last part tells this
+-- this is the report of the last part
 pub data Concludes (limit rows : ℕ) (p : TapePart) (t : Told) : Type 0 where
-  -- it has a fault, which counts from the tape's first row; none of its orders is obeyed
+  -- the part has a fault, whose row counts from the tape's first row; none of the part's orders is obeyed
   faulty : (row : ℕ) (cause : TapeCause) → HasFault p row cause
       → t ≡ record { text = []; end = Faulty p.number (read_before rows p + row) cause; last = p.state }
       → Concludes limit rows p t
-  -- the limit comes before its entry
+  -- the limit comes before the part's entry
   cut : (e : TapeEntry) → LeadsTo p e → limit < entry_done p e
       → t ≡ record { text = []; end = Ended Limit; last = state_after (limit - p.done) p.state }
       → Concludes limit rows p t
-  -- its program ends
+  -- the part's program ends
   finished : (e : TapeEntry) (k : ℕ) (ending : Ending) → LeadsTo p e → entry_done p e ≤ limit
       → Finishes (limit - entry_done p e) k (part_entry_state p e) ending
       → t ≡ record { text = entry_told rows p e; end = Ended ending; last = state_after k (part_entry_state p e) }
       → Concludes limit rows p t
 
--- its program comes back
+-- the part's program returns
 pub record GoesBack (limit : ℕ) (p : TapePart) : Type 0 where
   pub entry : TapeEntry
   pub leads : LeadsTo p entry
@@ -126,7 +127,7 @@ pub record GoesBack (limit : ℕ) (p : TapePart) : Type 0 where
   pub orders : ℕ
   pub comes : ComesHome (limit - entry_done p entry) orders (part_entry_state p entry)
 
--- the part that begins there
+-- the part that begins at that return
 abbrev pub part_behind : {limit : ℕ} → (p : TapePart) → GoesBack limit p → TapePart
 part_behind p b = record {
   number = p.number + 1;
@@ -134,35 +135,35 @@ part_behind p b = record {
   state = state_after b.orders (part_entry_state p b.entry);
 }
 
--- the line of its return
+-- the line that reports its return
 abbrev pub return_told : {limit : ℕ} → (p : TapePart) → GoesBack limit p → List ℕ
 return_told p b = returned_line (address (directive (part_behind p b).state)) (part_behind p b).done
 
--- the lines of its entry and of its return
+-- the lines that report its entry and its return
 abbrev pub told_lines : {limit : ℕ} → ℕ → (p : TapePart) → GoesBack limit p → List ℕ
 told_lines rows p b = entry_told rows p b.entry ++ return_told p b
 
--- from a part on, so many parts go back, and the one behind them is the last; this is told
+-- beginning with this part, n parts return, and the one after them is the last; this is the report
 abbrev pub IsTold : ℕ → ℕ → ℕ → TapePart → Told → Type 0
 IsTold limit rows zero p t = Concludes limit rows p t
 IsTold limit rows (suc n) p t =
     (b : GoesBack limit p) × (rest : Told) × IsTold limit rows n (part_behind p b) rest
     × (t ≡ record rest { text = told_lines rows p b ++ rest.text })
 
--- this is told of the tape of a machine that stands at Start
+-- this is the report on the tape of a machine at Start
 pub record TapeTells (limit : ℕ) (s : State) (t : Told) : Type 0 where
   pub returns : ℕ
   pub told : IsTold limit (length s.tape) returns (first_part s) t
 
 -- ---- what the programs print
 
--- what the last part's program printed: nothing where a fault or the limit came before its entry
+-- what the last part's program printed; nothing if a fault or the limit came before its entry
 abbrev pub last_printed : {limit rows : ℕ} {p : TapePart} {t : Told} → Concludes limit rows p t → List ℕ
 last_printed (faulty row cause fault is) = []
 last_printed (cut e leads short is) = []
 last_printed {p = p} (finished e k ending leads within ends is) = (past k (part_entry_state p e)).codes
 
--- what the programs printed from a part on, one after the other
+-- what the programs printed from a part onwards, one after the other
 abbrev pub printed_from : (limit rows n : ℕ) (p : TapePart) (t : Told) → IsTold limit rows n p t → List ℕ
 printed_from limit rows zero p t told = last_printed told
 printed_from limit rows (suc n) p t told =
@@ -173,9 +174,9 @@ printed_from limit rows (suc n) p t told =
 abbrev pub programs_printed : {limit : ℕ} {s : State} {t : Told} → TapeTells limit s t → List ℕ
 programs_printed {limit} {s} {t} tells = printed_from limit (length s.tape) tells.returns (first_part s) t tells.told
 
--- ---- where it breaks off
+-- ---- if it breaks off
 
--- after n parts that went back and wrote this text, this part begins
+-- after n parts that returned and wrote this text, this part begins
 abbrev pub ReachesPart : ℕ → ℕ → TapePart → ℕ → List ℕ → TapePart → Type 0
 ReachesPart limit rows first zero text p = (text ≡ []) × (p ≡ first)
 ReachesPart limit rows first (suc n) text p =
@@ -197,8 +198,8 @@ pub data WritesLine (limit rows : ℕ) (p : TapePart) (l : PartLine) : Type 0 wh
       → l ≡ record { before = entry_told rows p b.entry; text = return_told p b; state = (part_behind p b).state }
       → WritesLine limit rows p l
 
--- the write of a line of this part failed: the machine stands where the line is written, and the lines before it and a
--- first part of it have been written
+-- the write of a line of this part failed: the machine is in the state in which the line is written, and the lines
+-- before it and a first part of it have been written
 pub record LineFailed (limit rows : ℕ) (p : TapePart) (last : State) (before after : Option (List ℕ)) : Type 0 where
   pub line : PartLine
   pub is : WritesLine limit rows p line
@@ -208,22 +209,22 @@ pub record LineFailed (limit rows : ℕ) (p : TapePart) (last : State) (before a
   pub whole : line.text ≡ part ++ rest
   pub gains : Gains before after (line.before ++ part)
 
--- no memory was found for a line of this part: the machine stands where it is written, and the lines before it have
--- been
+-- no memory was found for a line of this part: the machine is in the state in which it is written, and the lines
+-- before it have been written
 pub record LineUnmade (limit rows : ℕ) (p : TapePart) (last : State) (before after : Option (List ℕ)) : Type 0 where
   pub line : PartLine
   pub is : WritesLine limit rows p line
   pub state_is : last ≡ line.state
   pub gains : Gains before after line.before
 
--- a part broke off: at a line whose write failed; where no memory was found, as it begins, with nothing written, or at
--- a line
+-- a part broke off: because the write of a line failed; or because no memory was found, either at its beginning, with
+-- nothing written, or at a line
 abbrev pub BreaksPart : ℕ → ℕ → TapePart → PartsFault → State → Option (List ℕ) → Option (List ℕ) → Type 0
 BreaksPart limit rows p Failed last before after = LineFailed limit rows p last before after
 BreaksPart limit rows p Memory last before after =
     ((last ≡ p.state) × (after ≡ before)) ⊎ LineUnmade limit rows p last before after
 
--- parts went back, whose lines have been written, and the part after them broke off
+-- parts returned, their lines have been written, and the part after them broke off
 pub record BreaksOff (limit : ℕ) (s : State) (fault : PartsFault) (last : State) (before after : Option (List ℕ)) :
     Type 0 where
   pub returns : ℕ
@@ -234,17 +235,17 @@ pub record BreaksOff (limit : ℕ) (s : State) (fault : PartsFault) (last : Stat
   pub gains : Gains before then_at text
   pub broke : BreaksPart limit (length s.tape) part fault last then_at after
 
--- ---- what is answered
+-- ---- the answer
 
--- the whole text is on the sink; or a first part of it, where a write failed or no memory was found, and it is said
--- where the machine stands then and which lines have been written
+-- the whole text is on the sink; or, if a write failed or no memory was found, a first part of it, and the clause says
+-- which state the machine is in and which lines have been written
 abbrev pub PartsAnswer : ℕ → State → Result PartsEnd PartsFault → State → Option (List ℕ) → Option (List ℕ) → Type 0
 PartsAnswer limit s (Ok end) last before after =
     (t : Told) × TapeTells limit s t × (end ≡ t.end) × (last ≡ t.last) × Gains before after t.text
 PartsAnswer limit s (Err fault) last before after =
     (t : Told) × TapeTells limit s t × GainsPart before after t.text × BreaksOff limit s fault last before after
 
--- the sink's count of faults afterwards: one more where a write failed, and else as before
+-- the sink's count of faults afterwards: one more if a write failed, else unchanged
 abbrev pub parts_faults : {T : Type 0} → Result T PartsFault → ℕ → ℕ
 parts_faults (Ok t) before = before
 parts_faults (Err Failed) before = next_count before

@@ -18,8 +18,8 @@ use ed_report::{entry_text, returned_text};
 use ed_words::NoMemory;
 use std::alloc::Global;
 
-/// Where a part begins: the most orders of the run, the rows of the whole tape, the part's number, counted from 1, and
-/// the orders done before it.
+/// The beginning of a part: the most orders of the run, the number of rows of the whole tape, the part's number,
+/// counted from 1, and the number of orders before it.
 #[derive(Clone, Copy, Debug, PartialEq, Eq)]
 pub(crate) struct Stage {
     pub limit: u64,
@@ -33,11 +33,11 @@ pub(crate) struct Stage {
 pub(crate) enum Passed {
     /// It is the last one, and the run is over.
     Over(PartsEnd),
-    /// Its program went back, with so many orders done.
+    /// Its program returned, after `done` orders in all.
     Back { done: u64 },
 }
 
-/// The entry of a part: its place, the orders that lead there from the part's begin, and the rows read up to it,
+/// The entry of a part: its location, the number of orders from the part's beginning to it, and the rows read up to it,
 /// counted from the tape's first.
 #[derive(Clone, Copy, Debug, PartialEq, Eq)]
 pub(crate) struct Arrival {
@@ -46,7 +46,7 @@ pub(crate) struct Arrival {
     pub rows: usize,
 }
 
-/// Reads a part and runs its program. A fault of the part is looked for before any of its orders is obeyed.
+/// Reads a part and runs its program. The part is checked before any of its orders is obeyed.
 pub(crate) fn run_part<K: Sink>(
     alloc: Global,
     stage: Stage,
@@ -82,8 +82,7 @@ pub(crate) fn run_part<K: Sink>(
     }
 }
 
-/// Whether the rows left are well formed: as a whole tape in the first part, and in a further one as the rest of a
-/// tape.
+/// Whether the rows left are well formed: in the first part as a whole tape, in a further part as the rest of one.
 fn check_part(alloc: Global, number: u32, machine: &Machine) -> Result<Checked, TapeFault>
     requires rows { length machine.now.tape ≤ 2 ^ 32 }
     requires back { number ≢ 1 → IsReturned machine.now }
@@ -97,7 +96,7 @@ fn check_part(alloc: Global, number: u32, machine: &Machine) -> Result<Checked, 
     check_rest(alloc, machine)
 }
 
-/// Reads a well-formed part up to its entry, or to the limit where that comes first, and runs its program.
+/// Reads a well-formed part up to its entry, or to the limit if that comes first, and runs its program.
 fn enter_part<K: Sink>(
     alloc: Global,
     stage: Stage,
@@ -136,7 +135,7 @@ fn enter_part<K: Sink>(
     }
 }
 
-/// Writes a line, where there was memory for it.
+/// Writes a line, if memory was found for it.
 fn write_line<K: Sink>(out: &mut K, line: Result<Vec<u8>, NoMemory>) -> Result<(), PartsFault>
     ensures whole { (text : List ℕ) → IfOk line (λ bytes. bytes.items ≡ text) → MatchResult result
         (λ _. Gains (K.held out.old) (K.held out.new) text)

@@ -1,4 +1,4 @@
-//! Orders obeyed from the entry of a part on.
+//! Orders obeyed from the entry of a part.
 ghost use Rattle.std.specs.Prelude.{◌≡◌, ◌+◌, ◌≤◌, ◌^◌, length};
 ghost use Rattle.ed_machine.specs.Steps.{state_after};
 ghost use Rattle.ed_parts.specs.Private.Stages.{Meets};
@@ -6,16 +6,16 @@ ghost use Rattle.ed_parts.specs.Private.Stages.{Meets};
 use ed_interlude::is_returned;
 use ed_machine::{Ending, Machine, Turn};
 
-/// What a program came to.
+/// What a program did.
 #[derive(Clone, Copy, Debug, PartialEq, Eq)]
 pub(crate) enum Met {
-    /// It ended so.
+    /// It ended with this ending.
     Finished(Ending),
-    /// It came back after so many orders.
+    /// It returned after `orders` orders.
     Returned { orders: u64 },
 }
 
-/// Obeys so many orders, whatever they do.
+/// Obeys `count` orders, whatever they do.
 pub(crate) fn obey(machine: &mut Machine, count: u64)
     requires { machine.old.orders + count ≤ 2 ^ 63 }
     ensures state { machine.new ≡ state_after count machine.old }
@@ -26,7 +26,7 @@ pub(crate) fn obey(machine: &mut Machine, count: u64)
     }
 }
 
-/// Obeys a program until it ends or comes back, or until no more orders are allowed. What it prints is dropped.
+/// Obeys a program until it ends or returns, or until no more orders are allowed. What it prints is dropped.
 pub(crate) fn run_program(machine: &mut Machine, left: u64) -> Met
     requires { machine.old.orders + left ≤ 2 ^ 63 }
     ensures meets { Meets left machine.old result machine.new }

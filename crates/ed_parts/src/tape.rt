@@ -12,7 +12,7 @@ use std::alloc::Global;
 /// How a tape in parts ended.
 #[derive(Clone, Copy, Debug, PartialEq, Eq)]
 pub enum PartsEnd {
-    /// The run ended so.
+    /// The run ended with this ending.
     Ended(Ending),
     /// A part breaks a rule of the notation.
     Faulty {
@@ -25,7 +25,7 @@ pub enum PartsEnd {
     },
 }
 
-/// Why the lines of a tape were not written whole.
+/// Why the lines of a tape were not all written.
 #[derive(Clone, Copy, Debug, PartialEq, Eq)]
 pub enum PartsFault {
     /// A write failed.
@@ -34,12 +34,12 @@ pub enum PartsFault {
     Memory,
 }
 
-/// Reads the tape of a machine that stands at Start, whose programs may go back to the Initial Orders, and writes the
-/// line of each entry and of each return as it comes.
+/// Reads the tape of a machine at Start, whose programs may return to the Initial Orders, and writes the line of each
+/// entry and of each return as it comes.
 ///
-/// At most `limit` orders are obeyed, counted from Start. The machine is left in the state in which the run ended; if a
-/// part has a fault, in that in which the part begins. After `Failed` it stands at the entry or the return whose line
-/// failed, and after `Memory` there or where a part begins.
+/// At most `limit` orders are obeyed, counted from Start. The machine is left in the state in which the run ended, or,
+/// if a part has a fault, in which that part begins. After `Failed` it is at the entry or the return whose line failed,
+/// and after `Memory` there or at the beginning of a part.
 pub fn run_parts<K: Sink>(
     alloc: Global,
     machine: &mut Machine,

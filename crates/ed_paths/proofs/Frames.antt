@@ -9,18 +9,18 @@ use Rattle.ed_store.specs.Cells.{Cells}
 use Rattle.ed_machine.specs.State.{State}
 use Rattle.ed_paths.proofs.Window.{patched, get_below, set_below, get_above, set_above}
 
--- the accumulator that holds a short number at its top, and a long one
+-- the accumulator that holds a short number at its upper end, and a long one
 abbrev pub short : ℕ → ℕ
 short x = x * 2 ^ 54
 
 abbrev pub long : ℕ → ℕ
 long x = x * 2 ^ 36
 
--- where a piece of n cells stands; h is the first of its pairs whose sandwich digits it changes
+-- the place of a piece of n cells; h is the first of its pairs whose sandwich digits it changes
 pub record Frame (n h : ℕ) : Type 0 where
   pub size : Size
   pub base : ℕ
-  -- its orders reach only locations below this place
+  -- its orders use only locations below this one
   pub top : ℕ
   pub under : base + n ≤ top
   pub fits : top ≤ locations size
@@ -61,7 +61,7 @@ state f r k = record {
   orders = k;
 }
 
--- a state is another one that has its accumulator, tape, last code and orders, where the rest is the same
+-- a state is equal to another one with its accumulator, tape, last code and count of orders, if the rest is the same
 pub same_state : (s : State) {size : Size} {words : List ℕ} {digits : List Bool} {multiplier counter : ℕ}
     → size ≡ s.size → words ≡ s.store.words → digits ≡ s.store.sandwich → multiplier ≡ s.multiplier
     → counter ≡ s.counter
@@ -78,11 +78,11 @@ same_state s z w d m c = λ i. record s {
   counter = c i;
 }
 
--- a place of a list that a window of so many items at a base leaves alone
+-- an index in a list outside a window of this many items at a base
 abbrev pub Beside : {A : Type 0} → List A → ℕ → ℕ → ℕ → Type 0
 Beside xs base count i = ((i < base) × (i < length xs)) ⊎ (base + count ≤ i)
 
--- what stands there, and what is written there
+-- the item there, and the list with another one written there
 module _ {A : Type 0} (d : A) (xs : List A) (b : ℕ) (cs : List A) (i : ℕ) where
   pub get_beside : Beside xs b (length cs) i → get_or (patched d xs b cs) i d ≡ get_or xs i d
   get_beside (inl l) = get_below d xs b cs i l.0

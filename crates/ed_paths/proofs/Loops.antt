@@ -44,8 +44,8 @@ module _ {n h : ℕ} {f : Frame n h} {k : ℕ} where
       let e : suc t * k ≡ t * k + k = omega arith in
       rw e (followed (quiet_rounds at t (λ i l. turn i (omega arith))) (turn t (omega arith)))
 
-  -- a loop that walks a list: what its moments have besides the items that are left is an x, of which Fine says what
-  -- the turn needs. The moment where no item is left is the one after the loop
+  -- a loop that walks a list: the moments have, besides the items that are left, an x; Fine says of it what the
+  -- turn needs. The moment when no item is left is the one after the loop
   pub walks : {X : Type 0} (at : X → List ℕ → Moment) (shown : ℕ → List ℕ) (next : X → ℕ → List ℕ → X)
       (Fine : X → List ℕ → Type 0)
       → ((x : X) (c : ℕ) (cs : List ℕ) → Fine x (c ∷ cs)

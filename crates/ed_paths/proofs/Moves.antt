@@ -1,5 +1,5 @@
--- One lemma for each kind of order. A line of a path is a kind, the order's cell, the place that it names and the
--- number that it leaves; `refl`, that the order stands there; and the arithmetic of the number.
+-- One lemma for each kind of order. A line of a path is a kind, the order's cell, the location that it names and the
+-- number that it leaves; `refl`, that the order is there; and the arithmetic of the number.
 use Rattle.std.proofs.Common.{◌≡◌, ℕ, ◌+◌, ◌*◌, ◌/◌, ◌%◌, ◌^◌, ◌<◌, ◌≤◌, refl, ap, ◌∙◌, Bool, true, false, ◌&&◌, not}
 use Rattle.std.proofs.Common.{unwrap_or, List, ◌∷◌, Some}
 use Rattle.ed_acc.specs.Arithmetic.{right71, plus_product, minus_product, common}
@@ -30,7 +30,7 @@ no_both true = refl
 no_both false = refl
 
 module _ {n h : ℕ} {f : Frame n h} {r : Moment} where
-  -- the order that names a place, a place that it writes, a place that it jumps to
+  -- the order that names a location, a location that it writes, a location that it jumps to
   abbrev pub Reads : ℕ → ℕ → Place f r → Type 0
   Reads i g p = Names f r i g p true
 
@@ -40,7 +40,7 @@ module _ {n h : ℕ} {f : Frame n h} {r : Moment} where
   abbrev pub Jumps : ℕ → ℕ → Place f r → Type 0
   Jumps i g p = Names f r i g p (not (is_pair f r p))
 
-  -- A, S: the number there is added, taken away
+  -- A, S: the number there is added, subtracted
   pub A : (i : ℕ) (p : Place f r) (u : ℕ) → Reads i 28 p → (r.acc + value f r p * 2 ^ 36) % 2 ^ 71 ≡ u
       → Moves f KindA r (record r { acc = u; counter = f.base + (i + 1) })
   A i p u e sum = by_place i 28 p true e refl refl (λ o k.
@@ -60,7 +60,7 @@ module _ {n h : ℕ} {f : Frame n h} {r : Moment} where
   H i p e = by_place i 21 p true e refl refl (λ o k.
       rw (o.long, o.place, o.is.after, reads f r p o.is.all o.there) refl)
 
-  -- V, N: the product is added, taken away; V in plain numbers where both are positive
+  -- V, N: the product is added, subtracted; V in plain numbers if both are positive
   pub V_signed : (i : ℕ) (p : Place f r) (u : ℕ) → Reads i 31 p → plus_product r.acc r.multiplier (value f r p) ≡ u
       → Moves f KindV r (record r { acc = u; counter = f.base + (i + 1) })
   V_signed i p u e sum = by_place i 31 p true e refl refl (λ o k.
@@ -88,8 +88,9 @@ module _ {n h : ℕ} {f : Frame n h} {r : Moment} where
         collated_is r.acc r.multiplier (value f r p) y u both sum,
       ) refl)
 
-  -- T, U: the digits at the top of the accumulator are written there, and T clears it. `T` and `U` are for one that
-  -- has that number at its top and nothing else: both last arguments may be `refl`, and the number `_`
+  -- T, U: the most significant digits of the accumulator are written there, and T clears it. `T` and `U` are for one
+  -- that has that number at its upper end and nothing else: both last arguments may be `refl`, and the
+  -- number `_`
   pub T_top : (i : ℕ) (p : Place f r) (u : ℕ) → Writes i 5 p → fitting f r p (r.acc / 2 ^ 54) (r.acc / 2 ^ 36) ≡ u
       → Moves f KindT r (record (put f r p u) { acc = 0; counter = f.base + (i + 1) })
   T_top i p u e top = by_place i 5 p (is_written f r p) e refl refl (λ o k.
@@ -118,8 +119,8 @@ module _ {n h : ℕ} {f : Frame n h} {r : Moment} where
       ap (λ x. took_row x o.w (state f r k)) row
       ∙ rw (o.long, o.place, o.is.after, writes f r p c (c * 2 ^ 18) o.is.all o.there o.more_is, is) refl)
 
-  -- F: the last printed code is written there. It is a step and no line of a path, so that what holds of every path
-  -- may be asked of a program that the checking routine obeys, which has no F
+  -- F: the last printed code is written there. It is a step and not a line of a path, so that what holds of every path
+  -- can be required of a program that the checking routine obeys, which has no F
   pub F : (i : ℕ) (p : Place f r) (u k : ℕ) → Writes i 17 p
       → fitting f r p (unwrap_or r.last 0 * 4096) (unwrap_or r.last 0 * 2 ^ 30) ≡ u
       → step (state f r k) ≡ record {
@@ -143,7 +144,7 @@ module _ {n h : ℕ} {f : Frame n h} {r : Moment} where
   O i p c e is = by_place i 9 p true e refl refl (λ o k.
       rw (o.long, o.place, o.is.after, reads f r p o.is.all o.there, is) refl)
 
-  -- R, L: the accumulator is shifted; R in plain numbers where it is positive
+  -- R, L: the accumulator is shifted; R in plain numbers if it is positive
   pub R_signed : (i : ℕ) {w p : ℕ} → IsShift 4 w p → (u : ℕ) → Stands f r i w true → right71 r.acc p ≡ u
       → Moves f KindR r (record r { acc = u; counter = f.base + (i + 1) })
   R_signed i {w} s u e is = by_word i w e (ap kind_of_function s.function_is) refl (λ o k.

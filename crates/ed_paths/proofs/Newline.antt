@@ -21,13 +21,14 @@ image b =
     Some 114694 ∷ Some (20480 + 2 * (b + 4)) ∷ Some (36864 + 2 * (b + 5)) ∷ Some (36864 + 2 * (b + 6)) ∷ None
     ∷ Some 73728 ∷ Some 98304 ∷ []
 
--- its words, of which one changes
+-- its words; one of them changes
 abbrev pub cells : ℕ → ℕ → List ℕ
 cells b at4 =
     114694 ∷ (20480 + 2 * (b + 4)) ∷ (36864 + 2 * (b + 5)) ∷ (36864 + 2 * (b + 6)) ∷ at4
     ∷ 73728 ∷ 98304 ∷ []
 
--- it stands at b, and is called from m: the accumulator holds the order A m F. It and its way back are below a place
+-- it is at b, and is called from m: the accumulator holds the order A m F. It and the location to which it returns are
+-- below a location
 pub record IsCalled (s : State) (b m top : ℕ) : Type 0 where
   pub counter : s.counter ≡ b
   pub low : 56 ≤ b
@@ -79,7 +80,7 @@ module _ (s : State) (b m top : ℕ) (o : IsCalled s b m top) (all : length s.st
       let z : b + 0 ≡ b = omega arith in
       rw (z, same, sym o.acc, sym o.counter) refl
 
-  -- five orders print the two codes and lead behind the call
+  -- five orders print the two codes and lead to the order after the call
   pub newline : Leads 5 s (18 ∷ 24 ∷ []) (record s {
     store = record { words = patched 0 s.store.words b (cells b link); sandwich = s.store.sandwich };
     acc = 0;
@@ -89,13 +90,13 @@ module _ (s : State) (b m top : ℕ) (o : IsCalled s b m top) (all : length s.st
   })
   newline = rw begins at (leads (path (get_or s.store.words (b + 4) 0)) s.orders)
 
-  -- what holds of every order that keeps below the place holds before each of them
+  -- what holds of every order that stays below the location holds before each of them
   pub keeps_below : (P : State → Type 0) → ((kind : Kind) (x : State) → IsOrder top kind x → P x) → (j : ℕ) → j < 5
       → P (state_after j s)
   keeps_below P is j l =
       subst (λ x. P (state_after j x)) begins (each P is (path (get_or s.store.words (b + 4) 0)) s.orders j l)
 
-  -- each word of the store stays, but for the order that returns
+  -- each word of the store is unchanged, except the order that returns
   pub keeps : (i : ℕ) → (IsWorking (image b) b i → ⊥)
       → get_or (patched 0 s.store.words b (cells b link)) i 0 ≡ get_or s.store.words i 0
   keeps = unchanged (image b) s.store.words b (cells b link) refl refl o.holds

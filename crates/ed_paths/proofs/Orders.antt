@@ -1,4 +1,4 @@
--- One order of a piece: the word at its cell, the place that it names, and the step of the machine that it is.
+-- One order of a piece: the word at its cell, the location that it names, and the step of the machine that it is.
 use Rattle.std.proofs.Common.{◌≡◌, ℕ, ◌+◌, ◌*◌, ◌/◌, ◌%◌, ◌<◌, ◌≤◌, refl, sym, ap}
 use Rattle.std.proofs.Common.{◌∙◌, subst, true≢false, arith, Bool, true, false, ◌&&◌, ◌||◌}
 use Rattle.std.proofs.Common.{nat_lt, nat_eq, Some, get_or, length}
@@ -36,12 +36,13 @@ abbrev pub is_F : Kind → Bool
 is_F F = true
 is_F kind = false
 
--- an order that names a location below a place
+-- an order that names a location below another
 pub record IsNear (top w : ℕ) : Type 0 where
   pub plain : is_spare w ≡ false
   pub below : address_of w < top
 
--- what holds before an order of a path: it is of the kind, no F, and neither it nor what it names is from the place on
+-- what holds before an order of a path: it is of the kind, not F, and neither it nor the location that it names is at
+-- the limit or above
 pub record IsOrder (top : ℕ) (kind : Kind) (s : State) : Type 0 where
   pub fits : top ≤ locations s.size
   pub counter : s.counter < top
@@ -55,11 +56,11 @@ pub record Does {n h : ℕ} (f : Frame n h) (kind : Kind) (r : Moment) (turn : T
   pub does : (k : ℕ) → step (state f r k) ≡ record { state = state f t (k + 1); turn = turn }
   pub order : (k : ℕ) → IsOrder f.top kind (state f r k)
 
--- the word at the counter, where it is known otherwise than by computation
+-- the word at the counter, if it is known otherwise than by computation
 pub word_is : {c v w : ℕ} {a b : Bool} → v ≡ w → ◌≡◌ {A = ℕ × (ℕ × (Bool × Bool))} (c, (v, (a, b))) (c, (w, (a, b)))
 word_is {c} {a = a} {b = b} e = λ i. (c, (e i, (a, b)))
 
--- that a place is the piece's, where it is known otherwise
+-- that a location is the piece's, if it is known otherwise than by computation
 pub there_is : {c w : ℕ} {a b : Bool} → b ≡ true
     → ◌≡◌ {A = ℕ × (ℕ × (Bool × Bool))} (c, (w, (a, b))) (c, (w, (a, true)))
 there_is {c} {w} {a} e = λ i. (c, (w, (a, e i)))
@@ -81,7 +82,7 @@ plain_by : (g a : ℕ) (long : Bool) → a < 1024 → is_spare (word_by g long a
 plain_by g a true h = let e : (4096 * g + 1 + 2 * a) / 2048 % 2 ≡ 0 = omega arith in rw e refl
 plain_by g a false h = let e : (4096 * g + 0 + 2 * a) / 2048 % 2 ≡ 0 = omega arith in rw e refl
 
--- a kind that names no place neither jumps nor is F
+-- a kind that names no location neither jumps nor is F
 stays : (kind : Kind) → names kind ≡ false → (jumps kind ≡ false) × (is_F kind ≡ false)
 stays R e = (refl, refl)
 stays L e = (refl, refl)
@@ -90,18 +91,18 @@ stays Y e = (refl, refl)
 stays Z e = (refl, refl)
 stays kind e = absurd (true≢false e)
 
--- an order that jumps does so at a short place
+-- an order that jumps does so at a short location
 short_by : (a b c : Bool) → (a && (b && c)) ≡ false → a ≡ true → b ≡ true → c ≡ false
 short_by a b c e x y = grind arith
 
 module _ {n h : ℕ} (f : Frame n h) (r : Moment) where
-  -- the counter is at cell i, the word w stands there, and a test holds
+  -- the counter is at cell i, which holds the word w, and a test holds
   abbrev pub Stands : ℕ → ℕ → Bool → Type 0
   Stands i w test = ◌≡◌ {A = ℕ × (ℕ × (Bool × Bool))}
       (r.counter, (get_or r.cells i 0, (nat_lt (i + 1) n && nat_eq (length r.cells) n, test)))
       (f.base + i, (w, (true, true)))
 
-  -- the order with the function g that names the place stands there; a further test holds
+  -- the cell holds the order with the function g that names the location; a further test holds
   abbrev pub Names : ℕ → ℕ → Place f r → Bool → Type 0
   Names i g p more = Stands i (4096 * g + digit (is_pair f r p) + 2 * address f r p) (more && is_there f r p)
 
@@ -175,7 +176,7 @@ module _ {n h : ℕ} (f : Frame n h) (r : Moment) where
   }
 
 module _ {n h : ℕ} {f : Frame n h} {r : Moment} {kind : Kind} {turn : Turn} {t : Moment} where
-  -- an order that names a place, and is no F; where it jumps it is short
+  -- an order that names a location, and is not F; if it jumps it is short
   pub by_place : (i g : ℕ) (p : Place f r) (more : Bool) → Names f r i g p more → kind_of_function g ≡ Some kind
       → (is_F kind || (jumps kind && (more && is_pair f r p))) ≡ false
       → ((o : Named f r kind p more (f.base + (i + 1))) (k : ℕ)
@@ -190,7 +191,7 @@ module _ {n h : ℕ} {f : Frame n h} {r : Moment} {kind : Kind} {turn : Turn} {t
             (λ y. o.long ∙ short_by (jumps kind) more (is_pair f r p) x.1 y o.more_is);
       }
 
-  -- an order of which the whole word counts
+  -- an order whose whole word matters
   pub by_word : (i w : ℕ) → Stands f r i w true → kind_of_function (function_of w) ≡ Some kind → names kind ≡ false
       → ((o : IsWord f r kind w (f.base + (i + 1))) (k : ℕ)
       → obey kind w (state f r k) ≡ record { state = state f t (k + 1); turn = turn })

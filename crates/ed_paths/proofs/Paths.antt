@@ -30,7 +30,7 @@ followed {b = b} (on {k = k} first rest) next =
 followed {b = b} (prints {k = k} first rest) next =
     let e : suc k + b ≡ suc (k + b) = omega arith in rw e (prints first (followed rest next))
 
--- the states after an order and after those behind it
+-- the states after an order and after later ones
 pub no_state : (s : State) → state_after 0 s ≡ s
 unfolding past
 no_state s = refl
@@ -49,7 +49,7 @@ first_codes (suc k) s =
     ∙ ap (λ (x : State). codes_of (step s).turn ++ ((past k (step s).state).codes ++ codes_of (step x).turn))
     (first_state k s)
 
--- one order more, at the front
+-- one more order, at the front
 preceded : {k : ℕ} {s m t : State} {w : Turn} {cs : List ℕ} → step s ≡ record { state = m; turn = w }
     → goes_on w ≡ true → Leads k m cs t
     → Leads (suc k) s (codes_of w ++ cs) t
@@ -76,7 +76,7 @@ none : (s : State) → Leads 0 s [] s
 unfolding past
 none s = record { state_is = refl; codes_are = refl; goes = λ j h. absurd (omega arith) }
 
--- a path leads the machine where it says, from any number of orders done
+-- a path leads the machine where it says, whatever the count of orders before
 pub leads : {n h : ℕ} {f : Frame n h} {k : ℕ} {r t : Moment} {cs : List ℕ} → Path f k r cs t
     → (done : ℕ) → Leads k (state f r done) cs (state f t (done + k))
 leads {f = f} {t = t} stay done = let e : done + 0 ≡ done = omega arith in rw e (none (state f t done))

@@ -18,7 +18,7 @@ pub record IsOutside {n h : ℕ} (f : Frame n h) (words : List ℕ) (q : ℕ) : 
   pub below : q < f.top
   pub beside : Beside words f.base n q
 
--- a pair of locations outside it, whose sandwich digit is none of the piece's m
+-- a pair of locations outside it, whose sandwich digit is not one of the piece's m
 pub record IsPairOutside {n h : ℕ} (f : Frame n h) (words : List ℕ) (digits : List Bool) (m q : ℕ) : Type 0 where
   pub even : q % 2 ≡ 0
   pub below : q + 1 < f.top
@@ -42,7 +42,7 @@ pub record Held : Type 0 where
   pub cells : List ℕ
   pub pairs : List Bool
 
--- a location below 56 is outside a piece that stands behind the Initial Orders
+-- a location below 56 is outside a piece above the Initial Orders
 pub early : {n h : ℕ} {f : Frame n h} {words : List ℕ} (q : ℕ) → 56 ≤ f.base → q < 56 → length words ≡ 1024
     → IsOutside f words q
 early {f = f} q low l all = record {
@@ -85,7 +85,7 @@ module _ {n h : ℕ} (f : Frame n h) (r : Moment) where
   value (pair_out q a) = joined (get_or r.words (q + 1) 0) (get_or r.digits (q / 2) false) (get_or r.words q 0)
   value (any q b) = get_or (all_words f r) q 0 * 2 ^ 18
 
-  -- the accumulator that holds the number u for this place at its top
+  -- the accumulator that holds the number u for this location at its upper end
   abbrev pub at_top : Place f r → ℕ → ℕ
   at_top (own j) u = short u
   at_top (pair j p e) u = long u
@@ -101,7 +101,7 @@ module _ {n h : ℕ} (f : Frame n h) (r : Moment) where
   fitting (pair_out q a) s l = l
   fitting (any q b) s l = s
 
-  -- what holds the number u once it is written there
+  -- the number u after it is written there
   abbrev pub holding : Place f r → ℕ → Held
   holding (own j) u = record { words = r.words; digits = r.digits; cells = set r.cells j u; pairs = r.pairs }
   holding (pair j p e) u = record {
@@ -135,7 +135,7 @@ module _ {n h : ℕ} (f : Frame n h) (r : Moment) where
   fitted (pair_out q a') a u e = omega arith
   fitted (any q b) a u e = omega arith
 
-  -- a pair of the piece, and where it stands
+  -- a pair of the piece, and its location
   record Paired (j p : ℕ) : Type 0 where
     second : j + 1 < n
     pair_is : j ≡ 2 * (h + p)
@@ -151,7 +151,7 @@ module _ {n h : ℕ} (f : Frame n h) (r : Moment) where
         digit_is = lt_of p (length r.pairs) d.1;
       }
 
-  -- each place that an order names is below the top
+  -- each location that an order names is below the top
   pub near : (p : Place f r) → is_there p ≡ true → address p < f.top
   near (own j) e = omega (arith, f.under, lt_of j n e)
   near (pair j p even) e = omega (arith, f.under, (paired j p even e).second)

@@ -3,7 +3,7 @@ use Rattle.std.proofs.Common.{◌≡◌, ℕ, ◌/◌, refl}
 use Rattle.ed_orders.specs.Places.{places}
 use lib.Count.{count_trailing_zeros}
 
--- a word is the order of a function that shifts by so many places
+-- a word is the order of a function that shifts by this number of places
 pub record IsShift (function word count : ℕ) : Type 0 where
   pub function_is : word / 4096 ≡ function
   pub places_are : places word ≡ count

@@ -1,5 +1,5 @@
--- Where a piece stands in a store: its image, which is its words with none at the places that it works in; the words
--- that it takes over; and what it leaves as it was.
+-- A piece in a store: its image, which is its words except those at the working locations; the words that it takes
+-- over; and what it leaves unchanged.
 use Rattle.std.proofs.Common.{◌≡◌, ℕ, zero, suc, ◌+◌, ◌-◌, ◌<◌, ◌≤◌, refl, sym, ap}
 use Rattle.std.proofs.Common.{◌∙◌, subst, arith, List, [], ◌∷◌, drop, Option, Some}
 use Rattle.std.proofs.Common.{None, length, get_or, inl, inr}
@@ -11,17 +11,17 @@ abbrev pub Meets : Option ℕ → ℕ → Type 0
 Meets None w = Unit {0}
 Meets (Some x) w = w ≡ x
 
--- the image stands in a store's words from a base on
+-- the image is in a store's words at a base
 abbrev pub Holds : List (Option ℕ) → List ℕ → ℕ → Type 0
 Holds image words base = (i : ℕ) → i < length image → Meets (get_or image i None) (get_or words (base + i) 0)
 
--- a place that the piece works in
+-- a working location of the piece
 pub record IsWorking (image : List (Option ℕ)) (base i : ℕ) : Type 0 where
   pub from : base ≤ i
   pub below : i < base + length image
   pub free : get_or image (i - base) None ≡ None
 
--- the image with what stands at its working places
+-- the image with the words at its working locations filled in
 abbrev pub filled : List (Option ℕ) → List ℕ → ℕ → ℕ → List ℕ
 filled [] ws b i = []
 filled (Some w ∷ rest) ws b i = w ∷ filled rest ws b (i + 1)
@@ -32,7 +32,7 @@ length_filled [] ws b i = refl
 length_filled (None ∷ rest) ws b i = ap suc (length_filled rest ws b (i + 1))
 length_filled (Some x ∷ rest) ws b i = ap suc (length_filled rest ws b (i + 1))
 
--- the rest of the image stands one place on
+-- the rest of the image is one location further
 one_on : (o : Option ℕ) (rest : List (Option ℕ)) (ws : List ℕ) (b i : ℕ)
     → ((j : ℕ) → j < length (o ∷ rest) → Meets (get_or (o ∷ rest) j None) (get_or ws (b + i + j) 0))
     → (j : ℕ) → j < length rest → Meets (get_or rest j None) (get_or ws (b + (i + 1) + j) 0)
@@ -60,7 +60,7 @@ opens image ws b l h =
     patched_self 0 ws b (filled image ws b 0) (omega arith) (λ j lj.
     filled_at image ws b 0 (λ k lk. rw z (h k lk)) j (omega arith) ∙ ap (λ x. get_or ws (x + j) 0) z)
 
--- the image with the words at its working places
+-- the image with other words at its working locations
 abbrev pub merged : List (Option ℕ) → List ℕ → List ℕ
 merged (Some x ∷ os) (c ∷ cs) = x ∷ merged os cs
 merged (None ∷ os) (c ∷ cs) = c ∷ merged os cs
@@ -76,7 +76,7 @@ merged_at (None ∷ os) (c ∷ cs) h zero l m = tt
 merged_at (Some y ∷ os) (c ∷ cs) h (suc j) l m = merged_at os cs (ap (drop 1) h) j (omega arith) (omega arith)
 merged_at (None ∷ os) (c ∷ cs) h (suc j) l m = merged_at os cs (ap (drop 1) h) j (omega arith) (omega arith)
 
--- a piece that stood in a store, and whose words are now others at its working places
+-- a piece that was in a store, and whose words have changed at its working locations
 module _ (image : List (Option ℕ)) (ws : List ℕ) (b : ℕ) (cs : List ℕ) (long : length cs ≡ length image)
     (new : merged image cs ≡ cs)
     (old : Holds image ws b) where
@@ -94,7 +94,7 @@ module _ (image : List (Option ℕ)) (ws : List ℕ) (b : ℕ) (cs : List ℕ) (
       ap (λ p. get_or (patched 0 ws b cs) p 0) (sym j) ∙ get_own 0 ws b cs (i - b) inside ∙ is ∙ sym was
       ∙ ap (λ p. get_or ws p 0) j
 
-  -- each word of the store stays, but for the working ones
+  -- each word of the store is unchanged, except the working ones
   pub unchanged : (i : ℕ) → (IsWorking image b i → ⊥) → get_or (patched 0 ws b cs) i 0 ≡ get_or ws i 0
   unchanged i free =
       elim (cases_lt i b) [

@@ -22,7 +22,7 @@ pub left71_is : (a p u : ℕ) → a * 2 ^ p % 2 ^ 71 ≡ u → left71 a p ≡ u
 unfolding left71
 left71_is a p u e = e
 
--- u is what is left of a, where u and x make a
+-- u is what is left of a, if u and x make a
 abbrev pub Remains : ℕ → ℕ → ℕ → Type 0
 Remains a x u = (u < 2 ^ 71) × ((u + x) % 2 ^ 71 ≡ a)
 
@@ -47,7 +47,7 @@ pub right71_is : (a p u : ℕ) → IsQuotient a p u → right71 a p ≡ u
 unfolding right71
 right71_is a p u h = let e = h.1 in rw (signed_low 71 a h.0) (omega (arith, shr_le a p))
 
--- a product of positive numbers, of which nothing is lost
+-- a product of positive numbers, if no digit of it is lost
 abbrev pub AddsProduct : ℕ → ℕ → ℕ → ℕ → Type 0
 AddsProduct a m x u = (m < 2 ^ 34) × (x < 2 ^ 34) × (u < 2 ^ 71) × (a + 4 * (m * x) ≡ u)
 

@@ -1,9 +1,9 @@
--- A list with a window of explicit items at a place.
+-- A list with a window of explicit items at an index.
 use Rattle.std.proofs.Common.{◌≡◌, ℕ, zero, suc, ◌+◌, ◌-◌, ◌<◌, ◌≤◌, refl, ap, ◌∙◌}
 use Rattle.std.proofs.Common.{arith, List, [], ◌∷◌, ◌++◌, length, set, get_or, drop}
 use Rattle.std.proofs.lemmas.List.{length-set, get_or-drop, drop-set-add}
 
--- the list with `cs` from `base` on; `d` stands where the list is too short
+-- the list with `cs` from `base` onwards; `d` fills in if the list is too short
 unfoldable pub patched : {A : Type 0} → A → List A → ℕ → List A → List A
 patched d ws zero cs = cs ++ drop (length cs) ws
 patched d [] (suc b) cs = d ∷ patched d [] b cs
@@ -20,7 +20,7 @@ module _ {A : Type 0} (d : A) where
   set_left (c ∷ cs) ys zero v h = refl
   set_left (c ∷ cs) ys (suc j) v h = ap (λ x. c ∷ x) (set_left cs ys j v (omega arith))
 
-  -- behind a front
+  -- after a front
   pub get_right : (cs ys : List A) (j : ℕ) → get_or (cs ++ ys) (length cs + j) d ≡ get_or ys j d
   get_right [] ys j = let e : 0 + j ≡ j = omega arith in rw e refl
   get_right (c ∷ cs) ys j = let e : suc (length cs) + j ≡ suc (length cs + j) = omega arith

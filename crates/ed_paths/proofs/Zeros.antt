@@ -1,4 +1,4 @@
--- Digits that a piece prints one by one without those zeros that lead, as the print routine and the post-mortem do.
+-- Digits that a piece prints one by one without leading zeros, as the print routine and the post-mortem do.
 use Rattle.std.proofs.Common.{◌≡◌, ℕ, zero, suc, ◌+◌, ◌*◌, ◌<◌, ◌≤◌, arith, Bool, true, false}
 use Rattle.std.proofs.Common.{List, [], ◌∷◌, Option, Some}
 use Rattle.ed_paths.proofs.Frames.{Frame, Moment}
@@ -9,7 +9,7 @@ abbrev pub flag_of : Bool → ℕ
 flag_of true = 4096
 flag_of false = 0
 
--- what is printed of a digit: a zero only where a digit was printed before it
+-- what is printed of a digit: a zero only if a digit was printed before it
 abbrev pub shown : Bool → ℕ → List ℕ
 shown false zero = []
 shown false (suc q) = suc q ∷ []
@@ -27,13 +27,13 @@ spared false zero = 126976
 spared false (suc q) = 0
 spared true q = 0
 
--- the last code printed, behind these
+-- the last code printed, after these
 abbrev pub last_of : Option ℕ → List ℕ → Option ℕ
 last_of last [] = last
 last_of last (c ∷ cs) = last_of (Some c) cs
 
--- a power is taken away as often as it goes, where eight orders take it away once and count the digit: the moments are
--- those with what is left of the number and the digit so far
+-- a power is subtracted as often as possible; eight orders subtract it once and count the digit: the moments are those
+-- with what is left of the number and the digit so far
 pub taken_away : {n h : ℕ} {f : Frame n h} (moments : ℕ → ℕ → Moment) (power bound : ℕ)
     → ((u d : ℕ) → u + power < bound → d < 9 → Path f 8 (moments (u + power) d) [] (moments u (d + 1)))
     → (q d r : ℕ) → (q * power + r < bound) × (d + q ≤ 9)

@@ -14,7 +14,7 @@ none_at p n h = let e = le_false p n h in rw e refl
 some_at : (p n : ℕ) → p ≤ n → digit_at p n ≡ n / p % 10 ∷ []
 some_at p n h = let e = le_true p n h in rw e refl
 
--- a digit behind the others
+-- a digit after the others
 one_more : (n m d : ℕ) → 10 ≤ n → n < 2048 → n / 10 ≡ m → n % 10 ≡ d → decimal n ≡ decimal m ++ (48 + d) ∷ []
 one_more n m d some small e f = decimal_step n some (omega (arith, small)) ∙ (λ i. decimal (e i) ++ (48 + f i) ∷ [])
 

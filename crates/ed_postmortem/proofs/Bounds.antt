@@ -1,4 +1,4 @@
--- How many codes and orders a word is printed with at the most, and how long the tape's numbers are.
+-- The most codes and orders that print a word, and how long the tape's numbers are.
 use Rattle.std.proofs.Common.{ℕ, zero, suc, ◌+◌, ◌*◌, ◌/◌, ◌%◌, ◌≤◌, arith, Bool, true, false, nat_le, if◌then◌else◌}
 use Rattle.std.proofs.Common.{List, [], ◌∷◌, ◌++◌, length, get_or, length-append}
 use Rattle.ed_words.proofs.SizeLemmas.{most}
@@ -65,7 +65,7 @@ unfolding words_orders
 all_few zero xs p = omega arith
 all_few (suc count) xs p = omega (arith, few_orders (get_or xs p 0), all_few count xs (p + 1))
 
--- a number has five digits at the most
+-- a number has at most five digits
 one_digit : (t : Bool) (d : ℕ) → length (if t then d ∷ [] else []) ≤ 1
 one_digit true d = omega arith
 one_digit false d = omega arith

@@ -27,7 +27,7 @@ sum_append : (xs ys : List ℕ) → digit_sum (xs ++ ys) ≡ digit_sum xs + digi
 sum_append [] ys = omega arith
 sum_append (x ∷ xs) ys = omega (arith, sum_append xs ys)
 
--- a digit is one code at the most
+-- a digit is at most one code
 pub one_shown : (b : Bool) (q : ℕ) → length (shown b q) ≤ 1
 one_shown false zero = omega arith
 one_shown false (suc q) = omega arith

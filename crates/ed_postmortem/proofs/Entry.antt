@@ -1,4 +1,4 @@
--- What the tape of the post-mortem comes to.
+-- The entry of the post-mortem's tape.
 use Rattle.std.proofs.Common.{◌≡◌, ℕ, ◌+◌, ◌*◌, ◌<◌, ◌≤◌, refl, sym, ap, ◌∙◌, subst, arith, true, nat_lt, if◌then◌else◌}
 use Rattle.std.proofs.Common.{Option, Some, None, List, [], ◌∷◌, ◌++◌, length, lit<, lit≤, append_assoc}
 use Rattle.std.specs.Prelude.{codes}
@@ -31,7 +31,7 @@ parsed (Some b) (c ∷ rows) =
 abbrev pub listing : List Item
 listing = parsed None (rows_of_text orders)
 
--- the items that aim at the orders' places, and that enter them
+-- the items that aim at the orders' locations, and that enter them
 abbrev aims : List Item
 aims = plain 5 56 14 ∷ plain 27 0 14 ∷ []
 

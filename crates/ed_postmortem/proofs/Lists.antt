@@ -1,4 +1,4 @@
--- Words laid over a list of words, and a list with a new head.
+-- Words laid over a list of words, and a list with a new front.
 use Rattle.std.proofs.Common.{◌≡◌, ℕ, zero, suc, ◌+◌, ◌≤◌, refl, ap, arith, List, [], ◌∷◌, ◌++◌, length, get_or, drop}
 use Rattle.ed_notation.proofs.Placing.{with_block}
 use Rattle.ed_paths.proofs.Window.{patched, get_above}
@@ -12,7 +12,7 @@ block_window (x ∷ xs) (suc a) cs h =
     let e : suc a + length cs ≡ suc (a + length cs) = omega arith
     in rw e (ap (λ l. x ∷ l) (block_window xs a cs (omega arith)))
 
--- a window behind the head of a list
+-- a window after the front of a list
 pub behind_head : (xs ys cs : List ℕ) (b : ℕ) → patched 0 (xs ++ ys) (length xs + b) cs ≡ xs ++ patched 0 ys b cs
 unfolding patched
 behind_head [] ys cs b = let e : 0 + b ≡ b = omega arith in rw e refl
@@ -27,7 +27,7 @@ drop_window (suc n) [] cs b h = absurd (omega arith)
 drop_window (suc n) (y ∷ ys) cs b h = let e : suc n + b ≡ suc (n + b) = omega arith
     in rw e (drop_window n ys cs b (omega arith))
 
--- behind a new head a list is as it was
+-- after a new front a list is unchanged
 pub headed_same : (xs ys : List ℕ) (i : ℕ) → length xs ≤ i → get_or (xs ++ drop (length xs) ys) i 0 ≡ get_or ys i 0
 unfolding patched
 headed_same xs ys i h = get_above 0 ys 0 xs i (omega arith)

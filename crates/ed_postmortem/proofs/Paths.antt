@@ -63,8 +63,8 @@ module _ (given : Given) where
   abbrev pub f : Frame 84 0
   f = record { size = size; base = 56; top = locations size; under = room; fits = omega arith }
 
-  -- its words, the short number at the top of the accumulator, the multiplier, the cell of the next order, the last
-  -- code
+  -- its words, the short number at the upper end of the accumulator, the multiplier, the cell of the next
+  -- order, and the last code
   abbrev pub moment : Work → ℕ → ℕ → ℕ → Option ℕ → Moment
   moment w top m i last = record {
     words = ws;
@@ -87,7 +87,7 @@ module _ (given : Given) where
     low : before < 2 ^ 17
     next_is : (2 * j + 2 + (2 ^ 17 - 152)) % 2 ^ 17 ≡ after
 
-  -- so many orders print the codes of words, and go on before the word at p with c words left
+  -- k orders print the codes of words, and lead to the turn for the word at p with c words left
   record Prints (k : ℕ) (r : Moment) (cs : List ℕ) (p c : ℕ) : Type 0 where
     pub work : Work
     pub last : Option ℕ
@@ -119,7 +119,7 @@ module _ (given : Given) where
       at83 = 2 * c;
     }) top (1 * 2 ^ 18) i last
 
-    -- the power is taken away once, and the digit counted
+    -- the power is subtracted once, and the digit counted
     subtract : {j t before after flag spare : ℕ} {last : Option ℕ} → Power j t before after → (u d : ℕ) → u + t < 4096
         → d < 9
         → Path f 8 (at j (u + t) flag (4096 * d) spare 0 18 last) []
@@ -149,7 +149,7 @@ module _ (given : Given) where
         (on (U 38 (own 19) (49152 + 2 * (56 + (j + 1))) refl (omega arith))
         (on (S 39 (own 70) (short after) refl (omega arith)) stay))))
 
-    -- a digit is printed, or left out as a zero that leads
+    -- a digit is printed, or omitted as a leading zero
     print_digit : {rest spare : ℕ} {last : Option ℕ} (j q flag top : ℕ) → q ≤ 9 → flag ≤ 4096
         → 4096 ≤ 4096 * q + flag → top < 2 ^ 17
         → Path f 9 (at j rest flag (4096 * q) spare top 26 last) (q ∷ [])
@@ -259,7 +259,7 @@ module _ (given : Given) where
         let u : u ≡ 0 = omega arith in
         rw u length_odd
 
-    -- a new line, and the two orders that name the word's place are moved on
+    -- a new line, and the two orders that name the word's location are advanced
     moved_on : {left flag count spare : ℕ} {last : Option ℕ} (u : ℕ) → p < 1024
         → Path f 10 (at 76 left flag count spare u 53 last) (18 ∷ 24 ∷ [])
         (moment (record {
@@ -408,7 +408,7 @@ module _ (given : Given) where
       → Does f KindZ (moment (ready p 0 w) 131070 m 63 last) Stopped (moment (ready p 0 w) 131070 m 64 last)
   stops w p m last = Z 63 53248 refl refl
 
-  -- all words printed, and the state before the order that stops and the one behind it
+  -- all words printed, and the states before and after the order that stops
   pub record PrintsAll (first count m : ℕ) (w : Work) (last : Option ℕ) : Type 0 where
     pub work : Work
     pub last_code : Option ℕ

@@ -23,7 +23,7 @@ module _ {k : ℕ} {s t u : State} {codes : List ℕ} (l : Leads k s codes t)
   turn_is : (step (state_after k s)).turn ≡ Stops
   turn_is = ap (λ (x : State). (step x).turn) l.state_is ∙ ap (λ (o : Obeyed). o.turn) last
 
-  -- the state behind the stop
+  -- the state after the stop
   pub behind_stop : state_after (suc k) s ≡ u
   unfolding past
   behind_stop = ap (λ (x : State). (step x).state) l.state_is ∙ ap (λ (o : Obeyed). o.state) last
@@ -39,7 +39,7 @@ module _ {k : ℕ} {s t u : State} {codes : List ℕ} (l : Leads k s codes t)
       let e : j ≡ k = omega arith in
       ap (λ i. is_obeyed (step (state_after i s)).turn) e ∙ ap is_obeyed turn_is
 
-  -- where a run from there with no resume ends
+  -- how a run from there without resumes ends
   pub run_stops : {limit : ℕ} {sheet full : Sheet} {ending : Ending} {left : State}
       → IsRun limit 0 s sheet ending left full → suc k ≤ limit → length codes ≤ sheet.room - length sheet.codes
       → (left ≡ u) × (full ≡ record { codes = sheet.codes ++ codes; room = sheet.room })

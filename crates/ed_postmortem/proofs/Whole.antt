@@ -207,7 +207,7 @@ module _ {s : State} {first count : ℕ} (store : IsStore s.store) (range : InRa
       ∙ get_or-set_other ws 45 i (2 * first) 0 l.no_45
       ∙ headed_same initial_orders s.store.words i (omega (arith, l.behind))
 
-  -- each location behind the post-mortem is left
+  -- no location above the post-mortem's is changed
   far : (i : ℕ) → 140 ≤ i → IsUntouched i
   far i h = record {
     behind = omega arith;

@@ -8,7 +8,7 @@ use Rattle.ed_notation.specs.Spellings.{digit_at}
 abbrev pub number_in : ℕ → ℕ
 number_in word = word % 4096 / 2
 
--- the decimal digits of a number below 10000 before its units, none for those zeros that lead
+-- the decimal digits of a number below 10000 before its units, without leading zeros
 abbrev pub digits_before_units : ℕ → List ℕ
 digits_before_units n = digit_at 1000 n ++ (digit_at 100 n ++ digit_at 10 n)
 
@@ -16,7 +16,7 @@ digits_before_units n = digit_at 1000 n ++ (digit_at 100 n ++ digit_at 10 n)
 abbrev pub address_digits : ℕ → List ℕ
 address_digits n = digits_before_units n ++ (n % 10 ∷ [])
 
--- those of an address are the figures with which it is written in decimal
+-- for an address, those digits are its decimal text
 abbrev pub AddressDigitsLaw : Type 0
 AddressDigitsLaw = (n : ℕ) → n < 2048 → map (λ d. 48 + d) (address_digits n) ≡ decimal n
 
@@ -34,7 +34,7 @@ abbrev pub length_code : Bool → ℕ
 length_code true = 17
 length_code false = 19
 
--- the orders more that an even and an odd word take
+-- the additional orders for an even and for an odd word
 abbrev pub length_orders : Bool → ℕ
 length_orders true = 2
 length_orders false = 1
@@ -44,23 +44,23 @@ abbrev pub word_codes : ℕ → List ℕ
 word_codes word =
     15 ∷ word / 4096 ∷ 11 ∷ (address_digits (number_in word) ++ (15 ∷ length_code (is_even word) ∷ 18 ∷ 24 ∷ []))
 
--- the orders that print a word: of its digits before the units, 8 for each one of their sum and 4 for each that is
+-- the number of orders that print a word; for its digits before the units, 8 times their sum and 4 for each one
 -- printed
 abbrev pub word_orders : ℕ → ℕ
 word_orders word =
     83 + length_orders (is_even word) + 8 * digit_sum (digits_before_units (number_in word))
     + 4 * length (digits_before_units (number_in word))
 
--- the codes of the words at so many places from a first one on
+-- the codes of `count` words from location `first` upwards
 unfoldable pub printed_codes : List ℕ → ℕ → ℕ → List ℕ
 printed_codes words first zero = []
 printed_codes words first (suc count) = word_codes (slice_index words first) ++ printed_codes words (first + 1) count
 
--- the orders that print them
+-- the number of orders that print them
 unfoldable pub words_orders : List ℕ → ℕ → ℕ → ℕ
 words_orders words first zero = 0
 words_orders words first (suc count) = word_orders (slice_index words first) + words_orders words (first + 1) count
 
--- the orders from the entry to the stop: four end it
+-- the number of orders from the entry to the stop, which take four more
 abbrev pub printing_orders : List ℕ → ℕ → ℕ → ℕ
 printing_orders words first count = 4 + words_orders words first count

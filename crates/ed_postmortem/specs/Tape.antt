@@ -1,5 +1,5 @@
 -- The tape of the post-mortem (this project's own). It places its first location at 45 and its count at 46, and its
--- orders from 56 on, and enters them there.
+-- orders from 56 upwards, and enters them at 56.
 use Rattle.std.specs.Prelude.{ℕ, false, List, [], ◌∷◌, ◌++◌, codes, unwrap_or}
 use Rattle.ed_codes.specs.Spelling.{row_of}
 use Rattle.ed_notation.specs.declared.item.Item.{Item}
@@ -15,7 +15,7 @@ rows_of_text (byte ∷ text) = unwrap_or (row_of byte) 0 ∷ rows_of_text text
 abbrev pub count_item : ℕ → Item
 count_item n = record { function = 0; number = n; mark = false; end = 17 }
 
--- its orders and numbers, ten places a line
+-- its orders and numbers, ten words a line
 abbrev pub orders : List ℕ
 orders =
     codes "A83@S2FG63@T83@O64@OHO65@H66@CHT78@"

@@ -12,16 +12,16 @@ use ed_run::run;
 use ed_words::Word;
 use std::alloc::Global;
 
-/// The first location that can be printed: the post-mortem's own words stand below it.
+/// The first location that can be printed: the post-mortem's own words are below it.
 const FIRST: u16 = 144;
 
-/// More orders than a post-mortem obeys behind its entry.
+/// More orders than a post-mortem obeys after its entry.
 const ENOUGH: u64 = 250_000;
 
-/// Prints the words at `count` locations from `first` on: starts the machine, without Clear, on the tape of the
+/// Prints the words at `count` locations from `first` upwards: starts the machine, without Clear, on the tape of the
 /// post-mortem, loads it by the Initial Orders and runs it to its stop. The answer is the number of orders obeyed.
 ///
-/// A line of the paper is a word: `O66F` for an even one, `2047D` for an odd one, whose first letter is the function.
+/// A word is a line of the paper: `O66F` for an even one, `2047D` for an odd one; the first letter is the function.
 /// The refusals come in the order of `PmFault`, and change nothing.
 #[tactic(auto, using(crate::proofs::Bounds::enough, crate::proofs::AddressDigits::address_digits_law))]
 pub fn post_mortem(
@@ -61,7 +61,7 @@ fn obey(machine: &mut Machine, first: u16, count: u16, rows: Vec<Code>, paper: &
     requires rows { rows.items ≡ tape_rows first count }
     ensures { IsPrinted machine.old paper.old first count result machine.new paper.new }
 {
-    // The contract of `word` tells the proof that the store is one.
+    // The contract of `word` gives the proof that the store is one.
     let _ = machine.word(0);
     let before = machine.orders_done();
     begin(machine, rows);
@@ -70,7 +70,7 @@ fn obey(machine: &mut Machine, first: u16, count: u16, rows: Vec<Code>, paper: &
     machine.orders_done() - before
 }
 
-/// How many codes the words at `count` locations from `first` on are printed with.
+/// The number of codes that print the words at `count` locations from `first` upwards.
 fn codes_needed(machine: &Machine, first: u16, count: u16) -> usize
     requires { first + count ≤ 1024 }
     ensures { result ≡ length (printed_codes machine.now.store.words first count) }
@@ -82,7 +82,7 @@ fn codes_needed(machine: &Machine, first: u16, count: u16) -> usize
     needed
 }
 
-/// How many codes a word is printed with.
+/// The number of codes that print a word.
 fn codes_of_word(word: Word) -> usize
     ensures is { result ≡ length (word_codes word) }
     ensures most { result ≤ 11 }

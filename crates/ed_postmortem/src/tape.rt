@@ -6,10 +6,10 @@ use ed_notation::{Item, rows_of_items};
 use ed_words::NoMemory;
 use std::alloc::Global;
 
-/// What the tape begins with, before its first location and its count.
+/// The beginning of the tape, before its first location and its count.
 const HEAD: &[u8] = b"T45K";
 
-/// What stands behind these: the orders of the post-mortem, ten places a line, between their directives.
+/// The rows after these: the orders of the post-mortem, ten words a line, between their directives.
 const ORDERS: &[u8] = b"T56KGK\
     A83@S2FG63@T83@O64@OHO65@H66@CHT78@\
     H67@C78@T79@T80@A69@T19@T82@T81@A78@S73@\
@@ -22,7 +22,7 @@ const ORDERS: &[u8] = b"T56KGK\
     PFPFPFPN\
     E56KPF";
 
-/// The rows of the tape that prints the words at `count` locations from `first` on.
+/// The rows of the tape that prints the words at `count` locations from `first` upwards.
 pub(crate) fn tape(alloc: Global, first: u16, count: u16) -> Result<Vec<Code>, NoMemory>
     requires first { first ≤ 1024 }
     requires count { count ≤ 1024 }
@@ -48,7 +48,7 @@ fn parameter(number: u16) -> Item
     }
 }
 
-/// The rows of a text of letters, signs and digits at the end of the rows so far.
+/// Adds the rows of a text of letters, signs and digits at the end of the rows so far.
 fn push_text(rows: &mut Vec<Code>, text: &[u8]) -> Result<(), NoMemory>
     ensures { IfOk result (λ v. rows.new.items ≡ rows.old.items ++ rows_of_text text.now) }
 {
@@ -59,7 +59,7 @@ fn push_text(rows: &mut Vec<Code>, text: &[u8]) -> Result<(), NoMemory>
     Ok(())
 }
 
-/// Further rows at the end of the rows so far.
+/// Adds further rows at the end of the rows so far.
 fn push_rows(rows: &mut Vec<Code>, more: &[Code]) -> Result<(), NoMemory>
     ensures { IfOk result (λ v. rows.new.items ≡ rows.old.items ++ more.now) }
 {

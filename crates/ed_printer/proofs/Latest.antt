@@ -7,7 +7,7 @@ use Rattle.ed_printer.specs.Paper.{struck, shift_after, paper_from, latest_shift
 use Rattle.ed_printer.specs.declared.printer.Shift.{Shift}
 use Rattle.ed_printer.specs.declared.printer.Shift.TheVariants.{Letters}
 
--- `latest_shift` with the shift where there is no 11 or 15
+-- `latest_shift`, with a given shift if there is no 11 or 15
 abbrev latest_or : Shift → List ℕ → Shift
 latest_or shift [] = shift
 latest_or shift (code ∷ codes) = shift_after (latest_or shift codes) code
@@ -16,7 +16,7 @@ latest_is : (codes : List ℕ) → latest_shift codes ≡ latest_or Letters code
 latest_is [] = refl
 latest_is (code ∷ codes) = ap (λ (s : Shift). shift_after s code) (latest_is codes)
 
--- the earliest code stands last
+-- the earliest code is last in the list
 latest_earlier : (shift : Shift) (codes : List ℕ) (code : ℕ)
     → latest_or shift (codes ++ code ∷ []) ≡ latest_or (shift_after shift code) codes
 latest_earlier shift [] code = refl

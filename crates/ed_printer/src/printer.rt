@@ -6,7 +6,7 @@ use ed_codes::Code;
 use std::alloc::AllocError;
 use std::marker::Model;
 
-/// Which of the two characters of a code is printed.
+/// Which of the two characters of a code prints.
 #[derive(Clone, Copy, Debug, PartialEq, Eq)]
 pub enum Shift {
     /// Letter shift, set by code 15.
@@ -31,19 +31,19 @@ impl Model for Printer {
     ghost inverse = { λ s. record { shift = s } };
 }
 
-/// The character of each code in letter shift: 0 where it prints nothing.
+/// The character of each code in letter shift: 0 if it prints nothing.
 const LETTERS: &[u8; 32] = b"PQWERTYUIOJ\0SZK\0\0F\rD HNM\nLXGABCV";
 
-/// The character of each code in figure shift: 0 where it prints nothing.
+/// The character of each code in figure shift: 0 if it prints nothing.
 const FIGURES: &[u8; 32] = b"0123456789\0\0\"+(\0\0$\r; \xA3,.\n)/#-?:=";
 
-/// The character that stands for nothing.
+/// The character that prints nothing.
 const NOTHING: u8 = 0;
 
-/// The pound sign, which is the one character of two bytes.
+/// The pound sign, the only character of two bytes.
 const POUND: u8 = 0xA3;
 
-/// The first of its bytes; the second is the character itself.
+/// The first byte of the pound sign; the second is the character itself.
 const BEFORE_POUND: u8 = 0xC2;
 
 impl Shift {
@@ -122,7 +122,7 @@ impl Printer {
         Ok(())
     }
 
-    /// The character of a code in the printer's shift, which then is the one that the code leaves.
+    /// The character of a code in the printer's shift; the printer is then in the shift that the code sets.
     #[inline(always)]
     fn character(&mut self, code: Code) -> u8
         ensures bytes { bytes_of result ≡ struck self.old code }

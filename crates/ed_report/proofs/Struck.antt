@@ -1,4 +1,4 @@
--- Codes that were struck from a printer's start on are a paper.
+-- Codes struck on a new printer give the bytes of a paper.
 use Rattle.std.proofs.Common.{◌≡◌, ◌∙◌, ◌++◌, List, ℕ, [], sym, ap, append_assoc, append-nil}
 use Rattle.ed_printer.specs.Paper.{paper, paper_from}
 use Rattle.ed_printer.specs.declared.printer.Shift.{Shift}

@@ -25,7 +25,7 @@ no_order_pieces : (counter orders : ℕ) (text : List ℕ)
     ≡ at_after (codes "no order") counter orders ++ codes ": " ++ text ++ 10 ∷ []
 no_order_pieces counter orders text = simp append_assoc
 
--- what is written of a run that came to no order is its line
+-- what is written of a run that reached no order is its line
 pub no_order_wrote : (s : State) (counter orders : ℕ) (text : List ℕ) → counter ≡ s.counter → orders ≡ s.orders
     → text ≡ order_text (short_at s.store s.counter)
     → codes "no order at " ++ (decimal counter

@@ -1,4 +1,4 @@
--- The lines that tell of the library's routines (this project's own rule).
+-- The lines that describe the library's routines (this project's own rule).
 use Rattle.std.specs.Prelude.{ℕ, false, List, ◌∷◌, [], ◌++◌, codes, length, flat_map}
 use Rattle.std.specs.Fmt.{decimal}
 use Rattle.ed_codes.specs.Spelling.{byte_of}

@@ -5,7 +5,7 @@ use Rattle.std.specs.Fmt.{decimal}
 use Rattle.ed_store.specs.Cells.{Cells, short_at}
 use Rattle.ed_orders.specs.Texts.{order_text}
 
--- a number in decimal, right in so many columns
+-- a number in decimal, right-aligned in `width` columns
 abbrev pub right : ℕ → ℕ → List ℕ
 right width n = repeat (width - length (decimal n)) (codes " ") ++ decimal n
 

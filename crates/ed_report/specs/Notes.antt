@@ -1,4 +1,4 @@
--- The lines that the program writes of a fault or of a run's ending (this project's own rule). Each ends with a line
+-- The lines that the program writes for a fault or for a run's ending (this project's own rule). Each ends with a line
 -- feed (10), and its numbers are in decimal.
 use Rattle.std.specs.Prelude.{ℕ, List, [], ◌∷◌, ◌++◌, codes}
 use Rattle.std.specs.Fmt.{decimal}
@@ -21,7 +21,7 @@ use Rattle.ed_machine.specs.State.{State}
 use Rattle.ed_machine.specs.declared.ending.Ending.{Ending}
 use Rattle.ed_machine.specs.declared.ending.Ending.TheVariants.{Stopped, Limit, NoOrder, NoTape, PaperFull}
 
--- `byte B: T1 no row` and `byte B: T2 open comment`, B the place; want of memory is told by no line of this kind
+-- `byte B: T1 no row` and `byte B: T2 open comment`, B the byte's offset; that no memory was found is no such line
 abbrev pub text_fault_line : TextFault → List ℕ
 text_fault_line (NoRow place byte) = codes "byte " ++ decimal place ++ codes ": T1 no row" ++ 10 ∷ []
 text_fault_line (OpenComment place) = codes "byte " ++ decimal place ++ codes ": T2 open comment" ++ 10 ∷ []
@@ -40,7 +40,7 @@ cause_text NoPlace = codes "N8 no place"
 cause_text EntryNegative = codes "N9 entry negative"
 cause_text EntryInLoader = codes "N10 entry in loader"
 
--- `row R: Nk TEXT`, R the row at which a tape breaks a rule
+-- `row R: Nk TEXT`; R is the row at which a tape breaks a rule
 abbrev pub rule_line : ℕ → TapeCause → List ℕ
 rule_line row cause = codes "row " ++ decimal row ++ codes ": " ++ cause_text cause ++ 10 ∷ []
 
@@ -49,7 +49,7 @@ abbrev pub part_line : ℕ → ℕ → TapeCause → List ℕ
 part_line part row cause = codes "part " ++ decimal part ++ codes ", row " ++ decimal row ++ codes ": "
     ++ cause_text cause ++ 10 ∷ []
 
--- the line of a tape's fault; want of memory is told by no line of this kind
+-- the line of a tape's fault; that no memory was found is not a line of this kind
 abbrev pub tape_fault_line : TapeFault → List ℕ
 tape_fault_line (At row cause) = rule_line row cause
 tape_fault_line NoMemoryThere = []
@@ -78,21 +78,21 @@ source_cause_text source.SandwichDigit = codes "S17 sandwich digit"
 abbrev pub of_line : ℕ → List ℕ → List ℕ
 of_line line text = codes "line " ++ decimal line ++ codes ": " ++ text ++ 10 ∷ []
 
--- `line L: Sk TEXT`, L the line, counted from 1; want of memory is told by no line of this kind
+-- `line L: Sk TEXT`, L the line, counted from 1; that no memory was found is not a line of this kind
 abbrev pub source_fault_line : SourceFault → List ℕ
 source_fault_line (AtLine line cause) = of_line line (source_cause_text cause)
 source_fault_line NoMemoryForIt = []
 
--- the line of a script's line that is none
+-- the line for a script's line that is not a command
 abbrev pub bad_command_line : ℕ → List ℕ
 bad_command_line line = of_line line (codes "C1 bad command")
 
--- that of one that goes back too far, with the orders done there
+-- the line for a command that goes back too far, with the count of orders at that point
 abbrev pub too_far_line : ℕ → ℕ → List ℕ
 too_far_line line done = codes "line " ++ decimal line ++ codes ": C2 back too far, " ++ decimal done
     ++ codes " done" ++ 10 ∷ []
 
--- that of an input that no line divides, with the number of its lines and 1
+-- the line for an input without a line that divides it, with the number of its lines plus 1
 abbrev pub no_text_line : ℕ → List ℕ
 no_text_line line = of_line line (codes "C3 no text line")
 
@@ -100,8 +100,8 @@ no_text_line line = of_line line (codes "C3 no text line")
 abbrev pub at_after : List ℕ → ℕ → ℕ → List ℕ
 at_after name counter orders = name ++ codes " at " ++ decimal counter ++ codes " after " ++ decimal orders
 
--- the line of a run's ending, with the counter and the orders done at its end; where the run came to no order, the text
--- of the word at the counter stands on it
+-- the line of a run's ending, with the counter and the count of orders at its end; if the word at the counter is no
+-- order, the line ends with its text
 abbrev pub ending_line : Ending → State → List ℕ
 ending_line Stopped s = at_after (codes "stopped") s.counter s.orders ++ 10 ∷ []
 ending_line Limit s = at_after (codes "limit") s.counter s.orders ++ 10 ∷ []
@@ -110,6 +110,6 @@ ending_line NoOrder s =
 ending_line NoTape s = at_after (codes "no tape") s.counter s.orders ++ 10 ∷ []
 ending_line PaperFull s = at_after (codes "paper full") s.counter s.orders ++ 10 ∷ []
 
--- `entered E after N orders, `, which stands before the line of an ending where the run entered its program
+-- `entered E after N orders, `, which comes before the line of an ending if the run entered its program
 abbrev pub entered : ℕ → ℕ → List ℕ
 entered at orders = codes "entered " ++ decimal at ++ codes " after " ++ decimal orders ++ codes " orders, "

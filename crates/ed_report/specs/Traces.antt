@@ -12,11 +12,11 @@ unfoldable pub functions_after : ℕ → State → List ℕ
 functions_after zero s = []
 functions_after (suc k) s = functions_after k s ++ function_of (next_word (state_after k s)) ∷ []
 
--- whether n letters fill their lines
+-- whether n letters end with a full line
 abbrev pub is_full : ℕ → Bool
 is_full n = nat_eq (n % 50) 0
 
--- a line feed (10) behind a line that is full
+-- a line feed (10) after a full line
 abbrev pub line_end : Bool → List ℕ
 line_end true = 10 ∷ []
 line_end false = []
@@ -25,12 +25,12 @@ line_end false = []
 abbrev pub traced_letter : ℕ → ℕ → List ℕ
 traced_letter n function = byte_of function false ∷ line_end (is_full n)
 
--- the letters of functions behind n others
+-- the letters of functions after n others
 abbrev pub letters_from : ℕ → List ℕ → List ℕ
 letters_from n [] = []
 letters_from n (f ∷ fs) = traced_letter (n + 1) f ++ letters_from (n + 1) fs
 
--- a line feed behind the last of n letters, where its line is not full
+-- a line feed after the last of n letters, unless its line is full
 abbrev pub last_end : ℕ → List ℕ
 last_end n = if is_full n then [] else 10 ∷ []
 

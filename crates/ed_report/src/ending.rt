@@ -7,8 +7,8 @@ use ed_orders::order_text;
 use ed_words::NoMemory;
 use std::alloc::Global;
 
-/// The line that tells how a run ended, with the counter and the orders done of the machine after it. For `NoOrder` the
-/// text of the word at the counter stands on it too.
+/// The line that reports how a run ended, with the counter and the count of orders of the machine after it. For
+/// `NoOrder` it ends with the text of the word at the counter.
 #[tactic(auto, using(ed_words::proofs::SizeLemmas::most))]
 pub fn ending_text(alloc: Global, ending: Ending, machine: &Machine) -> Result<Vec<u8>, NoMemory>
     ensures { IfOk result (λ bytes. bytes.items ≡ ending_line ending machine.now) }
@@ -22,8 +22,7 @@ pub fn ending_text(alloc: Global, ending: Ending, machine: &Machine) -> Result<V
     }
 }
 
-/// The same line behind `entered E after N orders, `, for a run that entered its program at `entry` after `cost`
-/// orders.
+/// The same line after `entered E after N orders, `, for a run that entered its program at `entry` after `cost` orders.
 pub fn entered_text(
     alloc: Global,
     entry: u16,
@@ -41,7 +40,7 @@ pub fn entered_text(
     }
 }
 
-/// What stands before the line of an ending where the program was entered.
+/// The text before the line of an ending if the program was entered.
 fn entered(alloc: Global, entry: u16, cost: u64) -> Result<Vec<u8>, NoMemory>
     ensures { IfOk result (λ bytes. bytes.items ≡ entered entry cost) }
 {
@@ -57,7 +56,7 @@ fn ending_line(alloc: Global, name: &str, machine: &Machine) -> Result<Vec<u8>, 
     bytes_of_text(format!(in alloc; "{name} at {counter} after {orders}\n"))
 }
 
-/// The line of a run that came to a word that is no order.
+/// The line of a run that reached a word that is no order.
 fn no_order_line(alloc: Global, machine: &Machine) -> Result<Vec<u8>, NoMemory>
     ensures { IfOk result (λ bytes. bytes.items ≡ ending_line Ending.NoOrder machine.now) }
 {

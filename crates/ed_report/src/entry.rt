@@ -5,14 +5,14 @@ use crate::text::bytes_of_text;
 use ed_words::NoMemory;
 use std::alloc::Global;
 
-/// The line that tells where a tape is entered, after how many orders and rows.
+/// The line that reports where a tape is entered, and after how many orders and rows.
 pub fn entry_text(alloc: Global, at: u16, orders: u64, rows: usize) -> Result<Vec<u8>, NoMemory>
     ensures { IfOk result (λ bytes. bytes.items ≡ entry_line at orders rows) }
 {
     bytes_of_text(format!(in alloc; "entry {at} after {orders} orders, {rows} rows\n"))
 }
 
-/// The line that tells of a program that came back to the Initial Orders, with the address of its directive, after how
+/// The line that reports that a program returned to the Initial Orders: the address of its directive, and after how
 /// many orders.
 pub fn returned_text(alloc: Global, address: u16, orders: u64) -> Result<Vec<u8>, NoMemory>
     ensures { IfOk result (λ bytes. bytes.items ≡ returned_line address orders) }

@@ -10,7 +10,7 @@ use ed_syntax::{SourceCause, SourceFault};
 use ed_words::NoMemory;
 use std::alloc::Global;
 
-/// The line that tells of a fault of a tape text, with the byte's place counted from 0.
+/// The line that reports a fault of a tape text, with the byte's offset counted from 0.
 pub fn text_fault(alloc: Global, fault: &TextFault) -> Result<Vec<u8>, NoMemory>
     requires { fault.now ≢ Memory }
     ensures { IfOk result (λ bytes. bytes.items ≡ text_fault_line fault.now) }
@@ -26,7 +26,7 @@ pub fn text_fault(alloc: Global, fault: &TextFault) -> Result<Vec<u8>, NoMemory>
     }
 }
 
-/// The line that tells of a fault of a tape, with the row counted from 0.
+/// The line that reports a fault of a tape, with the row counted from 0.
 pub fn tape_fault(alloc: Global, fault: &TapeFault) -> Result<Vec<u8>, NoMemory>
     requires { fault.now ≢ TapeFault.Memory }
     ensures { IfOk result (λ bytes. bytes.items ≡ tape_fault_line fault.now) }
@@ -37,8 +37,8 @@ pub fn tape_fault(alloc: Global, fault: &TapeFault) -> Result<Vec<u8>, NoMemory>
     }
 }
 
-/// The line that tells of a rule that is broken in a part of a tape, with the parts counted from 1 and the row from
-/// 0, from the tape's first.
+/// The line that reports a rule broken in a part of a tape, with the parts counted from 1 and the row from 0 at the
+/// tape's first.
 pub fn part_fault(
     alloc: Global,
     part: u32,
@@ -51,7 +51,7 @@ pub fn part_fault(
     bytes_of_text(format!(in alloc; "part {part}, row {row}: {rule}\n"))
 }
 
-/// The line of a rule that is broken at a row.
+/// The line that reports a rule broken at a row.
 fn rule_line(alloc: Global, row: usize, cause: TapeCause) -> Result<Vec<u8>, NoMemory>
     ensures { IfOk result (λ bytes. bytes.items ≡ rule_line row cause) }
 {
@@ -77,7 +77,7 @@ fn cause_text(cause: TapeCause) -> &'static str
     }
 }
 
-/// The line that tells of a fault of a source.
+/// The line that reports a fault of a source.
 pub fn source_fault(alloc: Global, fault: &SourceFault) -> Result<Vec<u8>, NoMemory>
     requires { fault.now ≢ SourceFault.Memory }
     ensures { IfOk result (λ bytes. bytes.items ≡ source_fault_line fault.now) }

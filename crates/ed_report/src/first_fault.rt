@@ -6,7 +6,7 @@ use ed_initial1::{Tape1Cause, Tape1Fault};
 use ed_words::NoMemory;
 use std::alloc::Global;
 
-/// The line that tells of a fault of a tape of Initial Orders 1, with the row counted from 0.
+/// The line that reports a fault of a tape of Initial Orders 1, with the row counted from 0.
 pub fn tape1_fault(alloc: Global, fault: &Tape1Fault) -> Result<Vec<u8>, NoMemory>
     requires { fault.now ≢ Tape1Fault.Memory }
     ensures { IfOk result (λ bytes. bytes.items ≡ tape1_fault_line fault.now) }

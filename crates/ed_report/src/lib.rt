@@ -1,4 +1,4 @@
-//! Texts for the outside: printed papers, listings, the library, traces, and the lines about faults, entries and
+//! Texts that are written: printed papers, listings, the library, traces, and the lines about faults, entries and
 //! endings.
 //!
 //! Contract: each text is exact to the byte. Stands on `ed_machine`, `ed_printer`, `ed_notation`, `ed_initial1`,

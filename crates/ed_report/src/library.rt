@@ -9,7 +9,7 @@ use ed_library::{Routine, catalogue_size, routine};
 use ed_words::NoMemory;
 use std::alloc::Global;
 
-/// A line for each routine of the library, in order of name: its name, how many places it takes, and the letters of its
+/// A line for each routine of the library, in order of name: its name, its number of words, and the letters of its
 /// preset parameters.
 pub fn library_text(alloc: Global) -> Result<Vec<u8>, NoMemory>
     ensures { IfOk result (λ bytes. bytes.items ≡ library_text) }
@@ -36,7 +36,7 @@ fn routine_line(alloc: Global, routine: Routine) -> Result<Vec<u8>, NoMemory>
     }
 }
 
-/// The name of a routine, a blank, and how many places it takes.
+/// The name of a routine, a blank, and its number of words.
 fn name_and_length(alloc: Global, routine: Routine) -> Result<Vec<u8>, NoMemory>
     ensures { IfOk result (λ bytes. bytes.items ≡ (entry routine).name ++ codes " "
         ++ decimal (length (entry routine).items)) }
@@ -46,7 +46,7 @@ fn name_and_length(alloc: Global, routine: Routine) -> Result<Vec<u8>, NoMemory>
     bytes_of_text(format!(in alloc; "{name} {places}"))
 }
 
-/// Adds the letters of a routine's preset parameters, each behind a blank.
+/// Adds the letters of a routine's preset parameters, each after a blank.
 fn push_parameters(line: &mut Vec<u8>, routine: Routine) -> Result<(), NoMemory>
     ensures { IfOk result (λ _. line.new.items ≡ line.old.items ++ flat_map parameter_text (entry routine).parameters) }
 {

@@ -6,7 +6,7 @@ use ed_printer::Printer;
 use ed_words::NoMemory;
 use std::alloc::Global;
 
-/// The bytes that a printer at its start gives for printed codes.
+/// The bytes that codes print, starting in letter shift.
 pub fn paper_text(alloc: Global, codes: &[Code]) -> Result<Vec<u8>, NoMemory>
     ensures { IfOk result (λ bytes. bytes.items ≡ paper codes.now) }
 {
@@ -16,8 +16,7 @@ pub fn paper_text(alloc: Global, codes: &[Code]) -> Result<Vec<u8>, NoMemory>
     Ok(bytes)
 }
 
-/// The bytes that a printer at its start gives for two papers: the second is printed in the shift that the first
-/// leaves.
+/// The bytes that two papers print, starting in letter shift: the second begins in the shift that the first leaves.
 pub fn papers_text(alloc: Global, first: &[Code], second: &[Code]) -> Result<Vec<u8>, NoMemory>
     ensures { IfOk result (λ bytes. bytes.items ≡ paper (first.now ++ second.now)) }
 {
@@ -28,8 +27,8 @@ pub fn papers_text(alloc: Global, first: &[Code], second: &[Code]) -> Result<Vec
     Ok(bytes)
 }
 
-/// Prints codes; whatever codes come after them are printed in the shift that is left. Kept out of the callers, since
-/// it would slow the run of a tape down.
+/// Prints codes, and leaves the printer in the shift of the last of them. This is a function of its own because inlined
+/// it would slow down the run of a tape.
 #[inline(never)]
 fn strike_all(printer: &mut Printer, bytes: &mut Vec<u8>, codes: &[Code]) -> Result<(), NoMemory>
     ensures { IfOk result (λ _. (rest : List ℕ) →

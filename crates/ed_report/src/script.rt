@@ -1,4 +1,4 @@
-//! The lines that tell of faults of a script.
+//! The lines that report faults of a script.
 ghost use Rattle.std.specs.Prelude.{◌≡◌, IfOk};
 ghost use Rattle.ed_report.specs.Notes.{bad_command_line, no_text_line, too_far_line};
 
@@ -6,21 +6,21 @@ use crate::text::bytes_of_text;
 use ed_words::NoMemory;
 use std::alloc::Global;
 
-/// The line that tells of a script's line that is none, counted from 1.
+/// The line that reports that a script's line, counted from 1, is not a command.
 pub fn bad_command(alloc: Global, line: u32) -> Result<Vec<u8>, NoMemory>
     ensures { IfOk result (λ bytes. bytes.items ≡ bad_command_line line) }
 {
     bytes_of_text(format!(in alloc; "line {line}: C1 bad command\n"))
 }
 
-/// The line that tells of a script's line that goes back by more orders than are done there.
+/// The line that reports that a script's line goes back by more orders than were obeyed.
 pub fn back_too_far(alloc: Global, line: u32, done: u64) -> Result<Vec<u8>, NoMemory>
     ensures { IfOk result (λ bytes. bytes.items ≡ too_far_line line done) }
 {
     bytes_of_text(format!(in alloc; "line {line}: C2 back too far, {done} done\n"))
 }
 
-/// The line that tells of an input that no line divides: the line behind its last one.
+/// The line that reports that no line divides the input: the number is that of the line after its last one.
 pub fn no_text(alloc: Global, line: u32) -> Result<Vec<u8>, NoMemory>
     ensures { IfOk result (λ bytes. bytes.items ≡ no_text_line line) }
 {

@@ -5,11 +5,11 @@ use ed_codes::{Code, byte_of};
 use ed_words::NoMemory;
 use std::alloc::Global;
 
-/// How many letters a line of a trace has.
+/// The number of letters on a line of a trace.
 pub const LETTERS: usize = 50;
 
-/// The trace of the functions of orders: the letter or sign of each, never a digit, 50 to a line. The last line,
-/// where it has a letter, ends with a line feed.
+/// The trace of the functions of orders: the letter or sign of each, never a digit, 50 to a line. The last line ends
+/// with a line feed if it has a letter.
 pub fn trace_text(alloc: Global, functions: &[Code]) -> Result<Vec<u8>, NoMemory>
     ensures { IfOk result (λ bytes. bytes.items ≡ trace_text functions.now) }
 {
@@ -26,7 +26,7 @@ pub fn trace_text(alloc: Global, functions: &[Code]) -> Result<Vec<u8>, NoMemory
     Ok(text)
 }
 
-/// A byte more of a text.
+/// Adds a byte to a text.
 fn add(text: &mut Vec<u8>, byte: u8) -> Result<(), NoMemory>
     ensures { IfOk result (λ _. text.new.items ≡ text.old.items ++ byte ∷ []) }
 {

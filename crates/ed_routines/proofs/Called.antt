@@ -1,4 +1,4 @@
--- A routine that stands: its image in the store, and which words stay once it has returned.
+-- A routine at a base: its image in the store, and which words are unchanged once it has returned.
 use Rattle.std.proofs.Common.{◌≡◌, ◌⊎◌, inl, inr, ℕ, ◌+◌, ◌-◌, ◌*◌, ◌<◌, ◌≤◌}
 use Rattle.std.proofs.Common.{refl, sym, ap, ◌∙◌, arith, true, false, true≢false}
 use Rattle.std.proofs.Common.{Bool, List, [], ◌∷◌, Option, length, get_or}
@@ -21,7 +21,7 @@ use Rattle.ed_routines.proofs.Image.{Makes, none, more, all_plain, holds_rows, i
 abbrev pub image : ℕ → ℕ → List ℕ → List (Option ℕ)
 image r b hs = image_from (entry r).items (entry r).working b hs 0
 
--- a routine of n cells, the location that it is given and the place to which it returns stand below a place
+-- a routine of n cells, the location that it is given and the location to which it returns are below a location
 pub record IsWithin (n b h top : ℕ) (s : State) : Type 0 where
   pub under : b + n ≤ top
   pub near : h < top
@@ -45,7 +45,7 @@ pub record IsCalled (r : ℕ) (parameters : List ℕ) (b h top : ℕ) (s : State
   pub outside : IsOutside r b h s
   pub within : IsWithin (place_count r) b h top s
 
--- which is so where nothing else is asked but that the store goes so far
+-- that is so if nothing is required but that the store reaches so far
 pub called : {r b h : ℕ} {parameters : List ℕ} {s : State} → length s.store.words ≡ 1024 → Stands r parameters b s
     → IsOutside r b h s → IsCalled r parameters b h (locations s.size) s
 called all stands outside = record {
@@ -63,7 +63,7 @@ beside {s = s} words all out =
     let below = out.below in
     elim out.beside [ inl l ↦ inl (l, omega arith) | inr g ↦ inr g ]
 
--- words that are a routine's at a base, where its places are no working ones, hold its image
+-- words that are a routine's at a base, except at its working locations, contain its image
 pub holds_words : (r : ℕ) {parameters hs : List ℕ} {b : ℕ} {s : State} → b ≤ 1024 → Makes parameters hs
     → all_plain (length hs) (entry r).items ≡ true → ((i : ℕ) → i < place_count r → HasWord r parameters b s i)
     → Holds (image r b hs) s.store.words b
@@ -71,7 +71,7 @@ holds_words r {s = s} low makes plain words =
     holds_rows low makes (entry r).working (0, 0, false, 0) (entry r).items s.store.words plain
     (λ i l. (words i l).has)
 
--- a routine that stands has its image in the store
+-- a routine at a base has its image in the store
 pub holds : {r b : ℕ} {parameters hs : List ℕ} {s : State} → Stands r parameters b s → Makes parameters hs
     → all_plain (length hs) (entry r).items ≡ true → Holds (image r b hs) s.store.words b
 holds {r} {s = s} o makes plain =
@@ -86,7 +86,7 @@ holds_h {h = h} {s} o out plain =
     let here : Makes (with_h h) (h ∷ []) = more (omega arith) refl none in
     holds o here plain
 
--- a call of a routine of n cells: where it stands, the place from which it is called, and what is around it
+-- a call of a routine of n cells: its base, the location from which it is called, and what is around it
 pub record Call (n pairs : ℕ) : Type 0 where
   pub frame : Frame n pairs
   pub behind : 56 ≤ frame.base
@@ -108,8 +108,8 @@ call_of {n} {pairs} {b} {h} {top} {s} low within = record {
   last = s.last;
 }
 
--- a moment of a call: the words around the routine and in its cells, the number at the top of the accumulator, and
--- the cell of the next order
+-- a moment of a call: the words around the routine and in its cells, the number at the upper end of the
+-- accumulator, and the cell of the next order
 abbrev pub moment : {n pairs : ℕ} → Call n pairs → List ℕ → List ℕ → ℕ → ℕ → Moment
 moment call words cells top i = record {
   words = words;
@@ -142,7 +142,7 @@ begins {r} {b = b} {s = s} hs o within all holds =
       counter = counter i;
     }
 
--- a location that is no working place is none of the image's
+-- a location that is not a working one is not one of the image's working ones
 not_working : {r b i : ℕ} (hs : List ℕ) → IsOther r b i → IsWorking (image r b hs) b i → ⊥
 not_working {r} {b} {i} hs o w = by_case o.other
   where
@@ -161,7 +161,7 @@ not_working {r} {b} {i} hs o w = by_case o.other
         ∙ ap (λ y. list_any (λ p. p == y) (entry r).working) z
         ∙ free)
 
--- a word that is at no working place stays
+-- a word outside the working locations is unchanged
 pub kept : {r b i : ℕ} (hs : List ℕ) → IsOther r b i → (ws cells : List ℕ) → length cells ≡ length (image r b hs)
     → merged (image r b hs) cells ≡ cells → Holds (image r b hs) ws b
     → get_or (patched 0 ws b cells) i 0 ≡ get_or ws i 0

@@ -7,7 +7,7 @@ use Rattle.std.proofs.lemmas.Fmt.{decimal_digit, decimal_step}
 use Rattle.std.proofs.lemmas.Bool.{cases_lt}
 use Rattle.ed_routines.specs.Digits.{digits_value, value_behind, without_zeros, before_units, digits, DigitsLaw}
 
--- zeros that lead count for nothing
+-- leading zeros make no difference
 value_without : (ds : List ℕ) (u : ℕ) → digits_value (without_zeros ds ++ u ∷ []) ≡ 10 * digits_value ds + u
 value_without [] u = refl
 value_without (zero ∷ ds) u = value_without ds u
@@ -17,7 +17,7 @@ value_without (suc d ∷ ds) u = after (10 * 0 + suc d) ds u
     after n [] u = refl
     after n (d ∷ ds) u = after (10 * n + d) ds u
 
--- the digits before the units, with the zeros that lead
+-- the digits before the units, with leading zeros
 abbrev pub tens : ℕ → List ℕ
 tens n = n / 10000 ∷ n / 1000 % 10 ∷ n / 100 % 10 ∷ n / 10 % 10 ∷ []
 
@@ -25,7 +25,7 @@ positive : (q : ℕ) (ds : List ℕ) → 0 < q → without_zeros (q ∷ ds) ≡ 
 positive zero ds l = absurd (omega arith)
 positive (suc q) ds l = refl
 
--- a digit behind the others
+-- a digit after the others
 one_more : (n m d : ℕ) → 10 ≤ n → n < 65536 → n / 10 ≡ m → n % 10 ≡ d → decimal n ≡ decimal m ++ (48 + d) ∷ []
 one_more n m d some small e f = decimal_step n some (omega (arith, small)) ∙ (λ i. decimal (e i) ++ (48 + f i) ∷ [])
 
@@ -113,7 +113,7 @@ digits_law n small =
           ]
         ]
 
--- there are five at the most
+-- there are at most five
 few_without : (ds : List ℕ) → length (without_zeros ds) ≤ length ds
 few_without [] = omega arith
 few_without (zero ∷ ds) = let e = few_without ds in omega (arith, e)

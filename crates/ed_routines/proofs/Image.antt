@@ -1,5 +1,5 @@
--- The tie between a routine's table in the library and the words that a path speaks of: its image at a base, with
--- none at its working places.
+-- The link between a routine's table in the library and the words that a path uses: its image at a base, without the
+-- words at its working locations.
 use Rattle.std.proofs.Common.{◌≡◌, ℕ, zero, suc, ◌+◌, ◌-◌, ◌*◌, ◌<◌, ◌≤◌, refl, sym, ap, ◌∙◌, arith, Bool, true, false}
 use Rattle.std.proofs.Common.{◌&&◌, ◌||◌, nat_eq, nat_le, nat_lt, List, []}
 use Rattle.std.proofs.Common.{◌∷◌, Option, Some, None, length, get_or, lit≤}
@@ -26,7 +26,7 @@ row_word b hs row =
     else if nat_le 21 row.3 then 4096 * row.0 + 2 * row.1 + digit row.2 + 2 * get_or hs (row.3 - 21) 0
     else 4096 * row.0 + 2 * row.1 + digit row.2
 
--- a row that ends with F, θ or D, or with one of the so many parameters that the routine takes, and whose word is not
+-- a row that ends with F, θ or D, or with one of the parameters that the routine takes, and whose word is not
 -- reduced
 abbrev pub is_plain : ℕ → Row → Bool
 is_plain takes row =
@@ -37,7 +37,7 @@ abbrev pub all_plain : ℕ → List Row → Bool
 all_plain takes [] = true
 all_plain takes (row ∷ rows) = is_plain takes row && all_plain takes rows
 
--- the words of the rows from place i on, but for the working places
+-- the words of the rows from row i onwards, except at the working locations
 abbrev pub image_from : List Row → List ℕ → ℕ → List ℕ → ℕ → List (Option ℕ)
 image_from [] working b hs i = []
 image_from (row ∷ rows) working b hs i =
@@ -118,7 +118,7 @@ module _ {parameters hs : List ℕ} {b : ℕ} (low : b ≤ 1024) (makes : Makes 
     here_meets true row x plain e = tt
     here_meets false row x plain e = e refl ∙ row_word_is row plain
 
-    -- a word that is the library's, where its place is no working one, meets the image
+    -- a word that is the library's, except at a working location, agrees with the image
     meets : (rows : List Row) (i j x : ℕ) → all_plain takes rows ≡ true → j < length rows
         → (list_any (λ p. p == (i + j)) working ≡ false
         → x ≡ routine_word parameters b (table_item (get_or rows j no_row)))
@@ -133,7 +133,7 @@ module _ {parameters hs : List ℕ} {b : ℕ} (low : b ≤ 1024) (makes : Makes 
         let z : i + suc j ≡ i + 1 + j = omega arith in
         meets rows (i + 1) j x p.1 (omega arith) (λ w. e (ap (λ y. list_any (λ p. p == y) working) z ∙ w))
 
-    -- a store with the library's words at a base, but for the working places, holds the image
+    -- a store with the library's words at a base, except at the working locations, holds the image
     pub holds_rows : (rows : List Row) (ws : List ℕ) → all_plain takes rows ≡ true
         → ((j : ℕ) → j < length rows → list_any (λ p. p == j) working ≡ false
         → get_or ws (b + j) 0 ≡ routine_word parameters b (table_item (get_or rows j no_row)))
@@ -148,7 +148,7 @@ here_working : (t : Bool) (w : ℕ) → ◌≡◌ {A = Option ℕ} (if t then No
 here_working true w e = refl
 here_working false w e = cc
 
--- the image has none at working places alone
+-- the image leaves out words at working locations only
 pub working_at : (rows : List Row) (working : List ℕ) (b : ℕ) (hs : List ℕ) (i j : ℕ) → j < length rows
     → get_or (image_from rows working b hs i) j None ≡ None
     → list_any (λ p. p == (i + j)) working ≡ true

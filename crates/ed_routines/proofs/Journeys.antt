@@ -19,7 +19,7 @@ use Rattle.ed_paths.proofs.Window.{patched, patched_self, get_own, length_patche
 use Rattle.ed_routines.specs.Standing.{Stands, caller}
 use Rattle.ed_routines.specs.Returns.{IsOther}
 
--- k orders print the codes and lead to an order that stops the machine, with the counter at a place
+-- k orders print the codes and lead to an order that stops the machine, with the counter at a location
 pub record ComesToStop (k : ℕ) (s : State) (codes : List ℕ) (at : ℕ) : Type 0 where
   pub last : State
   pub leads : Leads k s codes last
@@ -69,7 +69,7 @@ stop_after first count o = record {
 
 -- ---- a call of a routine of the library as one line
 
--- the routine r that is called in s at w prints the codes and goes back after its call; its words are then ds, and
+-- the routine r that is called in s at w prints the codes and returns after its call; its words are then ds, and
 -- the last code is l
 pub record Returns (r w : ℕ) (s : State) (k : ℕ) (codes ds : List ℕ) (l : Option ℕ) : Type 0 where
   pub leads : Leads k s codes (record s {
@@ -82,7 +82,7 @@ pub record Returns (r w : ℕ) (s : State) (k : ℕ) (codes ds : List ℕ) (l : 
   pub long : length (patched 0 s.store.words w ds) ≡ 1024
   pub keeps : (q : ℕ) → IsOther r w q → get_or (patched 0 s.store.words w ds) q 0 ≡ get_or s.store.words q 0
 
--- a routine stands in words beside a piece
+-- a routine is in the words beside a piece
 pub record HasRoutine {n h : ℕ} (f : Frame n h) (words : List ℕ) (r w : ℕ) (parameters : List ℕ) : Type 0 where
   pub low : 56 ≤ w
   pub fits : w + place_count r ≤ locations f.size
@@ -120,7 +120,7 @@ module _ {n h : ℕ} {f : Frame n h} {r : Moment} (o : IsIn f r) where
   pub caller_is : (i w done : ℕ) → caller (state f (called i w) done) ≡ f.base + i
   caller_is i w done = omega arith
 
-  -- there it stands, called
+  -- the routine is there, called
   pub stands : {r0 w : ℕ} {parameters : List ℕ} (i done : ℕ) → i + 3 ≤ n → HasRoutine f r.words r0 w parameters
       → Stands r0 parameters w (state f (called i w) done)
   stands {r0} {w} {parameters} i done room has =
@@ -181,7 +181,7 @@ module _ {n h : ℕ} {f : Frame n h} {r : Moment} (o : IsIn f r) where
         (λ j l. sym (gone.keeps (f.base + j) (own_other j (omega arith))
         ∙ get_own 0 r.words f.base r.cells j (omega arith)))
 
-    -- the words beside the piece and the routine's working places stay
+    -- the words outside the piece and the routine's working locations are unchanged
     pub stays : (q : ℕ) → (q < f.base) ⊎ (f.base + n ≤ q) → IsOther r0 w q
         → get_or (after_call w i ds l).words q 0 ≡ get_or r.words q 0
     stays q beside other = gone.keeps q other ∙ beside_word q beside
@@ -217,7 +217,8 @@ module _ {n h : ℕ} {f : Frame n h} {r : Moment} (o : IsIn f r) where
           (joined (leads two done) back.leads);
     }
 
-    -- a routine that stood before the call stands after it, where the call's routine works in none of its words
+    -- a routine that was in the store before the call is still there after it, if the call's routine works in none of
+    -- its words
     pub has_after : {r1 w1 : ℕ} {others : List ℕ} → HasRoutine f r.words r1 w1 others
         → ((j : ℕ) → j < place_count r1 → is_working r1 j ≡ false → IsOther r0 w (w1 + j))
         → HasRoutine f (after_call w i ds l).words r1 w1 others
@@ -238,12 +239,12 @@ module _ {n h : ℕ} {f : Frame n h} {r : Moment} (o : IsIn f r) where
         away j m (inl b) = inl (omega arith)
         away j m (inr b) = inr (omega arith)
 
--- a place of a routine that is no working one
+-- an offset in a routine that is not a working one
 pub no_working : {r w : ℕ} (j : ℕ) → is_working r j ≡ false → IsOther r w (w + j)
 no_working {r} {w} j free =
     let e : w + j - w ≡ j = omega arith in record { other = inr (inr (ap (is_working r) e ∙ free)) }
 
--- a place of another routine
+-- a location of another routine
 pub elsewhere : {r w : ℕ} (q : ℕ) → (q < w) ⊎ (w + place_count r ≤ q) → IsOther r w q
 elsewhere q (inl b) = record { other = inl b }
 elsewhere q (inr a) = record { other = inr (inl a) }

@@ -17,7 +17,7 @@ use Rattle.ed_routines.proofs.Print.{before_tens, cells as print_cells}
 use Rattle.ed_routines.proofs.PrintCall as print_call
 use Rattle.ed_routines.proofs.Journeys.{HasRoutine, IsIn, Journey, Returns, all_long, after_call, called, calls}
 
--- the caller as a routine reckons it
+-- the caller, as a routine computes it
 abbrev pub reckoned : ℕ → ℕ
 reckoned m = (short (114688 + 2 * m) / 2 ^ 54 - 114688) / 2
 
@@ -90,7 +90,7 @@ module _ {n h : ℕ} {f : Frame n h} {r : Moment} (o : IsIn f r) where
       side (inl b) = inr (omega arith)
       side (inr b) = inl (omega arith)
 
-  -- the same by the number that stands there
+  -- the same, by the number in that cell
   pub print_goes : {w v : ℕ} (i j : ℕ) → number_at j ≡ v → j < n → v < 65536
       → ((w + 51 ≤ f.base) ⊎ (f.base + n ≤ w))
       → (done : ℕ) → Stands print (with_h (f.base + j)) w (state f (called o i w) done)

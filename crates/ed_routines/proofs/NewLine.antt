@@ -1,4 +1,4 @@
--- `newline` from the library's table to what it does.
+-- `newline`, from the library's table to what it does.
 use Rattle.std.proofs.Common.{◌≡◌, ℕ, ◌+◌, ◌*◌, refl, ap, ◌∙◌, arith, ◌<◌, List, [], ◌∷◌, Some, get_or, length}
 use Rattle.ed_words.proofs.SizeLemmas.{most}
 use Rattle.ed_orders.specs.declared.kind.Kind.{Kind}
@@ -49,7 +49,7 @@ module _ {parameters : List ℕ} {b top : ℕ} {s : State} (all : length s.store
   pub leads_to : Leads 5 s (18 ∷ 24 ∷ []) last
   leads_to = newline_leads s b (caller s) top called all
 
-  -- what holds of every order that keeps below the place holds before each of them
+  -- what holds of every order that stays below the location holds before each of them
   pub keeps_below : (P : State → Type 0) → ((kind : Kind) (x : State) → IsOrder top kind x → P x) → (j : ℕ) → j < 5
       → P (state_after j s)
   keeps_below = newline_keeps s b (caller s) top called all

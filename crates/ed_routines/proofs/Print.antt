@@ -16,7 +16,7 @@ use Rattle.ed_routines.proofs.Called.{Call, moment}
 use Rattle.ed_routines.proofs.Digits.{tens}
 use Rattle.ed_routines.proofs.Walks.{Walk, Weights, walked, walked_away}
 
--- the cells that change: the order that takes a power away, the one that returns, what is left of the number, whether a
+-- the cells that change: the order that subtracts a power, the one that returns, what is left of the number, whether a
 -- digit was printed, the digit, and a spare cell
 pub record Work : Type 0 where
   pub at11 : ℕ
@@ -41,7 +41,7 @@ cells b h w =
     ∷ 45056 ∷ 4096 ∷ (49152 + 2 * (b + 43)) ∷ (49152 + 2 * (b + 47)) ∷ 10000 ∷ 1000 ∷ 100 ∷ 10 ∷ w.at47 ∷ w.at48
     ∷ w.at49 ∷ w.at50 ∷ []
 
--- digits without those zeros that lead, with the units
+-- digits without leading zeros, with the units
 abbrev pub spelled : Bool → List ℕ → ℕ → List ℕ
 spelled b [] units = units ∷ []
 spelled b (q ∷ qs) units = shown b q ++ spelled (begun b q) qs units
@@ -74,16 +74,16 @@ sum_is [] = refl
 sum_is (zero ∷ qs) = let e = sum_is qs in omega (arith, e)
 sum_is (suc q ∷ qs) = refl
 
--- how many orders a digit before the units takes
+-- the number of orders that a digit before the units takes
 abbrev pub digit_orders : Bool → ℕ → ℕ
 digit_orders b q = 15 + 8 * q + 4 * length (shown b q)
 
--- whether a digit stands before the tens
+-- whether a digit was printed before the tens
 abbrev pub before_tens : ℕ → Bool
 before_tens n = begun (begun (begun false (n / 10000)) (n / 1000 % 10)) (n / 100 % 10)
 
--- what the orders weigh that take a power away once, those that print a digit or pass one over, and all of a digit
--- before the units
+-- the weights of the orders that subtract a power once, of those that print a digit or pass over one, and of all for a
+-- digit before the units
 abbrev pub once_weight : Weights → ℕ
 once_weight w = 6 * w.plain + w.passed_G + w.taken
 
@@ -140,7 +140,7 @@ module _ (given : Given) where
         at50 = spare;
       }) v i last
 
-  -- what the test for the next power leaves, behind the power at cell j
+  -- what the test for the next power leaves, after the power at cell j
   abbrev pub tested : ℕ → ℕ
   tested j = (2 * j + 2 + (2 ^ 17 - 94)) % 2 ^ 17
 
@@ -154,7 +154,7 @@ module _ (given : Given) where
     next_is : tested j ≡ after
 
   module _ (w : Weights) where
-    -- the power is taken away once
+    -- the power is subtracted once
     subtract : {j p before after flag spare : ℕ} {last : Option ℕ} → Power j p before after → (u d : ℕ)
         → u + p < 2 ^ 16 → d < 9
         → Walk w f 8 (once_weight w) (at j (u + p) flag (4096 * d) spare 0 10 last) []
@@ -300,7 +300,7 @@ module _ (given : Given) where
         let negative : nat_lt (short u) (2 ^ 70) ≡ false = lt_false (short u) (2 ^ 70) (omega arith) in
         record { path = on (G_jumps 32 (own 8) refl (omega arith)) stay; weighs = rw negative (omega arith) }
 
-    -- none is: the units are printed
+    -- no power is left: the units are printed
     closed : {flag count spare : ℕ} {last : Option ℕ} (j rest : ℕ) → rest ≤ 9
         → Walk w f 7 (w.passed_G + 3 * w.plain + 2 * w.middle + w.taken) (at j rest flag count spare 0 32 last)
         (rest ∷ []) (record (at j rest flag (4096 * rest) spare 0 0 (Some rest)) { counter = m + 2 })

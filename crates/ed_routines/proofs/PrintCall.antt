@@ -1,4 +1,4 @@
--- `print` from the library's table to what it does.
+-- `print`, from the library's table to what it does.
 use Rattle.std.proofs.Common.{◌≡◌, ℕ, ◌+◌, ◌*◌, ◌/◌, ◌%◌, ◌<◌, refl, ap, ◌∙◌, subst, arith, false, [], ◌∷◌, Some}
 use Rattle.std.proofs.Common.{get_or, length}
 use Rattle.ed_words.proofs.SizeLemmas.{most}
@@ -103,17 +103,17 @@ module _ {b h top : ℕ} {s : State} (o : IsCalled print (with_h h) b h top s) (
       let fits = o.stands.fits in
       length_patched 0 s.store.words b (cells b h left) (omega (arith, o.all, fits)) ∙ o.all
 
-  -- so many orders print the digits and lead behind the call
+  -- that many orders print the digits and lead to the order after the call
   pub leads_to : Leads (print_orders n) s (11 ∷ digits n) last
   leads_to = subst (λ x. Leads (print_orders n) x (11 ∷ digits n) last) starts (leads path s.orders)
 
-  -- what holds of every order that keeps below the place holds before each of them
+  -- what holds of every order that stays below the location holds before each of them
   pub keeps_below : (P : State → Type 0) → ((kind : Kind) (x : State) → IsOrder top kind x → P x) → (j : ℕ)
       → j < print_orders n
       → P (state_after j s)
   keeps_below P is j l = subst (λ x. P (state_after j x)) starts (each P is path s.orders j l)
 
-  -- what is counted for each order that keeps below the place, by its kind and the accumulator, is the weight of the
+  -- what is counted for each order that stays below the location, by its kind and the accumulator, is the weight of the
   -- routine's orders
   pub weighs : (w : Weights) (of : State → ℕ)
       → ((kind : Kind) (x : State) → IsOrder top kind x → of x ≡ weight w kind x.acc)

@@ -29,7 +29,7 @@ cells b h w =
     ∷ (12288 + 2 * (b + 3)) ∷ (20480 + 2 * (b + 23)) ∷ (114688 + 2 * (b + 21)) ∷ (20480 + 2 * h) ∷ w.at19
     ∷ 10 ∷ w.at21 ∷ w.at22 ∷ w.at23 ∷ []
 
--- the cells after digit rows behind a number
+-- the cells after digit rows that follow a number
 abbrev pub worked : ℕ → List ℕ → Work → Work
 worked n [] w = w
 worked n (d ∷ ds) w = worked (10 * n + d) ds (record w {

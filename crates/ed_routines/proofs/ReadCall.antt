@@ -1,4 +1,4 @@
--- `read` from the library's table to what it does.
+-- `read`, from the library's table to what it does.
 use Rattle.std.proofs.Common.{◌≡◌, ◌≢◌, inl, inr, ℕ, ◌+◌, ◌*◌, ◌%◌, ◌^◌, ◌<◌, ◌≤◌}
 use Rattle.std.proofs.Common.{refl, sym, ap, ◌∙◌, subst, arith, true, false, Bool}
 use Rattle.std.proofs.Common.{List, [], ◌∷◌, ◌++◌, get_or, set, length, length-append, append-nil, drop, nat_lt}
@@ -26,7 +26,7 @@ use Rattle.ed_routines.proofs.Called.{Call, IsCalled, image, holds_h, kept, besi
 use Rattle.ed_routines.proofs.Read.{Work, Around, Digits, none, more, cells, run, whole}
 use Rattle.ed_routines.proofs.Read.{until_end, worked, opened_work, last_work}
 
--- a tape is its digit rows and the rows behind them
+-- a tape is its digit rows and the rows after them
 pub split : (rows : List ℕ) → rows ≡ digit_rows rows ++ after_digits rows
 split [] = refl
 split (row ∷ rows) = by_test (nat_lt row 10) refl (split rows)
@@ -48,7 +48,7 @@ get_or-length : (xs : List ℕ) (c : ℕ) (rest : List ℕ) → get_or (xs ++ c 
 get_or-length [] c rest = refl
 get_or-length (x ∷ xs) c rest = get_or-length xs c rest
 
--- the row behind digit rows is an ending row
+-- the row after digit rows is an ending row
 is_ending : (rows : List ℕ) (c : ℕ) (rest : List ℕ) → after_digits rows ≡ c ∷ rest → 10 ≤ c
 is_ending [] c rest e = cc
 is_ending (row ∷ rows) c rest e = by_test (nat_lt row 10) refl (is_ending rows c rest)
@@ -66,7 +66,7 @@ few_rows rows =
     let sum = length-append (digit_rows rows) (after_digits rows) in
     omega arith
 
--- where all rows are digit rows, none stands behind them
+-- if all rows are digit rows, no row follows them
 pub no_ending : (rows : List ℕ) → length (digit_rows rows) ≡ length rows → after_digits rows ≡ []
 no_ending rows all = by_rows (after_digits rows) refl
   where
@@ -78,7 +78,7 @@ no_ending rows all = by_rows (after_digits rows) refl
         let more : length (after_digits rows) ≡ length (c ∷ rest) = ap length e in
         absurd (omega arith)
 
--- where some row is none, the first such row stands behind them
+-- if some row is not a digit row, the first such row follows them
 pub has_ending : (rows : List ℕ) → length (digit_rows rows) ≢ length rows
     → after_digits rows ≡ get_or rows (length (digit_rows rows)) 0 ∷ drop 1 (after_digits rows)
 has_ending rows other = by_rows (after_digits rows) refl
@@ -128,7 +128,7 @@ module _ {b h top : ℕ} {s : State} (o : IsCalled read (with_h h) b h top s) wh
       ap (λ x. state f (run call h s.store.words first (114688 + 2 * caller s) 0 x) s.orders) (sym tape)
       ∙ begins (h ∷ []) o.stands o.within o.all image_holds
 
-  -- a word at no working place stays, whatever was written at h
+  -- a word outside the working locations is unchanged, whatever was written at h
   stays : (v : ℕ) (w : Work) (i : ℕ) → i ≢ h → IsOther read b i
       → get_or (patched 0 (set s.store.words h v) b (cells b h w)) i 0 ≡ get_or s.store.words i 0
   stays v w i other free =
@@ -141,12 +141,12 @@ module _ {b h top : ℕ} {s : State} (o : IsCalled read (with_h h) b h top s) wh
       still : Holds (image read b (h ∷ [])) (set s.store.words h v) b
       still j l = rw (get_or-set_other s.store.words h (b + j) v 0 (apart j l)) (image_holds j l)
 
-  -- the word at h is none of the routine's
+  -- the word at h is not one of the routine's
   at_h : (ws : List ℕ) (w : Work) → get_or (patched 0 ws b (cells b h w)) h 0 ≡ get_or ws h 0
   at_h ws w = elim o.outside.beside
       [ inl l ↦ get_below 0 ws b (cells b h w) h l | inr g ↦ get_above 0 ws b (cells b h w) h g ]
 
-  -- where an ending row stands behind the digit rows
+  -- if an ending row follows the digit rows
   module _ {c : ℕ} {rest : List ℕ} (e : after_digits s.tape ≡ c ∷ rest) (code : c < 32) where
     rows_are : s.tape ≡ ds ++ c ∷ rest
     rows_are = split s.tape ∙ ap (λ x. ds ++ x) e
@@ -180,12 +180,12 @@ module _ {b h top : ℕ} {s : State} (o : IsCalled read (with_h h) b h top s) wh
         let long : length written ≡ 1024 = length-set s.store.words h (digits_value ds % 2 ^ 17) ∙ o.all in
         length_patched 0 written b (cells b h left) (omega (arith, long, fits)) ∙ long
 
-    -- so many orders read the rows and lead behind the call
+    -- that many orders read the rows and lead to the order after the call
     pub leads_to : Leads (11 + 13 * length ds) s [] last
     leads_to = subst (λ x. Leads (11 + 13 * length ds) x [] last) (starts (ds ++ c ∷ rest) rows_are)
         (leads path s.orders)
 
-    -- what holds of every order that keeps below the place holds before each of them
+    -- what holds of every order that stays below the location holds before each of them
     pub keeps_below : (P : State → Type 0) → ((kind : Kind) (x : State) → IsOrder top kind x → P x) → (j : ℕ)
         → j < 11 + 13 * length ds → P (state_after j s)
     keeps_below P is j l = subst (λ x. P (state_after j x)) (starts (ds ++ c ∷ rest) rows_are)
@@ -209,7 +209,7 @@ module _ {b h top : ℕ} {s : State} (o : IsCalled read (with_h h) b h top s) wh
             ∙ stays (digits_value ds % 2 ^ 17) left i other free;
       }
 
-  -- where none does
+  -- if no ending row does
   module _ (e : after_digits s.tape ≡ []) where
     rows_are_all : s.tape ≡ ds ++ []
     rows_are_all = split s.tape ∙ ap (λ x. ds ++ x) e
@@ -231,7 +231,7 @@ module _ {b h top : ℕ} {s : State} (o : IsCalled read (with_h h) b h top s) wh
       orders = s.orders + (3 + 13 * length ds);
     }
 
-    -- so many orders read the rows and lead to the order that waits for one more
+    -- that many orders read the rows and lead to the order that waits for one more
     pub leads_to_end : Leads (3 + 13 * length ds) s [] waiting
     leads_to_end = subst (λ x. Leads (3 + 13 * length ds) x [] waiting) (starts (ds ++ []) rows_are_all)
         (leads path_to_end s.orders)

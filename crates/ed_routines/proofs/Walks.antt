@@ -81,7 +81,7 @@ module _ {n h : ℕ} {f : Frame n h} {w : Weights} where
       → Walk w f (a + b) (u + v) r (cs ++ ds) t
   walked first next = rw (← first.weighs) (along first.path next)
 
-  -- a power is taken away as often as it goes, as `taken_away` says of paths
+  -- a power is subtracted as often as possible, as `taken_away` says of paths
   pub walked_away : {v : ℕ} (moments : ℕ → ℕ → Moment) (power bound : ℕ)
       → ((u d : ℕ) → u + power < bound → d < 9 → Walk w f 8 v (moments (u + power) d) [] (moments u (d + 1)))
       → (q d r : ℕ) → (q * power + r < bound) × (d + q ≤ 9)

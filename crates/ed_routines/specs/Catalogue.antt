@@ -1,4 +1,4 @@
--- The routines by their names, and the preset parameter with which they are used (this project's own).
+-- The routines by their names, and the preset parameters with which they are used (this project's own).
 use Rattle.std.specs.Prelude.{ℕ, ◌*◌, List, [], ◌∷◌, codes, unwrap_or}
 use Rattle.ed_library.specs.Routines.{find}
 

@@ -1,5 +1,5 @@
--- A routine of the library stands at a base and is called with a clear accumulator from m: the order A m F is in the
--- accumulator, and 2 and 3 hold what makes of it the order that returns (Wilkes, Wheeler and Gill 1951).
+-- A routine of the library is at a base and is called with a clear accumulator from m: the order A m F is in the
+-- accumulator, and 2 and 3 hold the words that turn it into the order that returns (Wilkes, Wheeler and Gill 1951).
 use Rattle.std.specs.Prelude.{◌≡◌, ◌⊎◌, ℕ, ◌+◌, ◌-◌, ◌*◌, ◌/◌, ◌^◌, ◌<◌, ◌≤◌, false, List}
 use Rattle.ed_words.specs.Sizes.{locations}
 use Rattle.ed_store.specs.Cells.{short_at}
@@ -7,20 +7,20 @@ use Rattle.ed_machine.specs.State.{State}
 use Rattle.ed_library.specs.Routines.{is_working, place_count}
 use Rattle.ed_library.specs.Images.{image_word}
 
--- the place of the order that put itself into the accumulator
+-- the location of the order that put itself into the accumulator
 abbrev pub caller : State → ℕ
 caller s = (s.acc / 2 ^ 54 - 114688) / 2
 
--- the accumulator holds such an order, and the place to which it returns is below the size
+-- the accumulator holds such an order, and the location to which the routine returns is within the size
 pub record IsCall (s : State) : Type 0 where
   pub acc : s.acc ≡ (114688 + 2 * caller s) * 2 ^ 54
   pub room : caller s + 3 ≤ locations s.size
 
--- a place of a routine is a working one, or holds its word
+-- the word at an offset is a working one, or is the routine's
 pub record HasWord (r : ℕ) (parameters : List ℕ) (base : ℕ) (s : State) (i : ℕ) : Type 0 where
   pub has : is_working r i ≡ false → short_at s.store (base + i) ≡ image_word r i base parameters
 
--- a routine stands at a base, called: its words, the constants at 2 and 3, the counter, and the call in the accumulator
+-- a routine is at a base, called: its words, the constants at 2 and 3, the counter, and the call in the accumulator
 pub record Stands (r : ℕ) (parameters : List ℕ) (base : ℕ) (s : State) : Type 0 where
   pub low : 56 ≤ base
   pub fits : base + place_count r ≤ locations s.size

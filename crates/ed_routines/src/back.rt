@@ -1,8 +1,8 @@
-/// Where a routine returned to.
+/// Where a routine returned.
 #[derive(Clone, Copy, Debug, PartialEq, Eq)]
 pub struct Back {
-    /// The location behind its call.
+    /// The location after its call.
     pub at: u16,
-    /// The number of orders obeyed, the one that returned included.
+    /// The number of orders obeyed, including the one that returned.
     pub orders: u64,
 }

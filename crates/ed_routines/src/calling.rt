@@ -5,7 +5,7 @@ ghost use Rattle.ed_routines.specs.Standing.{IsCall, caller};
 
 use ed_machine::Machine;
 
-/// The place of the order that put itself into the accumulator, if one did.
+/// The location of the order that put itself into the accumulator, if one did.
 pub fn caller(machine: &Machine) -> u32
     ensures is { result ≡ caller machine.now }
     ensures fits { result < 16384 }
@@ -14,7 +14,7 @@ pub fn caller(machine: &Machine) -> u32
     order.saturating_sub(114_688) / 2
 }
 
-/// The place to which a routine returns.
+/// The location to which a routine returns.
 pub fn way_back(machine: &Machine) -> u16
     requires { IsCall machine.now }
     ensures { result ≡ caller machine.now + 2 }
@@ -23,7 +23,7 @@ pub fn way_back(machine: &Machine) -> u16
     caller(machine) as u16 + 2
 }
 
-/// Obeys so many orders.
+/// Obeys `count` orders.
 #[tactic(auto, unfolding(ed_machine::specs::Steps::past))]
 pub fn obey_count(machine: &mut Machine, count: u64)
     requires { machine.old.orders + count ≤ 2 ^ 63 }

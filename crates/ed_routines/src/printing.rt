@@ -10,7 +10,7 @@ use crate::calling::way_back;
 use ed_machine::{Machine, Paper};
 use ed_run::run;
 
-/// Runs `newline`, which stands at `base`: it prints a carriage return and a line feed.
+/// Runs `newline` at `base`: it prints a carriage return and a line feed.
 pub fn new_line(machine: &mut Machine, base: u16, paper: &mut Paper) -> Back
     requires stands { (parameters : List ℕ) × Stands newline parameters base machine.old }
     requires room { length paper.old.codes + 2 ≤ paper.old.room }
@@ -23,14 +23,14 @@ pub fn new_line(machine: &mut Machine, base: u16, paper: &mut Paper) -> Back
     ensures printed { paper.new ≡ record paper.old { codes = paper.old.codes ++ 18 ∷ 24 ∷ [] } }
 {
     let at = way_back(machine);
-    // The contract of `word` tells the proof that the store is one.
+    // The contract of `word` gives the proof that the store is one.
     let _ = machine.word(0);
     run(machine, 5, 0, paper);
     Back { at, orders: 5 }
 }
 
-/// Runs `print`, which stands at `base` with H = 2h: it prints a figure shift and the decimal digits of the word at
-/// `h`, which is below 65536.
+/// Runs `print` at `base` with H = 2h: it prints a figure shift and the decimal digits of the word at `h`, which is
+/// below 65536.
 pub fn print_integer(machine: &mut Machine, base: u16, h: u16, paper: &mut Paper) -> Back
     requires stands { Stands print (with_h h) base machine.old }
     requires outside { IsOutside print base h machine.old }
@@ -54,7 +54,7 @@ pub fn print_integer(machine: &mut Machine, base: u16, h: u16, paper: &mut Paper
     Back { at, orders }
 }
 
-/// How many orders `print` takes for a number.
+/// The number of orders that `print` takes for a number.
 fn orders_to_print(number: u32) -> u64
     requires { number < 65536 }
     ensures is { result ≡ print_orders number }

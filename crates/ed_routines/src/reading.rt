@@ -13,9 +13,9 @@ use ed_machine::Machine;
 pub enum ReadBack {
     /// It read an ending row and returned.
     Back {
-        /// The location behind its call.
+        /// The location after its call.
         at: u16,
-        /// The number of orders obeyed, the one that returned included.
+        /// The number of orders obeyed, including the one that returned.
         orders: u64,
     },
     /// The tape had no ending row.
@@ -25,8 +25,8 @@ pub enum ReadBack {
     },
 }
 
-/// Runs `read`, which stands at `base` with H = 2h: it reads rows to the first one with a code of 10 or more, and
-/// puts the number of the digits, modulo 2^17, at `h`.
+/// Runs `read` at `base` with H = 2h: it reads rows up to the first one with a code of 10 or more, and puts the number
+/// of the digits, modulo 2^17, at `h`.
 pub fn read_integer(machine: &mut Machine, base: u16, h: u16) -> ReadBack
     requires stands { Stands read (with_h h) base machine.old }
     requires outside { IsOutside read base h machine.old }
@@ -37,7 +37,7 @@ pub fn read_integer(machine: &mut Machine, base: u16, h: u16) -> ReadBack
     ensures leaves { ReadLeaves (after_digits machine.old.tape) base h machine.old machine.new }
 {
     let at = way_back(machine);
-    // The contract of `word` tells the proof that the store is one.
+    // The contract of `word` gives the proof that the store is one.
     let _ = machine.word(0);
     let rows = machine.rows_left();
     let digits = count_digits(rows);
@@ -52,7 +52,7 @@ pub fn read_integer(machine: &mut Machine, base: u16, h: u16) -> ReadBack
     }
 }
 
-/// How many digit rows stand before the first other row.
+/// The number of digit rows before the first other row.
 fn count_digits(rows: &[Code]) -> usize
     ensures is { result ≡ length (digit_rows rows.now) }
     ensures few { result ≤ length rows.now }

@@ -7,10 +7,10 @@ use crate::calling::caller;
 use ed_library::{Parameters, Routine, image_word};
 use ed_machine::Machine;
 
-/// Whether a routine stands at a base and is called from a place m.
+/// Whether a routine is at a base and is called from a location m.
 ///
-/// The counter is the base, each place but the working ones holds its word, 2 and 3 hold 2 and 28676, and the
-/// accumulator holds the order A m F and nothing else, where m + 2 is below the size.
+/// The counter is the base, each word of the routine but the working ones is in the store, 2 and 3 hold 2 and 28676,
+/// and the accumulator holds the order A m F and nothing else, where m + 2 is below the size.
 pub fn stands(machine: &Machine, routine: &Routine, base: u16, parameters: &Parameters) -> bool
     requires low { 56 ≤ base }
     requires fits { base + place_count routine.now ≤ locations machine.now.size }
@@ -32,7 +32,7 @@ fn is_call(machine: &Machine) -> bool
     machine.acc() == acc && caller + 3 <= u32::from(machine.size().value())
 }
 
-/// Whether each place of the routine but its working places holds its word.
+/// Whether each word of the routine but the working ones is in the store.
 pub fn has_image(machine: &Machine, routine: &Routine, base: u16, parameters: &Parameters) -> bool
     requires { base + place_count routine.now ≤ locations machine.now.size }
     ensures { IsTrue result ↔ ((i : ℕ) → i < place_count routine.now
@@ -46,7 +46,7 @@ pub fn has_image(machine: &Machine, routine: &Routine, base: u16, parameters: &P
     true
 }
 
-/// Whether a place of the routine is a working one or holds its word.
+/// Whether an offset in the routine is that of a working word, or of its own word.
 fn has_word(
     machine: &Machine,
     routine: &Routine,

@@ -1,4 +1,4 @@
--- A run ends at the least number of orders at which an end holds, and nowhere else.
+-- A run ends after the least number of orders at which an end holds, and at no other.
 use Rattle.std.proofs.Common.{◌≡◌, inl, inr, ℕ, ◌-◌, refl, sym, ap, ◌∙◌, arith, Bool, true, false}
 use Rattle.std.proofs.Common.{true≢false, nat_eq, nat_lt, Option, Some, None, is_some, unwrap_or, length}
 use Rattle.std.proofs.lemmas.Bool.{cases_lt}
@@ -31,7 +31,7 @@ none_of : (o : Option Ending) → is_some o ≡ false → o ≡ None
 none_of None h = refl
 none_of (Some e) h = absurd (true≢false h)
 
--- the run that is a function ends so
+-- the run as a function ends this way
 pub ran_ends : (limit resumes room : ℕ) (s : State)
     → EndsAfter limit resumes room s (run_orders limit resumes room s) (ran limit resumes room s).ending
 unfolding ran
@@ -65,7 +65,7 @@ ends_once {limit} {resumes} {room} {s} {j} {k} {d} {e} g h =
     some_is : (d e : Ending) → Some d ≡ Some e → d ≡ e
     some_is d e h = cc
 
--- what a run leaves is the function's
+-- what a run leaves is what the function gives
 pub run_left : {limit resumes : ℕ} {s : State} {sheet : Sheet} {ending : Ending} {last : State} {full : Sheet}
     → IsRun limit resumes s sheet ending last full
     → IsLeft (ran limit resumes (sheet.room - length sheet.codes) s) sheet ending last full

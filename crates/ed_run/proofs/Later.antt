@@ -41,7 +41,7 @@ eq_shift k j limit h = grind (arith, nat_tests)
 none_less : (n : ℕ) → nat_lt n 0 ≡ false
 none_less n = grind (arith, nat_tests)
 
--- the run from the state behind them
+-- the run from the state after them
 pub ran_later : (limit resumes room k : ℕ) (s : State) → AllWent k s → k ≤ limit
     → ran limit resumes room s ≡ ran (limit - k) resumes room (state_after k s)
 unfolding ran

@@ -30,7 +30,7 @@ pub record Took (m : State) (paper : Sheet) (stops : ℕ) (turn : Turn) (m' : St
   pub paper_is : paper' ≡ record { codes = paper.codes ++ codes_of turn; room = paper.room }
   pub stops_are : stops' ≡ stops + stops_of turn
 
--- an order that prints nothing did so
+-- an order that prints nothing did this
 pub silent : {m m' : State} {paper paper' : Sheet} {stops stops' : ℕ} {turn : Turn} → (step m).turn ≡ turn
     → m' ≡ (step m).state
     → paper' ≡ paper → codes_of turn ≡ [] → stops' ≡ stops + stops_of turn → Took m paper stops turn m' paper' stops'
@@ -54,7 +54,7 @@ module _ (limit resumes : ℕ) (s : State) (sheet : Sheet) where
   abbrev end_after : ℕ → Option Ending
   end_after k = end_at limit resumes (sheet.room - length sheet.codes) k (past k s)
 
-  -- where the program stands after k orders
+  -- the state of the program after k orders
   pub record Running (k : ℕ) (m : State) (paper : Sheet) (stops : ℕ) : Type 0 where
     pub state : m ≡ (past k s).state
     pub codes : paper ≡ record { codes = sheet.codes ++ (past k s).codes; room = sheet.room }
@@ -72,10 +72,10 @@ module _ (limit resumes : ℕ) (s : State) (sheet : Sheet) where
     first = λ j l. absurd (omega arith);
   }
 
--- so many orders of it have been obeyed
+-- k orders of it have been obeyed
 module _ {limit resumes : ℕ} {s : State} {sheet : Sheet} {k : ℕ} {m : State} {paper : Sheet} {stops : ℕ}
     (r : Running limit resumes s sheet k m paper stops) where
-  -- where the program stands after one order more
+  -- the state of the program after one more order
   taken : {m' : State} {paper' : Sheet} {stops' : ℕ} {turn : Turn} → Took m paper stops turn m' paper' stops'
       → (m' ≡ (past (k + 1) s).state)
       × (paper' ≡ record { codes = sheet.codes ++ (past (k + 1) s).codes; room = sheet.room })
@@ -143,7 +143,7 @@ module _ {limit resumes : ℕ} {s : State} {sheet : Sheet} {k : ℕ} {m : State}
         sheet_is = now.1;
       }
 
--- an order that was obeyed ends no run where the paper has room or nothing is printed
+-- an order that was obeyed ends no run if the paper has room or nothing is printed
 pub none_ends : (turn : Turn) (full : Bool) → is_obeyed turn ≡ true → (full ≡ false) ⊎ (prints turn ≡ false)
     → end_by turn full ≡ None
 none_ends Went full obeyed either = refl

@@ -1,4 +1,4 @@
--- Where a run ends whose orders are obeyed as far as it goes.
+-- When a run ends whose orders are obeyed as far as it goes.
 use Rattle.std.proofs.Common.{◌≡◌, ℕ, suc, ◌+◌, ◌-◌, ◌<◌, ◌≤◌, refl, sym, ap}
 use Rattle.std.proofs.Common.{◌∙◌, arith, Bool, true, false, true≢false, nat_le}
 use Rattle.std.proofs.Common.{length, length-append, Some, None}
@@ -34,7 +34,7 @@ grows j d s =
     ap (λ (p : Past). length p.codes) (past_sum j d s) ∙ length-append (past j s).codes later.codes in
     (omega (arith, stops), omega (arith, codes))
 
--- an order that is obeyed ends nothing where it prints nothing or has room
+-- an order that is obeyed ends nothing if it prints nothing or has room
 goes_by : (turn : Turn) (full : Bool) → is_obeyed turn ≡ true → (full ≡ true → length (codes_of turn) ≡ 0)
     → end_by turn full ≡ None
 goes_by Went full o h = refl
@@ -44,7 +44,7 @@ goes_by Stops full o h = refl
 goes_by (NoOrder function) full o h = absurd (true≢false (sym o))
 goes_by NoTape full o h = absurd (true≢false (sym o))
 
--- no end comes before an order that is obeyed and has room, where resumes are left
+-- no end comes before an order that is obeyed and has room, if resumes are left
 not_before : (limit resumes : ℕ) {room k : ℕ} {s : State} → HasRoom room k s → k ≤ limit → (j : ℕ) → j < k
     → (past j s).stops ≤ resumes → end_at limit resumes room j (past j s) ≡ None
 not_before limit resumes {room} {k} {s} r below j l few =

@@ -12,14 +12,14 @@ use Rattle.ed_run.specs.Run.{EndsAfter, end_by, run_orders, ran}
 abbrev pub AllWent : ℕ → State → Type 0
 AllWent k s = (j : ℕ) → j < k → (step (state_after j s)).turn ≡ Went
 
--- the first k orders are obeyed, and what they print has room
+-- the first k orders are obeyed, and there is room for what they print
 pub record HasRoom (room k : ℕ) (s : State) : Type 0 where
   pub obeyed : IsFree k s
   pub printed : length (past k s).codes ≤ room
 
--- Every run has one ending, at one number of orders. It is at the limit where all orders up to it are obeyed, at the
--- order that can't be obeyed where it comes first, and at the stop for which no resume is left. A run whose first
--- orders neither print nor stop is the run from the state that they lead to, with as many orders less.
+-- Every run has exactly one ending, after exactly one number of orders. It ends at the limit if all orders up to it
+-- are obeyed, at an order that can't be obeyed if that comes first, and at the stop for which no resume is left. A run
+-- whose first k orders neither print nor stop is the run from the state after them, with a limit less by k.
 pub record RunLaw : Type 0 where
   pub ends : (limit resumes room : ℕ) (s : State)
       → EndsAfter limit resumes room s (run_orders limit resumes room s) (ran limit resumes room s).ending

@@ -1,4 +1,4 @@
--- A run of the machine: where it ends, how, and what it printed (the order of the ends, the limit, the resumes and the
+-- A run of the machine: when it ends, how, and what it printed (which end comes first, the limit, the resumes and the
 -- paper are this project's own rules).
 use Rattle.std.specs.Prelude.{◌≡◌, ℕ, ◌-◌, ◌<◌, Bool, true, false, nat_eq, nat_lt, nat_le}
 use Rattle.std.specs.Prelude.{if◌then◌else◌, Option, Some, None, is_some, unwrap_or, List, ◌++◌, length}
@@ -12,7 +12,7 @@ use Rattle.ed_machine.specs.declared.turn.Turn.TheVariants.{NoOrder as IsNoOrder
 use Rattle.ed_machine.specs.declared.ending.Ending.{Ending}
 use Rattle.ed_machine.specs.declared.ending.Ending.TheVariants.{Stopped, Limit, NoOrder, NoTape, PaperFull}
 
--- a turn that prints
+-- whether a turn prints
 abbrev pub prints : Turn → Bool
 prints (Printed code) = true
 prints Went = false
@@ -20,7 +20,7 @@ prints Stops = false
 prints (IsNoOrder function) = false
 prints HasNoTape = false
 
--- how the next order ends a run, if it does: a word that is no order, a tape with no row left, or a paper that is full
+-- how the next order ends a run, if it does: a word that is no order, no row left on the tape, or the paper full
 abbrev pub end_by : Turn → Bool → Option Ending
 end_by (IsNoOrder function) full = Some NoOrder
 end_by HasNoTape full = Some NoTape
@@ -28,14 +28,14 @@ end_by (Printed code) full = if full then Some PaperFull else None
 end_by Went full = None
 end_by Stops full = None
 
--- how a run ends after k orders, if it does: more stops than resumes, then the limit, then the next order
+-- how a run ends after k orders, if it does: more stops than resumes, else the limit, else the next order
 abbrev pub end_at : ℕ → ℕ → ℕ → ℕ → Past → Option Ending
 end_at limit resumes room k p =
     if nat_lt resumes p.stops then Some Stopped
     else if nat_eq k limit then Some Limit
     else end_by (step p.state).turn (nat_le room (length p.codes))
 
--- a run from a state ends so after k orders, and not before
+-- a run from a state ends with this ending after k orders, and not before
 pub record EndsAfter (limit resumes room : ℕ) (s : State) (k : ℕ) (ending : Ending) : Type 0 where
   pub now : end_at limit resumes room k (past k s) ≡ Some ending
   pub first : (j : ℕ) → j < k → end_at limit resumes room j (past j s) ≡ None
@@ -48,11 +48,11 @@ pub record IsRun (limit resumes : ℕ) (s : State) (sheet : Sheet) (ending : End
   pub state_is : last ≡ (past orders s).state
   pub sheet_is : full ≡ record { codes = sheet.codes ++ (past orders s).codes; room = sheet.room }
 
--- how many orders a run obeys: the least number at which an end holds, the limit at the latest
+-- the number of orders that a run obeys: the least number after which it ends, at most the limit
 abbrev pub run_orders : ℕ → ℕ → ℕ → State → ℕ
 run_orders limit resumes room s = least (λ j. is_some (end_at limit resumes room j (past j s))) limit
 
--- what a run answers and leaves
+-- the result of a run
 pub record RunEnd : Type 0 where
   pub ending : Ending
   pub state : State

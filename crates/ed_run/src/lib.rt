@@ -14,9 +14,9 @@ use ed_orders::{Kind, kind_of};
 
 /// Obeys orders until the run ends, and pushes each printed code onto the paper.
 ///
-/// A Z uses up one resume and the run goes on; where none is left the answer is `Stopped`. Else, before each order:
-/// `Limit` where this call obeyed `limit` orders; `NoOrder` and `NoTape` as in `Machine::step`; `PaperFull` where the
-/// order is O and the paper has no room left.
+/// A Z uses up one resume and the run goes on; if no resume is left, the answer is `Stopped`. Otherwise, before each
+/// order: `Limit` if this call has obeyed `limit` orders; `NoOrder` and `NoTape` as in `Machine::step`; `PaperFull` if
+/// the order is O and the paper has no room left.
 #[inline(always)]
 pub fn run(machine: &mut Machine, limit: u64, resumes: u32, paper: &mut Paper) -> Ending
     requires { machine.old.orders + limit ≤ 2 ^ 63 }
@@ -78,7 +78,7 @@ fn prints_next(machine: &Machine) -> bool
     }
 }
 
-/// Whether an order of a kind prints.
+/// Whether an order of this kind prints.
 fn kind_prints(kind: Kind) -> bool
     ensures { (w : ℕ) (s : State) → result ≡ prints (obey kind w s).turn }
 {

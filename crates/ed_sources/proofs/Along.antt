@@ -14,7 +14,7 @@ use Rattle.ed_routines.specs.Standing.{HasWord}
 use Rattle.ed_sources.proofs.CalledRoutines.{IsBeside, Passes}
 use Rattle.ed_sources.proofs.Calling.{HasRoutine, IsBefore}
 
--- the program is at m with a clear accumulator, and the words beside those from one location to another are as at its
+-- the program is at m with a clear accumulator, and the words outside those from one location to another are as at its
 -- entry
 pub record IsAt (z : Size) (lines : List Line) (t : State) (from to m : ℕ) : Type 0 where
   pub counter : t.counter ≡ m
@@ -41,7 +41,7 @@ module _ {z : Size} {lines : List Line} {t : State} {from to m : ℕ} (o : IsAt 
       → short_at t.store i ≡ w
   word_there i w beside low high is = o.kept i beside ∙ word_at z lines fit i low high ∙ is
 
-  -- the two orders of a call stand there
+  -- the two orders of a call are there
   pub before : {base : ℕ} → m + 3 ≤ from → 44 ≤ m → from ≤ 512 → base < 512
       → unwrap_or (placed_at (placed lines) m) 0 ≡ 114688 + 2 * m
       → unwrap_or (placed_at (placed lines) (m + 1)) 0 ≡ 110592 + 2 * base
@@ -58,7 +58,7 @@ module _ {z : Size} {lines : List Line} {t : State} {from to m : ℕ} (o : IsAt 
         there = rw o.size (omega arith);
       }
 
-  -- a routine stands behind what was changed
+  -- a routine is after what was changed
   pub has : {r base : ℕ} {parameters : List ℕ} → has_image (placed lines) r base parameters ≡ true → 56 ≤ base
       → base + place_count r ≤ 512
       → 4 ≤ from → to ≤ base → HasRoutine t r base parameters
@@ -75,7 +75,7 @@ module _ {z : Size} {lines : List Line} {t : State} {from to m : ℕ} (o : IsAt 
             record { has = λ free. o.kept (base + i) (inr (omega arith)) ∙ word.has free };
       }
 
-  -- it is behind a call that changes no other words
+  -- it is after a call that changes no other words
   pub passed : {k first end : ℕ} {codes : List ℕ} (p : Passes k t codes m first end) → from ≤ first → to ≤ end
       → IsAt z lines p.last from end (m + 2)
   passed {first = first} {end = end} p low high = record {

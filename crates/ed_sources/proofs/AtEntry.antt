@@ -1,4 +1,4 @@
--- What stands in the store at the entry of a source's program.
+-- The words in the store at the entry of a source's program.
 use Rattle.std.proofs.Common.{◌≡◌, ℕ, ◌+◌, ◌-◌, ◌<◌, ◌≤◌, refl, ap, ◌∙◌, arith, Bool, true, List, [], ◌∷◌}
 use Rattle.std.proofs.Common.{length, length-append, drop, get_or, nat_eq, nat_lt}
 use Rattle.std.specs.Prelude.{replicate, reverse, unwrap_or}
@@ -24,7 +24,7 @@ use Rattle.ed_sources.proofs.Decimals.{among, numbers}
 abbrev pub placed : List Line → List (ℕ × ℕ)
 placed lines = reverse (linked lines)
 
--- whether each has a place of the store
+-- whether each has a location of the store
 abbrev pub have_places : List (ℕ × ℕ) → Bool
 have_places ps = list_all (λ p. nat_lt p.0 1024) ps
 
@@ -33,7 +33,7 @@ are_places [] h = tt
 are_places (p ∷ ps) h = let q = and_parts (nat_lt p.0 1024) (have_places ps) h in
     (lt_of p.0 1024 q.0, are_places ps q.1)
 
--- whether the words of a routine stand at a base
+-- whether the words of a routine are at a base
 abbrev pub has_image : List (ℕ × ℕ) → ℕ → ℕ → List ℕ → Bool
 has_image ps r base parameters =
     list_all (λ i. nat_eq (unwrap_or (placed_at ps (base + i)) 0) (image_word r i base parameters))
@@ -55,7 +55,7 @@ module _ (z : Size) (lines : List Line) where
       omega (arith, e, d, o, r)
 
   module _ (fit : have_places (placed lines) ≡ true) where
-    -- a word behind those of the Initial Orders
+    -- a word above those of the Initial Orders
     pub word_at : (a : ℕ) → 44 ≤ a → a < 1024
         → short_at (entry_state z lines).store a ≡ unwrap_or (placed_at (placed lines) a) 0
     word_at a low high =

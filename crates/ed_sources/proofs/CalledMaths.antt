@@ -1,4 +1,4 @@
--- A call of `divide` and one of `root`, up to what stands behind it.
+-- A call of `divide` and one of `root`, up to the state after it.
 use Rattle.std.proofs.Common.{◌≡◌, ◌≢◌, inl, inr, ℕ, ◌+◌, ◌/◌, ◌%◌, ◌<◌, ◌≤◌, refl, ap, arith, [], length}
 use Rattle.ed_words.specs.Sizes.{locations}
 use Rattle.ed_store.specs.Cells.{short_at}
@@ -14,13 +14,13 @@ use Rattle.ed_sources.proofs.CalledRoutines.{IsBeside, Passes}
 use Rattle.ed_sources.proofs.Calling.{HasRoutine, IsBefore, called, caller_is, calls, outside, stands}
 use Rattle.ed_paths.proofs.Leads.{joined}
 
--- `divide` is called: behind the call its quotient and its remainder stand
+-- `divide` is called: after the call its quotient and its remainder are in the store
 pub record Divides (s : State) (m from to high low by : ℕ) : Type 0 where
   pub passes : Passes (2 + divide_orders (dividend high low s / short_at s.store by)) s [] m from to
   pub quotient : short_at passes.last.store low ≡ dividend high low s / short_at s.store by
   pub remainder : short_at passes.last.store high ≡ dividend high low s % short_at s.store by
 
--- `root` is called: behind the call the root stands
+-- `root` is called: after the call the root is in the store
 pub record TakesRoot (s : State) (m to target r : ℕ) : Type 0 where
   pub passes : Passes (2 + root_orders r) s [] m target to
   pub root_is : short_at passes.last.store target ≡ r
@@ -29,7 +29,7 @@ module _ {s : State} {m base : ℕ} (o : IsBefore s m base) where
   abbrev t : State
   t = called s m base
 
-  -- `divide`, whose three words stand before it, those that it writes from one location on
+  -- `divide`; its three words come before it, and the two that it writes begin at one location
   module _ {high low by from : ℕ} (all_digits : length s.store.sandwich ≡ 512) (even : base % 2 ≡ 0)
       (has : HasRoutine s divide base (with_hnm high low by)) (is : IsDivision base high low by s)
       (early : (from ≤ high) × (from ≤ low)) (high_before : high < base) (low_before : low < base) where
@@ -89,7 +89,7 @@ module _ {s : State} {m base : ℕ} (o : IsBefore s m base) where
         words i (inr g) = divided.words i (λ e. absurd (omega arith)) (λ e. absurd (omega arith))
             (record { other = inr (inl g) })
 
-  -- `root`, whose words stand before it
+  -- `root`; its words come before it
   module _ {source target r : ℕ} (has : HasRoutine s root base (with_hn source target))
       (source_out : IsOutside root base source s)
       (target_out : IsOutside root base target s) (differ : source ≢ target) (small : short_at s.store source < 65536)

@@ -1,4 +1,4 @@
--- A call of a routine: up to what stands behind it, and up to the stop that does.
+-- A call of a routine, up to the order after it, and up to that order if it is a stop.
 use Rattle.std.proofs.Common.{◌≡◌, ◌≢◌, ◌⊎◌, inl, inr, ℕ, ◌+◌, ◌*◌, ◌%◌, ◌^◌, ◌<◌, ◌≤◌, refl, ap, ◌∙◌, subst, arith}
 use Rattle.std.proofs.Common.{List, [], ◌∷◌}
 use Rattle.std.proofs.Common.{get_or, length}
@@ -24,12 +24,12 @@ pub stop_at : (s : State) → get_or s.store.words s.counter 0 ≡ 53248 → (st
 unfolding step
 stop_at s e = rw e refl
 
--- a location that is none of those from one to another
+-- a location outside those from one to another
 abbrev pub IsBeside : ℕ → ℕ → ℕ → Type 0
 IsBeside from to i = (i < from) ⊎ (to ≤ i)
 
--- the call of a routine at m of a state: so many orders print the codes and lead behind it, and the words beside
--- those from one location to another stay
+-- the call of a routine at m in a state: k orders print the codes and lead to the order after it, and the words
+-- outside those from one location to another are unchanged
 pub record Passes (k : ℕ) (s : State) (codes : List ℕ) (m from to : ℕ) : Type 0 where
   pub last : State
   pub leads : Leads k s codes last
@@ -39,12 +39,12 @@ pub record Passes (k : ℕ) (s : State) (codes : List ℕ) (m from to : ℕ) : T
   pub size : last.size ≡ s.size
   pub words : (i : ℕ) → IsBeside from to i → short_at last.store i ≡ short_at s.store i
 
--- `read` is called: behind the call the number of its digit rows stands
+-- `read` is called: after the call the number of its digit rows is in the store
 pub record ReadsNumber (s : State) (m h to : ℕ) : Type 0 where
   pub passes : Passes (2 + (11 + 13 * length (digit_rows s.tape))) s [] m h to
   pub number : short_at passes.last.store h ≡ digits_value (digit_rows s.tape) % 2 ^ 17
 
--- with a stop behind it
+-- with a stop after it
 pub stopped : {k m from to : ℕ} {s : State} {codes : List ℕ} → Passes k s codes m from to → IsBeside from to (m + 2)
     → short_at s.store (m + 2) ≡ 53248 → StopsAt k s codes (m + 2)
 stopped {m = m} p other stop = record {

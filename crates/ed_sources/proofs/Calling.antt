@@ -1,4 +1,4 @@
--- The two orders that call a routine: A m F at m, and G to its base behind it.
+-- The two orders that call a routine: A m F at m, and after it G to the routine's base.
 use Rattle.std.proofs.Common.{◌≡◌, ℕ, zero, suc, ◌+◌, ◌*◌, ◌^◌, ◌<◌, ◌≤◌}
 use Rattle.std.proofs.Common.{refl, sym, ap, ◌∙◌, subst, arith, List, [], ◌∷◌}
 use Rattle.std.proofs.Common.{Some, None, get_or, length}
@@ -26,7 +26,7 @@ pub record IsBefore (s : State) (m base : ℕ) : Type 0 where
   pub room : m + 3 ≤ locations s.size
   pub there : base < locations s.size
 
--- the state behind it, in which the routine is called
+-- the state after it, in which the routine is called
 abbrev pub called : State → ℕ → ℕ → State
 called s m base = record s { acc = short (114688 + 2 * m); counter = base; orders = s.orders + 2 }
 
@@ -116,7 +116,7 @@ module _ {s : State} {m base : ℕ} (o : IsBefore s m base) where
   pub caller_is : caller (called s m base) ≡ m
   caller_is = omega arith
 
-  -- the order to which it returns, and two behind it, are within the store
+  -- the location to which it returns, and the two after it, are within the store
   pub back : caller (called s m base) + 3 ≤ locations s.size
   back = let e = caller_is in let room = o.room in omega arith
 
@@ -124,7 +124,7 @@ module _ {s : State} {m base : ℕ} (o : IsBefore s m base) where
   pub outside : {r h : ℕ} → IsOutside r base h s → IsOutside r base h (called s m base)
   outside out = record { below = out.below; beside = out.beside }
 
-  -- a routine whose words are at the base stands there
+  -- a routine whose words are at the base is there, called
   pub stands : {r : ℕ} {parameters : List ℕ} → HasRoutine s r base parameters
       → Stands r parameters base (called s m base)
   stands has = record {

@@ -20,7 +20,7 @@ use Rattle.ed_sources.proofs.CheckedPrint.{checks_print, count_is}
 use Rattle.ed_sources.proofs.Said.{check_lines}
 use Rattle.ed_sources.proofs.Stops.{StopsAt}
 
--- orders that are obeyed and no stops go on
+-- orders that are obeyed and are not stops go on
 goes_of : (turn : Turn) → is_obeyed turn ≡ true → stops_of turn ≡ 0 → goes_on turn ≡ true
 goes_of Went o e = refl
 goes_of (Printed code) o e = refl
@@ -41,7 +41,7 @@ all_go (suc k) s free none j l =
           (goes_of (step (state_after k s)).turn (free k (omega arith)) (omega (arith, none)))
     ]
 
--- each order of a guest is at most two codes
+-- each order of a guest prints at most two codes
 two_each : (q : ℕ) (g : State) → length (checked_codes g q) ≤ 2 * q
 unfolding checked_codes
 two_each zero g = omega arith

@@ -1,4 +1,5 @@
--- The source of `call check N`: at its entry the checking routine stands, and its guest prints the number and stops.
+-- The source of `call check N`: at its entry the checking routine is at the start of a turn, and its guest prints the
+-- number and stops.
 use Rattle.std.proofs.Common.{◌≡◌, inl, inr, ◌∙◌, ℕ, zero, suc, ◌+◌, ◌-◌, ◌*◌, ◌/◌, ◌%◌}
 use Rattle.std.proofs.Common.{◌^◌, ◌<◌, ◌≤◌, refl, sym, ap, subst, arith, lit≤, lit<}
 use Rattle.std.proofs.Common.{Bool, true, false, ◌&&◌, ◌||◌, nat_eq, nat_le, nat_lt, Some}
@@ -74,7 +75,7 @@ zeros_fit zero i = lit< tt
 zeros_fit (suc k) zero = lit< tt
 zeros_fit (suc k) (suc i) = zeros_fit k i
 
--- ---- what the orders of `print` weigh
+-- ---- the weights of the orders of `print`
 
 shown_is : (b : Bool) (q : ℕ) → shown_weight turn_weights b q ≡ 156 + 142 * length (shown b q)
 shown_is false zero = refl
@@ -145,7 +146,7 @@ module _ (z : Size) (n : ℕ) (small : n < 65536) where
         last = lit< tt;
       }
 
-  -- ---- the routine stands
+  -- ---- the routine at its base
 
   abbrev is_there : ℕ → Bool
   is_there i =

@@ -12,7 +12,7 @@ use Rattle.ed_sources.specs.Demo.{next, number_behind, number_word}
 use Rattle.ed_sources.proofs.DemoFaultless.{lines_behind, lines_with, spot}
 use Rattle.ed_sources.proofs.SaidDemo.{enter_line, segment_forms, word_forms}
 
--- a word has an item of its own, and two before it where it is the first of its segment
+-- a word has an item of its own, and two before it if it is the first of its segment
 one_word : (first : Bool) (base : ℕ) → length (heads first base) ≤ 2
 one_word true base = lit≤ tt
 one_word false base = lit≤ tt

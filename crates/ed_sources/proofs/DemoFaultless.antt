@@ -1,4 +1,4 @@
--- The source of `demo` has no fault of meaning, as far as its words are within the store.
+-- The source of `demo` has no fault of meaning, as long as its words are within the store.
 use Rattle.std.proofs.Common.{◌≡◌, ◌∙◌, ℕ, zero, suc, ◌+◌, ◌*◌, ◌≤◌, Bool, true, false, List, [], ◌∷◌, ◌++◌}
 use Rattle.std.proofs.Common.{refl, sym, ap, subst, arith}
 use Rattle.std.proofs.Common.{codes, length, nat_le, nat_lt}
@@ -31,9 +31,9 @@ use Rattle.ed_sources.proofs.SaidDemo.{adding_lines, demo_lines, enter_line, nam
 use Rattle.ed_sources.proofs.SaidDemo.{word_forms}
 use Rattle.ed_sources.proofs.Said.{said}
 
--- ---- places
+-- ---- locations
 
--- the places of lines, from the first to the one after the last, are below one
+-- the extents of lines, from the first location to the one after the last, are below a location
 abbrev are_below : ℕ → List (ℕ × ℕ) → Bool
 are_below p runs = list_all (λ r. nat_le r.1 p) runs
 
@@ -46,7 +46,7 @@ below_more p q (r ∷ runs) l h =
     let rest = below_more p q runs l s.1 in
     rw (first, rest) refl
 
--- and so are those of one line more
+-- and so are those of one more line
 one_more : (p a q : ℕ) (runs : List (ℕ × ℕ)) → p ≤ q → are_below p runs ≡ true
     → are_below q (runs ++ (a, q) ∷ []) ≡ true
 one_more p a q runs l h =
@@ -54,7 +54,7 @@ one_more p a q runs l h =
     let last : nat_le q q ≡ true = le_true q q (omega arith) in
     list_all-append (λ r. nat_le r.1 q) runs ((a, q) ∷ []) ∙ rw (before, last) refl
 
--- places from there on are other ones
+-- extents from there upwards don't overlap them
 apart : (p b : ℕ) (runs : List (ℕ × ℕ)) → are_below p runs ≡ true → list_any (λ run. meets (p, b) run) runs ≡ false
 apart p b [] h = refl
 apart p b (r ∷ runs) h =
@@ -77,7 +77,7 @@ spot place base segments = record { place = place; base = base; segments = segme
 abbrev past : List (ℕ × ℕ) → LinesBefore
 past runs = record { runs = runs; entered = false }
 
--- the places of n lines of one word
+-- the extents of n lines of one word
 abbrev one_by_one : ℕ → ℕ → List (ℕ × ℕ)
 one_by_one zero p = []
 one_by_one (suc n) p = (p, p + 1) ∷ one_by_one n (p + 1)
@@ -88,11 +88,11 @@ first_runs = (56, 56) ∷ one_by_one 16 56 ++ (72, 123) ∷ (123, 123) ∷ []
 
 -- ---- no line has one of the faults S9 to S17
 
--- the lines after those of the program and of the first segment's line, where n segments more follow
+-- the lines after those of the program and of the first segment's line, if n segments more follow
 abbrev pub lines_behind : ℕ → ℕ → ℕ → List Line
 lines_behind n x l = word_forms 8 20 x ++ segment_forms n 2 28 (number_behind 8 x) ++ enter_line l ∷ []
 
--- none of the lines from a spot on has one, where the lines before them have these places
+-- no line from a spot onwards has one, if the lines before them have these extents
 record AreSound (z : Size) (homes : List Home) (runs : List (ℕ × ℕ)) (s : Spot) (lines : List Line) : Type 0 where
   none : fault_from z homes true (past runs) s lines ≡ None
 

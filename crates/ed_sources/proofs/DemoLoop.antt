@@ -16,11 +16,11 @@ use Rattle.ed_routines.specs.Digits.{digits, print_orders}
 use Rattle.ed_routines.proofs.Journeys.{ComesToStop, HasRoutine, IsIn, along, stop_after, then, to_stop}
 use Rattle.ed_routines.proofs.Lines.{print_line}
 
--- the order that adds what stands at q
+-- the order that adds the word at q
 abbrev pub taking : ℕ → ℕ
 taking q = 114688 + 2 * q
 
--- its words at b, with `print` at w and the order at `stop`: the order that adds, a cell for what is thrown away, and
+-- its words at b, with `print` at w and the order at `stop`; the order that adds, a cell for what is discarded, and
 -- the sum so far change
 abbrev pub cells : ℕ → ℕ → ℕ → ℕ → ℕ → ℕ → List ℕ
 cells b w stop order scrap total =
@@ -28,12 +28,12 @@ cells b w stop order scrap total =
     ∷ (28672 + 2 * (b + 2)) ∷ (49152 + 2 * (b + 13)) ∷ (110592 + 2 * (b + 0)) ∷ (20480 + 2 * (b + 14))
     ∷ (114688 + 2 * (b + 10)) ∷ (110592 + 2 * w) ∷ 53248 ∷ stop ∷ scrap ∷ total ∷ []
 
--- words stand in a store from a place on
+-- words are in a store from a location upwards
 abbrev pub StandFrom : List ℕ → ℕ → List ℕ → Type 0
 StandFrom ws q [] = Unit {0}
 StandFrom ws q (c ∷ cs) = (get_or ws q 0 ≡ c) × StandFrom ws (q + 1) cs
 
--- where the program stands, with the words before the place e, and what is around it
+-- the base of the program, with the words below the location e, and what is around it
 pub record Given : Type 0 where
   pub f : Frame 16 0
   pub above : 56 ≤ f.base
@@ -47,7 +47,7 @@ pub record Given : Type 0 where
   pub at2 : get_or around.words 2 0 ≡ 2
   pub prints : HasRoutine f around.words print w (with_h (f.base + 15))
 
--- what changes as the loop goes round: the word's place, what is left of the comparison, what was thrown away, and the
+-- what changes as the loop goes round: the word's location, what is left of the comparison, what was discarded, and the
 -- sum so far
 pub record Turning : Type 0 where
   pub q : ℕ
@@ -71,7 +71,7 @@ module _ (given : Given) where
   before x [] = at 9 0 (taking x.q) x.scrap x.total
   before x (c ∷ cs) = at 0 x.left (taking x.q) x.scrap x.total
 
-  -- what the comparison leaves where some words are left
+  -- what the comparison leaves if some words are left
   abbrev compared : List ℕ → ℕ
   compared [] = 0
   compared (c ∷ cs) = 131072 - 2 * length (c ∷ cs)
@@ -79,7 +79,7 @@ module _ (given : Given) where
   abbrev next_turn : Turning → ℕ → List ℕ → Turning
   next_turn x c cs = record { q = x.q + 1; left = compared cs; scrap = x.left; total = x.total + c }
 
-  -- the words that are left stand there, and with them the sum is n
+  -- the words that are left are there, and with them the sum is n
   pub record Fine (n : ℕ) (x : Turning) (cs : List ℕ) : Type 0 where
     pub words : StandFrom around.words x.q cs
     pub ends : x.q + length cs ≡ e

@@ -1,4 +1,4 @@
--- The names that the source of `demo` defines are different, and each operand has a place.
+-- The names that the source of `demo` defines are different, and each operand has a value.
 use Rattle.std.proofs.Common.{◌≡◌, ◌≢◌, ◌∙◌, ℕ, zero, suc, ◌+◌, ◌<◌, ◌≤◌, Bool, true, false, List}
 use Rattle.std.proofs.Common.{[], ◌∷◌, ◌++◌}
 use Rattle.std.proofs.Common.{refl, sym, ap, subst, arith, append-nil, codes, nat_lt}
@@ -73,7 +73,7 @@ first_homes =
     ∷ record { name = codes "s1"; place = 123; segment = Some 3 }
     ∷ []
 
--- none of these homes has the name of a segment from the one with this number on
+-- none of these definitions has the name of a segment with this number or a greater one
 abbrev pub IsFree : ℕ → List Home → Type 0
 IsFree k homes = (j : ℕ) → k ≤ j → j ≤ 112 → has_none (name j) homes ≡ true
 

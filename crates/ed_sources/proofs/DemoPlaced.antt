@@ -1,4 +1,4 @@
--- Where the words of `demo` stand at its entry: those of the program and of `print`, and after them the words of all
+-- The store at the entry of `demo`: the words of the program and of `print`, and after them the words of all
 -- segments, one after the other.
 use Rattle.std.proofs.Common.{◌≡◌, ◌∙◌, inl, ℕ, zero, suc, ◌+◌, ◌*◌, ◌<◌, ◌≤◌, true, List, [], ◌∷◌, ◌++◌}
 use Rattle.std.proofs.Common.{refl, sym, ap, arith, lit<, lit≤, length, codes, get_or, nat_eq}
@@ -69,7 +69,7 @@ segments_entry : (homes : List Home) (n k l x : ℕ) (rest : List Line)
 segments_entry homes zero k l x rest = refl
 segments_entry homes (suc n) k l x rest = segments_entry homes n (k + 1) (l + 9) (number_behind 8 x) rest
 
--- ---- the store at the entry, where n segments follow the first
+-- ---- the store at the entry, if n segments follow the first
 
 module _ (words n x l : ℕ) where
   abbrev pub lines : List Line

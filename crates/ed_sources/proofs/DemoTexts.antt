@@ -14,12 +14,12 @@ pub one_line : (before line digits rest whole : Text) → line ≡ digits ++ cod
 one_line before line digits rest whole is h =
     append_assoc before line rest ∙ ap (λ (t : Text). before ++ (t ++ rest)) is ∙ h
 
--- the next number of the sequence is as far from the last as one step less
+-- the next number of the sequence is one step nearer to the last
 pub one_behind : {n m y last : ℕ} (x : ℕ) → n ≡ suc m → y ≡ next x → number_behind n x ≡ last
     → number_behind m y ≡ last
 one_behind {m = m} x less is h = ap (number_behind m) is ∙ ap (λ k. number_behind k x) (sym less) ∙ h
 
--- one word less is left
+-- one word fewer is left
 pub one_word : {n m y : ℕ} {line bytes grown whole : Text} (x : ℕ) (before : Text) → n ≡ suc m → y ≡ next x
     → line ≡ codes "word " ++ decimal (number_word y) ++ codes "\n" → bytes ≡ line → grown ≡ before ++ bytes
     → before ++ text_of_lines (word_lines n x) ≡ whole → grown ++ text_of_lines (word_lines m y) ≡ whole
@@ -30,7 +30,7 @@ one_word {m = m} {bytes = bytes} {whole = whole} x before less is says same more
     (text_of_lines (word_lines m (next x))) whole told
     (ap (λ k. before ++ text_of_lines (word_lines k x)) (sym less) ∙ h)
 
--- none is left
+-- no word is left
 pub no_number : {last : ℕ} (n x : ℕ) → n ≡ 0 → number_behind n x ≡ last → x ≡ last
 no_number n x none h = ap (λ k. number_behind k x) (sym none) ∙ h
 
@@ -39,7 +39,7 @@ pub no_word : {whole : Text} (n x : ℕ) (before : Text) → n ≡ 0 → before 
 no_word n x before none h =
     sym (append-nil before) ∙ ap (λ k. before ++ text_of_lines (word_lines k x)) (sym none) ∙ h
 
--- one segment less is left
+-- one segment fewer is left
 pub one_segment : {n m last : ℕ} {bytes with_line with_words whole : Text} (k x : ℕ) (before : Text) → n ≡ suc m
     → bytes ≡ codes "segment s" ++ decimal k ++ codes "\n"
     → (with_line ≡ before ++ bytes) × (with_words ≡ with_line ++ text_of_lines (word_lines 8 x))

@@ -1,4 +1,4 @@
--- A program whose words are known at its entry stands there, by one test.
+-- A program whose words are known at its entry is at its base, by one test.
 use Rattle.std.proofs.Common.{◌≡◌, ◌∙◌, ◌⊎◌, refl, ℕ, ◌+◌, ◌<◌, ◌≤◌, Bool, true, List, [], arith, get_or, length, nat_eq}
 use Rattle.std.specs.Prelude.{Option, Some, None, unwrap_or}
 use Rattle.std.specs.List.{list_all}
@@ -29,10 +29,10 @@ meets_of None w h = tt
 meets_of (Some x) w h = eq_of w x h
 
 module _ (z : Size) (lines : List Line) where
-  -- as far as the words below a place are known
+  -- as far as the words below a location are known
   module _ (word : ℕ → Option ℕ) (top : ℕ)
       (word_is : (a : ℕ) → 44 ≤ a → a < top → short_at (entry_state z lines).store a ≡ unwrap_or (word a) 0) where
-    -- an image stands at a base
+    -- an image is at a base
     pub holds_by : (image : List (Option ℕ)) (base : ℕ)
         → list_all (λ i. is_met (get_or image i None) (unwrap_or (word (base + i)) 0)) (numbers 0 (length image)) ≡ true
         → 44 ≤ base → base + length image ≤ top → Holds image (entry_state z lines).store.words base
@@ -80,7 +80,7 @@ module _ (z : Size) (lines : List Line) where
         routine_by (placed_at (placed lines)) 1024 (word_at z lines fit) f r base parameters test low high (omega arith)
         reached apart
 
--- a piece of n cells at 56, where a source's program stands, and what is around it at its entry
+-- a piece of n cells at 56, the base of a source's program, and what is around it at its entry
 abbrev pub frame_at : (n : ℕ) (z : Size) → n ≤ 456 → Frame n 0
 frame_at n z few = record {
   size = z;

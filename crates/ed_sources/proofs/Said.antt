@@ -36,7 +36,7 @@ use Rattle.ed_routines.specs.Digits.{digits}
 abbrev pub said : ℕ → Option Text → Statement → Line
 said k label statement = record { number = k; label = label; statement = Some statement }
 
--- an order that names a place
+-- an order that names a location
 abbrev pub order : ℕ → Text → Statement
 order function name = statements.Order function (operands.Label name (pos 0)) false
 
@@ -134,7 +134,7 @@ pub a_number : (bytes : Text) → 0 < length bytes → list_all is_digit bytes �
 a_number [] some h = absurd (omega arith)
 a_number (b ∷ r) some h = h
 
--- what the front of a line makes of it that ends with `word N`, whatever bytes stand behind: its label and the parts
+-- what the front of a line that ends with `word N` makes of the line, whatever follows: its label and the parts
 -- before `word`
 pub record IsWordFront (k : ℕ) (front : Text) (label : Option Text) (before : List LinePart) : Type 0 where
   pub plain : (bytes : Text) → list_all is_line_byte bytes ≡ true → list_all is_line_byte (front ++ bytes) ≡ true
@@ -212,14 +212,14 @@ quoted_digits q (d ∷ ds) h =
     rw other (quoted_digits (q ++ (48 + d) ∷ []) ds p.1
     ∙ ap (λ (t : Text). Some (quoted t ∷ [])) (append_assoc q ((48 + d) ∷ []) (written ds ++ 70 ∷ [])))
 
--- the same, and behind them F
+-- the same, and F after them
 with_F : (test : ℕ → Bool) (bytes : Text) → list_all test bytes ≡ true → test 70 ≡ true
     → list_all test (bytes ++ 70 ∷ []) ≡ true
 with_F test [] h k = rw k refl
 with_F test (b ∷ bytes) h k =
     let p = and_parts (test b) (list_all test bytes) h in rw (p.0, with_F test bytes p.1 k) refl
 
--- and the quote behind them
+-- and the quote after them
 pub with_end : (bytes : Text) → list_all is_line_byte bytes ≡ true
     → list_all is_line_byte (bytes ++ 70 ∷ 34 ∷ []) ≡ true
 with_end [] h = refl

@@ -35,7 +35,7 @@ use Rattle.ed_sources.proofs.TextLines.{Says, ends, says, by_parts}
 abbrev pub name : ℕ → Text
 name k = 115 ∷ decimal k
 
--- the order that would take the word after the last
+-- the order that would add the word after the last
 abbrev pub behind_last : ℕ → Statement
 behind_last words = statements.Order 28 (operands.Label (codes "s1") (pos words)) false
 

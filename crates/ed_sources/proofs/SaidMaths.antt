@@ -14,7 +14,7 @@ use Rattle.ed_sources.specs.Calls.{divide_source, root_source}
 use Rattle.ed_sources.proofs.Said.{IsWordFront, calling, label_parts, said, stop, word_says}
 use Rattle.ed_sources.proofs.TextLines.{Says, ends, says}
 
--- a parameter set to a place
+-- a parameter set to a name
 abbrev pub at_place : ℕ → Text → Setting
 at_place letter name = record { letter = letter; operand = operands.Label name (pos 0) }
 

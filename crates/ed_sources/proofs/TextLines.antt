@@ -19,7 +19,7 @@ use Rattle.ed_syntax.specs.declared.program.Line.{Line}
 use Rattle.ed_syntax.specs.declared.program.Statement.{Statement}
 use Rattle.ed_sources.specs.Calls.{text_of_lines}
 
--- a byte of a line is none that ends one
+-- a byte of a line is not one that ends a line
 is_no_end : (b k : ℕ) → is_line_byte b ≡ true → is_line_byte k ≡ false → (b == k) ≡ false
 is_no_end b k inside outside = by_test (b == k) refl
   where
@@ -67,7 +67,7 @@ program_is lines program plain one says =
 pub line_end : (digits rest : Text) → digits ++ 10 ∷ rest ≡ (digits ++ 10 ∷ []) ++ rest
 line_end digits rest = sym (append_assoc digits (10 ∷ []) rest)
 
--- what lines from a number on say, one after the other
+-- what lines say one after the other; the first has this number
 pub data Says : ℕ → List Text → List Line → Type 0 where
   ends : {k : ℕ} → Says k [] []
   says : {k : ℕ} {line : Text} {lines : List Text} {label : Option Text} {statement : Option Statement}
@@ -75,7 +75,7 @@ pub data Says : ℕ → List Text → List Line → Type 0 where
       → line_of false k line ≡ Ok (record { label = label; statement = statement }) → Says (k + 1) lines program
       → Says k (line ∷ lines) (record { number = k; label = label; statement = statement } ∷ program)
 
--- lines that say so are read so, where they are at most 2000
+-- lines that say this are read so, if they are at most 2000
 pub said_lines : {k : ℕ} {lines : List Text} {program : List Line} → Says k lines program → k + length lines ≤ 2001
     → lines_from false k lines ≡ Ok program
 said_lines ends few = refl

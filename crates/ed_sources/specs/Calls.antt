@@ -9,7 +9,7 @@ use Rattle.ed_words.specs.Texts.{Text}
 abbrev pub text_of_lines : List Text → Text
 text_of_lines lines = flat_map (λ line. line ++ 10 ∷ []) lines
 
--- `call print N`: the number stands as a word, and `print` prints it
+-- `call print N`: the number is a word, and `print` prints it
 abbrev pub print_source : ℕ → List Text
 print_source n =
     codes "segment main"
@@ -21,11 +21,11 @@ print_source n =
     ∷ codes "enter main"
     ∷ []
 
--- the line of a number's digits as rows of the tape behind the program, with F, which ends them
+-- the line that puts a number's digits on the tape after the program, with F, which ends them
 abbrev pub number_line : ℕ → Text
 number_line n = codes "data " ++ 34 ∷ decimal n ++ codes "F" ++ 34 ∷ []
 
--- `call read N`: the number stands on the tape, `read` reads it and `print` prints it
+-- `call read N`: the number is on the tape, `read` reads it and `print` prints it
 abbrev pub read_source : ℕ → List Text
 read_source n =
     codes "segment main"
@@ -92,8 +92,8 @@ root_source n =
     ∷ codes "enter main"
     ∷ []
 
--- `call check N`: the checking routine obeys a guest that prints the number, and prints the function of each of its
--- orders
+-- `call check N`: the checking routine obeys a guest that prints the number, and prints the function of each order of
+-- the guest
 abbrev pub check_source : ℕ → List Text
 check_source n =
     codes "segment main"

@@ -5,20 +5,20 @@ use Rattle.std.specs.Fmt.{decimal}
 use Rattle.ed_words.specs.Texts.{Text}
 use Rattle.ed_sources.specs.Calls.{text_of_lines}
 
--- the number after another in the sequence
+-- the number after a given one in the sequence
 abbrev pub next : ℕ → ℕ
 next x = (1105 * x + 12345) % 65536
 
--- the number n places after another
+-- the number n steps after a given one
 abbrev pub number_behind : ℕ → ℕ → ℕ
 number_behind zero x = x
 number_behind (suc n) x = number_behind n (next x)
 
--- the word of a number of the sequence, which is below 64
+-- the word of a number of the sequence; it is below 64
 abbrev pub number_word : ℕ → ℕ
 number_word x = x / 1024
 
--- the words of the n numbers after a number
+-- the words of the n numbers after a given one
 abbrev pub words_after : ℕ → ℕ → List ℕ
 words_after zero x = []
 words_after (suc n) x = number_word (next x) ∷ words_after n (next x)
@@ -27,21 +27,21 @@ words_after (suc n) x = number_word (next x) ∷ words_after n (next x)
 abbrev pub demo_words : ℕ → List ℕ
 demo_words n = words_after (8 * n) n
 
--- what `demo N` prints: their sum. It is at most 504 N, so it is below 65,536 for every N up to 112, as `print` takes it
+-- what `demo N` prints: their sum. It is at most 504 N, so below 65,536 for every N up to 112, as `print` requires
 abbrev pub demo_sum : ℕ → ℕ
 demo_sum n = sum (demo_words n)
 
--- the lines of the words of the n numbers after a number
+-- the lines of the words of the n numbers after a given one
 abbrev pub word_lines : ℕ → ℕ → List Text
 word_lines n x = map (λ word. codes "word " ++ decimal word) (words_after n x)
 
--- n segments of 8 words, with the names from s1 on where k is 1, and the words of the numbers after one
+-- n segments of 8 words each, named s and a number from k upwards, with the words of the numbers after a given one
 abbrev pub segments : ℕ → ℕ → ℕ → List Text
 segments zero k x = []
 segments (suc n) k x = (codes "segment s" ++ decimal k) ∷ word_lines 8 x ++ segments n (k + 1) (number_behind 8 x)
 
--- the program for a number of words: the order at `add` takes them one after the other, until it is the one at
--- `stop`, which would take the word after the last
+-- the program for a number of words: the order at `add` adds them one after the other, until it equals the order at
+-- `stop`, which would add the word after the last
 abbrev pub adding : ℕ → List Text
 adding words =
     codes "segment main"

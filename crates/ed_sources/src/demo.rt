@@ -54,7 +54,7 @@ fn segment_line(alloc: Global, k: u32) -> Result<Vec<u8>, NoMemory>
     bytes_of_text(format!(in alloc; "segment s{k}\n"))
 }
 
-/// Adds the 8 words of the numbers after one to a source, and answers the last of these numbers.
+/// Adds the 8 words of the numbers after a given one to a source, and answers the last of these numbers.
 fn push_words(alloc: Global, text: &mut Vec<u8>, before: u32) -> Result<u32, NoMemory>
     requires { before < 65536 }
     ensures last { IfOk result (λ last. last ≡ number_behind 8 before) }
@@ -77,7 +77,7 @@ fn word_line(alloc: Global, number: u32) -> Result<Vec<u8>, NoMemory>
     bytes_of_text(format!(in alloc; "word {word}\n"))
 }
 
-/// The number after another in the sequence.
+/// The number after a given one in the sequence.
 fn next(number: u32) -> u32
     requires { number < 65536 }
     ensures { result ≡ next number }

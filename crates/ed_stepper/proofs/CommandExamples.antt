@@ -1,4 +1,4 @@
--- Worked lines of scripts: what each says, and the one answer that the public clause of `bad_line` leaves for it.
+-- Worked lines of scripts: what each says, and the only answer that the public clause of `bad_line` allows for it.
 use Rattle.std.proofs.Common.{◌≡◌, ℕ, [], ◌∷◌, ◌++◌, refl, codes, lit≤}
 use Rattle.std.specs.Prelude.{Option, Some, None}
 use Rattle.ed_words.specs.Texts.{Text}
@@ -12,7 +12,7 @@ use Rattle.ed_stepper.proofs.ScriptLaws.{bad_line_is, never_both, one_bad_line}
 
 -- ---- lines that say a command
 
--- by hand: spaces at either end, and zeros in front
+-- by hand: spaces at either end, and leading zeros
 by_hand : LineSaysCommand (codes "  go 07 ") (Move (aims.Orders 7))
 by_hand = record {
   parts = codes "go" ∷ codes "07" ∷ [];
@@ -44,11 +44,11 @@ only_good : (script : Text) → bad_line script ≡ None → (r : Option ℕ) �
 only_good script e None h = refl
 only_good script e (Some n) h = let s = bad_line_is script None e in absurd (never_both script s.0 n s.1 h)
 
--- three lines, of which the last has no end
+-- three lines, the last without an end
 good : (r : Option ℕ) → HasBadLine (codes "entry" ++ 13 ∷ 10 ∷ 10 ∷ codes "back 0") r → r ≡ None
 good = only_good _ refl
 
--- a tab is no space
+-- a tab is not a space
 tab : (r : Option ℕ) → HasBadLine (9 ∷ []) r → r ≡ Some 1
 tab = only_bad _ 1 refl
 

@@ -111,7 +111,7 @@ range_is least most n x e = by_test (nat_le least n && nat_le n most) refl e
         (le_of least n p.0, le_of n most p.1, cc)
     by_test false f e = absurd (cc)
 
--- a number that is read, and that it is one
+-- what is read as a number is one
 record NumberRead (least most : ℕ) (n : Text) (x : ℕ) : Type 0 where
   pub number : IsNumberWithin least most n
   pub is : value n ≡ x
@@ -140,7 +140,7 @@ read_is_number least most n x e = by_number (number n) refl e
 
 -- ---- commands
 
--- a number is no other word that `show` may have after it
+-- a number is not another word that `show` may have after it
 not_word : (a word : Text) → number_within 0 1023 word ≡ None → IsNumberWithin 0 1023 a → bytes_eq a word ≡ false
 not_word a word none i = by_test (bytes_eq a word) refl
   where

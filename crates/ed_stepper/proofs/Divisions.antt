@@ -14,7 +14,7 @@ use Rattle.ed_stepper.proofs.Heads.{found, none_found}
 
 -- ---- the bytes of a first line
 
--- what stands behind it, by the place of its line feed
+-- what follows the first line, by the offset of its line feed
 behind_is : (text : Text) → behind_line text ≡ drop (unended text + 1) text
 behind_is [] = refl
 behind_is (b ∷ bs) = by_test (b == 10) (behind_is bs)
@@ -39,7 +39,7 @@ abbrev pub line_front : Text → Text
 line_front [] = []
 line_front (b ∷ bs) = if b == 10 then b ∷ [] else b ∷ line_front bs
 
--- it stands before what stands behind it
+-- it and what follows it are the text
 pub front_whole : (text : Text) → line_front text ++ behind_line text ≡ text
 front_whole [] = refl
 front_whole (b ∷ bs) = by_test (b == 10) (front_whole bs)
@@ -49,7 +49,7 @@ front_whole (b ∷ bs) = by_test (b == 10) (front_whole bs)
     by_test true h = refl
     by_test false h = ap (λ (x : Text). b ∷ x) h
 
--- ---- a script with bytes in front
+-- ---- a script with bytes before it
 
 abbrev pub prefixed : Text → Option Input → Option Input
 prefixed before None = None
@@ -71,7 +71,7 @@ one_front b more (Some i) = refl
 
 -- ---- lines
 
--- where no line begins, the input is divided behind the first line feed
+-- if no line begins here, the input is divided after the first line feed
 skips : (text : Text) → divided_at false text ≡ prefixed (line_front text) (divided (behind_line text))
 skips [] = refl
 skips (b ∷ bs) = by_test (b == 10) (skips bs)
@@ -82,7 +82,7 @@ skips (b ∷ bs) = by_test (b == 10) (skips bs)
     by_test true h = ap (with_byte_before b) (sym (prefixed_none (divided bs))) ∙ one_front b [] (divided bs)
     by_test false h = ap (with_byte_before b) h ∙ one_front b (line_front bs) (divided (behind_line bs))
 
--- so it is behind a line that announces nothing
+-- the same after a line that announces nothing
 pub passes : (text : Text) → 0 < length text → announced (first_line text) ≡ None
     → divided text ≡ prefixed (line_front text) (divided (behind_line text))
 passes [] some none = absurd (omega arith)
@@ -103,7 +103,7 @@ first_is text line rest is = ap (λ (lines : List Text). slice_index_or lines 0 
 
 -- ---- the loop over the lines
 
--- what stands before a rest is the front, by its length
+-- what precedes a rest is the front, by its length
 cut : (front rest whole : Text) → front ++ rest ≡ whole → take (length whole - length rest) whole ≡ front
 cut front rest whole is =
     let long : length front + length rest ≡ length whole = sym (length-append front rest)
@@ -126,7 +126,7 @@ at_start input =
       same = sym (ap (λ (x : Text). prefixed x (divided input)) e ∙ prefixed_none (divided input));
     }
 
--- behind a line that announces nothing
+-- after a line that announces nothing
 pub goes_on : (input rest after : Text) → Stands input rest → 0 < length rest → announced (first_line rest) ≡ None
     → after ≡ behind_line rest → Stands input after
 goes_on input rest after s some none is =
@@ -154,7 +154,7 @@ ends_at input rest after kind s some found is =
     s.same ∙ ap (prefixed before) (divides rest kind some found)
     ∙ (λ i. Some (record { script = append-nil before i; kind = kind; text = sym is i }))
 
--- behind the last line
+-- after the last line
 pub at_end : (input rest : Text) → Stands input rest → length rest ≡ 0 → divided input ≡ None
 at_end input [] s none = s.same
 at_end input (b ∷ bs) s none = absurd (omega (arith, none))

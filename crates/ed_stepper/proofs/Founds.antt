@@ -1,4 +1,4 @@
--- The orders of a move are the least number at which an end holds.
+-- The number of a move's orders is the least after which an end holds.
 use Rattle.std.proofs.Common.{◌≡◌, ◌⊎◌, inl, inr, ℕ, ◌<◌, ◌≤◌, refl, sym, ap, ◌∙◌}
 use Rattle.std.proofs.Common.{arith, Bool, true, false, Option, Some, None, is_some}
 use Rattle.ed_words.proofs.Numbers.{eq_true}
@@ -31,7 +31,7 @@ within_left aim left k s end e = by_place (grind arith)
     by_place (inl h) = h
     by_place (inr h) = absurd (limit_ends aim left s (e.first left h))
 
--- an end holds after n orders where a move goes for n
+-- an end holds after n orders if the move is by n orders
 own_ends : (n left : ℕ) (s : State) → end_after (Orders n) left n s ≡ None → ⊥
 own_ends n left s is = by_stop (stopped_after n s) refl
   where
@@ -41,7 +41,7 @@ own_ends n left s is = by_stop (stopped_after n s) refl
         let m = eq_true n n refl in
         let bad : Some Went ≡ None = sym (rw (h, m) refl) ∙ is in absurd (cc)
 
--- a move that goes for n orders obeys n at the most
+-- a move by n orders obeys at most n
 pub at_most : (n left k : ℕ) (s : State) (end : MoveEnd) → Ends (Orders n) left s k end → k ≤ n
 at_most n left k s end e = by_place (grind arith)
   where

@@ -20,7 +20,7 @@ one_more n = omega arith
 
 -- ---- lines
 
--- no line feed stands before the first
+-- there is no line feed before the first
 no_end_before : (text : Text) → has_end (take (unended text) text) ≡ false
 no_end_before [] = refl
 no_end_before (b ∷ bs) = by_test (b == 10) refl (no_end_before bs)
@@ -30,7 +30,7 @@ no_end_before (b ∷ bs) = by_test (b == 10) refl (no_end_before bs)
     by_test true e h = refl
     by_test false e h = let s = one_more (unended bs) in rw (s, e) h
 
--- it stands there, or nowhere
+-- it is there, or nowhere
 end_there : (text : Text) → unended text < length text → get_or text (unended text) 0 ≡ 10
 end_there [] low = absurd (omega arith)
 end_there (b ∷ bs) low = by_test (b == 10) refl low (end_there bs)
@@ -66,7 +66,7 @@ first_ended text stop low is =
     (takes_ended text (take stop text) (unended text) low (no_end_before text) (end_there text low)
     (ap (λ n. take n text) is ∙ stop_is text (unended text) (omega arith))).lines
 
--- a first line that is all
+-- a first line that is the whole text
 first_last : (text : Text) → 0 < length text → unended text ≡ length text → lines_of text ≡ text ∷ lines_of []
 first_last text some all =
     (takes_last text some (let e : take (length text) text ≡ text = take_all (length text) text (omega arith) in rw
@@ -74,7 +74,7 @@ first_last text some all =
 
 -- ---- parts
 
--- what stands behind the blanks has the same parts
+-- what follows the blanks has the same parts
 skipped : (line : Text) → parts_between_spaces line ≡ parts_between_spaces (drop (blanks line) line)
 skipped [] = refl
 skipped (b ∷ bs) = by_test (is_space b) refl (skipped bs)
@@ -96,7 +96,7 @@ begins (b ∷ bs) low = by_test (is_space b) refl low (begins bs)
     by_test true e l h = let s = one_more (blanks bs) in rw s (h (rw s at l))
     by_test false e l h = rw e refl
 
--- no part begins where no byte stands but blanks
+-- no part begins if there are only blanks
 none_begun : (text : Text) → begins_part text ≡ false → solid text ≡ 0
 none_begun [] e = refl
 none_begun (b ∷ bs) e = rw e refl
@@ -124,9 +124,9 @@ part_at (b ∷ bs) begin = by_test (is_space b) refl begin (part_at bs)
     by_test true e h more = absurd (cc)
     by_test false e h more = let s = one_more (solid bs) in rw (e, s) (after (begins_part bs) refl more)
 
--- ---- places of bytes
+-- ---- offsets of bytes
 
--- no place is past the end
+-- no offset is past the end
 within : (test : ℕ → Bool) (text : Text) → position_or_len test text ≤ length text
 within test [] = omega arith
 within test (b ∷ bs) = by_test (test b) (within test bs)
@@ -136,7 +136,7 @@ within test (b ∷ bs) = by_test (test b) (within test bs)
     by_test true h = omega arith
     by_test false h = omega arith
 
--- a place that is found
+-- an offset that is found
 pub found : (test : ℕ → Bool) (text : Text) (i : ℕ) → position test text ≡ Some i
     → (i ≡ position_or_len test text) × (i < length text)
 found test text i is = by_test (nat_lt (position_or_len test text) (length text)) refl is
@@ -150,7 +150,7 @@ found test text i is = by_test (nat_lt (position_or_len test text) (length text)
         (same, omega (arith, same, low))
     by_test false e h = absurd (cc)
 
--- none that is
+-- no offset is found
 pub none_found : (test : ℕ → Bool) (text : Text) → position test text ≡ None → position_or_len test text ≡ length text
 none_found test text is = by_test (nat_lt (position_or_len test text) (length text)) refl is
   where
@@ -159,7 +159,7 @@ none_found test text is = by_test (nat_lt (position_or_len test text) (length te
     by_test true e h = absurd (cc)
     by_test false e h = let high = not_lt_of _ _ e in omega (arith, high, within test text)
 
--- the place, or the end
+-- the offset, or the end
 place_or_end : (test : ℕ → Bool) (text : Text)
     → unwrap_or (position test text) (length text) ≡ position_or_len test text
 place_or_end test text = by_option (position test text) refl

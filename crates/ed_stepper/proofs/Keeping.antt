@@ -18,7 +18,7 @@ no_marks start marks is = subst (λ ms. AreMarks start ms) (sym is) none
     none : AreMarks start []
     none k d h = absurd (omega arith)
 
--- a walk from where a session stands is a move
+-- a walk from the state of a session is a move
 pub moves_so : {aim : Aim} {start machine last : State} {limit done orders at : ℕ} {end : MoveEnd}
     → machine ≡ state_after done start
     → Ends aim (limit - done) machine orders end → last ≡ state_after orders machine → at ≡ last.counter
@@ -42,7 +42,7 @@ moves_so {aim} {start} {limit = limit} {done} {orders} {end = end} is ends to pl
       stand_is = refl;
     }
 
--- the state after so many orders, from a copy on
+-- the state after `done` orders, starting from a copy
 pub from_mark : (start : State) (m : Mark) (done : ℕ) → IsMark start m → m.done ≤ done
     → state_after (done - m.done) m.machine ≡ state_after done start
 from_mark start m done mark low =

@@ -12,14 +12,14 @@ use Rattle.ed_stepper.specs.Scripts.{behind, is_too_far, play, writes}
 use Rattle.ed_stepper.specs.declared.commands.Command.{Command}
 use Rattle.ed_stepper.specs.declared.commands.Command.TheVariants.{Nothing}
 
--- what lines that ran whole wrote, and where they left the session
+-- what lines that ran completely wrote, and the session after them
 abbrev whole_play : Text → Stand → Played
 whole_play text t = record { text = text; stand = t; refused = None }
 
 not_refused : (far : TooFar) → Some far ≡ None → ⊥
 not_refused far e = cc
 
--- lines behind others that ran whole
+-- lines after others that ran completely
 play_more : (ran more : List Command) (k : ℕ) (s t : Stand) (text : Text) → play k ran s ≡ whole_play text t
     → play k (ran ++ more) s ≡ behind text (play (k + length ran) more t)
 play_more [] more k s t text is =
@@ -54,7 +54,7 @@ play_more (c ∷ ran) more k s t text is = by_test (is_too_far c s) refl (play_m
               (sym (append_assoc (writes c s) rest.text end.text) ∙ ap (λ x. x ++ end.text) text_is) i;
         }))
 
--- the lines of a script so far ran whole, and none of the others is bad
+-- the lines of a script so far ran completely, and none of the others is bad
 pub record Playing (script : Text) (s : Stand) (line : ℕ) (rest text : Text) (t : Stand) : Type 0 where
   pub ran : List Command
   pub whole : commands_of script ≡ ran ++ commands_of rest
@@ -74,7 +74,7 @@ playing_first script text s good none = record {
   few = omega arith;
 }
 
--- a line that is none is not among them
+-- a bad line is not among them
 record Good (line : ℕ) (bytes : Text) (rest : List Text) : Type 0 where
   pub below : nat_eq line 1001 ≡ false
   pub some : is_none (session_command bytes) ≡ false
@@ -165,7 +165,7 @@ module _ {script : Text} {s : Stand} {line : ℕ} {rest text : Text} {t : Stand}
             stand = ap (λ (q : Played). q.stand) whole ∙ sym does.2;
           }
 
-      -- memory ran out before it ran or behind it
+      -- memory ran out before or after it ran
       pub playing_memory : {u : Stand} → (u ≡ t) ⊎ ((is_too_far c t ≡ false) × (u ≡ left_by c t))
           → LeftBy (commands_of script) s u
       playing_memory (inl same) = subst (λ x. LeftBy (commands_of script) s x) (sym same) (playing_left p)

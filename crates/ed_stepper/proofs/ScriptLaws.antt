@@ -15,7 +15,7 @@ use Rattle.ed_stepper.proofs.CommandLaws.{line_is_read, one_command, read_line_s
 
 -- ---- lines one after the other
 
--- the lines from the number k on say these commands, and there are not too many
+-- the lines from the number k upwards say these commands, and there are not too many
 record SayFrom (k : ℕ) (lines : List Text) : Type 0 where
   pub says : LinesSayCommands lines (line_commands lines)
   pub few : length lines + k ≤ 1001
@@ -35,7 +35,7 @@ abbrev IsAnswerFrom : ℕ → List Text → Option ℕ → Type 0
 IsAnswerFrom k lines None = SayFrom k lines
 IsAnswerFrom k lines (Some number) = BadFrom k lines number
 
--- a good line in front
+-- a good line before others
 and_good : (k : ℕ) (line : Text) (lines : List Text) (c : Command) (o : Option ℕ) → session_command line ≡ Some c
     → IsAnswerFrom (k + 1) lines o → IsAnswerFrom k (line ∷ lines) o
 and_good k line lines c None e a =
@@ -59,7 +59,7 @@ and_good k line lines c (Some number) e a =
       bad = a.bad;
     }
 
--- a bad line in front
+-- a bad line before others
 at_once : (k : ℕ) (line : Text) (lines : List Text) → IsBadLine k line → BadFrom k (line ∷ lines) k
 at_once k line lines bad = record {
   before = [];

@@ -1,4 +1,4 @@
--- What every line of a script keeps of a session: its start and its limit, and that each order done was obeyed.
+-- What every line of a script keeps of a session: its start and its limit, and that each order counted was obeyed.
 use Rattle.std.proofs.Common.{◌≡◌, ℕ, ◌+◌, ◌≤◌, refl, subst, arith}
 use Rattle.std.proofs.Common.{Bool, true, false, nat_eq, Option, Some, None, is_some, List, [], ◌∷◌}
 use Rattle.std.specs.Prelude.{if◌then◌else◌}
@@ -22,7 +22,7 @@ use Rattle.ed_stepper.specs.declared.moves.MoveEnd.TheVariants as ends
 
 -- ---- a move
 
--- where a move has no end, the next order is obeyed
+-- if a move has no end, the next order is obeyed
 none_of : (stop same : Bool) (own : Option MoveEnd) (turn : Turn) → same ≡ false
     → (if stop then Some ends.Stopped else or_else own (if same then Some ends.Limit else blocked_end turn)) ≡ None
     → is_obeyed turn ≡ true
@@ -55,7 +55,7 @@ move_within aim n s = least_below _ n
 
 -- ---- a line, and lines one after the other
 
--- a session that began so
+-- a session that began in this state
 pub record Keeps (first t : Stand) : Type 0 where
   pub start : t.start ≡ first.start
   pub limit : t.limit ≡ first.limit

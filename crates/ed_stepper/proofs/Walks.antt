@@ -13,7 +13,7 @@ use Rattle.ed_stepper.specs.declared.moves.MoveEnd.{MoveEnd}
 use Rattle.ed_stepper.specs.declared.moves.MoveEnd.TheVariants.{Limit, Stopped as EndStopped}
 use Rattle.ed_stepper.specs.declared.moves.Aim.{Aim}
 
--- k orders of a move have been obeyed, and it has not ended; the limit and a blocked order are not looked at yet
+-- k orders of a move have been obeyed, and it has not ended; the limit and a blocked order are not tested yet
 pub record Walking (aim : Aim) (left : ℕ) (s : State) (k : ℕ) (m : State) : Type 0 where
   pub state : m ≡ state_after k s
   pub free : IsFree k s
@@ -49,7 +49,7 @@ pub record Next (aim : Aim) (left : ℕ) (s : State) (k : ℕ) (m n : State) (tu
   pub stop_is : stopped_after (k + 1) s ≡ is_stop turn
   pub first : (j : ℕ) → j < k + 1 → end_after aim left j s ≡ None
 
--- so many orders of a move below its limit have been obeyed
+-- k orders of a move below its limit have been obeyed
 module _ {aim : Aim} {left : ℕ} {s : State} {k : ℕ} {m : State} (w : Walking aim left s k m) (below : k < left) where
   -- only an order that can't be obeyed ends it now
   by_next : end_after aim left k s ≡ blocked_end (step m).turn
@@ -57,7 +57,7 @@ module _ {aim : Aim} {left : ℕ} {s : State} {k : ℕ} {m : State} (w : Walking
       let e = eq_false k left (omega arith) in
       rw (w.quiet, w.going, e) (ap (λ (x : State). blocked_end (step x).turn) (sym w.state))
 
-  -- it comes to one
+  -- the move reaches one
   pub blocks : {end : MoveEnd} → blocked_end (step m).turn ≡ Some end → Ends aim left s k end
   blocks is = record { now = by_next ∙ is; first = w.first }
 
@@ -74,11 +74,11 @@ module _ {aim : Aim} {left : ℕ} {s : State} {k : ℕ} {m : State} (w : Walking
               (by_next ∙ ap blocked_end (sym is) ∙ not_blocked turn obeyed);
         }
 
-    -- where it neither stops nor is blocked
+    -- if it neither stops nor is blocked
     pub taken : (turn ≡ Went) ⊎ ((x : ℕ) × (turn ≡ Printed x)) → Next aim left s k m n turn × (is_stop turn ≡ false)
     taken quiet = let q = quiet_turn turn quiet in (next q.0, q.1)
 
--- behind such an order
+-- after such an order
 module _ {aim : Aim} {left : ℕ} {s : State} {k : ℕ} {m n : State} {turn : Turn}
     (next : Next aim left s k m n turn) where
   -- the move goes on
@@ -90,11 +90,11 @@ module _ {aim : Aim} {left : ℕ} {s : State} {k : ℕ} {m n : State} {turn : Tu
   pub stops : is_stop turn ≡ true → Ends aim left s (k + 1) EndStopped
   stops stop = let e = next.stop_is ∙ stop in record { now = rw e refl; first = next.first }
 
-  -- it comes to its own end
+  -- it reaches its own end
   pub owns : {end : MoveEnd} → is_stop turn ≡ false → own_end aim (k + 1) s ≡ Some end → Ends aim left s (k + 1) end
   owns go own = let e = next.stop_is ∙ go in record { now = rw (e, own) refl; first = next.first }
 
--- a move comes to the limit
+-- a move reaches the limit
 pub limits : {aim : Aim} {left : ℕ} {s m : State} → Walking aim left s left m → Ends aim left s left Limit
 limits {left = left} w = let e = eq_true left left refl in record {
   now = rw (w.quiet, w.going, e) refl;
@@ -106,7 +106,7 @@ pub ends_at_once : (aim : Aim) (left : ℕ) (s : State) (end : MoveEnd) → own_
     → Ends aim left s 0 end
 ends_at_once aim left s end own = record { now = rw own refl; first = λ j h. absurd (omega arith) }
 
--- the state so many orders after another
+-- the state k + 1 orders after another
 pub after_from : (from k : ℕ) (s start m : State) → m ≡ state_after (k + 1) s → s ≡ state_after from start
     → m ≡ state_after (from + k + 1) start
 after_from from k s start m is at =

@@ -20,7 +20,7 @@ abbrev pub begins_part : Text → Bool
 begins_part [] = false
 begins_part (b ∷ bs) = not (is_space b)
 
--- a space is among the bytes
+-- whether a space is among the bytes
 abbrev pub has_space : Text → Bool
 has_space bytes = list_any is_space bytes
 

@@ -1,4 +1,4 @@
--- The input of the command that runs a script: the script's lines, a line that divides, and a tape's text or a source
+-- The input of the command that runs a script: the script's lines, a dividing line, and a tape's text or a source
 -- (this project's own rule).
 use Rattle.std.specs.Prelude.{◌≡◌, ℕ, ◌==◌, Bool, true, [], ◌∷◌, codes}
 use Rattle.std.specs.Prelude.{slice_index_or, if◌then◌else◌, Option, Some, None}
@@ -13,33 +13,33 @@ use Rattle.ed_stepper.specs.declared.inputs.TextKind.TheVariants.{Tape, Source}
 abbrev pub first_line : Text → Text
 first_line text = slice_index_or (lines_of text) 0 []
 
--- what stands behind the first line and its end
+-- what follows the first line and its end
 abbrev pub behind_line : Text → Text
 behind_line [] = []
 behind_line (b ∷ bs) = if b == 10 then bs else behind_line bs
 
--- what a line announces, if it divides: it is exactly `tape` or `source`
+-- what a line announces, if it is a dividing line: it is exactly `tape` or `source`
 abbrev pub announced : Text → Option TextKind
 announced line = if bytes_eq line (codes "tape") then Some Tape else if bytes_eq line (codes "source")
     then Some Source else None
 
--- an input that is divided: the bytes of the script, and the kind and the bytes of the text behind the dividing line
+-- a divided input: the bytes of the script, and the kind and the bytes of the text after the dividing line
 pub record Input : Type 0 where
   pub script : Text
   pub kind : TextKind
   pub text : Text
 
--- a byte more in front of the script
+-- one more byte before the script
 abbrev pub with_byte_before : ℕ → Option Input → Option Input
 with_byte_before b None = None
 with_byte_before b (Some i) = Some (record i { script = b ∷ i.script })
 
--- the input is divided here, where a line announces a text, and else further on
+-- the input is divided here if a line announces a text, else further on
 abbrev pub at_line : Option TextKind → Text → Option Input → Option Input
 at_line (Some kind) text later = Some (record { script = []; kind = kind; text = behind_line text })
 at_line None text later = later
 
--- an input from a byte on, at which a line begins or not, divided by the first line that announces a text
+-- an input, which begins at the beginning of a line or not, divided by the first line that announces a text
 abbrev pub divided_at : Bool → Text → Option Input
 divided_at begins [] = None
 divided_at begins (b ∷ bs) =
@@ -50,7 +50,7 @@ divided_at begins (b ∷ bs) =
 abbrev pub divided : Text → Option Input
 divided input = divided_at true input
 
--- the parts that are found are those of the definition
+-- the parts found are those of the definition
 abbrev pub Divides : Text → Option Divided → Type 0
 Divides input None = divided input ≡ None
 Divides input (Some d) = divided input ≡ Some (record { script = d.script.now; kind = d.kind; text = d.text.now })

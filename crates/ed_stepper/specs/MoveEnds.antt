@@ -1,4 +1,4 @@
--- Where a move of a session ends (this project's own rules). The ends are tested in this order: a stop, the move's own
+-- When a move of a session ends (this project's own rules). The ends are tested in this order: a stop, the move's own
 -- end, the limit, an order that can't be obeyed.
 use Rattle.std.specs.Prelude.{ℕ, zero, suc, ◌≡◌, ◌<◌, Bool, true, false, ◌&&◌, nat_eq}
 use Rattle.std.specs.Prelude.{if◌then◌else◌, Option, Some, None, is_some, unwrap_or}
@@ -28,7 +28,7 @@ abbrev pub is_some_order : ℕ → Bool
 is_some_order zero = false
 is_some_order (suc k) = true
 
--- a move's own end after k orders from a state, if it has come
+-- a move's own end after k orders from a state, if it has been reached
 abbrev pub own_end : Aim → ℕ → State → Option MoveEnd
 own_end (Orders n) k s = if nat_eq k n then Some Went else None
 own_end (Address a) k s = if is_some_order k && nat_eq (state_after k s).counter a then Some There else None
@@ -40,26 +40,26 @@ blocked_end (TurnNoOrder function) = Some NoOrder
 blocked_end TurnNoTape = Some NoTape
 blocked_end turn = None
 
--- the first of two ends that there is
+-- the first of two ends, if it is there, else the second
 abbrev pub or_else : Option MoveEnd → Option MoveEnd → Option MoveEnd
 or_else None other = other
 or_else (Some end) other = Some end
 
--- how a move ends after k orders, if it does, where so many orders are left to the limit
+-- how a move ends after k orders, if it does, when `left` orders are left before the limit
 abbrev pub end_after : Aim → ℕ → ℕ → State → Option MoveEnd
 end_after aim left k s =
     if stopped_after k s then Some Stopped
     else or_else (own_end aim k s) (if nat_eq k left then Some Limit else blocked_end (step (state_after k s)).turn)
 
--- a move from a state ends so after k orders, and not before
+-- a move from a state ends with this end after k orders, and not before
 pub record Ends (aim : Aim) (left : ℕ) (s : State) (k : ℕ) (end : MoveEnd) : Type 0 where
   pub now : end_after aim left k s ≡ Some end
   pub first : (j : ℕ) → j < k → end_after aim left j s ≡ None
 
--- how many orders a move obeys: the least number at which an end holds, the limit at the latest
+-- the number of orders that a move obeys: the least number after which it ends, at most the limit
 unfoldable pub move_orders : Aim → ℕ → State → ℕ
 move_orders aim left s = least (λ j. is_some (end_after aim left j s)) left
 
--- how it ends
+-- the end of a move
 unfoldable pub move_end : Aim → ℕ → State → MoveEnd
 move_end aim left s = unwrap_or (end_after aim left (move_orders aim left s) s) Limit

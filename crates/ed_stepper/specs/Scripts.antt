@@ -34,16 +34,16 @@ end_word ends.NoOrder = codes "no order"
 end_word ends.NoTape = codes "no tape"
 end_word ends.Limit = codes "limit"
 
--- `at A after K: W`, A the counter, K the orders done and W the end of a move
+-- `at A after K: W`, A the counter, K the count of orders obeyed and W the end of a move
 abbrev pub move_line : ℕ → ℕ → MoveEnd → Text
 move_line at done end = codes "at " ++ decimal at ++ codes " after " ++ decimal done ++ codes ": "
     ++ end_word end ++ 10 ∷ []
 
--- where a move on leaves a session
+-- the session after a move forward
 abbrev pub moved : Aim → Stand → Stand
 moved aim s = record s { done = s.done + move_orders aim (left s) (stands_at s) }
 
--- where a move back leaves it
+-- the session after a move back
 abbrev pub moved_back : ℕ → Stand → Stand
 moved_back n s = record s { done = s.done - n }
 
@@ -51,7 +51,7 @@ moved_back n s = record s { done = s.done - n }
 abbrev pub line_at : Stand → MoveEnd → Text
 line_at t end = move_line (stands_at t).counter t.done end
 
--- the line of a move on
+-- the line of a move forward
 abbrev pub line_of_move : Aim → Stand → Text
 line_of_move aim s = line_at (moved aim s) (move_end aim (left s) (stands_at s))
 
@@ -64,7 +64,7 @@ abbrev pub last_word : Option ℕ → Text
 last_word (Some code) = decimal code
 last_word None = codes "none"
 
--- the words of the locations from one to another
+-- the words of the locations from a to b
 abbrev pub words_shown : ℕ → ℕ → Stand → Text
 words_shown a b s = listing (stands_at s).store (range_with_len a (b + 1 - a))
 
@@ -79,43 +79,43 @@ writes Accumulator s = codes "acc " ++ decimal (stands_at s).acc ++ 10 ∷ []
 writes Multiplier s = codes "mult " ++ decimal (stands_at s).multiplier ++ 10 ∷ []
 writes LastPrinted s = codes "last " ++ last_word (stands_at s).last ++ 10 ∷ []
 
--- where a line leaves a session
+-- the session after a line
 abbrev pub left_by : Command → Stand → Stand
 left_by (Move aim) s = moved aim s
 left_by (Back n) s = moved_back n s
 left_by (Trace n) s = moved (Orders n) s
 left_by command s = s
 
--- whether a line goes back by more orders than are done
+-- whether a line goes back by more orders than were obeyed
 abbrev pub is_too_far : Command → Stand → Bool
 is_too_far (Back n) s = nat_lt s.done n
 is_too_far command s = false
 
 -- ---- whole scripts
 
--- a line that went back too far, and the orders that were done
+-- a line that went back too far, and the count of orders obeyed by then
 pub record TooFar : Type 0 where
   pub line : ℕ
   pub done : ℕ
 
--- what lines wrote, where they left the session, and which went back too far, if one did
+-- what lines wrote, the session after them, and which line went back too far, if one did
 pub record Played : Type 0 where
   pub text : Text
   pub stand : Stand
   pub refused : Option TooFar
 
--- these behind a text
+-- the same with a text before it
 abbrev pub behind : Text → Played → Played
 behind text p = record p { text = text ++ p.text }
 
--- the lines from number k on, one after the other, until one goes back too far
+-- lines one after the other until one goes back too far; the first of them has the number k
 abbrev pub play : ℕ → List Command → Stand → Played
 play k [] s = record { text = []; stand = s; refused = None }
 play k (command ∷ rest) s = if is_too_far command s
     then record { text = []; stand = s; refused = Some (record { line = k; done = s.done }) }
     else behind (writes command s) (play (k + 1) rest (left_by command s))
 
--- the first of the commands have run, each whole, and the session stands where they left it
+-- the first of the commands have run, each completely, and the session is where they left it
 pub record LeftBy (commands : List Command) (s t : Stand) : Type 0 where
   pub ran : List Command
   pub rest : List Command
@@ -123,13 +123,13 @@ pub record LeftBy (commands : List Command) (s t : Stand) : Type 0 where
   pub none_refused : (play 1 ran s).refused ≡ None
   pub stand : (play 1 ran s).stand ≡ t
 
--- a line went back too far: the commands before it have run, and the session stands where they left it
+-- a line went back too far: the commands before it have run, and the session is where they left it
 pub record GoesTooFar (commands : List Command) (s t : Stand) (line done : ℕ) : Type 0 where
   pub refused : (play 1 commands s).refused ≡ Some (record { line = line; done = done })
   pub stand : (play 1 commands s).stand ≡ t
 
--- what a script answers, and where it leaves the session: the text of its commands; its first bad line, before any
--- line runs; the line that went back too far, after those before it; or want of memory
+-- the answer of a script, and the session after it: the text of its commands; its first bad line, before any line
+-- runs; the line that went back too far, after those before it; or no memory was found
 abbrev pub ScriptEnds : Text → Stand → Result (Vec ℕ Global) ScriptFault → Stand → Type 0
 ScriptEnds script s (Ok text) t =
     OfScript script (λ commands. play 1 commands s ≡ record { text = text.items; stand = t; refused = None })

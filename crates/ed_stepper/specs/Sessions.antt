@@ -9,21 +9,21 @@ use Rattle.ed_stepper.specs.declared.moves.Moved.{Moved}
 use Rattle.ed_stepper.specs.declared.moves.BackFault.{BackFault}
 use Rattle.ed_stepper.specs.declared.moves.BackFault.TheVariants.{TooFar, Memory}
 
--- the state in which a session begins, the most orders that may be done in it, and how many are
+-- the state in which a session begins, the limit of its orders, and the number of orders obeyed so far
 pub record Stand : Type 0 where
   pub start : State
   pub limit : ℕ
   pub done : ℕ
 
--- the state in which a session stands
+-- the state that a session has reached
 abbrev pub stands_at : Stand → State
 stands_at s = state_after s.done s.start
 
--- how many orders may still be done
+-- the number of orders left before the limit
 abbrev pub left : Stand → ℕ
 left s = s.limit - s.done
 
--- a move on: it ends at the least number of orders at which an end holds, in the state after them
+-- a move forward: it ends after the least number of orders after which an end holds, in the state after them
 pub record Moves (aim : Aim) (s t : Stand) (m : Moved) : Type 0 where
   pub orders : ℕ
   pub ends : Ends aim (left s) (stands_at s) orders m.end
@@ -33,7 +33,7 @@ pub record Moves (aim : Aim) (s t : Stand) (m : Moved) : Type 0 where
   pub at_is : m.at ≡ (stands_at t).counter
   pub stand_is : t ≡ record s { done = m.done }
 
--- a move back by n orders, where so many were done; a refusal changes nothing
+-- a move back by n orders, if n were obeyed; a refusal changes nothing
 abbrev pub MovesBack : ℕ → Stand → Result Moved BackFault → Stand → Type 0
 MovesBack n s (Ok m) t =
     (n ≤ s.done) × (m.done ≡ s.done - n) × (m.at ≡ (stands_at t).counter) × (m.end ≡ Back)

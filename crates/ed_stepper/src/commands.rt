@@ -1,4 +1,4 @@
-//! The lines of a script, each of which says a command.
+//! The lines of a script. Each line says a command.
 ghost use Rattle.std.specs.Prelude.{◌≡◌, ◌≤◌, IfSome, option_map};
 ghost use Rattle.ed_words.specs.Decimals.{number_within};
 ghost use Rattle.ed_stepper.specs.Private.CommandReading.{session_command, of_one, of_three, of_two};
@@ -14,13 +14,13 @@ use ed_words::number_within;
 pub(crate) enum Command {
     /// Nothing.
     Nothing,
-    /// Moves the session on.
+    /// Moves the session forward.
     Move(Aim),
-    /// Moves it back by so many orders.
+    /// Moves it back by this number of orders.
     Back(u32),
-    /// Moves it on by so many orders, and writes the letter of each.
+    /// Moves it forward by this number of orders, and writes the letter of each.
     Trace(u32),
-    /// Lists the words from one location to another.
+    /// Lists the words from the first location to the second.
     Show(u16, u16),
     /// Shows the accumulator.
     Accumulator,
@@ -118,7 +118,7 @@ fn of_three(word: &[u8], first: &[u8], last: &[u8]) -> Option<Command>
     }
 }
 
-/// The command that lists the words from one location to another.
+/// The command that lists the words from the first location to the last.
 fn window(first: Option<u16>, last: Option<u16>) -> Option<Command>
     requires { IfSome last (λ n. n ≤ 1023) }
     ensures is { result ≡ show_command first last }
@@ -133,7 +133,7 @@ fn window(first: Option<u16>, last: Option<u16>) -> Option<Command>
     }
 }
 
-/// The address of a location.
+/// The address that a part spells.
 fn address(part: &[u8]) -> Option<u16>
     ensures is { result ≡ number_within 0 1023 part.now }
     ensures within { IfSome result (λ n. n ≤ 1023) }

@@ -1,16 +1,16 @@
-//! The input of the command that runs a script: the script, a line that divides, and a text.
+//! The input of the command that runs a script: the script, a dividing line, and a text.
 ghost use Rattle.std.specs.Prelude.{◌≡◌, ◌≤◌, ◌<◌, length};
 ghost use Rattle.ed_syntax.specs.Lines.{lines_of};
 ghost use Rattle.ed_stepper.specs.Inputs.{Divides, announced};
 
 use crate::fronts::first_line;
 
-/// What stands behind the line that divides an input.
+/// The text after the line that divides an input.
 #[derive(Clone, Copy, Debug, PartialEq, Eq)]
 pub enum TextKind {
-    /// The text of a tape, behind the line `tape`.
+    /// The text of a tape, after the line `tape`.
     Tape,
-    /// A source, behind the line `source`.
+    /// A source, after the line `source`.
     Source,
 }
 
@@ -21,11 +21,11 @@ pub struct Divided<'a> {
     pub script: &'a [u8],
     /// What it announces.
     pub kind: TextKind,
-    /// The bytes behind it.
+    /// The bytes after it.
     pub text: &'a [u8],
 }
 
-/// Divides an input by its first line that is exactly `tape` or `source`; none where no line is.
+/// Divides an input at its first line that is exactly `tape` or `source`; None if there is no such line.
 pub fn divide<'a>(input: &'a [u8]) -> Option<Divided<'a>>
     ensures { Divides input.entry.now result }
 {
@@ -44,7 +44,7 @@ pub fn divide<'a>(input: &'a [u8]) -> Option<Divided<'a>>
     None
 }
 
-/// What a line announces, if it divides.
+/// What a line announces, if it is a dividing line.
 fn announced(line: &[u8]) -> Option<TextKind>
     ensures { result ≡ announced line.now }
 {
@@ -57,7 +57,7 @@ fn announced(line: &[u8]) -> Option<TextKind>
     }
 }
 
-/// How many lines a text has; a last line without an end counts where it isn't empty.
+/// The number of lines of a text; a last line without an end counts if it isn't empty.
 pub fn line_count(text: &[u8]) -> u32
     requires { length text.now ≤ 1000000000 }
     ensures is { result ≡ length (lines_of text.now) }

@@ -37,7 +37,7 @@ pub(crate) fn carry_out(
     }
 }
 
-/// A text, or want of memory.
+/// A text, or that no memory was found.
 fn or_memory(text: Result<Vec<u8>, NoMemory>) -> Result<Vec<u8>, BackFault>
     ensures is { IfOk result (λ bytes. text ≡ Ok bytes) }
     ensures memory { IfErr result (λ fault. fault ≡ BackFault.Memory) }
@@ -48,7 +48,7 @@ fn or_memory(text: Result<Vec<u8>, NoMemory>) -> Result<Vec<u8>, BackFault>
     }
 }
 
-/// Moves on, and tells of the move.
+/// Moves forward, and writes the line of the move.
 fn move_on(alloc: Global, session: &mut Session, aim: Aim) -> Result<Vec<u8>, BackFault>
     ensures { LineEnds (Command.Move aim) session.old result session.new }
 {
@@ -56,7 +56,7 @@ fn move_on(alloc: Global, session: &mut Session, aim: Aim) -> Result<Vec<u8>, Ba
     or_memory(move_line(alloc, moved))
 }
 
-/// Moves back, and tells of the move.
+/// Moves back, and writes the line of the move.
 fn move_back(alloc: Global, session: &mut Session, orders: u32) -> Result<Vec<u8>, BackFault>
     ensures { LineEnds (Command.Back orders) session.old result session.new }
 {
@@ -66,7 +66,7 @@ fn move_back(alloc: Global, session: &mut Session, orders: u32) -> Result<Vec<u8
     }
 }
 
-/// Moves on, writes the letter of each order obeyed, and tells of the move.
+/// Moves forward, and writes the letter of each order obeyed and the line of the move.
 fn trace(alloc: Global, session: &mut Session, orders: u32) -> Result<Vec<u8>, BackFault>
     requires { orders ≤ 10000 }
     ensures { LineEnds (Command.Trace orders) session.old result session.new }
@@ -86,7 +86,7 @@ fn trace(alloc: Global, session: &mut Session, orders: u32) -> Result<Vec<u8>, B
     }
 }
 
-/// The line that tells of a move.
+/// The line that reports a move.
 fn move_line(alloc: Global, moved: Moved) -> Result<Vec<u8>, NoMemory>
     ensures { IfOk result (λ bytes. bytes.items ≡ move_line moved.at moved.done moved.end) }
 {
@@ -111,7 +111,7 @@ fn end_word(end: MoveEnd) -> &'static str
     }
 }
 
-/// The words from one location to another, a line each.
+/// The words from the first location to the last, a line each.
 fn show(alloc: Global, machine: &Machine, first: u16, last: u16) -> Result<Vec<u8>, NoMemory>
     requires order { first ≤ last }
     requires within { last ≤ 1023 }
@@ -123,7 +123,7 @@ fn show(alloc: Global, machine: &Machine, first: u16, last: u16) -> Result<Vec<u
     listing(alloc, machine.store(), &places)
 }
 
-/// The locations from one to another.
+/// The locations from the first to the last.
 fn places(alloc: Global, first: u16, last: u16) -> Result<Vec<u16>, AllocError>
     requires { last ≤ 1023 }
     ensures { IfOk result (λ places. places.items ≡ range_with_len first (last + 1 - first)) }

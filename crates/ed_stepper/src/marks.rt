@@ -7,18 +7,18 @@ ghost use Rattle.ed_stepper.specs.declared.marks.Mark.{Mark};
 use ed_machine::Machine;
 use ed_words::NoMemory;
 
-/// How many orders lie between two copies.
+/// The number of orders between two copies.
 pub(crate) const BETWEEN: u64 = 65_536;
 
-/// A copy of the machine, and how many orders were done then.
+/// A copy of the machine, and the number of orders obeyed by then.
 #[derive(Drop)]
 pub(crate) struct Mark {
     pub(crate) done: u64,
     pub(crate) machine: Machine,
 }
 
-/// Keeps a copy of the machine where the orders done are a multiple of 65,536 and past the last copy. One for which no
-/// memory is found is left out.
+/// Keeps a copy of the machine if the number of orders obeyed is a multiple of 65,536 and past the last copy. If no
+/// memory is found, no copy is kept.
 pub(crate) fn keep(marks: &mut Vec<Mark>, machine: &Machine, done: u64)
     ensures { (start : State) → machine.now ≡ state_after done start → machine.now.orders ≤ start.orders + done
         → AreMarks start marks.old.items → AreMarks start marks.new.items }
@@ -39,7 +39,7 @@ fn is_past(marks: &[Mark], done: u64) -> bool {
     }
 }
 
-/// The place of the latest copy that was made after `aim` orders or before.
+/// The index of the latest copy that was made after at most `aim` orders.
 pub(crate) fn latest(marks: &[Mark], aim: u64) -> Option<usize>
     ensures { IfSome result (λ i. (i < length marks.now) × ((d : Mark) → (slice_index_or marks.now i d).done ≤ aim)) }
 {
@@ -54,7 +54,7 @@ pub(crate) fn latest(marks: &[Mark], aim: u64) -> Option<usize>
     found
 }
 
-/// The machine so many orders after another.
+/// The machine `orders` orders after this one.
 pub(crate) fn replay(machine: &Machine, orders: u64) -> Result<Machine, NoMemory>
     requires { machine.now.orders + orders ≤ 2 ^ 63 }
     ensures is { IfOk result (λ m. m ≡ state_after orders machine.now) }

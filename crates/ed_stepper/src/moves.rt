@@ -1,7 +1,7 @@
 /// How a move of a session ended.
 #[derive(Clone, Copy, Debug, PartialEq, Eq)]
 pub enum MoveEnd {
-    /// As many orders were obeyed as the move asked for.
+    /// The move obeyed as many orders as it asked for.
     Went,
     /// The counter is the address that the move asked for.
     There,
@@ -15,25 +15,25 @@ pub enum MoveEnd {
     NoOrder,
     /// The order at the counter reads the tape, and no row is left.
     NoTape,
-    /// As many orders are done as the session allows.
+    /// The session has obeyed as many orders as its limit.
     Limit,
 }
 
-/// Where a session stands after a move, and how the move ended.
+/// The state of a session after a move, and how the move ended.
 #[derive(Clone, Copy, Debug, PartialEq, Eq)]
 pub struct Moved {
     /// The location of the next order.
     pub at: u16,
-    /// The number of orders done since the session's start.
+    /// The number of orders obeyed since the session's start.
     pub done: u64,
     /// How the move ended.
     pub end: MoveEnd,
 }
 
-/// What a move goes for.
+/// Where a move aims.
 #[derive(Clone, Copy)]
 pub enum Aim {
-    /// So many orders.
+    /// This number of orders.
     Orders(u64),
     /// An address, after at least one order.
     Address(u16),
@@ -44,9 +44,9 @@ pub enum Aim {
 /// Why a session did not go back.
 #[derive(Clone, Copy, Debug, PartialEq, Eq)]
 pub enum BackFault {
-    /// Fewer orders were done.
+    /// Fewer orders were obeyed so far.
     TooFar {
-        /// The number of orders done since the session's start.
+        /// The number of orders obeyed since the session's start.
         done: u64,
     },
     /// No memory was found for a copy of the machine.

@@ -1,4 +1,4 @@
-//! Scripts: lines that move a session and show where it stands.
+//! Scripts: lines that move a session and show its state.
 ghost use Rattle.ed_stepper.specs.ScriptLines.{EachScriptHasOneMeaning, HasBadLine};
 ghost use Rattle.ed_stepper.specs.Scripts.{ScriptEnds};
 
@@ -9,7 +9,7 @@ use crate::moves::BackFault;
 use crate::session::Session;
 use std::alloc::Global;
 
-/// The number of the first line that is bad whatever it holds.
+/// The first invalid line; every line after 1000 is invalid.
 const TOO_MANY: u32 = 1001;
 
 /// Why a script was not run to its end.
@@ -20,11 +20,11 @@ pub enum ScriptFault {
         /// The line, counted from 1.
         line: u32,
     },
-    /// A line goes back by more orders than are done. The lines before it have run.
+    /// A line goes back by more orders than were obeyed. The lines before it have run.
     BackTooFar {
         /// The line, counted from 1.
         line: u32,
-        /// The orders that were done.
+        /// The number of orders obeyed by then.
         done: u64,
     },
     /// No memory was found. The lines before some line have run.
@@ -52,7 +52,7 @@ pub fn bad_line(script: &[u8]) -> Option<u32>
 
 /// Runs a script, and answers what its lines write.
 ///
-/// `BadCommand` comes before any line runs. Else the lines run one after the other, and the session stands where the
+/// `BadCommand` comes before any line runs. Otherwise the lines run one after the other, and the session is where the
 /// last of them left it: `BackTooFar` and `Memory` leave it where the lines before did.
 pub fn run_script(
     alloc: Global,

@@ -15,10 +15,10 @@ use ed_words::NoMemory;
 use std::alloc::Global;
 use std::marker::Model;
 
-/// A machine that is moved on from a start by its orders, and back.
+/// A machine that is moved forward by its orders from a start, and back.
 ///
-/// A copy of the machine is kept each time the orders done reach a multiple of 65,536, so that a way back is short. A
-/// copy for which no memory is found is left out.
+/// A copy of the machine is kept each time the number of orders obeyed reaches a multiple of 65,536, so that moving
+/// back takes few orders. A copy for which no memory is found is omitted.
 #[derive(Drop)]
 pub struct Session {
     alloc: Global,
@@ -43,7 +43,7 @@ impl Model for Session {
 /// Why no session was made.
 #[derive(Drop)]
 pub enum NewFault {
-    /// No memory was found for a copy of the machine, which comes back as it was.
+    /// No memory was found for a copy of the machine, which is handed back unchanged.
     Memory(Machine),
 }
 
@@ -57,7 +57,7 @@ pub struct Traced {
 }
 
 impl Session {
-    /// A session that begins with the machine as it is, and in which so many orders may be done.
+    /// A session that begins with the machine in its present state, and may obey `limit` orders.
     pub fn new(alloc: Global, machine: Machine, limit: u64) -> Result<Session, NewFault>
         requires { machine.orders + limit ≤ 2 ^ 63 }
         ensures { MatchResult result (λ s. s ≡ record { start = machine; limit = limit; done = 0 })
@@ -76,7 +76,7 @@ impl Session {
         }
     }
 
-    /// The machine as it stands: so many orders after the start, each of them obeyed.
+    /// The machine in its present state: after the orders obeyed since the start.
     pub fn machine(&self) -> &Machine
         ensures is { result.now ≡ stands_at self.now }
         ensures free { IsFree self.now.done self.now.start }
@@ -85,7 +85,7 @@ impl Session {
         &self.machine
     }
 
-    /// Obeys n orders, or fewer where another end comes before.
+    /// Obeys n orders, or fewer if another end comes first.
     pub fn go(&mut self, n: u64) -> Moved
         ensures { Moves (Orders n) self.old self.new result }
     {
@@ -106,7 +106,7 @@ impl Session {
         self.advance(Aim::Entry)
     }
 
-    /// Obeys n orders as `go` does, and tells the function of each order obeyed. A refusal changes nothing.
+    /// Obeys n orders as `go` does, and gives the function of each order obeyed. A refusal changes nothing.
     pub fn trace(&mut self, n: u64) -> Result<Traced, NoMemory>
         requires { n ≤ 10000 }
         ensures { MatchResult result
@@ -126,7 +126,7 @@ impl Session {
         Ok(Traced { functions, moved })
     }
 
-    /// Goes back by n orders: `TooFar` exactly where fewer were done. A refusal changes nothing.
+    /// Goes back by n orders; `TooFar` exactly if fewer were obeyed. A refusal changes nothing.
     pub fn back(&mut self, n: u64) -> Result<Moved, BackFault>
         ensures { MovesBack n self.old result self.new }
     {
@@ -148,7 +148,7 @@ impl Session {
         }
     }
 
-    /// Moves on until an end comes.
+    /// Moves forward until an end comes.
     pub(crate) fn advance(&mut self, aim: Aim) -> Moved
         ensures { Moves aim self.old self.new result }
     {
@@ -167,7 +167,7 @@ impl Session {
         }
     }
 
-    /// The machine after so many orders, which were done before: from the latest copy on that is not past them.
+    /// The machine after this number of orders, which were obeyed before: from the latest copy that is not past them.
     fn again(&self, done: u64) -> Result<Machine, NoMemory>
         requires { done ≤ self.now.done }
         ensures is { IfOk result (λ m. m ≡ state_after done self.now.start) }

@@ -11,15 +11,15 @@ use crate::moves::{Aim, MoveEnd};
 use ed_machine::{Machine, Turn};
 use ed_orders::{Kind, kind_of};
 
-/// How many orders a walk obeyed, and how it ended.
+/// The number of orders that a walk obeyed, and how it ended.
 #[derive(Clone, Copy)]
 pub(crate) struct Walked {
     pub(crate) orders: u64,
     pub(crate) end: MoveEnd,
 }
 
-/// Obeys orders until a move ends, `left` of them at the most, where `from` are done before. Copies of the machine are
-/// kept on the way.
+/// Obeys at most `left` orders, until a move ends; `from` orders were obeyed before. Copies of the machine are kept on
+/// the way.
 pub(crate) fn walk(
     machine: &mut Machine,
     marks: &mut Vec<Mark>,
@@ -80,7 +80,7 @@ pub(crate) fn walk(
     }
 }
 
-/// Whether a move has come to its own end before any order: one that goes for no order.
+/// Whether a move ends before any order: one by 0 orders.
 fn is_at_once(aim: &Aim) -> bool
     ensures yes { result ≡ true → (s : State) → own_end aim.now 0 s ≡ Some Went }
     ensures no { result ≡ false → (s : State) → own_end aim.now 0 s ≡ None }
@@ -91,7 +91,7 @@ fn is_at_once(aim: &Aim) -> bool
     }
 }
 
-/// A move's own end after at least one order, if it has come.
+/// A move's own end after at least one order, if it has been reached.
 fn own_end(aim: &Aim, orders: u64, at: u16, entered: bool) -> Option<MoveEnd>
     ensures { (s : State) (k : ℕ) → orders ≡ suc k → at ≡ (state_after orders s).counter
         → entered ≡ enters (state_after k s)
@@ -104,7 +104,7 @@ fn own_end(aim: &Aim, orders: u64, at: u16, entered: bool) -> Option<MoveEnd>
     }
 }
 
-/// The end where a test holds, and else none.
+/// The end if a test holds, and None otherwise.
 fn when(test: bool, end: MoveEnd) -> Option<MoveEnd>
     ensures { result ≡ (if test then Some end else None) }
 {

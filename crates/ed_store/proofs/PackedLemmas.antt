@@ -16,7 +16,7 @@ cells_equal a b words digits = λ i. record { words = words i; sandwich = digits
 twice : (k : ℕ) → 2 * suc k ≡ suc (suc (2 * k))
 twice k = omega arith
 
--- what stands at a place of the words and of the digits
+-- the word and the digit at an index
 get_low : (cs : List ℕ) (k : ℕ) → get_or (cell_words cs) (2 * k) 0 ≡ get_or cs k 0 % 2 ^ 17
 get_low [] k = refl
 get_low (c ∷ cs) zero = refl
@@ -113,7 +113,7 @@ put_long_is cs a x =
     cells_equal _ _ (set_words cs (a / 2) x ∙ ap₂ (λ i j. set (set (cell_words cs) i (x % 2 ^ 17)) j (x / 2 ^ 18)) e o)
     (set_digits cs (a / 2) x)
 
--- where a cell's sandwich digit is that of the one before, the digits stay
+-- if a cell's sandwich digit is the one it had before, the digits are unchanged
 same_digit : (cs : List ℕ) (k x : ℕ) → x / 2 ^ 17 % 2 ≡ get_or cs k 0 / 2 ^ 17 % 2
     → sandwich_digits (set cs k x) ≡ sandwich_digits cs
 same_digit cs k x same =
@@ -121,7 +121,7 @@ same_digit cs k x same =
     ∙ ap (set (sandwich_digits cs) k) (sym (get_digit cs k))
     ∙ set-get_or (sandwich_digits cs) k false
 
--- the lower half of a cell is written: the upper half and the sandwich digit stay
+-- the lower half of a cell is written: the upper half and the sandwich digit are unchanged
 pub put_low_is : (cs : List ℕ) (a x w : ℕ) → a % 2 ≡ 0 → x % 2 ^ 17 ≡ w → x / 2 ^ 17 ≡ get_or cs (a / 2) 0 / 2 ^ 17
     → unpacked (set cs (a / 2) x) ≡ with_short (unpacked cs) a w
 put_low_is cs a x w h low rest =
@@ -136,7 +136,7 @@ put_low_is cs a x w h low rest =
     ∙ set-get_or (set ws (2 * k) w) (suc (2 * k)) 0 ∙ ap (λ i. set ws i w) place in
     cells_equal _ _ words (same_digit cs k x (omega arith))
 
--- the upper half of a cell is written: the lower half and the sandwich digit stay
+-- the upper half of a cell is written: the lower half and the sandwich digit are unchanged
 pub put_high_is : (cs : List ℕ) (a x w : ℕ) → a % 2 ≢ 0 → x / 2 ^ 18 ≡ w → x % 2 ^ 18 ≡ get_or cs (a / 2) 0 % 2 ^ 18
     → unpacked (set cs (a / 2) x) ≡ with_short (unpacked cs) a w
 put_high_is cs a x w h high rest =

@@ -1,4 +1,4 @@
-//! The definition's program: the store as its two plain lists.
+//! The store as its two plain lists, as the definition has it.
 
 ghost use Rattle.std.specs.Prelude.{◌<◌};
 

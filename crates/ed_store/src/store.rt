@@ -6,7 +6,7 @@ use ed_words::{Long, NoMemory, Word};
 use std::alloc::Global;
 use std::marker::Model;
 
-/// How many pairs of locations a store has, whatever part of them a machine reaches.
+/// The number of pairs of locations of a store. A machine may reach only the lower half of them.
 const PAIRS: usize = 512;
 
 /// 1,024 words and the sandwich digits of their 512 pairs.
@@ -90,7 +90,7 @@ impl Store {
         (self.cells[usize::from(a / 2)] >> 17) % 2 == 1
     }
 
-    /// Writes a word. The sandwich digit of its pair stays.
+    /// Writes a word. The sandwich digit of its pair is unchanged.
     pub fn put_short(&mut self, a: u16, word: Word)
         requires { a < 1024 }
         ensures is { self.new ≡ with_short self.old a word }

@@ -7,7 +7,7 @@ use crate::plain::Plain;
 use ed_words::{Long, Word};
 use std::test::Fail;
 
-/// A linear congruential sequence modulo 2^64, of whose numbers the upper 32 digits are taken.
+/// A linear congruential sequence modulo 2^64; the upper 32 digits of its numbers are used.
 #[derive(Drop)]
 struct Sequence {
     state: u64,

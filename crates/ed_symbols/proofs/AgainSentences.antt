@@ -30,7 +30,7 @@ listed_says (Some x) h (suc k, below, is) = absurd (omega (arith, below))
 listed_has : (o : Option Home) (h : Home) → o ≡ Some h → Contains (listed o) h
 listed_has o h e = subst (λ x. Contains (listed x) h) (sym e) (0, omega arith, refl)
 
--- a definition among those of some lines, from a spot on, is one of a line of them
+-- a definition among those of some lines, from a spot onwards, is one of a line of them
 abbrev IsOfLine : Spot → List Line → Home → Type 0
 IsOfLine s lines h = (earlier : List Line) × (e : Line) × StandsAfter lines earlier e
     × Contains (defined e (spot_from s earlier)) h

@@ -1,4 +1,4 @@
--- A pass over the lines finds the least line that has a fault of its kind.
+-- A pass over the lines finds the first line that has a fault of its kind.
 use Rattle.std.proofs.Common.{◌≡◌, ◌⊎◌, inl, inr, ℕ, ◌+◌, ◌<◌, ◌≤◌, sym, ap, ◌∙◌, subst, arith}
 use Rattle.std.proofs.Common.{Option, Some, None, List, [], ◌∷◌, ◌++◌, length}
 use Rattle.std.proofs.Common.{append_assoc, length-append}
@@ -11,7 +11,7 @@ use Rattle.ed_symbols.specs.Faults.{or_later}
 use Rattle.ed_symbols.specs.NameFaults.{StandsAfter, number_of}
 use Rattle.ed_symbols.proofs.LeastFaults.{Least}
 
--- what a pass finds, where it asks each line by the lines before it
+-- what a pass finds that tests each line by the lines before it
 abbrev pub first : (List Line → Line → Option SourceCause) → List Line → List Line → Option SourceFault
 first ask before [] = None
 first ask before (l ∷ rest) = or_later l.number (ask before l) (first ask (before ++ l ∷ []) rest)
@@ -20,7 +20,7 @@ first ask before (l ∷ rest) = or_later l.number (ask before l) (first ask (bef
 abbrev pub Numbered : List Line → Type 0
 Numbered lines = (before : List Line) (l : Line) → StandsAfter lines before l → l.number ≡ length before + 1
 
--- the least line with a fault of the rule's kind
+-- the first line with a fault of the rule's kind
 abbrev pub Finds : (List Line → Line → SourceCause → Type 0) → List Line → Option SourceFault → Type 0
 Finds Rule lines None = (b : List Line) (l : Line) (c : SourceCause) → StandsAfter lines b l → Rule b l c → ⊥
 Finds Rule lines (Some Memory) = ⊥
@@ -35,7 +35,7 @@ head_same l m r q e = cc
 tail_same : (l m : Line) (r q : List Line) → (l ∷ r) ≡ (m ∷ q) → r ≡ q
 tail_same l m r q e = cc
 
--- one place of a source holds one line
+-- there is one line at one position of a source
 one_place : (P : List Line → Line → Type 0) (a b : List Line) (l m : Line) (r q : List Line)
     → (a ++ l ∷ r) ≡ (b ++ m ∷ q) → length a ≡ length b → P a l → P b m
 one_place P [] [] l m r q e n p = subst (P []) (head_same l m r q e) p

@@ -8,7 +8,7 @@ use Rattle.ed_symbols.specs.Faults.{naming_cause, defines_again, naming_fault_fr
 use Rattle.ed_symbols.specs.declared.spots.Spot.{Spot}
 use Rattle.ed_symbols.specs.declared.homes.Home.{Home}
 
--- a line with a fault, at an index, is the least one of those from that index on
+-- a line with a fault, at an index, is the first one among those from that index upwards
 pub is_least_at : (homes earlier : List Home) (s : Spot) {lines read : List Line} {i : ℕ} {l : Line} {again : Bool}
     {cause : SourceCause}
     → read ≡ lines → i < length read → l ≡ get_or read i l

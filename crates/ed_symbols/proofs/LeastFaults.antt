@@ -60,7 +60,7 @@ most causes.Parameters = omega arith
 most causes.Enter = omega arith
 most causes.SandwichDigit = omega arith
 
--- tests in the order of the numbers, from one number on; each says the same as its sentence
+-- tests in the order of the numbers, from one number upwards; each says the same as its sentence
 abbrev pub pick : List (Bool × SourceCause) → Option SourceCause
 pick [] = None
 pick (p ∷ ps) = if p.0 then Some p.1 else pick ps

@@ -61,7 +61,7 @@ of_names lines before l = picks (LineHasNameFault lines before l) 6
     )
     (λ c h. (from_six lines before l c h).0)
 
--- ---- the pass of the code, by what stands before a line
+-- ---- the pass of the code, by what comes before a line
 
 pub spot_snoc : (s : Spot) (b : List Line) (l : Line) → spot_from s (b ++ l ∷ []) ≡ passed l.statement (spot_from s b)
 spot_snoc s [] l = refl

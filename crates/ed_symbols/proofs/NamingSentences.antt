@@ -57,7 +57,7 @@ operand_tests test (Some (Long v)) h = absurd h.1
 operand_tests test (Some (Enter n)) h = absurd h.1
 operand_tests test (Some (Rows codes)) h = absurd h.1
 
--- a name of the operand has no place
+-- a name of the operand is unknown
 abbrev Lacks : List Home → Option ℕ → Operand → Type 0
 Lacks homes g o = (name : List ℕ) × HasName o name × (place_on homes g name ≡ None)
 
@@ -103,7 +103,7 @@ lacks_tests homes g (operands.Two first second minus) (name, inr e, h) =
     sum_none minus (place_on homes g first) (place_on homes g second)
     (inr (ap (λ x. place_on homes g x) (sym e) ∙ h))
 
--- an `enter` of a name without a place
+-- an `enter` of an unknown name
 abbrev EntersNowhere : List Home → Option Statement → Type 0
 EntersNowhere homes st = (name : List ℕ) × (st ≡ Some (Enter name)) × (place_on homes None name ≡ None)
 
@@ -148,7 +148,7 @@ module _ (lines before : List Line) (l : Line) where
     tests = unknown_of;
   }
 
--- the value of an operand with a name is no address
+-- the value of an operand with a name is not an address
 abbrev IsFar : List Home → Option ℕ → Operand → Type 0
 IsFar homes g o = (name : List ℕ) × HasName o name × (v : ℤ) × (operand_value homes g o ≡ Some v)
     × ((int_lt v (pos 0) ≡ true) ⊎ (int_lt (pos 1023) v ≡ true))

@@ -1,4 +1,4 @@
--- What is wrong with the names of a source: the faults S6, S7 and S8 (this project's own rule).
+-- Faults of the names of a source: S6, S7 and S8 (this project's own rule).
 use Rattle.std.specs.Prelude.{ℕ, ◌||◌, Bool, false, List, [], ◌∷◌}
 use Rattle.std.specs.Prelude.{◌++◌, Option, Some, None, is_none, is_some, if◌then◌else◌}
 use Rattle.std.specs.Prelude.{ℤ, pos, ◌+ℤ◌, ◌-ℤ◌, int_lt}
@@ -19,33 +19,33 @@ use Rattle.ed_symbols.specs.declared.spots.Spot.{Spot}
 use Rattle.ed_symbols.specs.declared.spots.Standing.{Standing}
 use Rattle.ed_symbols.specs.declared.homes.Home.{Home}
 
--- the sum or the difference of two places
+-- the sum or the difference of two locations
 abbrev pub sum_of_places : Bool → Option ℕ → Option ℕ → Option ℤ
 sum_of_places minus (Some a) (Some b) = Some (if minus then pos a -ℤ pos b else pos a +ℤ pos b)
 sum_of_places minus _ b = None
 
--- a place with a number added to it
+-- a location with a number added to it
 abbrev pub with_more : ℤ → Option ℕ → Option ℤ
 with_more plus None = None
 with_more plus (Some p) = Some (pos p +ℤ plus)
 
--- the value of an operand on a line of this segment; none where a name of it has no place there
+-- the value of an operand on a line of this segment; None if one of its names is unknown there
 abbrev pub operand_value : List Home → Option ℕ → Operand → Option ℤ
 operand_value homes segment (Number n) = Some (pos n)
 operand_value homes segment (Label name plus) = with_more plus (place_on homes segment name)
 operand_value homes segment (Two first second minus) =
     sum_of_places minus (place_on homes segment first) (place_on homes segment second)
 
--- whether an operand names what has no place on its line
+-- whether an operand has a name that is unknown on its line
 abbrev pub is_unknown : List Home → Option ℕ → Operand → Bool
 is_unknown homes segment o = is_none (operand_value homes segment o)
 
--- whether a number is no address of the full store, 0 to 1023
+-- whether a value is outside 0 to 1023, the addresses of the full store
 abbrev pub is_far : Option ℤ → Bool
 is_far None = false
 is_far (Some v) = int_lt v (pos 0) || int_lt (pos 1023) v
 
--- whether an operand with a name has a value that is no address
+-- whether an operand with a name has a value outside 0 to 1023
 abbrev pub is_no_address : List Home → Option ℕ → Operand → Bool
 is_no_address homes segment (Number n) = false
 is_no_address homes segment (Label name plus) = is_far (operand_value homes segment (Label name plus))
@@ -55,18 +55,18 @@ is_no_address homes segment (Two first second minus) = is_far (operand_value hom
 abbrev pub operand_of : Setting → Operand
 operand_of t = t.operand
 
--- whether an operand of a statement passes a test: that of an order, or one of those of the settings of a `use`
+-- whether an operand of a statement passes a test: that of an order, or one of the settings of a `use`
 abbrev pub any_operand : (Operand → Bool) → Option Statement → Bool
 any_operand test (Some (Order function operand length)) = test operand
 any_operand test (Some (Fetch routine name settings)) = list_any (λ t. test (operand_of t)) settings.items
 any_operand test _ = false
 
--- whether an `enter` names what has no place
+-- whether an `enter` names something unknown
 abbrev pub enters_unknown : List Home → Option Statement → Bool
 enters_unknown homes (Some (Enter name)) = is_none (place_on homes None name)
 enters_unknown homes _ = false
 
--- whether a definition is of a name that is defined earlier, a local name in the same segment
+-- whether this name is defined earlier already, a local name in the same segment
 abbrev pub is_again : List Home → Option Home → Bool
 is_again earlier None = false
 is_again earlier (Some h) = is_some (home_of h.segment h.name earlier)
@@ -76,16 +76,16 @@ abbrev pub defines_again : List Home → Line → Spot → Bool
 defines_again earlier l s = is_again earlier (label_home l.label l.statement s)
     || is_again (earlier ++ listed (label_home l.label l.statement s)) (name_home l.statement s)
 
--- S7: an operand or `enter` names what has no place on the line
+-- S7: an operand or `enter` has a name that is unknown on the line
 abbrev pub names_unknown : List Home → Line → Spot → Bool
 names_unknown homes l s = any_operand (is_unknown homes (segment_of l s)) l.statement
     || enters_unknown homes l.statement
 
--- S8: the value of an operand with a name is no address
+-- S8: the value of an operand with a name is not an address
 abbrev pub reaches_outside : List Home → Line → Spot → Bool
 reaches_outside homes l s = any_operand (is_no_address homes (segment_of l s)) l.statement
 
--- the fault of a line with the least number, by whether it defines a name again
+-- the fault of a line with the least number; `again` says whether the line defines a name again
 abbrev pub naming_cause : List Home → Bool → Line → Spot → Option SourceCause
 naming_cause homes again l s =
     if again then Some LabelTwice
@@ -98,14 +98,14 @@ abbrev pub or_later : ℕ → Option SourceCause → Option SourceFault → Opti
 or_later line None later = later
 or_later line (Some cause) later = Some (At line cause)
 
--- the fault of the least line from a spot on that has one
+-- the fault of the first line, from a spot onwards, that has one
 abbrev pub naming_fault_from : List Home → List Home → Spot → List Line → Option SourceFault
 naming_fault_from homes earlier s [] = None
 naming_fault_from homes earlier s (l ∷ lines) =
     or_later l.number (naming_cause homes (defines_again earlier l s) l s)
     (naming_fault_from homes (earlier ++ defined l s) (passed l.statement s) lines)
 
--- what the names of a source come to: where each line stands, what is defined, and the least fault
+-- what resolving the names of a source gives: where each line stands, what is defined, and the first fault
 pub record Resolved : Type 0 where
   pub standings : List Standing
   pub homes : List Home

@@ -1,5 +1,5 @@
--- The faults of the names of a source, S6 to S8: for each one sentence over the lines and their places. No sentence
--- knows of another one, and none goes through the lines one by one (this project's own rule).
+-- The faults of the names of a source, S6 to S8: one sentence for each, over the lines and their locations. No sentence
+-- depends on another one, and none goes through the lines one by one (this project's own rule).
 use Rattle.std.specs.Prelude.{◌≡◌, ◌⊎◌, ℕ, ◌+◌, ◌<◌, ◌≤◌, true, List, [], ◌∷◌, ◌++◌, length, map}
 use Rattle.std.specs.Prelude.{Option, Some, None, ℤ, pos, int_lt}
 use Rattle.std.specs.List.{Contains}
@@ -26,12 +26,12 @@ pub record StandsAfter (lines before : List Line) (l : Line) : Type 0 where
   pub after : List Line
   pub lines_are : lines ≡ before ++ l ∷ after
 
--- the place and the segment that some lines lead to from a spot
+-- the location and the segment after some lines, beginning at a spot
 abbrev pub spot_from : Spot → List Line → Spot
 spot_from s [] = s
 spot_from s (l ∷ lines) = spot_from (passed l.statement s) lines
 
--- the place and the segment after some lines of a source
+-- the location and the segment after some lines of a source
 abbrev pub spot_after : List Line → Spot
 spot_after before = spot_from first_spot before
 
@@ -49,7 +49,7 @@ HasName (operands.Number n) name = ⊥
 HasName (operands.Label first plus) name = name ≡ first
 HasName (operands.Two first second minus) name = (name ≡ first) ⊎ (name ≡ second)
 
--- two definitions of one name; a local name is one within its segment alone
+-- two definitions of one name; local names are alike only within one segment
 pub record AreAlike (h other : Home) : Type 0 where
   pub names : other.name ≡ h.name
   pub segments : is_local h.name ≡ true → (k : ℕ) × (h.segment ≡ Some k) × (other.segment ≡ Some k)
@@ -65,7 +65,7 @@ DefinesAgain before l =
     ⊎ ((h : Home) × (name_home l.statement (spot_after before) ≡ Some h)
     × (other : Home) × (label_home l.label l.statement (spot_after before) ≡ Some other) × AreAlike h other)
 
--- S7: an operand or `enter` names what has no place on the line
+-- S7: an operand or `enter` has a name that is unknown on the line
 abbrev pub NamesUnknown : List Line → List Line → Line → Type 0
 NamesUnknown lines before l =
     ((o : Operand) × HasOperand l.statement o × (name : List ℕ) × HasName o name
@@ -110,7 +110,7 @@ number_of causes.Parameters = 15
 number_of causes.Enter = 16
 number_of causes.SandwichDigit = 17
 
--- the fault of the names of a source: that of the least line that has one, and there the least number
+-- the fault of the names of a source: that of the first line that has one, and there the one with the least number
 pub record IsNameFault (lines : List Line) (k : ℕ) (cause : SourceCause) : Type 0 where
   pub is : HasNameFault lines k cause
   pub least : (other : ℕ) (rule : SourceCause) → HasNameFault lines other rule
@@ -126,7 +126,7 @@ NameFaultIs lines None = HasNoNameFault lines
 NameFaultIs lines (Some (At k cause)) = IsNameFault lines k cause
 NameFaultIs lines (Some Memory) = ⊥
 
--- the lines of each program have one fault of names or none, and never both
+-- the lines of each program have exactly one fault of names or none, and never both
 pub record EachHasOneNameFault : Type 0 where
   pub every : (lines : List Line) → AreNumbered lines → (f : Option SourceFault) × NameFaultIs lines f
   pub one : (lines : List Line) (f g : Option SourceFault) → NameFaultIs lines f → NameFaultIs lines g → f ≡ g

@@ -1,4 +1,4 @@
--- Places of lines: where a line stands, by the words of the lines before it (this project's own rule).
+-- Locations of lines: where a line stands, by the words of the lines before it (this project's own rule).
 use Rattle.std.specs.Prelude.{ℕ, ◌+◌, ◌%◌, true, false, List, []}
 use Rattle.std.specs.Prelude.{◌∷◌, length, Option, Some, None, unwrap_or, if◌then◌else◌}
 use Rattle.ed_library.specs.Routines.{find, place_count}
@@ -9,26 +9,26 @@ use Rattle.ed_syntax.specs.declared.program.Line.{Line}
 use Rattle.ed_symbols.specs.declared.spots.Spot.{Spot}
 use Rattle.ed_symbols.specs.declared.spots.Standing.{Standing}
 
--- a place, raised by 1 where it is odd
+-- a location, rounded up to even
 abbrev pub even_from : ℕ → ℕ
 even_from p = p + p % 2
 
--- the places that a routine takes, and 0 for one that isn't in the catalogue
+-- the number of words of a routine, and 0 for one that isn't in the catalogue
 abbrev pub routine_places : Option ℕ → ℕ
 routine_places None = 0
 routine_places (Some r) = place_count r
 
--- before the first line: place 56, outside every segment
+-- before the first line: location 56, outside every segment
 abbrev pub first_spot : Spot
 first_spot = record { place = 56; base = 56; segments = 0; inside = false }
 
--- the place moves on by some words
+-- the location counter advanced by n words
 abbrev pub moved_on : ℕ → Spot → Spot
 moved_on n s = record s { place = s.place + n }
 
--- behind a statement: `segment` sets the place or leaves it, an order and `word` take 1 place, `text` one for each row,
--- `use` the routine's length from an even place on and `long` 2 from an even place on; `segment` and `use` have their
--- base where they begin
+-- after a statement: `segment` may set the location, an order and `word` take 1 word, `text` one for each row, `use`
+-- the routine's length from an even location, and `long` 2 from an even location; `segment` and `use` have their base
+-- where they begin
 abbrev pub passed : Option Statement → Spot → Spot
 passed None s = s
 passed (Some (Segment name base)) s =
@@ -47,19 +47,19 @@ passed (Some (Enter name)) s = s
 passed (Some (Rows codes)) s = s
 passed (Some (Long value)) s = record s { place = even_from s.place + 2 }
 
--- the segment of a spot: its number where the last `segment` or `use` line was a `segment`
+-- the segment of a spot: its number if the last `segment` or `use` line was a `segment`
 abbrev pub segment_at : Spot → Option ℕ
 segment_at s = if s.inside then Some s.segments else None
 
--- the segment to which a line belongs: a `segment` line to its own one, a `use` line to none
+-- the segment to which a line belongs: a `segment` line to the one it begins, a `use` line to none
 abbrev pub segment_of : Line → Spot → Option ℕ
 segment_of l s = segment_at (passed l.statement s)
 
--- the place before a line, and the segment to which it belongs
+-- the location before a line, and the segment to which the line belongs
 abbrev pub standing : Line → Spot → Standing
 standing l s = record { place = s.place; segment = segment_of l s }
 
--- the same of each line from a spot on
+-- the same for each line from a spot onwards
 abbrev pub standings_from : Spot → List Line → List Standing
 standings_from s [] = []
 standings_from s (l ∷ lines) = standing l s ∷ standings_from (passed l.statement s) lines

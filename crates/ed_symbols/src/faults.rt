@@ -1,4 +1,4 @@
-//! What is wrong with the names of a line.
+//! Faults of the names of a line.
 ghost use Rattle.std.specs.Prelude.{◌≡◌, ◌<◌, ◌≤◌, ◌^◌, ◌||◌};
 ghost use Rattle.std.specs.List.{list_any};
 ghost use Rattle.ed_symbols.specs.Faults.{any_operand, enters_unknown, is_far};
@@ -35,14 +35,14 @@ pub fn value(homes: &[Home], segment: Option<u32>, operand: &Operand) -> Option<
     }
 }
 
-/// Whether an operand names what has no place on its line.
+/// Whether an operand has a name that is unknown on its line.
 fn is_unknown(homes: &[Home], segment: Option<u32>, operand: &Operand) -> bool
     ensures { result ≡ is_unknown homes.now segment operand.now }
 {
     value(homes, segment, operand).is_none()
 }
 
-/// Whether an operand with a name has a value that is no address.
+/// Whether an operand with a name has a value outside 0 to 1023.
 fn is_outside(homes: &[Home], segment: Option<u32>, operand: &Operand) -> bool
     ensures { result ≡ is_no_address homes.now segment operand.now }
 {
@@ -55,7 +55,7 @@ fn is_outside(homes: &[Home], segment: Option<u32>, operand: &Operand) -> bool
     }
 }
 
-/// Whether the operand of a setting names what has no place on its line.
+/// Whether the operand of a setting has a name that is unknown on its line.
 fn set_unknown(homes: &[Home], segment: Option<u32>, settings: &[Setting]) -> bool
     ensures { result ≡ list_any (λ t. is_unknown homes.now segment (operand_of t)) settings.now }
 {
@@ -67,7 +67,7 @@ fn set_unknown(homes: &[Home], segment: Option<u32>, settings: &[Setting]) -> bo
     false
 }
 
-/// Whether the operand of a setting has a value that is no address.
+/// Whether the operand of a setting has a name and a value outside 0 to 1023.
 fn set_outside(homes: &[Home], segment: Option<u32>, settings: &[Setting]) -> bool
     ensures { result ≡ list_any (λ t. is_no_address homes.now segment (operand_of t)) settings.now }
 {
@@ -79,7 +79,7 @@ fn set_outside(homes: &[Home], segment: Option<u32>, settings: &[Setting]) -> bo
     false
 }
 
-/// Whether an operand of a line, or its `enter`, names what has no place there.
+/// Whether an operand of a line, or its `enter`, has a name that is unknown there.
 fn names_unknown(homes: &[Home], segment: Option<u32>, statement: &Option<Statement>) -> bool
     ensures { result ≡ (any_operand (is_unknown homes.now segment) statement.now
         || enters_unknown homes.now statement.now) }
@@ -92,7 +92,7 @@ fn names_unknown(homes: &[Home], segment: Option<u32>, statement: &Option<Statem
     }
 }
 
-/// Whether the value of an operand of a line is no address.
+/// Whether an operand of a line has a name and a value outside 0 to 1023.
 fn reaches_outside(homes: &[Home], segment: Option<u32>, statement: &Option<Statement>) -> bool
     ensures { result ≡ any_operand (is_no_address homes.now segment) statement.now }
 {
@@ -103,7 +103,7 @@ fn reaches_outside(homes: &[Home], segment: Option<u32>, statement: &Option<Stat
     }
 }
 
-/// The fault of a line with the least number, where it is known whether it defines a name again.
+/// The fault of a line with the least number; `again` says whether it defines a name again.
 pub(crate) fn cause_of(homes: &[Home], again: bool, line: &Line, spot: Spot) -> Option<SourceCause>
     requires place { spot.place ≤ 2 ^ 30 }
     requires segments { spot.segments ≤ 2000 }

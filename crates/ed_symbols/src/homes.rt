@@ -13,14 +13,14 @@ use ed_words::NoMemory;
 #[derive(Clone, Copy, Debug, PartialEq, Eq)]
 pub struct Home {
     pub name: Name,
-    /// The place for which the name stands.
+    /// The location for which the name stands.
     pub place: u32,
     /// The number of the segment to which the name belongs: a label to that of its line, a segment's name to its own,
     /// and the second name of a `use` to none.
     pub segment: Option<u32>,
 }
 
-/// The place for which the label of a line stands.
+/// The location for which the label of a line stands.
 fn label_place(statement: &Option<Statement>, spot: Spot) -> u32
     requires { spot.place ≤ 2 ^ 30 }
     ensures { result ≡ label_place statement.now spot }
@@ -31,7 +31,7 @@ fn label_place(statement: &Option<Statement>, spot: Spot) -> u32
     }
 }
 
-/// What the label of a line defines.
+/// The definition by a line's label.
 fn label_home(line: &Line, spot: Spot) -> Option<Home>
     requires { spot.place ≤ 2 ^ 30 }
     ensures { result ≡ label_home line.now.label line.now.statement spot }
@@ -46,7 +46,7 @@ fn label_home(line: &Line, spot: Spot) -> Option<Home>
     }
 }
 
-/// What a statement defines.
+/// The definition by a statement.
 fn name_home(statement: &Option<Statement>, spot: Spot) -> Option<Home>
     requires place { spot.place ≤ 2 ^ 30 }
     requires segments { spot.segments ≤ 2000 }
@@ -77,7 +77,7 @@ pub fn is_local(name: &Name) -> bool
     }
 }
 
-/// Whether both are one segment.
+/// Whether both are the same segment.
 fn same_segment(one: Option<u32>, other: Option<u32>) -> bool
     ensures { result ≡ same_segment one other }
 {
@@ -88,7 +88,7 @@ fn same_segment(one: Option<u32>, other: Option<u32>) -> bool
 }
 
 impl Home {
-    /// Whether this is a definition of a name as a line of a segment sees it.
+    /// Whether this is a definition of a name, as seen from a line of a segment.
     fn is_of(&self, segment: Option<u32>, name: &Name) -> bool
         ensures { result ≡ is_home segment name.now self.now }
     {
@@ -96,7 +96,7 @@ impl Home {
     }
 }
 
-/// The first definition of a name, on a line of a segment.
+/// The first definition of a name, as seen from a line of a segment.
 pub fn find_home(homes: &[Home], segment: Option<u32>, name: &Name) -> Option<Home>
     ensures { result ≡ home_of segment name.now homes.now }
 {
@@ -108,7 +108,7 @@ pub fn find_home(homes: &[Home], segment: Option<u32>, name: &Name) -> Option<Ho
     None
 }
 
-/// The place of a name on a line of a segment, if it has one there.
+/// The location of a name on a line of a segment, if it is known there.
 pub fn find_place(homes: &[Home], segment: Option<u32>, name: &Name) -> Option<u32>
     ensures { result ≡ place_on homes.now segment name.now }
 {
@@ -118,7 +118,7 @@ pub fn find_place(homes: &[Home], segment: Option<u32>, name: &Name) -> Option<u
     }
 }
 
-/// Adds a definition, and says whether its name was defined already.
+/// Adds a definition, and answers whether its name was defined already.
 fn add(homes: &mut Vec<Home>, home: Option<Home>) -> Result<bool, NoMemory>
     ensures homes { OnOk result (homes.new.items ≡ homes.old.items ++ listed home) }
     ensures again { IfOk result (λ again. again ≡ is_again homes.old.items home) }
@@ -135,7 +135,7 @@ fn add(homes: &mut Vec<Home>, home: Option<Home>) -> Result<bool, NoMemory>
     }
 }
 
-/// Adds what a line defines, and says whether a name of it was defined already.
+/// Adds what a line defines, and answers whether one of its names was defined already.
 pub(crate) fn add_line(homes: &mut Vec<Home>, line: &Line, spot: Spot) -> Result<bool, NoMemory>
     requires place { spot.place ≤ 2 ^ 30 }
     requires segments { spot.segments ≤ 2000 }

@@ -13,7 +13,7 @@ use ed_words::NoMemory;
 use std::alloc::Global;
 use std::marker::Model;
 
-/// The places of a source's lines and names, and the least fault of its names.
+/// The locations of a source's lines and names, and the first fault of its names.
 #[derive(Drop)]
 pub struct Places {
     standings: Vec<Standing>,
@@ -29,7 +29,7 @@ impl Model for Places {
     ghost view = { λ p. record { standings = p.standings.items; homes = p.homes.items; fault = p.fault } };
 }
 
-/// Where the lines of a program stand, and what they define.
+/// The locations of a program's lines, and what they define.
 fn resolve_places(alloc: Global, program: &Program) -> Result<(Vec<Standing>, Vec<Home>), NoMemory>
     ensures standings { IfOk result (λ r. r.0.items ≡ standings_from first_spot program.now.lines.items) }
     ensures homes { IfOk result (λ r. r.1.items ≡ homes_from first_spot program.now.lines.items) }
@@ -48,7 +48,7 @@ fn resolve_places(alloc: Global, program: &Program) -> Result<(Vec<Standing>, Ve
     Ok((standings, homes))
 }
 
-/// The least fault of a program's names.
+/// The first fault of a program's names.
 fn find_fault(
     alloc: Global,
     homes: &[Home],
@@ -71,7 +71,7 @@ fn find_fault(
     Ok(None)
 }
 
-/// The places of a program's lines and names.
+/// The locations of a program's lines and names.
 #[tactic(auto, using(crate::proofs::NameLaw::found_is, crate::proofs::NameLaw::each_has_one))]
 pub fn resolve(alloc: Global, program: &Program) -> Result<Places, NoMemory>
     ensures fault { IfOk result (λ p. NameFaultIs program.now.lines.items p.fault) }
@@ -96,7 +96,7 @@ impl Places {
         self.homes.as_slice()
     }
 
-    /// Where a line stands.
+    /// The location and the segment of a line.
     fn standing(&self, line: u32) -> Standing
         requires from_one { 1 ≤ line }
         requires of_the_program { line ≤ length self.now.standings }
@@ -105,7 +105,7 @@ impl Places {
         self.standings[(line - 1) as usize]
     }
 
-    /// The place before a line, which is counted from 1 and is one of the program.
+    /// The location before a line. The line is one of the program, counted from 1.
     pub fn line_place(&self, line: u32) -> u32
         requires from_one { 1 ≤ line }
         requires of_the_program { line ≤ length self.now.standings }
@@ -114,8 +114,8 @@ impl Places {
         self.standing(line).place
     }
 
-    /// The number of the segment to which a line belongs, if it belongs to one. The line is counted from 1 and is one
-    /// of the program.
+    /// The number of the segment to which a line belongs, if it belongs to one. The line is one of the program, counted
+    /// from 1.
     pub fn line_segment(&self, line: u32) -> Option<u32>
         requires from_one { 1 ≤ line }
         requires of_the_program { line ≤ length self.now.standings }
@@ -124,15 +124,15 @@ impl Places {
         self.standing(line).segment
     }
 
-    /// The place of a name that isn't local, by its first definition. A local name has none.
+    /// The location of a name that isn't local, by its first definition; None for a local name.
     pub fn label(&self, name: &Name) -> Option<u32>
         ensures { result ≡ place_on self.now.homes None name.now }
     {
         find_place(&self.homes, None, name)
     }
 
-    /// The place of a name on a line, which is counted from 1 and is one of the program. A local name has one on the
-    /// lines of a segment that defines it.
+    /// The location of a name on a line of the program, counted from 1. A local name has one on the lines of a segment
+    /// that defines it.
     pub fn label_at(&self, line: u32, name: &Name) -> Option<u32>
         requires from_one { 1 ≤ line }
         requires of_the_program { line ≤ length self.now.standings }
@@ -142,7 +142,7 @@ impl Places {
     }
 
     /// The definition of a name that a line sees, with the number of the segment to which the name belongs. The line is
-    /// counted from 1 and is one of the program.
+    /// one of the program, counted from 1.
     pub fn home_at(&self, line: u32, name: &Name) -> Option<Home>
         requires from_one { 1 ≤ line }
         requires of_the_program { line ≤ length self.now.standings }
@@ -151,7 +151,7 @@ impl Places {
         find_home(&self.homes, self.line_segment(line), name)
     }
 
-    /// The least of the faults S6 to S8 by line and then number, if there is one.
+    /// The first of the faults S6 to S8 by line and then number, if there is one.
     pub fn fault(&self) -> Option<SourceFault>
         ensures { result ≡ self.now.fault }
     {

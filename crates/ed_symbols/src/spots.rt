@@ -6,27 +6,27 @@ ghost use Rattle.ed_symbols.specs.Places.{even_from, first_spot, passed, segment
 use ed_library::find;
 use ed_syntax::{Line, Name, Statement};
 
-/// What the lines before a line come to.
+/// The location counter and the segment before a line.
 #[derive(Clone, Copy, Debug, PartialEq, Eq)]
 pub struct Spot {
-    /// The place before the line.
+    /// The location before the line.
     pub place: u32,
-    /// The place at which the last `segment` or `use` line before it begins, and 56 where there is none.
+    /// The location at which the last `segment` or `use` line before it begins, or 56 if there is none.
     pub base: u32,
-    /// How many `segment` and `use` lines stand before the line.
+    /// The number of `segment` and `use` lines before the line.
     pub segments: u32,
     /// Whether the last of these is a `segment` line.
     pub inside: bool,
 }
 
-/// The place before a line, and the segment to which the line belongs.
+/// The location before a line, and the segment to which the line belongs.
 #[derive(Clone, Copy)]
 pub(crate) struct Standing {
     pub(crate) place: u32,
     pub(crate) segment: Option<u32>,
 }
 
-/// A place, raised by 1 where it is odd.
+/// A location, rounded up to even.
 pub fn even(place: u32) -> u32
     requires { place ≤ 2 ^ 30 }
     ensures is { result ≡ even_from place }
@@ -35,7 +35,7 @@ pub fn even(place: u32) -> u32
     place + place % 2
 }
 
-/// The places that a routine takes.
+/// The number of words of a routine, and 0 for an unknown one.
 fn taken(routine: &Name) -> u32
     ensures is { result ≡ routine_places (find routine.now) }
     ensures few { result ≤ 65535 }
@@ -46,7 +46,7 @@ fn taken(routine: &Name) -> u32
     }
 }
 
-/// The base of a segment, or the place where it has none.
+/// The base of a segment, or the current location if it has none.
 pub(crate) fn base_or(base: &Option<u16>, place: u32) -> u32
     ensures is { result ≡ unwrap_or base.now place }
     ensures near { result ≤ place + 65535 }
@@ -70,7 +70,7 @@ impl Spot {
         }
     }
 
-    /// Some words further on.
+    /// The same, some words further on.
     fn moved(self, words: u32) -> Spot
         requires place { self.place ≤ 2 ^ 30 }
         requires words { words ≤ 65536 }
@@ -82,7 +82,7 @@ impl Spot {
         }
     }
 
-    /// Behind a statement.
+    /// After a statement.
     pub fn passed(self, statement: &Option<Statement>) -> Spot
         requires place { self.place ≤ 2 ^ 30 }
         requires segments { self.segments ≤ 2000 }
@@ -125,7 +125,7 @@ impl Spot {
     }
 }
 
-/// The place before a line, and the segment to which it belongs.
+/// The location before a line, and the segment to which it belongs.
 pub(crate) fn standing_of(line: &Line, spot: Spot) -> Standing
     requires place { spot.place ≤ 2 ^ 30 }
     requires segments { spot.segments ≤ 2000 }

@@ -20,7 +20,7 @@ just s = record { label = None; statement = Some s }
 
 -- ---- by hand
 
--- no blank has to stand anywhere in `a:A b+01F;`
+-- `a:A b+01F;` needs no blank
 by_hand : SpellsLine false 7 (codes "a:A b+01F;")
     (record {
       label = Some (codes "a");
@@ -53,7 +53,7 @@ bare = read_form_is_spelled false 1 _ _ refl
 minus_one : SpellsLine false 1 (codes "word - 1") (just (statements.Number 131071)) true
 minus_one = read_form_is_spelled false 1 _ _ refl
 
--- words of the forms are names where names stand
+-- keywords are names where names are expected
 words_as_names : SpellsLine false 1 (codes "use use as as with H = with + 7 , N=9")
     (just (statements.Fetch (codes "use") (codes "as") (array (
     record { letter = 21; operand = operands.Label (codes "with") (pos 7) }
@@ -65,7 +65,7 @@ words_as_names = read_form_is_spelled false 1 _ _ refl
 a_text : SpellsLine false 1 (codes "text\"A.B\"") (just (statements.Text (array (28 ∷ 16 ∷ 29 ∷ [])))) true
 a_text = read_form_is_spelled false 1 _ _ refl
 
--- in version 2 local names stand in operands, two of them too
+-- in version 2 local names may be in operands, two of them too
 two_names : SpellsLine true 4 (codes "_d:P _d-_c F")
     (record {
       label = Some (codes "_d");
@@ -77,11 +77,11 @@ two_names = read_form_is_spelled true 4 _ _ refl
 
 -- ---- by computation: texts that don't
 
--- two runs may not touch
+-- two runs must not be adjacent
 touching : IsNoStatement false 1 (codes "word5")
 touching = unread_is_unspelled false 1 _ refl refl
 
--- no label stands before a segment
+-- there is no label before a segment
 label_before_segment : IsNoStatement false 1 (codes "a: segment main")
 label_before_segment = unread_is_unspelled false 1 _ refl refl
 
@@ -89,7 +89,7 @@ label_before_segment = unread_is_unspelled false 1 _ refl refl
 semicolon : IsNoStatement false 1 (codes "text \"A;B\"")
 semicolon = unread_is_unspelled false 1 _ refl refl
 
--- a blank in a string is no blank between parts, and spells no row
+-- a blank in a string does not separate parts, and spells no row
 blank_in_string : IsNoStatement false 1 (codes "text \"A B\"")
 blank_in_string = unread_is_unspelled false 1 _ refl refl
 
@@ -105,11 +105,11 @@ local_in_one = unread_is_unspelled false 1 _ refl refl
 too_large : HasNumberOutOfRange false 1 (codes "A 32768 F")
 too_large = out_of_range_is_spelled false 1 _ refl
 
--- with a number of any size, what is no form is none
+-- a text without a form has none with numbers of any size
 no_form : IsNoStatement false 1 (codes "A 32768 F F")
 no_form = unread_is_unspelled false 1 _ refl refl
 
--- `version 2` is line 1 or none
+-- `version 2` may be on line 1 only
 version_first : SpellsLine true 1 (codes "version 02") (record { label = None; statement = None }) true
 version_first = read_form_is_spelled true 1 _ _ refl
 
@@ -125,11 +125,11 @@ three_lines : IsProgram (codes "enter a" ++ 13 ∷ 10 ∷ 10 ∷ codes "ZF") fal
     ∷ record { number = 3; label = None; statement = Some (statements.Order 13 (operands.Number 0) false) } ∷ [])
 three_lines = source_answer _ (Ok _) refl
 
--- a line with a number out of its range comes before one that is no statement
+-- a line with a number out of its range, and after it one that is not a statement
 first_fault : IsFormFault (codes "enter a\nA 32768 F\nA 1") 2 NumberRange
 first_fault = source_answer _ (Err _) refl
 
--- a carriage return that stands before no line feed is a bad byte
+-- a carriage return that precedes no line feed is a bad byte
 lone_return : IsFormFault (codes "ZF\nZF" ++ 13 ∷ []) 2 BadByte
 lone_return = source_answer _ (Err _) refl
 

@@ -1,4 +1,4 @@
--- A line is read where it is spelled, and spelled where it is read.
+-- A line is read if and only if it is spelled.
 use Rattle.std.proofs.Common.{◌≡◌, ◌∙◌, ℕ, Bool, true, false, List, [], ◌∷◌, refl, ap, codes}
 use Rattle.std.specs.Prelude.{Option, Some, None, ◌==◌, ◌&&◌, if◌then◌else◌}
 use Rattle.std.specs.List.{list_all}
@@ -36,14 +36,14 @@ and_no : (c : Bool) → (c && false) ≡ false
 and_no true = refl
 and_no false = refl
 
--- a line that isn't `version 2` is read alike wherever it stands
+-- a line that isn't `version 2` is read alike with any number
 no_version : (two : Bool) (k : ℕ) (ps : List LinePart) → is_version_two ps ≡ false
     → Grammar.form_at two k ps ≡ Grammar.form two ps
 no_version two k ps e =
     ap (λ (c : Bool). if (k == 1) && c then Some (Some Grammar.empty) else Grammar.form two ps) e
     ∙ ap (λ (c : Bool). if c then Some (Some Grammar.empty) else Grammar.form two ps) (and_no (k == 1))
 
--- a statement begins with no label, and is no `version 2`
+-- a statement begins with no label, and is not `version 2`
 record IsUnlabelled (two : Bool) (ps : List LinePart) : Type 0 where
   first : Grammar.form two ps ≡ Grammar.unlabelled two ps
   other : is_version_two ps ≡ false

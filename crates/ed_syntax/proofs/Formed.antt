@@ -29,7 +29,7 @@ pub record AreLines (two : Bool) (lines : List Line) : Type 0 where
   pub numbered : AreNumbered lines
   pub formed : list_all (is_line two) lines ≡ true
 
--- as many lines are said as there are
+-- there are as many lines said as lines of text
 said_length : {two : Bool} {k : ℕ} {lines : List Text} {said : List Line} → LinesSay two k lines said
     → length said ≡ length lines
 said_length (no_more k) = refl

@@ -30,7 +30,7 @@ one_byte : (b : ℕ) (rest : Text) (c : Bool) → (b == 13) ≡ c → (b == 10) 
 one_byte b rest true r e = simp (e, r)
 one_byte b rest false r e = simp (e, r) (ap (with_byte b) (empty_line rest))
 
--- Up to the first end, and without a carriage return there, stands the first line.
+-- The first line reaches up to the first end, without a carriage return there.
 pub ended : (front rest : Text) → has_end front ≡ false
     → lines_of (front ++ 10 ∷ rest) ≡ without_return front ∷ lines_of rest
 ended [] rest e = empty_line rest

@@ -18,7 +18,7 @@ use Rattle.ed_syntax.specs.declared.program.Statement.{Statement}
 use Rattle.ed_syntax.specs.declared.program.Statement.TheVariants as statements
 use Rattle.ed_syntax.specs.declared.program.Line.{Line}
 
--- a number that an operand adds to a name or takes from it
+-- a number that an operand adds to a name or subtracts from it
 pub record IsOffset (plus : ℤ) : Type 0 where
   pub low : neg_ℤ (pos 1023) ≤ℤ plus
   pub high : plus ≤ℤ pos 1023
@@ -36,7 +36,7 @@ pub record IsSetting (two : Bool) (s : Setting) : Type 0 where
   pub high : s.letter ≤ 26
   pub operand : IsOperand two s.operand
 
--- rows: one at the least, and each a code
+-- rows: at least one, and each a code
 abbrev pub AreRows : List ℕ → Type 0
 AreRows codes = (0 < length codes) × (list_all (λ c. nat_lt c 32) codes ≡ true)
 

@@ -1,4 +1,4 @@
--- Two names are equal exactly where their sizes and their 16 bytes are.
+-- Two names are equal if and only if their sizes and their 16 bytes are.
 use Rattle.std.proofs.Common.{◌≡◌, ℕ, refl, sym, ap, ◌∙◌, Bool, true, false, ◌&&◌, nat_eq, List, take, length}
 use Rattle.std.specs.Bool.{Decides}
 use Rattle.std.specs.Cmp.Lexicographic.{pointwise}
@@ -7,7 +7,7 @@ use Rattle.std.proofs.lemmas.Bool.Decides.{Decides-eqb}
 use Rattle.std.proofs.lemmas.Slice.Eq.{slice_eq-Decides}
 use Rattle.ed_syntax.specs.Private.Names.{padded, IsPadded}
 
--- the test of two lists decides whether they are one
+-- the test of two lists decides whether they are equal
 list_test : (xs ys : List ℕ) → Decides (pointwise nat_eq xs ys) (xs ≡ ys)
 list_test xs ys = slice_eq-Decides Decides-eqb xs ys (pointwise nat_eq xs ys) refl
 

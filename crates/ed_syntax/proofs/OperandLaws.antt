@@ -1,4 +1,4 @@
--- An operand is read where it is spelled, and spelled where it is read.
+-- An operand is read if and only if it is spelled.
 use Rattle.std.proofs.Common.{◌≡◌, ◌∙◌, ℕ, Bool, true, false, List, [], ◌∷◌, ◌++◌, refl, ap, subst, arith, pos}
 use Rattle.std.specs.Prelude.{Option, Some, None, option_map, ◌⊎◌, ◌==◌, ◌||◌, ◌&&◌, not, nat_le}
 use Rattle.std.specs.Prelude.{if◌then◌else◌}
@@ -16,7 +16,7 @@ use Rattle.ed_syntax.specs.declared.program.Operand.TheVariants as operands
 use Rattle.ed_syntax.specs.Forms.{SpellsOperand, number, name, plus, minus, sum, difference}
 use Rattle.ed_syntax.proofs.Readings.{ranged, IsSpelled, IsSpelledFirst, map_ranged, mapped, passed, some_is}
 
--- ---- a name is no number
+-- ---- a name is not a number
 
 lower_is_no_digit : (b : ℕ) → is_lower b ≡ true → is_digit b ≡ false
 lower_is_no_digit b e = let low = (and_parts (nat_le 97 b) (nat_le b 122) e).0 in by_high (nat_le b 57) refl low
@@ -52,12 +52,12 @@ place_name_is_no_number two a e = by_name (is_name a) refl e
 
 -- ---- what is spelled is read
 
--- what can stand behind an operand
+-- what may follow an operand
 abbrev pub ends : List LinePart → Bool
 ends (sign s ∷ parts) = not (is_plus_or_minus s)
 ends parts = true
 
--- a number or a name, and no sign behind it
+-- a number or a name, and no sign after it
 alone : (two : Bool) (r : Text) (rest : List LinePart) → ends rest ≡ true
     → Grammar.operand two (run r ∷ rest) ≡ Grammar.with_rest rest (Grammar.single two r)
 alone two r [] e = refl
@@ -192,7 +192,7 @@ joined_spelled two a n s x e h = by_sign (joining s e)
     by_sign (inl f) = rw f (plus_spelled two a n x (rw f at h))
     by_sign (inr f) = rw f (minus_spelled two a n x (rw f at h))
 
--- an operand with what is left behind it
+-- an operand with what is left after it
 left : (two : Bool) (ps rest rest' : List LinePart) (o : Option (Option Operand)) (x : Option Operand)
     → ((y : Option Operand) → o ≡ Some y → IsSpelled (SpellsOperand two) ps y)
     → Grammar.with_rest rest o ≡ Some (x, rest') → IsSpelledFirst (SpellsOperand two) (ps ++ rest) x rest'

@@ -21,7 +21,7 @@ use Rattle.ed_syntax.specs.declared.parts.OpenQuote.{OpenQuote}
 use Rattle.ed_syntax.specs.Parts.{has_quote}
 use Rattle.ed_syntax.specs.Private.PartFronts.{SplitsQuote, SplitsRun, Takes}
 
--- a byte that passes a test is none that fails it
+-- a byte that passes a test is not one that fails it
 differs : (f : ℕ → Bool) (b k : ℕ) (c : Bool) → (b == k) ≡ c → f b ≡ true → f k ≡ false → (b == k) ≡ false
 differs f b k true e passes other = let same : b ≡ k = (Decides-eqb b k).0 e in let bad : f b ≡ false =
     ap f same ∙ other in absurd (cc)

@@ -14,7 +14,7 @@ use Rattle.ed_syntax.specs.Parts.{has_quote}
 use Rattle.ed_syntax.proofs.Readings.{mapped}
 use Rattle.ed_syntax.proofs.PartLemmas.{all_head, blank_parts, run_parts, sign_parts, quote_parts}
 
--- what a byte that is a part of its own isn't
+-- what a byte that is a part by itself is not
 pub record IsOther (b : ℕ) : Type 0 where
   pub comment : (b == 59) ≡ false
   pub quote : (b == 34) ≡ false
@@ -48,7 +48,7 @@ parts_are_read _ _ (one_run b r text ps e f h) =
 
 -- ---- what is read is there
 
--- what is read behind a quote and the bytes q: the rest of the string, a quote, and more parts
+-- what is read after a quote and the bytes q: the rest of the string, a quote, and more parts
 record ClosesString (q text : Text) (ps : List LinePart) : Type 0 where
   inside : Text
   rest : Text
@@ -58,12 +58,12 @@ record ClosesString (q text : Text) (ps : List LinePart) : Type 0 where
   rest_has : HasLineParts rest qs
   ps_are : ps ≡ quoted (q ++ inside) ∷ qs
 
--- what is read outside quotes, or behind a quote and some bytes
+-- what is read outside quotes, or after a quote and some bytes
 abbrev IsRead : Option Text → Text → List LinePart → Type 0
 IsRead None text ps = HasLineParts text ps
 IsRead (Some q) text ps = ClosesString q text ps
 
--- a blank is no byte of a run
+-- a blank is not a byte of a run
 no_run_byte : (b : ℕ) → is_blank b ≡ true → is_run_byte b ≡ false
 no_run_byte b e = by_space (b == 32) (b == 9) refl refl e
   where
@@ -72,7 +72,7 @@ no_run_byte b e = by_space (b == 32) (b == 9) refl refl e
     by_space false true h i e = ap is_run_byte ((Decides-eqb b 9).0 i)
     by_space false false h i e = absurd (cc)
 
--- a byte of a run in front: it is a run, or belongs to the one that begins behind it
+-- a byte of a run at the front: it is a run, or belongs to the one that begins after it
 grown : (b : ℕ) (bs : Text) (ps : List LinePart) → is_run_byte b ≡ true → HasLineParts bs ps
     → HasLineParts (b ∷ bs) (with_run_byte b bs ps)
 grown b _ _ e nothing = one_run b [] [] [] (simp e) refl nothing

@@ -1,4 +1,4 @@
--- A statement that may have a label is read where it is spelled, and spelled where it is read.
+-- A statement that may have a label is read if and only if it is spelled.
 use Rattle.std.proofs.Common.{◌≡◌, ◌∙◌, ℕ, Bool, true, false, List, [], ◌∷◌, ◌++◌, refl, sym, ap, subst}
 use Rattle.std.proofs.Common.{ℤ, map, codes, length}
 use Rattle.std.specs.Prelude.{Option, Some, None, option_map, option_and_then, ◌==◌, ◌&&◌, not, nat_le}
@@ -28,7 +28,7 @@ use Rattle.ed_syntax.proofs.OperandLaws.{ends, operand_is_read, operand_is_spell
 
 -- ---- what is spelled is read: an order
 
--- an F or a D is no plus or minus
+-- an F or a D is not a plus or minus
 length_ends : (e : ℕ) (l : Bool) → length_of e ≡ Some l → is_plus_or_minus e ≡ false
 length_ends e l = by_test (e == 70) (e == 68) refl refl
   where
@@ -38,11 +38,11 @@ length_ends e l = by_test (e == 70) (e == 68) refl refl
     by_test false true f g h = ap is_plus_or_minus ((Decides-eqb e 68).0 g)
     by_test false false f g h = absurd (cc)
 
--- an operand and the length behind it
+-- an operand and the length after it
 abbrev with_length : Option (Option Operand × List LinePart) → Option (Option Operand × Bool)
 with_length o = option_and_then (λ p. option_map (λ l. (p.0, l)) (Grammar.length_end p.1)) o
 
--- an operand begins with no sign
+-- an operand doesn't begin with a sign
 operand_first : (two : Bool) (ps rest : List LinePart) (o : Operand) (fits : Bool) → SpellsOperand two ps o fits
     → Grammar.order_end two (ps ++ rest) ≡ with_length (Grammar.operand two (ps ++ rest))
 operand_first two _ rest _ _ (number n e) = refl
@@ -61,7 +61,7 @@ order_end_is_read two ps o fits e l h k =
     ∙ ap with_length (operand_is_read two ps o fits (sign e ∷ []) h stops)
     ∙ ap (option_map (λ b. (ranged fits o, b))) k
 
--- an order of what its function and its end are
+-- an order, by its function and its end
 abbrev order_of : ℕ → Option Operand × Bool → Option Statement
 order_of f p = option_map (λ o. statements.Order f o p.1) p.0
 
@@ -91,7 +91,7 @@ abbrev pub is_short : LinePart → Bool
 is_short (quoted q) = nat_le (length q) 120
 is_short part = true
 
--- what bytes spell, where each spells something
+-- what bytes spell, if each spells something
 all_spell : (f : ℕ → Option ℕ) (q : Text) (rows : List ℕ) → map f q ≡ map (λ r. Some r) rows
     → (list_all (λ b. Grammar.spells (f b)) q ≡ true) × (map (λ b. Grammar.row (f b)) q ≡ rows)
 all_spell f [] [] e = (refl, refl)

@@ -1,4 +1,4 @@
--- A program, one line more at a time.
+-- A program, one more line at a time.
 use Rattle.std.proofs.Common.{◌≡◌, ℕ, ◌+◌, Bool, false, List, [], ◌∷◌, ◌++◌, refl, sym, ap, append_assoc}
 use Rattle.std.specs.Prelude.{◌==◌, Result, Ok, Err}
 use Rattle.ed_words.specs.Texts.{Text}

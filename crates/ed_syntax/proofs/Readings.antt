@@ -1,10 +1,10 @@
--- What it says that parts spell what is read in them.
+-- What it means that parts spell what is read in them.
 use Rattle.std.proofs.Common.{◌≡◌, ◌∙◌, Bool, true, false, List, ◌++◌, refl, sym, ap}
 use Rattle.std.specs.Prelude.{Option, Some, None, option_map, option_and_then, if◌then◌else◌}
 use Rattle.ed_syntax.specs.Private.Grammar
 use Rattle.ed_syntax.specs.Parts.{LinePart}
 
--- what is read where the numbers are in their ranges or not
+-- what is read, if the numbers are in their ranges
 abbrev pub ranged : {A : Type 0} → Bool → A → Option A
 ranged fits a = if fits then Some a else None
 
@@ -38,7 +38,7 @@ pub chained : {A B : Type 0} (f : A → Option B) (o : Option A) (y : B) → opt
 chained f None y e = absurd (cc)
 chained f (Some x) y e = (x, refl, e)
 
--- where a test must have passed
+-- if a test must have passed
 pub passed : {A : Type 0} (c : Bool) (o : Option A) (y : A) → (if c then o else None) ≡ Some y
     → (c ≡ true) × (o ≡ Some y)
 passed true o y e = (refl, e)

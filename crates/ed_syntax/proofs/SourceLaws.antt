@@ -60,7 +60,7 @@ and_is_no false e = e
 kept : (b : ℕ) → (b == 13) ≡ false → without_return (b ∷ []) ≡ b ∷ []
 kept b e = rw e refl
 
--- a byte in front of the first line
+-- a byte before the first line
 longer : (b : ℕ) (text : Text) (lines : List Text) → (b == 10) ≡ false → ((b == 13) && begins_feed text) ≡ false
     → HasLines text lines → HasLines (b ∷ text) (with_byte b lines)
 unfolding begins_feed
@@ -318,7 +318,7 @@ say_is_read two _ _ _ (and_more k line lines f said s h) le =
     ∙ ap (λ (r : Result Form SourceCause). and_lines k r (lines_from two (k + 1) lines)) (said_is_read two k line f s)
     ∙ ap (with_first (numbered k f)) (say_is_read two (k + 1) lines said h (omega arith))
 
--- no line behind number 2001 has a fault
+-- no line after number 2001 has a fault
 few_faulty : (two : Bool) (n : ℕ) (line : Text) (c : SourceCause) → LineHasFault two n line c → n ≤ 2001
 few_faulty two n line _ (bad_byte h e) = omega (arith, h)
 few_faulty two n line _ (long_line h e lt) = omega (arith, h)

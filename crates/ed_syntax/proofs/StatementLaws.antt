@@ -1,4 +1,4 @@
--- Statements and forms are read where they are spelled, and spelled where they are read.
+-- Statements and forms are read if and only if they are spelled.
 use Rattle.std.proofs.Common.{◌≡◌, ◌∙◌, ℕ, Bool, true, false, List, [], ◌∷◌, refl, sym, ap, subst, arith}
 use Rattle.std.proofs.Common.{length, codes}
 use Rattle.std.specs.Prelude.{Option, Some, None, option_map, ◌&&◌, nat_le, if◌then◌else◌}
@@ -25,7 +25,7 @@ use Rattle.ed_syntax.proofs.SettingLaws.{settings_are_read, settings_are_spelled
 
 -- ---- what is spelled is read: statements
 
--- a statement that may have a label begins with no word of the others
+-- a statement that may have a label begins with no keyword of the others
 placed_first : (two : Bool) (ps : List LinePart) (s : Statement) (fits : Bool) → SpellsPlaced two ps s fits
     → Grammar.statement two ps ≡ Grammar.placed two ps
 placed_first two _ _ _ (order b f e ps o l fits hf ho hl) = refl

@@ -263,7 +263,7 @@ order_written two f o l lt e =
           (each_append is_part w.ps (sign (length_byte l) ∷ []) w.parts (rw end refl));
     }
 
--- a number from 0 upwards
+-- a number that is not negative
 positive_written : (least most n : ℕ) → nat_le n most ≡ true → IsWritten (SpellsInteger least most) (pos n)
 positive_written least most n e =
     let d = numeral n in

@@ -1,6 +1,6 @@
--- Which texts spell which lines of a source (this project's own rule). A text has parts, with blanks free between them;
+-- Which texts spell which lines of a source (this project's own rule). A text has parts, with any blanks between them;
 -- the parts spell a form. `two` says whether the source is of version 2. `fits` says whether the numbers of the form
--- are in their ranges: a line that is spelled with `fits` false has a number out of its range, and is no line.
+-- are in their ranges: a line spelled with `fits` false has a number out of its range and is not a line of a program.
 use Rattle.std.specs.Prelude.{ℕ, ◌≡◌, ◌==◌, ◌&&◌, ◌||◌, not, Bool, true, false, ℤ, pos, nat_le}
 use Rattle.std.specs.Prelude.{List, [], ◌∷◌, ◌++◌, codes, length, map, Option, Some, None}
 use Rattle.std.specs.List.{list_all}
@@ -20,11 +20,11 @@ use Rattle.ed_syntax.specs.declared.program.Form.{Form}
 
 -- ---- a text and its parts
 
--- a byte that is a part of its own: no blank or tab, no byte of a run, no `;` (59) and no quote (34)
+-- a byte that is a part by itself: not a blank or tab, not a byte of a run, not `;` (59) and not a quote (34)
 abbrev pub is_sign : ℕ → Bool
 is_sign b = not (b == 59 || (b == 34 || (is_blank b || is_run_byte b)))
 
--- The text has these parts. A run ends where no byte of a run follows, so two runs never touch.
+-- The text has these parts. A run ends where no byte of a run follows, so two runs are never adjacent.
 pub data HasLineParts : Text → List LinePart → Type 0 where
   nothing : HasLineParts [] []
   comment : (bytes : Text) → HasLineParts (59 ∷ bytes) []
@@ -37,7 +37,7 @@ pub data HasLineParts : Text → List LinePart → Type 0 where
   one_run : (b : ℕ) (r text : Text) (ps : List LinePart) → list_all is_run_byte (b ∷ r) ≡ true
       → begins_run text ≡ false → HasLineParts text ps → HasLineParts ((b ∷ r) ++ text) (run (b ∷ r) ∷ ps)
 
--- ---- what operands and settings are spelled by
+-- ---- how operands and settings are spelled
 
 -- an operand: a number, a name, a name plus (43) or minus (45) a number, or in version 2 plus or minus a name
 pub data SpellsOperand (two : Bool) : List LinePart → Operand → Bool → Type 0 where
@@ -66,7 +66,7 @@ pub data SpellsSettings (two : Bool) : List LinePart → List Setting → Bool �
   more : (ps qs : List LinePart) (s : Setting) (ss : List Setting) (fits also : Bool) → SpellsSetting two ps s fits
       → SpellsSettings two qs ss also → SpellsSettings two (ps ++ sign 44 ∷ qs) (s ∷ ss) (fits && also)
 
--- ---- what statements are spelled by
+-- ---- how statements are spelled
 
 -- a number, or after a minus (45) its negative, from -least to most
 pub data SpellsInteger (least most : ℕ) : List LinePart → ℤ → Bool → Type 0 where
@@ -115,7 +115,7 @@ pub data SpellsStatement (two : Bool) : List LinePart → Statement → Bool →
   data_rows : (q : Text) (rows : List ℕ) → AreRowsOf q rows
       → SpellsStatement two (run (codes "data") ∷ quoted q ∷ []) (statements.Rows (array rows)) true
 
--- ---- what lines are spelled by
+-- ---- how lines are spelled
 
 -- the line with the number k: empty, a label with its colon (58), a statement, both, or `version 2` as line 1
 pub data SpellsForm (two : Bool) : ℕ → List LinePart → Form → Bool → Type 0 where
@@ -138,11 +138,11 @@ pub record SpellsLine (two : Bool) (k : ℕ) (text : Text) (f : Form) (fits : Bo
 
 -- ---- faults of a line
 
--- the line with the number k has none of the forms, its numbers being of any size
+-- the line with the number k has none of the forms, whatever the size of its numbers
 abbrev pub IsNoStatement : Bool → ℕ → Text → Type 0
 IsNoStatement two k line = (f : Form) (fits : Bool) → SpellsLine two k line f fits → ⊥
 
--- it has a form, and a number is out of its range
+-- the line has a form, and a number out of its range
 abbrev pub HasNumberOutOfRange : Bool → ℕ → Text → Type 0
 HasNumberOutOfRange two k line = (f : Form) × SpellsLine two k line f false
 

@@ -14,8 +14,8 @@ use Rattle.ed_words.specs.Decimals.{is_digit}
 abbrev pub is_line_byte : ℕ → Bool
 is_line_byte b = b == 9 || (nat_le 32 b && nat_le b 126)
 
--- a run of lower-case letters, digits and `_`, which is a name, a number or a word of the forms; any other byte, as a
--- function, a letter or a sign; the bytes between two quotes
+-- a run of lower-case letters, digits and `_`, which is a name, a number or a keyword; any other byte, as a function, a
+-- letter or a sign; the bytes between two quotes
 pub data LinePart : Type 0 where
   run : Text → LinePart
   sign : ℕ → LinePart
@@ -87,6 +87,6 @@ setting_letter b = if list_any (λ c. c == b) (codes "HNM&LX") then row_of b els
 abbrev pub array : {A : Type 0} → List A → ArrayVec A
 array xs = record { items = xs }
 
--- a number modulo 2^k, from 0 upwards for a negative one too
+-- a number modulo 2^k; the remainder of a negative number is not negative either
 abbrev pub modulo : ℕ → ℤ → ℕ
 modulo k z = unsigned_abs (int_rem_euclid z (pos (2 ^ k)))

@@ -11,7 +11,7 @@ use Rattle.ed_syntax.specs.declared.program.Statement.{Statement}
 use Rattle.ed_syntax.specs.declared.program.Statement.TheVariants as statements
 use Rattle.ed_syntax.specs.declared.program.Line.{Line}
 
--- an operand: a number to 32767, a name with -1023 to 1023 more, or in version 2 two names
+-- an operand: a number up to 32767, a name plus -1023 to 1023, or in version 2 two names
 abbrev pub is_operand : Bool → Operand → Bool
 is_operand two (operands.Number n) = nat_le n 32767
 is_operand two (operands.Label name plus) = is_place_name two name && nat_le (unsigned_abs plus) 1023
@@ -21,12 +21,12 @@ is_operand two (operands.Two first second minus) = two && (is_place_name two fir
 abbrev pub is_setting : Bool → Setting → Bool
 is_setting two s = (nat_le 21 s.letter && nat_le s.letter 26) && is_operand two s.operand
 
--- the base of a segment, where it is given: to 1023
+-- the base of a segment, if given, is at most 1023
 abbrev pub is_base : Option ℕ → Bool
 is_base None = true
 is_base (Some b) = nat_le b 1023
 
--- codes of rows: one at the least, and each below 32
+-- codes of rows: at least one, and each below 32
 abbrev pub are_rows : List ℕ → Bool
 are_rows codes = nat_le 1 (length codes) && list_all (λ c. nat_lt c 32) codes
 
@@ -57,7 +57,7 @@ is_form two None (Some s) = is_statement two s
 is_form two (Some label) None = is_place_name two label
 is_form two (Some label) (Some s) = is_place_name two label && (may_have_label s && is_statement two s)
 
--- a line with its number left out
+-- a line, without regard to its number
 abbrev pub is_line : Bool → Line → Bool
 is_line two l = is_form two l.label l.statement
 

@@ -17,7 +17,7 @@ use Rattle.ed_syntax.specs.declared.fault.SourceCause.TheVariants.{NumberRange, 
 
 -- ---- one line
 
--- a line of 120 bytes at most, each a tab or from 32 to 126
+-- a line of at most 120 bytes, each a tab or from 32 to 126
 pub record IsPlain (line : Text) : Type 0 where
   pub bytes : list_all is_line_byte line ≡ true
   pub short : length line ≤ 120
@@ -45,13 +45,13 @@ pub record IsVersionTwo (line : Text) : Type 0 where
   pub value_is : value n ≡ 2
   pub parts : HasLineParts line (run (codes "version") ∷ run n ∷ [])
 
--- a source is of version 2 where its first line says so
+-- a source is of version 2 if and only if its first line says so
 abbrev pub IsOfVersion : Bool → List Text → Type 0
 IsOfVersion two [] = two ≡ false
 IsOfVersion true (line ∷ lines) = IsVersionTwo line
 IsOfVersion false (line ∷ lines) = IsVersionTwo line → ⊥
 
--- the lines from the number k on say these
+-- the lines from the number k upwards say this
 pub data LinesSay (two : Bool) : ℕ → List Text → List Line → Type 0 where
   no_more : (k : ℕ) → LinesSay two k [] []
   and_more : (k : ℕ) (line : Text) (lines : List Text) (f : Form) (said : List Line) → LineSays two k line f
@@ -79,7 +79,7 @@ pub record IsFormFault (text : Text) (number : ℕ) (cause : SourceCause) : Type
   pub number_is : number ≡ length before + 1
   pub faulty : LineHasFault two number line cause
 
--- an answer that is a fault of form says which one it is
+-- if an answer is a fault of form, it is the source's
 abbrev pub HasFormFault : Text → SourceFault → Type 0
 HasFormFault text (At number cause) = IsFormFault text number cause
 HasFormFault text Memory = Unit {0}

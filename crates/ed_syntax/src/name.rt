@@ -5,7 +5,7 @@ ghost use Rattle.std.specs.Cmp.Lexicographic.{pointwise, nat_list_eq_equiv};
 use std::marker::Model;
 use std::str;
 
-/// A text of 1 to 16 bytes: what a source names a place, a segment or a routine by.
+/// A text of 1 to 16 bytes: the name of a label, a segment or a routine in a source.
 #[derive(Clone, Copy, Debug)]
 pub struct Name {
     bytes: [u8; 16],
@@ -28,7 +28,7 @@ impl Model for Name {
 }
 
 impl Name {
-    /// The name of a text: none where it is empty or has more than 16 bytes.
+    /// The name of a text; None if the text is empty or has more than 16 bytes.
     pub fn new(text: &str) -> Option<Name>
         ensures none { IsNone result ↔ ((length text.now ≡ 0) ⊎ (16 < length text.now)) }
         ensures some { IfSome result (λ n. n ≡ text.now) }

@@ -29,7 +29,7 @@ fn single(two: bool, run: &[u8]) -> Option<Option<Operand>>
     Some(Some(Operand::Label { name, plus: 0 }))
 }
 
-/// A number behind a sign.
+/// A number after a sign.
 fn signed(minus: bool, number: u64) -> i32
     requires { number ≤ 1023 }
     ensures { result ≡ with_sign minus number }
@@ -67,7 +67,7 @@ fn joined(two: bool, run: &[u8], sign: u8, more: &[u8]) -> Option<Option<Operand
     }))
 }
 
-/// An operand at the front, and the parts behind it.
+/// An operand at the front, and the parts after it.
 pub(crate) fn operand<'a, 'p>(
     two: bool,
     parts: &'p [Part<'a>],
@@ -97,7 +97,7 @@ fn setting_letter(byte: u8) -> Option<Code>
     }
 }
 
-/// A setting at the front, and the parts behind it.
+/// A setting at the front, and the parts after it.
 fn setting<'a, 'p>(two: bool, parts: &'p [Part<'a>]) -> Option<(Option<Setting>, &'p [Part<'a>])>
     ensures { option_map (λ p. (p.0, map part p.1.now)) result ≡ setting two (map part parts.entry.now) }
 {
@@ -107,7 +107,7 @@ fn setting<'a, 'p>(two: bool, parts: &'p [Part<'a>]) -> Option<(Option<Setting>,
     }
 }
 
-/// What follows the letter of a setting, and the parts behind it.
+/// What follows the letter of a setting, and the parts after it.
 fn setting_of_letter<'a, 'p>(
     two: bool,
     byte: u8,
@@ -127,7 +127,7 @@ fn setting_of_letter<'a, 'p>(
     }
 }
 
-/// A letter with its operand, where that is in its range.
+/// A letter with its operand, if the operand is in its range.
 fn with_letter(letter: Code, operand: Option<Operand>) -> Option<Setting>
     ensures { result ≡ option_map (λ o. record { letter = letter; operand = o }) operand }
 {
@@ -153,7 +153,7 @@ fn settings(two: bool, most: u8, parts: &[Part]) -> Option<Option<ArrayVec<Setti
     }
 }
 
-/// A setting, and up to `most` more behind a comma.
+/// A setting, and up to `most` more after a comma.
 #[cycle(settings)]
 fn and_more(
     two: bool,
@@ -175,7 +175,7 @@ fn and_more(
     }
 }
 
-/// A setting in front of others, where all are in their ranges.
+/// A setting before others, if all are in their ranges.
 fn both(
     setting: Option<Setting>,
     more: Option<ArrayVec<Setting, 6>>,

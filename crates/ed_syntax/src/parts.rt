@@ -12,7 +12,7 @@ use std::alloc::Global;
 /// A part of a line.
 #[derive(Clone, Copy)]
 pub(crate) enum Part<'a> {
-    /// Lower-case letters, digits and `_`: a name, a number or a word of the forms.
+    /// Lower-case letters, digits and `_`: a name, a number or a keyword.
     Run(&'a [u8]),
     /// Any other byte: a function, a letter or a sign.
     Sign(u8),
@@ -20,11 +20,11 @@ pub(crate) enum Part<'a> {
     Quoted(&'a [u8]),
 }
 
-/// A quote stays open.
+/// A quote is never closed.
 #[derive(Clone, Copy)]
 pub(crate) struct OpenQuote;
 
-/// Why the parts of a line aren't known.
+/// Why a line has no parts.
 #[derive(Clone, Copy)]
 pub(crate) enum PartsFault {
     OpenQuote,
@@ -45,7 +45,7 @@ fn is_blank(byte: u8) -> bool
     byte == b' ' || byte == b'\t'
 }
 
-/// What stands behind the blanks at the front.
+/// What follows the blanks at the front.
 fn skip_blanks<'a>(line: &'a [u8]) -> &'a [u8]
     ensures same { parts_of line.entry.now ≡ parts_of result.now }
     ensures shorter { length result.now ≤ length line.entry.now }
@@ -61,7 +61,7 @@ fn skip_blanks<'a>(line: &'a [u8]) -> &'a [u8]
     rest
 }
 
-/// The run at the front, and what stands behind it.
+/// The run at the front, and what follows it.
 fn split_run<'a>(line: &'a [u8]) -> (&'a [u8], &'a [u8])
     ensures { SplitsRun line.entry.now result.0.now result.1.now }
 {
@@ -73,7 +73,7 @@ fn split_run<'a>(line: &'a [u8]) -> (&'a [u8], &'a [u8])
     (line, &[])
 }
 
-/// What stands before the first quote and behind it.
+/// What precedes the first quote, and what follows it.
 fn split_quote<'a>(text: &'a [u8]) -> Option<(&'a [u8], &'a [u8])>
     ensures some { IfSome result (λ p. SplitsQuote text.entry.now p.0.now p.1.now) }
     ensures none { IfNone result (has_quote text.entry.now ≡ false) }
@@ -86,7 +86,7 @@ fn split_quote<'a>(text: &'a [u8]) -> Option<(&'a [u8], &'a [u8])>
     None
 }
 
-/// The string that a quote opens, and what stands behind it.
+/// The string that a quote opens, and what follows it.
 fn quoted_part<'a>(after: &'a [u8]) -> Result<Option<(Part<'a>, &'a [u8])>, OpenQuote>
     ensures { Takes (34 ∷ after.entry.now) result }
 {
@@ -105,7 +105,7 @@ fn run_part<'a>(line: &'a [u8]) -> Result<Option<(Part<'a>, &'a [u8])>, OpenQuot
     Ok(Some((Part::Run(run), rest)))
 }
 
-/// The part at the front of what doesn't begin with a blank.
+/// The part at the front of a text that doesn't begin with a blank.
 fn part_here<'a>(line: &'a [u8]) -> Result<Option<(Part<'a>, &'a [u8])>, OpenQuote>
     requires { begins_blank line.now ≡ false }
     ensures { Takes line.entry.now result }
@@ -124,7 +124,7 @@ fn part_here<'a>(line: &'a [u8]) -> Result<Option<(Part<'a>, &'a [u8])>, OpenQuo
     }
 }
 
-/// The first part, and what stands behind it.
+/// The first part, and what follows it.
 fn next_part<'a>(line: &'a [u8]) -> Result<Option<(Part<'a>, &'a [u8])>, OpenQuote>
     ensures { Takes line.entry.now result }
 {

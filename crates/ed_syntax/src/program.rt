@@ -12,12 +12,12 @@ use ed_words::{Long, Word};
 pub enum Operand {
     /// A number, 0 to 32767.
     Number(u16),
-    /// The place of a name, and -1023 to 1023 more.
+    /// The location of a name, plus -1023 to 1023.
     Label {
         name: Name,
         plus: i32,
     },
-    /// The sum of the places of two names, or their difference.
+    /// The sum of the locations of two names, or their difference.
     Two {
         first: Name,
         second: Name,
@@ -50,12 +50,12 @@ impl Default for Setting {
 /// What a line says.
 #[derive(Debug, Drop)]
 pub enum Statement {
-    /// A segment begins, at a base of 0 to 1023 or at the next place.
+    /// A segment begins, at a base of 0 to 1023 or at the next location.
     Segment {
         name: Name,
         base: Option<u16>,
     },
-    /// An order; true is its length D.
+    /// An order; the length is true for D.
     Order {
         function: Code,
         operand: Operand,
@@ -69,7 +69,7 @@ pub enum Statement {
     Text {
         codes: ArrayVec<Code, 120>,
     },
-    /// A routine of the library under a name, with one to six settings or none.
+    /// A routine of the library under a name, with no setting or one to six.
     Fetch {
         routine: Name,
         name: Name,
@@ -79,7 +79,7 @@ pub enum Statement {
     Enter {
         name: Name,
     },
-    /// Rows of the tape behind the program, at least one.
+    /// Rows of the tape after the program, at least one.
     Rows {
         codes: ArrayVec<Code, 120>,
     },

@@ -16,7 +16,7 @@ use crate::statements::{form_at, is_version_two};
 use crate::{Line, Program, SourceCause, SourceFault};
 use std::alloc::Global;
 
-/// Why a line has no form that is known.
+/// Why a line has no form.
 #[derive(Clone, Copy)]
 pub(crate) enum LineFault {
     Of(SourceCause),
@@ -62,7 +62,7 @@ fn without_return<'a>(line: &'a [u8]) -> &'a [u8]
     }
 }
 
-/// The first line, and what stands behind its end.
+/// The first line, and what follows its end.
 fn split_line<'a>(text: &'a [u8]) -> (&'a [u8], &'a [u8])
     requires { 0 < length text.now }
     ensures { TakesLine text.entry.now result.0.now result.1.now }
@@ -91,7 +91,7 @@ fn is_two(alloc: Global, text: &[u8]) -> Result<bool, SourceFault>
     }
 }
 
-/// What the lines of a source say, or the fault of the first that has one.
+/// The lines of a source, or the fault of the first line that has one.
 fn lines(alloc: Global, two: bool, text: &[u8]) -> Result<Vec<Line>, SourceFault>
     ensures { LinesAre (lines_from two 1 (lines_of text.now)) result }
 {
@@ -141,7 +141,7 @@ fn version(two: bool) -> u8
     if two { 2 } else { 1 }
 }
 
-/// The program of a source, or its fault of form: that of the least line, with the least number.
+/// The program of a source, or its fault of form: that of the first faulty line, with the least number.
 pub fn parse(alloc: Global, text: &[u8]) -> Result<Program, SourceFault>
     ensures says { IfOk result (λ p. IsProgram text.now (p.version == 2) p.lines.items) }
     ensures has_fault { IfErr result (λ e. HasFormFault text.now e) }
@@ -151,7 +151,7 @@ pub fn parse(alloc: Global, text: &[u8]) -> Result<Program, SourceFault>
     program(alloc, text)
 }
 
-/// The same, by the definitions of how a source is read.
+/// The same, stated by the definitions of how a source is read.
 fn program(alloc: Global, text: &[u8]) -> Result<Program, SourceFault>
     ensures version { IfOk result (λ p. p.version ≡ version_of text.now) }
     ensures lines { IfOk result (λ p. program_of text.now ≡ Ok p.lines.items) }

@@ -56,7 +56,7 @@ fn order_end(two: bool, parts: &[Part]) -> Option<(Option<Operand>, bool)>
     }
 }
 
-/// An order, whose function is given.
+/// An order with this function.
 fn order(two: bool, byte: u8, parts: &[Part]) -> Option<Option<Statement>>
     ensures { result ≡ order two byte (map part parts.now) }
 {
@@ -198,7 +198,7 @@ fn placed(two: bool, parts: &[Part]) -> Option<Option<Statement>>
     }
 }
 
-/// A statement that may have a label, by its word.
+/// A statement that may have a label, by its keyword.
 fn placed_word(two: bool, keyword: &[u8], parts: &[Part]) -> Option<Option<Statement>>
     ensures { result ≡ placed two (run keyword.now ∷ map part parts.now) }
 {
@@ -223,7 +223,7 @@ fn statement(two: bool, parts: &[Part]) -> Option<Option<Statement>>
     }
 }
 
-/// A statement, by its word.
+/// A statement, by its keyword.
 fn statement_word(two: bool, keyword: &[u8], parts: &[Part]) -> Option<Option<Statement>>
     ensures { result ≡ statement two (run keyword.now ∷ map part parts.now) }
 {
@@ -240,7 +240,7 @@ fn statement_word(two: bool, keyword: &[u8], parts: &[Part]) -> Option<Option<St
     }
 }
 
-/// A line of a statement alone.
+/// A line with a statement alone.
 fn unlabelled(two: bool, parts: &[Part]) -> Option<Option<Form>>
     ensures { result ≡ unlabelled two (map part parts.now) }
 {
@@ -273,7 +273,7 @@ fn labelled(two: bool, run: &[u8], parts: &[Part]) -> Option<Option<Form>>
     }
 }
 
-/// A line that isn't empty, by its first part.
+/// A line that begins with this run.
 fn form_of_run(two: bool, first: &[u8], parts: &[Part], whole: &[Part]) -> Option<Option<Form>>
     requires { map part whole.now ≡ run first.now ∷ map part parts.now }
     ensures { result ≡ form two (run first.now ∷ map part parts.now) }

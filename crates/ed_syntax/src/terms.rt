@@ -59,7 +59,7 @@ fn is_local_name(run: &[u8]) -> bool
     }
 }
 
-/// Whether a run may name a place.
+/// Whether a run may be a label or stand in an operand.
 fn is_place_name(two: bool, run: &[u8]) -> bool
     ensures { result ≡ is_place_name two run.now }
 {
@@ -111,7 +111,7 @@ pub(crate) fn is_number(run: &[u8]) -> bool
     }
 }
 
-/// The number that digits spell, where it is at most this.
+/// The number that digits spell, if it is at most `most`.
 pub(crate) fn up_to(most: u64, digits: &[u8]) -> Option<u64>
     requires { most < 2 ^ 36 }
     ensures is { result ≡ up_to most digits.now }
@@ -127,7 +127,7 @@ pub(crate) fn up_to(most: u64, digits: &[u8]) -> Option<u64>
     Some(value)
 }
 
-/// A number from 0 to this.
+/// A number from 0 to `most`.
 pub(crate) fn number(most: u64, run: &[u8]) -> Option<Option<u64>>
     requires { most < 2 ^ 36 }
     ensures is { result ≡ number_up_to most run.now }
@@ -190,7 +190,7 @@ fn string_rows(text: &[u8]) -> Option<ArrayVec<Code, 120>>
     Some(rows)
 }
 
-/// Whether a run is a word of the forms.
+/// Whether a run is this keyword.
 pub(crate) fn is(run: &[u8], word: &[u8]) -> bool
     ensures { result ≡ bytes_eq run.now word.now }
 {

@@ -53,7 +53,7 @@ use Rattle.ed_answers.specs.declared.reply.Reply.{Reply}
 use Rattle.ed_answers.proofs.Sources.{accepted_is, headline}
 use Rattle.ed_top.proofs.Stopped.{answered, nothing_after}
 
--- what replies to a source that was made is what is answered of it
+-- a reply to a source that was made is its answer
 pub made_replied : (s : Settings) (text input : Text) (r : Result Reply Rejection) → input ≡ text
     → Replies (of_source s.size (run_outcome s)) input r → Replies (of_made_source s text) [] r
 made_replied s text input (Err rejection.Memory) is replies =
@@ -63,7 +63,7 @@ made_replied s text input (Err (rejection.Refused reply)) is replies =
 made_replied s text input (Ok reply) is replies =
     (replies.0, subst (λ (t : Text). OfSource s.size (run_outcome s) t replies.0) is replies.1, replies.2)
 
--- what a call takes from its entry on
+-- the number of orders of a call from its entry
 orders_few : (call : Call) → IsCallInRange call → call_orders call ≤ 14000
 orders_few (Print n) small = let few = few_orders n small in omega arith
 orders_few (Read n) small = let few = few_orders n small in let long = few_digits n in omega arith
@@ -78,7 +78,7 @@ orders_few (Root n) small =
     omega arith
 orders_few (Check n) small = let few = few_orders n small in omega arith
 
--- a call whose source is accepted, and which comes to its stop behind its codes
+-- a call whose source is accepted, and which reaches its stop after its codes
 runs : (s : Settings) (call : Call) {lines : List Line} {k place : ℕ} {codes : List ℕ}
     → program_of (call_text call) ≡ Ok lines → fault s.size lines ≡ None
     → StopsAt k (entry_state s.size lines) codes place → length codes ≤ 1000000
@@ -153,7 +153,7 @@ each_call_runs s (Check n) small =
     (room_for_codes n _ small) (refl, omega arith, refl) (lit< tt) refl (guest_stops s.size n small)
     (lit≤ tt, orders_few (Check n) small)
 
--- with no option the limit is not below what any call takes
+-- without an option the limit is not below the orders of any call
 pub calls_by_default : CallsByDefault
 calls_by_default = record {
   usual = refl;

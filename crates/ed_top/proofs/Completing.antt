@@ -64,7 +64,7 @@ module _ (answer : Answer) (input left : Text) (out_room note_room : ℕ) (out n
       by_status (inl is) = inl is
       by_status (inr other) = inr (whole not_read not_written other)
 
--- so it is of every run
+-- the same for every run
 pub each_complete : EachRunIsComplete
 each_complete line input left out_room note_room out note status e out_whole note_whole =
     complete (output line) input left out_room note_room out note status e out_whole note_whole

@@ -1,4 +1,4 @@
--- Nothing is the first part of any text.
+-- The empty text is a first part of any text.
 use Rattle.std.proofs.Common.{[], refl}
 use Rattle.ed_words.specs.Texts.{Text}
 use Rattle.ed_top.specs.Clause.{Device, Wrote, WrotePart}

@@ -1,4 +1,5 @@
--- Replies with an outcome that is said: from one of an input and back, and where `?` hands on want of memory.
+-- Replies with an outcome that is stated: from one of an input and back, and that no memory was found, passed on by
+-- `?`.
 use Rattle.std.proofs.Common.{◌≡◌, [], subst, sym}
 use Rattle.std.specs.Prelude.{Result, Ok, Err, IsErr, IsErrAnd}
 use Rattle.ed_words.specs.Texts.{Text}
@@ -9,14 +10,14 @@ use Rattle.ed_answers.specs.declared.reply.Rejection.{Rejection}
 use Rattle.ed_answers.specs.declared.reply.Rejection.TheVariants.{Memory, Refused}
 use Rattle.ed_answers.specs.declared.reply.Reply.{Reply}
 
--- where no memory is found for a reply, there is an outcome all the same
+-- if no memory is found for a reply, there is an outcome all the same
 pub none_replied : (answers : Outcome → Type 0) (r : Result Reply Rejection)
     → IsErr r × IsErrAnd r (λ handed. handed ≡ Memory) → (o : Outcome) × answers o → Replies (of_made answers) [] r
 none_replied answers (Ok reply) is some = absurd (cc)
 none_replied answers (Err Memory) is some = (some.0, some.1, tt)
 none_replied answers (Err (Refused reply)) is some = absurd (cc)
 
--- a rejection that `?` hands on
+-- a rejection passed on by `?`
 pub handed_on : (answers : Outcome → Type 0) (r : Result Reply Rejection) (e : Rejection)
     → Replies (of_made answers) [] (Err e) → IsErr r × IsErrAnd r (λ handed. handed ≡ e)
     → Replies (of_made answers) [] r
@@ -24,7 +25,7 @@ handed_on answers (Ok reply) e replies is = absurd (cc)
 handed_on answers (Err handed) e replies is =
     subst (λ (x : Rejection). Replies (of_made answers) [] (Err x)) (sym is.1) replies
 
--- an outcome of an input is one that is said of it, and the other way round
+-- an outcome of an input is one that is stated of it, and the other way round
 pub as_made : (answers : Text → Outcome → Type 0) (input : Text) (r : Result Reply Rejection)
     → Replies (of_input answers) input r → Replies (of_made (answers input)) [] r
 as_made answers input (Ok reply) replies = replies

@@ -1,4 +1,4 @@
--- A move that ends otherwise than by its own end does so where a run ends.
+-- A move that doesn't end by its own end stops where a run ends.
 use Rattle.std.proofs.Common.{◌≡◌, ◌∙◌, ℕ, zero, suc, ◌+◌, ◌-◌, ◌<◌, ◌≤◌, refl, sym, ap, subst, arith}
 use Rattle.std.proofs.Common.{Bool, true, false, ◌&&◌, nat_eq, nat_le, Option, Some, None, is_some, unwrap_or, length}
 use Rattle.std.specs.Prelude.{if◌then◌else◌}
@@ -27,7 +27,7 @@ use Rattle.ed_stepper.specs.declared.moves.MoveEnd.TheVariants as ends
 use Rattle.ed_top.specs.Stepped.{ending_of, resumes_to}
 use Rattle.ed_stepper.proofs.Stands.{move_free, move_within}
 
--- ---- a run that ends so
+-- ---- a run with this end
 
 pub ran_is : (limit resumes room k : ℕ) (s : State) (e : Ending) → EndsAfter limit resumes room s k e
     → ran limit resumes room s ≡ record { ending = e; state = state_after k s; codes = (past k s).codes }
@@ -110,7 +110,7 @@ stop_is (Printed code) h = cc
 stop_is (IsNoOrder function) h = cc
 stop_is HasNoTape h = cc
 
--- the resumes of an ending that is no stop
+-- the resumes of an ending that is not a stop
 all_resumes : (ending : Ending) (stops : ℕ) → (ending ≡ Stopped → ⊥) → resumes_to ending stops ≡ stops
 all_resumes Stopped stops other = absurd (other refl)
 all_resumes Limit stops other = refl
@@ -118,7 +118,7 @@ all_resumes NoOrder stops other = refl
 all_resumes NoTape stops other = refl
 all_resumes PaperFull stops other = refl
 
--- of a session in which n orders are done
+-- of a session that has obeyed n orders
 module _ (limit room n : ℕ) (s : State) (free : IsFree n s) (most : n ≤ limit) (aim : Aim) where
   abbrev pub at : State
   at = state_after n s

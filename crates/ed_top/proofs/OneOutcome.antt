@@ -1,4 +1,4 @@
--- Whatever the words are, each input has one outcome.
+-- For all words, each input has exactly one outcome.
 use Rattle.std.proofs.Common.{◌≡◌, ◌⊎◌, inl, inr, ◌∙◌, ℕ, refl, sym, ap, subst}
 use Rattle.std.specs.Prelude.{Option, Some, None}
 use Rattle.ed_report.specs.Catalogue.{library_text}

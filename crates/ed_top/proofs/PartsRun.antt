@@ -1,4 +1,4 @@
--- A tape in parts is, with `tape`, the run that ends as the parts do and prints what their programs print.
+-- With `tape`, a tape in parts is the run that ends as the parts do and prints what their programs print.
 use Rattle.std.proofs.Common.{◌≡◌, ◌∙◌, ℕ, zero, suc, ◌+◌, ◌-◌, ◌<◌, ◌≤◌, refl, sym, ap, subst, arith}
 use Rattle.std.proofs.Common.{Bool, true, false, nat_eq, nat_le, nat_lt, Some, None, List, [], ◌++◌, length}
 use Rattle.std.proofs.Common.{append-nil, length-append, take, ◌⊎◌, inl, inr}
@@ -32,7 +32,7 @@ use Rattle.ed_top.proofs.MoveEndings.{ran_is}
 
 -- ---- on a paper that has room
 
--- what doesn't end a run whose paper never is full ends none whose paper has room
+-- what doesn't end a run whose paper never is full doesn't end one whose paper has room
 none_by : (turn : Turn) (full other : Bool) → (prints turn ≡ true → other ≡ false) → end_by turn full ≡ None
     → end_by turn other ≡ None
 none_by Went full other room h = refl
@@ -50,11 +50,11 @@ some_by (Printed code) full other e not h = let bad : None ≡ Some e = sym (rw 
 some_by (IsNoOrder function) full other e not h = h
 some_by HasNoTape full other e not h = h
 
--- no end comes before so many orders, whose codes have room
+-- no end comes before k orders whose codes have room
 module _ (limit room : ℕ) (s : State) (k : ℕ)
     (first : (j : ℕ) → j < k → end_at limit 0 limit j (past j s) ≡ None)
     (fits : length (past k s).codes ≤ room) where
-  -- an order before the end that prints has room
+  -- if an order before the end prints, there is room
   has_room : (j : ℕ) → j < k → prints (step (state_after j s)).turn ≡ true
       → nat_le room (length (past j s).codes) ≡ false
   has_room j below p = by_turn (step (state_after j s)).turn refl p
@@ -156,7 +156,7 @@ record Crosses (room k : ℕ) (s : State) : Type 0 where
   pub full : length (past at s).codes ≡ room
   pub printing : prints (step (state_after at s)).turn ≡ true
 
--- where more is printed than there is room for, there is one
+-- if more is printed than there is room for, there is such an order
 crosses : (room k : ℕ) (s : State) → room < length (past k s).codes → Crosses room k s
 unfolding past
 crosses room zero s more = absurd (omega arith)

@@ -13,7 +13,7 @@ use Rattle.ed_top.specs.ReadBack.{EachWordIsReadBack}
 
 -- ---- digits
 
--- digits before something that is none
+-- digits before something that is not a digit
 abbrev BeginsOn : List ℕ → ℕ → List ℕ → Type 0
 BeginsOn digits row rest =
     (digit_rows (digits ++ row ∷ rest) ≡ digits) × (after_digits (digits ++ row ∷ rest) ≡ row ∷ rest)

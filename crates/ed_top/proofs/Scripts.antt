@@ -1,4 +1,4 @@
--- From what is replied to a script and what follows it to the outcome of an input.
+-- From the reply to a script and what follows it to the outcome of an input.
 use Rattle.std.proofs.Common.{◌≡◌, ◌∙◌, ℕ, List, [], ◌++◌, refl, sym, ap, subst, inr, None}
 use Rattle.std.specs.Prelude.{Option, Some, Result, Ok, Err, IfOk, Vec}
 use Rattle.std.specs.declared.alloc.Global.{Global}
@@ -40,14 +40,14 @@ text_refused s commands (no_row place byte) (Refused reply) w = (_, refl, w)
 text_refused s commands (open_comment place) (Refused reply) w = (_, refl, w)
 text_refused s commands r rejection.Memory w = (on_reading s commands r, refl, tt)
 
--- an input that is divided so
+-- an input that is divided this way
 pub divided_replied : (s : Settings) (input : Text) (i : Input) (r : Result Reply Rejection) → divided input ≡ Some i
     → Replies (of_made (OfDivided s input (Some i))) [] r → Replies (of_input (OfStep s)) input r
 divided_replied s input i r is replies =
     as_input (OfStep s) input r
     (subst (λ (d : Option Input). Replies (of_made (OfDivided s input d)) [] r) (sym is) replies)
 
--- what follows a script that has been looked at
+-- what follows a script that has been tested
 pub text_replied : (s : Settings) (script text : Text) (kind known : TextKind) (r : Result Reply Rejection)
     → kind ≡ known → HasBadLine script None
     → ((commands : CommandList) → IsScript script commands → Replies (of_made (OnText s commands known text)) [] r)
@@ -87,7 +87,7 @@ far_given s codes script commands from t fault line done reply is stands ends fa
     (ap (λ r. script_outcome r (play 1 far.0 from).text) (sym far.2.refused)
     ∙ (λ i. played_outcome (play 1 (same i) (stands i)))) gives
 
--- a script that has been looked at has no bad line
+-- a script that has been tested has no bad line
 pub never_refused : (script : Text) (from t : Stand) (fault : ScriptFault) (line : ℕ) → HasBadLine script None
     → ScriptEnds script from (Err fault) t → fault ≡ BadCommand line → ⊥
 never_refused script from t fault line good ends fault_is =

@@ -36,7 +36,7 @@ use Rattle.ed_stepper.proofs.Stands.{Keeps, left_keeps, move_free}
 
 -- ---- a run that is cut off
 
--- it is where as many orders lead that are each obeyed
+-- it is in the state after as many orders, each of them obeyed
 run_cut : (k resumes room : ℕ) (s : State) → HasRoom room k s → (past k s).stops ≤ resumes
     → (run_orders k resumes room s ≡ k)
     × (ran k resumes room s ≡ record { ending = Limit; state = state_after k s; codes = (past k s).codes })
@@ -88,7 +88,7 @@ map_both : (xs ys : List ℕ) → map (λ f. byte_of f false) (xs ++ ys)
 map_both [] ys = refl
 map_both (x ∷ xs) ys = ap (λ (t : Text). byte_of x false ∷ t) (map_both xs ys)
 
--- the functions of orders behind others
+-- the functions of orders after others
 functions_both : (a b : ℕ) (s : State)
     → functions_after (a + b) s ≡ functions_after a s ++ functions_after b (state_after a s)
 unfolding functions_after
@@ -113,7 +113,7 @@ letters_sum a b s =
     ∙ letters_both (map (λ f. byte_of f false) xs) (map (λ f. byte_of f false) ys)
     ∙ (λ i. sym (bare_trace xs) i ++ sym (bare_trace ys) i)
 
--- ---- where a session stands
+-- ---- the state of a session
 
 none_done : (z : Size) (rows : List ℕ) → (first_state z rows).orders ≡ 0
 unfolding first_state
@@ -123,7 +123,7 @@ module _ (s : Settings) (rows : List ℕ) (resumes : ℕ) where
   abbrev first : State
   first = first_state s.size rows
 
-  -- a session there in which so many orders are done
+  -- a session on these rows that has obeyed n orders
   abbrev after : ℕ → Stand
   after n = record (stand_on s rows) { done = n }
 

@@ -1,4 +1,4 @@
--- The outcome of a source whose program comes to its stop.
+-- The outcome of a source whose program reaches its stop.
 use Rattle.std.proofs.Common.{◌≡◌, ◌∙◌, ℕ, ◌+◌, ◌-◌, ◌≤◌, ap, arith, List, [], ◌∷◌, ◌++◌, length, append-nil, codes}
 use Rattle.std.specs.Prelude.{None}
 use Rattle.ed_words.specs.Texts.{Text}
@@ -22,7 +22,7 @@ use Rattle.ed_answers.specs.Sources.{run_outcome}
 pub nothing_after : (r : RunEnd) → with_post_mortem None r ≡ r
 nothing_after r = ap (λ (codes : List ℕ). record r { codes = codes }) (append-nil r.codes)
 
--- what is answered of a run that stopped
+-- the answer to a run that stopped
 pub answered : (before : Text) (r : RunEnd) {printed : List ℕ} {last : State} {at orders : ℕ} → RanToStop r printed last
     → (step last).state.counter ≡ at → (step last).state.orders ≡ orders
     → ran_outcome before r
@@ -35,7 +35,7 @@ answered before r {last = last} o counter orders =
       codes = o.codes_are 1;
     }))
 
--- the program of a source comes to its stop, and the limit is not below its orders and those up to the entry
+-- the program of a source reaches its stop, and the limit is not below its orders and those up to the entry
 pub stopped_outcome : (s : Settings) {lines : List Line} {k at : ℕ} {printed : List ℕ} → RunsFromEntry s lines
     → ComesToStop k (entry_state s.size lines) printed at → length printed ≤ paper_room
     → s.resumes ≡ 0 → s.post_mortem ≡ None → cost lines + (k + 1) ≤ s.limit

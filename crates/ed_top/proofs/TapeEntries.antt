@@ -38,7 +38,7 @@ use Rattle.ed_top.specs.TapeEntries.{EachTapeRunsFromEntry}
 use Rattle.ed_answers.proofs.FromEntry.{silent}
 use Rattle.ed_top.proofs.TapeWalks.{steps_to_entry, traces_from_entry}
 
--- ---- words that agree from 41 on
+-- ---- words that agree from 41 upwards
 
 abbrev Agree : List ℕ → List ℕ → Type 0
 Agree v w = drop 41 v ≡ drop 41 w
@@ -88,7 +88,7 @@ letter_from c =
     by_tests false false false false false true h is k = grind (arith, nat_tests)
     by_tests false false false false false false h is k = absurd (cc)
 
--- an entry comes at a code letter alone
+-- an entry comes only at a code letter
 abbrev is_entered : Taken → Bool
 is_entered (Entered at) = true
 is_entered (Refused cause) = false
@@ -142,7 +142,7 @@ taken_agrees z Kay v w setting part c h = refl
 taken_agrees z Blank v w setting part c h = refl
 taken_agrees z Other v w setting part c h = refl
 
--- what the reading comes to at a row inside an item
+-- the result of the reading at a row inside an item
 abbrev on_row : Size → List ℕ → ℕ → ℕ → Note → Part → ℕ → List ℕ → Taken → Verdict
 on_row z words row cost note part c rows t = elim t [
   | Refused cause ↦ Faulty row cause
@@ -205,7 +205,7 @@ first_agrees : (z : Size) (codes : List ℕ) → Agree cleared_cells.words (firs
 unfolding first_state
 first_agrees z codes = refl
 
--- it comes to the entry
+-- it reaches the entry
 comes : (z : Size) (codes : List ℕ) (e : TapeEntry) → WellFormed z cleared_cells.words first_note codes
     → ComesTo cleared_cells.words first_note 9 codes e → Comes (first_state z codes) e
 unfolding first_state

@@ -1,4 +1,4 @@
--- A trace and a session come to the entry of a tape as its run does.
+-- A trace and a session reach the entry of a tape as its run does.
 use Rattle.std.proofs.Common.{◌≡◌, ◌∙◌, ℕ, zero, suc, ◌+◌, ◌-◌, ◌<◌, ◌≤◌, refl, sym, ap, subst, arith}
 use Rattle.std.proofs.Common.{Bool, true, false, nat_eq, nat_le, nat_lt, Option, Some, None, inl, inr, List, [], ◌++◌}
 use Rattle.std.proofs.Common.{length}

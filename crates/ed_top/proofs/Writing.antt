@@ -76,7 +76,7 @@ known_carried {due} input reply out r is replies w =
     subst (λ (a : Answer). Carried a input out r) (sym is)
     (reply_carried (known due) input reply out r (known_anew due input reply replies) w)
 
--- and with an outcome that is said
+-- and with an outcome that is stated
 pub made_carried : {answer : Answer} {answers : Outcome → Type 0} (input : Text) (reply : Result Reply Rejection)
     (out : Device) (r : Result Rest Stop) → answer ≡ of_made answers → Replies (of_made answers) [] reply
     → WritesReply reply out r → Carried answer input out r
@@ -98,7 +98,7 @@ rows_carried f input codes out r is = by_result r
     by_result (Err Failed) c = (c.0, (f codes, at, c.1))
     by_result (Err Memory) c = (c.0, (f codes, at, c.1))
 
--- the same where it is a relation that says which outcome rows have
+-- the same if a relation says which outcome rows have
 pub rows_carried_by : (answers : List ℕ → Outcome → Type 0) (input : Text) (codes : List ℕ) (out : Device)
     (r : Result Rest Stop)
     → reading input ≡ rows codes → Carried (of_input (λ _. answers codes)) [] out r

@@ -1,4 +1,4 @@
--- What `call` answers (this project's own rule).
+-- The answer of `call` (this project's own rule).
 use Rattle.std.specs.Prelude.{◌≡◌, ℕ, ◌+◌, ◌*◌, ◌/◌, ◌%◌, ◌≤◌, List, [], ◌∷◌, ◌++◌, codes, length, None, Some}
 use Rattle.std.specs.Fmt.{decimal}
 use Rattle.ed_call.specs.declared.Call.{Call}
@@ -26,7 +26,7 @@ use Rattle.ed_answers.specs.Answer.{Answer, IsDue, of_made}
 use Rattle.ed_answers.specs.Sources.{OfSource, run_outcome}
 use Rattle.ed_answers.specs.Headline.{RunsFromEntry}
 
--- the program makes a source, and answers its run
+-- the program makes a source, and its answer is the run of the source
 abbrev pub of_made_source : Settings → Text → Answer
 of_made_source s text = of_made (OfSource s.size (run_outcome s) text)
 
@@ -34,13 +34,13 @@ of_made_source s text = of_made (OfSource s.size (run_outcome s) text)
 abbrev pub call_answer : Call → Settings → Answer
 call_answer call s = of_made_source s (call_text call)
 
--- where the checking routine stands in the source of `call check`
+-- the base of the checking routine in the source of `call check`
 abbrev pub check_base : ℕ
 check_base = 112
 
--- what a call prints whose source has these lines: the decimal digits of its number, a carriage return and a line
--- feed, the digits of a quotient and of a remainder on two lines, or those of a root; and `check` the checked codes
--- of the guest's orders up to its Z, which are the two that call `print`, those of `print`, and Z
+-- what a call prints if its source has these lines: the decimal digits of its number, a carriage return and a line
+-- feed, the digits of a quotient and of a remainder on two lines, or those of a root; for `check` the checked codes of
+-- the guest's orders up to its Z, which are the two that call `print`, those of `print`, and Z
 abbrev pub call_prints : Size → List Line → Call → Text
 call_prints z lines (Print n) = decimal n
 call_prints z lines (Read n) = decimal n
@@ -49,7 +49,7 @@ call_prints z lines (Divide n by) = decimal (n / by) ++ 13 ∷ 10 ∷ decimal (n
 call_prints z lines (Root n) = decimal (root_of n)
 call_prints z lines (Check n) = paper (checked_codes (guest check_base (entry_state z lines)) (3 + print_orders n))
 
--- how many orders it obeys from its entry to its stop, that one included
+-- the number of orders that it obeys from its entry to its stop, including the stop
 abbrev pub call_orders : Call → ℕ
 call_orders (Print n) = 3 + print_orders n
 call_orders (Read n) = 16 + 13 * length (digits n) + print_orders n
@@ -58,12 +58,12 @@ call_orders (Divide n by) = 14 + divide_orders (n / by) + print_orders (n / by) 
 call_orders (Root n) = 5 + root_orders (root_of n) + print_orders (root_of n)
 call_orders (Check n) = 2551 + 244 * sum (before_units n) + 142 * length (before_units n)
 
--- where its program is entered
+-- the location at which its program is entered
 abbrev pub call_entry : Call → ℕ
 call_entry (Check n) = check_base
 call_entry call = 56
 
--- and where the counter is after its stop
+-- the counter after its stop
 abbrev pub call_stop : Call → ℕ
 call_stop (Print n) = 59
 call_stop (Read n) = 61
@@ -72,8 +72,8 @@ call_stop (Divide n by) = 65
 call_stop (Root n) = 61
 call_stop (Check n) = check_base + planting_place + 1
 
--- what a call answers whose source has these lines and reaches its stop: its text, the entry with the cost of its tape,
--- the stop with all orders, and the status 0
+-- the outcome of a call whose source has these lines and reaches its stop: its text, the entry with the cost of its
+-- tape, the stop with the count of all orders, and the status 0
 abbrev pub call_outcome : Size → List Line → Call → Outcome
 call_outcome z lines call = record {
   out = call_prints z lines call;
@@ -82,7 +82,7 @@ call_outcome z lines call = record {
   status = 0;
 }
 
--- no call takes more orders than these, those that read its tape included
+-- no call takes more orders than this, including those that read its tape
 abbrev pub most_call_orders : ℕ
 most_call_orders = 40000
 
@@ -91,8 +91,8 @@ abbrev pub GuestStops : Size → List Line → Call → Type 0
 GuestStops z lines (Check n) = StopsAfter (2 + print_orders n) (guest check_base (entry_state z lines))
 GuestStops z lines call = Unit {0}
 
--- the source of a call is accepted with these lines, so that what is answered is their run, and it is the run from the
--- state at their entry
+-- the source of a call is accepted with these lines, so the answer is their run, and that is the run from the state at
+-- their entry
 pub record CallRuns (s : Settings) (call : Call) : Type 0 where
   pub lines : List Line
   pub accepted : IsAcceptedAs s.size (call_text call) lines
@@ -100,28 +100,28 @@ pub record CallRuns (s : Settings) (call : Call) : Type 0 where
   pub from_entry : RunsFromEntry s lines
   pub few : cost lines + call_orders call ≤ most_call_orders
   pub guest_stops : GuestStops s.size lines call
-  -- and where the limit is not below the orders that it takes, this is its outcome
+  -- and if the limit is not below the number of orders that it takes, this is its outcome
   pub ends : s.resumes ≡ 0 → s.post_mortem ≡ None → cost lines + call_orders call ≤ s.limit
       → run_outcome s lines ≡ call_outcome s.size lines call
 
--- so it is of each call with its numbers in range, as the reader of the command line leaves them
+-- the same for each call with its numbers in range, as the reader of the command line ensures
 abbrev pub EachCallRuns : Type 0
 EachCallRuns = (s : Settings) (call : Call) → IsCallInRange call → CallRuns s call
 
 -- ---- without an option
 
--- the settings where no option is given
+-- the settings if no option is given
 abbrev pub usual_settings : Settings
 usual_settings = record { limit = 10000000; resumes = 0; size = Full; post_mortem = None }
 
--- what is answered to a call without an option: its text, its exact note, and the status 0
+-- the answer to a call without an option: its text, its exact note, and the status 0
 pub record CallEnds (call : Call) : Type 0 where
   pub lines : List Line
   pub accepted : IsAcceptedAs Full (call_text call) lines
   pub few : cost lines + call_orders call ≤ most_call_orders
   pub due : IsDue (call_answer call usual_settings) [] (call_outcome Full lines call)
 
--- so it is of each call with its numbers in range
+-- the same for each call with its numbers in range
 pub record CallsByDefault : Type 0 where
   pub usual : settings_of (options_by (λ name. [])) ≡ Some usual_settings
   pub each : (call : Call) → IsCallInRange call → CallEnds call

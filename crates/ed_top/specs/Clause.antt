@@ -1,5 +1,5 @@
--- The contract of `edsac`: what a run of the program does to its source and its two sinks, devices that fail included
--- (this project's own rules).
+-- The contract of `edsac`: what a run of the program does to its source and its two sinks, even if devices fail (this
+-- project's own rules).
 use Rattle.std.specs.Prelude.{◌≡◌, ◌≢◌, ◌⊎◌, ℕ, true, [], drop, Option, None, Some}
 use Rattle.ed_io.specs.Bytes.{Gains, GainsPart}
 use Rattle.ed_io.specs.Causes.{next_count}
@@ -14,7 +14,7 @@ pub record Device : Type 0 where
   pub faults_before : ℕ
   pub faults_after : ℕ
 
--- a device seen by what it reports and what it counts
+-- a device, as the bytes that it reports and the faults that it counts
 abbrev pub device : {D : Type 0} → (D → Option Text) → (D → ℕ) → D → D → Device
 device bytes faults old new = record {
   before = bytes old;
@@ -27,12 +27,12 @@ device bytes faults old new = record {
 abbrev pub NeverFailed : Device → Type 0
 NeverFailed d = d.faults_after ≡ d.faults_before
 
--- one call of the device failed, and only one: the count of faults rose by 1, or stands at its last value. No call came
--- after it, since that could have failed too
+-- exactly one call of the device failed: the count of faults rose by 1, or is at its last value. No call came after it,
+-- since that could have failed too.
 abbrev pub FailedOnce : Device → Type 0
 FailedOnce d = d.faults_after ≡ next_count d.faults_before
 
--- no call failed of any device
+-- no call of any device failed
 abbrev pub NoneFailed : Device → Device → Device → Type 0
 NoneFailed source out note = NeverFailed source × NeverFailed out × NeverFailed note
 
@@ -48,7 +48,7 @@ WrotePart d text = GainsPart d.before d.after text
 abbrev pub Lost : Device → ℕ → Type 0
 Lost d n = (bytes : Text) → d.before ≡ Some bytes → d.after ≡ Some (drop n bytes)
 
--- how many bytes are read at the most: none, or one more than an input may have
+-- the most bytes that are read: none, or one more than an input may have
 abbrev pub most_read : Answer → ℕ
 most_read (known o) = 0
 most_read (of_made answers) = 0
@@ -59,8 +59,8 @@ abbrev pub MayBe : Option Text → Text → Type 0
 MayBe None input = Unit {0}
 MayBe (Some bytes) input = bytes ≡ input
 
--- this holds of the outcome that is due: the known one, the one that is said, or that of one input, which is the source's
--- bytes if it reports them
+-- this holds of the outcome that is due: the known one, one that is allowed, or that of one input, which is the
+-- source's bytes if it reports them
 abbrev pub ForDue : Answer → Device → (Outcome → Type 0) → Type 0
 ForDue (known due) source P = P due
 ForDue (of_made answers) source P = (o : Outcome) × answers o × P o
@@ -71,7 +71,7 @@ ForDue (of_input answers) source P =
 abbrev pub WrotePartDue : Answer → Device → Device → Type 0
 WrotePartDue answer source out = ForDue answer source (λ o. WrotePart out o.out)
 
--- a line was written on a sink, and this is the wanted status; or the write failed, and it is 9
+-- a line was written on a sink, and this is the wanted status; or the write failed, and the status is 9
 pub record WritesLastLine (note : Device) (line : Text) (wanted status : ℕ) : Type 0 where
   pub done : status ≢ 9 → (status ≡ wanted) × Wrote note line × NeverFailed note
   pub part : status ≡ 9 → FailedOnce note × WrotePart note line
@@ -84,8 +84,8 @@ pub record BrokeOut (answer : Answer) (source out note : Device) : Type 0 where
   pub part : WrotePartDue answer source out
   pub nothing : Wrote note []
 
--- what is on `out` before a line on `note`, and which line it is: all that is due, and its line; nothing, and the line
--- of a read that failed; or a part of what is due, and the line of want of memory
+-- what is on `out` before a line on `note`, and which line that is: all that is due, and its line; nothing, and the
+-- line of a read that failed; or a part of what is due, and the line of no memory
 abbrev pub NoteBroke : Answer → Device → Device → Device → Type 0
 NoteBroke answer source out note =
     (NeverFailed source × ForDue answer source (λ o. Wrote out o.out × WrotePart note o.note))
@@ -98,17 +98,17 @@ pub record BrokeNote (answer : Answer) (source out note : Device) : Type 0 where
   pub out_fine : NeverFailed out
   pub part : NoteBroke answer source out note
 
--- the program that answers so ended with this status
+-- a program with this answer ended with this status
 pub record ProgramEnded (answer : Answer) (source out note : Device) (status : ℕ) : Type 0 where
-  -- neither a fault nor want of memory: no call failed, and exactly the outcome that is due
+  -- no device failed and memory was found: exactly the outcome that is due
   pub finished : status ≢ 8 → status ≢ 9 → status ≢ 10
       → NoneFailed source out note × Lost source (most_read answer)
       × ForDue answer source (λ o. (status ≡ o.status) × Wrote out o.out × Wrote note o.note)
-  -- 8: one read failed and no write; nothing is on `out` and its line on `note`
+  -- 8: one read failed and no write; nothing is on `out`, and the line of a read fault is on `note`
   pub read : status ≡ 8 → (reads_input answer ≡ true) × FailedOnce source × NeverFailed out × NeverFailed note
       × Wrote out [] × Wrote note read_fault
   -- 9: one write failed, on one of the two sinks
   pub written : status ≡ 9 → BrokeOut answer source out note ⊎ BrokeNote answer source out note
-  -- 10: no memory was found and no call failed; a part of what is due is on `out` and the line on `note`
+  -- 10: no memory was found and no call failed; a part of what is due is on `out`, and the line of no memory on `note`
   pub memory : status ≡ 10
       → NoneFailed source out note × WrotePartDue answer source out × Wrote note no_memory

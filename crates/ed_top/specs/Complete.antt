@@ -1,5 +1,5 @@
--- What holds of every run over devices in memory whose calls never fail: only want of memory keeps it from the outcome
--- that is due (this project's own rule).
+-- What holds of every run over devices in memory whose calls never fail: it has the outcome that is due, unless no
+-- memory is found (this project's own rule).
 use Rattle.std.specs.Prelude.{◌≡◌, ◌⊎◌, ℕ, false, Option, Some}
 use Rattle.ed_io.specs.Memory.{Roll, new_roll, told}
 use Rattle.ed_words.specs.Texts.{Text}
@@ -13,7 +13,7 @@ use Rattle.ed_top.specs.Output.{output}
 abbrev pub sure_source : Text → Text → Device
 sure_source input left = device (λ bytes. Some bytes) (λ _. 0) input left
 
--- a new sink in memory whose calls never fail, with room for that many bytes, and what it is after the call
+-- a new sink in memory whose calls never fail, with room for `room` bytes, and the sink after the call
 abbrev pub sure_sink : ℕ → Roll → Device
 sure_sink room after = device told (λ _. 0) (new_roll room) after
 
@@ -25,8 +25,7 @@ pub record IsWhole (answer : Answer) (input : Text) (out note : Roll) (status : 
   pub out_is : out.held ≡ due.out
   pub note_is : note.held ≡ due.note
 
--- whatever the words are, and on every input: a run over such a source and two such sinks that had room for all that
--- they took is whole, or its status is 10
+-- for all words and every input: if both sinks had room for all that they took, the run is whole, or its status is 10
 abbrev pub EachRunIsComplete : Type 0
 EachRunIsComplete = (line : Option Command) (input left : Text) (out_room note_room : ℕ) (out note : Roll) (status : ℕ)
     → ProgramEnded (output line) (sure_source input left) (sure_sink out_room out) (sure_sink note_room note)

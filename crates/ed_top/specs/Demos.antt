@@ -1,4 +1,4 @@
--- What `demo` answers (this project's own rule).
+-- The answer of `demo` (this project's own rule).
 use Rattle.std.specs.Prelude.{◌≡◌, ℕ, ◌+◌, ◌*◌, ◌≤◌, List, [], ◌∷◌, ◌++◌, codes, None}
 use Rattle.std.specs.Fmt.{decimal}
 use Rattle.ed_words.specs.Sizes.{locations}
@@ -19,8 +19,8 @@ use Rattle.ed_answers.specs.Sources.{OfSource, run_outcome}
 abbrev pub demo_answer : ℕ → Settings → Answer
 demo_answer n s = of_made_source s (demo_text n)
 
--- how many orders `demo N` obeys from its entry to its stop, that one included: 9 for each of its 8 N words, those of
--- `print` for the sum, and 4 others
+-- the number of orders that `demo N` obeys from its entry to its stop, including the stop: 9 for each of its 8 N words,
+-- those of `print` for the sum, and 4 others
 abbrev pub demo_orders : ℕ → ℕ
 demo_orders n = 9 * (8 * n) + print_orders (demo_sum n) + 4
 
@@ -32,19 +32,20 @@ demo_outcome lines n = record {
   status = 0;
 }
 
--- the source of `demo N` is accepted with these lines, so that what is answered is their run, and it is the run from
--- the state at their entry
+-- the source of `demo N` is accepted with these lines, so the answer is their run, and that is the run from the state
+-- at their entry
 pub record DemoRuns (s : Settings) (n : ℕ) : Type 0 where
   pub lines : List Line
   pub accepted : IsAcceptedAs s.size (demo_text n) lines
   pub answers : OfSource s.size (run_outcome s) (demo_text n) (run_outcome s lines)
   pub from_entry : RunsFromEntry s lines
-  -- and where the limit is not below the orders that it takes, it prints the sum of its words and stops
+  -- and if the limit is not below the number of orders that it takes, it prints the sum of its words and stops
   pub prints : s.resumes ≡ 0 → s.post_mortem ≡ None → cost lines + demo_orders n ≤ s.limit
       → run_outcome s lines ≡ demo_outcome lines n
-  -- these are at most 400,000, so the limit that is set where none is given is enough
+  -- these orders are at most 400,000, so the default limit is enough
   pub cheap : cost lines + demo_orders n ≤ 400000
 
--- so it is of each N to 112 whose words, from location 123 on, end within the store: on 1,024 locations of all of them
+-- the same for each N up to 112 whose words, from location 123 upwards, are within the store: all N with 1,024
+-- locations
 abbrev pub EachDemoRuns : Type 0
 EachDemoRuns = (s : Settings) (n : ℕ) → 1 ≤ n → n ≤ 112 → 123 + 8 * n ≤ locations s.size → DemoRuns s n

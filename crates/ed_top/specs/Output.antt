@@ -1,4 +1,4 @@
--- The output of the program: what it answers to a line of words and an input (this project's own rules).
+-- The output of the program: its answer to a command line and an input (this project's own rules).
 use Rattle.std.specs.Prelude.{Option, Some, None}
 use Rattle.ed_report.specs.Catalogue.{library_text}
 use Rattle.ed_command.specs.declared.command.Command.{Command}
@@ -17,7 +17,7 @@ use Rattle.ed_top.specs.Parts.{IsInParts}
 use Rattle.ed_top.specs.Scripts.{OfStep}
 use Rattle.ed_top.specs.Traces.{trace_outcome}
 
--- what each command answers
+-- the answer of each command
 abbrev pub answer : Action → Settings → Answer
 answer Tape s = tape_answer s
 answer CheckTape s = check_tape_answer s
@@ -33,11 +33,11 @@ answer Step s = of_input (OfStep s)
 answer Trace s = of_rows (exactly (trace_outcome s))
 answer Parts s = of_rows (IsInParts s)
 
--- what the program answers to the command of a line of words, or to words that are none
+-- the answer to the command of a line of words, or to words that are not a command
 abbrev pub output : Option Command → Answer
 output None = known usage_outcome
 output (Some command) = answer command.action command.settings
 
--- whatever the words are, each input has one outcome
+-- for all words, each input has exactly one outcome
 abbrev pub EachLineHasOneOutcome : Type 0
 EachLineHasOneOutcome = (line : Option Command) → HasOneOutcome (output line)

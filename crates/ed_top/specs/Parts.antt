@@ -1,4 +1,4 @@
--- What `parts` answers (this project's own rule).
+-- The answer of `parts` (this project's own rule).
 use Rattle.std.specs.Prelude.{◌≡◌, ℕ, List}
 use Rattle.ed_machine.specs.State.{State}
 use Rattle.ed_loads.specs.EntryState.{first_state}
@@ -16,16 +16,16 @@ abbrev pub end_note : PartsEnd → State → Text
 end_note (Ended ending) s = ending_line ending s
 end_note (Faulty part row cause) s = part_line part row cause
 
--- and its status
+-- the status for that ending
 abbrev pub end_status : PartsEnd → ℕ
 end_status (Ended ending) = status_of ending
 end_status (Faulty part row cause) = 3
 
--- the lines of the entries and returns, which stay where a part is refused too
+-- the lines of the entries and returns, which are kept even if a part is refused
 abbrev pub told_outcome : Told → Outcome
 told_outcome t = record { out = t.text; note = end_note t.end t.last; status = end_status t.end }
 
--- `parts`: what is told of the rows, from a cleared machine that is started on them
+-- `parts`: the report on the rows, from a cleared machine that is started on them
 pub record IsInParts (s : Settings) (codes : List ℕ) (o : Outcome) : Type 0 where
   pub told : Told
   pub tells : TapeTells s.limit (first_state s.size codes) told

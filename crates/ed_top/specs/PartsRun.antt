@@ -1,4 +1,4 @@
--- What a tape in parts is with `tape` (this project's own rule): the run that ends as the parts do, and prints what their
+-- How `tape` runs a tape in parts (this project's own rule): its run ends as the parts do, and prints what their
 -- programs print.
 use Rattle.std.specs.Prelude.{◌≡◌, ℕ, ◌<◌, ◌≤◌, List, None, length, take}
 use Rattle.ed_codes.specs.Reading.{reading, rows}
@@ -14,11 +14,11 @@ use Rattle.ed_answers.specs.Tapes.{tape_outcome}
 use Rattle.ed_top.specs.Parts.{told_outcome}
 use Rattle.ed_answers.specs.Runs.{paper_room, run_of, status_of}
 
--- the same settings for a run that is never resumed, with no post-mortem
+-- the same settings for a run that is never resumed, without a post-mortem
 abbrev pub run_once : Settings → Settings
 run_once s = record s { resumes = 0; post_mortem = None }
 
--- rows of a text, of which `parts` reports that they end as a run does, no part with a fault
+-- rows of a text for which `parts` reports that they end as a run does, no part with a fault
 pub record EndsInParts (s : Settings) (codes : List ℕ) : Type 0 where
   pub text : Text
   pub read : reading text ≡ rows codes
@@ -31,8 +31,8 @@ pub record EndsInParts (s : Settings) (codes : List ℕ) : Type 0 where
 abbrev pub printed_by : {s : Settings} {codes : List ℕ} → EndsInParts s codes → List ℕ
 printed_by p = programs_printed p.tells
 
--- the note and the status of `tape` are those of `parts`, and its run ends in the same state. It prints what the programs
--- print and nothing else: the loads print nothing
+-- the note and the status of `tape` are those of `parts`, and its run ends in the same state. It prints what the
+-- programs print and nothing else: the loads print nothing.
 pub record PartsAreRun (s : Settings) (codes : List ℕ) (t : Told) (printed : List ℕ) : Type 0 where
   pub note_is : (tape_outcome s codes).note ≡ (told_outcome t).note
   pub status_is : (tape_outcome s codes).status ≡ (told_outcome t).status
@@ -44,7 +44,7 @@ pub record PartsFillPaper (s : Settings) (codes : List ℕ) (printed : List ℕ)
   pub status_is : (tape_outcome s codes).status ≡ status_of PaperFull
   pub out_is : (tape_outcome s codes).out ≡ paper (take paper_room printed)
 
--- the first is so with every such tape for whose programs the paper has room, and the second with every other
+-- the first holds if the paper has room for all that the programs print, the second if it has not
 pub record EachTapeInPartsIsRun : Type 0 where
   pub runs : (s : Settings) (codes : List ℕ) (p : EndsInParts s codes) → length (printed_by p) ≤ paper_room
       → PartsAreRun (run_once s) codes p.told (printed_by p)

@@ -1,4 +1,4 @@
--- What a post-mortem shows of the words that it prints: all of each word (this project's own rule).
+-- What a post-mortem shows of the words that it prints: every digit of them (this project's own rule).
 use Rattle.std.specs.Prelude.{◌≡◌, ℕ, ◌+◌, ◌<◌, ◌≤◌, Some}
 use Rattle.ed_store.specs.Cells.{short_at}
 use Rattle.ed_machine.specs.State.{State}
@@ -9,8 +9,8 @@ use Rattle.ed_answers.specs.Runs.{post_mortem_codes}
 abbrev pub HaveSameWords : Window → State → State → Type 0
 HaveSameWords w s t = (a : ℕ) → w.first ≤ a → a < w.first + w.count → short_at s.store a ≡ short_at t.store a
 
--- if post-mortems of two states print the same codes, the states have the same words there: so it is of the states in
--- which two runs end
+-- if post-mortems of two states print the same codes, the states have the same words there; the same holds for the
+-- states in which two runs end
 abbrev pub EachWordIsReadBack : Type 0
 EachWordIsReadBack =
     (w : Window) (s t : State) → post_mortem_codes (Some w) s ≡ post_mortem_codes (Some w) t → HaveSameWords w s t

@@ -1,4 +1,4 @@
--- What `step` answers (this project's own rules).
+-- The answer of `step` (this project's own rules).
 use Rattle.std.specs.Prelude.{◌≡◌, ◌⊎◌, ℕ, ◌+◌, List, length, Option, Some, None}
 use Rattle.ed_codes.specs.Reading.{Reading, rows, no_row, open_comment, reading}
 use Rattle.ed_codes.specs.declared.tape.TextFault.TheVariants.{NoRow, OpenComment}
@@ -17,16 +17,16 @@ use Rattle.ed_words.specs.Texts.{Text}
 use Rattle.ed_answers.specs.Outcome.{Outcome, done, refused}
 use Rattle.ed_answers.specs.Sources.{OfSource}
 
--- a script that was played: its text; nothing of it where a line went back too far
+-- a script that was played: its text, or no text if a line went back too far
 abbrev pub script_outcome : Option TooFar → Text → Outcome
 script_outcome None text = done text
 script_outcome (Some t) text = refused (too_far_line t.line t.done)
 
--- what is told of a script that was played
+-- the outcome of a script that was played
 abbrev pub played_outcome : Played → Outcome
 played_outcome p = script_outcome p.refused p.text
 
--- where a session on a tape's rows begins
+-- the session before the first line, on a tape's rows
 abbrev pub stand_on : Settings → List ℕ → Stand
 stand_on s codes = record { start = first_state s.size codes; limit = s.limit; done = 0 }
 
@@ -45,12 +45,12 @@ abbrev pub OnText : Settings → CommandList → TextKind → Text → Outcome �
 OnText s commands kinds.Tape text o = on_reading s commands (reading text) ≡ o
 OnText s commands kinds.Source text o = OfSource s.size (λ lines. on_rows s commands (tape lines)) text o
 
--- a script's first bad line is reported before the text is looked at
+-- a script's first bad line is reported before the text is read
 abbrev pub OnInput : Settings → Input → Outcome → Type 0
 OnInput s i o = ((line : ℕ) × IsFirstBadLine i.script line × (refused (bad_command_line line) ≡ o))
     ⊎ OfScript i.script (λ commands. OnText s commands i.kind i.text o)
 
--- an input without a dividing line is reported first of all
+-- that the input has no dividing line is reported before anything else
 abbrev pub OfDivided : Settings → Text → Option Input → Outcome → Type 0
 OfDivided s input None o = refused (no_text_line (length (lines_of input) + 1)) ≡ o
 OfDivided s input (Some i) o = OnInput s i o

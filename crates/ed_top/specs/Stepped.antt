@@ -1,5 +1,5 @@
--- What `step` reports is what `trace`, `tape` and a post-mortem report after the same number of orders (this project's own
--- rules).
+-- What `step` reports is what `trace`, `tape` and a post-mortem report after the same number of orders (this project's
+-- own rules).
 use Rattle.std.specs.Prelude.{◌≡◌, ℕ, ◌+◌, ◌-◌, ◌≤◌, List, ◌∷◌, [], ◌++◌, Option, Some, None, codes, length}
 use Rattle.std.specs.Fmt.{decimal}
 use Rattle.std.specs.List.{range_with_len}
@@ -27,9 +27,9 @@ use Rattle.ed_answers.specs.Runs.{paper_room, run_of}
 use Rattle.ed_top.specs.Scripts.{stand_on}
 use Rattle.ed_top.specs.Traces.{letters_in, trace_outcome}
 
--- ---- the run that is cut off where a session stands
+-- ---- the run that is cut off at the state of a session
 
--- the same settings for a run that is cut off after the orders done in a session, and is resumed so often
+-- the same settings for a run that is cut off after as many orders as a session obeyed, with this number of resumes
 abbrev pub cut_at : Stand → ℕ → Settings → Settings
 cut_at t resumes s = record s { limit = t.done; resumes = resumes }
 
@@ -37,7 +37,7 @@ cut_at t resumes s = record s { limit = t.done; resumes = resumes }
 abbrev pub with_window : Window → Settings → Settings
 with_window w s = record s { post_mortem = Some w }
 
--- what the orders done in a session printed, and how many of them were stops
+-- the run of a session so far: its state, the codes printed, and the number of stops
 abbrev pub way : Stand → Past
 way t = past t.done t.start
 
@@ -49,7 +49,7 @@ IsResumed resumes t = (way t).stops ≤ resumes
 abbrev pub HasRoomFor : Stand → Type 0
 HasRoomFor t = length (way t).codes ≤ paper_room
 
--- `at A after K`, A the counter and K the orders done
+-- `at A after K`, A the counter and K the count of orders obeyed
 abbrev pub at_text : Stand → Text
 at_text t = codes "at " ++ decimal (stands_at t).counter ++ codes " after " ++ decimal t.done
 
@@ -57,7 +57,7 @@ at_text t = codes "at " ++ decimal (stands_at t).counter ++ codes " after " ++ d
 abbrev pub limit_note : Stand → Text
 limit_note t = codes "limit " ++ at_text t ++ 10 ∷ []
 
--- the ending of a run that the end of a move is; a move's own end is none
+-- the ending of a run that corresponds to the end of a move; a move's own end has none
 abbrev pub ending_of : MoveEnd → Option Ending
 ending_of ends.Stopped = Some Stopped
 ending_of ends.NoOrder = Some NoOrder
@@ -65,28 +65,30 @@ ending_of ends.NoTape = Some NoTape
 ending_of ends.Limit = Some Limit
 ending_of end = None
 
--- how often a run is resumed that ends so after orders of which so many were stops: after each, but for one that ends it
+-- the resumes of a run that ends this way after orders with this number of stops: one for each, except for a stop that
+-- ends the run
 abbrev pub resumes_to : Ending → ℕ → ℕ
 resumes_to Stopped stops = stops - 1
 resumes_to ending stops = stops
 
--- the run of rows with the limit of a session, resumed so often
+-- the run of rows with the limit of a session and this number of resumes
 abbrev pub run_with : ℕ → Settings → List ℕ → RunEnd
 run_with resumes s rows = run_of (record s { resumes = resumes }) rows
 
 -- ---- the law
 
--- a session that stands here, and a run that is cut off after as many orders and is resumed often enough, report the
--- same place, state, words and letters
+-- a session, and a run that is cut off after the same number of orders and has enough resumes, report the same
+-- location, state, words and letters
 pub record StepsAreRun (s : Settings) (rows : List ℕ) (t : Stand) (resumes : ℕ) : Type 0 where
-  -- the line of the move that left it here has the counter and the orders of the notes of `trace` and `tape`
+  -- the line of the move that ended here has the counter and the count of orders in the notes of `trace` and `tape`
   pub line : (end : MoveEnd) → line_at t end ≡ at_text t ++ codes ": " ++ end_word end ++ 10 ∷ []
   pub trace_note : (trace_outcome (cut_at t resumes s) rows).note ≡ limit_note t
   pub tape_note : HasRoomFor t → (tape_outcome (cut_at t resumes s) rows).note ≡ limit_note t
-  -- what it shows, words, registers and the last printed code, is of the state in which that run of `tape` ends
+  -- what the session shows, words, registers and the last printed code, is of the state in which that run of `tape`
+  -- ends
   pub state : HasRoomFor t → (run_of (cut_at t resumes s) rows).state ≡ stands_at t
-  -- so `show A B` lists the words of that run's store, and a post-mortem of the run prints these words after what the run
-  -- itself printed
+  -- so `show A B` lists the words of that run's store, and a post-mortem of the run prints these words after what the
+  -- run itself printed
   pub shown : HasRoomFor t → (a b : ℕ)
       → words_shown a b t ≡ listing (run_of (cut_at t resumes s) rows).state.store (range_with_len a (b + 1 - a))
   pub printed : HasRoomFor t → (w : Window) → (tape_outcome (with_window w (cut_at t resumes s)) rows).out
@@ -95,14 +97,14 @@ pub record StepsAreRun (s : Settings) (rows : List ℕ) (t : Stand) (resumes : �
   pub letters : (n : ℕ) → IsResumed resumes (moved (Orders n) t)
       → letters_in (trace_outcome (cut_at (moved (Orders n) t) resumes s) rows).out
       ≡ letters_in (trace_outcome (cut_at t resumes s) rows).out ++ letters_in (trace_text (traced n t))
-  -- a move on from here that ends otherwise than by its own end does so where the run of `tape` with the session's limit
-  -- ends, and says how
+  -- a move forward from here that doesn't end by its own end stops where the run of `tape` with the session's limit
+  -- ends, and reports the same ending
   pub ends : (aim : Aim) (ending : Ending) → ending_of (move_end aim (left t) (stands_at t)) ≡ Some ending
       → HasRoomFor (moved aim t)
       → run_with (resumes_to ending (way (moved aim t)).stops) s rows
       ≡ record { ending = ending; state = stands_at (moved aim t); codes = (way (moved aim t)).codes }
 
--- so it is wherever a line of a script leaves a session on rows, those of a tape or of a source's tape
+-- the same wherever a line of a script leaves a session, on the rows of a tape or of a source's tape
 abbrev pub EachStepIsRun : Type 0
 EachStepIsRun = (s : Settings) (commands : CommandList) (rows : List ℕ) (t : Stand) (resumes : ℕ)
     → LeftBy commands (stand_on s rows) t → IsResumed resumes t → StepsAreRun s rows t resumes

@@ -1,4 +1,4 @@
--- What is shown of every well-formed tape: it leads to the entry that `check-tape` reports, and its run is that from
+-- What holds of every well-formed tape: it leads to the entry that `check-tape` reports, and its run is the run from
 -- there (this project's own rules).
 use Rattle.std.specs.Prelude.{◌≡◌, ℕ, ◌-◌, ◌<◌, ◌≤◌, List, [], ◌++◌}
 use Rattle.ed_store.specs.Cells.{cleared_cells}
@@ -30,23 +30,23 @@ tape_state s codes e = at_entry (first_state s.size codes) e
 abbrev pub traced_on : Settings → List ℕ → TapeEntry → Outcome
 traced_on s codes e = traced_from (with_limit (s.limit - e.cost) s) (tape_state s codes e)
 
--- `trace` writes the letters of the orders that load the tape, and then those of the run from the entry; it ends as that
--- run does
+-- `trace` writes the letters of the orders that load the tape, and then those of the run from the entry; it ends as
+-- that run does
 pub record TracesFromEntry (s : Settings) (codes : List ℕ) (e : TapeEntry) : Type 0 where
   pub letters : letters_in (trace_outcome s codes).out
       ≡ letters_in (trace_to e.cost (first_state s.size codes)) ++ letters_in (traced_on s codes e).out
   pub note_is : (trace_outcome s codes).note ≡ (traced_on s codes e).note
   pub status_is : (trace_outcome s codes).status ≡ (traced_on s codes e).status
 
--- a session that moves on to the entry stands there, after as many orders as the tape costs, and says so
+-- a session that moves to the entry gets there after as many orders as the tape costs, and reports so
 pub record StepsToEntry (s : Settings) (codes : List ℕ) (e : TapeEntry) : Type 0 where
   pub stands : moved Entry (stand_on s codes) ≡ record (stand_on s codes) { done = e.cost }
   pub line : line_of_move Entry (stand_on s codes) ≡ move_line e.at e.cost Entered
 
--- `check-tape` reports the entry, its cost and its rows. The tape leads a cleared machine to the state at that entry, at
--- that cost and with nothing printed. What `tape` answers, with a limit not below the cost, is the run from that state
--- with the limit less the cost; with a lower limit the run prints nothing, and a post-mortem is that of its state.
--- `trace` and `step` come to that entry as `tape` does
+-- `check-tape` reports the entry, its cost and its rows. The tape leads a cleared machine to the state at that entry,
+-- at that cost and with nothing printed. With a limit not below the cost, the answer of `tape` is the run from that
+-- state with the limit less the cost; with a lower limit the run prints nothing, and a post-mortem is that of its
+-- state. `trace` and `step` reach that entry as `tape` does.
 pub record TapeRunsFromEntry (s : Settings) (codes : List ℕ) (e : TapeEntry) : Type 0 where
   pub checked : IsChecked s codes (done (entry_line e.at e.cost e.rows))
   pub enters : state_after e.cost (first_state s.size codes) ≡ tape_state s codes e
@@ -59,7 +59,7 @@ pub record TapeRunsFromEntry (s : Settings) (codes : List ℕ) (e : TapeEntry) :
   pub traced : e.cost ≤ s.limit → TracesFromEntry s codes e
   pub stepped : e.cost ≤ s.limit → StepsToEntry s codes e
 
--- so it is of every tape that is well formed from a cleared store, and of the entry that it comes to
+-- the same for every tape that is well formed from a cleared store, and the entry that it reaches
 abbrev pub EachTapeRunsFromEntry : Type 0
 EachTapeRunsFromEntry =
     (s : Settings) (codes : List ℕ) (e : TapeEntry) → WellFormed s.size cleared_cells.words first_note codes

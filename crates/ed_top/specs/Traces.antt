@@ -1,4 +1,4 @@
--- What is answered of a run that is traced (this project's own rule).
+-- The answer to a run that is traced (this project's own rule).
 use Rattle.std.specs.Prelude.{ℕ, ◌==◌, List, not}
 use Rattle.std.specs.List.{filter}
 use Rattle.ed_machine.specs.State.{State}

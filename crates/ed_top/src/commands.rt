@@ -28,7 +28,7 @@ pub fn reads_input(command: Command) -> bool
     }
 }
 
-/// Carries a command out on its input, as far as `out` goes.
+/// Carries a command out on its input, as far as `out` is concerned.
 pub fn carry_out<K: Sink>(
     alloc: Global,
     command: Command,

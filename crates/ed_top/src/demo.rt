@@ -8,7 +8,7 @@ use ed_command::Settings;
 use ed_sources::demo_source;
 use std::alloc::Global;
 
-/// `demo`: the run of the large source that a number makes.
+/// `demo`: the run of the large source made from a number.
 pub fn demo(alloc: Global, settings: Settings, n: u32) -> Result<Reply, Rejection>
     requires number { IsFromTo 1 112 n }
     requires ranges { AreSettingsInRange settings }

@@ -10,7 +10,7 @@ use std::alloc::Global;
 /// The most bytes of input.
 const LIMIT: usize = 262_144;
 
-/// How many bytes are read at once, at the most.
+/// The most bytes that are read at once.
 const PIECE: usize = 4096;
 
 /// Why there is no input.
@@ -20,11 +20,11 @@ pub enum InputStop {
     Failed,
     /// No memory was found.
     Memory,
-    /// The input has more bytes than are taken.
+    /// The input has more bytes than the limit.
     TooLong,
 }
 
-/// What is still to tell of a command when its text is on `out`.
+/// What of a command is still to be written when its text is on `out`.
 #[derive(Drop)]
 pub struct Rest {
     pub note: Vec<u8>,
@@ -40,7 +40,7 @@ pub enum Stop {
     Memory,
 }
 
-/// The whole input, where one is read, and else none.
+/// The whole input, if the command reads it, and an empty one otherwise.
 pub fn input_of<S: Source>(alloc: Global, reads: bool, source: &mut S) -> Result<Vec<u8>, InputStop>
     ensures { HasInput reads (device S.left S.faults source.old source.new) result }
 {
@@ -53,7 +53,7 @@ pub fn input_of<S: Source>(alloc: Global, reads: bool, source: &mut S) -> Result
     }
 }
 
-/// The input, where it has no more bytes than are taken.
+/// The input, if it has no more bytes than the limit.
 fn within_limit(input: Vec<u8>) -> Result<Vec<u8>, InputStop>
     ensures { MatchResult result
         (λ v. (v ≡ input) × (length input.items ≤ 262144))

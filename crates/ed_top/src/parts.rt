@@ -16,7 +16,7 @@ use ed_report::{ending_text, part_fault};
 use ed_words::NoMemory;
 use std::alloc::Global;
 
-/// `parts`: the entries and returns of a text's rows, whose programs may go back to the Initial Orders, each line
+/// `parts`: the entries and returns of a text's rows, whose programs may return to the Initial Orders, each line
 /// written as it comes.
 pub fn parts<K: Sink>(
     alloc: Global,
@@ -70,7 +70,7 @@ fn end_text(alloc: Global, end: PartsEnd, machine: &Machine) -> Result<Vec<u8>, 
     }
 }
 
-/// The status of that.
+/// The status for that ending.
 fn end_status(end: PartsEnd) -> u8
     ensures is { result ≡ end_status end }
     ensures low { result < 8 }

@@ -33,11 +33,11 @@ const NO_MEMORY: &[u8] = b"no memory\n";
 
 const TOO_LONG: &[u8] = b"input too long\n";
 
-/// Runs the program with the words after its name: reads the input that the command wants, writes `out` and then
+/// Runs the program with the words after its name: reads the input if the command needs it, writes `out` and then
 /// `note`, and answers the status.
 ///
-/// 0 done, 2 faulty words, 3 a refused input, 4 to 7 the other ends of a run (limit, no order, no tape, paper full),
-/// 8 a read that failed, 9 a write that failed, 10 no memory, 11 an input of more than 262,144 bytes.
+/// 0 done, 2 words that are not a command, 3 a refused input, 4 to 7 the other ends of a run (limit, no order, no tape,
+/// paper full), 8 a read that failed, 9 a write that failed, 10 no memory, 11 an input of more than 262,144 bytes.
 pub fn edsac<S: Source, K: Sink, L: Sink>(
     alloc: Global,
     words: &[String],
@@ -72,7 +72,7 @@ pub fn edsac<S: Source, K: Sink, L: Sink>(
     }
 }
 
-/// The answer of a caller that finds no memory for the words: the line on `note` and the status 10; or 9, if the write
+/// The answer of a caller that finds no memory for the words: the line on `note` and the status 10; or 9 if the write
 /// fails.
 pub fn report_no_memory<L: Sink>(note: &mut L) -> u8
     ensures { WritesLastLine (device L.held L.faults note.old note.new) no_memory 10 result }
@@ -80,7 +80,7 @@ pub fn report_no_memory<L: Sink>(note: &mut L) -> u8
     tell(note, NO_MEMORY, 10)
 }
 
-/// Reads the input, carries the command out on it, and tells the rest.
+/// Reads the input, carries the command out on it, then writes the last line and answers the status.
 fn run_command<S: Source, K: Sink, L: Sink>(
     alloc: Global,
     command: Command,

@@ -19,7 +19,7 @@ use ed_stepper::{
 use ed_words::NoMemory;
 use std::alloc::Global;
 
-/// `step`: what the script writes that stands before the dividing line, on a machine started on what stands behind it.
+/// `step`: what the script before the dividing line writes, on a machine started on the text after it.
 pub fn step(alloc: Global, settings: Settings, input: &[u8]) -> Result<Reply, Rejection>
     requires { length input.now ≤ 262144 }
     ensures { Replies (of_input (OfStep settings)) input.now result }
@@ -30,7 +30,7 @@ pub fn step(alloc: Global, settings: Settings, input: &[u8]) -> Result<Reply, Re
     }
 }
 
-/// Looks at the script, then at the text.
+/// Reads the script, then the text.
 fn step_divided(alloc: Global, settings: Settings, divided: Divided<'_>) -> Result<Reply, Rejection>
     ensures { Replies (of_made (OnInput settings (record {
       script = divided.entry.script.now;

@@ -52,7 +52,7 @@ module _ (limit resumes : ℕ) (s : State) where
   unfolding past
   going_first = record { state = refl; stops_are = refl; within = omega arith; first = λ j h. absurd (omega arith) }
 
--- so many orders of it have been obeyed
+-- k orders of it have been obeyed
 module _ {limit resumes : ℕ} {s : State} {k : ℕ} {m : State} {stops : ℕ} (g : Going limit resumes s k m stops) where
   by_next : k < limit
       → end_at limit resumes limit k (past k s) ≡ end_by (step m).turn (nat_le limit (length (past k s).codes))
@@ -69,7 +69,7 @@ module _ {limit resumes : ℕ} {s : State} {k : ℕ} {m : State} {stops : ℕ} (
 
   -- its next order has this turn
   module _ {turn : Turn} (below : k < limit) (is : turn ≡ (step m).turn) where
-    -- where that was obeyed no end stands before it
+    -- if the order was obeyed no end comes before it
     pub first_more : is_obeyed turn ≡ true → (j : ℕ) → j < k + 1 → end_at limit resumes limit j (past j s) ≡ None
     first_more obeyed =
         let room : nat_le limit (length (past k s).codes) ≡ false = le_false _ _ (omega (arith, few_codes k s)) in
@@ -99,7 +99,7 @@ module _ {limit resumes : ℕ} {s : State} {k : ℕ} {m : State} {stops : ℕ} (
         let a = lt_true resumes (past (k + 1) s).stops (omega (arith, many, n)) in
         record { now = rw a refl; first = first_more (ap is_obeyed stop) }
 
--- it comes to its limit
+-- it reaches its limit
 pub at_limit : {limit resumes : ℕ} {s m : State} {stops : ℕ} → Going limit resumes s limit m stops
     → EndsAfter limit resumes limit s limit Limit
 at_limit {limit} {resumes} {s} g =

@@ -40,7 +40,7 @@ next_traced k s =
     ap (letters_from 0) (next_functions k s) ∙ letters_more 0 (functions_after k s) _
     ∙ ap (λ n. traced_letters k s ++ letter (state_after k s) ∷ line_end (is_full n)) count
 
--- a letter more
+-- one more letter
 pub grows : (k : ℕ) (s m : State) (l : ℕ) (full : Bool) → m ≡ state_after k s → l ≡ letter m → full ≡ is_full (k + 1)
     → traced_letters k s ++ l ∷ line_end full ≡ traced_letters (k + 1) s
 grows k s m l full is at ends =

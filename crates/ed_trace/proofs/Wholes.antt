@@ -70,7 +70,7 @@ within_run limit resumes s k first = by_place (split k (run_orders limit resumes
         sym (first (run_orders limit resumes limit s) high) ∙ (ran_ends limit resumes limit s).now in
         absurd (cc)
 
--- the write of a line failed that was full
+-- the write of a line that was full failed
 module _ {limit resumes : ℕ} {s last : State} {before after : Option (List ℕ)}
     (b : BreaksTrace limit resumes s last before after) where
   within : b.orders ≤ run_orders limit resumes limit s

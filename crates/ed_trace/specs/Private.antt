@@ -1,3 +1,3 @@
--- What the crate's own functions say of each other. No public clause cites these definitions, so that nothing here
--- has to be read to know what the crate answers.
+-- What the crate's own functions state for each other. No public clause cites these definitions, so nobody has to read
+-- them to know what the crate answers.
 pub mod Growth

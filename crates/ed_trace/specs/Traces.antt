@@ -14,14 +14,14 @@ use Rattle.ed_trace.specs.declared.tracing.TraceFault.TheVariants.{Failed, Memor
 abbrev pub trace_to : ℕ → State → List ℕ
 trace_to k s = trace_text (functions_after k s)
 
--- the trace of the orders that a run obeys; its paper has as much room as it may obey orders, so that it never is full
+-- the trace of the orders that a run obeys; its paper has as much room as the run has orders, so it never is full
 abbrev pub trace_of : ℕ → ℕ → State → List ℕ
 trace_of limit resumes s = trace_to (run_orders limit resumes limit s) s
 
--- a write failed, which was that of a line of 50 letters or of the run's last line: the full lines before it had been
--- written, of the line itself a first part was, and no order was obeyed after those of the line
+-- a write failed, that of a line of 50 letters or of the run's last line: the full lines before it had been written,
+-- and a first part of the line itself; no order was obeyed after those of the line
 pub record TraceBroke (limit resumes : ℕ) (s last : State) (before after : Option (List ℕ)) : Type 0 where
-  -- the orders of the lines before it, and the orders obeyed
+  -- the number of orders in the lines before it, and the number obeyed
   pub written : ℕ
   pub orders : ℕ
   pub full : written % 50 ≡ 0
@@ -36,8 +36,8 @@ pub record TraceBroke (limit resumes : ℕ) (s last : State) (before after : Opt
   pub line : trace_to orders s ≡ trace_to written s ++ (part ++ rest)
   pub gains : Gains before after (trace_to written s ++ part)
 
--- the run was made and its whole trace written; or a first part of that, where a write failed; or nothing was written
--- and no order obeyed, where no memory was found
+-- the run was made and its whole trace written; or a write failed, and a first part of the trace was written; or no
+-- memory was found, nothing was written and no order obeyed
 abbrev pub TraceEnds : ℕ → ℕ → State → Result Ending TraceFault → State → Option (List ℕ) → Option (List ℕ) → Type 0
 TraceEnds limit resumes s (Ok ending) last before after =
     (ending ≡ (ran limit resumes limit s).ending) × (last ≡ (ran limit resumes limit s).state)
@@ -46,7 +46,7 @@ TraceEnds limit resumes s (Err Failed) last before after =
     GainsPart before after (trace_of limit resumes s) × TraceBroke limit resumes s last before after
 TraceEnds limit resumes s (Err Memory) last before after = (last ≡ s) × (after ≡ before)
 
--- the sink's count of faults afterwards: one more where a write failed, and else as before
+-- the sink's count of faults afterwards: one more if a write failed, else unchanged
 abbrev pub trace_faults : Result Ending TraceFault → ℕ → ℕ
 trace_faults (Ok ending) before = before
 trace_faults (Err Failed) before = next_count before

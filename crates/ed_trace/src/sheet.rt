@@ -1,4 +1,4 @@
-//! A text that grows, of which the last line is held back.
+//! A text that grows; its last line is held back.
 ghost use Rattle.std.specs.Prelude.{◌≡◌, [], ◌≤◌, ◌+◌, vec_capacity, vec_len, MatchResult, IfOk};
 ghost use Rattle.ed_io.specs.Bytes.{Gains, GainsPart};
 ghost use Rattle.ed_io.specs.Causes.{faults_after};
@@ -24,7 +24,7 @@ fn flush<K: Sink>(out: &mut K, line: &mut Vec<u8>) -> Result<(), Failed>
     }
 }
 
-/// A letter more on a line, which is written where it is then full.
+/// Adds a letter to a line, and writes the line if it is then full.
 pub(crate) fn put<K: Sink>(
     out: &mut K,
     line: &mut Vec<u8>,
@@ -44,7 +44,7 @@ pub(crate) fn put<K: Sink>(
     Ok(())
 }
 
-/// Ends the last line, where it has a letter.
+/// Ends the last line, if it has a letter.
 pub(crate) fn end_line<K: Sink>(out: &mut K, line: &mut Vec<u8>) -> Result<(), Failed>
     requires { vec_len line.old + 1 ≤ vec_capacity line.old }
     ensures ends { EndsLine line.old.items result (K.held out.old) (K.held out.new) }

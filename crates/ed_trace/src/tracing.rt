@@ -11,7 +11,7 @@ use ed_io::{Failed, Sink};
 use ed_machine::{Ending, Machine, Turn};
 use std::alloc::Global;
 
-/// How many letters a line has.
+/// The number of letters on a line.
 const LETTERS: u64 = 50;
 
 /// Why a trace was not written whole.
@@ -24,10 +24,10 @@ pub enum TraceFault {
 }
 
 /// Runs the machine, with a paper that never is full, and writes the letter or sign of the function of each order, 50
-/// to a line, each line as it is full. The last line, where it has a letter, ends with a line feed.
+/// to a line, each line as it is full. The last line ends with a line feed if it has a letter.
 ///
-/// After `Failed` the machine stands after the orders of the line whose write failed, and the lines before it have been
-/// written. With `Memory` nothing was written and no order obeyed.
+/// After `Failed` the machine is in the state after the orders of the line whose write failed, and the lines before it
+/// have been written. With `Memory` nothing was written and no order obeyed.
 pub fn trace_run<K: Sink>(
     alloc: Global,
     machine: &mut Machine,
@@ -51,8 +51,8 @@ pub fn trace_run<K: Sink>(
     }
 }
 
-/// Obeys orders as a run does whose paper never is full, and writes the letter of each; the last line, where it is not
-/// full, stays in `line`.
+/// Obeys orders as a run does whose paper never is full, and writes the letter of each; a last line that is not full
+/// stays in `line`.
 fn trace_orders<K: Sink>(
     machine: &mut Machine,
     limit: u64,

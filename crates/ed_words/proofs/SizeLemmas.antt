@@ -1,4 +1,4 @@
--- Places modulo the size of a store.
+-- Addresses modulo the size of a store.
 use Rattle.std.proofs.Common.{◌≡◌, ℕ, ◌%◌, ◌<◌, ◌≤◌, refl, sym, ◌∙◌, arith, Bool, true, false, nat_lt}
 use Rattle.ed_words.proofs.Numbers.{lt_of, not_lt_of, lt_true, lt_false}
 use Rattle.ed_words.specs.Sizes.{locations, within, WithinIsModulo}
@@ -9,7 +9,7 @@ use Rattle.ed_words.specs.declared.size.Size.TheVariants.{Small, Full}
 pub within_low : (z : Size) (n : ℕ) → n < 512 → within z n ≡ n
 within_low z n h = rw (lt_true n 512 h) refl
 
--- a number from 512 on is reduced
+-- a number of 512 or more is reduced
 pub within_high : (z : Size) (n : ℕ) → 512 ≤ n → within z n ≡ n % locations z
 within_high z n h = rw (lt_false n 512 h) refl
 
@@ -17,7 +17,7 @@ by_size : (z : Size) (n : ℕ) → n < 512 → n ≡ n % locations z
 by_size Small n h = omega arith
 by_size Full n h = omega arith
 
--- `within` is the rest modulo the size
+-- `within` is the remainder modulo the size
 pub within_is : WithinIsModulo
 within_is z n = by_test (nat_lt n 512) refl
   where
@@ -25,12 +25,12 @@ within_is z n = by_test (nat_lt n 512) refl
     by_test true e = within_low z n (lt_of n 512 e) ∙ by_size z n (lt_of n 512 e)
     by_test false e = within_high z n (not_lt_of n 512 e)
 
--- a size is 1024 at most
+-- a size is at most 1024
 pub most : (z : Size) → locations z ≤ 1024
 most Small = omega arith
 most Full = omega arith
 
--- a size is 512 at least
+-- a size is at least 512
 pub least : (z : Size) → 512 ≤ locations z
 least Small = omega arith
 least Full = omega arith

@@ -12,12 +12,12 @@ is_digit byte = nat_le 48 byte && nat_le byte 57
 abbrev pub value : Text → ℕ
 value = fold (λ n byte. 10 * n + (byte - 48)) 0
 
--- a text of 1 to 9 decimal digits with no sign, as a number
+-- a text of 1 to 9 decimal digits with no sign, as a number; None for any other text
 abbrev pub number : Text → Option ℕ
 number text =
     if nat_le 1 (length text) && nat_le (length text) 9 && list_all is_digit text then Some (value text) else None
 
--- the number, where it lies from `least` to `most`
+-- the number, if it is from `least` to `most`
 abbrev pub in_range : ℕ → ℕ → ℕ → Option ℕ
 in_range least most n = if nat_le least n && nat_le n most then Some n else None
 

@@ -1,4 +1,4 @@
--- The size of a store, 512 or 1,024 locations (this project's own rule), and places modulo the size.
+-- The size of a store, 512 or 1,024 locations (this project's own rule), and addresses modulo the size.
 use Rattle.std.specs.Prelude.{◌≡◌, ℕ, ◌%◌, nat_lt, if◌then◌else◌}
 use Rattle.ed_words.specs.declared.size.Size.{Size}
 use Rattle.ed_words.specs.declared.size.Size.TheVariants.{Small, Full}
@@ -12,6 +12,6 @@ locations Full = 1024
 abbrev pub within : Size → ℕ → ℕ
 within z n = if nat_lt n 512 then n else n % locations z
 
--- `within` is the rest modulo the size
+-- `within` is the remainder modulo the size
 abbrev pub WithinIsModulo : Type 0
 WithinIsModulo = (z : Size) (n : ℕ) → within z n ≡ n % locations z

@@ -1,6 +1,6 @@
--- Texts, as the crates speak of them.
+-- Texts as lists of bytes.
 use Rattle.std.specs.Prelude.{ℕ, List}
 
--- the bytes of a text
+-- a text, as its bytes
 abbrev pub Text : Type 0
 Text = List ℕ

@@ -8,19 +8,19 @@ abbrev pub digit : Bool → ℕ
 digit true = 1
 digit false = 0
 
--- a word's function, the five digits at its head
+-- a word's function: its five most significant digits
 abbrev pub function_of : ℕ → ℕ
 function_of w = w / 4096
 
--- a word's spare digit, which only a shift order looks at
+-- whether a word's spare digit is 1; only a shift order uses that digit
 abbrev pub is_spare : ℕ → Bool
 is_spare w = nat_eq (w / 2048 % 2) 1
 
--- a word's address, before the size of the store is regarded
+-- a word's address, before it is taken modulo the size of the store
 abbrev pub address_of : ℕ → ℕ
 address_of w = w / 2 % 1024
 
--- a word's length digit, which is written D where it is 1 and F where it is 0
+-- whether a word's length digit is 1; it is written D if it is 1 and F if it is 0
 abbrev pub is_long : ℕ → Bool
 is_long w = nat_eq (w % 2) 1
 

@@ -1,7 +1,7 @@
 ghost use Rattle.std.specs.Prelude.{◌≡◌, ◌≤◌, IfSome};
 ghost use Rattle.ed_words.specs.Decimals.{number, number_within};
 
-/// The number that a text of 1 to 9 decimal digits spells, with no sign; none for any other text.
+/// The number that a text of 1 to 9 decimal digits spells, without a sign; None for any other text.
 pub fn number(text: &[u8]) -> Option<u32>
     ensures { result ≡ number text.now }
 {
@@ -18,7 +18,7 @@ pub fn number(text: &[u8]) -> Option<u32>
     Some(value)
 }
 
-/// The number of such a text, where it lies from `least` to `most`.
+/// The number of such a text, if it is from `least` to `most`.
 pub fn number_within(text: &[u8], least: u32, most: u32) -> Option<u32>
     ensures is { result ≡ number_within least most text.now }
     ensures most { IfSome result (λ n. n ≤ most) }

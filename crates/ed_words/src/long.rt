@@ -23,18 +23,18 @@ impl Model for Long {
 /// digit between them.
 #[derive(Clone, Copy, Debug, PartialEq, Eq)]
 pub struct Halves {
-    /// The word at the odd location, the high end of the long word.
+    /// The word at the odd location, the most significant half of the long word.
     pub odd: Word,
     /// The sandwich digit.
     pub sandwich: bool,
-    /// The word at the even location, the low end of the long word.
+    /// The word at the even location, the least significant half of the long word.
     pub even: Word,
 }
 
 impl Long {
     ghost use Rattle.ed_words.specs.Words.{halves_of, long_of};
 
-    /// The long word of a number, which is below 2^35.
+    /// The long word of a number below 2^35; None for any other.
     pub fn new(n: u64) -> Option<Long>
         ensures none { IsNone result ↔ (2 ^ 35 ≤ n) }
         ensures some { IfSome result (λ l. l ≡ n) }
@@ -86,7 +86,7 @@ impl Long {
         }
     }
 
-    /// The long word with a short word at its high end: `word·2^18`, what a short order reads.
+    /// The long word with a short word as its most significant half: `word·2^18`, which is what a short order reads.
     pub fn of_short(word: Word) -> Long
         ensures { result ≡ word * 2 ^ 18 }
     {

@@ -3,7 +3,7 @@
 pub struct Order {
     /// The function, 0 to 31 in a word.
     pub function: u8,
-    /// The digit between function and address, which only a shift order looks at.
+    /// The digit between function and address, which only a shift order uses.
     pub spare: bool,
     /// The address, 0 to 1023 in a word.
     pub address: u16,

@@ -1,7 +1,7 @@
 ghost use Rattle.std.specs.Prelude.{◌≡◌, ◌↔◌, ◌<◌, IsTrue};
 ghost use Rattle.ed_words.specs.Sizes.{locations, WithinIsModulo};
 
-/// How many locations the orders of a machine reach. The machine of 1949 had 512 (the two sizes are this project's
+/// The number of locations that a machine's orders reach. The machine of 1949 had 512 (the two sizes are this project's
 /// own rule).
 #[derive(Clone, Copy, Debug, PartialEq, Eq)]
 pub enum Size {
@@ -24,7 +24,7 @@ impl Size {
     }
 }
 
-/// Whether a number is an address: the test for the condition of the calls that take one.
+/// Whether a number is an address, below 1024: callers test with it what the calls that take an address require.
 pub fn fits(address: u16) -> bool
     ensures { IsTrue result ↔ (address < 1024) }
 {

@@ -22,7 +22,7 @@ impl Model for Word {
 impl Word {
     ghost use Rattle.ed_words.specs.Words.{order_of, word_of};
 
-    /// The word of a number, which is below 131072.
+    /// The word of a number below 131072; None for any other.
     pub fn new(n: u32) -> Option<Word>
         ensures none { IsNone result ↔ (2 ^ 17 ≤ n) }
         ensures some { IfSome result (λ w. w ≡ n) }

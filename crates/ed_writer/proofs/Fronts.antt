@@ -1,4 +1,4 @@
--- Texts that stand before others, and the parts that they add there.
+-- Texts that precede others, and the parts that they add there.
 use Rattle.std.proofs.Common.{◌≡◌, ℕ, ◌≤◌, Bool, true, false, List, [], ◌∷◌, ◌++◌, refl, sym, subst, arith}
 use Rattle.std.proofs.Common.{append_assoc}
 use Rattle.std.specs.Prelude.{◌==◌, ◌||◌, nat_le}
@@ -13,7 +13,7 @@ use Rattle.ed_syntax.specs.Forms.{HasLineParts, nothing, blank, one_sign, one_st
 use Rattle.ed_syntax.proofs.PartTexts.{is_part, each_append}
 use Rattle.ed_syntax.proofs.WrittenLaws.{both}
 
--- no run goes on into this text, where none goes on into what follows it
+-- no run continues into this text if none continues into what follows it
 abbrev pub EndsRun : Text → Type 0
 EndsRun text = (rest : Text) → begins_run rest ≡ false → begins_run (text ++ rest) ≡ false
 

@@ -296,7 +296,7 @@ order_spelled two f (operands.Number (suc n)) l lt e = order_with two f (operand
 order_spelled two f (operands.Label a z) l lt e = order_with two f (operands.Label a z) l lt e
 order_spelled two f (operands.Two a b m) l lt e = order_with two f (operands.Two a b m) l lt e
 
--- a number from 0 upwards
+-- a number that is not negative
 positive_spelled : (least most n : ℕ) → nat_le n most ≡ true → n < 2 ^ 64
     → IsSpelledBy (SpellsInteger least most) (decimal n) (pos n)
 positive_spelled least most n e lt =
@@ -309,7 +309,7 @@ positive_spelled least most n e lt =
       front = one_run_front (decimal n) (numeral_part n (decimal n) h);
     }
 
--- a word of the forms before other text
+-- a keyword before other text
 word_front : (w after : Text) (ps : List LinePart) → is_part (run w) ≡ true → IsFront after ps
     → IsFront (w ++ 32 ∷ after) (run w ∷ ps)
 word_front w after ps e f = run_front w (32 ∷ after) ps e (λ rest h. refl) (blank_front after ps f)

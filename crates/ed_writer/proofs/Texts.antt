@@ -114,7 +114,7 @@ line_is two l e few bare = by_version (two && l.number == 1) refl few bare
 abbrev AreNumberedFrom : ℕ → List Line → Type 0
 AreNumberedFrom k lines = (i : ℕ) (d : Line) → i < length lines → (get_or lines i d).number ≡ k + i
 
--- the text of lines has these lines, and they say what they are to say
+-- the text of lines has these lines, and they say what they should say
 record SayThemselves (two : Bool) (k : ℕ) (lines : List Line) : Type 0 where
   has_lines : HasLines (text_of_program two lines) (map (line_text two) lines)
   says : LinesSay two k (map (line_text two) lines) lines
@@ -216,7 +216,7 @@ program_says two lines numbered size e f place g =
       says = s.says;
     }
 
--- where there is no place for `version 2`, no text says the lines
+-- if there is no line for `version 2`, no text says the lines
 pub unsaid : (two : Bool) (lines : List Line) → has_version_place two lines ≡ false → (text : Text)
     → IsProgram text two lines → ⊥
 unsaid two lines e text p = by_lines two p.lines lines e p.version p.says
@@ -234,7 +234,7 @@ unsaid two lines e text p = by_lines two p.lines lines e p.version p.says
         let same = one_spelling true 1 line _ _ _ _ s.plain.short s.spells (version_is_empty true line v) in
         let here = bare l same in absurd (cc)
 
--- lines with no place for `version 2` are the only ones that no text says
+-- lines without a line for `version 2` are the only ones that no text says
 pub fault_says : (two : Bool) (lines : List Line) (e : WriteFault) → IsLinesFault two lines e → HasNoText two lines e
 fault_says two lines NoVersionLine h = absurd (none lines h)
   where

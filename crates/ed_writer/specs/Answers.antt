@@ -1,4 +1,4 @@
--- What is answered when a program is written: its text, or the reason that it is not written (this project's own rule).
+-- The answer to writing a program: its text, or the reason that it is not written (this project's own rule).
 use Rattle.std.specs.Prelude.{◌≡◌, ◌&&◌, Bool, true, false, List, [], ◌∷◌, length, nat_lt, if◌then◌else◌}
 use Rattle.std.specs.Prelude.{Option, Some, None, is_none}
 use Rattle.ed_words.specs.Texts.{Text}
@@ -12,7 +12,7 @@ use Rattle.ed_writer.specs.declared.fault.WriteFault.TheVariants.{NoVersionLine,
 abbrev pub is_bare : Line → Bool
 is_bare l = is_none l.label && is_none l.statement
 
--- `version 2` has a place, or needs none: in version 2 the first line is bare
+-- there is a line for `version 2`, or none is needed: in version 2 the first line is bare
 abbrev pub has_version_place : Bool → List Line → Bool
 has_version_place false lines = true
 has_version_place true [] = false
@@ -28,7 +28,7 @@ long_line two (l ∷ ls) =
 abbrev pub write_fault : Bool → List Line → Option WriteFault
 write_fault two lines = if has_version_place two lines then long_line two lines else Some NoVersionLine
 
--- the program has no fault, and this is its text
+-- the program can be written, and this is its text
 pub record IsTextOf (two : Bool) (lines : List Line) (text : Text) : Type 0 where
   pub faultless : write_fault two lines ≡ None
   pub is : text ≡ text_of_program two lines
@@ -38,7 +38,7 @@ abbrev pub IsWriteFault : Bool → List Line → WriteFault → Type 0
 IsWriteFault two lines Memory = Unit {0}
 IsWriteFault two lines fault = write_fault two lines ≡ Some fault
 
--- if `version 2` has no place, no text says these lines, however they are spelled
+-- if there is no line for `version 2`, no text says these lines, however they are spelled
 abbrev pub HasNoText : Bool → List Line → WriteFault → Type 0
 HasNoText two lines NoVersionLine = (text : Text) → IsProgram text two lines → ⊥
 HasNoText two lines _ = Unit {0}

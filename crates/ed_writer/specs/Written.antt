@@ -32,7 +32,7 @@ operand_text (operands.Number n) = decimal n
 operand_text (operands.Label name plus) = name ++ plus_text plus
 operand_text (operands.Two first second minus) = first ++ (if minus then 45 else 43) ∷ second
 
--- the operand of an order, after a blank; nothing for the number 0
+-- the operand of an order, after a blank; the number 0 is not written
 abbrev pub order_operand : Operand → Text
 order_operand (operands.Number zero) = []
 order_operand o = 32 ∷ operand_text o

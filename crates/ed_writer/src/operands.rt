@@ -7,7 +7,7 @@ use ed_syntax::{Operand, Setting};
 use ed_words::NoMemory;
 use std::alloc::Global;
 
-/// Adds what is added to a name.
+/// Adds what follows a name in an operand.
 fn push_plus(alloc: Global, text: &mut Vec<u8>, plus: i32) -> Result<(), NoMemory>
     ensures { IfOk result (λ _. text.new.items ≡ text.old.items ++ plus_text plus) }
 {

@@ -77,7 +77,7 @@ fn lines_text(alloc: Global, two: bool, lines: &[Line]) -> Result<Vec<u8>, Write
     Ok(text)
 }
 
-/// Whether `version 2` has a place or needs none.
+/// Whether there is a line for `version 2`, or none is needed.
 fn has_version_place(two: bool, lines: &[Line]) -> bool
     ensures { result ≡ has_version_place two lines.now }
 {
@@ -92,7 +92,7 @@ fn has_version_place(two: bool, lines: &[Line]) -> bool
 
 /// The text of a program, which says exactly its lines.
 ///
-/// `NoVersionLine` comes before `LongLine`, and `LongLine` is about the first line that is too long.
+/// `NoVersionLine` comes before `LongLine`, and `LongLine` names the first line that is too long.
 pub fn text_of_program(alloc: Global, program: &Program) -> Result<Vec<u8>, WriteFault>
     ensures is { IfOk result (λ text. IsTextOf (program.now.version == 2) program.now.lines.items text.items) }
     ensures says { IfOk result (λ text. IsProgram text.items (program.now.version == 2) program.now.lines.items) }

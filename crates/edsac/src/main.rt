@@ -21,7 +21,7 @@ fn main(rt: HostRuntime) -> ExitCode {
     ExitCode::from(status)
 }
 
-/// The words after the program's name; none where one of them is no text.
+/// The words after the program's name; no words if one of them is not UTF-8.
 fn words(rt: &HostRuntime) -> Result<Vec<String>, AllocError> {
     let mut words = Vec::new(rt.alloc());
     match std::env::args(rt) {

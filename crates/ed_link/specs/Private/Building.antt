@@ -1,4 +1,4 @@
--- What is made of the lines of a source on the way to its linked program. No public clause cites this.
+-- The steps from the lines of a source to its linked program. No public clause cites this.
 use Rattle.std.specs.Prelude.{◌≡◌, ◌≤◌, Bool, List, [], false, Option, Some, None, Result, Ok, Err, unwrap_or, length}
 use Rattle.ed_words.specs.declared.size.Size.{Size}
 use Rattle.ed_notation.specs.Spellings.{AreSpellable}
@@ -17,7 +17,7 @@ use Rattle.ed_link.specs.Private.FaultTests.{IsFirstFault, LinesBefore, fault_fr
 use Rattle.ed_link.specs.Tables.{table_of, words_from}
 use Rattle.ed_link.specs.Labels.{labels}
 
--- a string has 120 rows at the most, and a routine 128 items
+-- a string has at most 120 rows, and a routine at most 128 items
 abbrev pub IsFew : Option Statement → Type 0
 IsFew (Some (Text codes)) = length codes.items ≤ 120
 IsFew (Some (Rows codes)) = length codes.items ≤ 120
@@ -28,7 +28,7 @@ IsFew st = Unit {0}
 abbrev pub first_past : LinesBefore
 first_past = record { runs = []; entered = false }
 
--- what is made of lines that have none of the faults S9 to S17
+-- what is built from lines that have none of the faults S9 to S17
 pub record IsBuilt (z : Size) (homes : List Home) (any : Bool) (lines : List Line) (b : Built) : Type 0 where
   pub accepted : fault_from z homes any first_past first_spot lines ≡ None
   pub items : b.items.items ≡ punched_from homes first_spot lines
@@ -40,12 +40,12 @@ pub record IsBuilt (z : Size) (homes : List Home) (any : Bool) (lines : List Lin
   pub few_items : length b.items.items ≤ 480000
   pub few_rows : length b.after.items ≤ 240000
 
--- the lines are built, or their fault is told
+-- the lines are built, or this is their fault
 abbrev pub BuildIs : Size → List Home → Bool → List Line → Result Built SourceFault → Type 0
 BuildIs z homes any lines (Ok b) = IsBuilt z homes any lines b
 BuildIs z homes any lines (Err e) = IsFirstFault (fault_from z homes any first_past first_spot lines) e
 
--- a linked program is what was made of the lines
+-- a linked program made of what was built
 pub record IsFinished (homes : List Home) (b : Built) (k : Linked) : Type 0 where
   pub items : k.items.items ≡ b.items.items
   pub words : k.words.items ≡ words_from 0 b.table.items

@@ -1,5 +1,5 @@
--- The faults of a source as they are looked for: by tests of each line in the order of their numbers. S6 to S8, of its
--- names, are those of the symbols.
+-- The faults of a source by tests of each line, in the order of their numbers. S6 to S8, the faults of names, are those
+-- of `ed_symbols`.
 use Rattle.std.specs.Prelude.{◌≡◌, ℕ, ◌+◌, nat_eq, nat_lt, nat_le, min, max, ◌||◌, ◌&&◌, not, Bool, true, false}
 use Rattle.std.specs.Prelude.{List, [], ◌∷◌, ◌++◌, length, Option, Some, None, is_some, is_none, if◌then◌else◌}
 use Rattle.std.specs.List.{list_any, list_all}
@@ -23,21 +23,21 @@ use Rattle.ed_symbols.specs.Names.{place_on}
 use Rattle.ed_symbols.specs.Faults.{or_later, resolved}
 use Rattle.ed_link.specs.Linked.{first_place, end_place, set_to, homes_of}
 
--- the places of a line's words, from the first to the one behind the last
+-- the extent of a line's words: the first location, and the one after the last
 abbrev pub word_run : Option Statement → Spot → ℕ × ℕ
 word_run st s = (first_place st s, end_place st s)
 
--- the one place of a name
+-- the extent of one location, or an empty one
 abbrev pub run_at : Option ℕ → ℕ × ℕ
 run_at None = (0, 0)
 run_at (Some p) = (p, p + 1)
 
--- the places that a line needs: those of its words, and at `enter` that of its name
+-- the extent that a line needs: that of its words, and for `enter` the location of its name
 abbrev pub reach : List Home → Option Statement → Spot → ℕ × ℕ
 reach homes (Some (Enter name)) s = run_at (place_on homes None name)
 reach homes st s = word_run st s
 
--- whether one of these places is from a place on and below another
+-- whether two extents overlap
 abbrev pub meets : ℕ × ℕ → ℕ × ℕ → Bool
 meets run other = nat_lt (max run.0 other.0) (min run.1 other.1)
 
@@ -58,7 +58,7 @@ abbrev pub has_no_routine : Option Statement → Bool
 has_no_routine (Some (Fetch routine name ts)) = is_none (find routine)
 has_no_routine st = false
 
--- whether as many letters are set as a routine has parameters, and each of these
+-- whether as many letters are set as the routine has parameters, and each of these is set
 abbrev pub sets : List Setting → Option ℕ → Bool
 sets ts None = true
 sets ts (Some r) = nat_eq (length ts) (length (entry r).parameters)
@@ -84,7 +84,7 @@ abbrev pub any_enter : List Line → Bool
 any_enter [] = false
 any_enter (l ∷ lines) = is_enter l.statement || any_enter lines
 
--- S16: behind the first `enter` any form but `data`, and before it `data`, where there is one
+-- S16: after the first `enter` any form but `data`; before it `data`, in a source that has an `enter`
 abbrev pub is_misplaced : Bool → Bool → Line → Bool
 is_misplaced entered any l =
     if entered then (is_some l.label || is_some l.statement) && not (is_rows l.statement)
@@ -95,19 +95,19 @@ abbrev pub has_sandwich : Option Statement → Bool
 has_sandwich (Some (Long v)) = (halves_of v).sandwich
 has_sandwich st = false
 
--- what the lines before a line leave: the places of their words, and whether one is an `enter`
+-- what the lines before a line leave: the extents of their words, and whether one is an `enter`
 pub record LinesBefore : Type 0 where
   pub runs : List (ℕ × ℕ)
   pub entered : Bool
 
--- the same behind a line
+-- the same after one more line
 abbrev pub past_of : LinesBefore → Line → Spot → LinesBefore
 past_of past l s = record {
   runs = past.runs ++ word_run l.statement s ∷ [];
   entered = past.entered || is_enter l.statement;
 }
 
--- of the faults S9 to S17 of a line the one with the least number
+-- the fault of a line with the least number, among S9 to S17
 abbrev pub cause_of : Size → List Home → Bool → LinesBefore → Line → Spot → Option SourceCause
 cause_of z homes any past l s =
     if is_outside l s then Some causes.OutsideSegment
@@ -121,14 +121,14 @@ cause_of z homes any past l s =
     else if has_sandwich l.statement then Some causes.SandwichDigit
     else None
 
--- the fault of the least line from a spot on that has one of S9 to S17
+-- the fault of the first line, from a spot onwards, that has one of S9 to S17
 abbrev pub fault_from : Size → List Home → Bool → LinesBefore → Spot → List Line → Option SourceFault
 fault_from z homes any past s [] = None
 fault_from z homes any past s (l ∷ lines) =
     or_later l.number (cause_of z homes any past l s)
     (fault_from z homes any (past_of past l s) (passed l.statement s) lines)
 
--- S16 where there is no `enter`: at the number of lines plus 1
+-- S16 if there is no `enter`: at the number of lines plus 1
 abbrev pub missing : Bool → ℕ → Option SourceFault
 missing any n = if any then None else Some (At (n + 1) causes.Enter)
 
@@ -137,20 +137,20 @@ abbrev pub fault_line : SourceFault → ℕ
 fault_line (At line cause) = line
 fault_line Memory = 0
 
--- the fault of the lesser line; of two on one line the first
+-- the fault of the earlier line; of two on one line the first
 abbrev pub sooner : Option SourceFault → Option SourceFault → Option SourceFault
 sooner None b = b
 sooner (Some a) None = Some a
 sooner (Some a) (Some b) = if nat_le (fault_line a) (fault_line b) then Some a else Some b
 
--- the fault of a source on a machine of a size: that of the least line, and there the least number
+-- the fault of a source on a machine of this size: the least number on the first faulty line
 abbrev pub fault : Size → List Line → Option SourceFault
 fault z lines =
     sooner (resolved lines).fault
     (sooner (fault_from z (homes_of lines) (any_enter lines) (record { runs = []; entered = false }) first_spot lines)
     (missing (any_enter lines) (length lines)))
 
--- a fault is the one that is looked for, or memory ran out
+-- a fault is the one wanted, or memory ran out
 abbrev pub IsFirstFault : Option SourceFault → SourceFault → Type 0
 IsFirstFault wanted (At k c) = wanted ≡ Some (At k c)
 IsFirstFault wanted Memory = Unit {0}

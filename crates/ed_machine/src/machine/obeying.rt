@@ -1,6 +1,6 @@
-//! One order: what a machine does with a word of a kind.
+//! One order: what a machine does with a word of a given kind.
 //!
-//! Every step of it is inlined into the loop of a run, so that the machine's registers are held in the processor's.
+//! Every part of a step is inlined into the loop of a run, so the machine's registers stay in the processor's.
 
 ghost use Rattle.std.specs.Prelude.{◌≡◌, ◌<◌, ◌≤◌, ◌+◌, ◌*◌, ◌/◌, ◌^◌, Some, nat_le, nat_lt, not, unwrap_or};
 ghost use Rattle.ed_words.specs.Sizes.{locations, within};
@@ -16,7 +16,7 @@ use ed_orders::{Kind, places};
 use ed_words::{Long, Word};
 
 impl Machine {
-    /// Obeys a word of a kind.
+    /// Obeys a word of a given kind.
     #[inline(always)]
     pub(super) fn obey(&mut self, kind: Kind, word: Word) -> Turn
         requires room { self.old.orders < 2 ^ 63 }
@@ -120,7 +120,7 @@ impl Machine {
         }
     }
 
-    /// Writes the top 17 or 35 digits of the accumulator.
+    /// Writes the 17 or 35 most significant digits of the accumulator.
     #[inline(always)]
     fn write_top(&mut self, word: Word)
         ensures { self.new ≡ record self.old
@@ -161,7 +161,7 @@ impl Machine {
         self.acc.is_negative()
     }
 
-    /// Jumps to the order's address where `jumps`, and else goes on.
+    /// Jumps to the order's address if `jumps`, and goes on otherwise.
     #[inline(always)]
     fn jump(&mut self, word: Word, jumps: bool) -> Turn
         requires { self.old.orders < 2 ^ 63 }
@@ -219,7 +219,7 @@ impl Machine {
     }
 }
 
-/// The number of a code, and 0 for none.
+/// The number of a code, or 0 for None.
 fn code_or_zero(code: Option<Code>) -> u8
     ensures is { result ≡ unwrap_or code 0 }
     ensures fits { result < 32 }

@@ -1,4 +1,4 @@
--- How the stages of a part stand to what is told.
+-- How the stages of a part relate to the report.
 use Rattle.std.specs.Prelude.{ℕ, ◌≡◌, ◌+◌, ◌++◌, List, Option, Result, Ok, Err}
 use Rattle.ed_machine.specs.State.{State}
 use Rattle.ed_machine.specs.Steps.{state_after}
@@ -15,30 +15,30 @@ use Rattle.ed_parts.specs.Parts.{ComesHome, Concludes, Finishes, GoesBack, IsTol
 use Rattle.ed_parts.specs.Parts.{BreaksPart, ReachesPart, part_behind}
 use Rattle.ed_parts.specs.Parts.{read_before}
 
--- a program ended or came back
+-- a program ended or returned
 abbrev pub Meets : ℕ → State → Met → State → Type 0
 Meets left s (Finished ending) last = (k : ℕ) × Finishes left k s ending × (last ≡ state_after k s)
 Meets left s (Returned orders) last = ComesHome left orders s × (last ≡ state_after orders s)
 
--- the part that a stage stands for
+-- the part that a stage represents
 abbrev pub stage_part : Stage → State → TapePart
 stage_part stage s = record { number = stage.number; done = stage.done; state = s }
 
--- an arrival tells of an entry
+-- an arrival describes an entry
 pub record IsArrival (rows : ℕ) (p : TapePart) (a : Arrival) (e : TapeEntry) : Type 0 where
   pub leads : LeadsTo p e
   pub at_is : a.at ≡ e.at
   pub orders_are : a.orders ≡ e.cost
   pub rows_are : a.rows ≡ read_before rows p + e.rows
 
--- a sink has gained a first part of what is told from a part on
+-- a sink has gained a first part of the report from a part onwards
 pub record BreaksTold (limit rows : ℕ) (p : TapePart) (before after : Option (List ℕ)) : Type 0 where
   pub returns : ℕ
   pub tale : Told
   pub told : IsTold limit rows returns p tale
   pub gains : GainsPart before after tale.text
 
--- a part was passed: it is the last one, and what it tells is told; or its program went back, and its lines are told;
+-- a part was passed: it is the last one, and its report is written; or its program returned, and its lines are written;
 -- or it broke off
 abbrev pub Passes : ℕ → ℕ → TapePart → Result Passed PartsFault → State → Option (List ℕ) → Option (List ℕ) → Type 0
 Passes limit rows p (Ok (Over end)) last before after =
@@ -49,7 +49,7 @@ Passes limit rows p (Ok (Back done)) last before after =
 Passes limit rows p (Err fault) last before after =
     BreaksTold limit rows p before after × BreaksPart limit rows p fault last before after
 
--- so far the lines of parts that went back are told, and what is told from here on completes what is told of the tape
+-- the lines of the parts that returned are written so far, and the report from here on completes the report on the tape
 pub record Ahead (limit rows : ℕ) (first p : TapePart) (before after : Option (List ℕ)) : Type 0 where
   pub returns : ℕ
   pub text : List ℕ

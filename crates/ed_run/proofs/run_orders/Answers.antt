@@ -32,7 +32,7 @@ goes : (c : goal.Joined-step) (turn : Turn) → (step c.loop-done.machine).turn 
     → end_by (step c.loop-done.machine).turn (is_full c.loop-done.paper) ≡ None
 goes c turn is obeyed = none_ends _ _ (ap is_obeyed is ∙ obeyed) (either_way c)
 
--- the paper has room where the order prints
+-- the paper has room if the order prints
 room : (c : goal.Joined-step) {code : _} → (step c.loop-done.machine).turn ≡ Printed code
     → is_full c.loop-done.paper ≡ false
 room c is = by_branch (either_way c) (ap prints is)

@@ -1,4 +1,4 @@
--- The lines of a script, as they are read.
+-- The commands of a script's lines, read from the left.
 use Rattle.std.specs.Prelude.{ℕ, ◌+◌, ◌==◌, ◌||◌, List, [], ◌∷◌, codes, map, nat_le, if◌then◌else◌}
 use Rattle.std.specs.Prelude.{Option, Some, None, is_none, option_map, unwrap_or}
 use Rattle.std.specs.Str.{bytes_eq}
@@ -60,7 +60,7 @@ of_parts parts = None
 abbrev pub session_command : Text → Option Command
 session_command line = of_parts (parts_between_spaces line)
 
--- the number of the first bad line, from number k on
+-- the number of the first bad line; the first of these lines has the number k
 abbrev pub bad_from : ℕ → List Text → Option ℕ
 bad_from k [] = None
 bad_from k (line ∷ rest) = if k == 1001 || is_none (session_command line) then Some k else bad_from (k + 1) rest

@@ -3,7 +3,7 @@ use Rattle.std.specs.Prelude.{◌≤◌}
 use Rattle.ed_stepper.specs.declared.commands.Command.{Command}
 use Rattle.ed_stepper.specs.declared.commands.Command.TheVariants.{Trace, Show}
 
--- a trace of at most 10,000 orders, locations of the store
+-- a trace is of at most 10,000 orders; locations are those of the store
 abbrev pub IsCommandInRange : Command → Type 0
 IsCommandInRange (Trace n) = n ≤ 10000
 IsCommandInRange (Show a b) = (a ≤ b) × (b ≤ 1023)

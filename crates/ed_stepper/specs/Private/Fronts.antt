@@ -7,23 +7,23 @@ use Rattle.ed_words.specs.Texts.{Text}
 use Rattle.ed_stepper.specs.Commands.{is_space}
 use Rattle.ed_stepper.specs.Private.CommandReading.{parts_between_spaces}
 
--- how many spaces a text begins with
+-- the number of spaces at the beginning of a text
 abbrev pub blanks : Text → ℕ
 blanks = position_or_len (λ b. not (is_space b))
 
--- how many bytes other than spaces it begins with
+-- the number of bytes before its first space
 abbrev pub solid : Text → ℕ
 solid = position_or_len is_space
 
--- how many bytes other than line feeds
+-- the number of bytes before its first line feed
 abbrev pub unended : Text → ℕ
 unended = position_or_len (λ b. b == 10)
 
--- where the first line stops that ends at a line feed: a carriage return just before it belongs to the end
+-- where the first line stops, if its line feed is at `end`: a carriage return just before it belongs to the end
 abbrev pub stop_of : Text → ℕ → ℕ
 stop_of text end = if nat_lt 0 end && slice_index text (end - 1) == 13 then end - 1 else end
 
--- the first part, and what stands behind it; or no part
+-- the first part, and what follows it; or no part
 abbrev pub TakesPart : Text → Option (Bor Text × Bor Text) → Type 0
 TakesPart line (Some p) = parts_between_spaces line ≡ p.0.now ∷ parts_between_spaces p.1.now
 TakesPart line None = parts_between_spaces line ≡ []

@@ -5,16 +5,16 @@ use Rattle.ed_machine.specs.State.{State}
 use Rattle.ed_machine.specs.Steps.{IsFree, state_after}
 use Rattle.ed_stepper.specs.declared.marks.Mark.{Mark}
 
--- a copy of the machine is that of the state after so many orders
+-- a copy of the machine is that of the state after `done` orders
 pub record IsMark (start : State) (m : Mark) : Type 0 where
   pub is : m.machine ≡ state_after m.done start
   pub count : m.machine.orders ≤ start.orders + m.done
 
--- each copy is
+-- each copy is such a one
 abbrev pub AreMarks : State → List Mark → Type 0
 AreMarks start marks = All (λ m. IsMark start m) marks
 
--- the machine stands so many orders after the start, each of them was obeyed, and each copy is one
+-- the machine is in the state `done` orders after the start, each of them was obeyed, and each copy is right
 pub record IsSession (start : State) (machine : State) (marks : List Mark) (limit done : ℕ) : Type 0 where
   pub is : machine ≡ state_after done start
   pub count : machine.orders ≤ start.orders + done

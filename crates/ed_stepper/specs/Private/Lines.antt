@@ -8,7 +8,7 @@ use Rattle.ed_stepper.specs.declared.moves.BackFault.{BackFault}
 use Rattle.ed_stepper.specs.declared.moves.BackFault.TheVariants.{TooFar, Memory}
 
 -- the line has run and this is what it writes; it goes back too far and has changed nothing; or memory ran out before
--- it ran or behind it
+-- or after it ran
 abbrev pub LineEnds : Command → Stand → Result (Vec ℕ Global) BackFault → Stand → Type 0
 LineEnds command s (Ok text) t = (is_too_far command s ≡ false) × (text.items ≡ writes command s)
     × (t ≡ left_by command s)

@@ -1,4 +1,4 @@
--- What the code answers, by the definitions.
+-- The answers of the code, by the definitions.
 use Rattle.std.specs.Prelude.{◌≡◌, List, Result, Ok, Err, Vec}
 use Rattle.std.specs.declared.alloc.Global.{Global}
 use Rattle.ed_syntax.specs.Private.SourceReading.{Fault}

@@ -1,6 +1,6 @@
--- The forms of a line, as they are read from its parts. Each definition answers none where the parts don't have its
--- form. What has a form is `Ranged`: it is given where its numbers are in their
--- ranges. The argument `two` says whether the source is of version 2.
+-- The forms of a line, read from its parts. Each definition answers None if the parts don't have its form, and `Some`
+-- of something `Ranged` if they do: that is None if a number is out of its range.
+-- The argument `two` says whether the source is of version 2.
 use Rattle.std.specs.Prelude.{ℕ, zero, suc, ◌==◌, ◌&&◌, ◌||◌}
 use Rattle.std.specs.Prelude.{Bool, true, false, ℤ, pos}
 use Rattle.std.specs.Prelude.{List, [], ◌∷◌, codes, length, map, nat_le, if◌then◌else◌}
@@ -19,21 +19,21 @@ use Rattle.ed_syntax.specs.declared.program.Statement.{Statement}
 use Rattle.ed_syntax.specs.declared.program.Statement.TheVariants as statements
 use Rattle.ed_syntax.specs.declared.program.Form.{Form}
 
--- what has a form: none where a number of it is out of its range
+-- something that has a form; None if one of its numbers is out of its range
 abbrev pub Ranged : Type 0 → Type 0
 Ranged A = Option A
 
--- what is made of what has a form, where its numbers are in their ranges
+-- what a function makes of something that has a form, if its numbers are in their ranges
 abbrev pub made : {A B : Type 0} → (A → B) → Option (Ranged A) → Option (Ranged B)
 made f o = option_map (option_map f) o
 
 -- ---- names and numbers
 
--- the number that digits spell, where it is at most this
+-- the number that digits spell, if it is at most `most`
 abbrev pub up_to : ℕ → Text → Ranged ℕ
 up_to most digits = if nat_le (value digits) most then Some (value digits) else None
 
--- a number from 0 to this
+-- a number from 0 to `most`
 abbrev pub number_up_to : ℕ → Text → Option (Ranged ℕ)
 number_up_to most r = if is_number r then Some (up_to most r) else None
 
@@ -50,12 +50,12 @@ abbrev pub spells : Option ℕ → Bool
 spells (Some code) = true
 spells None = false
 
--- the row of a byte that spells one
+-- the row of a byte that spells one, and 0 for any other byte
 abbrev pub row : Option ℕ → ℕ
 row (Some code) = code
 row None = 0
 
--- a string: one or more bytes that spell rows, between quotes; a line has no room for more than 120
+-- a string: 1 to 120 bytes that spell rows, between quotes; a line has no room for more than 120
 abbrev pub string_rows : Text → Option (List ℕ)
 string_rows q = if nat_le 1 (length q) && (nat_le (length q) 120 && list_all (λ b. spells (row_of b)) q)
     then Some (map (λ b. row (row_of b)) q) else None
@@ -85,7 +85,7 @@ joined_operand two r s n = if is_place_name two r
     else None)
     else None
 
--- an operand, and the parts behind it
+-- an operand, and the parts after it
 abbrev pub with_rest : List LinePart → Option (Ranged Operand) → Option (Ranged Operand × List LinePart)
 with_rest parts o = option_map (λ a. (a, parts)) o
 
@@ -94,7 +94,7 @@ abbrev pub joined_front : Bool → Text → ℕ → List LinePart → Option (Ra
 joined_front two r s (run n ∷ parts) = with_rest parts (joined_operand two r s n)
 joined_front two r s _ = None
 
--- an operand at the front, and the parts behind it
+-- an operand at the front, and the parts after it
 abbrev pub operand : Bool → List LinePart → Option (Ranged Operand × List LinePart)
 operand two (run r ∷ sign s ∷ parts) =
     if is_plus_or_minus s then joined_front two r s parts else with_rest (sign s ∷ parts) (single two r)
@@ -108,12 +108,12 @@ abbrev pub length_end : List LinePart → Option Bool
 length_end (sign e ∷ []) = length_of e
 length_end _ = None
 
--- what follows the function: an operand, which may be missing and is the number 0 then, and the length
+-- what follows the function: an operand, which is the number 0 if omitted, and the length
 abbrev pub order_end : Bool → List LinePart → Option (Ranged Operand × Bool)
 order_end two (sign e ∷ parts) = option_map (λ l. (Some (operands.Number 0), l)) (length_end (sign e ∷ parts))
 order_end two parts = option_and_then (λ p. option_map (λ l. (p.0, l)) (length_end p.1)) (operand two parts)
 
--- an order: a function, an operand that may be missing, and F or D
+-- an order: a function, an operand that may be omitted, and F or D
 abbrev pub order : Bool → ℕ → List LinePart → Option (Ranged Statement)
 order two b parts =
     option_and_then (λ f. option_map (λ p. option_map (λ o. statements.Order f o p.1) p.0) (order_end two parts))
@@ -125,7 +125,7 @@ order two b parts =
 abbrev pub lettered : ℕ → Ranged Operand → Ranged Setting
 lettered l o = option_map (λ a. record { letter = l; operand = a }) o
 
--- a setting at the front, and the parts behind it: a letter, `=` (61) and an operand
+-- a setting at the front, and the parts after it: a letter, `=` (61) and an operand
 abbrev pub setting : Bool → List LinePart → Option (Ranged Setting × List LinePart)
 setting two (sign b ∷ sign e ∷ parts) = if e == 61
     then option_and_then (λ l. option_map (λ p. (lettered l p.0, p.1)) (operand two parts)) (setting_letter b)
@@ -137,7 +137,7 @@ abbrev pub both : Ranged Setting → Ranged (List Setting) → Ranged (List Sett
 both (Some s) (Some more) = Some (s ∷ more)
 both _ _ = None
 
--- behind a setting: nothing, or a comma (44) and more settings
+-- after a setting: nothing, or a comma (44) and more settings
 abbrev pub and_more : Ranged Setting → List LinePart → (List LinePart → Option (Ranged (List Setting)))
     → Option (Ranged (List Setting))
 and_more s [] more = Some (option_map (λ a. a ∷ []) s)
@@ -243,6 +243,6 @@ abbrev pub is_version_two : List LinePart → Bool
 is_version_two (run w ∷ run n ∷ []) = bytes_eq w (codes "version") && (is_number n && value n == 2)
 is_version_two _ = false
 
--- the line with the number k: `version 2` as line 1 is otherwise an empty line
+-- the line with the number k: `version 2` on line 1 counts as an empty line
 abbrev pub form_at : Bool → ℕ → List LinePart → Option (Ranged Form)
 form_at two k parts = if k == 1 && is_version_two parts then Some (Some empty) else form two parts

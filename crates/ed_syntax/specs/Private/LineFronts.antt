@@ -5,7 +5,7 @@ use Rattle.ed_syntax.specs.Lines.{lines_of}
 use Rattle.ed_syntax.specs.Private.SourceReading.{Fault}
 use Rattle.ed_syntax.specs.declared.program.Line.{Line}
 
--- the first line, and what stands behind its end
+-- the first line, and what follows its end
 pub record TakesLine (text line rest : Text) : Type 0 where
   pub lines : lines_of text ≡ line ∷ lines_of rest
   pub shorter : length rest < length text

@@ -1,7 +1,7 @@
 -- How a name lies in memory.
 use Rattle.std.specs.Prelude.{◌≡◌, ℕ, ◌-◌, ◌<◌, ◌≤◌, List, ◌++◌, length, take, replicate, IsUtf8}
 
--- the bytes of a name in 16, filled up with 0
+-- the bytes of a name in an array of 16, padded with 0
 abbrev pub padded : List ℕ → List ℕ
 padded text = text ++ replicate (16 - length text) 0
 

@@ -21,12 +21,12 @@ pub record SplitsRun (text first rest : Text) : Type 0 where
   pub each : list_all is_run_byte first ≡ true
   pub end : begins_run rest ≡ false
 
--- the first quote of a text stands between what is inside and the rest
+-- the first quote of a text stands between `inside` and the rest
 pub record SplitsQuote (text inside rest : Text) : Type 0 where
   pub whole : text ≡ inside ++ 34 ∷ rest
   pub none : has_quote inside ≡ false
 
--- the part at the front, and what is left; no part; or a quote that stays open
+-- the part at the front, and what is left; no part; or a quote that is never closed
 abbrev pub Takes : Text → Result (Option (Part × Bor Text)) OpenQuote → Type 0
 Takes text (Ok (Some p)) = (parts_of text ≡ option_map (λ ps. part p.0 ∷ ps) (parts_of p.1.now))
     × (length p.1.now < length text)

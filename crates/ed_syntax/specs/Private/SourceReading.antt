@@ -1,4 +1,4 @@
--- The lines of a source, as they are read one after the other up to the first fault of form.
+-- The lines of a source, read one after the other up to the first fault of form.
 use Rattle.std.specs.Prelude.{ℕ, ◌+◌, ◌==◌, not, Bool, false, List}
 use Rattle.std.specs.Prelude.{[], ◌∷◌, length, nat_lt, if◌then◌else◌}
 use Rattle.std.specs.Prelude.{Option, Some, None, Result, Ok, Err, option_and_then}
@@ -31,12 +31,12 @@ line_of two k line = if not (list_all is_line_byte line) then Err BadByte
     else if nat_lt 120 (length line) then Err LongLine
     else or_cause (option_and_then (form_at two k) (parts_of line))
 
--- a line in front of others
+-- a line before others
 abbrev pub with_first : Line → Result (List Line) Fault → Result (List Line) Fault
 with_first l (Ok rest) = Ok (l ∷ rest)
 with_first l (Err e) = Err e
 
--- the line k, and the lines behind it
+-- the line k, and the lines after it
 abbrev pub and_lines : ℕ → Result Form SourceCause → Result (List Line) Fault → Result (List Line) Fault
 and_lines k (Err c) rest = Err (record { line = k; cause = c })
 and_lines k (Ok f) rest = with_first (record { number = k; label = f.label; statement = f.statement }) rest
@@ -61,6 +61,6 @@ is_two (line ∷ rest) = says_two (parts_of line)
 abbrev pub version_of : Text → ℕ
 version_of text = if is_two (lines_of text) then 2 else 1
 
--- the lines of a source, or its fault of form: that of the least line, with the least number
+-- the lines of a source, or its fault of form: that of the first faulty line, with the least number
 abbrev pub program_of : Text → Result (List Line) Fault
 program_of text = lines_from (is_two (lines_of text)) 1 (lines_of text)

@@ -1,4 +1,4 @@
--- How the stages of the program stand to the outcome that is due: the input, what a command replies or writes, and the
+-- How the stages of the program relate to the outcome that is due: the input, what a command replies or writes, and the
 -- last line.
 use Rattle.std.specs.Prelude.{◌≡◌, ℕ, ◌<◌, ◌≤◌, Bool, true, false, [], length, Result, Ok, Err, Vec}
 use Rattle.std.specs.declared.alloc.Global.{Global}
@@ -20,7 +20,7 @@ use Rattle.ed_top.specs.declared.devices.Stop.TheVariants.{Failed, Memory}
 
 -- ---- the input
 
--- nothing, where none is read, and the source is as it was; or the whole of it, where it is not too long
+-- no input, if none is read, and the source is unchanged; or the whole input, if it is not too long
 abbrev pub HasInput : Bool → Device → Result (Vec ℕ Global) InputStop → Type 0
 HasInput false source (Ok v) = (length v.items ≤ 262144) × (source.after ≡ source.before) × NeverFailed source
 HasInput true source (Ok v) = (length v.items ≤ 262144) × Loses source.before source.after v.items
@@ -31,7 +31,7 @@ HasInput reads source (Err input.TooLong) =
     (reads ≡ true) × ((bytes : Text) × (length bytes ≡ 262145) × Loses source.before source.after bytes)
     × NeverFailed source
 
--- the source's count of faults after it was read: one more where a read failed, and else as before
+-- the source's count of faults after it was read: one more if a read failed, else unchanged
 abbrev pub input_faults : {T : Type 0} → Result T InputStop → ℕ → ℕ
 input_faults (Ok v) before = before
 input_faults (Err input.Failed) before = next_count before
@@ -40,13 +40,13 @@ input_faults (Err input.TooLong) before = before
 
 -- ---- a command
 
--- all that is due on `out` is there, and the line and the status are still to tell
+-- all that is due on `out` has been written; the line and the status are still due
 pub record IsToTell (out : Device) (line : Text) (status : ℕ) (o : Outcome) : Type 0 where
   pub wrote : Wrote out o.out
   pub note_is : line ≡ o.note
   pub status_is : status ≡ o.status
 
--- a command was carried out on an input as far as `out` goes
+-- a command was carried out on an input, as far as `out` is concerned
 abbrev pub Carried : Answer → Text → Device → Result Rest Stop → Type 0
 Carried answer input out (Ok rest) = (rest.status < 8)
     × ForInput answer input (IsToTell out rest.note.items rest.status) × NeverFailed out

@@ -1,4 +1,4 @@
--- A text that grows letter by letter, and is written line by line.
+-- A text that grows letter by letter and is written line by line.
 use Rattle.std.specs.Prelude.{ℕ, ◌≡◌, ◌-◌, ◌%◌, ◌<◌, Bool, true, false, List, [], ◌∷◌, ◌++◌, length}
 use Rattle.std.specs.Prelude.{Option, None, Result, Ok, Err}
 use Rattle.ed_codes.specs.Spelling.{byte_of}
@@ -16,21 +16,21 @@ use Rattle.ed_report.specs.Traces.{functions_after, letters_from}
 abbrev pub letter : State → ℕ
 letter s = byte_of (function_of (next_word s)) false
 
--- the letters of the first k orders, with the line feeds of the lines that are full
+-- the letters of the first k orders, with a line feed after each full line
 abbrev pub traced_letters : ℕ → State → List ℕ
 traced_letters k s = letters_from 0 (functions_after k s)
 
--- of the first k orders, those whose lines are full
+-- how many of the first k orders have their letters in full lines
 abbrev pub lined : ℕ → ℕ
 lined k = k - k % 50
 
--- the first k orders are traced: their full lines have been written, and the last line, which is not full, is held back
+-- the first k orders are traced: their full lines have been written, and the last line, if not full, is held back
 pub record Lines (k : ℕ) (s : State) (before after : Option (List ℕ)) (held : List ℕ) : Type 0 where
   pub gains : Gains before after (traced_letters (lined k) s)
   pub whole : traced_letters k s ≡ traced_letters (lined k) s ++ held
   pub few : length held ≡ k % 50
 
--- a letter was put on a line, which was written if it was then full
+-- a letter was added to a line; if that filled the line, it was written
 abbrev pub Puts : Bool → Result (Unit {0}) Failed → Option (List ℕ) → Option (List ℕ) → List ℕ → ℕ → List ℕ → Type 0
 Puts true (Ok u) old new line letter left = Gains old new (line ++ letter ∷ 10 ∷ []) × (left ≡ [])
 Puts true (Err e) old new line letter left = GainsPart old new (line ++ letter ∷ 10 ∷ [])
@@ -44,7 +44,7 @@ EndsLine [] (Err e) old new = ⊥
 EndsLine (l ∷ line) (Ok u) old new = Gains old new ((l ∷ line) ++ 10 ∷ [])
 EndsLine (l ∷ line) (Err e) old new = GainsPart old new ((l ∷ line) ++ 10 ∷ [])
 
--- the run ended so, and its letters have been written but for the last line that is not full
+-- the run ended this way, and its letters have been written, except for a last line that is not full
 pub record Traces (limit resumes : ℕ) (s : State) (ending : Ending) (last : State) (before after : Option (List ℕ))
     (held : List ℕ) : Type 0 where
   pub orders : ℕ
@@ -52,7 +52,7 @@ pub record Traces (limit resumes : ℕ) (s : State) (ending : Ending) (last : St
   pub state_is : last ≡ state_after orders s
   pub lines : Lines orders s before after held
 
--- before the run ended, the write of a line failed that was full after k orders
+-- before the run ended, the write of the line that was full after k orders failed
 pub record BreaksTrace (limit resumes : ℕ) (s last : State) (before after : Option (List ℕ)) : Type 0 where
   pub orders : ℕ
   pub some : 0 < orders

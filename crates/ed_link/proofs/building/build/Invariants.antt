@@ -1,7 +1,7 @@
 use Rattle.ed_link.proofs.LineLoop.{Doing}
 use Rattle.ed_link.proofs.building.build.Given as goal
 
--- what is made of the lines so far, and then of those that are left
+-- what is built from the lines so far, and then from those that are left
 abbrev pub invariant-loop-line : goal.invariant-loop-line
 invariant-loop-line l = Doing l.size l.homes l.any l.lines l.line-index (record {
   past = record { runs = l.past.runs.items; entered = l.past.entered };

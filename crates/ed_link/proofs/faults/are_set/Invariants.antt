@@ -3,7 +3,7 @@ use Rattle.std.specs.List.{list_all}
 use Rattle.ed_link.specs.Linked.{set_to}
 use Rattle.ed_link.proofs.faults.are_set.Given as goal
 
--- the same of the letters that are left
+-- the same for the letters that are left
 abbrev pub invariant-loop-letter : goal.invariant-loop-letter
 invariant-loop-letter l =
     list_all (λ c. is_some (set_to l.settings c)) (drop l.letter-index l.letters)

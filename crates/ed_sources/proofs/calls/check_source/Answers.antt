@@ -6,7 +6,7 @@ use Rattle.ed_report.proofs.Texts.{told}
 use Rattle.ed_sources.proofs.TextLines.{line_end}
 use Rattle.ed_sources.proofs.calls.check_source.Goals as goal
 
--- the text before the number's digits, and that behind them
+-- the text before the number's digits, and that after them
 abbrev front : Text
 front = text_of_lines (codes "segment main" ∷ codes "here: A here F" ∷ codes "G p F" ∷ codes "Z F" ∷ [])
     ++ codes "value: word "

@@ -6,7 +6,7 @@ use Rattle.ed_report.proofs.Texts.{told}
 use Rattle.ed_sources.proofs.TextLines.{line_end}
 use Rattle.ed_sources.proofs.calls.divide_source.Goals as goal
 
--- the text before the digits of the first number, and that behind those of the last
+-- the text before the digits of the first number, and that after those of the last
 abbrev front : Text
 front = text_of_lines (codes "segment main" ∷ codes "here: A here F" ∷ codes "G v F" ∷ codes "then: A then F" ∷ codes
     "G p F"

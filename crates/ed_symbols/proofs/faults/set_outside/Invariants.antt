@@ -3,7 +3,7 @@ use Rattle.std.specs.List.{list_any}
 use Rattle.ed_symbols.specs.Faults.{is_no_address, operand_of}
 use Rattle.ed_symbols.proofs.faults.set_outside.Given as goal
 
--- the same of the settings that are left
+-- the same for the settings that are left
 abbrev pub invariant-loop-setting : goal.invariant-loop-setting
 invariant-loop-setting l =
     list_any (λ t. is_no_address l.homes l.segment (operand_of t)) (drop l.setting-index l.settings)

@@ -2,7 +2,7 @@ use Rattle.std.proofs.Common.{◌∙◌, sym}
 use Rattle.ed_symbols.proofs.Least.{is_least_at}
 use Rattle.ed_symbols.proofs.places.find_fault.Goals as goal
 
--- the line that is looked at has a fault, and none before it had one
+-- the current line has a fault, and none before it had one
 pub returns-in-Some : goal.returns-in-Some
 returns-in-Some c =
     sym (is_least_at c.args.homes.now c.loop-line.earlier.items c.loop-line.spot c.deref-line-items.ensures.value

@@ -27,13 +27,13 @@ use Rattle.ed_answers.proofs.Sources.{headline}
 use Rattle.ed_top.proofs.TapeEntries.{tapes_run_from_entry}
 use Rattle.ed_top.proofs.program.edsac.Goals as goal
 
--- a program that ended as a line wants ended as the words want which are that line
+-- a program that ended as a command requires ended as the words that are that command require
 by_line : (words line : Option Command) (source out note : Device) (status : ℕ) → words ≡ line
     → ProgramEnded (output line) source out note status → ProgramEnded (output words) source out note status
 by_line words line source out note status is ended =
     subst (λ (l : Option Command). ProgramEnded (output l) source out note status) (sym is) ended
 
--- words that are refused are no line
+-- words that are refused are not a command
 usage_line : (words : Option Command) (fault : CommandFault) → fault ≡ Usage → AnswersWords words (Err fault)
     → words ≡ None
 usage_line words Usage is answers = answers

@@ -5,7 +5,7 @@ use Rattle.ed_writer.specs.Private.LineTexts.{has_few}
 use Rattle.ed_writer.specs.Written.{text_of_program}
 use Rattle.ed_writer.proofs.program.lines_text.Given as goal
 
--- what is to be shown of all lines is left to be shown of those after the ones so far
+-- what remains to be shown for all lines is what remains for those after the ones so far
 abbrev pub invariant-loop-line : goal.invariant-loop-line
 invariant-loop-line l = record {
   text : l.text.items ++ text_of_program l.two (drop l.line-index l.lines) ≡ text_of_program l.two l.lines;
