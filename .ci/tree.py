@@ -35,12 +35,12 @@ def stands_on():
 
 
 def below(name, crates):
-    """The crates that a crate stands on, near and far."""
+    """The crates that a crate depends on, directly or through others."""
     return set(crates[name]).union(*(below(other, crates) for other in crates[name]))
 
 
 def nearest(name, crates):
-    """The crates that a crate stands on without another between them, in the order of its line."""
+    """The crates that a crate depends on directly and through no other, in the order of its line."""
     return [other for other in crates[name] if not any(other in below(third, crates) for third in crates[name])]
 
 
@@ -83,7 +83,7 @@ def size(name):
 
 def copy(names, to):
     """Copies some crates into an empty folder, without their must-fail edits and without what was made of them."""
-    (to / ".git").mkdir()  # rt takes a folder as the top of a repository where this stands
+    (to / ".git").mkdir()  # rt takes a folder with this in it as the top of a repository
     shutil.copyfile(ROOT / "HANDLES", to / "HANDLES")
     lines = (ROOT / "crates.txt").read_text().splitlines(keepends=True)
     (to / "crates.txt").write_text("".join(line for line in lines if re.split(r"[ :]", line)[0] in names))
@@ -105,7 +105,7 @@ def lines_above_tests(path):
 
 
 def without_generics(text):
-    """A line without what stands in angle brackets, as `impl Sink for StdSink` of `impl<W: Write> Sink for StdSink<W>`."""
+    """A line without what is in angle brackets, as `impl Sink for StdSink` of `impl<W: Write> Sink for StdSink<W>`."""
     kept, depth = [], 0
     for at, sign in enumerate(text):
         if sign == "<":
@@ -138,7 +138,7 @@ def prose(page):
 
 
 def code(text):
-    """The parts of a page's text that stand four blanks in."""
+    """The parts of a page's text that are indented by four blanks."""
     return re.findall(r"(?:^    .*\n)+", text, re.M)
 
 

@@ -1,5 +1,5 @@
-[A loop over long locations: multiply, shift right and left, round, transfer. The long numbers stand at even places
-behind the stop order.]
+[A loop over long locations: multiply, shift right and left, round, transfer. The long numbers are at even locations
+after the stop order.]
 T64K GK
 H10#@ V12#@ RD LD YF T14#@ E@
 ZF PF PF

@@ -15,7 +15,7 @@ const WHOLE = [
 ];
 
 (async () => {
-    let isWhole = false; // whether the whole page was tried: with the other module only what that can change is
+    let isWhole = false; // whether the whole page was tried; with the other module only what that can change is
     for (const [name, hash] of [['wide', ''], ['narrow', '#narrow']]) {
         await b.open(hash);
         const has = await b.ask(`MODULES.${name} !== '' && (${name === 'narrow'} || hasWideMemories())`);

@@ -1,5 +1,5 @@
 'use strict';
-// A real browser, with no library: it is spoken to by its own debugging protocol over two pipes.
+// A real browser, without a library: this speaks its debugging protocol over two pipes.
 const { spawn } = require('child_process');
 const fs = require('fs');
 const os = require('os');
@@ -138,7 +138,7 @@ class Browser {
 
 // A browser in the hands of somebody who knows the page.
 class Visitor extends Browser {
-    // Chooses an example, also in place of own work.
+    // Chooses an example, also instead of own work.
     async choose(name) {
         await this.set('examples', await this.run((one) => String(EXAMPLES.findIndex((example) => example.name === one)), name));
         if (await this.ask('!by("ask").hidden')) {

@@ -30,7 +30,7 @@ const storeOf = (small) => ['--store', small ? '512' : '1024'];
 const COMMANDS = { source: 'run', tape: 'tape', tape1: 'tape1' };
 const KINDS = { '.tape': 'tape', '.tape1': 'tape1', '.edsac': 'source' };
 
-// What the program tells of a run that ends after so many orders, beside the picture there.
+// What the program reports of a run that ends after a number of orders, beside the picture there.
 function compareRun(name, text, orders, resumes) {
     const size = text.kind === 'tape1' ? [] : storeOf(text.small);
     const told = program([COMMANDS[text.kind], '--limit', String(orders), '--resume', String(resumes), ...size], text.text);
@@ -47,7 +47,7 @@ function compareRun(name, text, orders, resumes) {
 
 const parts = ['status', 'orders', 'counter', 'acc', 'multiplier', 'rowsLeft', 'last'];
 
-// A picture that was gone on to, beside the one from Start.
+// A picture reached from another one, beside the one from Start.
 function compareGone(what, shown, wanted) {
     same(what, parts.map((part) => shown[part]).join(), parts.map((part) => wanted[part]).join());
     same(`${what}: words`, shown.words.join(), wanted.words.join());
@@ -57,7 +57,7 @@ function compareGone(what, shown, wanted) {
     gone++;
 }
 
-// Going on in pieces, from each count to the next, and back to it from Start; then past two stops.
+// Continuing in pieces, from each count to the next, and back to it from Start; then past two stops.
 function compareGoing(name, text, counts) {
     const way = new Way(machine, text, machine.rows(text).out);
     let near = way.first;
@@ -77,8 +77,8 @@ function compareGoing(name, text, counts) {
     }
 }
 
-// Words of the small store after a count of orders, beside the program's post-mortem: it prints those from 144 on as
-// orders. A word whose function is no letter moves its paper, and has no line.
+// Words of the small store after a count of orders, beside the program's post-mortem, which prints those from 144
+// upwards as orders. A word whose function is not a letter moves its paper, and has no line.
 function compareSmall(name, text, counts) {
     for (const count of counts.slice(-3)) {
         const shown = machine.picture(text, count);
@@ -99,8 +99,8 @@ function compareSmall(name, text, counts) {
     }
 }
 
-// Which rows the loader itself reads as digits, by its order at 9, or at 11 in May 1949, beside those that the page labels
-// as figures.
+// Which rows the loader itself reads as digits, by its order at 9, or at 11 in May 1949, beside those that the page
+// labels as figures.
 function compareFigures(name, text) {
     const rows = machine.rows(text).out;
     const isFirst = text.kind === 'tape1', places = isFirst ? 31 : 41, reads = isFirst ? 11 : 9;
@@ -117,7 +117,7 @@ function compareFigures(name, text) {
     }
 }
 
-// The whole state after so many orders, beside what the program's sessions show.
+// The whole state after a number of orders, beside what the program's sessions show.
 function compareStates(name, text, counts) {
     if (text.small) {
         compareSmall(name, text, counts); // a session has the whole store
@@ -235,7 +235,7 @@ function compareAll(name, text, furthest) {
     [...new Set(some)].forEach((count) => compareRun(name, text, count, 0));
     compareRun(name, text, furthest, 2);
     const counts = [...new Set(some.filter((count) => count <= end))].sort((a, b) => a - b);
-    if (text.kind !== 'tape1') { // the program has no session of such a tape
+    if (text.kind !== 'tape1') { // the program has no session for such a tape
         compareStates(name, text, counts);
     }
     compareGoing(name, text, counts);

@@ -1,5 +1,5 @@
 'use strict';
-// Draws the store, the tape and the bell's sound. What it draws was handed over by the compiled machine.
+// Draws the store and the tape, and makes the bell's sound. The compiled machine hands over what is drawn.
 const COLOURS = {
     dot: '#2c9b4a', dark: '#16301f', lit: '#fff3c4', litDark: '#8f8046', band: '#3d3719',
     counter: '#ff8f7a', named: '#8ccbff', paper: '#e9dcae', ink: '#1d1a10', mark: '#ffcf3f',
@@ -11,7 +11,7 @@ const binary = (value, digits) => value.toString(2).padStart(digits, '0');
 // The height of a letter, in pixels: all that is drawn grows with it.
 const letterHigh = () => parseFloat(getComputedStyle(document.documentElement).fontSize);
 
-// A canvas in the pixels of its screen, so wide as it stands and so high.
+// A canvas in the pixels of its screen, with its present width and this height.
 function fitted(canvas, wide, high) {
     const scale = window.devicePixelRatio || 1;
     const [across, down] = [Math.max(1, Math.round(wide * scale)), Math.max(1, Math.round(high * scale))];
@@ -27,7 +27,7 @@ function fitted(canvas, wide, high) {
 }
 
 // The dots of the store: tanks of 16 long words, each of 35 dots with the high end at the left. If the page is one
-// screen, the dots are as large as their room allows. Each stands on whole pixels.
+// screen, the dots are as large as their room allows. Each begins at a whole pixel.
 class StoreView {
     constructor(canvas, isOneScreen) {
         this.canvas = canvas;
@@ -37,7 +37,7 @@ class StoreView {
         this.tanks = 32;
     }
 
-    // The places of the tanks.
+    // The corners of the tanks.
     plan(tanks) {
         const box = this.canvas.parentElement;
         const wide = box.clientWidth;
@@ -52,7 +52,7 @@ class StoreView {
         return { wide, across, gap, dot, high, scale, tankWide, tankHigh, height: down * tankHigh + gap };
     }
 
-    // The order at the counter has a solid frame, and the place that it names a broken one.
+    // The order at the counter has a solid frame, and the location that it names a broken one.
     draw(shown, before, small, named) {
         const tanks = small ? 16 : 32;
         const plan = this.plan(tanks);
@@ -85,7 +85,7 @@ class StoreView {
         return [plan.gap + column * plan.tankWide, plan.gap + row * plan.tankHigh + (pair & 15) * plan.high];
     }
 
-    // A changed word stands on a band, and its dots fill their room.
+    // A changed word has a band under it, and its dots fill their room.
     drawRow(context, plan, pair, [odd, middle, even], changed) {
         const [left, y] = this.corner(plan, pair);
         context.clearRect(left - 2, y, 35 * plan.dot + 4, plan.high);
@@ -115,7 +115,7 @@ class StoreView {
         context.setLineDash([]);
     }
 
-    // Takes a frame away: the rows that it touched are drawn again.
+    // Removes a frame: the rows that it touched are drawn again.
     unframe(context, plan, place) {
         const pair = place >> 1;
         const [left, y] = this.corner(plan, pair);
@@ -124,7 +124,7 @@ class StoreView {
         [pair - 1, pair, pair + 1].forEach((row) => this.rows.delete(row));
     }
 
-    // The place that stands at a point of the canvas, if there is one.
+    // The location at a point of the canvas, if there is one.
     placeAt(x, y) {
         const plan = this.plan(this.tanks);
         const column = Math.floor((x - plan.gap) / plan.tankWide), row = Math.floor((y - plan.gap) / plan.tankHigh);

@@ -2,11 +2,11 @@
 // The box for texts: it colours labels, orders and comments, marks a faulty line when typing rests, asks before own work
 // is replaced, and brings the text before back.
 const REST = 500; // milliseconds without a key after which a text is read
-const PAINTED = 40000; // characters: a longer text stands without colours
+const PAINTED = 40000; // characters: a longer text has no colours
 const editor = {
     isOwn: false, // whether the text was typed here
     former: undefined, // the text that was replaced last
-    waiting: undefined, // what is to happen once own work may be replaced
+    waiting: undefined, // what to do once own work may be replaced
     timer: undefined,
 };
 
@@ -63,7 +63,7 @@ function paint() {
     follows();
 }
 
-// The colours stand where the text stands.
+// The colours are where the text is.
 function follows() {
     by('colours').scrollTop = by('text').scrollTop;
     by('colours').scrollLeft = by('text').scrollLeft;

@@ -1,7 +1,7 @@
 // What the compiled machine needs on a web page beside itself: a heap, and room for what goes in and out.
 //
-// Blocks stand one after the other. A call of the machine frees each block that it took, so when none is in use the next
-// one stands at the start again.
+// Blocks are one after the other. A call of the machine frees each block that it took, so when none is in use the next
+// one is at the beginning again.
 typedef unsigned long long u64;
 typedef unsigned int u32;
 
@@ -55,8 +55,8 @@ void rattle_dealloc(char *block) {
     used--;
 }
 
-// A text may be one byte longer than the machine takes, so that the machine itself refuses it. The tape that a run goes
-// on with has a room of its own, and so have the codes that it prints.
+// A text may be one byte longer than the machine takes, so that the machine itself refuses it. The tape with which a
+// run continues has a room of its own, and so have the codes that it prints.
 static char text[262145], rows[524288], paper[2000000], digits[512], note[256], listing[65536], order[16];
 static char tape[524288], codes[1000000];
 static u32 words[1024];
@@ -77,12 +77,12 @@ __attribute__((export_name("room"))) void *room(u32 kind) {
     return rooms[kind].at;
 }
 
-// How many items it has.
+// The number of its items.
 __attribute__((export_name("room_items"))) u64 room_items(u32 kind) {
     return rooms[kind].items;
 }
 
-// How many blocks are in use: 0 between two calls.
+// The number of blocks in use: 0 between two calls.
 __attribute__((export_name("blocks"))) u64 blocks(void) {
     return used;
 }

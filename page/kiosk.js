@@ -1,6 +1,6 @@
 'use strict';
-// A museum's screen: the page's address with #kiosk=60,quiet after it. The stories are told one after the other. If the
-// page was touched, and then left alone for that many seconds, everything is as it was at the beginning.
+// A museum's screen: the page's address with #kiosk=60,quiet after it. The stories are shown one after the other. If
+// the page was touched, and then left alone for that many seconds, everything is reset to the beginning.
 const BETWEEN = 12; // seconds from the end of a story to the next one
 
 class Kiosk {
@@ -23,7 +23,7 @@ class Kiosk {
         this.since = page.clock();
     }
 
-    // Everything is again as it was: each control, box, scroll and text.
+    // Resets everything: each control, box, scroll and text.
     reset() {
         halt();
         clearTimeout(editor.timer);
@@ -59,7 +59,7 @@ class Kiosk {
         });
     }
 
-    // Looks once a second whether it is time for something.
+    // Checks once a second whether it is time for something.
     look() {
         const idle = (page.clock() - this.since) / 1000;
         if (page.tour) {

@@ -1,6 +1,6 @@
 'use strict';
-// The lessons of the course. An exercise is checked by what the machine prints or stores, beside a sum of what is due:
-// the page's text holds no answer.
+// The lessons of the course. An exercise is checked by what the machine prints or stores, beside a sum of the expected
+// result: the page's text holds no answer.
 
 // The sum of a text: FNV-1a of 64 bits.
 function sumOf(text) {
@@ -11,10 +11,10 @@ function sumOf(text) {
     return sum.toString(16).padStart(16, '0');
 }
 
-// A paper without what nobody sees on it.
+// A paper without the characters that nobody sees.
 const seenOf = (paper) => paper.replace(/\r/g, '').replace(/[ \t]+$/gm, '').replace(/\n+$/, '');
 
-// Whether the picture in which a run ended holds what a lesson asks for.
+// Whether the picture in which a run ended holds what a lesson requires.
 function isDue(due, shown, machine, text) {
     if (shown.words === undefined || shown.ending !== 'stopped') {
         return false;

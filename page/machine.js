@@ -5,7 +5,7 @@ const ENDINGS = {
     0: 'stopped', 3: 'refused', 4: 'limit', 5: 'no order', 6: 'no tape', 7: 'paper full',
     10: 'no memory', 11: 'too long', 12: 'no room',
 };
-const NO_CODE = 32; // what stands for the last printed code where nothing was printed
+const NO_CODE = 32; // the last printed code if nothing was printed
 const ROOMS = ['text', 'rows', 'words', 'digits', 'paper', 'note', 'registers', 'lengths', 'listing', 'order', 'tape', 'codes'];
 
 // Whether this browser has memories of 64-bit addresses: a module with such a memory and nothing else is valid.
@@ -29,7 +29,7 @@ class Machine {
         });
     }
 
-    // So many bytes of a room.
+    // This many bytes of a room.
     bytes(name, count) {
         return new Uint8Array(this.exports.memory.buffer, Number(this.rooms[name].at), count);
     }
@@ -51,7 +51,7 @@ class Machine {
         try {
             return this.exports[name](...words);
         } catch (fault) {
-            this.begin(); // memory that a call left half way is not used again
+            this.begin(); // memory that a call left incomplete is not used again
             throw fault;
         }
     }
@@ -63,12 +63,12 @@ class Machine {
         return [this.rooms.text.at, BigInt(bytes.length)];
     }
 
-    // The text of so many bytes of a room.
+    // The text of this many bytes of a room.
     text(name, count) {
         return new TextDecoder().decode(this.bytes(name, count));
     }
 
-    // What a call tells that writes one text or a note.
+    // What a call reports that writes one text or a note.
     told(status, room) {
         const [out, note] = this.numbers('lengths', BigUint64Array);
         return { status, ending: ENDINGS[status], out: status === 0 ? this.bytes(room, Number(out)).slice() : new Uint8Array(0),
@@ -104,11 +104,11 @@ class Machine {
         return this.orders.get(word);
     }
 
-    // The machine after so many orders from Start, or where its run ended before.
+    // The machine this many orders after Start, or at the end of its run if that came first.
     picture(program, limit, resumes = 0) {
         const [at, length] = this.put(program.text);
         const name = { source: 'page_source', tape: 'page_tape', tape1: 'page_tape1' }[program.kind];
-        const size = program.kind === 'tape1' ? [] : [program.small ? 1 : 0]; // May 1949 has the full store alone
+        const size = program.kind === 'tape1' ? [] : [program.small ? 1 : 0]; // May 1949 has only the full store
         const status = this.call(name, at, length, ...size, limit, resumes, 'words', 'digits', 'paper', 'note', 'registers');
         if (status === 10 || status === 12) {
             return { status, ending: ENDINGS[status], note: '' };
@@ -140,8 +140,8 @@ class Machine {
         };
     }
 
-    // The machine a number of orders after a picture on the way of a tape, or where its run ended before. The words,
-    // digits and registers are handed back as a call wrote them, and the new codes follow those before.
+    // The machine a number of orders after a picture on the way of a tape, or at the end of its run if that came first.
+    // The words, digits and registers are handed back as a call wrote them, and the new codes follow the earlier ones.
     goOn(way, from, orders, resumes = 0) {
         if (this.mounted !== way.rows) {
             this.bytes('tape', way.rows.length).set(way.rows);

@@ -1,5 +1,5 @@
-"""Turns the pages of docs/ into HTML, as far as these pages go: headings, paragraphs, lists, tables, texts that stand four
-blanks in, `code`, **bold**, *italics* and links, of which the text stays."""
+"""Turns the pages of docs/ into HTML, as far as these pages go: headings, paragraphs, lists, tables, texts indented by
+four blanks, `code`, **bold**, *italics* and links, whose text stays."""
 import html
 import re
 
@@ -20,7 +20,7 @@ def inline(text):
 
 
 def cells(line):
-    """The cells of a table's row; a stroke between two backquotes parts nothing."""
+    """The cells of a table's row; a stroke between two backquotes is text."""
     code = re.sub(r"`[^`]*`", lambda found: found.group().replace("|", "\0"), line.strip().strip("|"))
     return [cell.strip().replace("\0", "|") for cell in code.split("|")]
 

@@ -17,13 +17,13 @@ const page = {
     rows: new Uint8Array(0),
     labels: [], // what is beside each row
     letters: [], // of each code
-    refusal: undefined, // what is wrong with the text, where it is refused
+    refusal: undefined, // what is wrong with the text, if it is refused
     way: undefined, // from Start, as far as the machine came
     fault: undefined, // why there is no way
     shown: undefined, // the picture that is drawn
     before: undefined, // the picture with which it is compared
     running: undefined, // how far a run is, and when it was seen last
-    tour: undefined, // the story that is told
+    tour: undefined, // the story that is shown
     touched: false, // a browser lets a page sound only once somebody has touched it
     clock: () => performance.now(),
 };
@@ -73,11 +73,11 @@ function look(orders, beside) {
     show(shown, beside || (shown.orders > 0 ? pictureAt(shown.orders - 1) : EMPTY));
 }
 
-// Start: the machine is cleared, the program's tape is mounted, and no order is done.
+// Start: the machine is cleared, the program's tape is mounted, and no order has been obeyed.
 function begin() {
     halt();
     page.program = textNow();
-    by('small').disabled = page.program.kind === 'tape1'; // the loader of May 1949 has the full store alone
+    by('small').disabled = page.program.kind === 'tape1'; // the loader of May 1949 has only the full store
     tanks();
     page.shown = page.way = undefined;
     let told;
@@ -96,7 +96,7 @@ function begin() {
     paint();
 }
 
-// One order more. At a stop the machine goes on past it.
+// One more order. At a stop the machine continues past it.
 function step() {
     if (!isOver()) {
         look(page.shown.orders + 1, page.shown);
@@ -111,7 +111,7 @@ function back() {
     }
 }
 
-// Says aloud, for those who don't see it, what a step did.
+// Says aloud, for those who can't see it, what a step did.
 function speak() {
     by('spoken').textContent = isAlive() ? page.words.say('spoken', {
         did: by('did').textContent, place: page.shown.counter, meaning: by('meaning').textContent,
@@ -133,7 +133,7 @@ function halt() {
     }
 }
 
-// Run, Pause, or Start again where the machine has come to an end.
+// Run, Pause, or Start again if the machine has ended.
 function run() {
     if (page.running) {
         halt();
@@ -184,7 +184,7 @@ function loadStory() {
     put(example < 0 ? { text: tapeOf(printable(by('name').value)), kind: 'tape' } : EXAMPLES[example]);
 }
 
-// Tells the story that is chosen, from its beginning, or ends the one that is told.
+// Shows the story that is chosen, from its beginning, or ends the one that is shown.
 async function tell() {
     if (page.tour) {
         halt();
@@ -330,7 +330,7 @@ function drawNothing() {
     }
 }
 
-// What the machine says of a text that it refuses, and what that means.
+// What the machine reports of a text that it refuses, and what that means.
 function tellRefusal(told) {
     const key = `ends.${told.ending}`;
     const isUntold = ['no memory', 'no room', 'fault'].includes(told.ending);
@@ -352,7 +352,7 @@ function markRefusal() {
     by('text').setSelectionRange(page.refusal.from, page.refusal.to);
 }
 
-// The table of a tank's places.
+// The table of a tank's locations.
 function drawLook() {
     if (!by('lookBox').open || !isAlive()) {
         return;
@@ -372,7 +372,7 @@ function drawLook() {
     by('look').innerHTML = `<tr>${head.join('')}${Array.from({ length: 32 }, (_, k) => row(first + k)).join('')}`;
 }
 
-// The orders that were obeyed last, with their places.
+// The orders that were obeyed last, with their locations.
 function drawTrace() {
     if (!by('traceBox').open || !isAlive() || page.running || page.tour) {
         return;
@@ -505,7 +505,7 @@ function write() {
     by('text').focus();
 }
 
-// ---- taking along and passing on
+// ---- saving and sharing
 
 async function makeLink() {
     const shared = { ...textNow(), orders: isAlive() ? page.shown.orders : 0 };
@@ -521,7 +521,7 @@ async function makeLink() {
     }
 }
 
-// Opens what the page's address holds; false where it holds nothing.
+// Opens what the page's address holds; false if it holds nothing.
 async function openLink() {
     const letters = addressed().get('p');
     if (!letters) {
@@ -732,7 +732,7 @@ async function load() {
 
 class WebAssemblyMissing extends Error {}
 
-// A browser without the WebAssembly that the machine needs is too old; any other fault is told as what it is.
+// A browser without the WebAssembly that the machine needs is too old; any other fault is reported as what it is.
 function tellFault(fault) {
     const isOld = fault instanceof WebAssemblyMissing || fault.name === 'CompileError';
     by('meaning').textContent = page.words.say(isOld ? 'tooOld' : 'ends.fault', { note: fault.message });

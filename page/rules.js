@@ -1,7 +1,7 @@
 'use strict';
 // Rules that the page keeps in a browser. Each is obeyed in the page, and its value lists what breaks it.
 
-// What several rules use: how bright a colour is, what is behind a part of the page, and what is seen.
+// What several rules use: how bright a colour is, which ground a part of the page has, and what is seen.
 function install() {
     const share = (v) => (v <= 0.03928 ? v / 12.92 : ((v + 0.055) / 1.055) ** 2.4);
     const light = ([r, g, b]) => 0.2126 * share(r / 255) + 0.7152 * share(g / 255) + 0.0722 * share(b / 255) + 0.05;
@@ -20,14 +20,14 @@ function install() {
     window.nameOf = (node) => node.id || node.className || node.tagName;
 }
 
-// The texts whose colour stands out too little from what is behind it.
+// The texts whose colour has too little contrast with their ground.
 function contrasts() {
     const isText = (child) => child.nodeType === Node.TEXT_NODE && child.textContent.trim() !== '';
     const texts = seen('body *').filter((node) => !['TEXTAREA', 'OPTION'].includes(node.tagName) && [...node.childNodes].some(isText));
     return texts.filter((node) => ratio(numbers(getComputedStyle(node).color), behind(node)) < 4.5).map(nameOf);
 }
 
-// The controls of which neither the border nor the ground stands out from what is beside them.
+// The controls whose border and ground both have too little contrast with what is beside them.
 function borders() {
     const isPale = (node, part) => ratio(numbers(getComputedStyle(node)[part]), behind(node.parentElement)) < 3;
     return seen('button, select, input:not([type=checkbox]):not([type=radio]), textarea')
@@ -48,7 +48,7 @@ function headings() {
     return jumps.concat(seen('section').filter((node) => !node.querySelector('h2')).map(nameOf));
 }
 
-// Rules of the stylesheet that no part of the page has, but for those that it has at times; and whether the browser
+// Rules of the stylesheet that no part of the page uses, except those that it uses at times; and whether the browser
 // understood all of them.
 function styles() {
     const all = (list) => [...list].flatMap((rule) => (rule.cssRules && !(rule instanceof CSSKeyframesRule)
@@ -70,7 +70,7 @@ function ids() {
     return all.filter((id, k) => all.indexOf(id) !== k);
 }
 
-// What of the machine's screen stands outside the window, or has no height.
+// Parts of the machine's screen that are outside the window, or have no height.
 function outside() {
     const parts = ['button', 'select', 'input', 'section', 'canvas', 'header'].map((part) => `#stage ${part}`).join();
     const isOut = ({ left, top, right, bottom, height }) => left < -1 || top < -1 || right > innerWidth + 1
@@ -80,7 +80,7 @@ function outside() {
     return out.concat(document.documentElement.scrollWidth > innerWidth ? ['the page'] : []);
 }
 
-// Controls that a thumb misses: below 24 pixels, or 44 for the buttons of the machine.
+// Controls that a thumb misses: smaller than 24 pixels, or than 44 for the buttons of the machine.
 function smallControls() {
     return seen('button, select, input').filter((node) => {
         const { width, height } = node.getBoundingClientRect();

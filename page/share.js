@@ -28,7 +28,7 @@ async function through(bytes, stream, longest) {
     return new Uint8Array(await new Blob(parts).arrayBuffer());
 }
 
-// What a link holds, as letters: packed (1) where the browser can, and else as it is (0).
+// What a link holds, as letters: packed (1) if the browser can, otherwise unchanged (0).
 async function packed(shared) {
     const held = [shared.kind, shared.small ? 1 : 0, shared.orders, shared.text];
     const bytes = new TextEncoder().encode(JSON.stringify(held));
@@ -38,7 +38,7 @@ async function packed(shared) {
     return `1${toLetters(await through(bytes, new CompressionStream('deflate-raw'), Infinity))}`;
 }
 
-// What letters hold; undefined where they are no whole link.
+// What letters hold; undefined if they are not a whole link.
 async function unpacked(letters) {
     try {
         let bytes = fromLetters(letters.slice(1));

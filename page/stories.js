@@ -1,9 +1,9 @@
 'use strict';
-// The stories that the page tells by itself: what a tape is to do, how it fills the store, how its program works, and an
-// end that invites. What is shown comes from the machine's pictures; an item of the tape is what the loader reads between
-// two pictures in which it waits for the next one.
-const WAITS = { tape: 34, source: 34, tape1: 7 }; // the place of the loader's order that reads the first row of an item
-const OWN = { tape: 44, source: 44, tape1: 31 }; // the first place that the loader doesn't use itself
+// The stories that the page shows by itself: what a tape is for, how it fills the store, how its program works, and an
+// end that invites. What is shown comes from the machine's pictures; an item of the tape is what the loader reads
+// between two pictures in which it waits for the next one.
+const WAITS = { tape: 34, source: 34, tape1: 7 }; // the loader's order that reads the first row of an item
+const OWN = { tape: 44, source: 44, tape1: 31 }; // the first location that the loader doesn't use itself
 const STORIES = [
     { name: 'letter', example: 'letter.tape' },
     { name: 'name' },
@@ -11,9 +11,9 @@ const STORIES = [
     { name: 'disc', example: 'disc.edsac' },
     { name: 'sum', example: 'add.edsac' },
     { name: 'first', example: 'squares.tape1' },
-    { name: 'own' }, // what stands in the box
+    { name: 'own' }, // what the box holds
 ];
-const ITEMS = 9, ORDERS = 9; // how many are told one by one
+const ITEMS = 9, ORDERS = 9; // how many are shown one by one
 const LONGEST_ITEM = 2000; // orders: a loader that a tape has sent round in circles reads no item
 
 // The letters that a name can be printed in: capital letters without their marks, and blanks.
@@ -30,7 +30,7 @@ function tapeOf(letters) {
         + `T64K GK\n${orders} ZF\n${signs.map((sign) => `${sign}F`).join(' ')}\nEZPF\n`;
 }
 
-// A sentence that stands there already is not said again.
+// A sentence that is already shown is not said again.
 function sayStory(text) {
     if (by('story').textContent !== text) {
         by('story').textContent = text;
@@ -44,7 +44,7 @@ class Tour {
         this.waited = 0; // seconds, as they are planned
     }
 
-    // Waits; false where a button ended the story. Skip ends the waiting and all further ones of the part.
+    // Waits; false if a button ended the story. Skip ends the waiting and all further ones of the part.
     async wait(seconds) {
         if (!this.skips && !this.isOver) {
             this.waited += seconds;
@@ -68,7 +68,7 @@ class Tour {
         this.skip();
     }
 
-    // Tells a sentence for a while.
+    // Shows a sentence for a while.
     async tell(seconds, key, values) {
         if (this.isOver) {
             return false;
@@ -79,7 +79,7 @@ class Tour {
         return this.wait(seconds);
     }
 
-    // All of the story; true where it came to its end.
+    // All of the story; true if it reached its end.
     async run() {
         for (const part of [this.tellAim, this.tellLoader, this.tellTape, this.tellProgram]) {
             this.skips = false;
@@ -106,7 +106,7 @@ class Tour {
         await this.tell(5, 'told.ready');
     }
 
-    // The picture in which the loader waits for its next item, or has left.
+    // The picture in which the loader waits for its next item, or has ended.
     toNextItem(from) {
         const { kind } = page.program;
         const isBusy = ({ ending, counter }) => ending === 'limit' && counter < placesOf(kind) && counter !== WAITS[kind];
@@ -140,7 +140,8 @@ class Tour {
         return page.shown.ending === 'limit' && page.shown.counter < placesOf(page.program.kind);
     }
 
-    // After how many orders the loader has left: found by halves, since before it the counter is in the loader.
+    // The number of orders after which the loader has ended, found by bisection: before it the counter is in the
+    // loader.
     entryAfter(from) {
         const hasLeft = (orders) => {
             const shown = pictureAt(orders);
@@ -222,7 +223,7 @@ class Tour {
     }
 }
 
-// The place in an order's address.
+// The location in an order's address.
 const addressOf = (word) => Math.floor((word % 4096) / 2) % 1024;
 
 if (typeof module !== 'undefined') {

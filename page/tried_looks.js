@@ -12,7 +12,7 @@ function openAll(isOpen) {
     by('linked').hidden = by('ask').hidden = by('invite').hidden = by('skip').hidden = !isOpen;
 }
 
-// What stands in each box.
+// What each box holds.
 function stateOf() {
     const boxes = [...document.querySelectorAll('input, select, textarea, details')];
     return boxes.map((box) => [box.id, box.open, box.checked, box.tagName === 'DETAILS' ? undefined : box.value]);

@@ -223,7 +223,7 @@ async function otherForms(b) {
     await b.ask('editor.isOwn = false; 0');
 }
 
-// A text that is meant for another loader is recognised, and one click goes on with that loader.
+// A text that is meant for another loader is recognised, and one click reads it with that loader.
 async function otherLoaders(b) {
     const seen = '[by("refusal").hidden, by("switch").hidden, by("switch").textContent, page.program.kind]';
     for (const [name, kind, box, says] of [

@@ -1,5 +1,5 @@
 'use strict';
-// What is taken along and passed on: links, files, tapes on paper, languages.
+// What is saved and shared: links, files, tapes on paper, languages.
 const fs = require('fs');
 
 async function links(b) {

@@ -1,14 +1,14 @@
 'use strict';
-// The way of a tape from Start: the machine after any number of orders. It goes on from the nearest picture that was kept,
-// so going far on costs the orders in between, and going back a little costs little wherever the machine is.
+// The way of a tape from Start: the machine after any number of orders. It starts from the nearest picture that was
+// kept, so moving far costs only the orders in between, and moving back a little costs little wherever the machine is.
 const KEPT_EACH = 1 << 18; // orders from one picture that is kept to the next
 
 class Way {
     constructor(machine, program, rows) {
         Object.assign(this, { machine, rows, kind: program.kind, small: program.small });
-        this.codes = new Uint8Array(Number(machine.rooms.codes.items)); // that were printed so far
-        this.kept = []; // the picture after each so many orders, as far as the machine came
-        this.stops = new Set(); // after how many orders the machine was seen to stop
+        this.codes = new Uint8Array(Number(machine.rooms.codes.items)); // those printed so far
+        this.kept = []; // the picture after each multiple of KEPT_EACH orders, as far as the machine came
+        this.stops = new Set(); // the numbers of orders after which the machine was seen to stop
         this.first = Object.assign(machine.picture(program, 0), { way: this, printed: 0 });
         if (this.first.words) {
             this.kept.push(this.first);
@@ -16,7 +16,7 @@ class Way {
     }
 
     // The machine after a count of orders, or where its run ended before; each stop that was seen before it is passed.
-    // A picture that is near helps to be there sooner.
+    // A picture that is near makes this faster.
     at(orders, near) {
         let shown = this.nearest(orders, near);
         while (shown.words && shown.orders < orders && this.goesOn(shown)) {

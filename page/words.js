@@ -1,10 +1,10 @@
 'use strict';
-// The page's words: what an order does, what the last one did, and what a refusal means, for someone who has never heard
-// of the machine. The texts stand in languages/*.json. They are filled in with what the compiled machine shows; nothing
-// here says what the machine does next.
+// The page's words: what an order does, what the last one did, and what a refusal means, for someone who has never
+// heard of the machine. The texts are in languages/*.json. They are filled in with what the compiled machine shows;
+// nothing here says what the machine does next.
 
-const LOADER = 41; // places of the Initial Orders
-const FIRST_LOADER = 31; // places of those of May 1949, which is also where their programs begin
+const LOADER = 41; // locations of the Initial Orders
+const FIRST_LOADER = 31; // locations of those of May 1949; their programs begin at this one
 
 const placesOf = (kind) => (kind === 'tape1' ? FIRST_LOADER : LOADER);
 
@@ -112,7 +112,7 @@ class Words {
     }
 }
 
-// The places whose words differ between two pictures.
+// The locations whose words differ between two pictures.
 function changedPlaces(before, after) {
     return [...after.words.keys()].filter((place) => before.words[place] !== after.words[place]);
 }
@@ -129,22 +129,22 @@ function isOwnOrder(before, after, place, machine) {
     return before.counter >= placesOf(after.way.kind) && areOrders && old[0] === now[0] && old.at(-1) === now.at(-1);
 }
 
-// An order's parts, by its text: the letter, the place that it names, and whether it is long.
+// An order's parts, by its text: the letter, the location that it names, and whether it is long.
 function orderOf(word, text, small) {
     const number = Number(text.slice(1, -1) || '0');
     return { word, letter: text[0], long: text.endsWith('D'), address: number % (small ? 512 : 1024) };
 }
 
-// How far a shift order shifts: 1 and the place of its word's last digit 1.
+// How far a shift order shifts: 1 plus the position of its word's last digit 1.
 const shiftOf = (order) => 32 - Math.clz32(order.word & -order.word);
 
-// The place that an order names, where it names one.
+// The location that an order names, if it names one.
 function namedBy(word, text, small) {
     const order = orderOf(word, text, small);
     return 'ASHVNTUCEGIOF'.includes(order.letter) ? order.address : -1;
 }
 
-// A word as a whole number: below 0 where its first digit is 1.
+// A word as a whole number: below 0 if its first digit is 1.
 const signed = (word) => (word >= 65536 ? word - 131072 : word);
 
 // The sign that begins at a byte of a text. What a reader takes for one sign, such as an emoji, stays whole.
@@ -186,8 +186,8 @@ function hintFor(cause, part, kind) {
     return { S7: 'word', S16: 'enter' }[cause];
 }
 
-// Which rows of a tape the loader reads as figures. It reads an item after the other: a function, then digits up to a
-// row of 11 and more, which ends it. The item after an E that ends with K or Z, or a G that ends with Z, is the last:
+// Which rows of a tape the loader reads as figures. It reads one item after the other: a function, then digits up to a
+// row of 11 or more, which ends it. The item after an E that ends with K or Z, or a G that ends with Z, is the last:
 // what follows is the program's own.
 function figuresOf(rows, letter) {
     const isFigure = new Array(rows.length).fill(false);
@@ -200,7 +200,7 @@ function figuresOf(rows, letter) {
         }
         const ends = at < rows.length ? letter(rows[at]) : '';
         if (ends === '#') {
-            at++; // a pi stands before the letter that ends the item
+            at++; // a pi comes before the letter that ends the item
         }
         at++;
         if (isLast) {
@@ -211,8 +211,8 @@ function figuresOf(rows, letter) {
     return isFigure;
 }
 
-// Which rows of a tape the loader of May 1949 reads as figures. Each item is a function, then digits up to a row of 10 and
-// more, which ends it. The first item goes to place 31, and its number is one more than the place of the last.
+// Which rows of a tape the loader of May 1949 reads as figures. Each item is a function, then digits up to a row of 10
+// or more, which ends it. The first item goes to location 31, and its number is one more than the location of the last.
 function figuresOf1(rows) {
     const isFigure = new Array(rows.length).fill(false);
     for (let at = 0, place = FIRST_LOADER, end = FIRST_LOADER + 1; at < rows.length && place < end; place++) {
@@ -227,7 +227,7 @@ function figuresOf1(rows) {
     return isFigure;
 }
 
-// What stands beside each row of a tape.
+// The text beside each row of a tape.
 function labelsOf(rows, letter, kind) {
     const isFigure = kind === 'tape1' ? figuresOf1(rows) : figuresOf(rows, letter);
     return Array.from(rows, (row, at) => (isFigure[at] ? String(row) : letter(row)));

@@ -1,4 +1,4 @@
-//! `call check` beside plain steps of its guest.
+//! `call check` compared with plain steps of its guest.
 
 use crate::support::answer_of;
 use ed_codes::Code;

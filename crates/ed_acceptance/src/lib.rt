@@ -1,7 +1,7 @@
 //! Tests: whole runs of the program, and its devices.
 //!
 //! Expected values come from the description of the machine and from worked examples, never from the program's own
-//! output. Stands on the crates of the program.
+//! output. Depends on the crates of the program.
 #![tactic(auto)]
 
 #[cfg(test)]

@@ -23,7 +23,7 @@ fn runs_of_a_tape_end_as_the_machine_does(rt: HostRuntime) -> Result<(), Fail> {
     Ok(())
 }
 
-/// At the limit, a word that is no order and a tape without rows are not reported.
+/// At the limit, a word that is not an order and a tape without rows are not reported.
 #[test]
 fn the_limit_goes_before_what_blocks_an_order(rt: HostRuntime) -> Result<(), Fail> {
     for (line, tape, note) in [

@@ -1,6 +1,6 @@
 //! Tests: the checking routine beside plain steps, order by order.
 //!
-//! Expected values come from the machine that runs the guest alone, and from counts made by hand. Stands on the crates
+//! Expected values come from the machine that runs the guest alone, and from counts made by hand. Depends on the crates
 //! up to the checking routine.
 #![tactic(auto)]
 

@@ -1,4 +1,4 @@
-//! What the tests share: a guest that is checked beside the same program alone.
+//! What the tests share: a guest that is checked, and the same program alone.
 use ed_checker::{Checking, FETCH, HIGH, LOW, MIDDLE, check_one, checker_stands, guest_allowed};
 use ed_codes::{Code, tape_of_text};
 use ed_initial::{Loaded, begin, is_started, load};
@@ -128,7 +128,7 @@ fn is_answer(answer: Checking, turn: Turn) -> bool {
     }
 }
 
-/// Checks a guest order by order, with rows left on its tape, beside the same program alone.
+/// Compares a guest order by order, with rows left on its tape, with the same program alone.
 pub fn follow(rt: &impl Abort, alloc: Global, guest: &str, rows: &str) -> Result<End, Fail> {
     let mut checked = entered(rt, alloc, guest, rows, BASE)?;
     let mut plain = entered(rt, alloc, guest, rows, 60)?;

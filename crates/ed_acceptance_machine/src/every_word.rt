@@ -51,7 +51,7 @@ fn blocked(order: Word) -> Result<Option<Turn>, Fail> {
     Ok(Some(turn))
 }
 
-/// The first word that is no order, or a read with no row left, and yet answers otherwise or changes the machine.
+/// The first word that is not an order, or reads with no row left, and yet answers otherwise or changes the machine.
 fn first_that_is_obeyed(rt: &impl Abort, alloc: Global, size: Size) -> Result<Option<u32>, Fail> {
     let mut machine = used_machine(rt, alloc, size)?;
     let mut before = machine.copy()?;

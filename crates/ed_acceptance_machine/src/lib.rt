@@ -1,7 +1,7 @@
 //! Tests: the machine and its parts, on worked values.
 //!
 //! Each public call is tried once on its happy path. Expected values come from the description of the machine and from
-//! worked examples, never from the program's own output. Stands on the crates up to the machine, its runs and the
+//! worked examples, never from the program's own output. Depends on the crates up to the machine, its runs and the
 //! printed paper.
 #![tactic(auto)]
 

@@ -1,4 +1,4 @@
-//! Guests of the checking routine beside a plain computation: the letters of their orders, and what they print.
+//! Guests of the checking routine compared with a plain computation: the letters of their orders, and what they print.
 
 use crate::support::prints;
 use ed_programs::checked_program;

@@ -1,6 +1,6 @@
 //! Tests: each program with a law beside a plain computation.
 //!
-//! Each is run on twenty data, at the ends of their ranges too, and is refused for data just out of range. Stands on
+//! Each is run on twenty data, at the ends of their ranges too, and is refused for data just out of range. Depends on
 //! `ed_programs`.
 #![tactic(auto)]
 

@@ -1,4 +1,4 @@
-//! Each program beside a plain computation.
+//! Each program compared with a plain computation.
 
 use crate::support::{first_tape_prints, is_refused, parts_are, prints, tape_prints};
 use ed_programs::{

@@ -1,7 +1,7 @@
 //! Tests: what the library's routines print, read, divide and take roots of, at several bases on both sizes.
 //!
 //! Expected values come from the numbers themselves and from counts made by hand, never from the program's own output.
-//! Stands on the crates up to the routines.
+//! Depends on the crates up to the routines.
 #![tactic(auto)]
 
 #[cfg(test)]

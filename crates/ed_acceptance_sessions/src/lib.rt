@@ -1,7 +1,7 @@
 //! Tests: sessions far on and back; the lines of scripts and what they write; traces.
 //!
 //! Expected values come from the description of scripts and from worked examples, never from the program's own output.
-//! Stands on the crates up to the sessions and the traces.
+//! Depends on the crates up to the sessions and the traces.
 #![tactic(auto)]
 
 #[cfg(test)]

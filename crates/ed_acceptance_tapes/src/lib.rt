@@ -1,7 +1,7 @@
 //! Tests: the checker, the Initial Orders and the post-mortem, on worked tapes.
 //!
 //! Expected values come from the description of the notation and from worked examples, never from the program's own
-//! output. Stands on the crates up to the post-mortem.
+//! output. Depends on the crates up to the post-mortem.
 #![tactic(auto)]
 
 #[cfg(test)]

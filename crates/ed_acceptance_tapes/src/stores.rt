@@ -1,4 +1,4 @@
-//! The store at the entry of a tape, beside the checker's report.
+//! The store at the entry of a tape, compared with the checker's report.
 
 use crate::support::{LETTER, loaded, rows_of, start_on, started, stops};
 use ed_initial::Loaded;

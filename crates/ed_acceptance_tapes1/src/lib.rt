@@ -1,7 +1,7 @@
 //! Tests: the words, checks and loads of Initial Orders 1.
 //!
 //! Expected values come from the listing of May 1949, from the description of its notation and from worked examples,
-//! never from the program's own output. Stands on `ed_initial1`.
+//! never from the program's own output. Depends on `ed_initial1`.
 #![tactic(auto)]
 
 #[cfg(test)]

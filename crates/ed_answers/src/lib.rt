@@ -2,7 +2,7 @@
 //! listing of a source.
 //!
 //! Contract: the reply to a tape, to a tape of May 1949 and to a source is that of the definition; the laws between
-//! these answers. A reply is two texts and a status; an input that is refused has a reply too. Stands on `ed_loads`,
+//! these answers. A reply is two texts and a status; an input that is refused has a reply too. Depends on `ed_loads`,
 //! `ed_initial1`, `ed_postmortem` and `ed_report`, and on `ed_command` for the settings of a run.
 #![tactic(auto)]
 

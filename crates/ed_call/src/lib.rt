@@ -1,7 +1,7 @@
 //! A call of a library routine: what it asks for.
 //!
 //! Contract: no call: a type and the ranges of its numbers, which both the command line and the maker of sources use.
-//! Stands on std alone.
+//! Depends on std alone.
 #![tactic(auto)]
 
 /// A call of a library routine with its numbers.

@@ -40,7 +40,7 @@ weighs_at (k ∷ ks) i (suc n) h =
     subst (λ j. weighs_as j (get_or ks n None) ≡ true) e
     (weighs_at ks (i + 1) n (and_parts (weighs_as i k) (all_weigh ks (i + 1)) h).1)
 
--- an order that is no jump: the accumulator makes no difference
+-- an order that is not a jump: the accumulator makes no difference
 no_jump : (n v acc : ℕ) → (not (nat_eq n 3) && (not (nat_eq n 27) && nat_eq (orders_by n 0) v)) ≡ true
     → orders_by n acc ≡ v
 no_jump n v acc h =

@@ -26,7 +26,7 @@ length_of_checker = 66
 abbrev pub IsOutsideChecker : ℕ → ℕ → Type 0
 IsOutsideChecker base a = (a < base) ⊎ (base + length_of_checker ≤ a)
 
--- the location, from the base, to which the routine copies the guest's order and obeys it
+-- the location, from the base, at which the routine plants the guest's order and obeys it
 abbrev pub planting_place : ℕ
 planting_place = 40
 

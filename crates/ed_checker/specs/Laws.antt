@@ -47,7 +47,7 @@ pub record ChecksToStop (base q : ℕ) (m : State) : Type 0 where
   pub counter : last.counter ≡ base + planting_place
   pub stops : (step last).turn ≡ Stopped
 
--- after q orders the guest reaches a word that is no order, or an order that reads a tape with no row left: the
+-- after q orders the guest reaches a word that is not an order, or an order that reads a tape with no row left: the
 -- machine has printed their checked codes and the function of that word, and it is at its copy of that word, blocked by
 -- the same cause, with the guest unchanged
 pub record ChecksToBlock (base q : ℕ) (m : State) : Type 0 where
@@ -61,7 +61,7 @@ pub record ChecksToBlock (base q : ℕ) (m : State) : Type 0 where
   pub counter : last.counter ≡ base + planting_place
   pub blocked : (step last).turn ≡ (step (state_after q (guest base m))).turn
 
--- a machine in which the routine stands
+-- a machine with the routine at the start of a turn
 pub record HasGuest (base : ℕ) (m : State) : Type 0 where
   pub even : base % 2 ≡ 0
   pub room : base + 66 ≤ locations m.size

@@ -31,7 +31,7 @@ pub fn check_one(machine: &mut Machine, base: u16, paper: &mut Paper) -> Checkin
     ensures turn { ChecksOne base machine.old machine.new paper.old paper.new result }
     ensures law { CheckerLaw }
 {
-    // The contract of `word` gives the proof that the store is one.
+    // Called only for its clause `store`: the proof needs that the store has all its words within their bounds.
     let _ = machine.word(0);
     let stops = is_stop(machine, base);
     let orders = turn_orders(machine, base);

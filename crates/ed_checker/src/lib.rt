@@ -2,7 +2,7 @@
 //! each.
 //!
 //! Contract: a turn obeys one order of the guest as the order table does, and prints its function. A turn takes at most
-//! 35 orders, and leaves the routine ready for the next one. Stands on `ed_machine`, `ed_run`, `ed_library` and
+//! 35 orders, and leaves the routine ready for the next one. Depends on `ed_machine`, `ed_run`, `ed_library` and
 //! `ed_routines`, and its proofs on `ed_paths`.
 #![tactic(auto)]
 

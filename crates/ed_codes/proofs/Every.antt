@@ -52,7 +52,7 @@ more {front} {piece} {codes} p s e =
       spells = spells_append front p.codes piece codes p.spells s;
     }
 
--- a byte stands after them
+-- a byte comes after them
 stops : {front : List ℕ} {place : ℕ} (byte : ℕ) (after : List ℕ) → Front front place
     → StopsAt (front ++ byte ∷ after) place byte after
 stops {front} byte after p = record {

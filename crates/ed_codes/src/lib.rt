@@ -1,7 +1,7 @@
 //! Codes and tape text: the rows of a tape, the bytes that spell them, and the text of a tape.
 //!
 //! Contract: the rows of a text, or its one fault at its offset. A code is below 32, and spelling is the table of
-//! letters, digits and signs. Stands on std and `thiserror`.
+//! letters, digits and signs. Depends on std and `thiserror`.
 #![tactic(auto)]
 
 mod code;

@@ -59,19 +59,19 @@ pub record Line : Type 0 where
 abbrev pub table_line : Text → (List Text → Option Action) → List Text → Line
 table_line word action options = record { word = word; action = action; options = options }
 
--- the names of the options: the limit of orders
+-- the name of the option for the limit of orders
 abbrev pub limit : Text
 limit = codes "limit"
 
--- how often the machine is restarted after a stop
+-- the name of the option for the number of resumes
 abbrev pub resume : Text
 resume = codes "resume"
 
--- the words to print after the run
+-- the name of the option for the words to print after the run
 abbrev pub post_mortem : Text
 post_mortem = codes "post-mortem"
 
--- the size of the store
+-- the name of the option for the size of the store
 abbrev pub store : Text
 store = codes "store"
 

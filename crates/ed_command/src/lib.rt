@@ -1,7 +1,7 @@
 //! The command line: its words, read as one command with its settings.
 //!
 //! Contract: the command exactly if the words are a line of the table, its numbers in range. Other words are a usage
-//! fault. `clap` reads the words; the definition is a table of lines. Stands on `ed_words` for the size of a store and
+//! fault. `clap` reads the words; the definition is a table of lines. Depends on `ed_words` for the size of a store and
 //! on `ed_call`.
 #![tactic(auto)]
 

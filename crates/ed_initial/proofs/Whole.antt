@@ -54,7 +54,7 @@ module _ (s t : State) (r : Loaded) (store : IsStore s.store) (started : IsStart
       ended (17 * length s.tape + 9) (comes_in s e store started h)
       (cost_fits s.store.words (opening s.store.words) 9 s.tape e h.comes) ends is
 
-  -- if no entry is asked for
+  -- the same without a given entry
   pub total_load : WellFormed s.size s.store.words (opening s.store.words) s.tape
       → (e : TapeEntry) × Comes s e × IsLoaded s e r t
   total_load well = let h = well_comes s well in (h.0, h.1, whole_load h.0 h.1)

@@ -61,7 +61,7 @@ pub fn to_rest(machine: &mut Machine) -> Rested
         → IsBegun b → BreaksNone o.size o.store.words note b c → o.tape ≡ c ∷ rows
         → machine.old ≡ rest9 (part_so_far b) at1 at20 note o → DoesItemRow o note b c rows result machine.new }
 {
-    // The contract of `word` gives the proof that the store is one.
+    // Called only for its clause `store`: the proof needs that the store has all its words within their bounds.
     let _ = machine.word(0);
     walk(machine)
 }

@@ -21,7 +21,7 @@ use Rattle.ed_initial1.proofs.Paths.{Working, Kept, cells, moment}
 use Rattle.ed_initial1.proofs.Rests.{third, thirds, written, final}
 use Rattle.ed_initial1.proofs.Walks.{state}
 
--- what the paths ask of a store
+-- what the paths require of a store
 pub record HasItsLengths (c : Cells) : Type 0 where
   pub words : length c.words ≡ 1024
   pub sandwich : length c.sandwich ≡ 512
@@ -56,7 +56,7 @@ opened s store started =
     ∙ set-get_or s.store.sandwich 0 false in
     same_state s (sym started.size) words digits refl (sym started.counter)
 
--- words placed from a location on
+-- words placed from a location upwards
 length_written : (ws : List ℕ) (a : ℕ) (vs : List ℕ) → length (written ws a vs) ≡ length ws
 length_written ws a [] = refl
 length_written ws a (v ∷ vs) = length_written (set ws a v) (a + 1) vs ∙ length-set ws a v

@@ -105,7 +105,7 @@ module _ (q : Kept) where
       followed (function_path q w ws b acc i.begun.function (ds ++ (ending_row i.long ∷ rest)) good.function)
       (followed (digit_walk begun ds good.digits good.fits) (ending_path q ended ws false i good.fits refl))
 
-  -- from the order at 26 on to the program
+  -- from the order at 26 to the program
   last_tail : (ws : List ℕ) (w : Working) (b : Bool) (e : ℕ) (rest : List ℕ) → w.at25 + 2 ≡ 20480 + 2 * e
       → w.at31 ≡ 20480 + 2 * e
       → e ≤ 1023 → ToProgram 5 (moment q w ws b 0 26 rest) (moment q (record w { at25 = 20480 + 2 * e }) ws b 0 31 rest)
@@ -151,7 +151,7 @@ module _ (q : Kept) where
       (loop {ws = set ws a (word1 i)} w' j js good.1
       (record { next = refl; end = c.end; low = omega arith; count = omega arith; most = most })))))
 
-  -- all items from the rest at 6 on
+  -- all items, beginning at the rest at 6
   items_path : {ws : List ℕ} (w : Working) {b : Bool} {acc e : ℕ} (i : Item1) (is : List Item1) {rest : List ℕ}
       → AreItems (i ∷ is) → w.at25 ≡ 20542 → IsFirst e i → 32 + length is ≡ e
       → ToProgram (costs1 (i ∷ is)) (moment q w ws b acc 6 (tape_of (i ∷ is) rest))
@@ -172,7 +172,7 @@ module _ (q : Kept) where
       (loop w' j js good.1
       (record { next = refl; end = end; low = lit≤ tt; count = omega arith; most = first.high })))))
 
-  -- the whole tape, from the first order on
+  -- the whole tape, beginning at the first order
   pub whole_path : {ws : List ℕ} (w : Working) {b : Bool} {acc multiplier e : ℕ} (i : Item1) (is : List Item1)
       {rest : List ℕ} → AreItems (i ∷ is) → w.at25 ≡ 20542 → IsFirst e i → 31 + length (i ∷ is) ≡ e
       → ToProgram (4 + costs1 (i ∷ is))

@@ -85,6 +85,6 @@ module _ (s u : State) (r : Loaded1) (store : IsStore s.store) (started : IsStar
             (cleared s started t.end t.items t.rest c.first);
       }
 
-  -- if no program is asked for
+  -- the same without a given program
   pub total_load : WellFormed1 s.tape → (t : Tape) × Comes1 s.tape t × IsLoaded1 s t r u
   total_load well = let p = programmed s.tape well in (p.0, p.1, whole_load p.0 p.1)

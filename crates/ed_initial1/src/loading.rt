@@ -38,7 +38,7 @@ pub fn load1(machine: &mut Machine) -> Loaded1
         × IsLoaded1 machine.old t result machine.new }
 {
     let rows = machine.rows_left().len() as u64;
-    // The contract of `word` gives the proof that the store is one.
+    // Called only for its clause `store`: the proof needs that the store has all its words within their bounds.
     let _ = machine.word(0);
     obey_orders(machine, 14 * rows + 4)
 }

@@ -28,7 +28,7 @@ held ws = record {
   at43 = 1;
 }
 
--- a list from one of its items on
+-- a list from one of its items onwards
 one_more : (ws : List ℕ) (k w : ℕ) (xs : List ℕ) → k < length ws → get_or ws k 0 ≡ w → xs ≡ drop (suc k) ws
     → w ∷ xs ≡ drop k ws
 one_more ws k w xs l h e = ap (λ x. x ∷ xs) (sym h) ∙ ap (λ x. get_or ws k 0 ∷ x) e ∙ sym (drop-cons ws k 0 l)

@@ -77,6 +77,6 @@ module _ (s t : State) (r : Loaded) (store : IsStore s.store) (back : IsReturned
       ended (17 * length s.tape + 2) (leads_back s e store back h)
       (cost_fits s.store.words (reopening s) 2 s.tape e h.comes) ends is
 
-  -- if no entry is asked for
+  -- the same without a given entry
   pub total_resume : IsRestWellFormed s → (e : TapeEntry) × ComesBack s e × IsLoaded s e r t
   total_resume well = let h = comes_back s back well in (h.0, h.1, resumed_load h.0 h.1)

@@ -2,7 +2,7 @@
 //! Orders.
 //!
 //! Contract: if the rest of a tape is well formed, it is loaded as it means, from the directive that the program left.
-//! Stands on `ed_notation` and `ed_initial`.
+//! Depends on `ed_notation` and `ed_initial`.
 #![tactic(auto)]
 
 mod resuming;

@@ -46,7 +46,7 @@ pub fn resume(machine: &mut Machine) -> Loaded
         (e : TapeEntry) × ComesBack machine.old e × IsLoaded machine.old e result machine.new }
 {
     let rows = machine.rows_left().len() as u64;
-    // The contract of `word` gives the proof that the store is one.
+    // Called only for its clause `store`: the proof needs that the store has all its words within their bounds.
     let _ = machine.word(0);
     obey_orders(machine, 17 * rows + 2)
 }

@@ -1,5 +1,5 @@
 -- Streams of std, as contracts see them (this project's own rule). std says what a read or a write does to known bytes;
--- it does not say that unknown bytes stay unknown, which `Alike` asks of the type of a reader or a writer.
+-- it does not say that unknown bytes stay unknown, which `Alike` requires of the type of a reader or a writer.
 use Rattle.std.specs.Prelude.{ℕ, List, Option, None, Some, nat_lt, if◌then◌else◌}
 
 -- a stream: the bytes that it reports, if it reports any, and how many calls have failed

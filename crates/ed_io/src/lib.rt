@@ -2,7 +2,7 @@
 //!
 //! Contract: bytes are taken and given in order; a failure only if the device counted one. Devices over memory report
 //! their bytes and fail exactly where their list says. Those over std's readers and writers report what these report,
-//! until a write fails. Stands on `ed_words`.
+//! until a write fails. Depends on `ed_words`.
 #![tactic(auto)]
 
 mod device;

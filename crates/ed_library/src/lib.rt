@@ -2,7 +2,7 @@
 //!
 //! Contract: the readers give what the tables hold; an image's word is the item's at its base. θ is twice the base, and
 //! the preset parameters are those of the `use`. Each routine of the catalogue can be linked, and their names are in
-//! order. Stands on `ed_words`, `ed_codes`, `ed_notation` and `arrayvec`.
+//! order. Depends on `ed_words`, `ed_codes`, `ed_notation` and `arrayvec`.
 #![tactic(auto)]
 
 mod catalogue;

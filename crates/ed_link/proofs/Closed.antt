@@ -19,7 +19,7 @@ use Rattle.ed_link.specs.Linked.{set_to}
 use Rattle.ed_link.specs.Private.FaultTests.{sets}
 use Rattle.ed_link.proofs.Uses.{IsKnown, AreKnown}
 
--- a routine is found among those from an index on
+-- a routine is found among those from an index upwards
 found_by : (k r n : ℕ) (t : Bool) (later : Option ℕ) → (later ≡ Some r → r < k + 1 + n)
     → (if t then Some k else later) ≡ Some r → r < k + suc n
 found_by k r n true later more h = let q : k ≡ r = cc in omega arith

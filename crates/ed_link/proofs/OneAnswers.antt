@@ -73,7 +73,7 @@ quote_in_comment : (r : Result Program SourceFault) → MeetsParse (codes "ZF;\"
     → Reads (record { number = 1; label = None; statement = Some (Order 13 (Number 0) false) } ∷ []) r
 quote_in_comment = read_alone _ false _ (source_answer _ (Ok _) refl)
 
--- no label stands before a `segment`
+-- no label precedes a `segment`
 label_before_segment : (r : Result Program SourceFault) → MeetsParse (codes "a: segment m") r
     → Refuses 1 causes.NotAStatement r
 label_before_segment = only _ 1 causes.NotAStatement refl
@@ -92,7 +92,7 @@ base_1024 = only _ 1 causes.NumberRange refl
 local_name : (r : Result Program SourceFault) → MeetsParse (codes "_d: PF") r → Refuses 1 causes.NotAStatement r
 local_name = only _ 1 causes.NotAStatement refl
 
--- no blank stands in a number
+-- no blank is in a number
 blank_in_number : (r : Result Program SourceFault) → MeetsParse (codes "word 5 5") r
     → Refuses 1 causes.NotAStatement r
 blank_in_number = only _ 1 causes.NotAStatement refl

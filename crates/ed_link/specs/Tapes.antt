@@ -47,7 +47,6 @@ ComesToLinked z lines =
     × ComesTo words (opening words) 9 (tape lines) (arrival words lines)
 
 -- the text of the rows after the items: one line if there are any, digits as digits and other rows as letters or signs
--- signs
 abbrev pub after_text : List ℕ → List ℕ
 after_text [] = []
 after_text (c ∷ rows) = line_from true (c ∷ rows)

@@ -19,7 +19,7 @@ pub struct Placed {
     pub word: Word,
 }
 
-/// A name and the location for which it stands.
+/// A name and its location.
 #[derive(Clone, Copy, Debug, PartialEq, Eq)]
 pub struct LabelPlace {
     pub name: Name,

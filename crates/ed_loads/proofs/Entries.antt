@@ -29,7 +29,7 @@ use Rattle.ed_link.proofs.EachSource.{each_source as comes_to}
 use Rattle.ed_link.specs.Tapes.{ComesToLinked, arrival, cost, tape}
 use Rattle.ed_loads.specs.EntryState.{Enters, EachSourceEnters, entry_state, first_state, own_words}
 
--- words placed over stores that agree from 44 on agree there
+-- words placed over stores that agree from 44 upwards agree there
 one : (v w : List ℕ) (p x : ℕ) (t : Bool) → nat_lt p 44 ≡ t → drop 44 v ≡ drop 44 w
     → drop 44 (set v p x) ≡ drop 44 (set w p x)
 one v w p x true e h =

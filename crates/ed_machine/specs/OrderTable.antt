@@ -1,6 +1,6 @@
--- The order table: what one order does (Wilkes, Wheeler and Gill 1951; that O prints at once, that F copies the whole
--- row, that X does nothing, and that a long order with an odd address uses the pair of that location, are this
--- project's own rules).
+-- The order table: what one order does (Wilkes, Wheeler and Gill 1951; that O prints at once, all of what F does, that
+-- X does nothing, and that a long order with an odd address uses the pair of that location, are this project's own
+-- rules).
 use Rattle.std.specs.Prelude.{ℕ, List, [], ◌∷◌, Option, Some, None, unwrap_or, Bool}
 use Rattle.std.specs.Prelude.{true, false, ◌+◌, ◌*◌, ◌/◌, ◌^◌, nat_lt, nat_le}
 use Rattle.ed_words.specs.Words.{function_of, address_of, is_long}

@@ -5,7 +5,7 @@ pub enum Ending {
     Stopped,
     /// The run obeyed as many orders as its limit.
     Limit,
-    /// The word at the counter is no order.
+    /// The word at the counter is not an order.
     NoOrder,
     /// The order at the counter reads the tape, and no row is left.
     NoTape,

@@ -161,9 +161,9 @@ impl Machine {
 
     /// Obeys the order at the counter.
     ///
-    /// The answer is `NoOrder` exactly if the word at the counter is no order, and `NoTape` exactly if it is an I order
-    /// and no row is left; both change nothing. Two laws of the order table are stated here too: steps keep the bounds
-    /// of a state, and steps that each obey an order are counted.
+    /// The answer is `NoOrder` exactly if the word at the counter is not an order, and `NoTape` exactly if it is an I
+    /// order and no row is left; both change nothing. Two laws of the order table are stated here too: steps keep the
+    /// bounds of a state, and steps that each obey an order are counted.
     #[inline(always)]
     #[tactic(auto, unfolding(crate::specs::OrderTable::step))]
     pub fn step(&mut self) -> Turn

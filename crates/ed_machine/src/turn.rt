@@ -9,7 +9,7 @@ pub enum Turn {
     Printed(Code),
     /// A Z order was obeyed; the counter is after it.
     Stopped,
-    /// The word at the counter is no order; this is its function. Nothing changed.
+    /// The word at the counter is not an order; this is its function. Nothing changed.
     NoOrder(u8),
     /// The word at the counter is an I order and no row of tape is left. Nothing changed.
     NoTape,

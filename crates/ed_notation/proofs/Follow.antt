@@ -259,7 +259,7 @@ module _ (p : Reader) (w : Written) (rest : List ℕ) where
     is_law : IsBegun b → Law t
     is_law good = law p.size p.words p.note b c set good
 
-    -- it breaks no rule and ends an item that is no entry item
+    -- it breaks no rule and ends an item that is not an entry item
     pub goes_on : IsWritten w → first_broken ≡ None → entering r p.note ≡ false
         → (here ≡ reads closed None rest) × IsDirective closed.note.directive
     unfolding reading_on

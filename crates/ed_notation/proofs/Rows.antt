@@ -66,7 +66,7 @@ pub record Extends (b : Begun) (c : ℕ) (part : Part) (k : ℕ) : Type 0 where
   pub rows_are : begun_rows next ≡ begun_rows b ++ (c ∷ [])
   pub cost_is : begun_cost next ≡ begun_cost b + k
 
--- the row ends an item that is no entry item
+-- the row ends an item that is not an entry item
 pub record EndsItem (r : RowKind) (words : List ℕ) (note : Note) (b : Begun) (c : ℕ) (n : Note) (k : ℕ) : Type 0 where
   pub ended : ends r b ≡ true
   pub goes_on : entering r note ≡ false

@@ -27,7 +27,7 @@ abbrev pub plain : ℕ → ℕ → ℕ → Item
 plain f n end = record { function = f; number = n; mark = false; end = end }
 
 module _ (z : Size) (words : List ℕ) where
-  -- an item that is no entry item is read without a fault, and leaves this state
+  -- an item that is not an entry item is read without a fault, and leaves this state
   pub record Does (note : Note) (i : Item) (next : Note) : Type 0 where
     pub goes_on : is_entry note i ≡ false
     pub sound : EndsSound z words note (canonical i)

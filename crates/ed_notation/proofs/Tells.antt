@@ -113,7 +113,7 @@ module _ (p : Reader) (b : Begun) (c : ℕ) (rows : List ℕ) (told : Told rows)
   abbrev w : Written
   w = record { begun = b; end = c }
 
-  -- it ends an item that is no entry item
+  -- it ends an item that is not an entry item
   by_end : {m : Note} {n : ℕ} → EndsItem (row_kind c) p.words p.note b c m n → IsDirective m.directive
       → Tells p (begun_rows b ++ (c ∷ rows)) (reads (passed here 1 n m) None rows)
   by_end {m} {n} x u =

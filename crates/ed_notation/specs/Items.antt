@@ -1,5 +1,5 @@
 -- Items of the tape and the rows that spell them (Wilkes, Wheeler and Gill 1951; that a number is at most 32767, and
--- that no blank row stands inside an item other than a blank pair, are this project's own rules).
+-- that no blank row is inside an item other than a blank pair, are this project's own rules).
 -- Rows are natural numbers here. A number of 32 or more is not a row and breaks a rule wherever it is read; no real
 -- tape has one.
 use Rattle.std.specs.Prelude.{ℕ, ◌≡◌, ◌+◌, ◌*◌, ◌<◌, ◌≤◌, Bool, true, false}

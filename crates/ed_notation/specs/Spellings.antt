@@ -74,8 +74,8 @@ pub record SpellableIsSpelled (i : Item) : Type 0 where
   pub spelled : is_spellable i ≡ true → (rows : List ℕ) × SpellsItem i rows
   pub spellable : (rows : List ℕ) → SpellsItem i rows → is_spellable i ≡ true
 
--- the bytes of an item's rows, from some row on, and a line feed: the function row is a letter or sign, a digit row a
--- digit, and every other row a letter or sign
+-- the bytes of an item's rows, beginning at some row, and a line feed: the function row is a letter or sign, a digit
+-- row a digit, and every other row a letter or sign
 abbrev pub line_from : Bool → List ℕ → List ℕ
 line_from as_digit [] = 10 ∷ []
 line_from as_digit (c ∷ rows) = byte_of c as_digit ∷ line_from true rows

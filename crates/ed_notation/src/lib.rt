@@ -1,7 +1,7 @@
 //! The loader's notation: items, the rows that spell them, what they do and cost, and the faults of a tape.
 //!
 //! Contract: accepted exactly if well formed, with the fold's entry, cost and words; otherwise the one fault. The
-//! notation is a fold over items and mentions no machine. Spelled items are read back, and no others. Stands on
+//! notation is a fold over items and mentions no machine. Spelled items are read back, and no others. Depends on
 //! `ed_words`, `ed_store` and `ed_codes`.
 #![tactic(auto)]
 

@@ -18,7 +18,7 @@ use Rattle.ed_page.specs.declared.running.Shown.{Shown}
 no_codes : (window : Option Window) (r : RunEnd) → window ≡ None → r.codes ++ post_mortem_codes window r.state ≡ r.codes
 no_codes window r none = ap (λ (w : Option Window). r.codes ++ post_mortem_codes w r.state) none ∙ append-nil r.codes
 
--- a run that ended, whose codes may stand written otherwise
+-- a run that ended, whose codes may be written in another way
 ended : (before : Text) {note : Text} {r : RunEnd} {ran : Ran} {shown : Shown} (codes : List ℕ) → r.codes ≡ codes
     → IsRan r ran → note ≡ before ++ ending_line ran.ending ran.machine
     → TellsOutcome shown.told (record { out = paper ran.paper.codes; note = note; status = status_of ran.ending })

@@ -1,4 +1,4 @@
--- Where the run from the state of a picture ends, and that going on and on is going once.
+-- Where the run from the state of a picture ends, and that continuing twice is continuing once.
 use Rattle.std.proofs.Common.{◌≡◌, ◌∙◌, ℕ, ◌+◌, ◌-◌, ◌<◌, ◌≤◌, refl, sym, ap, arith, List, length, length-append}
 use Rattle.std.proofs.Common.{Bool, true, false, nat_eq, nat_lt, nat_le, Option, Some, None, is_some, unwrap_or}
 use Rattle.std.specs.Prelude.{if◌then◌else◌}
@@ -19,7 +19,7 @@ use Rattle.ed_answers.specs.FirstOrders.{first_state1, run1_of}
 use Rattle.ed_answers.specs.Runs.{paper_room, run_of}
 use Rattle.ed_page.specs.Going.{GoingLaw, run_following}
 
--- where a run goes on, the next order ends nothing
+-- if a run goes on, the next order ends nothing
 next_open : (limit resumes room k : ℕ) (p : Past) → end_at limit resumes room k p ≡ None
     → end_by (step p.state).turn (nat_le room (length p.codes)) ≡ None
 next_open limit resumes room k p = by_tests (nat_lt resumes p.stops) (nat_eq k limit)
@@ -52,7 +52,7 @@ later_limit k m n = grind (arith, nat_tests)
 later_room : (a b c : ℕ) → nat_le a (b + c) ≡ nat_le (a - b) c
 later_room a b c = grind (arith, nat_tests)
 
--- going on is going once
+-- continuing twice is continuing once
 goes_on : (limit resumes room orders more : ℕ) (s : State)
     → let k = run_orders limit resumes room s in
     let first = ran limit resumes room s in

@@ -1,4 +1,4 @@
--- From a run that went on to the cause of an answer.
+-- From a run that continued to the cause of an answer.
 use Rattle.std.proofs.Common.{◌≡◌, ◌∙◌, ℕ, ◌+◌, ◌-◌, ◌<◌, refl, sym, ap, subst, arith, lit<, List, [], length}
 use Rattle.ed_machine.specs.State.{State}
 use Rattle.ed_machine.specs.declared.ending.Ending.{Ending}
@@ -44,7 +44,7 @@ gone_unmade r before room = record {
   early = λ none. absurd (none room);
 }
 
--- where the run ends was written
+-- the end of the run was written
 pub gone_shown : (r : RunEnd) (before after : GoingBuffers) (answer : ℕ) → HasStoreRoom before
     → ShowsRun r before after answer → IsGoneOn r before after answer
 gone_shown r before after answer room shows =
@@ -82,7 +82,7 @@ begins_on wanted Ends text before after answer first limit resumes rows run show
     next_on first rows 0 limit resumes paper_room after.words after.digits after.registers are
     (subst (λ (r : RunEnd). Pictures r.state after.words after.digits after.registers) from_first pictures)
 
--- a run on a fresh paper of so much room
+-- a run on a fresh paper with this room
 pub gone_of : (limit resumes room : ℕ) (m : State) (sheet full : Sheet) (gone : Gone)
     → sheet ≡ record { codes = []; room = room }
     → IsLeft (ran limit resumes (sheet.room - length sheet.codes) m) sheet gone.ending gone.machine full

@@ -1,5 +1,5 @@
--- The states on the way of a tape, from Start with either Initial Orders: they are within their bounds, Start and orders
--- lead to them, and a picture shows one of them alone.
+-- The states on the way of a tape, from Start with either Initial Orders: they are within their bounds, Start and
+-- orders lead to them, and a picture shows one of them alone.
 use Rattle.std.proofs.Common.{◌≡◌, ◌∙◌, ℕ, ◌+◌, ◌-◌, ◌/◌, ◌%◌, ◌^◌, ◌<◌, ◌≤◌, refl, sym, ap, subst, arith, lit<, lit≤, rules}
 use Rattle.std.proofs.Common.{Bool, false, inl, inr, Option, Some, None, List, ◌++◌, drop, get_or, length, length-append}
 use Rattle.std.specs.Prelude.{◌↔◌, IfSome, IsNone, replicate, unwrap_or}
@@ -42,7 +42,7 @@ first_sound z rows are = record {
   last = lit< tt;
 }
 
--- what Start places of the Initial Orders of May 1949, and 0
+-- the words of the Initial Orders of May 1949 that Start places, and 0
 abbrev first_words1 : List ℕ
 first_words1 = first_orders ++ drop 31 (replicate 1024 0)
 
@@ -70,7 +70,7 @@ first_sound1 rows are = record {
   last = lit< tt;
 }
 
--- a state with which a way begins: its bounds, that Start led to it, its size and its rows
+-- a state in which a way begins: its bounds, that Start led to it, its size and its rows
 pub record IsFirst (z : Size) (rows : List ℕ) (first : State) : Type 0 where
   pub sound : IsSound first
   pub reached : IsReached first
@@ -133,7 +133,7 @@ module _ {z : Size} {rows : List ℕ} {first : State} (is : IsFirst z rows first
   way_left =
       subst (λ (xs : List ℕ). length (state_after k first).tape ≤ length xs) is.tape_is (steps_follow k first).fewer
 
--- the number that stands for the last printed code is below 33
+-- the number for the last printed code is below 33
 pub shown_fits : (last : Option ℕ) → unwrap_or last 0 < 32 → last_shown last ≤ 32
 shown_fits None h = omega arith
 shown_fits (Some code) h = omega arith
@@ -185,7 +185,7 @@ pub most_places : (z : Size) → locations z ≤ 1024
 most_places Small = lit≤ tt
 most_places Full = lit≤ tt
 
--- a number that may be a code, and the last printed code for which it stands
+-- a number that may be a code, and the last printed code that it represents
 last_is : (read last : Option ℕ) (n : ℕ) → (IsNone read ↔ (32 ≤ n)) → IfSome read (λ code. code ≡ n)
     → n ≡ last_shown last → unwrap_or last 0 < 32 → read ≡ last
 last_is None None n none some is low = refl

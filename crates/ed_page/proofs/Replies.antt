@@ -1,4 +1,4 @@
--- From what is told and shown of a text to what the program answers.
+-- From the texts and the picture for a text to what the program answers.
 use Rattle.std.proofs.Common.{◌≡◌, ◌∙◌, ◌<◌, ◌≤◌, ℕ, inl, inr, refl, sym, ap}
 use Rattle.std.proofs.Common.{subst, arith, Some, None, List, [], length}
 use Rattle.std.specs.Prelude.{Result, Ok, Err, IfOk}
@@ -136,7 +136,7 @@ source_refused z f text (Refused reply) (Ok told) few l tells =
 source_refused z f text Memory (Ok told) few l tells = absurd tells
 source_refused z f text e (Err none) few l tells = tt
 
--- what the program answers to a text is told
+-- the texts are what the program answers to a text
 pub answer_told : (answers : Text → Outcome → Type 0) (text : Text) (a : Result Reply Rejection)
     (r : Result Told NoMemory) → length text ≤ 262144 → Replies (of_input answers) text a → TellsAnswer a r
     → IsAnswered (of_input answers) text r

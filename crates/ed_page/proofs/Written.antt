@@ -13,7 +13,7 @@ use Rattle.ed_page.specs.Private.Stages.{Draws, IsAnswered, TellsOutcome, Writes
 use Rattle.ed_page.specs.declared.running.Shown.{Shown}
 use Rattle.ed_page.specs.declared.told.Told.{Told}
 
--- the buffers of two texts have room where they have it for what is told
+-- the buffers of two texts have room if they have it for the texts written
 has_room : (o : Outcome) (told : Told) (out note : List ℕ) → TellsOutcome told o → length told.out.items ≤ length out
     → length told.note.items ≤ length note → HasBufferRoom o out note
 has_room o told out note g out_fits note_fits = record {
@@ -21,7 +21,7 @@ has_room o told out note g out_fits note_fits = record {
   note_fits = subst (λ (t : Text). length t ≤ length note) g.note_is note_fits;
 }
 
--- and only there
+-- and only then
 told_room : (o : Outcome) (told : Told) (out note : List ℕ) → TellsOutcome told o → HasBufferRoom o out note
     → (length told.out.items ≤ length out) × (length told.note.items ≤ length note)
 told_room o told out note g room = (
@@ -29,14 +29,14 @@ told_room o told out note g room = (
   subst (λ (t : Text). length t ≤ length note) (sym g.note_is) room.note_fits,
 )
 
--- a test that failed refutes what it tells
+-- a test that failed refutes what it says
 pub refuted : {P : Type 0} (b : Bool) → b ≡ false → (IsTrue b ↔ P) → P → ⊥
 refuted b e test p = true≢false (sym (test.1 p) ∙ e)
 
 twelve : ◌≢◌ {A = ℕ} 12 10
 twelve e = cc
 
--- what is told was written
+-- the texts were written
 pub told_written : (o : Outcome) (told : Told) (before after : TextBuffers) → TellsOutcome told o
     → length told.out.items ≤ length before.out
     → length told.note.items ≤ length before.note
@@ -102,7 +102,7 @@ picture_nowhere o told machine before g none = (
   },
 )
 
--- what is told of a text was written
+-- the texts for an input were written
 pub text_told : (wanted : Answer) (text : Text) (told : Told) {before after : TextBuffers} {answer : ℕ}
     → (LacksLine text before.note → ⊥)
     → IsAnswered wanted text (Ok told) → ((o : Outcome) → TellsOutcome told o → IsWrittenOut o before after answer)

@@ -1,5 +1,5 @@
--- What the page is answered: what the program answers to the same text, with the cause of each answer (this project's
--- own rules).
+-- The answers to the page: what the program answers to the same text, with the cause of each answer (this project's own
+-- rules).
 use Rattle.std.specs.Prelude.{◌≡◌, ◌≢◌, ◌⊎◌, ℕ, ◌<◌, ◌≤◌, List, ◌++◌, length, drop, None}
 use Rattle.ed_codes.specs.Reading.{reading, rows}
 use Rattle.ed_machine.specs.State.{State}
@@ -19,11 +19,11 @@ use Rattle.ed_page.specs.declared.writing.Registers.{Registers}
 
 -- ---- texts in buffers
 
--- a text was written at the head of a buffer, whose other bytes are as before, and this is its length
+-- a text was written at the beginning of a buffer, whose other bytes are unchanged, and this is its length
 abbrev pub Holds : Text → (before after : List ℕ) → ℕ → Type 0
 Holds text before after n = (n ≡ length text) × (after ≡ text ++ drop (length text) before)
 
--- both texts of an outcome were written at the heads of two buffers, and the answer is its status
+-- both texts of an outcome were written at the beginnings of two buffers, and the answer is its status
 pub record Tells (o : Outcome) (out note out_after note_after : List ℕ) (printed noted answer : ℕ) : Type 0 where
   pub out_is : Holds o.out out out_after printed
   pub note_is : Holds o.note note note_after noted
@@ -36,8 +36,8 @@ pub record HasBufferRoom (o : Outcome) (out note : List ℕ) : Type 0 where
 
 -- ---- causes
 
--- an answer has its cause: 12 that there is no room, and then the buffers are kept as they were; with any other there
--- is room, and this is shown
+-- an answer has its cause: with 12 there is no room, and the buffers are unchanged; with any other answer there is
+-- room, and this is shown
 pub record HasItsCause (Room Kept Shown : Type 0) (answer : ℕ) : Type 0 where
   pub no_room : answer ≡ 12 → Room → ⊥
   pub kept : answer ≡ 12 → Kept
@@ -59,8 +59,8 @@ text_buffers out note lengths = record { out = out; note = note; lengths = lengt
 abbrev pub LacksLine : Text → List ℕ → Type 0
 LacksLine text note = (262144 < length text) × (length note < length too_long)
 
--- what the program answers to a text, written into two buffers; or no memory was found (10), and the buffers are as
--- before. 12 comes first if no memory is needed to see that there is no room
+-- what the program answers to a text, written into two buffers; or no memory was found (10), and the buffers are
+-- unchanged. 12 comes first if no memory is needed to see that there is no room
 pub record IsTextTold (wanted : Answer) (text : Text) (before after : TextBuffers) (answer : ℕ) : Type 0 where
   pub memory : answer ≡ 10 → after ≡ before
   pub told : answer ≢ 10 → (o : Outcome) × IsDue wanted text o
@@ -82,7 +82,7 @@ RowsEnd run text m = (codes : List ℕ) × (reading text ≡ rows codes) × (m �
 abbrev pub TapeEnds : Settings → Text → State → Type 0
 TapeEnds s = RowsEnd (run_of s)
 
--- so does its run with the Initial Orders of May 1949
+-- the same for its run with the Initial Orders of May 1949
 abbrev pub Tape1Ends : Settings → Text → State → Type 0
 Tape1Ends s = RowsEnd (run1_of s)
 
@@ -110,7 +110,7 @@ pub record HasPictureRoom (o : Outcome) (b : Buffers) : Type 0 where
   pub digits_are : length b.digits ≡ 512
   pub texts : HasBufferRoom o b.paper b.note
 
--- the registers where no machine is shown: no code was printed, and all others are 0 but the lengths of the two texts
+-- the registers if no machine is shown: no code was printed, and all others are 0 but the lengths of the two texts
 abbrev pub blank_registers : (printed noted : ℕ) → Registers
 blank_registers printed noted = record {
   acc_low = 0;
@@ -124,7 +124,7 @@ blank_registers printed noted = record {
   noted = noted;
 }
 
--- no machine is shown: the words and digits are those before, and the registers are blank
+-- no machine is shown: the words and digits are unchanged, and the registers are blank
 pub record ShowsNone (before after : Buffers) : Type 0 where
   pub words_are : after.words ≡ before.words
   pub digits_are : after.digits ≡ before.digits
@@ -144,7 +144,7 @@ abbrev pub LacksRoom : Text → Buffers → Type 0
 LacksRoom text b = (length b.words ≢ 1024) ⊎ ((length b.digits ≢ 512) ⊎ LacksLine text b.note)
 
 -- what the program answers to a text, and the state in which its run ends, written into buffers; or no memory was
--- found (10), and the buffers are as before. 12 comes first if no memory is needed to see that there is no room
+-- found (10), and the buffers are unchanged. 12 comes first if no memory is needed to see that there is no room
 pub record IsShown (wanted : Answer) (Ends : Text → State → Type 0) (text : Text) (before after : Buffers)
     (answer : ℕ) : Type 0 where
   pub memory : answer ≡ 10 → after ≡ before
@@ -158,10 +158,10 @@ pub record IsShown (wanted : Answer) (Ends : Text → State → Type 0) (text : 
 abbrev pub IsEndOf : (left all : List ℕ) → Type 0
 IsEndOf left all = (read : List ℕ) × (read ++ left ≡ all)
 
--- the rows that are left where the run of a tape ends are the end of the tape's rows
+-- the rows left at the end of a tape's run are the end of the tape's rows
 abbrev pub EachRunReadsOn : Type 0
 EachRunReadsOn = (s : Settings) (codes : List ℕ) → IsEndOf (run_of s codes).state.tape codes
 
--- so are those that are left with the Initial Orders of May 1949
+-- the same with the Initial Orders of May 1949
 abbrev pub EachRun1ReadsOn : Type 0
 EachRun1ReadsOn = (s : Settings) (codes : List ℕ) → IsEndOf (run1_of s codes).state.tape codes

@@ -1,5 +1,5 @@
--- Going on from a picture: the states that buffers picture, what they hold after more orders, and the text of the codes
--- that were printed (this project's own rules).
+-- Continuing from a picture: the states that buffers picture, what they hold after more orders, and the text of the
+-- codes that were printed (this project's own rules).
 use Rattle.std.specs.Prelude.{◌≡◌, ◌≢◌, ℕ, ◌+◌, ◌-◌, ◌<◌, ◌≤◌, ◌⊎◌, Bool, false, List, ◌++◌, length, reverse, slice_index}
 use Rattle.ed_words.specs.Texts.{Text}
 use Rattle.ed_printer.specs.Paper.{latest_shift, paper, paper_from}
@@ -16,8 +16,8 @@ use Rattle.ed_page.specs.declared.writing.Registers.{Registers}
 
 -- ---- the states on the way
 
--- a state after Start on the rows of a tape: with the 41 Initial Orders on a machine of this size, or with the 31 of May
--- 1949 on one of full size
+-- a state after Start on the rows of a tape: with the 41 Initial Orders on a machine of this size, or with the 31 of
+-- May 1949 on one of full size
 abbrev pub IsAfterStart : (small : Bool) (rows : List ℕ) → State → Type 0
 IsAfterStart small rows s = (s ≡ first_state (size_shown small) rows) ⊎ ((small ≡ false) × (s ≡ first_state1 rows))
 
@@ -31,21 +31,21 @@ pub record IsOnTheWay (first : State) (rows words digits : List ℕ) (registers 
   pub orders : ℕ
   pub pictured : Pictures (state_after orders first) words digits registers
 
--- so they do from Start on these rows, with one of the two Initial Orders
+-- the same from Start on these rows, with one of the two Initial Orders
 pub record CanGoOn (small : Bool) (rows words digits : List ℕ) (registers : Registers) : Type 0 where
   pub first : State
   pub begins : IsAfterStart small rows first
   pub way : IsOnTheWay first rows words digits registers
 
--- a picture that was written of a text is on the way from a first state, where these are the rows of its tape
+-- a picture that was written for a text is on the way from a first state, if these are the rows of its tape
 abbrev pub BeginsOnTheWay :
     (first : State) (rows : List ℕ) (text : Text) (words digits : List ℕ) → Registers → (answer : ℕ) → Type 0
 BeginsOnTheWay first rows text words digits registers answer =
     length text ≤ 262144 → answer ≢ 10 → answer ≢ 12 → IsOnTheWay first rows words digits registers
 
--- ---- what going on leaves
+-- ---- the result of continuing
 
--- the buffers of a call that goes on; the room for codes is the paper that is left
+-- the buffers of a call that continues; the room for codes is the paper that is left
 pub record GoingBuffers : Type 0 where
   pub words : List ℕ
   pub digits : List ℕ
@@ -61,16 +61,16 @@ going_buffers words digits codes registers =
 abbrev pub HasStoreRoom : GoingBuffers → Type 0
 HasStoreRoom b = (length b.words ≡ 1024) × (length b.digits ≡ 512)
 
--- buffers show where a run ended: its state, the codes that it printed at the head of theirs, how many they are, and the
--- status of its ending; there is no note
+-- buffers show where a run ended: its state, the codes that it printed at the beginning of theirs, their number, and
+-- the status of its ending; there is no note
 pub record ShowsRun (r : RunEnd) (before after : GoingBuffers) (answer : ℕ) : Type 0 where
   pub state : Pictures r.state after.words after.digits after.registers
   pub codes : Holds r.codes before.codes after.codes after.registers.printed
   pub noted : after.registers.noted ≡ 0
   pub status : answer ≡ status_of r.ending
 
--- a run was written into buffers; or no memory was found (10), and the buffers are as before. 12 comes first, exactly if
--- a buffer of the store has the wrong length
+-- a run was written into buffers; or no memory was found (10), and the buffers are unchanged. 12 comes first, exactly
+-- if a buffer of the store has the wrong length
 pub record IsGoneOn (r : RunEnd) (before after : GoingBuffers) (answer : ℕ) : Type 0 where
   pub memory : answer ≡ 10 → after ≡ before
   pub gone : answer ≢ 10 → HasItsCause (HasStoreRoom before) (after ≡ before) (ShowsRun r before after answer) answer
@@ -82,10 +82,10 @@ pub record IsGoneOn (r : RunEnd) (before after : GoingBuffers) (answer : ℕ) : 
 abbrev pub run_following : Past → RunEnd → RunEnd
 run_following p r = record { ending = r.ending; state = r.state; codes = p.codes ++ r.codes }
 
--- Wherever a run ended, going on from there is the one run from the beginning: with the orders that the first part
+-- Wherever a run ended, continuing from there is the one run from the beginning: with the orders that the first part
 -- obeyed and those of the second, the resumes that it used and those of the second, and the paper that it left. What a
--- program shows of a tape is the run from Start, with either Initial Orders, and where it ends is on the way; so is where
--- any run from there ends.
+-- program shows of a tape is the run from Start, with either Initial Orders, and where it ends is on the way; so is
+-- where any run from there ends.
 pub record GoingLaw : Type 0 where
   pub goes_on : (limit resumes room orders more : ℕ) (s : State)
       → let k = run_orders limit resumes room s in
@@ -109,8 +109,8 @@ added_text before codes = paper_from (latest_shift (reverse before)) codes
 abbrev pub PaperLaw : Type 0
 PaperLaw = (before codes : List ℕ) → paper (before ++ codes) ≡ paper before ++ added_text before codes
 
--- the text that codes add was written at the head of a buffer, with its length, and the answer is 0; or there was no
--- room (12) or no memory (10), and nothing was written
+-- the text that codes add was written at the beginning of a buffer, with its length, and the answer is 0; or there was
+-- no room (12) or no memory (10), and nothing was written
 pub record IsPaperTold (before codes buffer after : List ℕ) (n n_after answer : ℕ) : Type 0 where
   pub memory : answer ≡ 10 → (after ≡ buffer) × (n_after ≡ n)
   pub told : answer ≢ 10 → HasItsCause (length (added_text before codes) ≤ length buffer)

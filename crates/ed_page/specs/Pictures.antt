@@ -14,7 +14,7 @@ abbrev pub size_shown : Bool → Size
 size_shown true = Small
 size_shown false = Full
 
--- the settings of a run that is shown: so many orders at the most, so many resumes, and no post-mortem
+-- the settings of a run that is shown: its limit of orders, its resumes, and no post-mortem
 abbrev pub asked : Bool → ℕ → ℕ → Settings
 asked small orders resumes = record { limit = orders; resumes = resumes; size = size_shown small; post_mortem = None }
 

@@ -1,2 +1,2 @@
--- What the crate's own functions say of each other. No public clause cites these definitions.
+-- What the crate's own functions state for each other. No public clause cites these definitions.
 pub mod Stages

@@ -1,4 +1,4 @@
-//! Going on from a picture that a call wrote.
+//! Continuing from a picture that a call wrote.
 
 ghost use Rattle.std.specs.Prelude.{◌≡◌, ℕ, ◌+◌, ◌^◌, ◌≤◌, IfOk, length};
 ghost use Rattle.ed_machine.specs.State.{State};
@@ -18,7 +18,7 @@ use ed_run::run;
 use ed_words::NoMemory;
 use std::alloc::Global;
 
-/// A run that went on: the machine where it ended, and the codes that it printed.
+/// A run that continued: the machine at its end, and the codes that it printed.
 #[derive(Drop)]
 pub struct Gone {
     pub ending: Ending,
@@ -26,15 +26,15 @@ pub struct Gone {
     pub codes: Vec<u8>,
 }
 
-/// Goes on from a picture: obeys `orders` orders more, or those up to where the run ends before. Each of the first
-/// `resumes` Z orders lets the run go on.
+/// Continues from a picture: obeys `orders` more orders, or fewer if the run ends first. Each of the first
+/// `resumes` Z orders lets the run continue.
 ///
 /// The words, digits and registers are those that this call, `page_tape`, `page_tape1` or `page_source` wrote for the
 /// tape that has these rows; after `page_tape1` the store is not small. Afterwards they are those of the state in which
 /// the run ends; `registers.orders` is still counted from Start. The room of `codes` is the paper that is left: the new
-/// codes are written at its head, and `registers.printed` is their number. The answer is the status of the ending, 0, 4,
-/// 5, 6 or 7; 12 if a buffer of the store has the wrong length, and 10 if no memory was found. With 10 and 12 nothing is
-/// written.
+/// codes are written at its beginning, and `registers.printed` is their number. The answer is the status of the ending:
+/// 0, 4, 5, 6 or 7; 12 if a buffer of the store has the wrong length, and 10 if no memory was found. With 10 and 12
+/// nothing is written.
 #[unsafe(no_mangle)]
 pub extern "C" fn page_go_on(
     alloc: Global,
@@ -78,7 +78,7 @@ pub extern "C" fn page_go_on(
     }
 }
 
-/// Where the run from a picture ends, on a paper of so much room.
+/// The end of the run from a picture, on a paper with this room.
 fn went_on(
     alloc: Global,
     rows: &[u8],
@@ -103,7 +103,7 @@ fn went_on(
     go_on(alloc, machine, orders, resumes, room)
 }
 
-/// Obeys orders on a machine, onto a paper of so much room.
+/// Obeys orders on a machine, onto a paper with this room.
 fn go_on(
     alloc: Global,
     mut machine: Machine,

@@ -2,8 +2,8 @@
 //! the texts of rows, orders and listings.
 //!
 //! Contract: each picture and text is what the program answers to the same text, in the caller's buffers, and a run can
-//! continue from a picture; every other answer has its cause. The exports keep no state. Stands on `ed_answers`, and on
-//! `ed_run` and `ed_report`.
+//! continue from a picture; every other answer has its cause. The exports keep no state. Depends on `ed_answers`, and
+//! on `ed_run` and `ed_report`.
 #![tactic(auto)]
 
 mod going;

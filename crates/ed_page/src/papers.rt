@@ -12,7 +12,7 @@ use ed_printer::Printer;
 use ed_words::NoMemory;
 use std::alloc::Global;
 
-/// The answer where a text was written.
+/// The answer if a text was written.
 const WRITTEN: u32 = 0;
 
 /// The code that sets figure shift.

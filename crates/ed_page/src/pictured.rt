@@ -1,4 +1,4 @@
-//! The machine that a picture shows, made of what stands in its buffers.
+//! The machine that a picture shows, made from its buffers.
 
 ghost use Rattle.std.specs.Prelude.{◌≡◌, ℕ, ◌-◌, ◌/◌, ◌%◌, ◌^◌, ◌<◌, ◌≤◌, IfOk, drop, length, slice_index};
 ghost use Rattle.ed_machine.specs.State.{State};
@@ -64,7 +64,7 @@ fn store_of(alloc: Global, words: &[u32], digits: &[u8]) -> Result<Store, NoMemo
     Ok(store)
 }
 
-/// The accumulator of its two parts.
+/// The accumulator from its two parts.
 fn acc_of(registers: &Registers) -> Acc
     ensures { (a : ℕ) → a < 2 ^ 71 → registers.now.acc_low ≡ a % 2 ^ 36 → registers.now.acc_high ≡ a / 2 ^ 36
         → result ≡ a }

@@ -23,15 +23,15 @@ use ed_machine::Machine;
 use ed_words::NoMemory;
 use std::alloc::Global;
 
-/// Shows the machine after `orders` orders from Start on a tape's text, or where its run ended before. Each Z up to so
-/// many `resumes` lets the run go on.
+/// Shows the machine after `orders` orders from Start on a tape's text, or at the end of its run if that comes first.
+/// Each of the first `resumes` Z orders lets the run continue.
 ///
 /// It writes 1,024 words, 512 sandwich digits, the teleprinter's text, the program's note and the registers, and
 /// answers the program's status: 0, 4, 5, 6 or 7 by the ending of the run, 3 if the text is refused, 11 if it is too
 /// long and 10 if no memory was found. With 10 nothing is written; with 3 and 11 no word and no digit is, and the
 /// registers show no code and are 0 except for the lengths of the texts. It answers 12, and writes nothing, if a buffer
 /// has the wrong length: 1,024 and 512, and for each text as many bytes as it has. The lengths of the store's buffers,
-/// and the room for the line on a text that is too long, are looked at before any memory is taken.
+/// and the room for the line on a text that is too long, are tested before any memory is taken.
 #[unsafe(no_mangle)]
 pub extern "C" fn page_tape(
     alloc: Global,
@@ -61,8 +61,8 @@ pub extern "C" fn page_tape(
     }
 }
 
-/// Shows the machine of full store after `orders` orders from Start on a tape's text with the Initial Orders of May 1949,
-/// as `page_tape` does with the others.
+/// Shows the machine of full store after `orders` orders from Start on a tape's text with the Initial Orders of May
+/// 1949, as `page_tape` does with the others.
 #[unsafe(no_mangle)]
 pub extern "C" fn page_tape1(
     alloc: Global,
@@ -123,7 +123,7 @@ pub extern "C" fn page_source(
     }
 }
 
-/// Whether it is seen before any memory is taken that a picture has no room.
+/// Whether a buffer is known, before any memory is taken, to have no room for a picture.
 fn lacks_room(text: &[u8], words: &[u32], digits: &[u8], note: &[u8]) -> bool
     ensures { IsTrue result ↔ ((length words.now ≢ 1024) ⊎ ((length digits.now ≢ 512)
         ⊎ LacksLine text.now note.now)) }
@@ -131,7 +131,7 @@ fn lacks_room(text: &[u8], words: &[u32], digits: &[u8], note: &[u8]) -> bool
     words.len() != 1024 || digits.len() != 512 || lacks_line(text, note)
 }
 
-/// What is shown of a tape's text.
+/// The picture for a tape's text.
 fn tape_shown(alloc: Global, settings: Settings, text: &[u8]) -> Result<Shown, NoMemory>
     requires { settings.post_mortem ≡ None }
     ensures { Draws (tape_answer settings) (TapeEnds settings) text.now result }
@@ -145,7 +145,7 @@ fn tape_shown(alloc: Global, settings: Settings, text: &[u8]) -> Result<Shown, N
     }
 }
 
-/// What is shown of a tape's text with the Initial Orders of May 1949.
+/// The picture for a tape's text with the Initial Orders of May 1949.
 fn tape1_shown(alloc: Global, settings: Settings, text: &[u8]) -> Result<Shown, NoMemory>
     ensures { Draws (tape1_answer settings) (Tape1Ends settings) text.now result }
 {
@@ -158,7 +158,7 @@ fn tape1_shown(alloc: Global, settings: Settings, text: &[u8]) -> Result<Shown, 
     }
 }
 
-/// What is shown of a source.
+/// The picture for a source.
 fn source_shown(alloc: Global, settings: Settings, text: &[u8]) -> Result<Shown, NoMemory>
     requires { settings.post_mortem ≡ None }
     ensures { Draws (run_answer settings) (SourceEnds settings) text.now result }
@@ -195,7 +195,7 @@ fn show(
     shown.told.status
 }
 
-/// Writes the store of a machine, where there is one, and gives its registers.
+/// Writes the store of a machine, if there is one, and gives its registers.
 fn write_machine(
     machine: &Option<Machine>,
     lengths: Lengths,

@@ -20,7 +20,7 @@ use ed_report::ending_text;
 use ed_words::{NoMemory, Size};
 use std::alloc::Global;
 
-/// What is shown of a text: what the program answers, and the machine where it ran.
+/// What is shown of a text: what the program answers, and the machine if it ran.
 #[derive(Drop)]
 pub struct Shown {
     pub told: Told,
@@ -28,7 +28,7 @@ pub struct Shown {
 }
 
 impl Shown {
-    /// Of a text of which no tape was run.
+    /// The same for a text whose tape was not run.
     pub fn refused(told: Told) -> Shown
         ensures { result ≡ record { told = told; machine = None } }
     {
@@ -38,7 +38,7 @@ impl Shown {
         }
     }
 
-    /// Of a run that ended, with its note.
+    /// The same for a run that ended, with its note.
     fn of_run(alloc: Global, ran: Ran, note: Vec<u8>) -> Result<Shown, NoMemory>
         ensures told { IfOk result (λ shown. TellsOutcome shown.told
             (record { out = paper ran.paper.codes; note = note.items; status = status_of ran.ending })) }
@@ -59,7 +59,7 @@ pub fn size_of(small: bool) -> Size
     if small { Size::Small } else { Size::Full }
 }
 
-/// What is asked of a run: the size of the store, so many orders at the most, so many resumes.
+/// The settings of a run: the size of the store, the limit of orders, the resumes.
 pub fn asked(small: bool, orders: u32, resumes: u32) -> Settings
     ensures { result ≡ asked small orders resumes }
 {

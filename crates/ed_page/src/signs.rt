@@ -7,7 +7,7 @@ use ed_codes::{Code, byte_of};
 use ed_orders::order_text;
 use ed_words::Word;
 
-/// The letter or sign of a code below 32; of any other number 0.
+/// The letter or sign of a code below 32; 0 for any other number.
 #[unsafe(no_mangle)]
 pub extern "C" fn page_letter(code: u8) -> u8
     ensures letter { code < 32 → result ≡ byte_of code false }
@@ -19,8 +19,8 @@ pub extern "C" fn page_letter(code: u8) -> u8
     }
 }
 
-/// Writes the text of an order word below 131,072 at the head of a buffer, and answers its length; where the word is
-/// none or the buffer has no room, 0.
+/// Writes the text of an order word below 131,072 at the beginning of a buffer, and answers its length; 0 if the word
+/// is not one or the buffer has no room.
 #[unsafe(no_mangle)]
 pub extern "C" fn page_order(word: u32, buffer: &mut [u8]) -> usize
     ensures text { word < 2 ^ 17 → length (order_text word) ≤ length buffer.old
@@ -35,7 +35,7 @@ pub extern "C" fn page_order(word: u32, buffer: &mut [u8]) -> usize
     }
 }
 
-/// Writes the text of a word at the head of a buffer with room for it, and answers its length, else 0.
+/// Writes the text of a word at the beginning of a buffer with room for it, and answers its length; otherwise 0.
 fn write_order(word: Word, buffer: &mut [u8]) -> usize
     ensures text { length (order_text word) ≤ length buffer.old → take result buffer.new ≡ order_text word }
     ensures length { length (order_text word) ≤ length buffer.old → result ≡ length (order_text word) }

@@ -15,9 +15,9 @@ use ed_command::Settings;
 use ed_words::{NoMemory, Size};
 use std::alloc::Global;
 
-/// Writes the codes of the rows of a tape's text, and answers 0; or writes the program's note, and answers 3 where the
-/// text is refused and 11 where it is too long. It answers 10 where no memory was found, and 12, with nothing written,
-/// where a buffer has no room; before 10 where the text is too long and the line that says so has none.
+/// Writes the codes of the rows of a tape's text, and answers 0; or writes the program's note, and answers 3 if the
+/// text is refused and 11 if it is too long. It answers 10 if no memory was found, and 12, with nothing written, if a
+/// buffer has no room; 12 comes before 10 if the text is too long and the line that says so has no room.
 #[unsafe(no_mangle)]
 pub extern "C" fn page_tape_rows(
     alloc: Global,
@@ -83,7 +83,7 @@ pub extern "C" fn page_listing(
     }
 }
 
-/// Writes what is told into two buffers, where they have room.
+/// Writes the texts into two buffers, if they have room.
 fn tell(told: &Told, out: &mut [u8], note: &mut [u8], lengths: &mut Lengths) -> u32
     ensures { (o : Outcome) → TellsOutcome told.now o → IsWrittenOut o (text_buffers out.old note.old lengths.old)
         (text_buffers out.new note.new lengths.new) result }
@@ -95,7 +95,7 @@ fn tell(told: &Told, out: &mut [u8], note: &mut [u8], lengths: &mut Lengths) -> 
     told.status
 }
 
-/// What is told of the rows of a tape's text.
+/// The codes of the rows of a tape's text, or the refusal.
 fn tape_rows(alloc: Global, text: &[u8]) -> Result<Told, NoMemory>
     ensures { IsAnswered (of_rows (exactly done)) text.now result }
 {
@@ -108,7 +108,7 @@ fn tape_rows(alloc: Global, text: &[u8]) -> Result<Told, NoMemory>
     }
 }
 
-/// What is told of the rows of a source's tape.
+/// The codes of the rows of a source's tape, or the refusal.
 fn source_rows(alloc: Global, size: Size, text: &[u8]) -> Result<Told, NoMemory>
     ensures { IsAnswered (of_source size source_rows) text.now result }
 {
@@ -121,7 +121,7 @@ fn source_rows(alloc: Global, size: Size, text: &[u8]) -> Result<Told, NoMemory>
     }
 }
 
-/// What is told of the listing of a source.
+/// The listing of a source, or the refusal.
 fn source_listing(alloc: Global, settings: Settings, text: &[u8]) -> Result<Told, NoMemory>
     ensures { IsAnswered (listing_answer settings) text.now result }
 {

@@ -9,16 +9,16 @@ use ed_answers::{Rejection, Reply};
 use ed_words::NoMemory;
 use std::alloc::Global;
 
-/// How many bytes a text may have.
+/// The most bytes that a text may have.
 const TEXT_ROOM: usize = 262_144;
 
-/// What is told of a longer one.
+/// The note for a longer one.
 const TOO_LONG: &[u8] = b"input too long\n";
 
-/// The answer where no memory was found.
+/// The answer if no memory was found.
 pub const NO_MEMORY: u32 = 10;
 
-/// The answer where a buffer has no room.
+/// The answer if a buffer has no room.
 pub const NO_ROOM: u32 = 12;
 
 /// What the program answers to a text: its two texts and its status.
@@ -30,7 +30,7 @@ pub struct Told {
 }
 
 impl Told {
-    /// What is told where a command is finished, with a text on `out`.
+    /// The texts of a command that is finished, with a text on `out`.
     pub fn done(alloc: Global, out: Vec<u8>) -> Told
         ensures { TellsOutcome result (done out.items) }
     {
@@ -41,7 +41,7 @@ impl Told {
         }
     }
 
-    /// What is told of a reply.
+    /// The texts of a reply.
     pub fn of_reply(reply: Reply) -> Told
         ensures { (o : Outcome) → Gives reply o → TellsOutcome result o }
     {
@@ -52,7 +52,7 @@ impl Told {
         }
     }
 
-    /// What is told of a text that is too long.
+    /// The texts for an input that is too long.
     pub fn too_long(alloc: Global) -> Result<Told, NoMemory>
         ensures { IfOk result (λ told. TellsOutcome told too_long_outcome) }
     {
@@ -75,7 +75,7 @@ impl Told {
         self.out.len() <= out.len() && self.note.len() <= note.len()
     }
 
-    /// Writes the texts at the heads of two buffers, and answers their lengths.
+    /// Writes the texts at the beginnings of two buffers, and answers their lengths.
     pub fn write(&self, out: &mut [u8], note: &mut [u8]) -> Lengths
         requires out { length self.now.out.items ≤ length out.old }
         requires note { length self.now.note.items ≤ length note.old }
@@ -91,7 +91,7 @@ impl Told {
     }
 }
 
-/// What is told of an answer, whether it refuses the text or not.
+/// The texts of an answer, whether it refuses the text or not.
 pub fn told_of(answer: Result<Reply, Rejection>) -> Result<Told, NoMemory>
     ensures { TellsAnswer answer result }
 {
@@ -101,7 +101,7 @@ pub fn told_of(answer: Result<Reply, Rejection>) -> Result<Told, NoMemory>
     }
 }
 
-/// What is told of a text that is rejected.
+/// The texts of a rejection.
 pub fn rejected(rejection: Rejection) -> Result<Told, NoMemory>
     ensures { TellsRejection rejection result }
 {

@@ -7,7 +7,7 @@ ghost use Rattle.ed_page.specs.Pictures.{PicturesStore, PicturesRegisters, last_
 use ed_codes::Code;
 use ed_machine::Machine;
 
-/// What stands for the last printed code if nothing was printed: a number that is not a code.
+/// The value for the last printed code if nothing was printed: a number that is not a code.
 pub const NO_CODE: u64 = 32;
 
 /// The lengths of two texts in their buffers.
@@ -18,27 +18,27 @@ pub struct Lengths {
     pub note: u64,
 }
 
-/// The registers of a machine, how much of its tape there is, and the lengths of the texts of a picture. Where no run
-/// is shown no code was printed, and all others but the lengths are 0.
+/// The registers of a machine, the number of rows left of its tape, and the lengths of the texts of a picture. If no
+/// run is shown no code was printed, and all others but the lengths are 0.
 #[repr(C)]
 #[derive(Clone, Copy, Debug, PartialEq, Eq)]
 pub struct Registers {
-    /// The low 36 digits of the accumulator.
+    /// The 36 least significant digits of the accumulator.
     pub acc_low: u64,
-    /// The high 35.
+    /// The other 35.
     pub acc_high: u64,
     pub multiplier: u64,
-    /// How many orders were done.
+    /// The number of orders obeyed.
     pub orders: u64,
-    /// How many rows of the tape are left.
+    /// The number of rows of the tape that are left.
     pub rows_left: u64,
     /// The location of the next order.
     pub counter: u64,
     /// The last printed code, or `NO_CODE` if nothing was printed.
     pub last: u64,
-    /// How many bytes the teleprinter's text has.
+    /// The number of bytes of the teleprinter's text.
     pub printed: u64,
-    /// How many bytes the note has.
+    /// The number of bytes of the note.
     pub noted: u64,
 }
 
@@ -72,7 +72,7 @@ fn write_digits(machine: &Machine, digits: &mut [u8])
     }
 }
 
-/// Writes a text at the head of a buffer, and leaves its other bytes.
+/// Writes a text at the beginning of a buffer, and keeps its other bytes.
 pub fn write_text(text: &[u8], buffer: &mut [u8])
     requires { length text.now ≤ length buffer.old }
     ensures { buffer.new ≡ text.now ++ drop (length text.now) buffer.old }

@@ -16,7 +16,7 @@ short x = x * 2 ^ 54
 abbrev pub long : ℕ → ℕ
 long x = x * 2 ^ 36
 
--- the place of a piece of n cells; h is the first of its pairs whose sandwich digits it changes
+-- the base of a piece of n cells; h is the first of its pairs whose sandwich digits it changes
 pub record Frame (n h : ℕ) : Type 0 where
   pub size : Size
   pub base : ℕ

@@ -21,7 +21,7 @@ pub record Leads (k : ℕ) (s : State) (codes : List ℕ) (t : State) : Type 0 w
   pub codes_are : (past k s).codes ≡ codes
   pub goes : (j : ℕ) → j < k → goes_on (step (state_after j s)).turn ≡ true
 
--- a turn that goes on is an order obeyed, and no stop
+-- a turn that goes on is an order obeyed, and not a stop
 pub obeyed_of : (turn : Turn) → goes_on turn ≡ true → is_obeyed turn ≡ true
 obeyed_of Went e = refl
 obeyed_of (Printed code) e = refl

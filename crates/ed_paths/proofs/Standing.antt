@@ -6,7 +6,7 @@ use Rattle.std.proofs.Common.{None, length, get_or, inl, inr}
 use Rattle.std.proofs.lemmas.Bool.{cases_lt}
 use Rattle.ed_paths.proofs.Window.{patched, patched_self, get_own, get_below, get_above}
 
--- a word is the one that is asked for, if one is
+-- a word is the wanted one, if one is wanted
 abbrev pub Meets : Option ℕ → ℕ → Type 0
 Meets None w = Unit {0}
 Meets (Some x) w = w ≡ x

@@ -37,7 +37,7 @@ use Rattle.ed_postmortem.proofs.Lists.{block_window, behind_head, drop_window, h
 use Rattle.ed_postmortem.proofs.Paths.{Given, Work, cells, ready, f, moment, PrintsAll, prints_all}
 use Rattle.ed_postmortem.proofs.Stops.{behind_stop, run_stops}
 
--- what is printed, and in how many orders, depends on the words alone from the first one on
+-- what is printed, and in how many orders, depends only on the words from the first one upwards
 codes_same : (count : ℕ) (xs ys : List ℕ) (p : ℕ) → ((i : ℕ) → p ≤ i → get_or xs i 0 ≡ get_or ys i 0)
     → printed_codes xs p count ≡ printed_codes ys p count
 unfolding printed_codes
@@ -56,7 +56,7 @@ orders_same (suc count) xs ys p h =
 listing_cost : block_cost listing ≡ 3102
 listing_cost = refl
 
--- the cells as the tape places them; the two that name the first word and the count stand in `ready`
+-- the cells as the tape places them; `ready` has the two that name the first word and the count
 abbrev placed_work : Work
 placed_work = record { at5 = 0; at8 = 0; at19 = 49410; at78 = 0; at79 = 0; at80 = 0; at81 = 0; at82 = 0; at83 = 0 }
 

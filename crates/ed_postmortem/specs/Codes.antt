@@ -61,6 +61,6 @@ unfoldable pub words_orders : List ℕ → ℕ → ℕ → ℕ
 words_orders words first zero = 0
 words_orders words first (suc count) = word_orders (slice_index words first) + words_orders words (first + 1) count
 
--- the number of orders from the entry to the stop, which take four more
+-- the number of orders from the entry to the stop: those that print the words, and four more
 abbrev pub printing_orders : List ℕ → ℕ → ℕ → ℕ
 printing_orders words first count = 4 + words_orders words first count

@@ -61,7 +61,7 @@ fn obey(machine: &mut Machine, first: u16, count: u16, rows: Vec<Code>, paper: &
     requires rows { rows.items ≡ tape_rows first count }
     ensures { IsPrinted machine.old paper.old first count result machine.new paper.new }
 {
-    // The contract of `word` gives the proof that the store is one.
+    // Called only for its clause `store`: the proof needs that the store has all its words within their bounds.
     let _ = machine.word(0);
     let before = machine.orders_done();
     begin(machine, rows);

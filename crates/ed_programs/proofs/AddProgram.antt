@@ -14,14 +14,14 @@ use Rattle.ed_programs.proofs.DataLines.{number_rows}
 use Rattle.ed_routines.proofs.Journeys.{ComesToStop, HasRoutine, IsIn, along, elsewhere, no_working, then, to_stop}
 use Rattle.ed_routines.proofs.Lines.{print_line}
 
--- its words at b, where `read` and `print` stand at r and p, with the two cells that change
+-- its words at b, with `read` and `print` at r and p, and with the two cells that change
 abbrev pub cells : ℕ → ℕ → ℕ → ℕ → ℕ → List ℕ
 cells b r p value first =
     (114688 + 2 * (b + 0)) ∷ (110592 + 2 * r) ∷ (114688 + 2 * (b + 12)) ∷ (20480 + 2 * (b + 13))
     ∷ (114688 + 2 * (b + 4)) ∷ (110592 + 2 * r) ∷ (114688 + 2 * (b + 12)) ∷ (114688 + 2 * (b + 13))
     ∷ (20480 + 2 * (b + 12)) ∷ (114688 + 2 * (b + 9)) ∷ (110592 + 2 * p) ∷ 53248 ∷ value ∷ first ∷ []
 
--- where it stands, and what is around it
+-- its base, and what is around it
 pub record Given : Type 0 where
   pub f : Frame 14 0
   pub above : 56 ≤ f.base

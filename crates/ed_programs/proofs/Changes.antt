@@ -122,7 +122,7 @@ module _ {n h : ℕ} {f : Frame n h} {r : Moment} (o : IsIn f r) where
     pub read_long : length words_read ≡ 1024
     read_long = read_call.all_last (reading 0 (there 0)) ends code
 
-    -- the words beside the piece and the routine's working places stay
+    -- the words outside the piece and the routine's working locations are unchanged
     keeps : (q : ℕ) → q ≢ f.base + j → IsOther read w q → get_or words_read q 0 ≡ get_or (all_words f r) q 0
     keeps =
         (read_call.keeps (reading 0 (there 0)) ends code (read_call.last (reading 0 (there 0)) ends code) refl).words
@@ -154,7 +154,7 @@ module _ {n h : ℕ} {f : Frame n h} {r : Moment} (o : IsIn f r) where
             ∙ sym (get_or-set_same r.cells j number_read 0 there_is)
             ∙ ap (λ x. get_or cells_read x 0) (sym e)
 
-    -- the number of the digit rows stands in the cell, and the rows after the ending row are left
+    -- the number of the digit rows is in the cell, and the rows after the ending row are left
     pub read_line : r.acc ≡ 0 → Reads {f = f} {r = r} i 28 (own i)
         → Jumps {f = f} {r = record r { acc = short (114688 + 2 * (f.base + i)); counter = f.base + (i + 1) }}
         (i + 1) 27 (any w has.reached)
@@ -178,7 +178,7 @@ module _ {n h : ℕ} {f : Frame n h} {r : Moment} (o : IsIn f r) where
         differs q (inl b) e = absurd (omega arith)
         differs q (inr b) e = absurd (omega arith)
 
-    -- a routine that stood before stands after it
+    -- a routine that was in the store before is there after it
     pub has_read : {r1 w1 : ℕ} {others : List ℕ} → HasRoutine f r.words r1 w1 others
         → ((m : ℕ) → m < place_count r1 → is_working r1 m ≡ false → IsOther read w (w1 + m))
         → HasRoutine f words_read r1 w1 others
@@ -209,9 +209,9 @@ module _ {n h : ℕ} {f : Frame n h} {r : Moment} (o : IsIn f r) where
         away m l (inl b) = inl (omega arith)
         away m l (inr b) = inr (omega arith)
 
-  -- ---- `read` of a number whose digits stand on the tape
+  -- ---- `read` of a number whose digits are on the tape
 
-  -- the number is in the cell j, the rows after it are left, and the piece and the routines stand as before
+  -- the number is in the cell j, the rows after it are left, and the piece and the routines are as before
   pub record HasRead (i j w v : ℕ) (rest : List ℕ) : Type 0 where
     pub words : List ℕ
     pub journey : Journey f (13 + 13 * length (digits v)) r [] (after_change i words r.digits (set r.cells j v) rest r.last)

@@ -17,7 +17,7 @@ use Rattle.ed_programs.proofs.DataLines.{number_rows}
 use Rattle.ed_routines.proofs.Journeys.{ComesToStop, HasRoutine, IsIn, along, elsewhere, no_working, then, to_stop}
 use Rattle.ed_routines.proofs.Lines.{print_line}
 
--- its words at b, where `read` and `print` stand at r and p, with the three cells that change
+-- its words at b, with `read` and `print` at r and p, and with the three cells that change
 abbrev pub cells : ℕ → ℕ → ℕ → ℕ → ℕ → ℕ → List ℕ
 cells b r p number first scrap =
     (114688 + 2 * (b + 0)) ∷ (110592 + 2 * r) ∷ (114688 + 2 * (b + 16)) ∷ (20480 + 2 * (b + 17)) ∷ (114688 + 2 * (b + 4))
@@ -25,7 +25,7 @@ cells b r p number first scrap =
     ∷ (20480 + 2 * (b + 18)) ∷ (114688 + 2 * (b + 17)) ∷ (49152 + 2 * (b + 16)) ∷ (20480 + 2 * (b + 16))
     ∷ (114688 + 2 * (b + 13)) ∷ (110592 + 2 * p) ∷ 53248 ∷ number ∷ first ∷ scrap ∷ []
 
--- where it stands, and what is around it
+-- its base, and what is around it
 pub record Given : Type 0 where
   pub f : Frame 19 0
   pub above : 56 ≤ f.base
@@ -51,7 +51,7 @@ module _ (given : Given) where
     tape = tape;
   }
 
-  -- the smaller number is taken from the greater, in either case
+  -- the smaller number is subtracted from the greater, in either case
   record Apart (words : List ℕ) (a b orders : ℕ) : Type 0 where
     scrap : ℕ
     path : Path f (4 + orders) (at 6 words 0 b a 0 []) [] (at 13 words 0 (distance a b) a scrap [])

@@ -42,7 +42,7 @@ abbrev pub flat : Moment → Moment
 flat r = record r { pairs = [] }
 
 module _ {n h : ℕ} {f : Frame n h} (r : Moment) (o : IsIn f (flat r)) where
-  -- the quotient and the remainder of x by y stand in the cells, and the routines stand as before
+  -- the quotient and the remainder of x by y are in the cells, and the routines are as before
   pub record HasDivided (i w jh jl x y : ℕ) : Type 0 where
     pub words : List ℕ
     pub digits : List Bool
@@ -170,7 +170,7 @@ module _ {n h : ℕ} {f : Frame n h} (r : Moment) (o : IsIn f (flat r)) where
             ∙ ap (λ j. get_or cells_divided j 0) (sym e)
         by_low (inr other) = by_high other (cases m jh)
 
-    -- beside the piece only the routine's working places change
+    -- outside the piece only the routine's working locations change
     beside : (q : ℕ) → (q < f.base) ⊎ (f.base + n ≤ q) → IsOther divide w q → get_or last.store.words q 0 ≡ get_or r.words q 0
     beside q place other =
         keeps q (differs jh d.in_high place) (differs jl d.in_low place) other ∙ beside_word o q place

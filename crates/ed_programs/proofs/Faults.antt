@@ -1,4 +1,4 @@
--- Lines whose places are those after all lines before them have no fault.
+-- Lines whose locations are after those of all earlier lines have no fault.
 use Rattle.std.proofs.Common.{◌≡◌, ◌∙◌, ℕ, ◌+◌, ◌≤◌, Bool, true, false, List, [], ◌∷◌, ◌++◌, refl, ap, arith, length, nat_le, nat_lt}
 use Rattle.std.specs.Prelude.{max, min, Option, Some, None, is_none}
 use Rattle.std.specs.List.{list_all, list_any}
@@ -22,7 +22,7 @@ use Rattle.ed_syntax.specs.declared.fault.SourceFault.{SourceFault}
 use Rattle.ed_symbols.specs.Faults.{or_later}
 use Rattle.ed_link.specs.Private.FaultTests.{LinesBefore, cause_of, meets, sets}
 
--- the places of lines, from the first to the one after the last, are below one
+-- the extents of lines, from the first location to the one after the last, are below a location
 abbrev pub are_below : ℕ → List (ℕ × ℕ) → Bool
 are_below p runs = list_all (λ r. nat_le r.1 p) runs
 
@@ -35,7 +35,7 @@ below_more p q (r ∷ runs) l h =
     let rest = below_more p q runs l s.1 in
     rw (first, rest) refl
 
--- and so are those of one line more
+-- and so are those of one more line
 pub one_more : (p a q : ℕ) (runs : List (ℕ × ℕ)) → p ≤ q → are_below p runs ≡ true
     → are_below q (runs ++ (a, q) ∷ []) ≡ true
 one_more p a q runs l h =
@@ -43,7 +43,7 @@ one_more p a q runs l h =
     let last : nat_le q q ≡ true = le_true q q (omega arith) in
     list_all-append (λ r. nat_le r.1 q) runs ((a, q) ∷ []) ∙ rw (before, last) refl
 
--- places from there on are other ones
+-- extents from there upwards don't overlap them
 pub apart : (p a b : ℕ) (runs : List (ℕ × ℕ)) → p ≤ a → are_below p runs ≡ true
     → list_any (λ run. meets (a, b) run) runs ≡ false
 apart p a b [] l h = refl
@@ -59,7 +59,7 @@ pub none_later : (l : ℕ) (cause : Option SourceCause) (later : Option SourceFa
     → or_later l cause later ≡ None
 none_later l cause later here there = ap (λ (c : Option SourceCause). or_later l c later) here ∙ there
 
--- the tests of a line's places, which are from 56 on and end within a store
+-- the tests of a line's extent, which is above 55 and within a store
 pub record Sound (top a b : ℕ) : Type 0 where
   pub loader : nat_lt (max a 0) (min b 44) ≡ false
   pub parameters : nat_lt (max a 44) (min b 56) ≡ false

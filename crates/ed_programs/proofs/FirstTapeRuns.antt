@@ -1,4 +1,4 @@
--- The outcome of a tape of May 1949 whose program comes to its stop, as what the command `tape1` owes it.
+-- The outcome of a tape of May 1949 whose program reaches its stop, as what the command `tape1` owes it.
 use Rattle.std.proofs.Common.{◌≡◌, ◌∙◌, inl, ℕ, ◌+◌, ◌-◌, ◌≤◌, refl, sym, subst, arith, Bool, true, false}
 use Rattle.std.proofs.Common.{◌&&◌, nat_le, nat_lt, List, [], ◌∷◌, ◌++◌, codes, length}
 use Rattle.std.specs.Prelude.{None, Result, Ok, Err, String}
@@ -62,12 +62,12 @@ are_items (i ∷ is) h =
 
 -- ---- the run from 31
 
--- no order is done at the start
+-- no order has been obeyed at the start
 fresh : (tape_rows : List ℕ) → (first_state1 tape_rows).orders ≡ 0
 unfolding first_state1
 fresh tape_rows = refl
 
--- a text that spells rows that come to a program, which comes to its stop from its entry
+-- a text that spells rows that give a program, which reaches its stop from its entry
 pub first_tape_runs : (s : Settings) (tape : Text) (tape_rows : List ℕ) (t : Tape) {k at : ℕ} {printed : List ℕ}
     → reading tape ≡ rows tape_rows → length tape ≤ 262144 → Comes1 tape_rows t
     → ComesToStop k (at_entry1 (first_state1 tape_rows) t) printed at → length printed ≤ paper_room

@@ -25,7 +25,7 @@ pub record Work : Type 0 where
   pub divisor : ℕ
   pub scrap : ℕ
 
--- its words at b, where `read`, `divide` and `print` stand at r, d and p
+-- its words at b, with `read`, `divide` and `print` at r, d and p
 abbrev pub cells : ℕ → ℕ → ℕ → ℕ → Work → List ℕ
 cells b r d p k =
     (114688 + 2 * (b + 0)) ∷ (110592 + 2 * r) ∷ (114688 + 2 * (b + 33)) ∷ (20480 + 2 * (b + 34)) ∷ (114688 + 2 * (b + 4))
@@ -37,7 +37,7 @@ cells b r d p k =
     ∷ (110592 + 2 * d) ∷ (114688 + 2 * (b + 29)) ∷ (110592 + 2 * p) ∷ (12288 + 2 * (b + 15)) ∷ 53248
     ∷ k.number ∷ k.low ∷ k.rest ∷ k.divisor ∷ 94208 ∷ 1 ∷ k.scrap ∷ []
 
--- where it stands, with the routines after it
+-- its base, and the routines after it
 pub record Given : Type 0 where
   pub f : Frame 40 0
   pub above : 56 ≤ f.base

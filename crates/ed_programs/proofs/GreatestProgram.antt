@@ -16,12 +16,12 @@ use Rattle.ed_routines.proofs.Journeys.{ComesToStop, HasRoutine, IsIn, along, th
 use Rattle.ed_routines.proofs.Lines.{print_line}
 use Rattle.ed_paths.proofs.Loops.{all_spent, quiet_walks, walked}
 
--- the order that gets what stands at q
+-- the order that gets the word at q
 abbrev pub getting : ℕ → ℕ
 getting q = 114688 + 2 * q
 
--- its words at b, where the list ends before e and `print` stands at p: the two orders that get a number, the greatest
--- and a cell for what is thrown away change
+-- its words at b; the list ends before e, and `print` is at p. The two orders that get a number, the greatest
+-- and a cell for what is discarded change
 abbrev pub cells : ℕ → ℕ → ℕ → ℕ → ℕ → ℕ → ℕ → List ℕ
 cells b e p look take greatest scrap =
     (20480 + 2 * (b + 22)) ∷ look ∷ (49152 + 2 * (b + 20)) ∷ (110592 + 2 * (b + 7)) ∷ (20480 + 2 * (b + 22)) ∷ take
@@ -30,7 +30,7 @@ cells b e p look take greatest scrap =
     ∷ (20480 + 2 * (b + 22)) ∷ (114688 + 2 * (b + 17)) ∷ (110592 + 2 * p) ∷ 53248 ∷ greatest ∷ (114688 + 2 * e)
     ∷ scrap ∷ []
 
--- where it stands, and what is around it
+-- its base, and what is around it
 pub record Given : Type 0 where
   pub f : Frame 23 0
   pub above : 56 ≤ f.base
@@ -42,13 +42,13 @@ pub record Given : Type 0 where
   pub at2 : get_or around.words 2 0 ≡ 2
   pub prints : HasRoutine f around.words print p (with_h (f.base + 20))
 
--- numbers stand in words from a place on
+-- numbers are in words from a location upwards
 abbrev pub Stand : List ℕ → ℕ → List ℕ → Type 0
 Stand ws q [] = Unit {0}
 Stand ws q (n ∷ ns) = (get_or ws q 0 ≡ n) × (n < 65536) × Stand ws (q + 1) ns
 
--- what changes as the loop goes round: the number's place, what is left of the comparison, the greatest so far, and
--- what was thrown away
+-- what changes as the loop goes round: the number's location, what is left of the comparison, the greatest so far, and
+-- what was discarded
 pub record Turning : Type 0 where
   pub q : ℕ
   pub left : ℕ
@@ -133,7 +133,7 @@ module _ (given : Given) where
       (on (A 12 (out 2 (early 2 above (lit< tt) all)) (short (getting (q + 1))) refl (omega arith))
       (on (U 13 (own 1) _ refl refl) stay))))))
 
-  -- and are compared with the order for the place after the list
+  -- and are compared with the order for the location after the list
   compares : (q g t : ℕ) (ns : List ℕ) → q + length ns ≡ e → f.base + 23 ≤ q
       → Path f 2 (at 14 (getting q) (getting q) (getting q) g t) []
       (before (record { q = q; left = compared ns; most = g; scrap = t }) ns)

@@ -38,7 +38,7 @@ greatest_small (n ∷ ns) h =
     let rest = greatest_small ns p.1 in
     omega arith
 
--- numbers that stand in the source from a place on stand there at its entry
+-- numbers that the source places from a location upwards are there at its entry
 pub numbers_stand : (z : Size) (lines : List Line) → have_places (placed lines) ≡ true → (q : ℕ) (ns : List ℕ) → 44 ≤ q
     → q + length ns ≤ 1024 → words_from (placed lines) q (length ns) ≡ ns → are_small ns ≡ true
     → Stand (entry_state z lines).store.words q ns

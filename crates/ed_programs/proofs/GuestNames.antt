@@ -1,4 +1,4 @@
--- A source that enters the checking routine is entered where the routine stands.
+-- A source that enters the checking routine is entered at the routine's base.
 use Rattle.std.proofs.Common.{◌≡◌, ◌∙◌, inl, inr, ℕ, refl, sym, ap, subst, Bool, true, false, true≢false}
 use Rattle.std.proofs.Common.{List, [], ◌∷◌, ◌++◌, append_assoc, if◌then◌else◌}
 use Rattle.std.specs.Prelude.{Option, Some, None, not, ◌&&◌, ◌||◌, is_some, option_map, unwrap_or}
@@ -120,7 +120,7 @@ module _ (z : Size) (lines : List Line) (faultless : HasNoFault z lines) (c : En
       ∙ first_enter (homes_of lines) c.ahead (c.entering ∷ c.follows.after) none_ahead
       ∙ ap (λ st. entered_place (homes_of lines) st (entry_from (homes_of lines) c.follows.after)) c.enters
 
-  -- the name that is entered has a place, so it is not local
+  -- the name that is entered is known, so it is not local
   is_global : is_local c.name ≡ false
   is_global = not_so (is_local c.name) (λ e.
       faultless _ causes.LabelUnknown

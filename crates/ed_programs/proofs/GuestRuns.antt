@@ -164,7 +164,7 @@ module _ (s : Settings) (source : Text) (lines : List Line) (c : EntersChecker l
 pub each_guest : EachGuestIsChecked
 each_guest = checks
 
--- so it is of the source that is made for a guest
+-- the same for the source that is made for a guest
 pub checks_from_main : (program : Result (String Global) Refusal) (text : Text)
     → GivesProgram None (checked_text text) program → ChecksItsGuest program
 checks_from_main (Err refusal) text gives = tt

@@ -1,4 +1,4 @@
--- A guest of three lines, for which all that the law asks is shown: it prints A and stops.
+-- A guest of three lines, for which everything that the law requires is shown: it prints A and stops.
 use Rattle.std.proofs.Common.{◌≡◌, ◌∙◌, inl, ℕ, zero, suc, ◌+◌, ◌-◌, ◌*◌, ◌/◌, ◌^◌, ◌<◌, ◌≤◌}
 use Rattle.std.proofs.Common.{refl, sym, ap, subst, arith, lit<, lit≤}
 use Rattle.std.proofs.Common.{true, false, List, [], ◌∷◌, ◌++◌, length, take, Some, codes, pos}
@@ -125,7 +125,7 @@ module _ (z : Size) where
   unfolding step
   second_turn = ap (λ w. (obey_word (kind_of_function (function_of w)) w second).turn) second_word
 
-  -- ---- what the law asks of it
+  -- ---- what the law requires of it
 
   first_allowed : IsAllowed 60 g
   first_allowed =

@@ -1,4 +1,4 @@
--- At the entry of a source that enters the checking routine the routine stands, and finds the guest at H.
+-- At the entry of a source that enters the checking routine the routine is at the start of a turn, with the guest at H.
 use Rattle.std.proofs.Common.{◌≡◌, ◌∙◌, ℕ, zero, suc, ◌+◌, ◌-◌, ◌*◌, ◌/◌, ◌%◌, ◌^◌, ◌<◌, ◌≤◌}
 use Rattle.std.proofs.Common.{refl, sym, ap, subst, arith, lit<}
 use Rattle.std.proofs.Common.{Bool, true, false, true≢false, ◌&&◌, ◌||◌, nat_eq, nat_le, List}
@@ -107,7 +107,7 @@ abbrev ends_alone : ℕ → Bool
 ends_alone i =
     is_working check i || (nat_eq (routine_item check i).end 17 || nat_eq (routine_item check i).end 18)
 
--- H is in the word of a working place alone
+-- H is in the word of a working location alone
 any_h : (h base i : ℕ) → i < 66 → is_working check i ≡ false
     → image_word check i base (with_h h) ≡ image_word check i base (with_h 0)
 any_h h base i l steady =

@@ -1,4 +1,4 @@
--- What stands in the store at the entry of the source of `examples/hello.edsac`.
+-- The store at the entry of the source of `examples/hello.edsac`.
 use Rattle.std.proofs.Common.{◌≡◌, inl, ◌∙◌, ℕ, zero, suc, ◌+◌, ◌*◌, ◌<◌, ◌≤◌, ◌&&◌, true, List, [], ◌∷◌, ◌++◌}
 use Rattle.std.proofs.Common.{refl, ap, arith, length, get_or, map, take, nat_lt, append-nil, lit≤, lit<}
 use Rattle.std.specs.Prelude.{Some, None, unwrap_or}
@@ -66,7 +66,7 @@ module _ (z : Size) (rows : List ℕ) (few : length rows ≤ 41) where
       last_append (laid 69 codes) (laid w (newline_words w) ++ []) a
       ∙ ap (λ (x : List (ℕ × ℕ)). or_else (last_at x a) (last_at (laid 69 codes) a)) (append-nil (laid w (newline_words w)))
 
-  -- none of these stands before the text
+  -- none of these is before the text
   none_early : (a : ℕ) → a < 69 → last_at rest a ≡ None
   none_early a l =
       let first = beside_block 69 codes a (inl l) in
@@ -92,7 +92,7 @@ module _ (z : Size) (rows : List ℕ) (few : length rows ≤ 41) where
   early : (a v : ℕ) → 44 ≤ a → a < 69 → unwrap_or (last_at front a) 0 ≡ v → get_or ws a 0 ≡ v
   early a v low l is = front_word z lines front rest refl refl rest_places a low (omega arith) (none_early a l) ∙ is
 
-  -- the program stands at 56
+  -- the program is at 56
   pub program_holds : Holds (map (λ x. Some x) (cells 56 (69 + n) w (printing 69) 0)) ws 56
   program_holds zero l = early 56 20616 (lit≤ tt) (lit< tt) refl
   program_holds (suc zero) l = early 57 37002 (lit≤ tt) (lit< tt) refl

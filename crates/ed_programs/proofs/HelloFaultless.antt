@@ -1,4 +1,4 @@
--- The source of `examples/hello.edsac` has no fault of meaning, whatever the text is.
+-- The source of `examples/hello.edsac` has no fault of meaning, for any text.
 use Rattle.std.proofs.Common.{◌≡◌, ◌∙◌, ℕ, ◌+◌, ◌≤◌, true, false, List, [], ◌∷◌, ◌++◌, refl, ap, arith, codes, length, nat_lt}
 use Rattle.std.specs.Prelude.{Option, None}
 use Rattle.ed_words.proofs.Numbers.{lt_false}
@@ -39,7 +39,7 @@ module _ (rows : List ℕ) (few : length rows ≤ 41) where
       let d : nat_lt 1023 (w + 0) ≡ false = lt_false 1023 (w + 0) (omega arith) in
       rw (c, d, a, b) refl
 
-  -- the places of the lines before the text
+  -- the extents of the lines before the text
   abbrev runs : List (ℕ × ℕ)
   runs =
       (56, 56) ∷ (56, 56) ∷ (56, 56) ∷ (56, 56) ∷ (56, 57) ∷ (57, 58) ∷ (58, 59) ∷ (59, 60) ∷ (60, 61) ∷ (61, 62)

@@ -8,24 +8,24 @@ use Rattle.ed_paths.proofs.Moves.{A, S, T, U, O, G_jumps, G_stays}
 use Rattle.ed_paths.proofs.Paths.{Path, stay, on, prints, followed}
 use Rattle.ed_paths.proofs.Loops.{walks, all_printed}
 
--- its words at b, where the place e is after the text and `newline` stands at w: the order that prints, and a cell for
--- what is thrown away, change
+-- its words at b, where the location e is after the text and `newline` is at w: the order that prints, and a cell for
+-- what is discarded, change
 abbrev pub cells : ℕ → ℕ → ℕ → ℕ → ℕ → List ℕ
 cells b e w order scrap =
     (20480 + 2 * (b + 12)) ∷ order ∷ (114688 + 2 * (b + 1)) ∷ 114692 ∷ (28672 + 2 * (b + 1)) ∷ (49152 + 2 * (b + 11))
     ∷ (110592 + 2 * (b + 0)) ∷ (20480 + 2 * (b + 12)) ∷ (114688 + 2 * (b + 8)) ∷ (110592 + 2 * w) ∷ 53248
     ∷ (36864 + 2 * e) ∷ scrap ∷ []
 
--- the order that prints what stands at q
+-- the order that prints the word at q
 abbrev pub printing : ℕ → ℕ
 printing q = 36864 + 2 * q
 
--- the codes stand in words from a place on, each at the head of its word
+-- the codes are in words from a location upwards, each in the first digits of its word
 abbrev pub Spells : List ℕ → ℕ → List ℕ → Type 0
 Spells ws q [] = Unit {0}
 Spells ws q (c ∷ cs) = (get_or ws q 0 ≡ 4096 * c) × (c < 32) × Spells ws (q + 1) cs
 
--- where the program stands, and what is around it
+-- the base of the program, and what is around it
 pub record Given : Type 0 where
   pub f : Frame 13 0
   pub above : 56 ≤ f.base
@@ -36,7 +36,7 @@ pub record Given : Type 0 where
   pub all : length around.words ≡ 1024
   pub at2 : get_or around.words 2 0 ≡ 2
 
--- what changes as the loop goes round: the letter's place, what is left of the comparison, what was thrown away, and
+-- what changes as the loop goes round: the letter's location, what is left of the comparison, what was discarded, and
 -- the last code
 pub record Turning : Type 0 where
   pub q : ℕ

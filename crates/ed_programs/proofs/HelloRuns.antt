@@ -63,7 +63,7 @@ each_text s q o =
 
 -- ---- letters
 
--- what is so of each letter, as a test
+-- what holds of each letter, as a test
 abbrev fine : ℕ → Bool
 fine b = is_row_byte b
     && (bytes_eq (struck Letters (row (row_of b))) (b ∷ []) && (not (row (row_of b) == 11) && not (row (row_of b) == 15)))

@@ -114,7 +114,7 @@ module _ (z : Size) (tape_rows rest : List ℕ) (n cost read : ℕ) (small : n �
       subst (λ (x : State). IsAway 5 x) begins
       (away path (lit≤ tt, (lit≤ tt, (lit≤ tt, (lit≤ tt, (lit≤ tt, tt))))) s.orders)
 
-  -- the Initial Orders are as they were
+  -- the Initial Orders are unchanged
   listed : (first count : ℕ)
       → list_all (λ i. nat_eq (short_at back.store i) (slice_index initial_orders i)) (numbers first count) ≡ true
       → AreListed back.store first (first + count)
@@ -183,7 +183,7 @@ module _ (z : Size) (tape_rows rest : List ℕ) (n cost read : ℕ) (small : n �
     abbrev pub m : State
     m = at_entry back entry_on
 
-    -- a word from 44 on is the last one that was placed there
+    -- a word above 43 is the last one that was placed there
     abbrev contents : List ℕ
     contents = over (program_placed z W n 200 low fits) W
 

@@ -129,7 +129,7 @@ module _ (z : Size) (words : List ℕ) (n theta : ℕ) (low : 34 ≤ n) (fits : 
   abbrev pub program_note : Note
   program_note = record { directive = 12416; theta = theta; placed = program_placed }
 
-  -- the words that are printed stand from 68 on
+  -- the words that are printed are at 68 and above
   apart : (j : ℕ) → j < 56 → get_or (over words_placed words) j 0 ≡ get_or words j 0
   apart j l =
       get_or-set_other (set (set words (2 * n) 61440) (2 * n + 1) 86016) (2 * n + 1 + 1) j 32768 0 (omega arith)

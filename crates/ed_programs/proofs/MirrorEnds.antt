@@ -40,7 +40,7 @@ placed =
     ∷ (73, 20620) ∷ (72, 114692) ∷ (71, 114828) ∷ (70, 20688) ∷ (69, 102401) ∷ (68, 103424) ∷ (67, 114876)
     ∷ (66, 32956) ∷ (65, 20666) ∷ (64, 32952) ∷ []
 
--- the entry that they come to
+-- the entry that they reach
 abbrev pub mirror_entry : List ℕ → TapeEntry
 mirror_entry rest = record {
   at = 64;

@@ -42,7 +42,7 @@ storing q = 20480 + 2 * q
 abbrev pub printing : ℕ → ℕ
 printing q = 36864 + 2 * q
 
--- codes stand in words from q up, each at the head of its word; the last one comes first in the list
+-- codes are in words from q upwards, each in the first digits of its word; the last one comes first in the list
 abbrev pub Stored : List ℕ → ℕ → List ℕ → Type 0
 Stored ws q [] = Unit {0}
 Stored ws q (c ∷ cs) = (get_or ws (q + length cs) 0 ≡ 4096 * c) × (c < 32) × Stored ws q cs
@@ -59,7 +59,7 @@ stored_set ws q a v (c ∷ cs) l h =
     let other : q + length cs ≢ a = omega arith in
     (get_or-set_other ws a (q + length cs) v 0 other ∙ h.0, h.1, stored_set ws q a v cs (omega arith) h.2)
 
--- where it stands
+-- its base
 pub record Given : Type 0 where
   pub f : Frame 33 0
   pub above : 56 ≤ f.base
@@ -88,7 +88,7 @@ module _ (given : Given) where
     last = last;
   }
 
-  -- where the letters stand
+  -- the location of the letters
   abbrev pub q : ℕ
   q = f.base + 40
 
@@ -191,7 +191,7 @@ module _ (given : Given) where
     abbrev left : Work
     left = record after { count = length cs }
 
-    -- and the count gets one less
+    -- and the count decreases by one
     counts : Path f 4 (at 10 ws 0 after cs given.around.last) [] (at 14 ws (counted cs) left cs given.around.last)
     counts =
         let b = most f.size in let fits = f.fits in let r = room in let few = o.few in

@@ -24,7 +24,7 @@ pub record Work : Type 0 where
   pub scrap : ℕ
   pub shows : ℕ
 
--- its words at b, where c is the number that is squared, and `print` and `newline` stand at p and w
+-- its words at b, where c is the number that is squared, with `print` and `newline` at p and w
 abbrev pub cells : ℕ → ℕ → ℕ → ℕ → Work → List ℕ
 cells b c p w k =
     (114688 + 2 * (b + 0)) ∷ (110592 + 2 * (b + 13)) ∷ (114688 + 2 * (b + 2)) ∷ (110592 + 2 * (b + 32))
@@ -37,7 +37,7 @@ cells b c p w k =
     ∷ 114694 ∷ (20480 + 2 * (b + 38)) ∷ (114688 + 2 * (b + 34)) ∷ (110592 + 2 * p) ∷ (114688 + 2 * (b + 36))
     ∷ (110592 + 2 * w) ∷ k.shows ∷ 0 ∷ []
 
--- where it stands, what is around it, and the number that is squared
+-- its base, what is around it, and the number that is squared
 pub record Given : Type 0 where
   pub f : Frame 40 0
   pub above : 56 ≤ f.base
@@ -82,7 +82,7 @@ module _ (given : Given) where
         (on (T 15 (own 29) 0 refl refl)
         (on (T 16 (own 31) 0 refl refl) stay)))
 
-    -- a turn: 1 is taken from the one factor, and the other one is added
+    -- a turn: 1 is subtracted from the one factor, and the other one is added
     abbrev turned : Work → ℕ → ℕ → Work
     turned k a i = record k { left = a - i; product = i * k.right; scrap = 0 }
 

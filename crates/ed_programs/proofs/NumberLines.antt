@@ -1,4 +1,4 @@
--- Lines of a source with data: one that ends with `word N`, whatever the number is, and a `use` line with H.
+-- Lines of a source with data: one that ends with `word N`, for any number, and a `use` line with H.
 use Rattle.std.proofs.Common.{◌≡◌, ◌∙◌, ℕ, ◌+◌, ◌<◌, ◌≤◌, true, false, List, [], ◌∷◌, ◌++◌, ap, subst, arith, length, length-append, codes, pos, nat_le, lit≤, refl}
 use Rattle.std.specs.Prelude.{◌==◌, Bool, Option, Some, None, Ok}
 use Rattle.std.specs.Fmt.{decimal}
@@ -19,7 +19,7 @@ use Rattle.ed_sources.proofs.Said.{a_number, label_parts, number_parts}
 use Rattle.ed_syntax.specs.declared.program.Operand.TheVariants as operands
 use Rattle.ed_programs.proofs.SourceLines.{Marked, by_parts}
 
--- what the front of such a line makes of it, whatever bytes stand behind: its label and the parts before `word`
+-- what the front of such a line makes of it, whatever bytes follow: its label and the parts before `word`
 pub record IsWordFront (two : Bool) (k : ℕ) (front : Text) (label : Option Text) (before : List LinePart) : Type 0 where
   pub plain : (bytes : Text) → list_all is_line_byte bytes ≡ true → list_all is_line_byte (front ++ bytes) ≡ true
   pub short : length front ≤ 20
@@ -84,7 +84,7 @@ front_short front short n small =
 pub word_short : (n : ℕ) → n < 65536 → nat_le (length (codes "word " ++ decimal n)) 120 ≡ true
 word_short = front_short (codes "word ") (lit≤ tt)
 
--- a line `use` with H set to the place of a name
+-- a line `use` with H set to a name
 abbrev pub use_mark : ℕ → Text → Text → Text → Marked
 use_mark k routine name at = record {
   number = k;

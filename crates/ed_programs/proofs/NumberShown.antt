@@ -26,7 +26,7 @@ module _ {n h : ℕ} {f : Frame n h} {r : Moment} (o : IsIn f r) where
   abbrev pub after_line : ℕ → List ℕ → Moment
   after_line i words = record r { words = words; acc = 0; counter = f.base + (i + 2 + 2); last = Some 24 }
 
-  -- v from the cell j is printed and a new line follows; the piece and the routines stand as before
+  -- v from the cell j is printed and a new line follows; the piece and the routines are as before
   pub record HasShown (i j p w v : ℕ) : Type 0 where
     pub words : List ℕ
     pub journey : Journey f (9 + print_orders v) r (11 ∷ digits v ++ 18 ∷ 24 ∷ []) (after_line i words)

@@ -16,7 +16,7 @@ use Rattle.ed_sources.proofs.AtEntry.{all_words, has_image, have_places, placed,
 use Rattle.ed_sources.proofs.Entries.{frame_at, moment_at, routine_at}
 use Rattle.ed_routines.proofs.Journeys.{ComesToStop, HasRoutine}
 
--- the n words from the place a on
+-- the n words from location a upwards
 abbrev pub words_from : List (ℕ × ℕ) → ℕ → ℕ → List ℕ
 words_from ps a zero = []
 words_from ps a (suc n) = unwrap_or (placed_at ps a) 0 ∷ words_from ps (a + 1) n
@@ -45,7 +45,7 @@ module _ (z : Size) (lines : List Line) (fit : have_places (placed lines) ≡ tr
       let size = least z in
       routine_at z lines fit (frame_at n z few) r base parameters test (omega arith) high refl (omega arith) (inr apart)
 
-  -- the n words from 56 on are the cells
+  -- the n words from 56 upwards are the cells
   module _ (n : ℕ) (few : n ≤ 456) (cells : List ℕ) (are : words_from (placed lines) 56 n ≡ cells) where
     same : patched 0 s.store.words 56 cells ≡ s.store.words
     same =

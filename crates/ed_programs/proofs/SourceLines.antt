@@ -1,6 +1,6 @@
 -- What the lines of a source say: most lines by computation, those with data by a proof.
 --
--- This is the one module that speaks of the reader of sources.
+-- Only this module uses the definitions of how a source is read.
 use Rattle.std.proofs.Common.{◌≡◌, ◌∙◌, ℕ, suc, ◌+◌, ◌-◌, ◌≤◌, Bool, true, false, List, [], ◌∷◌, ap, sym, refl, subst, arith, length, nat_lt}
 use Rattle.std.proofs.Common.{get_or, nat_eq, lit≤}
 use Rattle.std.specs.Prelude.{◌==◌, ◌||◌, ◌&&◌, Option, Some, None, if◌then◌else◌, Result, Ok, Err, is_ok}
@@ -19,7 +19,7 @@ use Rattle.ed_syntax.specs.declared.program.Statement.{Statement}
 use Rattle.ed_sources.specs.Calls.{text_of_lines}
 use Rattle.ed_sources.proofs.TextLines.{lines_back}
 
--- what lines from a number on say
+-- what the lines from a number upwards say
 pub data Says (two : Bool) : ℕ → List Text → List Line → Type 0 where
   ends : {k : ℕ} → Says two k [] []
   says : {k : ℕ} {line : Text} {lines : List Text} {l : Line} {program : List Line}
@@ -78,7 +78,7 @@ abbrev pub line_said : Bool → ℕ → Text → List Marked → Line
 line_said two k line [] = first (and_lines k (line_of two k line) (Ok []))
 line_said two k line (m ∷ ms) = if nat_eq m.number k then marked_line m else line_said two k line ms
 
--- the lines of a source from the number k on
+-- the lines of a source from the number k upwards
 abbrev pub lines_said : Bool → ℕ → List Text → List Marked → List Line
 lines_said two k [] ms = []
 lines_said two k (line ∷ lines) ms = line_said two k line ms ∷ lines_said two (k + 1) lines ms
@@ -92,7 +92,7 @@ abbrev pub are_read : Bool → ℕ → List Text → List Marked → Bool
 are_read two k [] ms = true
 are_read two k (line ∷ lines) ms = (is_marked k ms || is_ok (line_of two k line)) && are_read two (k + 1) lines ms
 
--- what is to be proved of the marked lines: each says what it is marked with
+-- what must be proved of the marked lines: each says what it is marked with
 abbrev pub AreMarked : Bool → List Text → List Marked → Type 0
 AreMarked two lines [] = Unit {0}
 AreMarked two lines (m ∷ ms) =

@@ -1,4 +1,4 @@
--- The outcome of a source whose program comes to its stop, as what the command `run` owes it.
+-- The outcome of a source whose program reaches its stop, as what the command `run` owes it.
 use Rattle.std.proofs.Common.{◌≡◌, ℕ, ◌+◌, ◌≤◌, Bool, true, subst, arith, List, length}
 use Rattle.std.specs.Prelude.{None, Ok}
 use Rattle.std.specs.List.{list_all}
@@ -23,7 +23,7 @@ use Rattle.ed_programs.specs.Programs.{SourceRuns}
 use Rattle.ed_programs.proofs.Answered.{are_short, is_due}
 use Rattle.ed_programs.proofs.SourceLines.{AreMarked, Marked, are_read, lines_said, source_read}
 
--- a source that is read so, has no fault and comes to its stop
+-- a source that is read as these lines, has no fault and reaches its stop
 pub source_runs : (s : Settings) (texts : List Text) {lines : List Line} {k at : ℕ} {printed : List ℕ}
     → are_short texts ≡ true → length texts ≤ 2000 → program_of (text_of_lines texts) ≡ Ok lines → fault s.size lines ≡ None
     → ComesToStop k (entry_state s.size lines) printed at → length printed ≤ 1000000
@@ -53,7 +53,7 @@ pub record AreSaid (two : Bool) (texts : List Text) (marks : List Marked) : Type
   pub small : fault Small (lines_said two 1 texts marks) ≡ None
   pub full : fault Full (lines_said two 1 texts marks) ≡ None
 
--- such a source that comes to its stop, by what it prints and in how many orders
+-- such a source that reaches its stop, by what it prints and in how many orders
 pub program_runs : (s : Settings) {two : Bool} (texts : List Text) {marks : List Marked} {k orders at : ℕ}
     {printed : List ℕ} {text : Text} → AreSaid two texts marks
     → ComesToStop k (entry_state s.size (lines_said two 1 texts marks)) printed at → length printed ≤ 1000000

@@ -20,7 +20,7 @@ pub record Work : Type 0 where
   pub left : ℕ
   pub units : ℕ
 
--- its words from 31 on, and location 74, which its first order clears
+-- its words from 31 upwards, and location 74, which its first order clears
 abbrev pub cells : Work → List ℕ
 cells k =
     (20480 + 2 * 74) ∷ (36864 + 2 * 61) ∷ (20480 + 2 * 62) ∷ (114688 + 2 * 63) ∷ (114688 + 2 * 64) ∷ (20480 + 2 * 63)
@@ -34,7 +34,7 @@ cells k =
 abbrev pub frame : Frame 44 0
 frame = record { size = Full; base = 31; top = 1024; under = lit≤ tt; fits = lit≤ tt }
 
--- what is left of n after j tens were taken away, and what the cell for it holds then
+-- what is left of n after j tens were subtracted, and what the cell for it then holds
 abbrev pub without : ℕ → ℕ → ℕ
 without n j = n - 10 * j
 
@@ -67,7 +67,7 @@ figures n = n / 10 ∷ n % 10 ∷ 18 ∷ 24 ∷ []
 
 -- ---- a turn of the loop over the squares
 
--- `around` has what stays during the program
+-- `around` has what doesn't change during the program
 module _ (around : Moment) where
   abbrev pub at : ℕ → ℕ → Work → Option ℕ → Moment
   at i v k last = record around {

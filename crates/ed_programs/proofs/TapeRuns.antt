@@ -1,4 +1,4 @@
--- The outcome of a tape whose program comes to its stop, as what the command `tape` owes it.
+-- The outcome of a tape whose program reaches its stop, as what the command `tape` owes it.
 use Rattle.std.proofs.Common.{◌≡◌, ◌∙◌, inl, ℕ, ◌+◌, ◌-◌, ◌≤◌, refl, sym, ap, subst, arith, lit≤, true, List, []}
 use Rattle.std.proofs.Common.{◌∷◌, ◌++◌, codes, length, get_or}
 use Rattle.std.specs.Prelude.{None, Some, Option, Result, Ok, Err, String}
@@ -43,7 +43,7 @@ meets_of : (o : Option ℕ) (w : ℕ) → is_met o w ≡ true → Meets o w
 meets_of None w h = tt
 meets_of (Some x) w h = eq_of w x h
 
--- an image stands in words, by one test
+-- an image is in words, by one test
 pub holds_in : (words : List ℕ) (image : List (Option ℕ)) (base : ℕ)
     → list_all (λ i. is_met (get_or image i None) (get_or words (base + i) 0)) (numbers 0 (length image)) ≡ true
     → Holds image words base
@@ -80,7 +80,7 @@ module _ {z : Size} {tape_rows : List ℕ} {e : TapeEntry} (o : Arrives z tape_r
   leads_on : LeadsIn first e
   leads_on = comes_in first e (first_store z tape_rows) (starts z tape_rows) comes_on
 
--- a text that spells these rows, which come to this entry, and whose program comes to its stop from there
+-- a text that spells these rows, which reach this entry, and whose program reaches its stop from there
 pub tape_runs : (s : Settings) (tape : Text) (tape_rows : List ℕ) (e : TapeEntry) {k at : ℕ} {printed : List ℕ}
     → reading tape ≡ rows tape_rows → length tape ≤ 262144 → Arrives s.size tape_rows e
     → ComesToStop k (tape_state s tape_rows e) printed at → length printed ≤ paper_room

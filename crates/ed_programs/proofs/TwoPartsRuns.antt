@@ -1,4 +1,4 @@
--- A tape whose first program returns to the Initial Orders and whose second one comes to its stop, as what the commands
+-- A tape whose first program returns to the Initial Orders and whose second one reaches its stop, as what the commands
 -- `parts` and `tape` owe it.
 use Rattle.std.proofs.Common.{◌≡◌, ◌≢◌, ◌∙◌, inl, ℕ, zero, suc, ◌+◌, ◌-◌, ◌<◌, ◌≤◌, refl, sym, ap, subst, arith}
 use Rattle.std.proofs.Common.{true, false, List, [], ◌∷◌, ◌++◌, append_assoc, codes, length, length-append, inr}
@@ -57,7 +57,7 @@ use Rattle.ed_programs.specs.declared.refusal.Refusal.{Refusal}
 
 -- ---- a program of a part
 
--- before each of k orders the machine is not at the place of a return
+-- before each of k orders the machine is not at the location of a return
 abbrev pub IsAway : ℕ → State → Type 0
 IsAway k s = (j : ℕ) → j < k → (state_after j s).counter ≢ 25
 
@@ -123,7 +123,7 @@ module _ (left : ℕ) (s : State) where
     home = subst (λ (x : State). IsReturned x) (sym leads.state_is) home;
   }
 
-  -- it comes to its stop
+  -- it reaches its stop
   pub finishes : {k at : ℕ} {cs : List ℕ} → ComesToStop k s cs at → IsAway (k + 1) s → k + 1 ≤ left
       → Finishes left (k + 1) s Stopped
   finishes {k} o far fits = record { runs = runs; ends = ends; stopped = λ home. refl }
@@ -154,7 +154,7 @@ module _ (left : ℕ) (s : State) where
 
 -- ---- a tape
 
--- how a tape goes whose interlude is entered and returns, and whose program is entered and comes to its stop
+-- the course of a tape whose interlude is entered and returns, and whose program is entered and reaches its stop
 pub record Course (z : Size) (tape_rows : List ℕ) (at : ℕ) (printed : List ℕ) : Type 0 where
   pub interlude : TapeEntry
   pub reads : Comes (first_state z tape_rows) interlude

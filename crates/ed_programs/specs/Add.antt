@@ -38,7 +38,8 @@ add_source a b =
 abbrev pub add_text : ℕ → ℕ → Text
 add_text a b = text_of_lines (add_source a b)
 
--- what speaks against two numbers below 65536 as the data of `examples/add.edsac`: their sum is more than `print` prints
+-- why the data of `examples/add.edsac`, two numbers below 65536, are refused, if they are: `print` can't print their
+-- sum
 abbrev pub add_refusal : ℕ → ℕ → Option Refusal
 add_refusal a b = if nat_lt (a + b) 65536 then None else Some Number
 

@@ -1,4 +1,4 @@
--- What is said of a whole tape of May 1949: what the command `tape1` answers to it.
+-- What is stated of a whole tape of May 1949: what the command `tape1` answers to it.
 use Rattle.std.specs.Prelude.{◌≡◌, ℕ, ◌+◌, ◌≤◌, List, [], ◌∷◌, ◌++◌, codes, Some}
 use Rattle.std.specs.Prelude.{Result, Ok, Err, String, string_bytes}
 use Rattle.std.specs.declared.alloc.Global.{Global}
@@ -13,9 +13,9 @@ use Rattle.ed_answers.specs.FirstEntry.{cost1}
 use Rattle.ed_top.specs.Output.{output}
 use Rattle.ed_programs.specs.declared.refusal.Refusal.{Refusal}
 
--- the text spells rows that come to a program at this cost, whose run goes on from its entry at 31 (the law
--- `first_orders`); and where the limit is at least this cost and the orders of the program together, what the command
--- `tape1` owes the text is this paper, the note of a stop at a place after exactly these orders, and status 0
+-- the text spells rows that give a program at this cost, whose run continues from its entry at 31 (the law
+-- `first_orders`); and if the limit is at least this cost and the orders of the program together, what the command
+-- `tape1` owes the text is this paper, the note of a stop at a location after exactly these orders, and status 0
 pub record FirstTapeRuns (s : Settings) (tape : Text) (cost orders at : ℕ) (paper : Text) : Type 0 where
   pub codes_of : List ℕ
   pub spelled : reading tape ≡ rows codes_of
@@ -29,7 +29,7 @@ pub record FirstTapeRuns (s : Settings) (tape : Text) (cost orders at : ℕ) (pa
         status = 0;
       })
 
--- whatever the settings are, the tape that is answered is loaded and run in exactly these orders, prints this, and
+-- for all settings, the tape that is answered is loaded and run in exactly these orders, prints this, and
 -- stops there
 abbrev pub FirstTapePrints : ℕ → ℕ → ℕ → Text → Result (String Global) Refusal → Type 0
 FirstTapePrints cost orders at paper (Ok tape) =

@@ -71,11 +71,11 @@ fraction_source upper lower places =
 abbrev pub fraction_text : ℕ → ℕ → ℕ → Text
 fraction_text upper lower places = text_of_lines (fraction_source upper lower places)
 
--- what speaks against numbers below 65536 as its data
+-- why numbers below 65536 are refused as its data, if they are
 abbrev pub fraction_refusal : ℕ → Option Refusal
 fraction_refusal lower = if nat_le 1 lower && nat_le lower 6553 then None else Some Divisor
 
--- the figure at a place after the point, from 1 on
+-- the figure at a place after the point, counted from 1
 abbrev pub figure : ℕ → ℕ → ℕ → ℕ
 figure upper lower place = 10 ^ place * upper / lower % 10
 
@@ -95,8 +95,8 @@ figure_orders upper lower (suc n) =
     figure_orders upper lower n + 17
     + divide_orders (figure upper lower (n + 1)) + print_orders (figure upper lower (n + 1))
 
--- the orders from the entry: 13 for each digit that is read, those of `divide` and `print` for the whole part, those of the
--- figures, and 53 more
+-- the orders from the entry: 13 for each digit that is read, those of `divide` and `print` for the whole part, those of
+-- the figures, and 53 more
 abbrev pub fraction_orders : ℕ → ℕ → ℕ → ℕ
 fraction_orders upper lower places =
     13 * length (digits upper) + 13 * length (digits lower) + 13 * length (digits places)

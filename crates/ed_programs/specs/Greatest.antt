@@ -7,7 +7,7 @@ use Rattle.ed_sources.specs.Calls.{text_of_lines}
 use Rattle.ed_programs.specs.declared.refusal.Refusal.{Refusal}
 use Rattle.ed_programs.specs.declared.refusal.Refusal.TheVariants.{Count}
 
--- lines with a number each
+-- a line for each number
 abbrev pub lines_of_words : List ℕ → List Text
 lines_of_words [] = []
 lines_of_words (n ∷ ns) = (codes "word " ++ decimal n) ∷ lines_of_words ns
@@ -57,16 +57,16 @@ greatest_source ns =
 abbrev pub greatest_text : List ℕ → Text
 greatest_text ns = text_of_lines (greatest_source ns)
 
--- what speaks against numbers below 65536 as the data of `examples/answer6.edsac`
+-- why numbers below 65536 are refused as the data of `examples/answer6.edsac`, if they are
 abbrev pub greatest_refusal : List ℕ → Option Refusal
 greatest_refusal ns = if length ns == 8 then None else Some Count
 
--- the greatest of numbers, 0 if there is none
+-- the greatest of some numbers, 0 if there are no numbers
 abbrev pub greatest_of : List ℕ → ℕ
 greatest_of [] = 0
 greatest_of (n ∷ ns) = max n (greatest_of ns)
 
--- how many numbers are at least as great as one and as all numbers before them
+-- how many numbers are at least as great as `most` and as all numbers before them
 abbrev pub rises : ℕ → List ℕ → ℕ
 rises most [] = 0
 rises most (n ∷ ns) = if nat_lt n most then rises most ns else 1 + rises n ns

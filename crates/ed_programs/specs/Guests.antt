@@ -48,7 +48,7 @@ pub record EntersChecker (lines : List Line) : Type 0 where
   pub follows : StandsAfter lines ahead entering
   pub enters : entering.statement ≡ Some (Enter name)
 
--- where the routine stands: at the next even place after the lines before its `use`
+-- the base of the routine: the next even location after the lines before its `use`
 abbrev pub checker_base : List Line → ℕ
 checker_base before = even_from (spot_after before).place
 
@@ -72,7 +72,7 @@ stopped_orders g q = checked_orders g q - saving_orders
 
 -- ---- the law
 
--- the program is entered where the routine stands, and the guest that the routine finds there is the machine with its
+-- the program is entered at the routine, and the guest that the routine finds there is the machine with its
 -- counter at H. If that guest stops at a Z after q orders, and the paper has room, the run prints the checked codes of
 -- these orders and of the Z, in exactly their turns, and stops at the routine's planting place
 pub record ChecksGuest (s : Settings) (source : Text) (lines : List Line) (c : EntersChecker lines) : Type 0 where
@@ -84,7 +84,7 @@ pub record ChecksGuest (s : Settings) (source : Text) (lines : List Line) (c : E
       → SourceRuns s source (stopped_orders (entry_guest s.size lines c.first) (suc q))
       (checker_base c.before + planting_place + 1) (paper (checked_codes (entry_guest s.size lines c.first) (suc q)))
 
--- so it is of every source that is accepted and enters the routine
+-- the same for every source that is accepted and enters the routine
 abbrev pub EachGuestIsChecked : Type 0
 EachGuestIsChecked = (s : Settings) (source : Text) (lines : List Line) (c : EntersChecker lines)
     → IsAcceptedAs s.size source lines → ChecksGuest s source lines c
@@ -101,7 +101,7 @@ pub record ChecksFromMain (s : Settings) (source : Text) (lines : List Line) : T
   pub first : enters.first ≡ Label (codes "main") (pos 0)
   pub checks : ChecksGuest s source lines enters
 
--- whatever the settings are, a program that is answered and accepted has its guest checked
+-- for all settings, a program that is answered and accepted has its guest checked
 abbrev pub ChecksItsGuest : Result (String Global) Refusal → Type 0
 ChecksItsGuest (Ok program) = (s : Settings) (lines : List Line) → IsAcceptedAs s.size (string_bytes program) lines
     → ChecksFromMain s (string_bytes program) lines

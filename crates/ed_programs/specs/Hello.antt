@@ -47,7 +47,7 @@ hello_source q =
 abbrev pub hello_text : Text → Text
 hello_text q = text_of_lines (hello_source q)
 
--- a text of letters, after the letter shift that it begins with (42 is *)
+-- a text of letters, after the letter shift with which it begins (42 is *)
 abbrev pub of_letters : Text → Text
 of_letters letters = 42 ∷ letters
 
@@ -55,7 +55,7 @@ of_letters letters = 42 ∷ letters
 abbrev pub is_capital : ℕ → Bool
 is_capital b = nat_le 65 b && nat_le b 90
 
--- what speaks against a text as the data of `examples/hello.edsac`
+-- why a text is refused as the data of `examples/hello.edsac`, if it is
 abbrev pub hello_refusal : Text → Option Refusal
 hello_refusal letters =
     if length letters == 0 || nat_lt 40 (length letters) then Some Length
@@ -75,7 +75,7 @@ pub record IsRows (q : Text) : Type 0 where
   pub few : length q ≤ 41
   pub spelled : list_all is_row_byte q ≡ true
 
--- whatever the rows are, the program prints them and a new line, in 7 orders a row and 9 more, and stops at 67
+-- for all rows, the program prints them and a new line, in 7 orders a row and 9 more, and stops at 67
 abbrev pub EachTextIsPrinted : Type 0
 EachTextIsPrinted =
     (s : Settings) (q : Text) → IsRows q

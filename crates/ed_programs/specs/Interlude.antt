@@ -1,4 +1,4 @@
--- The tape of `examples/interlude.tape` for any number, and what is said of it.
+-- The tape of `examples/interlude.tape` for any number, and what is stated of it.
 use Rattle.std.specs.Prelude.{ℕ, ◌+◌, ◌*◌, ◌||◌, List, [], ◌∷◌, ◌++◌, codes, length, nat_lt}
 use Rattle.std.specs.Prelude.{if◌then◌else◌, Option, Some, None}
 use Rattle.std.specs.Fmt.{decimal}
@@ -42,7 +42,7 @@ interlude_rest =
 abbrev pub interlude_text : ℕ → Text
 interlude_text number = text_of_lines (interlude_front ++ interlude_line number ∷ interlude_rest)
 
--- what speaks against a number: the words, from its double on, must stand after the program and in the store
+-- why a number is refused, if it is: the words, from its double upwards, must be above the program and in the store
 abbrev pub interlude_refusal : ℕ → Option Refusal
 interlude_refusal number = if nat_lt number 34 || nat_lt 510 number then Some Place else None
 
@@ -64,6 +64,6 @@ interlude_parts number = record {
 abbrev pub interlude_room : ℕ → ℕ
 interlude_room number = 2 * number + 3
 
--- what is printed, whatever the number is
+-- what is printed, for all numbers
 abbrev pub interlude_prints : Text
 interlude_prints = codes "HI"

@@ -50,7 +50,7 @@ mirror_line letters = decimal (length letters) ++ letters
 abbrev pub mirror_text : Text → Text
 mirror_text letters = text_of_lines (mirror_front ++ mirror_line letters ∷ [])
 
--- what speaks against a text as the word: its length must be one digit, and not 0
+-- why a text is refused as the word, if it is: its length must be one digit, and not 0
 abbrev pub mirror_refusal : Text → Option Refusal
 mirror_refusal letters =
     if length letters == 0 || nat_lt 9 (length letters) then Some Length

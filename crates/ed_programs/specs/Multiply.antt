@@ -7,7 +7,7 @@ use Rattle.ed_sources.specs.Calls.{text_of_lines}
 use Rattle.ed_programs.specs.declared.refusal.Refusal.{Refusal}
 use Rattle.ed_programs.specs.declared.refusal.Refusal.TheVariants.{Number}
 
--- a and b are multiplied, and c is squared
+-- the lines of the source: a and b are multiplied, and c is squared
 abbrev pub multiply_source : ℕ → ℕ → ℕ → List Text
 multiply_source a b c =
     codes "version 2"
@@ -64,7 +64,7 @@ multiply_source a b c =
 abbrev pub multiply_text : ℕ → ℕ → ℕ → Text
 multiply_text a b c = text_of_lines (multiply_source a b c)
 
--- what speaks against three numbers below 65536 as the data of `examples/answer5.edsac`
+-- why three numbers below 65536 are refused as the data of `examples/answer5.edsac`, if they are
 abbrev pub multiply_refusal : ℕ → ℕ → ℕ → Option Refusal
 multiply_refusal a b c = if nat_lt (a * b) 65536 && nat_lt (c * c) 65536 then None else Some Number
 

@@ -1,4 +1,5 @@
--- What is said of a whole program: what a call that gives its source answers, and what the command `run` answers to it.
+-- What is stated of a whole program: what a call that gives its source answers, and what the command `run` answers to
+-- it.
 use Rattle.std.specs.Prelude.{◌≡◌, ◌⊎◌, ℕ, ◌+◌, ◌≤◌, List, [], ◌∷◌, ◌++◌, codes, Option, Some, None, Result, Ok, Err}
 use Rattle.std.specs.Prelude.{String, string_bytes}
 use Rattle.std.specs.declared.alloc.AllocError.{AllocError}
@@ -17,9 +18,9 @@ use Rattle.ed_top.specs.Output.{output}
 use Rattle.ed_programs.specs.declared.refusal.Refusal.{Refusal}
 use Rattle.ed_programs.specs.declared.refusal.Refusal.TheVariants.{Memory}
 
--- the source is accepted with these lines, and its run is that from the state at their entry; and where the limit is at least
--- the orders up to the entry and those of the program together, what the command `run` owes it is this text, the note of
--- a stop at a place after exactly these orders, and status 0
+-- the source is accepted with these lines, and its run is that from the state at their entry; and if the limit is at
+-- least the orders up to the entry and those of the program together, what the command `run` owes it is this text, the
+-- note of a stop at a location after exactly these orders, and status 0
 pub record SourceRuns (s : Settings) (source : Text) (orders at : ℕ) (text : Text) : Type 0 where
   pub lines : List Line
   pub accepted : IsAcceptedAs s.size source lines
@@ -31,13 +32,13 @@ pub record SourceRuns (s : Settings) (source : Text) (orders at : ℕ) (text : T
         status = 0;
       })
 
--- the answer is the program with this text if nothing speaks against its data, and else the cause; out of memory is
--- always an answer of its own
+-- the answer is the program with this text if nothing refuses its data, otherwise the cause; it may also be that no
+-- memory was found
 abbrev pub GivesProgram : Option Refusal → Text → Result (String Global) Refusal → Type 0
 GivesProgram cause text (Ok program) = (cause ≡ None) × (string_bytes program ≡ text)
 GivesProgram cause text (Err refusal) = (refusal ≡ Memory) ⊎ (cause ≡ Some refusal)
 
--- whatever the settings are, the program that is answered prints this text, in exactly these orders, and stops there
+-- for all settings, the program that is answered prints this text, in exactly these orders, and stops there
 abbrev pub Prints : ℕ → ℕ → Text → Result (String Global) Refusal → Type 0
 Prints orders at text (Ok program) = (s : Settings) → SourceRuns s (string_bytes program) orders at text
 Prints orders at text (Err refusal) = Unit {0}

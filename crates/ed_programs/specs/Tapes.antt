@@ -1,4 +1,4 @@
--- What is said of a whole tape: what the command `tape` answers to it.
+-- What is stated of a whole tape: what the command `tape` answers to it.
 use Rattle.std.specs.Prelude.{◌≡◌, ℕ, ◌+◌, ◌≤◌, List, [], ◌∷◌, ◌++◌, codes, Some, None}
 use Rattle.std.specs.Prelude.{Result, Ok, Err, String, string_bytes}
 use Rattle.std.specs.declared.alloc.Global.{Global}
@@ -14,9 +14,9 @@ use Rattle.ed_top.specs.Output.{output}
 use Rattle.ed_answers.specs.Tapes.{first_note}
 use Rattle.ed_programs.specs.declared.refusal.Refusal.{Refusal}
 
--- the text spells rows that are well formed and come to an entry at this cost, from which their run goes on (the law
--- `tapes`); and where the limit is at least this cost and the orders of the program together, what the command `tape`
--- owes the text is this paper, the note of a stop at a place after exactly these orders, and status 0
+-- the text spells rows that are well formed and reach an entry at this cost, from which their run continues (the law
+-- `tapes`); and if the limit is at least this cost and the orders of the program together, what the command `tape`
+-- owes the text is this paper, the note of a stop at a location after exactly these orders, and status 0
 pub record TapeRuns (s : Settings) (tape : Text) (cost orders at : ℕ) (paper : Text) : Type 0 where
   pub codes_of : List ℕ
   pub spelled : reading tape ≡ rows codes_of
@@ -31,7 +31,7 @@ pub record TapeRuns (s : Settings) (tape : Text) (cost orders at : ℕ) (paper :
         status = 0;
       })
 
--- whatever the settings are, the tape that is answered is loaded and run in exactly these orders, prints this, and
+-- for all settings, the tape that is answered is loaded and run in exactly these orders, prints this, and
 -- stops there
 abbrev pub TapePrints : ℕ → ℕ → ℕ → Text → Result (String Global) Refusal → Type 0
 TapePrints cost orders at paper (Ok tape) = (s : Settings) → TapeRuns s (string_bytes tape) cost orders at paper

@@ -1,4 +1,4 @@
--- What is said of a whole tape in two parts, an interlude and the program after it: what the commands `parts` and
+-- What is stated of a whole tape in two parts, an interlude and the program after it: what the commands `parts` and
 -- `tape` answer to it.
 use Rattle.std.specs.Prelude.{◌≡◌, ℕ, ◌+◌, ◌≤◌, List, [], ◌∷◌, ◌++◌, codes, Some, None}
 use Rattle.std.specs.Prelude.{Result, Ok, Err, String, string_bytes}
@@ -29,15 +29,15 @@ pub record TwoParts : Type 0 where
   pub program : PartRun
   pub stop : ℕ
 
--- the orders done at the return
+-- the number of orders up to the return
 abbrev pub orders_to_return : TwoParts → ℕ
 orders_to_return t = t.interlude.cost + t.interlude.orders
 
--- the orders done at the entry of the program
+-- the number of orders up to the entry of the program
 abbrev pub orders_to_program : TwoParts → ℕ
 orders_to_program t = orders_to_return t + t.program.cost
 
--- the orders done at its stop
+-- the number of orders up to its stop
 abbrev pub orders_to_stop : TwoParts → ℕ
 orders_to_stop t = orders_to_program t + t.program.orders
 
@@ -52,7 +52,7 @@ two_parts_lines t =
 abbrev pub two_parts_note : TwoParts → Text
 two_parts_note t = at_after (codes "stopped") t.stop (orders_to_stop t) ++ 10 ∷ []
 
--- the text spells rows; and where the limit is at least the orders up to the stop, `parts` owes it these lines, and
+-- the text spells rows; and if the limit is at least the orders up to the stop, `parts` owes it these lines, and
 -- `tape` this paper, each with the note of the stop and status 0
 pub record TwoPartsRun (s : Settings) (tape : Text) (t : TwoParts) (paper : Text) : Type 0 where
   pub codes_of : List ℕ
@@ -70,7 +70,7 @@ pub record TwoPartsRun (s : Settings) (tape : Text) (t : TwoParts) (paper : Text
         status = 0;
       })
 
--- whatever the settings are, if the store has this many locations, the tape that is answered runs in these parts and
+-- for all settings, if the store has this many locations, the tape that is answered runs in these parts and
 -- prints this
 abbrev pub TwoPartsPrint : ℕ → TwoParts → Text → Result (String Global) Refusal → Type 0
 TwoPartsPrint room t paper (Ok tape) = (s : Settings) → room ≤ locations s.size

@@ -5,7 +5,7 @@ ghost use Rattle.ed_programs.specs.Programs.{GivesProgram, Prints};
 use crate::refusal::{Refusal, program_of_text};
 use std::alloc::Global;
 
-/// The greatest lower number of a fraction: ten times a rest must be below 65,536.
+/// The greatest lower number of a fraction: ten times a remainder must be below 65,536.
 const MOST_LOWER: u16 = 6553;
 
 /// The source that prints a fraction to a number of places: `examples/fraction.edsac` with these on its tape.

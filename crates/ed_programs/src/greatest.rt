@@ -7,7 +7,7 @@ ghost use Rattle.ed_programs.specs.Programs.{GivesProgram, Prints};
 use crate::refusal::{Refusal, program_of_text};
 use std::alloc::Global;
 
-/// How many numbers the list has.
+/// The number of numbers in the list.
 const COUNT: usize = 8;
 
 /// The source that prints the greatest of eight numbers: `examples/answer6.edsac` with these for its list.

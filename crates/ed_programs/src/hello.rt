@@ -10,7 +10,7 @@ use std::alloc::Global;
 /// The most letters that the program prints.
 const MOST_LETTERS: usize = 40;
 
-/// The source that prints these letters and goes to a new line: `examples/hello.edsac` with these instead of `HELLO`.
+/// The source that prints these letters and a new line: `examples/hello.edsac` with these instead of `HELLO`.
 pub fn hello_program(alloc: Global, letters: &str) -> Result<String, Refusal>
     ensures is { GivesProgram (hello_refusal letters.now) (hello_text (of_letters letters.now)) result }
     ensures law { Prints (hello_orders letters.now) 67 (hello_prints letters.now) result }

@@ -10,7 +10,7 @@ use std::alloc::Global;
 /// The least number: its double is the first location after the program.
 const LEAST: u16 = 34;
 
-/// The greatest number: three words from its double on end the store.
+/// The greatest number: the three words from its double upwards must be within the store.
 const MOST: u16 = 510;
 
 /// The tape whose interlude doubles this number: `examples/interlude.tape` with this instead of 34.

@@ -1,7 +1,7 @@
 //! Whole programs with a law: for each a call that gives its source, or its tape, with the data put in.
 //!
 //! Contract: the text of a program for its data, and what `run` (for a tape, `tape`, `tape1` or `parts`) prints for all
-//! of them. The printed text is said in plain mathematics, with the number of orders and the status. Stands on
+//! of them. The printed text is said in plain mathematics, with the number of orders and the status. Depends on
 //! `ed_top`, and its proofs on the kit of `ed_paths`.
 #![tactic(auto)]
 

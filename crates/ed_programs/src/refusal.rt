@@ -9,7 +9,7 @@ pub enum Refusal {
     /// The text has no letter, or more letters than the program takes.
     #[error("the text has no letter, or more than the program takes")]
     Length,
-    /// The text has a character that is no capital letter.
+    /// The text has a character that is not a capital letter.
     #[error("the text must have capital letters only")]
     Letter,
     /// There are fewer or more numbers than the program's list has.
@@ -24,12 +24,12 @@ pub enum Refusal {
     /// The words of the program would not be in the store beside its orders.
     #[error("the number must be from 34 to 510")]
     Place,
-    /// No memory for the text of the program.
+    /// No memory was found for the text of the program.
     #[error("no memory")]
     Memory,
 }
 
-/// What a number that `print` prints must be below.
+/// The bound for a number that `print` prints: it must be below this.
 pub const LIMIT: u32 = 65536;
 
 /// The text that `format!` made, or that there was no memory for it.

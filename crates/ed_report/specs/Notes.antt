@@ -100,8 +100,8 @@ no_text_line line = of_line line (codes "C3 no text line")
 abbrev pub at_after : List ℕ → ℕ → ℕ → List ℕ
 at_after name counter orders = name ++ codes " at " ++ decimal counter ++ codes " after " ++ decimal orders
 
--- the line of a run's ending, with the counter and the count of orders at its end; if the word at the counter is no
--- order, the line ends with its text
+-- the line of a run's ending, with the counter and the count of orders at its end; if the word at the counter is not
+-- an order, the line ends with its text
 abbrev pub ending_line : Ending → State → List ℕ
 ending_line Stopped s = at_after (codes "stopped") s.counter s.orders ++ 10 ∷ []
 ending_line Limit s = at_after (codes "limit") s.counter s.orders ++ 10 ∷ []

@@ -56,7 +56,7 @@ fn ending_line(alloc: Global, name: &str, machine: &Machine) -> Result<Vec<u8>, 
     bytes_of_text(format!(in alloc; "{name} at {counter} after {orders}\n"))
 }
 
-/// The line of a run that reached a word that is no order.
+/// The line of a run that reached a word that is not an order.
 fn no_order_line(alloc: Global, machine: &Machine) -> Result<Vec<u8>, NoMemory>
     ensures { IfOk result (λ bytes. bytes.items ≡ ending_line Ending.NoOrder machine.now) }
 {

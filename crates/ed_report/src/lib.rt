@@ -1,7 +1,7 @@
 //! Texts that are written: printed papers, listings, the library, traces, and the lines about faults, entries and
 //! endings.
 //!
-//! Contract: each text is exact to the byte. Stands on `ed_machine`, `ed_printer`, `ed_notation`, `ed_initial1`,
+//! Contract: each text is exact to the byte. Depends on `ed_machine`, `ed_printer`, `ed_notation`, `ed_initial1`,
 //! `ed_library` and `ed_syntax`.
 #![tactic(auto)]
 

@@ -92,7 +92,7 @@ pub record HasRoutine {n h : ℕ} (f : Frame n h) (words : List ℕ) (r w : ℕ)
   pub at3 : get_or words 3 0 ≡ 28676
   pub image : (i : ℕ) → i < place_count r → is_working r i ≡ false → get_or words (w + i) 0 ≡ image_word r i w parameters
 
--- the piece stands after the parameters, in a store of 1024 words
+-- the piece is above the parameters, in a store of 1024 words
 pub record IsIn {n h : ℕ} (f : Frame n h) (r : Moment) : Type 0 where
   pub above : 56 ≤ f.base
   pub all : length r.words ≡ 1024

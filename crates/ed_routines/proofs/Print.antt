@@ -144,7 +144,7 @@ module _ (given : Given) where
   abbrev pub tested : ℕ → ℕ
   tested j = (2 * j + 2 + (2 ^ 17 - 94)) % 2 ^ 17
 
-  -- the power p stands in cell j; the tests for it and for the next power leave these numbers
+  -- the power p is in cell j; the tests for it and for the next power leave these numbers
   record Power (j p before after : ℕ) : Type 0 where
     holds : (w : Work) → get_or (cells f.base h w) j 0 ≡ p
     own : nat_lt j 51 ≡ true

@@ -23,7 +23,7 @@ pub fn new_line(machine: &mut Machine, base: u16, paper: &mut Paper) -> Back
     ensures printed { paper.new ≡ record paper.old { codes = paper.old.codes ++ 18 ∷ 24 ∷ [] } }
 {
     let at = way_back(machine);
-    // The contract of `word` gives the proof that the store is one.
+    // Called only for its clause `store`: the proof needs that the store has all its words within their bounds.
     let _ = machine.word(0);
     run(machine, 5, 0, paper);
     Back { at, orders: 5 }

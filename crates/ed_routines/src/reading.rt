@@ -37,7 +37,7 @@ pub fn read_integer(machine: &mut Machine, base: u16, h: u16) -> ReadBack
     ensures leaves { ReadLeaves (after_digits machine.old.tape) base h machine.old machine.new }
 {
     let at = way_back(machine);
-    // The contract of `word` gives the proof that the store is one.
+    // Called only for its clause `store`: the proof needs that the store has all its words within their bounds.
     let _ = machine.word(0);
     let rows = machine.rows_left();
     let digits = count_digits(rows);

@@ -20,7 +20,7 @@ prints Stops = false
 prints (IsNoOrder function) = false
 prints HasNoTape = false
 
--- how the next order ends a run, if it does: a word that is no order, no row left on the tape, or the paper full
+-- how the next order ends a run, if it does: a word that is not an order, no row left on the tape, or the paper full
 abbrev pub end_by : Turn → Bool → Option Ending
 end_by (IsNoOrder function) full = Some NoOrder
 end_by HasNoTape full = Some NoTape

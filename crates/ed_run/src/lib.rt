@@ -1,6 +1,6 @@
 //! Runs: the machine, order by order, onto a paper.
 //!
-//! Contract: `run` is the definition's run, by `step` alone; a run has one ending. Stands on `ed_machine`.
+//! Contract: `run` is the definition's run, by `step` alone; a run has one ending. Depends on `ed_machine`.
 #![tactic(auto)]
 
 ghost use Rattle.std.specs.Prelude.{◌≡◌, ℕ, ◌+◌, ◌-◌, ◌^◌, ◌≤◌, length, nat_le};

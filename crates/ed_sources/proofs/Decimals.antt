@@ -27,7 +27,7 @@ written ds = map (λ d. 48 + d) ds
 pub both : (x y : Bool) → x ≡ true → y ≡ true → (x && y) ≡ true
 both x y h k = grind arith
 
--- n numbers from k on
+-- n numbers from k upwards
 abbrev pub numbers : ℕ → ℕ → List ℕ
 numbers k zero = []
 numbers k (suc n) = k ∷ numbers (k + 1) n

@@ -92,7 +92,7 @@ more_free k homes h is few free = λ j low high.
 
 -- ---- no line has one of the faults S6 to S8
 
--- no line from a spot on has one of them
+-- no line from a spot onwards has one of them
 pub record AreNamed (homes earlier : List Home) (s : Spot) (lines : List Line) : Type 0 where
   pub none : naming_fault_from homes earlier s lines ≡ None
 

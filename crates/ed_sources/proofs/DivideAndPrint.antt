@@ -169,7 +169,7 @@ module _ (z : Size) (high low by : ℕ) (positive : 1 ≤ by) (fits : by ≤ 327
       (11 ∷ digits (n / by) ++ 18 ∷ 24 ∷ 11 ∷ digits (n % by)) 64) count
       (behind takes.leads (behind prints.leads (behind feeds.leads prints_last)))
 
--- so it is of `call divide N D`
+-- the same for `call divide N D`
 pub call_ends : (z : Size) (n by : ℕ) → IsDivisible n by
     → StopsAt (2 + divide_orders (n / by) + (2 + print_orders (n / by) + (7 + (2 + print_orders (n % by)))))
     (entry_state z (divide_lines (n / 65536) (n % 65536) by))

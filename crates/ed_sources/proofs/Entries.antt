@@ -19,7 +19,7 @@ use Rattle.ed_paths.proofs.Standing.{Holds, Meets}
 use Rattle.ed_sources.proofs.AtEntry.{has_image, have_places, placed, word_at}
 use Rattle.ed_sources.proofs.Decimals.{among, numbers}
 
--- whether a word is the one that is asked for, if one is
+-- whether a word is the wanted one, if one is wanted
 abbrev pub is_met : Option ℕ → ℕ → Bool
 is_met None w = true
 is_met (Some x) w = nat_eq w x

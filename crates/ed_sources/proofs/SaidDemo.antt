@@ -65,7 +65,7 @@ adding_lines words =
     ∷ said 18 None (use_print (codes "p") (codes "total"))
     ∷ []
 
--- the lines of n words, from line l on
+-- the lines of n words; the first of them has the number l
 abbrev pub word_forms : ℕ → ℕ → ℕ → List Line
 word_forms zero l x = []
 word_forms (suc n) l x = said l None (statements.Number (number_word (next x))) ∷ word_forms n (l + 1) (next x)

@@ -56,7 +56,7 @@ pub record Ends (aim : Aim) (left : ℕ) (s : State) (k : ℕ) (end : MoveEnd) :
   pub now : end_after aim left k s ≡ Some end
   pub first : (j : ℕ) → j < k → end_after aim left j s ≡ None
 
--- the number of orders that a move obeys: the least number after which it ends, at most the limit
+-- the number of orders that a move obeys: the least number after which it ends, at most `left`
 unfoldable pub move_orders : Aim → ℕ → State → ℕ
 move_orders aim left s = least (λ j. is_some (end_after aim left j s)) left
 

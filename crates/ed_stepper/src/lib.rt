@@ -2,7 +2,7 @@
 //!
 //! Contract: a session is in the state after its orders; a script's text, or its refusal. Each move ends at the least
 //! number of orders at which one of its ends holds. What a script says is a relation with one row for each form: each
-//! text says one list of commands, or has one first bad line. Stands on `ed_initial`, `ed_syntax` and `ed_report`.
+//! text says one list of commands, or has one first bad line. Depends on `ed_initial`, `ed_syntax` and `ed_report`.
 #![tactic(auto)]
 
 mod commands;

@@ -11,7 +11,7 @@ pub enum MoveEnd {
     Back,
     /// A Z order was obeyed.
     Stopped,
-    /// The word at the counter is no order.
+    /// The word at the counter is not an order.
     NoOrder,
     /// The order at the counter reads the tape, and no row is left.
     NoTape,

@@ -57,7 +57,7 @@ pub struct Traced {
 }
 
 impl Session {
-    /// A session that begins with the machine in its present state, and may obey `limit` orders.
+    /// A session that begins with the machine in its present state, and may obey at most `limit` orders.
     pub fn new(alloc: Global, machine: Machine, limit: u64) -> Result<Session, NewFault>
         requires { machine.orders + limit ≤ 2 ^ 63 }
         ensures { MatchResult result (λ s. s ≡ record { start = machine; limit = limit; done = 0 })

@@ -1,4 +1,4 @@
-//! The packed store beside the two plain lists, over a stated sequence of writes.
+//! The packed store compared with the two plain lists, over a stated sequence of writes.
 
 ghost use Rattle.std.specs.Prelude.{◌<◌};
 

@@ -105,7 +105,7 @@ naming_fault_from homes earlier s (l ∷ lines) =
     or_later l.number (naming_cause homes (defines_again earlier l s) l s)
     (naming_fault_from homes (earlier ++ defined l s) (passed l.statement s) lines)
 
--- what resolving the names of a source gives: where each line stands, what is defined, and the first fault
+-- what resolving the names of a source gives: the location of each line, what is defined, and the first fault
 pub record Resolved : Type 0 where
   pub standings : List Standing
   pub homes : List Home

@@ -19,7 +19,7 @@ use Rattle.ed_symbols.specs.Places.{passed, first_spot, segment_of}
 use Rattle.ed_symbols.specs.Names.{defined, homes_from, is_local, label_home, name_home, place_on}
 use Rattle.ed_symbols.specs.Faults.{operand_of, operand_value}
 
--- ---- where a line stands
+-- ---- lines and those before them
 
 -- this is a line of the source, and these are the lines before it
 pub record StandsAfter (lines before : List Line) (l : Line) : Type 0 where
@@ -78,7 +78,7 @@ ReachesOutside lines before l = (o : Operand) × HasOperand l.statement o × (na
     × (v : ℤ) × (operand_value (homes_from first_spot lines) (segment_of l (spot_after before)) o ≡ Some v)
     × ((int_lt v (pos 0) ≡ true) ⊎ (int_lt (pos 1023) v ≡ true))
 
--- the line that stands after these lines has this fault of names
+-- the line after these lines has this fault of names
 abbrev pub LineHasNameFault : List Line → List Line → Line → SourceCause → Type 0
 LineHasNameFault lines before l causes.LabelTwice = DefinesAgain before l
 LineHasNameFault lines before l causes.LabelUnknown = NamesUnknown lines before l

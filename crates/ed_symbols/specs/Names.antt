@@ -10,7 +10,7 @@ use Rattle.ed_symbols.specs.Places.{even_from, passed, segment_at}
 use Rattle.ed_symbols.specs.declared.spots.Spot.{Spot}
 use Rattle.ed_symbols.specs.declared.homes.Home.{Home}
 
--- the location for which the label of a line stands; that of a `long` is rounded up to even
+-- the location of a line's label; that of a `long` is rounded up to even
 abbrev pub label_place : Option Statement → Spot → ℕ
 label_place (Some (Long value)) s = even_from s.place
 label_place _ s = s.place

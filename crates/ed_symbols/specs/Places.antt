@@ -1,4 +1,4 @@
--- Locations of lines: where a line stands, by the words of the lines before it (this project's own rule).
+-- Locations of lines, by the words of the lines before them (this project's own rule).
 use Rattle.std.specs.Prelude.{ℕ, ◌+◌, ◌%◌, true, false, List, []}
 use Rattle.std.specs.Prelude.{◌∷◌, length, Option, Some, None, unwrap_or, if◌then◌else◌}
 use Rattle.ed_library.specs.Routines.{find, place_count}

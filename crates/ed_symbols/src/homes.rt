@@ -13,14 +13,14 @@ use ed_words::NoMemory;
 #[derive(Clone, Copy, Debug, PartialEq, Eq)]
 pub struct Home {
     pub name: Name,
-    /// The location for which the name stands.
+    /// The location of the name.
     pub place: u32,
     /// The number of the segment to which the name belongs: a label to that of its line, a segment's name to its own,
     /// and the second name of a `use` to none.
     pub segment: Option<u32>,
 }
 
-/// The location for which the label of a line stands.
+/// The location of a line's label.
 fn label_place(statement: &Option<Statement>, spot: Spot) -> u32
     requires { spot.place ≤ 2 ^ 30 }
     ensures { result ≡ label_place statement.now spot }

@@ -1,4 +1,4 @@
-//! Where a line stands.
+//! The location of a line.
 ghost use Rattle.std.specs.Prelude.{◌≡◌, ◌+◌, ◌≤◌, ◌^◌, unwrap_or};
 ghost use Rattle.ed_library.specs.Routines.{find};
 ghost use Rattle.ed_symbols.specs.Places.{even_from, first_spot, passed, segment_at, standing, routine_places};

@@ -74,7 +74,7 @@ statement_unlabelled two _ _ _ (fetch_with a b ps ss fits e f h few) = record { 
 statement_unlabelled two _ _ _ (enter a e) = record { first = refl; other = refl }
 statement_unlabelled two _ _ _ (data_rows q rows h) = record { first = refl; other = refl }
 
--- what may have a label is no empty list of parts
+-- what may have a label is not an empty list of parts
 after_label : (two : Bool) (a : Text) (ps : List LinePart) (s : Statement) (fits : Bool) → SpellsPlaced two ps s fits
     → Grammar.after_label two a ps ≡ Grammar.made (with_label a) (Grammar.placed two ps)
 after_label two a _ _ _ (order b f e ps o l fits hf ho hl) = refl

@@ -54,7 +54,7 @@ abbrev pub is_local_name : Text → Bool
 is_local_name [] = false
 is_local_name (b ∷ bs) = b == 95 && (nat_le 1 (length bs) && (nat_le (length bs) 15 && list_all is_run_byte bs))
 
--- what may stand as a label and in an operand: a name, or in version 2 a local name
+-- what may be a label and be in an operand: a name, or in version 2 a local name
 abbrev pub is_place_name : Bool → Text → Bool
 is_place_name two r = is_name r || (two && is_local_name r)
 

@@ -2,7 +2,7 @@
 //!
 //! Contract: the lines that a text spells, or its first fault of form. What a line says is a relation with one row for
 //! each form, and each text has lines or a fault, and never both. The invariant of a program: at most 2,000 lines,
-//! numbered from 1 without a gap, each of a form of its version with its numbers in range. Stands on `ed_words`,
+//! numbered from 1 without a gap, each of a form of its version with its numbers in range. Depends on `ed_words`,
 //! `ed_codes` and `arrayvec`.
 #![tactic(auto)]
 

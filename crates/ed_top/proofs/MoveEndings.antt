@@ -68,7 +68,7 @@ end_there aim left s =
     by_end (Some end) h = refl
     by_end None h = absurd (cc)
 
--- a move's own end is no ending of a run
+-- a move's own end is not an ending of a run
 own_is_none : (aim : Aim) (k : ℕ) (s : State) (end : MoveEnd) → own_end aim k s ≡ Some end → ending_of end ≡ None
 own_is_none (Orders n) k s end = by_test (nat_eq k n)
   where

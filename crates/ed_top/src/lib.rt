@@ -3,7 +3,7 @@
 //! Contract: the contract of `edsac`. It is exact for every list of words and every input, over any source and any two
 //! sinks: the status and both texts are those of the definition, and the answers for a fault or for no memory come with
 //! their cause and with what was written. The definition gives each input one outcome. Further clauses are the headline
-//! and the laws between the commands. Stands on all crates below.
+//! and the laws between the commands. Depends on all crates below.
 #![tactic(auto)]
 
 mod calls;

@@ -23,7 +23,7 @@ pub enum TraceFault {
     Memory,
 }
 
-/// Runs the machine, with a paper that never is full, and writes the letter or sign of the function of each order, 50
+/// Runs the machine, with a paper that is never full, and writes the letter or sign of the function of each order, 50
 /// to a line, each line as it is full. The last line ends with a line feed if it has a letter.
 ///
 /// After `Failed` the machine is in the state after the orders of the line whose write failed, and the lines before it
@@ -51,7 +51,7 @@ pub fn trace_run<K: Sink>(
     }
 }
 
-/// Obeys orders as a run does whose paper never is full, and writes the letter of each; a last line that is not full
+/// Obeys orders as a run does whose paper is never full, and writes the letter of each; a last line that is not full
 /// stays in `line`.
 fn trace_orders<K: Sink>(
     machine: &mut Machine,

@@ -1,7 +1,7 @@
 //! `main`: the program `edsac`, with standard output as `out` and standard error as `note`.
 //!
 //! Contract: passes on arguments and streams. If an argument is not UTF-8, no words are passed on, which is a usage
-//! error. Stands on `ed_top`.
+//! error. Depends on `ed_top`.
 #![tactic(auto)]
 
 use ed_io::{StdSink, StdSource};

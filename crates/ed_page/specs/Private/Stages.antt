@@ -1,4 +1,4 @@
--- How what is told and shown of a text stands to what the program answers.
+-- How the texts and pictures for a text relate to what the program answers.
 use Rattle.std.specs.Prelude.{◌≡◌, ◌≢◌, ℕ, ◌<◌, ◌≤◌, length, Option, None, Some, IfSome, Result, Ok, Err}
 use Rattle.ed_words.specs.declared.memory.NoMemory.{NoMemory}
 use Rattle.ed_machine.specs.State.{State}
@@ -16,7 +16,7 @@ use Rattle.ed_page.specs.declared.going.Gone.{Gone}
 use Rattle.ed_page.specs.declared.running.Shown.{Shown}
 use Rattle.ed_page.specs.declared.told.Told.{Told}
 
--- both texts and the status are those of an outcome; no status is that of want of memory or of room
+-- both texts and the status are those of an outcome; the status is not that of no memory or of no room
 pub record TellsOutcome (told : Told) (o : Outcome) : Type 0 where
   pub out_is : told.out.items ≡ o.out
   pub note_is : told.note.items ≡ o.note
@@ -24,23 +24,23 @@ pub record TellsOutcome (told : Told) (o : Outcome) : Type 0 where
   pub low : told.status < 12
   pub found : told.status ≢ 10
 
--- what is told is what the program answers
+-- the texts are what the program answers
 abbrev pub IsAnswered : Answer → Text → Result Told NoMemory → Type 0
 IsAnswered wanted text (Ok told) = (o : Outcome) × IsDue wanted text o × TellsOutcome told o
 IsAnswered wanted text (Err e) = Unit {0}
 
--- a reply is told as it is
+-- a reply is passed on unchanged
 abbrev pub Retells : Reply → Told → Type 0
 Retells reply told = (o : Outcome) → Gives reply o → TellsOutcome told o
 
--- what is told of a rejection is its reply; where no memory was found, nothing is
+-- the texts of a rejection are those of its reply; there are none if no memory was found
 abbrev pub TellsRejection : Rejection → Result Told NoMemory → Type 0
 TellsRejection (Refused reply) (Ok told) = Retells reply told
 TellsRejection (Refused reply) (Err e) = ⊥
 TellsRejection Memory (Ok told) = ⊥
 TellsRejection Memory (Err e) = Unit {0}
 
--- what is told of an answer, whether it refuses the text or not
+-- the texts of an answer, whether it refuses the text or not
 abbrev pub TellsAnswer : Result Reply Rejection → Result Told NoMemory → Type 0
 TellsAnswer (Ok reply) (Ok told) = Retells reply told
 TellsAnswer (Ok reply) (Err e) = ⊥
@@ -51,7 +51,7 @@ pub record IsRunOf (o : Outcome) (r : RunEnd) (shown : Shown) : Type 0 where
   pub told : TellsOutcome shown.told o
   pub machine : shown.machine ≡ Some r.state
 
--- a machine is in the state in which the run of a text ends, if there is such a state, and else there is no machine
+-- a machine is in the state in which the run of a text ends, if there is such a state; otherwise there is no machine
 pub record IsMachineOf (Ends : Text → State → Type 0) (text : Text) (machine : Option State) : Type 0 where
   pub some : length text ≤ 262144 → (m : State) → Ends text m → machine ≡ Some m
   pub none : ((m : State) → length text ≤ 262144 → Ends text m → ⊥) → machine ≡ None
@@ -75,12 +75,12 @@ pub record ShowsMachine (o : Outcome) (machine : Option State) (before after : B
   pub state : IfSome machine (λ m. Pictures m after.words after.digits after.registers)
   pub none : machine ≡ None → ShowsNone before after
 
--- so it was written into buffers, or there was no room
+-- the outcome and the machine were written into buffers, or there was no room
 abbrev pub WritesBuffers : Outcome → Option State → (before after : Buffers) → ℕ → Type 0
 WritesBuffers o machine before after answer = (answer ≢ 10)
     × HasItsCause (HasPictureRoom o before) (after ≡ before) (ShowsMachine o machine before after answer) answer
 
--- a run that went on is the definition's
+-- a run that continued is the definition's
 pub record IsGone (r : RunEnd) (gone : Gone) : Type 0 where
   pub ending_is : gone.ending ≡ r.ending
   pub state_is : gone.machine ≡ r.state

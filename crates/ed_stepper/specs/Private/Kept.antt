@@ -10,7 +10,7 @@ pub record IsMark (start : State) (m : Mark) : Type 0 where
   pub is : m.machine ≡ state_after m.done start
   pub count : m.machine.orders ≤ start.orders + m.done
 
--- each copy is such a one
+-- each copy is right in this sense
 abbrev pub AreMarks : State → List Mark → Type 0
 AreMarks start marks = All (λ m. IsMark start m) marks
 

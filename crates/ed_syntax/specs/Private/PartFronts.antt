@@ -21,7 +21,7 @@ pub record SplitsRun (text first rest : Text) : Type 0 where
   pub each : list_all is_run_byte first ≡ true
   pub end : begins_run rest ≡ false
 
--- the first quote of a text stands between `inside` and the rest
+-- the first quote of a text is between `inside` and the rest
 pub record SplitsQuote (text inside rest : Text) : Type 0 where
   pub whole : text ≡ inside ++ 34 ∷ rest
   pub none : has_quote inside ≡ false

@@ -41,7 +41,7 @@ abbrev pub and_lines : ℕ → Result Form SourceCause → Result (List Line) Fa
 and_lines k (Err c) rest = Err (record { line = k; cause = c })
 and_lines k (Ok f) rest = with_first (record { number = k; label = f.label; statement = f.statement }) rest
 
--- what the lines from number k on say, or the fault of the first of them that has one
+-- what the lines from number k upwards say, or the fault of the first of them that has one
 abbrev pub lines_from : Bool → ℕ → List Text → Result (List Line) Fault
 lines_from two k [] = Ok []
 lines_from two k (line ∷ rest) = if k == 2001 then Err (record { line = k; cause = TooManyLines })
