@@ -49,6 +49,33 @@ def files(name):
     return [path for part in PARTS for path in (CRATES / name / part).rglob("*") if path.is_file()]
 
 
+def head(name):
+    """The two parts of the `//!` lines at the head of a crate's root file: what the crate is, and its contract."""
+    source = CRATES / name / "src"
+    root = source / ("main.rt" if (source / "main.rt").exists() else "lib.rt")
+    lines = itertools.takewhile(lambda line: line.startswith("//!"), root.read_text().splitlines())
+    parts = " ".join(line[3:].strip() or "\n" for line in lines).split("\n")
+    return [part.strip() for part in parts]
+
+
+def described(name):
+    """The layer of a crate and its contract in a line, by its root file: `Layer: what it is.` and `Contract: in a line.`
+    The contract of a crate of tests is what it tries, which is said after `Tests:`."""
+    layer, colon, rest = head(name)[0].partition(": ")
+    said = re.match(r"Contract: (.*?)\.(?: |$)", head(name)[-1])
+    if not colon or not (said or layer == "Tests"):
+        sys.exit(f"{name}: its root file doesn't begin with `Layer: what it is.` and `Contract: in a line.`")
+    small = layer if layer.startswith("Initial") else layer[0].lower() + layer[1:]
+    return small, said.group(1) if said else rest.rstrip(".")
+
+
+def crates_table():
+    """The rows of the table of crates: each crate, its layer, its contract in a line, and what it stands on."""
+    crates = stands_on()
+    others = {name: ", ".join(f"`{other}`" for other in nearest(name, crates)) or "none" for name in crates}
+    return [(f"`{name}`", *described(name), others[name]) for name in crates]
+
+
 def size(name):
     """The lines of a crate, by which the time of its proof is estimated."""
     return sum(path.read_bytes().count(b"\n") for path in files(name))

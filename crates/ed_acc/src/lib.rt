@@ -1,6 +1,6 @@
-//! The accumulator: a number of 71 binary digits and the arithmetic of the orders on it.
+//! The accumulator: a number of 71 binary digits, and the arithmetic of the orders on it.
 //!
-//! The contract is that each call is its line of the order table, modulo 2^71. Depends on `ed_words`.
+//! Contract: each call is the arithmetic of its order on 71 digits. Sums are modulo 2^71. Depends on `ed_words`.
 #![tactic(auto)]
 
 mod acc;

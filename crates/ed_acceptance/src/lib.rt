@@ -1,8 +1,7 @@
-//! Tests of the program: whole runs of `ed_top::edsac` on words and an input, and the devices that it uses.
+//! Tests: whole runs of the program, and its devices.
 //!
-//! This crate has no contract: it has no public item, and no code except its tests. Their expected values come
-//! from the description of the machine and from worked examples, never from the program's own output. Depends on the
-//! crates of the program.
+//! Expected values come from the description of the machine and from worked examples, never from the program's own
+//! output. Depends on the crates of the program.
 #![tactic(auto)]
 
 #[cfg(test)]

@@ -1,8 +1,8 @@
-//! Tests of the machine and its parts: each public call once on its happy path, and single orders on worked values.
+//! Tests: the machine and its parts, on worked values.
 //!
-//! This crate has no contract: it has no public item, and no code except its tests. Their expected values come
-//! from the description of the machine and from worked examples, never from the program's own output. Depends on the
-//! crates up to the machine, its runs and the printed paper.
+//! Each public call is tried once on its happy path. Expected values come from the description of the machine and from
+//! worked examples, never from the program's own output. Depends on the crates up to the machine, its runs and the
+//! printed paper.
 #![tactic(auto)]
 
 #[cfg(test)]

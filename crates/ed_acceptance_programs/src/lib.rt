@@ -1,7 +1,7 @@
-//! Tests of the proved programs: each is run on twenty data, the ends of their ranges included, and compared
-//! with a plain computation; data just out of range are refused.
+//! Tests: each program with a law compared with a plain computation.
 //!
-//! This crate has no contract: it has no public item, and no code except its tests. Depends on `ed_programs`.
+//! Each is run on twenty data, at the ends of their ranges too, and is refused for data just out of range. Depends on
+//! `ed_programs`.
 #![tactic(auto)]
 
 #[cfg(test)]

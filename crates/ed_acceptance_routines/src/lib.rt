@@ -1,9 +1,7 @@
-//! Tests of the library's routines: what they print, read, divide and take roots of, at which bases, and how many
-//! orders they take.
+//! Tests: what the library's routines print, read, divide and take roots of, at several bases on both sizes.
 //!
-//! This crate has no contract: it has no public item, and no code except its tests. Their expected values come
-//! from the numbers themselves, and from counts made by hand, never from the program's own output. Depends on
-//! the crates up to the routines.
+//! Expected values come from the numbers themselves and from counts made by hand, never from the program's own output.
+//! Depends on the crates up to the routines.
 #![tactic(auto)]
 
 #[cfg(test)]

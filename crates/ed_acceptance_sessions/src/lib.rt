@@ -1,8 +1,7 @@
-//! Tests of sessions, scripts and traces.
+//! Tests: sessions far on and back; the lines of scripts and what they write; traces.
 //!
-//! This crate has no contract: it has no public item, and no code except its tests. Their expected values come
-//! from the description of scripts and from worked examples, never from the program's own output. Depends on the crates
-//! up to the sessions and the traces.
+//! Expected values come from the description of scripts and from worked examples, never from the program's own output.
+//! Depends on the crates up to the sessions and the traces.
 #![tactic(auto)]
 
 #[cfg(test)]

@@ -1,8 +1,7 @@
-//! Tests of tapes: what the checker says of them, what the Initial Orders do with them, and post-mortems.
+//! Tests: the checker, the Initial Orders and the post-mortem, on worked tapes.
 //!
-//! This crate has no contract: it has no public item, and no code except its tests. Their expected values come
-//! from the description of the notation and from worked examples, never from the program's own output. Depends on the
-//! crates up to the post-mortem.
+//! Expected values come from the description of the notation and from worked examples, never from the program's own
+//! output. Depends on the crates up to the post-mortem.
 #![tactic(auto)]
 
 #[cfg(test)]

@@ -1,8 +1,7 @@
-//! Tests of Initial Orders 1: their words, the reports of the check on their tapes, and what they do with them.
+//! Tests: the words, checks and loads of Initial Orders 1.
 //!
-//! This crate has no contract: it has no public item, and no code except its tests. Their expected values come
-//! from the listing of May 1949, from the description of its notation and from worked examples, never from the
-//! program's own output. Depends on `ed_initial1`.
+//! Expected values come from the listing of May 1949, from the description of its notation and from worked examples,
+//! never from the program's own output. Depends on `ed_initial1`.
 #![tactic(auto)]
 
 #[cfg(test)]

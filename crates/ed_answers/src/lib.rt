@@ -1,10 +1,9 @@
 //! The answers to a text: the run or the check of a tape, for either Initial Orders, and the run, the tape and the
 //! listing of a source.
 //!
-//! The contract is that each reply is that of the definition: its two texts and its status. An input that is refused
-//! has a reply too; that no memory was found is not a reply. Among the definitions are the laws between these answers.
-//! Depends on `ed_loads`, `ed_initial1`, `ed_postmortem` and `ed_report`, and on `ed_command` for the settings of a
-//! run.
+//! Contract: the reply to a tape, to a tape of May 1949 and to a source is that of the definition; the laws between
+//! these answers. A reply is two texts and a status; an input that is refused has a reply too. Depends on `ed_loads`,
+//! `ed_initial1`, `ed_postmortem` and `ed_report`, and on `ed_command` for the settings of a run.
 #![tactic(auto)]
 
 mod check;

@@ -1,5 +1,7 @@
-//! The calls of library routines that a command may ask for, and the ranges of their numbers. This is a crate of its
-//! own, since the reader of the command line and the maker of the program's sources both use it. Depends on std alone.
+//! A call of a library routine: what it asks for.
+//!
+//! Contract: no call: a type and the ranges of its numbers, which both the command line and the maker of sources use.
+//! Depends on std alone.
 #![tactic(auto)]
 
 /// A call of a library routine with its numbers.

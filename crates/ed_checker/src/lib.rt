@@ -1,9 +1,9 @@
 //! The checking routine: it obeys the orders of another program, its guest, one by one, and prints the function of
 //! each.
 //!
-//! The contract is that one turn of the routine does to its guest what the order table says of the guest's next order,
-//! in at most 35 orders, and that the routine is then at the start of a turn again. Depends on `ed_machine`, `ed_run`,
-//! `ed_library` and `ed_routines`, and is proved over `ed_paths`.
+//! Contract: a turn obeys one order of the guest as the order table does, and prints its function. A turn takes at most
+//! 35 orders, and leaves the routine ready for the next one. Depends on `ed_machine`, `ed_run`, `ed_library` and
+//! `ed_routines`, and its proofs on `ed_paths`.
 #![tactic(auto)]
 
 mod allowed;

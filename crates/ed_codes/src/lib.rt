@@ -1,7 +1,7 @@
-//! Codes: the rows of a tape, the bytes that spell them, and the text of a tape.
+//! Codes and tape text: the rows of a tape, the bytes that spell them, and the text of a tape.
 //!
-//! The contract is that a code is below 32, that spelling is the table of letters, digits and signs, and that the rows
-//! of a text are those of its spelling bytes. Depends on std and `thiserror`.
+//! Contract: the rows of a text, or its one fault at its offset. A code is below 32, and spelling is the table of
+//! letters, digits and signs. Depends on std and `thiserror`.
 #![tactic(auto)]
 
 mod code;

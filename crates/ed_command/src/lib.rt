@@ -1,9 +1,8 @@
-//! The words of the command line, read as one command with its settings.
+//! The command line: its words, read as one command with its settings.
 //!
-//! The contract is that of [`read_words`]: it answers the command that the words are, with its numbers in range, or a
-//! usage fault exactly if they are not a command, or that no memory was found. The words are read by `clap`; the
-//! definition is a table of lines and a function on lists of words. Depends on `ed_words` for the size of a store and
-//! on `ed_call` for the calls of routines.
+//! Contract: the command exactly if the words are a line of the table, its numbers in range. Other words are a usage
+//! fault. `clap` reads the words; the definition is a table of lines. Depends on `ed_words` for the size of a store and
+//! on `ed_call`.
 #![tactic(auto)]
 
 mod command;

@@ -1,7 +1,7 @@
 //! The Initial Orders: the 41 words that the starter places in the store, and what they do with a tape.
 //!
-//! The contract is the loading theorem: on a tape that is well formed the orders, obeyed one by one, lead to the state
-//! that the notation means, from any store and on a machine of either size. Depends on `ed_machine`, `ed_paths` and
+//! Contract: the listing; a well-formed tape is loaded as it means, at its cost. This is the loading theorem: the
+//! orders are obeyed one by one, from any store, on a machine of either size. Depends on `ed_machine`, `ed_paths` and
 //! `ed_notation`.
 #![tactic(auto)]
 

@@ -1,8 +1,7 @@
-//! Initial Orders 1 of May 1949: the 31 words, what a tape of their notation means, and what they do with it.
+//! Initial Orders 1 of May 1949: the 31 words, what a tape in their notation means, and what they do with it.
 //!
-//! The contract is a loading theorem, like that of `ed_initial`: on a tape without a fault the orders, obeyed one by
-//! one, lead to the state that its items mean, at their cost; and every other tape has one fault, which `check1`
-//! answers. Depends on `ed_initial`, `ed_notation` and `ed_paths`.
+//! Contract: a tape without a fault is loaded as its items mean, at its cost; every other tape has one fault. The
+//! orders are obeyed one by one, and `check1` answers the fault. Depends on `ed_initial`, `ed_notation` and `ed_paths`.
 #![tactic(auto)]
 
 mod cause;

@@ -1,8 +1,8 @@
-//! Interludes: programs that do their work while a tape is read, and return to the Initial Orders.
+//! Loads that a program resumes: interludes, which do their work while a tape is read and go back to the Initial
+//! Orders.
 //!
-//! The contract is the loading theorem from a machine that returned: the rows left, if they are well formed under the
-//! directive that the program left, lead to the entry that the notation means. Depends on `ed_notation` and
-//! `ed_initial`.
+//! Contract: if the rest of a tape is well formed, it is loaded as it means, from the directive that the program left.
+//! Depends on `ed_notation` and `ed_initial`.
 #![tactic(auto)]
 
 mod resuming;

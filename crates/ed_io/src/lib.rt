@@ -1,9 +1,8 @@
-//! Devices: where the input of the program comes from, and where its output goes.
+//! Sources, sinks, writing all of a text: where the input comes from, and where the output goes.
 //!
-//! The contract is that of the two traits: which bytes a call takes, and that a device counts each call that fails and
-//! no other. The devices over memory report their bytes and fail exactly at the calls in their list; those over std's
-//! readers and writers report what these report, until a write fails. Depends on `ed_words` for the answer that no
-//! memory was found.
+//! Contract: bytes are taken and given in order; a failure only if the device counted one. Devices over memory report
+//! their bytes and fail exactly where their list says. Those over std's readers and writers report what these report,
+//! until a write fails. Depends on `ed_words`.
 #![tactic(auto)]
 
 mod device;

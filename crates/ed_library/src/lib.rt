@@ -1,8 +1,8 @@
-//! The library: routines that a source may use, by their names, and their words at a base in the store.
+//! The catalogue of routines: those that a source may use, by their names, and their words at a base.
 //!
-//! The contract is that every reader gives what the catalogue's tables say, that each routine of the catalogue can be
-//! linked and their names are in ascending order, and that an image's word is what the notation makes of the item, with
-//! θ twice the base and with the preset parameters. Depends on `ed_words`, `ed_codes`, `ed_notation` and `arrayvec`.
+//! Contract: the readers give what the tables hold; an image's word is the item's at its base. θ is twice the base, and
+//! the preset parameters are those of the `use`. Each routine of the catalogue can be linked, and their names are in
+//! order. Depends on `ed_words`, `ed_codes`, `ed_notation` and `arrayvec`.
 #![tactic(auto)]
 
 mod catalogue;

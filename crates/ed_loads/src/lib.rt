@@ -1,8 +1,7 @@
-//! The loading of a linked program: the state in which a source's program is entered.
+//! The state at the entry of a linked program: its tape, loaded.
 //!
-//! The contract is that the Initial Orders, obeyed one by one from Start on the tape of a linked program, enter it
-//! after exactly the stated number of orders, in the state at entry, and print nothing on the way. Depends on
-//! `ed_link` and `ed_initial`.
+//! Contract: the Initial Orders on its tape lead to that state at the stated cost, cell by cell. They are obeyed one by
+//! one from Start and print nothing. Depends on `ed_link` and `ed_initial`.
 #![tactic(auto)]
 
 mod entering;

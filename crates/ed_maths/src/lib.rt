@@ -1,7 +1,7 @@
-//! What the mathematical routines of the library do: `divide` and `root`, run on a machine whose store has them.
+//! Division and square root on tape: `divide` and `root`, run on a machine that holds them.
 //!
-//! The contract is the quotient and the remainder, or the root, after exactly how many orders, and that nothing else
-//! changes. Depends on `ed_routines`, and is proved over `ed_paths`.
+//! Contract: quotient and remainder, root, each at its exact number of orders. Nothing else changes. Depends on
+//! `ed_routines`, and its proofs on `ed_paths`.
 #![tactic(auto)]
 
 mod division;

@@ -1,8 +1,8 @@
-//! The notation of the tape: items, the rows that spell them, what they do and cost, and the faults of a tape.
+//! The loader's notation: items, the rows that spell them, what they do and cost, and the faults of a tape.
 //!
-//! The contract is the notation written down without a machine, as a fold over items: `check` answers exactly what that
-//! fold gives, or the tape's one fault; spelled items are read back, and no other items. Depends on `ed_words`,
-//! `ed_store` and `ed_codes`.
+//! Contract: accepted exactly if well formed, with the fold's entry, cost and words; otherwise the one fault. The
+//! notation is a fold over items and mentions no machine. Spelled items are read back, and no others. Depends on
+//! `ed_words`, `ed_store` and `ed_codes`.
 #![tactic(auto)]
 
 mod cause;

@@ -1,8 +1,8 @@
-//! Orders: which functions are orders, how far a shift order shifts, and the text of an order.
+//! Kinds, shift places, order texts: which functions are orders, how far a shift order shifts, and an order as text.
 //!
-//! The contract is that the kinds are the eighteen orders by the codes of their letters, that the number of places of a
-//! shift is given by the last digit 1 of the whole word, and that a text is the letter, the number and the length.
-//! Depends on `ed_words`, `ed_codes` and `arrayvec`.
+//! Contract: which function is which order; how far a shift order shifts. The kinds are the 18 orders by the codes of
+//! their letters, and the places of a shift are counted over the whole word. Depends on `ed_words`, `ed_codes` and
+//! `arrayvec`.
 #![tactic(auto)]
 
 mod kind;

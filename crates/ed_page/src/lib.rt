@@ -1,9 +1,9 @@
-//! What a web page shows of the machine: pictures of the run of a tape, for either Initial Orders, or of a source,
-//! after a number of orders from Start, the rows of tapes, the listing of a source, and the texts of rows and orders.
+//! A static library for a web page: pictures of the machine in the run of a tape or a source, the rows of tapes, and
+//! the texts of rows, orders and listings.
 //!
-//! The exports keep no state. Their contract is that each answer is the program's own to the same text, with its texts
-//! at the beginnings of the caller's buffers, and that each other answer has its cause. Depends on `ed_answers` for
-//! what the program answers, and on `ed_run` and `ed_report`.
+//! Contract: each picture and text is what the program answers to the same text, in the caller's buffers, and a run can
+//! continue from a picture; every other answer has its cause. The exports keep no state. Depends on `ed_answers`, and
+//! on `ed_run` and `ed_report`.
 #![tactic(auto)]
 
 mod going;

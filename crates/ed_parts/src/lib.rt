@@ -1,8 +1,7 @@
-//! Tapes in parts: programs that return to the Initial Orders, which then read on.
+//! Tapes whose programs return to the Initial Orders, reported during the run: a line for each entry and each return.
 //!
-//! The contract is that a sink gains exactly the lines of the entries and returns in the definition's report on a tape,
-//! each as it comes, or a prefix of them if a write fails; that there is exactly one report on every tape; and that
-//! the Initial Orders lead every part to its entry. Depends on `ed_interlude`, `ed_run`, `ed_io` and `ed_report`.
+//! Contract: the lines of entries and returns, or the beginning of them if a write fails; one report for each tape. The
+//! Initial Orders lead every part to its entry. Depends on `ed_interlude`, `ed_run`, `ed_io` and `ed_report`.
 #![tactic(auto)]
 
 mod part;

@@ -1,8 +1,7 @@
-//! The post-mortem: a tape that prints the words that a program left in the store, one line a word.
+//! The post-mortem: a tape that prints the words which a program left in the store, one line a word.
 //!
-//! The contract is that on any machine exactly the codes of those words are printed, in exactly the orders that the
-//! tape and the words cost, and that every refusal comes exactly when it is due and changes nothing. The proof goes
-//! through the Initial Orders and a run, order by order. Depends on `ed_initial`, `ed_run` and `ed_paths`.
+//! Contract: the codes of the words in the store at the call, at their cost, or the one refusal. It is read by the
+//! Initial Orders and run, order by order; a refusal changes nothing. Depends on `ed_initial`, `ed_run` and `ed_paths`.
 #![tactic(auto)]
 
 mod fault;

@@ -1,8 +1,8 @@
-//! Whole programs, proved for all their data: for each a call that gives its source, or its tape, with the data put in.
+//! Whole programs with a law: for each a call that gives its source, or its tape, with the data put in.
 //!
-//! The contract of a call is the exact text, and what the command `run` (for a tape, `tape`, `tape1` or `parts`)
-//! answers to it: the printed text in plain mathematics, the number of orders and the status. Depends on `ed_top`, and
-//! its proofs on the kit of `ed_paths`.
+//! Contract: the text of a program for its data, and what `run` (for a tape, `tape`, `tape1` or `parts`) prints for all
+//! of them. The printed text is said in plain mathematics, with the number of orders and the status. Depends on
+//! `ed_top`, and its proofs on the kit of `ed_paths`.
 #![tactic(auto)]
 
 mod add;

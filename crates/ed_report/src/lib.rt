@@ -1,8 +1,8 @@
-//! Texts to be written: what was printed, on one paper or on two, words of a store in lines, the routines of the
-//! library, the letters of orders, and the lines that report faults, entries and endings.
+//! Texts that are written: printed papers, listings, the library, traces, and the lines about faults, entries and
+//! endings.
 //!
-//! The contract is that each text is exact to the byte. Depends on `ed_machine`, `ed_printer`, `ed_notation`,
-//! `ed_initial1`, `ed_library` and `ed_syntax`.
+//! Contract: each text is exact to the byte. Depends on `ed_machine`, `ed_printer`, `ed_notation`, `ed_initial1`,
+//! `ed_library` and `ed_syntax`.
 #![tactic(auto)]
 
 mod ending;

@@ -1,7 +1,7 @@
-//! What the routines of the library do: `newline`, `print` and `read`, run on a machine whose store has them.
+//! What the library's routines do: `newline`, `print` and `read`, run on a machine that holds them.
 //!
-//! The contract is what each prints or reads, after how many orders, and that nothing else changes: each call leaves
-//! the machine in the state after its orders. Depends on `ed_library` and `ed_run`, and is proved over `ed_paths`.
+//! Contract: digits printed, number read, new line, each at its exact number of orders. Nothing else changes. Depends
+//! on `ed_library` and `ed_run`, and its proofs on `ed_paths`.
 #![tactic(auto)]
 
 mod back;

@@ -1,7 +1,6 @@
-//! Runs of the machine onto a paper, order by order.
+//! Runs: the machine, order by order, onto a paper.
 //!
-//! The contract is that `run` is the definition's run; it changes the machine by `Machine::step` alone. Depends on
-//! `ed_machine`.
+//! Contract: `run` is the definition's run, by `step` alone; a run has one ending. Depends on `ed_machine`.
 #![tactic(auto)]
 
 ghost use Rattle.std.specs.Prelude.{◌≡◌, ℕ, ◌+◌, ◌-◌, ◌^◌, ◌≤◌, length, nat_le};

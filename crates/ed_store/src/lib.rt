@@ -1,7 +1,7 @@
-//! The store: locations, pairs and sandwich digits.
+//! Locations and sandwich digits: the store of the machine.
 //!
-//! The contract is a list of 1,024 words and a list of 512 sandwich digits: each call reads or changes what it names
-//! and nothing else. The code keeps one list of 512 cells of 35 digits. Depends on `ed_words`.
+//! Contract: each call reads or changes what it names, and nothing else. The store is seen as a list of 1,024 words and
+//! a list of 512 sandwich digits; the code keeps 512 cells of 35 digits. Depends on `ed_words`.
 #![tactic(auto)]
 
 #[cfg(test)]

@@ -1,9 +1,8 @@
-//! Symbols: the locations of a source's lines and names, and the faults of its names.
+//! Locations and names of a source: its symbol table, the location of each line, and the faults of its names.
 //!
-//! The contract is that the answers are those of the definitions: the location before a line by the sums of the words
-//! of the lines before it, the location of a name and the segment to which it belongs by its first definition. The
-//! fault is that of the first line that has one, and there the one with the least number, each stated by a sentence of
-//! its own; each source has one such fault or none. Depends on `ed_words`, `ed_codes`, `ed_syntax` and `ed_library`.
+//! Contract: the location of every line and name, or the first fault of names. A line's location follows from the words
+//! of the lines before it, and a name's from its first definition. One sentence says each fault. Depends on `ed_words`,
+//! `ed_codes`, `ed_syntax` and `ed_library`.
 #![tactic(auto)]
 
 mod faults;

@@ -1,9 +1,9 @@
-//! The source language: the lines of a source and their forms, in both versions of the language.
+//! Lines of a source: the source language and its forms, in both versions.
 //!
-//! The contract is that `parse` answers the lines that a text spells, by a relation with one row for each form, or else
-//! the first line that has a fault of form, with its fault; and that each text has one of these and never both. What
-//! holds of every program is its type's invariant: at most 2,000 lines, numbered from 1 without a gap, each of a form
-//! of the version's grammar with its numbers in their ranges. Depends on `ed_words`, `ed_codes` and `arrayvec`.
+//! Contract: the lines that a text spells, or its first fault of form. What a line says is a relation with one row for
+//! each form, and each text has lines or a fault, and never both. The invariant of a program: at most 2,000 lines,
+//! numbered from 1 without a gap, each of a form of its version with its numbers in range. Depends on `ed_words`,
+//! `ed_codes` and `arrayvec`.
 #![tactic(auto)]
 
 mod fault;

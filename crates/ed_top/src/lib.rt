@@ -1,10 +1,9 @@
-//! The program as one call: it takes words, an input and two outputs, and answers a status.
+//! The program as one call: words, an input and two outputs in, a status out.
 //!
-//! The contract of [`edsac`] is exact for every list of words and every input, over any source and any two sinks: the
-//! status and both texts are those of the definition, and the answers for a fault or for no memory come with their
-//! cause and with what was written. The definition gives each input one outcome, which is a clause too; and so is
-//! that an accepted source is run from the state that its linked program means. Further clauses are the laws between
-//! the commands. Depends on all crates below.
+//! Contract: the contract of `edsac`. It is exact for every list of words and every input, over any source and any two
+//! sinks: the status and both texts are those of the definition, and the answers for a fault or for no memory come with
+//! their cause and with what was written. The definition gives each input one outcome. Further clauses are the headline
+//! and the laws between the commands. Depends on all crates below.
 #![tactic(auto)]
 
 mod calls;

@@ -1,7 +1,7 @@
-//! The trace of a run: the letter of each order that it obeys, written line by line as each line is full.
+//! The trace of a run, written during the run: the letter of each order that it obeys, 50 to a line.
 //!
-//! The contract is that a sink gains exactly the trace of the definition's run, or a prefix of it if a write fails;
-//! no more than one line is held. Depends on `ed_run`, `ed_io` and `ed_report`.
+//! Contract: the whole trace, or the beginning of it if a write fails. At most one line is held in memory. Depends on
+//! `ed_run`, `ed_io` and `ed_report`.
 #![tactic(auto)]
 
 mod sheet;

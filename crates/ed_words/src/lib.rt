@@ -1,6 +1,7 @@
-//! Words: numbers of 17 and 35 binary digits, the fields of an order word, the size of a store; and decimal numbers.
+//! Words, order fields, sizes: numbers of 17 and 35 binary digits, the fields of an order word, the size of a store,
+//! and decimal numbers.
 //!
-//! The contract is that fields and halves are exact and inverse to each other. Depends on std alone.
+//! Contract: fields and halves are exact and inverse to each other. Depends on std alone.
 #![tactic(auto)]
 
 mod decimals;

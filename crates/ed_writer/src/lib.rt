@@ -1,9 +1,8 @@
-//! A printer of sources: the text of a program, line by line.
+//! A program, written as a source: its text, line by line.
 //!
-//! The contract is that `text_of_program` answers the one text that the definition has for a program, and that this
-//! text says exactly the program's lines, by the relation of `ed_syntax`; so `parse` reads them in it. A program is
-//! refused for two reasons only: it has no line for `version 2`, and then no text says its lines; or the text of a line
-//! is too long. Depends on `ed_syntax`, `ed_codes`, `ed_words` and `arrayvec`.
+//! Contract: the one text for each program, which says exactly its lines; otherwise the reason that it is not written.
+//! So `parse` reads the program back. A program is not written if `version 2` has no line in it, and then no text says
+//! its lines, or if the text of a line is too long. Depends on `ed_syntax`, `ed_codes`, `ed_words` and `arrayvec`.
 #![tactic(auto)]
 
 mod fault;

@@ -1,7 +1,7 @@
-//! The program `edsac`: its words, standard input, standard output as `out` and standard error as `note`.
+//! `main`: the program `edsac`, with standard output as `out` and standard error as `note`.
 //!
-//! What it does is the contract of `ed_top::edsac`; this file only hands over the arguments and the streams.
-//! If an argument is not UTF-8, no words are passed on, which is a usage error.
+//! Contract: passes on arguments and streams. If an argument is not UTF-8, no words are passed on, which is a usage
+//! error. Depends on `ed_top`.
 #![tactic(auto)]
 
 use ed_io::{StdSink, StdSource};
