@@ -211,8 +211,8 @@ function figuresOf(rows, letter) {
     return isFigure;
 }
 
-// Which rows of a tape the loader of May 1949 reads as figures. Each item is a function, then digits up to a row of 10
-// or more, which ends it. The first item goes to location 31, and its number is one more than the location of the last.
+// Which rows of a tape the loader of May 1949 reads as figures. Each item is a function, then digits up to a row of 10 and
+// more, which ends it. The first item goes to place 31, and its number is one more than the place of the last.
 function figuresOf1(rows) {
     const isFigure = new Array(rows.length).fill(false);
     for (let at = 0, place = FIRST_LOADER, end = FIRST_LOADER + 1; at < rows.length && place < end; place++) {
