@@ -15,6 +15,7 @@ const page = {
     words: undefined, // the language
     program: { text: '', kind: 'tape', small: false },
     rows: new Uint8Array(0),
+    items: [], // of the tape, up to its entry
     labels: [], // what is beside each row
     letters: [], // of each code
     refusal: undefined, // what is wrong with the text, where it is refused
@@ -83,13 +84,15 @@ function begin() {
     let told;
     try {
         told = page.machine.rows(page.program);
+        page.items = page.program.kind === 'tape1' ? [] : page.machine.items(page.program).items;
         page.way = new Way(page.machine, page.program, told.out);
     } catch (fault) {
         page.fault = faultOf(fault);
         told = { ...page.fault, out: new Uint8Array(0) };
+        page.items = [];
     }
     page.rows = told.out;
-    page.labels = labelsOf(page.rows, (code) => page.letters[code], page.program.kind);
+    page.labels = labelsOf(page.rows, (code) => page.letters[code], page.program.kind, page.items);
     tellRefusal(told);
     look(0);
     drawListing();
@@ -240,12 +243,13 @@ function draw() {
         return;
     }
     const word = shown.words[shown.counter], order = page.machine.order(word);
+    const meaning = page.machine.meaning(word, page.program.small);
     const number = words.number(shown.orders + 1);
     by('place').textContent = words.say('place', { number, place: shown.counter, order });
-    by('meaning').textContent = words.meaning(word, order, page.program.small);
+    by('meaning').textContent = words.meaning(meaning);
     by('did').textContent = didText();
     drawTape(by('tape'), page.rows, shown.rowsLeft, page.labels);
-    store.draw(shown, page.before, page.program.small, namedBy(word, order, page.program.small));
+    store.draw(shown, page.before, page.program.small, meaning.named);
     by('store').setAttribute('aria-label', words.say('storeNow', { changed: changedText() }));
     const [left, all] = [shown.rowsLeft, page.rows.length];
     const next = page.labels[all - left];
@@ -365,7 +369,7 @@ function drawLook() {
     const row = (place) => {
         const word = shown.words[place], order = escaped(page.machine.order(word));
         const here = place === shown.counter ? ' class="here" aria-current="true"' : '';
-        return `<tr${here}><th scope="row">${place}<td>${order}<td>${signed(word)}<td>${binary(word, 17)}`;
+        return `<tr${here}><th scope="row">${place}<td>${order}<td>${page.machine.meaning(word, false).number}<td>${binary(word, 17)}`;
     };
     const heads = ['lookPlace', 'lookOrder', 'lookNumber', 'lookDigits'];
     const head = heads.map((key) => `<th scope="col">${escaped(words.say(key))}`);
@@ -387,24 +391,10 @@ function drawTrace() {
     by('trace').textContent = lines.join('\n');
 }
 
-// The tape of a source, as a text: an item on each line, and what follows the entry on one.
-function punchedText() {
-    const lines = [[]];
-    page.labels.forEach((label) => {
-        const isLetter = !/^\d$/.test(label);
-        const line = lines.at(-1);
-        line.push(label);
-        if (isLetter && line.length > 1 && label !== '#') {
-            lines.push([]);
-        }
-    });
-    return `${lines.map((line) => line.join('')).join('\n').trim()}\n`;
-}
-
 // Punches the tape of the source in the box, and reads it again.
 function punch() {
     if (isAlive() && page.program.kind === 'source') {
-        const text = punchedText();
+        const text = new TextDecoder().decode(page.machine.punched(page.program).out);
         replacing(() => {
             by('examples').value = '';
             by('stories').value = 'own';

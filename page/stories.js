@@ -3,7 +3,6 @@
 // end that invites. What is shown comes from the machine's pictures; an item of the tape is what the loader reads between
 // two pictures in which it waits for the next one.
 const WAITS = { tape: 34, source: 34, tape1: 7 }; // the place of the loader's order that reads the first row of an item
-const OWN = { tape: 44, source: 44, tape1: 31 }; // the first place that the loader doesn't use itself
 const STORIES = [
     { name: 'letter', example: 'letter.tape' },
     { name: 'name' },
@@ -160,28 +159,34 @@ class Tour {
         return high;
     }
 
-    // What is said of an item: its rows, and what became of it.
+    // What is said of what was read between two pictures: an item of the tape, and what became of it.
     itemOf(from, to) {
         const first = page.rows.length - from.rowsLeft, last = page.rows.length - to.rowsLeft;
         const item = page.labels.slice(first, last).join('');
-        const places = changedPlaces(from, to).filter((place) => place >= OWN[page.program.kind]);
-        if (places.length === 1) {
-            const order = page.machine.order(to.words[places[0]]);
-            if (page.program.kind === 'tape1') {
-                return places[0] === FIRST_LOADER ? ['told.first1', { item, place: item.slice(1, -1) - 1 }]
-                    : ['told.stored', { item, place: places[0] }];
-            }
-            return [order === item ? 'told.stored' : 'told.landed', { item, order, place: places[0] }];
+        const found = page.items.find((one) => one.first === first);
+        const isIn = to.counter < placesOf(page.program.kind);
+        if (page.program.kind === 'tape1') {
+            return this.itemOf1(item, from, to);
         }
-        if (places.length > 1) {
-            return ['told.landedMany', { item, place: places.join(', ') }];
+        if (found && found.location !== undefined) {
+            const order = page.machine.order(found.word);
+            return [order === item ? 'told.stored' : 'told.landed', { item, order, place: found.location }];
         }
-        if (to.counter >= placesOf(page.program.kind)) {
+        if (!isIn) {
             return ['told.enter', { item }];
         }
-        const number = item.slice(1, -1);
-        return /^T\d+K$/.test(item) ? ['told.from', { item, place: number }]
+        return /^T\d+K$/.test(item) ? ['told.from', { item, place: item.slice(1, -1) }]
             : item === 'GK' ? ['told.theta', { item, place: addressOf(to.words[42]) }] : ['told.control', { item }];
+    }
+
+    // The same of a tape of May 1949.
+    itemOf1(item, from, to) {
+        const places = changedPlaces(from, to).filter((place) => place >= FIRST_LOADER);
+        if (places.length === 1) {
+            return places[0] === FIRST_LOADER ? ['told.first1', { item, place: item.slice(1, -1) - 1 }]
+                : ['told.stored', { item, place: places[0] }];
+        }
+        return [to.counter < FIRST_LOADER ? 'told.control' : 'told.enter', { item }];
     }
 
     // The first orders slowly, the others in time.
@@ -223,7 +228,7 @@ class Tour {
 }
 
 // The place in an order's address.
-const addressOf = (word) => Math.floor((word % 4096) / 2) % 1024;
+const addressOf = (word) => page.machine.meaning(word, page.program.small).location;
 
 if (typeof module !== 'undefined') {
     module.exports = { printable, tapeOf };

@@ -37,19 +37,16 @@ class Words {
         return count <= 2 ? this.say(`times${count}`) : this.say('times', { count });
     }
 
-    // What an order does, in a sentence or two.
-    meaning(word, text, small) {
-        const order = orderOf(word, text, small);
-        if (!this.has(`meaning.${order.letter}`)) {
+    // What an order does, in a sentence or two, by what the machine says that it names.
+    meaning({ letter, location, pair, isLong, shift }) {
+        if (!this.has(`meaning.${letter}`)) {
             return this.say('noOrder');
         }
-        const first = order.address - (order.address % 2);
-        const places = { place: order.address, first, second: first + 1 };
-        const shift = shiftOf(order);
-        return this.say(`meaning.${order.letter}`, {
-            value: this.say(order.long ? 'longNumber' : 'number', places),
-            target: this.say(order.long ? 'longTarget' : 'target', places),
-            address: order.address,
+        const places = { place: location, first: pair, second: pair + 1 };
+        return this.say(`meaning.${letter}`, {
+            value: this.say(isLong ? 'longNumber' : 'number', places),
+            target: this.say(isLong ? 'longTarget' : 'target', places),
+            address: location,
             shift,
             times: this.times(shift),
         });
@@ -57,7 +54,7 @@ class Words {
 
     // A word as it may be meant: a small one as a number, and any other as an order too.
     described(word, machine) {
-        const number = signed(word);
+        const { number } = machine.meaning(word, false);
         return Math.abs(number) < 2048 ? `${number}` : this.say('asNumber', { order: machine.order(word), number });
     }
 
@@ -121,31 +118,13 @@ function changedPlaces(before, after) {
 const addedBetween = (before, after) => after.way.text(before.printed, after.printed);
 const printedBetween = (before, after) => addedBetween(before, after).replace(/\s/g, ' ').trim();
 
-// Whether an order of the program changed an order near it: both words are orders of one function, and only their
-// addresses differ.
+// Whether an order of the program changed an order near it: both words are orders of one letter that name a place, and
+// only these places differ.
 function isOwnOrder(before, after, place, machine) {
-    const [old, now] = [machine.order(before.words[place]), machine.order(after.words[place])];
-    const areOrders = !'PQWRJK#*.@!&'.includes(old[0]) && Math.abs(signed(before.words[place])) >= 2048;
-    return before.counter >= placesOf(after.way.kind) && areOrders && old[0] === now[0] && old.at(-1) === now.at(-1);
+    const [old, now] = [before, after].map(({ words, way }) => machine.meaning(words[place], way.small));
+    const isOne = old.named !== undefined && old.letter === now.letter && old.isLong === now.isLong;
+    return before.counter >= placesOf(after.way.kind) && isOne && Math.abs(old.number) >= 2048;
 }
-
-// An order's parts, by its text: the letter, the place that it names, and whether it is long.
-function orderOf(word, text, small) {
-    const number = Number(text.slice(1, -1) || '0');
-    return { word, letter: text[0], long: text.endsWith('D'), address: number % (small ? 512 : 1024) };
-}
-
-// How far a shift order shifts: 1 and the place of its word's last digit 1.
-const shiftOf = (order) => 32 - Math.clz32(order.word & -order.word);
-
-// The place that an order names, where it names one.
-function namedBy(word, text, small) {
-    const order = orderOf(word, text, small);
-    return 'ASHVNTUCEGIOF'.includes(order.letter) ? order.address : -1;
-}
-
-// A word as a whole number: below 0 where its first digit is 1.
-const signed = (word) => (word >= 65536 ? word - 131072 : word);
 
 // The sign that begins at a byte of a text. What a reader takes for one sign, such as an emoji, stays whole.
 function signAt(text, byte) {
@@ -186,27 +165,13 @@ function hintFor(cause, part, kind) {
     return { S7: 'word', S16: 'enter' }[cause];
 }
 
-// Which rows of a tape the loader reads as figures. It reads an item after the other: a function, then digits up to a
-// row of 11 and more, which ends it. The item after an E that ends with K or Z, or a G that ends with Z, is the last:
-// what follows is the program's own.
-function figuresOf(rows, letter) {
+// Which rows of a tape the loader reads as figures: those of an item, but its first and those that are no digit.
+function figuresOf(rows, items) {
     const isFigure = new Array(rows.length).fill(false);
-    let isLast = false;
-    for (let at = 0; at < rows.length;) {
-        const begins = letter(rows[at++]);
-        while (at < rows.length && rows[at] < 11) {
+    for (const { first, after } of items) {
+        for (let at = first + 1; at < after; at++) {
             isFigure[at] = rows[at] < 10;
-            at++;
         }
-        const ends = at < rows.length ? letter(rows[at]) : '';
-        if (ends === '#') {
-            at++; // a pi stands before the letter that ends the item
-        }
-        at++;
-        if (isLast) {
-            break;
-        }
-        isLast = ['EK', 'EZ', 'GZ'].includes(begins + ends);
     }
     return isFigure;
 }
@@ -228,11 +193,11 @@ function figuresOf1(rows) {
 }
 
 // What stands beside each row of a tape.
-function labelsOf(rows, letter, kind) {
-    const isFigure = kind === 'tape1' ? figuresOf1(rows) : figuresOf(rows, letter);
+function labelsOf(rows, letter, kind, items) {
+    const isFigure = kind === 'tape1' ? figuresOf1(rows) : figuresOf(rows, items);
     return Array.from(rows, (row, at) => (isFigure[at] ? String(row) : letter(row)));
 }
 
 if (typeof module !== 'undefined') {
-    module.exports = { Words, namedBy, signed, signAt, lineAt, hintFor, figuresOf, figuresOf1, labelsOf, shiftOf, orderOf };
+    module.exports = { Words, signAt, lineAt, hintFor, figuresOf, figuresOf1, labelsOf };
 }

@@ -8,3 +8,4 @@ mod PaperTails
 mod GoneOn
 mod RowCodes
 mod Stores
+mod ItemRows

@@ -7,9 +7,12 @@
 #![tactic(auto)]
 
 mod going;
+mod items;
+mod meanings;
 mod papers;
 mod pictured;
 mod pictures;
+mod postmortem;
 mod running;
 mod signs;
 mod texts;
@@ -17,8 +20,11 @@ mod told;
 mod writing;
 
 pub use going::page_go_on;
+pub use items::page_items;
+pub use meanings::{Meaning, page_meaning};
 pub use papers::page_paper;
 pub use pictures::{page_source, page_tape, page_tape1};
+pub use postmortem::page_post_mortem;
 pub use signs::{page_letter, page_order};
-pub use texts::{page_listing, page_source_rows, page_tape_rows};
+pub use texts::{page_listing, page_punch, page_source_rows, page_tape_rows};
 pub use writing::{Lengths, NO_CODE, Registers};
