@@ -29,6 +29,7 @@ const page = {
     clock: () => performance.now(),
 };
 
+const orderText = (word) => writtenFor(page.program.kind, page.machine.order(word));
 const isAlive = () => page.shown !== undefined && page.shown.words !== undefined;
 const isOver = () => !isAlive() || !['limit', 'stopped'].includes(page.shown.ending) || page.shown.orders >= FURTHEST;
 const isEnded = () => isAlive() && page.shown.ending !== 'limit';
@@ -238,11 +239,12 @@ function draw() {
     document.body.classList.toggle('rings', shown.ending === 'stopped');
     by('ending').textContent = endingText(shown);
     drawButtons();
+    drawPostMortem();
     if (!isAlive()) {
         drawNothing();
         return;
     }
-    const word = shown.words[shown.counter], order = page.machine.order(word);
+    const word = shown.words[shown.counter], order = orderText(word);
     const meaning = page.machine.meaning(word, page.program.small);
     const number = words.number(shown.orders + 1);
     by('place').textContent = words.say('place', { number, place: shown.counter, order });
@@ -367,7 +369,7 @@ function drawLook() {
     }
     const first = 32 * Number(by('tank').value);
     const row = (place) => {
-        const word = shown.words[place], order = escaped(page.machine.order(word));
+        const word = shown.words[place], order = escaped(orderText(word));
         const here = place === shown.counter ? ' class="here" aria-current="true"' : '';
         return `<tr${here}><th scope="row">${place}<td>${order}<td>${page.machine.meaning(word, false).number}<td>${binary(word, 17)}`;
     };
@@ -383,7 +385,7 @@ function drawTrace() {
     }
     const { orders } = page.shown, first = Math.max(0, orders - 12);
     const lineOf = ({ words, counter, orders: done }) => [
-        page.words.number(done + 1).padStart(9), String(counter).padStart(4), page.machine.order(words[counter])].join('  ');
+        page.words.number(done + 1).padStart(9), String(counter).padStart(4), orderText(words[counter])].join('  ');
     const lines = [];
     for (let shown = pictureAt(first); lines.length < orders - first; shown = pictureAt(shown.orders + 1, shown)) {
         lines.push(lineOf(shown));
@@ -401,6 +403,22 @@ function punch() {
             put({ text, kind: 'tape' });
         });
     }
+}
+
+// Prints the words at some places as the post-mortem does, of the machine as it stands.
+function printPostMortem() {
+    const [first, count] = ['pmFirst', 'pmCount'].map((id) => Math.max(0, Math.floor(Number(by(id).value)) || 0));
+    const told = page.machine.postMortem(page.way, page.shown, first, count);
+    by('pm').textContent = told.text.replace(/\r/g, '').trim();
+    const last = (page.program.small ? 512 : 1024) - 1;
+    by('pmSaid').textContent = page.words.say(told.status === 0 ? 'pmSaid' : told.status === 3 ? 'pmRefused' : `ends.${told.ending}`,
+        { orders: page.words.number(page.shown.orders), last });
+}
+
+// What a post-mortem printed is of one picture alone.
+function drawPostMortem() {
+    by('pmPrint').disabled = !isAlive() || page.program.kind === 'tape1'; // it is a tape for the 41 orders
+    by('pm').textContent = by('pmSaid').textContent = '';
 }
 
 function drawListing() {
@@ -613,6 +631,7 @@ function listen() {
     press('keep', () => answerAsk(false));
     press('undo', undo);
     press('punch', punch);
+    press('pmPrint', printPostMortem);
     press('switch', () => {
         by(KIND_BOXES[formOf(by('text').value)]).checked = true;
         begin();

@@ -169,7 +169,7 @@ class Tour {
             return this.itemOf1(item, from, to);
         }
         if (found && found.location !== undefined) {
-            const order = page.machine.order(found.word);
+            const order = orderText(found.word);
             return [order === item ? 'told.stored' : 'told.landed', { item, order, place: found.location }];
         }
         if (!isIn) {

@@ -8,6 +8,9 @@ const FIRST_LOADER = 31; // places of those of May 1949, which is also where the
 
 const placesOf = (kind) => (kind === 'tape1' ? FIRST_LOADER : LOADER);
 
+// An order as it is written for a loader: that of May 1949 has S for a short one and L for a long one.
+const writtenFor = (kind, order) => (kind === 'tape1' ? order.replace(/F$/, 'S').replace(/D$/, 'L') : order);
+
 // A language: its texts, by their keys. A key with a dot names a text of a part.
 class Words {
     constructor(name, texts) {
@@ -48,14 +51,14 @@ class Words {
             target: this.say(isLong ? 'longTarget' : 'target', places),
             address: location,
             shift,
-            times: this.times(shift),
+            times: shift ? this.times(shift) : '',
         });
     }
 
     // A word as it may be meant: a small one as a number, and any other as an order too.
-    described(word, machine) {
+    described(word, machine, kind) {
         const { number } = machine.meaning(word, false);
-        return Math.abs(number) < 2048 ? `${number}` : this.say('asNumber', { order: machine.order(word), number });
+        return Math.abs(number) < 2048 ? `${number}` : this.say('asNumber', { order: writtenFor(kind, machine.order(word)), number });
     }
 
     // What became different between two pictures that are one order apart.
@@ -63,10 +66,11 @@ class Words {
         const said = [];
         for (const place of changedPlaces(before, after)) {
             const [old, now] = [before.words[place], after.words[place]];
-            const loader = placesOf(after.way.kind);
+            const { kind } = after.way;
+            const loader = placesOf(kind);
             const own = place < loader && before.counter < loader ? 'loader'
                 : isOwnOrder(before, after, place, machine) ? 'self' : undefined;
-            const form = own ? (word) => machine.order(word) : (word) => this.described(word, machine);
+            const form = own ? (word) => writtenFor(kind, machine.order(word)) : (word) => this.described(word, machine, kind);
             said.push(this.say(`did.${own || 'word'}`, { place, old: form(old), now: form(now) }));
         }
         for (let pair = 0; pair < 512; pair++) {
@@ -199,5 +203,5 @@ function labelsOf(rows, letter, kind, items) {
 }
 
 if (typeof module !== 'undefined') {
-    module.exports = { Words, signAt, lineAt, hintFor, figuresOf, figuresOf1, labelsOf };
+    module.exports = { Words, writtenFor, signAt, lineAt, hintFor, figuresOf, figuresOf1, labelsOf };
 }
