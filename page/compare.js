@@ -7,7 +7,7 @@ const path = require('path');
 const { spawnSync } = require('child_process');
 const { Machine, NO_CODE } = require('./machine.js');
 const { Way } = require('./way.js');
-const { figuresOf, figuresOf1 } = require('./words.js');
+const { figuresOf } = require('./words.js');
 
 const [file, edsac, folder] = process.argv.slice(2);
 const machine = new Machine(new WebAssembly.Module(fs.readFileSync(file)));
@@ -119,8 +119,9 @@ function comparePostMortem(name, text, way, count) {
 // The items of a tape, beside what the program's check says of it, and beside the store at its entry: the last word that was
 // placed at a location stands there, and the rows of the items follow one another.
 function compareItems(name, text) {
+    const isFirst = text.kind === 'tape1';
     const tape = text.kind === 'source' ? new TextDecoder().decode(machine.punched(text).out) : text.text;
-    const told = program(['check-tape', ...storeOf(text.small)], tape);
+    const told = program(isFirst ? ['check-tape1'] : ['check-tape', ...storeOf(text.small)], tape);
     const found = machine.items(text);
     same(`${name}: status of the items`, found.status, told.status);
     same(`${name}: note of the items`, found.note, told.note);
@@ -130,16 +131,19 @@ function compareItems(name, text) {
     if (entry === undefined) {
         return;
     }
-    const shown = machine.picture(text, Number(orders));
+    const way = new Way(machine, text, machine.rows(text).out);
+    const shown = way.at(Number(orders));
     same(`${name}: rows of the items`, found.items.at(-1).after, Number(rows));
-    same(`${name}: the entry item places nothing`, found.items.at(-1).location, undefined);
     same(`${name}: counter at the entry`, shown.counter, Number(entry));
+    same(`${name}: rows left at the entry`, shown.rowsLeft, way.rows.length - Number(rows));
+    same(`${name}: only the entry item places nothing there`, found.items.at(-1).location, isFirst ? Number(31 + found.items.length - 1) : undefined);
     const placed = new Map(found.items.map(({ location, word }) => [location, word]));
     placed.delete(undefined);
-    for (const [location, word] of placed) {
-        same(`${name}: place ${location} at the entry`, shown.words[location], word);
-        landed++;
+    const first = isFirst ? 31 : 44;
+    for (let location = first; location < 1024; location++) {
+        same(`${name}: place ${location} at the entry`, shown.words[location], placed.get(location) || 0);
     }
+    landed += placed.size;
 }
 
 // Which rows the loader itself reads as digits, by its order at 9, or at 11 in May 1949, beside those that the page labels
@@ -147,9 +151,9 @@ function compareItems(name, text) {
 function compareFigures(name, text) {
     const rows = machine.rows(text).out;
     const isFirst = text.kind === 'tape1', places = isFirst ? 31 : 41, reads = isFirst ? 11 : 9;
-    const { items } = isFirst ? { items: [] } : machine.items(text);
-    const labelled = isFirst ? figuresOf1(rows) : figuresOf(rows, items);
-    const end = isFirst ? rows.length : items.length ? items.at(-1).after : 0; // beyond a fault no row is labelled
+    const { status, items } = machine.items(text);
+    const labelled = figuresOf(rows, items);
+    const end = status === 0 ? rows.length : items.length ? items.at(-1).after : 0; // beyond a fault no row is labelled
     let before = machine.picture(text, 0);
     for (let orders = 1; orders < 1500 && before.words && before.ending === 'limit' && before.counter < places; orders++) {
         const shown = machine.picture(text, orders);
@@ -290,37 +294,11 @@ function compareAll(name, text, furthest) {
         compareStates(name, text, counts);
     }
     compareGoing(name, text, counts);
-    if (text.kind === 'tape1') {
-        compareEntry1(name, text);
-    } else {
-        compareItems(name, text);
+    compareItems(name, text);
+    if (text.kind !== 'tape1') { // the program has no post-mortem of such a tape
         const way = new Way(machine, text, machine.rows(text).out);
         counts.slice(-2).forEach((count) => comparePostMortem(name, text, way, count));
     }
-}
-
-// The words of a tape of May 1949 at its entry, of which the program's check says after how many orders it comes: each item
-// of the tape stands in its place, from 31 on, as it is written.
-function compareEntry1(name, text) {
-    const told = program(['check-tape1'], text.text);
-    const [, orders, rows] = told.out.match(/^entry 31 after (\d+) orders, (\d+) rows/) || [];
-    if (orders === undefined) {
-        return;
-    }
-    const way = new Way(machine, text, machine.rows(text).out);
-    const shown = way.at(Number(orders));
-    same(`${name}: counter at the entry`, shown.counter, 31);
-    same(`${name}: rows at the entry`, shown.rowsLeft, way.rows.length - Number(rows));
-    const tape = text.text.replace(/\[[^\]]*\]/g, '').replace(/\s/g, '');
-    const items = tape.match(/\D\d*[SL]/g).slice(0, 1024);
-    const count = Number(items[0].slice(1, -1)) - 31;
-    items.slice(0, count).forEach((item, k) => {
-        const number = Number(item.slice(1, -1));
-        const word = (4096 * LETTERS.indexOf(item[0]) + 2 * number + (item.endsWith('L') ? 1 : 0)) % 131072;
-        same(`${name}: place ${31 + k} at the entry`, shown.words[31 + k], word);
-        landed++;
-    });
-    same(`${name}: places after the last word`, shown.words.slice(31 + count).some((word) => word !== 0), false);
 }
 
 // What every word means, beside its text as an order.

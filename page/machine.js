@@ -106,7 +106,8 @@ class Machine {
     items(program) {
         const text = program.kind === 'source' ? new TextDecoder().decode(this.punched(program).out) : program.text;
         const [at, length] = this.put(text);
-        const status = this.call('page_items', at, length, program.small ? 1 : 0, 'items', 'note', 'lengths');
+        const status = program.kind === 'tape1' ? this.call('page_items1', at, length, 'items', 'note', 'lengths')
+            : this.call('page_items', at, length, program.small ? 1 : 0, 'items', 'note', 'lengths');
         const isTold = status === 0 || status === 3;
         const count = isTold ? Number(this.numbers('lengths', BigUint64Array)[0]) / 16 : 0;
         const numbers = this.numbers('items', Uint32Array, 4 * count);

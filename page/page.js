@@ -85,7 +85,7 @@ function begin() {
     let told;
     try {
         told = page.machine.rows(page.program);
-        page.items = page.program.kind === 'tape1' ? [] : page.machine.items(page.program).items;
+        page.items = page.machine.items(page.program).items;
         page.way = new Way(page.machine, page.program, told.out);
     } catch (fault) {
         page.fault = faultOf(fault);
@@ -93,7 +93,7 @@ function begin() {
         page.items = [];
     }
     page.rows = told.out;
-    page.labels = labelsOf(page.rows, (code) => page.letters[code], page.program.kind, page.items);
+    page.labels = labelsOf(page.rows, (code) => page.letters[code], page.items);
     tellRefusal(told);
     look(0);
     drawListing();

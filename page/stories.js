@@ -164,29 +164,23 @@ class Tour {
         const first = page.rows.length - from.rowsLeft, last = page.rows.length - to.rowsLeft;
         const item = page.labels.slice(first, last).join('');
         const found = page.items.find((one) => one.first === first);
-        const isIn = to.counter < placesOf(page.program.kind);
-        if (page.program.kind === 'tape1') {
-            return this.itemOf1(item, from, to);
-        }
         if (found && found.location !== undefined) {
-            const order = orderText(found.word);
-            return [order === item ? 'told.stored' : 'told.landed', { item, order, place: found.location }];
+            return this.placedItem(item, found);
         }
-        if (!isIn) {
+        if (to.counter >= placesOf(page.program.kind)) {
             return ['told.enter', { item }];
         }
         return /^T\d+K$/.test(item) ? ['told.from', { item, place: item.slice(1, -1) }]
             : item === 'GK' ? ['told.theta', { item, place: addressOf(to.words[42]) }] : ['told.control', { item }];
     }
 
-    // The same of a tape of May 1949.
-    itemOf1(item, from, to) {
-        const places = changedPlaces(from, to).filter((place) => place >= FIRST_LOADER);
-        if (places.length === 1) {
-            return places[0] === FIRST_LOADER ? ['told.first1', { item, place: item.slice(1, -1) - 1 }]
-                : ['told.stored', { item, place: places[0] }];
+    // What is said of an item that places a word. The first of May 1949 names the place after the last word.
+    placedItem(item, { first, location, word }) {
+        if (first === 0 && page.program.kind === 'tape1') {
+            return ['told.first1', { item, place: addressOf(word) - 1 }];
         }
-        return [to.counter < FIRST_LOADER ? 'told.control' : 'told.enter', { item }];
+        const order = orderText(word);
+        return [order === item ? 'told.stored' : 'told.landed', { item, order, place: location }];
     }
 
     // The first orders slowly, the others in time.

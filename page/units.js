@@ -4,7 +4,7 @@
 //   node page/units.js
 const fs = require('fs');
 const path = require('path');
-const { Words, writtenFor, signAt, lineAt, hintFor, figuresOf, figuresOf1 } = require('./words.js');
+const { Words, writtenFor, signAt, lineAt, hintFor, figuresOf } = require('./words.js');
 const { packed, unpacked, formOf, kindOf } = require('./share.js');
 const { printable, tapeOf } = require('./stories.js');
 const { sumOf, seenOf } = require('./lessons.js');
@@ -161,9 +161,6 @@ same('the figures of a tape', figured('T64KGKO2@', 4, 6, 9), '-99---' + '-9-');
 same('what follows the entry is not the loader\'s', figured('E64KPF12F', 4, 6), '-99-' + '--' + '---');
 same('a function and a mark are no figures', figured('1#F12', 3), '-----');
 same('no figure without an item', figured('12'), '--');
-const figured1 = (text) => figuresOf1(codes(text)).map((is) => (is ? '9' : '-')).join('');
-same('the figures of a tape of May 1949', figured1('T34SO33SZSPS12'), '-99--99-------');
-same('what follows its last word is not the loader\'s', figured1('T33SZS12S'), '-99------');
 same('blank tape has no hole, erase has five', ['.', '*'].map((sign) => punchedOf(LETTERS.indexOf(sign))), [0, 31]);
 same(
     'names that the teleprinter can print',

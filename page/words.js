@@ -180,28 +180,12 @@ function figuresOf(rows, items) {
     return isFigure;
 }
 
-// Which rows of a tape the loader of May 1949 reads as figures. Each item is a function, then digits up to a row of 10 and
-// more, which ends it. The first item goes to place 31, and its number is one more than the place of the last.
-function figuresOf1(rows) {
-    const isFigure = new Array(rows.length).fill(false);
-    for (let at = 0, place = FIRST_LOADER, end = FIRST_LOADER + 1; at < rows.length && place < end; place++) {
-        let number = 0;
-        for (at++; at < rows.length && rows[at] < 10; at++) {
-            isFigure[at] = true;
-            number = 10 * number + rows[at];
-        }
-        at++;
-        end = place === FIRST_LOADER ? number : end;
-    }
-    return isFigure;
-}
-
 // What stands beside each row of a tape.
-function labelsOf(rows, letter, kind, items) {
-    const isFigure = kind === 'tape1' ? figuresOf1(rows) : figuresOf(rows, items);
+function labelsOf(rows, letter, items) {
+    const isFigure = figuresOf(rows, items);
     return Array.from(rows, (row, at) => (isFigure[at] ? String(row) : letter(row)));
 }
 
 if (typeof module !== 'undefined') {
-    module.exports = { Words, writtenFor, signAt, lineAt, hintFor, figuresOf, figuresOf1, labelsOf };
+    module.exports = { Words, writtenFor, signAt, lineAt, hintFor, figuresOf, labelsOf };
 }

@@ -148,12 +148,12 @@ module _ {words : List ℕ} {note : Note} {n : Notation} (o : IsNoteOver words n
 -- ---- the rows of an item
 
 -- digits only make a number larger
-larger : (n : ℕ) (ds : List ℕ) → n ≤ digits_number n ds
+pub larger : (n : ℕ) (ds : List ℕ) → n ≤ digits_number n ds
 larger n [] = omega arith
 larger n (d ∷ ds) = let more = larger (10 * n + d) ds in omega (arith, more)
 
 -- an item with another number
-abbrev with_number : OpenItem → ℕ → OpenItem
+abbrev pub with_number : OpenItem → ℕ → OpenItem
 with_number p number = record p { number = number }
 
 -- one digit row

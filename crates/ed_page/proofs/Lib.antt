@@ -9,3 +9,4 @@ mod GoneOn
 mod RowCodes
 mod Stores
 mod ItemRows
+mod FirstItemRows

@@ -10,6 +10,10 @@ use Rattle.ed_notation.specs.declared.kind.RowKind.TheVariants.{Letter}
 use Rattle.ed_notation.specs.Faults.{ComesTo, IsFault, TapeEntry, WellFormed}
 use Rattle.ed_notation.specs.Fold.{Note, act, address, aim_of, enters_at, item_word}
 use Rattle.ed_notation.specs.Items.{Written, item, row_kind, rows_of}
+use Rattle.ed_initial1.specs.declared.cause.Tape1Cause.{Tape1Cause}
+use Rattle.ed_initial1.specs.Faults.{Comes1, IsFault1, Tape}
+use Rattle.ed_initial1.specs.Items.{Item1, rows_of1, word1}
+use Rattle.ed_report.specs.FirstNotes.{rule1_line}
 use Rattle.ed_report.specs.Notes.{rule_line}
 use Rattle.ed_answers.specs.Answer.{Answer, of_rows}
 use Rattle.ed_answers.specs.Outcome.{Outcome, done}
@@ -89,3 +93,34 @@ AreItemsTold z codes o = OfEnteredTape z codes o ⊎ OfFaultyTape z codes o
 -- what is told of the items of a tape's text; a text that spells no rows is refused
 abbrev pub items_answer : Size → Answer
 items_answer z = of_rows (AreItemsTold z)
+
+-- ---- tapes of May 1949
+
+-- the table of items of such a tape, of which the first begins at a row and goes to a location
+unfoldable pub item_table1 : (row location : ℕ) → List Item1 → List ℕ
+item_table1 row location [] = []
+item_table1 row location (i ∷ is) =
+    item_line row (row + length (rows_of1 i)) (Some (location, word1 i))
+    ++ item_table1 (row + length (rows_of1 i)) (location + 1) is
+
+-- of a tape without a fault: its items, which go to 31 and on
+pub record OfWholeTape1 (codes : List ℕ) (o : Outcome) : Type 0 where
+  pub tape : Tape
+  pub comes : Comes1 codes tape
+  pub outcome : done (item_table1 0 31 tape.items) ≡ o
+
+-- of a tape with a fault: the items before it, and the line of the fault
+pub record OfFaultyTape1 (codes : List ℕ) (o : Outcome) : Type 0 where
+  pub row : ℕ
+  pub cause : Tape1Cause
+  pub fault : IsFault1 codes row cause
+  pub outcome : ◌≡◌ {A = Outcome}
+      (record { out = item_table1 0 31 fault.is.stands.before; note = rule1_line row cause; status = 3 }) o
+
+-- of either
+abbrev pub AreItemsTold1 : List ℕ → Outcome → Type 0
+AreItemsTold1 codes o = OfWholeTape1 codes o ⊎ OfFaultyTape1 codes o
+
+-- what is told of the items of such a tape's text
+abbrev pub items1_answer : Answer
+items1_answer = of_rows AreItemsTold1

@@ -169,7 +169,7 @@ fn push_line(
 
 /// Adds four numbers to a table.
 #[tactic(auto, using(std::proofs::Common::append_assoc))]
-fn push_numbers(
+pub fn push_numbers(
     table: &mut Vec<u8>,
     first: u32,
     after: u32,
@@ -205,7 +205,7 @@ fn push_byte(table: &mut Vec<u8>, byte: u8) -> Result<(), NoMemory>
 
 impl OpenItem {
     /// The item that a function row begins.
-    fn at(row: u32, function: Code) -> OpenItem
+    pub fn at(row: u32, function: Code) -> OpenItem
         ensures { result ≡ item_at row function }
     {
         OpenItem {
@@ -231,7 +231,7 @@ impl OpenItem {
     }
 
     /// The item with one more digit; a number that is too large stays.
-    fn with_digit(self, digit: u8) -> OpenItem
+    pub fn with_digit(self, digit: u8) -> OpenItem
         requires number { self.number ≤ 327679 }
         requires digit { digit < 10 }
         ensures is { result ≡ with_row Digit self digit }
@@ -248,7 +248,7 @@ impl OpenItem {
     }
 
     /// The number of the function and the address, as K and Z take them.
-    fn sum(&self) -> u64
+    pub fn sum(&self) -> u64
         requires { self.now.number ≤ 327679 }
         ensures is { result ≡ 4096 * self.now.function + 2 * self.now.number }
         ensures fits { result ≤ 2 ^ 20 }

@@ -6,6 +6,7 @@
 //! answers, and on `ed_run` and `ed_report`.
 #![tactic(auto)]
 
+mod first_items;
 mod going;
 mod items;
 mod meanings;
@@ -19,6 +20,7 @@ mod texts;
 mod told;
 mod writing;
 
+pub use first_items::page_items1;
 pub use going::page_go_on;
 pub use items::page_items;
 pub use meanings::{Meaning, page_meaning};

@@ -1,5 +1,6 @@
 -- The plain program that reads rows into the table of items, from a state of the notation over one store.
-use Rattle.std.specs.Prelude.{◌≡◌, ℕ, ◌+◌, ◌*◌, ◌^◌, ◌≤◌, Bool, true, false, Option, Some, None, List, [], ◌∷◌, ◌++◌, if◌then◌else◌, nat_lt}
+use Rattle.std.specs.Prelude.{◌≡◌, ℕ, ◌+◌, ◌*◌, ◌^◌, ◌%◌, ◌≤◌, Bool, true, false, Option, Some, None, List, [], ◌∷◌, ◌++◌, if◌then◌else◌, nat_eq, nat_lt}
+use Rattle.ed_words.specs.Words.{digit}
 use Rattle.ed_store.specs.Cells.{Cells, with_short}
 use Rattle.ed_notation.specs.declared.item.Item.{Item}
 use Rattle.ed_notation.specs.declared.kind.RowKind.{RowKind}
@@ -72,4 +73,19 @@ table_on row n (Some p) (c ∷ rows) =
       | true ↦ item_line p.first (row + 1) (placing_over n (whole_item p c))
           ++ table_on (row + 1) (notation_after n (whole_item p c)) None rows
       | false ↦ table_on (row + 1) n (Some (with_row (row_kind c) p c)) rows
+    ]
+
+-- the word of an item of May 1949 that a row ends, L a long one
+abbrev pub first_word : OpenItem → ℕ → ℕ
+first_word p c = (4096 * p.function + 2 * p.number + digit (nat_eq c 25)) % 2 ^ 17
+
+-- the table of the items of May 1949 that rows spell from a row on, of which the next goes to a location
+unfoldable pub table_on1 : (row location : ℕ) → Option OpenItem → List ℕ → List ℕ
+table_on1 row location part [] = []
+table_on1 row location None (f ∷ rows) = table_on1 (row + 1) location (Some (item_at row f)) rows
+table_on1 row location (Some p) (c ∷ rows) =
+    elim (nat_lt c 10) [
+      | true ↦ table_on1 (row + 1) location (Some (with_row Digit p c)) rows
+      | false ↦ item_line p.first (row + 1) (Some (location, first_word p c))
+          ++ table_on1 (row + 1) (location + 1) None rows
     ]

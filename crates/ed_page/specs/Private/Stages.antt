@@ -13,7 +13,7 @@ use Rattle.ed_answers.specs.declared.reply.Rejection.TheVariants.{Memory, Refuse
 use Rattle.ed_answers.specs.declared.reply.Reply.{Reply}
 use Rattle.ed_page.specs.Answers.{Buffers, HasItsCause, HasPictureRoom, HasBufferRoom, ShowsNone, Tells, TextBuffers}
 use Rattle.ed_page.specs.Pictures.{Pictures}
-use Rattle.ed_page.specs.TapeItems.{AreItemsTold}
+use Rattle.ed_page.specs.TapeItems.{AreItemsTold, AreItemsTold1}
 use Rattle.ed_page.specs.declared.going.Gone.{Gone}
 use Rattle.ed_page.specs.declared.running.Shown.{Shown}
 use Rattle.ed_page.specs.declared.told.Told.{Told}
@@ -92,3 +92,8 @@ pub record IsGone (r : RunEnd) (gone : Gone) : Type 0 where
 abbrev pub AreToldOf : Size → List ℕ → Result Told NoMemory → Type 0
 AreToldOf z codes (Ok told) = (o : Outcome) × AreItemsTold z codes o × TellsOutcome told o
 AreToldOf z codes (Err e) = Unit {0}
+
+-- and of rows of May 1949
+abbrev pub AreToldOf1 : List ℕ → Result Told NoMemory → Type 0
+AreToldOf1 codes (Ok told) = (o : Outcome) × AreItemsTold1 codes o × TellsOutcome told o
+AreToldOf1 codes (Err e) = Unit {0}
