@@ -16,7 +16,7 @@ use Rattle.ed_initial1.specs.Items.{AreItems, Begun1, IsBegun1, Item1, ending_ro
 use Rattle.ed_report.specs.FirstNotes.{rule1_line}
 use Rattle.ed_answers.specs.Outcome.{Outcome, done}
 use Rattle.ed_page.specs.TapeItems.{item_line, item_table1}
-use Rattle.ed_page.specs.Private.ItemTables.{first_word, item_at, table_on1, with_row}
+use Rattle.ed_page.specs.Private.ItemTables.{first_word, item_at, table_on1, opened_with}
 use Rattle.ed_page.specs.Private.Stages.{AreToldOf1, TellsOutcome}
 use Rattle.ed_page.specs.declared.items.OpenItem.{OpenItem}
 use Rattle.ed_page.specs.declared.told.Told.{Told}
@@ -26,7 +26,7 @@ use Rattle.ed_page.proofs.ItemRows.{IsOpen, larger, with_number}
 
 -- a digit row
 digit_row1 : (row location : ℕ) (p : OpenItem) (d : ℕ) (more : List ℕ) → nat_lt d 10 ≡ true
-    → table_on1 row location (Some p) (d ∷ more) ≡ table_on1 (row + 1) location (Some (with_row Digit p d)) more
+    → table_on1 row location (Some p) (d ∷ more) ≡ table_on1 (row + 1) location (Some (opened_with Digit p d)) more
 unfolding table_on1
 digit_row1 row location p d more is = rw (is, table_on1) refl
 
@@ -164,7 +164,7 @@ module _ {row location c : ℕ} {table rows : List ℕ} where
 
   module _ {p : OpenItem} (t : IsTabled1 row location (Some p) table rows) (low : row < length rows)
       (e : c ≡ get_or rows row c) where
-    pub tabled_digit1 : c < 10 → {q : OpenItem} → q ≡ with_row Digit p c → q.number ≤ 327679
+    pub tabled_digit1 : c < 10 → {q : OpenItem} → q ≡ opened_with Digit p c → q.number ≤ 327679
         → IsTabled1 (row + 1) location (Some q) table rows
     tabled_digit1 is {q} same few = record {
       whole = ap (λ x. table ++ table_on1 (row + 1) location (Some x) (drop (row + 1) rows)) same

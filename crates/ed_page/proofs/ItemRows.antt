@@ -32,7 +32,7 @@ use Rattle.ed_notation.specs.Items.{row_kind, rows_of, spelled}
 use Rattle.ed_notation.specs.Spellings.{AreWritten}
 use Rattle.ed_page.specs.TapeItems.{PlacingLaw, item_line, item_table, placing, placing_by, tape_table, with_placing}
 use Rattle.ed_page.specs.Private.ItemTables.{IsSetBelow, cells_with, is_last_row, item_at, notation_after, note_over, placing_over}
-use Rattle.ed_page.specs.Private.ItemTables.{table_on, whole_item, with_row}
+use Rattle.ed_page.specs.Private.ItemTables.{table_on, whole_item, opened_with}
 use Rattle.ed_page.specs.declared.items.Notation.{Notation}
 use Rattle.ed_page.specs.declared.items.OpenItem.{OpenItem}
 use Rattle.ed_page.specs.declared.told.Told.{Told}
@@ -172,7 +172,7 @@ digit_row row n p d more low few = ap by_kind kind ∙ ap (λ (m : ℕ). table_o
     by_kind k = elim (is_last_row k) [
       | true ↦ item_line p.first (row + 1) (placing_over n (whole_item p d))
           ++ table_on (row + 1) (notation_after n (whole_item p d)) None more
-      | false ↦ table_on (row + 1) n (Some (with_row k p d)) more
+      | false ↦ table_on (row + 1) n (Some (opened_with k p d)) more
     ]
 
 -- digit rows, one after the other
@@ -382,7 +382,7 @@ tabled_first rows none cleared = record {
 
 -- a row that does not end its item
 other_row : (row : ℕ) (n : Notation) (p : OpenItem) (c : ℕ) (more : List ℕ) → is_last_row (row_kind c) ≡ false
-    → table_on row n (Some p) (c ∷ more) ≡ table_on (row + 1) n (Some (with_row (row_kind c) p c)) more
+    → table_on row n (Some p) (c ∷ more) ≡ table_on (row + 1) n (Some (opened_with (row_kind c) p c)) more
 unfolding table_on
 other_row row n p c more is = rw (is, table_on) refl
 
@@ -399,7 +399,7 @@ module _ {row c : ℕ} {n : Notation} {table rows : List ℕ} where
 
   module _ {p : OpenItem} (t : IsTabled row n (Some p) table rows) (low : row < length rows)
       (e : c ≡ get_or rows row c) where
-    pub tabled_longer : is_last_row (row_kind c) ≡ false → {q : OpenItem} → q ≡ with_row (row_kind c) p c
+    pub tabled_longer : is_last_row (row_kind c) ≡ false → {q : OpenItem} → q ≡ opened_with (row_kind c) p c
         → q.number ≤ 327679 → IsTabled (row + 1) n (Some q) table rows
     tabled_longer is {q} same few = record {
       whole = ap (λ x. table ++ table_on (row + 1) n (Some x) (drop (row + 1) rows)) same

@@ -8,7 +8,7 @@ ghost use Rattle.ed_notation.specs.declared.kind.RowKind.TheVariants.{Digit};
 ghost use Rattle.ed_page.specs.Answers.{IsTextTold, text_buffers};
 ghost use Rattle.ed_page.specs.Pictures.{size_shown};
 ghost use Rattle.ed_page.specs.Private.ItemTables.{IsSetAs, IsSetBelow, is_last_row, item_at, notation_after, note_over};
-ghost use Rattle.ed_page.specs.Private.ItemTables.{placing_over, table_on, whole_item, with_row};
+ghost use Rattle.ed_page.specs.Private.ItemTables.{placing_over, table_on, whole_item, opened_with};
 ghost use Rattle.ed_page.specs.Private.Stages.{AreToldOf, IsAnswered};
 ghost use Rattle.ed_page.specs.TapeItems.{PlacingLaw, four_bytes, four_numbers, item_line, items_answer};
 
@@ -219,7 +219,7 @@ impl OpenItem {
     /// The item with one more row that does not end it.
     fn with_row(self, row: Code) -> OpenItem
         requires { self.number ≤ 327679 }
-        ensures is { result ≡ with_row (row_kind row) self row }
+        ensures is { result ≡ opened_with (row_kind row) self row }
         ensures fits { result.number ≤ 327679 }
     {
         let code = row.value();
@@ -234,7 +234,7 @@ impl OpenItem {
     pub fn with_digit(self, digit: u8) -> OpenItem
         requires number { self.number ≤ 327679 }
         requires digit { digit < 10 }
-        ensures is { result ≡ with_row Digit self digit }
+        ensures is { result ≡ opened_with Digit self digit }
         ensures fits { result.number ≤ 327679 }
     {
         if 32767 < self.number {

@@ -4,7 +4,7 @@ ghost use Rattle.std.specs.Prelude.{◌≡◌, ◌↔◌, ◌<◌, ◌≤◌, �
 ghost use Rattle.ed_words.specs.Signed.{signed};
 ghost use Rattle.ed_words.specs.Words.{digit, function_of};
 ghost use Rattle.ed_orders.specs.Kinds.{kind_of_function};
-ghost use Rattle.ed_page.specs.Meanings.{IsMeaning, letter_shown, names_location, shift_shown};
+ghost use Rattle.ed_page.specs.Meanings.{IsMeaning, letter_shown, names_shown, shift_shown};
 ghost use Rattle.ed_page.specs.Pictures.{size_shown};
 
 use crate::running::size_of;
@@ -97,7 +97,7 @@ fn letter_of(kind: Option<Kind>) -> u8
 
 /// Whether an order names a location.
 fn names_location(kind: Option<Kind>) -> bool
-    ensures { result ≡ names_location kind }
+    ensures { digit result ≡ names_shown kind }
 {
     match kind {
         None | Some(Kind::R | Kind::L | Kind::X | Kind::Y | Kind::Z) => false,

@@ -16,9 +16,9 @@ abbrev pub item_at : (row function : ℕ) → OpenItem
 item_at row f = record { first = row; function = f; number = 0; mark = false }
 
 -- an item with one more row that does not end it; a number that is too large stays
-abbrev pub with_row : RowKind → OpenItem → ℕ → OpenItem
-with_row Digit p c = record p { number = if nat_lt 32767 p.number then p.number else 10 * p.number + c }
-with_row kind p c = record p { mark = true }
+abbrev pub opened_with : RowKind → OpenItem → ℕ → OpenItem
+opened_with Digit p c = record p { number = if nat_lt 32767 p.number then p.number else 10 * p.number + c }
+opened_with kind p c = record p { mark = true }
 
 -- whether a row of this kind ends an item
 abbrev pub is_last_row : RowKind → Bool
@@ -72,7 +72,7 @@ table_on row n (Some p) (c ∷ rows) =
     elim (is_last_row (row_kind c)) [
       | true ↦ item_line p.first (row + 1) (placing_over n (whole_item p c))
           ++ table_on (row + 1) (notation_after n (whole_item p c)) None rows
-      | false ↦ table_on (row + 1) n (Some (with_row (row_kind c) p c)) rows
+      | false ↦ table_on (row + 1) n (Some (opened_with (row_kind c) p c)) rows
     ]
 
 -- the word of an item of May 1949 that a row ends, L a long one
@@ -85,7 +85,7 @@ table_on1 row location part [] = []
 table_on1 row location None (f ∷ rows) = table_on1 (row + 1) location (Some (item_at row f)) rows
 table_on1 row location (Some p) (c ∷ rows) =
     elim (nat_lt c 10) [
-      | true ↦ table_on1 (row + 1) location (Some (with_row Digit p c)) rows
+      | true ↦ table_on1 (row + 1) location (Some (opened_with Digit p c)) rows
       | false ↦ item_line p.first (row + 1) (Some (location, first_word p c))
           ++ table_on1 (row + 1) (location + 1) None rows
     ]
