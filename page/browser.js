@@ -9,6 +9,10 @@ class Browser {
     constructor(command, page, folder) {
         Object.assign(this, { page: `file://${path.resolve(page)}`, folder, wrong: 0, requested: [], said: [] });
         Object.assign(this, { waiting: new Map(), count: 0, rest: '' });
+        this.start(command);
+    }
+
+    start(command) {
         this.profile = fs.mkdtempSync(path.join(os.tmpdir(), 'page-'));
         const flags = ['headless', 'no-sandbox', 'disable-gpu', 'disable-dev-shm-usage', 'mute-audio', 'lang=en-GB',
             'remote-debugging-pipe', 'window-size=1280,1000', `user-data-dir=${this.profile}`].map((flag) => `--${flag}`);

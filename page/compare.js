@@ -7,12 +7,12 @@ const path = require('path');
 const { spawnSync } = require('child_process');
 const { Machine, NO_CODE } = require('./machine.js');
 const { Way } = require('./way.js');
-const { figuresOf, figuresOf1 } = require('./words.js');
+const { figuresOf } = require('./words.js');
 
 const [file, edsac, folder] = process.argv.slice(2);
 const machine = new Machine(new WebAssembly.Module(fs.readFileSync(file)));
 const seen = new Map();
-let pictures = 0, gone = 0, small = 0, figures = 0, wrong = 0;
+let pictures = 0, gone = 0, small = 0, figures = 0, landed = 0, printed = 0, wrong = 0;
 
 function program(words, input) {
     const ran = spawnSync(edsac, words, { input, maxBuffer: 1 << 26 });
@@ -99,17 +99,69 @@ function compareSmall(name, text, counts) {
     }
 }
 
+// A post-mortem of the picture after a count of orders, beside the program's after the same run.
+function comparePostMortem(name, text, way, count) {
+    const last = text.small ? 512 : 1024;
+    const shown = way.at(count);
+    for (const [first, words] of [[144, last - 144], [200 + (count % 100), 9]]) {
+        const told = program([COMMANDS[text.kind], '--limit', String(count), '--post-mortem', `${first},${words}`, ...storeOf(text.small)], text.text);
+        const found = machine.postMortem(way, shown, first, words);
+        same(`${name} after ${count}: post-mortem of ${first}`, `${way.text(0, shown.printed)}${found.text}`, told.out);
+        same(`${name} after ${count}: post-mortem of ${first}: status`, found.status, 0);
+        printed++;
+    }
+    for (const [first, words] of [[143, 1], [last, 1], [144, last - 143], [0, 0], [70000, 1]]) {
+        same(`${name} after ${count}: no post-mortem of ${first}`, machine.postMortem(way, shown, first, words).status, 3);
+    }
+    same(`${name} after ${count}: blocks in use after a post-mortem`, Number(machine.exports.blocks()), 0);
+}
+
+// The items of a tape, beside what the program's check says of it, and beside the store at its entry: the last word that was
+// placed at a location stands there, and the rows of the items follow one another.
+function compareItems(name, text) {
+    const isFirst = text.kind === 'tape1';
+    const tape = text.kind === 'source' ? new TextDecoder().decode(machine.punched(text).out) : text.text;
+    const told = program(isFirst ? ['check-tape1'] : ['check-tape', ...storeOf(text.small)], tape);
+    const found = machine.items(text);
+    same(`${name}: status of the items`, found.status, told.status);
+    same(`${name}: note of the items`, found.note, told.note);
+    same(`${name}: blocks in use after the items`, Number(machine.exports.blocks()), 0);
+    same(`${name}: items follow`, found.items.every(({ first }, k) => first === (k ? found.items[k - 1].after : 0)), true);
+    const [, entry, orders, rows] = told.out.match(/^entry (\d+) after (\d+) orders, (\d+) rows/) || [];
+    if (entry === undefined) {
+        return;
+    }
+    const way = new Way(machine, text, machine.rows(text).out);
+    const shown = way.at(Number(orders));
+    same(`${name}: rows of the items`, found.items.at(-1).after, Number(rows));
+    same(`${name}: counter at the entry`, shown.counter, Number(entry));
+    same(`${name}: rows left at the entry`, shown.rowsLeft, way.rows.length - Number(rows));
+    same(`${name}: only the entry item places nothing there`, found.items.at(-1).location, isFirst ? Number(31 + found.items.length - 1) : undefined);
+    const placed = new Map(found.items.map(({ location, word }) => [location, word]));
+    placed.delete(undefined);
+    const first = isFirst ? 31 : 44;
+    for (let location = first; location < 1024; location++) {
+        same(`${name}: place ${location} at the entry`, shown.words[location], placed.get(location) || 0);
+    }
+    landed += placed.size;
+}
+
 // Which rows the loader itself reads as digits, by its order at 9, or at 11 in May 1949, beside those that the page labels
 // as figures.
 function compareFigures(name, text) {
     const rows = machine.rows(text).out;
     const isFirst = text.kind === 'tape1', places = isFirst ? 31 : 41, reads = isFirst ? 11 : 9;
-    const labelled = isFirst ? figuresOf1(rows) : figuresOf(rows, (code) => machine.letter(code));
+    const { status, items } = machine.items(text);
+    const labelled = figuresOf(rows, items);
+    const end = status === 0 ? rows.length : items.length ? items.at(-1).after : 0; // beyond a fault no row is labelled
     let before = machine.picture(text, 0);
     for (let orders = 1; orders < 1500 && before.words && before.ending === 'limit' && before.counter < places; orders++) {
         const shown = machine.picture(text, orders);
         if (shown.rowsLeft < before.rowsLeft) {
             const at = rows.length - before.rowsLeft;
+            if (at >= end) {
+                return;
+            }
             same(`${name}: row ${at} is a figure`, labelled[at], before.counter === reads && rows[at] < 10);
             figures++;
         }
@@ -167,6 +219,9 @@ function compareTexts(name, text) {
         [...rows.out].join(' '),
         [...machine.rows({ kind: 'tape', text: punched.out }).out].join(' '),
     );
+    const tape = machine.punched(text);
+    same(`${name}: the text of its tape`, new TextDecoder().decode(tape.out), punched.out);
+    same(`${name}: note of its tape`, `${tape.status} ${tape.note}`, `${punched.status} ${punched.note}`);
     const listed = program(['listing', ...storeOf(text.small)], text.text);
     const listing = machine.listing(text);
     same(`${name}: listing`, new TextDecoder().decode(listing.out), listed.out);
@@ -239,8 +294,32 @@ function compareAll(name, text, furthest) {
         compareStates(name, text, counts);
     }
     compareGoing(name, text, counts);
+    compareItems(name, text);
+    if (text.kind !== 'tape1') { // the program has no post-mortem of such a tape
+        const way = new Way(machine, text, machine.rows(text).out);
+        counts.slice(-2).forEach((count) => comparePostMortem(name, text, way, count));
+    }
 }
 
+// What every word means, beside its text as an order.
+function compareMeanings() {
+    for (let word = 0; word < 131072; word++) {
+        const text = machine.order(word), isOrder = ORDERS.includes(text[0]), isShift = 'RL'.includes(text[0]);
+        const address = Number(text.slice(1, -1) || 0);
+        for (const small of [false, true]) {
+            const { letter, location, pair, named, isLong, shift, number } = machine.meaning(word, small);
+            const place = address % (small ? 512 : 1024);
+            const wanted = [isOrder ? text[0] : '', place, place - (place % 2), isOrder && !'RLXYZ'.includes(text[0]) ? place : undefined,
+                text.endsWith('D'), isShift ? 32 - Math.clz32(word & -word) : 0, word < 65536 ? word : word - 131072];
+            const got = [letter, location, pair, named, isLong, shift, number];
+            if (got.some((part, k) => part !== wanted[k])) {
+                same(`what ${word} means`, got, wanted);
+            }
+        }
+    }
+}
+
+compareMeanings();
 for (const name of fs.readdirSync(folder).sort()) {
     const kind = KINDS[path.extname(name)];
     if (kind) {
@@ -281,6 +360,6 @@ for (const ending of ['stopped', 'limit', 'no order', 'no tape', 'refused']) {
 }
 const endings = [...seen].map(([ending, count]) => `${ending} ${count}`).join(', ');
 console.log(`${path.basename(file)}: ${pictures} pictures compared with the program, ${gone} gone on to, ${small} post-mortems of the small store, `
-    + `${figures} rows with the loader, ${wrong} differences; endings ${endings}; `
+    + `${printed} more of either, ${figures} rows with the loader, ${landed} words of items with the store, ${wrong} differences; endings ${endings}; `
     + `the memory grew to ${machine.exports.memory.buffer.byteLength >> 20} MiB`);
 process.exit(wrong ? 1 : 0);

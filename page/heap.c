@@ -59,7 +59,7 @@ void rattle_dealloc(char *block) {
 // run continues has a room of its own, and so have the codes that it prints.
 static char text[262145], rows[524288], paper[2000000], digits[512], note[256], listing[65536], order[16];
 static char tape[524288], codes[1000000];
-static u32 words[1024];
+static u32 words[1024], items[4 * 131072], meaning[7];
 static u64 registers[9], lengths[2];
 
 static struct {
@@ -68,11 +68,11 @@ static struct {
 } rooms[] = {
     {text, sizeof text}, {rows, sizeof rows}, {words, 1024}, {digits, sizeof digits}, {paper, sizeof paper},
     {note, sizeof note}, {registers, 9}, {lengths, 2}, {listing, sizeof listing}, {order, sizeof order},
-    {tape, sizeof tape}, {codes, sizeof codes},
+    {tape, sizeof tape}, {codes, sizeof codes}, {items, sizeof items}, {meaning, 7},
 };
 
 // Where the room of a kind is: 0 text, 1 rows, 2 words, 3 digits, 4 paper, 5 note, 6 registers, 7 lengths, 8 listing,
-// 9 order, 10 tape, 11 codes.
+// 9 order, 10 tape, 11 codes, 12 items, 13 meaning.
 __attribute__((export_name("room"))) void *room(u32 kind) {
     return rooms[kind].at;
 }

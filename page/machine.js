@@ -6,7 +6,10 @@ const ENDINGS = {
     10: 'no memory', 11: 'too long', 12: 'no room',
 };
 const NO_CODE = 32; // what stands for the last printed code where nothing was printed
-const ROOMS = ['text', 'rows', 'words', 'digits', 'paper', 'note', 'registers', 'lengths', 'listing', 'order', 'tape', 'codes'];
+const NO_LOCATION = 1024; // what stands for the location of an item that places no word
+const ROOMS = ['text', 'rows', 'words', 'digits', 'paper', 'note', 'registers', 'lengths', 'listing', 'order', 'tape', 'codes', 'items', 'meaning'];
+const HIGHEST = 65535; // the largest number of 16 digits
+const ONE = ['registers', 'lengths', 'meaning']; // rooms of one record: a call takes the address alone
 
 // Whether this browser has memories of 64-bit addresses: a module with such a memory and nothing else is valid.
 function hasWideMemories() {
@@ -22,6 +25,7 @@ class Machine {
     begin() {
         this.exports = new WebAssembly.Instance(this.module, {}).exports;
         this.orders = new Map();
+        this.meanings = new Map();
         this.mounted = undefined; // the rows in the room of the tape
         this.rooms = {};
         ROOMS.forEach((name, kind) => {
@@ -35,8 +39,8 @@ class Machine {
     }
 
     // A list of numbers in a room.
-    numbers(name, Numbers) {
-        return new Numbers(this.exports.memory.buffer, Number(this.rooms[name].at), Number(this.rooms[name].items));
+    numbers(name, Numbers, count = Number(this.rooms[name].items)) {
+        return new Numbers(this.exports.memory.buffer, Number(this.rooms[name].at), count);
     }
 
     // A call of the compiled code, with rooms by their names, each of them an address and a length.
@@ -46,7 +50,7 @@ class Machine {
                 return [word];
             }
             const { at, items } = this.rooms[word];
-            return word === 'registers' || word === 'lengths' ? [at] : [at, items];
+            return ONE.includes(word) ? [at] : [at, items];
         });
         try {
             return this.exports[name](...words);
@@ -89,6 +93,44 @@ class Machine {
         const [at, length] = this.put(program.text);
         const status = this.call('page_listing', at, length, program.small ? 1 : 0, 'listing', 'note', 'lengths');
         return this.told(status, 'listing');
+    }
+
+    // The text of a source's tape.
+    punched(program) {
+        const [at, length] = this.put(program.text);
+        const status = this.call('page_punch', at, length, program.small ? 1 : 0, 'paper', 'note', 'lengths');
+        return this.told(status, 'paper');
+    }
+
+    // The items of a tape up to its entry, or up to its fault: the rows of each, and the word that it places.
+    items(program) {
+        const text = program.kind === 'source' ? new TextDecoder().decode(this.punched(program).out) : program.text;
+        const [at, length] = this.put(text);
+        const status = program.kind === 'tape1' ? this.call('page_items1', at, length, 'items', 'note', 'lengths')
+            : this.call('page_items', at, length, program.small ? 1 : 0, 'items', 'note', 'lengths');
+        const isTold = status === 0 || status === 3;
+        const count = isTold ? Number(this.numbers('lengths', BigUint64Array)[0]) / 16 : 0;
+        const numbers = this.numbers('items', Uint32Array, 4 * count);
+        const items = Array.from({ length: count }, (_, k) => {
+            const [first, after, location, word] = numbers.subarray(4 * k, 4 * k + 4);
+            return { first, after, location: location < NO_LOCATION ? location : undefined, word };
+        });
+        return { status, items, note: isTold ? this.text('note', Number(this.numbers('lengths', BigUint64Array)[1])) : '' };
+    }
+
+    // What a word means as an order: its letter, which is none for no order, the location that it names, and its shift.
+    meaning(word, small) {
+        const key = 2 * word + (small ? 1 : 0);
+        if (!this.meanings.has(key)) {
+            this.call('page_meaning', word, small ? 1 : 0, 'meaning');
+            const [letter, names, location, pair, long, shift] = this.numbers('meaning', Uint32Array);
+            const [number] = this.numbers('meaning', Int32Array).subarray(6);
+            this.meanings.set(key, {
+                letter: letter ? String.fromCharCode(letter) : '', location, pair, shift, number,
+                named: names ? location : undefined, isLong: long === 1,
+            });
+        }
+        return this.meanings.get(key);
     }
 
     // The letter or sign of a code.
@@ -140,16 +182,26 @@ class Machine {
         };
     }
 
-    // The machine a number of orders after a picture on the way of a tape, or where its run ended before. The words,
-    // digits and registers are handed back as a call wrote them, and the new codes follow those before.
-    goOn(way, from, orders, resumes = 0) {
+    // Writes the rows of a way for the next call.
+    mount(way) {
         if (this.mounted !== way.rows) {
             this.bytes('tape', way.rows.length).set(way.rows);
             this.mounted = way.rows;
         }
-        this.numbers('words', Uint32Array).set(from.words);
-        this.bytes('digits', 512).set(from.digits);
-        this.numbers('registers', BigUint64Array).set(from.registers);
+    }
+
+    // Writes a picture for the next call, as a call wrote it.
+    putPicture(shown) {
+        this.numbers('words', Uint32Array).set(shown.words);
+        this.bytes('digits', 512).set(shown.digits);
+        this.numbers('registers', BigUint64Array).set(shown.registers);
+    }
+
+    // The machine a number of orders after a picture on the way of a tape, or where its run ended before. The words,
+    // digits and registers are handed back as a call wrote them, and the new codes follow those before.
+    goOn(way, from, orders, resumes = 0) {
+        this.mount(way);
+        this.putPicture(from);
         const { at, items } = this.rooms.codes;
         const status = this.call('page_go_on', this.rooms.tape.at, BigInt(way.rows.length), way.small ? 1 : 0, orders, resumes,
             'words', 'digits', at, items - BigInt(from.printed), 'registers');
@@ -159,6 +211,20 @@ class Machine {
         const shown = this.state(status);
         way.codes.set(this.bytes('codes', shown.printed), from.printed);
         return Object.assign(shown, { note: '', way, printed: from.printed + shown.printed });
+    }
+
+    // What a post-mortem of so many locations prints of a picture, after what was printed before.
+    postMortem(way, shown, first, count) {
+        this.mount(way);
+        this.putPicture(shown);
+        const { at, items } = this.rooms.codes;
+        const [before, room] = [BigInt(shown.printed), items - BigInt(shown.printed)];
+        this.bytes('codes', shown.printed).set(way.codes.subarray(0, shown.printed));
+        const status = this.call('page_post_mortem', this.rooms.tape.at, BigInt(way.rows.length), way.small ? 1 : 0,
+            Math.min(first, HIGHEST), Math.min(count, HIGHEST), 'words', 'digits', 'registers', at + before, room, 'lengths');
+        const printed = BigInt(status === 0 ? this.numbers('lengths', BigUint64Array)[0] : 0);
+        const isRead = status === 0 && this.call('page_paper', at, before, at + before, printed, 'paper', 'lengths') === 0;
+        return { status, ending: ENDINGS[status], text: isRead ? this.text('paper', Number(this.numbers('lengths', BigUint64Array)[0])) : '' };
     }
 
     // The text that the codes of a way from one count to another add to its paper.

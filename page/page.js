@@ -15,6 +15,7 @@ const page = {
     words: undefined, // the language
     program: { text: '', kind: 'tape', small: false },
     rows: new Uint8Array(0),
+    items: [], // of the tape, up to its entry
     labels: [], // what is beside each row
     letters: [], // of each code
     refusal: undefined, // what is wrong with the text, if it is refused
@@ -28,6 +29,7 @@ const page = {
     clock: () => performance.now(),
 };
 
+const orderText = (word) => writtenFor(page.program.kind, page.machine.order(word));
 const isAlive = () => page.shown !== undefined && page.shown.words !== undefined;
 const isOver = () => !isAlive() || !['limit', 'stopped'].includes(page.shown.ending) || page.shown.orders >= FURTHEST;
 const isEnded = () => isAlive() && page.shown.ending !== 'limit';
@@ -83,13 +85,15 @@ function begin() {
     let told;
     try {
         told = page.machine.rows(page.program);
+        page.items = page.machine.items(page.program).items;
         page.way = new Way(page.machine, page.program, told.out);
     } catch (fault) {
         page.fault = faultOf(fault);
         told = { ...page.fault, out: new Uint8Array(0) };
+        page.items = [];
     }
     page.rows = told.out;
-    page.labels = labelsOf(page.rows, (code) => page.letters[code], page.program.kind);
+    page.labels = labelsOf(page.rows, (code) => page.letters[code], page.items);
     tellRefusal(told);
     look(0);
     drawListing();
@@ -235,17 +239,19 @@ function draw() {
     document.body.classList.toggle('rings', shown.ending === 'stopped');
     by('ending').textContent = endingText(shown);
     drawButtons();
+    drawPostMortem();
     if (!isAlive()) {
         drawNothing();
         return;
     }
-    const word = shown.words[shown.counter], order = page.machine.order(word);
+    const word = shown.words[shown.counter], order = orderText(word);
+    const meaning = page.machine.meaning(word, page.program.small);
     const number = words.number(shown.orders + 1);
     by('place').textContent = words.say('place', { number, place: shown.counter, order });
-    by('meaning').textContent = words.meaning(word, order, page.program.small);
+    by('meaning').textContent = words.meaning(meaning);
     by('did').textContent = didText();
     drawTape(by('tape'), page.rows, shown.rowsLeft, page.labels);
-    store.draw(shown, page.before, page.program.small, namedBy(word, order, page.program.small));
+    store.draw(shown, page.before, page.program.small, meaning.named);
     by('store').setAttribute('aria-label', words.say('storeNow', { changed: changedText() }));
     const [left, all] = [shown.rowsLeft, page.rows.length];
     const next = page.labels[all - left];
@@ -363,9 +369,9 @@ function drawLook() {
     }
     const first = 32 * Number(by('tank').value);
     const row = (place) => {
-        const word = shown.words[place], order = escaped(page.machine.order(word));
+        const word = shown.words[place], order = escaped(orderText(word));
         const here = place === shown.counter ? ' class="here" aria-current="true"' : '';
-        return `<tr${here}><th scope="row">${place}<td>${order}<td>${signed(word)}<td>${binary(word, 17)}`;
+        return `<tr${here}><th scope="row">${place}<td>${order}<td>${page.machine.meaning(word, false).number}<td>${binary(word, 17)}`;
     };
     const heads = ['lookPlace', 'lookOrder', 'lookNumber', 'lookDigits'];
     const head = heads.map((key) => `<th scope="col">${escaped(words.say(key))}`);
@@ -379,7 +385,7 @@ function drawTrace() {
     }
     const { orders } = page.shown, first = Math.max(0, orders - 12);
     const lineOf = ({ words, counter, orders: done }) => [
-        page.words.number(done + 1).padStart(9), String(counter).padStart(4), page.machine.order(words[counter])].join('  ');
+        page.words.number(done + 1).padStart(9), String(counter).padStart(4), orderText(words[counter])].join('  ');
     const lines = [];
     for (let shown = pictureAt(first); lines.length < orders - first; shown = pictureAt(shown.orders + 1, shown)) {
         lines.push(lineOf(shown));
@@ -387,30 +393,32 @@ function drawTrace() {
     by('trace').textContent = lines.join('\n');
 }
 
-// The tape of a source, as a text: an item on each line, and what follows the entry on one.
-function punchedText() {
-    const lines = [[]];
-    page.labels.forEach((label) => {
-        const isLetter = !/^\d$/.test(label);
-        const line = lines.at(-1);
-        line.push(label);
-        if (isLetter && line.length > 1 && label !== '#') {
-            lines.push([]);
-        }
-    });
-    return `${lines.map((line) => line.join('')).join('\n').trim()}\n`;
-}
-
 // Punches the tape of the source in the box, and reads it again.
 function punch() {
     if (isAlive() && page.program.kind === 'source') {
-        const text = punchedText();
+        const text = new TextDecoder().decode(page.machine.punched(page.program).out);
         replacing(() => {
             by('examples').value = '';
             by('stories').value = 'own';
             put({ text, kind: 'tape' });
         });
     }
+}
+
+// Prints the words at some places as the post-mortem does, of the machine as it stands.
+function printPostMortem() {
+    const [first, count] = ['pmFirst', 'pmCount'].map((id) => Math.max(0, Math.floor(Number(by(id).value)) || 0));
+    const told = page.machine.postMortem(page.way, page.shown, first, count);
+    by('pm').textContent = told.text.replace(/\r/g, '').trim();
+    const last = (page.program.small ? 512 : 1024) - 1;
+    by('pmSaid').textContent = page.words.say(told.status === 0 ? 'pmSaid' : told.status === 3 ? 'pmRefused' : `ends.${told.ending}`,
+        { orders: page.words.number(page.shown.orders), last });
+}
+
+// What a post-mortem printed is of one picture alone.
+function drawPostMortem() {
+    by('pmPrint').disabled = !isAlive() || page.program.kind === 'tape1'; // it is a tape for the 41 orders
+    by('pm').textContent = by('pmSaid').textContent = '';
 }
 
 function drawListing() {
@@ -623,6 +631,7 @@ function listen() {
     press('keep', () => answerAsk(false));
     press('undo', undo);
     press('punch', punch);
+    press('pmPrint', printPostMortem);
     press('switch', () => {
         by(KIND_BOXES[formOf(by('text').value)]).checked = true;
         begin();

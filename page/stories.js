@@ -3,7 +3,6 @@
 // end that invites. What is shown comes from the machine's pictures; an item of the tape is what the loader reads between
 // two pictures in which it waits for the next one.
 const WAITS = { tape: 34, source: 34, tape1: 7 }; // the place of the loader's order that reads the first row of an item
-const OWN = { tape: 44, source: 44, tape1: 31 }; // the first place that the loader doesn't use itself
 const STORIES = [
     { name: 'letter', example: 'letter.tape' },
     { name: 'name' },
@@ -161,28 +160,28 @@ class Tour {
         return high;
     }
 
-    // What is said of an item: its rows, and what became of it.
+    // What is said of what was read between two pictures: an item of the tape, and what became of it.
     itemOf(from, to) {
         const first = page.rows.length - from.rowsLeft, last = page.rows.length - to.rowsLeft;
         const item = page.labels.slice(first, last).join('');
-        const places = changedPlaces(from, to).filter((place) => place >= OWN[page.program.kind]);
-        if (places.length === 1) {
-            const order = page.machine.order(to.words[places[0]]);
-            if (page.program.kind === 'tape1') {
-                return places[0] === FIRST_LOADER ? ['told.first1', { item, place: item.slice(1, -1) - 1 }]
-                    : ['told.stored', { item, place: places[0] }];
-            }
-            return [order === item ? 'told.stored' : 'told.landed', { item, order, place: places[0] }];
-        }
-        if (places.length > 1) {
-            return ['told.landedMany', { item, place: places.join(', ') }];
+        const found = page.items.find((one) => one.first === first);
+        if (found && found.location !== undefined) {
+            return this.placedItem(item, found);
         }
         if (to.counter >= placesOf(page.program.kind)) {
             return ['told.enter', { item }];
         }
-        const number = item.slice(1, -1);
-        return /^T\d+K$/.test(item) ? ['told.from', { item, place: number }]
+        return /^T\d+K$/.test(item) ? ['told.from', { item, place: item.slice(1, -1) }]
             : item === 'GK' ? ['told.theta', { item, place: addressOf(to.words[42]) }] : ['told.control', { item }];
+    }
+
+    // What is said of an item that places a word. The first of May 1949 names the place after the last word.
+    placedItem(item, { first, location, word }) {
+        if (first === 0 && page.program.kind === 'tape1') {
+            return ['told.first1', { item, place: addressOf(word) - 1 }];
+        }
+        const order = orderText(word);
+        return [order === item ? 'told.stored' : 'told.landed', { item, order, place: location }];
     }
 
     // The first orders slowly, the others in time.
@@ -224,7 +223,7 @@ class Tour {
 }
 
 // The place in an order's address.
-const addressOf = (word) => Math.floor((word % 4096) / 2) % 1024;
+const addressOf = (word) => page.machine.meaning(word, page.program.small).location;
 
 if (typeof module !== 'undefined') {
     module.exports = { printable, tapeOf };

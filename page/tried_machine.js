@@ -223,6 +223,37 @@ async function otherForms(b) {
     await b.ask('editor.isOwn = false; 0');
 }
 
+// A post-mortem of a run that has stopped, in both languages; places that it can't print; and none of a tape of May 1949.
+async function postMortem(b) {
+    await b.choose('squares.edsac');
+    await b.set('at', '100000');
+    await b.ask(`by('pmBox').open = true; 0`);
+    await b.set('pmFirst', '144');
+    await b.set('pmCount', '3');
+    await b.click('pmPrint');
+    const wanted = await b.run(() => [144, 145, 146]
+        .map((place) => page.machine.order(page.shown.words[place]).replace(/^.(?=[FD])/, '$&0')).join('\n'));
+    await b.expect('a post-mortem', [await b.text('pm'), await b.text('pmSaid')],
+        [wanted, 'Printed of the store after 4,650 orders.']);
+    await b.set('language', 'de');
+    await b.click('pmPrint');
+    await b.expect('and in German', [await b.text('pm'), await b.text('pmSaid')],
+        [wanted, 'Gedruckt vom Speicher nach 4.650 Befehlen.']);
+    await b.set('language', 'en');
+    await b.expect('it is of one picture alone', await b.text('pm'), '');
+    await b.set('pmFirst', '100');
+    await b.click('pmPrint');
+    await b.expect('places that it can not print', [await b.text('pm'), await b.text('pmSaid')],
+        ['', 'It can print places 144 to 1023.']);
+    await b.set('pmFirst', '144');
+    await b.choose('squares.tape1');
+    await b.expect('none of a tape of May 1949', await b.ask(`by('pmPrint').disabled`), true);
+    await b.set('at', '1471');
+    await b.expect('whose orders are written with S and L', await b.text('place'), (said) => /: [A-Z]\d*[SL]$/.test(said));
+    await b.ask(`by('pmBox').open = false; 0`);
+    await b.choose('letter.tape');
+}
+
 // A text that is meant for another loader is recognised, and one click goes on with that loader.
 async function otherLoaders(b) {
     const seen = '[by("refusal").hidden, by("switch").hidden, by("switch").textContent, page.program.kind]';
@@ -380,4 +411,4 @@ async function farOn(b) {
     await b.choose('letter.tape');
 }
 
-module.exports = { firstTape, loaderOnItself, examples, faults, otherForms, otherLoaders, ownWork, runs, longPaper, farOn };
+module.exports = { firstTape, loaderOnItself, examples, faults, otherForms, postMortem, otherLoaders, ownWork, runs, longPaper, farOn };

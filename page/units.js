@@ -4,7 +4,7 @@
 //   node page/units.js
 const fs = require('fs');
 const path = require('path');
-const { Words, signAt, lineAt, hintFor, figuresOf, figuresOf1, shiftOf } = require('./words.js');
+const { Words, writtenFor, signAt, lineAt, hintFor, figuresOf } = require('./words.js');
 const { packed, unpacked, formOf, kindOf } = require('./share.js');
 const { printable, tapeOf } = require('./stories.js');
 const { sumOf, seenOf } = require('./lessons.js');
@@ -23,111 +23,111 @@ function same(what, got, wanted) {
 }
 
 const LETTERS = 'PQWERTYUIOJ#SZK*.F@D!HNM&LXGABCV';
-const wordOf = (text) => 4096 * LETTERS.indexOf(text[0]) + 2 * Number(text.slice(1, -1) || 0) + (text.endsWith('D') ? 1 : 0);
 const languages = Object.fromEntries(fs.readdirSync(path.join(__dirname, 'languages')).map((file) => (
     [file.slice(0, -5), new Words(file.slice(0, -5), JSON.parse(fs.readFileSync(path.join(__dirname, 'languages', file), 'utf8')))])));
 
-// Each order with what it does, in English and in German; a word of 1024 and more counts modulo the store.
+// What the machine says of an order: its letter, its location, whether it is long, and its shift.
+const named = (letter, location = 0, isLong = false, shift = 0) => (
+    { letter, location, pair: location - (location % 2), isLong, shift });
+
+// Each order with what it does, in English and in German.
 const MEANINGS = [
-    ['A66F', 'Add the number in place 66 to the accumulator.', 'Addiere die Zahl auf Platz 66 zum Akkumulator.'],
+    [named('A', 66), 'Add the number in place 66 to the accumulator.', 'Addiere die Zahl auf Platz 66 zum Akkumulator.'],
     [
-        'A67D',
+        named('A', 67, true),
         'Add the long number in places 66 and 67 to the accumulator.',
         'Addiere die lange Zahl auf den Plätzen 66 und 67 zum Akkumulator.',
     ],
-    ['S5F', 'Take the number in place 5 away from the accumulator.', 'Zieh die Zahl auf Platz 5 vom Akkumulator ab.'],
+    [named('S', 5), 'Take the number in place 5 away from the accumulator.', 'Zieh die Zahl auf Platz 5 vom Akkumulator ab.'],
     [
-        'H5F',
+        named('H', 5),
         'Copy the number in place 5 into the multiplier register.',
         'Kopiere die Zahl auf Platz 5 in das Multiplikatorregister.',
     ],
-    ['V5F', 'Multiply the number in place 5 by the multiplier register, and add the result to the accumulator.',
+    [named('V', 5), 'Multiply the number in place 5 by the multiplier register, and add the result to the accumulator.',
         'Multipliziere die Zahl auf Platz 5 mit dem Multiplikatorregister, und addiere das Ergebnis zum Akkumulator.'],
-    ['N5F', 'Multiply the number in place 5 by the multiplier register, and take the result away from the accumulator.',
+    [named('N', 5), 'Multiply the number in place 5 by the multiplier register, and take the result away from the accumulator.',
         'Multipliziere die Zahl auf Platz 5 mit dem Multiplikatorregister, und zieh das Ergebnis vom Akkumulator ab.'],
     [
-        'T5F',
+        named('T', 5),
         "Put the accumulator's number into place 5, then make the accumulator 0.",
         'Bring die Zahl des Akkumulators nach Platz 5, dann setze den Akkumulator auf 0.',
     ],
     [
-        'U4D',
+        named('U', 4, true),
         "Copy the accumulator's number into places 4 and 5. The accumulator keeps it.",
         'Kopiere die Zahl des Akkumulators nach Platz 4 und 5. Der Akkumulator behält sie.',
     ],
-    ['C5F', 'Look at the number in place 5 and at the multiplier register: where both have a 1, add that 1 to the accumulator.',
+    [named('C', 5), 'Look at the number in place 5 and at the multiplier register: where both have a 1, add that 1 to the accumulator.',
         'Vergleiche die Zahl auf Platz 5 mit dem Multiplikatorregister: Wo beide eine 1 haben, addiere diese 1 zum Akkumulator.'],
     [
-        'RD',
+        named('R', 0, true, 1),
         "Move the accumulator's digits 1 to the right: this halves its number once.",
         'Schieb die Ziffern des Akkumulators um 1 nach rechts: Das halbiert seine Zahl einmal.',
     ],
     [
-        'L1F',
+        named('L', 1, false, 2),
         "Move the accumulator's digits 2 to the left: this doubles its number twice.",
         'Schieb die Ziffern des Akkumulators um 2 nach links: Das verdoppelt seine Zahl zweimal.',
     ],
     [
-        'LF',
+        named('L', 0, false, 13),
         "Move the accumulator's digits 13 to the left: this doubles its number 13 times.",
         'Schieb die Ziffern des Akkumulators um 13 nach links: Das verdoppelt seine Zahl 13-mal.',
     ],
     [
-        'RF',
+        named('R', 0, false, 15),
         "Move the accumulator's digits 15 to the right: this halves its number 15 times.",
         'Schieb die Ziffern des Akkumulators um 15 nach rechts: Das halbiert seine Zahl 15-mal.',
     ],
     [
-        'E64F',
+        named('E', 64),
         'If the accumulator is 0 or more, go to place 64. If it is below 0, just go on.',
         'Ist der Akkumulator 0 oder mehr, geh zu Platz 64. Ist er unter 0, mach einfach weiter.',
     ],
     [
-        'G64F',
+        named('G', 64),
         'If the accumulator is below 0, go to place 64. If it is 0 or more, just go on.',
         'Ist der Akkumulator unter 0, geh zu Platz 64. Ist er 0 oder mehr, mach einfach weiter.',
     ],
     [
-        'I5F',
+        named('I', 5),
         'Read the next row of the tape, and put its number into place 5.',
         'Lies die nächste Reihe des Lochstreifens, und bring ihre Zahl nach Platz 5.',
     ],
     [
-        'O5F',
+        named('O', 5),
         'Print the letter or figure whose code is in place 5.',
         'Druck den Buchstaben oder die Ziffer, deren Code auf Platz 5 steht.',
     ],
     [
-        'F5F',
+        named('F', 5),
         'Put the code of what was printed last into place 5, so that it can be checked.',
         'Bring den Code des zuletzt gedruckten Zeichens nach Platz 5, damit man ihn prüfen kann.',
     ],
-    ['XF', 'Do nothing, and go on.', 'Tu nichts, und mach weiter.'],
-    ['YF', 'Round the number in the accumulator.', 'Runde die Zahl im Akkumulator.'],
-    ['ZF', 'Stop, and ring the bell.', 'Halt an, und läute die Glocke.'],
+    [named('X'), 'Do nothing, and go on.', 'Tu nichts, und mach weiter.'],
+    [named('Y'), 'Round the number in the accumulator.', 'Runde die Zahl im Akkumulator.'],
+    [named('Z'), 'Stop, and ring the bell.', 'Halt an, und läute die Glocke.'],
     [
-        'P5F',
+        named('', 5),
         'This is a number and no order. The machine can go no further here.',
         'Das ist eine Zahl und kein Befehl. Hier geht es für die Maschine nicht weiter.',
     ],
 ];
-for (const [text, english, german] of MEANINGS) {
-    same(`${text} in English`, languages.en.meaning(wordOf(text), text, false), english);
-    same(`${text} in German`, languages.de.meaning(wordOf(text), text, false), german);
+for (const [order, english, german] of MEANINGS) {
+    same(`${order.letter} ${order.location} in English`, languages.en.meaning(order), english);
+    same(`${order.letter} ${order.location} in German`, languages.de.meaning(order), german);
 }
 same(
-    'an address in the small store',
-    languages.en.meaning(wordOf('A600F'), 'A600F', true),
-    'Add the number in place 88 to the accumulator.',
+    'orders as they are written for either loader',
+    ['TF', 'T40D', 'FF', 'D3F'].flatMap((order) => ['tape', 'tape1'].map((kind) => writtenFor(kind, order))),
+    ['TF', 'TS', 'T40D', 'T40L', 'FF', 'FS', 'D3F', 'D3S'],
 );
-for (const [text, places] of [['RD', 1], ['R1F', 2], ['R2F', 3], ['R512F', 11], ['LF', 13], ['RF', 15]]) {
-    same(`${text} shifts`, shiftOf({ word: wordOf(text) }), places);
-}
 
 // Each order has a sentence in each language, and so has each cause of the manual.
 for (const [name, words] of Object.entries(languages)) {
     for (const letter of 'ASHVNTUCRLEGIOFXYZ') {
-        same(`${name}: ${letter}`, /\{|undefined/.test(words.meaning(wordOf(`${letter}5F`), `${letter}5F`, false)), false);
+        same(`${name}: ${letter}`, /\{|undefined/.test(words.meaning(named(letter, 5))), false);
     }
     for (const cause of ['T1', 'T2', ...Array.from({ length: 17 }, (_, k) => `S${k + 1}`)]) {
         same(`${name}: ${cause}`, words.has(`cause.${cause}`), true);
@@ -155,13 +155,12 @@ same('a line of a text', lineAt('one\ntwo\nthree', 2), { from: 4, to: 7 });
 same('a line after the last one', lineAt('one', 5), { from: 3, to: 3 });
 
 const codes = (text) => [...text].map((sign) => (/\d/.test(sign) ? Number(sign) : LETTERS.indexOf(sign)));
-const figured = (text) => figuresOf(codes(text), (code) => LETTERS[code]).map((is) => (is ? '9' : '-')).join('');
-same('the figures of a tape', figured('T64KGKO2@ZFAFEZPF'), '-99---' + '-9-' + '----' + '----');
-same('what follows the entry is not the loader\'s', figured('E64KPF12F'), '-99-' + '--' + '---');
-same('no figure without an item', figured('12'), '-9');
-const figured1 = (text) => figuresOf1(codes(text)).map((is) => (is ? '9' : '-')).join('');
-same('the figures of a tape of May 1949', figured1('T34SO33SZSPS12'), '-99--99-------');
-same('what follows its last word is not the loader\'s', figured1('T33SZS12S'), '-99------');
+const figured = (text, ...ends) => figuresOf(codes(text), ends.map((after, k) => ({ first: k ? ends[k - 1] : 0, after })))
+    .map((is) => (is ? '9' : '-')).join('');
+same('the figures of a tape', figured('T64KGKO2@', 4, 6, 9), '-99---' + '-9-');
+same('what follows the entry is not the loader\'s', figured('E64KPF12F', 4, 6), '-99-' + '--' + '---');
+same('a function and a mark are no figures', figured('1#F12', 3), '-----');
+same('no figure without an item', figured('12'), '--');
 same('blank tape has no hole, erase has five', ['.', '*'].map((sign) => punchedOf(LETTERS.indexOf(sign))), [0, 31]);
 same(
     'names that the teleprinter can print',

@@ -8,6 +8,9 @@ const FIRST_LOADER = 31; // locations of those of May 1949; their programs begin
 
 const placesOf = (kind) => (kind === 'tape1' ? FIRST_LOADER : LOADER);
 
+// An order as it is written for a loader: that of May 1949 has S for a short one and L for a long one.
+const writtenFor = (kind, order) => (kind === 'tape1' ? order.replace(/F$/, 'S').replace(/D$/, 'L') : order);
+
 // A language: its texts, by their keys. A key with a dot names a text of a part.
 class Words {
     constructor(name, texts) {
@@ -37,28 +40,25 @@ class Words {
         return count <= 2 ? this.say(`times${count}`) : this.say('times', { count });
     }
 
-    // What an order does, in a sentence or two.
-    meaning(word, text, small) {
-        const order = orderOf(word, text, small);
-        if (!this.has(`meaning.${order.letter}`)) {
+    // What an order does, in a sentence or two, by what the machine says that it names.
+    meaning({ letter, location, pair, isLong, shift }) {
+        if (!this.has(`meaning.${letter}`)) {
             return this.say('noOrder');
         }
-        const first = order.address - (order.address % 2);
-        const places = { place: order.address, first, second: first + 1 };
-        const shift = shiftOf(order);
-        return this.say(`meaning.${order.letter}`, {
-            value: this.say(order.long ? 'longNumber' : 'number', places),
-            target: this.say(order.long ? 'longTarget' : 'target', places),
-            address: order.address,
+        const places = { place: location, first: pair, second: pair + 1 };
+        return this.say(`meaning.${letter}`, {
+            value: this.say(isLong ? 'longNumber' : 'number', places),
+            target: this.say(isLong ? 'longTarget' : 'target', places),
+            address: location,
             shift,
-            times: this.times(shift),
+            times: shift ? this.times(shift) : '',
         });
     }
 
     // A word as it may be meant: a small one as a number, and any other as an order too.
-    described(word, machine) {
-        const number = signed(word);
-        return Math.abs(number) < 2048 ? `${number}` : this.say('asNumber', { order: machine.order(word), number });
+    described(word, machine, kind) {
+        const { number } = machine.meaning(word, false);
+        return Math.abs(number) < 2048 ? `${number}` : this.say('asNumber', { order: writtenFor(kind, machine.order(word)), number });
     }
 
     // What became different between two pictures that are one order apart.
@@ -66,10 +66,11 @@ class Words {
         const said = [];
         for (const place of changedPlaces(before, after)) {
             const [old, now] = [before.words[place], after.words[place]];
-            const loader = placesOf(after.way.kind);
+            const { kind } = after.way;
+            const loader = placesOf(kind);
             const own = place < loader && before.counter < loader ? 'loader'
                 : isOwnOrder(before, after, place, machine) ? 'self' : undefined;
-            const form = own ? (word) => machine.order(word) : (word) => this.described(word, machine);
+            const form = own ? (word) => writtenFor(kind, machine.order(word)) : (word) => this.described(word, machine, kind);
             said.push(this.say(`did.${own || 'word'}`, { place, old: form(old), now: form(now) }));
         }
         for (let pair = 0; pair < 512; pair++) {
@@ -121,31 +122,13 @@ function changedPlaces(before, after) {
 const addedBetween = (before, after) => after.way.text(before.printed, after.printed);
 const printedBetween = (before, after) => addedBetween(before, after).replace(/\s/g, ' ').trim();
 
-// Whether an order of the program changed an order near it: both words are orders of one function, and only their
-// addresses differ.
+// Whether an order of the program changed an order near it: both words are orders of one letter that name a place, and
+// only these places differ.
 function isOwnOrder(before, after, place, machine) {
-    const [old, now] = [machine.order(before.words[place]), machine.order(after.words[place])];
-    const areOrders = !'PQWRJK#*.@!&'.includes(old[0]) && Math.abs(signed(before.words[place])) >= 2048;
-    return before.counter >= placesOf(after.way.kind) && areOrders && old[0] === now[0] && old.at(-1) === now.at(-1);
+    const [old, now] = [before, after].map(({ words, way }) => machine.meaning(words[place], way.small));
+    const isOne = old.named !== undefined && old.letter === now.letter && old.isLong === now.isLong;
+    return before.counter >= placesOf(after.way.kind) && isOne && Math.abs(old.number) >= 2048;
 }
-
-// An order's parts, by its text: the letter, the place that it names, and whether it is long.
-function orderOf(word, text, small) {
-    const number = Number(text.slice(1, -1) || '0');
-    return { word, letter: text[0], long: text.endsWith('D'), address: number % (small ? 512 : 1024) };
-}
-
-// How far a shift order shifts: 1 and the place of its word's last digit 1.
-const shiftOf = (order) => 32 - Math.clz32(order.word & -order.word);
-
-// The place that an order names, where it names one.
-function namedBy(word, text, small) {
-    const order = orderOf(word, text, small);
-    return 'ASHVNTUCEGIOF'.includes(order.letter) ? order.address : -1;
-}
-
-// A word as a whole number: below 0 where its first digit is 1.
-const signed = (word) => (word >= 65536 ? word - 131072 : word);
 
 // The sign that begins at a byte of a text. What a reader takes for one sign, such as an emoji, stays whole.
 function signAt(text, byte) {
@@ -186,53 +169,23 @@ function hintFor(cause, part, kind) {
     return { S7: 'word', S16: 'enter' }[cause];
 }
 
-// Which rows of a tape the loader reads as figures. It reads an item after the other: a function, then digits up to a
-// row of 11 and more, which ends it. The item after an E that ends with K or Z, or a G that ends with Z, is the last:
-// what follows is the program's own.
-function figuresOf(rows, letter) {
+// Which rows of a tape the loader reads as figures: those of an item, but its first and those that are no digit.
+function figuresOf(rows, items) {
     const isFigure = new Array(rows.length).fill(false);
-    let isLast = false;
-    for (let at = 0; at < rows.length;) {
-        const begins = letter(rows[at++]);
-        while (at < rows.length && rows[at] < 11) {
+    for (const { first, after } of items) {
+        for (let at = first + 1; at < after; at++) {
             isFigure[at] = rows[at] < 10;
-            at++;
         }
-        const ends = at < rows.length ? letter(rows[at]) : '';
-        if (ends === '#') {
-            at++; // a pi stands before the letter that ends the item
-        }
-        at++;
-        if (isLast) {
-            break;
-        }
-        isLast = ['EK', 'EZ', 'GZ'].includes(begins + ends);
-    }
-    return isFigure;
-}
-
-// Which rows of a tape the loader of May 1949 reads as figures. Each item is a function, then digits up to a row of 10 and
-// more, which ends it. The first item goes to place 31, and its number is one more than the place of the last.
-function figuresOf1(rows) {
-    const isFigure = new Array(rows.length).fill(false);
-    for (let at = 0, place = FIRST_LOADER, end = FIRST_LOADER + 1; at < rows.length && place < end; place++) {
-        let number = 0;
-        for (at++; at < rows.length && rows[at] < 10; at++) {
-            isFigure[at] = true;
-            number = 10 * number + rows[at];
-        }
-        at++;
-        end = place === FIRST_LOADER ? number : end;
     }
     return isFigure;
 }
 
 // What stands beside each row of a tape.
-function labelsOf(rows, letter, kind) {
-    const isFigure = kind === 'tape1' ? figuresOf1(rows) : figuresOf(rows, letter);
+function labelsOf(rows, letter, items) {
+    const isFigure = figuresOf(rows, items);
     return Array.from(rows, (row, at) => (isFigure[at] ? String(row) : letter(row)));
 }
 
 if (typeof module !== 'undefined') {
-    module.exports = { Words, namedBy, signed, signAt, lineAt, hintFor, figuresOf, figuresOf1, labelsOf, shiftOf, orderOf };
+    module.exports = { Words, writtenFor, signAt, lineAt, hintFor, figuresOf, labelsOf };
 }

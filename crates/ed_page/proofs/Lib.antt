@@ -8,3 +8,5 @@ mod PaperTails
 mod GoneOn
 mod RowCodes
 mod Stores
+mod ItemRows
+mod FirstItemRows

@@ -22,7 +22,8 @@ use Rattle.ed_answers.specs.Sources.{of_source, run_outcome}
 use Rattle.ed_answers.proofs.Sources.{accepted_is}
 use Rattle.ed_run.specs.Run.{RunEnd}
 use Rattle.ed_page.specs.Answers.{RowsEnd, SourceEnds}
-use Rattle.ed_page.specs.Private.Stages.{Draws, TellsOutcome, IsRunOf, IsAnswered, Retells}
+use Rattle.ed_page.specs.TapeItems.{AreItemsTold, items_answer}
+use Rattle.ed_page.specs.Private.Stages.{AreToldOf, Draws, TellsOutcome, IsRunOf, IsAnswered, Retells}
 use Rattle.ed_page.specs.Private.Stages.{TellsAnswer, TellsRejection}
 use Rattle.ed_answers.specs.Replies.{LinksSource, RefusesText, Replies}
 use Rattle.ed_answers.specs.declared.reply.Rejection.{Rejection}
@@ -61,19 +62,30 @@ rows_replied f text codes (Ok told) few is gives = (f codes, inl (few, at_readin
 rows_replied f text codes (Err e) few is gives = tt
 
 -- a text that is refused
-refused_told : (f : List ℕ → Outcome) (q : Reading) (reply : Reply) (told : Told) → RefusesText q (Refused reply)
-    → Retells reply told → (o : Outcome) × OfReading (exactly f) q o × TellsOutcome told o
-refused_told f (rows codes) reply told refuses tells = absurd refuses
-refused_told f (no_row place byte) reply told refuses tells = (_, refl, tells _ refuses)
-refused_told f (open_comment place) reply told refuses tells = (_, refl, tells _ refuses)
+refused_told : (answers : List ℕ → Outcome → Type 0) (q : Reading) (reply : Reply) (told : Told)
+    → RefusesText q (Refused reply)
+    → Retells reply told → (o : Outcome) × OfReading answers q o × TellsOutcome told o
+refused_told answers (rows codes) reply told refuses tells = absurd refuses
+refused_told answers (no_row place byte) reply told refuses tells = (_, refl, tells _ refuses)
+refused_told answers (open_comment place) reply told refuses tells = (_, refl, tells _ refuses)
 
-pub tape_refused : (f : List ℕ → Outcome) (text : Text) (e : Rejection) (r : Result Told NoMemory)
+pub tape_refused : (answers : List ℕ → Outcome → Type 0) (text : Text) (e : Rejection) (r : Result Told NoMemory)
     → length text ≤ 262144 → RefusesText (reading text) e → TellsRejection e r
-    → IsAnswered (of_rows (exactly f)) text r
-tape_refused f text (Refused reply) (Ok told) few refuses tells =
-    let o = refused_told f (reading text) reply told refuses tells in (o.0, inl (few, o.1), o.2)
-tape_refused f text Memory (Ok told) few refuses tells = absurd tells
-tape_refused f text e (Err none) few refuses tells = tt
+    → IsAnswered (of_rows answers) text r
+tape_refused answers text (Refused reply) (Ok told) few refuses tells =
+    let o = refused_told answers (reading text) reply told refuses tells in (o.0, inl (few, o.1), o.2)
+tape_refused answers text Memory (Ok told) few refuses tells = absurd tells
+tape_refused answers text e (Err none) few refuses tells = tt
+
+-- the items of a tape's rows are told
+pub items_told : (z : Size) (text : Text) (codes : List ℕ) (r : Result Told NoMemory) → length text ≤ 262144
+    → reading text ≡ rows codes → AreToldOf z codes r → IsAnswered (items_answer z) text r
+items_told z text codes (Ok told) few is t = (
+  t.0,
+  inl (few, subst (λ (q : Reading). OfReading (AreItemsTold z) q t.0) (sym is) t.1),
+  t.2,
+)
+items_told z text codes (Err e) few is t = tt
 
 codes_of : Reading → List ℕ
 codes_of (rows codes) = codes
@@ -108,7 +120,7 @@ pub tape_refusal_drawn : (outcome : List ℕ → Outcome) (run : List ℕ → Ru
     → Draws (of_rows (exactly outcome)) (RowsEnd run) text (Ok (record { told = told; machine = None }))
 tape_refusal_drawn outcome run text Memory told few refuses tells = absurd tells
 tape_refusal_drawn outcome run text (Refused reply) told few refuses tells =
-    let o = refused_told outcome (reading text) reply told refuses tells in (
+    let o = refused_told (exactly outcome) (reading text) reply told refuses tells in (
       o.0,
       inl (few, o.1),
       o.2,

@@ -1,7 +1,7 @@
 ghost use Rattle.std.specs.Prelude.{◌≡◌, IfOk};
 ghost use Rattle.ed_answers.specs.Answer.{exactly, of_rows};
 ghost use Rattle.ed_answers.specs.Outcome.{Outcome, done};
-ghost use Rattle.ed_answers.specs.Sources.{listing_answer, of_source};
+ghost use Rattle.ed_answers.specs.Sources.{listing_answer, of_source, punch_answer};
 ghost use Rattle.ed_page.specs.Answers.{IsTextTold, source_rows, text_buffers};
 ghost use Rattle.ed_page.specs.Pictures.{asked, size_shown};
 ghost use Rattle.ed_page.specs.Private.Stages.{TellsOutcome, IsWrittenOut, IsAnswered};
@@ -9,7 +9,7 @@ ghost use Rattle.ed_page.specs.Private.Stages.{TellsOutcome, IsWrittenOut, IsAns
 use crate::running::{asked, size_of};
 use crate::told::{NO_MEMORY, NO_ROOM, Told, is_too_long, lacks_line, rejected, told_of};
 use crate::writing::Lengths;
-use ed_answers::{linked_of, list, rows_of};
+use ed_answers::{linked_of, list, punch, rows_of};
 use ed_codes::Code;
 use ed_command::Settings;
 use ed_words::{NoMemory, Size};
@@ -61,6 +61,28 @@ pub extern "C" fn page_source_rows(
     }
 }
 
+/// Writes the text of a source's tape as `edsac punch` does, as `page_tape_rows` writes rows.
+#[unsafe(no_mangle)]
+pub extern "C" fn page_punch(
+    alloc: Global,
+    text: &[u8],
+    small: bool,
+    tape: &mut [u8],
+    note: &mut [u8],
+    lengths: &mut Lengths,
+) -> u32
+    ensures { IsTextTold (punch_answer (asked small 0 0)) text.now (text_buffers tape.old note.old lengths.old)
+        (text_buffers tape.new note.new lengths.new) result }
+{
+    if lacks_line(text, note) {
+        return NO_ROOM;
+    }
+    match source_tape(alloc, asked(small, 0, 0), text) {
+        Ok(told) => tell(&told, tape, note, lengths),
+        Err(NoMemory) => NO_MEMORY,
+    }
+}
+
 /// Writes the listing of a source, as `page_tape_rows` writes rows.
 #[unsafe(no_mangle)]
 pub extern "C" fn page_listing(
@@ -84,7 +106,7 @@ pub extern "C" fn page_listing(
 }
 
 /// Writes what is told into two buffers, where they have room.
-fn tell(told: &Told, out: &mut [u8], note: &mut [u8], lengths: &mut Lengths) -> u32
+pub fn tell(told: &Told, out: &mut [u8], note: &mut [u8], lengths: &mut Lengths) -> u32
     ensures { (o : Outcome) → TellsOutcome told.now o → IsWrittenOut o (text_buffers out.old note.old lengths.old)
         (text_buffers out.new note.new lengths.new) result }
 {
@@ -119,6 +141,16 @@ fn source_rows(alloc: Global, size: Size, text: &[u8]) -> Result<Told, NoMemory>
         Ok(linked) => Ok(Told::done(alloc, bytes_of_rows(alloc, &linked.rows()?)?)),
         Err(rejection) => rejected(rejection),
     }
+}
+
+/// What is told of the text of a source's tape.
+fn source_tape(alloc: Global, settings: Settings, text: &[u8]) -> Result<Told, NoMemory>
+    ensures { IsAnswered (punch_answer settings) text.now result }
+{
+    if is_too_long(text) {
+        return Told::too_long(alloc);
+    }
+    told_of(punch(alloc, settings, text))
 }
 
 /// What is told of the listing of a source.

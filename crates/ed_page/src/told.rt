@@ -41,6 +41,17 @@ impl Told {
         }
     }
 
+    /// What is told where a text is refused, with what is found of it on `out`.
+    pub fn refused(out: Vec<u8>, note: Vec<u8>) -> Told
+        ensures { TellsOutcome result (record { out = out.items; note = note.items; status = 3 }) }
+    {
+        Told {
+            out,
+            note,
+            status: 3,
+        }
+    }
+
     /// What is told of a reply.
     pub fn of_reply(reply: Reply) -> Told
         ensures { (o : Outcome) → Gives reply o → TellsOutcome result o }

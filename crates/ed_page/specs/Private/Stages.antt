@@ -1,6 +1,7 @@
 -- How what is told and shown of a text stands to what the program answers.
-use Rattle.std.specs.Prelude.{◌≡◌, ◌≢◌, ℕ, ◌<◌, ◌≤◌, length, Option, None, Some, IfSome, Result, Ok, Err}
+use Rattle.std.specs.Prelude.{◌≡◌, ◌≢◌, ℕ, ◌<◌, ◌≤◌, length, List, Option, None, Some, IfSome, Result, Ok, Err}
 use Rattle.ed_words.specs.declared.memory.NoMemory.{NoMemory}
+use Rattle.ed_words.specs.declared.size.Size.{Size}
 use Rattle.ed_machine.specs.State.{State}
 use Rattle.ed_run.specs.Run.{RunEnd}
 use Rattle.ed_answers.specs.Answer.{Answer, IsDue}
@@ -12,6 +13,7 @@ use Rattle.ed_answers.specs.declared.reply.Rejection.TheVariants.{Memory, Refuse
 use Rattle.ed_answers.specs.declared.reply.Reply.{Reply}
 use Rattle.ed_page.specs.Answers.{Buffers, HasItsCause, HasPictureRoom, HasBufferRoom, ShowsNone, Tells, TextBuffers}
 use Rattle.ed_page.specs.Pictures.{Pictures}
+use Rattle.ed_page.specs.TapeItems.{AreItemsTold, AreItemsTold1}
 use Rattle.ed_page.specs.declared.going.Gone.{Gone}
 use Rattle.ed_page.specs.declared.running.Shown.{Shown}
 use Rattle.ed_page.specs.declared.told.Told.{Told}
@@ -85,3 +87,13 @@ pub record IsGone (r : RunEnd) (gone : Gone) : Type 0 where
   pub ending_is : gone.ending ≡ r.ending
   pub state_is : gone.machine ≡ r.state
   pub codes_are : gone.codes.items ≡ r.codes
+
+-- what is told of the items of rows
+abbrev pub AreToldOf : Size → List ℕ → Result Told NoMemory → Type 0
+AreToldOf z codes (Ok told) = (o : Outcome) × AreItemsTold z codes o × TellsOutcome told o
+AreToldOf z codes (Err e) = Unit {0}
+
+-- and of rows of May 1949
+abbrev pub AreToldOf1 : List ℕ → Result Told NoMemory → Type 0
+AreToldOf1 codes (Ok told) = (o : Outcome) × AreItemsTold1 codes o × TellsOutcome told o
+AreToldOf1 codes (Err e) = Unit {0}

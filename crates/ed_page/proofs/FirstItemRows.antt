@@ -1,0 +1,198 @@
+-- That the plain program over rows makes the table of the items of May 1949 that the rows spell.
+use Rattle.std.proofs.Common.{◌≡◌, ◌∙◌, ℕ, ◌+◌, ◌*◌, ◌<◌, ◌≤◌, refl, sym, ap, subst, arith, inl, inr, lit≤, Bool, true, false}
+use Rattle.std.proofs.Common.{nat_lt, Option, Some, None, List, [], ◌∷◌, ◌++◌, append_assoc, drop, get_or, length, length-append}
+use Rattle.std.proofs.Common.{if◌then◌else◌, take}
+use Rattle.std.specs.Prelude.{Ok}
+use Rattle.std.proofs.lemmas.List.{append-nil, drop_all}
+use Rattle.std.proofs.Math.Seq.{take-append_seam}
+use Rattle.ed_words.proofs.Numbers.{lt_false, lt_true}
+use Rattle.ed_notation.specs.Items.{AreDigits, digits_number}
+use Rattle.ed_notation.specs.declared.kind.RowKind.TheVariants.{Digit}
+use Rattle.ed_notation.proofs.Loop.{next_row}
+use Rattle.ed_initial1.specs.declared.cause.Tape1Cause.{Tape1Cause}
+use Rattle.ed_initial1.specs.Checks.{Accepts1, Report1}
+use Rattle.ed_initial1.specs.Faults.{IsFault1, IsPart1, part_rows1}
+use Rattle.ed_initial1.specs.Items.{AreItems, Begun1, IsBegun1, Item1, ending_row, rows_of1, spelled1, word1}
+use Rattle.ed_report.specs.FirstNotes.{rule1_line}
+use Rattle.ed_answers.specs.Outcome.{Outcome, done}
+use Rattle.ed_page.specs.TapeItems.{item_line, item_table1}
+use Rattle.ed_page.specs.Private.ItemTables.{first_word, item_at, table_on1, opened_with}
+use Rattle.ed_page.specs.Private.Stages.{AreToldOf1, TellsOutcome}
+use Rattle.ed_page.specs.declared.items.OpenItem.{OpenItem}
+use Rattle.ed_page.specs.declared.told.Told.{Told}
+use Rattle.ed_page.proofs.ItemRows.{IsOpen, larger, with_number}
+
+-- ---- the rows of an item
+
+-- a digit row
+digit_row1 : (row location : ℕ) (p : OpenItem) (d : ℕ) (more : List ℕ) → nat_lt d 10 ≡ true
+    → table_on1 row location (Some p) (d ∷ more) ≡ table_on1 (row + 1) location (Some (opened_with Digit p d)) more
+unfolding table_on1
+digit_row1 row location p d more is = rw (is, table_on1) refl
+
+-- digit rows, one after the other
+digit_rows1 : (row location : ℕ) (p : OpenItem) (ds more : List ℕ) → AreDigits ds
+    → digits_number p.number ds ≤ 32767
+    → table_on1 row location (Some p) (ds ++ more)
+    ≡ table_on1 (row + length ds) location (Some (with_number p (digits_number p.number ds))) more
+digit_rows1 row location p [] more are few =
+    let same : row + 0 ≡ row = omega arith in ap (λ r. table_on1 r location (Some p) more) (sym same)
+digit_rows1 row location p (d ∷ ds) more are few =
+    let low : p.number ≤ 32767 = let a = larger p.number (d ∷ ds) in omega (arith, a, few) in
+    let fits : (if nat_lt 32767 p.number then p.number else 10 * p.number + d) ≡ 10 * p.number + d =
+    rw (lt_false 32767 p.number low) refl in
+    let same : row + 1 + length ds ≡ row + length (d ∷ ds) = omega arith in
+    digit_row1 row location p d (ds ++ more) (lt_true d 10 are.0)
+    ∙ ap (λ m. table_on1 (row + 1) location (Some (with_number p m)) (ds ++ more)) fits
+    ∙ digit_rows1 (row + 1) location (with_number p (10 * p.number + d)) ds more are.1 few
+    ∙ ap (λ r. table_on1 r location (Some (with_number p (digits_number p.number (d ∷ ds)))) more) same
+
+-- a row that ends an item
+last_row1 : (row location : ℕ) (p : OpenItem) (c : ℕ) (more : List ℕ) → nat_lt c 10 ≡ false
+    → table_on1 row location (Some p) (c ∷ more)
+    ≡ item_line p.first (row + 1) (Some (location, first_word p c)) ++ table_on1 (row + 1) (location + 1) None more
+unfolding table_on1
+last_row1 row location p c more is = rw (is, table_on1) refl
+
+-- the rows of an item that has begun
+begun_table1 : (row location : ℕ) (b : Begun1) (more : List ℕ) → IsBegun1 b
+    → table_on1 row location None (b.function ∷ (b.digits ++ more))
+    ≡ table_on1 (row + 1 + length b.digits) location
+    (Some (record { first = row; function = b.function; number = digits_number 0 b.digits; mark = false })) more
+unfolding table_on1
+begun_table1 row location b more is =
+    digit_rows1 (row + 1) location (item_at row b.function) b.digits more is.digits is.fits
+
+-- the rows of a whole item
+item_rows1 : (row location : ℕ) (b : Begun1) (long : Bool) (more : List ℕ) → IsBegun1 b
+    → let i : Item1 = record { begun = b; long = long } in
+    table_on1 row location None (rows_of1 i ++ more)
+    ≡ item_line row (row + length (rows_of1 i)) (Some (location, word1 i))
+    ++ table_on1 (row + length (rows_of1 i)) (location + 1) None more
+item_rows1 row location b long more is =
+    let i : Item1 = record { begun = b; long = long } in
+    let parts : rows_of1 i ++ more ≡ b.function ∷ (b.digits ++ (ending_row long ∷ more)) = simp append_assoc in
+    let counts : length (rows_of1 i) ≡ 1 + length b.digits + 1 = simp length-append (omega arith) in
+    let place : row + 1 + length b.digits + 1 ≡ row + length (rows_of1 i) = omega (arith, counts) in
+    ap (table_on1 row location None) parts
+    ∙ begun_table1 row location b (ending_row long ∷ more) is
+    ∙ by_long long
+    ∙ ap (λ r. item_line row r (Some (location, word1 i)) ++ table_on1 r (location + 1) None more) place
+  where
+    open_item : OpenItem
+    open_item = record { first = row; function = b.function; number = digits_number 0 b.digits; mark = false }
+
+    by_long : (l : Bool) → table_on1 (row + 1 + length b.digits) location (Some open_item) (ending_row l ∷ more)
+        ≡ item_line row (row + 1 + length b.digits + 1) (Some (location, word1 (record { begun = b; long = l })))
+        ++ table_on1 (row + 1 + length b.digits + 1) (location + 1) None more
+    by_long false = last_row1 (row + 1 + length b.digits) location open_item 12 more refl
+    by_long true = last_row1 (row + 1 + length b.digits) location open_item 25 more refl
+
+-- the rows of a part of an item
+part_table1 : (row location : ℕ) (p : Option Begun1) → IsPart1 p → table_on1 row location None (part_rows1 p) ≡ []
+unfolding table_on1
+part_table1 row location None is = refl
+part_table1 row location (Some b) is =
+    ap (λ xs. table_on1 row location None (b.function ∷ xs)) (sym (append-nil b.digits)) ∙ begun_table1 row location b [] is
+
+-- ---- the rows of items
+
+table_is1 : (row location : ℕ) (is : List Item1) (p : Option Begun1) → AreItems is → IsPart1 p
+    → table_on1 row location None (spelled1 is ++ part_rows1 p) ≡ item_table1 row location is
+unfolding item_table1
+table_is1 row location [] p are part = part_table1 row location p part
+table_is1 row location (i ∷ is) p are part =
+    let next = row + length (rows_of1 i) in
+    ap (table_on1 row location None) (append_assoc (rows_of1 i) (spelled1 is) (part_rows1 p))
+    ∙ item_rows1 row location i.begun i.long (spelled1 is ++ part_rows1 p) are.0
+    ∙ ap (λ rest. item_line row next (Some (location, word1 i)) ++ rest) (table_is1 next (location + 1) is p are.1 part)
+
+-- what is told of a tape without a fault
+pub program_told1 : {codes : List ℕ} {r : Report1} {count : ℕ} {told : Told} → Accepts1 codes r → count ≡ r.rows
+    → TellsOutcome told (done (table_on1 0 31 None (take count codes))) → AreToldOf1 codes (Ok told)
+program_told1 {codes} {r} {count} {told} accepts many tells =
+    let is = accepts.tape.items in
+    let n : count ≡ length (spelled1 is) = many ∙ ap (λ (x : Report1). x.rows) accepts.report_is in
+    let head : take count codes ≡ spelled1 is =
+    (λ i. take (n i) (accepts.comes.rows_are i)) ∙ take-append_seam (spelled1 is) accepts.tape.rest in
+    let same : table_on1 0 31 None (take count codes) ≡ item_table1 0 31 is =
+    ap (table_on1 0 31 None) (head ∙ sym (append-nil (spelled1 is))) ∙ table_is1 0 31 is None accepts.comes.good tt in (
+      done (item_table1 0 31 is),
+      inl (record { tape = accepts.tape; comes = accepts.comes; outcome = refl }),
+      subst (λ (out : List ℕ). TellsOutcome told (done out)) same tells,
+    )
+
+-- what is told of a tape with a fault
+pub fault_told1 : {codes : List ℕ} {row : ℕ} {cause : Tape1Cause} {told : Told} → IsFault1 codes row cause
+    → TellsOutcome told (record {
+      out = table_on1 0 31 None (take row codes);
+      note = rule1_line row cause;
+      status = 3;
+    })
+    → AreToldOf1 codes (Ok told)
+fault_told1 {codes} {row} {cause} {told} f tells =
+    let s = f.is.stands in
+    let read = spelled1 s.before ++ part_rows1 s.part in
+    let n : row ≡ length read = s.row_is ∙ sym (length-append (spelled1 s.before) (part_rows1 s.part)) in
+    let whole : codes ≡ read ++ s.rest = s.rows_are ∙ sym (append_assoc (spelled1 s.before) (part_rows1 s.part) s.rest) in
+    let head : take row codes ≡ read = (λ i. take (n i) (whole i)) ∙ take-append_seam read s.rest in
+    let same : table_on1 0 31 None (take row codes) ≡ item_table1 0 31 s.before =
+    ap (table_on1 0 31 None) head ∙ table_is1 0 31 s.before s.part s.good s.is_part in
+    let outcome : List ℕ → Outcome = λ (out : List ℕ). record { out = out; note = rule1_line row cause; status = 3 } in (
+      outcome (item_table1 0 31 s.before),
+      inr (record { row = row; cause = cause; fault = f; outcome = refl }),
+      subst (λ (out : List ℕ). TellsOutcome told (outcome out)) same tells,
+    )
+
+-- ---- the loop over rows
+
+-- the table so far, and that of the rows that are left, are the whole
+pub record IsTabled1 (row location : ℕ) (part : Option OpenItem) (table rows : List ℕ) : Type 0 where
+  pub whole : table ++ table_on1 row location part (drop row rows) ≡ table_on1 0 31 None rows
+  pub in_range : IsOpen part
+  pub most : location ≤ row + 31
+
+module _ {row location c : ℕ} {table rows : List ℕ} where
+  pub tabled_function1 : IsTabled1 row location None table rows → row < length rows → c ≡ get_or rows row c
+      → IsTabled1 (row + 1) location (Some (item_at row c)) table rows
+  unfolding table_on1
+  tabled_function1 t low e = record {
+    whole = ap (λ xs. table ++ table_on1 row location None xs) (sym (next_row rows row c low e)) ∙ t.whole;
+    in_range = lit≤ tt;
+    most = omega (arith, t.most);
+  }
+
+  module _ {p : OpenItem} (t : IsTabled1 row location (Some p) table rows) (low : row < length rows)
+      (e : c ≡ get_or rows row c) where
+    pub tabled_digit1 : c < 10 → {q : OpenItem} → q ≡ opened_with Digit p c → q.number ≤ 327679
+        → IsTabled1 (row + 1) location (Some q) table rows
+    tabled_digit1 is {q} same few = record {
+      whole = ap (λ x. table ++ table_on1 (row + 1) location (Some x) (drop (row + 1) rows)) same
+          ∙ ap (λ xs. table ++ xs) (sym (digit_row1 row location p c (drop (row + 1) rows) (lt_true c 10 is)))
+          ∙ ap (λ xs. table ++ table_on1 row location (Some p) xs) (sym (next_row rows row c low e)) ∙ t.whole;
+      in_range = few;
+      most = omega (arith, t.most);
+    }
+
+    pub tabled_last1 : 10 ≤ c → {longer : List ℕ} (w : ℕ) → w ≡ first_word p c
+        → longer ≡ table ++ item_line p.first (row + 1) (Some (location, w))
+        → IsTabled1 (row + 1) (location + 1) None longer rows
+    tabled_last1 is {longer} w word line =
+        let more = drop (row + 1) rows in
+        let one = item_line p.first (row + 1) (Some (location, first_word p c)) in
+        record {
+          whole = (λ i. line i ++ table_on1 (row + 1) (location + 1) None more)
+              ∙ (λ i. (table ++ item_line p.first (row + 1) (Some (location, word i)))
+              ++ table_on1 (row + 1) (location + 1) None more)
+              ∙ append_assoc table one (table_on1 (row + 1) (location + 1) None more)
+              ∙ ap (λ xs. table ++ xs) (sym (last_row1 row location p c more (lt_false c 10 is)))
+              ∙ ap (λ xs. table ++ table_on1 row location (Some p) xs) (sym (next_row rows row c low e)) ∙ t.whole;
+          in_range = tt;
+          most = omega (arith, t.most);
+        }
+
+pub tabled_end1 : {row location : ℕ} {part : Option OpenItem} {table rows : List ℕ}
+    → IsTabled1 row location part table rows → length rows ≤ row → table ≡ table_on1 0 31 None rows
+unfolding table_on1
+tabled_end1 {row} {location} {part} {table} {rows} t past =
+    sym (append-nil table) ∙ ap (λ xs. table ++ table_on1 row location part xs) (sym (drop_all row rows past)) ∙ t.whole

@@ -1,0 +1,436 @@
+-- That the plain program over rows makes the table of the items that the rows spell.
+use Rattle.std.proofs.Common.{◌≡◌, ◌∙◌, ℕ, ◌+◌, ◌*◌, ◌^◌, drop, ◌<◌, ◌≤◌, refl, sym, ap, arith, Bool, true, false, nat_lt}
+use Rattle.std.proofs.Common.{Option, Some, None, List, [], ◌∷◌, ◌++◌, append_assoc, length, length-append, if◌then◌else◌, subst, take, inl, inr, lit<, lit≤, get_or}
+use Rattle.std.proofs.lemmas.List.{append-nil, drop_all, get_or-replicate}
+use Rattle.std.proofs.Math.Seq.{set_out, take-append-add, take-append_seam}
+use Rattle.std.specs.Prelude.{Err, Ok, slice_set}
+use Rattle.ed_words.specs.declared.size.Size.{Size}
+use Rattle.ed_words.proofs.Numbers.{lt_false, lt_true}
+use Rattle.ed_store.specs.Cells.{Cells, IsStore, cleared_cells, with_short}
+use Rattle.ed_notation.specs.declared.item.Item.{Item}
+use Rattle.ed_notation.specs.declared.kind.Aim.{Aim}
+use Rattle.ed_notation.specs.declared.kind.Aim.TheVariants.{Enters}
+use Rattle.ed_notation.specs.declared.kind.Control.{Control}
+use Rattle.ed_notation.specs.declared.kind.Control.TheVariants.{ThetaByBlank, ThetaByG}
+use Rattle.ed_notation.specs.declared.kind.RowKind.{RowKind}
+use Rattle.ed_notation.specs.declared.kind.RowKind.TheVariants.{Blank, Digit, Kay, Letter, Mark, Other, Zed}
+use Rattle.ed_notation.specs.declared.cause.TapeCause.{TapeCause}
+use Rattle.ed_notation.specs.declared.cause.TapeFault.TheVariants.{At}
+use Rattle.ed_notation.specs.Checks.{Accepts, AnswersCheck}
+use Rattle.ed_notation.specs.Faults.{AreRead, IsFault, IsPart, part_rows}
+use Rattle.ed_notation.specs.Openings.{opening}
+use Rattle.ed_notation.specs.Reports.{Report}
+use Rattle.ed_notation.proofs.Cuts.{spelled-append}
+use Rattle.ed_notation.proofs.Loop.{next_row}
+use Rattle.ed_report.specs.Notes.{rule_line}
+use Rattle.ed_answers.specs.Outcome.{Outcome, done}
+use Rattle.ed_answers.specs.Tapes.{first_note}
+use Rattle.ed_notation.specs.Fold.{Note, act, acted, address, aim_of, control_of, enters_at, item_word, over, value_of}
+use Rattle.ed_notation.specs.Fold.{with_kay, with_letter, with_zed, word_with}
+use Rattle.ed_notation.specs.Items.{AreDigits, Begun, IsBegun, IsWritten, Written, digits_number, ends, item, mark_rows}
+use Rattle.ed_notation.specs.Items.{row_kind, rows_of, spelled}
+use Rattle.ed_notation.specs.Spellings.{AreWritten}
+use Rattle.ed_page.specs.TapeItems.{PlacingLaw, item_line, item_table, placing, placing_by, tape_table, with_placing}
+use Rattle.ed_page.specs.Private.ItemTables.{IsSetBelow, cells_with, is_last_row, item_at, notation_after, note_over, placing_over}
+use Rattle.ed_page.specs.Private.ItemTables.{table_on, whole_item, opened_with}
+use Rattle.ed_page.specs.declared.items.Notation.{Notation}
+use Rattle.ed_page.specs.declared.items.OpenItem.{OpenItem}
+use Rattle.ed_page.specs.declared.told.Told.{Told}
+use Rattle.ed_page.specs.Private.Stages.{AreToldOf, TellsOutcome}
+
+-- ---- what the fold places
+
+pub placing_law : PlacingLaw
+placing_law words note i = by_kind (row_kind i.end)
+  where
+    by_control : (k : Control) → (with_kay k note i).placed ≡ note.placed
+    by_control ThetaByBlank = refl
+    by_control ThetaByG = refl
+    by_control k = refl
+
+    by_control_zed : (k : Control) → (with_zed k note i).placed ≡ note.placed
+    by_control_zed ThetaByBlank = refl
+    by_control_zed k = refl
+
+    by_aim : (a : Aim) → (with_letter a note (item_word words note i)).placed
+        ≡ with_placing (if enters_at a then None else Some (address note.directive, item_word words note i)) note.placed
+    by_aim Enters = refl
+    by_aim a = refl
+
+    by_kind : (r : RowKind) → (acted r words note i).placed ≡ with_placing (placing_by r words note i) note.placed
+    by_kind Kay = by_control (control_of i.function)
+    by_kind Zed = by_control_zed (control_of i.function)
+    by_kind Letter = by_aim (aim_of note.directive)
+    by_kind r = refl
+
+-- ---- the state over one store
+
+-- a state of the notation is a note over the words of a store
+pub record IsNoteOver (words : List ℕ) (note : Note) (n : Notation) : Type 0 where
+  pub directive : n.directive ≡ note.directive
+  pub theta : n.theta ≡ note.theta
+  pub contents : n.contents.words ≡ over note.placed words
+
+module _ {words : List ℕ} {note : Note} {n : Notation} (o : IsNoteOver words note n) (i : Item) where
+  same_word : item_word n.contents.words (note_over n) i ≡ item_word words note i
+  same_word = λ k. word_with i.function i.number i.mark (value_of (o.contents k) (o.theta k) i.end)
+
+  pub same_placing : placing_over n i ≡ placing words note i
+  same_placing = by_kind (row_kind i.end)
+    where
+      by_kind : (r : RowKind) → placing_by r n.contents.words (note_over n) i ≡ placing_by r words note i
+      by_kind Letter =
+          λ k. if enters_at (aim_of (o.directive k)) then None else Some (address (o.directive k), same_word k)
+      by_kind r = refl
+
+  same_directive : (act n.contents.words (note_over n) i).directive ≡ (act words note i).directive
+  same_directive = by_kind (row_kind i.end)
+    where
+      by_kay : (k : Control) → (with_kay k (note_over n) i).directive ≡ (with_kay k note i).directive
+      by_kay ThetaByBlank = o.directive
+      by_kay ThetaByG = o.directive
+      by_kay k = refl
+
+      by_zed : (k : Control) → (with_zed k (note_over n) i).directive ≡ (with_zed k note i).directive
+      by_zed ThetaByBlank = o.directive
+      by_zed k = ap (λ t. 4096 * i.function + 2 * i.number + t) o.theta
+
+      by_aim : (a : Aim) (w v : ℕ) → (with_letter a (note_over n) w).directive ≡ (with_letter a note v).directive
+      by_aim Enters w v = o.directive
+      by_aim a w v = ap (λ d. d + 2) o.directive
+
+      by_kind : (r : RowKind) → (acted r n.contents.words (note_over n) i).directive ≡ (acted r words note i).directive
+      by_kind Kay = by_kay (control_of i.function)
+      by_kind Zed = by_zed (control_of i.function)
+      by_kind Letter =
+          ap (λ d. (with_letter (aim_of d) (note_over n) (item_word n.contents.words (note_over n) i)).directive) o.directive
+          ∙ by_aim (aim_of note.directive) _ _
+      by_kind r = o.directive
+
+  same_theta : (act n.contents.words (note_over n) i).theta ≡ (act words note i).theta
+  same_theta = by_kind (row_kind i.end)
+    where
+      by_kay : (k : Control) → (with_kay k (note_over n) i).theta ≡ (with_kay k note i).theta
+      by_kay ThetaByBlank = λ j. (with_kay ThetaByBlank (record note { directive = o.directive j }) i).theta
+      by_kay ThetaByG = λ j. (with_kay ThetaByG (record note { directive = o.directive j }) i).theta
+      by_kay k = o.theta
+
+      by_zed : (k : Control) → (with_zed k (note_over n) i).theta ≡ (with_zed k note i).theta
+      by_zed ThetaByBlank =
+          λ j. (with_zed ThetaByBlank (record note { directive = o.directive j; theta = o.theta j }) i).theta
+      by_zed k = o.theta
+
+      by_aim : (a : Aim) (w v : ℕ) → (with_letter a (note_over n) w).theta ≡ (with_letter a note v).theta
+      by_aim Enters w v = o.theta
+      by_aim a w v = o.theta
+
+      by_kind : (r : RowKind) → (acted r n.contents.words (note_over n) i).theta ≡ (acted r words note i).theta
+      by_kind Blank = o.directive
+      by_kind Kay = by_kay (control_of i.function)
+      by_kind Zed = by_zed (control_of i.function)
+      by_kind Letter =
+          ap (λ d. (with_letter (aim_of d) (note_over n) (item_word n.contents.words (note_over n) i)).theta) o.directive
+          ∙ by_aim (aim_of note.directive) _ _
+      by_kind r = o.theta
+
+  same_contents : (cells_with (placing_over n i) n.contents).words ≡ over (act words note i).placed words
+  same_contents =
+      ap (λ q. (cells_with q n.contents).words) same_placing ∙ by_placing (placing words note i)
+      ∙ ap (λ ps. over ps words) (sym (placing_law words note i))
+    where
+      by_placing : (q : Option (ℕ × ℕ)) → (cells_with q n.contents).words ≡ over (with_placing q note.placed) words
+      by_placing None = o.contents
+      by_placing (Some p) = ap (λ ws. slice_set ws p.0 p.1) o.contents
+
+  pub over_after : IsNoteOver words (act words note i) (notation_after n i)
+  over_after = record { directive = same_directive; theta = same_theta; contents = same_contents }
+
+-- ---- the rows of an item
+
+-- digits only make a number larger
+pub larger : (n : ℕ) (ds : List ℕ) → n ≤ digits_number n ds
+larger n [] = omega arith
+larger n (d ∷ ds) = let more = larger (10 * n + d) ds in omega (arith, more)
+
+-- an item with another number
+abbrev pub with_number : OpenItem → ℕ → OpenItem
+with_number p number = record p { number = number }
+
+-- one digit row
+digit_row : (row : ℕ) (n : Notation) (p : OpenItem) (d : ℕ) (more : List ℕ) → d < 10 → p.number ≤ 32767
+    → table_on row n (Some p) (d ∷ more) ≡ table_on (row + 1) n (Some (with_number p (10 * p.number + d))) more
+unfolding table_on
+digit_row row n p d more low few = ap by_kind kind ∙ ap (λ (m : ℕ). table_on (row + 1) n (Some (with_number p m)) more) fits
+  where
+    kind : row_kind d ≡ Digit
+    kind = rw (lt_true d 10 low) refl
+
+    fits : (if nat_lt 32767 p.number then p.number else 10 * p.number + d) ≡ 10 * p.number + d
+    fits = rw (lt_false 32767 p.number few) refl
+
+    by_kind : RowKind → List ℕ
+    by_kind k = elim (is_last_row k) [
+      | true ↦ item_line p.first (row + 1) (placing_over n (whole_item p d))
+          ++ table_on (row + 1) (notation_after n (whole_item p d)) None more
+      | false ↦ table_on (row + 1) n (Some (opened_with k p d)) more
+    ]
+
+-- digit rows, one after the other
+digit_rows : (row : ℕ) (n : Notation) (p : OpenItem) (ds more : List ℕ) → AreDigits ds
+    → digits_number p.number ds ≤ 32767
+    → table_on row n (Some p) (ds ++ more)
+    ≡ table_on (row + length ds) n (Some (with_number p (digits_number p.number ds))) more
+digit_rows row n p [] more are few =
+    let same : row + 0 ≡ row = omega arith in ap (λ r. table_on r n (Some p) more) (sym same)
+digit_rows row n p (d ∷ ds) more are few =
+    let low : p.number ≤ 32767 = let a = larger p.number (d ∷ ds) in omega (arith, a, few) in
+    let same : row + 1 + length ds ≡ row + length (d ∷ ds) = omega arith in
+    digit_row row n p d (ds ++ more) are.0 low
+    ∙ digit_rows (row + 1) n (with_number p (10 * p.number + d)) ds more are.1 few
+    ∙ ap (λ r. table_on r n (Some (with_number p (digits_number p.number (d ∷ ds)))) more) same
+
+-- an item with a mark, or without
+abbrev with_mark : OpenItem → Bool → OpenItem
+with_mark p mark = record p { mark = mark }
+
+-- the π row, if there is one
+mark_row : (row : ℕ) (n : Notation) (p : OpenItem) (mark : Bool) (more : List ℕ) → p.mark ≡ false
+    → table_on row n (Some p) (mark_rows mark ++ more)
+    ≡ table_on (row + length (mark_rows mark)) n (Some (with_mark p mark)) more
+unfolding table_on
+mark_row row n p true more none = refl
+mark_row row n p false more none =
+    let same : row + 0 ≡ row = omega arith in
+    λ i. table_on (sym same i) n (Some (record p { mark = none i })) more
+
+-- the row that ends an item
+last_row : (row : ℕ) (n : Notation) (p : OpenItem) (c : ℕ) (more : List ℕ) → is_last_row (row_kind c) ≡ true
+    → table_on row n (Some p) (c ∷ more)
+    ≡ item_line p.first (row + 1) (placing_over n (whole_item p c))
+    ++ table_on (row + 1) (notation_after n (whole_item p c)) None more
+unfolding table_on
+last_row row n p c more is = rw (is, table_on) refl
+
+ends_it : (b : Begun) (c : ℕ) → ends (row_kind c) b ≡ true → is_last_row (row_kind c) ≡ true
+ends_it b c = by_kind (row_kind c)
+  where
+    by_kind : (r : RowKind) → ends r b ≡ true → is_last_row r ≡ true
+    by_kind Digit h = cc
+    by_kind Mark h = cc
+    by_kind Other h = cc
+    by_kind r h = refl
+
+-- the rows of an item that has begun
+begun_table : (row : ℕ) (n : Notation) (b : Begun) (more : List ℕ) → IsBegun b
+    → table_on row n None (b.function ∷ (b.digits ++ (mark_rows b.mark ++ more)))
+    ≡ table_on (row + 1 + length b.digits + length (mark_rows b.mark)) n
+    (Some (record { first = row; function = b.function; number = digits_number 0 b.digits; mark = b.mark })) more
+unfolding table_on
+begun_table row n b more is =
+    digit_rows (row + 1) n (item_at row b.function) b.digits (mark_rows b.mark ++ more) is.digits is.fits
+    ∙ mark_row (row + 1 + length b.digits) n (with_number (item_at row b.function) (digits_number 0 b.digits)) b.mark more
+    refl
+
+-- the rows of a whole item
+written_table : (row : ℕ) (n : Notation) (w : Written) (more : List ℕ) → IsWritten w
+    → table_on row n None (rows_of w ++ more)
+    ≡ item_line row (row + length (rows_of w)) (placing_over n (item w))
+    ++ table_on (row + length (rows_of w)) (notation_after n (item w)) None more
+written_table row n w more is =
+    let b = w.begun in
+    let ms = mark_rows b.mark in
+    let parts : rows_of w ++ more ≡ b.function ∷ (b.digits ++ (ms ++ (w.end ∷ more))) = simp append_assoc in
+    let counts : length (rows_of w) ≡ 1 + length b.digits + length ms + 1 =
+    simp length-append (omega arith) in
+    let place : row + 1 + length b.digits + length ms + 1 ≡ row + length (rows_of w) = omega (arith, counts) in
+    ap (table_on row n None) parts
+    ∙ begun_table row n b (w.end ∷ more) is.begun
+    ∙ last_row (row + 1 + length b.digits + length ms) n _ w.end more (ends_it b w.end is.ended)
+    ∙ ap (λ r. item_line row r (placing_over n (item w)) ++ table_on r (notation_after n (item w)) None more) place
+
+-- the rows of a part of an item
+part_table : (row : ℕ) (n : Notation) (p : Option Begun) → IsPart p → table_on row n None (part_rows p) ≡ []
+unfolding table_on
+part_table row n None is = refl
+part_table row n (Some b) is =
+    let ms = mark_rows b.mark in
+    let parts : part_rows (Some b) ≡ b.function ∷ (b.digits ++ (ms ++ [])) =
+    ap (λ xs. b.function ∷ (b.digits ++ xs)) (sym (append-nil ms)) in
+    ap (table_on row n None) parts ∙ begun_table row n b [] is
+
+-- ---- the rows of items
+
+pub table_is : (words : List ℕ) (row : ℕ) (note : Note) (n : Notation) (ws : List Written) (p : Option Begun)
+    → IsNoteOver words note n → AreWritten ws → IsPart p
+    → table_on row n None (spelled ws ++ part_rows p) ≡ item_table words note row ws
+unfolding item_table
+table_is words row note n [] p o are part = part_table row n p part
+table_is words row note n (w ∷ ws) p o are part =
+    let next = row + length (rows_of w) in
+    ap (table_on row n None) (append_assoc (rows_of w) (spelled ws) (part_rows p))
+    ∙ written_table row n w (spelled ws ++ part_rows p) are.0
+    ∙ ap (λ rest. item_line row next (placing_over n (item w)) ++ rest)
+    (table_is words next (act words note (item w)) (notation_after n (item w)) ws p (over_after o (item w)) are.1 part)
+    ∙ ap (λ q. item_line row next q ++ item_table words (act words note (item w)) next ws) (same_placing o (item w))
+
+pub are_written : (words : List ℕ) (note : Note) (ws : List Written) → AreRead words note ws → AreWritten ws
+are_written words note [] are = tt
+are_written words note (w ∷ ws) are = (are.0, are_written words (act words note (item w)) ws are.2)
+
+-- ---- the loop over rows
+
+-- the number of an item that has begun is in range
+abbrev pub IsOpen : Option OpenItem → Type 0
+IsOpen None = Unit {0}
+IsOpen (Some p) = p.number ≤ 327679
+
+-- the state of the notation on a cleared store
+abbrev pub first_notation : Notation
+first_notation = record { directive = 20568; theta = 0; contents = cleared_cells }
+
+-- the table so far, and that of the rows that are left, are the whole
+pub record IsTabled (row : ℕ) (n : Notation) (part : Option OpenItem) (table rows : List ℕ) : Type 0 where
+  pub whole : table ++ table_on row n part (drop row rows) ≡ table_on 0 first_notation None rows
+  pub in_range : IsOpen part
+  pub directive : n.directive ≤ 2 ^ 21 * (row + 1)
+  pub theta : n.theta ≤ 2 ^ 21 * (row + 1)
+
+-- a write beyond a store changes nothing
+pub beyond : (cells : Cells) (a v : ℕ) → IsStore cells → 1024 ≤ a → cells ≡ with_short cells a v
+beyond cells a v is past =
+    let out : slice_set cells.words a v ≡ cells.words = set_out cells.words a v (omega (arith, is.words_are, past)) in
+    λ i. record { words = sym out i; sandwich = cells.sandwich }
+
+-- ---- the items of a tape
+
+first_over : IsNoteOver cleared_cells.words first_note first_notation
+first_over = record {
+  directive = refl;
+  theta = sym (get_or-replicate 1024 42 0 0 (lit< tt));
+  contents = refl;
+}
+
+AreWritten-append : (vs ws : List Written) → AreWritten vs → AreWritten ws → AreWritten (vs ++ ws)
+AreWritten-append [] ws a b = b
+AreWritten-append (v ∷ vs) ws a b = (a.0, AreWritten-append vs ws a.1 b)
+
+-- what is told of a well-formed tape
+pub entered_told : (z : Size) {codes : List ℕ} {store : Cells} {r : Report} {count : ℕ} {told : Told}
+    → store ≡ cleared_cells → Accepts z store.words (opening store.words) 9 codes r → count ≡ r.rows
+    → TellsOutcome told (done (table_on 0 first_notation None (take count codes))) → AreToldOf z codes (Ok told)
+entered_told z {codes} {r = r} {count} {told} is accepts many tells =
+    let f : Accepts z cleared_cells.words (opening cleared_cells.words) 9 codes r =
+    subst (λ (c : Cells). Accepts z c.words (opening c.words) 9 codes r) is accepts in
+    let ws = f.comes.before in
+    let last = f.comes.last in
+    let all = ws ++ (last ∷ []) in
+    let n : count ≡ length (spelled ws) + length (rows_of last) = many ∙ f.rows_are ∙ f.comes.read_is in
+    let head : take count codes ≡ spelled ws ++ rows_of last =
+    (λ i. take (n i) (f.comes.rows_are i))
+    ∙ take-append-add (spelled ws) (rows_of last ++ f.entry.rest) (length (rows_of last))
+    ∙ ap (λ xs. spelled ws ++ xs) (take-append_seam (rows_of last) f.entry.rest) in
+    let rows_are : spelled all ++ [] ≡ spelled ws ++ rows_of last =
+    append-nil (spelled all) ∙ spelled-append ws (last ∷ []) ∙ ap (λ xs. spelled ws ++ xs) (append-nil (rows_of last)) in
+    let same : table_on 0 first_notation None (take count codes) ≡ tape_table all =
+    ap (table_on 0 first_notation None) (head ∙ sym rows_are)
+    ∙ table_is cleared_cells.words 0 first_note first_notation all None first_over
+    (AreWritten-append ws (last ∷ []) (are_written cleared_cells.words first_note ws f.comes.are_read) (f.comes.is_written, tt))
+    tt in (
+      done (tape_table all),
+      inl (record { well = f.well; entry = f.entry; comes = f.comes; outcome = refl }),
+      subst (λ (out : List ℕ). TellsOutcome told (done out)) same tells,
+    )
+
+-- what is told of a tape with a fault
+pub fault_told : (z : Size) {codes : List ℕ} {store : Cells} {row : ℕ} {cause : TapeCause} {told : Told}
+    → store ≡ cleared_cells → AnswersCheck z store.words (opening store.words) 9 codes (Err (At row cause))
+    → TellsOutcome told (record {
+      out = table_on 0 first_notation None (take row codes);
+      note = rule_line row cause;
+      status = 3;
+    })
+    → AreToldOf z codes (Ok told)
+fault_told z {codes} {row = row} {cause} {told} is answers tells =
+    let f : IsFault z cleared_cells.words first_note codes row cause =
+    subst (λ (c : Cells). IsFault z c.words (opening c.words) codes row cause) is answers in
+    let s = f.is.stands in
+    let ws = s.before in
+    let read = spelled ws ++ part_rows s.part in
+    let n : row ≡ length read = s.row_is ∙ sym (length-append (spelled ws) (part_rows s.part)) in
+    let whole : codes ≡ read ++ s.rest = s.rows_are ∙ sym (append_assoc (spelled ws) (part_rows s.part) s.rest) in
+    let head : take row codes ≡ read = (λ i. take (n i) (whole i)) ∙ take-append_seam read s.rest in
+    let same : table_on 0 first_notation None (take row codes) ≡ tape_table ws =
+    ap (table_on 0 first_notation None) head
+    ∙ table_is cleared_cells.words 0 first_note first_notation ws s.part first_over
+    (are_written cleared_cells.words first_note ws s.are_read) s.is_part in
+    let outcome : List ℕ → Outcome = λ (out : List ℕ). record { out = out; note = rule_line row cause; status = 3 } in (
+      outcome (tape_table ws),
+      inr (record { row = row; cause = cause; fault = f; outcome = refl }),
+      subst (λ (out : List ℕ). TellsOutcome told (outcome out)) same tells,
+    )
+
+-- ---- the turns of the loop
+
+pub tabled_first : {table : List ℕ} {cells : Cells} (rows : List ℕ) → table ≡ [] → cells ≡ cleared_cells
+    → IsTabled 0 (record { directive = 20568; theta = 0; contents = cells }) None table rows
+tabled_first rows none cleared = record {
+  whole = λ i. none i ++ table_on 0 (record { directive = 20568; theta = 0; contents = cleared i }) None rows;
+  in_range = tt;
+  directive = lit≤ tt;
+  theta = lit≤ tt;
+}
+
+-- a row that does not end its item
+other_row : (row : ℕ) (n : Notation) (p : OpenItem) (c : ℕ) (more : List ℕ) → is_last_row (row_kind c) ≡ false
+    → table_on row n (Some p) (c ∷ more) ≡ table_on (row + 1) n (Some (opened_with (row_kind c) p c)) more
+unfolding table_on
+other_row row n p c more is = rw (is, table_on) refl
+
+module _ {row c : ℕ} {n : Notation} {table rows : List ℕ} where
+  pub tabled_function : IsTabled row n None table rows → row < length rows → c ≡ get_or rows row c
+      → IsTabled (row + 1) n (Some (item_at row c)) table rows
+  unfolding table_on
+  tabled_function t low e = record {
+    whole = ap (λ xs. table ++ table_on row n None xs) (sym (next_row rows row c low e)) ∙ t.whole;
+    in_range = lit≤ tt;
+    directive = omega (arith, t.directive);
+    theta = omega (arith, t.theta);
+  }
+
+  module _ {p : OpenItem} (t : IsTabled row n (Some p) table rows) (low : row < length rows)
+      (e : c ≡ get_or rows row c) where
+    pub tabled_longer : is_last_row (row_kind c) ≡ false → {q : OpenItem} → q ≡ opened_with (row_kind c) p c
+        → q.number ≤ 327679 → IsTabled (row + 1) n (Some q) table rows
+    tabled_longer is {q} same few = record {
+      whole = ap (λ x. table ++ table_on (row + 1) n (Some x) (drop (row + 1) rows)) same
+          ∙ ap (λ xs. table ++ xs) (sym (other_row row n p c (drop (row + 1) rows) is))
+          ∙ ap (λ xs. table ++ table_on row n (Some p) xs) (sym (next_row rows row c low e)) ∙ t.whole;
+      in_range = few;
+      directive = omega (arith, t.directive);
+      theta = omega (arith, t.theta);
+    }
+
+    pub tabled_last : is_last_row (row_kind c) ≡ true → {m : Notation} {longer : List ℕ} (q : Option (ℕ × ℕ))
+        → q ≡ placing_over n (whole_item p c) → longer ≡ table ++ item_line p.first (row + 1) q
+        → m ≡ notation_after n (whole_item p c) → IsSetBelow n m → IsTabled (row + 1) m None longer rows
+    tabled_last is {m} {longer} q places line next below =
+        let bound = below (2 ^ 21 * (row + 1)) t.directive t.theta in
+        let more = drop (row + 1) rows in
+        let one = item_line p.first (row + 1) (placing_over n (whole_item p c)) in
+        record {
+          whole = (λ i. line i ++ table_on (row + 1) (next i) None more)
+              ∙ (λ i. (table ++ item_line p.first (row + 1) (places i))
+              ++ table_on (row + 1) (notation_after n (whole_item p c)) None more)
+              ∙ append_assoc table one (table_on (row + 1) (notation_after n (whole_item p c)) None more)
+              ∙ ap (λ xs. table ++ xs) (sym (last_row row n p c more is))
+              ∙ ap (λ xs. table ++ table_on row n (Some p) xs) (sym (next_row rows row c low e)) ∙ t.whole;
+          in_range = tt;
+          directive = omega (arith, bound.0);
+          theta = omega (arith, bound.1);
+        }
+
+pub tabled_end : {row : ℕ} {n : Notation} {part : Option OpenItem} {table rows : List ℕ}
+    → IsTabled row n part table rows → length rows ≤ row → table ≡ table_on 0 first_notation None rows
+unfolding table_on
+tabled_end {row} {n} {part} {table} {rows} t past =
+    sym (append-nil table) ∙ ap (λ xs. table ++ table_on row n part xs) (sym (drop_all row rows past)) ∙ t.whole

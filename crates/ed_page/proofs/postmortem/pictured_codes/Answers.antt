@@ -1,0 +1,15 @@
+use Rattle.std.proofs.Common.{◌≡◌, ◌∙◌, ap, subst, sym}
+use Rattle.ed_words.specs.declared.size.Size.{Size}
+use Rattle.ed_machine.specs.State.{State}
+use Rattle.ed_command.specs.Ranges.{IsWindowOf}
+use Rattle.ed_page.specs.Pictures.{size_shown}
+use Rattle.ed_page.proofs.OnTheWay.{begun, way_size}
+use Rattle.ed_page.proofs.postmortem.pictured_codes.Goals as goal
+
+pub window_codes-requires-clause-window : goal.window_codes-requires-clause-window
+window_codes-requires-clause-window c =
+    let p = c.requires.picture in
+    let size : c.in_ok-machine.machine.size ≡ size_shown c.args.small =
+    ap (λ (s : State). s.size) (c.in_ok-machine.ensures p.first p.begins p.way.orders p.way.pictured)
+    ∙ way_size (begun p) p.way.orders in
+    subst (λ (z : Size). IsWindowOf z c.args.window) (sym size) c.requires.window

@@ -1,0 +1,372 @@
+//! The items of a tape: the rows that spell each, and the word that it places.
+
+ghost use Rattle.std.specs.Prelude.{◌≡◌, ◌+◌, ◌*◌, ◌≤◌, ◌<◌, ◌^◌, [], ◌∷◌, ◌++◌, IfOk, None, length, ℕ};
+ghost use Rattle.ed_store.specs.Cells.{cleared_cells, with_short};
+ghost use Rattle.ed_notation.specs.Fold.{address, control_of, item_word, with_kay, with_zed};
+ghost use Rattle.ed_notation.specs.Items.{row_kind};
+ghost use Rattle.ed_notation.specs.declared.kind.RowKind.TheVariants.{Digit};
+ghost use Rattle.ed_page.specs.Answers.{IsTextTold, text_buffers};
+ghost use Rattle.ed_page.specs.Pictures.{size_shown};
+ghost use Rattle.ed_page.specs.Private.ItemTables.{IsSetAs, IsSetBelow, is_last_row, item_at, notation_after, note_over};
+ghost use Rattle.ed_page.specs.Private.ItemTables.{placing_over, table_on, whole_item, opened_with};
+ghost use Rattle.ed_page.specs.Private.Stages.{AreToldOf, IsAnswered};
+ghost use Rattle.ed_page.specs.TapeItems.{PlacingLaw, four_bytes, four_numbers, item_line, items_answer};
+
+use crate::running::size_of;
+use crate::texts::tell;
+use crate::told::{NO_MEMORY, NO_ROOM, Told, is_too_long, lacks_line, rejected};
+use crate::writing::Lengths;
+use ed_answers::rows_of;
+use ed_codes::Code;
+use ed_notation::{TapeFault, check};
+use ed_report::tape_fault;
+use ed_store::Store;
+use ed_words::{NoMemory, Size, Word};
+use std::alloc::Global;
+
+/// The word of T 44 F, the directive that the Initial Orders begin with.
+const FIRST_DIRECTIVE: u64 = 20568;
+
+/// What stands for the location of an item that places no word.
+const NO_LOCATION: u32 = 1024;
+
+/// How many locations a store has.
+const LOCATIONS: u16 = 1024;
+
+/// An item of which the function row and perhaps more rows have been read.
+#[derive(Clone, Copy)]
+pub struct OpenItem {
+    /// The row of its function.
+    pub first: u32,
+    pub function: Code,
+    pub number: u32,
+    pub mark: bool,
+}
+
+/// The state of the notation: the directive, θ, and a store with the words that were placed so far.
+#[derive(Drop)]
+pub struct Notation {
+    pub directive: u64,
+    pub theta: u64,
+    pub contents: Store,
+}
+
+/// Writes the table of the items of a tape's text, and answers 0: for each item up to the entry four numbers of four
+/// bytes, the least byte first. They are its first row, the row after its last, the location at which it places a word,
+/// or 1,024, and the word. For a tape with a fault the answer is 3: the table has the items before the fault, and the
+/// note is its line. The other answers are those of `page_tape_rows`.
+#[unsafe(no_mangle)]
+pub extern "C" fn page_items(
+    alloc: Global,
+    text: &[u8],
+    small: bool,
+    items: &mut [u8],
+    note: &mut [u8],
+    lengths: &mut Lengths,
+) -> u32
+    ensures told { IsTextTold (items_answer (size_shown small)) text.now
+        (text_buffers items.old note.old lengths.old)
+        (text_buffers items.new note.new lengths.new) result }
+    ensures law { PlacingLaw }
+{
+    if lacks_line(text, note) {
+        return NO_ROOM;
+    }
+    match tape_items(alloc, size_of(small), text) {
+        Ok(told) => tell(&told, items, note, lengths),
+        Err(NoMemory) => NO_MEMORY,
+    }
+}
+
+/// What is told of the items of a tape's text.
+fn tape_items(alloc: Global, size: Size, text: &[u8]) -> Result<Told, NoMemory>
+    ensures { IsAnswered (items_answer size) text.now result }
+{
+    if is_too_long(text) {
+        return Told::too_long(alloc);
+    }
+    match rows_of(alloc, text) {
+        Ok(rows) => row_items(alloc, size, &rows),
+        Err(rejection) => rejected(rejection),
+    }
+}
+
+/// What is told of the items of rows.
+fn row_items(alloc: Global, size: Size, rows: &[Code]) -> Result<Told, NoMemory>
+    requires { length rows.now ≤ 262144 }
+    ensures { AreToldOf size rows.now result }
+{
+    let store = Store::cleared(alloc)?;
+    match check(alloc, size, &store, rows) {
+        Ok(checked) => Ok(Told::done(alloc, item_table(alloc, &rows[..checked.rows()])?)),
+        Err(TapeFault::At { row, cause }) => {
+            let items = item_table(alloc, &rows[..row])?;
+            Ok(Told::refused(items, tape_fault(alloc, &TapeFault::At { row, cause })?))
+        }
+        Err(TapeFault::Memory) => Err(NoMemory),
+    }
+}
+
+/// The table of the items that rows spell.
+fn item_table(alloc: Global, rows: &[Code]) -> Result<Vec<u8>, NoMemory>
+    requires { length rows.now ≤ 262144 }
+    ensures { IfOk result (λ table. table.items
+        ≡ table_on 0 (record { directive = 20568; theta = 0; contents = cleared_cells }) None rows.now) }
+{
+    let mut notation = Notation {
+        directive: FIRST_DIRECTIVE,
+        theta: 0,
+        contents: Store::cleared(alloc)?,
+    };
+    let mut part: Option<OpenItem> = None;
+    let mut table = Vec::new(alloc);
+    for (row, code) in rows.iter().enumerate() {
+        part = match part {
+            None => Some(OpenItem::at(row as u32, *code)),
+            Some(item) => {
+                if is_last_row(*code) {
+                    let placing = notation.placing(&item, *code);
+                    push_line(&mut table, &item, row as u32 + 1, placing)?;
+                    notation.take(&item, *code);
+                    None
+                } else {
+                    Some(item.with_row(*code))
+                }
+            }
+        };
+    }
+    Ok(table)
+}
+
+/// Whether a row inside an item ends it: Z, K, blank or a code letter.
+fn is_last_row(row: Code) -> bool
+    ensures { result ≡ is_last_row (row_kind row) }
+{
+    let code = row.value();
+    code == 13 || code == 14 || 16 <= code
+}
+
+/// Adds the line of an item to a table.
+fn push_line(
+    table: &mut Vec<u8>,
+    item: &OpenItem,
+    after: u32,
+    placing: Option<(u16, Word)>,
+) -> Result<(), NoMemory>
+    ensures { IfOk result (λ _. table.new.items ≡ table.old.items ++ item_line item.now.first after placing) }
+{
+    match placing {
+        Some((location, word)) => push_numbers(
+            table,
+            item.first,
+            after,
+            u32::from(location),
+            word.value(),
+        ),
+        None => push_numbers(table, item.first, after, NO_LOCATION, 0),
+    }
+}
+
+/// Adds four numbers to a table.
+#[tactic(auto, using(std::proofs::Common::append_assoc))]
+pub fn push_numbers(
+    table: &mut Vec<u8>,
+    first: u32,
+    after: u32,
+    location: u32,
+    word: u32,
+) -> Result<(), NoMemory>
+    ensures { IfOk result (λ _. table.new.items ≡ table.old.items ++ four_numbers first after location word) }
+{
+    push_number(table, first)?;
+    push_number(table, after)?;
+    push_number(table, location)?;
+    push_number(table, word)
+}
+
+/// Adds a number to a table, the least byte first.
+fn push_number(table: &mut Vec<u8>, number: u32) -> Result<(), NoMemory>
+    ensures { IfOk result (λ _. table.new.items ≡ table.old.items ++ four_bytes number) }
+{
+    push_byte(table, (number % 256) as u8)?;
+    push_byte(table, (number / 256 % 256) as u8)?;
+    push_byte(table, (number / 65536 % 256) as u8)?;
+    push_byte(table, (number / 16777216 % 256) as u8)
+}
+
+fn push_byte(table: &mut Vec<u8>, byte: u8) -> Result<(), NoMemory>
+    ensures { IfOk result (λ _. table.new.items ≡ table.old.items ++ byte ∷ []) }
+{
+    match table.push(byte) {
+        Ok(()) => Ok(()),
+        Err(_) => Err(NoMemory),
+    }
+}
+
+impl OpenItem {
+    /// The item that a function row begins.
+    pub fn at(row: u32, function: Code) -> OpenItem
+        ensures { result ≡ item_at row function }
+    {
+        OpenItem {
+            first: row,
+            function,
+            number: 0,
+            mark: false,
+        }
+    }
+
+    /// The item with one more row that does not end it.
+    fn with_row(self, row: Code) -> OpenItem
+        requires { self.number ≤ 327679 }
+        ensures is { result ≡ opened_with (row_kind row) self row }
+        ensures fits { result.number ≤ 327679 }
+    {
+        let code = row.value();
+        if code < 10 {
+            self.with_digit(code)
+        } else {
+            OpenItem { mark: true, ..self }
+        }
+    }
+
+    /// The item with one more digit; a number that is too large stays.
+    pub fn with_digit(self, digit: u8) -> OpenItem
+        requires number { self.number ≤ 327679 }
+        requires digit { digit < 10 }
+        ensures is { result ≡ opened_with Digit self digit }
+        ensures fits { result.number ≤ 327679 }
+    {
+        if 32767 < self.number {
+            self
+        } else {
+            OpenItem {
+                number: 10 * self.number + u32::from(digit),
+                ..self
+            }
+        }
+    }
+
+    /// The number of the function and the address, as K and Z take them.
+    pub fn sum(&self) -> u64
+        requires { self.now.number ≤ 327679 }
+        ensures is { result ≡ 4096 * self.now.function + 2 * self.now.number }
+        ensures fits { result ≤ 2 ^ 20 }
+    {
+        4096 * u64::from(self.function.value()) + 2 * u64::from(self.number)
+    }
+}
+
+impl Notation {
+    /// The location and the word that an item places, if it places one.
+    fn placing(&self, item: &OpenItem, end: Code) -> Option<(u16, Word)>
+        requires number { item.now.number ≤ 327679 }
+        requires theta { self.now.theta ≤ 2 ^ 42 }
+        ensures { result ≡ placing_over self.now (whole_item item.now end) }
+    {
+        if end.value() < 17 || self.directive / 4096 == 3 {
+            None
+        } else {
+            Some((self.address(), self.word(item, end)))
+        }
+    }
+
+    /// The address of the directive.
+    fn address(&self) -> u16
+        ensures { result ≡ address self.now.directive }
+    {
+        (self.directive % 4096 / 2) as u16
+    }
+
+    /// The word of an item that a code letter ends.
+    fn word(&self, item: &OpenItem, letter: Code) -> Word
+        requires number { item.now.number ≤ 327679 }
+        requires theta { self.now.theta ≤ 2 ^ 42 }
+        ensures { result ≡ item_word self.now.contents.words (note_over self.now) (whole_item item.now letter) }
+    {
+        let value = match letter.value() {
+            17 => 0,
+            18 => self.theta,
+            19 => 1,
+            code => u64::from(self.contents.short(24 + u16::from(code)).value()),
+        };
+        let sum = item.sum() + u64::from(item.mark) + value;
+        Word::of_number((sum % (1 << 17)) as u32)
+    }
+
+    /// Takes an item: it places its word, or sets the directive or θ, or neither.
+    fn take(&mut self, item: &OpenItem, end: Code)
+        requires number { item.now.number ≤ 327679 }
+        requires bound { (self.old.directive ≤ 2 ^ 42) × (self.old.theta ≤ 2 ^ 42) }
+        ensures is { self.new ≡ notation_after self.old (whole_item item.now end) }
+        ensures bound { IsSetBelow self.old self.new }
+    {
+        match self.placing(item, end) {
+            Some((location, word)) => self.place(location, word),
+            None => self.control(item, end),
+        }
+    }
+
+    /// Places a word, and moves the directive on.
+    fn place(&mut self, location: u16, word: Word)
+        requires { self.old.directive ≤ 2 ^ 42 }
+        ensures { self.new ≡ record {
+          directive = self.old.directive + 2;
+          theta = self.old.theta;
+          contents = with_short self.old.contents location word;
+        } }
+    {
+        // The contract of `short` tells the proof that the store is one.
+        let _ = self.contents.short(0);
+        if location < LOCATIONS {
+            self.contents.put_short(location, word);
+        }
+        self.directive += 2;
+    }
+
+    /// Takes an item that places no word.
+    fn control(&mut self, item: &OpenItem, end: Code)
+        requires number { item.now.number ≤ 327679 }
+        requires bound { (self.old.directive ≤ 2 ^ 42) × (self.old.theta ≤ 2 ^ 42) }
+        requires none { placing_over self.old (whole_item item.now end) ≡ None }
+        ensures is { self.new ≡ notation_after self.old (whole_item item.now end) }
+        ensures bound { IsSetBelow self.old self.new }
+    {
+        match end.value() {
+            13 => self.take_zed(item),
+            14 => self.take_kay(item),
+            16 => self.theta = self.directive,
+            _ => {}
+        }
+    }
+
+    /// Takes an item that ends with K: blank and G set θ, every other function the directive.
+    fn take_kay(&mut self, item: &OpenItem)
+        requires number { item.now.number ≤ 327679 }
+        requires bound { (self.old.directive ≤ 2 ^ 42) × (self.old.theta ≤ 2 ^ 42) }
+        ensures is { IsSetAs (with_kay (control_of item.now.function) (note_over self.old) (whole_item item.now 14))
+            self.old self.new }
+        ensures bound { IsSetBelow self.old self.new }
+    {
+        let sum = item.sum();
+        match item.function.value() {
+            16 | 27 => self.theta = (sum + self.directive) % (1 << 17),
+            _ => self.directive = sum,
+        }
+    }
+
+    /// Takes an item that ends with Z: blank sets θ, every other function the directive.
+    fn take_zed(&mut self, item: &OpenItem)
+        requires number { item.now.number ≤ 327679 }
+        requires bound { (self.old.directive ≤ 2 ^ 42) × (self.old.theta ≤ 2 ^ 42) }
+        ensures is { IsSetAs (with_zed (control_of item.now.function) (note_over self.old) (whole_item item.now 13))
+            self.old self.new }
+        ensures bound { IsSetBelow self.old self.new }
+    {
+        let sum = item.sum() + self.theta;
+        match item.function.value() {
+            16 => self.theta = (sum + self.directive) % (1 << 17),
+            _ => self.directive = sum,
+        }
+    }
+}

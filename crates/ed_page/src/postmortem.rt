@@ -1,0 +1,139 @@
+//! The post-mortem of the state that a picture shows.
+
+ghost use Rattle.std.specs.Prelude.{◌≡◌, ◌⊎◌, ◌≢◌, ◌↔◌, ℕ, ◌+◌, ◌^◌, ◌≤◌, IfErr, IfOk, IsTrue, List, Some, length};
+ghost use Rattle.ed_command.specs.Ranges.{IsWindowOf};
+ghost use Rattle.ed_command.specs.declared.command.Window.{Window};
+ghost use Rattle.ed_machine.specs.State.{State};
+ghost use Rattle.ed_machine.specs.Steps.{state_after};
+ghost use Rattle.ed_postmortem.specs.Codes.{printed_codes};
+ghost use Rattle.ed_answers.specs.Runs.{post_mortem_codes};
+ghost use Rattle.ed_page.specs.Going.{CanGoOn, IsAfterStart};
+ghost use Rattle.ed_page.specs.Pictures.{Pictures, size_shown};
+ghost use Rattle.ed_page.specs.PostMortems.{IsPostMortemTold, IsWindowTold, code_buffer};
+
+use crate::pictured::pictured;
+use crate::running::size_of;
+use crate::texts::bytes_of_rows;
+use crate::told::{NO_MEMORY, NO_ROOM};
+use crate::writing::{Registers, write_text};
+use ed_command::Window;
+use ed_machine::{Machine, Paper};
+use ed_postmortem::{PmFault, post_mortem};
+use ed_words::{NoMemory, Size};
+use std::alloc::Global;
+
+/// The answer where the codes were written.
+const WRITTEN: u32 = 0;
+
+/// The answer where there are no such locations.
+const REFUSED: u32 = 3;
+
+/// How many codes the paper of a post-mortem holds, which are enough for all words that can be printed.
+const ROOM: usize = 9_680;
+
+/// Writes the codes that a post-mortem prints of the words at `window` in the state that a picture shows, and their
+/// number, and answers 0.
+///
+/// The picture is one that `page_go_on` takes. It answers 12 if a buffer of the store has the wrong length or the codes
+/// have no room, 3 if the locations do not lie between 144 and the end of the store, and 10 if no memory was found;
+/// nothing is written then.
+#[unsafe(no_mangle)]
+pub extern "C" fn page_post_mortem(
+    alloc: Global,
+    rows: &[u8],
+    small: bool,
+    first: u16,
+    count: u16,
+    words: &[u32],
+    digits: &[u8],
+    registers: &Registers,
+    codes: &mut [u8],
+    printed: &mut u64,
+) -> u32
+    requires picture { CanGoOn small rows.now words.now digits.now registers.now }
+    requires orders { registers.now.orders + 300000 ≤ 2 ^ 63 }
+    ensures told { length words.now ≡ 1024 → length digits.now ≡ 512
+        → (s : State) → IsAfterStart small rows.now s → (k : ℕ)
+        → Pictures (state_after k s) words.now digits.now registers.now
+        → IsPostMortemTold (size_shown small) (record { first = first; count = count }) (state_after k s)
+        (code_buffer codes.old printed.old) (code_buffer codes.new printed.new) result }
+    ensures early { (length words.now ≢ 1024) ⊎ (length digits.now ≢ 512)
+        → (result ≡ 12) × (code_buffer codes.new printed.new ≡ code_buffer codes.old printed.old) }
+{
+    if words.len() != 1024 || digits.len() != 512 {
+        return NO_ROOM;
+    }
+    let window = Window { first, count };
+    if !is_window(size_of(small), window) {
+        return REFUSED;
+    }
+    match pictured_codes(alloc, rows, small, window, words, digits, registers) {
+        Ok(found) => tell(&found, codes, printed),
+        Err(NoMemory) => NO_MEMORY,
+    }
+}
+
+/// Whether a store has these locations for a post-mortem.
+fn is_window(size: Size, window: Window) -> bool
+    ensures { IsTrue result ↔ IsWindowOf size window }
+{
+    144 <= window.first
+        && u32::from(window.first) + u32::from(window.count) <= u32::from(size.value())
+}
+
+/// The codes of a post-mortem of the state that a picture shows.
+fn pictured_codes(
+    alloc: Global,
+    rows: &[u8],
+    small: bool,
+    window: Window,
+    words: &[u32],
+    digits: &[u8],
+    registers: &Registers,
+) -> Result<Vec<u8>, NoMemory>
+    requires words { length words.now ≡ 1024 }
+    requires digits { length digits.now ≡ 512 }
+    requires picture { CanGoOn small rows.now words.now digits.now registers.now }
+    requires orders { registers.now.orders + 300000 ≤ 2 ^ 63 }
+    requires window { IsWindowOf (size_shown small) window }
+    ensures { IfOk result (λ found. (s : State) → IsAfterStart small rows.now s → (k : ℕ)
+        → Pictures (state_after k s) words.now digits.now registers.now
+        → found.items ≡ post_mortem_codes (Some window) (state_after k s)) }
+{
+    let mut machine = pictured(alloc, small, rows, words, digits, registers)?;
+    match window_codes(alloc, &mut machine, window) {
+        Ok(codes) => Ok(codes),
+        Err(_) => Err(NoMemory),
+    }
+}
+
+/// The codes of the words at a window. No post-mortem of it is refused: it lies in the store, and the paper has room.
+fn window_codes(alloc: Global, machine: &mut Machine, window: Window) -> Result<Vec<u8>, PmFault>
+    requires window { IsWindowOf machine.old.size window }
+    requires orders { machine.old.orders + 300000 ≤ 2 ^ 63 }
+    ensures is { IfOk result (λ found.
+        found.items ≡ printed_codes machine.old.store.words window.first window.count) }
+    ensures memory { IfErr result (λ fault. fault ≡ PmFault.Memory) }
+{
+    let Ok(mut paper) = Paper::new(alloc, ROOM) else {
+        return Err(PmFault::Memory);
+    };
+    post_mortem(alloc, machine, window.first, window.count, &mut paper)?;
+    match bytes_of_rows(alloc, paper.codes()) {
+        Ok(codes) => Ok(codes),
+        Err(NoMemory) => Err(PmFault::Memory),
+    }
+}
+
+/// Writes codes and their number, if the buffer has room.
+fn tell(found: &[u8], codes: &mut [u8], printed: &mut u64) -> u32
+    ensures { (w : Window) (s : State) → found.now ≡ post_mortem_codes (Some w) s
+        → IsWindowTold w s (code_buffer codes.old printed.old) (code_buffer codes.new printed.new) result }
+{
+    if codes.len() < found.len() {
+        return NO_ROOM;
+    }
+    write_text(found, codes);
+    *printed = found.len() as u64;
+    WRITTEN
+}
