@@ -1,7 +1,7 @@
 -- What the source of `examples/add.edsac` prints, for any two numbers: its lines, its entry and its law.
-use Rattle.std.proofs.Common.{◌≡◌, ℕ, ◌+◌, ◌*◌, ◌<◌, true, false, List, [], ◌∷◌, refl, sym, arith, append-nil, codes}
+use Rattle.std.proofs.Common.{◌≡◌, ℕ, ◌+◌, ◌*◌, ◌<◌, true, false, List, [], ◌∷◌, refl, sym, arith, append-nil}
 use Rattle.std.proofs.Common.{length, lit≤}
-use Rattle.ed_words.proofs.Numbers.{le_true, lt_true}
+use Rattle.ed_words.proofs.Numbers.{lt_true}
 use Rattle.ed_words.specs.declared.size.Size.{Size}
 use Rattle.ed_library.specs.Images.{parameter_store}
 use Rattle.ed_syntax.specs.Private.Grammar.{settings}
@@ -15,50 +15,30 @@ use Rattle.ed_sources.proofs.AtEntry.{all_words}
 use Rattle.ed_sources.proofs.Entries.{frame_at, moment_at}
 use Rattle.ed_sources.proofs.Papers.{digits_printed}
 use Rattle.ed_command.specs.declared.command.Settings.{Settings}
-use Rattle.ed_programs.specs.Numbers.{numbers_line}
 use Rattle.ed_programs.specs.Programs.{SourceRuns}
-use Rattle.ed_programs.specs.Add.{add_orders, add_prints, add_source, add_text}
+use Rattle.ed_programs.specs.Add.{add_orders, add_prints, add_data, add_pieces, add_text}
 use Rattle.ed_programs.proofs.AddProgram.{Given, add_stops, cells}
-use Rattle.ed_programs.proofs.DataLines.{are_small, data_mark, data_plain, data_says, data_short, number_rows}
-use Rattle.ed_programs.proofs.NumberLines.{use_mark}
+use Rattle.ed_programs.proofs.DataLines.{are_small, data_mark, number_rows}
 use Rattle.ed_programs.proofs.ProgramEntry.{routine_after, stops_from_entry}
-use Rattle.ed_programs.proofs.SourceLines.{Marked, lines_said}
-use Rattle.ed_programs.proofs.SourceRuns.{AreSaid, program_runs}
+use Rattle.ed_programs.proofs.SourceLines.{Marked}
+use Rattle.ed_programs.proofs.SourceRuns.{lines_of_pieces, program_runs}
 
 module _ (a b : ℕ) (small : a + b < 65536) where
   abbrev ns : List ℕ
   ns = a ∷ b ∷ []
 
-  abbrev marks : List Marked
-  marks =
-      use_mark 18 (codes "read") (codes "r") (codes "value") ∷ use_mark 19 (codes "print") (codes "p") (codes "value")
-      ∷ data_mark 21 ns ∷ []
+  two_small : are_small ns ≡ true
+  two_small = let x = lt_true a 65536 (omega arith) in let y = lt_true b 65536 (omega arith) in rw (x, y) refl
+
+  abbrev marks : List (Marked false)
+  marks = data_mark 21 ns (lit≤ tt) (lit≤ tt) (lit≤ tt) two_small ∷ []
 
   abbrev lines : List Line
-  lines = lines_said false 1 (add_source a b) marks
-
-  said : AreSaid false (add_source a b) marks
-  unfolding settings
-  said =
-      let x = lt_true a 65536 (omega arith) in
-      let y = lt_true b 65536 (omega arith) in
-      let are : are_small ns ≡ true = rw (x, y) refl in
-      let plain = data_plain false 21 ns (lit≤ tt) (lit≤ tt) (lit≤ tt) are in
-      let short = le_true (length (numbers_line ns)) 120 (data_short false 21 ns (lit≤ tt) (lit≤ tt) (lit≤ tt) are) in
-      record {
-        plain = rw plain refl;
-        short = rw short refl;
-        few = lit≤ tt;
-        version = refl;
-        read = refl;
-        marked = (refl, (refl, (data_says false 21 ns (lit≤ tt) (lit≤ tt) (lit≤ tt) are, tt)));
-        small = refl;
-        full = refl;
-      }
+  lines = lines_of_pieces false add_pieces (add_data a b) marks
 
   module _ (z : Size) where
     given : Given
-    unfolding parameter_store
+    unfolding settings parameter_store
     given = record {
       f = frame_at 14 z (lit≤ tt);
       above = lit≤ tt;
@@ -73,12 +53,13 @@ module _ (a b : ℕ) (small : a + b < 65536) where
 
     ends : ComesToStop (13 * length (digits a) + 13 * length (digits b) + print_orders (a + b) + 33)
         (entry_state z lines) (11 ∷ digits (a + b)) 68
-    unfolding given
+    unfolding settings given
     ends =
         stops_from_entry z lines refl 14 (lit≤ tt) (cells 56 70 94 0 0) refl refl (number_rows ns)
         (sym (append-nil (number_rows ns))) (add_stops given a b small (entry_state z lines).orders)
 
   pub each_sum : (s : Settings) → SourceRuns s (add_text a b) (add_orders a b) 68 (add_prints a b)
+  unfolding settings
   each_sum s =
       let few = few_digits (a + b) in
-      program_runs s (add_source a b) said (ends s.size) (omega arith) (omega arith) (digits_printed (a + b) small)
+      program_runs s false add_pieces (add_data a b) marks refl (ends s.size) (omega arith) (omega arith) (digits_printed (a + b) small)

@@ -1,8 +1,8 @@
 -- What the source of `examples/difference.edsac` prints, for any two numbers: its lines, its entry and its law.
-use Rattle.std.proofs.Common.{◌≡◌, ℕ, ◌+◌, ◌*◌, ◌<◌, true, List, [], ◌∷◌, refl, sym, arith, append-nil, codes, length}
+use Rattle.std.proofs.Common.{◌≡◌, ℕ, ◌+◌, ◌*◌, ◌<◌, true, List, [], ◌∷◌, refl, sym, arith, append-nil, length}
 use Rattle.std.proofs.Common.{lit≤, nat_lt}
 use Rattle.std.specs.Prelude.{if◌then◌else◌}
-use Rattle.ed_words.proofs.Numbers.{le_true, lt_true}
+use Rattle.ed_words.proofs.Numbers.{lt_true}
 use Rattle.ed_words.specs.declared.size.Size.{Size}
 use Rattle.ed_library.specs.Images.{parameter_store}
 use Rattle.ed_syntax.specs.Private.Grammar.{settings}
@@ -16,51 +16,31 @@ use Rattle.ed_sources.proofs.AtEntry.{all_words}
 use Rattle.ed_sources.proofs.Entries.{frame_at, moment_at}
 use Rattle.ed_sources.proofs.Papers.{digits_printed}
 use Rattle.ed_command.specs.declared.command.Settings.{Settings}
-use Rattle.ed_programs.specs.Numbers.{numbers_line}
 use Rattle.ed_programs.specs.Programs.{SourceRuns}
-use Rattle.ed_programs.specs.Difference.{difference_orders, difference_prints, difference_source, difference_text}
+use Rattle.ed_programs.specs.Difference.{difference_orders, difference_prints, difference_data, difference_pieces, difference_text}
 use Rattle.ed_programs.specs.Difference.{distance}
 use Rattle.ed_programs.proofs.DifferenceProgram.{Given, difference_stops, cells}
-use Rattle.ed_programs.proofs.DataLines.{are_small, data_mark, data_plain, data_says, data_short, number_rows}
-use Rattle.ed_programs.proofs.NumberLines.{use_mark}
+use Rattle.ed_programs.proofs.DataLines.{are_small, data_mark, number_rows}
 use Rattle.ed_programs.proofs.ProgramEntry.{routine_after, stops_from_entry}
-use Rattle.ed_programs.proofs.SourceLines.{Marked, lines_said}
-use Rattle.ed_programs.proofs.SourceRuns.{AreSaid, program_runs}
+use Rattle.ed_programs.proofs.SourceLines.{Marked}
+use Rattle.ed_programs.proofs.SourceRuns.{lines_of_pieces, program_runs}
 
 module _ (a b : ℕ) (first : a < 65536) (second : b < 65536) where
   abbrev ns : List ℕ
   ns = a ∷ b ∷ []
 
-  abbrev marks : List Marked
-  marks =
-      use_mark 24 (codes "read") (codes "r") (codes "number") ∷ use_mark 25 (codes "print") (codes "p") (codes "number")
-      ∷ data_mark 27 ns ∷ []
+  two_small : are_small ns ≡ true
+  two_small = let x = lt_true a 65536 first in let y = lt_true b 65536 second in rw (x, y) refl
+
+  abbrev marks : List (Marked true)
+  marks = data_mark 27 ns (lit≤ tt) (lit≤ tt) (lit≤ tt) two_small ∷ []
 
   abbrev lines : List Line
-  lines = lines_said true 1 (difference_source a b) marks
-
-  said : AreSaid true (difference_source a b) marks
-  unfolding settings
-  said =
-      let x = lt_true a 65536 first in
-      let y = lt_true b 65536 second in
-      let small : are_small ns ≡ true = rw (x, y) refl in
-      let plain = data_plain true 27 ns (lit≤ tt) (lit≤ tt) (lit≤ tt) small in
-      let short = le_true (length (numbers_line ns)) 120 (data_short true 27 ns (lit≤ tt) (lit≤ tt) (lit≤ tt) small) in
-      record {
-        plain = rw plain refl;
-        short = rw short refl;
-        few = lit≤ tt;
-        version = refl;
-        read = refl;
-        marked = (refl, (refl, (data_says true 27 ns (lit≤ tt) (lit≤ tt) (lit≤ tt) small, tt)));
-        small = refl;
-        full = refl;
-      }
+  lines = lines_of_pieces true difference_pieces (difference_data a b) marks
 
   module _ (z : Size) where
     given : Given
-    unfolding parameter_store
+    unfolding settings parameter_store
     given = record {
       f = frame_at 19 z (lit≤ tt);
       above = lit≤ tt;
@@ -76,14 +56,15 @@ module _ (a b : ℕ) (first : a < 65536) (second : b < 65536) where
     ends : ComesToStop (13 * length (digits a) + 13 * length (digits b) + (if nat_lt b a then 3 else 0)
         + print_orders (distance a b) + 34) (entry_state z lines)
         (11 ∷ digits (distance a b)) 72
-    unfolding given
+    unfolding settings given
     ends =
         stops_from_entry z lines refl 19 (lit≤ tt) (cells 56 76 100 0 0 0) refl refl (number_rows ns)
         (sym (append-nil (number_rows ns))) (difference_stops given a b first second (entry_state z lines).orders)
 
   pub each_difference : (s : Settings)
       → SourceRuns s (difference_text a b) (difference_orders a b) 72 (difference_prints a b)
+  unfolding settings
   each_difference s =
       let few = few_digits (distance a b) in
-      program_runs s (difference_source a b) said (ends s.size) (omega arith) (omega arith)
+      program_runs s true difference_pieces (difference_data a b) marks refl (ends s.size) (omega arith) (omega arith)
       (digits_printed (distance a b) (omega arith))
