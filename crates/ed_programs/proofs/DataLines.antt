@@ -17,20 +17,21 @@ use Rattle.ed_syntax.specs.declared.program.Statement.TheVariants as statements
 use Rattle.ed_syntax.proofs.PartLemmas.{quote_parts}
 use Rattle.ed_routines.specs.Digits.{digits}
 use Rattle.ed_sources.proofs.Decimals.{are, both, decimal_is, few_bytes, line_bytes, no_quotes, row_bytes, rows_are, written}
-use Rattle.ed_programs.specs.Numbers.{numbers_line, numbers_text}
 use Rattle.ed_programs.proofs.SourceLines.{Marked, by_parts}
+
+-- numbers in decimal, each with an F (70), which ends it
+abbrev pub numbers_text : List ℕ → Text
+numbers_text [] = []
+numbers_text (n ∷ ns) = decimal n ++ 70 ∷ numbers_text ns
+
+-- the line `data` with them, between quotes (34)
+abbrev pub numbers_line : List ℕ → Text
+numbers_line ns = codes "data " ++ 34 ∷ (numbers_text ns ++ 34 ∷ [])
 
 -- the rows of numbers on a tape, each ended by F
 abbrev pub number_rows : List ℕ → List ℕ
 number_rows [] = []
 number_rows (n ∷ ns) = digits n ++ 17 ∷ number_rows ns
-
--- the text of numbers, and of more numbers
-pub numbers_append : (xs ys : List ℕ) → numbers_text xs ++ numbers_text ys ≡ numbers_text (xs ++ ys)
-numbers_append [] ys = refl
-numbers_append (x ∷ xs) ys =
-    append_assoc (decimal x) (70 ∷ numbers_text xs) (numbers_text ys)
-    ∙ ap (λ (t : Text). decimal x ++ 70 ∷ t) (numbers_append xs ys)
 
 -- each of them is below 65536
 abbrev pub are_small : List ℕ → Bool

@@ -28,12 +28,12 @@ use Rattle.ed_programs.proofs.ProgramEntry.{stops_by}
 use Rattle.ed_programs.proofs.SourceRuns.{read_runs}
 use Rattle.ed_programs.proofs.TextLines.{IsAround, all_plain, number_says, text_mark}
 use Rattle.ed_programs.proofs.TextPrograms.{Spells, before_text, last_lines, newline_after, text_sound, text_stands}
-use Rattle.ed_programs.proofs.Kit.{◌≡◌, ◌∙◌, inr, ℕ, ◌+◌, ◌-◌, ◌*◌, ◌<◌, ◌≤◌, refl, ap, subst, arith, lit<, lit≤}
-use Rattle.ed_programs.proofs.Kit.{true, false, List, [], ◌∷◌, ◌++◌, Ok, Some, None, codes, get_or, length, length-append, decimal}
-use Rattle.ed_programs.proofs.Kit.{least, Text, Size, Line, entry_state, paper, Settings, Frame, Moment, short, state, early}
-use Rattle.ed_programs.proofs.Kit.{out, own, A, S, T, U, O, G_jumps, G_stays, Z, Path, followed, on, prints, stay, newline}
-use Rattle.ed_programs.proofs.Kit.{ComesToStop, HasRoutine, IsIn, along, then, to_stop, all_words, frame_at, moment_at}
-use Rattle.ed_programs.proofs.Kit.{SourceRuns, Marked, to, counted}
+use Rattle.ed_programs.proofs.Kit.{◌≡◌, ◌∙◌, inr, ℕ, ◌+◌, ◌-◌, ◌*◌, ◌<◌, ◌≤◌, refl, ap, subst, arith, lit<, lit≤, true}
+use Rattle.ed_programs.proofs.Kit.{false, List, [], ◌∷◌, ◌++◌, Ok, Some, None, codes, get_or, length, length-append}
+use Rattle.ed_programs.proofs.Kit.{decimal, least, Text, Size, Line, entry_state, paper, Settings, Frame, Moment, short}
+use Rattle.ed_programs.proofs.Kit.{state, early, out, own, A, S, T, U, O, G_jumps, G_stays, Z, Path, followed, on}
+use Rattle.ed_programs.proofs.Kit.{prints, stay, newline, ComesToStop, HasRoutine, IsIn, along, then, to_stop}
+use Rattle.ed_programs.proofs.Kit.{all_words, frame_at, moment_at, SourceRuns, Marked, to, counted}
 
 -- ---- its path
 

@@ -1,13 +1,14 @@
 -- The source of `examples/answer5.edsac` for any numbers: its path, and what it prints.
 use Rattle.ed_programs.specs.Multiply.{multiply_data, multiply_orders, multiply_pieces, multiply_prints, multiply_text}
-use Rattle.ed_programs.proofs.Kit.{◌≡◌, ◌∙◌, ℕ, zero, suc, ◌+◌, ◌*◌, ◌<◌, ◌≤◌, refl, ap, subst, arith, lit<, lit≤}
-use Rattle.ed_programs.proofs.Kit.{true, List, [], ◌∷◌, ◌++◌, Some, codes, length, append_assoc, length-append}
-use Rattle.ed_programs.proofs.Kit.{decimal, least, Size, parameter_store, settings, Line, entry_state, paper, Settings}
-use Rattle.ed_programs.proofs.Kit.{Frame, Moment, short, state, any, early, out, own, A, S, T, U, E_jumps, G_jumps, G_stays, Z}
+use Rattle.ed_programs.proofs.Kit.{◌≡◌, ◌∙◌, ℕ, zero, suc, ◌+◌, ◌*◌, ◌<◌, ◌≤◌, refl, ap, subst, arith, lit<, lit≤, true}
+use Rattle.ed_programs.proofs.Kit.{List, [], ◌∷◌, ◌++◌, Some, codes, length, append_assoc, length-append, decimal}
+use Rattle.ed_programs.proofs.Kit.{least, Size, parameter_store, settings, Line, entry_state, paper, Settings, Frame}
+use Rattle.ed_programs.proofs.Kit.{Moment, short, state, any, early, out, own, A, S, T, U, E_jumps, G_jumps, G_stays, Z}
 use Rattle.ed_programs.proofs.Kit.{Path, followed, on, stay, newline, print, with_h, digits, print_orders, few_digits}
 use Rattle.ed_programs.proofs.Kit.{ComesToStop, HasRoutine, IsIn, Journey, along, then, to_stop, all_words, frame_at}
 use Rattle.ed_programs.proofs.Kit.{moment_at, number_shown, SourceRuns, word_mark, HasShown, shows_number, then_on}
-use Rattle.ed_programs.proofs.Kit.{counted, stop_counted, routine_after, stops_from_entry, Marked, lines_of_pieces, program_runs, to, link, calls_own}
+use Rattle.ed_programs.proofs.Kit.{counted, stop_counted, routine_after, stops_from_entry, Marked, lines_of_pieces}
+use Rattle.ed_programs.proofs.Kit.{program_runs, to, calling, link, calls_own}
 
 -- its words, with the cells that change: the numbers, the product, the spare cell and the links
 abbrev pub cells : ℕ → ℕ → ℕ → ℕ → ℕ → ℕ → ℕ → List ℕ
@@ -15,7 +16,7 @@ cells c l r p s k h =
     to 28 0 ∷ to 27 13 ∷ to 28 2 ∷ to 27 32 ∷ to 28 12 ∷ to 7 27 ∷ to 5 28 ∷ to 28 7 ∷ to 27 13 ∷ to 28 9 ∷ to 27 32
     ∷ 53248 ∷ c ∷ 114694 ∷ to 5 26 ∷ to 5 29 ∷ to 5 31 ∷ to 28 27 ∷ to 12 30 ∷ to 27 25 ∷ to 5 27 ∷ to 28 29
     ∷ to 28 28 ∷ to 5 29 ∷ to 3 16 ∷ to 5 31 ∷ k ∷ l ∷ r ∷ p ∷ 1 ∷ s ∷ 114694 ∷ to 5 38 ∷ to 28 34
-    ∷ (110592 + 2 * 96) ∷ to 28 36 ∷ (110592 + 2 * 148) ∷ h ∷ 0 ∷ []
+    ∷ calling 96 ∷ to 28 36 ∷ calling 148 ∷ h ∷ 0 ∷ []
 
 module _ (z : Size) (c : ℕ) where
   abbrev f : Frame 40 0
