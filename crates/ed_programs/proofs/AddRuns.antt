@@ -1,84 +1,80 @@
--- What the source of `examples/add.edsac` prints, for any two numbers: its lines, its entry and its law.
-use Rattle.std.proofs.Common.{◌≡◌, ℕ, ◌+◌, ◌*◌, ◌<◌, true, false, List, [], ◌∷◌, refl, sym, arith, append-nil, codes}
-use Rattle.std.proofs.Common.{length, lit≤}
-use Rattle.ed_words.proofs.Numbers.{le_true, lt_true}
-use Rattle.ed_words.specs.declared.size.Size.{Size}
-use Rattle.ed_library.specs.Images.{parameter_store}
-use Rattle.ed_syntax.specs.Private.Grammar.{settings}
-use Rattle.ed_syntax.specs.declared.program.Line.{Line}
-use Rattle.ed_loads.specs.EntryState.{entry_state}
-use Rattle.ed_routines.specs.Catalogue.{print, read, with_h}
-use Rattle.ed_routines.specs.Digits.{digits, print_orders}
-use Rattle.ed_routines.proofs.Digits.{few_digits}
-use Rattle.ed_routines.proofs.Journeys.{ComesToStop}
-use Rattle.ed_sources.proofs.AtEntry.{all_words}
-use Rattle.ed_sources.proofs.Entries.{frame_at, moment_at}
-use Rattle.ed_sources.proofs.Papers.{digits_printed}
-use Rattle.ed_command.specs.declared.command.Settings.{Settings}
-use Rattle.ed_programs.specs.Numbers.{numbers_line}
-use Rattle.ed_programs.specs.Programs.{SourceRuns}
-use Rattle.ed_programs.specs.Add.{add_orders, add_prints, add_source, add_text}
-use Rattle.ed_programs.proofs.AddProgram.{Given, add_stops, cells}
-use Rattle.ed_programs.proofs.DataLines.{are_small, data_mark, data_plain, data_says, data_short, number_rows}
-use Rattle.ed_programs.proofs.NumberLines.{use_mark}
-use Rattle.ed_programs.proofs.ProgramEntry.{routine_after, stops_from_entry}
-use Rattle.ed_programs.proofs.SourceLines.{Marked, lines_said}
-use Rattle.ed_programs.proofs.SourceRuns.{AreSaid, program_runs}
+-- The source of `examples/add.edsac` for any two numbers: its path, and what it prints.
+use Rattle.ed_programs.specs.Add.{add_data, add_orders, add_pieces, add_prints, add_text}
+use Rattle.ed_programs.proofs.Kit.{◌≡◌, ℕ, ◌+◌, ◌*◌, ◌<◌, refl, sym, arith, lit<, lit≤, true, false, List, [], ◌∷◌}
+use Rattle.ed_programs.proofs.Kit.{append-nil, length, lt_true, Size, parameter_store, settings, Line, entry_state}
+use Rattle.ed_programs.proofs.Kit.{Settings, Frame, Moment, short, state, own, A, T, Z, on, stay, get_own, digits}
+use Rattle.ed_programs.proofs.Kit.{print_orders, few_digits, print_line, ComesToStop, IsIn, along, then, to_stop}
+use Rattle.ed_programs.proofs.Kit.{frame_at, moment_at, digits_printed, SourceRuns, HasRead, reads_number, are_small}
+use Rattle.ed_programs.proofs.Kit.{data_mark, number_rows, stops_from_entry, Marked, lines_of_pieces, program_runs, to}
+use Rattle.ed_programs.proofs.Kit.{calling, stop_counted, HasBoth, both_after, both_at_entry}
+
+-- its words, with the two cells that change
+abbrev cells : ℕ → ℕ → List ℕ
+cells value first =
+    to 28 0 ∷ calling 70 ∷ to 28 12 ∷ to 5 13 ∷ to 28 4 ∷ calling 70 ∷ to 28 12 ∷ to 28 13 ∷ to 5 12 ∷ to 28 9
+    ∷ calling 94 ∷ 53248 ∷ value ∷ first ∷ []
+
+module _ (z : Size) (m : Moment) where
+  abbrev f : Frame 14 0
+  f = frame_at 14 z (lit≤ tt)
+
+  -- at the cell i: the words of the store, the number in the accumulator, the two cells, and the rows left
+  abbrev at : ℕ → List ℕ → ℕ → ℕ → ℕ → List ℕ → Moment
+  at i words v value first tape = record m {
+    words = words;
+    cells = cells value first;
+    pairs = [];
+    acc = short v;
+    counter = 56 + i;
+    tape = tape;
+  }
+
+  -- the two numbers are read, added and printed, and the machine stops
+  stops : HasBoth f m.words 70 94 12 → (a b : ℕ) → a + b < 65536 → (done : ℕ)
+      → ComesToStop (13 * length (digits a) + 13 * length (digits b) + print_orders (a + b) + 33)
+      (state f (at 0 m.words 0 0 0 (number_rows (a ∷ b ∷ []))) done) (11 ∷ digits (a + b)) 68
+  stops o a b small done =
+      let start : IsIn f (at 0 m.words 0 0 0 (number_rows (a ∷ b ∷ []))) = record { above = lit≤ tt; all = o.all; own = refl } in
+      let one : HasRead start 0 12 70 a (number_rows (b ∷ [])) =
+      reads_number start 0 12 a (number_rows (b ∷ [])) o.reads refl (omega arith) (lit< tt) (lit≤ tt) refl refl refl in
+      let after_one = both_after one o in
+      let second : IsIn f (at 4 one.words 0 a a (number_rows (b ∷ []))) =
+      record { above = lit≤ tt; all = after_one.all; own = refl } in
+      let two : HasRead second 4 12 70 b [] =
+      reads_number second 4 12 b [] after_one.reads refl (omega arith) (lit< tt) (lit≤ tt) refl refl refl in
+      let after_two = both_after two after_one in
+      let last : IsIn f (at 9 two.words 0 (a + b) a []) = record { above = lit≤ tt; all = after_two.all; own = refl } in
+      let number = get_own 0 two.words 56 (cells (a + b) a) 12 (lit< tt) in
+      stop_counted (to_stop
+      (then one.journey
+      (then (along (on (A 2 (own 12) (short a) refl (omega arith))
+      (on (T 3 (own 13) _ refl refl) stay)))
+      (then two.journey
+      (then (along (on (A 6 (own 12) (short b) refl (omega arith))
+      (on (A 7 (own 13) (short (a + b)) refl (omega arith))
+      (on (T 8 (own 12) _ refl refl) stay))))
+      (print_line last {v = a + b} 9 12 after_two.prints number (lit< tt) small (lit≤ tt) refl refl refl)))))
+      (Z 11 53248 refl refl) done) (omega arith)
 
 module _ (a b : ℕ) (small : a + b < 65536) where
-  abbrev ns : List ℕ
-  ns = a ∷ b ∷ []
+  two_small : are_small (a ∷ b ∷ []) ≡ true
+  two_small = let x = lt_true a 65536 (omega arith) in let y = lt_true b 65536 (omega arith) in rw (x, y) refl
 
-  abbrev marks : List Marked
-  marks =
-      use_mark 18 (codes "read") (codes "r") (codes "value") ∷ use_mark 19 (codes "print") (codes "p") (codes "value")
-      ∷ data_mark 21 ns ∷ []
+  -- the line with data
+  abbrev marks : List (Marked false)
+  marks = data_mark 21 (a ∷ b ∷ []) (lit≤ tt) (lit≤ tt) (lit≤ tt) two_small ∷ []
 
   abbrev lines : List Line
-  lines = lines_said false 1 (add_source a b) marks
-
-  said : AreSaid false (add_source a b) marks
-  unfolding settings
-  said =
-      let x = lt_true a 65536 (omega arith) in
-      let y = lt_true b 65536 (omega arith) in
-      let are : are_small ns ≡ true = rw (x, y) refl in
-      let plain = data_plain false 21 ns (lit≤ tt) (lit≤ tt) (lit≤ tt) are in
-      let short = le_true (length (numbers_line ns)) 120 (data_short false 21 ns (lit≤ tt) (lit≤ tt) (lit≤ tt) are) in
-      record {
-        plain = rw plain refl;
-        short = rw short refl;
-        few = lit≤ tt;
-        version = refl;
-        read = refl;
-        marked = (refl, (refl, (data_says false 21 ns (lit≤ tt) (lit≤ tt) (lit≤ tt) are, tt)));
-        small = refl;
-        full = refl;
-      }
-
-  module _ (z : Size) where
-    given : Given
-    unfolding parameter_store
-    given = record {
-      f = frame_at 14 z (lit≤ tt);
-      above = lit≤ tt;
-      r = 70;
-      p = 94;
-      other = lit≤ tt;
-      around = moment_at (entry_state z lines);
-      all = all_words z lines;
-      reads = routine_after z lines refl (lit≤ tt) read 70 (with_h 68) refl (lit≤ tt) (lit≤ tt) (lit≤ tt);
-      prints = routine_after z lines refl (lit≤ tt) print 94 (with_h 68) refl (lit≤ tt) (lit≤ tt) (lit≤ tt);
-    }
-
-    ends : ComesToStop (13 * length (digits a) + 13 * length (digits b) + print_orders (a + b) + 33)
-        (entry_state z lines) (11 ∷ digits (a + b)) 68
-    unfolding given
-    ends =
-        stops_from_entry z lines refl 14 (lit≤ tt) (cells 56 70 94 0 0) refl refl (number_rows ns)
-        (sym (append-nil (number_rows ns))) (add_stops given a b small (entry_state z lines).orders)
+  lines = lines_of_pieces false add_pieces (add_data a b) marks
 
   pub each_sum : (s : Settings) → SourceRuns s (add_text a b) (add_orders a b) 68 (add_prints a b)
+  unfolding settings parameter_store
   each_sum s =
+      let z : Size = s.size in
       let few = few_digits (a + b) in
-      program_runs s (add_source a b) said (ends s.size) (omega arith) (omega arith) (digits_printed (a + b) small)
+      program_runs s false add_pieces (add_data a b) marks refl
+      (stops_from_entry z lines refl 14 (lit≤ tt) (cells 0 0) refl refl (number_rows (a ∷ b ∷ []))
+      (sym (append-nil (number_rows (a ∷ b ∷ []))))
+      (stops z (moment_at (entry_state z lines))
+      (both_at_entry z lines 14 (lit≤ tt) 70 94 12 refl (lit≤ tt) (lit≤ tt) (lit≤ tt)) a b small (entry_state z lines).orders))
+      (omega arith) (omega arith) (digits_printed (a + b) small)

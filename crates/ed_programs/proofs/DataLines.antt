@@ -1,11 +1,11 @@
 -- A line `data` with numbers, each ended by F: what it says, and what its rows are.
-use Rattle.std.proofs.Common.{◌≡◌, ◌∙◌, ℕ, zero, suc, ◌*◌, ◌<◌, ◌≤◌, Bool, true, false, List, [], ◌∷◌, ◌++◌, ap, refl, subst, arith}
-use Rattle.std.proofs.Common.{append_assoc, codes, Fits, get_or, length, length-append, map, nat_lt, slice_index_or, w16}
+use Rattle.std.proofs.Common.{◌≡◌, ◌∙◌, ℕ, zero, suc, ◌+◌, ◌*◌, ◌<◌, ◌≤◌, Bool, true, false, List, [], ◌∷◌, ◌++◌, ap, refl, sym, subst, arith}
+use Rattle.std.proofs.Common.{append_assoc, codes, Fits, get_or, length, drop, drop-cons, length-append, map, nat_lt, slice_index_or, w16}
 use Rattle.std.specs.Prelude.{◌==◌, not, Some, None, Ok}
 use Rattle.std.specs.Fmt.{decimal}
 use Rattle.std.specs.List.{list_all}
 use Rattle.std.proofs.lemmas.Bool.{and_parts, not-true}
-use Rattle.std.proofs.lemmas.List.{map-append}
+use Rattle.std.proofs.lemmas.List.{drop_all, map-append}
 use Rattle.std.proofs.lemmas.List.Folds.{list_all-append}
 use Rattle.ed_words.proofs.Numbers.{eq_false, le_true, lt_of, lt_true}
 use Rattle.ed_words.specs.Texts.{Text}
@@ -17,20 +17,21 @@ use Rattle.ed_syntax.specs.declared.program.Statement.TheVariants as statements
 use Rattle.ed_syntax.proofs.PartLemmas.{quote_parts}
 use Rattle.ed_routines.specs.Digits.{digits}
 use Rattle.ed_sources.proofs.Decimals.{are, both, decimal_is, few_bytes, line_bytes, no_quotes, row_bytes, rows_are, written}
-use Rattle.ed_programs.specs.Numbers.{numbers_line, numbers_text}
 use Rattle.ed_programs.proofs.SourceLines.{Marked, by_parts}
+
+-- numbers in decimal, each with an F (70), which ends it
+abbrev pub numbers_text : List ℕ → Text
+numbers_text [] = []
+numbers_text (n ∷ ns) = decimal n ++ 70 ∷ numbers_text ns
+
+-- the line `data` with them, between quotes (34)
+abbrev pub numbers_line : List ℕ → Text
+numbers_line ns = codes "data " ++ 34 ∷ (numbers_text ns ++ 34 ∷ [])
 
 -- the rows of numbers on a tape, each ended by F
 abbrev pub number_rows : List ℕ → List ℕ
 number_rows [] = []
 number_rows (n ∷ ns) = digits n ++ 17 ∷ number_rows ns
-
--- the text of numbers, and of more numbers
-pub numbers_append : (xs ys : List ℕ) → numbers_text xs ++ numbers_text ys ≡ numbers_text (xs ++ ys)
-numbers_append [] ys = refl
-numbers_append (x ∷ xs) ys =
-    append_assoc (decimal x) (70 ∷ numbers_text xs) (numbers_text ys)
-    ∙ ap (λ (t : Text). decimal x ++ 70 ∷ t) (numbers_append xs ys)
 
 -- each of them is below 65536
 abbrev pub are_small : List ℕ → Bool
@@ -89,9 +90,6 @@ some_byte : (ns : List ℕ) → 1 ≤ length ns → 1 ≤ length (numbers_text n
 some_byte [] l = absurd (omega arith)
 some_byte (n ∷ ns) l = let long = length-append (decimal n) (70 ∷ numbers_text ns) in omega (arith, long)
 
-abbrev pub data_mark : ℕ → List ℕ → Marked
-data_mark k ns = record { number = k; label = None; statement = statements.Rows (array (number_rows ns)) }
-
 module _ (two : Bool) (k : ℕ) (ns : List ℕ) (later : 2 ≤ k) (some : 1 ≤ length ns) (few : length ns ≤ 18)
     (small : are_small ns ≡ true) where
   abbrev bytes : Text
@@ -120,3 +118,40 @@ module _ (two : Bool) (k : ℕ) (ns : List ℕ) (later : 2 ≤ k) (some : 1 ≤ 
       by_parts two k (numbers_line ns) (run (codes "data") ∷ quoted bytes ∷ []) data_plain data_short
       (let e = quote_parts [] bytes [] (without_quote bytes all.quote) in rw e refl)
       (let e = all.rows in rw (no_version, there, fits, spelled, e) refl)
+
+-- the numbers, each ended by F, before the rest of their line
+abbrev pub numbers_and : List ℕ → Text → Text
+numbers_and [] rest = rest
+numbers_and (n ∷ ns) rest = decimal n ++ 70 ∷ numbers_and ns rest
+
+pub numbers_and_is : (ns : List ℕ) (rest : Text) → numbers_and ns rest ≡ numbers_text ns ++ rest
+numbers_and_is [] rest = refl
+numbers_and_is (n ∷ ns) rest =
+    ap (λ (t : Text). decimal n ++ 70 ∷ t) (numbers_and_is ns rest) ∙ sym (append_assoc (decimal n) (70 ∷ numbers_text ns) rest)
+
+-- a line `data` with numbers, as a mark
+abbrev pub data_mark : {two : Bool} (k : ℕ) (ns : List ℕ) → 2 ≤ k → 1 ≤ length ns → length ns ≤ 18 → are_small ns ≡ true
+    → Marked two
+data_mark {two} k ns later some few small = record {
+  number = k;
+  text = codes "data " ++ 34 ∷ numbers_and ns (34 ∷ []);
+  label = None;
+  statement = statements.Rows (array (number_rows ns));
+  says = ap (λ (t : Text). line_of two k (codes "data " ++ 34 ∷ t)) (numbers_and_is ns (34 ∷ []))
+      ∙ data_says two k ns later some few small;
+}
+
+-- a list of a known length by its numbers
+abbrev pub listed : ℕ → ℕ → List ℕ → List ℕ
+listed i zero ns = []
+listed i (suc k) ns = get_or ns i 0 ∷ listed (i + 1) k ns
+
+listed_from : (i k : ℕ) (ns : List ℕ) → i + k ≡ length ns → listed i k ns ≡ drop i ns
+listed_from i zero ns e = sym (drop_all i ns (omega arith))
+listed_from i (suc k) ns e =
+    let next : i + 1 ≡ suc i = omega arith in
+    ap (λ (xs : List ℕ). get_or ns i 0 ∷ xs) (listed_from (i + 1) k ns (omega arith) ∙ ap (λ j. drop j ns) next)
+    ∙ sym (drop-cons ns i 0 (omega arith))
+
+pub listed_is : (k : ℕ) (ns : List ℕ) → length ns ≡ k → listed 0 k ns ≡ ns
+listed_is k ns e = listed_from 0 k ns (omega arith)

@@ -1,89 +1,111 @@
--- What the source of `examples/difference.edsac` prints, for any two numbers: its lines, its entry and its law.
-use Rattle.std.proofs.Common.{◌≡◌, ℕ, ◌+◌, ◌*◌, ◌<◌, true, List, [], ◌∷◌, refl, sym, arith, append-nil, codes, length}
-use Rattle.std.proofs.Common.{lit≤, nat_lt}
-use Rattle.std.specs.Prelude.{if◌then◌else◌}
-use Rattle.ed_words.proofs.Numbers.{le_true, lt_true}
-use Rattle.ed_words.specs.declared.size.Size.{Size}
-use Rattle.ed_library.specs.Images.{parameter_store}
-use Rattle.ed_syntax.specs.Private.Grammar.{settings}
-use Rattle.ed_syntax.specs.declared.program.Line.{Line}
-use Rattle.ed_loads.specs.EntryState.{entry_state}
-use Rattle.ed_routines.specs.Catalogue.{print, read, with_h}
-use Rattle.ed_routines.specs.Digits.{digits, print_orders}
-use Rattle.ed_routines.proofs.Digits.{few_digits}
-use Rattle.ed_routines.proofs.Journeys.{ComesToStop}
-use Rattle.ed_sources.proofs.AtEntry.{all_words}
-use Rattle.ed_sources.proofs.Entries.{frame_at, moment_at}
-use Rattle.ed_sources.proofs.Papers.{digits_printed}
-use Rattle.ed_command.specs.declared.command.Settings.{Settings}
-use Rattle.ed_programs.specs.Numbers.{numbers_line}
-use Rattle.ed_programs.specs.Programs.{SourceRuns}
-use Rattle.ed_programs.specs.Difference.{difference_orders, difference_prints, difference_source, difference_text}
-use Rattle.ed_programs.specs.Difference.{distance}
-use Rattle.ed_programs.proofs.DifferenceProgram.{Given, difference_stops, cells}
-use Rattle.ed_programs.proofs.DataLines.{are_small, data_mark, data_plain, data_says, data_short, number_rows}
-use Rattle.ed_programs.proofs.NumberLines.{use_mark}
-use Rattle.ed_programs.proofs.ProgramEntry.{routine_after, stops_from_entry}
-use Rattle.ed_programs.proofs.SourceLines.{Marked, lines_said}
-use Rattle.ed_programs.proofs.SourceRuns.{AreSaid, program_runs}
+-- The source of `examples/difference.edsac` for any two numbers: its path, and what it prints.
+use Rattle.std.specs.Prelude.{Bool, if◌then◌else◌, nat_lt}
+use Rattle.ed_programs.specs.Difference.{difference_data, difference_orders, difference_pieces, difference_prints}
+use Rattle.ed_programs.specs.Difference.{difference_text, distance}
+use Rattle.ed_programs.proofs.Kit.{◌≡◌, ℕ, ◌+◌, ◌-◌, ◌*◌, ◌<◌, refl, sym, arith, lit<, lit≤, true, false, List, [], ◌∷◌}
+use Rattle.ed_programs.proofs.Kit.{append-nil, length, lt_of, lt_true, not_lt_of, Size, parameter_store, settings, Line}
+use Rattle.ed_programs.proofs.Kit.{entry_state, Settings, Frame, Moment, short, state, own, A, S, T, E_jumps, E_stays}
+use Rattle.ed_programs.proofs.Kit.{Z, Path, on, stay, get_own, digits, print_orders, few_digits, print_line}
+use Rattle.ed_programs.proofs.Kit.{ComesToStop, IsIn, along, then, to_stop, frame_at, moment_at, digits_printed}
+use Rattle.ed_programs.proofs.Kit.{SourceRuns, HasRead, reads_number, are_small, data_mark, number_rows}
+use Rattle.ed_programs.proofs.Kit.{stops_from_entry, Marked, lines_of_pieces, program_runs, to, calling, stop_counted}
+use Rattle.ed_programs.proofs.Kit.{HasBoth, both_after, both_at_entry}
+
+-- its words, with the three cells that change
+abbrev cells : ℕ → ℕ → ℕ → List ℕ
+cells number first scrap =
+    to 28 0 ∷ calling 76 ∷ to 28 16 ∷ to 5 17 ∷ to 28 4 ∷ calling 76 ∷ to 28 16 ∷ to 12 17 ∷ to 3 12 ∷ to 5 18 ∷ to 28 17
+    ∷ to 12 16 ∷ to 5 16 ∷ to 28 13 ∷ calling 100 ∷ 53248 ∷ number ∷ first ∷ scrap ∷ []
+
+module _ (z : Size) (m : Moment) where
+  abbrev f : Frame 19 0
+  f = frame_at 19 z (lit≤ tt)
+
+  -- at the cell i: the words of the store, the number in the accumulator, the cells that change, and the rows left
+  abbrev at : ℕ → List ℕ → ℕ → ℕ → ℕ → ℕ → List ℕ → Moment
+  at i words v number first scrap tape = record m {
+    words = words;
+    cells = cells number first scrap;
+    pairs = [];
+    acc = short v;
+    counter = 56 + i;
+    tape = tape;
+  }
+
+  -- the smaller number is taken from the greater, in either case
+  apart : (words : List ℕ) (a b : ℕ) → a < 65536 → b < 65536 → (smaller : Bool) → nat_lt b a ≡ smaller
+      → (scrap : ℕ) × Path f (4 + (if smaller then 3 else 0)) (at 6 words 0 b a 0 []) []
+      (at 13 words 0 (distance a b) a scrap [])
+  apart words a b first second true is =
+      let less = lt_of b a is in (
+        131072 - (a - b),
+        on (A 6 (own 16) (short b) refl (omega arith))
+            (on (S 7 (own 17) (short (131072 - (a - b))) refl (omega arith))
+            (on (E_stays 8 (own 12) refl (omega arith))
+            (on (T 9 (own 18) _ refl refl)
+            (on (A 10 (own 17) (short a) refl (omega arith))
+            (on (S 11 (own 16) (short (distance a b)) refl (omega arith))
+            (on (T 12 (own 16) _ refl refl) stay)))))),
+      )
+  apart words a b first second false is =
+      let least = not_lt_of b a is in (
+        0,
+        on (A 6 (own 16) (short b) refl (omega arith))
+            (on (S 7 (own 17) (short (distance a b)) refl (omega arith))
+            (on (E_jumps 8 (own 12) refl (omega arith))
+            (on (T 12 (own 16) _ refl refl) stay))),
+      )
+
+  -- the two numbers are read, the difference is printed, and the machine stops
+  stops : HasBoth f m.words 76 100 16 → (a b : ℕ) → a < 65536 → b < 65536 → (done : ℕ)
+      → ComesToStop (13 * length (digits a) + 13 * length (digits b) + (if nat_lt b a then 3 else 0)
+      + print_orders (distance a b) + 34)
+      (state f (at 0 m.words 0 0 0 0 (number_rows (a ∷ b ∷ []))) done) (11 ∷ digits (distance a b)) 72
+  stops o a b first second done =
+      let start : IsIn f (at 0 m.words 0 0 0 0 (number_rows (a ∷ b ∷ []))) =
+      record { above = lit≤ tt; all = o.all; own = refl } in
+      let one : HasRead start 0 16 76 a (number_rows (b ∷ [])) =
+      reads_number start 0 16 a (number_rows (b ∷ [])) o.reads refl first (lit< tt) (lit≤ tt) refl refl refl in
+      let after_one = both_after one o in
+      let next : IsIn f (at 4 one.words 0 a a 0 (number_rows (b ∷ []))) =
+      record { above = lit≤ tt; all = after_one.all; own = refl } in
+      let two : HasRead next 4 16 76 b [] =
+      reads_number next 4 16 b [] after_one.reads refl second (lit< tt) (lit≤ tt) refl refl refl in
+      let after_two = both_after two after_one in
+      let takes = apart two.words a b first second (nat_lt b a) refl in
+      let last : IsIn f (at 13 two.words 0 (distance a b) a takes.0 []) =
+      record { above = lit≤ tt; all = after_two.all; own = refl } in
+      let number = get_own 0 two.words 56 (cells (distance a b) a takes.0) 16 (lit< tt) in
+      stop_counted (to_stop
+      ((then) one.journey
+      ((then) (along (on (A 2 (own 16) (short a) refl (omega arith))
+      (on (T 3 (own 17) _ refl refl) stay)))
+      ((then) two.journey
+      ((then) (along takes.1)
+      (print_line last {v = distance a b} 13 16 after_two.prints number (lit< tt) (omega arith) (lit≤ tt) refl refl refl)))))
+      (Z 15 53248 refl refl) done) (omega arith)
 
 module _ (a b : ℕ) (first : a < 65536) (second : b < 65536) where
-  abbrev ns : List ℕ
-  ns = a ∷ b ∷ []
+  two_small : are_small (a ∷ b ∷ []) ≡ true
+  two_small = let x = lt_true a 65536 first in let y = lt_true b 65536 second in rw (x, y) refl
 
-  abbrev marks : List Marked
-  marks =
-      use_mark 24 (codes "read") (codes "r") (codes "number") ∷ use_mark 25 (codes "print") (codes "p") (codes "number")
-      ∷ data_mark 27 ns ∷ []
+  -- the line with data
+  abbrev marks : List (Marked true)
+  marks = data_mark 27 (a ∷ b ∷ []) (lit≤ tt) (lit≤ tt) (lit≤ tt) two_small ∷ []
 
   abbrev lines : List Line
-  lines = lines_said true 1 (difference_source a b) marks
-
-  said : AreSaid true (difference_source a b) marks
-  unfolding settings
-  said =
-      let x = lt_true a 65536 first in
-      let y = lt_true b 65536 second in
-      let small : are_small ns ≡ true = rw (x, y) refl in
-      let plain = data_plain true 27 ns (lit≤ tt) (lit≤ tt) (lit≤ tt) small in
-      let short = le_true (length (numbers_line ns)) 120 (data_short true 27 ns (lit≤ tt) (lit≤ tt) (lit≤ tt) small) in
-      record {
-        plain = rw plain refl;
-        short = rw short refl;
-        few = lit≤ tt;
-        version = refl;
-        read = refl;
-        marked = (refl, (refl, (data_says true 27 ns (lit≤ tt) (lit≤ tt) (lit≤ tt) small, tt)));
-        small = refl;
-        full = refl;
-      }
-
-  module _ (z : Size) where
-    given : Given
-    unfolding parameter_store
-    given = record {
-      f = frame_at 19 z (lit≤ tt);
-      above = lit≤ tt;
-      r = 76;
-      p = 100;
-      other = lit≤ tt;
-      around = moment_at (entry_state z lines);
-      all = all_words z lines;
-      reads = routine_after z lines refl (lit≤ tt) read 76 (with_h 72) refl (lit≤ tt) (lit≤ tt) (lit≤ tt);
-      prints = routine_after z lines refl (lit≤ tt) print 100 (with_h 72) refl (lit≤ tt) (lit≤ tt) (lit≤ tt);
-    }
-
-    ends : ComesToStop (13 * length (digits a) + 13 * length (digits b) + (if nat_lt b a then 3 else 0)
-        + print_orders (distance a b) + 34) (entry_state z lines)
-        (11 ∷ digits (distance a b)) 72
-    unfolding given
-    ends =
-        stops_from_entry z lines refl 19 (lit≤ tt) (cells 56 76 100 0 0 0) refl refl (number_rows ns)
-        (sym (append-nil (number_rows ns))) (difference_stops given a b first second (entry_state z lines).orders)
+  lines = lines_of_pieces true difference_pieces (difference_data a b) marks
 
   pub each_difference : (s : Settings)
       → SourceRuns s (difference_text a b) (difference_orders a b) 72 (difference_prints a b)
+  unfolding settings parameter_store
   each_difference s =
+      let z : Size = s.size in
       let few = few_digits (distance a b) in
-      program_runs s (difference_source a b) said (ends s.size) (omega arith) (omega arith)
-      (digits_printed (distance a b) (omega arith))
+      program_runs s true difference_pieces (difference_data a b) marks refl
+      (stops_from_entry z lines refl 19 (lit≤ tt) (cells 0 0 0) refl refl (number_rows (a ∷ b ∷ []))
+      (sym (append-nil (number_rows (a ∷ b ∷ []))))
+      (stops z (moment_at (entry_state z lines))
+      (both_at_entry z lines 19 (lit≤ tt) 76 100 16 refl (lit≤ tt) (lit≤ tt) (lit≤ tt)) a b first second
+      (entry_state z lines).orders))
+      (omega arith) (omega arith) (digits_printed (distance a b) (omega arith))

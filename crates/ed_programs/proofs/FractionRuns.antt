@@ -1,17 +1,13 @@
 -- What the source of `examples/fraction.edsac` prints, for any fraction in range: its lines, its entry and its law.
 use Rattle.std.proofs.Common.{◌≡◌, ℕ, ◌+◌, ◌*◌, ◌/◌, ◌<◌, ◌≤◌, Bool, true, false, List, [], ◌∷◌, ◌++◌, refl, arith}
-use Rattle.std.proofs.Common.{append-nil, codes, length, length-append, lit≤}
-use Rattle.std.specs.Prelude.{None, pos}
+use Rattle.std.proofs.Common.{append-nil, length, length-append, lit≤}
 use Rattle.std.proofs.lemmas.List.{length-replicate}
-use Rattle.ed_words.proofs.Numbers.{le_true, lt_true}
+use Rattle.ed_words.proofs.Numbers.{lt_true}
 use Rattle.ed_words.specs.declared.size.Size.{Size}
 use Rattle.ed_library.specs.Images.{parameter_store}
 use Rattle.ed_maths.specs.Quotients.{divide, divide_orders, with_hnm}
-use Rattle.ed_syntax.specs.Parts.{array}
 use Rattle.ed_syntax.specs.Private.Grammar.{settings}
 use Rattle.ed_syntax.specs.declared.program.Line.{Line}
-use Rattle.ed_syntax.specs.declared.program.Operand.TheVariants as operands
-use Rattle.ed_syntax.specs.declared.program.Statement.TheVariants as statements
 use Rattle.ed_loads.specs.EntryState.{entry_state}
 use Rattle.ed_routines.specs.Catalogue.{print, read, with_h}
 use Rattle.ed_routines.specs.Digits.{digits, print_orders}
@@ -20,60 +16,29 @@ use Rattle.ed_routines.proofs.Journeys.{ComesToStop}
 use Rattle.ed_sources.proofs.AtEntry.{all_words}
 use Rattle.ed_sources.proofs.Entries.{frame_at, moment_at}
 use Rattle.ed_command.specs.declared.command.Settings.{Settings}
-use Rattle.ed_programs.specs.Fraction.{figure_orders, fraction_orders, fraction_prints, fraction_source, fraction_text}
-use Rattle.ed_programs.specs.Numbers.{numbers_line}
+use Rattle.ed_programs.specs.Fraction.{figure_orders, fraction_orders, fraction_prints, fraction_data, fraction_pieces, fraction_text}
 use Rattle.ed_programs.specs.Programs.{SourceRuns}
 use Rattle.ed_programs.proofs.FractionProgram.{Given, IsAround, Work, cells}
 use Rattle.ed_programs.proofs.FractionWhole.{all_shown, few_codes, figure_codes, fraction_stops, quotient_small}
-use Rattle.ed_programs.proofs.DataLines.{are_small, data_mark, data_plain, data_says, data_short, number_rows}
-use Rattle.ed_programs.proofs.NumberLines.{use_mark}
+use Rattle.ed_programs.proofs.DataLines.{are_small, data_mark, number_rows}
 use Rattle.ed_programs.proofs.ProgramEntry.{routine_after, stops_from_entry}
-use Rattle.ed_programs.proofs.SourceLines.{Marked, lines_said}
-use Rattle.ed_programs.proofs.SourceRuns.{AreSaid, program_runs}
+use Rattle.ed_programs.proofs.SourceLines.{Marked}
+use Rattle.ed_programs.proofs.SourceRuns.{lines_of_pieces, program_runs}
 
 module _ (u l n : ℕ) (first : u < 65536) (some : 1 ≤ l) (few : l ≤ 6553) (third : n < 65536) where
   abbrev three : List ℕ
   three = u ∷ l ∷ n ∷ []
 
-  abbrev marks : List Marked
-  marks =
-      use_mark 48 (codes "read") (codes "r") (codes "number")
-      ∷ record {
-        number = 49;
-        label = None;
-        statement = statements.Fetch (codes "divide") (codes "d") (array (
-            record { letter = 21; operand = operands.Label (codes "rest") (pos 0) }
-            ∷ record { letter = 22; operand = operands.Label (codes "low") (pos 0) }
-            ∷ record { letter = 23; operand = operands.Label (codes "divisor") (pos 0) }
-            ∷ []));
-      }
-      ∷ use_mark 50 (codes "print") (codes "p") (codes "low")
-      ∷ data_mark 52 three
-      ∷ []
+  three_small : are_small three ≡ true
+  three_small =
+      let x = lt_true u 65536 first in let y = lt_true l 65536 (omega arith) in let z = lt_true n 65536 third in
+      rw (x, y, z) refl
+
+  abbrev marks : List (Marked true)
+  marks = data_mark 52 three (lit≤ tt) (lit≤ tt) (lit≤ tt) three_small ∷ []
 
   abbrev lines : List Line
-  lines = lines_said true 1 (fraction_source u l n) marks
-
-  said : AreSaid true (fraction_source u l n) marks
-  unfolding settings
-  said =
-      let x = lt_true u 65536 first in
-      let y = lt_true l 65536 (omega arith) in
-      let z = lt_true n 65536 third in
-      let small : are_small three ≡ true = rw (x, y, z) refl in
-      let plain = data_plain true 52 three (lit≤ tt) (lit≤ tt) (lit≤ tt) small in
-      let short = le_true (length (numbers_line three)) 120
-      (data_short true 52 three (lit≤ tt) (lit≤ tt) (lit≤ tt) small) in
-      record {
-        plain = rw plain refl;
-        short = rw short refl;
-        few = lit≤ tt;
-        version = refl;
-        read = refl;
-        marked = (refl, (refl, (refl, (data_says true 52 three (lit≤ tt) (lit≤ tt) (lit≤ tt) small, tt))));
-        small = refl;
-        full = refl;
-      }
+  lines = lines_of_pieces true fraction_pieces (fraction_data u l n) marks
 
   module _ (z : Size) where
     abbrev given : Given
@@ -89,7 +54,7 @@ module _ (u l n : ℕ) (first : u < 65536) (some : 1 ≤ l) (few : l ≤ 6553) (
     }
 
     is_around : IsAround given (moment_at (entry_state z lines))
-    unfolding parameter_store
+    unfolding settings parameter_store
     is_around = record {
       all = all_words z lines;
       digits_long = length-replicate {A = Bool} 512 false;
@@ -101,6 +66,7 @@ module _ (u l n : ℕ) (first : u < 65536) (some : 1 ≤ l) (few : l ≤ 6553) (
     ends : ComesToStop (13 * length (digits u) + 13 * length (digits l) + 13 * length (digits n) + divide_orders (u / l)
         + print_orders (u / l) + figure_orders u l n + 52) (entry_state z lines)
         (11 ∷ digits (u / l) ++ 23 ∷ figure_codes u l n) 89
+    unfolding settings
     ends =
         let work : Work = record { number = 0; low = 0; rest = 0; divisor = 0; scrap = 0 } in
         let tape = append-nil (number_rows three) in
@@ -110,10 +76,11 @@ module _ (u l n : ℕ) (first : u < 65536) (some : 1 ≤ l) (few : l ≤ 6553) (
 
   pub each_fraction : (s : Settings)
       → SourceRuns s (fraction_text u l n) (fraction_orders u l n) 89 (fraction_prints u l n)
+  unfolding settings
   each_fraction s =
       let low : u / l < 65536 = quotient_small u l first some in
       let a = length-append (digits (u / l)) (23 ∷ figure_codes u l n) in
       let b = few_digits (u / l) in
       let c = few_codes u l n in
-      program_runs s (fraction_source u l n) said (ends s.size) (omega arith) (omega arith)
+      program_runs s true fraction_pieces (fraction_data u l n) marks refl (ends s.size) (omega arith) (omega arith)
       (all_shown u l n (u / l) low)

@@ -19,9 +19,9 @@ use Rattle.ed_machine.proofs.Steps.{no_step}
 use Rattle.ed_notation.specs.Fold.{placed_at}
 use Rattle.ed_library.specs.Images.{parameter_store}
 use Rattle.ed_syntax.specs.Private.Grammar.{settings}
-use Rattle.ed_syntax.specs.Private.SourceReading.{program_of}
+use Rattle.ed_syntax.specs.Private.SourceReading.{line_of, program_of}
 use Rattle.ed_syntax.specs.declared.program.Operand.TheVariants.{Label}
-use Rattle.ed_syntax.specs.declared.program.Statement.TheVariants.{Enter}
+use Rattle.ed_syntax.specs.declared.program.Statement.TheVariants.{Enter, Fetch}
 use Rattle.ed_syntax.specs.declared.program.Line.{Line}
 use Rattle.ed_link.specs.Private.FaultTests.{fault}
 use Rattle.ed_link.proofs.EachSource.{read_is_accepted}
@@ -33,8 +33,7 @@ use Rattle.ed_programs.specs.Guests.{EntersChecker, SampleIsChecked, StopsAtZ, e
 use Rattle.ed_programs.specs.Guests.{stopped_orders}
 use Rattle.ed_programs.specs.Programs.{SourceRuns}
 use Rattle.ed_programs.proofs.GuestRuns.{each_guest}
-use Rattle.ed_programs.proofs.NumberLines.{use_mark}
-use Rattle.ed_programs.proofs.SourceLines.{AreMarked, Marked, lines_said, source_read}
+use Rattle.ed_programs.proofs.SourceLines.{Marked, lines_said, source_read, source_said}
 
 -- ---- the source
 
@@ -48,18 +47,29 @@ texts =
     ∷ codes "enter c"
     ∷ []
 
-abbrev marks : List Marked
-marks = use_mark 5 (codes "check") (codes "c") (codes "main") ∷ []
+use_says : line_of false 5 (codes "use check as c with H=main")
+    ≡ Ok (record { label = None; statement = use_check (codes "c") (Label (codes "main") (pos 0)) })
+unfolding settings
+use_says = refl
+
+abbrev marks : List (Marked false)
+marks =
+    record {
+      number = 5;
+      text = codes "use check as c with H=main";
+      label = None;
+      statement = Fetch (codes "check") (codes "c") (record {
+        items = record { letter = 21; operand = Label (codes "main") (pos 0) } ∷ [];
+      });
+      says = use_says;
+    }
+    ∷ []
 
 abbrev lines : List Line
 lines = lines_said false 1 texts marks
 
-marked : AreMarked false texts marks
-unfolding settings
-marked = (refl, tt)
-
 read : program_of (text_of_lines texts) ≡ Ok lines
-read = source_read false texts marks refl refl refl marked (lit≤ tt)
+read = source_read false texts refl (source_said false texts marks refl refl) (lit≤ tt)
 
 faultless : (z : Size) → fault z lines ≡ None
 faultless Small = refl

@@ -1,128 +1,254 @@
--- What the source of `examples/hello.edsac` prints, for any text.
-use Rattle.std.proofs.Common.{◌≡◌, ◌∙◌, ℕ, ◌+◌, ◌*◌, ◌<◌, ◌≤◌, Bool, true, false, List, [], ◌∷◌, ◌++◌, refl, sym, ap, subst, arith}
-use Rattle.std.proofs.Common.{codes, lit≤, length, length-append, nat_le, nat_lt}
-use Rattle.std.specs.Prelude.{◌==◌, ◌&&◌, not, Ok}
+-- The source of `examples/hello.edsac` for any text: its lines, its path, and what it prints.
+use Rattle.std.proofs.Common.{nat_le, nat_lt, Option, pos, reverse, take}
 use Rattle.std.specs.List.{list_all}
-use Rattle.std.specs.Str.{bytes_eq}
-use Rattle.std.proofs.lemmas.Bool.{and_parts, not-true}
 use Rattle.std.proofs.lemmas.List.{length-map}
-use Rattle.std.proofs.lemmas.Slice.Eq.{bytes_eq-Decides}
-use Rattle.ed_words.proofs.Numbers.{le_of, le_true}
-use Rattle.ed_words.specs.Texts.{Text}
+use Rattle.ed_words.proofs.Numbers.{le_true, lt_false}
+use Rattle.ed_words.specs.Decimals.{value}
 use Rattle.ed_codes.specs.Spelling.{row_of}
-use Rattle.ed_printer.specs.Paper.{paper, paper_from, struck}
-use Rattle.ed_printer.specs.declared.printer.Shift.TheVariants.{Letters}
+use Rattle.ed_syntax.specs.Parts.{run, sign}
 use Rattle.ed_syntax.specs.Private.Grammar.{row}
-use Rattle.ed_syntax.specs.Private.SourceReading.{program_of}
-use Rattle.ed_command.specs.declared.command.Settings.{Settings}
-use Rattle.ed_sources.proofs.Decimals.{among, both, decimal_is, few_bytes}
-use Rattle.ed_programs.specs.Programs.{SourceRuns}
-use Rattle.ed_programs.specs.Hello.{EachTextIsPrinted, IsRows, is_row_byte, of_letters}
-use Rattle.ed_programs.specs.Hello.{hello_rows, hello_text}
-use Rattle.std.specs.Fmt.{decimal}
-use Rattle.ed_sources.specs.Calls.{text_of_lines}
-use Rattle.ed_programs.specs.Hello.{after_count, hello_orders, hello_prints, hello_source, is_capital}
-use Rattle.ed_programs.proofs.Answered.{are_short}
-use Rattle.ed_programs.proofs.SourceRuns.{source_runs}
-use Rattle.ed_programs.proofs.HelloEnds.{hello_ends}
-use Rattle.ed_programs.proofs.HelloFaultless.{hello_faultless}
-use Rattle.ed_programs.proofs.HelloSaid.{all_plain, hello_lines, hello_read}
+use Rattle.ed_syntax.specs.Private.SourceReading.{line_of}
+use Rattle.ed_syntax.specs.declared.program.Operand.TheVariants as operands
+use Rattle.ed_syntax.specs.declared.program.Statement.{Statement}
+use Rattle.ed_syntax.specs.declared.program.Statement.TheVariants as statements
+use Rattle.ed_words.specs.declared.size.Size.TheVariants.{Small, Full}
+use Rattle.ed_symbols.specs.Faults.{resolved}
+use Rattle.ed_symbols.specs.Places.{even_from, first_spot}
+use Rattle.ed_link.specs.Private.FaultTests.{fault, fault_from, missing, sooner}
+use Rattle.ed_link.specs.Linked.{homes_of, linked}
+use Rattle.ed_paths.proofs.Places.{IsOutside}
+use Rattle.ed_routines.proofs.Lines.{newline_line}
+use Rattle.ed_sources.proofs.Blocks.{order_at}
+use Rattle.ed_sources.proofs.Said.{order, said, stop}
+use Rattle.ed_programs.specs.Hello.{EachTextIsPrinted, IsRows, hello_data, hello_orders, hello_pieces, hello_prints, hello_rows}
+use Rattle.ed_programs.specs.Hello.{hello_text, is_capital, of_letters}
+use Rattle.ed_programs.proofs.Capitals.{are_rows, letters_shown}
+use Rattle.ed_programs.proofs.Faults.{past, spot}
+use Rattle.ed_programs.proofs.ProgramEntry.{stops_by}
+use Rattle.ed_programs.proofs.SourceRuns.{read_runs}
+use Rattle.ed_programs.proofs.TextLines.{IsAround, all_plain, number_says, text_mark}
+use Rattle.ed_programs.proofs.TextPrograms.{Spells, before_text, last_lines, newline_after, text_sound, text_stands}
+use Rattle.ed_programs.proofs.Kit.{◌≡◌, ◌∙◌, inr, ℕ, ◌+◌, ◌-◌, ◌*◌, ◌<◌, ◌≤◌, refl, ap, subst, arith, lit<, lit≤, true}
+use Rattle.ed_programs.proofs.Kit.{false, List, [], ◌∷◌, ◌++◌, Ok, Some, None, codes, get_or, length, length-append}
+use Rattle.ed_programs.proofs.Kit.{decimal, least, Text, Size, Line, entry_state, paper, Settings, Frame, Moment, short}
+use Rattle.ed_programs.proofs.Kit.{state, early, out, own, A, S, T, U, O, G_jumps, G_stays, Z, Path, followed, on}
+use Rattle.ed_programs.proofs.Kit.{prints, stay, newline, ComesToStop, HasRoutine, IsIn, along, then, to_stop}
+use Rattle.ed_programs.proofs.Kit.{all_words, frame_at, moment_at, SourceRuns, Marked, to, counted}
 
-rows_run : (s : Settings) (texts : List Text) (rows : List ℕ) → are_short texts ≡ true → length texts ≤ 2000
-    → program_of (text_of_lines texts) ≡ Ok (hello_lines (length rows) rows)
-    → 1 ≤ length rows → length rows ≤ 41 → list_all (λ c. nat_lt c 32) rows ≡ true
-    → SourceRuns s (text_of_lines texts) (length rows * 7 + 8 + 1) 67 (paper (rows ++ 18 ∷ 24 ∷ []))
-rows_run s texts [] short lines reads some few small = absurd (omega arith)
-rows_run s texts (c ∷ cs) short lines reads some few small =
-    let long = length-append (c ∷ cs) (18 ∷ 24 ∷ []) in
-    source_runs s texts short lines reads (hello_faultless (c ∷ cs) few s.size) (hello_ends s.size c cs few small) (omega arith)
+-- ---- its path
 
--- no line of the source is longer than 120 bytes
-short_lines : (q : Text) → IsRows q → are_short (hello_source q) ≡ true
-short_lines q o =
-    let few = o.few in
-    let small : length q < 65536 = omega arith in
-    let number = ap (λ (t : Text). length t) (decimal_is (length q) small) in
-    let digits = few_bytes (length q) small in
-    let a = length-append (decimal (length q)) after_count in
-    let b = length-append q (34 ∷ []) in
-    let first = le_true (length (codes "_last: O letters+" ++ (decimal (length q) ++ after_count))) 120 (omega (arith, number, digits, a)) in
-    let second = le_true (length (codes "letters: text " ++ 34 ∷ (q ++ 34 ∷ []))) 120 (omega (arith, b)) in
-    rw (first, second) refl
+-- the order that prints what stands at q
+abbrev printing : ℕ → ℕ
+printing q = 36864 + 2 * q
+
+-- its words: the jump to `newline`, the order after the last one that prints, the one that does, and a spare cell
+abbrev cells : ℕ → ℕ → ℕ → ℕ → List ℕ
+cells jump behind order scrap =
+    to 5 12 ∷ order ∷ to 28 1 ∷ 114692 ∷ to 7 1 ∷ to 12 11 ∷ to 27 0 ∷ to 5 12 ∷ to 28 8 ∷ jump ∷ 53248 ∷ behind ∷ scrap ∷ []
+
+module _ (z : Size) (around : Moment) (all : length around.words ≡ 1024) (second : get_or around.words 2 0 ≡ 2)
+    (w e : ℕ) (room : e ≤ 500) where
+  abbrev f : Frame 13 0
+  f = frame_at 13 z (lit≤ tt)
+
+  abbrev at : ℕ → ℕ → ℕ → ℕ → Option ℕ → Moment
+  at i v order scrap last = record around {
+    cells = cells (110592 + 2 * w) (printing e) order scrap;
+    pairs = [];
+    acc = short v;
+    counter = 56 + i;
+    last = last;
+  }
+
+  -- a code is printed, and the order that prints it gets the next address
+  step : (c q left scrap next : ℕ) (last : Option ℕ) → get_or around.words q 0 ≡ 4096 * c → c < 32 → 69 ≤ q → q < e
+      → left < 131072 → next ≡ printing (q + 1)
+      → Path f 5 (at 0 left (printing q) scrap last) (c ∷ []) (at 5 next next left (Some c))
+  step c q left scrap next last here code from below small is =
+      let size = least z in
+      let outside : IsOutside f around.words q = record { below = omega arith; beside = inr from } in
+      on (T 0 (own 12) _ refl refl)
+      (prints (O 1 (out q outside) c refl (omega arith))
+      (on (A 2 (own 1) (short (printing q)) refl (omega arith))
+      (on (A 3 (out 2 (early 2 (lit≤ tt) (lit< tt) all)) (short next) refl (omega arith))
+      (on (U 4 (own 1) _ refl refl) stay))))
+
+  -- the loop: it ends when the order is the one after the last that prints
+  loop : (c : ℕ) (cs : List ℕ) (q left scrap : ℕ) (last : Option ℕ) → Spells around.words q (c ∷ cs)
+      → q + length (c ∷ cs) ≡ e → 69 ≤ q → left < 131072
+      → (x : ℕ × Option ℕ) × Path f (length (c ∷ cs) * 7) (at 0 left (printing q) scrap last) (c ∷ cs)
+      (at 7 0 (printing e) x.0 x.1)
+  loop c [] q left scrap last o long from small = (
+    (left, Some c),
+    followed (step c q left scrap (printing e) last o.0 o.1 from (omega arith) small (omega arith))
+        (on (S 5 (own 11) (short 0) refl (omega arith))
+        (on (G_stays 6 (own 0) refl (lit< tt)) stay)),
+  )
+  loop c (d ∷ ds) q left scrap last o long from small =
+      let less : ℕ = 131072 - 2 * length (d ∷ ds) in
+      let rest = loop d ds (q + 1) less left (Some c) o.2 (omega arith) (omega arith) (omega arith) in (
+        rest.0,
+        counted (followed (step c q left scrap (printing (q + 1)) last o.0 o.1 from (omega arith) small refl)
+            (on (S 5 (own 11) (short less) refl (omega arith))
+            (on (G_jumps 6 (own 0) refl (omega arith)) rest.1))) (omega arith),
+      )
+
+  stops : (has : HasRoutine f around.words newline w []) (c : ℕ) (cs : List ℕ) → Spells around.words 69 (c ∷ cs)
+      → 69 + length (c ∷ cs) ≡ e → (done : ℕ)
+      → ComesToStop (length (c ∷ cs) * 7 + 8) (state f (at 0 0 (printing 69) 0 None) done) ((c ∷ cs) ++ 18 ∷ 24 ∷ []) 67
+  stops has c cs o long =
+      let x = loop c cs 69 0 0 None o long (lit≤ tt) (lit< tt) in
+      let here : IsIn f (at 8 0 (printing e) 0 x.0.1) = record { above = lit≤ tt; all = all; own = refl } in
+      to_stop (then (along x.1)
+      (then (along (on (T 7 (own 12) 0 refl refl) stay)) (newline_line here 8 has (lit≤ tt) refl refl refl)))
+      (Z 10 53248 refl refl)
+
+-- ---- its lines
+
+abbrev behind : ℕ → Statement
+behind n = statements.Order 9 (operands.Label (codes "letters") (pos n)) false
+
+-- all of them, by the rows of the text; the same as are computed, but written out for what is proved of them
+abbrev hello_lines : List ℕ → List Line
+hello_lines rows =
+    record { number = 1; label = None; statement = None }
+    ∷ record { number = 2; label = None; statement = None }
+    ∷ record { number = 3; label = None; statement = None }
+    ∷ said 4 None (statements.Segment (codes "main") None)
+    ∷ said 5 (Some (codes "_next")) (order 5 (codes "_scrap"))
+    ∷ said 6 (Some (codes "_print")) (order 9 (codes "letters"))
+    ∷ said 7 None (order 28 (codes "_print"))
+    ∷ said 8 None (statements.Order 28 (operands.Number 2) false)
+    ∷ said 9 None (order 7 (codes "_print"))
+    ∷ said 10 None (order 12 (codes "_last"))
+    ∷ said 11 None (order 27 (codes "_next"))
+    ∷ said 12 None (order 5 (codes "_scrap"))
+    ∷ said 13 (Some (codes "_call")) (order 28 (codes "_call"))
+    ∷ said 14 None (order 27 (codes "n"))
+    ∷ said 15 None stop
+    ∷ said 16 (Some (codes "_last")) (behind (length rows))
+    ∷ said 17 (Some (codes "_scrap")) (statements.Order 0 (operands.Number 0) false)
+    ∷ said 18 None (statements.Segment (codes "text") None)
+    ∷ last_lines 19 (codes "letters") rows (codes "n") (codes "main")
+
+number_line : (n : ℕ) → n ≤ 1023
+    → IsAround true 16 (codes "_last: O letters+") (codes " F  ; the order behind the last letter")
+    (run (codes "_last") ∷ sign 58 ∷ sign 79 ∷ run (codes "letters") ∷ sign 43 ∷ []) (sign 70 ∷ []) n
+    (Some (codes "_last")) (behind n)
+number_line n few = record {
+  plain = λ t h. h;
+  tail_plain = refl;
+  short = lit≤ tt;
+  ends = refl;
+  tail_parts = refl;
+  parts = λ t ps h. rw h refl;
+  form = λ bytes number is.
+      let near : nat_le (value bytes) 1023 ≡ true = le_true (value bytes) 1023 (omega (arith, is, few)) in
+      rw (number, near, is) refl;
+}
+
+-- where they stand, and that they have no fault
+module _ (rows : List ℕ) (few : length rows ≤ 41) where
+  abbrev lines : List Line
+  lines = hello_lines rows
+
+  abbrev w : ℕ
+  w = even_from (69 + length rows)
+
+  named : (resolved lines).fault ≡ None
+  named =
+      let a : nat_lt (69 + length rows) 0 ≡ false = lt_false (69 + length rows) 0 (omega arith) in
+      let b : nat_lt 1023 (69 + length rows) ≡ false = lt_false 1023 (69 + length rows) (omega arith) in
+      let c : nat_lt (w + 0) 0 ≡ false = lt_false (w + 0) 0 (omega arith) in
+      let d : nat_lt 1023 (w + 0) ≡ false = lt_false 1023 (w + 0) (omega arith) in
+      rw (c, d, a, b) refl
+
+  -- the places of the lines before the text
+  abbrev runs : List (ℕ × ℕ)
+  runs =
+      (56, 56) ∷ (56, 56) ∷ (56, 56) ∷ (56, 56) ∷ (56, 57) ∷ (57, 58) ∷ (58, 59) ∷ (59, 60) ∷ (60, 61) ∷ (61, 62)
+      ∷ (62, 63) ∷ (63, 64) ∷ (64, 65) ∷ (65, 66) ∷ (66, 67) ∷ (67, 68) ∷ (68, 69) ∷ (69, 69) ∷ []
+
+  placed_well : (z : Size) → fault_from z (homes_of lines) true (past runs) (spot 69 69 2)
+      (last_lines 19 (codes "letters") rows (codes "n") (codes "main")) ≡ None
+      → fault_from z (homes_of lines) true (past []) first_spot lines ≡ None
+  placed_well Small h = h
+  placed_well Full h = h
+
+  faultless : (z : Size) → fault z lines ≡ None
+  faultless z =
+      (λ i. sooner (named i) (sooner (fault_from z (homes_of lines) true (past []) first_spot lines) (missing true (length lines))))
+      ∙ ap (λ f. sooner None (sooner f None)) (placed_well z
+      (text_sound z (homes_of lines) runs 69 69 2 19 (codes "letters") (codes "n") (codes "main") rows (lit≤ tt)
+      (omega arith) refl refl))
+
+ends : (c : ℕ) (cs : List ℕ) → length (c ∷ cs) ≤ 41 → list_all (λ c. nat_lt c 32) (c ∷ cs) ≡ true → (z : Size)
+    → ComesToStop (length (c ∷ cs) * 7 + 8) (entry_state z (hello_lines (c ∷ cs))) ((c ∷ cs) ++ 18 ∷ 24 ∷ []) 67
+ends c cs few small z =
+    let rows : List ℕ = c ∷ cs in
+    let lines : List Line = hello_lines rows in
+    let w : ℕ = even_from (69 + length rows) in
+    let front : List (ℕ × ℕ) = take 13 (linked lines) in
+    let jump : 4096 * 27 + 2 * (w + 0) ≡ 110592 + 2 * w = omega arith in
+    let order = order_at 27 (w + 0) (lit< tt) (omega arith) ∙ jump in
+    let last = order_at 9 (69 + length rows) (lit< tt) (omega arith) in
+    stops_by z lines 13 (lit≤ tt) (reverse front)
+    (λ j l. before_text z lines 69 rows (lit≤ tt) (omega arith) front refl refl (56 + j) (omega arith) (omega arith))
+    (cells (110592 + 2 * w) (printing (69 + length rows)) (printing 69) 0)
+    (λ i. cells (order i) (last i) (printing 69) 0) refl [] refl
+    (stops z (moment_at (entry_state z lines)) (all_words z lines) refl w (69 + length rows) (omega arith)
+    (newline_after z lines 69 rows (lit≤ tt) (omega arith) front refl refl (lit≤ tt) (lit≤ tt)) c cs
+    (text_stands z lines 69 rows (lit≤ tt) (omega arith) front refl refl small) refl (entry_state z lines).orders)
+
+module _ (b : ℕ) (r : Text) (o : IsRows (b ∷ r)) where
+  abbrev q : Text
+  q = b ∷ r
+
+  abbrev rows : List ℕ
+  rows = hello_rows q
+
+  long : length rows ≡ length q
+  long = length-map q (λ b. row (row_of b))
+
+  few : length rows ≤ 41
+  few = let f = o.few in omega (arith, long)
+
+  last_says : line_of true 16 (codes "_last: O letters+" ++ (decimal (length q) ++ codes " F  ; the order behind the last letter"))
+      ≡ Ok (record { label = Some (codes "_last"); statement = Some (behind (length rows)) })
+  last_says =
+      subst (λ n. line_of true 16 (codes "_last: O letters+" ++ (decimal n ++ codes " F  ; the order behind the last letter"))
+      ≡ Ok (record { label = Some (codes "_last"); statement = Some (behind (length rows)) })) long
+      (number_says (number_line (length rows) (omega (arith, few))) (omega (arith, few)))
+
+  abbrev marks : List (Marked true)
+  marks =
+      record {
+        number = 16;
+        text = codes "_last: O letters+" ++ (decimal (length q) ++ codes " F  ; the order behind the last letter");
+        label = Some (codes "_last");
+        statement = behind (length rows);
+        says = last_says;
+      }
+      ∷ text_mark 19 (codes "letters") q (lit≤ tt) refl o.some (let f = o.few in omega arith) o.spelled ∷ []
+
+  text_runs : (s : Settings) → SourceRuns s (hello_text q) (7 * length q + 9) 67 (paper (rows ++ 18 ∷ 24 ∷ []))
+  text_runs s =
+      let e = length-append rows (18 ∷ 24 ∷ []) in
+      read_runs s true hello_pieces (hello_data q) marks refl (faultless rows few s.size)
+      (ends (row (row_of b)) (hello_rows r) few (all_plain q o.spelled).codes s.size) (omega (arith, e, few))
+      (omega (arith, long)) refl
 
 pub each_text : EachTextIsPrinted
-each_text s q o =
-    let long : length (hello_rows q) ≡ length q = length-map q (λ b. row (row_of b)) in
-    let count : length (hello_rows q) * 7 + 8 + 1 ≡ 7 * length q + 9 = omega (arith, long) in
-    let some = o.some in
-    let few = o.few in
-    let reads : program_of (hello_text q) ≡ Ok (hello_lines (length (hello_rows q)) (hello_rows q)) =
-    hello_read q o ∙ ap (λ n. Ok (hello_lines n (hello_rows q))) (sym long) in
-    subst (λ k. SourceRuns s (hello_text q) k 67 (paper (hello_rows q ++ 18 ∷ 24 ∷ []))) count
-    (rows_run s (hello_source q) (hello_rows q) (short_lines q o) (lit≤ tt) reads (omega (arith, long)) (omega (arith, long)) (all_plain q o.spelled).codes)
+each_text s [] o = let some = o.some in absurd (omega arith)
+each_text s (b ∷ r) o = text_runs b r o s
 
--- ---- letters
-
--- what holds of each letter, as a test
-abbrev fine : ℕ → Bool
-fine b = is_row_byte b
-    && (bytes_eq (struck Letters (row (row_of b))) (b ∷ []) && (not (row (row_of b) == 11) && not (row (row_of b) == 15)))
-
-pub record Letter (b : ℕ) : Type 0 where
-  pub row_byte : is_row_byte b ≡ true
-  pub struck_is : struck Letters (row (row_of b)) ≡ b ∷ []
-  pub no_figures : (row (row_of b) == 11) ≡ false
-  pub no_letters : (row (row_of b) == 15) ≡ false
-
-pub letter : (b : ℕ) → (nat_le 65 b && nat_le b 90) ≡ true → Letter b
-letter b h =
-    let p = and_parts (nat_le 65 b) (nat_le b 90) h in
-    let low = le_of 65 b p.0 in
-    let high = le_of b 90 p.1 in
-    let is = among fine 65 26 b refl (omega arith) (omega arith) in
-    let q = and_parts (is_row_byte b) _ is in
-    let r = and_parts (bytes_eq (struck Letters (row (row_of b))) (b ∷ [])) _ q.1 in
-    let t = and_parts (not (row (row_of b) == 11)) _ r.1 in
-    record {
-      row_byte = q.0;
-      struck_is = (bytes_eq-Decides (struck Letters (row (row_of b))) (b ∷ [])).0 r.0;
-      no_figures = not-true (row (row_of b) == 11) t.0;
-      no_letters = not-true (row (row_of b) == 15) t.1;
-    }
-
-pub are_rows : (q : Text) → list_all (λ b. nat_le 65 b && nat_le b 90) q ≡ true → list_all is_row_byte q ≡ true
-are_rows [] h = refl
-are_rows (b ∷ q) h =
-    let p = and_parts (nat_le 65 b && nat_le b 90) (list_all (λ b. nat_le 65 b && nat_le b 90) q) h in
-    both _ _ (letter b p.0).row_byte (are_rows q p.1)
-
-letters_shown : (q : Text) → list_all (λ b. nat_le 65 b && nat_le b 90) q ≡ true
-    → paper_from Letters (hello_rows q ++ 18 ∷ 24 ∷ []) ≡ q ++ 13 ∷ 10 ∷ []
-letters_shown [] h = refl
-letters_shown (b ∷ q) h =
-    let p = and_parts (nat_le 65 b && nat_le b 90) (list_all (λ b. nat_le 65 b && nat_le b 90) q) h in
-    let l = letter b p.0 in
-    let a = l.struck_is in let c = l.no_figures in let d = l.no_letters in
-    rw (c, d, a) (ap (λ (x : Text). b ∷ x) (letters_shown q p.1))
-
--- 1 to 40 capital letters
-pub record AreLetters (letters : Text) : Type 0 where
-  pub some : 1 ≤ length letters
-  pub few : length letters ≤ 40
-  pub capital : list_all is_capital letters ≡ true
-
--- so letters are printed as they are, on a line
-pub each_name : (s : Settings) (letters : Text) → AreLetters letters
-    → SourceRuns s (hello_text (of_letters letters)) (hello_orders letters) 67 (hello_prints letters)
-each_name s letters o =
-    let some = o.some in
-    let few = o.few in
-    let rows : IsRows (of_letters letters) = record {
-      some = omega arith;
-      few = omega arith;
-      spelled = are_rows letters o.capital;
-    } in
+-- 1 to 40 capital letters are printed as they are, on a line
+pub each_name : (letters : Text) → 1 ≤ length letters → length letters ≤ 40 → list_all is_capital letters ≡ true
+    → (s : Settings) → SourceRuns s (hello_text (of_letters letters)) (hello_orders letters) 67 (hello_prints letters)
+each_name letters some few capital s =
     let count : 7 * length (of_letters letters) + 9 ≡ 7 * length letters + 16 = omega arith in
-    subst (λ k. SourceRuns s (hello_text (of_letters letters)) k 67 (letters ++ 13 ∷ 10 ∷ [])) count
+    subst (λ k. SourceRuns s (hello_text (of_letters letters)) k 67 (hello_prints letters)) count
     (subst (λ (t : Text). SourceRuns s (hello_text (of_letters letters)) (7 * length (of_letters letters) + 9) 67 t)
-    (letters_shown letters o.capital) (each_text s (of_letters letters) rows))
+    (letters_shown letters capital)
+    (each_text s (of_letters letters)
+    (record { some = omega arith; few = omega arith; spelled = are_rows letters capital })))

@@ -25,8 +25,8 @@ use Rattle.ed_programs.specs.Hello.{hello_rows, is_capital}
 use Rattle.ed_programs.specs.Mirror.{mirror_cost, mirror_front, mirror_line, mirror_orders, mirror_prints, mirror_text}
 use Rattle.ed_programs.specs.Tapes.{TapeRuns}
 use Rattle.ed_programs.proofs.Answered.{are_short, text_length}
-use Rattle.ed_programs.proofs.HelloRuns.{are_rows, letter}
-use Rattle.ed_programs.proofs.HelloSaid.{all_plain}
+use Rattle.ed_programs.proofs.Capitals.{are_rows, letter}
+use Rattle.ed_programs.proofs.TextLines.{all_plain}
 use Rattle.ed_programs.proofs.MirrorEnds.{mirror_arrives, mirror_ends, mirror_entry, mirror_rows}
 use Rattle.ed_programs.proofs.MirrorProgram.{AreCodes}
 use Rattle.ed_programs.proofs.TapeRuns.{tape_runs}

@@ -1,102 +1,144 @@
--- What the source of `examples/answer5.edsac` prints, for any numbers: its lines, its entry and its law.
-use Rattle.std.proofs.Common.{◌∙◌, ℕ, ◌+◌, ◌*◌, ◌<◌, true, List, [], ◌∷◌, ◌++◌, refl, ap, arith}
-use Rattle.std.proofs.Common.{append_assoc, codes, length-append, lit≤}
-use Rattle.std.specs.Fmt.{decimal}
-use Rattle.ed_words.specs.declared.size.Size.{Size}
-use Rattle.ed_library.specs.Images.{parameter_store}
-use Rattle.ed_syntax.specs.Private.Grammar.{settings}
-use Rattle.ed_syntax.specs.declared.program.Line.{Line}
-use Rattle.ed_loads.specs.EntryState.{entry_state}
-use Rattle.ed_printer.specs.Paper.{paper}
-use Rattle.ed_routines.specs.Catalogue.{newline, print, with_h}
-use Rattle.ed_routines.specs.Digits.{digits, print_orders}
-use Rattle.ed_routines.proofs.Digits.{few_digits}
-use Rattle.ed_routines.proofs.Journeys.{ComesToStop}
-use Rattle.ed_sources.proofs.AtEntry.{all_words}
-use Rattle.ed_sources.proofs.CallsAccepted.{decimal_plain}
-use Rattle.ed_sources.proofs.Entries.{frame_at, moment_at}
-use Rattle.ed_sources.proofs.Papers.{number_shown}
-use Rattle.ed_command.specs.declared.command.Settings.{Settings}
-use Rattle.ed_programs.specs.Programs.{SourceRuns}
-use Rattle.ed_programs.specs.Multiply.{multiply_orders, multiply_prints, multiply_source, multiply_text}
-use Rattle.ed_programs.proofs.MultiplyProgram.{Given, IsAround, Work, both_shown, cells, multiply_stops}
-use Rattle.ed_programs.proofs.NumberLines.{front_short, labelled, use_mark, word_mark}
-use Rattle.ed_programs.proofs.ProgramEntry.{routine_after, stops_from_entry}
-use Rattle.ed_programs.proofs.SourceLines.{Marked, lines_said}
-use Rattle.ed_programs.proofs.SourceRuns.{AreSaid, program_runs}
+-- The source of `examples/answer5.edsac` for any numbers: its path, and what it prints.
+use Rattle.ed_programs.specs.Multiply.{multiply_data, multiply_orders, multiply_pieces, multiply_prints, multiply_text}
+use Rattle.ed_programs.proofs.Kit.{◌≡◌, ◌∙◌, ℕ, zero, suc, ◌+◌, ◌*◌, ◌<◌, ◌≤◌, refl, ap, subst, arith, lit<, lit≤, true}
+use Rattle.ed_programs.proofs.Kit.{List, [], ◌∷◌, ◌++◌, Some, codes, length, append_assoc, length-append, decimal}
+use Rattle.ed_programs.proofs.Kit.{least, Size, parameter_store, settings, Line, entry_state, paper, Settings, Frame}
+use Rattle.ed_programs.proofs.Kit.{Moment, short, state, any, early, out, own, A, S, T, U, E_jumps, G_jumps, G_stays, Z}
+use Rattle.ed_programs.proofs.Kit.{Path, followed, on, stay, newline, print, with_h, digits, print_orders, few_digits}
+use Rattle.ed_programs.proofs.Kit.{ComesToStop, HasRoutine, IsIn, Journey, along, then, to_stop, all_words, frame_at}
+use Rattle.ed_programs.proofs.Kit.{moment_at, number_shown, SourceRuns, word_mark, HasShown, shows_number, then_on}
+use Rattle.ed_programs.proofs.Kit.{counted, stop_counted, routine_after, stops_from_entry, Marked, lines_of_pieces}
+use Rattle.ed_programs.proofs.Kit.{program_runs, to, calling, link, calls_own}
 
--- numbers whose products `print` can print
-pub record AreFactors (a b c : ℕ) : Type 0 where
-  pub left : a < 65536
-  pub right : b < 65536
-  pub product : a * b < 65536
-  pub third : c < 65536
-  pub square : c * c < 65536
+-- its words, with the cells that change: the numbers, the product, the spare cell and the links
+abbrev pub cells : ℕ → ℕ → ℕ → ℕ → ℕ → ℕ → ℕ → List ℕ
+cells c l r p s k h =
+    to 28 0 ∷ to 27 13 ∷ to 28 2 ∷ to 27 32 ∷ to 28 12 ∷ to 7 27 ∷ to 5 28 ∷ to 28 7 ∷ to 27 13 ∷ to 28 9 ∷ to 27 32
+    ∷ 53248 ∷ c ∷ 114694 ∷ to 5 26 ∷ to 5 29 ∷ to 5 31 ∷ to 28 27 ∷ to 12 30 ∷ to 27 25 ∷ to 5 27 ∷ to 28 29
+    ∷ to 28 28 ∷ to 5 29 ∷ to 3 16 ∷ to 5 31 ∷ k ∷ l ∷ r ∷ p ∷ 1 ∷ s ∷ 114694 ∷ to 5 38 ∷ to 28 34
+    ∷ calling 96 ∷ to 28 36 ∷ calling 148 ∷ h ∷ 0 ∷ []
 
-module _ (a b c : ℕ) (o : AreFactors a b c) where
-  -- the lines with data, and the `use` line with H
-  abbrev marks : List Marked
+module _ (z : Size) (c : ℕ) where
+  abbrev f : Frame 40 0
+  f = frame_at 40 z (lit≤ tt)
+
+  -- what it needs around it: the routines, and location 3
+  record IsAround (m : Moment) : Type 0 where
+    all : length m.words ≡ 1024
+    prints : HasRoutine f m.words print 96 (with_h 85)
+    lines : HasRoutine f m.words newline 148 []
+
+  abbrev at : Moment → ℕ → ℕ → ℕ → ℕ → ℕ → ℕ → ℕ → ℕ → Moment
+  at m i v l r p s k h = record m { cells = cells c l r p s k h; pairs = []; acc = short v; counter = 56 + i }
+
+  module _ (m : Moment) (o : IsAround m) (j r : ℕ) (low : j + 3 ≤ 40) where
+    back : 56 + (j + 2) < f.top
+    back = let size = least z in omega arith
+
+    -- the loop of `times`: the one factor is counted down to 0, and each time the other is added to what there is
+    loop : (l p q k h : ℕ) → p + l * r ≡ q → l < 65536 → q < 65536
+        → Path f (l * 9) (at m 17 0 l r p 0 k h) [] (at m 17 0 0 r q 0 k h)
+    loop zero p q k h e few small =
+        counted (subst (λ x. Path f 0 (at m 17 0 0 r p 0 k h) [] (at m 17 0 0 r x 0 k h)) (omega arith) stay) (omega arith)
+    loop (suc l) p q k h e few small =
+        let sum : suc l * r ≡ r + l * r = omega arith in
+        counted (on (A 17 (own 27) (short (suc l)) refl (omega arith))
+        (on (S 18 (own 30) (short l) refl (omega arith))
+        (on (G_stays 19 (own 25) refl (omega arith))
+        (on (T 20 (own 27) _ refl refl)
+        (on (A 21 (own 29) (short p) refl (omega arith))
+        (on (A 22 (own 28) (short (p + r)) refl (omega arith))
+        (on (T 23 (own 29) _ refl refl)
+        (on (E_jumps 24 (own 16) refl (lit< tt))
+        (on (T 16 (own 31) 0 refl refl) (loop l (p + r) q k h (omega arith) (omega arith) small)))))))))) (omega arith)
+
+    -- `times`, called from cell j
+    times : (l p s k h : ℕ) → l < 65536 → l * r < 65536
+        → Path f (9 * l + 9) (at m 13 (to 28 j) l r p s k h) [] (at m (j + 2) 0 0 r (l * r) 131071 (link j) h)
+    times l p s k h few small =
+        let third = o.prints.at3 in let all = o.all in
+        counted (on (A 13 (out 3 (early 3 (lit≤ tt) (lit< tt) all)) (short (link j)) refl (omega arith))
+        (on (T 14 (own 26) _ refl refl)
+        (on (T 15 (own 29) 0 refl refl)
+        (on (T 16 (own 31) 0 refl refl)
+        (followed (loop l 0 (l * r) (link j) h (omega arith) few small)
+        (on (A 17 (own 27) (short 0) refl (omega arith))
+        (on (S 18 (own 30) (short 131071) refl (omega arith))
+        (on (G_jumps 19 (own 25) refl (lit≤ tt))
+        (on (T 25 (own 31) 131071 refl refl)
+        (on (E_jumps 26 (any (56 + (j + 2)) back) refl (lit< tt)) stay)))))))))) (omega arith)
+
+    -- `show`, called from cell j: what it prints, and what is around the program after it
+    record Shown (l p s k h : ℕ) : Type 0 where
+      after : Moment
+      is : IsAround after
+      journey : Journey f (2 + ((9 + print_orders p) + 1)) (at m 32 (to 28 j) l r p s k h) (11 ∷ digits p ++ 18 ∷ 24 ∷ [])
+          (at after (j + 2) 0 l r p s k (link j))
+
+    show : (l p s k h : ℕ) → p < 65536 → Shown l p s k h
+    show l p s k h small =
+        let third = o.prints.at3 in let all = o.all in
+        let called : IsIn f (at m 34 0 l r p s k (link j)) = record { above = lit≤ tt; all = all; own = refl } in
+        let shown : HasShown called 34 29 96 148 p =
+        shows_number called 34 29 p o.prints o.lines (lit≤ tt) refl small (lit< tt) (lit≤ tt) refl refl refl refl refl in
+        record {
+          after = record m { words = shown.words; last = Some 24 };
+          is = record { all = shown.still_in.all; prints = shown.prints; lines = shown.lines };
+          journey = then
+              (along (on (A 32 (out 3 (early 3 (lit≤ tt) (lit< tt) all)) (short (link j)) refl (omega arith))
+              (on (T 33 (own 38) _ refl refl) stay)))
+              (then_on shown.journey (on (E_jumps 38 (any (56 + (j + 2)) back) refl (lit< tt)) stay));
+        }
+
+  -- both calls of each, to the stop
+  stops : (m : Moment) (o : IsAround m) (a b : ℕ) → a < 65536 → a * b < 65536 → c < 65536 → c * c < 65536 → (done : ℕ)
+      → ComesToStop (9 * a + 9 * c + print_orders (a * b) + print_orders (c * c) + 53) (state f (at m 0 0 a b 0 0 0 0) done)
+      ((11 ∷ digits (a * b) ++ 18 ∷ 24 ∷ []) ++ (11 ∷ digits (c * c) ++ 18 ∷ 24 ∷ [])) 68
+  stops m o a b few small few_c small_c done =
+      let one : Shown m o 2 b (lit≤ tt) 0 (a * b) 131071 (link 0) 0 = show m o 2 b (lit≤ tt) 0 (a * b) 131071 (link 0) 0 small in
+      let now : Moment = one.after in
+      let two = show now one.is 9 c (lit≤ tt) 0 (c * c) 131071 (link 7) (link 2) small_c in
+      stop_counted (to_stop
+      (then (along (calls_own 0 13 refl refl refl (lit< tt)
+      (followed (times m o 0 b (lit≤ tt) a 0 0 0 0 few small) (calls_own 2 32 refl refl refl (lit< tt) stay))))
+      (then one.journey
+      (then (along (on (A 4 (own 12) (short c) refl (omega arith))
+      (on (U 5 (own 27) _ refl refl)
+      (on (T 6 (own 28) _ refl refl)
+      (calls_own 7 13 refl refl refl (lit< tt)
+      (followed (times now one.is 7 c (lit≤ tt) c (a * b) 131071 (link 0) (link 2) few_c small_c)
+      (calls_own 9 32 refl refl refl (lit< tt) stay)))))))
+      two.journey)))
+      (Z 11 53248 refl refl) done) (omega arith)
+
+module _ (a b c : ℕ) (few : a < 65536) (also : b < 65536) (small : a * b < 65536) (few_c : c < 65536)
+    (small_c : c * c < 65536) where
+  -- the lines with data
+  abbrev marks : List (Marked true)
   marks =
-      word_mark 17 (codes "_twelve") c ∷ word_mark 33 (codes "left") a ∷ word_mark 34 (codes "right") b
-      ∷ use_mark 46 (codes "print") (codes "p") (codes "product") ∷ []
+      word_mark 17 c few_c (codes "_twelve") (lit≤ tt) refl ∷ word_mark 33 a few (codes "left") (lit≤ tt) refl
+      ∷ word_mark 34 b also (codes "right") (lit≤ tt) refl ∷ []
 
   abbrev lines : List Line
-  lines = lines_said true 1 (multiply_source a b c) marks
+  lines = lines_of_pieces true multiply_pieces (multiply_data a b c) marks
 
-  said : AreSaid true (multiply_source a b c) marks
-  unfolding settings
-  said =
-      let twelve = labelled true 17 (codes "_twelve")
-      (λ t h. h) (lit≤ tt) (λ t h. rw h refl) (λ t n r. rw (n, r) refl) c o.third in
-      let left = labelled true 33 (codes "left")
-      (λ t h. h) (lit≤ tt) (λ t h. rw h refl) (λ t n r. rw (n, r) refl) a o.left in
-      let right = labelled true 34 (codes "right")
-      (λ t h. h) (lit≤ tt) (λ t h. rw h refl) (λ t n r. rw (n, r) refl) b o.right in
-      let p = decimal_plain a o.left in let q = decimal_plain b o.right in let r = decimal_plain c o.third in
-      let x = front_short (codes "_twelve: word ") (lit≤ tt) c o.third in
-      let y = front_short (codes "left: word ") (lit≤ tt) a o.left in
-      let u = front_short (codes "right: word ") (lit≤ tt) b o.right in
-      record {
-        plain = rw (r, p, q) refl;
-        short = rw (x, y, u) refl;
-        few = lit≤ tt;
-        version = refl;
-        read = refl;
-        marked = (twelve, (left, (right, (refl, tt))));
-        small = refl;
-        full = refl;
-      }
-
-  module _ (z : Size) where
-    abbrev given : Given
-    given = record { f = frame_at 40 z (lit≤ tt); above = lit≤ tt; c = c; p = 96; w = 148; other = lit≤ tt }
-
-    is_around : IsAround given (moment_at (entry_state z lines))
-    unfolding parameter_store
-    is_around = record {
-      all = all_words z lines;
-      at3 = refl;
-      prints = routine_after z lines refl (lit≤ tt) print 96 (with_h 85) refl (lit≤ tt) (lit≤ tt) (lit≤ tt);
-      lines = routine_after z lines refl (lit≤ tt) newline 148 [] refl (lit≤ tt) (lit≤ tt) (lit≤ tt);
-    }
-
-    ends : ComesToStop (9 * a + 9 * c + print_orders (a * b) + print_orders (c * c) + 53) (entry_state z lines)
-        (both_shown given (a * b) (c * c)) 68
-    ends =
-        let work : Work = record { link = 0; left = a; right = b; product = 0; scrap = 0; shows = 0 } in
-        stops_from_entry z lines refl 40 (lit≤ tt) (cells 56 c 96 148 work) refl refl [] refl
-        (multiply_stops given (moment_at (entry_state z lines)) is_around work o.left o.product o.third o.square
-        (entry_state z lines).orders)
-
-  pub each_product : (s : Settings)
-      → SourceRuns s (multiply_text a b c) (multiply_orders a b c) 68 (multiply_prints a b c)
+  pub each_product : (s : Settings) → SourceRuns s (multiply_text a b c) (multiply_orders a b c) 68 (multiply_prints a b c)
+  unfolding settings parameter_store
   each_product s =
-      let few = few_digits (a * b) in
-      let also = few_digits (c * c) in
-      let x = length-append (digits (a * b)) (18 ∷ 24 ∷ []) in
-      let y = length-append (digits (c * c)) (18 ∷ 24 ∷ []) in
-      let z = length-append (11 ∷ digits (a * b) ++ 18 ∷ 24 ∷ []) (11 ∷ digits (c * c) ++ 18 ∷ 24 ∷ []) in
-      program_runs s (multiply_source a b c) said (ends s.size) (omega arith) (omega arith)
+      let z : Size = s.size in
+      let o : IsAround z c (moment_at (entry_state z lines)) = record {
+        all = all_words z lines;
+        prints = routine_after z lines refl (lit≤ tt) print 96 (with_h 85) refl (lit≤ tt) (lit≤ tt) (lit≤ tt);
+        lines = routine_after z lines refl (lit≤ tt) newline 148 [] refl (lit≤ tt) (lit≤ tt) (lit≤ tt);
+      } in
+      let e = few_digits (a * b) in
+      let g = few_digits (c * c) in
+      program_runs s true multiply_pieces (multiply_data a b c) marks refl
+      (stops_from_entry z lines refl 40 (lit≤ tt) (cells c a b 0 0 0 0) refl refl [] refl
+      (stops z c (moment_at (entry_state z lines)) o a b few small few_c small_c (entry_state z lines).orders))
+      (let x = length-append (digits (a * b)) (18 ∷ 24 ∷ []) in let y = length-append (digits (c * c)) (18 ∷ 24 ∷ []) in
+      let w = length-append (11 ∷ digits (a * b) ++ 18 ∷ 24 ∷ []) (11 ∷ digits (c * c) ++ 18 ∷ 24 ∷ []) in omega arith)
+      (omega arith)
       (ap paper (append_assoc (11 ∷ digits (a * b)) (18 ∷ 24 ∷ []) (11 ∷ digits (c * c) ++ 18 ∷ 24 ∷ []))
-      ∙ number_shown (a * b) o.product (18 ∷ 24 ∷ 11 ∷ digits (c * c) ++ 18 ∷ 24 ∷ [])
-      ∙ ap (λ (x : List ℕ). decimal (a * b) ++ 13 ∷ 10 ∷ x) (number_shown (c * c) o.square (18 ∷ 24 ∷ [])))
+      ∙ number_shown (a * b) small (18 ∷ 24 ∷ 11 ∷ digits (c * c) ++ 18 ∷ 24 ∷ [])
+      ∙ ap (λ (x : List ℕ). decimal (a * b) ++ 13 ∷ 10 ∷ x) (number_shown (c * c) small_c (18 ∷ 24 ∷ [])))

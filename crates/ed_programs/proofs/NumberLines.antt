@@ -1,22 +1,25 @@
 -- Lines of a source with data: one that ends with `word N`, for any number, and a `use` line with H.
-use Rattle.std.proofs.Common.{◌≡◌, ◌∙◌, ℕ, ◌+◌, ◌<◌, ◌≤◌, true, false, List, [], ◌∷◌, ◌++◌, ap, subst, arith, length, length-append, codes, pos, nat_le, lit≤, refl}
-use Rattle.std.specs.Prelude.{◌==◌, Bool, Option, Some, None, Ok}
+use Rattle.std.proofs.Common.{◌≡◌, ◌∙◌, ℕ, ◌+◌, ◌<◌, ◌≤◌, Bool, true, false, List, [], ◌∷◌, ◌++◌, refl, sym, ap, subst, arith, true≢false}
+use Rattle.std.proofs.Common.{append-nil, append_assoc, codes, length, length-append, lit≤, nat_le, pos}
+use Rattle.std.specs.Prelude.{◌==◌, ◌&&◌, Option, Some, None, Ok}
 use Rattle.std.specs.Fmt.{decimal}
 use Rattle.std.specs.List.{list_all}
+use Rattle.std.proofs.lemmas.Bool.{and_parts}
 use Rattle.std.proofs.lemmas.List.{length-map}
-use Rattle.ed_words.proofs.Numbers.{eq_false, le_true}
+use Rattle.std.proofs.lemmas.List.Folds.{list_all-append}
+use Rattle.ed_words.proofs.Numbers.{eq_false, le_of, le_true}
 use Rattle.ed_words.specs.Decimals.{value}
 use Rattle.ed_words.specs.Texts.{Text}
-use Rattle.ed_syntax.specs.Parts.{LinePart, run, array, is_number, modulo, is_line_byte}
+use Rattle.ed_syntax.specs.Parts.{LinePart, run, is_number, is_place_name, is_run_byte, modulo, is_line_byte}
 use Rattle.ed_syntax.specs.Private.Grammar.{form_at}
 use Rattle.ed_syntax.specs.Private.PartReading.{parts_of}
 use Rattle.ed_syntax.specs.Private.SourceReading.{line_of}
 use Rattle.ed_syntax.specs.declared.program.Statement.TheVariants as statements
+use Rattle.ed_syntax.proofs.PartLemmas.{run_parts}
 use Rattle.ed_routines.specs.Digits.{digits}
 use Rattle.ed_sources.proofs.Decimals.{are, decimal_is, digit_bytes, few_bytes, line_bytes, run_bytes, some_digit}
 use Rattle.ed_sources.proofs.Decimals.{value_is, written}
 use Rattle.ed_sources.proofs.Said.{a_number, label_parts, number_parts}
-use Rattle.ed_syntax.specs.declared.program.Operand.TheVariants as operands
 use Rattle.ed_programs.proofs.SourceLines.{Marked, by_parts}
 
 -- what the front of such a line makes of it, whatever bytes follow: its label and the parts before `word`
@@ -57,14 +60,7 @@ module _ {two : Bool} {k : ℕ} {front : Text} {label : Option Text} {before : L
       (number_parts (written ds) some (run_bytes ds (are n small)))
       (a_number (written ds) some (digit_bytes ds (are n small))) (value_is n small) small)
 
--- a line with a label and `word N`
-abbrev pub word_mark : ℕ → Text → ℕ → Marked
-word_mark k label n = record { number = k; label = Some label; statement = statements.Number n }
-
--- a line `word N` without a label
-abbrev pub plain_mark : ℕ → ℕ → Marked
-plain_mark k n = record { number = k; label = None; statement = statements.Number n }
-
+-- a line `word N`, where no more of it is known
 pub plain_front : (two : Bool) (k : ℕ) → 2 ≤ k → IsWordFront two k (codes "word ") None []
 plain_front two k later = record {
   plain = λ bytes h. h;
@@ -74,38 +70,48 @@ plain_front two k later = record {
       let no_version : (k == 1) ≡ false = eq_false k 1 (omega (arith, later)) in rw (no_version, number, in_range) refl;
 }
 
--- a line that ends with a number is short
-pub front_short : (front : Text) → length front ≤ 20 → (n : ℕ) → n < 65536 → nat_le (length (front ++ decimal n)) 120 ≡ true
-front_short front short n small =
-    let few : length (decimal n) ≤ 5 = subst (λ (t : Text). length t ≤ 5) (decimal_is n small) (few_bytes n small) in
-    let long = length-append front (decimal n) in
-    le_true (length (front ++ decimal n)) 120 (omega arith)
+-- whether a label may stand before `word N`
+abbrev pub is_short_label : Bool → Text → Bool
+is_short_label two label =
+    nat_le (length label) 13 && (is_place_name two label && (list_all is_line_byte label && list_all is_run_byte label))
 
-pub word_short : (n : ℕ) → n < 65536 → nat_le (length (codes "word " ++ decimal n)) 120 ≡ true
-word_short = front_short (codes "word ") (lit≤ tt)
+pub label_front : (two : Bool) (k : ℕ) (label : Text) → 2 ≤ k → is_short_label two label ≡ true
+    → IsWordFront two k (label ++ codes ": word ") (Some label) (label_parts label)
+label_front true k [] later fits = absurd (true≢false (sym fits))
+label_front false k [] later fits = absurd (true≢false (sym fits))
+label_front two k (b ∷ r) later fits =
+    let l : Text = b ∷ r in
+    let p = and_parts (nat_le (length l) 13) _ fits in
+    let q = and_parts (is_place_name two l) _ p.1 in
+    let u = and_parts (list_all is_line_byte l) (list_all is_run_byte l) q.1 in
+    let few = le_of (length l) 13 p.0 in
+    let name = q.0 in
+    let line : list_all is_line_byte (l ++ codes ": word ") ≡ true =
+    list_all-append is_line_byte l (codes ": word ") ∙ ap (λ t. t && true) u.0 in
+    record {
+      plain = λ bytes h. list_all-append is_line_byte (l ++ codes ": word ") bytes ∙ (λ i. line i && h i);
+      short = let long = length-append l (codes ": word ") in omega (arith, long, few);
+      parts = λ bytes h.
+          ap parts_of (append_assoc l (codes ": word ") bytes) ∙ run_parts b r (codes ": word " ++ bytes) u.1 refl ∙ rw h refl;
+      form = λ bytes number in_range.
+          let no_version : (k == 1) ≡ false = eq_false k 1 (omega (arith, later)) in
+          rw (no_version, name, number, in_range) refl;
+    }
 
--- a line `use` with H set to a name
-abbrev pub use_mark : ℕ → Text → Text → Text → Marked
-use_mark k routine name at = record {
-  number = k;
-  label = None;
-  statement = statements.Fetch routine name
-      (array (record { letter = 21; operand = operands.Label at (pos 0) } ∷ []));
-}
+module _ {two : Bool} (k : ℕ) (n : ℕ) (small : n < 65536) where
+  -- a line that ends with `word N`
+  abbrev pub marked_word : {front : Text} {label : Option Text} {before : List LinePart} → IsWordFront two k front label before → Marked two
+  marked_word {front} {label} is_front = record {
+    number = k;
+    text = front ++ (decimal n ++ []);
+    label = label;
+    statement = statements.Number n;
+    says = ap (λ (t : Text). line_of two k (front ++ t)) (append-nil (decimal n)) ∙ word_says is_front n small;
+  }
 
--- a line with `word N` after its label: what its front makes of it is computed from the label
-pub labelled : (two : Bool) (k : ℕ) (label : Text)
-    → ((bytes : Text) → list_all is_line_byte bytes ≡ true
-    → list_all is_line_byte ((label ++ codes ": word ") ++ bytes) ≡ true)
-    → length (label ++ codes ": word ") ≤ 20
-    → ((bytes : Text) → parts_of bytes ≡ Some (run bytes ∷ [])
-    → parts_of ((label ++ codes ": word ") ++ bytes) ≡ Some (label_parts label ++ run (codes "word") ∷ run bytes ∷ []))
-    → ((bytes : Text) → is_number bytes ≡ true → nat_le (value bytes) 131071 ≡ true
-    → form_at two k (label_parts label ++ run (codes "word") ∷ run bytes ∷ [])
-    ≡ Some (Some (record { label = Some label; statement = Some (statements.Number (modulo 17 (pos (value bytes)))) })))
-    → (n : ℕ) → n < 65536 → line_of two k ((label ++ codes ": word ") ++ decimal n)
-    ≡ Ok (record { label = Some label; statement = Some (statements.Number n) })
-labelled two k label plain short parts form n small =
-    let front : IsWordFront two k (label ++ codes ": word ") (Some label) (label_parts label) =
-    record { plain = plain; short = short; parts = parts; form = form } in
-    word_says front n small
+  -- with a label, and without
+  abbrev pub word_mark : (label : Text) → 2 ≤ k → is_short_label two label ≡ true → Marked two
+  word_mark label later fits = marked_word (label_front two k label later fits)
+
+  abbrev pub plain_mark : 2 ≤ k → Marked two
+  plain_mark later = marked_word (plain_front two k later)

@@ -45,24 +45,39 @@ module _ (z : Size) (lines : List Line) (fit : have_places (placed lines) ≡ tr
       let size = least z in
       routine_at z lines fit (frame_at n z few) r base parameters test (omega arith) high refl (omega arith) (inr apart)
 
-  -- the n words from 56 upwards are the cells
-  module _ (n : ℕ) (few : n ≤ 456) (cells : List ℕ) (are : words_from (placed lines) 56 n ≡ cells) where
-    same : patched 0 s.store.words 56 cells ≡ s.store.words
-    same =
-        let all = all_words z lines in
-        let long : length cells ≡ n = sym (ap (λ (cs : List ℕ). length cs) are) ∙ words_long (placed lines) 56 n in
-        patched_self 0 s.store.words 56 cells (omega arith) (λ j l.
-        ap (λ (cs : List ℕ). get_or cs j 0) (sym are) ∙ nth_word (placed lines) 56 n j (omega (arith, l, long))
-        ∙ sym (word_at z lines fit (56 + j) (omega arith) (omega (arith, l, long))))
+-- the n words from 56 on are the cells, as far as those words are known
+module _ (z : Size) (lines : List Line) (n : ℕ) (few : n ≤ 456) (ps : List (ℕ × ℕ))
+    (known : (j : ℕ) → j < n → get_or (entry_state z lines).store.words (56 + j) 0 ≡ unwrap_or (placed_at ps (56 + j)) 0)
+    (cells : List ℕ) (are : words_from ps 56 n ≡ cells) where
+  abbrev first : State
+  first = entry_state z lines
 
-    -- so a stop of the program, from the moment at its entry, is a stop of the source
-    pub stops_from_entry : {k at : ℕ} {codes : List ℕ} → entry_of lines ≡ 56 → (tape : List ℕ) → tape ≡ s.tape
-        → ComesToStop k (state (frame_at n z few) (record (moment_at s) { cells = cells; tape = tape }) s.orders) codes
-        at
-        → ComesToStop k s codes at
-    stops_from_entry {k} {at} {codes} first tape rows =
-        subst (λ (x : State). ComesToStop k x codes at) (λ i. record s {
-          store = record { words = same i; sandwich = s.store.sandwich };
-          counter = sym first i;
-          tape = rows i;
-        })
+  same : patched 0 first.store.words 56 cells ≡ first.store.words
+  same =
+      let all = all_words z lines in
+      let long : length cells ≡ n = sym (ap (λ (cs : List ℕ). length cs) are) ∙ words_long ps 56 n in
+      patched_self 0 first.store.words 56 cells (omega arith) (λ j l.
+      ap (λ (cs : List ℕ). get_or cs j 0) (sym are) ∙ nth_word ps 56 n j (omega (arith, l, long))
+      ∙ sym (known j (omega (arith, l, long))))
+
+  -- so a stop of the program, from the moment at its entry, is a stop of the source
+  pub stops_by : {k at : ℕ} {codes : List ℕ} → entry_of lines ≡ 56 → (tape : List ℕ) → tape ≡ first.tape
+      → ComesToStop k (state (frame_at n z few) (record (moment_at first) { cells = cells; tape = tape }) first.orders) codes
+      at
+      → ComesToStop k first codes at
+  stops_by {k} {at} {codes} at_56 tape rows =
+      subst (λ (x : State). ComesToStop k x codes at) (λ i. record first {
+        store = record { words = same i; sandwich = first.store.sandwich };
+        counter = sym at_56 i;
+        tape = rows i;
+      })
+
+-- the same where all words of the source are known
+pub stops_from_entry : (z : Size) (lines : List Line) → have_places (placed lines) ≡ true → (n : ℕ) (few : n ≤ 456)
+    (cells : List ℕ) → words_from (placed lines) 56 n ≡ cells → {k at : ℕ} {codes : List ℕ} → entry_of lines ≡ 56
+    → (tape : List ℕ) → tape ≡ (entry_state z lines).tape
+    → ComesToStop k (state (frame_at n z few) (record (moment_at (entry_state z lines)) { cells = cells; tape = tape })
+    (entry_state z lines).orders) codes at
+    → ComesToStop k (entry_state z lines) codes at
+stops_from_entry z lines fit n few cells are =
+    stops_by z lines n few (placed lines) (λ j l. word_at z lines fit (56 + j) (omega arith) (omega arith)) cells are

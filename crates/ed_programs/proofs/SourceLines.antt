@@ -2,18 +2,18 @@
 --
 -- Only this module uses the definitions of how a source is read.
 use Rattle.std.proofs.Common.{◌≡◌, ◌∙◌, ℕ, suc, ◌+◌, ◌-◌, ◌≤◌, Bool, true, false, List, [], ◌∷◌, ap, sym, refl, subst, arith, length, nat_lt}
-use Rattle.std.proofs.Common.{get_or, nat_eq, lit≤}
-use Rattle.std.specs.Prelude.{◌==◌, ◌||◌, ◌&&◌, Option, Some, None, if◌then◌else◌, Result, Ok, Err, is_ok}
+use Rattle.std.proofs.Common.{drop, get_or, lit≤, map, nat_eq, nat_le}
+use Rattle.std.specs.Prelude.{◌==◌, ◌||◌, ◌&&◌, not, Option, Some, None, if◌then◌else◌, Result, Ok, Err, is_ok}
 use Rattle.std.specs.List.{list_all}
 use Rattle.std.proofs.lemmas.Bool.{and_parts}
-use Rattle.ed_words.proofs.Numbers.{eq_false, eq_of, lt_false}
+use Rattle.ed_words.proofs.Numbers.{eq_false, eq_of, le_true, lt_false, not_lt_of}
 use Rattle.ed_words.specs.Texts.{Text}
 use Rattle.ed_syntax.specs.Parts.{LinePart, is_line_byte}
 use Rattle.ed_syntax.specs.Private.Grammar.{form_at}
 use Rattle.ed_syntax.specs.Private.PartReading.{parts_of}
 use Rattle.ed_syntax.specs.Private.SourceReading.{Fault, and_lines, is_two, line_of, lines_from, program_of}
 use Rattle.ed_syntax.specs.declared.fault.SourceCause.{SourceCause}
-use Rattle.ed_syntax.specs.declared.fault.SourceCause.TheVariants.{TooManyLines}
+use Rattle.ed_syntax.specs.declared.fault.SourceCause.TheVariants.{BadByte, LongLine, TooManyLines}
 use Rattle.ed_syntax.specs.declared.program.Line.{Line}
 use Rattle.ed_syntax.specs.declared.program.Statement.{Statement}
 use Rattle.ed_sources.specs.Calls.{text_of_lines}
@@ -38,15 +38,6 @@ said_lines {two} {k} (says {line = line} {lines = lines} {program = program} her
     ∙ ap (and_lines k (line_of two k line)) (said_lines rest (omega (arith, few)))
     ∙ here program
 
--- so the program of a text of such lines is what they say
-program_is : {two : Bool} (lines : List Text) {program : List Line} → list_all (list_all is_line_byte) lines ≡ true
-    → is_two lines ≡ two → Says two 1 lines program → 1 + length lines ≤ 2001
-    → program_of (text_of_lines lines) ≡ Ok program
-program_is lines plain version said few =
-    let back = lines_back lines plain in
-    ap (λ (ls : List Text). lines_from (is_two ls) 1 ls) back ∙ ap (λ (two : Bool). lines_from two 1 lines) version
-    ∙ said_lines said few
-
 -- what a line says, by its parts
 pub by_parts : (two : Bool) {label : Option Text} {statement : Option Statement} (k : ℕ) (line : Text)
     (parts : List LinePart) → list_all is_line_byte line ≡ true → length line ≤ 120 → parts_of line ≡ Some parts
@@ -58,13 +49,15 @@ by_parts two k line parts plain short are is =
 
 -- ---- lines by computation
 
--- a line with data: its number, its label, and what it says
-pub record Marked : Type 0 where
+-- a line with data: its number, its text, and what it says
+pub record Marked (two : Bool) : Type 0 where
   pub number : ℕ
+  pub text : Text
   pub label : Option Text
   pub statement : Statement
+  pub says : line_of two number text ≡ Ok (record { label = label; statement = Some statement })
 
-abbrev pub marked_line : Marked → Line
+abbrev pub marked_line : {two : Bool} → Marked two → Line
 marked_line m = record { number = m.number; label = m.label; statement = Some m.statement }
 
 -- the first of lines that were read, or a line that says nothing
@@ -74,31 +67,30 @@ first (Ok []) = record { number = 0; label = None; statement = None }
 first (Err fault) = record { number = 0; label = None; statement = None }
 
 -- what a line says: as it is marked, else as it is read
-abbrev pub line_said : Bool → ℕ → Text → List Marked → Line
+abbrev pub line_said : (two : Bool) → ℕ → Text → List (Marked two) → Line
 line_said two k line [] = first (and_lines k (line_of two k line) (Ok []))
 line_said two k line (m ∷ ms) = if nat_eq m.number k then marked_line m else line_said two k line ms
 
 -- the lines of a source from the number k upwards
-abbrev pub lines_said : Bool → ℕ → List Text → List Marked → List Line
+abbrev pub lines_said : (two : Bool) → ℕ → List Text → List (Marked two) → List Line
 lines_said two k [] ms = []
 lines_said two k (line ∷ lines) ms = line_said two k line ms ∷ lines_said two (k + 1) lines ms
 
 -- whether each of them is marked or has a form
-abbrev pub is_marked : ℕ → List Marked → Bool
+abbrev pub is_marked : {two : Bool} → ℕ → List (Marked two) → Bool
 is_marked k [] = false
 is_marked k (m ∷ ms) = nat_eq m.number k || is_marked k ms
 
-abbrev pub are_read : Bool → ℕ → List Text → List Marked → Bool
+abbrev pub are_read : (two : Bool) → ℕ → List Text → List (Marked two) → Bool
 are_read two k [] ms = true
 are_read two k (line ∷ lines) ms = (is_marked k ms || is_ok (line_of two k line)) && are_read two (k + 1) lines ms
 
--- what must be proved of the marked lines: each says what it is marked with
-abbrev pub AreMarked : Bool → List Text → List Marked → Type 0
-AreMarked two lines [] = Unit {0}
-AreMarked two lines (m ∷ ms) =
-    (line_of two m.number (get_or lines (m.number - 1) [])
-    ≡ Ok (record { label = m.label; statement = Some m.statement }))
-    × AreMarked two lines ms
+-- the lines where the marks are, and those that they are for
+abbrev pub texts_at : {two : Bool} → List Text → List (Marked two) → List Text
+texts_at lines ms = map (λ m. get_or lines (m.number - 1) []) ms
+
+abbrev pub marked_texts : {two : Bool} → List (Marked two) → List Text
+marked_texts ms = map (λ m. m.text) ms
 
 -- a line with a form is what is read first
 form_first : {F : Type 0} (and : Result F SourceCause → Result (List Line) Fault → Result (List Line) Fault)
@@ -110,13 +102,13 @@ form_first and each (Err cause) h rest = absurd (cc)
 
 module _ (two : Bool) (all : List Text) where
   -- so a line says what it is marked with or read as
-  read_so : (k : ℕ) (line : Text) (ms : List Marked) → get_or all (k - 1) [] ≡ line → AreMarked two all ms
+  read_so : (k : ℕ) (line : Text) (ms : List (Marked two)) → get_or all (k - 1) [] ≡ line → texts_at all ms ≡ marked_texts ms
       → (is_marked k ms || is_ok (line_of two k line)) ≡ true → (rest : List Line)
       → and_lines k (line_of two k line) (Ok rest) ≡ Ok (line_said two k line ms ∷ rest)
   read_so k line [] same marked read rest =
       form_first (and_lines k) (λ form rest. refl) (line_of two k line) read rest
   read_so k line (m ∷ ms) same marked read rest =
-      by_test (λ h. read_so k line ms same marked.1 h rest) (nat_eq m.number k) refl read
+      by_test (λ h. read_so k line ms same (ap (drop 1) marked) h rest) (nat_eq m.number k) refl read
     where
       by_test : ((is_marked k ms || is_ok (line_of two k line)) ≡ true
           → and_lines k (line_of two k line) (Ok rest) ≡ Ok (line_said two k line ms ∷ rest))
@@ -129,13 +121,16 @@ module _ (two : Bool) (all : List Text) where
             label = m.label;
             statement = Some m.statement;
           }))
-          (eq_of m.number k e) marked.0 in
+          (eq_of m.number k e) (subst (λ (t : Text). line_of two m.number t ≡ Ok (record {
+            label = m.label;
+            statement = Some m.statement;
+          })) (sym (ap (λ (ts : List Text). get_or ts 0 []) marked)) m.says) in
           (λ i. and_lines k (is i) (Ok rest))
           ∙ ap (λ n. Ok (record { number = n; label = m.label; statement = Some m.statement } ∷ rest))
           (sym (eq_of m.number k e))
       by_test other false e read = other read
 
-  all_say : (ms : List Marked) (k : ℕ) (lines : List Text) → AreMarked two all ms → 1 ≤ k
+  all_say : (ms : List (Marked two)) (k : ℕ) (lines : List Text) → texts_at all ms ≡ marked_texts ms → 1 ≤ k
       → ((j : ℕ) → get_or all (k - 1 + j) [] ≡ get_or lines j []) → are_read two k lines ms ≡ true
       → Says two k lines (lines_said two k lines ms)
   all_say ms k [] marked low same read = ends
@@ -145,10 +140,45 @@ module _ (two : Bool) (all : List Text) where
       (all_say ms (k + 1) lines marked (omega arith)
       (λ j. ap (λ x. get_or all x []) (omega arith) ∙ same (suc j)) p.1)
 
+-- a line that is read is one of a text, and short
+line_fine : {F : Type 0} (plain long : Bool) (r : Result F SourceCause)
+    → is_ok (if not plain then Err BadByte else if long then Err LongLine else r) ≡ true → (plain ≡ true) × (long ≡ false)
+line_fine true false r h = (refl, refl)
+line_fine true true r h = absurd (cc)
+line_fine false long r h = absurd (cc)
+
+is_read : {F : Type 0} {l : Line} (and : Result F SourceCause → Result (List Line) Fault) (k : ℕ)
+    → ((cause : SourceCause) → and (Err cause) ≡ Err (record { line = k; cause = cause })) → (r : Result F SourceCause)
+    → and r ≡ Ok (l ∷ []) → is_ok r ≡ true
+is_read and k fails (Ok form) h = refl
+is_read {l = l} and k fails (Err cause) h =
+    let no : ◌≡◌ {A = Result (List Line) Fault} (Err (record { line = k; cause = cause })) (Ok (l ∷ [])) =
+    sym (fails cause) ∙ h in
+    absurd (cc)
+
+-- so are lines that say something
+pub said_fine : {two : Bool} {k : ℕ} {lines : List Text} {program : List Line} → Says two k lines program
+    → (list_all (list_all is_line_byte) lines ≡ true) × (list_all (λ line. nat_le (length line) 120) lines ≡ true)
+said_fine ends = (refl, refl)
+said_fine {two} {k} (says {line = line} here rest) =
+    let is = line_fine (list_all is_line_byte line) (nat_lt 120 (length line)) _ (is_read (λ r. and_lines k r (Ok [])) k (λ c. refl) (line_of two k line) (here [])) in
+    let plain = is.0 in
+    let short = le_true (length line) 120 (not_lt_of 120 (length line) is.1) in
+    let more = said_fine rest in
+    let all_plain = more.0 in
+    let all_short = more.1 in
+    (rw (plain, all_plain) refl, rw (short, all_short) refl)
+
 -- a source is read as its lines say: all but the marked ones by computation
-pub source_read : (two : Bool) (lines : List Text) (ms : List Marked) → list_all (list_all is_line_byte) lines ≡ true
-    → is_two lines ≡ two → are_read two 1 lines ms ≡ true → AreMarked two lines ms → 1 + length lines ≤ 2001
-    → program_of (text_of_lines lines) ≡ Ok (lines_said two 1 lines ms)
-source_read two lines ms plain version read marked few =
-    program_is lines plain version (all_say two lines ms 1 lines marked (lit≤ tt)
-    (λ j. ap (λ x. get_or lines x []) (omega arith)) read) few
+pub source_said : (two : Bool) (lines : List Text) (ms : List (Marked two)) → are_read two 1 lines ms ≡ true
+    → texts_at lines ms ≡ marked_texts ms → Says two 1 lines (lines_said two 1 lines ms)
+source_said two lines ms read marked =
+    all_say two lines ms 1 lines marked (lit≤ tt) (λ j. ap (λ x. get_or lines x []) (omega arith)) read
+
+-- the program of the text of such lines is what they say
+pub source_read : (two : Bool) (lines : List Text) {program : List Line} → is_two lines ≡ two → Says two 1 lines program
+    → 1 + length lines ≤ 2001 → program_of (text_of_lines lines) ≡ Ok program
+source_read two lines version said few =
+    let back = lines_back lines (said_fine said).0 in
+    ap (λ (ls : List Text). lines_from (is_two ls) 1 ls) back ∙ ap (λ (two : Bool). lines_from two 1 lines) version
+    ∙ said_lines said few

@@ -1,13 +1,14 @@
 -- The outcome of a source whose program reaches its stop, as the answer of the command `run`.
-use Rattle.std.proofs.Common.{◌≡◌, ℕ, ◌+◌, ◌≤◌, Bool, true, subst, arith, List, length}
-use Rattle.std.specs.Prelude.{None, Ok}
-use Rattle.std.specs.List.{list_all}
+use Rattle.std.proofs.Common.{◌≡◌, ℕ, ◌+◌, ◌≤◌, Bool, true, ap, subst, arith, List, [], length, nat_le}
+use Rattle.std.specs.Prelude.{◌&&◌, None, Ok, Option}
+use Rattle.std.proofs.lemmas.Bool.{and_parts}
+use Rattle.ed_words.proofs.Numbers.{le_of}
 use Rattle.ed_words.specs.declared.size.Size.{Size}
 use Rattle.ed_words.specs.declared.size.Size.TheVariants.{Small, Full}
 use Rattle.ed_words.specs.Texts.{Text}
 use Rattle.ed_printer.specs.Paper.{paper}
 use Rattle.ed_syntax.specs.declared.program.Line.{Line}
-use Rattle.ed_syntax.specs.Parts.{is_line_byte}
+use Rattle.ed_syntax.specs.declared.fault.SourceFault.{SourceFault}
 use Rattle.ed_syntax.specs.Private.SourceReading.{is_two, program_of}
 use Rattle.ed_link.specs.Private.FaultTests.{fault}
 use Rattle.ed_link.proofs.EachSource.{read_is_accepted}
@@ -19,9 +20,10 @@ use Rattle.ed_answers.specs.Headline.{RunsFromEntry}
 use Rattle.ed_answers.specs.Sources.{OfSource, run_outcome}
 use Rattle.ed_answers.proofs.Sources.{accepted_is, headline}
 use Rattle.ed_top.proofs.Stopped.{stopped_outcome}
-use Rattle.ed_programs.specs.Programs.{SourceRuns}
+use Rattle.ed_programs.specs.Programs.{SourceRuns, woven}
 use Rattle.ed_programs.proofs.Answered.{are_short, is_due}
-use Rattle.ed_programs.proofs.SourceLines.{AreMarked, Marked, are_read, lines_said, source_read}
+use Rattle.ed_programs.proofs.SourceLines.{Marked, are_read, lines_said, marked_texts, said_fine, source_read, source_said, texts_at}
+use Rattle.ed_programs.proofs.WovenLines.{unended, woven_is, woven_lines}
 
 -- a source that is read as these lines, has no fault and reaches its stop
 pub source_runs : (s : Settings) (texts : List Text) {lines : List Line} {k at : ℕ} {printed : List ℕ}
@@ -42,34 +44,57 @@ source_runs s texts {lines} short small reads faultless stops few =
           );
     }
 
--- what the lines of a source say: each is read, or marked with what it says, and none has a fault
-pub record AreSaid (two : Bool) (texts : List Text) (marks : List Marked) : Type 0 where
-  pub plain : list_all (list_all is_line_byte) texts ≡ true
-  pub short : are_short texts ≡ true
-  pub few : length texts ≤ 2000
-  pub version : is_two texts ≡ two
-  pub read : are_read two 1 texts marks ≡ true
-  pub marked : AreMarked two texts marks
-  pub small : fault Small (lines_said two 1 texts marks) ≡ None
-  pub full : fault Full (lines_said two 1 texts marks) ≡ None
+-- the lines of a woven source
+abbrev pub lines_of_pieces : (two : Bool) → List Text → List Text → List (Marked two) → List Line
+lines_of_pieces two pieces ds marks = lines_said two 1 (woven_lines pieces ds) marks
 
--- such a source that reaches its stop, by what it prints and in how many orders
-pub program_runs : (s : Settings) {two : Bool} (texts : List Text) {marks : List Marked} {k orders at : ℕ}
-    {printed : List ℕ} {text : Text} → AreSaid two texts marks
-    → ComesToStop k (entry_state s.size (lines_said two 1 texts marks)) printed at → length printed ≤ 1000000
-    → k + 1 ≡ orders → paper printed ≡ text → SourceRuns s (text_of_lines texts) orders at text
-program_runs s {two} texts {marks} {k} {at = at} {printed = printed} {text = text} said stops few count shown =
-    let o : AreSaid two texts marks = said in
-    let faultless : (z : Size) → fault z (lines_said two 1 texts marks) ≡ None = by_size o.small o.full in
-    subst (λ n. SourceRuns s (text_of_lines texts) n at text) count
-    (subst (λ (t : Text). SourceRuns s (text_of_lines texts) (k + 1) at t) shown
-    (source_runs s texts o.short o.few
-    (source_read two texts marks o.plain o.version o.read o.marked (few_lines o.few)) (faultless s.size) stops few))
-  where
-    by_size : fault Small (lines_said two 1 texts marks) ≡ None → fault Full (lines_said two 1 texts marks) ≡ None
-        → (z : Size) → fault z (lines_said two 1 texts marks) ≡ None
-    by_size small full Small = small
-    by_size small full Full = full
+-- what is asked of it, by computation: its text ends with its last line, its version is this one, and each of its lines
+-- is read or marked with what it says
+abbrev pub Read : Type 0
+Read = Text × (Bool × (Bool × List Text))
 
-    few_lines : length texts ≤ 2000 → 1 + length texts ≤ 2001
-    few_lines few = omega arith
+abbrev pub read_of : (two : Bool) → List Text → List Text → List (Marked two) → Read
+read_of two pieces ds marks =
+    let texts = woven_lines pieces ds in
+    (unended pieces ds, (is_two texts, (nat_le (length texts) 2000 && are_read two 1 texts marks, texts_at texts marks)))
+
+abbrev pub wanted : (two : Bool) → List (Marked two) → Read
+wanted two marks = ([], (two, (true, marked_texts marks)))
+
+-- such a source that has no fault and comes to its stop, by what it prints and in how many orders
+pub read_runs : (s : Settings) (two : Bool) (pieces ds : List Text) (marks : List (Marked two)) {k orders at : ℕ}
+    {printed : List ℕ} {text : Text} → read_of two pieces ds marks ≡ wanted two marks
+    → fault s.size (lines_of_pieces two pieces ds marks) ≡ None
+    → ComesToStop k (entry_state s.size (lines_of_pieces two pieces ds marks)) printed at → length printed ≤ 1000000
+    → k + 1 ≡ orders → paper printed ≡ text → SourceRuns s (woven pieces ds) orders at text
+read_runs s two pieces ds marks {k} {orders} {at} {printed} {text} o faultless stops few count shown =
+    let texts : List Text = woven_lines pieces ds in
+    let p = and_parts (nat_le (length texts) 2000) (are_read two 1 texts marks) (ap (λ (t : Read). t.1.1.0) o) in
+    let small : length texts ≤ 2000 = le_of (length texts) 2000 p.0 in
+    let said = source_said two texts marks p.1 (ap (λ (t : Read). t.1.1.1) o) in
+    let runs : SourceRuns s (text_of_lines texts) (k + 1) at (paper printed) =
+    source_runs s texts (said_fine said).1 small
+    (source_read two texts (ap (λ (t : Read). t.1.0) o) said (omega (arith, small))) faultless stops few in
+    subst (λ (source : Text). SourceRuns s source orders at text) (woven_is pieces ds (ap (λ (t : Read). t.0) o))
+    (subst (λ n. SourceRuns s (text_of_lines texts) n at text) count
+    (subst (λ (t : Text). SourceRuns s (text_of_lines texts) (k + 1) at t) shown runs))
+
+-- that and that it has no fault, by one computation
+abbrev pub AreSaid : (two : Bool) → List Text → List Text → List (Marked two) → Type 0
+AreSaid two pieces ds marks =
+    let lines = lines_of_pieces two pieces ds marks in
+    ◌≡◌ {A = Read × (Option SourceFault × Option SourceFault)}
+    (read_of two pieces ds marks, (fault Small lines, fault Full lines)) (wanted two marks, (None, None))
+
+no_fault : (lines : List Line) → fault Small lines ≡ None → fault Full lines ≡ None → (z : Size) → fault z lines ≡ None
+no_fault lines small full Small = small
+no_fault lines small full Full = full
+
+pub program_runs : (s : Settings) (two : Bool) (pieces ds : List Text) (marks : List (Marked two)) {k orders at : ℕ}
+    {printed : List ℕ} {text : Text} → AreSaid two pieces ds marks
+    → ComesToStop k (entry_state s.size (lines_of_pieces two pieces ds marks)) printed at → length printed ≤ 1000000
+    → k + 1 ≡ orders → paper printed ≡ text → SourceRuns s (woven pieces ds) orders at text
+program_runs s two pieces ds marks o =
+    read_runs s two pieces ds marks (ap (λ (t : Read × (Option SourceFault × Option SourceFault)). t.0) o)
+    (no_fault (lines_of_pieces two pieces ds marks) (ap (λ (t : Read × (Option SourceFault × Option SourceFault)). t.1.0) o)
+    (ap (λ (t : Read × (Option SourceFault × Option SourceFault)). t.1.1) o) s.size)

@@ -1,75 +1,25 @@
 -- The source of `examples/fraction.edsac` for any fraction, and what it prints.
-use Rattle.std.specs.Prelude.{ℕ, zero, suc, ◌+◌, ◌*◌, ◌/◌, ◌%◌, ◌^◌, List, [], ◌∷◌, ◌++◌, codes, length, nat_le, ◌&&◌, if◌then◌else◌}
+use Rattle.std.specs.Prelude.{ℕ, zero, suc, ◌+◌, ◌*◌, ◌/◌, ◌%◌, ◌^◌, List, [], ◌∷◌, ◌++◌, length, map, nat_le, ◌&&◌, if◌then◌else◌}
 use Rattle.std.specs.Prelude.{Option, Some, None}
 use Rattle.std.specs.Fmt.{decimal}
 use Rattle.ed_words.specs.Texts.{Text}
 use Rattle.ed_routines.specs.Digits.{digits, print_orders}
 use Rattle.ed_maths.specs.Quotients.{divide_orders}
-use Rattle.ed_sources.specs.Calls.{text_of_lines}
-use Rattle.ed_programs.specs.Numbers.{numbers_line}
+use Rattle.ed_programs.specs.Programs.{woven}
+use Rattle.ed_programs.specs.declared.fraction.TheConstants.{FRACTION}
 use Rattle.ed_programs.specs.declared.refusal.Refusal.{Refusal}
 use Rattle.ed_programs.specs.declared.refusal.Refusal.TheVariants.{Divisor}
 
--- the lines of the source, with the data put in
-abbrev pub fraction_source : ℕ → ℕ → ℕ → List Text
-fraction_source upper lower places =
-    codes "version 2"
-    ∷ codes "; Prints a fraction in decimals, to as many places as its tape asks for: here 1/97 to 96 places, after which they"
-    ∷ codes "; begin again. The three numbers are in the last line: the upper one, the lower one (6,553 at the most), the places."
-    ∷ codes ";"
-    ∷ codes "; It is division as on paper: what is left, times ten, is divided again, and each quotient is the next figure."
-    ∷ codes "; Look for: one subroutine that reads numbers, called three times; `divide`, which leaves the quotient and the rest."
-    ∷ codes "segment main"
-    ∷ codes "_upper: A _upper F"
-    ∷ codes "G r F"
-    ∷ codes "A number F"
-    ∷ codes "T low F"
-    ∷ codes "_lower: A _lower F"
-    ∷ codes "G r F"
-    ∷ codes "A number F"
-    ∷ codes "T divisor F"
-    ∷ codes "_places: A _places F"
-    ∷ codes "G r F             ; the number of places stays in `number`"
-    ∷ codes "_whole: A _whole F"
-    ∷ codes "G d F"
-    ∷ codes "_print: A _print F"
-    ∷ codes "G p F             ; the quotient is the part before the point"
-    ∷ codes "O _point F"
-    ∷ codes "_next: T _scrap F"
-    ∷ codes "A number F        ; one place less"
-    ∷ codes "S _one F"
-    ∷ codes "G _end F          ; no place is left"
-    ∷ codes "T number F"
-    ∷ codes "A rest F          ; ten times the rest: twice, and eight times"
-    ∷ codes "L D"
-    ∷ codes "U low F"
-    ∷ codes "L 1 F"
-    ∷ codes "A low F"
-    ∷ codes "T low F"
-    ∷ codes "T rest F          ; the upper half of what is divided is 0"
-    ∷ codes "_divide: A _divide F"
-    ∷ codes "G d F"
-    ∷ codes "_figure: A _figure F"
-    ∷ codes "G p F"
-    ∷ codes "E _next F"
-    ∷ codes "_end: Z F"
-    ∷ codes "number: P F"
-    ∷ codes "low: P F"
-    ∷ codes "rest: P F"
-    ∷ codes "divisor: P F"
-    ∷ codes "_point: M F       ; a full stop in figure shift"
-    ∷ codes "_one: word 1"
-    ∷ codes "_scrap: P F"
-    ∷ codes "use read as r with H=number"
-    ∷ codes "use divide as d with H=rest, N=low, M=divisor"
-    ∷ codes "use print as p with H=low"
-    ∷ codes "enter main"
-    ∷ numbers_line (upper ∷ lower ∷ places ∷ [])
-    ∷ []
+-- its pieces, and the numbers between them
+abbrev pub fraction_pieces : List Text
+fraction_pieces = map (λ piece. piece.now) FRACTION
+
+abbrev pub fraction_data : ℕ → ℕ → ℕ → List Text
+fraction_data u l n = decimal u ∷ decimal l ∷ decimal n ∷ []
 
 -- the whole text
 abbrev pub fraction_text : ℕ → ℕ → ℕ → Text
-fraction_text upper lower places = text_of_lines (fraction_source upper lower places)
+fraction_text u l n = woven fraction_pieces (fraction_data u l n)
 
 -- why numbers below 65536 are refused as its data, if they are
 abbrev pub fraction_refusal : ℕ → Option Refusal

@@ -1,61 +1,20 @@
 -- The source of `examples/answer6.edsac` for any list of eight numbers, and what it prints.
-use Rattle.std.specs.Prelude.{ℕ, ◌+◌, ◌*◌, List, [], ◌∷◌, ◌++◌, codes, length, max, nat_lt, if◌then◌else◌, ◌==◌, Option, Some, None}
+use Rattle.std.specs.Prelude.{ℕ, ◌+◌, ◌*◌, List, [], ◌∷◌, codes, length, map, max, nat_lt, if◌then◌else◌, ◌==◌, Option, Some, None}
 use Rattle.std.specs.Fmt.{decimal}
 use Rattle.ed_words.specs.Texts.{Text}
 use Rattle.ed_routines.specs.Digits.{print_orders}
-use Rattle.ed_sources.specs.Calls.{text_of_lines}
+use Rattle.ed_programs.specs.Programs.{spread, woven}
+use Rattle.ed_programs.specs.declared.greatest.TheConstants.{GREATEST}
 use Rattle.ed_programs.specs.declared.refusal.Refusal.{Refusal}
 use Rattle.ed_programs.specs.declared.refusal.Refusal.TheVariants.{Count}
 
--- a line for each number
-abbrev pub lines_of_words : List ℕ → List Text
-lines_of_words [] = []
-lines_of_words (n ∷ ns) = (codes "word " ++ decimal n) ∷ lines_of_words ns
-
--- the same, the first line with the label
-abbrev pub labelled_words : Text → List ℕ → List Text
-labelled_words label [] = []
-labelled_words label (n ∷ ns) = (label ++ codes ": word " ++ decimal n) ∷ lines_of_words ns
-
--- the lines of the source, with the data put in
-abbrev pub greatest_source : List ℕ → List Text
-greatest_source ns =
-    codes "version 2"
-    ∷ codes "; The sixth lesson's answer: the greatest number of a list. Two orders go along the list, and both are changed."
-    ∷ codes "; Look for: two orders with one address, which both go on."
-    ∷ codes "segment main"
-    ∷ codes "_next: T _scrap F"
-    ∷ codes "_look: A list F       ; the next number"
-    ∷ codes "S greatest F"
-    ∷ codes "G _on F               ; it is smaller"
-    ∷ codes "T _scrap F"
-    ∷ codes "_take: A list F       ; the same number once more"
-    ∷ codes "T greatest F"
-    ∷ codes "_on: T _scrap F"
-    ∷ codes "A _take F"
-    ∷ codes "A 2 F"
-    ∷ codes "T _take F"
-    ∷ codes "A _look F"
-    ∷ codes "A 2 F"
-    ∷ codes "U _look F"
-    ∷ codes "S _last F"
-    ∷ codes "G _next F             ; below 0: more numbers are left"
-    ∷ codes "T _scrap F"
-    ∷ codes "_print: A _print F"
-    ∷ codes "G p F"
-    ∷ codes "Z F"
-    ∷ codes "greatest: P F"
-    ∷ codes "_last: A list+8 F"
-    ∷ codes "_scrap: P F"
-    ∷ codes "segment numbers"
-    ∷ labelled_words (codes "list") ns
-    ++ codes "use print as p with H=greatest"
-    ∷ codes "enter main"
-    ∷ []
+-- its pieces; the eight numbers stand between them, each but the first on a line of its own (10)
+abbrev pub greatest_pieces : List Text
+greatest_pieces = spread 7 (10 ∷ codes "word ") (map (λ piece. piece.now) GREATEST)
 
 -- the whole text
 abbrev pub greatest_text : List ℕ → Text
-greatest_text ns = text_of_lines (greatest_source ns)
+greatest_text ns = woven greatest_pieces (map decimal ns)
 
 -- why numbers below 65536 are refused as the data of `examples/answer6.edsac`, if they are
 abbrev pub greatest_refusal : List ℕ → Option Refusal

@@ -1,5 +1,5 @@
 -- The source of `examples/hello.edsac` for any text, and what it prints.
-use Rattle.std.specs.Prelude.{◌≡◌, ℕ, ◌≤◌, Bool, true, ◌&&◌, List, [], ◌∷◌, ◌++◌, codes, length, map, nat_le, nat_lt, ◌+◌, ◌*◌}
+use Rattle.std.specs.Prelude.{◌≡◌, ℕ, ◌≤◌, Bool, true, ◌&&◌, List, [], ◌∷◌, ◌++◌, length, map, nat_le, nat_lt, ◌+◌, ◌*◌}
 use Rattle.std.specs.Prelude.{◌==◌, ◌||◌, if◌then◌else◌, Option, Some, None}
 use Rattle.std.specs.Fmt.{decimal}
 use Rattle.std.specs.List.{list_all}
@@ -8,44 +8,21 @@ use Rattle.ed_codes.specs.Spelling.{row_of}
 use Rattle.ed_syntax.specs.Private.Grammar.{row, spells}
 use Rattle.ed_printer.specs.Paper.{paper}
 use Rattle.ed_command.specs.declared.command.Settings.{Settings}
-use Rattle.ed_sources.specs.Calls.{text_of_lines}
-use Rattle.ed_programs.specs.Programs.{SourceRuns}
+use Rattle.ed_programs.specs.Programs.{SourceRuns, woven}
+use Rattle.ed_programs.specs.declared.hello.TheConstants.{HELLO}
 use Rattle.ed_programs.specs.declared.refusal.Refusal.{Refusal}
 use Rattle.ed_programs.specs.declared.refusal.Refusal.TheVariants.{Length, Letter}
 
--- the end of the line that has the number of rows
-abbrev pub after_count : Text
-after_count = codes " F  ; the order behind the last letter"
+-- its pieces, and between them the number of rows and the bytes that spell them
+abbrev pub hello_pieces : List Text
+hello_pieces = map (λ piece. piece.now) HELLO
 
--- the lines for a text, given as bytes that spell its rows
-abbrev pub hello_source : Text → List Text
-hello_source q =
-    codes "version 2"
-    ∷ codes "; Prints HELLO and goes to a new line. The order at _print is changed as it runs: its address rises by one."
-    ∷ codes "; Look for: the test that ends the loop, which compares the order itself with the one that must not be obeyed."
-    ∷ codes "segment main"
-    ∷ codes "_next: T _scrap F     ; clear the accumulator"
-    ∷ codes "_print: O letters F   ; print a letter"
-    ∷ codes "A _print F"
-    ∷ codes "A 2 F                 ; location 2 holds 2, which is one address"
-    ∷ codes "U _print F            ; the order that prints the next letter"
-    ∷ codes "S _last F             ; negative as long as letters are left"
-    ∷ codes "G _next F"
-    ∷ codes "T _scrap F"
-    ∷ codes "_call: A _call F      ; the library's way to call a routine: the order itself,"
-    ∷ codes "G n F                 ; and the jump to the routine"
-    ∷ codes "Z F"
-    ∷ (codes "_last: O letters+" ++ (decimal (length q) ++ after_count))
-    ∷ codes "_scrap: P F"
-    ∷ codes "segment text"
-    ∷ (codes "letters: text " ++ 34 ∷ (q ++ 34 ∷ []))
-    ∷ codes "use newline as n"
-    ∷ codes "enter main"
-    ∷ []
+abbrev pub hello_data : Text → List Text
+hello_data q = decimal (length q) ∷ q ∷ []
 
 -- the whole text
 abbrev pub hello_text : Text → Text
-hello_text q = text_of_lines (hello_source q)
+hello_text q = woven hello_pieces (hello_data q)
 
 -- a text of letters, after the letter shift with which it begins (42 is *)
 abbrev pub of_letters : Text → Text

@@ -1,5 +1,4 @@
 pub mod Programs
-pub mod Numbers
 pub mod Hello
 pub mod Multiply
 pub mod Add

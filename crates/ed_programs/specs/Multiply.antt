@@ -1,68 +1,23 @@
 -- The source of `examples/answer5.edsac` for any numbers.
-use Rattle.std.specs.Prelude.{ℕ, ◌+◌, ◌*◌, List, [], ◌∷◌, ◌++◌, codes, nat_lt, ◌&&◌, if◌then◌else◌, Option, Some, None}
+use Rattle.std.specs.Prelude.{ℕ, ◌+◌, ◌*◌, List, [], ◌∷◌, ◌++◌, map, nat_lt, ◌&&◌, if◌then◌else◌, Option, Some, None}
 use Rattle.std.specs.Fmt.{decimal}
 use Rattle.ed_words.specs.Texts.{Text}
 use Rattle.ed_routines.specs.Digits.{print_orders}
-use Rattle.ed_sources.specs.Calls.{text_of_lines}
+use Rattle.ed_programs.specs.Programs.{woven}
+use Rattle.ed_programs.specs.declared.multiply.TheConstants.{MULTIPLY}
 use Rattle.ed_programs.specs.declared.refusal.Refusal.{Refusal}
 use Rattle.ed_programs.specs.declared.refusal.Refusal.TheVariants.{Number}
 
--- the lines of the source: a and b are multiplied, and c is squared
-abbrev pub multiply_source : ℕ → ℕ → ℕ → List Text
-multiply_source a b c =
-    codes "version 2"
-    ∷ codes "; The fifth lesson's answer: a subroutine that multiplies by adding, called for 7 times 8 and for 12 times 12."
-    ∷ codes "; Look for: a routine that calls two others, and keeps its own link meanwhile."
-    ∷ codes "segment main"
-    ∷ codes "_seven: A _seven F"
-    ∷ codes "G times F"
-    ∷ codes "_one: A _one F"
-    ∷ codes "G show F"
-    ∷ codes "A _twelve F"
-    ∷ codes "U left F"
-    ∷ codes "T right F"
-    ∷ codes "_again: A _again F"
-    ∷ codes "G times F"
-    ∷ codes "_two: A _two F"
-    ∷ codes "G show F"
-    ∷ codes "Z F"
-    ∷ (codes "_twelve: word " ++ decimal c)
-    ∷ codes "segment times"
-    ∷ codes "A 3 F"
-    ∷ codes "T _link F"
-    ∷ codes "T product F           ; 0 at first"
-    ∷ codes "_next: T _scrap F"
-    ∷ codes "A left F"
-    ∷ codes "S _unit F"
-    ∷ codes "G _end F              ; added often enough"
-    ∷ codes "T left F"
-    ∷ codes "A product F"
-    ∷ codes "A right F"
-    ∷ codes "T product F"
-    ∷ codes "E _next F"
-    ∷ codes "_end: T _scrap F"
-    ∷ codes "_link: P F"
-    ∷ (codes "left: word " ++ decimal a)
-    ∷ (codes "right: word " ++ decimal b)
-    ∷ codes "product: P F"
-    ∷ codes "_unit: word 1"
-    ∷ codes "_scrap: P F"
-    ∷ codes "segment show"
-    ∷ codes "A 3 F                 ; a routine that calls two others: it has a link, and so have they"
-    ∷ codes "T _link F"
-    ∷ codes "_print: A _print F"
-    ∷ codes "G p F"
-    ∷ codes "_line: A _line F"
-    ∷ codes "G n F"
-    ∷ codes "_link: P F"
-    ∷ codes "use print as p with H=product"
-    ∷ codes "use newline as n"
-    ∷ codes "enter main"
-    ∷ []
+-- its pieces, and the numbers between them: a and b are multiplied, and c is squared
+abbrev pub multiply_pieces : List Text
+multiply_pieces = map (λ piece. piece.now) MULTIPLY
+
+abbrev pub multiply_data : ℕ → ℕ → ℕ → List Text
+multiply_data a b c = decimal c ∷ decimal a ∷ decimal b ∷ []
 
 -- the whole text
 abbrev pub multiply_text : ℕ → ℕ → ℕ → Text
-multiply_text a b c = text_of_lines (multiply_source a b c)
+multiply_text a b c = woven multiply_pieces (multiply_data a b c)
 
 -- why three numbers below 65536 are refused as the data of `examples/answer5.edsac`, if they are
 abbrev pub multiply_refusal : ℕ → ℕ → ℕ → Option Refusal

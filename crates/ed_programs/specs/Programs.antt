@@ -1,7 +1,7 @@
 -- What is stated of a whole program: what a call that gives its source answers, and what the command `run` answers to
 -- it.
 use Rattle.std.specs.Prelude.{◌≡◌, ◌⊎◌, ℕ, ◌+◌, ◌≤◌, List, [], ◌∷◌, ◌++◌, codes, Option, Some, None, Result, Ok, Err}
-use Rattle.std.specs.Prelude.{String, string_bytes}
+use Rattle.std.specs.Prelude.{String, replicate, string_bytes}
 use Rattle.std.specs.declared.alloc.AllocError.{AllocError}
 use Rattle.std.specs.declared.alloc.Global.{Global}
 use Rattle.ed_words.specs.Texts.{Text}
@@ -31,6 +31,17 @@ pub record SourceRuns (s : Settings) (source : Text) (orders at : ℕ) (text : T
         note = entered (entry_of lines) (cost lines) ++ (at_after (codes "stopped") at (cost lines + orders) ++ 10 ∷ []);
         status = 0;
       })
+
+-- the pieces of a program's text, with the data between them
+abbrev pub woven : List Text → List Text → Text
+woven [] ds = []
+woven (piece ∷ pieces) [] = piece ++ woven pieces []
+woven (piece ∷ pieces) (d ∷ ds) = piece ++ (d ++ woven pieces ds)
+
+-- the two pieces around k + 1 data, and a text between each two of these
+abbrev pub spread : ℕ → Text → List Text → List Text
+spread k next [] = []
+spread k next (head ∷ tail) = head ∷ replicate k next ++ tail
 
 -- the answer is the program with this text if nothing refuses its data, otherwise the cause; it may also be that no
 -- memory was found

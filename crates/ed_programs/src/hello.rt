@@ -1,11 +1,38 @@
-ghost use Rattle.std.specs.Prelude.{◌≡◌, ◌≤◌, None, length};
+ghost use Rattle.std.specs.Prelude.{◌≡◌};
 ghost use Rattle.std.specs.List.{list_all};
 ghost use Rattle.ed_programs.specs.Hello.{EachTextIsPrinted, hello_orders, hello_prints, hello_refusal, hello_text};
 ghost use Rattle.ed_programs.specs.Hello.{is_capital, of_letters};
 ghost use Rattle.ed_programs.specs.Programs.{GivesProgram, Prints};
 
-use crate::refusal::{Refusal, program_of_text};
+use crate::refusal::Refusal;
 use std::alloc::Global;
+
+/// The source, with a gap for the number of the text's rows and one for the text.
+pub const HELLO: [&str; 3] = [
+    "version 2\n\
+    ; Prints HELLO and goes to a new line. The order at _print is changed as it runs: its address rises by one.\n\
+    ; Look for: the test that ends the loop, which compares the order itself with the one that must not be obeyed.\n\
+    segment main\n\
+    _next: T _scrap F     ; clear the accumulator\n\
+    _print: O letters F   ; print a letter\n\
+    A _print F\n\
+    A 2 F                 ; location 2 holds 2, which is one address\n\
+    U _print F            ; the order that prints the next letter\n\
+    S _last F             ; negative as long as letters are left\n\
+    G _next F\n\
+    T _scrap F\n\
+    _call: A _call F      ; the library's way to call a routine: the order itself,\n\
+    G n F                 ; and the jump to the routine\n\
+    Z F\n\
+    _last: O letters+",
+    " F  ; the order behind the last letter\n\
+    _scrap: P F\n\
+    segment text\n\
+    letters: text \"",
+    "\"\n\
+    use newline as n\n\
+    enter main\n",
+];
 
 /// The most letters that the program prints.
 const MOST_LETTERS: usize = 40;
@@ -22,7 +49,9 @@ pub fn hello_program(alloc: Global, letters: &str) -> Result<String, Refusal>
     if !are_capitals(letters.as_bytes()) {
         return Err(Refusal::Letter);
     }
-    hello_source(alloc, letters)
+    let rows = letters.len() + 1;
+    let [head, middle, tail] = HELLO;
+    Ok(format!(in alloc; "{head}{rows}{middle}*{letters}{tail}")?)
 }
 
 /// Whether all of these bytes are capital letters.
@@ -30,35 +59,4 @@ pub fn are_capitals(bytes: &[u8]) -> bool
     ensures { result ≡ list_all is_capital bytes.now }
 {
     bytes.iter().all(|byte| b'A' <= *byte && *byte <= b'Z')
-}
-
-/// The source for letters of any number.
-fn hello_source(alloc: Global, letters: &str) -> Result<String, Refusal>
-    requires { length letters.now ≤ 40 }
-    ensures { GivesProgram None (hello_text (of_letters letters.now)) result }
-{
-    let rows = letters.len() + 1;
-    program_of_text(format!(in alloc;
-        "version 2\n\
-        ; Prints HELLO and goes to a new line. The order at _print is changed as it runs: its address rises by one.\n\
-        ; Look for: the test that ends the loop, which compares the order itself with the one that must not be obeyed.\n\
-        segment main\n\
-        _next: T _scrap F     ; clear the accumulator\n\
-        _print: O letters F   ; print a letter\n\
-        A _print F\n\
-        A 2 F                 ; location 2 holds 2, which is one address\n\
-        U _print F            ; the order that prints the next letter\n\
-        S _last F             ; negative as long as letters are left\n\
-        G _next F\n\
-        T _scrap F\n\
-        _call: A _call F      ; the library's way to call a routine: the order itself,\n\
-        G n F                 ; and the jump to the routine\n\
-        Z F\n\
-        _last: O letters+{rows} F  ; the order behind the last letter\n\
-        _scrap: P F\n\
-        segment text\n\
-        letters: text \"*{letters}\"\n\
-        use newline as n\n\
-        enter main\n"
-    ))
 }

@@ -1,3 +1,5 @@
+ghost use Rattle.std.specs.Prelude.{◌≡◌};
+ghost use Rattle.ed_programs.specs.declared.refusal.Refusal.TheVariants.{Memory};
 ghost use Rattle.ed_programs.specs.Programs.{AnswersWritten};
 
 use std::alloc::AllocError;
@@ -27,6 +29,14 @@ pub enum Refusal {
     /// No memory was found for the text of the program.
     #[error("no memory")]
     Memory,
+}
+
+impl From<AllocError> for Refusal {
+    ghost from_gives = { λ _ e. e ≡ Memory };
+
+    fn from(_error: AllocError) -> Refusal {
+        Refusal::Memory
+    }
 }
 
 /// The bound for a number that `print` prints: it must be below this.

@@ -1,18 +1,12 @@
-use Rattle.std.proofs.Common.{◌*◌, ◌<◌, subst}
+use Rattle.std.proofs.Common.{arith}
 use Rattle.ed_programs.proofs.MultiplyRuns.{each_product}
-use Rattle.ed_programs.proofs.Texts.{prints_of}
+use Rattle.ed_programs.proofs.Texts.{runs_as}
 use Rattle.ed_programs.proofs.multiply.multiply_program.Goals as goal
 
-pub returns-then-product_of-lt-LIMIT-2-clause-law : goal.returns-then-product_of-lt-LIMIT-2-clause-law
-returns-then-product_of-lt-LIMIT-2-clause-law c =
+pub returns-clause-law : goal.returns-clause-law
+returns-clause-law c =
     let a = c.args.left in let b = c.args.right in let d = c.args.root in
-    let product : a * b < 65536 = subst (λ n. n < 65536) c.product_of.ensures c.if-product_of-lt-LIMIT.true in
-    let square : d * d < 65536 =
-    subst (λ n. n < 65536) c.product_of-then-product_of-lt-LIMIT.ensures c.if-product_of-lt-LIMIT-2.true in
-    prints_of c.multiply_source.result c.multiply_source.ensures (each_product a b d (record {
-      left = c.ranges.left.fits;
-      right = c.ranges.right.fits;
-      product = product;
-      third = c.ranges.root.fits;
-      square = square;
-    }))
+    let product = c.product_of.ensures in let square = c.product_of-else-product_of-ge-LIMIT.ensures in
+    let small = c.if-product_of-ge-LIMIT.false in let small_d = c.if-product_of-ge-LIMIT-2.false in
+    runs_as c.in_ok-format.ensures.ok
+    (each_product a b d c.ranges.left.fits c.ranges.right.fits (omega arith) c.ranges.root.fits (omega arith))

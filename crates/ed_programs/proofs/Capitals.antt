@@ -1,0 +1,58 @@
+-- Capital letters: each spells a row of tape, and is printed as it is.
+use Rattle.std.proofs.Common.{◌≡◌, ℕ, Bool, true, false, [], ◌∷◌, ◌++◌, refl, ap, arith, nat_le}
+use Rattle.std.specs.Prelude.{◌==◌, ◌&&◌, not}
+use Rattle.std.specs.List.{list_all}
+use Rattle.std.specs.Str.{bytes_eq}
+use Rattle.std.proofs.lemmas.Bool.{and_parts, not-true}
+use Rattle.std.proofs.lemmas.Slice.Eq.{bytes_eq-Decides}
+use Rattle.ed_words.proofs.Numbers.{le_of}
+use Rattle.ed_words.specs.Texts.{Text}
+use Rattle.ed_codes.specs.Spelling.{row_of}
+use Rattle.ed_printer.specs.Paper.{paper_from, struck}
+use Rattle.ed_printer.specs.declared.printer.Shift.TheVariants.{Letters}
+use Rattle.ed_syntax.specs.Private.Grammar.{row}
+use Rattle.ed_sources.proofs.Decimals.{among, both}
+use Rattle.ed_programs.specs.Hello.{hello_rows, is_row_byte}
+
+-- what is so of each letter, as a test
+abbrev fine : ℕ → Bool
+fine b = is_row_byte b
+    && (bytes_eq (struck Letters (row (row_of b))) (b ∷ []) && (not (row (row_of b) == 11) && not (row (row_of b) == 15)))
+
+pub record Letter (b : ℕ) : Type 0 where
+  pub row_byte : is_row_byte b ≡ true
+  pub struck_is : struck Letters (row (row_of b)) ≡ b ∷ []
+  pub no_figures : (row (row_of b) == 11) ≡ false
+  pub no_letters : (row (row_of b) == 15) ≡ false
+
+pub letter : (b : ℕ) → (nat_le 65 b && nat_le b 90) ≡ true → Letter b
+letter b h =
+    let p = and_parts (nat_le 65 b) (nat_le b 90) h in
+    let low = le_of 65 b p.0 in
+    let high = le_of b 90 p.1 in
+    let is = among fine 65 26 b refl (omega arith) (omega arith) in
+    let q = and_parts (is_row_byte b) _ is in
+    let r = and_parts (bytes_eq (struck Letters (row (row_of b))) (b ∷ [])) _ q.1 in
+    let t = and_parts (not (row (row_of b) == 11)) _ r.1 in
+    record {
+      row_byte = q.0;
+      struck_is = (bytes_eq-Decides (struck Letters (row (row_of b))) (b ∷ [])).0 r.0;
+      no_figures = not-true (row (row_of b) == 11) t.0;
+      no_letters = not-true (row (row_of b) == 15) t.1;
+    }
+
+pub are_rows : (q : Text) → list_all (λ b. nat_le 65 b && nat_le b 90) q ≡ true → list_all is_row_byte q ≡ true
+are_rows [] h = refl
+are_rows (b ∷ q) h =
+    let p = and_parts (nat_le 65 b && nat_le b 90) (list_all (λ b. nat_le 65 b && nat_le b 90) q) h in
+    both _ _ (letter b p.0).row_byte (are_rows q p.1)
+
+-- letters are printed as they are, and a new line follows
+pub letters_shown : (q : Text) → list_all (λ b. nat_le 65 b && nat_le b 90) q ≡ true
+    → paper_from Letters (hello_rows q ++ 18 ∷ 24 ∷ []) ≡ q ++ 13 ∷ 10 ∷ []
+letters_shown [] h = refl
+letters_shown (b ∷ q) h =
+    let p = and_parts (nat_le 65 b && nat_le b 90) (list_all (λ b. nat_le 65 b && nat_le b 90) q) h in
+    let l = letter b p.0 in
+    let a = l.struck_is in let c = l.no_figures in let d = l.no_letters in
+    rw (c, d, a) (ap (λ (x : Text). b ∷ x) (letters_shown q p.1))

@@ -1,0 +1,152 @@
+-- Lines of a source with data: one with a text of rows, and one that has a number between other parts.
+use Rattle.std.proofs.Common.{◌≡◌, ◌∙◌, ℕ, ◌+◌, ◌<◌, ◌≤◌, Bool, true, false, true≢false, List, [], ◌∷◌, ◌++◌, refl, sym, ap}
+use Rattle.std.proofs.Common.{subst, arith, codes, length, length-append, nat_le, nat_lt}
+use Rattle.std.specs.Prelude.{◌==◌, ◌&&◌, ◌||◌, not, Option, Some, Ok}
+use Rattle.std.specs.Fmt.{decimal}
+use Rattle.std.specs.List.{list_all}
+use Rattle.std.proofs.lemmas.Bool.{and_parts, not-true}
+use Rattle.std.proofs.lemmas.List.{length-map}
+use Rattle.std.proofs.lemmas.List.Folds.{list_all-append}
+use Rattle.ed_words.proofs.Numbers.{eq_false, le_of, le_true, lt_of}
+use Rattle.ed_words.specs.Texts.{Text}
+use Rattle.ed_words.specs.Decimals.{value}
+use Rattle.ed_codes.specs.Spelling.{row_of}
+use Rattle.ed_syntax.specs.Parts.{LinePart, run, sign, quoted, begins_run, array, is_number, is_place_name, is_line_byte}
+use Rattle.ed_syntax.specs.Parts.{has_quote, is_run_byte}
+use Rattle.ed_syntax.specs.Private.Grammar.{form_at, row, spells}
+use Rattle.ed_syntax.specs.Private.PartReading.{parts_of}
+use Rattle.ed_syntax.specs.Private.SourceReading.{line_of}
+use Rattle.ed_syntax.specs.declared.program.Statement.{Statement}
+use Rattle.ed_syntax.specs.declared.program.Statement.TheVariants as statements
+use Rattle.ed_syntax.proofs.PartLemmas.{quote_parts, run_parts}
+use Rattle.ed_routines.specs.Digits.{digits}
+use Rattle.ed_sources.proofs.Decimals.{among, are, both, decimal_is, digit_bytes, few_bytes, line_bytes, run_bytes, some_digit}
+use Rattle.ed_sources.proofs.Decimals.{value_is, written}
+use Rattle.ed_sources.proofs.Said.{a_number}
+use Rattle.ed_programs.specs.Hello.{hello_rows, is_row_byte}
+use Rattle.ed_programs.proofs.NumberLines.{is_short_label}
+use Rattle.ed_programs.proofs.SourceLines.{Marked, by_parts}
+
+-- ---- a line that ends with `text` and a string
+
+-- what a byte that spells a row is, as a test: one of a line, no quote, and its row is a code
+abbrev fine : ℕ → Bool
+fine b = not (is_row_byte b) || (is_line_byte b && (not (b == 34) && (spells (row_of b) && nat_lt (row (row_of b)) 32)))
+
+record Spelling (b : ℕ) : Type 0 where
+  line : is_line_byte b ≡ true
+  quote : (b == 34) ≡ false
+  spelled : spells (row_of b) ≡ true
+  code : nat_lt (row (row_of b)) 32 ≡ true
+
+spelling : (b : ℕ) → is_row_byte b ≡ true → Spelling b
+spelling b h =
+    let small = lt_of b 128 (and_parts (nat_lt b 128) (spells (row_of b)) h).0 in
+    let all : fine b ≡ true = among fine 0 128 b refl (omega arith) (omega arith) in
+    let is : (is_line_byte b && (not (b == 34) && (spells (row_of b) && nat_lt (row (row_of b)) 32))) ≡ true =
+    subst (λ t. (not t || (is_line_byte b && (not (b == 34) && (spells (row_of b) && nat_lt (row (row_of b)) 32)))) ≡ true) h all in
+    let p = and_parts (is_line_byte b) _ is in
+    let q = and_parts (not (b == 34)) _ p.1 in
+    let r = and_parts (spells (row_of b)) _ q.1 in
+    record { line = p.0; quote = not-true (b == 34) q.0; spelled = r.0; code = r.1 }
+
+-- what such bytes are
+pub record Plain (q : Text) : Type 0 where
+  pub line : list_all is_line_byte q ≡ true
+  pub quote : has_quote q ≡ false
+  pub spelled : list_all (λ b. spells (row_of b)) q ≡ true
+  pub codes : list_all (λ c. nat_lt c 32) (hello_rows q) ≡ true
+
+pub all_plain : (q : Text) → list_all is_row_byte q ≡ true → Plain q
+all_plain [] h = record { line = refl; quote = refl; spelled = refl; codes = refl }
+all_plain (b ∷ q) h =
+    let p = and_parts (is_row_byte b) (list_all is_row_byte q) h in
+    let here = spelling b p.0 in
+    let rest = all_plain q p.1 in
+    record {
+      line = both _ _ here.line rest.line;
+      quote = let x = here.quote in let y = rest.quote in rw (x, y) refl;
+      spelled = both _ _ here.spelled rest.spelled;
+      codes = both _ _ here.code rest.codes;
+    }
+
+pub text_says : (two : Bool) (k : ℕ) (label q : Text) → 2 ≤ k → is_short_label two label ≡ true → 1 ≤ length q
+    → length q ≤ 90 → list_all is_row_byte q ≡ true
+    → line_of two k (label ++ (codes ": text " ++ 34 ∷ (q ++ 34 ∷ [])))
+    ≡ Ok (record { label = Some label; statement = Some (statements.Text (array (hello_rows q))) })
+text_says true k [] q later fits some few rows = absurd (true≢false (sym fits))
+text_says false k [] q later fits some few rows = absurd (true≢false (sym fits))
+text_says two k (b ∷ r) q later fits some few rows =
+    let l : Text = b ∷ r in
+    let rest : Text = codes ": text " ++ 34 ∷ (q ++ 34 ∷ []) in
+    let p = and_parts (nat_le (length l) 13) _ fits in
+    let t = and_parts (is_place_name two l) _ p.1 in
+    let u = and_parts (list_all is_line_byte l) (list_all is_run_byte l) t.1 in
+    let name = t.0 in
+    let short = le_of (length l) 13 p.0 in
+    let no_version : (k == 1) ≡ false = eq_false k 1 (omega (arith, later)) in
+    let plain = all_plain q rows in
+    let spelled = plain.spelled in
+    let line : list_all is_line_byte rest ≡ true = list_all-append is_line_byte q (34 ∷ []) ∙ ap (λ t. t && true) plain.line in
+    let long = length-append q (34 ∷ []) in
+    let all = length-append l rest in
+    let there = le_true 1 (length q) some in
+    let near = le_true (length q) 120 (omega arith) in
+    by_parts two k (l ++ rest) (run l ∷ sign 58 ∷ run (codes "text") ∷ quoted q ∷ [])
+    (list_all-append is_line_byte l rest ∙ both _ _ u.0 line) (omega arith)
+    (run_parts b r rest u.1 refl ∙ (let e = quote_parts [] q [] plain.quote in rw e refl))
+    (rw (no_version, name, there, near, spelled) refl)
+
+abbrev pub text_mark : {two : Bool} (k : ℕ) (label q : Text) → 2 ≤ k → is_short_label two label ≡ true → 1 ≤ length q
+    → length q ≤ 90 → list_all is_row_byte q ≡ true → Marked two
+text_mark {two} k label q later fits some few rows = record {
+  number = k;
+  text = label ++ (codes ": text " ++ 34 ∷ (q ++ 34 ∷ []));
+  label = Some label;
+  statement = statements.Text (array (hello_rows q));
+  says = text_says two k label q later fits some few rows;
+}
+
+-- ---- a line with a number between two fixed texts
+
+-- what its front and its tail make of it, whatever digits stand between them
+pub record IsAround (two : Bool) (k : ℕ) (front tail : Text) (before after : List LinePart) (n : ℕ) (label : Option Text)
+    (statement : Statement) : Type 0 where
+  pub plain : (t : Text) → list_all is_line_byte t ≡ true → list_all is_line_byte (front ++ t) ≡ true
+  pub tail_plain : list_all is_line_byte tail ≡ true
+  pub short : length front + length tail ≤ 115
+  pub ends : begins_run tail ≡ false
+  pub tail_parts : parts_of tail ≡ Some after
+  pub parts : (t : Text) (ps : List LinePart) → parts_of t ≡ Some ps → parts_of (front ++ t) ≡ Some (before ++ ps)
+  pub form : (bytes : Text) → is_number bytes ≡ true → value bytes ≡ n
+      → form_at two k (before ++ run bytes ∷ after) ≡ Some (Some (record { label = label; statement = Some statement }))
+
+module _ {two : Bool} {k : ℕ} {front tail : Text} {before after : List LinePart} {n : ℕ} {label : Option Text}
+    {statement : Statement} (o : IsAround two k front tail before after n label statement) where
+  with_bytes : (bytes : Text) → 0 < length bytes → list_all is_line_byte bytes ≡ true → length bytes ≤ 5
+      → list_all is_run_byte bytes ≡ true → is_number bytes ≡ true → value bytes ≡ n
+      → line_of two k (front ++ (bytes ++ tail)) ≡ Ok (record { label = label; statement = Some statement })
+  with_bytes [] some plain few runs number is = absurd (omega arith)
+  with_bytes (b ∷ r) some plain few runs number is =
+      let bytes : Text = b ∷ r in
+      let here = o.tail_parts in
+      let short = o.short in
+      let all = length-append front (bytes ++ tail) in
+      let long = length-append bytes tail in
+      by_parts two k (front ++ (bytes ++ tail)) (before ++ run bytes ∷ after)
+      (o.plain (bytes ++ tail) (list_all-append is_line_byte bytes tail ∙ both _ _ plain o.tail_plain))
+      (omega (arith, all, long, short, few))
+      (o.parts (bytes ++ tail) (run bytes ∷ after) (run_parts b r tail runs o.ends ∙ rw here refl)) (o.form bytes number is)
+
+  pub number_says : n < 65536
+      → line_of two k (front ++ (decimal n ++ tail)) ≡ Ok (record { label = label; statement = Some statement })
+  number_says small =
+      let ds : List ℕ = digits n in
+      let some : 0 < length (written ds) = let e = some_digit n in omega (arith, length-map ds (λ d. 48 + d), e) in
+      subst (λ (bytes : Text). line_of two k (front ++ (bytes ++ tail)) ≡ Ok (record {
+        label = label;
+        statement = Some statement;
+      }))
+      (decimal_is n small)
+      (with_bytes (written ds) some (line_bytes ds (are n small)) (few_bytes n small) (run_bytes ds (are n small))
+      (a_number (written ds) some (digit_bytes ds (are n small))) (value_is n small))

@@ -1,0 +1,174 @@
+-- A source that ends with a text of any length, the routine `newline` after it, and its entry at 56: it has no fault there,
+-- and where its words stand at the entry.
+use Rattle.std.proofs.Common.{◌≡◌, inl, inr, ◌∙◌, ℕ, zero, suc, ◌+◌, ◌*◌, ◌<◌, ◌≤◌, true, List, [], ◌∷◌, ◌++◌}
+use Rattle.std.proofs.Common.{refl, ap, sym, arith, length, get_or, map, nat_lt, append-nil, codes}
+use Rattle.std.specs.Prelude.{◌&&◌, Some, None, reverse, unwrap_or}
+use Rattle.std.specs.List.{list_all}
+use Rattle.std.proofs.lemmas.Bool.{and_parts}
+use Rattle.std.proofs.lemmas.List.{length-map}
+use Rattle.std.proofs.lemmas.List.Folds.{list_all-append}
+use Rattle.ed_words.proofs.Numbers.{lt_of}
+use Rattle.ed_words.proofs.SizeLemmas.{least}
+use Rattle.ed_words.specs.Texts.{Text}
+use Rattle.ed_words.specs.declared.size.Size.{Size}
+use Rattle.ed_notation.specs.Fold.{placed_at}
+use Rattle.ed_library.specs.Entries.{entry}
+use Rattle.ed_library.specs.Images.{image_word, parameter_store, routine_word}
+use Rattle.ed_library.specs.Routines.{table_item}
+use Rattle.ed_syntax.specs.Parts.{array}
+use Rattle.ed_syntax.specs.declared.program.Line.{Line}
+use Rattle.ed_syntax.specs.declared.program.Statement.TheVariants as statements
+use Rattle.ed_symbols.specs.declared.homes.Home.{Home}
+use Rattle.ed_symbols.specs.Names.{place_on}
+use Rattle.ed_symbols.specs.Places.{even_from}
+use Rattle.ed_link.specs.Linked.{laid, linked}
+use Rattle.ed_link.specs.Private.FaultTests.{fault_from}
+use Rattle.ed_loads.specs.EntryState.{entry_state}
+use Rattle.ed_routines.specs.Catalogue.{newline}
+use Rattle.ed_routines.proofs.Journeys.{HasRoutine}
+use Rattle.ed_sources.proofs.AtEntry.{have_places}
+use Rattle.ed_sources.proofs.Blocks.{beside_block, block_places, in_block, last_append, last_at, last_is, or_else, word_of}
+use Rattle.ed_sources.proofs.Entries.{frame_at}
+use Rattle.ed_sources.proofs.Said.{said}
+use Rattle.ed_programs.proofs.Faults.{are_below, block_sound, enter_sound, none_later, one_more, past, spot, use_sound}
+
+-- ---- faults
+
+-- the last lines: the text, the routine, and the entry
+abbrev pub last_lines : ℕ → Text → List ℕ → Text → Text → List Line
+last_lines k label rows name main =
+    said k (Some label) (statements.Text (array rows))
+    ∷ said (k + 1) None (statements.Fetch (codes "newline") name (array []))
+    ∷ said (k + 1 + 1) None (statements.Enter main)
+    ∷ []
+
+-- they have none, where the lines before them have the places of these runs, which end at p
+pub text_sound : (z : Size) (homes : List Home) (runs : List (ℕ × ℕ)) (p b g k : ℕ) (label name main : Text)
+    (rows : List ℕ) → 56 ≤ p → p + length rows ≤ 500 → are_below p runs ≡ true → place_on homes None main ≡ Some 56
+    → fault_from z homes true (past runs) (spot p b g) (last_lines k label rows name main) ≡ None
+text_sound z homes runs p b g k label name main rows low high first place =
+    let size = least z in
+    let n : ℕ = length rows in
+    let w : ℕ = even_from (p + n) in
+    let second = one_more p p (p + n) runs (omega arith) first in
+    let third = one_more (p + n) w (w + 7) (runs ++ (p, p + n) ∷ []) (omega arith) second in
+    none_later k _ _ (block_sound z homes runs k p b g (Some label) rows (omega arith) (omega arith) first)
+    (none_later (k + 1) _ _
+    (use_sound z homes (runs ++ (p, p + n) ∷ []) (k + 1) (p + n) b g true (codes "newline") name []
+    (omega arith) (omega arith) second refl refl)
+    (none_later (k + 1 + 1) _ _
+    (enter_sound z homes ((runs ++ (p, p + n) ∷ []) ++ (w, w + 7) ∷ []) (k + 1 + 1) (w + 7) w (g + 1) 56 main place
+    (omega arith) (omega arith) third)
+    refl))
+
+-- ---- the entry
+
+-- the words of `newline` as a source lays them, at w
+abbrev pub newline_words : ℕ → List ℕ
+newline_words w = map (λ row. routine_word (0 ∷ 0 ∷ 0 ∷ 0 ∷ 0 ∷ 0 ∷ []) w (table_item row)) (entry newline).items
+
+newline_is : (w i : ℕ) → i < 7 → get_or (newline_words w) i 0 ≡ image_word newline i w []
+unfolding parameter_store
+newline_is w zero l = refl
+newline_is w (suc zero) l = refl
+newline_is w (suc (suc zero)) l = refl
+newline_is w (suc (suc (suc zero))) l = refl
+newline_is w (suc (suc (suc (suc zero)))) l = refl
+newline_is w (suc (suc (suc (suc (suc zero))))) l = refl
+newline_is w (suc (suc (suc (suc (suc (suc zero)))))) l = refl
+newline_is w (suc (suc (suc (suc (suc (suc (suc i))))))) l = absurd (omega arith)
+
+multiplied : (cs : List ℕ) (k : ℕ) → k < length cs → get_or (map (λ c. 4096 * c) cs) k 0 ≡ 4096 * get_or cs k 0
+multiplied [] k l = absurd (omega arith)
+multiplied (c ∷ cs) zero l = refl
+multiplied (c ∷ cs) (suc k) l = multiplied cs k (omega arith)
+
+-- the codes stand in words from a place on, each at the head of its word
+abbrev pub Spells : List ℕ → ℕ → List ℕ → Type 0
+Spells ws q [] = Unit {0}
+Spells ws q (c ∷ cs) = (get_or ws q 0 ≡ 4096 * c) × (c < 32) × Spells ws (q + 1) cs
+
+-- the words of the text and of the routine, from the place p on
+abbrev pub text_words : ℕ → List ℕ → List (ℕ × ℕ)
+text_words p rows =
+    laid p (map (λ c. 4096 * c) rows) ++ (laid (even_from (p + length rows)) (newline_words (even_from (p + length rows))) ++ [])
+
+module _ (z : Size) (lines : List Line) (p : ℕ) (rows : List ℕ) (low : 56 ≤ p) (high : p + length rows ≤ 500)
+    (front : List (ℕ × ℕ)) (are : linked lines ≡ front ++ text_words p rows) (fit : have_places front ≡ true) where
+  abbrev w : ℕ
+  w = even_from (p + length rows)
+
+  abbrev ws : List ℕ
+  ws = (entry_state z lines).store.words
+
+  abbrev codes_in : List ℕ
+  codes_in = map (λ c. 4096 * c) rows
+
+  rest_at : (a : ℕ) → last_at (text_words p rows) a ≡ or_else (last_at (laid w (newline_words w)) a) (last_at (laid p codes_in) a)
+  rest_at a =
+      last_append (laid p codes_in) (laid w (newline_words w) ++ []) a
+      ∙ ap (λ (x : List (ℕ × ℕ)). or_else (last_at x a) (last_at (laid p codes_in) a)) (append-nil (laid w (newline_words w)))
+
+  rest_places : have_places (text_words p rows) ≡ true
+  rest_places =
+      let long = length-map rows (λ c. 4096 * c) in
+      let first = block_places p codes_in (omega arith) in
+      let second = block_places w (newline_words w) (omega arith) in
+      list_all-append (λ (x : ℕ × ℕ). nat_lt x.0 1024) (laid p codes_in) (laid w (newline_words w) ++ [])
+      ∙ ap (λ (x : List (ℕ × ℕ)). have_places (laid p codes_in) && have_places x) (append-nil (laid w (newline_words w)))
+      ∙ (λ i. first i && second i)
+
+  word_at_entry : (a : ℕ) → 44 ≤ a → a < 1024
+      → get_or ws a 0 ≡ unwrap_or (or_else (or_else (last_at (laid w (newline_words w)) a) (last_at (laid p codes_in) a)) (last_at front a)) 0
+  word_at_entry a from below =
+      word_of z lines front (text_words p rows) are fit rest_places a from below
+      ∙ ap (λ o. unwrap_or (or_else o (last_at front a)) 0) (rest_at a)
+
+  -- the words before the text
+  pub before_text : (a : ℕ) → 44 ≤ a → a < p → get_or ws a 0 ≡ unwrap_or (placed_at (reverse front) a) 0
+  before_text a from l =
+      let first = beside_block p codes_in a (inl l) in
+      let second = beside_block w (newline_words w) a (inl (omega arith)) in
+      word_at_entry a from (omega arith)
+      ∙ (λ i. unwrap_or (or_else (or_else (second i) (first i)) (last_at front a)) 0)
+      ∙ ap (λ o. unwrap_or o 0) (sym (last_is front a))
+
+  spells_from : (cs : List ℕ) (k : ℕ) → ((j : ℕ) → j < length cs → get_or rows (k + j) 0 ≡ get_or cs j 0)
+      → k + length cs ≡ length rows → list_all (λ c. nat_lt c 32) cs ≡ true → Spells ws (p + k) cs
+  spells_from [] k same long small = tt
+  spells_from (c ∷ cs) k same long small =
+      let t = and_parts (nat_lt c 32) (list_all (λ c. nat_lt c 32) cs) small in
+      let here = beside_block w (newline_words w) (p + k) (inl (omega arith)) in
+      let block = in_block p codes_in k (let e = length-map rows (λ c. 4096 * c) in omega arith) in
+      let first : get_or rows k 0 ≡ c = ap (λ j. get_or rows j 0) (omega arith) ∙ same 0 (omega arith) in
+      let next : p + k + 1 ≡ p + (k + 1) = omega arith in (
+        word_at_entry (p + k) (omega arith) (omega arith)
+            ∙ (λ i. unwrap_or (or_else (or_else (here i) (block i)) (last_at front (p + k))) 0)
+            ∙ multiplied rows k (omega arith)
+            ∙ ap (λ x. 4096 * x) first,
+        lt_of c 32 t.0,
+        rw next (spells_from cs (k + 1) (λ j l. ap (λ x. get_or rows x 0) (omega arith) ∙ same (suc j) (omega arith))
+            (omega arith) t.1),
+      )
+
+  -- the text
+  pub text_stands : list_all (λ c. nat_lt c 32) rows ≡ true → Spells ws p rows
+  text_stands small =
+      let e : p + 0 ≡ p = omega arith in
+      rw⁻¹ e (spells_from rows 0 (λ j l. ap (λ x. get_or rows x 0) (omega arith)) (omega arith) small)
+
+  -- and `newline` after it, for a program of n cells before it
+  pub newline_after : {n : ℕ} (few : n ≤ 456) → 56 + n ≤ p → HasRoutine (frame_at n z few) ws newline w []
+  newline_after few under = record {
+    low = omega arith;
+    fits = let size = least z in omega arith;
+    reached = let size = least z in omega arith;
+    apart = inr (omega arith);
+    at2 = refl;
+    at3 = refl;
+    image = λ i l free.
+        let here = in_block w (newline_words w) i l in
+        word_at_entry (w + i) (omega arith) (omega arith)
+        ∙ (λ j. unwrap_or (or_else (or_else (here j) (last_at (laid p codes_in) (w + i))) (last_at front (w + i))) 0)
+        ∙ newline_is w i l;
+  }
