@@ -35,10 +35,8 @@ pub fn entered_text(
 {
     let mut text = entered(alloc, entry, cost)?;
     let line = ending_text(alloc, ending, machine)?;
-    match text.extend_from_slice(&line) {
-        Ok(()) => Ok(text),
-        Err(_) => Err(NoMemory),
-    }
+    text.extend_from_slice(&line)?;
+    Ok(text)
 }
 
 /// What stands before the line of an ending where the program was entered.
