@@ -59,15 +59,26 @@ fn segment_of(rt: &HostRuntime, text: &[u8], line: u32) -> Option<u32> {
     places.line_segment(line)
 }
 
-/// The segment to which a name belongs that a line of a source sees, by its number.
-fn segment_on(rt: &HostRuntime, text: &[u8], line: u32, name: &str) -> Option<Option<u32>> {
+/// Where a name is known.
+#[derive(Clone, Copy, Debug, PartialEq, Eq)]
+enum Scope {
+    Source,
+    /// A segment, by its number.
+    Segment(u32),
+}
+
+/// Where a name is known that a line of a source sees.
+fn scope_on(rt: &HostRuntime, text: &[u8], line: u32, name: &str) -> Option<Scope> {
     let program = parse(rt.alloc(), text).ok()?;
     let places = resolve(rt.alloc(), &program).ok()?;
     if line == 0 || line as usize > program.lines.len() {
         return None;
     }
     let home = places.home_at(line, &Name::new(name)?)?;
-    Some(home.segment)
+    Some(match home.segment {
+        Some(segment) => Scope::Segment(segment),
+        None => Scope::Source,
+    })
 }
 
 #[test]
@@ -211,19 +222,19 @@ fn the_segments_of_lines(rt: HostRuntime) {
 #[test]
 fn the_segments_of_names(rt: HostRuntime) {
     let cases = [
-        (1, "m", Some(Some(1))),
-        (2, "m", Some(Some(1))),
-        (1, "n", Some(None)),
-        (1, "s", Some(Some(3))),
-        (3, "q", Some(Some(3))),
+        (1, "m", Some(Scope::Segment(1))),
+        (2, "m", Some(Scope::Segment(1))),
+        (1, "n", Some(Scope::Source)),
+        (1, "s", Some(Scope::Segment(3))),
+        (3, "q", Some(Scope::Segment(3))),
         (1, "_x", None),
-        (2, "_x", Some(Some(1))),
-        (8, "_x", Some(Some(3))),
+        (2, "_x", Some(Scope::Segment(1))),
+        (8, "_x", Some(Scope::Segment(3))),
         (4, "_x", None),
         (8, "other", None),
     ];
-    for (line, name, segment) in cases {
-        assert_eq!(rt; segment_on(&rt, ODD, line, name), segment, "{line} {name}");
+    for (line, name, scope) in cases {
+        assert_eq!(rt; scope_on(&rt, ODD, line, name), scope, "{line} {name}");
     }
 }
 

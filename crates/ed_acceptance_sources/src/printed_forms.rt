@@ -3,7 +3,7 @@ ghost use Rattle.std.specs.Prelude.{◌<◌, ◌^◌};
 
 use arrayvec::ArrayVec;
 use ed_codes::Code;
-use ed_syntax::{Line, Name, Operand, Setting, Statement, parse};
+use ed_syntax::{Line, Name, Operand, Setting, Statement, Version, parse};
 use ed_words::{Long, Word};
 use std::alloc::Global;
 
@@ -80,7 +80,7 @@ impl Sequence {
 struct Writer {
     text: String,
     sequence: Sequence,
-    two: bool,
+    version: Version,
 }
 
 impl Writer {
@@ -114,7 +114,7 @@ impl Writer {
 
     /// Writes a name that may stand as a label and in an operand.
     fn place_name(&mut self) -> Option<Name> {
-        if !self.two || self.sequence.below(3) > 0 {
+        if !self.version.is_two() || self.sequence.below(3) > 0 {
             return self.name();
         }
         let name = LOCAL_NAMES[self.sequence.below(4) as usize];
@@ -135,7 +135,7 @@ impl Writer {
         }
         let minus = self.sequence.below(2) == 1;
         self.sign(if minus { "-" } else { "+" })?;
-        if self.two && self.sequence.below(2) == 1 {
+        if self.version.is_two() && self.sequence.below(2) == 1 {
             let second = self.place_name()?;
             return Some(Operand::Two {
                 first: name,
@@ -228,7 +228,10 @@ impl Writer {
 
     /// Writes a statement that may have a label.
     fn placed(&mut self, alloc: Global) -> Option<Statement> {
-        match self.sequence.below(if self.two { 8 } else { 7 }) {
+        match self
+            .sequence
+            .below(if self.version.is_two() { 8 } else { 7 })
+        {
             0 | 1 => {
                 self.run("word")?;
                 let number = self.integer(alloc, 65536, 131_071)?;
@@ -317,11 +320,15 @@ fn printed(alloc: Global, source: u32) -> Option<(String, Vec<Line>)> {
     let mut writer = Writer {
         text: String::new(alloc),
         sequence: Sequence { last: source },
-        two: source % 2 == 1,
+        version: if source % 2 == 1 {
+            Version::Two
+        } else {
+            Version::One
+        },
     };
     let mut lines = Vec::new(alloc);
     for number in 1..LINES + 1 {
-        let (label, statement) = if number == 1 && writer.two {
+        let (label, statement) = if number == 1 && writer.version.is_two() {
             writer.text.push_str(" version\t02").ok()?;
             (None, None)
         } else {

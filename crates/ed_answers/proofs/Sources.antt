@@ -1,7 +1,8 @@
 -- From what is made of a source to the outcome of an input.
 use Rattle.std.proofs.Common.{◌≡◌, inl, inr, ◌∙◌, ℕ, Bool, refl, sym, ap, subst}
 use Rattle.std.proofs.Common.{Option, List, ◌++◌, map}
-use Rattle.std.specs.Prelude.{Result, Ok, Err, IfOk, IsErr, IsErrAnd}
+use Rattle.std.specs.Prelude.{Result, Ok, Err, IfErr, IfOk, IsErr, IsErrAnd, MatchResult}
+use Rattle.std.proofs.lemmas.Result.{err_from_is_err_and}
 use Rattle.ed_words.specs.declared.size.Size.{Size}
 use Rattle.ed_words.specs.declared.memory.NoMemory.{NoMemory}
 use Rattle.ed_store.specs.Cells.{Cells}
@@ -91,6 +92,20 @@ pub linked_accepted : (z : Size) {text : Text} {two : Bool} {lines : List Line} 
     → IsLinked z lines k → LinksSource z text (Ok k)
 linked_accepted z {two} {lines} k p is =
     (lines, record { two = two; says = p; faultless = is.accepted }, is)
+
+-- a program that is linked, or the rejection that was made of its fault
+pub linked_or_refused : (z : Size) {text : Text} {two : Bool} {lines : List Line} (r : Result Linked SourceFault)
+    (told : Result Linked Rejection) (Q : SourceFault → Rejection → Type 0) → IsProgram text two lines
+    → IfOk r (λ k. IsLinked z lines k) → IfErr r (λ f. HasMeaningFault z lines f)
+    → MatchResult r (λ k. told ≡ Ok k) (λ f. IsErrAnd told (Q f))
+    → ((f : SourceFault) (e : Rejection) → Q f e
+    → Refuses (source_fault_line f) e × (f ≡ Memory → e ≡ rejection.Memory))
+    → LinksSource z text told
+linked_or_refused z (Ok k) told Q p linked faulty is made = rw is (linked_accepted z k p linked)
+linked_or_refused z (Err f) told Q p linked faulty is made =
+    let e = err_from_is_err_and told is in
+    let refuses = made f e.0 e.2 in
+    rw e.1 (refused_meaning z f e.0 p faulty refuses.0 refuses.1)
 
 -- ---- the outcome of an input
 

@@ -13,10 +13,7 @@ pub fn rows_of(alloc: Global, input: &[u8]) -> Result<Vec<Code>, Rejection>
     ensures is { MatchResult result (λ v. reading input.now ≡ rows v.items) (RefusesText (reading input.now)) }
     ensures few { IfOk result (λ v. length v.items ≤ length input.now) }
 {
-    match tape_of_text(alloc, input) {
-        Ok(rows) => Ok(rows),
-        Err(fault) => Err(text_rejection(alloc, &fault)),
-    }
+    tape_of_text(alloc, input).map_err(|fault| text_rejection(alloc, &fault))
 }
 
 /// The rejection of a text that is not a tape.

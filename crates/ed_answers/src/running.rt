@@ -113,27 +113,24 @@ fn post_mortem_of(
     ensures { IfOk result (λ p. p.codes ≡ post_mortem_codes window machine.old) }
 {
     match window {
-        Some(window) => match window_printed(alloc, window, machine) {
-            Ok(paper) => Ok(paper),
-            Err(_) => Err(NoMemory),
-        },
+        Some(window) => window_printed(alloc, window, machine),
         None => Paper::new(alloc, 0),
     }
 }
 
 /// The paper of the words in a window. No post-mortem of it is refused: it is within the store, and the paper has room.
-fn window_printed(alloc: Global, window: Window, machine: &mut Machine) -> Result<Paper, PmFault>
+fn window_printed(alloc: Global, window: Window, machine: &mut Machine) -> Result<Paper, NoMemory>
     requires window { IsWindowOf machine.old.size window }
     requires orders { machine.old.orders + 300000 ≤ 2 ^ 63 }
-    ensures is { IfOk result (λ p. p.codes ≡ printed_codes machine.old.store.words window.first window.count) }
-    ensures memory { IfErr result (λ fault. fault ≡ PmFault.Memory) }
+    ensures { IfOk result (λ p. p.codes ≡ printed_codes machine.old.store.words window.first window.count) }
 {
-    let Ok(mut paper) = Paper::new(alloc, POST_MORTEM_ROOM) else {
-        return Err(PmFault::Memory);
-    };
+    let mut paper = Paper::new(alloc, POST_MORTEM_ROOM)?;
     match post_mortem(alloc, machine, window.first, window.count, &mut paper) {
         Ok(_) => Ok(paper),
-        Err(fault) => Err(fault),
+        Err(PmFault::Memory) => Err(NoMemory),
+        Err(PmFault::InItsOwnStore | PmFault::StoreEnd | PmFault::PaperFull { .. }) => {
+            unreachable!()
+        }
     }
 }
 

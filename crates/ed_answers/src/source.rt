@@ -59,14 +59,8 @@ pub fn list(alloc: Global, settings: Settings, input: &[u8]) -> Result<Reply, Re
 pub fn linked_of(alloc: Global, size: Size, input: &[u8]) -> Result<Linked, Rejection>
     ensures { LinksSource size input.now result }
 {
-    let program = match parse(alloc, input) {
-        Ok(program) => program,
-        Err(fault) => return Err(source_rejection(alloc, &fault)),
-    };
-    match link(alloc, size, &program) {
-        Ok(linked) => Ok(linked),
-        Err(fault) => Err(source_rejection(alloc, &fault)),
-    }
+    let program = parse(alloc, input).map_err(|fault| source_rejection(alloc, &fault))?;
+    link(alloc, size, &program).map_err(|fault| source_rejection(alloc, &fault))
 }
 
 /// The rejection of a source with a fault.
@@ -168,9 +162,7 @@ fn places_of(alloc: Global, words: &[Placed]) -> Result<Vec<u16>, NoMemory>
 {
     let mut places = Vec::new(alloc);
     for placed in words {
-        if places.push(placed.place).is_err() {
-            return Err(NoMemory);
-        }
+        places.push(placed.place)?;
     }
     Ok(places)
 }

@@ -4,7 +4,7 @@ ghost use Rattle.ed_codes.specs.Reading.{HasOneReading, reading};
 ghost use Rattle.ed_codes.specs.Answer.{AnswersText, ReadsText};
 
 use crate::{Code, row_of_byte};
-use std::alloc::Global;
+use std::alloc::{AllocFailed, Global};
 use thiserror::Error;
 
 /// Why a tape text gives no rows. The message of each variant is its name.
@@ -19,6 +19,17 @@ pub enum TextFault {
     /// No memory was found for the rows.
     #[error("Memory")]
     Memory,
+}
+
+impl<T: Drop> From<AllocFailed<T>> for TextFault {
+    ghost use Rattle.std.specs.Prelude.{◌≡◌};
+    ghost use Rattle.ed_codes.specs.declared.tape.TextFault.TheVariants.{Memory};
+
+    ghost from_gives = { λ _ e. e ≡ Memory };
+
+    fn from(_failed: AllocFailed<T>) -> TextFault {
+        TextFault::Memory
+    }
 }
 
 /// Whether a byte is one of the four that spell no row and are no fault.
@@ -64,9 +75,7 @@ fn rows_of_pieces(alloc: Global, text: &[u8]) -> Result<Vec<Code>, TextFault>
         } else {
             match row_of_byte(byte) {
                 Some(code) => {
-                    if rows.push(code).is_err() {
-                        return Err(TextFault::Memory);
-                    }
+                    rows.push(code)?;
                     place += 1;
                 }
                 None => return Err(TextFault::NoRow { place, byte }),

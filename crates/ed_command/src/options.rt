@@ -26,11 +26,16 @@ impl Options<'_> {
         ensures { result ≡ settings_of (options_in self.now) }
     {
         let size = self.size()?;
+        let post_mortem = match self.post_mortems {
+            [] => None,
+            [text] => Some(window_named(text, size)?),
+            _ => return None,
+        };
         Some(Settings {
             limit: self.limit()?,
             resumes: self.resumes()?,
             size,
-            post_mortem: self.post_mortem(size)?,
+            post_mortem,
         })
     }
 
@@ -56,16 +61,6 @@ impl Options<'_> {
         }
     }
 
-    fn post_mortem(&self, size: Size) -> Option<Option<Window>>
-        ensures { result ≡ post_mortem_of size (options_in self.now) }
-    {
-        match self.post_mortems {
-            [] => Some(None),
-            [value] => given_window(value, size),
-            _ => None,
-        }
-    }
-
     /// Whether the options that are given are among these names.
     pub(crate) fn has_only(&self, names: &[&str]) -> bool
         ensures { result ≡ has_only (map (λ n. n.now) names.now) (options_in self.now) }
@@ -86,13 +81,6 @@ fn number_setting(values: &[&str], default: u32, least: u32, most: u32) -> Optio
         [value] => number_within(value.as_bytes(), least, most),
         _ => None,
     }
-}
-
-/// The window of a given `--post-mortem`.
-fn given_window(text: &str, size: Size) -> Option<Option<Window>>
-    ensures { result ≡ option_map Some (window_named size text.now) }
-{
-    Some(Some(window_named(text, size)?))
 }
 
 /// Whether an option is omitted, or its name is one of these.

@@ -1,3 +1,5 @@
+use std::alloc::AllocFailed;
+
 /// What is wrong with a tape of Initial Orders 1. If several apply at one row, the first is the fault.
 #[derive(Clone, Copy, Debug, PartialEq, Eq)]
 pub enum Tape1Cause {
@@ -23,4 +25,15 @@ pub enum Tape1Fault {
     },
     /// No memory was found.
     Memory,
+}
+
+impl<T: Drop> From<AllocFailed<T>> for Tape1Fault {
+    ghost use Rattle.std.specs.Prelude.{◌≡◌};
+    ghost use Rattle.ed_initial1.specs.declared.cause.Tape1Fault.TheVariants.{Memory};
+
+    ghost from_gives = { λ _ e. e ≡ Memory };
+
+    fn from(_failed: AllocFailed<T>) -> Tape1Fault {
+        Tape1Fault::Memory
+    }
 }

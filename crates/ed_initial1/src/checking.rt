@@ -47,9 +47,7 @@ fn read_rows(alloc: Global, rows: &[Code]) -> Result<Checked1, Tape1Fault>
                 }
                 Taken::Ended(long) => {
                     end = end_behind(first, part.number, end);
-                    let Ok(()) = words.push(word_of(&part, long)) else {
-                        return Err(Tape1Fault::Memory);
-                    };
+                    words.push(word_of(&part, long))?;
                     orders += 14;
                     if 31 + words.len() == usize::from(end) {
                         return Ok(Checked1::new(orders, row + 1, end, words));

@@ -69,9 +69,7 @@ impl MemorySink {
         requires { 0 < most }
         ensures { IfOk result (λ s. s ≡ new_page room failing.items most) }
     {
-        let Ok(bytes) = Vec::with_capacity(alloc, room) else {
-            return Err(NoMemory);
-        };
+        let bytes = Vec::with_capacity(alloc, room)?;
         Ok(MemorySink {
             bytes,
             room,

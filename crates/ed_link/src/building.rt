@@ -25,9 +25,7 @@ fn push_codes(rows: &mut Vec<Code>, codes: &[Code]) -> Result<(), NoMemory>
     ensures { OnOk result (rows.new.items ≡ rows.old.items ++ codes.now) }
 {
     for code in codes {
-        if rows.push(*code).is_err() {
-            return Err(NoMemory);
-        }
+        rows.push(*code)?;
     }
     Ok(())
 }
@@ -109,9 +107,7 @@ fn pass_line(past: &mut Past, spot: Spot, statement: &Option<Statement>) -> Resu
     ensures runs { OnOk result (past.new.runs.items ≡ past.old.runs.items ++ word_run statement.now spot ∷ []) }
     ensures entered { OnOk result (past.new.entered ≡ (past.old.entered || is_enter statement.now)) }
 {
-    if past.runs.push(run_of(statement, spot)).is_err() {
-        return Err(NoMemory);
-    }
+    past.runs.push(run_of(statement, spot))?;
     past.entered = past.entered || is_enter(statement);
     Ok(())
 }
@@ -122,9 +118,7 @@ fn nothing(alloc: Global, count: usize) -> Result<Vec<Option<Word>>, NoMemory>
 {
     let mut table = Vec::new(alloc);
     for count_so_far in 0..count {
-        if table.push(None).is_err() {
-            return Err(NoMemory);
-        }
+        table.push(None)?;
     }
     Ok(table)
 }
@@ -134,10 +128,7 @@ fn nothing(alloc: Global, count: usize) -> Result<Vec<Option<Word>>, NoMemory>
 fn empty_table(alloc: Global) -> Result<Vec<Option<Word>>, NoMemory>
     ensures { IfOk result (λ v. v.items ≡ empty_table) }
 {
-    match nothing(alloc, 1024) {
-        Ok(table) => Ok(table),
-        Err(_) => Err(NoMemory),
-    }
+    nothing(alloc, 1024)
 }
 
 /// Does nothing: its contract is what bounds the rows that a line gives.
@@ -191,9 +182,7 @@ pub(crate) fn build(
     requires { length lines.now ≤ 2000 }
     ensures { BuildIs size homes.now any lines.now result }
 {
-    let Ok(mut built) = start(alloc) else {
-        return Err(SourceFault::Memory);
-    };
+    let mut built = start(alloc)?;
     let mut past = Past {
         runs: Vec::new(alloc),
         entered: false,
@@ -210,12 +199,8 @@ pub(crate) fn build(
             None => {}
         }
         bound_rows(&line.statement);
-        let Ok(_added) = add_line(&mut built, homes, spot, &line.statement) else {
-            return Err(SourceFault::Memory);
-        };
-        let Ok(_passed) = pass_line(&mut past, spot, &line.statement) else {
-            return Err(SourceFault::Memory);
-        };
+        add_line(&mut built, homes, spot, &line.statement)?;
+        pass_line(&mut past, spot, &line.statement)?;
         spot = spot.passed(&line.statement);
     }
     Ok(built)

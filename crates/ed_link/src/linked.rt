@@ -51,10 +51,8 @@ impl Linked {
         ensures few { IfOk result (λ v. length v.items ≤ 2 ^ 22) }
     {
         let mut rows = rows_of_items(*self.items.allocator(), &self.items)?;
-        match rows.extend_from_slice(&self.after) {
-            Ok(()) => Ok(rows),
-            Err(_) => Err(NoMemory),
-        }
+        rows.extend_from_slice(&self.after)?;
+        Ok(rows)
     }
 
     /// The text of the tape: a line for each item, and a line of the rows after them, if there are any. Its rows are
@@ -90,12 +88,7 @@ fn push_rows(text: &mut Vec<u8>, rows: &[Code]) -> Result<(), NoMemory>
     ensures spells { OnOk result (Spells (line_from true rows.now) rows.now) }
 {
     for row in rows {
-        if text.push(byte_of(*row, true)).is_err() {
-            return Err(NoMemory);
-        }
+        text.push(byte_of(*row, true))?;
     }
-    match text.push(b'\n') {
-        Ok(()) => Ok(()),
-        Err(_) => Err(NoMemory),
-    }
+    Ok(text.push(b'\n')?)
 }

@@ -28,10 +28,8 @@ pub fn link(alloc: Global, size: Size, program: &Program) -> Result<Linked, Sour
     ensures law { EachSourceComes }
     ensures words { EachWordStands }
 {
-    match resolve(alloc, program) {
-        Ok(places) => link_names(alloc, size, program, places.homes(), places.fault()),
-        Err(_) => Err(SourceFault::Memory),
-    }
+    let places = resolve(alloc, program)?;
+    link_names(alloc, size, program, places.homes(), places.fault())
 }
 
 /// The same, given the definitions of the names and their first fault.
@@ -58,18 +56,13 @@ fn link_names(
         }
         Err(SourceFault::Memory) => return Err(SourceFault::Memory),
     };
-    match names {
-        Some(names) => return Err(sooner(names, missing)),
-        None => {}
+    if let Some(names) = names {
+        return Err(sooner(names, missing));
     }
-    match missing {
-        Some(missing) => return Err(missing),
-        None => {}
+    if let Some(missing) = missing {
+        return Err(missing);
     }
-    match finish(alloc, homes, built) {
-        Ok(linked) => Ok(linked),
-        Err(_) => Err(SourceFault::Memory),
-    }
+    Ok(finish(alloc, homes, built)?)
 }
 
 /// The names that a linked program reports.
@@ -83,9 +76,7 @@ fn labels_of(alloc: Global, homes: &[Home]) -> Result<Vec<LabelPlace>, NoMemory>
                 name: home.name,
                 place: home.place as u16,
             };
-            if labels.push(label).is_err() {
-                return Err(NoMemory);
-            }
+            labels.push(label)?;
         }
     }
     Ok(labels)
@@ -93,20 +84,15 @@ fn labels_of(alloc: Global, homes: &[Home]) -> Result<Vec<LabelPlace>, NoMemory>
 
 /// The linked program made from what was built of the lines.
 #[tactic(auto, using(crate::proofs::Spellable::all_spellable, crate::proofs::Bounds::tape_few))]
-fn finish(alloc: Global, homes: &[Home], built: Built) -> Result<Linked, SourceFault>
+fn finish(alloc: Global, homes: &[Home], built: Built) -> Result<Linked, NoMemory>
     requires spellable { AreSpellable built.items.items }
     requires table { length built.table.items ≡ 1024 }
     requires few_items { length built.items.items ≤ 480000 }
     requires few_rows { length built.after.items ≤ 240000 }
-    ensures linked { IfOk result (λ k. IsFinished homes.now built k) }
-    ensures memory { IfErr result (λ e. e ≡ SourceFault.Memory) }
+    ensures { IfOk result (λ k. IsFinished homes.now built k) }
 {
-    let Ok(words) = words_of(alloc, &built.table) else {
-        return Err(SourceFault::Memory);
-    };
-    let Ok(labels) = labels_of(alloc, homes) else {
-        return Err(SourceFault::Memory);
-    };
+    let words = words_of(alloc, &built.table)?;
+    let labels = labels_of(alloc, homes)?;
     Ok(Linked {
         items: built.items,
         words,

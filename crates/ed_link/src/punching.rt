@@ -30,10 +30,7 @@ fn push(items: &mut Vec<Item>, item: Item) -> Result<(), NoMemory>
     ensures items { OnOk result (items.new.items ≡ items.old.items ++ item ∷ []) }
     ensures spellable { AreSpellable items.new.items }
 {
-    match items.push(item) {
-        Ok(()) => Ok(()),
-        Err(_) => Err(NoMemory),
-    }
+    Ok(items.push(item)?)
 }
 
 /// The ending of a length.

@@ -192,9 +192,7 @@ pub(crate) fn words_of(alloc: Global, table: &[Option<Word>]) -> Result<Vec<Plac
                 place: place as u16,
                 word: *word,
             };
-            if words.push(placed).is_err() {
-                return Err(NoMemory);
-            }
+            words.push(placed)?;
         }
     }
     Ok(words)

@@ -128,9 +128,7 @@ impl Machine {
         ensures { IfOk result (λ m. m ≡ self.now) }
     {
         let store = self.store.copy()?;
-        let Ok(tape) = self.tape[self.row..].to_vec(self.alloc) else {
-            return Err(NoMemory);
-        };
+        let tape = self.tape[self.row..].to_vec(self.alloc)?;
         Ok(Machine {
             alloc: self.alloc,
             size: self.size,

@@ -28,10 +28,8 @@ impl Paper {
     pub fn new(alloc: Global, room: usize) -> Result<Paper, NoMemory>
         ensures { IfOk result (λ p. p ≡ record { codes = []; room = room }) }
     {
-        match Vec::with_capacity(alloc, room) {
-            Ok(codes) => Ok(Paper { codes, room }),
-            Err(_) => Err(NoMemory),
-        }
+        let codes = Vec::with_capacity(alloc, room)?;
+        Ok(Paper { codes, room })
     }
 
     /// Adds a code at the end if there is room, and answers whether there was.

@@ -1,3 +1,6 @@
+use ed_words::NoMemory;
+use std::alloc::AllocError;
+
 /// Why a tape is not well formed, in the order of the rules' numbers: if two rules are broken at one row, the first is
 /// reported.
 #[derive(Clone, Copy, Debug, PartialEq, Eq)]
@@ -36,4 +39,26 @@ pub enum TapeFault {
     },
     /// No memory was found.
     Memory,
+}
+
+impl From<AllocError> for TapeFault {
+    ghost use Rattle.std.specs.Prelude.{◌≡◌};
+    ghost use Rattle.ed_notation.specs.declared.cause.TapeFault.TheVariants.{Memory};
+
+    ghost from_gives = { λ _ e. e ≡ Memory };
+
+    fn from(_error: AllocError) -> TapeFault {
+        TapeFault::Memory
+    }
+}
+
+impl From<NoMemory> for TapeFault {
+    ghost use Rattle.std.specs.Prelude.{◌≡◌};
+    ghost use Rattle.ed_notation.specs.declared.cause.TapeFault.TheVariants.{Memory};
+
+    ghost from_gives = { λ _ e. e ≡ Memory };
+
+    fn from(_none: NoMemory) -> TapeFault {
+        TapeFault::Memory
+    }
 }

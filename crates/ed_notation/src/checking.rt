@@ -65,16 +65,10 @@ fn check_opened(
     ensures answers { AnswersCheck size store.now.words (opening_with directive store.now.words) base rows.now result }
     ensures bound { IfOk result (λ c. c.orders ≤ 17 * c.rows + base) }
 {
-    let Ok(mut contents) = store.copy() else {
-        return Err(TapeFault::Memory);
-    };
-    let Ok(mut placed) = vec![in alloc; false; LOCATIONS] else {
-        return Err(TapeFault::Memory);
-    };
-    match read_rows(size, &mut contents, &mut placed, directive, base, rows) {
-        Ok(reached) => Ok(Checked::new(reached, contents, placed)),
-        Err(fault) => Err(fault),
-    }
+    let mut contents = store.copy()?;
+    let mut placed = vec![in alloc; false; LOCATIONS]?;
+    let reached = read_rows(size, &mut contents, &mut placed, directive, base, rows)?;
+    Ok(Checked::new(reached, contents, placed))
 }
 
 /// Reads the rows, and places words in a copy of the store.

@@ -89,17 +89,11 @@ fn push_mark(rows: &mut Vec<Code>, mark: bool) -> Result<(), NoMemory>
 fn push_row(rows: &mut Vec<Code>, row: Code) -> Result<(), NoMemory>
     ensures { IfOk result (λ v. rows.new.items ≡ rows.old.items ++ row ∷ []) }
 {
-    match rows.push(row) {
-        Ok(()) => Ok(()),
-        Err(_) => Err(NoMemory),
-    }
+    Ok(rows.push(row)?)
 }
 
 fn push_byte(text: &mut Vec<u8>, byte: u8) -> Result<(), NoMemory>
     ensures { IfOk result (λ v. text.new.items ≡ text.old.items ++ byte ∷ []) }
 {
-    match text.push(byte) {
-        Ok(()) => Ok(()),
-        Err(_) => Err(NoMemory),
-    }
+    Ok(text.push(byte)?)
 }

@@ -11,7 +11,7 @@ ghost use Rattle.ed_parts.specs.Private.Stages.{IsArrival, Passes, stage_part};
 use crate::program::{Met, obey, run_program};
 use crate::tape::{PartsEnd, PartsFault};
 use ed_interlude::{check_rest, directive};
-use ed_io::{Failed, Sink, write_all};
+use ed_io::{Sink, write_all};
 use ed_machine::{Ending, Machine};
 use ed_notation::{Checked, TapeFault, check};
 use ed_report::{entry_text, returned_text};
@@ -119,18 +119,14 @@ fn enter_part<K: Sink>(
     }
     obey(machine, arrival.orders);
     let entered = stage.done + arrival.orders;
-    if let Err(fault) = write_line(out, entry_text(alloc, arrival.at, entered, arrival.rows)) {
-        return Err(fault);
-    }
+    write_line(out, entry_text(alloc, arrival.at, entered, arrival.rows))?;
     match run_program(machine, stage.limit - entered) {
         Met::Finished(ending) => Ok(Passed::Over(PartsEnd::Ended(ending))),
         Met::Returned { orders } => {
             let done = entered + orders;
             let address = directive(machine).order().address;
-            match write_line(out, returned_text(alloc, address, done)) {
-                Ok(()) => Ok(Passed::Back { done }),
-                Err(fault) => Err(fault),
-            }
+            write_line(out, returned_text(alloc, address, done))?;
+            Ok(Passed::Back { done })
         }
     }
 }
@@ -143,11 +139,5 @@ fn write_line<K: Sink>(out: &mut K, line: Result<Vec<u8>, NoMemory>) -> Result<(
     ensures memory { IfErr result (λ e. e ≡ PartsFault.Memory → K.held out.new ≡ K.held out.old) }
     ensures faults { K.faults out.new ≡ parts_faults result (K.faults out.old) }
 {
-    match line {
-        Ok(line) => match write_all(out, &line) {
-            Ok(()) => Ok(()),
-            Err(Failed) => Err(PartsFault::Failed),
-        },
-        Err(NoMemory) => Err(PartsFault::Memory),
-    }
+    Ok(write_all(out, &line?)?)
 }

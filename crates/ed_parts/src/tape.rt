@@ -4,9 +4,10 @@ ghost use Rattle.ed_parts.specs.Laws.{EachEndIsTheRuns, EachEntryIsReached, Each
 ghost use Rattle.ed_parts.specs.Parts.{PartsAnswer, parts_faults};
 
 use crate::part::{Passed, Stage, run_part};
-use ed_io::Sink;
+use ed_io::{Failed, Sink};
 use ed_machine::{Ending, Machine};
 use ed_notation::TapeCause;
+use ed_words::NoMemory;
 use std::alloc::Global;
 
 /// How a tape in parts ended.
@@ -32,6 +33,28 @@ pub enum PartsFault {
     Failed,
     /// No memory was found for a check or a line.
     Memory,
+}
+
+impl From<NoMemory> for PartsFault {
+    ghost use Rattle.std.specs.Prelude.{◌≡◌};
+    ghost use Rattle.ed_parts.specs.declared.tape.PartsFault.TheVariants.{Memory};
+
+    ghost from_gives = { λ _ e. e ≡ Memory };
+
+    fn from(_none: NoMemory) -> PartsFault {
+        PartsFault::Memory
+    }
+}
+
+impl From<Failed> for PartsFault {
+    ghost use Rattle.std.specs.Prelude.{◌≡◌};
+    ghost use Rattle.ed_parts.specs.declared.tape.PartsFault.TheVariants.{Failed};
+
+    ghost from_gives = { λ _ e. e ≡ Failed };
+
+    fn from(_failed: Failed) -> PartsFault {
+        PartsFault::Failed
+    }
 }
 
 /// Reads the tape of a machine at Start, whose programs may return to the Initial Orders, and writes the line of each
@@ -64,13 +87,12 @@ pub fn run_parts<K: Sink>(
             number,
             done,
         };
-        match run_part(alloc, stage, machine, out) {
-            Ok(Passed::Over(end)) => return Ok(end),
-            Ok(Passed::Back { done: now }) => {
+        match run_part(alloc, stage, machine, out)? {
+            Passed::Over(end) => return Ok(end),
+            Passed::Back { done: now } => {
                 number += 1;
                 done = now;
             }
-            Err(fault) => return Err(fault),
         }
     }
 }

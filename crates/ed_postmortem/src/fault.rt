@@ -1,3 +1,4 @@
+use ed_words::NoMemory;
 use thiserror::Error;
 
 /// Why no post-mortem was printed. The message of each variant is its name.
@@ -15,6 +16,17 @@ pub enum PmFault {
     /// No memory for the tape.
     #[error("Memory")]
     Memory,
+}
+
+impl From<NoMemory> for PmFault {
+    ghost use Rattle.std.specs.Prelude.{◌≡◌};
+    ghost use Rattle.ed_postmortem.specs.declared.fault.PmFault.TheVariants.{Memory};
+
+    ghost from_gives = { λ _ e. e ≡ Memory };
+
+    fn from(_none: NoMemory) -> PmFault {
+        PmFault::Memory
+    }
 }
 
 #[cfg(test)]

@@ -47,9 +47,7 @@ pub fn post_mortem(
     if room < needed {
         return Err(PmFault::PaperFull { needed, room });
     }
-    let Ok(rows) = tape(alloc, first, count) else {
-        return Err(PmFault::Memory);
-    };
+    let rows = tape(alloc, first, count)?;
     Ok(obey(machine, first, count, rows, paper))
 }
 

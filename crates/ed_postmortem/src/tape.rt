@@ -63,8 +63,5 @@ fn push_text(rows: &mut Vec<Code>, text: &[u8]) -> Result<(), NoMemory>
 fn push_rows(rows: &mut Vec<Code>, more: &[Code]) -> Result<(), NoMemory>
     ensures { IfOk result (λ v. rows.new.items ≡ rows.old.items ++ more.now) }
 {
-    match rows.extend_from_slice(more) {
-        Ok(()) => Ok(()),
-        Err(_) => Err(NoMemory),
-    }
+    Ok(rows.extend_from_slice(more)?)
 }

@@ -34,10 +34,8 @@ pub fn entered_text(
 {
     let mut text = entered(alloc, entry, cost)?;
     let line = ending_text(alloc, ending, machine)?;
-    match text.extend_from_slice(&line) {
-        Ok(()) => Ok(text),
-        Err(_) => Err(NoMemory),
-    }
+    text.extend_from_slice(&line)?;
+    Ok(text)
 }
 
 /// The text before the line of an ending if the program was entered.

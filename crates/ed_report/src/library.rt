@@ -17,9 +17,7 @@ pub fn library_text(alloc: Global) -> Result<Vec<u8>, NoMemory>
     let mut lines = Vec::new(alloc);
     for index in 0..catalogue_size() {
         let line = routine_line(alloc, routine(index))?;
-        if lines.extend_from_slice(&line).is_err() {
-            return Err(NoMemory);
-        }
+        lines.extend_from_slice(&line)?;
     }
     Ok(lines)
 }
@@ -30,10 +28,8 @@ fn routine_line(alloc: Global, routine: Routine) -> Result<Vec<u8>, NoMemory>
 {
     let mut line = name_and_length(alloc, routine)?;
     push_parameters(&mut line, routine)?;
-    match line.push(b'\n') {
-        Ok(()) => Ok(line),
-        Err(_) => Err(NoMemory),
-    }
+    line.push(b'\n')?;
+    Ok(line)
 }
 
 /// The name of a routine, a blank, and its number of words.
@@ -54,9 +50,7 @@ fn push_parameters(line: &mut Vec<u8>, routine: Routine) -> Result<(), NoMemory>
     let listed = letters.as_slice();
     for letter in listed {
         let text = [b' ', byte_of(*letter, false)];
-        if line.extend_from_slice(&text).is_err() {
-            return Err(NoMemory);
-        }
+        line.extend_from_slice(&text)?;
     }
     Ok(())
 }

@@ -15,9 +15,7 @@ pub fn listing(alloc: Global, store: &Store, places: &[u16]) -> Result<Vec<u8>, 
     let mut lines = Vec::new(alloc);
     for place in places {
         let line = listing_line(alloc, store, *place)?;
-        if lines.extend_from_slice(&line).is_err() {
-            return Err(NoMemory);
-        }
+        lines.extend_from_slice(&line)?;
     }
     Ok(lines)
 }

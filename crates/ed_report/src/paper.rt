@@ -36,9 +36,7 @@ fn strike_all(printer: &mut Printer, bytes: &mut Vec<u8>, codes: &[Code]) -> Res
         ≡ bytes.new.items ++ paper_from printer.new rest) }
 {
     for code in codes {
-        if printer.print(*code, bytes).is_err() {
-            return Err(NoMemory);
-        }
+        printer.print(*code, bytes)?;
     }
     Ok(())
 }

@@ -7,8 +7,5 @@ use std::alloc::AllocError;
 pub fn bytes_of_text(text: Result<String, AllocError>) -> Result<Vec<u8>, NoMemory>
     ensures { IfOk result (λ bytes. IsOkAnd text (λ s. bytes.items ≡ string_bytes s)) }
 {
-    match text {
-        Ok(text) => Ok(text.into_bytes()),
-        Err(_) => Err(NoMemory),
-    }
+    Ok(text?.into_bytes())
 }

@@ -30,8 +30,5 @@ pub fn trace_text(alloc: Global, functions: &[Code]) -> Result<Vec<u8>, NoMemory
 fn add(text: &mut Vec<u8>, byte: u8) -> Result<(), NoMemory>
     ensures { IfOk result (λ _. text.new.items ≡ text.old.items ++ byte ∷ []) }
 {
-    match text.push(byte) {
-        Ok(()) => Ok(()),
-        Err(_) => Err(NoMemory),
-    }
+    Ok(text.push(byte)?)
 }

@@ -9,6 +9,12 @@ use Rattle.ed_stepper.specs.Sessions.{Stand}
 use Rattle.ed_stepper.specs.Private.CommandReading.{bad_from, bad_line, commands_of, line_commands, session_command}
 use Rattle.ed_stepper.specs.Scripts.{GoesTooFar, LeftBy, Played, TooFar, left_by}
 use Rattle.ed_stepper.specs.Scripts.{behind, is_too_far, play, writes}
+use Rattle.std.specs.Prelude.{Err}
+use Rattle.ed_stepper.specs.ScriptLines.{IsScript}
+use Rattle.ed_stepper.specs.Scripts.{ScriptEnds}
+use Rattle.ed_stepper.specs.Private.Lines.{LineEnds, fault_on}
+use Rattle.ed_stepper.specs.declared.moves.BackFault.{BackFault}
+use Rattle.ed_stepper.specs.declared.moves.BackFault.TheVariants as back
 use Rattle.ed_stepper.specs.declared.commands.Command.{Command}
 use Rattle.ed_stepper.specs.declared.commands.Command.TheVariants.{Nothing}
 
@@ -171,3 +177,9 @@ module _ {script : Text} {s : Stand} {line : ℕ} {rest text : Text} {t : Stand}
       playing_memory (inl same) = subst (λ x. LeftBy (commands_of script) s x) (sym same) (playing_left p)
       playing_memory (inr does) =
           playing_left (playing_next {grown = text ++ writes c t} {written = writes c t} (does.0, refl, does.1) refl)
+
+      -- it has a fault
+      pub playing_fault : IsScript script (commands_of script) → (e : BackFault) (u : Stand) → LineEnds c t (Err e) u
+          → ScriptEnds script s (Err (fault_on line e)) u
+      playing_fault good_is (back.TooFar done) u does = (commands_of script, good_is, playing_far does)
+      playing_fault good_is back.Memory u does = (commands_of script, good_is, playing_memory does)

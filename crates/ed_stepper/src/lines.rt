@@ -30,21 +30,10 @@ pub(crate) fn carry_out(
         Command::Move(aim) => move_on(alloc, session, aim),
         Command::Back(orders) => move_back(alloc, session, orders),
         Command::Trace(orders) => trace(alloc, session, orders),
-        Command::Show(first, last) => or_memory(show(alloc, session.machine(), first, last)),
-        Command::Accumulator => or_memory(accumulator(alloc, session.machine())),
-        Command::Multiplier => or_memory(multiplier(alloc, session.machine())),
-        Command::LastPrinted => or_memory(last_printed(alloc, session.machine())),
-    }
-}
-
-/// A text, or that no memory was found.
-fn or_memory(text: Result<Vec<u8>, NoMemory>) -> Result<Vec<u8>, BackFault>
-    ensures is { IfOk result (λ bytes. text ≡ Ok bytes) }
-    ensures memory { IfErr result (λ fault. fault ≡ BackFault.Memory) }
-{
-    match text {
-        Ok(bytes) => Ok(bytes),
-        Err(_) => Err(BackFault::Memory),
+        Command::Show(first, last) => Ok(show(alloc, session.machine(), first, last)?),
+        Command::Accumulator => Ok(accumulator(alloc, session.machine())?),
+        Command::Multiplier => Ok(multiplier(alloc, session.machine())?),
+        Command::LastPrinted => Ok(last_printed(alloc, session.machine())?),
     }
 }
 
@@ -53,17 +42,15 @@ fn move_on(alloc: Global, session: &mut Session, aim: Aim) -> Result<Vec<u8>, Ba
     ensures { LineEnds (Command.Move aim) session.old result session.new }
 {
     let moved = session.advance(aim);
-    or_memory(move_line(alloc, moved))
+    Ok(move_line(alloc, moved)?)
 }
 
 /// Moves back, and writes the line of the move.
 fn move_back(alloc: Global, session: &mut Session, orders: u32) -> Result<Vec<u8>, BackFault>
     ensures { LineEnds (Command.Back orders) session.old result session.new }
 {
-    match session.back(u64::from(orders)) {
-        Ok(moved) => or_memory(move_line(alloc, moved)),
-        Err(fault) => Err(fault),
-    }
+    let moved = session.back(u64::from(orders))?;
+    Ok(move_line(alloc, moved)?)
 }
 
 /// Moves forward, and writes the letter of each order obeyed and the line of the move.
@@ -71,19 +58,11 @@ fn trace(alloc: Global, session: &mut Session, orders: u32) -> Result<Vec<u8>, B
     requires { orders ≤ 10000 }
     ensures { LineEnds (Command.Trace orders) session.old result session.new }
 {
-    let Ok(traced) = session.trace(u64::from(orders)) else {
-        return Err(BackFault::Memory);
-    };
-    let Ok(mut text) = trace_text(alloc, &traced.functions) else {
-        return Err(BackFault::Memory);
-    };
-    let Ok(line) = move_line(alloc, traced.moved) else {
-        return Err(BackFault::Memory);
-    };
-    match text.extend_from_slice(&line) {
-        Ok(()) => Ok(text),
-        Err(_) => Err(BackFault::Memory),
-    }
+    let traced = session.trace(u64::from(orders))?;
+    let mut text = trace_text(alloc, &traced.functions)?;
+    let line = move_line(alloc, traced.moved)?;
+    text.extend_from_slice(&line)?;
+    Ok(text)
 }
 
 /// The line that reports a move.
@@ -117,9 +96,7 @@ fn show(alloc: Global, machine: &Machine, first: u16, last: u16) -> Result<Vec<u
     requires within { last ≤ 1023 }
     ensures { IfOk result (λ bytes. bytes.items ≡ listing machine.now.store (range_with_len first (last + 1 - first))) }
 {
-    let Ok(places) = places(alloc, first, last) else {
-        return Err(NoMemory);
-    };
+    let places = places(alloc, first, last)?;
     listing(alloc, machine.store(), &places)
 }
 

@@ -1,3 +1,6 @@
+use ed_words::NoMemory;
+use std::alloc::AllocError;
+
 /// How a move of a session ended.
 #[derive(Clone, Copy, Debug, PartialEq, Eq)]
 pub enum MoveEnd {
@@ -51,4 +54,26 @@ pub enum BackFault {
     },
     /// No memory was found for a copy of the machine.
     Memory,
+}
+
+impl From<NoMemory> for BackFault {
+    ghost use Rattle.std.specs.Prelude.{◌≡◌};
+    ghost use Rattle.ed_stepper.specs.declared.moves.BackFault.TheVariants.{Memory};
+
+    ghost from_gives = { λ _ e. e ≡ Memory };
+
+    fn from(_none: NoMemory) -> BackFault {
+        BackFault::Memory
+    }
+}
+
+impl From<AllocError> for BackFault {
+    ghost use Rattle.std.specs.Prelude.{◌≡◌};
+    ghost use Rattle.ed_stepper.specs.declared.moves.BackFault.TheVariants.{Memory};
+
+    ghost from_gives = { λ _ e. e ≡ Memory };
+
+    fn from(_error: AllocError) -> BackFault {
+        BackFault::Memory
+    }
 }

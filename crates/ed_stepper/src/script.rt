@@ -1,13 +1,15 @@
 //! Scripts: lines that move a session and show its state.
 ghost use Rattle.ed_stepper.specs.ScriptLines.{EachScriptHasOneMeaning, HasBadLine};
 ghost use Rattle.ed_stepper.specs.Scripts.{ScriptEnds};
+ghost use Rattle.ed_stepper.specs.Private.Lines.{fault_on};
+ghost use Rattle.std.specs.Prelude.{◌≡◌};
 
 use crate::commands::command_of;
 use crate::fronts::first_line;
 use crate::lines::carry_out;
 use crate::moves::BackFault;
 use crate::session::Session;
-use std::alloc::Global;
+use std::alloc::{AllocError, Global};
 
 /// The first invalid line; every line after 1000 is invalid.
 const TOO_MANY: u32 = 1001;
@@ -29,6 +31,29 @@ pub enum ScriptFault {
     },
     /// No memory was found. The lines before some line have run.
     Memory,
+}
+
+impl From<AllocError> for ScriptFault {
+    ghost use Rattle.std.specs.Prelude.{◌≡◌};
+    ghost use Rattle.ed_stepper.specs.declared.script.ScriptFault.TheVariants.{Memory};
+
+    ghost from_gives = { λ _ e. e ≡ Memory };
+
+    fn from(_error: AllocError) -> ScriptFault {
+        ScriptFault::Memory
+    }
+}
+
+impl BackFault {
+    /// The fault of a script whose line goes back.
+    fn on_line(self, line: u32) -> ScriptFault
+        ensures { result ≡ fault_on line self }
+    {
+        match self {
+            BackFault::TooFar { done } => ScriptFault::BackTooFar { line, done },
+            BackFault::Memory => ScriptFault::Memory,
+        }
+    }
 }
 
 /// The first bad line, counted from 1: it says no command, or it is line 1001.
@@ -70,15 +95,8 @@ pub fn run_script(
     while !rest.is_empty() {
         let (bytes, after) = first_line(rest);
         let command = command_of(bytes).unwrap();
-        match carry_out(alloc, session, command) {
-            Ok(written) => {
-                if text.extend_from_slice(&written).is_err() {
-                    return Err(ScriptFault::Memory);
-                }
-            }
-            Err(BackFault::TooFar { done }) => return Err(ScriptFault::BackTooFar { line, done }),
-            Err(BackFault::Memory) => return Err(ScriptFault::Memory),
-        }
+        let written = carry_out(alloc, session, command).map_err(|fault| fault.on_line(line))?;
+        text.extend_from_slice(&written)?;
         line += 1;
         rest = after;
     }

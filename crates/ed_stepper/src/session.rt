@@ -47,6 +47,12 @@ pub enum NewFault {
     Memory(Machine),
 }
 
+impl From<NewFault> for NoMemory {
+    fn from(_fault: NewFault) -> NoMemory {
+        NoMemory
+    }
+}
+
 /// The functions of the orders that a move obeyed.
 #[derive(Drop)]
 pub struct Traced {
@@ -114,12 +120,8 @@ impl Session {
             × (t.functions.items ≡ functions_after (t.moved.done - self.old.done) (stands_at self.old)))
             (λ _. self.new ≡ self.old) }
     {
-        let Ok(mut functions) = Vec::with_capacity(self.alloc, n as usize) else {
-            return Err(NoMemory);
-        };
-        let Ok(mut machine) = self.machine.copy() else {
-            return Err(NoMemory);
-        };
+        let mut functions = Vec::with_capacity(self.alloc, n as usize)?;
+        let mut machine = self.machine.copy()?;
         let before = self.done;
         let moved = self.go(n);
         list_functions(&mut machine, moved.done - before, &mut functions);
@@ -134,18 +136,13 @@ impl Session {
             return Err(BackFault::TooFar { done: self.done });
         }
         let done = self.done - n;
-        match self.again(done) {
-            Ok(machine) => {
-                self.machine = machine;
-                self.done = done;
-                Ok(Moved {
-                    at: self.machine.counter(),
-                    done,
-                    end: MoveEnd::Back,
-                })
-            }
-            Err(_) => Err(BackFault::Memory),
-        }
+        self.machine = self.again(done)?;
+        self.done = done;
+        Ok(Moved {
+            at: self.machine.counter(),
+            done,
+            end: MoveEnd::Back,
+        })
     }
 
     /// Moves forward until an end comes.

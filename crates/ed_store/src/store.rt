@@ -41,9 +41,7 @@ impl Store {
     pub fn copy(&self) -> Result<Store, NoMemory>
         ensures { IfOk result (λ s. s ≡ self.now) }
     {
-        let Ok(cells) = self.cells.as_slice().to_vec(self.alloc) else {
-            return Err(NoMemory);
-        };
+        let cells = self.cells.as_slice().to_vec(self.alloc)?;
         Ok(Store {
             alloc: self.alloc,
             cells,
@@ -126,10 +124,7 @@ impl Store {
 fn cleared_cells(alloc: Global) -> Result<Vec<u64>, NoMemory>
     ensures { IfOk result (λ v. v.items ≡ replicate 512 0) }
 {
-    match vec![in alloc; 0u64; PAIRS] {
-        Ok(cells) => Ok(cells),
-        Err(_) => Err(NoMemory),
-    }
+    Ok(vec![in alloc; 0u64; PAIRS]?)
 }
 
 fn same_cells(xs: &[u64], ys: &[u64]) -> bool

@@ -126,9 +126,7 @@ fn add(homes: &mut Vec<Home>, home: Option<Home>) -> Result<bool, NoMemory>
     match home {
         Some(home) => {
             let again = find_home(homes, home.segment, &home.name).is_some();
-            if homes.push(home).is_err() {
-                return Err(NoMemory);
-            }
+            homes.push(home)?;
             Ok(again)
         }
         None => Ok(false),

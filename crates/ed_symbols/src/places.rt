@@ -39,9 +39,7 @@ fn resolve_places(alloc: Global, program: &Program) -> Result<(Vec<Standing>, Ve
     let mut homes = Vec::new(alloc);
     let mut spot = Spot::first();
     for line in &program.lines {
-        if standings.push(standing_of(line, spot)).is_err() {
-            return Err(NoMemory);
-        }
+        standings.push(standing_of(line, spot))?;
         let _ = add_line(&mut homes, line, spot)?;
         spot = spot.passed(&line.statement);
     }

@@ -1,3 +1,4 @@
+pub mod Faults
 pub mod FitLaws
 pub mod FormExamples
 pub mod FormLaws

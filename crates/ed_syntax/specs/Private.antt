@@ -6,5 +6,6 @@ pub mod PartFronts
 pub mod LineFronts
 pub mod PartReading
 pub mod Grammar
+pub mod Found
 pub mod SourceReading
 pub mod Answers

@@ -10,6 +10,13 @@ use Rattle.ed_syntax.specs.declared.program.Setting.{Setting}
 use Rattle.ed_syntax.specs.declared.program.Statement.{Statement}
 use Rattle.ed_syntax.specs.declared.program.Statement.TheVariants as statements
 use Rattle.ed_syntax.specs.declared.program.Line.{Line}
+use Rattle.ed_syntax.specs.declared.version.Version.{Version}
+use Rattle.ed_syntax.specs.declared.version.Version.TheVariants.{One, Two}
+
+-- whether a version is the second
+abbrev pub is_second : Version → Bool
+is_second One = false
+is_second Two = true
 
 -- an operand: a number up to 32767, a name plus -1023 to 1023, or in version 2 two names
 abbrev pub is_operand : Bool → Operand → Bool

@@ -1,3 +1,6 @@
+use ed_words::NoMemory;
+use std::alloc::AllocFailed;
+
 /// Why a source is refused. S1 to S5 are faults of form; the others are faults of meaning, found by the crates above.
 #[derive(Clone, Copy, Debug, PartialEq, Eq)]
 pub enum SourceCause {
@@ -44,4 +47,35 @@ pub enum SourceFault {
     At { line: u32, cause: SourceCause },
     /// No memory was found.
     Memory,
+}
+
+impl From<NoMemory> for SourceFault {
+    ghost use Rattle.std.specs.Prelude.{◌≡◌};
+    ghost use Rattle.ed_syntax.specs.declared.fault.SourceFault.TheVariants.{Memory};
+
+    ghost from_gives = { λ _ e. e ≡ Memory };
+
+    fn from(_none: NoMemory) -> SourceFault {
+        SourceFault::Memory
+    }
+}
+
+impl<T: Drop> From<AllocFailed<T>> for SourceFault {
+    ghost use Rattle.std.specs.Prelude.{◌≡◌};
+    ghost use Rattle.ed_syntax.specs.declared.fault.SourceFault.TheVariants.{Memory};
+
+    ghost from_gives = { λ _ e. e ≡ Memory };
+
+    fn from(_failed: AllocFailed<T>) -> SourceFault {
+        SourceFault::Memory
+    }
+}
+
+/// Why parts don't say what is looked for in them.
+#[derive(Clone, Copy)]
+pub(crate) enum FormFault {
+    /// They don't have its form.
+    NotThisForm,
+    /// They have its form, and a number is out of its range.
+    OutOfRange,
 }

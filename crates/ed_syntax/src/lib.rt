@@ -14,8 +14,10 @@ mod program;
 mod source;
 mod statements;
 mod terms;
+mod version;
 
 pub use fault::{SourceCause, SourceFault};
 pub use name::Name;
 pub use program::{Line, Operand, Program, Setting, Statement};
 pub use source::parse;
+pub use version::Version;

@@ -1,32 +1,38 @@
 //! Operands and settings.
-ghost use Rattle.std.specs.Prelude.{◌≡◌, ◌+◌, ◌≤◌, ◌∷◌, ◌==◌, ◌<◌, ◌^◌, length, map, option_map, IfSome};
+ghost use Rattle.std.specs.Prelude.{◌≡◌, ◌+◌, ◌≤◌, ◌∷◌, ◌==◌, ◌<◌, ◌^◌, length, map, option_map, IfErr, IfOk, Some};
+ghost use Rattle.std.specs.Option.{ok_or};
+ghost use Rattle.std.specs.Result.{result_ok};
 ghost use Rattle.std.specs.Borrow.{Bor};
 ghost use Rattle.std.specs.List.{list_any};
-ghost use Rattle.ed_syntax.specs.Private.Grammar.{and_more, both, joined_operand, operand, with_settings, setting};
+ghost use Rattle.ed_syntax.specs.Private.Grammar.{and_more, both, joined_operand, made, operand, with_settings, setting};
+ghost use Rattle.ed_syntax.specs.Private.Found.{answered, front};
+ghost use Rattle.ed_syntax.specs.Programs.{is_second};
 ghost use Rattle.ed_syntax.specs.Parts.{array};
 ghost use Rattle.ed_syntax.specs.Parts.{setting_letter, with_sign};
 ghost use Rattle.ed_syntax.specs.Private.Grammar.{settings, single};
 ghost use Rattle.ed_syntax.specs.Parts.{sign};
 ghost use Rattle.ed_syntax.specs.Private.Seen.{part};
 
+use crate::fault::FormFault;
 use crate::parts::Part;
 use crate::terms::{is, is_number, place_name, up_to};
-use crate::{Operand, Setting};
+use crate::{Operand, Setting, Version};
 use arrayvec::ArrayVec;
 use ed_codes::{Code, row_of_byte};
 
-/// An operand that is a number or a name.
-fn single(two: bool, run: &[u8]) -> Option<Option<Operand>>
-    ensures { result ≡ single two run.now }
+/// An operand that is a number or a name: none where the number is out of its range.
+fn single(version: Version, run: &[u8]) -> Result<Option<Operand>, FormFault>
+    ensures is { result_ok result ≡ single (is_second version) run.now }
+    ensures fault { IfErr result (λ e. e ≡ FormFault.NotThisForm) }
 {
     if is_number(run) {
         return match up_to(32767, run) {
-            Some(number) => Some(Some(Operand::Number(number as u16))),
-            None => Some(None),
+            Some(number) => Ok(Some(Operand::Number(number as u16))),
+            None => Ok(None),
         };
     }
-    let name = place_name(two, run)?;
-    Some(Some(Operand::Label { name, plus: 0 }))
+    let name = place_name(version, run)?;
+    Ok(Some(Operand::Label { name, plus: 0 }))
 }
 
 /// A number after a sign.
@@ -41,38 +47,41 @@ fn signed(minus: bool, number: u64) -> i32
     }
 }
 
-/// An operand that is a name, a sign, and a number or in version 2 a name.
-fn joined(two: bool, run: &[u8], sign: u8, more: &[u8]) -> Option<Option<Operand>>
-    ensures { result ≡ joined_operand two run.now sign more.now }
+/// An operand that is a name, a sign, and a number or in version 2 a name: none where the number is out of its range.
+fn joined(version: Version, run: &[u8], sign: u8, more: &[u8]) -> Result<Option<Operand>, FormFault>
+    ensures is { result_ok result ≡ joined_operand (is_second version) run.now sign more.now }
+    ensures fault { IfErr result (λ e. e ≡ FormFault.NotThisForm) }
 {
-    let first = place_name(two, run)?;
+    let first = place_name(version, run)?;
     let minus = sign == b'-';
     if is_number(more) {
         return match up_to(1023, more) {
-            Some(number) => Some(Some(Operand::Label {
+            Some(number) => Ok(Some(Operand::Label {
                 name: first,
                 plus: signed(minus, number),
             })),
-            None => Some(None),
+            None => Ok(None),
         };
     }
-    if !two {
-        return None;
+    if !version.is_two() {
+        return Err(FormFault::NotThisForm);
     }
-    let second = place_name(two, more)?;
-    Some(Some(Operand::Two {
+    let second = place_name(version, more)?;
+    Ok(Some(Operand::Two {
         first,
         second,
         minus,
     }))
 }
 
-/// An operand at the front, and the parts after it.
+/// An operand at the front, and the parts behind it. A number out of its range is no fault as long as these parts may
+/// have no form.
 pub(crate) fn operand<'a, 'p>(
-    two: bool,
+    version: Version,
     parts: &'p [Part<'a>],
-) -> Option<(Option<Operand>, &'p [Part<'a>])>
-    ensures { option_map (λ p. (p.0, map part p.1.now)) result ≡ operand two (map part parts.entry.now) }
+) -> Result<(Option<Operand>, &'p [Part<'a>]), FormFault>
+    ensures is { front result ≡ operand (is_second version) (map part parts.entry.now) }
+    ensures fault { IfErr result (λ e. e ≡ FormFault.NotThisForm) }
 {
     match parts {
         [
@@ -80,50 +89,58 @@ pub(crate) fn operand<'a, 'p>(
             Part::Sign(sign @ (b'+' | b'-')),
             Part::Run(more),
             rest @ ..,
-        ] => Some((joined(two, run, *sign, more)?, rest)),
-        [Part::Run(_), Part::Sign(b'+' | b'-'), ..] => None,
-        [Part::Run(run), rest @ ..] => Some((single(two, run)?, rest)),
-        _ => None,
+        ] => Ok((joined(version, run, *sign, more)?, rest)),
+        [Part::Run(_), Part::Sign(b'+' | b'-'), ..] => Err(FormFault::NotThisForm),
+        [Part::Run(run), rest @ ..] => Ok((single(version, run)?, rest)),
+        _ => Err(FormFault::NotThisForm),
     }
 }
 
 /// The letter of a setting, as its code.
-fn setting_letter(byte: u8) -> Option<Code>
-    ensures { result ≡ setting_letter byte }
+fn setting_letter(byte: u8) -> Result<Code, FormFault>
+    ensures is { result_ok result ≡ setting_letter byte }
+    ensures fault { IfErr result (λ e. e ≡ FormFault.NotThisForm) }
 {
     match byte {
-        b'H' | b'N' | b'M' | b'&' | b'L' | b'X' => row_of_byte(byte),
-        _ => None,
+        b'H' | b'N' | b'M' | b'&' | b'L' | b'X' => {
+            row_of_byte(byte).ok_or(FormFault::NotThisForm)
+        }
+        _ => Err(FormFault::NotThisForm),
     }
 }
 
 /// A setting at the front, and the parts after it.
-fn setting<'a, 'p>(two: bool, parts: &'p [Part<'a>]) -> Option<(Option<Setting>, &'p [Part<'a>])>
-    ensures { option_map (λ p. (p.0, map part p.1.now)) result ≡ setting two (map part parts.entry.now) }
+fn setting<'a, 'p>(
+    version: Version,
+    parts: &'p [Part<'a>],
+) -> Result<(Option<Setting>, &'p [Part<'a>]), FormFault>
+    ensures is { front result ≡ setting (is_second version) (map part parts.entry.now) }
+    ensures fault { IfErr result (λ e. e ≡ FormFault.NotThisForm) }
 {
     match parts.split_first() {
-        Some((Part::Sign(byte), rest)) => setting_of_letter(two, *byte, rest),
-        _ => None,
+        Some((Part::Sign(byte), rest)) => setting_of_letter(version, *byte, rest),
+        _ => Err(FormFault::NotThisForm),
     }
 }
 
 /// What follows the letter of a setting, and the parts after it.
 fn setting_of_letter<'a, 'p>(
-    two: bool,
+    version: Version,
     byte: u8,
     parts: &'p [Part<'a>],
-) -> Option<(Option<Setting>, &'p [Part<'a>])>
-    ensures { option_map (λ p. (p.0, map part p.1.now)) result ≡ setting two (sign byte ∷ map part parts.entry.now) }
+) -> Result<(Option<Setting>, &'p [Part<'a>]), FormFault>
+    ensures is { front result ≡ setting (is_second version) (sign byte ∷ map part parts.entry.now) }
+    ensures fault { IfErr result (λ e. e ≡ FormFault.NotThisForm) }
 {
     match parts.split_first() {
         Some((Part::Sign(equals), rest)) if *equals == b'=' => {
             let letter = setting_letter(byte)?;
-            match operand(two, rest) {
-                Some((operand, rest)) => Some((with_letter(letter, operand), rest)),
-                None => None,
+            match operand(version, rest) {
+                Ok((operand, rest)) => Ok((with_letter(letter, operand), rest)),
+                Err(_) => Err(FormFault::NotThisForm),
             }
         }
-        _ => None,
+        _ => Err(FormFault::NotThisForm),
     }
 }
 
@@ -139,64 +156,65 @@ fn with_letter(letter: Code, operand: Option<Operand>) -> Option<Setting>
 
 /// One to `most` settings with commas between.
 #[cycle(settings)]
-fn settings(two: bool, most: u8, parts: &[Part]) -> Option<Option<ArrayVec<Setting, 6>>>
+fn settings(version: Version, most: u8, parts: &[Part]) -> Result<ArrayVec<Setting, 6>, FormFault>
     requires { most ≤ 6 }
-    ensures is { result ≡ option_map (option_map array) (settings two most (map part parts.now)) }
-    ensures few { IfSome result (λ r. IfSome r (λ ss. length ss.items ≤ most)) }
+    ensures is { result ≡ answered (made array (settings (is_second version) most (map part parts.now))) }
+    ensures few { IfOk result (λ ss. length ss.items ≤ most) }
 {
     if most == 0 {
-        return None;
+        return Err(FormFault::NotThisForm);
     }
-    match setting(two, parts) {
-        Some((setting, rest)) => and_more(two, setting, most - 1, rest),
-        None => None,
+    match setting(version, parts) {
+        Ok((setting, rest)) => and_more(version, setting, most - 1, rest),
+        Err(_) => Err(FormFault::NotThisForm),
     }
 }
 
 /// A setting, and up to `most` more after a comma.
 #[cycle(settings)]
 fn and_more(
-    two: bool,
+    version: Version,
     setting: Option<Setting>,
     most: u8,
     parts: &[Part],
-) -> Option<Option<ArrayVec<Setting, 6>>>
+) -> Result<ArrayVec<Setting, 6>, FormFault>
     requires { most ≤ 5 }
-    ensures is { result ≡ option_map (option_map array) (and_more setting (map part parts.now) (settings two most)) }
-    ensures few { IfSome result (λ r. IfSome r (λ ss. length ss.items ≤ most + 1)) }
+    ensures is { result ≡ answered
+        (made array (and_more setting (map part parts.now) (settings (is_second version) most))) }
+    ensures few { IfOk result (λ ss. length ss.items ≤ most + 1) }
 {
     match parts.split_first() {
-        None => Some(both(setting, Some(ArrayVec::new()))),
-        Some((Part::Sign(b','), rest)) => match settings(two, most, rest) {
-            Some(more) => Some(both(setting, more)),
-            None => None,
-        },
-        _ => None,
+        None => both(setting, ArrayVec::new()),
+        Some((Part::Sign(b','), rest)) => {
+            let more = settings(version, most, rest)?;
+            both(setting, more)
+        }
+        _ => Err(FormFault::NotThisForm),
     }
 }
 
-/// A setting before others, if all are in their ranges.
+/// A setting in front of others, where it is in its range.
 fn both(
     setting: Option<Setting>,
-    more: Option<ArrayVec<Setting, 6>>,
-) -> Option<ArrayVec<Setting, 6>>
-    requires { IfSome more (λ ss. length ss.items ≤ 5) }
-    ensures is { result ≡ option_map array (both setting (option_map (λ ss. ss.items) more)) }
-    ensures few { IfSome result (λ r. IfSome more (λ ss. length r.items ≡ length ss.items + 1)) }
+    more: ArrayVec<Setting, 6>,
+) -> Result<ArrayVec<Setting, 6>, FormFault>
+    requires { length more.items ≤ 5 }
+    ensures is { result ≡ ok_or (option_map array (both setting (Some more.items))) FormFault.OutOfRange }
+    ensures few { IfOk result (λ r. length r.items ≡ length more.items + 1) }
 {
-    let setting = setting?;
-    let mut settings = more?;
+    let setting = setting.ok_or(FormFault::OutOfRange)?;
+    let mut settings = more;
     settings.insert(0, setting);
-    Some(settings)
+    Ok(settings)
 }
 
 /// Nothing, or `with` and one to six settings.
-pub(crate) fn preset(two: bool, parts: &[Part]) -> Option<Option<ArrayVec<Setting, 6>>>
-    ensures { result ≡ option_map (option_map array) (with_settings two (map part parts.now)) }
+pub(crate) fn preset(version: Version, parts: &[Part]) -> Result<ArrayVec<Setting, 6>, FormFault>
+    ensures { result ≡ answered (made array (with_settings (is_second version) (map part parts.now))) }
 {
     match parts.split_first() {
-        None => Some(Some(ArrayVec::new())),
-        Some((Part::Run(word), rest)) if is(word, b"with") => settings(two, 6, rest),
-        _ => None,
+        None => Ok(ArrayVec::new()),
+        Some((Part::Run(word), rest)) if is(word, b"with") => settings(version, 6, rest),
+        _ => Err(FormFault::NotThisForm),
     }
 }

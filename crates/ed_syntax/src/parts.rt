@@ -7,7 +7,7 @@ ghost use Rattle.ed_syntax.specs.Private.Seen.{part};
 ghost use Rattle.ed_syntax.specs.Private.PartFronts.{SplitsRun, SplitsQuote, Takes, begins_blank};
 ghost use Rattle.ed_syntax.specs.Parts.{has_quote};
 
-use std::alloc::Global;
+use std::alloc::{AllocFailed, Global};
 
 /// A part of a line.
 #[derive(Clone, Copy)]
@@ -29,6 +29,28 @@ pub(crate) struct OpenQuote;
 pub(crate) enum PartsFault {
     OpenQuote,
     Memory,
+}
+
+impl From<OpenQuote> for PartsFault {
+    ghost use Rattle.std.specs.Prelude.{◌≡◌};
+    ghost use Rattle.ed_syntax.specs.declared.parts.PartsFault.TheVariants.{OpenQuote};
+
+    ghost from_gives = { λ _ e. e ≡ OpenQuote };
+
+    fn from(_open: OpenQuote) -> PartsFault {
+        PartsFault::OpenQuote
+    }
+}
+
+impl<T: Drop> From<AllocFailed<T>> for PartsFault {
+    ghost use Rattle.std.specs.Prelude.{◌≡◌};
+    ghost use Rattle.ed_syntax.specs.declared.parts.PartsFault.TheVariants.{Memory};
+
+    ghost from_gives = { λ _ e. e ≡ Memory };
+
+    fn from(_failed: AllocFailed<T>) -> PartsFault {
+        PartsFault::Memory
+    }
 }
 
 /// Whether a byte belongs to a run of lower-case letters, digits and `_`.
@@ -138,16 +160,9 @@ pub(crate) fn parts_of<'a>(alloc: Global, line: &'a [u8]) -> Result<Vec<Part<'a>
 {
     let mut parts = Vec::new(alloc);
     let mut rest = line;
-    loop {
-        match next_part(rest) {
-            Ok(Some((part, after))) => {
-                if parts.push(part).is_err() {
-                    return Err(PartsFault::Memory);
-                }
-                rest = after;
-            }
-            Ok(None) => return Ok(parts),
-            Err(OpenQuote) => return Err(PartsFault::OpenQuote),
-        }
+    while let Some((part, after)) = next_part(rest)? {
+        parts.push(part)?;
+        rest = after;
     }
+    Ok(parts)
 }

@@ -105,6 +105,19 @@ pub(crate) struct Form {
     pub(crate) statement: Option<Statement>,
 }
 
+impl Form {
+    /// The line that says it, with its number.
+    pub(crate) fn line(self, number: u32) -> Line
+        ensures { result ≡ record { number = number; label = self.label; statement = self.statement } }
+    {
+        Line {
+            number,
+            label: self.label,
+            statement: self.statement,
+        }
+    }
+}
+
 /// A source: its version, 1 or 2, and its lines, which have forms of the version's grammar.
 #[derive(Drop)]
 pub struct Program {

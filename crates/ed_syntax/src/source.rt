@@ -1,7 +1,8 @@
 //! The lines of a source, one after the other.
 ghost use Rattle.std.specs.Prelude.{◌≡◌, ◌==◌, ◌≤◌, ◌<◌, if◌then◌else◌, length, IfErr, IfOk, Ok};
 ghost use Rattle.std.specs.List.{list_all};
-ghost use Rattle.ed_syntax.specs.Private.Answers.{IsFaultOf, LineIs, LinesAre};
+ghost use Rattle.ed_syntax.specs.Private.Answers.{IsFaultOf, LineIs, LinesAre, fault_at};
+ghost use Rattle.ed_syntax.specs.Programs.{is_second};
 ghost use Rattle.ed_syntax.specs.Private.LineFronts.{TakesLine};
 ghost use Rattle.ed_syntax.specs.Lines.{without_return};
 ghost use Rattle.ed_syntax.specs.Lines.{lines_of};
@@ -10,10 +11,12 @@ ghost use Rattle.ed_syntax.specs.Sources.{HasFormFault, HasOneMeaning, IsProgram
 ghost use Rattle.ed_syntax.specs.Parts.{is_line_byte};
 ghost use Rattle.ed_syntax.specs.Private.SourceReading.{is_two, line_of, lines_from, or_cause, program_of, version_of};
 
+use crate::fault::FormFault;
 use crate::parts::{PartsFault, parts_of};
 use crate::program::Form;
 use crate::statements::{form_at, is_version_two};
-use crate::{Line, Program, SourceCause, SourceFault};
+use crate::{Line, Program, SourceCause, SourceFault, Version};
+use ed_words::NoMemory;
 use std::alloc::Global;
 
 /// Why a line has no form.
@@ -21,6 +24,46 @@ use std::alloc::Global;
 pub(crate) enum LineFault {
     Of(SourceCause),
     Memory,
+}
+
+impl LineFault {
+    /// The fault of the source in which the line has this number.
+    fn at(self, line: u32) -> SourceFault
+        ensures { result ≡ fault_at line self }
+    {
+        match self {
+            LineFault::Of(cause) => SourceFault::At { line, cause },
+            LineFault::Memory => SourceFault::Memory,
+        }
+    }
+}
+
+impl From<PartsFault> for LineFault {
+    ghost use Rattle.std.specs.Prelude.{◌≡◌};
+    ghost use Rattle.ed_syntax.specs.Private.Answers.{parts_fault};
+
+    ghost from_gives = { λ fault e. e ≡ parts_fault fault };
+
+    fn from(fault: PartsFault) -> LineFault {
+        match fault {
+            PartsFault::OpenQuote => LineFault::Of(SourceCause::NotAStatement),
+            PartsFault::Memory => LineFault::Memory,
+        }
+    }
+}
+
+impl From<FormFault> for LineFault {
+    ghost use Rattle.std.specs.Prelude.{◌≡◌};
+    ghost use Rattle.ed_syntax.specs.Private.Answers.{form_fault};
+
+    ghost from_gives = { λ fault e. e ≡ form_fault fault };
+
+    fn from(fault: FormFault) -> LineFault {
+        match fault {
+            FormFault::NotThisForm => LineFault::Of(SourceCause::NotAStatement),
+            FormFault::OutOfRange => LineFault::Of(SourceCause::NumberRange),
+        }
+    }
 }
 
 /// Whether each byte may stand in a line: a tab, or 32 to 126.
@@ -32,8 +75,8 @@ fn are_line_bytes(line: &[u8]) -> bool
 }
 
 /// What the line with this number says, or its fault with the least number.
-fn line_of(alloc: Global, two: bool, number: u32, line: &[u8]) -> Result<Form, LineFault>
-    ensures { LineIs (line_of two number line.now) result }
+fn line_of(alloc: Global, version: Version, number: u32, line: &[u8]) -> Result<Form, LineFault>
+    ensures { LineIs (line_of (is_second version) number line.now) result }
 {
     if !are_line_bytes(line) {
         return Err(LineFault::Of(SourceCause::BadByte));
@@ -41,15 +84,8 @@ fn line_of(alloc: Global, two: bool, number: u32, line: &[u8]) -> Result<Form, L
     if line.len() > 120 {
         return Err(LineFault::Of(SourceCause::LongLine));
     }
-    match parts_of(alloc, line) {
-        Ok(parts) => match form_at(two, number, &parts) {
-            Some(Some(form)) => Ok(form),
-            Some(None) => Err(LineFault::Of(SourceCause::NumberRange)),
-            None => Err(LineFault::Of(SourceCause::NotAStatement)),
-        },
-        Err(PartsFault::OpenQuote) => Err(LineFault::Of(SourceCause::NotAStatement)),
-        Err(PartsFault::Memory) => Err(LineFault::Memory),
-    }
+    let parts = parts_of(alloc, line)?;
+    Ok(form_at(version, number, &parts)?)
 }
 
 /// The line without a carriage return at its end.
@@ -75,25 +111,24 @@ fn split_line<'a>(text: &'a [u8]) -> (&'a [u8], &'a [u8])
     (text, &[])
 }
 
-/// Whether the first line is `version 2`.
-fn is_two(alloc: Global, text: &[u8]) -> Result<bool, SourceFault>
-    ensures two { IfOk result (λ two. two ≡ is_two (lines_of text.now)) }
-    ensures memory { IfErr result (λ e. e ≡ SourceFault.Memory) }
+/// The version of a source: the second where its first line is `version 2`.
+fn version_of(alloc: Global, text: &[u8]) -> Result<Version, NoMemory>
+    ensures { IfOk result (λ version. is_second version ≡ is_two (lines_of text.now)) }
 {
     if text.is_empty() {
-        return Ok(false);
+        return Ok(Version::One);
     }
     let (line, _) = split_line(text);
     match parts_of(alloc, line) {
-        Ok(parts) => Ok(is_version_two(&parts)),
-        Err(PartsFault::OpenQuote) => Ok(false),
-        Err(PartsFault::Memory) => Err(SourceFault::Memory),
+        Ok(parts) if is_version_two(&parts) => Ok(Version::Two),
+        Ok(_) | Err(PartsFault::OpenQuote) => Ok(Version::One),
+        Err(PartsFault::Memory) => Err(NoMemory),
     }
 }
 
 /// The lines of a source, or the fault of the first line that has one.
-fn lines(alloc: Global, two: bool, text: &[u8]) -> Result<Vec<Line>, SourceFault>
-    ensures { LinesAre (lines_from two 1 (lines_of text.now)) result }
+fn lines(alloc: Global, version: Version, text: &[u8]) -> Result<Vec<Line>, SourceFault>
+    ensures { LinesAre (lines_from (is_second version) 1 (lines_of text.now)) result }
 {
     let mut found = Vec::new(alloc);
     let mut rest = text;
@@ -106,39 +141,12 @@ fn lines(alloc: Global, two: bool, text: &[u8]) -> Result<Vec<Line>, SourceFault
                 cause: SourceCause::TooManyLines,
             });
         }
-        match line_of(alloc, two, number, line) {
-            Ok(Form { label, statement }) => {
-                let line = Line {
-                    number,
-                    label,
-                    statement,
-                };
-                if found.push(line).is_err() {
-                    return Err(SourceFault::Memory);
-                }
-            }
-            Err(LineFault::Of(cause)) => {
-                return Err(SourceFault::At {
-                    line: number,
-                    cause,
-                });
-            }
-            Err(LineFault::Memory) => return Err(SourceFault::Memory),
-        }
+        let form = line_of(alloc, version, number, line).map_err(|fault| fault.at(number))?;
+        found.push(form.line(number))?;
         number += 1;
         rest = after;
     }
     Ok(found)
-}
-
-/// The number of a version.
-fn version(two: bool) -> u8
-    ensures is { result ≡ (if two then 2 else 1) }
-    ensures low { 1 ≤ result }
-    ensures high { result ≤ 2 }
-    ensures test { (result == 2) ≡ two }
-{
-    if two { 2 } else { 1 }
 }
 
 /// The program of a source, or its fault of form: that of the first faulty line, with the least number.
@@ -157,10 +165,10 @@ fn program(alloc: Global, text: &[u8]) -> Result<Program, SourceFault>
     ensures lines { IfOk result (λ p. program_of text.now ≡ Ok p.lines.items) }
     ensures fault { IfErr result (λ e. IsFaultOf (program_of text.now) e) }
 {
-    let two = is_two(alloc, text)?;
-    let lines = lines(alloc, two, text)?;
+    let version = version_of(alloc, text)?;
+    let lines = lines(alloc, version, text)?;
     Ok(Program {
-        version: version(two),
+        version: version.number(),
         lines,
     })
 }

@@ -1,6 +1,8 @@
 //! Statements, and lines with their labels.
-ghost use Rattle.std.specs.Prelude.{◌≡◌, ◌∷◌, ◌==◌, map, option_map};
-ghost use Rattle.std.specs.Borrow.{Bor};
+ghost use Rattle.std.specs.Prelude.{◌≡◌, ◌∷◌, ◌==◌, map};
+ghost use Rattle.std.specs.Option.{ok_or};
+ghost use Rattle.ed_syntax.specs.Programs.{is_second};
+ghost use Rattle.ed_syntax.specs.Private.Found.{answered};
 ghost use Rattle.ed_syntax.specs.Private.Grammar.{base, enter, fetch, form, form_at};
 ghost use Rattle.ed_syntax.specs.Parts.{function};
 ghost use Rattle.ed_syntax.specs.Private.Grammar.{is_version_two, labelled, length_end};
@@ -11,159 +13,148 @@ ghost use Rattle.ed_syntax.specs.Private.Grammar as grammar;
 ghost use Rattle.ed_syntax.specs.Parts.{run, sign};
 ghost use Rattle.ed_syntax.specs.Private.Seen.{part};
 
+use crate::fault::FormFault;
 use crate::operands::{operand, preset};
 use crate::parts::Part;
 use crate::program::Form;
 use crate::terms::{integer, is, is_number, name, number, place_name, string, up_to};
-use crate::{Operand, Statement};
+use crate::{Operand, Statement, Version};
 use ed_codes::{Code, row_of_byte};
 use ed_words::{Long, Word};
 
 /// A function, as its code.
-fn function(byte: u8) -> Option<Code>
-    ensures { result ≡ function byte }
+fn function(byte: u8) -> Result<Code, FormFault>
+    ensures { result ≡ ok_or (function byte) FormFault.NotThisForm }
 {
     if byte.is_ascii_digit() {
-        return None;
+        return Err(FormFault::NotThisForm);
     }
-    row_of_byte(byte)
+    row_of_byte(byte).ok_or(FormFault::NotThisForm)
 }
 
 /// The length at the end of an order.
-fn length_end(parts: &[Part]) -> Option<bool>
-    ensures { result ≡ length_end (map part parts.now) }
+fn length_end(parts: &[Part]) -> Result<bool, FormFault>
+    ensures { result ≡ ok_or (length_end (map part parts.now)) FormFault.NotThisForm }
 {
     match parts.split_first() {
         Some((Part::Sign(end), rest)) if rest.is_empty() => match end {
-            b'F' => Some(false),
-            b'D' => Some(true),
-            _ => None,
+            b'F' => Ok(false),
+            b'D' => Ok(true),
+            _ => Err(FormFault::NotThisForm),
         },
-        _ => None,
+        _ => Err(FormFault::NotThisForm),
     }
 }
 
-/// What follows the function of an order.
-fn order_end(two: bool, parts: &[Part]) -> Option<(Option<Operand>, bool)>
-    ensures { result ≡ order_end two (map part parts.now) }
+/// What follows the function of an order: the operand, where its number is in its range, and the length.
+fn order_end(version: Version, parts: &[Part]) -> Result<(Option<Operand>, bool), FormFault>
+    ensures { result ≡ ok_or (order_end (is_second version) (map part parts.now)) FormFault.NotThisForm }
 {
     match parts.split_first() {
-        Some((Part::Sign(_), _)) => Some((Some(Operand::Number(0)), length_end(parts)?)),
-        _ => match operand(two, parts) {
-            Some((operand, rest)) => Some((operand, length_end(rest)?)),
-            None => None,
+        Some((Part::Sign(_), _)) => Ok((Some(Operand::Number(0)), length_end(parts)?)),
+        _ => match operand(version, parts) {
+            Ok((operand, rest)) => Ok((operand, length_end(rest)?)),
+            Err(_) => Err(FormFault::NotThisForm),
         },
     }
 }
 
 /// An order with this function.
-fn order(two: bool, byte: u8, parts: &[Part]) -> Option<Option<Statement>>
-    ensures { result ≡ order two byte (map part parts.now) }
+fn order(version: Version, byte: u8, parts: &[Part]) -> Result<Statement, FormFault>
+    ensures { result ≡ answered (order (is_second version) byte (map part parts.now)) }
 {
     let function = function(byte)?;
-    let (operand, length) = order_end(two, parts)?;
-    match operand {
-        Some(operand) => Some(Some(Statement::Order {
-            function,
-            operand,
-            length,
-        })),
-        None => Some(None),
-    }
+    let (operand, length) = order_end(version, parts)?;
+    let operand = operand.ok_or(FormFault::OutOfRange)?;
+    Ok(Statement::Order {
+        function,
+        operand,
+        length,
+    })
 }
 
 /// What follows `word`.
-fn word(parts: &[Part]) -> Option<Option<Statement>>
-    ensures { result ≡ word (map part parts.now) }
+fn word(parts: &[Part]) -> Result<Statement, FormFault>
+    ensures { result ≡ answered (word (map part parts.now)) }
 {
-    match integer(65536, 131_071, parts)? {
-        Some(number) => {
-            let value = number.rem_euclid(1 << 17);
-            Some(Some(Statement::Number {
-                value: Word::new(value as u32).unwrap(),
-            }))
-        }
-        None => Some(None),
-    }
+    let number = integer(65536, 131_071, parts)?;
+    let value = number.rem_euclid(1 << 17);
+    Ok(Statement::Number {
+        value: Word::new(value as u32).unwrap(),
+    })
 }
 
 /// What follows `long`.
-fn long(parts: &[Part]) -> Option<Option<Statement>>
-    ensures { result ≡ long (map part parts.now) }
+fn long(parts: &[Part]) -> Result<Statement, FormFault>
+    ensures { result ≡ answered (long (map part parts.now)) }
 {
-    match integer(17_179_869_184, 34_359_738_367, parts)? {
-        Some(number) => {
-            let value = number.rem_euclid(1 << 35);
-            Some(Some(Statement::Long {
-                value: Long::new(value as u64).unwrap(),
-            }))
-        }
-        None => Some(None),
-    }
+    let number = integer(17_179_869_184, 34_359_738_367, parts)?;
+    let value = number.rem_euclid(1 << 35);
+    Ok(Statement::Long {
+        value: Long::new(value as u64).unwrap(),
+    })
 }
 
 /// What follows `text`.
-fn text(parts: &[Part]) -> Option<Option<Statement>>
-    ensures { result ≡ grammar.text (map part parts.now) }
+fn text(parts: &[Part]) -> Result<Statement, FormFault>
+    ensures { result ≡ answered (grammar.text (map part parts.now)) }
 {
     let codes = string(parts)?;
-    Some(Some(Statement::Text { codes }))
+    Ok(Statement::Text { codes })
 }
 
 /// What follows `data`.
-fn tape_rows(parts: &[Part]) -> Option<Option<Statement>>
-    ensures { result ≡ data_statement (map part parts.now) }
+fn tape_rows(parts: &[Part]) -> Result<Statement, FormFault>
+    ensures { result ≡ answered (data_statement (map part parts.now)) }
 {
     let codes = string(parts)?;
-    Some(Some(Statement::Rows { codes }))
+    Ok(Statement::Rows { codes })
 }
 
 /// What follows `enter`.
-fn enter(parts: &[Part]) -> Option<Option<Statement>>
-    ensures { result ≡ enter (map part parts.now) }
+fn enter(parts: &[Part]) -> Result<Statement, FormFault>
+    ensures { result ≡ answered (enter (map part parts.now)) }
 {
     match parts {
         [Part::Run(run)] => {
             let name = name(run)?;
-            Some(Some(Statement::Enter { name }))
+            Ok(Statement::Enter { name })
         }
-        _ => None,
+        _ => Err(FormFault::NotThisForm),
     }
 }
 
 /// What follows the name of a segment.
-fn base(parts: &[Part]) -> Option<Option<Option<u16>>>
-    ensures { result ≡ base (map part parts.now) }
+fn base(parts: &[Part]) -> Result<Option<u16>, FormFault>
+    ensures { result ≡ answered (base (map part parts.now)) }
 {
     match parts {
-        [] => Some(Some(None)),
-        [Part::Run(at), Part::Run(digits)] if is(at, b"at") => match number(1023, digits)? {
-            Some(base) => Some(Some(Some(base as u16))),
-            None => Some(None),
-        },
-        _ => None,
+        [] => Ok(None),
+        [Part::Run(at), Part::Run(digits)] if is(at, b"at") => {
+            let base = number(1023, digits)?;
+            Ok(Some(base as u16))
+        }
+        _ => Err(FormFault::NotThisForm),
     }
 }
 
 /// What follows `segment`.
-fn segment(parts: &[Part]) -> Option<Option<Statement>>
-    ensures { result ≡ segment (map part parts.now) }
+fn segment(parts: &[Part]) -> Result<Statement, FormFault>
+    ensures { result ≡ answered (segment (map part parts.now)) }
 {
     match parts.split_first() {
         Some((Part::Run(run), rest)) => {
             let name = name(run)?;
-            match base(rest)? {
-                Some(base) => Some(Some(Statement::Segment { name, base })),
-                None => Some(None),
-            }
+            let base = base(rest)?;
+            Ok(Statement::Segment { name, base })
         }
-        _ => None,
+        _ => Err(FormFault::NotThisForm),
     }
 }
 
 /// What follows `use`.
-fn fetch(two: bool, parts: &[Part]) -> Option<Option<Statement>>
-    ensures { result ≡ fetch two (map part parts.now) }
+fn fetch(version: Version, parts: &[Part]) -> Result<Statement, FormFault>
+    ensures { result ≡ answered (fetch (is_second version) (map part parts.now)) }
 {
     match parts {
         [
@@ -174,127 +165,126 @@ fn fetch(two: bool, parts: &[Part]) -> Option<Option<Statement>>
         ] if is(word, b"as") => {
             let routine = name(routine)?;
             let name = name(run)?;
-            match preset(two, rest)? {
-                Some(settings) => Some(Some(Statement::Fetch {
-                    routine,
-                    name,
-                    settings,
-                })),
-                None => Some(None),
-            }
+            let settings = preset(version, rest)?;
+            Ok(Statement::Fetch {
+                routine,
+                name,
+                settings,
+            })
         }
-        _ => None,
+        _ => Err(FormFault::NotThisForm),
     }
 }
 
 /// A statement that may have a label.
-fn placed(two: bool, parts: &[Part]) -> Option<Option<Statement>>
-    ensures { result ≡ placed two (map part parts.now) }
+fn placed(version: Version, parts: &[Part]) -> Result<Statement, FormFault>
+    ensures { result ≡ answered (placed (is_second version) (map part parts.now)) }
 {
     match parts.split_first() {
-        Some((Part::Sign(byte), rest)) => order(two, *byte, rest),
-        Some((Part::Run(run), rest)) => placed_word(two, run, rest),
-        _ => None,
+        Some((Part::Sign(byte), rest)) => order(version, *byte, rest),
+        Some((Part::Run(run), rest)) => placed_word(version, run, rest),
+        _ => Err(FormFault::NotThisForm),
     }
 }
 
 /// A statement that may have a label, by its keyword.
-fn placed_word(two: bool, keyword: &[u8], parts: &[Part]) -> Option<Option<Statement>>
-    ensures { result ≡ placed two (run keyword.now ∷ map part parts.now) }
+fn placed_word(version: Version, keyword: &[u8], parts: &[Part]) -> Result<Statement, FormFault>
+    ensures { result ≡ answered (placed (is_second version) (run keyword.now ∷ map part parts.now)) }
 {
     if is(keyword, b"word") {
         word(parts)
     } else if is(keyword, b"text") {
         text(parts)
-    } else if two && is(keyword, b"long") {
+    } else if version.is_two() && is(keyword, b"long") {
         long(parts)
     } else {
-        None
+        Err(FormFault::NotThisForm)
     }
 }
 
 /// A statement.
-fn statement(two: bool, parts: &[Part]) -> Option<Option<Statement>>
-    ensures { result ≡ statement two (map part parts.now) }
+fn statement(version: Version, parts: &[Part]) -> Result<Statement, FormFault>
+    ensures { result ≡ answered (statement (is_second version) (map part parts.now)) }
 {
     match parts.split_first() {
-        Some((Part::Run(run), rest)) => statement_word(two, run, rest),
-        _ => placed(two, parts),
+        Some((Part::Run(run), rest)) => statement_word(version, run, rest),
+        _ => placed(version, parts),
     }
 }
 
 /// A statement, by its keyword.
-fn statement_word(two: bool, keyword: &[u8], parts: &[Part]) -> Option<Option<Statement>>
-    ensures { result ≡ statement two (run keyword.now ∷ map part parts.now) }
+fn statement_word(version: Version, keyword: &[u8], parts: &[Part]) -> Result<Statement, FormFault>
+    ensures { result ≡ answered (statement (is_second version) (run keyword.now ∷ map part parts.now)) }
 {
     if is(keyword, b"segment") {
         segment(parts)
     } else if is(keyword, b"use") {
-        fetch(two, parts)
+        fetch(version, parts)
     } else if is(keyword, b"enter") {
         enter(parts)
     } else if is(keyword, b"data") {
         tape_rows(parts)
     } else {
-        placed_word(two, keyword, parts)
+        placed_word(version, keyword, parts)
     }
 }
 
 /// A line with a statement alone.
-fn unlabelled(two: bool, parts: &[Part]) -> Option<Option<Form>>
-    ensures { result ≡ unlabelled two (map part parts.now) }
+fn unlabelled(version: Version, parts: &[Part]) -> Result<Form, FormFault>
+    ensures { result ≡ answered (unlabelled (is_second version) (map part parts.now)) }
 {
-    match statement(two, parts)? {
-        Some(statement) => Some(Some(Form {
-            label: None,
-            statement: Some(statement),
-        })),
-        None => Some(None),
-    }
+    let statement = statement(version, parts)?;
+    Ok(Form {
+        label: None,
+        statement: Some(statement),
+    })
 }
 
 /// A line that begins with a label.
-fn labelled(two: bool, run: &[u8], parts: &[Part]) -> Option<Option<Form>>
-    ensures { result ≡ labelled two run.now (map part parts.now) }
+fn labelled(version: Version, run: &[u8], parts: &[Part]) -> Result<Form, FormFault>
+    ensures { result ≡ answered (labelled (is_second version) run.now (map part parts.now)) }
 {
-    let label = place_name(two, run)?;
+    let label = place_name(version, run)?;
     if parts.is_empty() {
-        return Some(Some(Form {
+        return Ok(Form {
             label: Some(label),
             statement: None,
-        }));
+        });
     }
-    match placed(two, parts)? {
-        Some(statement) => Some(Some(Form {
-            label: Some(label),
-            statement: Some(statement),
-        })),
-        None => Some(None),
-    }
+    let statement = placed(version, parts)?;
+    Ok(Form {
+        label: Some(label),
+        statement: Some(statement),
+    })
 }
 
 /// A line that begins with this run.
-fn form_of_run(two: bool, first: &[u8], parts: &[Part], whole: &[Part]) -> Option<Option<Form>>
+fn form_of_run(
+    version: Version,
+    first: &[u8],
+    parts: &[Part],
+    whole: &[Part],
+) -> Result<Form, FormFault>
     requires { map part whole.now ≡ run first.now ∷ map part parts.now }
-    ensures { result ≡ form two (run first.now ∷ map part parts.now) }
+    ensures { result ≡ answered (form (is_second version) (run first.now ∷ map part parts.now)) }
 {
     match parts.split_first() {
-        Some((Part::Sign(b':'), rest)) => labelled(two, first, rest),
-        _ => unlabelled(two, whole),
+        Some((Part::Sign(b':'), rest)) => labelled(version, first, rest),
+        _ => unlabelled(version, whole),
     }
 }
 
 /// A line.
-fn form(two: bool, parts: &[Part]) -> Option<Option<Form>>
-    ensures { result ≡ form two (map part parts.now) }
+fn form(version: Version, parts: &[Part]) -> Result<Form, FormFault>
+    ensures { result ≡ answered (form (is_second version) (map part parts.now)) }
 {
     match parts.split_first() {
-        None => Some(Some(Form {
+        None => Ok(Form {
             label: None,
             statement: None,
-        })),
-        Some((Part::Run(run), rest)) => form_of_run(two, run, rest, parts),
-        _ => unlabelled(two, parts),
+        }),
+        Some((Part::Run(run), rest)) => form_of_run(version, run, rest, parts),
+        _ => unlabelled(version, parts),
     }
 }
 
@@ -321,14 +311,14 @@ fn is_value_two(digits: &[u8]) -> bool
 }
 
 /// The line with this number.
-pub(crate) fn form_at(two: bool, number: u32, parts: &[Part]) -> Option<Option<Form>>
-    ensures { result ≡ form_at two number (map part parts.now) }
+pub(crate) fn form_at(version: Version, number: u32, parts: &[Part]) -> Result<Form, FormFault>
+    ensures { result ≡ answered (form_at (is_second version) number (map part parts.now)) }
 {
     if number == 1 && is_version_two(parts) {
-        return Some(Some(Form {
+        return Ok(Form {
             label: None,
             statement: None,
-        }));
+        });
     }
-    form(two, parts)
+    form(version, parts)
 }

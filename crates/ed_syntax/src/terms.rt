@@ -1,6 +1,9 @@
 //! Names, numbers and strings.
 ghost use Rattle.std.specs.Prelude.{◌≡◌, ◌∷◌, ◌≤◌, ◌<◌, ◌^◌, true, false, Some};
-ghost use Rattle.std.specs.Prelude.{map, length, IfSome, IfNone, option_map};
+ghost use Rattle.std.specs.Prelude.{map, length, IfSome, IfOk, IfErr, option_map};
+ghost use Rattle.std.specs.Option.{ok_or};
+ghost use Rattle.ed_syntax.specs.Programs.{is_second};
+ghost use Rattle.ed_syntax.specs.Private.Found.{answered};
 ghost use Rattle.std.specs.List.{list_all};
 ghost use Rattle.std.specs.Str.{bytes_eq};
 ghost use Rattle.ed_codes.specs.Spelling.{row_of};
@@ -8,15 +11,15 @@ ghost use Rattle.ed_syntax.specs.Parts.{array, is_local_name, is_name};
 ghost use Rattle.ed_syntax.specs.Private.Grammar.{integer};
 ghost use Rattle.ed_syntax.specs.Parts.{is_number, is_place_name};
 ghost use Rattle.ed_syntax.specs.Private.Grammar.{number_up_to, row};
-ghost use Rattle.ed_syntax.specs.Parts.{with_sign};
 ghost use Rattle.ed_syntax.specs.Private.Grammar.{spells, string, string_rows, up_to};
 ghost use Rattle.ed_syntax.specs.Private.Names.{IsNameText};
 ghost use Rattle.ed_words.specs.Decimals.{is_digit};
 ghost use Rattle.ed_syntax.specs.Parts.{is_run_byte};
 ghost use Rattle.ed_syntax.specs.Private.Seen.{part};
 
-use crate::Name;
+use crate::fault::FormFault;
 use crate::parts::{Part, is_run_byte};
+use crate::{Name, Version};
 use arrayvec::ArrayVec;
 use ed_codes::{Code, row_of_byte};
 use std::str;
@@ -60,10 +63,10 @@ fn is_local_name(run: &[u8]) -> bool
 }
 
 /// Whether a run may be a label or stand in an operand.
-fn is_place_name(two: bool, run: &[u8]) -> bool
-    ensures { result ≡ is_place_name two run.now }
+fn is_place_name(version: Version, run: &[u8]) -> bool
+    ensures { result ≡ is_place_name (is_second version) run.now }
 {
-    is_name(run) || two && is_local_name(run)
+    is_name(run) || version.is_two() && is_local_name(run)
 }
 
 /// The name of a text that is one.
@@ -78,26 +81,27 @@ fn name_of(text: &[u8]) -> Name
 }
 
 /// A name.
-pub(crate) fn name(run: &[u8]) -> Option<Name>
-    ensures none { IfNone result (is_name run.now ≡ false) }
-    ensures some { IfSome result (λ n. (n ≡ run.now) × (is_name run.now ≡ true)) }
+pub(crate) fn name(run: &[u8]) -> Result<Name, FormFault>
+    ensures none { IfErr result (λ e. (e ≡ FormFault.NotThisForm) × (is_name run.now ≡ false)) }
+    ensures some { IfOk result (λ n. (n ≡ run.now) × (is_name run.now ≡ true)) }
 {
     if is_name(run) {
-        Some(name_of(run))
+        Ok(name_of(run))
     } else {
-        None
+        Err(FormFault::NotThisForm)
     }
 }
 
 /// A name or, in version 2, a local name.
-pub(crate) fn place_name(two: bool, run: &[u8]) -> Option<Name>
-    ensures none { IfNone result (is_place_name two run.now ≡ false) }
-    ensures some { IfSome result (λ n. (n ≡ run.now) × (is_place_name two run.now ≡ true)) }
+pub(crate) fn place_name(version: Version, run: &[u8]) -> Result<Name, FormFault>
+    ensures none { IfErr result
+        (λ e. (e ≡ FormFault.NotThisForm) × (is_place_name (is_second version) run.now ≡ false)) }
+    ensures some { IfOk result (λ n. (n ≡ run.now) × (is_place_name (is_second version) run.now ≡ true)) }
 {
-    if is_place_name(two, run) {
-        Some(name_of(run))
+    if is_place_name(version, run) {
+        Ok(name_of(run))
     } else {
-        None
+        Err(FormFault::NotThisForm)
     }
 }
 
@@ -128,51 +132,46 @@ pub(crate) fn up_to(most: u64, digits: &[u8]) -> Option<u64>
 }
 
 /// A number from 0 to `most`.
-pub(crate) fn number(most: u64, run: &[u8]) -> Option<Option<u64>>
+pub(crate) fn number(most: u64, run: &[u8]) -> Result<u64, FormFault>
     requires { most < 2 ^ 36 }
-    ensures is { result ≡ number_up_to most run.now }
-    ensures within { IfSome result (λ n. IfSome n (λ k. k < 2 ^ 36)) }
+    ensures is { result ≡ answered (number_up_to most run.now) }
+    ensures within { IfOk result (λ n. n < 2 ^ 36) }
 {
-    if is_number(run) {
-        Some(up_to(most, run))
-    } else {
-        None
+    if !is_number(run) {
+        return Err(FormFault::NotThisForm);
     }
+    let number = up_to(most, run).ok_or(FormFault::OutOfRange)?;
+    Ok(number)
 }
 
 /// A number or, after a minus sign, its negative.
-pub(crate) fn integer(least: u64, most: u64, parts: &[Part]) -> Option<Option<i64>>
+pub(crate) fn integer(least: u64, most: u64, parts: &[Part]) -> Result<i64, FormFault>
     requires least { least < 2 ^ 36 }
     requires most { most < 2 ^ 36 }
-    ensures { result ≡ integer least most (map part parts.now) }
+    ensures { result ≡ answered (integer least most (map part parts.now)) }
 {
     match parts {
-        [Part::Run(run)] => signed(false, number(most, run)),
-        [Part::Sign(b'-'), Part::Run(run)] => signed(true, number(least, run)),
-        _ => None,
-    }
-}
-
-/// A number that was found, or its negative.
-fn signed(minus: bool, found: Option<Option<u64>>) -> Option<Option<i64>>
-    requires { IfSome found (λ n. IfSome n (λ k. k < 2 ^ 36)) }
-    ensures { result ≡ option_map (option_map (with_sign minus)) found }
-{
-    match found {
-        Some(Some(number)) if minus => Some(Some(-(number as i64))),
-        Some(Some(number)) => Some(Some(number as i64)),
-        Some(None) => Some(None),
-        None => None,
+        [Part::Run(run)] => {
+            let number = number(most, run)?;
+            Ok(number as i64)
+        }
+        [Part::Sign(b'-'), Part::Run(run)] => {
+            let number = number(least, run)?;
+            Ok(-(number as i64))
+        }
+        _ => Err(FormFault::NotThisForm),
     }
 }
 
 /// A string of one or more bytes that spell rows.
-pub(crate) fn string(parts: &[Part]) -> Option<ArrayVec<Code, 120>>
-    ensures { result ≡ option_map array (string (map part parts.now)) }
+pub(crate) fn string(parts: &[Part]) -> Result<ArrayVec<Code, 120>, FormFault>
+    ensures { result ≡ ok_or (option_map array (string (map part parts.now))) FormFault.NotThisForm }
 {
     match parts.split_first() {
-        Some((Part::Quoted(text), rest)) if rest.is_empty() => string_rows(text),
-        _ => None,
+        Some((Part::Quoted(text), rest)) if rest.is_empty() => {
+            string_rows(text).ok_or(FormFault::NotThisForm)
+        }
+        _ => Err(FormFault::NotThisForm),
     }
 }
 

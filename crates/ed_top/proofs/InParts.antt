@@ -3,15 +3,16 @@ use Rattle.std.proofs.Common.{◌≡◌, ◌∙◌, ℕ, List, [], refl, sym, ap
 use Rattle.std.specs.Prelude.{Ok, Err}
 use Rattle.ed_machine.specs.State.{State}
 use Rattle.ed_loads.specs.EntryState.{first_state}
-use Rattle.ed_parts.specs.Parts.{PartsAnswer, TapeTells, Told}
+use Rattle.ed_parts.specs.Parts.{PartsAnswer, TapeTells, Told, parts_faults}
 use Rattle.ed_parts.specs.declared.tape.PartsEnd.{PartsEnd}
 use Rattle.ed_parts.specs.declared.tape.PartsFault.{PartsFault}
+use Rattle.ed_parts.specs.declared.tape.PartsFault.TheVariants as parts
 use Rattle.ed_parts.proofs.Tales.{each_told_once}
 use Rattle.ed_command.specs.declared.command.Settings.{Settings}
-use Rattle.ed_answers.specs.Answer.{of_input}
+use Rattle.ed_answers.specs.Answer.{Answer, of_input}
 use Rattle.ed_top.specs.Clause.{Device, Wrote, WrotePart}
 use Rattle.ed_top.specs.Parts.{IsInParts, end_note, end_status, told_outcome}
-use Rattle.ed_top.specs.Private.Stages.{IsToTell}
+use Rattle.ed_top.specs.Private.Stages.{Carried, IsToTell, parts_stop}
 use Rattle.ed_answers.specs.Replies.{ForInput}
 use Rattle.ed_answers.proofs.Replies.{HasOne}
 use Rattle.ed_top.proofs.FirstParts.{none_written}
@@ -70,3 +71,10 @@ module _ (s : Settings) (codes : List ℕ) {start : State} (is : start ≡ first
 pub parts_none : (s : Settings) (codes : List ℕ) (out : Device) → Wrote out []
     → ForInput (of_input (λ _. IsInParts s codes)) [] (λ o. WrotePart out o.out)
 parts_none s codes out w = let one = (parts_one s).some codes in (one.0, one.1, none_written out one.0.out w)
+
+-- a fault stops the command
+pub parts_stopped : (answer : Answer) (fault : PartsFault) (out : Device)
+    → out.faults_after ≡ parts_faults {T = Unit {0}} (Err fault) out.faults_before
+    → ForInput answer [] (λ o. WrotePart out o.out) → Carried answer [] out (Err (parts_stop fault))
+parts_stopped answer parts.Failed out h w = (h, w)
+parts_stopped answer parts.Memory out h w = (h, w)

@@ -2,6 +2,7 @@ mod Made
 mod FirstParts
 pub mod Scripts
 mod InParts
+mod Traced
 pub mod Stopped
 mod CallRuns
 mod DemoRuns

@@ -5,7 +5,10 @@ ghost use Rattle.ed_top.specs.Private.Stages.{HasInput, WritesReply, WritesText,
 
 use ed_answers::{Rejection, Reply};
 use ed_io::{Failed, Sink, Source, write_all};
-use std::alloc::Global;
+use ed_parts::PartsFault;
+use ed_trace::TraceFault;
+use ed_words::NoMemory;
+use std::alloc::{AllocError, Global};
 
 /// The most bytes of input.
 const LIMIT: usize = 262_144;
@@ -24,6 +27,28 @@ pub enum InputStop {
     TooLong,
 }
 
+impl From<Failed> for InputStop {
+    ghost use Rattle.std.specs.Prelude.{◌≡◌};
+    ghost use Rattle.ed_top.specs.declared.devices.InputStop.TheVariants.{Failed};
+
+    ghost from_gives = { λ _ e. e ≡ Failed };
+
+    fn from(_failed: Failed) -> InputStop {
+        InputStop::Failed
+    }
+}
+
+impl From<AllocError> for InputStop {
+    ghost use Rattle.std.specs.Prelude.{◌≡◌};
+    ghost use Rattle.ed_top.specs.declared.devices.InputStop.TheVariants.{Memory};
+
+    ghost from_gives = { λ _ e. e ≡ Memory };
+
+    fn from(_error: AllocError) -> InputStop {
+        InputStop::Memory
+    }
+}
+
 /// What of a command is still to be written when its text is on `out`.
 #[derive(Drop)]
 pub struct Rest {
@@ -40,6 +65,56 @@ pub enum Stop {
     Memory,
 }
 
+impl From<Failed> for Stop {
+    ghost use Rattle.std.specs.Prelude.{◌≡◌};
+    ghost use Rattle.ed_top.specs.declared.devices.Stop.TheVariants.{Failed};
+
+    ghost from_gives = { λ _ e. e ≡ Failed };
+
+    fn from(_failed: Failed) -> Stop {
+        Stop::Failed
+    }
+}
+
+impl From<NoMemory> for Stop {
+    ghost use Rattle.std.specs.Prelude.{◌≡◌};
+    ghost use Rattle.ed_top.specs.declared.devices.Stop.TheVariants.{Memory};
+
+    ghost from_gives = { λ _ e. e ≡ Memory };
+
+    fn from(_none: NoMemory) -> Stop {
+        Stop::Memory
+    }
+}
+
+impl From<TraceFault> for Stop {
+    ghost use Rattle.std.specs.Prelude.{◌≡◌};
+    ghost use Rattle.ed_top.specs.Private.Stages.{trace_stop};
+
+    ghost from_gives = { λ fault e. e ≡ trace_stop fault };
+
+    fn from(fault: TraceFault) -> Stop {
+        match fault {
+            TraceFault::Failed => Stop::Failed,
+            TraceFault::Memory => Stop::Memory,
+        }
+    }
+}
+
+impl From<PartsFault> for Stop {
+    ghost use Rattle.std.specs.Prelude.{◌≡◌};
+    ghost use Rattle.ed_top.specs.Private.Stages.{parts_stop};
+
+    ghost from_gives = { λ fault e. e ≡ parts_stop fault };
+
+    fn from(fault: PartsFault) -> Stop {
+        match fault {
+            PartsFault::Failed => Stop::Failed,
+            PartsFault::Memory => Stop::Memory,
+        }
+    }
+}
+
 /// The whole input, if the command reads it, and an empty one otherwise.
 pub fn input_of<S: Source>(alloc: Global, reads: bool, source: &mut S) -> Result<Vec<u8>, InputStop>
     ensures { HasInput reads (device S.left S.faults source.old source.new) result }
@@ -47,10 +122,7 @@ pub fn input_of<S: Source>(alloc: Global, reads: bool, source: &mut S) -> Result
     if !reads {
         return Ok(Vec::new(alloc));
     }
-    match read_all(alloc, source) {
-        Ok(input) => within_limit(input),
-        Err(stop) => Err(stop),
-    }
+    within_limit(read_all(alloc, source)?)
 }
 
 /// The input, if it has no more bytes than the limit.
@@ -77,15 +149,11 @@ fn read_all<S: Source>(alloc: Global, source: &mut S) -> Result<Vec<u8>, InputSt
     let mut piece = [0u8; PIECE];
     while input.len() <= LIMIT {
         let room = piece.len().min(LIMIT + 1 - input.len());
-        match source.read(&mut piece[..room]) {
-            Ok(0) => break,
-            Ok(count) => {
-                if input.extend_from_slice(&piece[..count]).is_err() {
-                    return Err(InputStop::Memory);
-                }
-            }
-            Err(Failed) => return Err(InputStop::Failed),
+        let count = source.read(&mut piece[..room])?;
+        if count == 0 {
+            break;
         }
+        input.extend_from_slice(&piece[..count])?;
     }
     Ok(input)
 }
@@ -105,13 +173,11 @@ pub fn write<K: Sink>(out: &mut K, reply: Result<Reply, Rejection>) -> Result<Re
 fn write_text<K: Sink>(out: &mut K, reply: Reply) -> Result<Rest, Stop>
     ensures { WritesText reply (device K.held K.faults out.old out.new) result }
 {
-    match write_all(out, &reply.out) {
-        Ok(()) => Ok(Rest {
-            note: reply.note,
-            status: reply.status,
-        }),
-        Err(Failed) => Err(Stop::Failed),
-    }
+    write_all(out, &reply.out)?;
+    Ok(Rest {
+        note: reply.note,
+        status: reply.status,
+    })
 }
 
 /// Writes a line on `note` and answers the status; or 9, if the write fails.

@@ -11,7 +11,7 @@ use ed_command::Settings;
 use ed_io::Sink;
 use ed_loads::started;
 use ed_machine::Machine;
-use ed_parts::{PartsEnd, PartsFault, run_parts};
+use ed_parts::{PartsEnd, run_parts};
 use ed_report::{ending_text, part_fault};
 use ed_words::NoMemory;
 use std::alloc::Global;
@@ -44,20 +44,12 @@ fn read_parts<K: Sink>(
     ensures { Carried (of_input (λ _. IsInParts settings rows.items)) []
         (device K.held K.faults out.old out.new) result }
 {
-    let Ok(mut machine) = started(alloc, settings.size, rows) else {
-        return Err(Stop::Memory);
-    };
-    match run_parts(alloc, &mut machine, settings.limit, out) {
-        Ok(end) => match end_text(alloc, end, &machine) {
-            Ok(note) => Ok(Rest {
-                note,
-                status: end_status(end),
-            }),
-            Err(_) => Err(Stop::Memory),
-        },
-        Err(PartsFault::Failed) => Err(Stop::Failed),
-        Err(PartsFault::Memory) => Err(Stop::Memory),
-    }
+    let mut machine = started(alloc, settings.size, rows)?;
+    let end = run_parts(alloc, &mut machine, settings.limit, out)?;
+    Ok(Rest {
+        note: end_text(alloc, end, &machine)?,
+        status: end_status(end),
+    })
 }
 
 /// The line on how a tape in parts ended.

@@ -104,9 +104,7 @@ fn step_rows(
         → IfOk result (λ reply. Gives reply (on_rows settings commands rows.items)) }
 {
     let machine = started(alloc, settings.size, rows)?;
-    let Ok(mut session) = Session::new(alloc, machine, u64::from(settings.limit)) else {
-        return Err(NoMemory);
-    };
+    let mut session = Session::new(alloc, machine, u64::from(settings.limit))?;
     match run_script(alloc, &mut session, script) {
         Ok(text) => Ok(Reply::done(alloc, text)),
         Err(ScriptFault::BackTooFar { line, done: obeyed }) => {

@@ -11,7 +11,7 @@ use ed_command::Settings;
 use ed_io::Sink;
 use ed_loads::started;
 use ed_report::ending_text;
-use ed_trace::{TraceFault, trace_run};
+use ed_trace::trace_run;
 use std::alloc::Global;
 
 /// `trace`: the letters of the orders that the run of a text's rows obeys, each line written as it is full.
@@ -39,24 +39,16 @@ fn trace_rows<K: Sink>(
 ) -> Result<Rest, Stop>
     ensures { Carried (known (trace_outcome settings rows.items)) [] (device K.held K.faults out.old out.new) result }
 {
-    let Ok(mut machine) = started(alloc, settings.size, rows) else {
-        return Err(Stop::Memory);
-    };
-    match trace_run(
+    let mut machine = started(alloc, settings.size, rows)?;
+    let ending = trace_run(
         alloc,
         &mut machine,
         u64::from(settings.limit),
         settings.resumes,
         out,
-    ) {
-        Ok(ending) => match ending_text(alloc, ending, &machine) {
-            Ok(note) => Ok(Rest {
-                note,
-                status: status_of(ending),
-            }),
-            Err(_) => Err(Stop::Memory),
-        },
-        Err(TraceFault::Failed) => Err(Stop::Failed),
-        Err(TraceFault::Memory) => Err(Stop::Memory),
-    }
+    )?;
+    Ok(Rest {
+        note: ending_text(alloc, ending, &machine)?,
+        status: status_of(ending),
+    })
 }

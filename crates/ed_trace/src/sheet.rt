@@ -15,13 +15,9 @@ fn flush<K: Sink>(out: &mut K, line: &mut Vec<u8>) -> Result<(), Failed>
     ensures room { vec_capacity line.new ≡ vec_capacity line.old }
     ensures faults { K.faults out.new ≡ faults_after result (K.faults out.old) }
 {
-    match write_all(out, line) {
-        Ok(()) => {
-            line.clear();
-            Ok(())
-        }
-        Err(Failed) => Err(Failed),
-    }
+    write_all(out, line)?;
+    line.clear();
+    Ok(())
 }
 
 /// Adds a letter to a line, and writes the line if it is then full.

@@ -9,7 +9,7 @@ use crate::sheet::{end_line, put};
 use ed_codes::{Code, byte_of};
 use ed_io::{Failed, Sink};
 use ed_machine::{Ending, Machine, Turn};
-use std::alloc::Global;
+use std::alloc::{AllocError, Global};
 
 /// The number of letters on a line.
 const LETTERS: u64 = 50;
@@ -21,6 +21,28 @@ pub enum TraceFault {
     Failed,
     /// No memory was found for a line.
     Memory,
+}
+
+impl From<AllocError> for TraceFault {
+    ghost use Rattle.std.specs.Prelude.{◌≡◌};
+    ghost use Rattle.ed_trace.specs.declared.tracing.TraceFault.TheVariants.{Memory};
+
+    ghost from_gives = { λ _ e. e ≡ Memory };
+
+    fn from(_error: AllocError) -> TraceFault {
+        TraceFault::Memory
+    }
+}
+
+impl From<Failed> for TraceFault {
+    ghost use Rattle.std.specs.Prelude.{◌≡◌};
+    ghost use Rattle.ed_trace.specs.declared.tracing.TraceFault.TheVariants.{Failed};
+
+    ghost from_gives = { λ _ e. e ≡ Failed };
+
+    fn from(_failed: Failed) -> TraceFault {
+        TraceFault::Failed
+    }
 }
 
 /// Runs the machine, with a paper that is never full, and writes the letter or sign of the function of each order, 50
@@ -39,16 +61,10 @@ pub fn trace_run<K: Sink>(
     ensures trace { TraceEnds limit resumes machine.old result machine.new (K.held out.old) (K.held out.new) }
     ensures faults { K.faults out.new ≡ trace_faults result (K.faults out.old) }
 {
-    let Ok(mut line) = Vec::with_capacity(alloc, 51) else {
-        return Err(TraceFault::Memory);
-    };
-    match trace_orders(machine, limit, resumes, &mut line, out) {
-        Ok(ending) => match end_line(out, &mut line) {
-            Ok(()) => Ok(ending),
-            Err(Failed) => Err(TraceFault::Failed),
-        },
-        Err(Failed) => Err(TraceFault::Failed),
-    }
+    let mut line = Vec::with_capacity(alloc, 51)?;
+    let ending = trace_orders(machine, limit, resumes, &mut line, out)?;
+    end_line(out, &mut line)?;
+    Ok(ending)
 }
 
 /// Obeys orders as a run does whose paper is never full, and writes the letter of each; a last line that is not full

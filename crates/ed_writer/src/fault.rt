@@ -1,3 +1,5 @@
+use ed_words::NoMemory;
+
 /// Why a program is not written.
 #[derive(Clone, Copy, Debug, PartialEq, Eq)]
 pub enum WriteFault {
@@ -7,4 +9,15 @@ pub enum WriteFault {
     LongLine { line: u32 },
     /// No memory was found.
     Memory,
+}
+
+impl From<NoMemory> for WriteFault {
+    ghost use Rattle.std.specs.Prelude.{◌≡◌};
+    ghost use Rattle.ed_writer.specs.declared.fault.WriteFault.TheVariants.{Memory};
+
+    ghost from_gives = { λ _ e. e ≡ Memory };
+
+    fn from(_none: NoMemory) -> WriteFault {
+        WriteFault::Memory
+    }
 }

@@ -3,13 +3,14 @@ ghost use Rattle.std.specs.Prelude.{◌≡◌, ◌==◌, ◌++◌, ◌∷◌, []
 ghost use Rattle.std.specs.List.{list_all};
 ghost use Rattle.ed_writer.specs.Answers.{has_version_place, HasNoText, IsTextOf, IsWriteFault};
 ghost use Rattle.ed_writer.specs.Private.LineTexts.{IsTextOfLines, has_few, IsLinesFault};
+ghost use Rattle.ed_syntax.specs.Programs.{is_second};
 ghost use Rattle.ed_syntax.specs.Sources.{IsProgram};
 ghost use Rattle.ed_writer.specs.Written.{form_text, line_text};
 
 use crate::WriteFault;
 use crate::statements::push_statement;
 use crate::text::{push, push_byte};
-use ed_syntax::{Line, Program};
+use ed_syntax::{Line, Program, Version};
 use ed_words::NoMemory;
 use std::alloc::Global;
 
@@ -36,11 +37,11 @@ fn form(alloc: Global, line: &Line) -> Result<Vec<u8>, NoMemory>
 }
 
 /// The text of a line.
-fn line_text(alloc: Global, two: bool, line: &Line) -> Result<Vec<u8>, NoMemory>
-    ensures is { IfOk result (λ text. text.items ≡ line_text two line.now) }
-    ensures few { IfOk result (λ _. has_few two line.now ≡ true) }
+fn line_text(alloc: Global, version: Version, line: &Line) -> Result<Vec<u8>, NoMemory>
+    ensures is { IfOk result (λ text. text.items ≡ line_text (is_second version) line.now) }
+    ensures few { IfOk result (λ _. has_few (is_second version) line.now ≡ true) }
 {
-    if two && line.number == 1 {
+    if version.is_two() && line.number == 1 {
         let mut text = Vec::new(alloc);
         push(&mut text, b"version 2")?;
         return Ok(text);
@@ -57,31 +58,27 @@ fn push_line(text: &mut Vec<u8>, line: &[u8]) -> Result<(), NoMemory>
 }
 
 /// The text of lines, or the first line whose text is too long.
-fn lines_text(alloc: Global, two: bool, lines: &[Line]) -> Result<Vec<u8>, WriteFault>
-    ensures is { IfOk result (λ text. IsTextOfLines two lines.now text.items) }
-    ensures few { IfOk result (λ _. list_all (has_few two) lines.now ≡ true) }
-    ensures fault { IfErr result (λ e. IsLinesFault two lines.now e) }
+fn lines_text(alloc: Global, version: Version, lines: &[Line]) -> Result<Vec<u8>, WriteFault>
+    ensures is { IfOk result (λ text. IsTextOfLines (is_second version) lines.now text.items) }
+    ensures few { IfOk result (λ _. list_all (has_few (is_second version)) lines.now ≡ true) }
+    ensures fault { IfErr result (λ e. IsLinesFault (is_second version) lines.now e) }
 {
     let mut text = Vec::new(alloc);
     for line in lines {
-        let Ok(written) = line_text(alloc, two, line) else {
-            return Err(WriteFault::Memory);
-        };
+        let written = line_text(alloc, version, line)?;
         if written.len() > LINE_BYTES {
             return Err(WriteFault::LongLine { line: line.number });
         }
-        if push_line(&mut text, &written).is_err() {
-            return Err(WriteFault::Memory);
-        }
+        push_line(&mut text, &written)?;
     }
     Ok(text)
 }
 
 /// Whether there is a line for `version 2`, or none is needed.
-fn has_version_place(two: bool, lines: &[Line]) -> bool
-    ensures { result ≡ has_version_place two lines.now }
+fn has_version_place(version: Version, lines: &[Line]) -> bool
+    ensures { result ≡ has_version_place (is_second version) lines.now }
 {
-    if !two {
+    if !version.is_two() {
         return true;
     }
     match lines.first() {
@@ -99,9 +96,9 @@ pub fn text_of_program(alloc: Global, program: &Program) -> Result<Vec<u8>, Writ
     ensures fault { IfErr result (λ e. IsWriteFault (program.now.version == 2) program.now.lines.items e) }
     ensures none { IfErr result (λ e. HasNoText (program.now.version == 2) program.now.lines.items e) }
 {
-    let two = program.version == 2;
-    if !has_version_place(two, &program.lines) {
+    let version = Version::of(program);
+    if !has_version_place(version, &program.lines) {
         return Err(WriteFault::NoVersionLine);
     }
-    lines_text(alloc, two, &program.lines)
+    lines_text(alloc, version, &program.lines)
 }

@@ -12,10 +12,7 @@ use std::alloc::Global;
 pub(crate) fn push(text: &mut Vec<u8>, bytes: &[u8]) -> Result<(), NoMemory>
     ensures { IfOk result (λ _. text.new.items ≡ text.old.items ++ bytes.now) }
 {
-    match text.extend_from_slice(bytes) {
-        Ok(()) => Ok(()),
-        Err(_) => Err(NoMemory),
-    }
+    Ok(text.extend_from_slice(bytes)?)
 }
 
 /// Adds a byte to a text.
@@ -36,10 +33,8 @@ pub(crate) fn push_letter(text: &mut Vec<u8>, code: Code) -> Result<(), NoMemory
 pub(crate) fn push_number(alloc: Global, text: &mut Vec<u8>, number: u64) -> Result<(), NoMemory>
     ensures { IfOk result (λ _. text.new.items ≡ text.old.items ++ decimal number) }
 {
-    match format!(in alloc; "{number}") {
-        Ok(digits) => push(text, digits.as_bytes()),
-        Err(_) => Err(NoMemory),
-    }
+    let digits = format!(in alloc; "{number}")?;
+    push(text, digits.as_bytes())
 }
 
 /// Adds rows between quotes.

@@ -6,6 +6,13 @@ use Rattle.ed_stepper.specs.Scripts.{left_by, is_too_far, writes}
 use Rattle.ed_stepper.specs.declared.commands.Command.{Command}
 use Rattle.ed_stepper.specs.declared.moves.BackFault.{BackFault}
 use Rattle.ed_stepper.specs.declared.moves.BackFault.TheVariants.{TooFar, Memory}
+use Rattle.ed_stepper.specs.declared.script.ScriptFault.{ScriptFault}
+use Rattle.ed_stepper.specs.declared.script.ScriptFault.TheVariants as script
+
+-- the fault of a script whose line k has this one
+abbrev pub fault_on : ℕ → BackFault → ScriptFault
+fault_on k (TooFar done) = script.BackTooFar k done
+fault_on k Memory = script.Memory
 
 -- the line has run and this is what it writes; it goes back too far and has changed nothing; or memory ran out before
 -- or after it ran

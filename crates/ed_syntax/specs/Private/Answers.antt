@@ -1,5 +1,5 @@
 -- The answers of the code, by the definitions.
-use Rattle.std.specs.Prelude.{◌≡◌, List, Result, Ok, Err, Vec}
+use Rattle.std.specs.Prelude.{◌≡◌, ℕ, List, Result, Ok, Err, Vec}
 use Rattle.std.specs.declared.alloc.Global.{Global}
 use Rattle.ed_syntax.specs.Private.SourceReading.{Fault}
 use Rattle.ed_syntax.specs.declared.fault.SourceCause.{SourceCause}
@@ -9,6 +9,11 @@ use Rattle.ed_syntax.specs.declared.program.Form.{Form}
 use Rattle.ed_syntax.specs.declared.program.Line.{Line}
 use Rattle.ed_syntax.specs.declared.source.LineFault.{LineFault}
 use Rattle.ed_syntax.specs.declared.source.LineFault.TheVariants as line
+use Rattle.ed_syntax.specs.declared.fault.FormFault.{FormFault}
+use Rattle.ed_syntax.specs.declared.fault.FormFault.TheVariants.{NotThisForm, OutOfRange}
+use Rattle.ed_syntax.specs.declared.fault.SourceCause.TheVariants.{NotAStatement, NumberRange}
+use Rattle.ed_syntax.specs.declared.parts.PartsFault.{PartsFault}
+use Rattle.ed_syntax.specs.declared.parts.PartsFault.TheVariants as parts
 
 -- a fault is the one of the definition, or memory ran out
 abbrev pub IsFaultOf : Result (List Line) Fault → SourceFault → Type 0
@@ -19,6 +24,21 @@ IsFaultOf wanted Memory = Unit {0}
 abbrev pub LinesAre : Result (List Line) Fault → Result (Vec Line Global) SourceFault → Type 0
 LinesAre wanted (Ok v) = wanted ≡ Ok v.items
 LinesAre wanted (Err e) = IsFaultOf wanted e
+
+-- the fault of a source whose line k has this one
+abbrev pub fault_at : ℕ → LineFault → SourceFault
+fault_at k (line.Of c) = At k c
+fault_at k line.Memory = Memory
+
+-- the fault of a line whose parts have this one
+abbrev pub parts_fault : PartsFault → LineFault
+parts_fault parts.OpenQuote = line.Of NotAStatement
+parts_fault parts.Memory = line.Memory
+
+-- the fault of a line that has no form
+abbrev pub form_fault : FormFault → LineFault
+form_fault NotThisForm = line.Of NotAStatement
+form_fault OutOfRange = line.Of NumberRange
 
 -- a line is that of the definition, or its fault is
 abbrev pub LineIs : Result Form SourceCause → Result Form LineFault → Type 0

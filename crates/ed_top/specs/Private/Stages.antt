@@ -17,6 +17,10 @@ use Rattle.ed_top.specs.declared.devices.InputStop.{InputStop}
 use Rattle.ed_top.specs.declared.devices.InputStop.TheVariants as input
 use Rattle.ed_top.specs.declared.devices.Stop.{Stop}
 use Rattle.ed_top.specs.declared.devices.Stop.TheVariants.{Failed, Memory}
+use Rattle.ed_trace.specs.declared.tracing.TraceFault.{TraceFault}
+use Rattle.ed_trace.specs.declared.tracing.TraceFault.TheVariants as trace
+use Rattle.ed_parts.specs.declared.tape.PartsFault.{PartsFault}
+use Rattle.ed_parts.specs.declared.tape.PartsFault.TheVariants as parts
 
 -- ---- the input
 
@@ -39,6 +43,16 @@ input_faults (Err input.Memory) before = before
 input_faults (Err input.TooLong) before = before
 
 -- ---- a command
+
+-- why a trace was not written whole
+abbrev pub trace_stop : TraceFault → Stop
+trace_stop trace.Failed = Failed
+trace_stop trace.Memory = Memory
+
+-- why the lines of a tape in parts were not
+abbrev pub parts_stop : PartsFault → Stop
+parts_stop parts.Failed = Failed
+parts_stop parts.Memory = Memory
 
 -- all that is due on `out` has been written; the line and the status are still due
 pub record IsToTell (out : Device) (line : Text) (status : ℕ) (o : Outcome) : Type 0 where

@@ -3,7 +3,7 @@ use Rattle.ed_initial1.proofs.Loop.{begins, refused, function_row, made_longer, 
 use Rattle.ed_initial1.specs.Faults.{IsFault1}
 use Rattle.ed_initial1.specs.declared.cause.Tape1Cause.TheVariants.{EndOfTape}
 use Rattle.ed_initial1.proofs.checking.read_rows.Goals.{in-None, in-Some+in-Longer}
-use Rattle.ed_initial1.proofs.checking.read_rows.Goals.{in-Some+in-Ended+in-Ok+else-len-from}
+use Rattle.ed_initial1.proofs.checking.read_rows.Goals.{in-Some+in-Ended+in_ok-push-in-Ended+else-len-from}
 use Rattle.ed_initial1.proofs.checking.read_rows.Goals as goal
 
 pub loop-row-init : goal.loop-row-init
@@ -21,10 +21,10 @@ returns-then-len-from c =
     let row = c.index-rows-row in
     let empty = c.is_empty-first.ensures ∙ ap (λ n. nat_eq n 0) c.loop-row.words.ok.0 in
     let past = c.push.new.self.ok.0 in
-    rw (c.new.ensures, c.in-Ok.ensures.items)
+    rw (c.new.ensures, c.in_ok-push-in-Ended.ensures.items)
     (made_whole (rw c.in-Some.is at c.loop-row.invariant) c.loop-row-test.true row.is empty
     (sym c.in-Ended.is ∙ c.take.ensures) c.word_of.ensures c.end_behind-end.ensures
-    (rw (sym c.in-Ok.ensures.items) (omega (arith, c.len.ensures, past, c.from.ensures, c.if-len-from.true))))
+    (rw (sym c.in_ok-push-in-Ended.ensures.items) (omega (arith, c.len.ensures, past, c.from.ensures, c.if-len-from.true))))
 
 pub loop-row-preserved : goal.loop-row-preserved
 loop-row-preserved c = elim c.match-item.branch [
@@ -39,14 +39,14 @@ loop-row-preserved c = elim c.match-item.branch [
       (made_longer (rw w.in-Some.is at c.loop-row.invariant) c.loop-row-test.true row.is
       (c.is_empty-first.ensures ∙ ap (λ n. nat_eq n 0) c.loop-row.words.ok.0)
       (sym w.in-Longer.is ∙ w.take.ensures))
-  | in-Some+in-Ended+in-Ok+else-len-from w ↦
+  | in-Some+in-Ended+in_ok-push-in-Ended+else-len-from w ↦
       let row = c.index-rows-row in
       let empty = c.is_empty-first.ensures ∙ ap (λ n. nat_eq n 0) c.loop-row.words.ok.0 in
       let past = w.push.new.self.ok.0 in
-      rw (w.words-is, w.orders-is, w.end-is, w.item-is, w.in-Ok.ensures.items)
+      rw (w.words-is, w.orders-is, w.end-is, w.item-is, w.in_ok-push-in-Ended.ensures.items)
       (made_ended (rw w.in-Some.is at c.loop-row.invariant) c.loop-row-test.true row.is empty
       (sym w.in-Ended.is ∙ w.take.ensures) w.word_of.ensures w.end_behind-end.ensures
-      (rw (sym w.in-Ok.ensures.items)
+      (rw (sym w.in_ok-push-in-Ended.ensures.items)
       (let off = w.if-len-from.false in omega (arith, w.len.ensures, past, w.from.ensures, off))))
 ]
 

@@ -4,13 +4,13 @@ use Rattle.ed_link.proofs.building.build.Goals as goal
 
 pub loop-line-init : goal.loop-line-init
 loop-line-init c =
-    let s = c.in-Ok.ensures in
+    let s = c.in_ok-built.ensures in
     start (λ i. record { runs = c.new.ensures.items i; entered = false }) c.first-spot.ensures s.0 s.1 s.2 s.3
 
 pub loop-line-preserved : goal.loop-line-preserved
 loop-line-preserved c =
-    let added = c.in-Ok-add_line.ensures in
-    let passed = c.in-Ok-pass_line.ensures in
+    let added = c.in_ok-add_line.ensures in
+    let passed = c.in_ok-pass_line.ensures in
     let spot = c.passed-spot.ensures in
     step c.loop-line.invariant c.loop-line-test.true c.line-item.is (record {
       cause = sym c.in-None.ensures;

@@ -1,5 +1,6 @@
+use Rattle.std.proofs.lemmas.Result.{IfOk-weaker}
 use Rattle.ed_link.proofs.Lengths.{empty_is}
 use Rattle.ed_link.proofs.building.empty_table.Goals as goal
 
-pub returns-in-Ok : goal.returns-in-Ok
-returns-in-Ok c = empty_is _ c.in-Ok.ensures
+pub returns : goal.returns
+returns c = IfOk-weaker c.nothing.result _ _ (λ v. empty_is v.items) c.nothing.ensures

@@ -10,6 +10,6 @@ loop-row-preserved c = (
       c.byte_of.ensures.is c.byte_of.ensures.back s),
 )
 
-pub returns-in-Ok-clause-spells : goal.returns-in-Ok-clause-spells
-returns-in-Ok-clause-spells c =
+pub returns-clause-spells : goal.returns-clause-spells
+returns-clause-spells c =
     c.loop-row.invariant.1 (last_spells c.args.rows.now c.loop-row.row-index c.loop-row-test.false)

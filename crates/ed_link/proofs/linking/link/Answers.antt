@@ -3,24 +3,24 @@ use Rattle.ed_link.proofs.FaultLaw.{answer_has_fault}
 use Rattle.ed_link.proofs.WordLaws.{each_word_stands}
 use Rattle.ed_link.proofs.linking.link.Goals as goal
 
-pub returns-in-Ok-clause-law : goal.returns-in-Ok-clause-law
-returns-in-Ok-clause-law c = each_source
+pub returns-clause-law : goal.returns-clause-law
+returns-clause-law c = each_source
 
-pub returns-in-Err-clause-law : goal.returns-in-Err-clause-law
-returns-in-Err-clause-law c = each_source
+pub returns-in_err-places-clause-law : goal.returns-in_err-places-clause-law
+returns-in_err-places-clause-law c = each_source
 
-pub returns-in-Ok-clause-one : goal.returns-in-Ok-clause-one
-returns-in-Ok-clause-one c = one_answer
+pub returns-clause-one : goal.returns-clause-one
+returns-clause-one c = one_answer
 
-pub returns-in-Err-clause-one : goal.returns-in-Err-clause-one
-returns-in-Err-clause-one c = one_answer
+pub returns-in_err-places-clause-one : goal.returns-in_err-places-clause-one
+returns-in_err-places-clause-one c = one_answer
 
-pub returns-in-Ok-clause-fault : goal.returns-in-Ok-clause-fault
-returns-in-Ok-clause-fault c =
+pub returns-clause-fault : goal.returns-clause-fault
+returns-clause-fault c =
     answer_has_fault c.args.size c.args.program.now.lines.items c.args.program.now.numbered _ c.link_names.ensures.fault
 
-pub returns-in-Ok-clause-words : goal.returns-in-Ok-clause-words
-returns-in-Ok-clause-words c = each_word_stands
+pub returns-clause-words : goal.returns-clause-words
+returns-clause-words c = each_word_stands
 
-pub returns-in-Err-clause-words : goal.returns-in-Err-clause-words
-returns-in-Err-clause-words c = each_word_stands
+pub returns-in_err-places-clause-words : goal.returns-in_err-places-clause-words
+returns-in_err-places-clause-words c = each_word_stands

@@ -5,14 +5,14 @@ use Rattle.ed_link.specs.Private.FaultTests.{any_enter, missing}
 use Rattle.ed_link.proofs.Finished.{finished}
 use Rattle.ed_link.proofs.linking.link_names.Goals as goal
 
-pub returns-in-Ok-finish-clause-linked : goal.returns-in-Ok-finish-clause-linked
-returns-in-Ok-finish-clause-linked c =
+pub returns-clause-linked : goal.returns-clause-linked
+returns-clause-linked c =
     let n : c.len.result ≡ length c.args.program.now.lines.items = omega arith in
     let missed = c.missing-missing.ensures ∙ ap (λ (x : ℕ). missing c.any_enter-any.result x) n in
     finished _ c.catalogue_size-ready.ensures.ready c.args.program.now.numbered c.args.program.now.formed
     c.requires.homes
     (c.any_enter-any.ensures ∙ ap (λ (x : List Line). any_enter x) c.deref.ensures.value)
-    (sym c.requires.names ∙ c.in-None.is, sym missed ∙ c.in-None-missing.is)
+    (sym c.requires.names ∙ c.in_default.is, sym missed ∙ c.in_default-missing.is)
     (subst (λ (x : List Line). IsBuilt c.args.size c.args.homes.now c.any_enter-any.result x c.in-Ok.built)
     c.deref-2.ensures.value c.in-Ok.ensures)
-    c.in-Ok-finish.ensures.linked
+    c.in_ok-finish.ensures

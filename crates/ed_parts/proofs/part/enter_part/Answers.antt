@@ -1,4 +1,5 @@
 use Rattle.std.proofs.Common.{◌≡◌, ◌+◌, ◌≤◌, refl, ap, arith}
+use Rattle.std.proofs.lemmas.Result.{err_from_is_err_and}
 use Rattle.ed_io.proofs.Calls.{gains_more, gains_none}
 use Rattle.ed_parts.specs.Parts.{cut, entry_done, finished, part_behind}
 use Rattle.ed_parts.specs.Private.Stages.{stage_part}
@@ -17,18 +18,20 @@ returns-then-left-arrival-clause-passes g c =
       gains_none _,
     )
 
-pub returns-in-Err-clause-passes : goal.returns-in-Err-clause-passes
-returns-in-Err-clause-passes g c =
+pub returns-in_err-write_line-clause-passes : goal.returns-in_err-write_line-clause-passes
+returns-in_err-write_line-clause-passes g c =
     let a = c.requires.arrival in
     let p = stage_part c.args.stage c.args.machine.now in
     let line = entry_is c.args.stage.rows p a.0 a.1.at_is a.1.orders_are a.1.rows_are in
     let within : entry_done p a.0 ≤ c.args.stage.limit =
     omega (arith, c.if-left-arrival.false, a.1.orders_are, c.requires.done) in
-    let gains = c.in-Err.ensures.whole _ (made_as _ _ _ line c.entry_text.ensures) in (
+    let e = err_from_is_err_and c.from_residual.result c.from_residual.ensures.1 in
+    let gains = c.in_err-write_line.ensures.whole _ (made_as _ _ _ line c.entry_text.ensures) in
+    rw (e.1, e.2) (
       entry_breaks c.args.stage.limit c.args.stage.rows p a.0 a.1.leads within gains,
       entry_stops c.args.stage.limit c.args.stage.rows p a.0 a.1.leads within
-          (there c.args.stage.limit p a.0 a.1.orders_are c.obey-2.ensures.state) c.in-Err.fault gains
-          c.in-Err.ensures.memory,
+          (there c.args.stage.limit p a.0 a.1.orders_are c.obey-2.ensures.state) c.in_err-write_line.field-0.0 gains
+          c.in_err-write_line.ensures.memory,
     )
 
 pub overflow_add-done : goal.overflow_add-done
@@ -48,11 +51,11 @@ returns-in-Finished-clause-passes g c =
           (finishes_there l p a.0 a.1.orders_are c.obey-2.ensures.state m.1) refl,
       refl,
       behind_is l p a.0 a.1.orders_are c.obey-2.ensures.state m.0 m.2,
-      c.in_default.ensures.whole _ (made_as _ _ _ line c.entry_text.ensures),
+      c.in_ok-write_line.ensures.whole _ (made_as _ _ _ line c.entry_text.ensures),
     )
 
-pub returns-in-Ok-clause-passes : goal.returns-in-Ok-clause-passes
-returns-in-Ok-clause-passes g c =
+pub returns-in_ok-write_line-in-Returned-clause-passes : goal.returns-in_ok-write_line-in-Returned-clause-passes
+returns-in_ok-write_line-in-Returned-clause-passes g c =
     let a = c.requires.arrival in
     let p = stage_part c.args.stage c.args.machine.now in
     let line = entry_is c.args.stage.rows p a.0 a.1.at_is a.1.orders_are a.1.rows_are in
@@ -68,12 +71,12 @@ returns-in-Ok-clause-passes g c =
       b,
       count,
       last,
-      gains_more _ _ _ _ _ (c.in_default.ensures.whole _ (made_as _ _ _ line c.entry_text.ensures))
-          (c.in-Ok.ensures.whole _ (made_as _ _ _ told c.returned_text.ensures)),
+      gains_more _ _ _ _ _ (c.in_ok-write_line.ensures.whole _ (made_as _ _ _ line c.entry_text.ensures))
+          (c.in_ok-write_line-in-Returned.ensures.whole _ (made_as _ _ _ told c.returned_text.ensures)),
     )
 
-pub returns-in-Err-write_line-clause-passes : goal.returns-in-Err-write_line-clause-passes
-returns-in-Err-write_line-clause-passes g c =
+pub returns-in_err-write_line-in-Returned-clause-passes : goal.returns-in_err-write_line-in-Returned-clause-passes
+returns-in_err-write_line-in-Returned-clause-passes g c =
     let a = c.requires.arrival in
     let p = stage_part c.args.stage c.args.machine.now in
     let line = entry_is c.args.stage.rows p a.0 a.1.at_is a.1.orders_are a.1.rows_are in
@@ -86,9 +89,12 @@ returns-in-Err-write_line-clause-passes g c =
     let count : c.args.stage.done + c.args.arrival.orders + c.in-Returned.orders ≡ (part_behind p b).done =
     ap (λ n. c.args.stage.done + n + c.in-Returned.orders) a.1.orders_are in
     let told = returned_is b last c.directive.ensures c.order-address.ensures.is count in
-    let whole = c.in_default.ensures.whole _ (made_as _ _ _ line c.entry_text.ensures) in
-    let gains = c.in-Err-write_line.ensures.whole _ (made_as _ _ _ told c.returned_text.ensures) in (
+    let whole = c.in_ok-write_line.ensures.whole _ (made_as _ _ _ line c.entry_text.ensures) in
+    let failed = c.in_err-write_line-in-Returned in
+    let r = c.from_residual-in_err-write_line-in-Returned in
+    let e = err_from_is_err_and r.result r.ensures.1 in
+    let gains = failed.ensures.whole _ (made_as _ _ _ told c.returned_text.ensures) in
+    rw (e.1, e.2) (
       return_breaks l c.args.stage.rows p b whole gains,
-      return_stops l c.args.stage.rows p b _ _ _ last whole c.in-Err-write_line.fault gains
-          c.in-Err-write_line.ensures.memory,
+      return_stops l c.args.stage.rows p b _ _ _ last whole failed.field-0.0 gains failed.ensures.memory,
     )

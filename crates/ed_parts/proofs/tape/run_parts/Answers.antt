@@ -1,4 +1,5 @@
 use Rattle.std.proofs.Common.{refl, ◌∙◌, ap, arith, length}
+use Rattle.std.proofs.lemmas.Result.{err_from_is_err_and}
 use Rattle.ed_parts.proofs.Passing.{ahead_first, answers_broken, answers_over, goes_onward}
 use Rattle.ed_parts.proofs.Reached.{each_reached}
 use Rattle.ed_parts.proofs.Runs.{each_end}
@@ -19,42 +20,43 @@ parts-init g c =
       faults = refl;
     }
 
-pub returns-in-Ok-Over-clause-tells : goal.returns-in-Ok-Over-clause-tells
-returns-in-Ok-Over-clause-tells g c =
+pub returns-in-Over-clause-tells : goal.returns-in-Over-clause-tells
+returns-in-Over-clause-tells g c =
     let i = c.parts.invariant in
     answers_over _ c.from.ensures i.whole i.ahead
-    (rw c.in-Ok-Over.field-0-is at c.in-Ok-Over.ensures.passes)
+    (rw c.in-Over.is at c.in_ok-end.ensures.passes)
 
-pub returns-in-Err-clause-tells : goal.returns-in-Err-clause-tells
-returns-in-Err-clause-tells g c =
+pub returns-in_err-end-clause-tells : goal.returns-in_err-end-clause-tells
+returns-in_err-end-clause-tells g c =
+    let p = err_from_is_err_and c.from_residual.result c.from_residual.ensures.1 in
     let i = c.parts.invariant in
-    answers_broken _ c.from.ensures i.whole i.ahead c.in-Err.fault c.run_part.new.machine
-    c.in-Err.ensures.passes
+    rw (p.1, p.2) (answers_broken _ c.from.ensures i.whole i.ahead c.in_err-end.field-0.0 c.run_part.new.machine
+    c.in_err-end.ensures.passes)
 
-pub returns-in-Ok-Over-clause-law : goal.returns-in-Ok-Over-clause-law
-returns-in-Ok-Over-clause-law g c = each_told_once
+pub returns-in-Over-clause-law : goal.returns-in-Over-clause-law
+returns-in-Over-clause-law g c = each_told_once
 
-pub returns-in-Ok-Over-clause-reached : goal.returns-in-Ok-Over-clause-reached
-returns-in-Ok-Over-clause-reached g c = each_reached
+pub returns-in-Over-clause-reached : goal.returns-in-Over-clause-reached
+returns-in-Over-clause-reached g c = each_reached
 
-pub returns-in-Err-clause-law : goal.returns-in-Err-clause-law
-returns-in-Err-clause-law g c = each_told_once
+pub returns-in_err-end-clause-law : goal.returns-in_err-end-clause-law
+returns-in_err-end-clause-law g c = each_told_once
 
-pub returns-in-Err-clause-reached : goal.returns-in-Err-clause-reached
-returns-in-Err-clause-reached g c = each_reached
+pub returns-in_err-end-clause-reached : goal.returns-in_err-end-clause-reached
+returns-in_err-end-clause-reached g c = each_reached
 
-pub returns-in-Ok-Over-clause-runs : goal.returns-in-Ok-Over-clause-runs
-returns-in-Ok-Over-clause-runs g c = each_end
+pub returns-in-Over-clause-runs : goal.returns-in-Over-clause-runs
+returns-in-Over-clause-runs g c = each_end
 
-pub returns-in-Err-clause-runs : goal.returns-in-Err-clause-runs
-returns-in-Err-clause-runs g c = each_end
+pub returns-in_err-end-clause-runs : goal.returns-in_err-end-clause-runs
+returns-in_err-end-clause-runs g c = each_end
 
 pub parts-preserved : goal.parts-preserved
 parts-preserved g c =
     let i = c.parts.invariant in
     let o =
     goes_onward _ c.from.ensures i.whole i.ahead
-    (rw c.in-Ok-Back.field-0-is at c.in-Ok-Back.ensures.passes) in
+    (rw c.in-Back.is at c.in_ok-end.ensures.passes) in
     record {
       ahead = o.ahead;
       back = λ ne. o.home;
@@ -63,5 +65,5 @@ parts-preserved g c =
       done = omega (arith, o.later.within);
       many = omega (arith, i.many, o.later.later);
       orders = omega (arith, i.orders, o.later.soon, o.later.later);
-      faults = c.in-Ok-Back.ensures.faults ∙ i.faults;
+      faults = c.in_ok-end.ensures.faults ∙ i.faults;
     }

@@ -1,13 +1,9 @@
-use Rattle.std.proofs.Common.{◌≡◌, ◌∙◌, ℕ, ◌+◌, ◌<◌, Bool, true, false, sym, ap, subst}
-use Rattle.std.proofs.Common.{List, ◌++◌, append_assoc, drop, length, get_or, if◌then◌else◌}
+use Rattle.std.proofs.Common.{◌≡◌, ◌∙◌, ℕ, ◌+◌, ◌<◌, sym, ap, subst}
+use Rattle.std.proofs.Common.{List, ◌++◌, append_assoc, drop, length, get_or}
 use Rattle.std.proofs.lemmas.List.{drop_more}
 use Rattle.ed_library.specs.Entries.{Routine, catalogue, no_entry}
 use Rattle.ed_report.specs.Catalogue.{routine_line, routine_lines}
 use Rattle.ed_report.proofs.library.library_text.Goals as goal
-
-taken : (ok : Bool) (whole other more : List ℕ) → ok ≡ true → more ≡ (if ok then whole else other) → more ≡ whole
-taken true whole other more e h = h
-taken false whole other more e h = absurd (cc)
 
 -- one line more, of those of some routines
 next : (entries : List Routine) (k : ℕ) (lines : List ℕ) {line more whole : List ℕ} → k < length entries
@@ -25,7 +21,7 @@ loop-index-preserved c =
     let l = c.loop-index in
     let below : l.index < length catalogue =
     subst (λ (n : ℕ). l.index < n) c.catalogue_size-index-end.ensures.is c.loop-index-test.true in
-    let grown = taken _ _ _ _ c.if-is_err.ensures.negation c.extend_from_slice.ensures.items in
+    let grown = c.in_ok-extend_from_slice.ensures.items in
     next catalogue l.index l.lines.items below
     (c.in_ok-line.ensures ∙ ap (λ (r : ℕ). routine_line (get_or catalogue r no_entry)) c.routine.ensures)
     (grown ∙ ap (λ (x : List ℕ). l.lines.items ++ x) c.deref.ensures.value) l.invariant

@@ -10,8 +10,8 @@ low a b within k d below =
 
 pub listing-requires : goal.listing-requires
 listing-requires c =
-    subst (λ places. All (λ x. x < 1024) places) (sym (c.deref.ensures.value ∙ c.in-Ok.ensures))
+    subst (λ places. All (λ x. x < 1024) places) (sym (c.deref.ensures.value ∙ c.in_ok-places.ensures))
     (low c.args.first c.args.last c.requires.within)
 
 pub returns : goal.returns
-returns c = rw (c.store.ensures, c.deref.ensures.value, c.in-Ok.ensures) at c.listing.ensures
+returns c = rw (c.store.ensures, c.deref.ensures.value, c.in_ok-places.ensures) at c.listing.ensures

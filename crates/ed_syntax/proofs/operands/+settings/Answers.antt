@@ -1,27 +1,30 @@
-use Rattle.std.proofs.Common.{rules, arith, sym, ap, ◌∙◌, ◌≡◌, map}
-use Rattle.std.specs.Prelude.{Some, None, option_map}
+use Rattle.std.proofs.Common.{rules, arith, sym, ap, ◌∙◌, ◌≡◌, List, map}
+use Rattle.std.specs.Prelude.{Some, None, Option, Ok, Err}
 use Rattle.ed_syntax.specs.Parts.{array}
-use Rattle.ed_syntax.specs.Private.Grammar.{setting}
+use Rattle.ed_syntax.specs.Private.Found.{answered}
+use Rattle.ed_syntax.specs.Private.Grammar.{Ranged, made, setting}
 use Rattle.ed_syntax.specs.Private.Seen.{part}
+use Rattle.ed_syntax.specs.Programs.{is_second}
+use Rattle.ed_syntax.specs.declared.program.Setting.{Setting}
 use Rattle.ed_syntax.proofs.Settings.{none_left, no_setting, first_setting}
 use Rattle.ed_syntax.proofs.operands.+settings.Goals as goal
 
 pub settings-returns-then-most-eq0-clause-is : goal.settings-returns-then-most-eq0-clause-is
 settings-returns-then-most-eq0-clause-is t c =
-    ap (option_map (option_map array))
-    (sym (none_left c.args.two c.args.most (map part c.args.parts.now) c.if-most-eq0.true))
+    ap (λ (o : Option (Ranged (List Setting))). answered (made array o))
+    (sym (none_left (is_second c.args.version) c.args.most (map part c.args.parts.now) c.if-most-eq0.true))
 
-pub settings-returns-in-Some-clause-is : goal.settings-returns-in-Some-clause-is
-settings-returns-in-Some-clause-is t c =
-    let front : setting c.args.two (map part c.args.parts.now)
-    ≡ Some (c.in-Some.setting, map part c.in-Some.rest.now) = search rules in
-    let rest = map part c.in-Some.rest.now in
-    let whole = first_setting c.args.two c.args.most (map part c.args.parts.now) rest c.in-Some.setting
+pub settings-returns-in-Ok-clause-is : goal.settings-returns-in-Ok-clause-is
+settings-returns-in-Ok-clause-is t c =
+    let front : setting (is_second c.args.version) (map part c.args.parts.now)
+    ≡ Some (c.in-Ok.setting, map part c.in-Ok.rest.now) = search rules in
+    let rest = map part c.in-Ok.rest.now in
+    let whole = first_setting (is_second c.args.version) c.args.most (map part c.args.parts.now) rest c.in-Ok.setting
     (omega arith) front in
-    c.and_more.ensures.is ∙ ap (option_map (option_map array)) (sym whole)
+    c.and_more.ensures.is ∙ ap (λ (o : Option (Ranged (List Setting))). answered (made array o)) (sym whole)
 
-pub settings-returns-in-None-clause-is : goal.settings-returns-in-None-clause-is
-settings-returns-in-None-clause-is t c =
-    let front : setting c.args.two (map part c.args.parts.now) ≡ None = search rules in
-    ap (option_map (option_map array))
-    (sym (no_setting c.args.two c.args.most (map part c.args.parts.now) (omega arith) front))
+pub settings-returns-in-Err-clause-is : goal.settings-returns-in-Err-clause-is
+settings-returns-in-Err-clause-is t c =
+    let front : setting (is_second c.args.version) (map part c.args.parts.now) ≡ None = search rules in
+    ap (λ (o : Option (Ranged (List Setting))). answered (made array o))
+    (sym (no_setting (is_second c.args.version) c.args.most (map part c.args.parts.now) (omega arith) front))

@@ -2,10 +2,10 @@ use Rattle.std.proofs.Common.{rules, ◌≡◌, ◌++◌, ◌∷◌, []}
 use Rattle.ed_syntax.proofs.PartLemmas.{more_parts}
 use Rattle.ed_syntax.proofs.parts.parts_of.Goals as goal
 
-pub loop-part-preserved : goal.loop-part-preserved
-loop-part-preserved c =
-    let grown : c.push.new.self.items ≡ c.loop-part.parts.items ++ c.in-Ok-Some.part ∷ [] = search rules in
-    let takes = rw c.in-Ok-Some.field-0-is at c.in-Ok-Some.ensures in
-    let after = c.in-Ok-Some.after.now in
-    rw grown (more_parts c.args.line.now c.loop-part.rest.now after c.loop-part.parts.items c.in-Ok-Some.part
-    c.loop-part.invariant takes.0)
+pub loop-parts-preserved : goal.loop-parts-preserved
+loop-parts-preserved c =
+    let grown : c.push.new.self.items ≡ c.loop-parts.parts.items ++ c.in-Some.part ∷ [] = search rules in
+    let takes = rw c.in-Some.is at c.in_ok-part.ensures in
+    let after = c.in-Some.after.now in
+    rw grown (more_parts c.args.line.now c.loop-parts.rest.now after c.loop-parts.parts.items c.in-Some.part
+    c.loop-parts.invariant takes.0)

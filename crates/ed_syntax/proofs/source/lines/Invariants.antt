@@ -1,13 +1,14 @@
 use Rattle.std.proofs.Common.{◌≡◌, ◌≤◌, length}
 use Rattle.ed_syntax.specs.Lines.{lines_of}
+use Rattle.ed_syntax.specs.Programs.{is_second}
 use Rattle.ed_syntax.specs.Private.LineFronts.{with_lines_before}
 use Rattle.ed_syntax.specs.Private.SourceReading.{lines_from}
 use Rattle.ed_syntax.proofs.source.lines.Given as goal
 
 abbrev pub invariant-loop-rest : goal.invariant-loop-rest
 invariant-loop-rest l = record {
-  same : lines_from l.two 1 (lines_of l.text) ≡ with_lines_before l.found.items
-      (lines_from l.two l.number (lines_of l.rest));
+  same : lines_from (is_second l.version) 1 (lines_of l.text) ≡ with_lines_before l.found.items
+      (lines_from (is_second l.version) l.number (lines_of l.rest));
   number : l.number ≤ 2001;
 }
 

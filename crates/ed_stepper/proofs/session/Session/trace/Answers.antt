@@ -8,7 +8,7 @@ pub list_functions-requires-clause-orders : goal.list_functions-requires-clause-
 list_functions-requires-clause-orders c =
     let m = c.go-moved.ensures in
     let i = c.self.invariant in
-    let same = ap (λ (x : State). x.orders) c.in-Ok-copy.ensures in
+    let same = ap (λ (x : State). x.orders) c.in_ok-machine.ensures in
     let limit = ap (λ (x : Stand). x.limit) c.self.view_is in
     let done = ap (λ (x : Stand). x.done) c.self.view_is in
     omega (arith, within_left _ _ m.orders _ _ m.ends, m.done_is, i.count, i.most, i.room, same, limit, done)
@@ -17,4 +17,4 @@ pub list_functions-requires-clause-room : goal.list_functions-requires-clause-ro
 list_functions-requires-clause-room c =
     let m = c.go-moved.ensures in
     let done = ap (λ (x : Stand). x.done) c.self.view_is in
-    omega (arith, at_most _ _ m.orders _ _ m.ends, m.done_is, done, c.in-Ok.ensures.len, c.in-Ok.ensures.capacity)
+    omega (arith, at_most _ _ m.orders _ _ m.ends, m.done_is, done, c.in_ok-functions.ensures.len, c.in_ok-functions.ensures.capacity)

@@ -1,0 +1,30 @@
+use Rattle.std.proofs.Common.{rules, ◌≡◌, ◌∙◌, map, sym}
+use Rattle.std.specs.Prelude.{Ok, Err}
+use Rattle.std.proofs.lemmas.Result.{err_from_is_err_and}
+use Rattle.ed_syntax.specs.Private.Answers.{LineIs, form_fault}
+use Rattle.ed_syntax.specs.Private.Found.{answered}
+use Rattle.ed_syntax.specs.Private.Grammar.{form_at}
+use Rattle.ed_syntax.specs.Private.Seen.{part}
+use Rattle.ed_syntax.specs.Private.SourceReading.{line_of, or_cause}
+use Rattle.ed_syntax.specs.Programs.{is_second}
+use Rattle.ed_syntax.proofs.Faults.{line_fault, line_form}
+use Rattle.ed_syntax.proofs.source.line_of.Goals as goal
+
+pub returns-in_err-form_at : goal.returns-in_err-form_at
+returns-in_err-form_at c =
+    let r = c.from_residual-in_err-form_at in
+    let p = err_from_is_err_and r.result r.ensures.1 in
+    let o = form_at (is_second c.args.version) c.args.number (map part c.in_ok-parts.parts.items) in
+    let whole : line_of (is_second c.args.version) c.args.number c.args.line.now ≡ or_cause o = search rules in
+    let fault = c.in_err-form_at.field-0.0 in
+    let told : Err fault ≡ answered o = search rules in
+    let is : LineIs (line_of (is_second c.args.version) c.args.number c.args.line.now) (Err (form_fault fault)) =
+    rw whole (line_fault o fault told) in
+    rw (p.1, p.2) is
+
+pub returns : goal.returns
+returns c =
+    let o = form_at (is_second c.args.version) c.args.number (map part c.in_ok-parts.parts.items) in
+    let whole : line_of (is_second c.args.version) c.args.number c.args.line.now ≡ or_cause o = search rules in
+    let told : Ok c.in_ok-form_at.field-0 ≡ answered o = search rules in
+    whole ∙ line_form o c.in_ok-form_at.field-0 told

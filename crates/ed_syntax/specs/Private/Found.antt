@@ -1,0 +1,20 @@
+-- What the code answers to parts, by what the grammar reads in them.
+use Rattle.std.specs.Prelude.{List, Option, Some, None, Result, Ok, Err, map}
+use Rattle.std.specs.Borrow.{Bor}
+use Rattle.ed_syntax.specs.Parts.{LinePart}
+use Rattle.ed_syntax.specs.Private.Grammar.{Ranged}
+use Rattle.ed_syntax.specs.Private.Seen.{part}
+use Rattle.ed_syntax.specs.declared.fault.FormFault.{FormFault}
+use Rattle.ed_syntax.specs.declared.fault.FormFault.TheVariants.{NotThisForm, OutOfRange}
+use Rattle.ed_syntax.specs.declared.parts.Part.{Part}
+
+-- what is read, or why nothing is: the parts don't have its form, or a number is out of its range
+abbrev pub answered : {A : Type 0} → Option (Ranged A) → Result A FormFault
+answered None = Err NotThisForm
+answered (Some None) = Err OutOfRange
+answered (Some (Some a)) = Ok a
+
+-- what was found at the front, and the parts after it
+abbrev pub front : {A : Type 0} → Result (A × Bor (List Part)) FormFault → Option (A × List LinePart)
+front (Ok p) = Some (p.0, map part p.1.now)
+front (Err e) = None

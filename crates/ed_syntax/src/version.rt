@@ -1,0 +1,47 @@
+ghost use Rattle.std.specs.Prelude.{◌≡◌, ◌==◌, ◌≤◌, if◌then◌else◌};
+ghost use Rattle.ed_syntax.specs.Programs.{is_second};
+
+use crate::Program;
+
+/// A version of the source language.
+#[derive(Clone, Copy, Debug, PartialEq, Eq)]
+pub enum Version {
+    One,
+    Two,
+}
+
+impl Version {
+    /// The version of a program.
+    pub fn of(program: &Program) -> Version
+        ensures { is_second result ≡ (program.now.version == 2) }
+    {
+        if program.version == 2 {
+            Version::Two
+        } else {
+            Version::One
+        }
+    }
+
+    /// Whether it is version 2.
+    pub fn is_two(self) -> bool
+        ensures { result ≡ is_second self }
+    {
+        match self {
+            Version::One => false,
+            Version::Two => true,
+        }
+    }
+
+    /// Its number.
+    pub(crate) fn number(self) -> u8
+        ensures is { result ≡ (if is_second self then 2 else 1) }
+        ensures low { 1 ≤ result }
+        ensures high { result ≤ 2 }
+        ensures test { (result == 2) ≡ is_second self }
+    {
+        match self {
+            Version::One => 1,
+            Version::Two => 2,
+        }
+    }
+}

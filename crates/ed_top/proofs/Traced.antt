@@ -1,0 +1,47 @@
+-- What is on `out` of a trace that is not told whole.
+use Rattle.std.proofs.Common.{◌≡◌, ℕ, List, Option, [], sym, subst, append-nil}
+use Rattle.std.specs.Prelude.{Ok, Err}
+use Rattle.ed_io.specs.Bytes.{Gains}
+use Rattle.ed_io.proofs.Calls.{gains_none}
+use Rattle.ed_machine.specs.State.{State}
+use Rattle.ed_machine.specs.declared.ending.Ending.{Ending}
+use Rattle.ed_loads.specs.EntryState.{first_state}
+use Rattle.ed_trace.specs.Traces.{TraceEnds, trace_faults, trace_of}
+use Rattle.ed_trace.specs.declared.tracing.TraceFault.{TraceFault}
+use Rattle.ed_trace.specs.declared.tracing.TraceFault.TheVariants as trace
+use Rattle.ed_command.specs.declared.command.Settings.{Settings}
+use Rattle.ed_answers.specs.Answer.{known}
+use Rattle.ed_top.specs.Clause.{Device, WrotePart}
+use Rattle.ed_top.specs.Traces.{trace_outcome}
+use Rattle.ed_top.specs.Private.Stages.{Carried, trace_stop}
+use Rattle.ed_top.proofs.FirstParts.{none_written}
+
+module _ (s : Settings) (codes : List ℕ) {start : State} (is : start ≡ first_state s.size codes) (out : Device) where
+  -- a fault stops the command
+  pub trace_stopped : (limit : ℕ) → limit ≡ s.limit → (fault : TraceFault) (last : State)
+      → TraceEnds limit s.resumes start (Err fault) last out.before out.after
+      → out.faults_after ≡ trace_faults (Err fault) out.faults_before
+      → Carried (known (trace_outcome s codes)) [] out (Err (trace_stop fault))
+  trace_stopped limit same trace.Failed last ends count = (
+    count,
+    subst (λ (x : State). WrotePart out (trace_of s.limit s.resumes x)) is
+        (subst (λ (n : ℕ). WrotePart out (trace_of n s.resumes start)) same ends.0),
+  )
+  trace_stopped limit same trace.Memory last ends count = (
+    count,
+    none_written out _
+        (subst (λ (x : Option (List ℕ)). Gains out.before x []) (sym ends.1) (gains_none out.before)),
+  )
+
+  -- all of it is, and no memory was found for the note
+  pub trace_untold : (limit : ℕ) → limit ≡ s.limit → (ending : Ending) (last : State)
+      → TraceEnds limit s.resumes start (Ok ending) last out.before out.after
+      → WrotePart out (trace_outcome s codes).out
+  trace_untold limit same ending last ends =
+      subst (λ (x : State). WrotePart out (trace_of s.limit s.resumes x)) is
+      (subst (λ (n : ℕ). WrotePart out (trace_of n s.resumes start)) same (record {
+        part = trace_of limit s.resumes start;
+        rest = [];
+        whole = sym (append-nil (trace_of limit s.resumes start));
+        gains = ends.2;
+      }))
