@@ -17,8 +17,9 @@ PROGRAM = "edsac"
 BUILT = CRATES / PROGRAM / "out" / PROGRAM
 # How long an answer of the program may take.
 SECONDS = 60
-# The beginning of an item of code, and of a definition in `specs/`, with its name.
+# The beginning of an item of code, of a type, and of a definition in `specs/`, with its name.
 ITEM = re.compile(r'pub (?:const |unsafe |extern "C" )?(fn|struct|enum|trait|const|static|type) (\w+)')
+TYPE = re.compile(r"^(?:pub(?:\(crate\))? )?(?:struct|enum|trait) (\w+)", re.M)
 DEFINED = re.compile(r"^(?:abbrev pub|unfoldable pub|pub record|pub data|pub(?! mod)) ([^ :({]+)", re.M)
 
 # ---- the crates

@@ -74,8 +74,8 @@ fn scope_on(rt: &HostRuntime, text: &[u8], line: u32, name: &str) -> Option<Scop
     if line == 0 || line as usize > program.lines.len() {
         return None;
     }
-    let home = places.home_at(line, &Name::new(name)?)?;
-    Some(match home.segment {
+    let definition = places.home_at(line, &Name::new(name)?)?;
+    Some(match definition.segment {
         Some(segment) => Scope::Segment(segment),
         None => Scope::Source,
     })
@@ -251,10 +251,14 @@ fn what_a_source_defines(rt: HostRuntime) -> Result<(), Fail> {
     ];
     let program = parse(rt.alloc(), ODD).expect(&rt, "a program");
     let places = resolve(rt.alloc(), &program).expect(&rt, "places");
-    assert_eq!(rt; places.homes().len(), wanted.len());
-    for (home, (name, place, segment)) in places.homes().iter().zip(wanted) {
-        assert_eq!(rt; home.name.text(), name);
-        assert_eq!(rt; (home.place, home.segment), (place, segment), "{name}");
+    assert_eq!(rt; places.symbols().len(), wanted.len());
+    for (definition, (name, place, segment)) in places.symbols().iter().zip(wanted) {
+        assert_eq!(rt; definition.name.text(), name);
+        assert_eq!(rt;
+            (definition.place, definition.segment),
+            (place, segment),
+            "{name}"
+        );
     }
     Ok(())
 }

@@ -1,6 +1,7 @@
 -- A run that stays in the first 512 locations is the same on both sizes of the store.
 use Rattle.std.proofs.Common.{◌≡◌, ◌∙◌, ℕ, zero, suc, ◌+◌, ◌^◌, ◌<◌, ◌≤◌, refl, ap, arith}
-use Rattle.std.proofs.Common.{Bool, true, false, nat_eq, nat_lt, nat_le, Option, Some, None, List, [], ◌∷◌, ◌++◌, length}
+use Rattle.std.proofs.Common.{Bool, true, false, nat_eq, nat_lt, nat_le, Option, Some, None, List, [], ◌∷◌, ◌++◌}
+use Rattle.std.proofs.Common.{length}
 use Rattle.std.specs.Prelude.{if◌then◌else◌}
 use Rattle.std.proofs.lemmas.Bool.Decides.{nat_tests}
 use Rattle.ed_words.specs.declared.size.Size.{Size}
@@ -11,7 +12,7 @@ use Rattle.ed_orders.specs.declared.kind.Kind.{Kind}
 use Rattle.ed_orders.specs.declared.kind.Kind.TheVariants.{A, S, H, V, N, T, U, C, R, L, E, G, I, O, F, X, Y, Z}
 use Rattle.ed_machine.specs.State.{State}
 use Rattle.ed_machine.specs.OrderTable.{Obeyed, jumped, next_word, obey_word, place_of, step, took_row}
-use Rattle.ed_machine.specs.Steps.{Past, codes_of, next_past, past, state_after, stops_of}
+use Rattle.ed_machine.specs.Steps.{Progress, codes_of, next_progress, progress, state_after, stops_of}
 use Rattle.ed_machine.specs.declared.ending.Ending.{Ending}
 use Rattle.ed_machine.specs.declared.ending.Ending.TheVariants.{Stopped, Limit, NoOrder, NoTape, PaperFull}
 use Rattle.ed_run.specs.Run.{EndsAfter, RunEnd, end_at, end_by, ran, run_orders}
@@ -117,10 +118,11 @@ step_ends z s full = word_ends z (next_word s) s full (kind_of_function (functio
 
 -- ---- many orders
 
-abbrev past_sized : Size → Past → Past
+abbrev past_sized : Size → Progress → Progress
 past_sized z p = record p { state = sized z p.state }
 
-next_same : (z : Size) (p : Past) → StaysBelow p.state → next_past (past_sized z p) ≡ past_sized z (next_past p)
+next_same : (z : Size) (p : Progress) → StaysBelow p.state
+    → next_progress (past_sized z p) ≡ past_sized z (next_progress p)
 next_same z p low =
     let one = step_same z p.state low in
     λ i. record {
@@ -130,16 +132,18 @@ next_same z p low =
     }
 
 past_same : (z : Size) (k : ℕ) (s : State) → ((j : ℕ) → j < k → StaysBelow (state_after j s))
-    → past k (sized z s) ≡ past_sized z (past k s)
-unfolding past
+    → progress k (sized z s) ≡ past_sized z (progress k s)
+unfolding progress
 past_same z zero s low = refl
 past_same z (suc k) s low =
-    ap next_past (past_same z k s (λ j l. low j (omega (arith, l)))) ∙ next_same z (past k s) (low k (omega arith))
+    ap next_progress (past_same z k s (λ j l. low j (omega (arith, l))))
+    ∙ next_same z (progress k s) (low k (omega arith))
 
-end_same : (z : Size) (limit resumes room k : ℕ) (p : Past)
+end_same : (z : Size) (limit resumes room k : ℕ) (p : Progress)
     → end_at limit resumes room k (past_sized z p) ≡ end_at limit resumes room k p
 end_same z limit resumes room k p =
-    ap (λ (e : Option Ending). if nat_lt resumes p.stops then Some Stopped else if nat_eq k limit then Some Limit else e)
+    ap (λ (e : Option Ending). if nat_lt resumes p.stops then Some Stopped else if nat_eq k limit
+    then Some Limit else e)
     (step_ends z p.state (nat_le room (length p.codes)))
 
 -- ---- a run
@@ -155,16 +159,16 @@ run_same z limit resumes room s low =
     let k = run_orders limit resumes room s in
     let ends = ran_ends limit resumes room s in
     let at : (j : ℕ) → j ≤ k
-    → end_at limit resumes room j (past j (sized z s)) ≡ end_at limit resumes room j (past j s) =
+    → end_at limit resumes room j (progress j (sized z s)) ≡ end_at limit resumes room j (progress j s) =
     λ j l. ap (end_at limit resumes room j) (past_same z j s (λ i m. low i (omega (arith, l, m))))
-    ∙ end_same z limit resumes room j (past j s) in
+    ∙ end_same z limit resumes room j (progress j s) in
     let there : EndsAfter limit resumes room (sized z s) k (ran limit resumes room s).ending = record {
       now = at k (omega arith) ∙ ends.now;
       first = λ j l. at j (omega (arith, l)) ∙ ends.first j l;
     } in
     let one = ends_once (ran_ends limit resumes room (sized z s)) there in
-    let left : past (run_orders limit resumes room (sized z s)) (sized z s) ≡ past_sized z (past k s) =
-    ap (λ n. past n (sized z s)) one.0 ∙ past_same z k s low in
+    let left : progress (run_orders limit resumes room (sized z s)) (sized z s) ≡ past_sized z (progress k s) =
+    ap (λ n. progress n (sized z s)) one.0 ∙ past_same z k s low in
     λ i. record { ending = one.1 i; state = (left i).state; codes = (left i).codes }
 
 -- ---- outcomes

@@ -3,7 +3,7 @@ use Rattle.std.proofs.Common.{◌≡◌, ◌∙◌, ℕ, ◌-◌, ◌<◌, ◌�
 use Rattle.std.specs.Prelude.{if◌then◌else◌, Result, Ok, Err, IfOk}
 use Rattle.ed_words.specs.declared.memory.NoMemory.{NoMemory}
 use Rattle.ed_machine.specs.State.{State}
-use Rattle.ed_machine.specs.Steps.{least, past, state_after}
+use Rattle.ed_machine.specs.Steps.{least, progress, state_after}
 use Rattle.ed_printer.specs.Paper.{paper}
 use Rattle.ed_run.specs.Run.{RunEnd, ran}
 use Rattle.ed_run.specs.Laws.{AllWent}
@@ -24,7 +24,7 @@ use Rattle.ed_answers.specs.Runs.{paper_room, post_mortem_codes, ran_outcome, ru
 use Rattle.ed_answers.specs.Sources.{entered_before}
 use Rattle.ed_answers.specs.Headline.{RunsFromEntry}
 use Rattle.ed_answers.specs.Replies.{IsRan}
-use Rattle.ed_answers.specs.declared.running.Ran.{Ran}
+use Rattle.ed_answers.specs.declared.running.FinishedRun.{FinishedRun}
 use Rattle.ed_answers.proofs.Keeping.{run_follows}
 
 -- ---- from the entry
@@ -36,7 +36,7 @@ reached lines s h =
 
 -- a run with no order prints nothing
 none_first : (resumes room : ℕ) (s : State) → (ran 0 resumes room s).codes ≡ []
-unfolding ran past least
+unfolding ran progress least
 none_first resumes room s = refl
 
 -- nor does one whose limit is below the number of orders that neither print nor stop
@@ -56,7 +56,7 @@ run_on s lines enters fits =
     ∙ ap (ran (s.limit - cost lines) s.resumes paper_room) enters.state_is
 
 -- so the run of a machine that was led to the entry of a linked program only has to continue
-pub goes_on : (s : Settings) (k : Linked) (entered : State) (r : Result Ran NoMemory) → entered.orders ≤ s.limit
+pub goes_on : (s : Settings) (k : Linked) (entered : State) (r : Result FinishedRun NoMemory) → entered.orders ≤ s.limit
     → ((lines : List Line) → IsLinked s.size lines k → entered ≡ entry_state s.size lines)
     → IfOk r (IsRan (ran (s.limit - entered.orders) s.resumes paper_room entered))
     → IfOk r (λ ran. (lines : List Line) → IsLinked s.size lines k → IsRan (run_of s (tape lines)) ran)

@@ -9,7 +9,7 @@ use Rattle.ed_words.specs.Texts.{Text}
 use Rattle.ed_words.proofs.Numbers.{eq_false}
 use Rattle.ed_machine.specs.State.{State}
 use Rattle.ed_machine.specs.OrderTable.{step}
-use Rattle.ed_machine.specs.Steps.{Past, past, state_after}
+use Rattle.ed_machine.specs.Steps.{Progress, progress, state_after}
 use Rattle.ed_machine.specs.declared.turn.Turn.{Turn}
 use Rattle.ed_machine.specs.declared.turn.Turn.TheVariants.{Went, Printed, Stopped as Stops}
 use Rattle.ed_machine.specs.declared.turn.Turn.TheVariants.{NoOrder as IsNoOrder, NoTape as HasNoTape}
@@ -46,7 +46,7 @@ no_limit : (low high k : ℕ) → low ≤ high → k ≤ low → nat_eq k low �
 no_limit low high k l below other = eq_false k high (grind (arith, nat_tests))
 
 -- an end before the limit is the end with a greater limit too
-end_stands : (low high resumes room k : ℕ) (p : Past) (e : Ending) → low ≤ high → k ≤ low → e ≢ Limit
+end_stands : (low high resumes room k : ℕ) (p : Progress) (e : Ending) → low ≤ high → k ≤ low → e ≢ Limit
     → end_at low resumes room k p ≡ Some e → end_at high resumes room k p ≡ Some e
 end_stands low high resumes room k p e l below other =
     by_tests (nat_lt resumes p.stops) (nat_eq k low) (nat_eq k high) (no_limit low high k l below)
@@ -63,7 +63,7 @@ end_stands low high resumes room k p e l below other =
     by_tests false false false later h = h
 
 -- the same for a number below the limit at which there is no end
-none_stands : (low high resumes room k : ℕ) (p : Past) → low ≤ high → k ≤ low
+none_stands : (low high resumes room k : ℕ) (p : Progress) → low ≤ high → k ≤ low
     → end_at low resumes room k p ≡ None → end_at high resumes room k p ≡ None
 none_stands low high resumes room k p l below =
     by_tests (nat_lt resumes p.stops) (nat_eq k low) (nat_eq k high) (no_limit low high k l below)
@@ -88,11 +88,11 @@ longer low high resumes room s l other =
     let ends = ran_ends low resumes room s in
     let few : k ≤ low = least_below _ low in
     let stands : EndsAfter high resumes room s k (ran low resumes room s).ending = record {
-      now = end_stands low high resumes room k (past k s) _ l few other ends.now;
-      first = λ j h. none_stands low high resumes room j (past j s) l (omega (arith, h, few)) (ends.first j h);
+      now = end_stands low high resumes room k (progress k s) _ l few other ends.now;
+      first = λ j h. none_stands low high resumes room j (progress j s) l (omega (arith, h, few)) (ends.first j h);
     } in
     let one = ends_once (ran_ends high resumes room s) stands in
-    λ i. record { ending = one.1 i; state = (past (one.0 i) s).state; codes = (past (one.0 i) s).codes }
+    λ i. record { ending = one.1 i; state = (progress (one.0 i) s).state; codes = (progress (one.0 i) s).codes }
 
 -- ---- a run that is cut off
 
@@ -106,7 +106,7 @@ not_limit Went full h = none_some Limit h
 not_limit Stops full h = none_some Limit h
 
 -- so that end comes after as many orders as the limit allows
-at_limit : (low resumes room k : ℕ) (p : Past) → end_at low resumes room k p ≡ Some Limit → k ≡ low
+at_limit : (low resumes room k : ℕ) (p : Progress) → end_at low resumes room k p ≡ Some Limit → k ≡ low
 at_limit low resumes room k p = by_tests (nat_lt resumes p.stops) (nat_eq k low) refl
   where
     by : Option Ending
@@ -129,7 +129,7 @@ no_sooner low high resumes room s l is =
     let late : low ≤ m = elim (cases_lt m low) [
       | inl h ↦
           absurd (none_some _
-          (sym (none_stands low high resumes room m (past m s) l (omega (arith, h))
+          (sym (none_stands low high resumes room m (progress m s) l (omega (arith, h))
           (ends.first m (omega (arith, h, at)))) ∙ high_ends.now))
       | inr h ↦ h
     ] in
@@ -141,11 +141,11 @@ unfolding ran
 cut low high resumes room s l is =
     let both = no_sooner low high resumes room s l is in
     let m = run_orders high resumes room s in
-    let rest = past (m - low) (state_after low s) in
+    let rest = progress (m - low) (state_after low s) in
     let whole : low + (m - low) ≡ m = omega (arith, both.1) in
-    let codes : (past m s).codes ≡ (past low s).codes ++ rest.codes =
-    ap (λ n. (past n s).codes) (sym whole) ∙ ap (λ (p : Past). p.codes) (past_sum low (m - low) s) in
-    (rest.codes, codes ∙ ap (λ n. (past n s).codes ++ rest.codes) (sym both.0))
+    let codes : (progress m s).codes ≡ (progress low s).codes ++ rest.codes =
+    ap (λ n. (progress n s).codes) (sym whole) ∙ ap (λ (p : Progress). p.codes) (past_sum low (m - low) s) in
+    (rest.codes, codes ∙ ap (λ n. (progress n s).codes ++ rest.codes) (sym both.0))
 
 -- the text that a run prints is the beginning of what the same run prints with a greater limit
 starts : (low high resumes room : ℕ) (s : State) → low ≤ high
@@ -170,7 +170,8 @@ starts low high resumes room s l = by_ending (ran low resumes room s).ending ref
 
 -- ---- on paper
 
-paper_starts : (shift : Shift) (part rest : List ℕ) → StartsWith (paper_from shift (part ++ rest)) (paper_from shift part)
+paper_starts : (shift : Shift) (part rest : List ℕ)
+    → StartsWith (paper_from shift (part ++ rest)) (paper_from shift part)
 paper_starts shift [] rest = (paper_from shift rest, refl)
 paper_starts shift (code ∷ part) rest =
     let more = paper_starts (shift_after shift code) part rest in (

@@ -2,7 +2,7 @@
 use Rattle.std.proofs.Common.{◌≡◌, ◌∙◌, ℕ, ◌-◌, sym, ap, arith, refl, []}
 use Rattle.std.specs.Prelude.{Some}
 use Rattle.ed_machine.specs.State.{State}
-use Rattle.ed_machine.specs.Steps.{least, past}
+use Rattle.ed_machine.specs.Steps.{least, progress}
 use Rattle.ed_run.specs.Run.{RunEnd, ran}
 use Rattle.ed_link.specs.Linked.{entry_of}
 use Rattle.ed_link.specs.Tapes.{cost}
@@ -17,11 +17,11 @@ use Rattle.ed_answers.proofs.Sources.{headline}
 
 -- a run of no order leaves the state unchanged
 no_order : (resumes room : ℕ) (s : State) → (ran 0 resumes room s).state ≡ s
-unfolding ran past least
+unfolding ran progress least
 no_order resumes room s = refl
 
 no_code : (resumes room : ℕ) (s : State) → (ran 0 resumes room s).codes ≡ []
-unfolding ran past least
+unfolding ran progress least
 no_code resumes room s = refl
 
 pub each_listed_is_loaded : EachListedIsLoaded
@@ -33,7 +33,8 @@ each_listed_is_loaded s source lines accepted =
           let t : Settings = up_to_entry s lines w in
           let whole = (headline t source lines accepted).runs (omega arith) in
           let none : cost lines - cost lines ≡ 0 = omega arith in
-          let end : ℕ → RunEnd = λ n. with_post_mortem (Some w) (ran n s.resumes paper_room (entry_state s.size lines)) in
+          let end : ℕ → RunEnd = λ n. with_post_mortem (Some w)
+          (ran n s.resumes paper_room (entry_state s.size lines)) in
           ap (λ (o : Outcome). o.out) whole
           ∙ ap (λ n. (ran_outcome (entered (entry_of lines) (cost lines)) (end n)).out) none
           ∙ (λ i. (ran_outcome (entered (entry_of lines) (cost lines)) (with_post_mortem (Some w) (record {

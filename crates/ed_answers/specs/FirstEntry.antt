@@ -1,7 +1,7 @@
 -- What holds of every tape without a fault for Initial Orders 1: it leads to the state at the entry, and the answer of
 -- `tape1` is the run from there.
 use Rattle.std.specs.Prelude.{◌≡◌, ℕ, ◌-◌, ◌<◌, ◌≤◌, List, []}
-use Rattle.ed_machine.specs.Steps.{past, state_after}
+use Rattle.ed_machine.specs.Steps.{progress, state_after}
 use Rattle.ed_run.specs.Run.{ran}
 use Rattle.ed_initial1.specs.Checks.{report1}
 use Rattle.ed_initial1.specs.Entry.{at_entry1}
@@ -19,7 +19,7 @@ cost1 t = (report1 t).orders
 -- limit nothing is printed.
 pub record RunsFrom31 (s : Settings) (codes : List ℕ) (t : Tape) : Type 0 where
   pub enters : state_after (cost1 t) (first_state1 codes) ≡ at_entry1 (first_state1 codes) t
-  pub silent : (past (cost1 t) (first_state1 codes)).codes ≡ []
+  pub silent : (progress (cost1 t) (first_state1 codes)).codes ≡ []
   pub runs : cost1 t ≤ s.limit → tape1_outcome s codes
       ≡ ran_outcome [] (ran (s.limit - cost1 t) s.resumes paper_room (at_entry1 (first_state1 codes) t))
   pub short : s.limit < cost1 t → (tape1_outcome s codes).out ≡ []

@@ -18,7 +18,7 @@ use Rattle.ed_answers.specs.Outcome.{Outcome, refused}
 use Rattle.ed_answers.specs.Answer.{Answer, known, of_made, of_input}
 use Rattle.ed_answers.specs.Runs.{run_of}
 use Rattle.ed_answers.specs.Sources.{entered_before}
-use Rattle.ed_answers.specs.declared.running.Ran.{Ran}
+use Rattle.ed_answers.specs.declared.running.FinishedRun.{FinishedRun}
 use Rattle.ed_answers.specs.declared.source.NotedRun.{NotedRun}
 use Rattle.ed_answers.specs.declared.reply.Rejection.{Rejection}
 use Rattle.ed_answers.specs.declared.reply.Rejection.TheVariants.{Memory, Refused}
@@ -57,7 +57,7 @@ RefusesText (no_row place byte) (Refused reply) = Gives reply (refused (text_fau
 RefusesText (open_comment place) (Refused reply) = Gives reply (refused (text_fault_line (OpenComment place)))
 
 -- a run that ended is the one of the definition
-pub record IsRan (r : RunEnd) (ran : Ran) : Type 0 where
+pub record IsRan (r : RunEnd) (ran : FinishedRun) : Type 0 where
   pub ending_is : ran.ending ≡ r.ending
   pub state_is : ran.machine ≡ r.state
   pub codes_are : ran.paper.codes ≡ r.codes

@@ -7,7 +7,7 @@ use Rattle.ed_syntax.specs.declared.program.Line.{Line}
 use Rattle.ed_syntax.specs.declared.fault.SourceCause.{SourceCause}
 use Rattle.ed_syntax.specs.declared.fault.SourceFault.TheVariants.{At}
 use Rattle.ed_link.specs.Refusals.{IsAcceptedAs, IsRefused}
-use Rattle.ed_link.specs.Linked.{data_behind, entry_of, linked}
+use Rattle.ed_link.specs.Linked.{data_after, entry_of, linked}
 use Rattle.ed_link.specs.Punch.{punched}
 use Rattle.ed_link.specs.Tables.{table_of, words_from}
 use Rattle.ed_link.specs.Tapes.{after_text, cost, tape}
@@ -43,7 +43,7 @@ run_outcome s lines =
 
 -- `punch`: the text of the punched tape
 abbrev pub punch_outcome : List Line → Outcome
-punch_outcome lines = done (text_of (canonicals (punched lines)) ++ after_text (data_behind lines))
+punch_outcome lines = done (text_of (canonicals (punched lines)) ++ after_text (data_after lines))
 
 -- `listing`: the locations of the linked program, with the words of the store at the entry
 abbrev pub listing_outcome : List Line → Outcome

@@ -2,7 +2,7 @@
 use Rattle.std.specs.Prelude.{◌≡◌, ◌⊎◌, ℕ, [], List}
 use Rattle.ed_words.specs.declared.size.Size.{Size}
 use Rattle.ed_store.specs.Cells.{cleared_cells}
-use Rattle.ed_notation.specs.Fold.{Note}
+use Rattle.ed_notation.specs.Fold.{NotationState}
 use Rattle.ed_notation.specs.Openings.{opening}
 use Rattle.ed_notation.specs.Faults.{TapeEntry, ComesTo, IsFault, WellFormed}
 use Rattle.ed_notation.specs.declared.cause.TapeCause.{TapeCause}
@@ -26,7 +26,7 @@ tape_answer s = of_rows (exactly (tape_outcome s))
 -- ---- checks
 
 -- the state of the notation before the first row, on a cleared store
-abbrev pub first_note : Note
+abbrev pub first_note : NotationState
 first_note = opening cleared_cells.words
 
 -- `check-tape` for a well-formed tape: the entry that the fold of its items reaches

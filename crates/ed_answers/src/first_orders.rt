@@ -8,7 +8,7 @@ ghost use Rattle.ed_answers.specs.Replies.{Gives, IsRan, Replies};
 use crate::check::entry_reply;
 use crate::reply::{Rejection, Reply};
 use crate::rows::rows_of;
-use crate::running::{Ran, ran_reply, run_machine};
+use crate::running::{FinishedRun, ran_reply, run_machine};
 use ed_codes::Code;
 use ed_command::Settings;
 use ed_initial1::{Tape1Fault, check1, orders1};
@@ -40,7 +40,11 @@ fn run_tape1(alloc: Global, settings: Settings, rows: Vec<Code>) -> Result<Reply
 /// Runs a cleared machine of full size, started on rows with Initial Orders 1. This is a function of its own for the
 /// same reason as the run of a tape.
 #[inline(never)]
-pub fn run_rows1(alloc: Global, settings: Settings, rows: Vec<Code>) -> Result<Ran, NoMemory>
+pub fn run_rows1(
+    alloc: Global,
+    settings: Settings,
+    rows: Vec<Code>,
+) -> Result<FinishedRun, NoMemory>
     ensures { IfOk result (λ ran. IsRan (run1_of settings rows.items) ran) }
 {
     run_machine(alloc, settings, started1(alloc, rows)?)

@@ -25,7 +25,7 @@ const POST_MORTEM_ROOM: usize = 9_680;
 
 /// A run that ended, with the machine and the paper that it leaves.
 #[derive(Drop)]
-pub struct Ran {
+pub struct FinishedRun {
     pub ending: Ending,
     pub machine: Machine,
     pub paper: Paper,
@@ -34,7 +34,7 @@ pub struct Ran {
 /// Runs a cleared machine of this size, started on the rows with the Initial Orders. This is a function of its own
 /// because inlined into `main` it would run out of registers and take longer.
 #[inline(never)]
-pub fn run_rows(alloc: Global, settings: Settings, rows: Vec<Code>) -> Result<Ran, NoMemory>
+pub fn run_rows(alloc: Global, settings: Settings, rows: Vec<Code>) -> Result<FinishedRun, NoMemory>
     ensures is { IfOk result (λ ran. IsRan (run_of settings rows.items) ran) }
     ensures size { IfOk result (λ ran. ran.machine.size ≡ settings.size) }
     ensures orders { IfOk result (λ ran. ran.machine.orders ≤ settings.limit) }
@@ -44,7 +44,11 @@ pub fn run_rows(alloc: Global, settings: Settings, rows: Vec<Code>) -> Result<Ra
 
 /// Runs a machine until it has obeyed as many orders as the limit, including those that it obeyed before.
 #[inline(always)]
-pub fn run_machine(alloc: Global, settings: Settings, mut machine: Machine) -> Result<Ran, NoMemory>
+pub fn run_machine(
+    alloc: Global,
+    settings: Settings,
+    mut machine: Machine,
+) -> Result<FinishedRun, NoMemory>
     requires { machine.orders ≤ settings.limit }
     ensures is { IfOk result (λ left.
         IsRan (ran (settings.limit - machine.orders) settings.resumes paper_room machine) left) }
@@ -54,7 +58,7 @@ pub fn run_machine(alloc: Global, settings: Settings, mut machine: Machine) -> R
     let mut paper = Paper::new(alloc, PAPER_ROOM)?;
     let left = u64::from(settings.limit) - machine.orders_done();
     let ending = run(&mut machine, left, settings.resumes, &mut paper);
-    Ok(Ran {
+    Ok(FinishedRun {
         ending,
         machine,
         paper,
@@ -62,7 +66,7 @@ pub fn run_machine(alloc: Global, settings: Settings, mut machine: Machine) -> R
 }
 
 /// The reply of a run, with its note.
-pub fn ran_reply(alloc: Global, ran: &Ran, note: Vec<u8>) -> Result<Reply, NoMemory>
+pub fn ran_reply(alloc: Global, ran: &FinishedRun, note: Vec<u8>) -> Result<Reply, NoMemory>
     ensures { IfOk result (λ reply.
         Gives reply (record {
           out = paper ran.now.paper.codes;
@@ -82,7 +86,7 @@ pub fn ran_reply(alloc: Global, ran: &Ran, note: Vec<u8>) -> Result<Reply, NoMem
 pub fn post_mortem_reply(
     alloc: Global,
     settings: Settings,
-    mut ran: Ran,
+    mut ran: FinishedRun,
     note: Vec<u8>,
 ) -> Result<Reply, NoMemory>
     requires ranges { AreSettingsInRange settings }

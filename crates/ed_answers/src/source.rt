@@ -13,7 +13,7 @@ ghost use Rattle.ed_answers.specs.Sources.{listing_answer, listing_outcome, punc
 ghost use Rattle.ed_answers.specs.Sources.{run_answer, run_outcome};
 
 use crate::reply::{Rejection, Reply};
-use crate::running::{Ran, post_mortem_reply, run_machine, run_rows};
+use crate::running::{FinishedRun, post_mortem_reply, run_machine, run_rows};
 use ed_command::Settings;
 use ed_link::{Linked, Placed, link};
 use ed_loads::enter;
@@ -26,7 +26,7 @@ use std::alloc::Global;
 /// The run of a source that ended, with the line on its entry and its end.
 #[derive(Drop)]
 pub struct NotedRun {
-    pub ran: Ran,
+    pub ran: FinishedRun,
     pub note: Vec<u8>,
 }
 
@@ -96,7 +96,7 @@ pub fn run_linked(alloc: Global, settings: Settings, linked: &Linked) -> Result<
     let entered = enter(alloc, settings.size, linked)?;
     let cost = entered.orders_done();
     let ran = run_entered(alloc, settings, linked, entered)?;
-    let note = note_of(alloc, linked.entry, cost, &ran)?;
+    let note = notation_of(alloc, linked.entry, cost, &ran)?;
     Ok(NotedRun { ran, note })
 }
 
@@ -108,7 +108,7 @@ fn run_entered(
     settings: Settings,
     linked: &Linked,
     entered: Machine,
-) -> Result<Ran, NoMemory>
+) -> Result<FinishedRun, NoMemory>
     requires linked { (lines : List Line) × IsLinked settings.size lines linked.now }
     requires entry { (lines : List Line) → IsLinked settings.size lines linked.now
         → entered ≡ entry_state settings.size lines }
@@ -125,7 +125,7 @@ fn run_entered(
 }
 
 /// The line of a run's ending, after the entry and its cost if these orders were obeyed.
-fn note_of(alloc: Global, entry: u16, cost: u64, ran: &Ran) -> Result<Vec<u8>, NoMemory>
+fn notation_of(alloc: Global, entry: u16, cost: u64, ran: &FinishedRun) -> Result<Vec<u8>, NoMemory>
     ensures { IfOk result (λ bytes. bytes.items
         ≡ (if nat_le cost ran.now.machine.orders then entered entry cost else [])
         ++ ending_line ran.now.ending ran.now.machine) }

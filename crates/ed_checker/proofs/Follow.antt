@@ -10,16 +10,16 @@ use Rattle.ed_orders.specs.declared.kind.Kind.{Kind}
 use Rattle.ed_orders.specs.declared.kind.Kind.TheVariants.{E, G}
 use Rattle.ed_machine.specs.State.{State}
 use Rattle.ed_machine.specs.OrderTable.{Obeyed, step, next_word, obey_word, jumped, place_of, after, done_at}
-use Rattle.ed_machine.specs.Steps.{Past, past, state_after, codes_of, stops_of, is_obeyed}
+use Rattle.ed_machine.specs.Steps.{Progress, progress, state_after, codes_of, stops_of, is_obeyed}
 use Rattle.ed_machine.specs.declared.turn.Turn.TheVariants.{Went, Stopped}
 use Rattle.ed_checker.specs.Checker.{IsOutsideChecker, IsAllowed, IsAllowedOrder, Agree, guest, checked_codes}
 use Rattle.ed_checker.specs.Checker.{checked_orders, orders_by, turn_orders}
 use Rattle.ed_checker.proofs.Alike.{Alike, Outcome, agree_with, is_planted, planted}
 use Rattle.ed_machine.specs.Sound.{IsSound}
 use Rattle.ed_machine.proofs.SoundSteps.{sound_after}
-use Rattle.ed_checker.specs.Laws.{CheckerLaw, Checked, ChecksToBlock, ChecksToStop, HasGuest, IsFollowed, Ran}
+use Rattle.ed_checker.specs.Laws.{CheckerLaw, HasChecked, ChecksToBlock, ChecksToStop, HasGuest, IsFollowed, HasRun}
 use Rattle.ed_checker.proofs.Halves.{long_fits}
-use Rattle.ed_checker.proofs.Ran.{joined, none, renamed}
+use Rattle.ed_checker.proofs.HasRun.{joined, none, renamed}
 use Rattle.ed_checker.proofs.Turns.{turn, turn_halts, turn_stuck, other_planted}
 
 agree_self : (base : ℕ) (s : State) → Agree base s s
@@ -196,7 +196,7 @@ guest_sound base m h ok = record {
 }
 
 at_first : (base : ℕ) (g : State) → IsAllowed base (state_after 0 g) → IsAllowed base g
-unfolding past
+unfolding progress
 at_first base g ok = ok
 
 module _ (base : ℕ) (m : State) (has : HasGuest base m) where
@@ -204,16 +204,17 @@ module _ (base : ℕ) (m : State) (has : HasGuest base m) where
   g = guest base m
 
   -- the machine within its bounds once some orders are checked, and the guest
-  after_sound : (q : ℕ) (c : Checked base q m) → IsSound c.last
-  after_sound q c = subst IsSound (ap (λ (y : Past). y.state) c.ran.is) (sound_after (checked_orders g q) m has.sound)
+  after_sound : (q : ℕ) (c : HasChecked base q m) → IsSound c.last
+  after_sound q c = subst IsSound (ap (λ (y : Progress). y.state) c.ran.is)
+      (sound_after (checked_orders g q) m has.sound)
 
   -- the turn of a guest that agrees takes as many orders
   same_orders : (s t : State) → next_word s ≡ next_word t → s.acc ≡ t.acc → turn_orders s ≡ turn_orders t
   same_orders s t word acc = λ i. orders_by (function_of (word i)) (acc i)
 
-  next : (q : ℕ) → Checked base q m → IsAllowed base g → IsAllowed base (state_after q g)
-      → is_obeyed (step (state_after q g)).turn ≡ true → Checked base (suc q) m
-  unfolding past checked_codes checked_orders
+  next : (q : ℕ) → HasChecked base q m → IsAllowed base g → IsAllowed base (state_after q g)
+      → is_obeyed (step (state_after q g)).turn ≡ true → HasChecked base (suc q) m
+  unfolding progress checked_codes checked_orders
   next q c first ok obeyed =
       let gq = state_after q g in
       let a = c.last in
@@ -229,19 +230,20 @@ module _ (base : ℕ) (m : State) (has : HasGuest base m) where
       = (λ i. function_of (word i) ∷ codes_of (b.0 i)) in
       let orders : t.count ≡ turn_orders gq = t.exact ∙ same_orders (guest base a) gq word c.agree.acc in
       let r = renamed (joined c.ran t.ran) (ap (λ cs. checked_codes g q ++ cs) codes)
-      (ap (λ n. (past q g).stops + n) (ap stops_of b.0)) in
+      (ap (λ n. (progress q g).stops + n) (ap stops_of b.0)) in
       record {
         last = t.after;
         most = omega (arith, c.most, t.most, orders);
-        ran = subst (λ k. Ran (checked_orders g q + k) m (checked_codes g (suc q)) (past (suc q) g).stops t.after)
+        ran = subst (λ k. HasRun (checked_orders g q + k) m (checked_codes g (suc q))
+            (progress (suc q) g).stops t.after)
             orders r;
         stands = t.stands;
         agree = agree_trans t.agree b.1;
         size = t.size ∙ c.size;
       }
 
-  checks_from : (q : ℕ) → IsFollowed base q g → Checked base q m
-  unfolding past checked_codes checked_orders
+  checks_from : (q : ℕ) → IsFollowed base q g → HasChecked base q m
+  unfolding progress checked_codes checked_orders
   checks_from zero h = record {
     last = m;
     most = omega arith;
@@ -262,7 +264,7 @@ module _ (base : ℕ) (m : State) (has : HasGuest base m) where
   first_allowed (suc q) h ok = at_first base g (h.allowed 0 (omega arith))
 
   -- the guest's orders up to a stop
-  stops_from : (q : ℕ) → IsFollowed base q g → (past q g).stops ≡ 0 → IsAllowed base (state_after q g)
+  stops_from : (q : ℕ) → IsFollowed base q g → (progress q g).stops ≡ 0 → IsAllowed base (state_after q g)
       → (step (state_after q g)).turn ≡ Stopped → ChecksToStop base (suc q) m
   unfolding checked_codes checked_orders
   stops_from q h no_stop ok stop =

@@ -9,19 +9,19 @@ use Rattle.ed_orders.specs.declared.kind.Kind.{Kind}
 use Rattle.ed_orders.specs.declared.kind.Kind.TheVariants.{A, S, H, V, N, T, U, C, R, L, E, G, I, O, F, X, Y, Z}
 use Rattle.ed_machine.specs.State.{State}
 use Rattle.ed_machine.specs.OrderTable.{jumped, next_word, obey_word, place_of, step, took_row}
-use Rattle.ed_machine.specs.Steps.{past, state_after}
+use Rattle.ed_machine.specs.Steps.{progress, state_after}
 use Rattle.ed_paths.proofs.Orders.{IsNear, IsOrder}
-use Rattle.ed_checker.specs.Checker.{IsAllowed, IsAllowedOrder, IsPlainJump, Reaches}
+use Rattle.ed_checker.specs.Checker.{IsAllowed, IsAllowedOrder, IsPlainJump, AccessesOutside}
 
 module _ (base : ℕ) (even_base : base % 2 ≡ 0) (s : State) (room : base + 66 ≤ locations s.size) where
   abbrev w : ℕ
   w = next_word s
 
-  reaches : (l : Bool) (p : ℕ) → p < base → Reaches l base p
+  reaches : (l : Bool) (p : ℕ) → p < base → AccessesOutside l base p
   reaches true p h = (inl (omega arith), inl (omega arith))
   reaches false p h = inl h
 
-  near : IsNear base w → Reaches (is_long w) base (place_of s w)
+  near : IsNear base w → AccessesOutside (is_long w) base (place_of s w)
   near n =
       reaches (is_long w) (place_of s w)
       (subst (λ x. x < base) (sym (within_below s.size (address_of w) (omega (arith, n.below)))) n.below)
@@ -81,6 +81,6 @@ same_size None w s = refl
 same_size (Some k) w s = refl
 
 pub size_after : (k : ℕ) (s : State) → (state_after k s).size ≡ s.size
-unfolding past step
+unfolding progress step
 size_after zero s = refl
 size_after (suc k) s = same_size _ _ (state_after k s) ∙ size_after k s

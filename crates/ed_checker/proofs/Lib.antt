@@ -2,7 +2,7 @@ pub mod Saving
 pub mod Halves
 pub mod Paths
 pub mod Alike
-pub mod Ran
+pub mod HasRun
 pub mod Opening
 pub mod AccFits
 pub mod Turns

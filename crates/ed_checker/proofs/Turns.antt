@@ -30,8 +30,8 @@ use Rattle.ed_checker.proofs.Paths.{IsSaved, Work, Around, cells, pairs, moment,
 use Rattle.ed_checker.proofs.Paths.{above_E, below_G, above_G, restore, save, advance}
 use Rattle.ed_checker.proofs.Paths.{E_taken, E_passed, G_taken, G_passed}
 use Rattle.ed_checker.proofs.Alike.{Alike, Outcome, agree_with, is_planted, planted}
-use Rattle.ed_checker.specs.Laws.{Ran}
-use Rattle.ed_checker.proofs.Ran.{joined, one, along}
+use Rattle.ed_checker.specs.Laws.{HasRun}
+use Rattle.ed_checker.proofs.HasRun.{joined, one, along}
 use Rattle.ed_checker.proofs.Opening.{around, HasCells, opened, frame, work, holds}
 use Rattle.ed_checker.proofs.Opening.{guest_counter, guest_acc, stands_again, alike_around}
 
@@ -41,7 +41,7 @@ pub record Turned (base : ℕ) (m : State) : Type 0 where
   pub count : ℕ
   pub exact : count ≡ turn_orders (guest base m)
   pub most : count ≤ 35
-  pub ran : Ran count m (function_of (next_word (guest base m)) ∷ codes_of (step (guest base m)).turn)
+  pub ran : HasRun count m (function_of (next_word (guest base m)) ∷ codes_of (step (guest base m)).turn)
       (stops_of (step (guest base m)).turn) after
   pub stands : CheckerStands base after
   pub agree : Agree base (guest base after) (step (guest base m)).state
@@ -53,7 +53,7 @@ pub record Stuck (base : ℕ) (m : State) : Type 0 where
   pub count : ℕ
   pub exact : count + 17 ≡ turn_orders (guest base m)
   pub most : count ≤ 35
-  pub ran : Ran count m (function_of (next_word (guest base m)) ∷ []) 0 after
+  pub ran : HasRun count m (function_of (next_word (guest base m)) ∷ []) 0 after
   pub counter : after.counter ≡ base + 40
   pub turn : (step after).turn ≡ (step (guest base m)).turn
   pub agree : Agree base (guest base after) (guest base m)
@@ -64,7 +64,7 @@ pub record Halts (base : ℕ) (m : State) : Type 0 where
   pub count : ℕ
   pub exact : count + 17 ≡ turn_orders (guest base m)
   pub most : count ≤ 18
-  pub ran : Ran count m (function_of (next_word (guest base m)) ∷ []) 0 before
+  pub ran : HasRun count m (function_of (next_word (guest base m)) ∷ []) 0 before
   pub counter : before.counter ≡ base + 40
   pub turn : (step before).turn ≡ Stopped
 
@@ -244,8 +244,8 @@ module _ (base : ℕ) (even_base : base % 2 ≡ 0) (m : State) (store : IsStore 
     abbrev m1 : State
     m1 = state f (moment base o w2 g.acc 40 (Some n)) (m.orders + to.count)
 
-    reached : Ran to.count m (n ∷ []) 0 m1
-    reached = subst (λ s. Ran to.count s (n ∷ []) 0 m1) begins (along (leads to.runs m.orders))
+    reached : HasRun to.count m (n ∷ []) 0 m1
+    reached = subst (λ s. HasRun to.count s (n ∷ []) 0 m1) begins (along (leads to.runs m.orders))
 
     -- what the copied order does, to the machine and to the guest
     abbrev r1 : Obeyed
@@ -345,8 +345,8 @@ module _ (base : ℕ) (even_base : base % 2 ≡ 0) (m : State) (store : IsStore 
         let runs = followed (save f even_base o2 w2 m2.acc m2.last m2_acc)
         (advance f even_base o2 w3 m2.last (rw at_next (omega (arith, c_fits)))) in
         let m3 : State = state f (moment base o2 w4 0 0 m2.last) (m2.orders + 16) in
-        let middle : Ran 1 m1 (codes_of r1.turn) (stops_of r1.turn) m2 = one m1 m2 r1.turn at_m1 went in
-        let end : Ran 16 m2 [] 0 m3 = subst (λ s. Ran 16 s [] 0 m3) opens (along (leads runs m2.orders)) in
+        let middle : HasRun 1 m1 (codes_of r1.turn) (stops_of r1.turn) m2 = one m1 m2 r1.turn at_m1 went in
+        let end : HasRun 16 m2 [] 0 m3 = subst (λ s. HasRun 16 s [] 0 m3) opens (along (leads runs m2.orders)) in
         let whole_run = joined reached (joined middle end) in
         let codes : codes_of r1.turn ++ [] ≡ codes_of (step g).turn = append-nil (codes_of r1.turn)
         ∙ ap codes_of same_turn in
@@ -374,8 +374,8 @@ module _ (base : ℕ) (even_base : base % 2 ≡ 0) (m : State) (store : IsStore 
           count = to.count + 17;
           exact = to.exact;
           most = omega (arith, to.most);
-          ran = subst (λ l. Ran (to.count + 17) m (n ∷ codes_of (step g).turn) l m3) stops
-              (subst (λ cs. Ran (to.count + 17) m (n ∷ cs) (0 + (stops_of r1.turn + 0)) m3) codes whole_run);
+          ran = subst (λ l. HasRun (to.count + 17) m (n ∷ codes_of (step g).turn) l m3) stops
+              (subst (λ cs. HasRun (to.count + 17) m (n ∷ cs) (0 + (stops_of r1.turn + 0)) m3) codes whole_run);
           stands = stands_again f even_base o2 w4 at_next c_fits stands.image three;
           agree = subst (Agree base (guest base m3)) same (record {
             size = a3.size ∙ q.size;
@@ -398,7 +398,8 @@ module _ (base : ℕ) (even_base : base % 2 ≡ 0) (m : State) (store : IsStore 
       let m3 : State = state f (moment base o w 0 0 (Some n)) (m.orders + k) in
       let a : Alike base m3 (record m { acc = 0 }) =
       alike_around f w (record m { acc = 0 }) refl store.words_are store.digits_are 0 in
-      let there : Ran k m (n ∷ []) 0 m3 = subst (λ s. Ran k s (n ∷ []) 0 m3) begins (along (leads runs m.orders)) in
+      let there : HasRun k m (n ∷ []) 0 m3 = subst (λ s. HasRun k s (n ∷ []) 0 m3) begins
+      (along (leads runs m.orders)) in
       let turn : (step g).turn ≡ Went = ap (λ (y : Obeyed). y.turn) is in
       let three : IsSaved w.high w.middle w.low = rw (same.0, same.1, same.2) saved_now in
       record {
@@ -406,7 +407,7 @@ module _ (base : ℕ) (even_base : base % 2 ≡ 0) (m : State) (store : IsStore 
         count = k;
         exact = exact.0;
         most = exact.1;
-        ran = subst (λ u. Ran k m (n ∷ codes_of u) (stops_of u) m3) (sym turn) there;
+        ran = subst (λ u. HasRun k m (n ∷ codes_of u) (stops_of u) m3) (sym turn) there;
         stands = stands_again f even_base o w next.0 next.1 stands.image three;
         agree = subst (Agree base (guest base m3)) (ap (λ (y : Obeyed). y.state) (sym is))
             (agree_with a (guest_acc f even_base o w ∙ rw (same.0, same.1, same.2) refl)

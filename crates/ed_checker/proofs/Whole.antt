@@ -11,7 +11,7 @@ use Rattle.ed_orders.specs.declared.kind.Kind.{Kind}
 use Rattle.ed_orders.specs.declared.kind.Kind.TheVariants.{E, G, I}
 use Rattle.ed_machine.specs.State.{State}
 use Rattle.ed_machine.specs.OrderTable.{Obeyed, step, next_word, obey_word, jumped, took_row, place_of}
-use Rattle.ed_machine.specs.Steps.{Past, past, codes_of, stops_of, is_obeyed}
+use Rattle.ed_machine.specs.Steps.{Progress, progress, codes_of, stops_of, is_obeyed}
 use Rattle.ed_machine.specs.Sheet.{Sheet}
 use Rattle.ed_machine.specs.declared.turn.Turn.{Turn}
 use Rattle.ed_machine.specs.declared.turn.Turn.TheVariants.{Went, Printed, Stopped, NoOrder, NoTape}
@@ -145,16 +145,16 @@ module _ {base count : ℕ} {s t : State} {sheet full : Sheet} {ending : Ending}
       let cs = function_of (next_word g) ∷ codes_of (step g).turn in
       let few = few_codes (step g).turn in
       let space = o.space in
-      let printed : length (past r.count s).codes ≡ length cs = ap (λ (p : Past). length p.codes) r.ran.is in
-      let stopped : (past r.count s).stops ≡ stops_of (step g).turn = ap (λ (p : Past). p.stops) r.ran.is in
+      let printed : length (progress r.count s).codes ≡ length cs = ap (λ (p : Progress). length p.codes) r.ran.is in
+      let stopped : (progress r.count s).stops ≡ stops_of (step g).turn = ap (λ (p : Progress). p.stops) r.ran.is in
       let e = subst (λ limit. EndsAfter limit 1 space_left s r.count Limit) r.exact
       (at_limit r.count 1 {room = space_left} {s = s}
       (record { obeyed = r.ran.free; printed = omega (arith, few, printed) })
       (omega (arith, few_stops (step g).turn, stopped))) in
       let u = ends_once runs.ends e in
-      let there : (past runs.orders s) ≡ record { state = r.after; codes = cs; stops = stops_of (step g).turn } =
-      ap (λ i. past i s) u.0 ∙ r.ran.is in
-      let state : t ≡ r.after = runs.state_is ∙ ap (λ (p : Past). p.state) there in
+      let there : (progress runs.orders s) ≡ record { state = r.after; codes = cs; stops = stops_of (step g).turn } =
+      ap (λ i. progress i s) u.0 ∙ r.ran.is in
+      let state : t ≡ r.after = runs.state_is ∙ ap (λ (p : Progress). p.state) there in
       let answer = answer_of (kind_of_function (function_of (next_word g))) (next_word g) (turn_orders g) g
       (ap (λ (y : Obeyed). is_obeyed y.turn) (sym at_g) ∙ h) in (
         u.1,
@@ -163,10 +163,10 @@ module _ {base count : ℕ} {s t : State} {sheet full : Sheet} {ending : Ending}
           exact = rw h r.exact;
           most = r.most;
           answer_is = sym ((λ i. answer_by (at_g i).turn (r.exact i)) ∙ answer);
-          state_is = state ∙ sym (ap (λ (p : Past). p.state) r.ran.is);
+          state_is = state ∙ sym (ap (λ (p : Progress). p.state) r.ran.is);
           free = r.ran.free;
           paper_is = runs.sheet_is
-              ∙ ap (λ (p : Past). record { codes = sheet.codes ++ p.codes; room = sheet.room }) there;
+              ∙ ap (λ (p : Progress). record { codes = sheet.codes ++ p.codes; room = sheet.room }) there;
           guest_is = subst (λ x. Agree base (guest base x) (step g).state) (sym state) r.agree;
           stands = λ i. subst (CheckerStands base) (sym state) r.stands;
           blocked = λ i. absurd (true≢false (sym h ∙ i));
@@ -182,19 +182,21 @@ module _ {base count : ℕ} {s t : State} {sheet full : Sheet} {ending : Ending}
       let count : r.count ≡ turn_orders g - 17 = omega (arith, r.exact) in
       let below : r.count < turn_orders g = omega (arith, r.exact) in
       let b = blocked_end (step r.after).turn (nat_le space_left (length cs)) (ap is_obeyed r.turn ∙ h) in
-      let printed : length (past r.count s).codes ≡ length cs = ap (λ (p : Past). length p.codes) r.ran.is in
-      let stopped : (past r.count s).stops ≡ 0 = ap (λ (p : Past). p.stops) r.ran.is in
-      let there_too : end_by (step (past r.count s).state).turn (nat_le space_left (length (past r.count s).codes))
+      let printed : length (progress r.count s).codes ≡ length cs = ap (λ (p : Progress). length p.codes) r.ran.is in
+      let stopped : (progress r.count s).stops ≡ 0 = ap (λ (p : Progress). p.stops) r.ran.is in
+      let there_too : end_by (step (progress r.count s).state).turn
+      (nat_le space_left (length (progress r.count s).codes))
       ≡ Some b.0 =
-      ap (λ (p : Past). end_by (step p.state).turn (nat_le space_left (length p.codes))) r.ran.is ∙ b.1 in
+      ap (λ (p : Progress). end_by (step p.state).turn (nat_le space_left (length p.codes))) r.ran.is ∙ b.1 in
       let e = at_block (turn_orders g) 1 {room = space_left} {k = r.count} {s = s}
       (record { obeyed = r.ran.free; printed = omega (arith, printed) }) (omega (arith, stopped)) below there_too in
       let u = ends_once runs.ends e in
-      let there : (past runs.orders s) ≡ record { state = r.after; codes = cs; stops = 0 } = ap (λ i. past i s) u.0
+      let there : (progress runs.orders s) ≡ record { state = r.after; codes = cs; stops = 0 } =
+      ap (λ i. progress i s) u.0
       ∙ r.ran.is in
-      let state : t ≡ r.after = runs.state_is ∙ ap (λ (p : Past). p.state) there in
+      let state : t ≡ r.after = runs.state_is ∙ ap (λ (p : Progress). p.state) there in
       let paper : full ≡ record { codes = sheet.codes ++ cs; room = sheet.room } = runs.sheet_is
-      ∙ ap (λ (p : Past). record { codes = sheet.codes ++ p.codes; room = sheet.room }) there in
+      ∙ ap (λ (p : Progress). record { codes = sheet.codes ++ p.codes; room = sheet.room }) there in
       let same = same_state (kind_of_function n) (next_word g) g
       (ap (λ (y : Obeyed). is_obeyed y.turn) (sym at_g) ∙ h) in
       let guest_same : g ≡ (step g).state = sym (ap (λ (y : Obeyed). y.state) at_g ∙ same.0) in
@@ -208,7 +210,7 @@ module _ {base count : ℕ} {s t : State} {sheet full : Sheet} {ending : Ending}
           exact = rw h count;
           most = omega (arith, r.most);
           answer_is = sym (blocked_answer (step g).turn r.count h ∙ ap IsBlocked count);
-          state_is = state ∙ sym (ap (λ (p : Past). p.state) r.ran.is);
+          state_is = state ∙ sym (ap (λ (p : Progress). p.state) r.ran.is);
           free = r.ran.free;
           paper_is = paper ∙ ap (λ xs. record { codes = sheet.codes ++ (n ∷ xs); room = sheet.room }) (sym no_codes);
           guest_is = subst (λ x. Agree base (guest base x) (step g).state) (sym state)

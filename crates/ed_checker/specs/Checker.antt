@@ -52,9 +52,9 @@ pub record Agree (base : ℕ) (s t : State) : Type 0 where
   pub tape : s.tape ≡ t.tape
 
 -- an order uses no location of the routine: its location, or both of its pair if it is long, is outside
-abbrev pub Reaches : Bool → ℕ → ℕ → Type 0
-Reaches true base p = IsOutsideChecker base (even p) × IsOutsideChecker base (odd p)
-Reaches false base p = IsOutsideChecker base p
+abbrev pub AccessesOutside : Bool → ℕ → ℕ → Type 0
+AccessesOutside true base p = IsOutsideChecker base (even p) × IsOutsideChecker base (odd p)
+AccessesOutside false base p = IsOutsideChecker base p
 
 -- an E or G order that the routine can take for the guest
 pub record IsPlainJump (base w : ℕ) (z : Size) : Type 0 where
@@ -68,16 +68,16 @@ abbrev pub IsAllowedOrder : Option Kind → ℕ → ℕ → Size → Type 0
 IsAllowedOrder (Some F) base w z = ⊥
 IsAllowedOrder (Some E) base w z = IsPlainJump base w z
 IsAllowedOrder (Some G) base w z = IsPlainJump base w z
-IsAllowedOrder (Some A) base w z = Reaches (is_long w) base (within z (address_of w))
-IsAllowedOrder (Some S) base w z = Reaches (is_long w) base (within z (address_of w))
-IsAllowedOrder (Some H) base w z = Reaches (is_long w) base (within z (address_of w))
-IsAllowedOrder (Some V) base w z = Reaches (is_long w) base (within z (address_of w))
-IsAllowedOrder (Some N) base w z = Reaches (is_long w) base (within z (address_of w))
-IsAllowedOrder (Some T) base w z = Reaches (is_long w) base (within z (address_of w))
-IsAllowedOrder (Some U) base w z = Reaches (is_long w) base (within z (address_of w))
-IsAllowedOrder (Some C) base w z = Reaches (is_long w) base (within z (address_of w))
-IsAllowedOrder (Some I) base w z = Reaches (is_long w) base (within z (address_of w))
-IsAllowedOrder (Some O) base w z = Reaches (is_long w) base (within z (address_of w))
+IsAllowedOrder (Some A) base w z = AccessesOutside (is_long w) base (within z (address_of w))
+IsAllowedOrder (Some S) base w z = AccessesOutside (is_long w) base (within z (address_of w))
+IsAllowedOrder (Some H) base w z = AccessesOutside (is_long w) base (within z (address_of w))
+IsAllowedOrder (Some V) base w z = AccessesOutside (is_long w) base (within z (address_of w))
+IsAllowedOrder (Some N) base w z = AccessesOutside (is_long w) base (within z (address_of w))
+IsAllowedOrder (Some T) base w z = AccessesOutside (is_long w) base (within z (address_of w))
+IsAllowedOrder (Some U) base w z = AccessesOutside (is_long w) base (within z (address_of w))
+IsAllowedOrder (Some C) base w z = AccessesOutside (is_long w) base (within z (address_of w))
+IsAllowedOrder (Some I) base w z = AccessesOutside (is_long w) base (within z (address_of w))
+IsAllowedOrder (Some O) base w z = AccessesOutside (is_long w) base (within z (address_of w))
 IsAllowedOrder (Some R) base w z = Unit {0}
 IsAllowedOrder (Some L) base w z = Unit {0}
 IsAllowedOrder (Some X) base w z = Unit {0}

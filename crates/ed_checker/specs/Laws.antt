@@ -5,20 +5,20 @@ use Rattle.ed_words.specs.Sizes.{locations}
 use Rattle.ed_machine.specs.State.{State}
 use Rattle.ed_machine.specs.OrderTable.{next_word, step}
 use Rattle.ed_machine.specs.Sound.{IsSound}
-use Rattle.ed_machine.specs.Steps.{IsFree, is_obeyed, past, state_after}
+use Rattle.ed_machine.specs.Steps.{AreObeyed, is_obeyed, progress, state_after}
 use Rattle.ed_machine.specs.declared.turn.Turn.TheVariants.{Stopped}
 use Rattle.ed_checker.specs.Checker.{Agree, CheckerStands, IsAllowed, checked_codes, checked_orders, guest}
 use Rattle.ed_checker.specs.Checker.{planting_place, saving_orders}
 
 -- k orders, each obeyed, lead from s to t, print these codes, and include this number of stops
-pub record Ran (k : ℕ) (s : State) (codes : List ℕ) (stops : ℕ) (t : State) : Type 0 where
-  pub is : past k s ≡ record { state = t; codes = codes; stops = stops }
-  pub free : IsFree k s
+pub record HasRun (k : ℕ) (s : State) (codes : List ℕ) (stops : ℕ) (t : State) : Type 0 where
+  pub is : progress k s ≡ record { state = t; codes = codes; stops = stops }
+  pub free : AreObeyed k s
 
 -- the first q orders of a guest are obeyed, none of them is a stop, and the next one is: it is the first Z
 pub record StopsAfter (q : ℕ) (g : State) : Type 0 where
-  pub free : IsFree q g
-  pub no_stops : (past q g).stops ≡ 0
+  pub free : AreObeyed q g
+  pub no_stops : (progress q g).stops ≡ 0
   pub stops : (step (state_after q g)).turn ≡ Stopped
 
 -- the first q orders of the guest are allowed, and each is obeyed
@@ -28,10 +28,11 @@ pub record IsFollowed (base q : ℕ) (g : State) : Type 0 where
 
 -- the routine has obeyed q orders of its guest, in the sum of their turns: it has printed their checked codes, it is at
 -- the start of a turn again, and its guest agrees with the guest after these orders
-pub record Checked (base q : ℕ) (m : State) : Type 0 where
+pub record HasChecked (base q : ℕ) (m : State) : Type 0 where
   pub last : State
   pub most : checked_orders (guest base m) q ≤ 35 * q
-  pub ran : Ran (checked_orders (guest base m) q) m (checked_codes (guest base m) q) (past q (guest base m)).stops last
+  pub ran : HasRun (checked_orders (guest base m) q) m (checked_codes (guest base m) q)
+      (progress q (guest base m)).stops last
   pub stands : CheckerStands base last
   pub agree : Agree base (guest base last) (state_after q (guest base m))
   pub size : last.size ≡ m.size
@@ -43,7 +44,7 @@ pub record ChecksToStop (base q : ℕ) (m : State) : Type 0 where
   pub count : ℕ
   pub exact : count + (1 + saving_orders) ≡ checked_orders (guest base m) q
   pub most : count + 1 ≤ 35 * q
-  pub ran : Ran count m (checked_codes (guest base m) q) 0 last
+  pub ran : HasRun count m (checked_codes (guest base m) q) 0 last
   pub counter : last.counter ≡ base + planting_place
   pub stops : (step last).turn ≡ Stopped
 
@@ -54,9 +55,9 @@ pub record ChecksToBlock (base q : ℕ) (m : State) : Type 0 where
   pub last : State
   pub count : ℕ
   pub exact : count + (1 + saving_orders) ≡ checked_orders (guest base m) (suc q)
-  pub ran : Ran count m
+  pub ran : HasRun count m
       (checked_codes (guest base m) q ++ (function_of (next_word (state_after q (guest base m))) ∷ []))
-      (past q (guest base m)).stops last
+      (progress q (guest base m)).stops last
   pub agree : Agree base (guest base last) (state_after q (guest base m))
   pub counter : last.counter ≡ base + planting_place
   pub blocked : (step last).turn ≡ (step (state_after q (guest base m))).turn
@@ -71,7 +72,7 @@ pub record HasGuest (base : ℕ) (m : State) : Type 0 where
 -- What holds of every guest: its orders are checked as long as they are allowed and obeyed. If the next one is its
 -- first stop, the machine reaches it; if the next one can't be obeyed, the machine is blocked there.
 pub record CheckerLaw : Type 0 where
-  pub checks : (base q : ℕ) (m : State) → HasGuest base m → IsFollowed base q (guest base m) → Checked base q m
+  pub checks : (base q : ℕ) (m : State) → HasGuest base m → IsFollowed base q (guest base m) → HasChecked base q m
   pub to_stop : (base q : ℕ) (m : State) → HasGuest base m → IsFollowed base q (guest base m)
       → StopsAfter q (guest base m) → IsAllowed base (state_after q (guest base m)) → ChecksToStop base (suc q) m
   pub to_block : (base q : ℕ) (m : State) → HasGuest base m → IsFollowed base q (guest base m)

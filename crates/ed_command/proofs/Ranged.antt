@@ -16,7 +16,8 @@ use Rattle.ed_words.specs.Texts.{Text}
 use Rattle.ed_command.specs.Windows.{is_comma, window, window_named}
 use Rattle.ed_command.specs.Settings.{Options, all_settings, has_only, option_value, settings_of}
 use Rattle.ed_command.specs.Settings.{limit_of, post_mortem_of, resumes_of, size_of}
-use Rattle.ed_command.specs.Lines.{Line, alone, call_of, command, command_of, division, line_named, lines, one_number}
+use Rattle.ed_command.specs.Lines.{TableLine, alone, call_of, command, command_of, division, line_named, lines}
+use Rattle.ed_command.specs.Lines.{one_number}
 use Rattle.ed_command.specs.Lines.{with_division, with_only}
 use Rattle.ed_command.specs.Ranges.{AreSettingsInRange, IsActionInRange, IsFromTo, IsInRange, IsWindowOf}
 use Rattle.ed_command.specs.declared.command.Action.{Action}
@@ -165,15 +166,16 @@ call_in (name ∷ numbers) =
 -- ---- lines
 
 -- each action that a line makes of arguments has its numbers in range
-record IsLineInRange (l : Line) : Type 0 where
+record IsLineInRange (l : TableLine) : Type 0 where
   in_range : (arguments : List Text) → IfSome (l.action arguments) IsActionInRange
 
 -- so has each of a list of lines
-data AreInRange : List Line → Type 0 where
+data AreInRange : List TableLine → Type 0 where
   none : AreInRange []
-  with_line : (l : Line) (ls : List Line) → IsLineInRange l → AreInRange ls → AreInRange (l ∷ ls)
+  with_line : (l : TableLine) (ls : List TableLine) → IsLineInRange l → AreInRange ls → AreInRange (l ∷ ls)
 
-no_argument : (l : Line) (action : Action) → ((arguments : List Text) → l.action arguments ≡ alone action arguments)
+no_argument : (l : TableLine) (action : Action) → ((arguments : List Text)
+    → l.action arguments ≡ alone action arguments)
     → IsActionInRange action → IsLineInRange l
 no_argument l action is h = record { in_range = λ arguments. rw is (no_number_in IsActionInRange action arguments h) }
 
@@ -201,7 +203,7 @@ all_in =
     (with_line _ _ (no_argument _ doing.Tape1 (λ a. refl) tt)
     (with_line _ _ (no_argument _ doing.CheckTape1 (λ a. refl) tt) none))))))))))))
 
-named_in : (ls : List Line) (word : Text) → AreInRange ls → IfSome (line_named ls word) IsLineInRange
+named_in : (ls : List TableLine) (word : Text) → AreInRange ls → IfSome (line_named ls word) IsLineInRange
 named_in _ word none = tt
 named_in _ word (with_line l ls first others) =
     either_in IsLineInRange (bytes_eq word l.word) (Some l) (line_named ls word) first (named_in ls word others)
@@ -212,7 +214,7 @@ command_by (Some a) (Some s) a_in s_in = record { action = a_in; settings = s_in
 command_by (Some a) None a_in s_in = tt
 command_by None s a_in s_in = tt
 
-line_by : (l : Option Line) (o : Options) (arguments : List Text) → IfSome l IsLineInRange
+line_by : (l : Option TableLine) (o : Options) (arguments : List Text) → IfSome l IsLineInRange
     → IfSome (option_and_then (λ l. with_only l.options o (l.action arguments)) l) IsInRange
 line_by (Some l) o arguments h =
     either_in IsInRange (has_only l.options o) (command (l.action arguments) (settings_of o)) None

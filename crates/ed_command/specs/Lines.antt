@@ -6,7 +6,7 @@ use Rattle.ed_words.specs.Decimals.{number, number_within}
 use Rattle.ed_call.specs.declared.Call.{Call}
 use Rattle.ed_call.specs.declared.Call.TheVariants.{Print, Read, NewLine, Divide, Root, Check}
 use Rattle.ed_words.specs.Texts.{Text}
-use Rattle.ed_command.specs.Words.{Parts, word_parts, values_of}
+use Rattle.ed_command.specs.Words.{WordParts, word_parts, values_of}
 use Rattle.ed_command.specs.Settings.{Options, has_only, options_by, settings_of}
 use Rattle.ed_command.specs.declared.command.Action.{Action}
 use Rattle.ed_command.specs.declared.command.Action.TheVariants as doing
@@ -50,13 +50,13 @@ call_of (name ∷ numbers) =
 -- ---- lines
 
 -- a line: its first word, its action by its arguments, and the options that it may have
-pub record Line : Type 0 where
+pub record TableLine : Type 0 where
   pub word : Text
   pub action : List Text → Option Action
   pub options : List Text
 
 -- a line of the table
-abbrev pub table_line : Text → (List Text → Option Action) → List Text → Line
+abbrev pub table_line : Text → (List Text → Option Action) → List Text → TableLine
 table_line word action options = record { word = word; action = action; options = options }
 
 -- the name of the option for the limit of orders
@@ -76,7 +76,7 @@ abbrev pub store : Text
 store = codes "store"
 
 -- the lines of the program
-abbrev pub lines : List Line
+abbrev pub lines : List TableLine
 lines =
     table_line (codes "tape") (alone doing.Tape) (limit ∷ resume ∷ post_mortem ∷ store ∷ [])
     ∷ table_line (codes "check-tape") (alone doing.CheckTape) (store ∷ [])
@@ -94,7 +94,7 @@ lines =
     ∷ []
 
 -- the line that begins with a word
-abbrev pub line_named : List Line → Text → Option Line
+abbrev pub line_named : List TableLine → Text → Option TableLine
 line_named [] word = None
 line_named (l ∷ ls) word = if bytes_eq word l.word then Some l else line_named ls word
 
@@ -118,7 +118,7 @@ command_of [] o = None
 command_of (word ∷ arguments) o = command_named word arguments o
 
 -- the command of the parts
-abbrev pub command_in : Parts → Option Command
+abbrev pub command_in : WordParts → Option Command
 command_in p = command_of p.words (options_by (λ name. values_of name p.settings))
 
 -- the command that the words are, if they are one

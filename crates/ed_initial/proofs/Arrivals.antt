@@ -4,7 +4,7 @@ use Rattle.std.proofs.Common.{◌∙◌, subst, arith, inl, inr, ◌⊎◌, Bool
 use Rattle.std.proofs.lemmas.Bool.{cases_lt}
 use Rattle.ed_machine.specs.State.{State}
 use Rattle.ed_machine.specs.OrderTable.{Obeyed, step}
-use Rattle.ed_machine.specs.Steps.{state_after, past}
+use Rattle.ed_machine.specs.Steps.{state_after, progress}
 use Rattle.ed_machine.specs.declared.turn.Turn.TheVariants.{Went}
 use Rattle.ed_initial.specs.declared.resting.Rested.{Rested}
 use Rattle.ed_initial.specs.declared.resting.Rested.TheVariants.{Entered, At, Lost}
@@ -28,7 +28,7 @@ one_earlier : (j : ℕ) (s t : State) → step s ≡ record { state = t; turn = 
 one_earlier j s t does = first_state j s ∙ ap (λ (x : Obeyed). state_after j x.state) does
 
 walk_along : {f : Kept} {k : ℕ} {r t : Moment} → Walk f k r t → (o : ℕ) → IsWalk k (state f r o)
-unfolding past
+unfolding progress
 walk_along stay o j h = absurd (omega arith)
 walk_along {f} (on {kind = kind} {r = r} {m = m} first away rest) o zero h =
     let p = passes (is_calm kind r.counter) m.counter away in
@@ -118,7 +118,7 @@ pub walks_in : {f : Kept} {k : ℕ} {r m t : Moment} → Walk f k r m → Enters
     → (o : ℕ) (u : State) (res : Rested)
     → WalkEnds (state f r o) res → u ≡ state_after (walked res) (state f r o)
     → (res ≡ Entered t.counter (suc k)) × (u ≡ state f t (o + suc k))
-unfolding past
+unfolding progress
 walks_in {f} {k} {r} {m} {t} runs last few o u res h is =
     let s = state f r o in
     let there = along runs o in

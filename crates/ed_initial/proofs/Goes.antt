@@ -5,7 +5,7 @@ use Rattle.std.proofs.lemmas.Bool.{cases_lt}
 use Rattle.ed_machine.specs.State.{State}
 use Rattle.ed_machine.specs.OrderTable.{Obeyed}
 use Rattle.ed_machine.proofs.Steps.{after_sum}
-use Rattle.ed_machine.specs.Steps.{state_after, past}
+use Rattle.ed_machine.specs.Steps.{state_after, progress}
 use Rattle.std.proofs.Common.{Bool, true, false, ◌&&◌, not, nat_eq}
 use Rattle.std.proofs.lemmas.Bool.{and_parts, not-true}
 use Rattle.ed_orders.specs.declared.kind.Kind.{Kind}
@@ -35,12 +35,12 @@ pub record Goes (k : ℕ) (s t : State) : Type 0 where
   pub quiet : IsQuiet k s
 
 pub none : (s : State) → Goes 0 s s
-unfolding past
+unfolding progress
 none s = record { state = refl; quiet = λ j h. absurd (omega arith) }
 
 pub one : (f : Kept) (kind : Kind) (r t : Moment) (o : ℕ) → Moves (piece f) kind r t → is_calm kind r.counter ≡ true
     → Goes 1 (state f r o) (state f t (o + 1))
-unfolding past
+unfolding progress
 one f kind r t o m q = record {
   state = ap (λ (x : Obeyed). x.state) (m.does o);
   quiet = λ j h.

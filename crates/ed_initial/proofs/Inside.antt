@@ -9,17 +9,18 @@ use Rattle.ed_notation.specs.declared.kind.RowKind.{RowKind}
 use Rattle.ed_notation.specs.declared.kind.RowKind.TheVariants.{Digit, Mark, Zed, Kay, Blank, Letter, Other}
 use Rattle.ed_notation.specs.declared.kind.Control.{Control}
 use Rattle.ed_notation.specs.declared.kind.Control.TheVariants.{Directive, ThetaByBlank, ThetaByG, Neither}
-use Rattle.ed_notation.specs.declared.kind.Aim.{Aim}
-use Rattle.ed_notation.specs.declared.kind.Aim.TheVariants.{Places, Enters, Nowhere, Unset}
-use Rattle.ed_notation.specs.declared.reader.Part.{Part}
-use Rattle.ed_notation.specs.declared.reader.Taken.{Taken}
-use Rattle.ed_notation.specs.declared.reader.Taken.TheVariants.{Refused, Longer, Ended, Placed, Entered}
+use Rattle.ed_notation.specs.declared.kind.LetterAction.{LetterAction}
+use Rattle.ed_notation.specs.declared.kind.LetterAction.TheVariants.{Places, Enters, Nowhere, Unset}
+use Rattle.ed_notation.specs.declared.reader.PartialItem.{PartialItem}
+use Rattle.ed_notation.specs.declared.reader.RowEffect.{RowEffect}
+use Rattle.ed_notation.specs.declared.reader.RowEffect.TheVariants.{Refused, Longer, Ended, Placed, Entered}
 use Rattle.ed_notation.specs.Items.{row_kind}
-use Rattle.ed_notation.specs.Fold.{Note, over, value_of, address, control_of, aim_of}
+use Rattle.ed_notation.specs.Fold.{NotationState, over, value_of, address, control_of, letter_action_of}
 use Rattle.ed_notation.specs.Faults.{is_place}
-use Rattle.ed_notation.specs.Reading.{taken, digit_taken, mark_taken, kay_taken, zed_taken, blank_taken, letter_taken}
+use Rattle.ed_notation.specs.Reading.{row_effect, digit_effect, mark_effect, kay_effect, zed_effect, blank_effect}
+use Rattle.ed_notation.specs.Reading.{letter_effect}
 use Rattle.ed_notation.specs.Reading.{part_word, setting_of, set_by, placed_by, entry_by}
-use Rattle.ed_initial.specs.Rests.{Working, Scratch, working, begun, IsNote, IsPartSoFar}
+use Rattle.ed_initial.specs.Rests.{Working, Scratch, working, begun, IsNotationState, IsPartSoFar}
 use Rattle.ed_initial.specs.Entry.{entry_words}
 use Rattle.ed_paths.proofs.Frames.{Moment}
 use Rattle.ed_initial.proofs.Paths.{Kept, Walk, ToRest, moment, Enters as EntersBy}
@@ -32,74 +33,76 @@ use Rattle.ed_notation.proofs.Tests.{is_place_means}
 use Rattle.ed_initial.proofs.Contents.{value_here}
 
 -- the two rests
-abbrev pub between : Kept → List ℕ → Scratch → Note → List ℕ → Moment
-between f ws w note rows = moment f (working w note) (over note.placed ws) w.digit40 0 34 rows
+abbrev pub between : Kept → List ℕ → Scratch → NotationState → List ℕ → Moment
+between f ws w notation rows = moment f (working w notation) (over notation.placed ws) w.digit40 0 34 rows
 
-abbrev pub inside : Kept → List ℕ → Part → ℕ → ℕ → Note → List ℕ → Moment
-inside f ws part at1 at20 note rows = moment f (working (begun part at1 at20) note) (over note.placed ws) false 0 9 rows
+abbrev pub inside : Kept → List ℕ → PartialItem → ℕ → ℕ → NotationState → List ℕ → Moment
+inside f ws part at1 at20 notation rows = moment f (working (begun part at1 at20) notation) (over notation.placed ws)
+    false 0 9 rows
 
 -- at the entry by an item whose ending row is c
-abbrev pub entered : Kept → List ℕ → Part → Note → ℕ → ℕ → ℕ → List ℕ → Moment
-entered f ws part note c at word rows =
-    moment f (entry_words (entry_by ws 0 0 note part c rows at)) (over note.placed ws) false (word * 2 ^ 54) at rows
+abbrev pub entered : Kept → List ℕ → PartialItem → NotationState → ℕ → ℕ → ℕ → List ℕ → Moment
+entered f ws part notation c at word rows =
+    moment f (entry_words (entry_by ws 0 0 notation part c rows at)) (over notation.placed ws) false
+    (word * 2 ^ 54) at rows
 
 -- a rest inside an item, with the row that comes next
 pub record AtRow : Type 0 where
   pub kept : Kept
   pub words : List ℕ
-  pub note : Note
-  pub part : Part
+  pub notation : NotationState
+  pub part : PartialItem
   pub at1 : ℕ
   pub at20 : ℕ
   pub code : ℕ
   pub rows : List ℕ
 
 module _ (row : AtRow) where
-  open row use {kept as f, words as ws, note, part, at1, at20, code as c, rows}
+  open row use {kept as f, words as ws, notation, part, at1, at20, code as c, rows}
 
   abbrev here : Moment
-  here = inside f ws part at1 at20 note (c ∷ rows)
+  here = inside f ws part at1 at20 notation (c ∷ rows)
 
   -- the item grows
-  pub record Grows (next : Part) (k : ℕ) : Type 0 where
+  pub record Grows (next : PartialItem) (k : ℕ) : Type 0 where
     pub one : ℕ
     pub twenty : ℕ
-    pub path : ToRest f k here (inside f ws next one twenty note rows)
+    pub path : ToRest f k here (inside f ws next one twenty notation rows)
     pub few : k ≤ 17
     pub part_is : IsPartSoFar next
 
   -- the item ends, and leaves a state of the notation
-  pub record Closes (next : Note) (k : ℕ) : Type 0 where
+  pub record Closes (next : NotationState) (k : ℕ) : Type 0 where
     pub scratch : Scratch
     pub path : ToRest f k here (between f ws scratch next rows)
     pub few : k ≤ 17
-    pub note_is : IsNote next
+    pub notation_is : IsNotationState next
 
   -- the item enters the program
   pub record Arrives (at word : ℕ) : Type 0 where
     pub middle : Moment
     pub runs : Walk f 12 here middle
-    pub last : EntersBy f middle (entered f ws part note c at word rows)
+    pub last : EntersBy f middle (entered f ws part notation c at word rows)
 
   -- what follows the row, as the notation has it
-  abbrev pub Follows : Taken → Type 0
+  abbrev pub Follows : RowEffect → Type 0
   Follows (Refused cause) = Unit {0}
   Follows (Longer next k) = Grows next k
-  Follows (Ended setting k) = Closes (set_by setting note) k
-  Follows (Placed at word) = Closes (placed_by at word note) 17
-  Follows (Entered at) = Arrives at (part_word (over note.placed ws) (setting_of note) part c)
+  Follows (Ended setting k) = Closes (set_by setting notation) k
+  Follows (Placed at word) = Closes (placed_by at word notation) 17
+  Follows (Entered at) = Arrives at (part_word (over notation.placed ws) (setting_of notation) part c)
 
-module _ (row : AtRow) (good : IsNote row.note) (phase : IsPartSoFar row.part) where
-  open row use {kept as f, words as ws, note, part, at1, at20, code as c, rows}
+module _ (row : AtRow) (good : IsNotationState row.notation) (phase : IsPartSoFar row.part) where
+  open row use {kept as f, words as ws, notation, part, at1, at20, code as c, rows}
 
-  abbrev After : Taken → Type 0
+  abbrev After : RowEffect → Type 0
   After t = Follows row t
 
   abbrev w : Working
-  w = working (begun part at1 at20) note
+  w = working (begun part at1 at20) notation
 
   abbrev high : List ℕ
-  high = over note.placed ws
+  high = over notation.placed ws
 
   mark_most : (b : Bool) → digit b ≤ 1
   mark_most true = lit≤ tt
@@ -108,7 +111,7 @@ module _ (row : AtRow) (good : IsNote row.note) (phase : IsPartSoFar row.part) w
   unmarked : part.mark ≡ false → digit part.mark ≡ 0
   unmarked h = ap digit h
 
-  by_digit : c < 10 → After (digit_taken part c)
+  by_digit : c < 10 → After (digit_effect part c)
   by_digit small =
       if_means After part.mark _ _ (λ _. tt) (λ m.
       if_means After (nat_lt 32767 (10 * part.number + c)) _ _ (λ _. tt) (λ n.
@@ -122,10 +125,10 @@ module _ (row : AtRow) (good : IsNote row.note) (phase : IsPartSoFar row.part) w
         part_is = record { function = phase.function; number = fits; blank = λ h. cc };
       }))
 
-  abbrev marked : Part
+  abbrev marked : PartialItem
   marked = record part { mark = true; blank = false }
 
-  by_mark : c ≡ 11 → After (mark_taken part)
+  by_mark : c ≡ 11 → After (mark_effect part)
   by_mark is =
       if_means After part.mark _ _ (λ _. tt) (λ m.
       let none = unmarked m in
@@ -133,8 +136,8 @@ module _ (row : AtRow) (good : IsNote row.note) (phase : IsPartSoFar row.part) w
       record {
         one = 11;
         twenty = 12342;
-        path = subst (λ x. ToRest f 15 (inside f ws part at1 at20 note (x ∷ rows))
-            (inside f ws marked 11 12342 note rows)) (sym is)
+        path = subst (λ x. ToRest f 15 (inside f ws part at1 at20 notation (x ∷ rows))
+            (inside f ws marked 11 12342 notation rows)) (sym is)
             (mark_path f w high false refl (omega arith) (omega arith));
         few = lit≤ tt;
         part_is = record { function = phase.function; number = phase.number; blank = λ h. cc };
@@ -144,33 +147,34 @@ module _ (row : AtRow) (good : IsNote row.note) (phase : IsPartSoFar row.part) w
   abbrev left : ℕ → Scratch
   left end = begun part end (12320 + 2 * end)
 
-  abbrev closes : (next : Note) (k end : ℕ) → c ≡ end → k ≤ 17 → IsNote next
-      → ToRest f k (inside f ws part at1 at20 note (end ∷ rows)) (between f ws (left end) next rows) → Closes row next k
-  closes next k end is few note_is path = record {
+  abbrev closes : (next : NotationState) (k end : ℕ) → c ≡ end → k ≤ 17 → IsNotationState next
+      → ToRest f k (inside f ws part at1 at20 notation (end ∷ rows)) (between f ws (left end) next rows)
+      → Closes row next k
+  closes next k end is few notation_is path = record {
     scratch = left end;
-    path = subst (λ x. ToRest f k (inside f ws part at1 at20 note (x ∷ rows)) (between f ws (left end) next rows))
+    path = subst (λ x. ToRest f k (inside f ws part at1 at20 notation (x ∷ rows)) (between f ws (left end) next rows))
         (sym is) path;
     few = few;
-    note_is = note_is;
+    notation_is = notation_is;
   }
 
-  by_kay_theta : (u : ℕ) → (4096 * part.function + 2 * part.number + note.directive) % 2 ^ 17 ≡ u → c ≡ 14
+  by_kay_theta : (u : ℕ) → (4096 * part.function + 2 * part.number + notation.directive) % 2 ^ 17 ≡ u → c ≡ 14
       → digit part.mark ≡ 0
-      → 16 ≤ part.function → part.number ≤ 1023 → Closes row (record note { theta = u }) 16
+      → 16 ≤ part.function → part.number ≤ 1023 → Closes row (record notation { theta = u }) 16
   by_kay_theta u sum is none least fits =
       let f32 = phase.function in
-      closes (record note { theta = u }) 16 14 is (lit≤ tt) (omega (arith, good))
+      closes (record notation { theta = u }) 16 14 is (lit≤ tt) (omega (arith, good))
       (kay_theta_path f w high false (4096 * part.function + 2 * part.number) (omega arith)
       (omega arith, omega arith, omega arith) sum)
 
-  by_kay : (k : Control) → ControlMeans k part.function → c ≡ 14 → After (kay_taken k (setting_of note) part)
+  by_kay : (k : Control) → ControlMeans k part.function → c ≡ 14 → After (kay_effect k (setting_of notation) part)
   by_kay Directive means is =
       if_means After part.mark _ _ (λ _. tt) (λ m.
       if_means After (nat_lt 1023 part.number) _ _ (λ _. tt) (λ n.
       let none = unmarked m in
       let fits : part.number ≤ 1023 = not_lt_of _ _ n in
       let u = 4096 * part.function + 2 * part.number in
-      closes (record note { directive = u }) 16 14 is (lit≤ tt) (omega (arith, good))
+      closes (record notation { directive = u }) 16 14 is (lit≤ tt) (omega (arith, good))
       (kay_directive_path f w high false u rows (omega arith) (omega arith))))
   by_kay ThetaByBlank means is =
       if_means After part.mark _ _ (λ _. tt) (λ m.
@@ -182,35 +186,35 @@ module _ (row : AtRow) (good : IsNote row.note) (phase : IsPartSoFar row.part) w
       by_kay_theta _ refl is (unmarked m) (omega arith) (not_lt_of _ _ n)))
   by_kay Neither means is = if_means After part.mark _ _ (λ _. tt) (λ _. tt)
 
-  by_zed : (k : Control) → ControlMeans k part.function → c ≡ 13 → After (zed_taken k (setting_of note) part)
+  by_zed : (k : Control) → ControlMeans k part.function → c ≡ 13 → After (zed_effect k (setting_of notation) part)
   by_zed Directive means is =
-      let u = 4096 * part.function + 2 * part.number + note.theta in
+      let u = 4096 * part.function + 2 * part.number + notation.theta in
       if_means After part.mark _ _ (λ _. tt) (λ m.
       if_means After (is_place u) _ _ (λ p.
       let none = unmarked m in
       let place = is_place_means u p in
       let even = place.even in
       let range = place.range in
-      closes (record note { directive = u }) 17 13 is (lit≤ tt) (omega (arith, good))
+      closes (record notation { directive = u }) 17 13 is (lit≤ tt) (omega (arith, good))
       (zed_directive_path f w high false u rows (omega arith) (omega arith))) (λ _. tt))
   by_zed ThetaByBlank means is =
-      let u = (65536 + 2 * part.number + note.theta + note.directive) % 2 ^ 17 in
+      let u = (65536 + 2 * part.number + notation.theta + notation.directive) % 2 ^ 17 in
       if_means After part.mark _ _ (λ _. tt) (λ m.
-      if_means After (nat_le 65536 (2 * part.number + note.theta)) _ _ (λ _. tt) (λ n.
+      if_means After (nat_le 65536 (2 * part.number + notation.theta)) _ _ (λ _. tt) (λ n.
       let none = unmarked m in
-      let fits : 2 * part.number + note.theta < 65536 = not_le_of _ _ n in
-      closes (record note { theta = u }) 17 13 is (lit≤ tt) (omega (arith, good))
+      let fits : 2 * part.number + notation.theta < 65536 = not_le_of _ _ n in
+      closes (record notation { theta = u }) 17 13 is (lit≤ tt) (omega (arith, good))
       (zed_theta_path f w high false (omega arith) (omega arith) (omega arith))))
   by_zed ThetaByG means is = if_means After part.mark _ _ (λ _. tt) (λ _. tt)
   by_zed Neither means is = if_means After part.mark _ _ (λ _. tt) (λ _. tt)
 
-  by_blank : c ≡ 16 → After (blank_taken (setting_of note) part)
+  by_blank : c ≡ 16 → After (blank_effect (setting_of notation) part)
   by_blank is =
       if_means After part.blank _ _ (λ b.
       let new = phase.blank b in
       let none = unmarked new.1 in
       let zero = new.0 in
-      closes (record note { theta = note.directive }) 14 16 is (lit≤ tt) (omega (arith, good))
+      closes (record notation { theta = notation.directive }) 14 16 is (lit≤ tt) (omega (arith, good))
       (blank_path f w high false rows (omega arith) (omega (arith, good)))) (λ _. tt)
 
   -- the changing words once a code letter has been read
@@ -218,25 +222,25 @@ module _ (row : AtRow) (good : IsNote row.note) (phase : IsPartSoFar row.part) w
   lettered = record w { at1 = c; at20 = 114736 + 2 * c }
 
   abbrev value : ℕ
-  value = value_of (over note.placed ws) note.theta c
+  value = value_of (over notation.placed ws) notation.theta c
 
   abbrev word : ℕ
-  word = part_word (over note.placed ws) (setting_of note) part c
+  word = part_word (over notation.placed ws) (setting_of notation) part c
 
   letter : 17 ≤ c → c < 32 → IsLetter f w high false c value ((w.at0 + value) % 2 ^ 17) word
   letter low code = record {
     low = low;
     most = code;
     fits = omega (arith, phase, mark_most part.mark);
-    value = value_here lettered (over note.placed ws) c low refl refl;
+    value = value_here lettered (over notation.placed ws) c low refl refl;
     sum = refl;
     is = omega arith;
   }
 
-  by_letter : (k : Aim) → AimMeans k note.directive → 17 ≤ c → c < 32
-      → After (letter_taken f.size k (setting_of note) word)
+  by_letter : (k : LetterAction) → AimMeans k notation.directive → 17 ≤ c → c < 32
+      → After (letter_effect f.size k (setting_of notation) word)
   by_letter Places means low code =
-      let a = address note.directive in
+      let a = address notation.directive in
       if_means After (nat_lt a 44) _ _ (λ _. tt) (λ p.
       if_means After (nat_le (locations f.size) a) _ _ (λ _. tt) (λ q.
       let above : 44 ≤ a = not_lt_of _ _ p in
@@ -246,10 +250,10 @@ module _ (row : AtRow) (good : IsNote row.note) (phase : IsPartSoFar row.part) w
         scratch = begun part c (114736 + 2 * c);
         path = placed_path f w high false a (letter low code) (omega (arith, good, means)) (above, below);
         few = lit≤ tt;
-        note_is = omega (arith, good);
+        notation_is = omega (arith, good);
       }))
   by_letter Enters means low code =
-      let a = address note.directive in
+      let a = address notation.directive in
       if_means After (nat_le (locations f.size) a) _ _ (λ _. tt) (λ p.
       if_means After (nat_le 65536 word) _ _ (λ _. tt) (λ q.
       if_means After (nat_lt a 44) _ _ (λ _. tt) (λ r.
@@ -257,7 +261,7 @@ module _ (row : AtRow) (good : IsNote row.note) (phase : IsPartSoFar row.part) w
       let last : a < 1024 = omega (arith, most f.size) in
       let positive : word < 65536 = not_le_of _ _ q in
       let twenty : 114736 + 2 * c ≡ 114688 + 2 * (24 + c) = omega arith in
-      let order : note.directive ≡ 12288 + 2 * a = omega (arith, good) in
+      let order : notation.directive ≡ 12288 + 2 * a = omega (arith, good) in
       record {
         middle = moment f lettered high false (word * 2 ^ 54) 22 rows;
         runs = letter_row f w high false (letter low code);
@@ -269,15 +273,16 @@ module _ (row : AtRow) (good : IsNote row.note) (phase : IsPartSoFar row.part) w
   by_letter Nowhere means low code = tt
   by_letter Unset means low code = tt
 
-  by_row : (r : RowKind) → RowMeans r c → After (taken f.size r (over note.placed ws) (setting_of note) part c)
+  by_row : (r : RowKind) → RowMeans r c → After (row_effect f.size r (over notation.placed ws)
+      (setting_of notation) part c)
   by_row Digit means = by_digit means
   by_row Mark means = by_mark means
   by_row Zed means = by_zed (control_of part.function) (control_means part.function) means
   by_row Kay means = by_kay (control_of part.function) (control_means part.function) means
   by_row Blank means = by_blank means
-  by_row Letter means = by_letter (aim_of note.directive) (aim_means note.directive) means.0 means.1
+  by_row Letter means = by_letter (letter_action_of notation.directive) (aim_means notation.directive) means.0 means.1
   by_row Other means = tt
 
   -- every row
-  pub follows : After (taken f.size (row_kind c) (over note.placed ws) (setting_of note) part c)
+  pub follows : After (row_effect f.size (row_kind c) (over notation.placed ws) (setting_of notation) part c)
   follows = by_row (row_kind c) (row_means c)

@@ -5,17 +5,17 @@ use Rattle.std.proofs.Common.{Option, Some, None, List, [], ◌∷◌}
 use Rattle.ed_machine.specs.State.{State}
 use Rattle.ed_machine.specs.OrderTable.{step}
 use Rattle.ed_machine.specs.declared.turn.Turn.TheVariants.{Went}
-use Rattle.ed_notation.specs.declared.reader.Part.{Part}
-use Rattle.ed_notation.specs.declared.reader.Taken.{Taken}
-use Rattle.ed_notation.specs.declared.reader.Taken.TheVariants.{Refused, Longer, Ended, Placed, Entered}
+use Rattle.ed_notation.specs.declared.reader.PartialItem.{PartialItem}
+use Rattle.ed_notation.specs.declared.reader.RowEffect.{RowEffect}
+use Rattle.ed_notation.specs.declared.reader.RowEffect.TheVariants.{Refused, Longer, Ended, Placed, Entered}
 use Rattle.ed_notation.specs.declared.cause.TapeCause.TheVariants.{BadRow}
 use Rattle.ed_notation.specs.Items.{row_kind}
-use Rattle.ed_notation.specs.Fold.{Note, over}
+use Rattle.ed_notation.specs.Fold.{NotationState, over}
 use Rattle.ed_notation.specs.Faults.{TapeEntry}
-use Rattle.ed_notation.specs.Reading.{Faulty, Arrived, reading_on, taken}
+use Rattle.ed_notation.specs.Reading.{Faulty, Arrived, reading_on, row_effect}
 use Rattle.ed_notation.specs.Reading.{part_of, setting_of, set_by, placed_by, entry_by}
 use Rattle.ed_notation.proofs.Follow.{Reader, reads, passed, follow}
-use Rattle.ed_initial.specs.Rests.{Scratch, working, IsNote, IsPartSoFar}
+use Rattle.ed_initial.specs.Rests.{Scratch, working, IsNotationState, IsPartSoFar}
 use Rattle.ed_initial.specs.Entry.{entry_words}
 use Rattle.ed_initial.specs.Load.{enters}
 use Rattle.ed_paths.proofs.Frames.{Moment}
@@ -27,7 +27,7 @@ use Rattle.ed_initial.proofs.Inside.{between, inside, AtRow, Follows, follows}
 -- the machine at the entry, after this number of orders
 abbrev pub entered : Kept → List ℕ → TapeEntry → ℕ → State
 entered f ws e orders = state f
-    (moment f (entry_words e) (over e.note.placed ws) false (e.word * 2 ^ 54) e.at e.rest) orders
+    (moment f (entry_words e) (over e.notation.placed ws) false (e.word * 2 ^ 54) e.at e.rest) orders
 
 -- a load goes on from a state, which it reached at a cost, up to an entry
 pub record Reaches (f : Kept) (ws : List ℕ) (first cost : ℕ) (s : State) (e : TapeEntry) : Type 0 where
@@ -43,7 +43,7 @@ pub record Rest : Type 0 where
   pub scratch : Scratch
   pub row : ℕ
   pub cost : ℕ
-  pub note : Note
+  pub notation : NotationState
 
 module _ (f : Kept) (ws : List ℕ) (first : ℕ) where
   -- a load that goes on from where a path leads
@@ -63,39 +63,41 @@ module _ (f : Kept) (ws : List ℕ) (first : ℕ) where
         cost_is = omega (arith, a.cost_is);
       }
 
-  abbrev IsPhase : Option Part → Type 0
+  abbrev IsPhase : Option PartialItem → Type 0
   IsPhase None = Unit {0}
   IsPhase (Some part) = IsPartSoFar part
 
   -- the reader there
   abbrev reader : Rest → Reader
-  reader r = record { size = f.size; words = ws; row = r.row; cost = r.cost; note = r.note }
+  reader r = record { size = f.size; words = ws; row = r.row; cost = r.cost; notation = r.notation }
 
   -- between two items, or inside one
-  abbrev rests : Rest → Option Part → List ℕ → Moment
-  rests r None rows = between f ws r.scratch r.note rows
-  rests r (Some part) rows = inside f ws part r.scratch.at1 r.scratch.at20 r.note rows
+  abbrev rests : Rest → Option PartialItem → List ℕ → Moment
+  rests r None rows = between f ws r.scratch r.notation rows
+  rests r (Some part) rows = inside f ws part r.scratch.at1 r.scratch.at20 r.notation rows
 
   -- what holds for the rows of a tape
   abbrev Loads : List ℕ → Type 0
-  Loads rows = (r : Rest) (p : Option Part) (e : TapeEntry) → IsNote r.note → IsPhase p
+  Loads rows = (r : Rest) (p : Option PartialItem) (e : TapeEntry) → IsNotationState r.notation → IsPhase p
       → reads (reader r) p rows ≡ Arrived e
       → Reaches f ws first r.cost (state f (rests r p rows) (first + r.cost)) e
 
   entry_same : (a b : TapeEntry) → Arrived a ≡ Arrived b → a ≡ b
   entry_same a b h = cc
 
-  by_function : (rows : List ℕ) → Loads rows → (r : Rest) (c : ℕ) {e : TapeEntry} → IsNote r.note → {b : Bool}
+  by_function : (rows : List ℕ) → Loads rows → (r : Rest) (c : ℕ) {e : TapeEntry} → IsNotationState r.notation
+      → {b : Bool}
       → nat_lt c 32 ≡ b
       → elim b [
-        | true ↦ reads (passed (reader r) 1 6 r.note) (Some (part_of c)) rows
+        | true ↦ reads (passed (reader r) 1 6 r.notation) (Some (part_of c)) rows
         | false ↦ Faulty r.row BadRow
       ] ≡ Arrived e → Reaches f ws first r.cost (state f (rests r None (c ∷ rows)) (first + r.cost)) e
   by_function rows ih r c {e} good {b = true} t h =
       let small : c < 32 = lt_of c 32 t in
       let begins : IsPartSoFar (part_of c) = record { function = small; number = lit≤ tt; blank = λ b. (refl, refl) } in
-      let after : Rest = record { scratch = r.scratch; row = r.row + 1; cost = r.cost + 6; note = r.note } in
-      let path = function_path f (working r.scratch r.note) (over r.note.placed ws) r.scratch.digit40 c rows small in
+      let after : Rest = record { scratch = r.scratch; row = r.row + 1; cost = r.cost + 6; notation = r.notation } in
+      let path = function_path f (working r.scratch r.notation) (over r.notation.placed ws) r.scratch.digit40 c
+      rows small in
       prepend 6 r.cost path (ih after (Some (part_of c)) e good begins h)
   by_function rows ih r c good {b = false} t h = cc
 
@@ -106,14 +108,15 @@ module _ (f : Kept) (ws : List ℕ) (first : ℕ) where
   loads_on [] r (Some part) e good phase h = cc
   loads_on (c ∷ rows) r None e good phase h = by_function rows (loads_on rows) r c good refl h
   loads_on (c ∷ rows) r (Some part) e good phase h =
-      by_taken (loads_on rows) (taken f.size (row_kind c) (over r.note.placed ws) (setting_of r.note) part c)
+      by_taken (loads_on rows) (row_effect f.size (row_kind c) (over r.notation.placed ws)
+      (setting_of r.notation) part c)
       (follows row good phase) h
     where
       row : AtRow
       row = record {
         kept = f;
         words = ws;
-        note = r.note;
+        notation = r.notation;
         part = part;
         at1 = r.scratch.at1;
         at20 = r.scratch.at20;
@@ -121,22 +124,23 @@ module _ (f : Kept) (ws : List ℕ) (first : ℕ) where
         rows = rows;
       }
 
-      behind : Scratch → ℕ → Note → Rest
-      behind scratch k note = record { scratch = scratch; row = r.row + 1; cost = r.cost + k; note = note }
+      behind : Scratch → ℕ → NotationState → Rest
+      behind scratch k notation = record { scratch = scratch; row = r.row + 1; cost = r.cost + k; notation = notation }
 
-      by_taken : Loads rows → (t : Taken) → Follows row t → follow (reader r) part c rows t ≡ Arrived e
+      by_taken : Loads rows → (t : RowEffect) → Follows row t → follow (reader r) part c rows t ≡ Arrived e
           → Reaches f ws first r.cost (state f (rests r (Some part) (c ∷ rows)) (first + r.cost)) e
       by_taken ih (Refused cause) o h = cc
       by_taken ih (Longer longer k) o h =
-          prepend k r.cost o.path (ih (behind (record r.scratch { at1 = o.one; at20 = o.twenty }) k r.note)
+          prepend k r.cost o.path (ih (behind (record r.scratch { at1 = o.one; at20 = o.twenty }) k r.notation)
           (Some longer) e good o.part_is h)
       by_taken ih (Ended setting k) o h =
-          prepend k r.cost o.path (ih (behind o.scratch k (set_by setting r.note)) None e o.note_is tt h)
+          prepend k r.cost o.path (ih (behind o.scratch k (set_by setting r.notation)) None e o.notation_is tt h)
       by_taken ih (Placed place word) o h =
-          prepend 17 r.cost o.path (ih (behind o.scratch 17 (placed_by place word r.note)) None e o.note_is tt h)
+          prepend 17 r.cost o.path (ih (behind o.scratch 17 (placed_by place word r.notation)) None e
+          o.notation_is tt h)
       by_taken ih (Entered place) o h =
           let here = rests r (Some part) (c ∷ rows) in
-          let x : TapeEntry = entry_by ws r.row r.cost r.note part c rows place in
+          let x : TapeEntry = entry_by ws r.row r.cost r.notation part c rows place in
           let sum : first + r.cost + 12 + 1 ≡ first + (r.cost + 13) = omega arith in
           let arrives : Reaches f ws first r.cost (state f here (first + r.cost)) x = record {
             steps = 12;
@@ -151,7 +155,7 @@ module _ (f : Kept) (ws : List ℕ) (first : ℕ) where
           subst (λ y. Reaches f ws first r.cost (state f here (first + r.cost)) y) (entry_same x e h) arrives
 
   -- and from a rest between two items
-  pub loads : (rows : List ℕ) (r : Rest) {e : TapeEntry} → IsNote r.note
-      → reading_on f.size ws r.row r.cost r.note None rows ≡ Arrived e
+  pub loads : (rows : List ℕ) (r : Rest) {e : TapeEntry} → IsNotationState r.notation
+      → reading_on f.size ws r.row r.cost r.notation None rows ≡ Arrived e
       → Reaches f ws first r.cost (state f (rests r None rows) (first + r.cost)) e
   loads rows r {e} good h = loads_on rows r None e good tt h

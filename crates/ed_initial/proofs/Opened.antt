@@ -6,7 +6,7 @@ use Rattle.ed_store.specs.Cells.{IsStore}
 use Rattle.ed_machine.specs.State.{State}
 use Rattle.ed_notation.specs.Openings.{opening}
 use Rattle.ed_initial.specs.Listing.{initial_orders}
-use Rattle.ed_initial.specs.Rests.{Working, Scratch, IsNote}
+use Rattle.ed_initial.specs.Rests.{Working, Scratch, IsNotationState}
 use Rattle.ed_initial.specs.Entry.{IsStarted}
 use Rattle.ed_paths.proofs.Frames.{Moment, same_state}
 use Rattle.ed_paths.proofs.Window.{patched, patched_one, headed}
@@ -78,7 +78,7 @@ first_path s store =
     start_path (frame s store) (listed s.store.words) s.store.words (get_or s.store.sandwich 20 false) s.acc
     s.multiplier s.tape
 
-pub first_note : (ws : List ℕ) → get_or ws 42 0 < 2 ^ 17 → IsNote (opening ws)
+pub first_note : (ws : List ℕ) → get_or ws 42 0 < 2 ^ 17 → IsNotationState (opening ws)
 first_note ws h = omega arith
 
 -- the state of a path, as the definitions of the rests and of the entry write it

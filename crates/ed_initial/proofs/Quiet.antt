@@ -7,7 +7,7 @@ use Rattle.std.proofs.lemmas.Bool.{cases_lt}
 use Rattle.ed_store.specs.Cells.{IsStore}
 use Rattle.ed_machine.specs.State.{State}
 use Rattle.ed_machine.specs.OrderTable.{Obeyed, step}
-use Rattle.ed_machine.specs.Steps.{state_after, past}
+use Rattle.ed_machine.specs.Steps.{state_after, progress}
 use Rattle.ed_machine.specs.declared.turn.Turn.TheVariants.{Went}
 use Rattle.ed_notation.specs.Fold.{over}
 use Rattle.ed_notation.specs.Openings.{IsDirective, opening}
@@ -21,8 +21,8 @@ use Rattle.ed_initial.proofs.Loads.{Reaches, Rest, prepend, loads}
 use Rattle.ed_initial.proofs.Opened.{frame, begins, opened, first_path, first_scratch, first_note, shown}
 
 -- orders that only go on print nothing
-silent : (k : ℕ) (s : State) → ((j : ℕ) → j < k → (step (state_after j s)).turn ≡ Went) → (past k s).codes ≡ []
-unfolding past
+silent : (k : ℕ) (s : State) → ((j : ℕ) → j < k → (step (state_after j s)).turn ≡ Went) → (progress k s).codes ≡ []
+unfolding progress
 silent zero s h = refl
 silent (suc k) s h =
     let earlier = silent k s (λ j l. h j (omega arith)) in
@@ -38,15 +38,15 @@ pub record LeadsIn (s : State) (e : TapeEntry) : Type 0 where
   pub last : step (state_after before s) ≡ record { state = at_entry s e; turn = Went }
   pub arrives : state_after e.cost s ≡ at_entry s e
   pub went : (j : ℕ) → j < e.cost → (step (state_after j s)).turn ≡ Went
-  pub prints_none : (past e.cost s).codes ≡ []
+  pub prints_none : (progress e.cost s).codes ≡ []
 
 pub leads_in : (s : State) (store : IsStore s.store) (e : TapeEntry)
     → Reaches (frame s store) s.store.words s.orders 0 s e → LeadsIn s e
-unfolding past
+unfolding progress
 leads_in s store e a =
     let m = a.steps in
     let there =
-    shown (frame s store) (entry_words e) (over e.note.placed s.store.words) false (e.word * 2 ^ 54) e.at e.rest
+    shown (frame s store) (entry_words e) (over e.notation.placed s.store.words) false (e.word * 2 ^ 54) e.at e.rest
     (s.orders + e.cost) in
     let last : step (state_after m s) ≡ record { state = at_entry s e; turn = Went } =
     ap step a.goes.state ∙ a.enters_by ∙ (λ i. record { state = there i; turn = Went }) in
@@ -78,7 +78,7 @@ comes_in s e store started h =
     let set : IsDirective 20568 = omega arith in
     let read : reading_on s.size ws 0 9 (opening ws) None s.tape ≡ Arrived e =
     (reading_is_rules s.size ws (opening ws) 9 s.tape set).arrived e h.well h.comes in
-    let first : Rest = record { scratch = first_scratch s; row = 0; cost = 9; note = opening ws } in
+    let first : Rest = record { scratch = first_scratch s; row = 0; cost = 9; notation = opening ws } in
     let rest = loads f ws s.orders s.tape first (first_note ws (store.fits 42)) read in
     let begun : Reaches f ws s.orders 0 (state f (begins s store) (s.orders + 0)) e =
     prepend f ws s.orders 9 0 (first_path s store) rest in

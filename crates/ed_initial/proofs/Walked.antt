@@ -5,16 +5,16 @@ use Rattle.std.proofs.lemmas.List.{length-set}
 use Rattle.ed_store.specs.Cells.{IsStore}
 use Rattle.ed_machine.specs.State.{State}
 use Rattle.ed_machine.specs.Steps.{state_after}
-use Rattle.ed_notation.specs.declared.reader.Part.{Part}
-use Rattle.ed_notation.specs.declared.reader.Taken.{Taken}
-use Rattle.ed_notation.specs.declared.reader.Taken.TheVariants.{Refused, Longer, Ended, Placed, Entered}
+use Rattle.ed_notation.specs.declared.reader.PartialItem.{PartialItem}
+use Rattle.ed_notation.specs.declared.reader.RowEffect.{RowEffect}
+use Rattle.ed_notation.specs.declared.reader.RowEffect.TheVariants.{Refused, Longer, Ended, Placed, Entered}
 use Rattle.ed_notation.specs.Items.{row_kind}
-use Rattle.ed_notation.specs.Fold.{Note, over}
+use Rattle.ed_notation.specs.Fold.{NotationState, over}
 use Rattle.ed_notation.specs.Openings.{opening}
-use Rattle.ed_notation.specs.Reading.{part_of, setting_of, taken}
+use Rattle.ed_notation.specs.Reading.{part_of, setting_of, row_effect}
 use Rattle.ed_initial.specs.declared.resting.Rested.{Rested}
 use Rattle.ed_initial.specs.declared.resting.Rested.TheVariants.{At}
-use Rattle.ed_initial.specs.Rests.{Scratch, working, begun, rest34, rest9, rest_at, IsNote, IsPartSoFar}
+use Rattle.ed_initial.specs.Rests.{Scratch, working, begun, rest34, rest9, rest_at, IsNotationState, IsPartSoFar}
 use Rattle.ed_initial.specs.Entry.{IsStarted}
 use Rattle.ed_initial.specs.Walks.{WalkEnds, walked, Between, Inside, DoesRow, is_rest}
 use Rattle.ed_paths.proofs.Frames.{Moment}
@@ -51,9 +51,9 @@ from_start {s} w started =
 
 module _ (o : State) {s t : State} {r : Rested} (w : IsWalked s t r) where
   -- the opening store has sandwich digits as the machine's has
-  has_room : (place : ℕ) (scratch : Scratch) (note : Note) → s ≡ rest_at place scratch note o
+  has_room : (place : ℕ) (scratch : Scratch) (notation : NotationState) → s ≡ rest_at place scratch notation o
       → 20 < length o.store.sandwich
-  has_room place scratch note e =
+  has_room place scratch notation e =
       let a : length s.store.sandwich ≡ length (set o.store.sandwich 20 scratch.digit40) =
       ap (λ (x : State). length x.store.sandwich) e in
       omega (arith, a, length-set o.store.sandwich 20 scratch.digit40, w.store.digits_are)
@@ -62,14 +62,15 @@ module _ (o : State) {s t : State} {r : Rested} (w : IsWalked s t r) where
   held room = record { size = o.size; digits = o.store.sandwich; room = room; last = o.last }
 
   -- a function row
-  pub by_function : (scratch : Scratch) {note : Note} (c : ℕ) {rows : List ℕ} → IsNote note → c < 32
-      → o.tape ≡ c ∷ rows → s ≡ rest34 scratch note o → Inside o note (part_of c) rows 6 r t
-  by_function scratch {note} c {rows} good small tape e =
-      let f = held (has_room 34 scratch note e) in
+  pub by_function : (scratch : Scratch) {notation : NotationState} (c : ℕ) {rows : List ℕ}
+      → IsNotationState notation → c < 32
+      → o.tape ≡ c ∷ rows → s ≡ rest34 scratch notation o → Inside o notation (part_of c) rows 6 r t
+  by_function scratch {notation} c {rows} good small tape e =
+      let f = held (has_room 34 scratch notation e) in
       let ws = o.store.words in
-      let same : s ≡ state f (between f ws scratch note (c ∷ rows)) o.orders =
-      e ∙ (λ i. rest34 scratch note (record o { tape = tape i })) ∙ sym (shown f _ _ _ _ _ _ _) in
-      let path = function_path f (working scratch note) (over note.placed ws) scratch.digit40 c rows small in
+      let same : s ≡ state f (between f ws scratch notation (c ∷ rows)) o.orders =
+      e ∙ (λ i. rest34 scratch notation (record o { tape = tape i })) ∙ sym (shown f _ _ _ _ _ _ _) in
+      let path = function_path f (working scratch notation) (over notation.placed ws) scratch.digit40 c rows small in
       let p = moved o.orders w same path refl (lit≤ tt) in
       record {
         result_is = p.0;
@@ -79,16 +80,17 @@ module _ (o : State) {s t : State} {r : Rested} (w : IsWalked s t r) where
       }
 
   -- a row inside an item
-  pub by_row : {part : Part} (at1 at20 : ℕ) {note : Note} {c : ℕ} {rows : List ℕ} → IsNote note → IsPartSoFar part
-      → o.tape ≡ c ∷ rows → s ≡ rest9 part at1 at20 note o
-      → DoesRow o note part c rows r t
-      (taken o.size (row_kind c) (over note.placed o.store.words) (setting_of note) part c)
-  by_row {part} at1 at20 {note} {c} {rows} good phase tape e =
-      by_taken (taken o.size (row_kind c) (over note.placed o.store.words) (setting_of note) part c)
+  pub by_row : {part : PartialItem} (at1 at20 : ℕ) {notation : NotationState} {c : ℕ} {rows : List ℕ}
+      → IsNotationState notation → IsPartSoFar part
+      → o.tape ≡ c ∷ rows → s ≡ rest9 part at1 at20 notation o
+      → DoesRow o notation part c rows r t
+      (row_effect o.size (row_kind c) (over notation.placed o.store.words) (setting_of notation) part c)
+  by_row {part} at1 at20 {notation} {c} {rows} good phase tape e =
+      by_taken (row_effect o.size (row_kind c) (over notation.placed o.store.words) (setting_of notation) part c)
       (follows row good phase)
     where
       room : 20 < length o.store.sandwich
-      room = has_room 9 (begun part at1 at20) note e
+      room = has_room 9 (begun part at1 at20) notation e
 
       f : Kept
       f = held room
@@ -97,7 +99,7 @@ module _ (o : State) {s t : State} {r : Rested} (w : IsWalked s t r) where
       row = record {
         kept = f;
         words = o.store.words;
-        note = note;
+        notation = notation;
         part = part;
         at1 = at1;
         at20 = at20;
@@ -105,10 +107,10 @@ module _ (o : State) {s t : State} {r : Rested} (w : IsWalked s t r) where
         rows = rows;
       }
 
-      same : s ≡ state f (inside f o.store.words part at1 at20 note (c ∷ rows)) o.orders
-      same = e ∙ (λ i. rest9 part at1 at20 note (record o { tape = tape i })) ∙ sym (shown f _ _ _ _ _ _ _)
+      same : s ≡ state f (inside f o.store.words part at1 at20 notation (c ∷ rows)) o.orders
+      same = e ∙ (λ i. rest9 part at1 at20 notation (record o { tape = tape i })) ∙ sym (shown f _ _ _ _ _ _ _)
 
-      by_taken : (k : Taken) → Follows row k → DoesRow o note part c rows r t k
+      by_taken : (k : RowEffect) → Follows row k → DoesRow o notation part c rows r t k
       by_taken (Refused cause) h = tt
       by_taken (Longer next k) h =
           let p = moved o.orders w same h.path refl h.few in

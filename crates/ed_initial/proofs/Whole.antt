@@ -3,10 +3,10 @@ use Rattle.std.proofs.Common.{◌≡◌, ℕ, suc, ◌+◌, ◌*◌, ◌≤◌, 
 use Rattle.ed_store.specs.Cells.{IsStore}
 use Rattle.ed_machine.specs.State.{State}
 use Rattle.ed_machine.specs.OrderTable.{Obeyed, step}
-use Rattle.ed_machine.specs.Steps.{state_after, past}
+use Rattle.ed_machine.specs.Steps.{state_after, progress}
 use Rattle.ed_machine.specs.declared.turn.Turn.TheVariants.{Went}
 use Rattle.ed_notation.specs.Items.{rows_of, spelled}
-use Rattle.ed_notation.specs.Fold.{Note}
+use Rattle.ed_notation.specs.Fold.{NotationState}
 use Rattle.ed_notation.specs.Openings.{opening}
 use Rattle.ed_notation.specs.Faults.{TapeEntry, WellFormed, ComesTo}
 use Rattle.ed_notation.proofs.Costs.{most}
@@ -19,7 +19,7 @@ use Rattle.ed_initial.proofs.Started.{well_comes}
 use Rattle.ed_initial.proofs.Quiet.{LeadsIn, comes_in}
 
 -- no tape costs more than 17 orders a row
-pub cost_fits : (words : List ℕ) (start : Note) (base : ℕ) (rows : List ℕ) (e : TapeEntry)
+pub cost_fits : (words : List ℕ) (start : NotationState) (base : ℕ) (rows : List ℕ) (e : TapeEntry)
     → ComesTo words start base rows e
     → e.cost ≤ 17 * length rows + base
 cost_fits words start base rows e c =
@@ -30,7 +30,7 @@ cost_fits words start base rows e c =
 -- a load that leads to an entry within its bound
 pub ended : {s : State} {e : TapeEntry} (bound : ℕ) {t : State} {r : Loaded} → LeadsIn s e → e.cost ≤ bound
     → EndsAs s bound r → t ≡ state_after (orders_of r) s → IsLoaded s e r t
-unfolding past
+unfolding progress
 ended {s} {e} bound {r = r} a fits ends is =
     let m = a.before in
     let went : (step (state_after m s)).turn ≡ Went = ap (λ (o : Obeyed). o.turn) a.last in

@@ -5,7 +5,7 @@ ghost use Rattle.ed_notation.specs.Openings.{opening};
 ghost use Rattle.ed_initial.specs.Entry.{IsStarted, Comes, IsLoaded};
 ghost use Rattle.ed_initial.specs.Load.{EndsAs, orders_of};
 
-use crate::turns::{is_entering, is_obeyed, is_went};
+use crate::turns::{is_entering, is_obeyed, is_quiet_turn};
 use ed_machine::Machine;
 
 /// How a load ended.
@@ -59,7 +59,7 @@ pub fn obey_orders(machine: &mut Machine, bound: u64) -> Loaded
         if !is_obeyed(&turn) {
             return Loaded::Lost { orders };
         }
-        if !is_went(&turn) {
+        if !is_quiet_turn(&turn) {
             return Loaded::Lost { orders: orders + 1 };
         }
         if enters {

@@ -1,17 +1,17 @@
 ghost use Rattle.std.specs.Prelude.{◌≡◌, ℕ, ◌+◌, ◌∷◌, ◌^◌, ◌<◌, ◌≤◌, List};
 ghost use Rattle.ed_machine.specs.State.{State};
 ghost use Rattle.ed_machine.specs.Steps.{state_after};
-ghost use Rattle.ed_notation.specs.declared.reader.Part.{Part};
+ghost use Rattle.ed_notation.specs.declared.reader.PartialItem.{PartialItem};
 ghost use Rattle.ed_notation.specs.Items.{Begun, IsBegun, row_kind};
-ghost use Rattle.ed_notation.specs.Fold.{Note, over};
+ghost use Rattle.ed_notation.specs.Fold.{NotationState, over};
 ghost use Rattle.ed_notation.specs.Openings.{opening};
-ghost use Rattle.ed_notation.specs.Reading.{part_of, setting_of, taken};
+ghost use Rattle.ed_notation.specs.Reading.{part_of, setting_of, row_effect};
 ghost use Rattle.ed_initial.specs.Entry.{IsStarted};
-ghost use Rattle.ed_initial.specs.Rests.{IsNote, IsPartSoFar, Scratch, rest34, rest9};
+ghost use Rattle.ed_initial.specs.Rests.{IsNotationState, IsPartSoFar, Scratch, rest34, rest9};
 ghost use Rattle.ed_initial.specs.Walks.{BeginsWalk, BreaksNone, Between, DoesItemRow, DoesRow};
 ghost use Rattle.ed_initial.specs.Walks.{Inside, WalkEnds, is_rest, part_so_far, walked};
 
-use crate::turns::{is_entering, is_obeyed, is_went};
+use crate::turns::{is_entering, is_obeyed, is_quiet_turn};
 use ed_machine::Machine;
 
 /// How a walk to the next rest ended.
@@ -50,16 +50,16 @@ pub fn to_rest(machine: &mut Machine) -> Rested
     ensures state { machine.new ≡ state_after (walked result) machine.old }
     ensures start { IsStarted machine.old →
         Between machine.old (opening machine.old.store.words) machine.old.tape 9 result machine.new }
-    ensures function { (o : State) (w : Scratch) (note : Note) (c : ℕ) (rows : List ℕ) → IsNote note → c < 32 →
-        o.tape ≡ c ∷ rows → machine.old ≡ rest34 w note o → Inside o note (part_of c) rows 6 result machine.new }
-    ensures row { (o : State) (part : Part) (at1 at20 : ℕ) (note : Note) (c : ℕ) (rows : List ℕ) → IsNote note
+    ensures function { (o : State) (w : Scratch) (notation : NotationState) (c : ℕ) (rows : List ℕ) → IsNotationState notation → c < 32 →
+        o.tape ≡ c ∷ rows → machine.old ≡ rest34 w notation o → Inside o notation (part_of c) rows 6 result machine.new }
+    ensures row { (o : State) (part : PartialItem) (at1 at20 : ℕ) (notation : NotationState) (c : ℕ) (rows : List ℕ) → IsNotationState notation
         → IsPartSoFar part →
-        o.tape ≡ c ∷ rows → machine.old ≡ rest9 part at1 at20 note o →
-        DoesRow o note part c rows result machine.new
-        (taken o.size (row_kind c) (over note.placed o.store.words) (setting_of note) part c) }
-    ensures item { (o : State) (b : Begun) (at1 at20 : ℕ) (note : Note) (c : ℕ) (rows : List ℕ) → IsNote note
-        → IsBegun b → BreaksNone o.size o.store.words note b c → o.tape ≡ c ∷ rows
-        → machine.old ≡ rest9 (part_so_far b) at1 at20 note o → DoesItemRow o note b c rows result machine.new }
+        o.tape ≡ c ∷ rows → machine.old ≡ rest9 part at1 at20 notation o →
+        DoesRow o notation part c rows result machine.new
+        (row_effect o.size (row_kind c) (over notation.placed o.store.words) (setting_of notation) part c) }
+    ensures item { (o : State) (b : Begun) (at1 at20 : ℕ) (notation : NotationState) (c : ℕ) (rows : List ℕ) → IsNotationState notation
+        → IsBegun b → BreaksNone o.size o.store.words notation b c → o.tape ≡ c ∷ rows
+        → machine.old ≡ rest9 (part_so_far b) at1 at20 notation o → DoesItemRow o notation b c rows result machine.new }
 {
     // Called only for its clause `store`: the proof needs that the store has all its words within their bounds.
     let _ = machine.word(0);
@@ -86,7 +86,7 @@ fn walk(machine: &mut Machine) -> Rested
         if is_rest(place) {
             return Rested::At { place, orders };
         }
-        if !is_went(&turn) {
+        if !is_quiet_turn(&turn) {
             return Rested::Lost { orders };
         }
     }

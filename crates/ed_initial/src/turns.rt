@@ -1,6 +1,6 @@
 ghost use Rattle.std.specs.Prelude.{◌≡◌};
 ghost use Rattle.ed_machine.specs.Steps.{is_obeyed};
-ghost use Rattle.ed_initial.specs.Load.{enters, is_went};
+ghost use Rattle.ed_initial.specs.Load.{enters, is_quiet_turn};
 
 use ed_machine::{Machine, Turn};
 use ed_orders::{Kind, kind_of};
@@ -29,8 +29,8 @@ pub fn is_obeyed(turn: &Turn) -> bool
 }
 
 /// Whether a turn obeyed an order that neither prints nor stops.
-pub fn is_went(turn: &Turn) -> bool
-    ensures { result ≡ is_went turn.now }
+pub fn is_quiet_turn(turn: &Turn) -> bool
+    ensures { result ≡ is_quiet_turn turn.now }
 {
     match turn {
         Turn::Went => true,

@@ -8,10 +8,10 @@ use Rattle.ed_words.proofs.Numbers.{eq_false}
 use Rattle.ed_words.specs.Words.{digit}
 use Rattle.ed_initial1.specs.declared.cause.Tape1Cause.{Tape1Cause}
 use Rattle.ed_initial1.specs.declared.cause.Tape1Cause.TheVariants.{EndOfTape}
-use Rattle.ed_initial1.specs.declared.reader.Part.{Part}
-use Rattle.ed_initial1.specs.declared.reader.Taken.{Taken}
-use Rattle.ed_initial1.specs.declared.reader.Taken.TheVariants.{Refused, Longer, Ended}
-use Rattle.ed_initial1.specs.Reading.{taken1}
+use Rattle.ed_initial1.specs.declared.reader.PartialItem1.{PartialItem1}
+use Rattle.ed_initial1.specs.declared.reader.RowEffect1.{RowEffect1}
+use Rattle.ed_initial1.specs.declared.reader.RowEffect1.TheVariants.{Refused, Longer, Ended}
+use Rattle.ed_initial1.specs.Reading.{row_effect1}
 use Rattle.ed_initial1.specs.Checks.{Accepts1}
 use Rattle.ed_notation.specs.Items.{digits_number}
 use Rattle.ed_notation.proofs.Rows.{number_more, digits_more}
@@ -29,12 +29,12 @@ abbrev part_cost : Option Begun1 → ℕ
 part_cost None = 0
 part_cost (Some b) = 5 + 10 * length b.digits
 
-abbrev item_of : Option Begun1 → Option Part
+abbrev item_of : Option Begun1 → Option PartialItem1
 item_of None = None
 item_of (Some b) = Some (part_of b)
 
 -- the loop before a row: what was read so far
-pub record StandsAt (rows : List ℕ) (row : ℕ) (ws : List ℕ) (orders end : ℕ) (item : Option Part) : Type 0 where
+pub record StandsAt (rows : List ℕ) (row : ℕ) (ws : List ℕ) (orders end : ℕ) (item : Option PartialItem1) : Type 0 where
   pub before : List Item1
   pub part : Option Begun1
   pub here : Here rows row before part (drop row rows)
@@ -62,7 +62,7 @@ at_row : (rows : List ℕ) (row c : ℕ) (before : List Item1) (part : Option Be
 at_row rows row c before part h l is = subst (λ x. Here rows row before part x) (next_row rows row c l is) h
 
 -- inside an item
-pub record Inside (rows : List ℕ) (row : ℕ) (ws : List ℕ) (orders end : ℕ) (p : Part) : Type 0 where
+pub record Inside (rows : List ℕ) (row : ℕ) (ws : List ℕ) (orders end : ℕ) (p : PartialItem1) : Type 0 where
   pub before : List Item1
   pub begun : Begun1
   pub here : Here rows row before (Some begun) (drop row rows)
@@ -72,10 +72,10 @@ pub record Inside (rows : List ℕ) (row : ℕ) (ws : List ℕ) (orders end : �
   pub part_is : p ≡ part_of begun
   pub few : orders ≤ 14 * row + 4
 
-some_is : (p q : Part) → Some p ≡ Some q → p ≡ q
+some_is : (p q : PartialItem1) → Some p ≡ Some q → p ≡ q
 some_is p q h = cc
 
-pub inside : (rows : List ℕ) (row : ℕ) (ws : List ℕ) (orders end : ℕ) (p : Part)
+pub inside : (rows : List ℕ) (row : ℕ) (ws : List ℕ) (orders end : ℕ) (p : PartialItem1)
     → StandsAt rows row ws orders end (Some p) → Inside rows row ws orders end p
 inside rows row ws orders end p s = by_part s.part s.here s.orders_are s.item_is
   where
@@ -144,7 +144,7 @@ end_more [] b long h k o = rw h k
 end_more (y ∷ ys) b long h k o = rw h o
 
 -- a row inside an item
-module _ {rows : List ℕ} {row : ℕ} {ws : List ℕ} {orders end : ℕ} {p : Part} {c : ℕ}
+module _ {rows : List ℕ} {row : ℕ} {ws : List ℕ} {orders end : ℕ} {p : PartialItem1} {c : ℕ}
     (s : StandsAt rows row ws orders end (Some p)) (l : row < length rows)
     (is : c ≡ get_or rows row c) {first : Bool} (empty : first ≡ nat_eq (length ws) 0) where
   abbrev i : Inside rows row ws orders end p
@@ -153,18 +153,18 @@ module _ {rows : List ℕ} {row : ℕ} {ws : List ℕ} {orders end : ℕ} {p : P
   abbrev here : Here rows row i.before (Some i.begun) (c ∷ drop (row + 1) rows)
   here = at_row rows row c i.before (Some i.begun) i.here l is
 
-  meant : (t : Taken) → t ≡ taken1 first p c → TakenMeans i.before i.begun c t
+  meant : (t : RowEffect1) → t ≡ row_effect1 first p c → TakenMeans i.before i.begun c t
   meant t e =
       subst (λ x. TakenMeans i.before i.begun c x)
-      (sym (e ∙ (λ k. taken1 (first_is i.before ws i.words_are first empty k) (i.part_is k) c)))
+      (sym (e ∙ (λ k. row_effect1 (first_is i.before ws i.words_are first empty k) (i.part_is k) c)))
       (taken_means i.before i.begun c)
 
-  pub refused : {cause : Tape1Cause} → Refused cause ≡ taken1 first p c → IsFault1 rows row cause
+  pub refused : {cause : Tape1Cause} → Refused cause ≡ row_effect1 first p c → IsFault1 rows row cause
   refused {cause} e =
       fault_of rows row cause (faulty rows row i.before (Some i.begun) (c ∷ drop (row + 1) rows) cause here
       (meant (Refused cause) e))
 
-  pub made_longer : {n : ℕ} → Longer n ≡ taken1 first p c
+  pub made_longer : {n : ℕ} → Longer n ≡ row_effect1 first p c
       → StandsAt rows (row + 1) ws (orders + 10) end (Some (record { function = p.function; number = n }))
   made_longer {n} e =
       let b = i.begun in
@@ -196,7 +196,7 @@ module _ {rows : List ℕ} {row : ℕ} {ws : List ℕ} {orders end : ℕ} {p : P
   abbrev all : Bool → List Item1
   all long = ended i.before i.begun long
 
-  module _ {long : Bool} (e : Ended long ≡ taken1 first p c) {w : ℕ}
+  module _ {long : Bool} (e : Ended long ≡ row_effect1 first p c) {w : ℕ}
       (word_is : w ≡ (4096 * p.function + 2 * p.number + digit long) % 2 ^ 17) {past : ℕ}
       (past_is : past ≡ (if first then p.number else end)) where
     abbrev x : Item1
@@ -206,10 +206,10 @@ module _ {rows : List ℕ} {row : ℕ} {ws : List ℕ} {orders end : ℕ} {p : P
     is_end =
         past_is
         ∙ end_more i.before i.begun long (first_is i.before ws i.words_are first empty)
-        (ap (λ (q : Part). q.number) i.part_is) i.end_is
+        (ap (λ (q : PartialItem1). q.number) i.part_is) i.end_is
 
     w_is : w ≡ word1 x
-    w_is = word_is ∙ ap (λ (q : Part). (4096 * q.function + 2 * q.number + digit long) % 2 ^ 17) i.part_is
+    w_is = word_is ∙ ap (λ (q : PartialItem1). (4096 * q.function + 2 * q.number + digit long) % 2 ^ 17) i.part_is
 
     ws_are : ws ++ (w ∷ []) ≡ words (all long)
     ws_are = (λ k. i.words_are k ++ (w_is k ∷ [])) ∙ sym (words_more i.before x)
@@ -268,7 +268,7 @@ module _ {rows : List ℕ} {row : ℕ} {ws : List ℕ} {orders end : ℕ} {p : P
           most = omega (arith, costs_fit (all long), costs_are, row_is);
         }
 
-pub at_end : {rows : List ℕ} {row : ℕ} {ws : List ℕ} {orders end : ℕ} {item : Option Part}
+pub at_end : {rows : List ℕ} {row : ℕ} {ws : List ℕ} {orders end : ℕ} {item : Option PartialItem1}
     → StandsAt rows row ws orders end item → row ≡ length rows → IsFault1 rows row EndOfTape
 at_end {rows} {row} s e =
     let none : drop row rows ≡ [] = none_left rows row e in

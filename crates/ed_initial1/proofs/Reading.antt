@@ -9,10 +9,10 @@ use Rattle.ed_notation.specs.Items.{digits_number}
 use Rattle.ed_notation.proofs.Rows.{number_more, digits_more}
 use Rattle.ed_initial1.specs.declared.cause.Tape1Cause.{Tape1Cause}
 use Rattle.ed_initial1.specs.declared.cause.Tape1Cause.TheVariants.{EndOfTape, BadRow, FirstWord}
-use Rattle.ed_initial1.specs.declared.reader.Part.{Part}
-use Rattle.ed_initial1.specs.declared.reader.Taken.{Taken}
-use Rattle.ed_initial1.specs.declared.reader.Taken.TheVariants.{Refused, Longer, Ended}
-use Rattle.ed_initial1.specs.Reading.{taken1, end_taken}
+use Rattle.ed_initial1.specs.declared.reader.PartialItem1.{PartialItem1}
+use Rattle.ed_initial1.specs.declared.reader.RowEffect1.{RowEffect1}
+use Rattle.ed_initial1.specs.declared.reader.RowEffect1.TheVariants.{Refused, Longer, Ended}
+use Rattle.ed_initial1.specs.Reading.{row_effect1, end_effect1}
 use Rattle.ed_initial1.specs.Items.{Begun1, Item1, item_number, ending_row, begun_rows1, rows_of1, spelled1, IsBegun1}
 use Rattle.ed_initial1.specs.Items.{AreItems}
 use Rattle.ed_initial1.specs.Items.{IsFirst}
@@ -21,7 +21,7 @@ use Rattle.ed_initial1.specs.Faults.{breaks1, broken1}
 use Rattle.ed_initial1.specs.Faults.{Breaks1, WellFormed1}
 
 -- an item so far, as the plain program has it
-abbrev pub part_of : Begun1 → Part
+abbrev pub part_of : Begun1 → PartialItem1
 part_of b = record { function = b.function; number = digits_number 0 b.digits }
 
 -- an item so far with a digit row more, and one begun by a function row
@@ -49,7 +49,7 @@ pub data Verdict : Type 0 where
 unfoldable pub read : ℕ → List Item1 → Option Begun1 → List ℕ → Verdict
 read row before part [] = Faulty row EndOfTape
 read row before None (c ∷ rest) = if nat_lt c 32 then read (row + 1) before (Some (began c)) rest else Faulty row BadRow
-read row before (Some b) (c ∷ rest) = elim (taken1 (is_none before) (part_of b) c) [
+read row before (Some b) (c ∷ rest) = elim (row_effect1 (is_none before) (part_of b) c) [
   | Refused cause ↦ Faulty row cause
   | Longer next ↦ read (row + 1) before (Some (longer b c)) rest
   | Ended long ↦ if reaches_end (ended before b long)
@@ -86,7 +86,7 @@ abbrev pub FirstFits : List Item1 → Begun1 → Bool → Type 0
 FirstFits [] b long = IsFirst (digits_number 0 b.digits) (record { begun = b; long = long })
 FirstFits (i ∷ is) b long = Unit {0}
 
-abbrev pub TakenMeans : List Item1 → Begun1 → ℕ → Taken → Type 0
+abbrev pub TakenMeans : List Item1 → Begun1 → ℕ → RowEffect1 → Type 0
 TakenMeans before b c (Refused cause) = breaks1 cause before b c ≡ true
 TakenMeans before b c (Longer next) = (next ≡ 10 * digits_number 0 b.digits + c) × (c < 10)
     × (10 * digits_number 0 b.digits + c ≤ 32767)
@@ -111,7 +111,7 @@ first_means b long h =
     is_short true h = absurd (cc)
 
 end_means : (before : List Item1) (b : Begun1) (c : ℕ) (long : Bool) → c ≡ ending_row long
-    → TakenMeans before b c (end_taken (is_none before) (part_of b) c long)
+    → TakenMeans before b c (end_effect1 (is_none before) (part_of b) c long)
 end_means [] b c long row = by_test (is_first b c) refl
   where
     ends_it : (long : Bool) → ends1 (ending_row long) ≡ true
@@ -124,9 +124,9 @@ end_means [] b c long row = by_test (is_first b c) refl
 end_means (i ∷ is) b c long row = (row, tt)
 
 pub taken_means : (before : List Item1) (b : Begun1) (c : ℕ)
-    → TakenMeans before b c (taken1 (is_none before) (part_of b) c)
+    → TakenMeans before b c (row_effect1 (is_none before) (part_of b) c)
 taken_means before b c =
-    let P : Taken → Type 0 = TakenMeans before b c in
+    let P : RowEffect1 → Type 0 = TakenMeans before b c in
     if_means P (nat_lt c 10) _ _
     (λ d. if_means P (nat_lt 32767 (10 * digits_number 0 b.digits + c)) _ _ (λ n. rw (d, n) refl)
     (λ n. (refl, lt_of c 10 d, not_lt_of _ _ n)))
@@ -188,7 +188,7 @@ Follows rows rest =
     (row : ℕ) (before : List Item1) (part : Option Begun1) → Here rows row before part rest
     → Holds rows (read row before part rest)
 
-abbrev pub follow : ℕ → List Item1 → Begun1 → ℕ → List ℕ → Taken → Verdict
+abbrev pub follow : ℕ → List Item1 → Begun1 → ℕ → List ℕ → RowEffect1 → Verdict
 follow row before b c rest t = elim t [
   | Refused cause ↦ Faulty row cause
   | Longer next ↦ read (row + 1) before (Some (longer b c)) rest
@@ -198,7 +198,7 @@ follow row before b c rest t = elim t [
 ]
 
 by_taken : {rows rest : List ℕ} → Follows rows rest → {row : ℕ} {before : List Item1} {b : Begun1} {c : ℕ}
-    → Here rows row before (Some b) (c ∷ rest) → (t : Taken) → TakenMeans before b c t
+    → Here rows row before (Some b) (c ∷ rest) → (t : RowEffect1) → TakenMeans before b c t
     → Holds rows (follow row before b c rest t)
 by_taken {rows} {rest} ih {row} {before} {b} {c} h (Refused cause) m =
     faulty rows row before (Some b) (c ∷ rest) cause h m
@@ -247,7 +247,7 @@ sound rows (c ∷ rest) row before None h =
     }))
     (λ large. faulty rows row before None (c ∷ rest) BadRow h (rw large refl))
 sound rows (c ∷ rest) row before (Some b) h =
-    by_taken (sound rows rest) h (taken1 (is_none before) (part_of b) c) (taken_means before b c)
+    by_taken (sound rows rest) h (row_effect1 (is_none before) (part_of b) c) (taken_means before b c)
 
 -- every tape
 abbrev pub verdict : List ℕ → Verdict

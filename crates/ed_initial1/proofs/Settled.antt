@@ -3,9 +3,9 @@ use Rattle.std.proofs.Common.{◌≡◌, ℕ, ◌<◌, ◌≤◌, inl, inr, sym,
 use Rattle.std.proofs.lemmas.Bool.{cases_lt}
 use Rattle.ed_machine.specs.State.{State}
 use Rattle.ed_machine.specs.OrderTable.{Obeyed, step}
-use Rattle.ed_machine.specs.Steps.{is_obeyed, state_after, past}
+use Rattle.ed_machine.specs.Steps.{is_obeyed, state_after, progress}
 use Rattle.ed_machine.specs.declared.turn.Turn.TheVariants.{Went}
-use Rattle.ed_initial.specs.Load.{is_went}
+use Rattle.ed_initial.specs.Load.{is_quiet_turn}
 use Rattle.ed_initial1.specs.declared.loading.Loaded1.{Loaded1}
 use Rattle.ed_initial1.specs.declared.loading.Loaded1.TheVariants.{Entered, Lost}
 use Rattle.ed_initial1.specs.Load.{at_31, IsQuiet1, IsLost1, ran_out, blocked, sounded, EndsAs1}
@@ -35,7 +35,7 @@ module _ (s t : State) (k : ℕ) (r : Reaches k s t) where
   not_lost bound j fits (ran_out e q) = omega (arith, not_past j q, r.count)
   not_lost bound j fits (blocked less q h) = true≢false (sym (ap is_obeyed (went j (not_past j q))) ∙ h)
   not_lost bound j fits (sounded before e less q obeyed h stays) =
-      true≢false (sym (ap is_went (went before (not_past before q))) ∙ h)
+      true≢false (sym (ap is_quiet_turn (went before (not_past before q))) ∙ h)
 
   pub settled : (bound : ℕ) → k ≤ bound → (x : Loaded1) → EndsAs1 s bound x → x ≡ Entered k
   settled bound fits (Entered j) h =
@@ -48,7 +48,7 @@ module _ (s t : State) (k : ℕ) (r : Reaches k s t) where
   settled bound fits (Lost j) h = absurd (not_lost bound j fits h)
 
   pub comes : state_after k s ≡ t
-  unfolding past
+  unfolding progress
   comes = ap (λ j. state_after j s) r.count ∙ ap (λ (o : Obeyed). o.state) r.last
 
   pub all_went : (j : ℕ) → j < k → (step (state_after j s)).turn ≡ Went

@@ -6,7 +6,7 @@ use Rattle.ed_machine.specs.Steps.{state_after, is_obeyed}
 use Rattle.ed_codes.specs.declared.code.Code.{Code}
 use Rattle.ed_machine.specs.declared.turn.Turn.{Turn}
 use Rattle.ed_machine.specs.declared.turn.Turn.TheVariants.{Went, Printed, Stopped}
-use Rattle.ed_initial.specs.Load.{is_went}
+use Rattle.ed_initial.specs.Load.{is_quiet_turn}
 use Rattle.ed_initial1.specs.Load.{at_31, GoesOn1, IsQuiet1, IsLost1, sounded}
 
 -- it goes on
@@ -19,14 +19,14 @@ more_quiet k s quiet e is went stays =
 -- it prints or stops, and does not reach 31
 pub sounded_now : (k : ℕ) {bound : ℕ} {s t u : State} → k + 1 ≤ bound → IsQuiet1 k s → t ≡ state_after k s
     → u ≡ (step t).state
-    → is_obeyed (step t).turn ≡ true → is_went (step t).turn ≡ false → at_31 u ≡ false → IsLost1 s bound (k + 1)
+    → is_obeyed (step t).turn ≡ true → is_quiet_turn (step t).turn ≡ false → at_31 u ≡ false → IsLost1 s bound (k + 1)
 sounded_now k most quiet e is obeyed h stays =
     sounded k (add-one k) most quiet (subst (λ (x : State). is_obeyed (step x).turn ≡ true) e obeyed)
-    (subst (λ (x : State). is_went (step x).turn ≡ false) e h)
+    (subst (λ (x : State). is_quiet_turn (step x).turn ≡ false) e h)
     (subst (λ (x : State). at_31 (step x).state ≡ false) e (subst (λ (x : State). at_31 x ≡ false) is stays))
 
 -- an order that prints or stops is obeyed, and does not merely go on
 pub sounds : (turn : Turn) → ((code : Code) × (turn ≡ Printed code)) ⊎ (turn ≡ Stopped)
-    → (is_obeyed turn ≡ true) × (is_went turn ≡ false)
-sounds turn (inl h) = (ap is_obeyed h.1, ap is_went h.1)
-sounds turn (inr h) = (ap is_obeyed h, ap is_went h)
+    → (is_obeyed turn ≡ true) × (is_quiet_turn turn ≡ false)
+sounds turn (inl h) = (ap is_obeyed h.1, ap is_quiet_turn h.1)
+sounds turn (inr h) = (ap is_obeyed h, ap is_quiet_turn h)

@@ -9,8 +9,8 @@ use Rattle.ed_words.proofs.Numbers.{eq_of, eq_true, eq_false, lt_true, lt_false,
 use Rattle.ed_notation.specs.Items.{digits_number, AreDigits}
 use Rattle.ed_initial1.specs.declared.cause.Tape1Cause.{Tape1Cause}
 use Rattle.ed_initial1.specs.declared.cause.Tape1Cause.TheVariants.{EndOfTape, BadRow, NumberTooLarge, FirstWord}
-use Rattle.ed_initial1.specs.declared.reader.Taken.TheVariants.{Refused, Longer, Ended}
-use Rattle.ed_initial1.specs.Reading.{taken1}
+use Rattle.ed_initial1.specs.declared.reader.RowEffect1.TheVariants.{Refused, Longer, Ended}
+use Rattle.ed_initial1.specs.Reading.{row_effect1}
 use Rattle.ed_initial1.specs.Items.{Begun1, Item1, item_number, ending_row, begun_rows1, rows_of1, spelled1, IsBegun1}
 use Rattle.ed_initial1.specs.Items.{AreItems}
 use Rattle.ed_initial1.specs.Items.{IsFirst}
@@ -23,9 +23,9 @@ use Rattle.ed_initial1.specs.Checks.{EachTapeHasOneVerdict}
 use Rattle.ed_initial1.proofs.Reading.{Verdict, Faulty, Whole, Holds, right, read, verdict, follow, part_of, longer}
 use Rattle.ed_initial1.proofs.Reading.{began, end_of, reaches_end, FirstFits}
 
-digit_taken : (before : List Item1) (b : Begun1) (c : ℕ) → c < 10 → 10 * digits_number 0 b.digits + c ≤ 32767
-    → taken1 (is_none before) (part_of b) c ≡ Longer (10 * digits_number 0 b.digits + c)
-digit_taken before b c h fits = rw (lt_true c 10 h, lt_false 32767 (10 * digits_number 0 b.digits + c) fits) refl
+digit_effect : (before : List Item1) (b : Begun1) (c : ℕ) → c < 10 → 10 * digits_number 0 b.digits + c ≤ 32767
+    → row_effect1 (is_none before) (part_of b) c ≡ Longer (10 * digits_number 0 b.digits + c)
+digit_effect before b c h fits = rw (lt_true c 10 h, lt_false 32767 (10 * digits_number 0 b.digits + c) fits) refl
 
 is_first_of : (b : Begun1) (long : Bool) → IsFirst (digits_number 0 b.digits) (record { begun = b; long = long })
     → is_first b (ending_row long) ≡ true
@@ -35,7 +35,7 @@ is_first_of b false f =
     (eq_true b.function 5 f.function, le_true 32 n f.low, le_true n 1023 f.high) refl
 
 end_is_taken : (before : List Item1) (b : Begun1) (long : Bool) → FirstFits before b long
-    → taken1 (is_none before) (part_of b) (ending_row long) ≡ Ended long
+    → row_effect1 (is_none before) (part_of b) (ending_row long) ≡ Ended long
 end_is_taken [] b false f = rw (is_first_of b false f) refl
 end_is_taken [] b true f = rw (is_first_of b true f) refl
 end_is_taken (i ∷ is) b false f = refl
@@ -56,7 +56,7 @@ reads_digits before row b (d ∷ ds) rest good fits =
     omega (arith, number_le ds (10 * digits_number 0 b.digits + d)) in
     let sum : digits_number 0 (b.digits ++ (d ∷ [])) ≡ 10 * digits_number 0 b.digits + d = number_more b.digits 0 d in
     let e : row + 1 + length ds ≡ row + suc (length ds) = omega arith in
-    ap (λ t. follow row before b d (ds ++ rest) t) (digit_taken before b d good.0 n)
+    ap (λ t. follow row before b d (ds ++ rest) t) (digit_effect before b d good.0 n)
     ∙ reads_digits before (row + 1) (longer b d) ds rest good.1 (rw sum fits)
     ∙ (λ i. read (e i) before
     (Some (record { function = b.function; digits = append_assoc b.digits (d ∷ []) ds i })) rest)
@@ -155,12 +155,12 @@ reads_whole i (j ∷ js) before row rest good first count =
 
 -- a fault
 refused : (before : List Item1) (b : Begun1) (c : ℕ) (cause : Tape1Cause) → breaks1 cause before b c ≡ true
-    → taken1 (is_none before) (part_of b) c ≡ Refused cause
+    → row_effect1 (is_none before) (part_of b) c ≡ Refused cause
 refused before b c EndOfTape h = absurd (cc)
 refused before b c BadRow h = by_tests (nat_lt c 10) (nat_eq c 12) (nat_eq c 25) refl refl refl
   where
     by_tests : (x y z : Bool) → nat_lt c 10 ≡ x → nat_eq c 12 ≡ y → nat_eq c 25 ≡ z
-        → taken1 (is_none before) (part_of b) c ≡ Refused BadRow
+        → row_effect1 (is_none before) (part_of b) c ≡ Refused BadRow
     by_tests true y z p q r = absurd (let k : false ≡ true = rw p at h in cc)
     by_tests false true z p q r = absurd (let k : false ≡ true = rw (p, q) at h in cc)
     by_tests false false true p q r = absurd (let k : false ≡ true = rw (p, q, r) at h in cc)
@@ -171,7 +171,7 @@ refused before b c FirstWord h =
   where
     by_tests : (y z : Bool) → nat_eq c 12 ≡ y → nat_eq c 25 ≡ z → ends1 c ≡ true
         → (is_none before && not (is_first b c)) ≡ true
-        → taken1 (is_none before) (part_of b) c ≡ Refused FirstWord
+        → row_effect1 (is_none before) (part_of b) c ≡ Refused FirstWord
     by_tests true z q r e t = let big = lt_false c 10 (let k = eq_of c 12 q in omega arith) in rw (t, big, q) refl
     by_tests false true q r e t = let big = lt_false c 10 (let k = eq_of c 25 r in omega arith)
         in rw (t, big, q, r) refl

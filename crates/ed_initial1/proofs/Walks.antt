@@ -2,7 +2,7 @@
 use Rattle.std.proofs.Common.{◌≡◌, ℕ, suc, zero, ◌+◌, refl, sym, ap, ◌∙◌, subst, arith, [], true}
 use Rattle.ed_machine.specs.State.{State}
 use Rattle.ed_machine.specs.OrderTable.{Obeyed, step}
-use Rattle.ed_machine.specs.Steps.{state_after, past}
+use Rattle.ed_machine.specs.Steps.{state_after, progress}
 use Rattle.ed_machine.specs.declared.turn.Turn.TheVariants.{Went}
 use Rattle.ed_paths.proofs.Frames.{Moment, state as piece_state}
 use Rattle.ed_paths.proofs.Paths.{Path, stay as path_stays, on as path_on, followed as paths_followed, leads, no_state}
@@ -39,7 +39,7 @@ pub record Reaches (k : ℕ) (s t : State) : Type 0 where
   pub quiet : IsQuiet1 before s
   pub last : step (state_after before s) ≡ record { state = t; turn = Went }
   pub at : at_31 t ≡ true
-  pub silent : (past k s).codes ≡ []
+  pub silent : (progress k s).codes ≡ []
 
 pub reaches : {k : ℕ} {r t : Moment} → ToProgram k r t → (done : ℕ) → Reaches k (state r done) (state t (done + k))
 reaches {t = t} (ends {k = k} {r = r} {m = m} walk last at) done =

@@ -5,7 +5,7 @@ use Rattle.ed_words.specs.declared.size.Size.TheVariants.{Full}
 use Rattle.ed_store.specs.Cells.{short_at, with_short}
 use Rattle.ed_machine.specs.State.{State}
 use Rattle.ed_machine.specs.OrderTable.{step}
-use Rattle.ed_machine.specs.Steps.{past}
+use Rattle.ed_machine.specs.Steps.{progress}
 use Rattle.ed_initial1.specs.declared.loading.Loaded1.{Loaded1}
 use Rattle.ed_initial1.specs.declared.loading.Loaded1.TheVariants.{Entered}
 use Rattle.ed_initial1.specs.Listing.{first_orders}
@@ -57,5 +57,5 @@ at_entry1 s t = record {
 pub record IsLoaded1 (s : State) (t : Tape) (r : Loaded1) (u : State) : Type 0 where
   pub result_is : r ≡ Entered (4 + costs1 t.items)
   pub state_is : u ≡ at_entry1 s t
-  pub silent : (past (4 + costs1 t.items) s).codes ≡ []
+  pub silent : (progress (4 + costs1 t.items) s).codes ≡ []
   pub clears : (step u).state.store ≡ with_short u.store t.end 0

@@ -5,7 +5,7 @@ use Rattle.ed_machine.specs.State.{State}
 use Rattle.ed_machine.specs.OrderTable.{step}
 use Rattle.ed_machine.specs.Steps.{is_obeyed, state_after}
 use Rattle.ed_machine.specs.declared.turn.Turn.TheVariants.{Went}
-use Rattle.ed_initial.specs.Load.{is_went}
+use Rattle.ed_initial.specs.Load.{is_quiet_turn}
 use Rattle.ed_initial1.specs.declared.loading.Loaded1.{Loaded1}
 use Rattle.ed_initial1.specs.declared.loading.Loaded1.TheVariants.{Entered, Lost}
 
@@ -37,7 +37,7 @@ pub data IsLost1 (s : State) (bound k : ℕ) : Type 0 where
   ran_out : k ≡ bound → IsQuiet1 k s → IsLost1 s bound k
   blocked : k < bound → IsQuiet1 k s → is_obeyed (step (state_after k s)).turn ≡ false → IsLost1 s bound k
   sounded : (before : ℕ) → k ≡ suc before → k ≤ bound → IsQuiet1 before s
-      → is_obeyed (step (state_after before s)).turn ≡ true → is_went (step (state_after before s)).turn ≡ false
+      → is_obeyed (step (state_after before s)).turn ≡ true → is_quiet_turn (step (state_after before s)).turn ≡ false
       → at_31 (step (state_after before s)).state ≡ false → IsLost1 s bound k
 
 -- how a load from a state ends when it may take at most `bound` orders

@@ -4,7 +4,7 @@ ghost use Rattle.ed_initial1.specs.Checks.{Answers1, EachTapeHasOneVerdict};
 
 use crate::cause::{Tape1Cause, Tape1Fault};
 use crate::checked::Checked1;
-use crate::reader::{Part, Taken, begun, take};
+use crate::reader::{PartialItem1, RowEffect1, begun, take};
 use ed_codes::Code;
 use ed_words::Word;
 use std::alloc::Global;
@@ -28,7 +28,7 @@ fn read_rows(alloc: Global, rows: &[Code]) -> Result<Checked1, Tape1Fault>
     let mut words = Vec::new(alloc);
     let mut orders: u64 = 4;
     let mut end: u16 = 0;
-    let mut item: Option<Part> = None;
+    let mut item: Option<PartialItem1> = None;
     for (row, code) in rows.iter().enumerate() {
         let first = words.is_empty();
         match item {
@@ -37,15 +37,15 @@ fn read_rows(alloc: Global, rows: &[Code]) -> Result<Checked1, Tape1Fault>
                 orders += 5;
             }
             Some(part) => match take(first, &part, *code) {
-                Taken::Refused(cause) => return Err(Tape1Fault::At { row, cause }),
-                Taken::Longer(number) => {
-                    item = Some(Part {
+                RowEffect1::Refused(cause) => return Err(Tape1Fault::At { row, cause }),
+                RowEffect1::Longer(number) => {
+                    item = Some(PartialItem1 {
                         function: part.function,
                         number,
                     });
                     orders += 10;
                 }
-                Taken::Ended(long) => {
+                RowEffect1::Ended(long) => {
                     end = end_behind(first, part.number, end);
                     words.push(word_of(&part, long))?;
                     orders += 14;
@@ -71,7 +71,7 @@ fn end_behind(first: bool, number: u16, end: u16) -> u16
 }
 
 /// The word of an item.
-fn word_of(part: &Part, long: bool) -> Word
+fn word_of(part: &PartialItem1, long: bool) -> Word
     requires { part.now.number ≤ 32767 }
     ensures { result ≡ (4096 * part.now.function + 2 * part.now.number + digit long) % 2 ^ 17 }
 {

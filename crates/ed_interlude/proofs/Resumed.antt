@@ -10,7 +10,7 @@ use Rattle.ed_notation.specs.Faults.{TapeEntry}
 use Rattle.ed_notation.specs.Reading.{reading_on, Arrived}
 use Rattle.ed_notation.proofs.Laws.{reading_is_rules}
 use Rattle.ed_initial.specs.declared.loading.Loaded.{Loaded}
-use Rattle.ed_initial.specs.Rests.{Scratch, IsNote}
+use Rattle.ed_initial.specs.Rests.{Scratch, IsNotationState}
 use Rattle.ed_initial.specs.Entry.{IsLoaded}
 use Rattle.ed_initial.specs.Load.{EndsAs, orders_of}
 use Rattle.ed_initial.proofs.Paths.{state}
@@ -27,7 +27,7 @@ is_directive s leaves =
     let most = leaves.most in
     omega arith
 
-is_note : (s : State) → LeavesDirective s → get_or s.store.words 42 0 < 2 ^ 17 → IsNote (reopening s)
+is_note : (s : State) → LeavesDirective s → get_or s.store.words 42 0 < 2 ^ 17 → IsNotationState (reopening s)
 is_note s leaves theta =
     let even = leaves.even in
     let least = leaves.least in
@@ -59,7 +59,7 @@ leads_back s e store back h =
     let set = is_directive s back.leaves in
     let read : reading_on s.size ws 0 2 (reopening s) None s.tape ≡ Arrived e =
     (reading_is_rules s.size ws (reopening s) 2 s.tape set).arrived e h.well h.comes in
-    let first : Rest = record { scratch = left s; row = 0; cost = 2; note = reopening s } in
+    let first : Rest = record { scratch = left s; row = 0; cost = 2; notation = reopening s } in
     let rest = loads f ws s.orders s.tape first (is_note s back.leaves (store.fits 42)) read in
     let path = return_path f (held ws) ws (get_or s.store.sandwich 20 false) s.acc (directive s) s.tape refl in
     let begun : Reaches f ws s.orders 0 (state f (reopens s store) (s.orders + 0)) e =

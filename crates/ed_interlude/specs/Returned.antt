@@ -3,7 +3,7 @@
 use Rattle.std.specs.Prelude.{ℕ, ◌≡◌, ◌+◌, ◌*◌, ◌/◌, ◌%◌, ◌^◌, ◌<◌, ◌≤◌, slice_index}
 use Rattle.ed_store.specs.Cells.{Cells, short_at}
 use Rattle.ed_machine.specs.State.{State}
-use Rattle.ed_notation.specs.Fold.{Note}
+use Rattle.ed_notation.specs.Fold.{NotationState}
 use Rattle.ed_notation.specs.Openings.{opening_with}
 use Rattle.ed_notation.specs.Faults.{TapeEntry, WellFormed, ComesTo}
 use Rattle.ed_initial.specs.Listing.{initial_orders}
@@ -34,7 +34,7 @@ pub record IsReturned (s : State) : Type 0 where
   pub leaves : LeavesDirective s
 
 -- the state of the notation that the program left: its directive, θ from location 42, and no word placed
-abbrev pub reopening : State → Note
+abbrev pub reopening : State → NotationState
 reopening s = opening_with (directive s) s.store.words
 
 -- the rows left are well formed when read in that state

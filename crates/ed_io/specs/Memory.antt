@@ -39,5 +39,5 @@ abbrev pub new_roll : ℕ → Roll
 new_roll room = record { held = []; room = room; is_over = false }
 
 -- its bytes, as long as it has taken no more than it keeps
-abbrev pub told : Roll → Option (List ℕ)
-told r = if r.is_over then None else Some r.held
+abbrev pub reported_bytes : Roll → Option (List ℕ)
+reported_bytes r = if r.is_over then None else Some r.held

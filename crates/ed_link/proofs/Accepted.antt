@@ -8,7 +8,7 @@ use Rattle.std.proofs.lemmas.List.{append-nil}
 use Rattle.ed_words.specs.declared.size.Size.{Size}
 use Rattle.ed_notation.specs.declared.item.Item.{Item}
 use Rattle.ed_notation.specs.Items.{rows_of, spelled, item as item_in, items, IsWritten}
-use Rattle.ed_notation.specs.Fold.{Note, is_entry, item_word, fold, cost_of, costs, address}
+use Rattle.ed_notation.specs.Fold.{NotationState, is_entry, item_word, fold, cost_of, costs, address}
 use Rattle.ed_notation.specs.Openings.{IsDirective, opening}
 use Rattle.ed_notation.specs.Faults.{EndsSound, WellFormed, ComesTo}
 use Rattle.ed_notation.specs.Spellings.{AreSpellable, canonical, canonicals}
@@ -20,8 +20,8 @@ use Rattle.ed_library.specs.Ready.{is_ready}
 use Rattle.ed_syntax.specs.declared.program.Line.{Line}
 use Rattle.ed_syntax.specs.declared.fault.SourceFault.{SourceFault}
 use Rattle.ed_syntax.specs.Programs.{is_line}
-use Rattle.ed_symbols.specs.Places.{first_spot}
-use Rattle.ed_link.specs.Linked.{homes_of, linked, data_behind, entry_of, theta_from}
+use Rattle.ed_symbols.specs.Places.{first_counter}
+use Rattle.ed_link.specs.Linked.{symbols_of, linked, data_after, entry_of, theta_from}
 use Rattle.ed_link.specs.Punch.{item_with, punched}
 use Rattle.ed_link.specs.Private.FaultTests.{any_enter, missing, sooner, fault, fault_line}
 use Rattle.ed_link.specs.Tapes.{punched_rows, tape, arrival}
@@ -46,7 +46,7 @@ none_of (Some a) (Some b) h = by_test (nat_le (fault_line a) (fault_line b)) h
     by_test false h = cc
 
 -- there is an `enter`
-there_is : (any : Bool) (n : ℕ) → missing any n ≡ None → any ≡ true
+there_is : (has_enter : Bool) (n : ℕ) → missing has_enter n ≡ None → has_enter ≡ true
 there_is true n h = refl
 there_is false n h = cc
 
@@ -60,16 +60,16 @@ first words = record { no_1 = omega arith; no_2 = omega arith; no_4 = omega arit
 module _ (tables : list_all is_ready catalogue ≡ true) (z : Size) (two : Bool) (lines : List Line)
     (accepted : fault z lines
     ≡ None) (formed : list_all (is_line two) lines ≡ true) (words : List ℕ) (whole : length words ≡ 1024) where
-  an_end : Ends z words (homes_of lines) (slice_index words 42) first_spot (opening words) lines
+  an_end : Ends z words (symbols_of lines) (slice_index words 42) first_counter (opening words) lines
   an_end =
       let a = none_of _ _ accepted in
       let b = none_of _ _ a.1 in
-      let any = there_is (any_enter lines) (length lines) b.1 in
-      let are : AreFaultless z (homes_of lines) (any_enter lines) two (record { runs = []; entered = false }) []
-      first_spot lines = record { formed = formed; sound = b.0; named = a.0; before = refl; enter = any } in
+      let has_enter = there_is (any_enter lines) (length lines) b.1 in
+      let are : AreFaultless z (symbols_of lines) (any_enter lines) two (record { runs = []; entered = false }) []
+      first_counter lines = record { formed = formed; sound = b.0; named = a.0; before = refl; enter = has_enter } in
       ends tables whole two lines are (record { base = omega arith; follows = λ h. cc; theta_is = refl })
 
-  by_end : Ends z words (homes_of lines) (slice_index words 42) first_spot (opening words) lines
+  by_end : Ends z words (symbols_of lines) (slice_index words 42) first_counter (opening words) lines
       → WellFormed z words (opening words) (tape lines)
       × ComesTo words (opening words) 9 (tape lines) (arrival words lines)
   by_end e =
@@ -81,15 +81,15 @@ module _ (tables : list_all is_ready catalogue ≡ true) (z : Size) (two : Bool)
       ∙ canonicals-append e.before (last_item ∷ []) in
       let rows : punched_rows lines ≡ spelled ws ++ rows_of w =
       ap (λ x. spelled x) cut ∙ spelled-append ws (w ∷ []) ∙ ap (λ x. spelled ws ++ x) (append-nil (rows_of w)) in
-      let all : tape lines ≡ spelled ws ++ (rows_of w ++ data_behind lines) =
-      ap (λ x. x ++ data_behind lines) rows ∙ append_assoc (spelled ws) (rows_of w) (data_behind lines) in
-      let note : Note = record {
+      let all : tape lines ≡ spelled ws ++ (rows_of w ++ data_after lines) =
+      ap (λ x. x ++ data_after lines) rows ∙ append_assoc (spelled ws) (rows_of w) (data_after lines) in
+      let notation : NotationState = record {
         directive = 12288 + 2 * entry_of lines;
         theta = theta_from (slice_index words 42)
-            first_spot lines;
+            first_counter lines;
         placed = reverse (linked lines);
       } in
-      let last_is : e.last ≡ note = λ i. record {
+      let last_is : e.last ≡ notation = λ i. record {
         directive = e.directive i;
         theta = e.theta_is i;
         placed = (e.placed ∙ append-nil (reverse (linked lines))) i;
@@ -103,22 +103,22 @@ module _ (tables : list_all is_ready catalogue ≡ true) (z : Size) (two : Bool)
       ≡ costs words (opening words) ws + costs words (fold words (opening words) (items ws)) (w ∷ []) =
       ap (λ x. costs words (opening words) x) cut ∙ costs-append words (opening words) ws (w ∷ []) in
       let d : costs words (fold words (opening words) (items ws)) (w ∷ [])
-      ≡ cost_of note w + 0 = ap (λ (n : Note). cost_of n w + 0) (f ∙ last_is) in (
+      ≡ cost_of notation w + 0 = ap (λ (n : NotationState). cost_of n w + 0) (f ∙ last_is) in (
         subst (λ x. WellFormed z words (opening words) x) (sym all)
-            (sound_well ws (data_behind lines) (first words) t.are_read t.are_sound good
-            (ap (λ (n : Note). is_entry n (item_in w)) f ∙ e.enters.enters)
-            (subst (λ (n : Note). EndsSound z words n w) (sym f) e.enters.sound)),
+            (sound_well ws (data_after lines) (first words) t.are_read t.are_sound good
+            (ap (λ (n : NotationState). is_entry n (item_in w)) f ∙ e.enters.enters)
+            (subst (λ (n : NotationState). EndsSound z words n w) (sym f) e.enters.sound)),
         record {
           before = ws;
           last = w;
           are_read = t.are_read;
           is_written = good;
-          note_is = sym (f ∙ last_is);
-          is_entry = subst (λ (n : Note). is_entry n (item_in w) ≡ true) last_is e.enters.enters;
+          notation_is = sym (f ∙ last_is);
+          is_entry = subst (λ (n : NotationState). is_entry n (item_in w) ≡ true) last_is e.enters.enters;
           rows_are = all;
           last_is = refl;
-          at_is = sym (subst (λ (n : Note). address n.directive ≡ entry_of lines) last_is e.enters.place);
-          word_is = sym (subst (λ (n : Note). item_word words n (item_in w) ≡ 0) last_is e.enters.word);
+          at_is = sym (subst (λ (n : NotationState). address n.directive ≡ entry_of lines) last_is e.enters.place);
+          word_is = sym (subst (λ (n : NotationState). item_word words n (item_in w) ≡ 0) last_is e.enters.word);
           cost_is = omega (arith, k, c, d);
           read_is = ap (λ (x : List ℕ). length x) rows ∙ length-append (spelled ws) (rows_of w);
         },

@@ -14,8 +14,8 @@ use Rattle.ed_syntax.specs.declared.program.Setting.{Setting}
 use Rattle.ed_syntax.specs.declared.program.Statement.{Statement}
 use Rattle.ed_syntax.specs.declared.program.Statement.TheVariants.{Segment, Order, Number, Text}
 use Rattle.ed_syntax.specs.declared.program.Statement.TheVariants.{Long, Fetch, Enter, Rows}
-use Rattle.ed_symbols.specs.declared.homes.Home.{Home}
-use Rattle.ed_symbols.specs.declared.spots.Spot.{Spot}
+use Rattle.ed_symbols.specs.declared.symbols.Definition.{Definition}
+use Rattle.ed_symbols.specs.declared.location_counter.LocationCounter.{LocationCounter}
 use Rattle.ed_symbols.specs.Places.{even_from, segment_at}
 use Rattle.ed_link.specs.Linked.{parameter_letters, long_words, operand_number, data_rows as data_of, set_to}
 use Rattle.ed_link.specs.Punch.{goes_by_theta, heads, headed, order_item, items_of, preset_items, routine_items}
@@ -82,32 +82,32 @@ headed_few : (is : List Item) (first : Bool) (base : ℕ) → length (headed is 
 headed_few [] first base = omega arith
 headed_few (i ∷ is) first base = omega (arith, length-append (heads first base) (i ∷ is), heads_few first base)
 
-preset_few : (homes : List Home) (o : Option Operand) (c : ℕ) → length (preset_items homes o c) ≤ 2
-preset_few homes None c = lit≤ tt
-preset_few homes (Some o) c = lit≤ tt
+preset_few : (symbols : List Definition) (o : Option Operand) (c : ℕ) → length (preset_items symbols o c) ≤ 2
+preset_few symbols None c = lit≤ tt
+preset_few symbols (Some o) c = lit≤ tt
 
 -- a parameter is 2 items
-presets_few : (homes : List Home) (ts : List Setting) (cs : List ℕ)
-    → length (flat_map (λ c. preset_items homes (set_to ts c) c) cs) ≤ 2 * length cs
-presets_few homes ts [] = lit≤ tt
-presets_few homes ts (c ∷ cs) =
+presets_few : (symbols : List Definition) (ts : List Setting) (cs : List ℕ)
+    → length (flat_map (λ c. preset_items symbols (set_to ts c) c) cs) ≤ 2 * length cs
+presets_few symbols ts [] = lit≤ tt
+presets_few symbols ts (c ∷ cs) =
     omega (
       arith,
-      preset_few homes (set_to ts c) c,
-      presets_few homes ts cs,
-      length-append (preset_items homes (set_to ts c) c) (flat_map (λ c. preset_items homes (set_to ts c) c) cs),
+      preset_few symbols (set_to ts c) c,
+      presets_few symbols ts cs,
+      length-append (preset_items symbols (set_to ts c) c) (flat_map (λ c. preset_items symbols (set_to ts c) c) cs),
     )
 
 -- the 6 parameters and the head of a routine are 14 items
 routine_few : (found : Option ℕ) (n : ℕ) → length (routine_items found) ≤ n
-    → (homes : List Home) (ts : List Setting) (base : ℕ)
-    → length (use_items homes ts base found) ≤ n + 14
-routine_few found n h homes ts base =
+    → (symbols : List Definition) (ts : List Setting) (base : ℕ)
+    → length (use_items symbols ts base found) ≤ n + 14
+routine_few found n h symbols ts base =
     omega (
       arith,
-      presets_few homes ts parameter_letters,
+      presets_few symbols ts parameter_letters,
       headed_few (routine_items found) true base,
-      length-append (flat_map (λ c. preset_items homes (set_to ts c) c) parameter_letters)
+      length-append (flat_map (λ c. preset_items symbols (set_to ts c) c) parameter_letters)
           (headed (routine_items found) true base),
     )
 
@@ -116,16 +116,17 @@ long_few true v w = lit≤ tt
 long_few false v w = lit≤ tt
 
 -- a line gives at most 240 items
-pub items_few : (homes : List Home) (s : Spot) (st : Option Statement) → IsFew st → length (items_of homes s st) ≤ 240
-items_few homes s None h = lit≤ tt
-items_few homes s (Some (Segment name base)) h = lit≤ tt
-items_few homes s (Some (Order f o long)) h = omega (
+pub items_few : (symbols : List Definition) (s : LocationCounter) (st : Option Statement) → IsFew st
+    → length (items_of symbols s st) ≤ 240
+items_few symbols s None h = lit≤ tt
+items_few symbols s (Some (Segment name base)) h = lit≤ tt
+items_few symbols s (Some (Order f o long)) h = omega (
   arith,
-  headed_few (order_item (goes_by_theta homes s o)
-      s.base f (operand_number homes (segment_at s) o) long ∷ []) (nat_eq s.place s.base) s.base,
+  headed_few (order_item (goes_by_theta symbols s o)
+      s.base f (operand_number symbols (segment_at s) o) long ∷ []) (nat_eq s.place s.base) s.base,
 )
-items_few homes s (Some (Number w)) h = omega (arith, headed_few (word_item w ∷ []) (nat_eq s.place s.base) s.base)
-items_few homes s (Some (Text codes)) h =
+items_few symbols s (Some (Number w)) h = omega (arith, headed_few (word_item w ∷ []) (nat_eq s.place s.base) s.base)
+items_few symbols s (Some (Text codes)) h =
     let ws = map (λ c. 4096 * c) codes.items in
     omega (
       arith,
@@ -135,17 +136,17 @@ items_few homes s (Some (Text codes)) h =
       length-map codes.items (λ c. 4096 * c),
       h,
     )
-items_few homes s (Some (Long v)) h =
+items_few symbols s (Some (Long v)) h =
     omega (
       arith,
       headed_few (map word_item (long_words s.place v)) (nat_eq s.place s.base)
           s.base,
       long_few (nat_eq (s.place % 2) 1) (v % 2 ^ 17) (v / 2 ^ 18),
     )
-items_few homes s (Some (Fetch routine name ts)) h =
-    let r = routine_few (find routine) 128 h homes ts.items (even_from s.place) in omega (arith, r)
-items_few homes s (Some (Enter name)) h = lit≤ tt
-items_few homes s (Some (Rows codes)) h = lit≤ tt
+items_few symbols s (Some (Fetch routine name ts)) h =
+    let r = routine_few (find routine) 128 h symbols ts.items (even_from s.place) in omega (arith, r)
+items_few symbols s (Some (Enter name)) h = lit≤ tt
+items_few symbols s (Some (Rows codes)) h = lit≤ tt
 
 -- a line gives at most 120 rows after the program
 pub data_few : (st : Option Statement) → IsFew st → length (data_of st) ≤ 120

@@ -7,11 +7,11 @@ use Rattle.ed_notation.specs.declared.kind.RowKind.{RowKind}
 use Rattle.ed_notation.specs.declared.kind.RowKind.TheVariants.{Digit, Mark, Zed, Kay, Blank, Letter, Other}
 use Rattle.ed_notation.specs.declared.kind.Control.{Control}
 use Rattle.ed_notation.specs.declared.kind.Control.TheVariants.{Directive, ThetaByBlank, ThetaByG, Neither}
-use Rattle.ed_notation.specs.declared.kind.Aim.{Aim}
-use Rattle.ed_notation.specs.declared.kind.Aim.TheVariants.{Places, Enters, Nowhere, Unset}
+use Rattle.ed_notation.specs.declared.kind.LetterAction.{LetterAction}
+use Rattle.ed_notation.specs.declared.kind.LetterAction.TheVariants.{Places, Enters, Nowhere, Unset}
 use Rattle.ed_notation.specs.Items.{row_kind, Written, item}
-use Rattle.ed_notation.specs.Fold.{Note, act, acted, with_kay, with_letter}
-use Rattle.ed_notation.specs.Fold.{control_of, aim_of, item_word, end_cost, costs}
+use Rattle.ed_notation.specs.Fold.{NotationState, act, ending_effect, with_kay, with_letter}
+use Rattle.ed_notation.specs.Fold.{control_of, letter_action_of, item_word, end_cost, costs}
 use Rattle.ed_notation.specs.Spellings.{canonical, canonicals}
 use Rattle.ed_link.proofs.Passes.{Passes, stays, goes}
 
@@ -21,20 +21,21 @@ NoZed [] = Unit {0}
 NoZed (i ∷ is) = (nat_eq i.end 13 ≡ false) × NoZed is
 
 -- items that go on, none of which ends with Z
-pub passes_no_zed : {z : Size} {words : List ℕ} {note last : Note} {is : List Item} → Passes z words note is last
+pub passes_no_zed : {z : Size} {words : List ℕ} {notation last : NotationState} {is : List Item}
+    → Passes z words notation is last
     → NoZed is
 passes_no_zed stays = tt
 passes_no_zed (goes d e p) = (e, passes_no_zed p)
 
 -- the directive after K, a code letter or an item depends only on the directive before it
-same_kay : (c : Control) (m n : Note) (i : Item) → m.directive ≡ n.directive
+same_kay : (c : Control) (m n : NotationState) (i : Item) → m.directive ≡ n.directive
     → (with_kay c m i).directive ≡ (with_kay c n i).directive
 same_kay ThetaByBlank m n i e = e
 same_kay ThetaByG m n i e = e
 same_kay Directive m n i e = refl
 same_kay Neither m n i e = refl
 
-same_letter : (a : Aim) (m n : Note) (v w : ℕ) → m.directive ≡ n.directive
+same_letter : (a : LetterAction) (m n : NotationState) (v w : ℕ) → m.directive ≡ n.directive
     → (with_letter a m v).directive ≡ (with_letter a n w).directive
 same_letter Enters m n v w e = e
 same_letter Places m n v w e = ap (λ d. d + 2) e
@@ -45,20 +46,22 @@ is_zed : RowKind → Bool
 is_zed Zed = true
 is_zed _ = false
 
-same_act : (r : RowKind) (words others : List ℕ) (m n : Note) (i : Item) → is_zed r ≡ false → m.directive ≡ n.directive
-    → (acted r words m i).directive ≡ (acted r others n i).directive
+same_act : (r : RowKind) (words others : List ℕ) (m n : NotationState) (i : Item) → is_zed r ≡ false
+    → m.directive ≡ n.directive
+    → (ending_effect r words m i).directive ≡ (ending_effect r others n i).directive
 unfolding is_zed
 same_act Zed words others m n i z e = cc
 same_act Blank words others m n i z e = e
 same_act Kay words others m n i z e = same_kay (control_of i.function) m n i e
 same_act Letter words others m n i z e =
-    ap (λ d. (with_letter (aim_of d) m (item_word words m i)).directive) e ∙ same_letter (aim_of n.directive) m n _ _ e
+    ap (λ d. (with_letter (letter_action_of d) m (item_word words m i)).directive) e
+    ∙ same_letter (letter_action_of n.directive) m n _ _ e
 same_act Digit words others m n i z e = e
 same_act Mark words others m n i z e = e
 same_act Other words others m n i z e = e
 
 -- the cost of an ending row depends only on it too
-same_end : (r : RowKind) (m n : Note) → m.directive ≡ n.directive → end_cost r m ≡ end_cost r n
+same_end : (r : RowKind) (m n : NotationState) → m.directive ≡ n.directive → end_cost r m ≡ end_cost r n
 same_end Letter m n e = ap (λ d. end_cost Letter (record { directive = d; theta = 0; placed = [] })) e
 same_end Zed m n e = refl
 same_end Kay m n e = refl
@@ -72,7 +75,7 @@ unfolding is_zed
 not_zed c h = grind (arith, nat_tests)
 
 -- so does the cost of items if none of them ends with Z
-pub same_costs : (words others : List ℕ) (m n : Note) (is : List Item) → NoZed is → m.directive ≡ n.directive
+pub same_costs : (words others : List ℕ) (m n : NotationState) (is : List Item) → NoZed is → m.directive ≡ n.directive
     → costs words m (canonicals is) ≡ costs others n (canonicals is)
 same_costs words others m n [] h e = refl
 same_costs words others m n (i ∷ is) h e =

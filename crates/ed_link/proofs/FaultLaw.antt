@@ -16,14 +16,14 @@ use Rattle.ed_syntax.specs.declared.fault.SourceCause.{SourceCause}
 use Rattle.ed_syntax.specs.declared.fault.SourceCause.TheVariants as causes
 use Rattle.ed_syntax.specs.declared.fault.SourceFault.{SourceFault}
 use Rattle.ed_syntax.specs.declared.fault.SourceFault.TheVariants.{At, Memory}
-use Rattle.ed_symbols.specs.declared.spots.Spot.{Spot}
-use Rattle.ed_symbols.specs.Places.{passed, first_spot}
+use Rattle.ed_symbols.specs.declared.location_counter.LocationCounter.{LocationCounter}
+use Rattle.ed_symbols.specs.Places.{after_statement, first_counter}
 use Rattle.ed_symbols.specs.Faults.{or_later, resolved}
-use Rattle.ed_link.specs.Linked.{homes_of}
+use Rattle.ed_link.specs.Linked.{symbols_of}
 use Rattle.ed_link.specs.Private.FaultTests.{IsFirstFault, any_enter, cause_of, fault, fault_from, is_enter, missing}
 use Rattle.ed_link.specs.Private.FaultTests.{past_of}
 use Rattle.ed_link.specs.Private.FaultTests.{sooner, word_run, LinesBefore}
-use Rattle.ed_symbols.specs.NameFaults.{spot_from, spot_after}
+use Rattle.ed_symbols.specs.NameFaults.{counter_from, counter_after}
 use Rattle.ed_link.specs.Faults.{HasEnter, SourceHasFault, on_line, no_enter}
 use Rattle.ed_symbols.specs.NameFaults.{number_of}
 use Rattle.ed_link.specs.Faults.{IsMeaningFault, HasNoFault}
@@ -36,10 +36,10 @@ use Rattle.ed_link.proofs.LineFaults.{OfMeaning, of_meaning, name_has_cause, few
 
 -- ---- the passes of the code, by what comes before a line
 
-runs_snoc : (s : Spot) (b : List Line) (l : Line)
-    → runs_from s (b ++ l ∷ []) ≡ runs_from s b ++ word_run l.statement (spot_from s b) ∷ []
+runs_snoc : (s : LocationCounter) (b : List Line) (l : Line)
+    → runs_from s (b ++ l ∷ []) ≡ runs_from s b ++ word_run l.statement (counter_from s b) ∷ []
 runs_snoc s [] l = refl
-runs_snoc s (e ∷ b) l = ap (λ x. word_run e.statement s ∷ x) (runs_snoc (passed e.statement s) b l)
+runs_snoc s (e ∷ b) l = ap (λ x. word_run e.statement s ∷ x) (runs_snoc (after_statement e.statement s) b l)
 
 or_last : (x : Bool) → (x || false) ≡ x
 or_last true = refl
@@ -56,22 +56,24 @@ any_snoc (e ∷ b) l = ap (λ x. is_enter e.statement || x) (any_snoc b l)
 
 module _ (z : Size) (lines : List Line) where
   abbrev past_after : List Line → LinesBefore
-  past_after b = record { runs = runs_from first_spot b; entered = any_enter b }
+  past_after b = record { runs = runs_from first_counter b; entered = any_enter b }
 
   abbrev ask_meaning : List Line → Line → Option SourceCause
-  ask_meaning b l = cause_of z (homes_of lines) (any_enter lines) (past_after b) l (spot_after b)
+  ask_meaning b l = cause_of z (symbols_of lines) (any_enter lines) (past_after b) l (counter_after b)
 
-  past_snoc : (b : List Line) (l : Line) → past_of (past_after b) l (spot_after b) ≡ past_after (b ++ l ∷ [])
-  past_snoc b l = λ i. record { runs = sym (runs_snoc first_spot b l) i; entered = sym (any_snoc b l) i }
+  past_snoc : (b : List Line) (l : Line) → past_of (past_after b) l (counter_after b) ≡ past_after (b ++ l ∷ [])
+  past_snoc b l = λ i. record { runs = sym (runs_snoc first_counter b l) i; entered = sym (any_snoc b l) i }
 
   meaning_pass : (b rest : List Line)
-      → fault_from z (homes_of lines) (any_enter lines) (past_after b) (spot_after b) rest ≡ first ask_meaning b rest
+      → fault_from z (symbols_of lines) (any_enter lines) (past_after b) (counter_after b) rest
+      ≡ first ask_meaning b rest
   meaning_pass b [] = refl
   meaning_pass b (l ∷ rest) = ap (λ f. or_later l.number (ask_meaning b l) f)
-      (ap (λ p. fault_from z (homes_of lines) (any_enter lines) p (passed l.statement (spot_after b)) rest)
+      (ap (λ p. fault_from z (symbols_of lines) (any_enter lines) p
+      (after_statement l.statement (counter_after b)) rest)
       (past_snoc b l)
-      ∙ (ap (λ s. fault_from z (homes_of lines) (any_enter lines) (past_after (b ++ l ∷ [])) s rest)
-      (sym (spot_snoc first_spot b l))
+      ∙ (ap (λ s. fault_from z (symbols_of lines) (any_enter lines) (past_after (b ++ l ∷ [])) s rest)
+      (sym (spot_snoc first_counter b l))
       ∙ meaning_pass (b ++ l ∷ []) rest))
 
 -- ---- the least of several
@@ -143,7 +145,7 @@ module _ (z : Size) (lines : List Line) (numbered : Numbered lines) where
   Lacking k c = (HasEnter lines → ⊥) × (k ≡ length lines + 1) × (c ≡ causes.Enter)
 
   abbrev second : Option SourceFault
-  second = fault_from z (homes_of lines) (any_enter lines) (record { runs = []; entered = false }) first_spot lines
+  second = fault_from z (symbols_of lines) (any_enter lines) (record { runs = []; entered = false }) first_counter lines
 
   say_meaning : SaysLeast Meanings second
   say_meaning = found_says (λ b l c. OfMeaning z lines b l c) lines second

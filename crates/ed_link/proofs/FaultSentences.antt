@@ -13,16 +13,16 @@ use Rattle.ed_syntax.specs.declared.program.Statement.{Statement}
 use Rattle.ed_syntax.specs.declared.program.Statement.TheVariants.{Segment, Order, Number, Text, Long, Fetch, Enter}
 use Rattle.ed_syntax.specs.declared.program.Statement.TheVariants.{Rows}
 use Rattle.ed_syntax.specs.declared.program.Line.{Line}
-use Rattle.ed_symbols.specs.declared.spots.Spot.{Spot}
-use Rattle.ed_symbols.specs.declared.homes.Home.{Home}
-use Rattle.ed_symbols.specs.Places.{passed, first_spot}
+use Rattle.ed_symbols.specs.declared.location_counter.LocationCounter.{LocationCounter}
+use Rattle.ed_symbols.specs.declared.symbols.Definition.{Definition}
+use Rattle.ed_symbols.specs.Places.{after_statement, first_counter}
 use Rattle.ed_symbols.specs.Names.{place_on}
-use Rattle.ed_link.specs.Linked.{first_place, end_place, homes_of}
+use Rattle.ed_link.specs.Linked.{first_place, end_place, symbols_of}
 use Rattle.ed_symbols.proofs.Sentences.{Ties, or_left, or_right, and_of, and_true, not_true, true_not}
 use Rattle.ed_link.specs.Private.FaultTests.{any_enter, has_no_routine, has_sandwich, is_enter, is_in_segment}
 use Rattle.ed_link.specs.Private.FaultTests.{is_misplaced}
-use Rattle.ed_link.specs.Private.FaultTests.{is_outside, is_rows, meets, reach, run_at, word_run}
-use Rattle.ed_symbols.specs.NameFaults.{StandsAfter, spot_from, spot_after}
+use Rattle.ed_link.specs.Private.FaultTests.{is_outside, is_rows, overlaps, reach, run_at, word_run}
+use Rattle.ed_symbols.specs.NameFaults.{StandsAfter, counter_from, counter_after}
 use Rattle.ed_link.specs.Faults.{HasEnter}
 use Rattle.ed_link.specs.Faults.{PlacesWords, IsData, IsOutsideSegments, NeedsWithin, NeedsPast, Overlaps}
 use Rattle.ed_link.specs.Faults.{UsesUnknown, IsMisplaced, HasSandwichDigit}
@@ -116,7 +116,7 @@ outside_tests false (Some name) st h = refl
 outside_tests false None st (e, inl h) = cc
 outside_tests false None st (e, inr h) = words_tests st h
 
-opened : (st : Option Statement) (s : Spot) → IsSegment st → (passed st s).inside ≡ true
+opened : (st : Option Statement) (s : LocationCounter) → IsSegment st → (after_statement st s).inside ≡ true
 opened (Some (Segment n b)) s h = refl
 opened None s h = absurd h
 opened (Some (Order f o d)) s h = absurd h
@@ -127,7 +127,8 @@ opened (Some (Fetch r n ts)) s h = absurd h
 opened (Some (Enter n)) s h = absurd h
 opened (Some (Rows codes)) s h = absurd h
 
-stay : (st : Option Statement) (s : Spot) → s.inside ≡ true → (IsUse st → ⊥) → (passed st s).inside ≡ true
+stay : (st : Option Statement) (s : LocationCounter) → s.inside ≡ true → (IsUse st → ⊥)
+    → (after_statement st s).inside ≡ true
 stay (Some (Fetch r n ts)) s h g = absurd (g tt)
 stay (Some (Segment n b)) s h g = refl
 stay None s h g = h
@@ -138,7 +139,7 @@ stay (Some (Long v)) s h g = h
 stay (Some (Enter n)) s h g = h
 stay (Some (Rows codes)) s h g = h
 
-next : (st : Option Statement) (s : Spot) → (passed st s).inside ≡ true
+next : (st : Option Statement) (s : LocationCounter) → (after_statement st s).inside ≡ true
     → IsSegment st ⊎ ((s.inside ≡ true) × (IsUse st → ⊥))
 next (Some (Segment n b)) s h = inl tt
 next (Some (Fetch r n ts)) s h = cc
@@ -154,19 +155,21 @@ abbrev one_more : {lines before : List Line} {l : Line} (e : Line) → StandsAft
     → StandsAfter (e ∷ lines) (e ∷ before) l
 one_more e st = record { after = st.after; lines_are = ap (λ x. e ∷ x) st.lines_are }
 
-kept : (s : Spot) (lines : List Line) → s.inside ≡ true → HasNoUse lines → (spot_from s lines).inside ≡ true
+kept : (s : LocationCounter) (lines : List Line) → s.inside ≡ true → HasNoUse lines
+    → (counter_from s lines).inside ≡ true
 kept s [] h n = h
-kept s (l ∷ lines) h n = kept (passed l.statement s) lines
+kept s (l ∷ lines) h n = kept (after_statement l.statement s) lines
     (stay l.statement s h (n [] l (record { after = lines; lines_are = refl })))
     (λ b e st. n (l ∷ b) e (one_more l st))
 
-open_among : (s : Spot) (b : List Line) (l : Line) (after : List Line) → IsSegment l.statement → HasNoUse after
-    → (spot_from s (b ++ l ∷ after)).inside ≡ true
-open_among s [] l after h n = kept (passed l.statement s) after (opened l.statement s h) n
-open_among s (e ∷ b) l after h n = open_among (passed e.statement s) b l after h n
+open_among : (s : LocationCounter) (b : List Line) (l : Line) (after : List Line) → IsSegment l.statement
+    → HasNoUse after
+    → (counter_from s (b ++ l ∷ after)).inside ≡ true
+open_among s [] l after h n = kept (after_statement l.statement s) after (opened l.statement s h) n
+open_among s (e ∷ b) l after h n = open_among (after_statement e.statement s) b l after h n
 
-open_tests : (s : Spot) (lines : List Line) → InSegment lines → (spot_from s lines).inside ≡ true
-open_tests s lines h = subst (λ x. (spot_from s x).inside ≡ true) (sym h.2.lines_are)
+open_tests : (s : LocationCounter) (lines : List Line) → InSegment lines → (counter_from s lines).inside ≡ true
+open_tests s lines h = subst (λ x. (counter_from s x).inside ≡ true) (sym h.2.lines_are)
     (open_among s h.0 h.1 h.2.after h.3 h.4)
 
 first_same : (l m : Line) (r q : List Line) → (l ∷ r) ≡ (m ∷ q) → l ≡ m
@@ -187,40 +190,40 @@ no_line : (b : List Line) (l : Line) → StandsAfter [] b l → ⊥
 no_line [] l st = let e = st.lines_are in cc
 no_line (x ∷ b) l st = let e = st.lines_are in cc
 
-open_says : (s : Spot) (lines : List Line) → (spot_from s lines).inside ≡ true
+open_says : (s : LocationCounter) (lines : List Line) → (counter_from s lines).inside ≡ true
     → InSegment lines ⊎ ((s.inside ≡ true) × HasNoUse lines)
 open_says s [] h = inr (h, λ b l st u. no_line b l st)
-open_says s (l ∷ lines) h = by_case (open_says (passed l.statement s) lines h)
+open_says s (l ∷ lines) h = by_case (open_says (after_statement l.statement s) lines h)
   where
     by_next : HasNoUse lines → IsSegment l.statement ⊎ ((s.inside ≡ true) × (IsUse l.statement → ⊥))
         → InSegment (l ∷ lines) ⊎ ((s.inside ≡ true) × HasNoUse (l ∷ lines))
     by_next n (inl g) = inl ([], l, record { after = lines; lines_are = refl }, g, n)
     by_next n (inr g) = inr (g.0, no_use_more l lines g.1 n)
 
-    by_case : InSegment lines ⊎ (((passed l.statement s).inside ≡ true) × HasNoUse lines)
+    by_case : InSegment lines ⊎ (((after_statement l.statement s).inside ≡ true) × HasNoUse lines)
         → InSegment (l ∷ lines) ⊎ ((s.inside ≡ true) × HasNoUse (l ∷ lines))
     by_case (inl g) = inl (l ∷ g.0, g.1, one_more l g.2, g.3, g.4)
     by_case (inr g) = by_next g.1 (next l.statement s g.0)
 
-closed_says : (before : List Line) → (spot_after before).inside ≡ false → InSegment before → ⊥
-closed_says before e h = let g : (spot_after before).inside ≡ true = open_tests first_spot before h in cc
+closed_says : (before : List Line) → (counter_after before).inside ≡ false → InSegment before → ⊥
+closed_says before e h = let g : (counter_after before).inside ≡ true = open_tests first_counter before h in cc
 
-closed_tests : (before : List Line) → (InSegment before → ⊥) → (spot_after before).inside ≡ false
-closed_tests before h = by_test (spot_after before).inside refl
+closed_tests : (before : List Line) → (InSegment before → ⊥) → (counter_after before).inside ≡ false
+closed_tests before h = by_test (counter_after before).inside refl
   where
-    either : InSegment before ⊎ ((first_spot.inside ≡ true) × HasNoUse before) → ⊥
+    either : InSegment before ⊎ ((first_counter.inside ≡ true) × HasNoUse before) → ⊥
     either (inl g) = h g
     either (inr g) = let e : false ≡ true = g.0 in cc
 
-    by_test : (t : Bool) → (spot_after before).inside ≡ t → t ≡ false
+    by_test : (t : Bool) → (counter_after before).inside ≡ t → t ≡ false
     by_test false e = refl
-    by_test true e = absurd (either (open_says first_spot before e))
+    by_test true e = absurd (either (open_says first_counter before e))
 
-pub s9 : (before : List Line) (l : Line) → Ties (is_outside l (spot_after before)) (IsOutsideSegments before l)
+pub s9 : (before : List Line) (l : Line) → Ties (is_outside l (counter_after before)) (IsOutsideSegments before l)
 s9 before l = record {
-  says = λ h. let p = outside_says (spot_after before).inside l.label l.statement h in
+  says = λ h. let p = outside_says (counter_after before).inside l.label l.statement h in
       (closed_says before p.0, p.1);
-  tests = λ h. outside_tests (spot_after before).inside l.label l.statement (closed_tests before h.0, h.1);
+  tests = λ h. outside_tests (counter_after before).inside l.label l.statement (closed_tests before h.0, h.1);
 }
 
 -- ---- S10 to S12
@@ -229,107 +232,110 @@ s9 before l = record {
 abbrev IsIn : ℕ × ℕ → ℕ → Type 0
 IsIn run p = (run.0 ≤ p) × (p < run.1)
 
-meets_says : (a b c d : ℕ) → meets (a, b) (c, d) ≡ true → (p : ℕ) × IsIn (a, b) p × IsIn (c, d) p
+meets_says : (a b c d : ℕ) → overlaps (a, b) (c, d) ≡ true → (p : ℕ) × IsIn (a, b) p × IsIn (c, d) p
 meets_says a b c d h = let e : max a c < min b d = lt_of (max a c) (min b d) h in (
   max a c,
   (omega arith, omega (arith, e)),
   (omega arith, omega (arith, e)),
 )
 
-meets_tests : (a b c d p : ℕ) → IsIn (a, b) p → IsIn (c, d) p → meets (a, b) (c, d) ≡ true
+meets_tests : (a b c d p : ℕ) → IsIn (a, b) p → IsIn (c, d) p → overlaps (a, b) (c, d) ≡ true
 meets_tests a b c d p h g =
     lt_true (max a c) (min b d) (omega (arith, h.0, h.1, g.0, g.1))
 
--- a line needs a location, by its statement and spot alone
-abbrev NeedsAt : List Home → Option Statement → Spot → ℕ → Type 0
-NeedsAt homes st s p = ((first_place st s ≤ p) × (p < end_place st s))
-    ⊎ ((name : List ℕ) × (st ≡ Some (Enter name)) × (place_on homes None name ≡ Some p))
+-- a line needs a location, by its statement and location counter alone
+abbrev NeedsAt : List Definition → Option Statement → LocationCounter → ℕ → Type 0
+NeedsAt symbols st s p = ((first_place st s ≤ p) × (p < end_place st s))
+    ⊎ ((name : List ℕ) × (st ≡ Some (Enter name)) × (place_on symbols None name ≡ Some p))
 
-need_in : (homes : List Home) (st : Option Statement) (s : Spot) (p : ℕ) → NeedsAt homes st s p
-    → IsIn (reach homes st s) p
-need_in homes st s p (inr h) = subst (λ x. IsIn (reach homes x s) p) (sym h.1)
+need_in : (symbols : List Definition) (st : Option Statement) (s : LocationCounter) (p : ℕ) → NeedsAt symbols st s p
+    → IsIn (reach symbols st s) p
+need_in symbols st s p (inr h) = subst (λ x. IsIn (reach symbols x s) p) (sym h.1)
     (subst (λ o. IsIn (run_at o) p) (sym h.2) (omega arith, omega arith))
-need_in homes None s p (inl h) = h
-need_in homes (Some (Segment n b)) s p (inl h) = h
-need_in homes (Some (Order f o d)) s p (inl h) = h
-need_in homes (Some (Number w)) s p (inl h) = h
-need_in homes (Some (Text codes)) s p (inl h) = h
-need_in homes (Some (Long v)) s p (inl h) = h
-need_in homes (Some (Fetch r n ts)) s p (inl h) = h
-need_in homes (Some (Enter n)) s p (inl h) = absurd (omega (arith, h.0, h.1))
-need_in homes (Some (Rows codes)) s p (inl h) = h
+need_in symbols None s p (inl h) = h
+need_in symbols (Some (Segment n b)) s p (inl h) = h
+need_in symbols (Some (Order f o d)) s p (inl h) = h
+need_in symbols (Some (Number w)) s p (inl h) = h
+need_in symbols (Some (Text codes)) s p (inl h) = h
+need_in symbols (Some (Long v)) s p (inl h) = h
+need_in symbols (Some (Fetch r n ts)) s p (inl h) = h
+need_in symbols (Some (Enter n)) s p (inl h) = absurd (omega (arith, h.0, h.1))
+need_in symbols (Some (Rows codes)) s p (inl h) = h
 
-in_need : (homes : List Home) (st : Option Statement) (s : Spot) (p : ℕ) → IsIn (reach homes st s) p
-    → NeedsAt homes st s p
-in_need homes None s p h = inl h
-in_need homes (Some (Segment n b)) s p h = inl h
-in_need homes (Some (Order f o d)) s p h = inl h
-in_need homes (Some (Number w)) s p h = inl h
-in_need homes (Some (Text codes)) s p h = inl h
-in_need homes (Some (Long v)) s p h = inl h
-in_need homes (Some (Fetch r n ts)) s p h = inl h
-in_need homes (Some (Rows codes)) s p h = inl h
-in_need homes (Some (Enter n)) s p h = entered (place_on homes None n) refl h
+in_need : (symbols : List Definition) (st : Option Statement) (s : LocationCounter) (p : ℕ)
+    → IsIn (reach symbols st s) p
+    → NeedsAt symbols st s p
+in_need symbols None s p h = inl h
+in_need symbols (Some (Segment n b)) s p h = inl h
+in_need symbols (Some (Order f o d)) s p h = inl h
+in_need symbols (Some (Number w)) s p h = inl h
+in_need symbols (Some (Text codes)) s p h = inl h
+in_need symbols (Some (Long v)) s p h = inl h
+in_need symbols (Some (Fetch r n ts)) s p h = inl h
+in_need symbols (Some (Rows codes)) s p h = inl h
+in_need symbols (Some (Enter n)) s p h = entered (place_on symbols None n) refl h
   where
-    entered : (o : Option ℕ) → place_on homes None n ≡ o → IsIn (run_at o) p → NeedsAt homes (Some (Enter n)) s p
+    entered : (o : Option ℕ) → place_on symbols None n ≡ o → IsIn (run_at o) p → NeedsAt symbols (Some (Enter n)) s p
     entered None e g = absurd (omega (arith, g.0, g.1))
     entered (Some q) e g =
         let same : q ≡ p = omega (arith, g.0, g.1) in inr (n, refl, e ∙ ap (λ x. Some x) same)
 
-within : (homes : List Home) (st : Option Statement) (s : Spot) (c d : ℕ)
-    → Ties (meets (reach homes st s) (c, d)) ((p : ℕ) × NeedsAt homes st s p × (c ≤ p) × (p < d))
-within homes st s c d = record {
-  says = λ h. let m = meets_says (reach homes st s).0 (reach homes st s).1 c d h in
-      (m.0, in_need homes st s m.0 m.1, m.2.0, m.2.1);
-  tests = λ h. meets_tests (reach homes st s).0 (reach homes st s).1 c d h.0 (need_in homes st s h.0 h.1)
+within : (symbols : List Definition) (st : Option Statement) (s : LocationCounter) (c d : ℕ)
+    → Ties (overlaps (reach symbols st s) (c, d)) ((p : ℕ) × NeedsAt symbols st s p × (c ≤ p) × (p < d))
+within symbols st s c d = record {
+  says = λ h. let m = meets_says (reach symbols st s).0 (reach symbols st s).1 c d h in
+      (m.0, in_need symbols st s m.0 m.1, m.2.0, m.2.1);
+  tests = λ h. meets_tests (reach symbols st s).0 (reach symbols st s).1 c d h.0 (need_in symbols st s h.0 h.1)
       (h.2, h.3);
 }
 
 -- S10 at 0 and 44, S11 at 44 and 56
 pub s10_s11 : (lines before : List Line) (l : Line) (c d : ℕ)
-    → Ties (meets (reach (homes_of lines) l.statement (spot_after before)) (c, d)) (NeedsWithin lines before l c d)
-s10_s11 lines before l c d = within (homes_of lines) l.statement (spot_after before) c d
+    → Ties (overlaps (reach (symbols_of lines) l.statement (counter_after before)) (c, d)) (NeedsWithin
+    lines before l c d)
+s10_s11 lines before l c d = within (symbols_of lines) l.statement (counter_after before) c d
 
-past : (homes : List Home) (st : Option Statement) (s : Spot) (c : ℕ)
-    → Ties (meets (reach homes st s) (c, (reach homes st s).1)) ((p : ℕ) × NeedsAt homes st s p × (c ≤ p))
-past homes st s c =
-    let t = within homes st s c (reach homes st s).1 in
+past : (symbols : List Definition) (st : Option Statement) (s : LocationCounter) (c : ℕ)
+    → Ties (overlaps (reach symbols st s) (c, (reach symbols st s).1)) ((p : ℕ) × NeedsAt symbols st s p × (c ≤ p))
+past symbols st s c =
+    let t = within symbols st s c (reach symbols st s).1 in
     record {
       says = λ h. let m = t.says h in (m.0, m.1, m.2);
-      tests = λ h. t.tests (h.0, h.1, h.2, (need_in homes st s h.0 h.1).1);
+      tests = λ h. t.tests (h.0, h.1, h.2, (need_in symbols st s h.0 h.1).1);
     }
 
 pub s12 : (z : Size) (lines before : List Line) (l : Line)
     → Ties
-    (meets (reach (homes_of lines) l.statement (spot_after before))
-    (locations z, (reach (homes_of lines) l.statement (spot_after before)).1))
+    (overlaps (reach (symbols_of lines) l.statement (counter_after before))
+    (locations z, (reach (symbols_of lines) l.statement (counter_after before)).1))
     (NeedsPast lines before l (locations z))
-s12 z lines before l = past (homes_of lines) l.statement (spot_after before) (locations z)
+s12 z lines before l = past (symbols_of lines) l.statement (counter_after before) (locations z)
 
 -- ---- S13
 
--- the extents of the words of the lines from a spot onwards
-abbrev pub runs_from : Spot → List Line → List (ℕ × ℕ)
+-- the extents of the words of the lines from a location counter onwards
+abbrev pub runs_from : LocationCounter → List Line → List (ℕ × ℕ)
 runs_from s [] = []
-runs_from s (l ∷ lines) = word_run l.statement s ∷ runs_from (passed l.statement s) lines
+runs_from s (l ∷ lines) = word_run l.statement s ∷ runs_from (after_statement l.statement s) lines
 
--- one of these lines, from a spot onwards, has a word at a location of the extent
-abbrev Shares : ℕ × ℕ → Spot → List Line → Type 0
+-- one of these lines, from a location counter onwards, has a word at a location of the extent
+abbrev Shares : ℕ × ℕ → LocationCounter → List Line → Type 0
 Shares run s lines = (p : ℕ) × IsIn run p × (earlier : List Line) × (e : Line) × StandsAfter lines earlier e
-    × IsIn (word_run e.statement (spot_from s earlier)) p
+    × IsIn (word_run e.statement (counter_from s earlier)) p
 
-shares_says : (a b : ℕ) (s : Spot) (lines : List Line) → list_any (λ o. meets (a, b) o) (runs_from s lines) ≡ true
+shares_says : (a b : ℕ) (s : LocationCounter) (lines : List Line)
+    → list_any (λ o. overlaps (a, b) o) (runs_from s lines) ≡ true
     → Shares (a, b) s lines
 shares_says a b s [] h = cc
 shares_says a b s (l ∷ lines) h =
-    by_case (λ g. shares_says a b (passed l.statement s) lines g)
-    (or_cases (meets (a, b) (word_run l.statement s))
-    (list_any (λ o. meets (a, b) o) (runs_from (passed l.statement s) lines)) h)
+    by_case (λ g. shares_says a b (after_statement l.statement s) lines g)
+    (or_cases (overlaps (a, b) (word_run l.statement s))
+    (list_any (λ o. overlaps (a, b) o) (runs_from (after_statement l.statement s) lines)) h)
   where
-    by_case : (list_any (λ o. meets (a, b) o) (runs_from (passed l.statement s) lines) ≡ true
-        → Shares (a, b) (passed l.statement s) lines)
-        → (meets (a, b) (word_run l.statement s) ≡ true)
-        ⊎ (list_any (λ o. meets (a, b) o) (runs_from (passed l.statement s) lines) ≡ true)
+    by_case : (list_any (λ o. overlaps (a, b) o) (runs_from (after_statement l.statement s) lines) ≡ true
+        → Shares (a, b) (after_statement l.statement s) lines)
+        → (overlaps (a, b) (word_run l.statement s) ≡ true)
+        ⊎ (list_any (λ o. overlaps (a, b) o) (runs_from (after_statement l.statement s) lines) ≡ true)
         → Shares (a, b) s (l ∷ lines)
     by_case more (inl g) =
         let m = meets_says a b (word_run l.statement s).0 (word_run l.statement s).1 g in
@@ -338,24 +344,25 @@ shares_says a b s (l ∷ lines) h =
         let r = more g in
         (r.0, r.1, l ∷ r.2, r.3, record { after = r.4.after; lines_are = ap (λ x. l ∷ x) r.4.lines_are }, r.5)
 
-shared : (a b : ℕ) (s : Spot) (earlier : List Line) (e : Line) (after : List Line) (p : ℕ) → IsIn (a, b) p
-    → IsIn (word_run e.statement (spot_from s earlier)) p
-    → list_any (λ o. meets (a, b) o) (runs_from s (earlier ++ e ∷ after)) ≡ true
+shared : (a b : ℕ) (s : LocationCounter) (earlier : List Line) (e : Line) (after : List Line) (p : ℕ) → IsIn (a, b) p
+    → IsIn (word_run e.statement (counter_from s earlier)) p
+    → list_any (λ o. overlaps (a, b) o) (runs_from s (earlier ++ e ∷ after)) ≡ true
 shared a b s [] e after p h g = or_left _ _
     (meets_tests a b (word_run e.statement s).0 (word_run e.statement s).1 p h g)
 shared a b s (l ∷ earlier) e after p h g =
-    or_right _ _ (shared a b (passed l.statement s) earlier e after p h g)
+    or_right _ _ (shared a b (after_statement l.statement s) earlier e after p h g)
 
 pub s13 : (before : List Line) (l : Line)
-    → Ties (list_any (λ o. meets (word_run l.statement (spot_after before)) o) (runs_from first_spot before))
+    → Ties (list_any (λ o. overlaps (word_run l.statement (counter_after before)) o) (runs_from first_counter before))
     (Overlaps before l)
 s13 before l = record {
-  says = shares_says (first_place l.statement (spot_after before)) (end_place l.statement (spot_after before))
-      first_spot before;
+  says = shares_says (first_place l.statement (counter_after before)) (end_place l.statement (counter_after before))
+      first_counter before;
   tests = λ h. subst
-      (λ x. list_any (λ o. meets (word_run l.statement (spot_after before)) o) (runs_from first_spot x) ≡ true)
+      (λ x. list_any (λ o. overlaps (word_run l.statement (counter_after before)) o) (runs_from first_counter x) ≡ true)
       (sym h.4.lines_are)
-      (shared (first_place l.statement (spot_after before)) (end_place l.statement (spot_after before)) first_spot
+      (shared (first_place l.statement (counter_after before)) (end_place l.statement (counter_after before))
+      first_counter
       h.2 h.3 h.4.after h.0 h.1 h.5);
 }
 

@@ -9,7 +9,7 @@ use Rattle.std.proofs.lemmas.Bool.Decides.{nat_tests}
 use Rattle.ed_words.specs.declared.size.Size.{Size}
 use Rattle.ed_words.specs.Sizes.{locations}
 use Rattle.ed_notation.specs.declared.item.Item.{Item}
-use Rattle.ed_notation.specs.Fold.{Note}
+use Rattle.ed_notation.specs.Fold.{NotationState}
 use Rattle.ed_notation.specs.Spellings.{AreSpellable}
 use Rattle.ed_library.specs.Entries.{catalogue, entry}
 use Rattle.ed_library.specs.Ready.{is_ready}
@@ -23,15 +23,15 @@ use Rattle.ed_syntax.specs.declared.fault.SourceCause.{SourceCause}
 use Rattle.ed_syntax.specs.declared.fault.SourceFault.{SourceFault}
 use Rattle.ed_syntax.specs.Programs.{is_line, is_statement}
 use Rattle.ed_syntax.proofs.Meaning.{statement_fact}
-use Rattle.ed_symbols.specs.declared.homes.Home.{Home}
-use Rattle.ed_symbols.specs.declared.spots.Spot.{Spot}
-use Rattle.ed_symbols.specs.Places.{even_from, routine_places as places_of, passed, segment_of}
+use Rattle.ed_symbols.specs.declared.symbols.Definition.{Definition}
+use Rattle.ed_symbols.specs.declared.location_counter.LocationCounter.{LocationCounter}
+use Rattle.ed_symbols.specs.Places.{even_from, routine_places as places_of, after_statement, segment_of}
 use Rattle.ed_symbols.specs.Names.{place_on}
 use Rattle.ed_symbols.specs.Faults.{or_later, any_operand, enters_unknown, is_unknown, defines_again}
 use Rattle.ed_symbols.specs.Faults.{naming_cause as names_cause, naming_fault_from as names_from}
 use Rattle.ed_link.specs.Linked.{placed_by_line, placed_from, theta_from, entry_from, entered_place}
 use Rattle.ed_link.specs.Punch.{item_with, items_of, punched_from}
-use Rattle.ed_link.specs.Private.FaultTests.{run_at, reach, meets, has_no_routine, sets}
+use Rattle.ed_link.specs.Private.FaultTests.{run_at, reach, overlaps, has_no_routine, sets}
 use Rattle.ed_link.specs.Private.FaultTests.{sets_otherwise, is_enter, any_enter, is_misplaced}
 use Rattle.ed_link.specs.Private.FaultTests.{LinesBefore, past_of, cause_of, fault_from}
 use Rattle.ed_words.proofs.Numbers.{le_of}
@@ -58,21 +58,23 @@ later_of n (Some cause) rest h = cc
 
 -- locations that a line may take: those of the store after the parameters
 abbrev pub IsClear : Size → ℕ × ℕ → Type 0
-IsClear z run = (meets run (0, 44) ≡ false) × (meets run (44, 56) ≡ false)
-    × (meets run (locations z, run.1) ≡ false)
+IsClear z run = (overlaps run (0, 44) ≡ false) × (overlaps run (44, 56) ≡ false)
+    × (overlaps run (locations z, run.1) ≡ false)
 
-pub record IsFaultless (z : Size) (homes : List Home) (any : Bool) (past : LinesBefore) (l : SourceLine) (s : Spot) :
+pub record IsFaultless (z : Size) (symbols : List Definition) (has_enter : Bool) (past : LinesBefore) (l : SourceLine)
+    (s : LocationCounter) :
     Type 0 where
-  pub clear : IsClear z (reach homes l.statement s)
+  pub clear : IsClear z (reach symbols l.statement s)
   pub routine : has_no_routine l.statement ≡ false
   pub settings : sets_otherwise l.statement ≡ false
-  pub misplaced : is_misplaced past.entered any l ≡ false
+  pub misplaced : is_misplaced past.entered has_enter l ≡ false
 
 -- a line without a fault
-pub faultless : (z : Size) (homes : List Home) (any : Bool) (past : LinesBefore) (l : SourceLine) (s : Spot)
-    → cause_of z homes any past l s ≡ None
-    → IsFaultless z homes any past l s
-faultless z homes any past l s h =
+pub faultless : (z : Size) (symbols : List Definition) (has_enter : Bool) (past : LinesBefore) (l : SourceLine)
+    (s : LocationCounter)
+    → cause_of z symbols has_enter past l s ≡ None
+    → IsFaultless z symbols has_enter past l s
+faultless z symbols has_enter past l s h =
     let a9 = none_of _ _ _ h in let a10 = none_of _ _ _ a9.1 in let a11 = none_of _ _ _ a10.1
     in let a12 = none_of _ _ _ a11.1 in
     let a13 = none_of _ _ _ a12.1 in let a14 = none_of _ _ _ a13.1 in let a15 = none_of _ _ _ a14.1
@@ -119,9 +121,11 @@ module _ (tables : list_all is_ready catalogue ≡ true) (z : Size) where
       (some, f.0, f.1, are_known ts tables text r e (not-false (sets ts (Some r)) s))
 
   -- so has every line without a fault that is not an `enter`
-  sound_line : {homes : List Home} {any : Bool} {past : LinesBefore} {n : ℕ} {label : Option (List ℕ)} {s : Spot}
+  sound_line : {symbols : List Definition} {has_enter : Bool} {past : LinesBefore} {n : ℕ} {label : Option (List ℕ)}
+      {s : LocationCounter}
       (two : Bool) (st : Option Statement) → is_line two (record { number = n; label = label; statement = st }) ≡ true
-      → IsFaultless z homes any past (record { number = n; label = label; statement = st }) s → is_enter st ≡ false
+      → IsFaultless z symbols has_enter past (record { number = n; label = label; statement = st }) s
+      → is_enter st ≡ false
       → IsSound z s st
   sound_line {s = s} two (Some (Order g o long)) formed f e = fits z s.place (s.place + 1) (omega arith) f.clear
   sound_line {s = s} two (Some (Number w)) formed f e = fits z s.place (s.place + 1) (omega arith) f.clear
@@ -138,9 +142,9 @@ module _ (tables : list_all is_ready catalogue ≡ true) (z : Size) where
 
 -- after the `enter` line
 
-record IsBehind (homes : List Home) (theta : ℕ) (s : Spot) (lines : List SourceLine) : Type 0 where
-  items : punched_from homes s lines ≡ []
-  placed : placed_from homes s lines ≡ []
+record IsBehind (symbols : List Definition) (theta : ℕ) (s : LocationCounter) (lines : List SourceLine) : Type 0 where
+  items : punched_from symbols s lines ≡ []
+  placed : placed_from symbols s lines ≡ []
   theta_is : theta_from theta s lines ≡ theta
 
 misplaced : (x : Bool) → ((x || true) && true) ≡ false → ⊥
@@ -148,47 +152,50 @@ misplaced true h = cc
 misplaced false h = cc
 
 -- a line after `enter` gives nothing
-behind_line : {homes : List Home} {theta : ℕ} {s : Spot} {n : ℕ} {label : Option (List ℕ)} {lines : List SourceLine}
+after_line : {symbols : List Definition} {theta : ℕ} {s : LocationCounter} {n : ℕ} {label : Option (List ℕ)}
+    {lines : List SourceLine}
     (st : Option Statement) → is_misplaced true true (record { number = n; label = label; statement = st }) ≡ false
-    → IsBehind homes theta (passed st s) lines
-    → IsBehind homes theta s (record { number = n; label = label; statement = st } ∷ lines)
-behind_line {s = s} None m b =
+    → IsBehind symbols theta (after_statement st s) lines
+    → IsBehind symbols theta s (record { number = n; label = label; statement = st } ∷ lines)
+after_line {s = s} None m b =
     let q = lt_same s.place in record { items = b.items; placed = b.placed; theta_is = rw q b.theta_is }
-behind_line {s = s} (Some (Rows codes)) m b =
+after_line {s = s} (Some (Rows codes)) m b =
     let q = lt_same s.place in record { items = b.items; placed = b.placed; theta_is = rw q b.theta_is }
-behind_line {label = label} (Some st) m b = absurd (misplaced (is_some label) m)
+after_line {label = label} (Some st) m b = absurd (misplaced (is_some label) m)
 
 -- nor do all later lines
-behind : {homes : List Home} {theta : ℕ} {s : Spot} (z : Size) (any : Bool) (past : LinesBefore)
+behind : {symbols : List Definition} {theta : ℕ} {s : LocationCounter} (z : Size) (has_enter : Bool)
+    (past : LinesBefore)
     (lines : List SourceLine) → past.entered ≡ true
-    → fault_from z homes any past s lines ≡ None → IsBehind homes theta s lines
-behind z any past [] e h = record { items = refl; placed = refl; theta_is = refl }
-behind {homes} {theta} {s} z any past (l ∷ lines) e h =
-    let a = later_of l.number (cause_of z homes any past l s) _ h in
-    let f = faultless z homes any past l s a.0 in
-    behind_line l.statement (rw e at f.misplaced)
-    (behind {s = passed l.statement s} z any (past_of past l s) lines (rw e refl) a.1)
+    → fault_from z symbols has_enter past s lines ≡ None → IsBehind symbols theta s lines
+behind z has_enter past [] e h = record { items = refl; placed = refl; theta_is = refl }
+behind {symbols} {theta} {s} z has_enter past (l ∷ lines) e h =
+    let a = later_of l.number (cause_of z symbols has_enter past l s) _ h in
+    let f = faultless z symbols has_enter past l s a.0 in
+    after_line l.statement (rw e at f.misplaced)
+    (behind {s = after_statement l.statement s} z has_enter (past_of past l s) lines (rw e refl) a.1)
 
 -- the induction over the lines
 
-pub record Ends (z : Size) (words : List ℕ) (homes : List Home) (theta : ℕ) (s : Spot) (note : Note)
+pub record Ends (z : Size) (words : List ℕ) (symbols : List Definition) (theta : ℕ) (s : LocationCounter)
+    (notation : NotationState)
     (lines : List SourceLine)
     : Type 0 where
   pub before : List Item
-  pub items : punched_from homes s lines ≡ before ++ (item_with 0 0 false 17 ∷ [])
+  pub items : punched_from symbols s lines ≡ before ++ (item_with 0 0 false 17 ∷ [])
   pub spelled : AreSpellable before
-  pub last : Note
-  pub passes : Passes z words note before last
-  pub enters : Enters z words last (entry_from homes lines)
-  pub directive : last.directive ≡ 12288 + 2 * entry_from homes lines
+  pub last : NotationState
+  pub passes : Passes z words notation before last
+  pub enters : Enters z words last (entry_from symbols lines)
+  pub directive : last.directive ≡ 12288 + 2 * entry_from symbols lines
   pub theta_is : last.theta ≡ theta_from theta s lines
-  pub placed : last.placed ≡ reverse (placed_from homes s lines) ++ note.placed
+  pub placed : last.placed ≡ reverse (placed_from symbols s lines) ++ notation.placed
 
 -- a line that is not an `enter` leaves the entry to the later lines
-entry_later : (homes : List Home) (st : Option Statement) (later : ℕ) → is_enter st ≡ false
-    → entered_place homes st later ≡ later
-entry_later homes (Some (Enter name)) later h = cc
-entry_later homes st later h = refl
+entry_later : (symbols : List Definition) (st : Option Statement) (later : ℕ) → is_enter st ≡ false
+    → entered_place symbols st later ≡ later
+entry_later symbols (Some (Enter name)) later h = cc
+entry_later symbols st later h = refl
 
 -- the location of an `enter` without a fault
 placed_entry : (z : Size) (found : Option ℕ) → is_none found ≡ false → IsClear z (run_at found)
@@ -196,32 +203,36 @@ placed_entry : (z : Size) (found : Option ℕ) → is_none found ≡ false → I
 placed_entry z None e clear = cc
 placed_entry z (Some q) e clear = fits z q (q + 1) (omega arith) clear
 
--- lines from a spot onwards that have their forms and no fault; one of them is the first `enter`
-pub record AreFaultless (z : Size) (homes : List Home) (any two : Bool) (past : LinesBefore) (earlier : List Home)
-    (s : Spot) (lines : List SourceLine) : Type 0 where
+-- lines from a location counter onwards that have their forms and no fault; one of them is the first `enter`
+pub record AreFaultless (z : Size) (symbols : List Definition) (has_enter two : Bool) (past : LinesBefore)
+    (earlier : List Definition)
+    (s : LocationCounter) (lines : List SourceLine) : Type 0 where
   pub formed : list_all (is_line two) lines ≡ true
-  pub sound : fault_from z homes any past s lines ≡ None
-  pub named : names_from homes earlier s lines ≡ None
+  pub sound : fault_from z symbols has_enter past s lines ≡ None
+  pub named : names_from symbols earlier s lines ≡ None
   pub before : past.entered ≡ false
   pub enter : any_enter lines ≡ true
 
-module _ {z : Size} {words : List ℕ} {homes : List Home} {any : Bool} (tables : list_all is_ready catalogue ≡ true)
+module _ {z : Size} {words : List ℕ} {symbols : List Definition} {has_enter : Bool}
+    (tables : list_all is_ready catalogue ≡ true)
     (whole : length words ≡ 1024) (two : Bool) where
   -- a line that is not an `enter` line
-  going : {l : SourceLine} {lines : List SourceLine} {past : LinesBefore} {s : Spot} {note : Note} {theta : ℕ}
-      → IsFaultless z homes any past l s → is_enter l.statement ≡ false → is_line two l ≡ true → IsReady theta s note
-      → ((next : Note) (t : ℕ) → IsReady t (passed l.statement s) next
-      → Ends z words homes t (passed l.statement s) next lines)
-      → Ends z words homes theta s note (l ∷ lines)
-  going {l} {lines} {s = s} {note} {theta} f e formed ready more =
+  going : {l : SourceLine} {lines : List SourceLine} {past : LinesBefore} {s : LocationCounter}
+      {notation : NotationState} {theta : ℕ}
+      → IsFaultless z symbols has_enter past l s → is_enter l.statement ≡ false → is_line two l ≡ true
+      → IsReady theta s notation
+      → ((next : NotationState) (t : ℕ) → IsReady t (after_statement l.statement s) next
+      → Ends z words symbols t (after_statement l.statement s) next lines)
+      → Ends z words symbols theta s notation (l ∷ lines)
+  going {l} {lines} {s = s} {notation} {theta} f e formed ready more =
       let st = l.statement in
-      let is = items_of homes s st in
+      let is = items_of symbols s st in
       let sound = sound_line tables z two st formed f e in
-      let are = line_spelled tables z homes s st
+      let are = line_spelled tables z symbols s st
       (λ x e. (two, statement_fact two x (formed_statement two l.number l.label st formed x e))) sound ready.base in
-      let a = line {z = z} {words = words} ready whole homes st sound are in
+      let a = line {z = z} {words = words} ready whole symbols st sound are in
       let r = more a.last _ a.ready in
-      let q = sym (entry_later homes st (entry_from homes lines) e) in
+      let q = sym (entry_later symbols st (entry_from symbols lines) e) in
       record {
         before = is ++ r.before;
         items = ap (λ x. is ++ x) r.items ∙ sym (append_assoc is r.before (item_with 0 0 false 17 ∷ []));
@@ -231,59 +242,67 @@ module _ {z : Size} {words : List ℕ} {homes : List Home} {any : Bool} (tables 
         enters = subst (λ p. Enters z words r.last p) q r.enters;
         directive = subst (λ p. r.last.directive ≡ 12288 + 2 * p) q r.directive;
         theta_is = r.theta_is;
-        placed = r.placed ∙ ap (λ m. reverse (placed_from homes (passed st s) lines) ++ m) a.placed
-            ∙ reversed (placed_by_line homes s st) (placed_from homes (passed st s) lines) note.placed;
+        placed = r.placed ∙ ap (λ m. reverse (placed_from symbols (after_statement st s) lines) ++ m) a.placed
+            ∙ reversed (placed_by_line symbols s st) (placed_from symbols (after_statement st s) lines) notation.placed;
       }
 
   -- the `enter` line
-  entering : {n : ℕ} {label : Option (List ℕ)} {lines : List SourceLine} {past : LinesBefore} {s : Spot} {note : Note}
+  entering : {n : ℕ} {label : Option (List ℕ)} {lines : List SourceLine} {past : LinesBefore} {s : LocationCounter}
+      {notation : NotationState}
       {theta : ℕ} (name : List ℕ)
-      → IsFaultless z homes any past (record { number = n; label = label; statement = Some (Enter name) }) s
-      → is_none (place_on homes None name) ≡ false → IsReady theta s note → IsBehind homes theta s lines
-      → Ends z words homes theta s note (record { number = n; label = label; statement = Some (Enter name) } ∷ lines)
-  entering {s = s} {note} name f known ready b =
-      let p = unwrap_or (place_on homes None name) 0 in
-      let g = placed_entry z (place_on homes None name) known f.clear in
+      → IsFaultless z symbols has_enter past (record { number = n; label = label; statement = Some (Enter name) }) s
+      → is_none (place_on symbols None name) ≡ false → IsReady theta s notation → IsBehind symbols theta s lines
+      → Ends z words symbols theta s notation (record {
+        number = n;
+        label = label;
+        statement =
+            Some (Enter name);
+      } ∷ lines)
+  entering {s = s} {notation} name f known ready b =
+      let p = unwrap_or (place_on symbols None name) 0 in
+      let g = placed_entry z (place_on symbols None name) known f.clear in
       let m = most z in
-      let last : Note = record note { directive = 12288 + 2 * p } in
+      let last : NotationState = record notation { directive = 12288 + 2 * p } in
       record {
         before = item_with 3 p false 14 ∷ [];
         items = ap (λ (is : List Item). item_with 3 p false 14 ∷ (item_with 0 0 false 17 ∷ is)) b.items;
         spelled = aiming_spelled p (omega (arith, m, g.1));
         last = last;
-        passes = goes (aiming_entry z words note p (omega (arith, g.1))) refl stays;
+        passes = goes (aiming_entry z words notation p (omega (arith, g.1))) refl stays;
         enters = entering_at z words last p refl (omega (arith, g.0)) (omega (arith, g.1));
         directive = refl;
         theta_is = let q = lt_same s.place in rw q (ready.theta_is ∙ sym b.theta_is);
-        placed = ap (λ ps. reverse ps ++ note.placed) (sym b.placed);
+        placed = ap (λ ps. reverse ps ++ notation.placed) (sym b.placed);
       }
 
-  ends_at : {n : ℕ} {label : Option (List ℕ)} {lines : List SourceLine} {past : LinesBefore} {s : Spot} {note : Note}
+  ends_at : {n : ℕ} {label : Option (List ℕ)} {lines : List SourceLine} {past : LinesBefore} {s : LocationCounter}
+      {notation : NotationState}
       {theta : ℕ} (st : Option Statement)
-      → IsFaultless z homes any past (record { number = n; label = label; statement = st }) s
-      → is_line two (record { number = n; label = label; statement = st }) ≡ true → enters_unknown homes st ≡ false
-      → IsReady theta s note
-      → (is_enter st ≡ false → (next : Note) (t : ℕ) → IsReady t (passed st s) next
-      → Ends z words homes t (passed st s) next lines)
-      → (is_enter st ≡ true → IsBehind homes theta (passed st s) lines)
-      → Ends z words homes theta s note (record { number = n; label = label; statement = st } ∷ lines)
+      → IsFaultless z symbols has_enter past (record { number = n; label = label; statement = st }) s
+      → is_line two (record { number = n; label = label; statement = st }) ≡ true → enters_unknown symbols st ≡ false
+      → IsReady theta s notation
+      → (is_enter st ≡ false → (next : NotationState) (t : ℕ) → IsReady t (after_statement st s) next
+      → Ends z words symbols t (after_statement st s) next lines)
+      → (is_enter st ≡ true → IsBehind symbols theta (after_statement st s) lines)
+      → Ends z words symbols theta s notation (record { number = n; label = label; statement = st } ∷ lines)
   ends_at (Some (Enter name)) f formed known ready more rest = entering name f known ready (rest refl)
   ends_at st f formed known ready more rest = going f refl formed ready (more refl)
 
-  pub ends : {past : LinesBefore} {earlier : List Home} {s : Spot} {note : Note} {theta : ℕ} (lines : List SourceLine)
-      → AreFaultless z homes any two past earlier s lines → IsReady theta s note
-      → Ends z words homes theta s note lines
+  pub ends : {past : LinesBefore} {earlier : List Definition} {s : LocationCounter} {notation : NotationState}
+      {theta : ℕ} (lines : List SourceLine)
+      → AreFaultless z symbols has_enter two past earlier s lines → IsReady theta s notation
+      → Ends z words symbols theta s notation lines
   ends [] are ready = let none = are.enter in cc
-  ends {past} {earlier} {s} {note} {theta} (l ∷ lines) are ready =
+  ends {past} {earlier} {s} {notation} {theta} (l ∷ lines) are ready =
       let e = are.before in
-      let a = later_of l.number (cause_of z homes any past l s) _ are.sound in
-      let b = later_of l.number (names_cause homes (defines_again earlier l s) l s) _ are.named in
+      let a = later_of l.number (cause_of z symbols has_enter past l s) _ are.sound in
+      let b = later_of l.number (names_cause symbols (defines_again earlier l s) l s) _ are.named in
       let c6 = none_of _ _ _ b.0 in
       let c7 = none_of _ _ _ c6.1 in
       let formed = and_parts _ _ are.formed in
-      let known = or_parts (any_operand (is_unknown homes (segment_of l s)) l.statement)
-      (enters_unknown homes l.statement) c7.0 in
-      ends_at l.statement (faultless z homes any past l s a.0) formed.0 known.1 ready
+      let known = or_parts (any_operand (is_unknown symbols (segment_of l s)) l.statement)
+      (enters_unknown symbols l.statement) c7.0 in
+      ends_at l.statement (faultless z symbols has_enter past l s a.0) formed.0 known.1 ready
       (λ g next t r. ends {past = past_of past l s} lines (record {
         formed = formed.1;
         sound = a.1;
@@ -291,4 +310,4 @@ module _ {z : Size} {words : List ℕ} {homes : List Home} {any : Bool} (tables 
         before = rw (e, g) refl;
         enter = rw g at are.enter;
       }) r)
-      (λ g. behind z any (past_of past l s) lines (rw (e, g) refl) a.1)
+      (λ g. behind z has_enter (past_of past l s) lines (rw (e, g) refl) a.1)

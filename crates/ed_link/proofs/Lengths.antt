@@ -3,7 +3,7 @@ use Rattle.std.proofs.Common.{◌≡◌, ℕ, ◌+◌, ◌<◌, refl, sym, ap, �
 use Rattle.std.proofs.Common.{None, List, [], ◌∷◌, ◌++◌, length, map, drop, set, get_or}
 use Rattle.std.specs.Prelude.{replicate}
 use Rattle.std.proofs.lemmas.List.{length-set, length-replicate, drop_more}
-use Rattle.ed_link.specs.Linked.{laid}
+use Rattle.ed_link.specs.Linked.{placed_words}
 use Rattle.ed_link.specs.Tables.{empty_table, put_all}
 
 -- words that are put into a table leave its length
@@ -31,12 +31,13 @@ put_all_append table (p ∷ ps) qs = put_all_append (set table p.0 (Some p.1)) p
 pub put_more : {more whole : List (Option ℕ)} (word : ℕ × ℕ × Bool × ℕ → ℕ) (rows : List (ℕ × ℕ × Bool × ℕ))
     (k base : ℕ) (table : List (Option ℕ))
     → k < length rows → more ≡ set table (base + k) (Some (word (get_or rows k (0, 0, false, 0))))
-    → put_all table (laid (base + k) (map word (drop k rows))) ≡ whole
-    → put_all more (laid (base + (k + 1)) (map word (drop (k + 1) rows))) ≡ whole
+    → put_all table (placed_words (base + k) (map word (drop k rows))) ≡ whole
+    → put_all more (placed_words (base + (k + 1)) (map word (drop (k + 1) rows))) ≡ whole
 put_more word rows k base table below same before =
     let next : base + k + 1 ≡ base + (k + 1) = omega arith in
     let rest = map word (drop (k + 1) rows) in
-    let first : put_all table (laid (base + k) (map word (drop k rows)))
-    ≡ put_all (set table (base + k) (Some (word (get_or rows k (0, 0, false, 0))))) (laid (base + k + 1) rest) =
-    ap (λ (xs : List _). put_all table (laid (base + k) (map word xs))) (drop_more rows k (0, 0, false, 0) below) in
-    (λ i. put_all (same i) (laid (sym next i) rest)) ∙ sym first ∙ before
+    let first : put_all table (placed_words (base + k) (map word (drop k rows)))
+    ≡ put_all (set table (base + k) (Some (word (get_or rows k (0, 0, false, 0))))) (placed_words (base + k + 1) rest) =
+    ap (λ (xs : List _). put_all table (placed_words (base + k) (map word xs)))
+    (drop_more rows k (0, 0, false, 0) below) in
+    (λ i. put_all (same i) (placed_words (sym next i) rest)) ∙ sym first ∙ before

@@ -7,12 +7,12 @@ use Rattle.ed_words.specs.Sizes.{locations}
 use Rattle.ed_syntax.specs.declared.program.Line.{Line}
 use Rattle.ed_syntax.specs.declared.fault.SourceCause.{SourceCause}
 use Rattle.ed_syntax.specs.declared.fault.SourceCause.TheVariants as causes
-use Rattle.ed_symbols.specs.Places.{first_spot}
-use Rattle.ed_link.specs.Linked.{homes_of}
+use Rattle.ed_symbols.specs.Places.{first_counter}
+use Rattle.ed_link.specs.Linked.{symbols_of}
 use Rattle.ed_link.specs.Private.FaultTests.{any_enter, cause_of, has_no_routine, has_sandwich, is_misplaced}
-use Rattle.ed_link.specs.Private.FaultTests.{is_outside, meets}
+use Rattle.ed_link.specs.Private.FaultTests.{is_outside, overlaps}
 use Rattle.ed_link.specs.Private.FaultTests.{reach, sets_otherwise, word_run}
-use Rattle.ed_symbols.specs.NameFaults.{spot_after, number_of}
+use Rattle.ed_symbols.specs.NameFaults.{counter_after, number_of}
 use Rattle.ed_link.specs.Faults.{LineHasCause}
 use Rattle.ed_symbols.specs.NameFaults.{LineHasNameFault}
 use Rattle.ed_symbols.proofs.Sentences.{Ties}
@@ -91,17 +91,17 @@ module _ (z : Size) (lines before : List Line) (l : Line) where
   over tie k = record { says = λ h. (tie.says h, k); tests = λ h. tie.tests h.0 }
 
   pub of_meaning : Least OfMeaning
-      (cause_of z (homes_of lines) (any_enter lines)
-      (record { runs = runs_from first_spot before; entered = any_enter before }) l (spot_after before))
+      (cause_of z (symbols_of lines) (any_enter lines)
+      (record { runs = runs_from first_counter before; entered = any_enter before }) l (counter_after before))
   of_meaning =
-      let needs = reach (homes_of lines) l.statement (spot_after before) in
+      let needs = reach (symbols_of lines) l.statement (counter_after before) in
       picks OfMeaning 9
-      ((is_outside l (spot_after before), causes.OutsideSegment)
-      ∷ (meets needs (0, 44), causes.LoaderStore)
-      ∷ (meets needs (44, 56), causes.ParameterStore)
-      ∷ (meets needs (locations z, needs.1), causes.StoreEnd)
+      ((is_outside l (counter_after before), causes.OutsideSegment)
+      ∷ (overlaps needs (0, 44), causes.LoaderStore)
+      ∷ (overlaps needs (44, 56), causes.ParameterStore)
+      ∷ (overlaps needs (locations z, needs.1), causes.StoreEnd)
       ∷ (
-        list_any (λ run. meets (word_run l.statement (spot_after before)) run) (runs_from first_spot before),
+        list_any (λ run. overlaps (word_run l.statement (counter_after before)) run) (runs_from first_counter before),
         causes.Overlap,
       )
       ∷ (has_no_routine l.statement, causes.NoSuchRoutine)

@@ -10,17 +10,17 @@ use Rattle.ed_syntax.specs.declared.program.Statement.{Statement}
 use Rattle.ed_syntax.specs.declared.program.Statement.TheVariants.{Segment, Order, Number, Text}
 use Rattle.ed_syntax.specs.declared.program.Statement.TheVariants.{Long, Fetch, Enter, Rows}
 use Rattle.ed_syntax.specs.declared.program.Line.{Line}
-use Rattle.ed_symbols.specs.declared.homes.Home.{Home}
-use Rattle.ed_symbols.specs.declared.spots.Spot.{Spot}
-use Rattle.ed_symbols.specs.Places.{passed, first_spot}
+use Rattle.ed_symbols.specs.declared.symbols.Definition.{Definition}
+use Rattle.ed_symbols.specs.declared.location_counter.LocationCounter.{LocationCounter}
+use Rattle.ed_symbols.specs.Places.{after_statement, first_counter}
 use Rattle.ed_notation.specs.Spellings.{AreSpellable}
 use Rattle.ed_link.proofs.Lengths.{put_all_append}
 use Rattle.ed_link.specs.declared.building.Built.{Built}
 use Rattle.ed_link.specs.Private.Building.{first_past}
-use Rattle.ed_link.specs.Linked.{data_behind, data_rows, entered_place, entry_from, placed_by_line, placed_from}
+use Rattle.ed_link.specs.Linked.{data_after, data_rows, entered_place, entry_from, placed_by_line, placed_from}
 use Rattle.ed_link.specs.Punch.{items_of, punched_from}
 use Rattle.ed_link.specs.Tables.{empty_table, put_all, table_of}
-use Rattle.ed_link.specs.Private.FaultTests.{LinesBefore, past_of, word_run, is_enter, reach, meets, cause_of}
+use Rattle.ed_link.specs.Private.FaultTests.{LinesBefore, past_of, word_run, is_enter, reach, overlaps, cause_of}
 use Rattle.ed_link.specs.Private.FaultTests.{fault_from}
 use Rattle.ed_link.specs.Private.Building.{IsFew}
 use Rattle.ed_link.proofs.Bounds.{items_few, data_few}
@@ -28,7 +28,8 @@ use Rattle.ed_words.proofs.SizeLemmas.{most}
 use Rattle.ed_link.proofs.Inductions.{faultless}
 
 -- a base is not above its location
-pub base_under : (st : Option Statement) (s : Spot) → s.base ≤ s.place → (passed st s).base ≤ (passed st s).place
+pub base_under : (st : Option Statement) (s : LocationCounter) → s.base ≤ s.place
+    → (after_statement st s).base ≤ (after_statement st s).place
 base_under None s h = h
 base_under (Some (Segment name base)) s h = omega arith
 base_under (Some (Order f o long)) s h = omega arith
@@ -40,96 +41,104 @@ base_under (Some (Rows codes)) s h = h
 base_under (Some (Long v)) s h = omega arith
 
 -- a line without a fault needs locations below 1024
-pub reach_fits : (z : Size) (homes : List Home) (any : Bool) (past : LinesBefore) (l : Line) (s : Spot)
-    → cause_of z homes any past l s ≡ None
-    → (reach homes l.statement s).0 < (reach homes l.statement s).1 → (reach homes l.statement s).1 ≤ 1024
-reach_fits z homes any past l s h some =
+pub reach_fits : (z : Size) (symbols : List Definition) (has_enter : Bool) (past : LinesBefore) (l : Line)
+    (s : LocationCounter)
+    → cause_of z symbols has_enter past l s ≡ None
+    → (reach symbols l.statement s).0 < (reach symbols l.statement s).1 → (reach symbols l.statement s).1 ≤ 1024
+reach_fits z symbols has_enter past l s h some =
     let m = most z in
-    of (reach homes l.statement s).0 (reach homes l.statement s).1 (locations z) m some
-    (faultless z homes any past l s h).clear.2
+    of (reach symbols l.statement s).0 (reach symbols l.statement s).1 (locations z) m some
+    (faultless z symbols has_enter past l s h).clear.2
   where
-    of : (a b n : ℕ) → n ≤ 1024 → a < b → meets (a, b) (n, b) ≡ false → b ≤ 1024
+    of : (a b n : ℕ) → n ≤ 1024 → a < b → overlaps (a, b) (n, b) ≡ false → b ≤ 1024
     of a b n i j k = grind (arith, nat_tests)
 
 -- a line without a fault leaves the fault to the later lines
-pub goes_on : (z : Size) (homes : List Home) (any : Bool) (past : LinesBefore) (s : Spot) (l : Line) (lines : List Line)
-    → cause_of z homes any past l s ≡ None
-    → fault_from z homes any past s (l ∷ lines) ≡ fault_from z homes any (past_of past l s) (passed l.statement s) lines
-goes_on z homes any past s l lines h = rw h refl
+pub goes_on : (z : Size) (symbols : List Definition) (has_enter : Bool) (past : LinesBefore) (s : LocationCounter)
+    (l : Line) (lines : List Line)
+    → cause_of z symbols has_enter past l s ≡ None
+    → fault_from z symbols has_enter past s (l ∷ lines)
+    ≡ fault_from z symbols has_enter (past_of past l s) (after_statement l.statement s) lines
+goes_on z symbols has_enter past s l lines h = rw h refl
 
--- what is made of the lines so far: what they leave for later lines, the spot after them, and what is built
+-- what is made of the lines so far: what they leave for later lines, the location counter after them, and what is built
 pub record Made : Type 0 where
   pub past : LinesBefore
-  pub spot : Spot
+  pub counter : LocationCounter
   pub built : Built
 
 -- with that of the lines that are left it is what is made of all
-pub record Doing (z : Size) (homes : List Home) (any : Bool) (lines : List Line) (n : ℕ) (m : Made) : Type 0 where
-  pub fault : fault_from z homes any m.past m.spot (drop n lines) ≡ fault_from z homes any first_past first_spot lines
-  pub items_are : m.built.items.items ++ punched_from homes m.spot (drop n lines) ≡ punched_from homes first_spot lines
+pub record Doing (z : Size) (symbols : List Definition) (has_enter : Bool) (lines : List Line) (n : ℕ) (m : Made) :
+    Type 0 where
+  pub fault : fault_from z symbols has_enter m.past m.counter (drop n lines)
+      ≡ fault_from z symbols has_enter first_past first_counter lines
+  pub items_are : m.built.items.items ++ punched_from symbols m.counter (drop n lines)
+      ≡ punched_from symbols first_counter lines
   pub spellable : AreSpellable m.built.items.items
-  pub table_is : put_all m.built.table.items (placed_from homes m.spot (drop n lines))
-      ≡ table_of (placed_from homes first_spot lines)
+  pub table_is : put_all m.built.table.items (placed_from symbols m.counter (drop n lines))
+      ≡ table_of (placed_from symbols first_counter lines)
   pub size : length m.built.table.items ≡ 1024
-  pub rows_are : m.built.after.items ++ data_behind (drop n lines) ≡ data_behind lines
-  pub entry_is : unwrap_or m.built.entry (entry_from homes (drop n lines)) ≡ entry_from homes lines
-  pub place : m.spot.place ≤ 56 + 65536 * n
-  pub segments : m.spot.segments ≤ n
-  pub base : m.spot.base ≤ m.spot.place
+  pub rows_are : m.built.after.items ++ data_after (drop n lines) ≡ data_after lines
+  pub entry_is : unwrap_or m.built.entry (entry_from symbols (drop n lines)) ≡ entry_from symbols lines
+  pub place : m.counter.place ≤ 56 + 65536 * n
+  pub segments : m.counter.segments ≤ n
+  pub base : m.counter.base ≤ m.counter.place
   pub few_items : length m.built.items.items ≤ 240 * n
   pub few_rows : length m.built.after.items ≤ 120 * n
 
 -- what the code says of one more line
-pub record Does (z : Size) (homes : List Home) (any : Bool) (l : Line) (m m' : Made) : Type 0 where
-  pub cause : cause_of z homes any m.past l m.spot ≡ None
+pub record Does (z : Size) (symbols : List Definition) (has_enter : Bool) (l : Line) (m m' : Made) : Type 0 where
+  pub cause : cause_of z symbols has_enter m.past l m.counter ≡ None
   pub few : IsFew l.statement
-  pub items_are : m'.built.items.items ≡ m.built.items.items ++ items_of homes m.spot l.statement
+  pub items_are : m'.built.items.items ≡ m.built.items.items ++ items_of symbols m.counter l.statement
   pub spellable : AreSpellable m'.built.items.items
-  pub table_is : m'.built.table.items ≡ put_all m.built.table.items (placed_by_line homes m.spot l.statement)
+  pub table_is : m'.built.table.items ≡ put_all m.built.table.items (placed_by_line symbols m.counter l.statement)
   pub size : length m'.built.table.items ≡ 1024
   pub rows_are : m'.built.after.items ≡ m.built.after.items ++ data_rows l.statement
   pub entry_is : (later : ℕ)
-      → unwrap_or m'.built.entry later ≡ unwrap_or m.built.entry (entered_place homes l.statement later)
-  pub spot_is : m'.spot ≡ passed l.statement m.spot
-  pub place : m'.spot.place ≤ m.spot.place + 65536
-  pub segments : m'.spot.segments ≤ m.spot.segments + 1
-  pub runs : m'.past.runs ≡ m.past.runs ++ word_run l.statement m.spot ∷ []
+      → unwrap_or m'.built.entry later ≡ unwrap_or m.built.entry (entered_place symbols l.statement later)
+  pub spot_is : m'.counter ≡ after_statement l.statement m.counter
+  pub place : m'.counter.place ≤ m.counter.place + 65536
+  pub segments : m'.counter.segments ≤ m.counter.segments + 1
+  pub runs : m'.past.runs ≡ m.past.runs ++ word_run l.statement m.counter ∷ []
   pub entered : m'.past.entered ≡ (m.past.entered || is_enter l.statement)
 
 -- what is made of the lines with one more of them
-pub step : {z : Size} {homes : List Home} {any : Bool} {lines : List Line} {n : ℕ} {l : Line} {m m' : Made}
-    → Doing z homes any lines n m → n < length lines → l ≡ get_or lines n l → Does z homes any l m m'
-    → Doing z homes any lines (n + 1) m'
-step {z} {homes} {any} {lines} {n} {l} {m} {m'} d below is e =
+pub step : {z : Size} {symbols : List Definition} {has_enter : Bool} {lines : List Line} {n : ℕ} {l : Line}
+    {m m' : Made}
+    → Doing z symbols has_enter lines n m → n < length lines → l ≡ get_or lines n l → Does z symbols has_enter l m m'
+    → Doing z symbols has_enter lines (n + 1) m'
+step {z} {symbols} {has_enter} {lines} {n} {l} {m} {m'} d below is e =
     let rest = drop (n + 1) lines in
-    let s = passed l.statement m.spot in
-    let b = base_under l.statement m.spot d.base in
+    let s = after_statement l.statement m.counter in
+    let b = base_under l.statement m.counter d.base in
     let sp = e.spot_is in
-    let past : m'.past ≡ past_of m.past l m.spot = λ i. record { runs = e.runs i; entered = e.entered i } in
+    let past : m'.past ≡ past_of m.past l m.counter = λ i. record { runs = e.runs i; entered = e.entered i } in
     let q : drop n lines ≡ l ∷ rest = drop_more lines n l below ∙ ap (λ (x : Line). x ∷ rest) (sym is) in
     record {
-      fault = rw (past, sp) (sym (goes_on z homes any m.past m.spot l rest e.cause)
-          ∙ ap (λ (x : List Line). fault_from z homes any m.past m.spot x) (sym q) ∙ d.fault);
+      fault = rw (past, sp) (sym (goes_on z symbols has_enter m.past m.counter l rest e.cause)
+          ∙ ap (λ (x : List Line). fault_from z symbols has_enter m.past m.counter x) (sym q) ∙ d.fault);
       items_are = rw (e.items_are, sp)
-          (append_assoc m.built.items.items (items_of homes m.spot l.statement) (punched_from homes s rest)
-          ∙ ap (λ (x : List Line). m.built.items.items ++ punched_from homes m.spot x) (sym q) ∙ d.items_are);
+          (append_assoc m.built.items.items (items_of symbols m.counter l.statement) (punched_from symbols s rest)
+          ∙ ap (λ (x : List Line). m.built.items.items ++ punched_from symbols m.counter x) (sym q) ∙ d.items_are);
       spellable = e.spellable;
       table_is = rw (e.table_is, sp)
-          (put_all_append m.built.table.items (placed_by_line homes m.spot l.statement) (placed_from homes s rest)
-          ∙ ap (λ (x : List Line). put_all m.built.table.items (placed_from homes m.spot x)) (sym q) ∙ d.table_is);
+          (put_all_append m.built.table.items (placed_by_line symbols m.counter l.statement)
+          (placed_from symbols s rest)
+          ∙ ap (λ (x : List Line). put_all m.built.table.items (placed_from symbols m.counter x)) (sym q) ∙ d.table_is);
       size = e.size;
-      rows_are = rw e.rows_are (append_assoc m.built.after.items (data_rows l.statement) (data_behind rest)
-          ∙ ap (λ (x : List Line). m.built.after.items ++ data_behind x) (sym q) ∙ d.rows_are);
-      entry_is = e.entry_is (entry_from homes rest)
-          ∙ ap (λ (x : List Line). unwrap_or m.built.entry (entry_from homes x)) (sym q) ∙ d.entry_is;
+      rows_are = rw e.rows_are (append_assoc m.built.after.items (data_rows l.statement) (data_after rest)
+          ∙ ap (λ (x : List Line). m.built.after.items ++ data_after x) (sym q) ∙ d.rows_are);
+      entry_is = e.entry_is (entry_from symbols rest)
+          ∙ ap (λ (x : List Line). unwrap_or m.built.entry (entry_from symbols x)) (sym q) ∙ d.entry_is;
       place = omega (arith, d.place, e.place);
       segments = omega (arith, d.segments, e.segments);
       base = rw sp b;
       few_items = rw e.items_are (omega (
         arith,
         d.few_items,
-        items_few homes m.spot l.statement e.few,
-        length-append m.built.items.items (items_of homes m.spot l.statement),
+        items_few symbols m.counter l.statement e.few,
+        length-append m.built.items.items (items_of symbols m.counter l.statement),
       ));
       few_rows = rw e.rows_are (omega (
         arith,
@@ -140,21 +149,21 @@ step {z} {homes} {any} {lines} {n} {l} {m} {m'} d below is e =
     }
 
 -- before the first line
-pub start : {z : Size} {homes : List Home} {any : Bool} {lines : List Line} {m : Made}
-    → m.past ≡ first_past → m.spot ≡ first_spot → m.built.items.items ≡ [] → m.built.table.items ≡ empty_table
-    → m.built.entry ≡ None → m.built.after.items ≡ [] → Doing z homes any lines 0 m
+pub start : {z : Size} {symbols : List Definition} {has_enter : Bool} {lines : List Line} {m : Made}
+    → m.past ≡ first_past → m.counter ≡ first_counter → m.built.items.items ≡ [] → m.built.table.items ≡ empty_table
+    → m.built.entry ≡ None → m.built.after.items ≡ [] → Doing z symbols has_enter lines 0 m
 unfolding empty_table
-start past spot items table entry rows = record {
-  fault = rw (past, spot) refl;
-  items_are = rw (spot, items) refl;
+start past counter items table entry rows = record {
+  fault = rw (past, counter) refl;
+  items_are = rw (counter, items) refl;
   spellable = rw items tt;
-  table_is = rw (spot, table) refl;
+  table_is = rw (counter, table) refl;
   size = rw table (length-replicate {A = Option ℕ} 1024 None);
   rows_are = rw rows refl;
   entry_is = rw entry refl;
-  place = rw spot (omega arith);
-  segments = rw spot (omega arith);
-  base = rw spot (omega arith);
+  place = rw counter (omega arith);
+  segments = rw counter (omega arith);
+  base = rw counter (omega arith);
   few_items = rw items (omega arith);
   few_rows = rw rows (omega arith);
 }

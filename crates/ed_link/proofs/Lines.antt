@@ -9,7 +9,7 @@ use Rattle.ed_words.specs.declared.size.Size.{Size}
 use Rattle.ed_words.specs.Sizes.{locations}
 use Rattle.ed_words.specs.Words.{digit}
 use Rattle.ed_notation.specs.declared.item.Item.{Item}
-use Rattle.ed_notation.specs.Fold.{Note, word_with}
+use Rattle.ed_notation.specs.Fold.{NotationState, word_with}
 use Rattle.ed_notation.specs.Spellings.{AreSpellable}
 use Rattle.ed_library.specs.Entries.{entry}
 use Rattle.ed_library.specs.Routines.{find, table_item}
@@ -18,10 +18,11 @@ use Rattle.ed_syntax.specs.declared.program.Setting.{Setting}
 use Rattle.ed_syntax.specs.declared.program.Statement.{Statement}
 use Rattle.ed_syntax.specs.declared.program.Statement.TheVariants.{Segment, Order, Number, Text}
 use Rattle.ed_syntax.specs.declared.program.Statement.TheVariants.{Long, Fetch, Enter, Rows}
-use Rattle.ed_symbols.specs.declared.homes.Home.{Home}
-use Rattle.ed_symbols.specs.declared.spots.Spot.{Spot}
-use Rattle.ed_symbols.specs.Places.{even_from, routine_places as places_of, passed, segment_at}
-use Rattle.ed_link.specs.Linked.{operand_number, long_words, laid, parameter_letters, set_to, presets, parameters}
+use Rattle.ed_symbols.specs.declared.symbols.Definition.{Definition}
+use Rattle.ed_symbols.specs.declared.location_counter.LocationCounter.{LocationCounter}
+use Rattle.ed_symbols.specs.Places.{even_from, routine_places as places_of, after_statement, segment_at}
+use Rattle.ed_link.specs.Linked.{operand_number, long_words, placed_words, parameter_letters, set_to, presets}
+use Rattle.ed_link.specs.Linked.{parameters}
 use Rattle.ed_link.specs.Linked.{image}
 use Rattle.ed_link.specs.Linked.{placed_by_line, first_place}
 use Rattle.ed_link.specs.Punch.{word_item, order_item, goes_by_theta, headed}
@@ -40,23 +41,25 @@ eq_same : (a : ℕ) → nat_eq a a ≡ true
 eq_same a = eq_true a a refl
 
 -- the state of the notation at a line
-pub record IsReady (theta : ℕ) (s : Spot) (note : Note) : Type 0 where
+pub record IsReady (theta : ℕ) (s : LocationCounter) (notation : NotationState) : Type 0 where
   pub base : s.base ≤ s.place
-  pub follows : nat_eq s.place s.base ≡ false → (note.directive ≡ 20480 + 2 * s.place) × (note.theta ≡ 2 * s.base)
-  pub theta_is : note.theta ≡ theta
+  pub follows : nat_eq s.place s.base ≡ false → (notation.directive ≡ 20480 + 2 * s.place)
+      × (notation.theta ≡ 2 * s.base)
+  pub theta_is : notation.theta ≡ theta
 
 -- θ after a line
-abbrev pub theta_behind : ℕ → ℕ → Spot → ℕ
+abbrev pub theta_behind : ℕ → ℕ → LocationCounter → ℕ
 theta_behind theta first next = if nat_lt first next.place then 2 * next.base else theta
 
 -- what the items of a line do
-pub record Line (z : Size) (words : List ℕ) (theta first : ℕ) (next : Spot) (note : Note) (is : List Item)
+pub record Line (z : Size) (words : List ℕ) (theta first : ℕ) (next : LocationCounter) (notation : NotationState)
+    (is : List Item)
     (ps : List (ℕ × ℕ))
     : Type 0 where
-  pub last : Note
-  pub passes : Passes z words note is last
+  pub last : NotationState
+  pub passes : Passes z words notation is last
   pub ready : IsReady (theta_behind theta first next) next last
-  pub placed : last.placed ≡ reverse ps ++ note.placed
+  pub placed : last.placed ≡ reverse ps ++ notation.placed
 
 -- what a `use` needs
 abbrev pub IsUse : Size → List Setting → ℕ → Option ℕ → Type 0
@@ -65,7 +68,7 @@ IsUse z ts base (Some r) = (0 < length (entry r).items) × (56 ≤ base) × (bas
     × AreKnown ts (entry r).items
 
 -- what a line other than an `enter` line needs
-abbrev pub IsSound : Size → Spot → Option Statement → Type 0
+abbrev pub IsSound : Size → LocationCounter → Option Statement → Type 0
 IsSound z s (Some (Order f o long)) = (56 ≤ s.place) × (s.place + 1 ≤ locations z)
 IsSound z s (Some (Number w)) = (56 ≤ s.place) × (s.place + 1 ≤ locations z)
 IsSound z s (Some (Text codes)) = (0 < length codes.items) × (56 ≤ s.place)
@@ -76,8 +79,8 @@ IsSound z s (Some (Enter name)) = ⊥
 IsSound z s st = Unit {0}
 
 -- the location after a `long`
-pub long_spot : (s : Spot) (v : ℕ)
-    → record s { place = s.place + length (long_words s.place v) } ≡ passed (Some (Long v)) s
+pub long_spot : (s : LocationCounter) (v : ℕ)
+    → record s { place = s.place + length (long_words s.place v) } ≡ after_statement (Some (Long v)) s
 long_spot s v = λ i. record s { place = by_test (nat_eq (s.place % 2) 1) refl i }
   where
     by_test : (t : Bool) → nat_eq (s.place % 2) 1 ≡ t
@@ -85,12 +88,13 @@ long_spot s v = λ i. record s { place = by_test (nat_eq (s.place % 2) 1) refl i
     by_test true e = let q : s.place % 2 ≡ 1 = grind (arith, nat_tests) in omega arith
     by_test false e = let q : s.place % 2 ≡ 0 = grind (arith, nat_tests) in omega arith
 
-module _ {z : Size} {words : List ℕ} {theta : ℕ} {s : Spot} {note : Note} (ready : IsReady theta s note)
-    (whole : length words ≡ 1024) (homes : List Home) where
+module _ {z : Size} {words : List ℕ} {theta : ℕ} {s : LocationCounter} {notation : NotationState}
+    (ready : IsReady theta s notation)
+    (whole : length words ≡ 1024) (symbols : List Definition) where
   -- a line of no words
-  quiet : Line z words theta s.place s note [] []
+  quiet : Line z words theta s.place s notation [] []
   quiet = record {
-    last = note;
+    last = notation;
     passes = stays;
     ready = record {
       base = ready.base;
@@ -102,13 +106,13 @@ module _ {z : Size} {words : List ℕ} {theta : ℕ} {s : Spot} {note : Note} (r
 
   -- a line of words in a segment
   in_segment : (is : List Item) (ws : List ℕ) → 0 < length is → 0 < length ws → s.place + length ws ≤ locations z
-      → Passes z words (at s.place s.base note.placed) is
-      (at (s.place + length ws) s.base (reverse (laid s.place ws) ++ note.placed))
-      → Line z words theta s.place (record s { place = s.place + length ws }) note
+      → Passes z words (at s.place s.base notation.placed) is
+      (at (s.place + length ws) s.base (reverse (placed_words s.place ws) ++ notation.placed))
+      → Line z words theta s.place (record s { place = s.place + length ws }) notation
       (headed is (nat_eq s.place s.base) s.base)
-      (laid s.place ws)
+      (placed_words s.place ws)
   in_segment is ws some more high p = record {
-    last = at (s.place + length ws) s.base (reverse (laid s.place ws) ++ note.placed);
+    last = at (s.place + length ws) s.base (reverse (placed_words s.place ws) ++ notation.placed);
     passes = headed_pass s.place s.base (nat_eq s.place s.base) refl (omega arith) some ready.follows p;
     ready = record {
       base = let b = ready.base in omega arith;
@@ -122,30 +126,31 @@ module _ {z : Size} {words : List ℕ} {theta : ℕ} {s : Spot} {note : Note} (r
   numbered : (ws : List ℕ) → AreSpellable (headed (map word_item ws) (nat_eq s.place s.base) s.base) → 0 < length ws
       → 56 ≤ s.place
       → s.place + length ws ≤ locations z
-      → Line z words theta s.place (record s { place = s.place + length ws }) note
-      (headed (map word_item ws) (nat_eq s.place s.base) s.base) (laid s.place ws)
+      → Line z words theta s.place (record s { place = s.place + length ws }) notation
+      (headed (map word_item ws) (nat_eq s.place s.base) s.base) (placed_words s.place ws)
   numbered ws are some low high =
       in_segment (map word_item ws) ws (let l = length-map ws word_item in omega arith) some high
       (laid_pass s.base ws s.place (unheaded (map word_item ws) _ _ are) (omega arith) high)
 
   use_line : (ts : List Setting) (base : ℕ) (found : Option ℕ) (segments : ℕ) → IsUse z ts base found
-      → AreSpellable (use_items homes ts base found)
+      → AreSpellable (use_items symbols ts base found)
       → Line z words theta base
-      (record { place = base + places_of found; base = base; segments = segments; inside = false }) note
-      (use_items homes ts base found) (presets homes ts ++ image homes ts base found)
+      (record { place = base + places_of found; base = base; segments = segments; inside = false }) notation
+      (use_items symbols ts base found) (presets symbols ts ++ image symbols ts base found)
   use_line ts base None segments is are = absurd is
   use_line ts base (Some r) segments is are =
       let rows = (entry r).items in
-      let js = flat_map (λ c. preset_items homes (set_to ts c) c) parameter_letters in
+      let js = flat_map (λ c. preset_items symbols (set_to ts c) c) parameter_letters in
       let sp = split js (headed (routine_items (Some r)) true base) are in
-      let a = all {z = z} {words = words} whole homes ts parameter_letters refl note sp.0 in
+      let a = all {z = z} {words = words} whole symbols ts parameter_letters refl notation sp.0 in
       let m = a.0.next in
-      let held = holds words homes ts m.placed a.1 in
-      let img = laid base (map (λ row. routine_word (parameters homes ts) base (table_item row)) rows) in
+      let held = holds words symbols ts m.placed a.1 in
+      let img = placed_words base (map (λ row. routine_word (parameters symbols ts) base (table_item row)) rows) in
       let last = at (base + length rows) base (reverse img ++ m.placed) in
       let p = image_pass {z = z} rows base base is.3 is.1 is.2 held in
       let l : 0 < length (map table_item rows) = let e = length-map rows table_item in omega (arith, is.0) in
-      let h = headed_pass {z = z} {note = m} base base true (eq_same base) (omega (arith, is.0, is.2)) l (λ e. cc) p in
+      let h = headed_pass {z = z} {notation = m} base base true (eq_same base) (omega (arith, is.0, is.2)) l
+      (λ e. cc) p in
       record {
         last = last;
         passes = join a.0.passes h;
@@ -154,14 +159,15 @@ module _ {z : Size} {words : List ℕ} {theta : ℕ} {s : Spot} {note : Note} (r
           follows = λ e. (refl, refl);
           theta_is = let e = lt_true base (base + length rows) (omega (arith, is.0)) in rw e refl;
         };
-        placed = ap (λ x. reverse img ++ x) a.0.placed ∙ reversed (presets homes ts) img note.placed;
+        placed = ap (λ x. reverse img ++ x) a.0.placed ∙ reversed (presets symbols ts) img notation.placed;
       }
 
-  pub line : (st : Option Statement) → IsSound z s st → AreSpellable (items_of homes s st)
-      → Line z words theta (first_place st s) (passed st s) note (items_of homes s st) (placed_by_line homes s st)
+  pub line : (st : Option Statement) → IsSound z s st → AreSpellable (items_of symbols s st)
+      → Line z words theta (first_place st s) (after_statement st s) notation (items_of symbols s st)
+      (placed_by_line symbols s st)
   line None is are = quiet
   line (Some (Segment name base)) is are = record {
-    last = note;
+    last = notation;
     passes = stays;
     ready = record {
       base = omega arith;
@@ -171,23 +177,24 @@ module _ {z : Size} {words : List ℕ} {theta : ℕ} {s : Spot} {note : Note} (r
     placed = refl;
   }
   line (Some (Order f o long)) is are =
-      let w = word_with f (operand_number homes (segment_at s) o) false (digit long) in
-      in_segment (order_item (goes_by_theta homes s o) s.base f (operand_number homes (segment_at s) o) long ∷ [])
+      let w = word_with f (operand_number symbols (segment_at s) o) false (digit long) in
+      in_segment (order_item (goes_by_theta symbols s o) s.base f (operand_number symbols (segment_at s) o) long ∷ [])
       (w ∷ [])
       (omega arith) (omega arith) is.1
-      (order_pass homes s f o long (omega (arith, is.0)) (omega (arith, is.1)))
+      (order_pass symbols s f o long (omega (arith, is.0)) (omega (arith, is.1)))
   line (Some (Number w)) is are = numbered (w ∷ []) are (omega arith) is.0 is.1
   line (Some (Text codes)) is are =
       let l = length-map codes.items (λ c. 4096 * c) in
-      subst (λ (x : Spot). Line z words theta s.place x note (items_of homes s (Some (Text codes)))
-      (placed_by_line homes s (Some (Text codes))))
+      subst (λ (x : LocationCounter). Line z words theta s.place x notation (items_of symbols s (Some (Text codes)))
+      (placed_by_line symbols s (Some (Text codes))))
       (λ i. record s { place = s.place + l i })
       (numbered (map (λ c. 4096 * c) codes.items) are (omega (arith, l, is.0)) is.1 (omega (arith, l, is.2)))
   line (Some (Long v)) is are =
       let e = long_spot s v in
-      let p : s.place + length (long_words s.place v) ≡ even_from s.place + 2 = ap (λ (x : Spot). x.place) e in
-      subst (λ (x : Spot). Line z words theta s.place x note (items_of homes s (Some (Long v)))
-      (placed_by_line homes s (Some (Long v))))
+      let p : s.place + length (long_words s.place v) ≡ even_from s.place + 2 =
+      ap (λ (x : LocationCounter). x.place) e in
+      subst (λ (x : LocationCounter). Line z words theta s.place x notation (items_of symbols s (Some (Long v)))
+      (placed_by_line symbols s (Some (Long v))))
       e (numbered (long_words s.place v) are (omega (arith, p)) is.0 (omega (arith, p, is.1)))
   line (Some (Fetch routine name ts)) is are =
       use_line ts.items (even_from s.place) (find routine) (s.segments + 1) is are

@@ -12,15 +12,15 @@ use Rattle.ed_words.specs.Words.{digit}
 use Rattle.ed_notation.specs.declared.item.Item.{Item}
 use Rattle.ed_notation.specs.declared.kind.RowKind.TheVariants.{Letter}
 use Rattle.ed_notation.specs.Items.{row_kind, ends}
-use Rattle.ed_notation.specs.Fold.{Note, item_word, word_with}
+use Rattle.ed_notation.specs.Fold.{NotationState, item_word, word_with}
 use Rattle.ed_notation.specs.Spellings.{canonical, is_spellable, AreSpellable}
 use Rattle.ed_syntax.specs.declared.program.Operand.{Operand}
 use Rattle.ed_syntax.specs.declared.program.Operand.TheVariants.{Number, Label, Two}
-use Rattle.ed_symbols.specs.declared.homes.Home.{Home}
-use Rattle.ed_symbols.specs.declared.spots.Spot.{Spot}
+use Rattle.ed_symbols.specs.declared.symbols.Definition.{Definition}
+use Rattle.ed_symbols.specs.declared.location_counter.LocationCounter.{LocationCounter}
 use Rattle.ed_symbols.specs.Places.{segment_at}
-use Rattle.ed_symbols.specs.Names.{home_of}
-use Rattle.ed_link.specs.Linked.{operand_number, laid}
+use Rattle.ed_symbols.specs.Names.{definition_of}
+use Rattle.ed_link.specs.Linked.{operand_number, placed_words}
 use Rattle.ed_link.specs.Punch.{word_item, order_item, goes_by_theta, is_in, headed}
 use Rattle.ed_notation.proofs.Steps.{placing}
 use Rattle.ed_words.proofs.Numbers.{lt_of, le_of, eq_of}
@@ -39,11 +39,11 @@ split (i ∷ is) js are = let s = split is js are.1 in ((are.0, s.0), s.1)
 
 -- words one after the other
 
-word_is : (words : List ℕ) (note : Note) (w : ℕ) (odd : Bool) → nat_eq (w % 2) 1 ≡ odd → w < 2 ^ 17
-    → (item_word words note (word_item w) ≡ w) × (row_kind (word_item w).end ≡ Letter)
+word_is : (words : List ℕ) (notation : NotationState) (w : ℕ) (odd : Bool) → nat_eq (w % 2) 1 ≡ odd → w < 2 ^ 17
+    → (item_word words notation (word_item w) ≡ w) × (row_kind (word_item w).end ≡ Letter)
     × (nat_eq (word_item w).end 13 ≡ false)
-word_is words note w true e h = let m : w % 2 ≡ 1 = eq_of _ _ e in (rw e (omega arith), rw e refl, rw e refl)
-word_is words note w false e h = let m : w % 2 ≡ 0 = grind (arith, nat_tests)
+word_is words notation w true e h = let m : w % 2 ≡ 1 = eq_of _ _ e in (rw e (omega arith), rw e refl, rw e refl)
+word_is words notation w false e h = let m : w % 2 ≡ 0 = grind (arith, nat_tests)
     in (rw e (omega arith), rw e refl, rw e refl)
 
 -- a word is below 2^17
@@ -58,24 +58,24 @@ placed_more p ps m = sym (ap (λ x. x ++ m) (reverse-append (p ∷ []) ps) ∙ a
 pub laid_pass : {z : Size} {words : List ℕ} {placed : List (ℕ × ℕ)} (base : ℕ) (ws : List ℕ) (place : ℕ)
     → AreSpellable (map word_item ws) → 44 ≤ place → place + length ws ≤ locations z
     → Passes z words (at place base placed) (map word_item ws)
-    (at (place + length ws) base (reverse (laid place ws) ++ placed))
+    (at (place + length ws) base (reverse (placed_words place ws) ++ placed))
 laid_pass base [] place are low high = let e : place + 0 ≡ place = omega arith in rw e stays
 laid_pass {z} {words} {placed} base (w ∷ ws) place are low high =
     let k = word_is words (at place base placed) w (nat_eq (w % 2) 1) refl (small w are.0) in
     let e : place + suc (length ws) ≡ place + 1 + length ws = omega arith in
     let r = laid_pass {placed = (place, w) ∷ placed} base ws (place + 1) are.1 (omega arith) (omega arith) in
     goes (placing z words place k.1 refl low (omega arith) k.0) k.2
-    (subst (λ (n : Note). Passes z words (at (place + 1) base ((place, w) ∷ placed)) (map word_item ws) n)
-    (λ i. at (sym e i) base (placed_more (place, w) (laid (place + 1) ws) placed i)) r)
+    (subst (λ (n : NotationState). Passes z words (at (place + 1) base ((place, w) ∷ placed)) (map word_item ws) n)
+    (λ i. at (sym e i) base (placed_more (place, w) (placed_words (place + 1) ws) placed i)) r)
 
 -- an order
 
-theta_base : (homes : List Home) (s : Spot) (o : Operand) → goes_by_theta homes s o ≡ true
-    → s.base ≤ operand_number homes (segment_at s) o
-theta_base homes s (Number n) h = cc
-theta_base homes s (Label name plus) h =
-    le_of _ _ (and_parts (is_in (segment_at s) (home_of (segment_at s) name homes)) _ h).1
-theta_base homes s (Two first second minus) h = cc
+theta_base : (symbols : List Definition) (s : LocationCounter) (o : Operand) → goes_by_theta symbols s o ≡ true
+    → s.base ≤ operand_number symbols (segment_at s) o
+theta_base symbols s (Number n) h = cc
+theta_base symbols s (Label name plus) h =
+    le_of _ _ (and_parts (is_in (segment_at s) (definition_of (segment_at s) name symbols)) _ h).1
+theta_base symbols s (Two first second minus) h = cc
 
 -- it ends with a code letter
 order_letter : (b : Bool) (base f n : ℕ) (long : Bool)
@@ -85,18 +85,19 @@ order_letter false base f n true = (refl, refl)
 order_letter false base f n false = (refl, refl)
 
 -- an order is placed
-pub order_pass : {z : Size} {words : List ℕ} {placed : List (ℕ × ℕ)} (homes : List Home) (s : Spot) (f : ℕ)
+pub order_pass : {z : Size} {words : List ℕ} {placed : List (ℕ × ℕ)} (symbols : List Definition)
+    (s : LocationCounter) (f : ℕ)
     (o : Operand) (long : Bool)
     → 44 ≤ s.place → s.place < locations z
     → Passes z words (at s.place s.base placed)
-    (order_item (goes_by_theta homes s o) s.base f (operand_number homes (segment_at s) o) long ∷ [])
-    (at (s.place + 1) s.base ((s.place, word_with f (operand_number homes (segment_at s) o) false (digit long)) ∷
+    (order_item (goes_by_theta symbols s o) s.base f (operand_number symbols (segment_at s) o) long ∷ [])
+    (at (s.place + 1) s.base ((s.place, word_with f (operand_number symbols (segment_at s) o) false (digit long)) ∷
     placed))
-order_pass {z} {words} {placed} homes s f o long low high =
-    let n = operand_number homes (segment_at s) o in
-    let b = goes_by_theta homes s o in
+order_pass {z} {words} {placed} symbols s f o long low high =
+    let n = operand_number symbols (segment_at s) o in
+    let b = goes_by_theta symbols s o in
     let letter = order_letter b s.base f n long in
-    goes (placing z words s.place letter.0 refl low high (its_word n b long (theta_base homes s o))) letter.1 stays
+    goes (placing z words s.place letter.0 refl low high (its_word n b long (theta_base symbols s o))) letter.1 stays
   where
     -- its word, by θ or by its number
     its_word : (n : ℕ) (b long : Bool) → (b ≡ true → s.base ≤ n)
@@ -107,23 +108,24 @@ order_pass {z} {words} {placed} homes s f o long low high =
 
 -- items after the head of their segment
 
-pub headed_pass : {z : Size} {words : List ℕ} {note last : Note} {is : List Item} (place base : ℕ) (first : Bool)
+pub headed_pass : {z : Size} {words : List ℕ} {notation last : NotationState} {is : List Item} (place base : ℕ)
+    (first : Bool)
     → nat_eq place base ≡ first → place < locations z → 0 < length is
-    → (first ≡ false → (note.directive ≡ 20480 + 2 * place) × (note.theta ≡ 2 * base))
-    → Passes z words (at place base note.placed) is last → Passes z words note (headed is first base) last
+    → (first ≡ false → (notation.directive ≡ 20480 + 2 * place) × (notation.theta ≡ 2 * base))
+    → Passes z words (at place base notation.placed) is last → Passes z words notation (headed is first base) last
 headed_pass {is = []} place base first e high some follows p = absurd (omega arith)
-headed_pass {z} {words} {note} {last} {is = i ∷ is} place base true e high some follows p =
+headed_pass {z} {words} {notation} {last} {is = i ∷ is} place base true e high some follows p =
     let m = most z in
     let q : place ≡ base = eq_of _ _ e in
-    join (heading base (omega arith)) (subst (λ (n : ℕ). Passes z words (at n base note.placed) (i ∷ is) last) q p)
-headed_pass {z} {words} {note} {last} {is = i ∷ is} place base false e high some follows p =
+    join (heading base (omega arith)) (subst (λ (n : ℕ). Passes z words (at n base notation.placed) (i ∷ is) last) q p)
+headed_pass {z} {words} {notation} {last} {is = i ∷ is} place base false e high some follows p =
     let f = follows refl in
-    let n : at place base note.placed ≡ note = λ k. record {
+    let n : at place base notation.placed ≡ notation = λ k. record {
       directive = sym (f.0) k;
       theta = sym (f.1) k;
-      placed = note.placed;
+      placed = notation.placed;
     } in
-    subst (λ (x : Note). Passes z words x (i ∷ is) last) n p
+    subst (λ (x : NotationState). Passes z words x (i ∷ is) last) n p
 
 -- items after a head can be spelled
 pub unheaded : (is : List Item) (first : Bool) (base : ℕ) → AreSpellable (headed is first base) → AreSpellable is

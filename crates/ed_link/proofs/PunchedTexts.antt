@@ -27,7 +27,7 @@ use Rattle.ed_syntax.specs.declared.program.Statement.TheVariants.{Rows}
 use Rattle.ed_syntax.proofs.Formed.{program_formed}
 use Rattle.ed_syntax.proofs.PartTexts.{each_append}
 use Rattle.ed_syntax.proofs.SourceLaws.{program_is_read}
-use Rattle.ed_link.specs.Linked.{data_behind, data_rows}
+use Rattle.ed_link.specs.Linked.{data_after, data_rows}
 use Rattle.ed_link.specs.Punch.{punched}
 use Rattle.ed_link.specs.Refusals.{IsAcceptedAs}
 use Rattle.ed_link.specs.Tapes.{after_text, punched_rows, tape}
@@ -66,11 +66,11 @@ statement_codes two (Some (Rows codes)) formed = (and_parts _ _ (formed (Rows co
 statement_codes two st formed = refl
 
 data_codes : (two : Bool) (lines : List Line) → list_all (is_line two) lines ≡ true
-    → list_all (λ c. nat_lt c 32) (data_behind lines) ≡ true
+    → list_all (λ c. nat_lt c 32) (data_after lines) ≡ true
 data_codes two [] h = refl
 data_codes two (l ∷ lines) h =
     let p = and_parts _ _ h in
-    each_append (λ c. nat_lt c 32) (data_rows l.statement) (data_behind lines)
+    each_append (λ c. nat_lt c 32) (data_rows l.statement) (data_after lines)
     (statement_codes two l.statement (formed_statement two l.number l.label l.statement p.0)) (data_codes two lines p.1)
 
 -- ---- the whole text
@@ -79,14 +79,14 @@ tables : list_all is_ready catalogue ≡ true
 tables = refl
 
 pub text_is_tape : (z : Size) (source : Text) (lines : List Line) → IsAcceptedAs z source lines
-    → reading (text_of (canonicals (punched lines)) ++ after_text (data_behind lines)) ≡ rows (tape lines)
+    → reading (text_of (canonicals (punched lines)) ++ after_text (data_after lines)) ≡ rows (tape lines)
 text_is_tape z source lines a =
     let two = is_two (lines_of source) in
     let formed = (program_formed two (lines_of source) lines (program_is_read source a.two lines a.says)).formed in
     let spellable =
     can_be_spelled tables z two lines (accepted_is_read z source lines a) formed (replicate 1024 0)
     (length-replicate {A = ℕ} 1024 0) in
-    both_read (text_of (canonicals (punched lines))) (after_text (data_behind lines)) (punched_rows lines)
-    (data_behind lines)
+    both_read (text_of (canonicals (punched lines))) (after_text (data_after lines)) (punched_rows lines)
+    (data_after lines)
     (text_reads (canonicals (punched lines)) (are_written (punched lines) spellable))
-    (after_spells (data_behind lines) (data_codes two lines formed))
+    (after_spells (data_after lines) (data_codes two lines formed))

@@ -22,8 +22,8 @@ use Rattle.ed_syntax.specs.declared.program.Setting.{Setting}
 use Rattle.ed_syntax.specs.declared.program.Statement.{Statement}
 use Rattle.ed_syntax.specs.declared.program.Statement.TheVariants.{Order, Number, Text}
 use Rattle.ed_syntax.specs.declared.program.Statement.TheVariants.{Long, Fetch, Enter}
-use Rattle.ed_symbols.specs.declared.homes.Home.{Home}
-use Rattle.ed_symbols.specs.declared.spots.Spot.{Spot}
+use Rattle.ed_symbols.specs.declared.symbols.Definition.{Definition}
+use Rattle.ed_symbols.specs.declared.location_counter.LocationCounter.{LocationCounter}
 use Rattle.ed_symbols.specs.Places.{even_from, segment_at}
 use Rattle.ed_symbols.specs.Faults.{operand_value}
 use Rattle.ed_link.specs.Linked.{parameter_letters, long_words, operand_number, order_number, set_to}
@@ -98,20 +98,25 @@ order_spelled : (theta : Bool) (base f n : ℕ) (long : Bool) → f < 32 → n �
 order_spelled true base f n long low few = spelled f (n - base) 18 long low (omega (arith, few)) refl
 order_spelled false base f n long low few = spelled f n (ending long) false low few (ending_ends long f n false)
 
-preset_spelled : (homes : List Home) (o : Option Operand) (c : ℕ) → c ≤ 26 → AreSpellable (preset_items homes o c)
-preset_spelled homes None c h = tt
-preset_spelled homes (Some o) c h = (
+preset_spelled : (symbols : List Definition) (o : Option Operand) (c : ℕ) → c ≤ 26
+    → AreSpellable (preset_items symbols o c)
+preset_spelled symbols None c h = tt
+preset_spelled symbols (Some o) c h = (
   spelled 5 (24 + c) 14 false (omega arith) (omega (arith, h)) refl,
-  (spelled 0 (operand_number homes None o) 17 false (omega arith) (number_few (operand_value homes None o)) refl, tt),
+  (
+    spelled 0 (operand_number symbols None o) 17 false (omega arith)
+        (number_few (operand_value symbols None o)) refl,
+    tt,
+  ),
 )
 
-presets_spelled : (homes : List Home) (ts : List Setting) (cs : List ℕ) → list_all (λ c. nat_le c 26) cs ≡ true
-    → AreSpellable (flat_map (λ c. preset_items homes (set_to ts c) c) cs)
-presets_spelled homes ts [] h = tt
-presets_spelled homes ts (c ∷ cs) h =
+presets_spelled : (symbols : List Definition) (ts : List Setting) (cs : List ℕ) → list_all (λ c. nat_le c 26) cs ≡ true
+    → AreSpellable (flat_map (λ c. preset_items symbols (set_to ts c) c) cs)
+presets_spelled symbols ts [] h = tt
+presets_spelled symbols ts (c ∷ cs) h =
     let p = and_parts (nat_le c 26) (list_all (λ x. nat_le x 26) cs) h in
-    joined (preset_items homes (set_to ts c) c) (flat_map (λ x. preset_items homes (set_to ts x) x) cs)
-    (preset_spelled homes (set_to ts c) c (le_of c 26 p.0)) (presets_spelled homes ts cs p.1)
+    joined (preset_items symbols (set_to ts c) c) (flat_map (λ x. preset_items symbols (set_to ts x) x) cs)
+    (preset_spelled symbols (set_to ts c) c (le_of c 26 p.0)) (presets_spelled symbols ts cs p.1)
 
 -- ---- routines
 
@@ -131,52 +136,52 @@ routine_spelled tables z ts base text (Some r) e held =
     let few = held.2 in
     (omega (arith, m, few), rows_spelled (entry r).parameters (entry r).items (rows_are_ready tables text r e))
 
-use_spelled : (homes : List Home) (ts : List Setting) (base : ℕ) (found : Option ℕ)
-    → (base ≤ 32767) × AreSpellable (routine_items found) → AreSpellable (use_items homes ts base found)
-use_spelled homes ts base found r =
-    joined (flat_map (λ c. preset_items homes (set_to ts c) c) parameter_letters)
+use_spelled : (symbols : List Definition) (ts : List Setting) (base : ℕ) (found : Option ℕ)
+    → (base ≤ 32767) × AreSpellable (routine_items found) → AreSpellable (use_items symbols ts base found)
+use_spelled symbols ts base found r =
+    joined (flat_map (λ c. preset_items symbols (set_to ts c) c) parameter_letters)
     (headed (routine_items found) true base)
-    (presets_spelled homes ts parameter_letters refl) (headed_spelled (routine_items found) true base r.0 r.1)
+    (presets_spelled symbols ts parameter_letters refl) (headed_spelled (routine_items found) true base r.0 r.1)
 
 -- ---- lines
 
 -- a line other than an `enter` line, in a segment that begins at its location or below
 pub line_spelled : list_all is_ready catalogue ≡ true
-    → (z : Size) (homes : List Home) (s : Spot) (st : Option Statement)
+    → (z : Size) (symbols : List Definition) (s : LocationCounter) (st : Option Statement)
     → ((x : Statement) → st ≡ Some x → (two : Bool) × IsStatement two x) → IsSound z s st → s.base ≤ s.place
-    → AreSpellable (items_of homes s st)
-line_spelled tables z homes s (Some (Enter name)) formed sound base = absurd sound
-line_spelled tables z homes s (Some (Fetch routine name ts)) formed sound base =
-    use_spelled homes ts.items (even_from s.place) (find routine)
+    → AreSpellable (items_of symbols s st)
+line_spelled tables z symbols s (Some (Enter name)) formed sound base = absurd sound
+line_spelled tables z symbols s (Some (Fetch routine name ts)) formed sound base =
+    use_spelled symbols ts.items (even_from s.place) (find routine)
     (routine_spelled tables z ts.items (even_from s.place) routine (find routine) refl sound)
-line_spelled tables z homes s (Some (Order f o long)) formed sound base =
+line_spelled tables z symbols s (Some (Order f o long)) formed sound base =
     let fact = (formed (Order f o long) refl).1 in
     let m = most z in
-    headed_spelled (order_item (goes_by_theta homes s o) s.base f (operand_number homes (segment_at s) o) long ∷ [])
+    headed_spelled (order_item (goes_by_theta symbols s o) s.base f (operand_number symbols (segment_at s) o) long ∷ [])
     (nat_eq s.place s.base)
     s.base (omega (arith, m, base, sound.1)) (
-      order_spelled (goes_by_theta homes s o) s.base f (operand_number homes (segment_at s) o) long fact.0
-          (number_few (operand_value homes (segment_at s) o)),
+      order_spelled (goes_by_theta symbols s o) s.base f (operand_number symbols (segment_at s) o) long fact.0
+          (number_few (operand_value symbols (segment_at s) o)),
       tt,
     )
-line_spelled tables z homes s (Some (Number w)) formed sound base =
+line_spelled tables z symbols s (Some (Number w)) formed sound base =
     let fact = (formed (Number w) refl).1 in
     let m = most z in
     headed_spelled (word_item w ∷ []) (nat_eq s.place s.base) s.base (omega (arith, m, base, sound.1))
     (word_spelled w fact, tt)
-line_spelled tables z homes s (Some (Text codes)) formed sound base =
+line_spelled tables z symbols s (Some (Text codes)) formed sound base =
     let fact = (formed (Text codes) refl).1 in
     let m = most z in
     headed_spelled (map word_item (map (λ c. 4096 * c) codes.items)) (nat_eq s.place s.base) s.base
     (omega (arith, m, base, sound.2))
     (text_spelled codes.items fact.1)
-line_spelled tables z homes s (Some (Long v)) formed sound base =
+line_spelled tables z symbols s (Some (Long v)) formed sound base =
     let fact = (formed (Long v) refl).1 in
     let m = most z in
     headed_spelled (map word_item (long_words s.place v)) (nat_eq s.place s.base) s.base
     (omega (arith, m, base, sound.1))
     (long_spelled (nat_eq (s.place % 2) 1) v fact.1)
-line_spelled tables z homes s st formed sound base = tt
+line_spelled tables z symbols s st formed sound base = tt
 
 -- the item that aims an `enter`
 pub aiming_spelled : (place : ℕ) → place ≤ 32767 → AreSpellable (item_with 3 place false 14 ∷ [])

@@ -4,25 +4,25 @@ use Rattle.ed_library.specs.Entries.{entry}
 use Rattle.ed_library.specs.Routines.{table_item, place_count}
 use Rattle.ed_library.specs.Images.{routine_word}
 use Rattle.ed_syntax.specs.declared.program.Setting.{Setting}
-use Rattle.ed_symbols.specs.declared.homes.Home.{Home}
+use Rattle.ed_symbols.specs.declared.symbols.Definition.{Definition}
 use Rattle.ed_symbols.specs.Places.{routine_places}
-use Rattle.ed_link.specs.Linked.{image, laid, parameters, presets}
+use Rattle.ed_link.specs.Linked.{image, placed_words, parameters, presets}
 use Rattle.ed_link.specs.Tables.{put_all}
 use Rattle.ed_link.proofs.Lengths.{put_all_append, put_all_length}
 
 -- the parameters and then the routine are the words of the `use`
 pub use_words : {before behind : List (Option ℕ)} {r : ℕ} {found : Option ℕ} {ps : List ℕ} (table : List (Option ℕ))
-    (homes : List Home) (ts : List Setting) (base : ℕ)
-    → behind ≡ put_all before (laid base (map (λ row. routine_word ps base (table_item row)) (entry r).items))
-    → ps ≡ parameters homes ts
-    → before ≡ put_all table (presets homes ts) → Some r ≡ found
-    → behind ≡ put_all table (presets homes ts ++ image homes ts base found)
-use_words {before} {behind} {r} {ps = ps} table homes ts base h p q f =
-    subst (λ (x : Option ℕ). behind ≡ put_all table (presets homes ts ++ image homes ts base x)) f
+    (symbols : List Definition) (ts : List Setting) (base : ℕ)
+    → behind ≡ put_all before (placed_words base (map (λ row. routine_word ps base (table_item row)) (entry r).items))
+    → ps ≡ parameters symbols ts
+    → before ≡ put_all table (presets symbols ts) → Some r ≡ found
+    → behind ≡ put_all table (presets symbols ts ++ image symbols ts base found)
+use_words {before} {behind} {r} {ps = ps} table symbols ts base h p q f =
+    subst (λ (x : Option ℕ). behind ≡ put_all table (presets symbols ts ++ image symbols ts base x)) f
     (h ∙ ap (λ (x : List ℕ). put_all before
-    (laid base (map (λ row. routine_word x base (table_item row)) (entry r).items))) p
-    ∙ ap (λ (x : List (Option ℕ)). put_all x (image homes ts base (Some r))) q
-    ∙ put_all_append table (presets homes ts) (image homes ts base (Some r)))
+    (placed_words base (map (λ row. routine_word x base (table_item row)) (entry r).items))) p
+    ∙ ap (λ (x : List (Option ℕ)). put_all x (image symbols ts base (Some r))) q
+    ∙ put_all_append table (presets symbols ts) (image symbols ts base (Some r)))
 
 -- the routine's locations are within the table, also after the parameters
 pub use_fits : {before : List (Option ℕ)} {r : ℕ} {found : Option ℕ} (table : List (Option ℕ)) (ps : List (ℕ × ℕ))

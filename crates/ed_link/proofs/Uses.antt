@@ -14,7 +14,7 @@ use Rattle.ed_words.specs.Sizes.{locations}
 use Rattle.ed_notation.specs.declared.item.Item.{Item}
 use Rattle.ed_notation.specs.declared.kind.RowKind.TheVariants.{Letter}
 use Rattle.ed_notation.specs.Items.{row_kind}
-use Rattle.ed_notation.specs.Fold.{Note, over, value_of, word_with, item_word as word_in_fold}
+use Rattle.ed_notation.specs.Fold.{NotationState, over, value_of, word_with, item_word as word_in_fold}
 use Rattle.ed_notation.specs.Spellings.{is_spellable, AreSpellable}
 use Rattle.ed_notation.proofs.Contents.{length-over}
 use Rattle.ed_library.specs.Routines.{table_item}
@@ -22,8 +22,8 @@ use Rattle.ed_library.specs.Images.{routine_word, parameter_store}
 use Rattle.ed_library.proofs.Letters.{value_of_parameter}
 use Rattle.ed_syntax.specs.declared.program.Operand.{Operand}
 use Rattle.ed_syntax.specs.declared.program.Setting.{Setting}
-use Rattle.ed_symbols.specs.declared.homes.Home.{Home}
-use Rattle.ed_link.specs.Linked.{operand_number, laid, parameter_letters, set_to, preset, parameter, parameters}
+use Rattle.ed_symbols.specs.declared.symbols.Definition.{Definition}
+use Rattle.ed_link.specs.Linked.{operand_number, placed_words, parameter_letters, set_to, preset, parameter, parameters}
 use Rattle.ed_link.specs.Punch.{item_with, preset_items}
 use Rattle.ed_words.proofs.Numbers.{eq_false, le_of, lt_of}
 use Rattle.ed_words.proofs.SizeLemmas.{least}
@@ -70,11 +70,11 @@ reversed ps qs m = sym (append_assoc (reverse qs) (reverse ps) m) ∙ ap (λ x. 
 
 -- ---- preset parameters
 
-module _ (words : List ℕ) (homes : List Home) (ts : List Setting) where
+module _ (words : List ℕ) (symbols : List Definition) (ts : List Setting) where
   -- the word of a letter that is set is in its location
   abbrev pub IsHeld : List (ℕ × ℕ) → ℕ → Type 0
   IsHeld placed c = (o : Operand) → set_to ts c ≡ Some o
-      → get_or (over placed words) (24 + c) 0 ≡ 2 * operand_number homes None o
+      → get_or (over placed words) (24 + c) 0 ≡ 2 * operand_number symbols None o
 
   abbrev pub AreHeld : List (ℕ × ℕ) → List ℕ → Type 0
   AreHeld placed [] = Unit {0}
@@ -96,12 +96,12 @@ module _ (words : List ℕ) (homes : List Home) (ts : List Setting) where
   still placed p w high h = record { held = λ c l m. put_other {p = p} placed w c (omega arith) (h.held c l m) }
 
   -- parameters are set
-  pub record Sets (z : Size) (note : Note) (is : List Item) (ps : List (ℕ × ℕ)) : Type 0 where
-    pub next : Note
-    pub passes : Passes z words note is next
-    pub theta : next.theta ≡ note.theta
-    pub placed : next.placed ≡ reverse ps ++ note.placed
-    pub keeps : (d : ℕ) → IsHeld note.placed d → IsHeld next.placed d
+  pub record Sets (z : Size) (notation : NotationState) (is : List Item) (ps : List (ℕ × ℕ)) : Type 0 where
+    pub next : NotationState
+    pub passes : Passes z words notation is next
+    pub theta : next.theta ≡ notation.theta
+    pub placed : next.placed ≡ reverse ps ++ notation.placed
+    pub keeps : (d : ℕ) → IsHeld notation.placed d → IsHeld next.placed d
 
 -- whether each code is from 20 to 31
 abbrev pub are_letters : List ℕ → Bool
@@ -110,69 +110,79 @@ are_letters cs = list_all (λ c. nat_le 20 c && nat_lt c 32) cs
 same_operand : (a b : Operand) → Some a ≡ Some b → a ≡ b
 same_operand a b e = cc
 
-module _ {z : Size} {words : List ℕ} (whole : length words ≡ 1024) (homes : List Home) (ts : List Setting) where
-  one : (c : ℕ) (found : Option Operand) → set_to ts c ≡ found → 20 ≤ c → c < 32 → (note : Note)
-      → AreSpellable (preset_items homes found c)
-      → (s : Sets words homes ts z note (preset_items homes found c) (preset homes found c))
-      × IsHeld words homes ts s.next.placed c
-  one c None e low high note are = (
-    record { next = note; passes = stays; theta = refl; placed = refl; keeps = λ d h. h },
+module _ {z : Size} {words : List ℕ} (whole : length words ≡ 1024) (symbols : List Definition) (ts : List Setting) where
+  one : (c : ℕ) (found : Option Operand) → set_to ts c ≡ found → 20 ≤ c → c < 32 → (notation : NotationState)
+      → AreSpellable (preset_items symbols found c)
+      → (s : Sets words symbols ts z notation (preset_items symbols found c) (preset symbols found c))
+      × IsHeld words symbols ts s.next.placed c
+  one c None e low high notation are = (
+    record { next = notation; passes = stays; theta = refl; placed = refl; keeps = λ d h. h },
     λ o f. let q =
         sym e ∙ f in cc,
   )
-  one c (Some o) e low high note are =
-      let n = operand_number homes None o in
+  one c (Some o) e low high notation are =
+      let n = operand_number symbols None o in
       let m : n ≤ 32767 = spelled_number (item_with 0 n false 17) are.1.0 in
       let l = least z in
-      let aimed : Note = record note { directive = 20480 + 2 * (24 + c) } in
+      let aimed : NotationState = record notation { directive = 20480 + 2 * (24 + c) } in
       let w : word_in_fold words aimed (item_with 0 n false 17) ≡ 2 * n = omega arith in
-      let next : Note = record {
+      let next : NotationState = record {
         directive = 20480 + 2 * (24 + c + 1);
-        theta = note.theta;
+        theta = notation.theta;
         placed = (24 + c, 2 * n)
-            ∷ note.placed;
+            ∷ notation.placed;
       } in
-      let here : IsHeld words homes ts next.placed c = λ p f.
-      let inside : 24 + c < length (over note.placed words) = omega (arith, length-over note.placed words) in
-      get_or-set_same (over note.placed words) (24 + c) (2 * n) 0 inside
-      ∙ ap (λ (x : Operand). 2 * operand_number homes None x) (same_operand o p (sym e ∙ f)) in (
+      let here : IsHeld words symbols ts next.placed c = λ p f.
+      let inside : 24 + c < length (over notation.placed words) = omega (arith, length-over notation.placed words) in
+      get_or-set_same (over notation.placed words) (24 + c) (2 * n) 0 inside
+      ∙ ap (λ (x : Operand). 2 * operand_number symbols None x) (same_operand o p (sym e ∙ f)) in (
         record {
           next = next;
-          passes = goes (aiming z words note (24 + c) (omega arith)) refl (goes
+          passes = goes (aiming z words notation (24 + c) (omega arith)) refl (goes
               (placing z words (24 + c) refl refl (omega arith) (omega arith) w)
               refl stays);
           theta = refl;
           placed = refl;
           keeps = λ d h.
               elim (cases_eq d c) [
-                | inl q ↦ subst (λ x. IsHeld words homes ts next.placed x) (sym q) here
-                | inr q ↦ put_other words homes ts {p = 24 + c} note.placed (2 * n) d (omega arith) h
+                | inl q ↦ subst (λ x. IsHeld words symbols ts next.placed x) (sym q) here
+                | inr q ↦ put_other words symbols ts {p = 24 + c} notation.placed (2 * n) d (omega arith) h
               ];
         },
         here,
       )
 
-  pub all : (cs : List ℕ) → are_letters cs ≡ true → (note : Note)
-      → AreSpellable (flat_map (λ c. preset_items homes (set_to ts c) c) cs)
-      → (s : Sets words homes ts z note (flat_map (λ c. preset_items homes (set_to ts c) c) cs)
-      (flat_map (λ c. preset homes (set_to ts c) c) cs))
-      × AreHeld words homes ts s.next.placed cs
-  all [] are note spelled = (record { next = note; passes = stays; theta = refl; placed = refl; keeps = λ d h. h }, tt)
-  all (c ∷ cs) are note spelled =
-      let is = preset_items homes (set_to ts c) c in
-      let js = flat_map (λ c. preset_items homes (set_to ts c) c) cs in
-      let ps = preset homes (set_to ts c) c in
-      let qs = flat_map (λ c. preset homes (set_to ts c) c) cs in
+  pub all : (cs : List ℕ) → are_letters cs ≡ true → (notation : NotationState)
+      → AreSpellable (flat_map (λ c. preset_items symbols (set_to ts c) c) cs)
+      → (s : Sets words symbols ts z notation (flat_map (λ c. preset_items symbols (set_to ts c) c) cs)
+      (flat_map (λ c. preset symbols (set_to ts c) c) cs))
+      × AreHeld words symbols ts s.next.placed cs
+  all [] are notation spelled = (
+    record {
+      next = notation;
+      passes = stays;
+      theta = refl;
+      placed = refl;
+      keeps =
+          λ d h. h;
+    },
+    tt,
+  )
+  all (c ∷ cs) are notation spelled =
+      let is = preset_items symbols (set_to ts c) c in
+      let js = flat_map (λ c. preset_items symbols (set_to ts c) c) cs in
+      let ps = preset symbols (set_to ts c) c in
+      let qs = flat_map (λ c. preset symbols (set_to ts c) c) cs in
       let sp = split is js spelled in
       let letters = and_parts (nat_le 20 c && nat_lt c 32) (are_letters cs) are in
       let range = and_parts (nat_le 20 c) (nat_lt c 32) letters.0 in
-      let a = one c (set_to ts c) refl (le_of 20 c range.0) (lt_of c 32 range.1) note sp.0 in
+      let a = one c (set_to ts c) refl (le_of 20 c range.0) (lt_of c 32 range.1) notation sp.0 in
       let b = all cs letters.1 a.0.next sp.1 in (
         record {
           next = b.0.next;
           passes = join a.0.passes b.0.passes;
           theta = b.0.theta ∙ a.0.theta;
-          placed = b.0.placed ∙ ap (λ m. reverse qs ++ m) a.0.placed ∙ reversed ps qs note.placed;
+          placed = b.0.placed ∙ ap (λ m. reverse qs ++ m) a.0.placed ∙ reversed ps qs notation.placed;
           keeps = λ d h. b.0.keeps d (a.0.keeps d h);
         },
         (b.0.keeps c a.1, b.1),
@@ -201,10 +211,10 @@ kind_of ts c (inr (inr (inl e))) = rw e (refl, refl)
 kind_of ts c (inr (inr (inr k))) = (letter_kind c k.low k.high, eq_false c 13 (let l = k.low in omega arith))
 
 -- the word of a letter's parameter
-parameter_is : (homes : List Home) (ts : List Setting) (c : ℕ) → 21 ≤ c → c ≤ 26
-    → get_or (parameters homes ts) (c - 21) 0 ≡ parameter homes (set_to ts c)
-parameter_is homes ts c l h =
-    six (λ x. get_or (parameters homes ts) (x - 21) 0 ≡ parameter homes (set_to ts x))
+parameter_is : (symbols : List Definition) (ts : List Setting) (c : ℕ) → 21 ≤ c → c ≤ 26
+    → get_or (parameters symbols ts) (c - 21) 0 ≡ parameter symbols (set_to ts c)
+parameter_is symbols ts c l h =
+    six (λ x. get_or (parameters symbols ts) (x - 21) 0 ≡ parameter symbols (set_to ts x))
     (refl, refl, refl, refl, refl, refl) c l h
 
 -- the value of a letter of a parameter is the content of its location
@@ -216,35 +226,37 @@ content contents theta c l =
     rw (a, b, d) refl
 
 -- a code letter of a routine has the same value over the store with the parameters of this use
-value_is : {words : List ℕ} {homes : List Home} {ts : List Setting} {placed : List (ℕ × ℕ)} (base c : ℕ) → IsKnown ts c
-    → HoldsAll words homes ts placed
-    → value_of (over placed words) (2 * base) c ≡ value_of (parameter_store (parameters homes ts)) (2 * base) c
+value_is : {words : List ℕ} {symbols : List Definition} {ts : List Setting} {placed : List (ℕ × ℕ)} (base c : ℕ)
+    → IsKnown ts c
+    → HoldsAll words symbols ts placed
+    → value_of (over placed words) (2 * base) c ≡ value_of (parameter_store (parameters symbols ts)) (2 * base) c
 value_is base c (inl e) h = rw e refl
 value_is base c (inr (inl e)) h = rw e refl
 value_is base c (inr (inr (inl e))) h = rw e refl
-value_is {words} {homes} {ts} {placed} base c (inr (inr (inr k))) h =
+value_is {words} {symbols} {ts} {placed} base c (inr (inr (inr k))) h =
     content (over placed words) (2 * base) c k.low ∙ h.held c k.low k.high k.operand k.is_set
-    ∙ sym (value_of_parameter (parameters homes ts) (2 * base) c k.low ∙ parameter_is homes ts c k.low k.high
-    ∙ ap (λ (x : Option Operand). parameter homes x) k.is_set)
+    ∙ sym (value_of_parameter (parameters symbols ts) (2 * base) c k.low ∙ parameter_is symbols ts c k.low k.high
+    ∙ ap (λ (x : Option Operand). parameter symbols x) k.is_set)
 
 -- a routine's items
-pub image_pass : {z : Size} {words : List ℕ} {homes : List Home} {ts : List Setting} {placed : List (ℕ × ℕ)}
+pub image_pass : {z : Size} {words : List ℕ} {symbols : List Definition} {ts : List Setting} {placed : List (ℕ × ℕ)}
     (rows : List (ℕ × ℕ × Bool × ℕ)) (place base : ℕ) → AreKnown ts rows → 56 ≤ place
-    → place + length rows ≤ locations z → HoldsAll words homes ts placed
+    → place + length rows ≤ locations z → HoldsAll words symbols ts placed
     → Passes z words (at place base placed) (map table_item rows)
     (at (place + length rows) base
-    (reverse (laid place (map (λ row. routine_word (parameters homes ts) base (table_item row)) rows)) ++ placed))
+    (reverse (placed_words place (map (λ row. routine_word (parameters symbols ts) base (table_item row))
+    rows)) ++ placed))
 image_pass [] place base are low high h = let e : place + 0 ≡ place = omega arith in rw e stays
-image_pass {z} {words} {homes} {ts} {placed} (row ∷ rows) place base are low high h =
-    let w = routine_word (parameters homes ts) base (table_item row) in
-    let ws = map (λ row. routine_word (parameters homes ts) base (table_item row)) rows in
+image_pass {z} {words} {symbols} {ts} {placed} (row ∷ rows) place base are low high h =
+    let w = routine_word (parameters symbols ts) base (table_item row) in
+    let ws = map (λ row. routine_word (parameters symbols ts) base (table_item row)) rows in
     let e : place + suc (length rows) ≡ place + 1 + length rows = omega arith in
     let v : word_in_fold words (at place base placed) (table_item row) ≡ w =
     ap (λ v. word_with row.0 row.1 row.2 v) (value_is base row.3 are.0 h) in
     let kind = kind_of ts row.3 are.0 in
     let r = image_pass {z = z} {placed = (place, w) ∷ placed} rows (place + 1) base are.1 (omega arith) (omega arith)
-    (still words homes ts placed place w low h) in
+    (still words symbols ts placed place w low h) in
     goes (placing z words place kind.0 refl (omega arith) (omega arith) v)
     kind.1
-    (subst (λ (n : Note). Passes z words (at (place + 1) base ((place, w) ∷ placed)) (map table_item rows) n)
-    (λ i. at (sym e i) base (placed_more (place, w) (laid (place + 1) ws) placed i)) r)
+    (subst (λ (n : NotationState). Passes z words (at (place + 1) base ((place, w) ∷ placed)) (map table_item rows) n)
+    (λ i. at (sym e i) base (placed_more (place, w) (placed_words (place + 1) ws) placed i)) r)

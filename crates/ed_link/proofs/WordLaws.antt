@@ -23,12 +23,12 @@ use Rattle.ed_syntax.specs.declared.program.Statement.TheVariants.{Segment, Orde
 use Rattle.ed_syntax.specs.declared.program.Statement.TheVariants.{Rows}
 use Rattle.ed_syntax.specs.declared.program.Line.{Line}
 use Rattle.ed_syntax.specs.declared.fault.SourceCause.TheVariants as causes
-use Rattle.ed_symbols.specs.declared.spots.Spot.{Spot}
-use Rattle.ed_symbols.specs.declared.homes.Home.{Home}
-use Rattle.ed_symbols.specs.Places.{even_from, first_spot, passed, routine_places}
-use Rattle.ed_symbols.specs.NameFaults.{StandsAfter, spot_after, spot_from}
+use Rattle.ed_symbols.specs.declared.location_counter.LocationCounter.{LocationCounter}
+use Rattle.ed_symbols.specs.declared.symbols.Definition.{Definition}
+use Rattle.ed_symbols.specs.Places.{even_from, first_counter, after_statement, routine_places}
+use Rattle.ed_symbols.specs.NameFaults.{StandsAfter, counter_after, counter_from}
 use Rattle.ed_link.specs.Faults.{HasNoFault, LineHasWord, on_line}
-use Rattle.ed_link.specs.Linked.{end_place, first_place, homes_of, image, laid, linked, operand_number}
+use Rattle.ed_link.specs.Linked.{end_place, first_place, symbols_of, image, placed_words, linked, operand_number}
 use Rattle.ed_link.specs.Linked.{parameter_letters, parameters, placed_by_line, placed_from, preset, presets, set_to}
 use Rattle.ed_link.specs.Words.{EachWordStands, IsLastSet, LinePlaces, LineSets, linked_word, words_of_line}
 use Rattle.ed_link.specs.Words.{routine_words}
@@ -121,43 +121,44 @@ among_right (x ∷ xs) ys a w h = inr (among_right xs ys a w h)
 abbrev IsAt : ℕ → List ℕ → ℕ → ℕ → Type 0
 IsAt place ws a w = (k : ℕ) × (k < length ws) × (a ≡ place + k) × (w ≡ get_or ws k 0)
 
-laid_is : (place : ℕ) (ws : List ℕ) (a w : ℕ) → Among (laid place ws) a w → IsAt place ws a w
+laid_is : (place : ℕ) (ws : List ℕ) (a w : ℕ) → Among (placed_words place ws) a w → IsAt place ws a w
 laid_is place [] a w h = absurd h
 laid_is place (v ∷ ws) a w (inl h) = (0, omega arith, omega (arith, h.0), sym h.1)
 laid_is place (v ∷ ws) a w (inr h) =
     let r = laid_is (place + 1) ws a w h in (suc r.0, omega (arith, r.1), omega (arith, r.2), r.3)
 
-laid_has : (place : ℕ) (ws : List ℕ) (k : ℕ) → k < length ws → Among (laid place ws) (place + k) (get_or ws k 0)
+laid_has : (place : ℕ) (ws : List ℕ) (k : ℕ) → k < length ws → Among (placed_words place ws) (place + k) (get_or ws k 0)
 laid_has place [] k low = absurd (omega (arith, low))
 laid_has place (v ∷ ws) zero low = inl (omega arith, refl)
 laid_has place (v ∷ ws) (suc k) low =
     let e : place + 1 + k ≡ place + suc k = omega arith in
-    inr (subst (λ a. Among (laid (place + 1) ws) a (get_or ws k 0)) e (laid_has (place + 1) ws k (omega (arith, low))))
+    inr (subst (λ a. Among (placed_words (place + 1) ws) a (get_or ws k 0)) e
+    (laid_has (place + 1) ws k (omega (arith, low))))
 
 -- ---- the words of a line
 
-module _ (homes : List Home) (s : Spot) where
+module _ (symbols : List Definition) (s : LocationCounter) where
   -- the line's own words are where they are placed
   routine_is : (ts : List Setting) (base : ℕ) (r : Option ℕ)
-      → image homes ts base r ≡ laid base (routine_words homes ts base r)
+      → image symbols ts base r ≡ placed_words base (routine_words symbols ts base r)
   routine_is ts base None = refl
   routine_is ts base (Some r) = refl
 
   routine_fits : (ts : List Setting) (base : ℕ) (r : Option ℕ)
-      → base + length (routine_words homes ts base r) ≡ base + routine_places r
+      → base + length (routine_words symbols ts base r) ≡ base + routine_places r
   routine_fits ts base None = refl
   routine_fits ts base (Some r) =
       ap (λ n. base + n)
-      (length-map (entry r).items (λ row. routine_word (parameters homes ts) base (table_item row)))
+      (length-map (entry r).items (λ row. routine_word (parameters symbols ts) base (table_item row)))
 
   -- they fill the locations of the line
-  fills : (st : Option Statement) → first_place st s + length (words_of_line homes s st) ≡ end_place st s
+  fills : (st : Option Statement) → first_place st s + length (words_of_line symbols s st) ≡ end_place st s
   fills None = omega arith
   fills (Some (Segment n b)) = omega arith
   fills (Some (Order f o d)) = refl
   fills (Some (Number w)) = refl
   fills (Some (Text codes)) = ap (λ n. s.place + n) (length-map codes.items (λ c. 4096 * c))
-  fills (Some (Long v)) = ap (λ (t : Spot). t.place) (long_spot s v)
+  fills (Some (Long v)) = ap (λ (t : LocationCounter). t.place) (long_spot s v)
   fills (Some (Fetch r n ts)) = routine_fits ts.items (even_from s.place) (find r)
   fills (Some (Enter n)) = omega arith
   fills (Some (Rows codes)) = omega arith
@@ -165,10 +166,10 @@ module _ (homes : List Home) (s : Spot) where
   -- a letter that is set
   abbrev IsPreset : List Setting → List ℕ → ℕ → ℕ → Type 0
   IsPreset ts cs a w = (c : ℕ) × (o : Operand) × Contains cs c × (set_to ts c ≡ Some o) × (a ≡ 24 + c)
-      × (w ≡ 2 * operand_number homes None o)
+      × (w ≡ 2 * operand_number symbols None o)
 
   abbrev presets_of : List Setting → List ℕ → List (ℕ × ℕ)
-  presets_of ts cs = flat_map (λ c. preset homes (set_to ts c) c) cs
+  presets_of ts cs = flat_map (λ c. preset symbols (set_to ts c) c) cs
 
   further : (c d : ℕ) (cs : List ℕ) → Contains cs d → Contains (c ∷ cs) d
   further c d cs (k, low, is) = (suc k, omega (arith, low), is)
@@ -176,11 +177,11 @@ module _ (homes : List Home) (s : Spot) where
   preset_is : (ts : List Setting) (cs : List ℕ) (a w : ℕ) → Among (presets_of ts cs) a w → IsPreset ts cs a w
   preset_is ts [] a w h = absurd h
   preset_is ts (c ∷ cs) a w h =
-      by_parts (set_to ts c) refl (among_split (preset homes (set_to ts c) c) (presets_of ts cs) a w h)
+      by_parts (set_to ts c) refl (among_split (preset symbols (set_to ts c) c) (presets_of ts cs) a w h)
       (λ g. preset_is ts cs a w g)
     where
       by_parts : (o : Option Operand) → set_to ts c ≡ o
-          → Among (preset homes o c) a w ⊎ Among (presets_of ts cs) a w
+          → Among (preset symbols o c) a w ⊎ Among (presets_of ts cs) a w
           → (Among (presets_of ts cs) a w → IsPreset ts cs a w) → IsPreset ts (c ∷ cs) a w
       by_parts None e (inl g) more = absurd g
       by_parts (Some o) e (inl (inl g)) more = (c, o, (0, omega arith, refl), e, sym g.0, sym g.1)
@@ -189,93 +190,97 @@ module _ (homes : List Home) (s : Spot) where
           let r = more g in (r.0, r.1, further c r.0 cs r.2, r.3, r.4, r.5)
 
   preset_has : (ts : List Setting) (cs : List ℕ) (c : ℕ) (o : Operand) → Contains cs c → set_to ts c ≡ Some o
-      → Among (presets_of ts cs) (24 + c) (2 * operand_number homes None o)
+      → Among (presets_of ts cs) (24 + c) (2 * operand_number symbols None o)
   preset_has ts [] c o (k, low, is) e = absurd (omega (arith, low))
   preset_has ts (d ∷ cs) c o (zero, low, is) e =
       let read : set_to ts d ≡ Some o = ap (set_to ts) is ∙ e in
-      among_left (preset homes (set_to ts d) d) (presets_of ts cs) _ _
-      (subst (λ (x : Option Operand). Among (preset homes x d) (24 + c) (2 * operand_number homes None o)) (sym read)
+      among_left (preset symbols (set_to ts d) d) (presets_of ts cs) _ _
+      (subst (λ (x : Option Operand). Among (preset symbols x d) (24 + c)
+      (2 * operand_number symbols None o)) (sym read)
       (inl (ap (λ n. 24 + n) is, refl)))
   preset_has ts (d ∷ cs) c o (suc k, low, is) e =
-      among_right (preset homes (set_to ts d) d) (presets_of ts cs) _ _
+      among_right (preset symbols (set_to ts d) d) (presets_of ts cs) _ _
       (preset_has ts cs c o (k, omega (arith, low), is) e)
 
   -- what a line places, by its statement
   abbrev IsOwn : Option Statement → ℕ → ℕ → Type 0
-  IsOwn st a w = IsAt (first_place st s) (words_of_line homes s st) a w
+  IsOwn st a w = IsAt (first_place st s) (words_of_line symbols s st) a w
 
   abbrev IsSet : Option Statement → ℕ → ℕ → Type 0
   IsSet (Some (Fetch r n ts)) a w = IsPreset ts.items parameter_letters a w
   IsSet st a w = ⊥
 
-  by_line : (st : Option Statement) (a w : ℕ) → Among (placed_by_line homes s st) a w → IsOwn st a w ⊎ IsSet st a w
+  by_line : (st : Option Statement) (a w : ℕ) → Among (placed_by_line symbols s st) a w → IsOwn st a w ⊎ IsSet st a w
   by_line None a w h = absurd h
   by_line (Some (Segment n b)) a w h = absurd h
-  by_line (Some (Order f o d)) a w h = inl (laid_is s.place (words_of_line homes s (Some (Order f o d))) a w h)
-  by_line (Some (Number v)) a w h = inl (laid_is s.place (words_of_line homes s (Some (Number v))) a w h)
-  by_line (Some (Text codes)) a w h = inl (laid_is s.place (words_of_line homes s (Some (Text codes))) a w h)
-  by_line (Some (Long v)) a w h = inl (laid_is s.place (words_of_line homes s (Some (Long v))) a w h)
+  by_line (Some (Order f o d)) a w h = inl (laid_is s.place (words_of_line symbols s (Some (Order f o d))) a w h)
+  by_line (Some (Number v)) a w h = inl (laid_is s.place (words_of_line symbols s (Some (Number v))) a w h)
+  by_line (Some (Text codes)) a w h = inl (laid_is s.place (words_of_line symbols s (Some (Text codes))) a w h)
+  by_line (Some (Long v)) a w h = inl (laid_is s.place (words_of_line symbols s (Some (Long v))) a w h)
   by_line (Some (Fetch r n ts)) a w h =
-      by_parts (among_split (presets homes ts.items) (image homes ts.items (even_from s.place) (find r)) a w h)
+      by_parts (among_split (presets symbols ts.items) (image symbols ts.items (even_from s.place) (find r)) a w h)
     where
-      by_parts : Among (presets homes ts.items) a w
-          ⊎ Among (image homes ts.items (even_from s.place) (find r)) a w
+      by_parts : Among (presets symbols ts.items) a w
+          ⊎ Among (image symbols ts.items (even_from s.place) (find r)) a w
           → IsOwn (Some (Fetch r n ts)) a w ⊎ IsSet (Some (Fetch r n ts)) a w
       by_parts (inl g) = inr (preset_is ts.items parameter_letters a w g)
       by_parts (inr g) =
-          inl (laid_is (even_from s.place) (routine_words homes ts.items (even_from s.place) (find r)) a w
+          inl (laid_is (even_from s.place) (routine_words symbols ts.items (even_from s.place) (find r)) a w
           (subst (λ x. Among x a w) (routine_is ts.items (even_from s.place) (find r)) g))
   by_line (Some (Enter n)) a w h = absurd h
   by_line (Some (Rows codes)) a w h = absurd h
 
-  own_placed : (st : Option Statement) (k : ℕ) → k < length (words_of_line homes s st)
-      → Among (placed_by_line homes s st) (first_place st s + k) (get_or (words_of_line homes s st) k 0)
+  own_placed : (st : Option Statement) (k : ℕ) → k < length (words_of_line symbols s st)
+      → Among (placed_by_line symbols s st) (first_place st s + k) (get_or (words_of_line symbols s st) k 0)
   own_placed None k low = absurd (omega (arith, low))
   own_placed (Some (Segment n b)) k low = absurd (omega (arith, low))
-  own_placed (Some (Order f o d)) k low = laid_has s.place (words_of_line homes s (Some (Order f o d))) k low
-  own_placed (Some (Number v)) k low = laid_has s.place (words_of_line homes s (Some (Number v))) k low
-  own_placed (Some (Text codes)) k low = laid_has s.place (words_of_line homes s (Some (Text codes))) k low
-  own_placed (Some (Long v)) k low = laid_has s.place (words_of_line homes s (Some (Long v))) k low
+  own_placed (Some (Order f o d)) k low = laid_has s.place (words_of_line symbols s (Some (Order f o d))) k low
+  own_placed (Some (Number v)) k low = laid_has s.place (words_of_line symbols s (Some (Number v))) k low
+  own_placed (Some (Text codes)) k low = laid_has s.place (words_of_line symbols s (Some (Text codes))) k low
+  own_placed (Some (Long v)) k low = laid_has s.place (words_of_line symbols s (Some (Long v))) k low
   own_placed (Some (Fetch r n ts)) k low =
-      among_right (presets homes ts.items) (image homes ts.items (even_from s.place) (find r)) _ _
+      among_right (presets symbols ts.items) (image symbols ts.items (even_from s.place) (find r)) _ _
       (subst (λ x. Among x (even_from s.place + k)
-      (get_or (routine_words homes ts.items (even_from s.place) (find r)) k 0))
+      (get_or (routine_words symbols ts.items (even_from s.place) (find r)) k 0))
       (sym (routine_is ts.items (even_from s.place) (find r)))
-      (laid_has (even_from s.place) (routine_words homes ts.items (even_from s.place) (find r)) k low))
+      (laid_has (even_from s.place) (routine_words symbols ts.items (even_from s.place) (find r)) k low))
   own_placed (Some (Enter n)) k low = absurd (omega (arith, low))
   own_placed (Some (Rows codes)) k low = absurd (omega (arith, low))
 
 -- ---- the words of all lines
 
-spot_append : (s : Spot) (xs ys : List Line) → spot_from s (xs ++ ys) ≡ spot_from (spot_from s xs) ys
+spot_append : (s : LocationCounter) (xs ys : List Line)
+    → counter_from s (xs ++ ys) ≡ counter_from (counter_from s xs) ys
 spot_append s [] ys = refl
-spot_append s (x ∷ xs) ys = spot_append (passed x.statement s) xs ys
+spot_append s (x ∷ xs) ys = spot_append (after_statement x.statement s) xs ys
 
-placed_append : (homes : List Home) (s : Spot) (xs ys : List Line)
-    → placed_from homes s (xs ++ ys) ≡ placed_from homes s xs ++ placed_from homes (spot_from s xs) ys
-placed_append homes s [] ys = refl
-placed_append homes s (x ∷ xs) ys =
-    ap (λ ps. placed_by_line homes s x.statement ++ ps) (placed_append homes (passed x.statement s) xs ys)
-    ∙ sym (append_assoc (placed_by_line homes s x.statement) (placed_from homes (passed x.statement s) xs)
-    (placed_from homes (spot_from (passed x.statement s) xs) ys))
+placed_append : (symbols : List Definition) (s : LocationCounter) (xs ys : List Line)
+    → placed_from symbols s (xs ++ ys) ≡ placed_from symbols s xs ++ placed_from symbols (counter_from s xs) ys
+placed_append symbols s [] ys = refl
+placed_append symbols s (x ∷ xs) ys =
+    ap (λ ps. placed_by_line symbols s x.statement ++ ps) (placed_append symbols (after_statement x.statement s) xs ys)
+    ∙ sym (append_assoc (placed_by_line symbols s x.statement) (placed_from symbols (after_statement x.statement s) xs)
+    (placed_from symbols (counter_from (after_statement x.statement s) xs) ys))
 
 -- a word among those of some lines is one of a line
-abbrev OfALine : List Home → Spot → List Line → ℕ → ℕ → Type 0
-OfALine homes s lines a w = (before : List Line) × (l : Line) × StandsAfter lines before l
-    × Among (placed_by_line homes (spot_from s before) l.statement) a w
+abbrev OfALine : List Definition → LocationCounter → List Line → ℕ → ℕ → Type 0
+OfALine symbols s lines a w = (before : List Line) × (l : Line) × StandsAfter lines before l
+    × Among (placed_by_line symbols (counter_from s before) l.statement) a w
 
-of_a_line : (homes : List Home) (s : Spot) (lines : List Line) (a w : ℕ) → Among (placed_from homes s lines) a w
-    → OfALine homes s lines a w
-of_a_line homes s [] a w h = absurd h
-of_a_line homes s (l ∷ lines) a w h =
-    by_parts (among_split (placed_by_line homes s l.statement) (placed_from homes (passed l.statement s) lines) a w h)
-    (λ g. of_a_line homes (passed l.statement s) lines a w g)
+of_a_line : (symbols : List Definition) (s : LocationCounter) (lines : List Line) (a w : ℕ)
+    → Among (placed_from symbols s lines) a w
+    → OfALine symbols s lines a w
+of_a_line symbols s [] a w h = absurd h
+of_a_line symbols s (l ∷ lines) a w h =
+    by_parts (among_split (placed_by_line symbols s l.statement)
+    (placed_from symbols (after_statement l.statement s) lines) a w h)
+    (λ g. of_a_line symbols (after_statement l.statement s) lines a w g)
   where
-    by_parts : Among (placed_by_line homes s l.statement) a w
-        ⊎ Among (placed_from homes (passed l.statement s) lines) a w
-        → (Among (placed_from homes (passed l.statement s) lines) a w
-        → OfALine homes (passed l.statement s) lines a w)
-        → OfALine homes s (l ∷ lines) a w
+    by_parts : Among (placed_by_line symbols s l.statement) a w
+        ⊎ Among (placed_from symbols (after_statement l.statement s) lines) a w
+        → (Among (placed_from symbols (after_statement l.statement s) lines) a w
+        → OfALine symbols (after_statement l.statement s) lines a w)
+        → OfALine symbols s (l ∷ lines) a w
     by_parts (inl g) more = ([], l, record { after = lines; lines_are = refl }, g)
     by_parts (inr g) more =
         let r = more g in
@@ -304,12 +309,12 @@ some_same x y e = cc
 -- ---- the law
 
 module _ (z : Size) (lines : List Line) (faultless : HasNoFault z lines) where
-  abbrev homes : List Home
-  homes = homes_of lines
+  abbrev symbols : List Definition
+  symbols = symbols_of lines
 
   has_word : (before : List Line) (l : Line) (a w : ℕ) → LinePlaces lines before l a w → LineHasWord before l a
   has_word before l a w p =
-      let e = fills homes (spot_after before) l.statement in
+      let e = fills symbols (counter_after before) l.statement in
       (omega (arith, p.place_is), omega (arith, p.place_is, p.below, e))
 
   high : (before : List Line) (l : Line) (a w : ℕ) → StandsAfter lines before l → LinePlaces lines before l a w → 56 ≤ a
@@ -329,7 +334,8 @@ module _ (z : Size) (lines : List Line) (faultless : HasNoFault z lines) where
   low : (l : Line) (a w : ℕ) → LineSets lines l a w → a < 56
   low l a w p = omega (arith, p.place_is, low_letter p.letter p.is_letter)
 
-  set_by : (s : Spot) (l : Line) (st : Option Statement) (a w : ℕ) → l.statement ≡ st → IsSet homes s st a w
+  set_by : (s : LocationCounter) (l : Line) (st : Option Statement) (a w : ℕ) → l.statement ≡ st
+      → IsSet symbols s st a w
       → LineSets lines l a w
   set_by s l None a w e h = absurd h
   set_by s l (Some (Segment n b)) a w e h = absurd h
@@ -354,43 +360,46 @@ module _ (z : Size) (lines : List Line) (faultless : HasNoFault z lines) where
 
   -- what a line places is its own or a parameter
   kinds : (before : List Line) (l : Line) (a w : ℕ)
-      → Among (placed_by_line homes (spot_after before) l.statement) a w
+      → Among (placed_by_line symbols (counter_after before) l.statement) a w
       → LinePlaces lines before l a w ⊎ LineSets lines l a w
-  kinds before l a w h = by_kind (by_line homes (spot_after before) l.statement a w h)
+  kinds before l a w h = by_kind (by_line symbols (counter_after before) l.statement a w h)
     where
-      by_kind : IsOwn homes (spot_after before) l.statement a w ⊎ IsSet homes (spot_after before) l.statement a w
+      by_kind : IsOwn symbols (counter_after before) l.statement a w
+          ⊎ IsSet symbols (counter_after before) l.statement a w
           → LinePlaces lines before l a w ⊎ LineSets lines l a w
       by_kind (inl g) = inl (record { index = g.0; below = g.1; place_is = g.2; word_is = g.3 })
-      by_kind (inr g) = inr (set_by (spot_after before) l l.statement a w refl g)
+      by_kind (inr g) = inr (set_by (counter_after before) l l.statement a w refl g)
 
   own_among : (before : List Line) (l : Line) (a w : ℕ) → LinePlaces lines before l a w
-      → Among (placed_by_line homes (spot_after before) l.statement) a w
+      → Among (placed_by_line symbols (counter_after before) l.statement) a w
   own_among before l a w p =
-      let at = own_placed homes (spot_after before) l.statement p.index p.below in
-      subst (λ x. Among (placed_by_line homes (spot_after before) l.statement) x w) (sym p.place_is)
-      (subst (λ x. Among (placed_by_line homes (spot_after before) l.statement)
-      (first_place l.statement (spot_after before) + p.index) x) (sym p.word_is) at)
+      let at = own_placed symbols (counter_after before) l.statement p.index p.below in
+      subst (λ x. Among (placed_by_line symbols (counter_after before) l.statement) x w) (sym p.place_is)
+      (subst (λ x. Among (placed_by_line symbols (counter_after before) l.statement)
+      (first_place l.statement (counter_after before) + p.index) x) (sym p.word_is) at)
 
-  set_among : (s : Spot) (l : Line) (a w : ℕ) → LineSets lines l a w → Among (placed_by_line homes s l.statement) a w
+  set_among : (s : LocationCounter) (l : Line) (a w : ℕ) → LineSets lines l a w
+      → Among (placed_by_line symbols s l.statement) a w
   set_among s l a w p =
-      let at = preset_has homes s p.settings parameter_letters p.letter p.operand p.is_letter p.set in
-      let moved : Among (presets homes p.settings) a w =
-      subst (λ x. Among (presets homes p.settings) x w) (sym p.place_is)
-      (subst (λ x. Among (presets homes p.settings) (24 + p.letter) x) (sym p.word_is) at) in
-      subst (λ st. Among (placed_by_line homes s st) a w) (sym p.statement_is)
-      (among_left (presets homes p.settings) (image homes p.settings (even_from s.place) (find p.routine)) a w moved)
+      let at = preset_has symbols s p.settings parameter_letters p.letter p.operand p.is_letter p.set in
+      let moved : Among (presets symbols p.settings) a w =
+      subst (λ x. Among (presets symbols p.settings) x w) (sym p.place_is)
+      (subst (λ x. Among (presets symbols p.settings) (24 + p.letter) x) (sym p.word_is) at) in
+      subst (λ st. Among (placed_by_line symbols s st) a w) (sym p.statement_is)
+      (among_left (presets symbols p.settings) (image symbols p.settings (even_from s.place)
+      (find p.routine)) a w moved)
 
   whole : (before : List Line) (l : Line) (st : StandsAfter lines before l) → linked lines
-      ≡ placed_from homes first_spot before ++ (placed_by_line homes (spot_after before) l.statement
-      ++ placed_from homes (passed l.statement (spot_after before)) st.after)
+      ≡ placed_from symbols first_counter before ++ (placed_by_line symbols (counter_after before) l.statement
+      ++ placed_from symbols (after_statement l.statement (counter_after before)) st.after)
   whole before l st =
-      ap (λ x. placed_from homes first_spot x) st.lines_are
-      ∙ placed_append homes first_spot before (l ∷ st.after)
+      ap (λ x. placed_from symbols first_counter x) st.lines_are
+      ∙ placed_append symbols first_counter before (l ∷ st.after)
 
   -- a line after another one
-  behind_line : (before b after : List Line) (l m : Line) (st : StandsAfter lines before l) → st.after ≡ b ++ m ∷ after
+  after_line : (before b after : List Line) (l m : Line) (st : StandsAfter lines before l) → st.after ≡ b ++ m ∷ after
       → StandsAfter lines (before ++ l ∷ b) m
-  behind_line before b after l m st e = record {
+  after_line before b after l m st e = record {
     after = after;
     lines_are = st.lines_are ∙ ap (λ x. before ++ l ∷ x) e
         ∙ sym (append_assoc before (l ∷ b) (m ∷ after));
@@ -405,28 +414,29 @@ module _ (z : Size) (lines : List Line) (faultless : HasNoFault z lines) where
     pub kind : LinePlaces lines (before ++ l ∷ b) m a w ⊎ LineSets lines m a w
 
   later : (before : List Line) (l : Line) (st : StandsAfter lines before l) (a w : ℕ)
-      → Among (placed_from homes (passed l.statement (spot_after before)) st.after) a w → Later before l st a w
+      → Among (placed_from symbols (after_statement l.statement (counter_after before)) st.after) a w
+      → Later before l st a w
   later before l st a w h =
-      let r = of_a_line homes (passed l.statement (spot_after before)) st.after a w h in
-      let spot = spot_append first_spot before (l ∷ r.0) in
+      let r = of_a_line symbols (after_statement l.statement (counter_after before)) st.after a w h in
+      let counter = spot_append first_counter before (l ∷ r.0) in
       record {
         b = r.0;
         m = r.1;
         among = r.2;
-        stands = behind_line before r.0 r.2.after l r.1 st r.2.lines_are;
+        stands = after_line before r.0 r.2.after l r.1 st r.2.lines_are;
         kind = kinds (before ++ l ∷ r.0) r.1 a w
-            (subst (λ s. Among (placed_by_line homes s r.1.statement) a w) (sym spot) r.3);
+            (subst (λ s. Among (placed_by_line symbols s r.1.statement) a w) (sym counter) r.3);
       }
 
   line_stands : (before : List Line) (l : Line) (a w : ℕ) → StandsAfter lines before l
       → LinePlaces lines before l a w → linked_word lines a ≡ Some w
   line_stands before l a w st p =
       ap (λ x. placed_at (reverse x) a) (whole before l st)
-      ∙ between (placed_from homes first_spot before) (placed_by_line homes (spot_after before) l.statement)
-      (placed_from homes (passed l.statement (spot_after before)) st.after) a w none_later
+      ∙ between (placed_from symbols first_counter before) (placed_by_line symbols (counter_after before) l.statement)
+      (placed_from symbols (after_statement l.statement (counter_after before)) st.after) a w none_later
       (own_among before l a w p) one
     where
-      none_later : Nowhere (placed_from homes (passed l.statement (spot_after before)) st.after) a
+      none_later : Nowhere (placed_from symbols (after_statement l.statement (counter_after before)) st.after) a
       none_later v h = by_kind (later before l st a v h)
         where
           by_kind : Later before l st a v → ⊥
@@ -440,13 +450,13 @@ module _ (z : Size) (lines : List Line) (faultless : HasNoFault z lines) where
                   (a, has_word (before ++ l ∷ r.b) r.m a v q, before, l, earlier, has_word before l a w p))
               clash (inr q) = let x = low r.m a v q in let y = high before l a w st p in absurd (omega (arith, x, y))
 
-      one : (v : ℕ) → Among (placed_by_line homes (spot_after before) l.statement) a v → v ≡ w
+      one : (v : ℕ) → Among (placed_by_line symbols (counter_after before) l.statement) a v → v ≡ w
       one v h = by_kind (kinds before l a v h)
         where
           by_kind : LinePlaces lines before l a v ⊎ LineSets lines l a v → v ≡ w
           by_kind (inl q) =
               let same : q.index ≡ p.index = omega (arith, q.place_is, p.place_is) in
-              q.word_is ∙ ap (λ k. get_or (words_of_line homes (spot_after before) l.statement) k 0) same
+              q.word_is ∙ ap (λ k. get_or (words_of_line symbols (counter_after before) l.statement) k 0) same
               ∙ sym p.word_is
           by_kind (inr q) = let x = low l a v q in let y = high before l a w st p in absurd (omega (arith, x, y))
 
@@ -454,11 +464,11 @@ module _ (z : Size) (lines : List Line) (faultless : HasNoFault z lines) where
       → LineSets lines l a w → IsLastSet lines st.after a → linked_word lines a ≡ Some w
   parameter_stands before l a w st p last =
       ap (λ x. placed_at (reverse x) a) (whole before l st)
-      ∙ between (placed_from homes first_spot before) (placed_by_line homes (spot_after before) l.statement)
-      (placed_from homes (passed l.statement (spot_after before)) st.after) a w none_later
-      (set_among (spot_after before) l a w p) one
+      ∙ between (placed_from symbols first_counter before) (placed_by_line symbols (counter_after before) l.statement)
+      (placed_from symbols (after_statement l.statement (counter_after before)) st.after) a w none_later
+      (set_among (counter_after before) l a w p) one
     where
-      none_later : Nowhere (placed_from homes (passed l.statement (spot_after before)) st.after) a
+      none_later : Nowhere (placed_from symbols (after_statement l.statement (counter_after before)) st.after) a
       none_later v h = by_kind (later before l st a v h)
         where
           by_kind : Later before l st a v → ⊥
@@ -470,7 +480,7 @@ module _ (z : Size) (lines : List Line) (faultless : HasNoFault z lines) where
                   let y = high (before ++ l ∷ r.b) r.m a v r.stands q in omega (arith, x, y)
               clash (inr q) = last r.b r.m v r.among q
 
-      one : (v : ℕ) → Among (placed_by_line homes (spot_after before) l.statement) a v → v ≡ w
+      one : (v : ℕ) → Among (placed_by_line symbols (counter_after before) l.statement) a v → v ≡ w
       one v h = by_kind (kinds before l a v h)
         where
           by_kind : LinePlaces lines before l a v ⊎ LineSets lines l a v → v ≡ w
@@ -481,7 +491,7 @@ module _ (z : Size) (lines : List Line) (faultless : HasNoFault z lines) where
               let set : Some q.operand ≡ Some p.operand =
               sym q.set ∙ (λ i. set_to (settings i) (letter i)) ∙ p.set in
               let operand : q.operand ≡ p.operand = some_same q.operand p.operand set in
-              q.word_is ∙ ap (λ o. 2 * operand_number homes None o) operand ∙ sym p.word_is
+              q.word_is ∙ ap (λ o. 2 * operand_number symbols None o) operand ∙ sym p.word_is
 
   no_other : (a w : ℕ) → linked_word lines a ≡ Some w
       → (before : List Line) × (l : Line) × StandsAfter lines before l
@@ -496,7 +506,7 @@ module _ (z : Size) (lines : List Line) (faultless : HasNoFault z lines) where
           × (LinePlaces lines before l a w ⊎ LineSets lines l a w)
       by_found (inl f) =
           let same : f.0 ≡ w = some_same f.0 w (sym f.2 ∙ is) in
-          let r = of_a_line homes first_spot lines a w (subst (λ x. Among (linked lines) a x) same f.1) in
+          let r = of_a_line symbols first_counter lines a w (subst (λ x. Among (linked lines) a x) same f.1) in
           (r.0, r.1, r.2, kinds r.0 r.1 a w r.3)
       by_found (inr f) = let none : ◌≡◌ {A = Option ℕ} None (Some w) = sym f.1 ∙ is in absurd (cc)
 

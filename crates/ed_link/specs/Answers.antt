@@ -7,7 +7,7 @@ use Rattle.ed_syntax.specs.declared.program.Line.{Line}
 use Rattle.ed_syntax.specs.declared.fault.SourceFault.{SourceFault}
 use Rattle.ed_syntax.specs.declared.fault.SourceFault.TheVariants.{At, Memory}
 use Rattle.ed_link.specs.declared.linked.Linked.{Linked}
-use Rattle.ed_link.specs.Linked.{data_behind, homes_of, entry_of, linked}
+use Rattle.ed_link.specs.Linked.{data_after, symbols_of, entry_of, linked}
 use Rattle.ed_link.specs.Punch.{punched}
 use Rattle.ed_link.specs.Faults.{HasNoFault, IsMeaningFault}
 use Rattle.ed_link.specs.Refusals.{IsAcceptedAs}
@@ -28,8 +28,8 @@ pub record IsLinked (z : Size) (lines : List Line) (k : Linked) : Type 0 where
   -- they are the map of the linked program
   pub map : (a : ℕ) → a < 1024 → word_at k.words.items a ≡ placed_at (reverse (linked lines)) a
   pub entry : k.entry ≡ entry_of lines
-  pub after : k.after.items ≡ data_behind lines
-  pub labels : k.labels.items ≡ labels (homes_of lines)
+  pub after : k.after.items ≡ data_after lines
+  pub labels : k.labels.items ≡ labels (symbols_of lines)
   -- from every store, reading the tape gives the linked program
   pub loads : ComesToLinked z lines
 

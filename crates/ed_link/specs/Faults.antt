@@ -16,20 +16,21 @@ use Rattle.ed_syntax.specs.declared.program.Line.{Line}
 use Rattle.ed_syntax.specs.declared.fault.SourceCause.{SourceCause}
 use Rattle.ed_syntax.specs.declared.fault.SourceCause.TheVariants as causes
 use Rattle.ed_symbols.specs.Names.{place_on}
-use Rattle.ed_symbols.specs.NameFaults.{StandsAfter, spot_after, DefinesAgain, NamesUnknown, ReachesOutside, number_of}
-use Rattle.ed_link.specs.Linked.{first_place, end_place, homes_of}
+use Rattle.ed_symbols.specs.NameFaults.{StandsAfter, counter_after, DefinesAgain, NamesUnknown, ReachesOutside}
+use Rattle.ed_symbols.specs.NameFaults.{number_of}
+use Rattle.ed_link.specs.Linked.{first_place, end_place, symbols_of}
 
 -- ---- the words of a line
 
 -- the line after these lines has a word at this location
 abbrev pub LineHasWord : List Line → Line → ℕ → Type 0
-LineHasWord before l p = (first_place l.statement (spot_after before) ≤ p)
-    × (p < end_place l.statement (spot_after before))
+LineHasWord before l p = (first_place l.statement (counter_after before) ≤ p)
+    × (p < end_place l.statement (counter_after before))
 
 -- the line is an `enter` of a name with this location
 abbrev pub EntersAt : List Line → Line → ℕ → Type 0
 EntersAt lines l p = (name : List ℕ) × (l.statement ≡ Some (Enter name))
-    × (place_on (homes_of lines) None name ≡ Some p)
+    × (place_on (symbols_of lines) None name ≡ Some p)
 
 -- the line needs this location: for one of its words, or to enter there
 abbrev pub NeedsPlace : List Line → List Line → Line → ℕ → Type 0

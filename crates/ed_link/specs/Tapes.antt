@@ -2,13 +2,13 @@
 use Rattle.std.specs.Prelude.{◌≡◌, ℕ, ◌+◌, ◌*◌, true, false, List, [], ◌∷◌, ◌++◌, length, reverse, slice_index}
 use Rattle.ed_words.specs.declared.size.Size.{Size}
 use Rattle.ed_syntax.specs.declared.program.Line.{Line}
-use Rattle.ed_symbols.specs.Places.{first_spot}
+use Rattle.ed_symbols.specs.Places.{first_counter}
 use Rattle.ed_notation.specs.Items.{spelled}
 use Rattle.ed_notation.specs.Fold.{costs}
 use Rattle.ed_notation.specs.Openings.{opening}
 use Rattle.ed_notation.specs.Faults.{TapeEntry, WellFormed, ComesTo}
 use Rattle.ed_notation.specs.Spellings.{canonicals, line_from}
-use Rattle.ed_link.specs.Linked.{linked, entry_of, theta_from, data_behind}
+use Rattle.ed_link.specs.Linked.{linked, entry_of, theta_from, data_after}
 use Rattle.ed_link.specs.Punch.{item_with, punched}
 
 -- the rows of the punched items
@@ -17,7 +17,7 @@ punched_rows lines = spelled (canonicals (punched lines))
 
 -- the rows of the whole tape
 abbrev pub tape : List Line → List ℕ
-tape lines = punched_rows lines ++ data_behind lines
+tape lines = punched_rows lines ++ data_after lines
 
 -- the number of orders that read the tape up to the entry, with 9 at the start
 abbrev pub cost : List Line → ℕ
@@ -30,13 +30,13 @@ arrival words lines = record {
   word = 0;
   cost = cost lines;
   rows = length (punched_rows lines);
-  note = record {
+  notation = record {
     directive = 12288 + 2 * entry_of lines;
-    theta = theta_from (slice_index words 42) first_spot lines;
+    theta = theta_from (slice_index words 42) first_counter lines;
     placed = reverse (linked lines);
   };
   last = item_with 0 0 false 17;
-  rest = data_behind lines;
+  rest = data_after lines;
 }
 
 -- from every store, the tape is well formed and reaches that entry

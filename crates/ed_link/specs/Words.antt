@@ -14,31 +14,32 @@ use Rattle.ed_syntax.specs.declared.program.Setting.{Setting}
 use Rattle.ed_syntax.specs.declared.program.Statement.{Statement}
 use Rattle.ed_syntax.specs.declared.program.Statement.TheVariants.{Fetch}
 use Rattle.ed_syntax.specs.declared.program.Line.{Line}
-use Rattle.ed_symbols.specs.declared.spots.Spot.{Spot}
-use Rattle.ed_symbols.specs.declared.homes.Home.{Home}
+use Rattle.ed_symbols.specs.declared.location_counter.LocationCounter.{LocationCounter}
+use Rattle.ed_symbols.specs.declared.symbols.Definition.{Definition}
 use Rattle.ed_symbols.specs.Places.{even_from}
-use Rattle.ed_symbols.specs.NameFaults.{StandsAfter, spot_after}
+use Rattle.ed_symbols.specs.NameFaults.{StandsAfter, counter_after}
 use Rattle.ed_link.specs.Faults.{HasNoFault}
-use Rattle.ed_link.specs.Linked.{first_place, homes_of, line_words, linked, operand_number, parameter_letters}
+use Rattle.ed_link.specs.Linked.{first_place, symbols_of, line_words, linked, operand_number, parameter_letters}
 use Rattle.ed_link.specs.Linked.{parameters, set_to}
 
 -- the words of a routine at a base, with the parameters that are set
-abbrev pub routine_words : List Home → List Setting → ℕ → Option ℕ → List ℕ
-routine_words homes ts base None = []
-routine_words homes ts base (Some r) =
-    map (λ row. routine_word (parameters homes ts) base (table_item row)) (entry r).items
+abbrev pub routine_words : List Definition → List Setting → ℕ → Option ℕ → List ℕ
+routine_words symbols ts base None = []
+routine_words symbols ts base (Some r) =
+    map (λ row. routine_word (parameters symbols ts) base (table_item row)) (entry r).items
 
 -- the words of a line, one for each of its locations; those of a `use` are its routine's
-abbrev pub words_of_line : List Home → Spot → Option Statement → List ℕ
-words_of_line homes s (Some (Fetch routine name ts)) = routine_words homes ts.items (even_from s.place) (find routine)
-words_of_line homes s st = line_words homes s st
+abbrev pub words_of_line : List Definition → LocationCounter → Option Statement → List ℕ
+words_of_line symbols s (Some (Fetch routine name ts)) =
+    routine_words symbols ts.items (even_from s.place) (find routine)
+words_of_line symbols s st = line_words symbols s st
 
 -- the line after these lines has this word at this location
 pub record LinePlaces (lines before : List Line) (l : Line) (place word : ℕ) : Type 0 where
   pub index : ℕ
-  pub below : index < length (words_of_line (homes_of lines) (spot_after before) l.statement)
-  pub place_is : place ≡ first_place l.statement (spot_after before) + index
-  pub word_is : word ≡ slice_index (words_of_line (homes_of lines) (spot_after before) l.statement) index
+  pub below : index < length (words_of_line (symbols_of lines) (counter_after before) l.statement)
+  pub place_is : place ≡ first_place l.statement (counter_after before) + index
+  pub word_is : word ≡ slice_index (words_of_line (symbols_of lines) (counter_after before) l.statement) index
 
 -- the line is a `use` that sets the parameter at this location to this word
 pub record LineSets (lines : List Line) (l : Line) (place word : ℕ) : Type 0 where
@@ -51,7 +52,7 @@ pub record LineSets (lines : List Line) (l : Line) (place word : ℕ) : Type 0 w
   pub is_letter : Contains parameter_letters letter
   pub set : set_to settings letter ≡ Some operand
   pub place_is : place ≡ 24 + letter
-  pub word_is : word ≡ 2 * operand_number (homes_of lines) None operand
+  pub word_is : word ≡ 2 * operand_number (symbols_of lines) None operand
 
 -- the word of the linked program at a location, if it has one there
 abbrev pub linked_word : List Line → ℕ → Option ℕ

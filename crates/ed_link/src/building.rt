@@ -15,7 +15,7 @@ use crate::words::put_line;
 use ed_codes::Code;
 use ed_library::find;
 use ed_notation::Item;
-use ed_symbols::{Home, Spot};
+use ed_symbols::{Definition, LocationCounter};
 use ed_syntax::{Line, Name, SourceFault, Statement};
 use ed_words::{NoMemory, Size, Word};
 use std::alloc::Global;
@@ -53,19 +53,19 @@ pub(crate) struct Built {
 /// The entry with that of one more line.
 fn with_entry(
     entry: Option<u16>,
-    homes: &[Home],
-    spot: Spot,
+    symbols: &[Definition],
+    counter: LocationCounter,
     statement: &Option<Statement>,
 ) -> Option<u16>
-    requires fits { (reach homes.now statement.now spot).0 < (reach homes.now statement.now spot).1
-        → (reach homes.now statement.now spot).1 ≤ 1024 }
-    ensures { (later : ℕ) → unwrap_or result later ≡ unwrap_or entry (entered_place homes.now statement.now later) }
+    requires fits { (reach symbols.now statement.now counter).0 < (reach symbols.now statement.now counter).1
+        → (reach symbols.now statement.now counter).1 ≤ 1024 }
+    ensures { (later : ℕ) → unwrap_or result later ≡ unwrap_or entry (entered_place symbols.now statement.now later) }
 {
     if entry.is_some() {
         return entry;
     }
     match statement {
-        Some(Statement::Enter { name }) => Some(entry_of(homes, name)),
+        Some(Statement::Enter { name }) => Some(entry_of(symbols, name)),
         _ => None,
     }
 }
@@ -73,41 +73,45 @@ fn with_entry(
 /// Adds what one more line gives.
 fn add_line(
     built: &mut Built,
-    homes: &[Home],
-    spot: Spot,
+    symbols: &[Definition],
+    counter: LocationCounter,
     statement: &Option<Statement>,
 ) -> Result<(), NoMemory>
     requires spellable { AreSpellable built.old.items.items }
     requires table { length built.old.table.items ≡ 1024 }
-    requires place { spot.place ≤ 2 ^ 30 }
-    requires base { spot.base ≤ spot.place }
-    requires fits { (reach homes.now statement.now spot).0 < (reach homes.now statement.now spot).1
-        → (reach homes.now statement.now spot).1 ≤ 1024 }
+    requires place { counter.place ≤ 2 ^ 30 }
+    requires base { counter.base ≤ counter.place }
+    requires fits { (reach symbols.now statement.now counter).0 < (reach symbols.now statement.now counter).1
+        → (reach symbols.now statement.now counter).1 ≤ 1024 }
     ensures items { OnOk result
-        (built.new.items.items ≡ built.old.items.items ++ items_of homes.now spot statement.now) }
+        (built.new.items.items ≡ built.old.items.items ++ items_of symbols.now counter statement.now) }
     ensures spellable { AreSpellable built.new.items.items }
     ensures table { OnOk result
-        (built.new.table.items ≡ put_all built.old.table.items (placed_by_line homes.now spot statement.now)) }
+        (built.new.table.items ≡ put_all built.old.table.items (placed_by_line symbols.now counter statement.now)) }
     ensures size { OnOk result (length built.new.table.items ≡ 1024) }
     ensures after { OnOk result (built.new.after.items ≡ built.old.after.items ++ data_rows statement.now) }
     ensures entry { OnOk result ((later : ℕ)
-        → unwrap_or built.new.entry later ≡ unwrap_or built.old.entry (entered_place homes.now statement.now later)) }
+        → unwrap_or built.new.entry later ≡ unwrap_or built.old.entry (entered_place symbols.now statement.now later)) }
 {
-    push_line(&mut built.items, homes, spot, statement)?;
+    push_line(&mut built.items, symbols, counter, statement)?;
     push_rows(&mut built.after, statement)?;
-    put_line(&mut built.table, homes, spot, statement);
-    built.entry = with_entry(built.entry, homes, spot, statement);
+    put_line(&mut built.table, symbols, counter, statement);
+    built.entry = with_entry(built.entry, symbols, counter, statement);
     Ok(())
 }
 
 /// Notes what one more line leaves for the lines after it.
-fn pass_line(past: &mut Past, spot: Spot, statement: &Option<Statement>) -> Result<(), NoMemory>
-    requires place { spot.place ≤ 2 ^ 30 }
-    requires segments { spot.segments ≤ 2000 }
-    ensures runs { OnOk result (past.new.runs.items ≡ past.old.runs.items ++ word_run statement.now spot ∷ []) }
+fn pass_line(
+    past: &mut Past,
+    counter: LocationCounter,
+    statement: &Option<Statement>,
+) -> Result<(), NoMemory>
+    requires place { counter.place ≤ 2 ^ 30 }
+    requires segments { counter.segments ≤ 2000 }
+    ensures runs { OnOk result (past.new.runs.items ≡ past.old.runs.items ++ word_run statement.now counter ∷ []) }
     ensures entered { OnOk result (past.new.entered ≡ (past.old.entered || is_enter statement.now)) }
 {
-    past.runs.push(run_of(statement, spot))?;
+    past.runs.push(run_of(statement, counter))?;
     past.entered = past.entered || is_enter(statement);
     Ok(())
 }
@@ -175,21 +179,21 @@ fn start(alloc: Global) -> Result<Built, NoMemory>
 pub(crate) fn build(
     alloc: Global,
     size: Size,
-    homes: &[Home],
-    any: bool,
+    symbols: &[Definition],
+    has_enter: bool,
     lines: &[Line],
 ) -> Result<Built, SourceFault>
     requires { length lines.now ≤ 2000 }
-    ensures { BuildIs size homes.now any lines.now result }
+    ensures { BuildIs size symbols.now has_enter lines.now result }
 {
     let mut built = start(alloc)?;
     let mut past = Past {
         runs: Vec::new(alloc),
         entered: false,
     };
-    let mut spot = Spot::first();
+    let mut counter = LocationCounter::first();
     for line in lines {
-        match cause_of(size, homes, any, &past, line, spot) {
+        match cause_of(size, symbols, has_enter, &past, line, counter) {
             Some(cause) => {
                 return Err(SourceFault::At {
                     line: line.number,
@@ -199,9 +203,9 @@ pub(crate) fn build(
             None => {}
         }
         bound_rows(&line.statement);
-        add_line(&mut built, homes, spot, &line.statement)?;
-        pass_line(&mut past, spot, &line.statement)?;
-        spot = spot.passed(&line.statement);
+        add_line(&mut built, symbols, counter, &line.statement)?;
+        pass_line(&mut past, counter, &line.statement)?;
+        counter = counter.after_statement(&line.statement);
     }
     Ok(built)
 }

@@ -7,69 +7,73 @@ ghost use Rattle.ed_link.specs.Linked.{first_place, end_place, set_to};
 ghost use Rattle.ed_link.specs.Private.FaultTests.{any_enter, cause_of, has_no_routine, has_sandwich, is_enter};
 ghost use Rattle.ed_link.specs.Private.FaultTests.{is_in_segment};
 ghost use Rattle.ed_link.specs.Private.FaultTests.{is_misplaced, is_outside};
-ghost use Rattle.ed_link.specs.Private.FaultTests.{is_rows, meets, reach, run_at, word_run, sets, sets_otherwise};
+ghost use Rattle.ed_link.specs.Private.FaultTests.{is_rows, overlaps, reach, run_at, word_run, sets, sets_otherwise};
 ghost use Rattle.ed_link.specs.Private.FaultTests.{fault_line, missing, sooner};
 
 use crate::operands::setting;
 use ed_codes::Code;
 use ed_library::{Routine, find};
-use ed_symbols::{Home, Spot, even, find_place};
+use ed_symbols::{Definition, LocationCounter, even, find_place};
 use ed_syntax::{Line, Setting, SourceCause, SourceFault, Statement};
 use ed_words::Size;
 
 /// The location of a line's first word.
-pub(crate) fn first_place(statement: &Option<Statement>, spot: Spot) -> u32
-    requires place { spot.place ≤ 2 ^ 30 }
-    requires segments { spot.segments ≤ 2000 }
-    ensures { result ≡ first_place statement.now spot }
+pub(crate) fn first_place(statement: &Option<Statement>, counter: LocationCounter) -> u32
+    requires place { counter.place ≤ 2 ^ 30 }
+    requires segments { counter.segments ≤ 2000 }
+    ensures { result ≡ first_place statement.now counter }
 {
     match statement {
-        Some(Statement::Segment { .. }) => spot.passed(statement).place,
-        Some(Statement::Fetch { .. }) => even(spot.place),
-        _ => spot.place,
+        Some(Statement::Segment { .. }) => counter.after_statement(statement).place,
+        Some(Statement::Fetch { .. }) => even(counter.place),
+        _ => counter.place,
     }
 }
 
 /// The extent of a line's words.
-pub(crate) fn run_of(statement: &Option<Statement>, spot: Spot) -> (u64, u64)
-    requires place { spot.place ≤ 2 ^ 30 }
-    requires segments { spot.segments ≤ 2000 }
-    ensures { result ≡ word_run statement.now spot }
+pub(crate) fn run_of(statement: &Option<Statement>, counter: LocationCounter) -> (u64, u64)
+    requires place { counter.place ≤ 2 ^ 30 }
+    requires segments { counter.segments ≤ 2000 }
+    ensures { result ≡ word_run statement.now counter }
 {
     (
-        u64::from(first_place(statement, spot)),
-        u64::from(spot.passed(statement).place),
+        u64::from(first_place(statement, counter)),
+        u64::from(counter.after_statement(statement).place),
     )
 }
 
 /// The extent that a line needs.
-fn reach(homes: &[Home], statement: &Option<Statement>, spot: Spot) -> (u64, u64)
-    requires place { spot.place ≤ 2 ^ 30 }
-    requires segments { spot.segments ≤ 2000 }
-    ensures { result ≡ reach homes.now statement.now spot }
+fn reach(
+    symbols: &[Definition],
+    statement: &Option<Statement>,
+    counter: LocationCounter,
+) -> (u64, u64)
+    requires place { counter.place ≤ 2 ^ 30 }
+    requires segments { counter.segments ≤ 2000 }
+    ensures { result ≡ reach symbols.now statement.now counter }
 {
     match statement {
-        Some(Statement::Enter { name }) => match find_place(homes, None, name) {
+        Some(Statement::Enter { name }) => match find_place(symbols, None, name) {
             Some(place) => (u64::from(place), u64::from(place) + 1),
             None => (0, 0),
         },
-        _ => run_of(statement, spot),
+        _ => run_of(statement, counter),
     }
 }
 
 /// Whether two extents overlap.
-fn meets(run: (u64, u64), other: (u64, u64)) -> bool
-    ensures { result ≡ meets run other }
+fn overlaps(run: (u64, u64), other: (u64, u64)) -> bool
+    ensures { result ≡ overlaps run other }
 {
     run.0.max(other.0) < run.1.min(other.1)
 }
 
 /// Whether an extent overlaps one of others.
-fn meets_any(run: (u64, u64), others: &[(u64, u64)]) -> bool
-    ensures { result ≡ list_any (λ other. meets run other) others.now }
+fn overlaps_any(run: (u64, u64), others: &[(u64, u64)]) -> bool
+    ensures { result ≡ list_any (λ other. overlaps run other) others.now }
 {
     for other in others {
-        if meets(run, *other) {
+        if overlaps(run, *other) {
             return true;
         }
     }
@@ -77,10 +81,10 @@ fn meets_any(run: (u64, u64), others: &[(u64, u64)]) -> bool
 }
 
 /// Whether a line must be in a segment, and isn't.
-fn is_outside(line: &Line, spot: Spot) -> bool
-    ensures { result ≡ is_outside line.now spot }
+fn is_outside(line: &Line, counter: LocationCounter) -> bool
+    ensures { result ≡ is_outside line.now counter }
 {
-    !spot.inside
+    !counter.inside
         && (line.label.is_some()
             || matches!(
                 line.statement,
@@ -150,14 +154,14 @@ pub(crate) fn is_enter(statement: &Option<Statement>) -> bool
 }
 
 /// Whether a line breaks the order of `enter` and `data`.
-fn is_misplaced(entered: bool, any: bool, line: &Line) -> bool
-    ensures { result ≡ is_misplaced entered any line.now }
+fn is_misplaced(entered: bool, has_enter: bool, line: &Line) -> bool
+    ensures { result ≡ is_misplaced entered has_enter line.now }
 {
     let is_rows = matches!(line.statement, Some(Statement::Rows { .. }));
     if entered {
         (line.label.is_some() || line.statement.is_some()) && !is_rows
     } else {
-        any && is_rows
+        has_enter && is_rows
     }
 }
 
@@ -183,33 +187,33 @@ pub(crate) struct Past {
 /// The fault of a line with the least number, among S9 to S17.
 pub(crate) fn cause_of(
     size: Size,
-    homes: &[Home],
-    any: bool,
+    symbols: &[Definition],
+    has_enter: bool,
     past: &Past,
     line: &Line,
-    spot: Spot,
+    counter: LocationCounter,
 ) -> Option<SourceCause>
-    requires place { spot.place ≤ 2 ^ 30 }
-    requires segments { spot.segments ≤ 2000 }
-    ensures { result ≡ cause_of size homes.now any (record { runs = past.now.runs.items; entered = past.now.entered })
-        line.now spot }
+    requires place { counter.place ≤ 2 ^ 30 }
+    requires segments { counter.segments ≤ 2000 }
+    ensures { result ≡ cause_of size symbols.now has_enter (record { runs = past.now.runs.items; entered = past.now.entered })
+        line.now counter }
 {
-    let reach = reach(homes, &line.statement, spot);
-    if is_outside(line, spot) {
+    let reach = reach(symbols, &line.statement, counter);
+    if is_outside(line, counter) {
         Some(SourceCause::OutsideSegment)
-    } else if meets(reach, (0, 44)) {
+    } else if overlaps(reach, (0, 44)) {
         Some(SourceCause::LoaderStore)
-    } else if meets(reach, (44, 56)) {
+    } else if overlaps(reach, (44, 56)) {
         Some(SourceCause::ParameterStore)
-    } else if meets(reach, (u64::from(size.value()), reach.1)) {
+    } else if overlaps(reach, (u64::from(size.value()), reach.1)) {
         Some(SourceCause::StoreEnd)
-    } else if meets_any(run_of(&line.statement, spot), &past.runs) {
+    } else if overlaps_any(run_of(&line.statement, counter), &past.runs) {
         Some(SourceCause::Overlap)
     } else if has_no_routine(&line.statement) {
         Some(SourceCause::NoSuchRoutine)
     } else if sets_otherwise(&line.statement) {
         Some(SourceCause::Parameters)
-    } else if is_misplaced(past.entered, any, line) {
+    } else if is_misplaced(past.entered, has_enter, line) {
         Some(SourceCause::Enter)
     } else if has_sandwich(&line.statement) {
         Some(SourceCause::SandwichDigit)
@@ -267,11 +271,11 @@ fn line_of(fault: SourceFault) -> u32
 }
 
 /// The fault of a source without an `enter`.
-pub(crate) fn missing(any: bool, lines: u32) -> Option<SourceFault>
+pub(crate) fn missing(has_enter: bool, lines: u32) -> Option<SourceFault>
     requires { lines ≤ 2000 }
-    ensures { result ≡ missing any lines }
+    ensures { result ≡ missing has_enter lines }
 {
-    if any {
+    if has_enter {
         None
     } else {
         Some(SourceFault::At {

@@ -8,14 +8,14 @@ ghost use Rattle.ed_link.specs.Words.{EachWordStands};
 ghost use Rattle.ed_link.specs.Private.Building.{IsFinished};
 ghost use Rattle.ed_link.specs.Private.FaultTests.{IsFirstFault, fault as first_fault};
 ghost use Rattle.ed_link.specs.Labels.{labels};
-ghost use Rattle.ed_link.specs.Linked.{homes_of};
+ghost use Rattle.ed_link.specs.Linked.{symbols_of};
 
 use crate::building::{Built, build};
 use crate::faults::{any_enter, missing, sooner, sooner_than};
 use crate::linked::{LabelPlace, Linked};
 use crate::words::words_of;
 use ed_library::catalogue_size;
-use ed_symbols::{Home, is_local, resolve};
+use ed_symbols::{Definition, is_local, resolve};
 use ed_syntax::{Program, SourceFault};
 use ed_words::{NoMemory, Size};
 use std::alloc::Global;
@@ -29,7 +29,7 @@ pub fn link(alloc: Global, size: Size, program: &Program) -> Result<Linked, Sour
     ensures words { EachWordStands }
 {
     let places = resolve(alloc, program)?;
-    link_names(alloc, size, program, places.homes(), places.fault())
+    link_names(alloc, size, program, places.symbols(), places.fault())
 }
 
 /// The same, given the definitions of the names and their first fault.
@@ -37,18 +37,18 @@ fn link_names(
     alloc: Global,
     size: Size,
     program: &Program,
-    homes: &[Home],
+    symbols: &[Definition],
     names: Option<SourceFault>,
 ) -> Result<Linked, SourceFault>
-    requires homes { homes.now ≡ homes_of program.now.lines.items }
+    requires symbols { symbols.now ≡ symbols_of program.now.lines.items }
     requires names { names ≡ (resolved program.now.lines.items).fault }
     ensures linked { IfOk result (λ k. IsLinked size program.now.lines.items k) }
     ensures fault { IfErr result (λ e. IsFirstFault (first_fault size program.now.lines.items) e) }
 {
     let _ready = catalogue_size();
-    let any = any_enter(&program.lines);
-    let missing = missing(any, program.lines.len() as u32);
-    let built = match build(alloc, size, homes, any, &program.lines) {
+    let has_enter = any_enter(&program.lines);
+    let missing = missing(has_enter, program.lines.len() as u32);
+    let built = match build(alloc, size, symbols, has_enter, &program.lines) {
         Ok(built) => built,
         Err(SourceFault::At { line, cause }) => {
             let fault = SourceFault::At { line, cause };
@@ -62,19 +62,19 @@ fn link_names(
     if let Some(missing) = missing {
         return Err(missing);
     }
-    Ok(finish(alloc, homes, built)?)
+    Ok(finish(alloc, symbols, built)?)
 }
 
 /// The names that a linked program reports.
-fn labels_of(alloc: Global, homes: &[Home]) -> Result<Vec<LabelPlace>, NoMemory>
-    ensures { IfOk result (λ v. v.items ≡ labels homes.now) }
+fn labels_of(alloc: Global, symbols: &[Definition]) -> Result<Vec<LabelPlace>, NoMemory>
+    ensures { IfOk result (λ v. v.items ≡ labels symbols.now) }
 {
     let mut labels = Vec::new(alloc);
-    for home in homes {
-        if !is_local(&home.name) && home.place <= 1023 {
+    for definition in symbols {
+        if !is_local(&definition.name) && definition.place <= 1023 {
             let label = LabelPlace {
-                name: home.name,
-                place: home.place as u16,
+                name: definition.name,
+                place: definition.place as u16,
             };
             labels.push(label)?;
         }
@@ -84,15 +84,15 @@ fn labels_of(alloc: Global, homes: &[Home]) -> Result<Vec<LabelPlace>, NoMemory>
 
 /// The linked program made from what was built of the lines.
 #[tactic(auto, using(crate::proofs::Spellable::all_spellable, crate::proofs::Bounds::tape_few))]
-fn finish(alloc: Global, homes: &[Home], built: Built) -> Result<Linked, NoMemory>
+fn finish(alloc: Global, symbols: &[Definition], built: Built) -> Result<Linked, NoMemory>
     requires spellable { AreSpellable built.items.items }
     requires table { length built.table.items ≡ 1024 }
     requires few_items { length built.items.items ≤ 480000 }
     requires few_rows { length built.after.items ≤ 240000 }
-    ensures { IfOk result (λ k. IsFinished homes.now built k) }
+    ensures { IfOk result (λ k. IsFinished symbols.now built k) }
 {
     let words = words_of(alloc, &built.table)?;
-    let labels = labels_of(alloc, homes)?;
+    let labels = labels_of(alloc, symbols)?;
     Ok(Linked {
         items: built.items,
         words,

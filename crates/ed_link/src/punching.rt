@@ -8,7 +8,7 @@ ghost use Rattle.ed_library.specs.Routines.{table_item, place_count};
 ghost use Rattle.ed_symbols.specs.Names.{place_on};
 ghost use Rattle.ed_symbols.specs.Places.{segment_at};
 ghost use Rattle.ed_library.specs.Routines.{find, routine_item as item_at};
-ghost use Rattle.ed_symbols.specs.Places.{passed, routine_places};
+ghost use Rattle.ed_symbols.specs.Places.{after_statement, routine_places};
 ghost use Rattle.ed_link.specs.Private.FaultTests.{reach};
 ghost use Rattle.ed_link.specs.Linked.{operand_number, long_words, set_to, parameter_letters, line_words};
 ghost use Rattle.ed_link.specs.Punch.{ending, head, headed, heads, item_with, items_of, order_item, goes_by_theta};
@@ -18,7 +18,7 @@ use crate::operands::{goes_by_theta, number, setting};
 use ed_codes::Code;
 use ed_library::{Routine, catalogue_size, find};
 use ed_notation::Item;
-use ed_symbols::{Home, Spot, even, find_place};
+use ed_symbols::{Definition, LocationCounter, even, find_place};
 use ed_syntax::{Name, Operand, Setting, Statement};
 use ed_words::{Long, NoMemory, Word};
 
@@ -117,27 +117,27 @@ fn push_word(items: &mut Vec<Item>, word: Word) -> Result<(), NoMemory>
 /// Adds the item of an order.
 fn push_order(
     items: &mut Vec<Item>,
-    homes: &[Home],
-    spot: Spot,
+    symbols: &[Definition],
+    counter: LocationCounter,
     function: Code,
     operand: &Operand,
     length: bool,
 ) -> Result<(), NoMemory>
     requires spellable { AreSpellable items.old.items }
-    requires base { spot.base ≤ 32767 }
+    requires base { counter.base ≤ 32767 }
     ensures items { OnOk result (items.new.items
-        ≡ items.old.items ++ order_item (goes_by_theta homes.now spot operand.now)
-        spot.base function (operand_number homes.now (segment_at spot) operand.now) length ∷ []) }
+        ≡ items.old.items ++ order_item (goes_by_theta symbols.now counter operand.now)
+        counter.base function (operand_number symbols.now (segment_at counter) operand.now) length ∷ []) }
     ensures spellable { AreSpellable items.new.items }
 {
-    let number = number(homes, spot.segment(), operand);
+    let number = number(symbols, counter.segment(), operand);
     let _ = function.value();
-    if goes_by_theta(homes, spot, operand) {
+    if goes_by_theta(symbols, counter, operand) {
         push(
             items,
             Item {
                 function,
-                number: number.saturating_sub(spot.base as u16),
+                number: number.saturating_sub(counter.base as u16),
                 mark: length,
                 end: Code::new(18).unwrap(),
             },
@@ -148,14 +148,14 @@ fn push_order(
 }
 
 /// Adds the head of a segment, if a line is its first with a word.
-fn push_heads(items: &mut Vec<Item>, spot: Spot) -> Result<(), NoMemory>
+fn push_heads(items: &mut Vec<Item>, counter: LocationCounter) -> Result<(), NoMemory>
     requires spellable { AreSpellable items.old.items }
-    requires base { spot.base ≤ 32767 }
-    ensures items { OnOk result (items.new.items ≡ items.old.items ++ heads (nat_eq spot.place spot.base) spot.base) }
+    requires base { counter.base ≤ 32767 }
+    ensures items { OnOk result (items.new.items ≡ items.old.items ++ heads (nat_eq counter.place counter.base) counter.base) }
     ensures spellable { AreSpellable items.new.items }
 {
-    if spot.place == spot.base {
-        push_head(items, spot.base as u16)?;
+    if counter.place == counter.base {
+        push_head(items, counter.base as u16)?;
     }
     Ok(())
 }
@@ -189,14 +189,14 @@ fn push_long(items: &mut Vec<Item>, place: u32, value: Long) -> Result<(), NoMem
 /// Adds the items of a parameter, if it is set.
 fn push_preset(
     items: &mut Vec<Item>,
-    homes: &[Home],
+    symbols: &[Definition],
     settings: &[Setting],
     letter: u8,
 ) -> Result<(), NoMemory>
     requires spellable { AreSpellable items.old.items }
     requires letter { letter ≤ 26 }
     ensures items { OnOk result
-        (items.new.items ≡ items.old.items ++ preset_items homes.now (set_to settings.now letter) letter) }
+        (items.new.items ≡ items.old.items ++ preset_items symbols.now (set_to settings.now letter) letter) }
     ensures spellable { AreSpellable items.new.items }
 {
     match setting(settings, letter) {
@@ -205,7 +205,7 @@ fn push_preset(
             push_number(
                 items,
                 Code::new(0).unwrap(),
-                number(homes, None, &operand),
+                number(symbols, None, &operand),
                 false,
             )
         }
@@ -216,18 +216,18 @@ fn push_preset(
 /// Adds the items of the parameters of some letters.
 fn push_presets(
     items: &mut Vec<Item>,
-    homes: &[Home],
+    symbols: &[Definition],
     settings: &[Setting],
     letters: &[u8],
 ) -> Result<(), NoMemory>
     requires spellable { AreSpellable items.old.items }
     requires letters { IsTrue (list_all (λ c. nat_le c 26) letters.now) }
     ensures items { OnOk result (items.new.items
-        ≡ items.old.items ++ flat_map (λ c. preset_items homes.now (set_to settings.now c) c) letters.now) }
+        ≡ items.old.items ++ flat_map (λ c. preset_items symbols.now (set_to settings.now c) c) letters.now) }
     ensures spellable { AreSpellable items.new.items }
 {
     for letter in letters {
-        push_preset(items, homes, settings, *letter)?;
+        push_preset(items, symbols, settings, *letter)?;
     }
     Ok(())
 }
@@ -248,7 +248,7 @@ fn push_routine(items: &mut Vec<Item>, routine: Routine) -> Result<(), NoMemory>
 /// Adds the items of a `use`.
 fn push_use(
     items: &mut Vec<Item>,
-    homes: &[Home],
+    symbols: &[Definition],
     settings: &[Setting],
     base: u32,
     routine: &Name,
@@ -256,10 +256,10 @@ fn push_use(
     requires spellable { AreSpellable items.old.items }
     requires base { 0 < routine_places (find routine.now) → base ≤ 32767 }
     ensures items { OnOk result
-        (items.new.items ≡ items.old.items ++ use_items homes.now settings.now base (find routine.now)) }
+        (items.new.items ≡ items.old.items ++ use_items symbols.now settings.now base (find routine.now)) }
     ensures spellable { AreSpellable items.new.items }
 {
-    push_presets(items, homes, settings, &[21, 22, 23, 24, 25, 26])?;
+    push_presets(items, symbols, settings, &[21, 22, 23, 24, 25, 26])?;
     match find(routine.text()) {
         Some(routine) => {
             let _ready = catalogue_size();
@@ -274,16 +274,16 @@ fn push_use(
 /// Adds the items of a line.
 pub(crate) fn push_line(
     items: &mut Vec<Item>,
-    homes: &[Home],
-    spot: Spot,
+    symbols: &[Definition],
+    counter: LocationCounter,
     statement: &Option<Statement>,
 ) -> Result<(), NoMemory>
     requires spellable { AreSpellable items.old.items }
-    requires place { spot.place ≤ 2 ^ 30 }
-    requires base { spot.base ≤ spot.place }
-    requires fits { (reach homes.now statement.now spot).0 < (reach homes.now statement.now spot).1
-        → (reach homes.now statement.now spot).1 ≤ 1024 }
-    ensures items { OnOk result (items.new.items ≡ items.old.items ++ items_of homes.now spot statement.now) }
+    requires place { counter.place ≤ 2 ^ 30 }
+    requires base { counter.base ≤ counter.place }
+    requires fits { (reach symbols.now statement.now counter).0 < (reach symbols.now statement.now counter).1
+        → (reach symbols.now statement.now counter).1 ≤ 1024 }
+    ensures items { OnOk result (items.new.items ≡ items.old.items ++ items_of symbols.now counter statement.now) }
     ensures spellable { AreSpellable items.new.items }
 {
     match statement {
@@ -294,23 +294,23 @@ pub(crate) fn push_line(
                 length,
             },
         ) => {
-            push_heads(items, spot)?;
-            push_order(items, homes, spot, *function, operand, *length)
+            push_heads(items, counter)?;
+            push_order(items, symbols, counter, *function, operand, *length)
         }
         Some(Statement::Number { value }) => {
-            push_heads(items, spot)?;
+            push_heads(items, counter)?;
             push_word(items, *value)
         }
         Some(Statement::Text { codes }) => {
             if codes.is_empty() {
                 return Ok(());
             }
-            push_heads(items, spot)?;
+            push_heads(items, counter)?;
             push_text(items, codes)
         }
         Some(Statement::Long { value }) => {
-            push_heads(items, spot)?;
-            push_long(items, spot.place, *value)
+            push_heads(items, counter)?;
+            push_long(items, counter.place, *value)
         }
         Some(
             Statement::Fetch {
@@ -318,9 +318,9 @@ pub(crate) fn push_line(
                 settings,
                 ..
             },
-        ) => push_use(items, homes, settings, even(spot.place), routine),
+        ) => push_use(items, symbols, settings, even(counter.place), routine),
         Some(Statement::Enter { name }) => {
-            push_control(items, 3, entry_of(homes, name))?;
+            push_control(items, 3, entry_of(symbols, name))?;
             push_number(items, Code::new(0).unwrap(), 0, false)
         }
         None | Some(Statement::Segment { .. } | Statement::Rows { .. }) => Ok(()),
@@ -328,11 +328,11 @@ pub(crate) fn push_line(
 }
 
 /// The location of a name, if it is in the store, and 0 if there is none.
-pub(crate) fn entry_of(homes: &[Home], name: &Name) -> u16
-    requires { unwrap_or (place_on homes.now None name.now) 0 ≤ 32767 }
-    ensures is { result ≡ unwrap_or (place_on homes.now None name.now) 0 }
+pub(crate) fn entry_of(symbols: &[Definition], name: &Name) -> u16
+    requires { unwrap_or (place_on symbols.now None name.now) 0 ≤ 32767 }
+    ensures is { result ≡ unwrap_or (place_on symbols.now None name.now) 0 }
 {
-    match find_place(homes, None, name) {
+    match find_place(symbols, None, name) {
         Some(place) => place as u16,
         None => 0,
     }

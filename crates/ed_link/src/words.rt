@@ -8,7 +8,8 @@ ghost use Rattle.ed_library.specs.Entries.{entry};
 ghost use Rattle.ed_library.specs.Images.{routine_word};
 ghost use Rattle.ed_library.specs.Routines.{find, table_item, place_count};
 ghost use Rattle.ed_symbols.specs.Places.{segment_at, even_from, routine_places};
-ghost use Rattle.ed_link.specs.Linked.{image, laid, long_words, operand_number, parameters, placed_by_line, preset};
+ghost use Rattle.ed_link.specs.Linked.{image, placed_words, long_words, operand_number, parameters, placed_by_line};
+ghost use Rattle.ed_link.specs.Linked.{preset};
 ghost use Rattle.ed_link.specs.Linked.{presets};
 ghost use Rattle.ed_link.specs.Linked.{set_to, line_words};
 ghost use Rattle.ed_link.specs.Private.FaultTests.{reach};
@@ -18,7 +19,7 @@ use crate::linked::Placed;
 use crate::operands::{number, parameters, setting};
 use ed_codes::Code;
 use ed_library::{Parameters, Routine, find, image_word};
-use ed_symbols::{Home, Spot, even};
+use ed_symbols::{Definition, LocationCounter, even};
 use ed_syntax::{Name, Operand, Setting, Statement};
 use ed_words::{Long, NoMemory, Word};
 use std::alloc::Global;
@@ -32,11 +33,17 @@ fn put(table: &mut Vec<Option<Word>>, place: u32, word: Word)
 }
 
 /// The word of an order.
-fn order_word(homes: &[Home], spot: Spot, function: Code, operand: &Operand, length: bool) -> Word
+fn order_word(
+    symbols: &[Definition],
+    counter: LocationCounter,
+    function: Code,
+    operand: &Operand,
+    length: bool,
+) -> Word
     ensures { result
-        ≡ word_with function (operand_number homes.now (segment_at spot) operand.now) false (digit length) }
+        ≡ word_with function (operand_number symbols.now (segment_at counter) operand.now) false (digit length) }
 {
-    let number = u32::from(number(homes, spot.segment(), operand));
+    let number = u32::from(number(symbols, counter.segment(), operand));
     let sum = 4096 * u32::from(function.value()) + 2 * number + u32::from(length);
     Word::new(sum % 131072).unwrap()
 }
@@ -45,7 +52,7 @@ fn order_word(homes: &[Home], spot: Spot, function: Code, operand: &Operand, len
 fn put_text(table: &mut Vec<Option<Word>>, place: u32, codes: &[Code])
     requires table { place + length codes.now ≤ length table.old.items }
     requires few { length table.old.items ≤ 1024 }
-    ensures { table.new.items ≡ put_all table.old.items (laid place (map (λ c. 4096 * c) codes.now)) }
+    ensures { table.new.items ≡ put_all table.old.items (placed_words place (map (λ c. 4096 * c) codes.now)) }
 {
     let mut at = place;
     for code in codes {
@@ -62,7 +69,7 @@ fn put_text(table: &mut Vec<Option<Word>>, place: u32, codes: &[Code])
 fn put_long(table: &mut Vec<Option<Word>>, place: u32, value: Long)
     requires table { place + length (long_words place value) ≤ length table.old.items }
     requires few { length table.old.items ≤ 1024 }
-    ensures { table.new.items ≡ put_all table.old.items (laid place (long_words place value)) }
+    ensures { table.new.items ≡ put_all table.old.items (placed_words place (long_words place value)) }
 {
     let halves = value.halves();
     let mut at = place;
@@ -75,26 +82,36 @@ fn put_long(table: &mut Vec<Option<Word>>, place: u32, value: Long)
 }
 
 /// Puts the word of a parameter, if it is set.
-fn put_preset(table: &mut Vec<Option<Word>>, homes: &[Home], settings: &[Setting], letter: u8)
+fn put_preset(
+    table: &mut Vec<Option<Word>>,
+    symbols: &[Definition],
+    settings: &[Setting],
+    letter: u8,
+)
     requires letter { letter ≤ 26 }
     requires table { 51 ≤ length table.old.items }
-    ensures { table.new.items ≡ put_all table.old.items (preset homes.now (set_to settings.now letter) letter) }
+    ensures { table.new.items ≡ put_all table.old.items (preset symbols.now (set_to settings.now letter) letter) }
 {
     if let Some(operand) = setting(settings, letter) {
-        let word = 2 * u32::from(number(homes, None, &operand));
+        let word = 2 * u32::from(number(symbols, None, &operand));
         put(table, 24 + u32::from(letter), Word::new(word).unwrap());
     }
 }
 
 /// Puts the words of the parameters of some letters.
-fn put_presets(table: &mut Vec<Option<Word>>, homes: &[Home], settings: &[Setting], letters: &[u8])
+fn put_presets(
+    table: &mut Vec<Option<Word>>,
+    symbols: &[Definition],
+    settings: &[Setting],
+    letters: &[u8],
+)
     requires letters { IsTrue (list_all (λ c. nat_le c 26) letters.now) }
     requires table { 51 ≤ length table.old.items }
     ensures { table.new.items
-        ≡ put_all table.old.items (flat_map (λ c. preset homes.now (set_to settings.now c) c) letters.now) }
+        ≡ put_all table.old.items (flat_map (λ c. preset symbols.now (set_to settings.now c) c) letters.now) }
 {
     for letter in letters {
-        put_preset(table, homes, settings, *letter);
+        put_preset(table, symbols, settings, *letter);
     }
 }
 
@@ -102,7 +119,7 @@ fn put_presets(table: &mut Vec<Option<Word>>, homes: &[Home], settings: &[Settin
 fn put_routine(table: &mut Vec<Option<Word>>, parameters: &Parameters, base: u16, routine: Routine)
     requires { base + place_count routine ≤ length table.old.items }
     ensures { table.new.items
-        ≡ put_all table.old.items (laid base (map (λ row. routine_word parameters.now base (table_item row))
+        ≡ put_all table.old.items (placed_words base (map (λ row. routine_word parameters.now base (table_item row))
         (entry routine).items)) }
 {
     for place in 0..routine.length() {
@@ -115,7 +132,7 @@ fn put_routine(table: &mut Vec<Option<Word>>, parameters: &Parameters, base: u16
 #[tactic(auto, using(crate::proofs::Lengths::put_all_append))]
 fn put_use(
     table: &mut Vec<Option<Word>>,
-    homes: &[Home],
+    symbols: &[Definition],
     settings: &[Setting],
     base: u32,
     routine: &Name,
@@ -124,13 +141,13 @@ fn put_use(
         → base + routine_places (find routine.now) ≤ length table.old.items }
     requires table { length table.old.items ≡ 1024 }
     ensures { table.new.items
-        ≡ put_all table.old.items (presets homes.now settings.now ++ image homes.now settings.now base
+        ≡ put_all table.old.items (presets symbols.now settings.now ++ image symbols.now settings.now base
         (find routine.now)) }
 {
-    put_presets(table, homes, settings, &[21, 22, 23, 24, 25, 26]);
+    put_presets(table, symbols, settings, &[21, 22, 23, 24, 25, 26]);
     if let Some(routine) = find(routine.text()) {
         let _ = routine.length();
-        put_routine(table, &parameters(homes, settings), base as u16, routine);
+        put_routine(table, &parameters(symbols, settings), base as u16, routine);
     }
 }
 
@@ -138,15 +155,15 @@ fn put_use(
 #[tactic(auto, using(crate::proofs::Lengths::put_all_length))]
 pub(crate) fn put_line(
     table: &mut Vec<Option<Word>>,
-    homes: &[Home],
-    spot: Spot,
+    symbols: &[Definition],
+    counter: LocationCounter,
     statement: &Option<Statement>,
 )
     requires table { length table.old.items ≡ 1024 }
-    requires place { spot.place ≤ 2 ^ 30 }
-    requires fits { (reach homes.now statement.now spot).0 < (reach homes.now statement.now spot).1
-        → (reach homes.now statement.now spot).1 ≤ 1024 }
-    ensures is { table.new.items ≡ put_all table.old.items (placed_by_line homes.now spot statement.now) }
+    requires place { counter.place ≤ 2 ^ 30 }
+    requires fits { (reach symbols.now statement.now counter).0 < (reach symbols.now statement.now counter).1
+        → (reach symbols.now statement.now counter).1 ≤ 1024 }
+    ensures is { table.new.items ≡ put_all table.old.items (placed_by_line symbols.now counter statement.now) }
     ensures length { length table.new.items ≡ 1024 }
 {
     match statement {
@@ -158,23 +175,23 @@ pub(crate) fn put_line(
             },
         ) => put(
             table,
-            spot.place,
-            order_word(homes, spot, *function, operand, *length),
+            counter.place,
+            order_word(symbols, counter, *function, operand, *length),
         ),
-        Some(Statement::Number { value }) => put(table, spot.place, *value),
+        Some(Statement::Number { value }) => put(table, counter.place, *value),
         Some(Statement::Text { codes }) => {
             if !codes.is_empty() {
-                put_text(table, spot.place, codes);
+                put_text(table, counter.place, codes);
             }
         }
-        Some(Statement::Long { value }) => put_long(table, spot.place, *value),
+        Some(Statement::Long { value }) => put_long(table, counter.place, *value),
         Some(
             Statement::Fetch {
                 routine,
                 settings,
                 ..
             },
-        ) => put_use(table, homes, settings, even(spot.place), routine),
+        ) => put_use(table, symbols, settings, even(counter.place), routine),
         None | Some(Statement::Segment { .. } | Statement::Rows { .. } | Statement::Enter { .. }) =>
             {}
     }

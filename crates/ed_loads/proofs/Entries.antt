@@ -24,7 +24,7 @@ use Rattle.ed_initial.proofs.Quiet.{LeadsIn, comes_in}
 use Rattle.ed_syntax.specs.declared.program.Line.{Line}
 use Rattle.ed_link.specs.declared.linked.Linked.{Linked}
 use Rattle.ed_link.specs.Answers.{IsLinked}
-use Rattle.ed_link.specs.Linked.{linked, entry_of, data_behind}
+use Rattle.ed_link.specs.Linked.{linked, entry_of, data_after}
 use Rattle.ed_link.proofs.EachSource.{each_source as comes_to}
 use Rattle.ed_link.specs.Tapes.{ComesToLinked, arrival, cost, tape}
 use Rattle.ed_loads.specs.EntryState.{Enters, EachSourceEnters, entry_state, first_state, own_words}
@@ -98,7 +98,7 @@ entered z lines = λ i.
       acc = 0;
       multiplier = 20480 * 2 ^ 18;
       counter = entry_of lines;
-      tape = data_behind lines;
+      tape = data_after lines;
       last = None;
       orders = k;
     }

@@ -7,15 +7,15 @@ use Rattle.ed_store.specs.Cells.{Cells}
 use Rattle.ed_machine.specs.State.{State, cleared}
 use Rattle.ed_machine.specs.Start.{started}
 use Rattle.ed_machine.specs.OrderTable.{step}
-use Rattle.ed_machine.specs.Steps.{past, state_after}
+use Rattle.ed_machine.specs.Steps.{progress, state_after}
 use Rattle.ed_machine.specs.declared.turn.Turn.TheVariants.{Went}
 use Rattle.ed_notation.specs.Fold.{over}
 use Rattle.ed_initial.specs.Listing.{initial_orders}
 use Rattle.ed_initial.specs.Rests.{Working, initial_words}
 use Rattle.ed_words.specs.Texts.{Text}
 use Rattle.ed_syntax.specs.declared.program.Line.{Line}
-use Rattle.ed_symbols.specs.Places.{first_spot}
-use Rattle.ed_link.specs.Linked.{linked, entry_of, theta_from, data_behind}
+use Rattle.ed_symbols.specs.Places.{first_counter}
+use Rattle.ed_link.specs.Linked.{linked, entry_of, theta_from, data_after}
 use Rattle.ed_link.specs.Tapes.{cost, punched_rows, tape}
 use Rattle.ed_link.specs.Refusals.{IsAcceptedAs}
 
@@ -33,7 +33,7 @@ own_words lines = record {
   at22 = 12288 + 2 * entry_of lines;
   at40 = 0;
   at41 = 0;
-  at42 = theta_from 0 first_spot lines;
+  at42 = theta_from 0 first_counter lines;
   at43 = 1;
 }
 
@@ -52,7 +52,7 @@ entry_state z lines = record {
   acc = 0;
   multiplier = 20480 * 2 ^ 18;
   counter = entry_of lines;
-  tape = data_behind lines;
+  tape = data_after lines;
   last = None;
   orders = cost lines;
 }
@@ -61,7 +61,7 @@ entry_state z lines = record {
 -- orders for each row of the punched items, and 9 more; none of these orders prints or stops, so nothing is printed
 pub record Enters (z : Size) (lines : List Line) : Type 0 where
   pub state_is : state_after (cost lines) (first_state z (tape lines)) ≡ entry_state z lines
-  pub silent : (past (cost lines) (first_state z (tape lines))).codes ≡ []
+  pub silent : (progress (cost lines) (first_state z (tape lines))).codes ≡ []
   pub went : (j : ℕ) → j < cost lines → (step (state_after j (first_state z (tape lines)))).turn ≡ Went
   pub cheap : cost lines ≤ 17 * length (punched_rows lines) + 9
 

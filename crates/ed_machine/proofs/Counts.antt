@@ -1,13 +1,13 @@
 -- Steps that each obey an order are counted.
 use Rattle.std.proofs.Common.{◌≡◌, zero, suc, ◌+◌, arith}
 use Rattle.ed_machine.specs.OrderTable.{step}
-use Rattle.ed_machine.specs.Steps.{past, state_after}
+use Rattle.ed_machine.specs.Steps.{progress, state_after}
 use Rattle.ed_machine.specs.Sound.{CountsOrders}
 use Rattle.ed_machine.proofs.Keeping.{step_leaves}
 
 -- k orders obeyed are k orders more
 pub counted_after : CountsOrders
-unfolding past
+unfolding progress
 counted_after zero s free = omega arith
 counted_after (suc k) s free =
     let before : (state_after k s).orders ≡ s.orders + k = counted_after k s (λ j h. free j (omega arith)) in

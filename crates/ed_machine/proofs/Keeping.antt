@@ -5,7 +5,7 @@ use Rattle.ed_orders.specs.declared.kind.Kind.{Kind}
 use Rattle.ed_orders.specs.declared.kind.Kind.TheVariants.{A, S, H, V, N, T, U, C, R, L, E, G, I, O, F, X, Y, Z}
 use Rattle.ed_machine.specs.State.{State}
 use Rattle.ed_machine.specs.OrderTable.{Obeyed, blocked, jumped, obey_word, place_of, step, took_row}
-use Rattle.ed_machine.specs.Steps.{is_obeyed, past, state_after}
+use Rattle.ed_machine.specs.Steps.{is_obeyed, progress, state_after}
 use Rattle.ed_machine.specs.declared.turn.Turn.{Turn}
 
 -- a state reached by at most a number of orders
@@ -77,7 +77,7 @@ step_leaves s = word_leaves _ _ s
 
 -- any number of them
 pub steps_follow : (k : ℕ) (s : State) → Follows k s (state_after k s)
-unfolding past
+unfolding progress
 steps_follow zero s = record { size_is = refl; fewer = omega arith; later = omega arith; soon = omega arith }
 steps_follow (suc k) s =
     let before = steps_follow k s in

@@ -12,7 +12,7 @@ use Rattle.ed_orders.specs.declared.kind.Kind.TheVariants.{A, S, H, V, N, T, U, 
 use Rattle.ed_machine.specs.State.{State}
 use Rattle.ed_machine.specs.OrderTable.{step, obey_word, read_at, written, written_at}
 use Rattle.ed_machine.specs.OrderTable.{place_of, operand35, done_at, after, jumped, took_row}
-use Rattle.ed_machine.specs.Steps.{past, state_after}
+use Rattle.ed_machine.specs.Steps.{progress, state_after}
 use Rattle.ed_machine.specs.Sound.{IsSound, StaysSound}
 
 -- the arithmetic of the accumulator gives 71 digits
@@ -196,6 +196,6 @@ sound_step s h = obeyed _ _ s h
 
 -- so do any number of steps
 pub sound_after : StaysSound
-unfolding past
+unfolding progress
 sound_after zero s h = h
 sound_after (suc k) s h = sound_step (state_after k s) (sound_after k s h)

@@ -4,49 +4,50 @@ use Rattle.std.proofs.Common.{add-one, below_more, true, ◌++◌, append_assoc,
 use Rattle.std.proofs.lemmas.Bool.{cases_lt}
 use Rattle.ed_machine.specs.State.{State}
 use Rattle.ed_machine.specs.OrderTable.{step}
-use Rattle.ed_machine.specs.Steps.{IsFree, Past, codes_of, is_obeyed, next_past, past, state_after, stops_of}
+use Rattle.ed_machine.specs.Steps.{AreObeyed, Progress, codes_of, is_obeyed, next_progress, progress, state_after}
+use Rattle.ed_machine.specs.Steps.{stops_of}
 use Rattle.ed_machine.specs.declared.turn.Turn.{Turn}
 use Rattle.ed_machine.specs.declared.turn.Turn.TheVariants.{Went, Printed, Stopped, NoOrder, NoTape}
 
 -- ---- none, and one more
 
 pub no_step : (s : State) → s ≡ state_after 0 s
-unfolding past
+unfolding progress
 no_step s = refl
 
-pub past_next : (k : ℕ) (s : State) → past (k + 1) s ≡ next_past (past k s)
-unfolding past
+pub past_next : (k : ℕ) (s : State) → progress (k + 1) s ≡ next_progress (progress k s)
+unfolding progress
 past_next k s = rw add-one refl
 
 pub next_state : (k : ℕ) (s : State) {m n : State} → m ≡ state_after k s → n ≡ (step m).state
     → n ≡ state_after (k + 1) s
 next_state k s at to =
-    to ∙ ap (λ (x : State). (step x).state) at ∙ sym (ap (λ (p : Past). p.state) (past_next k s))
+    to ∙ ap (λ (x : State). (step x).state) at ∙ sym (ap (λ (p : Progress). p.state) (past_next k s))
 
 pub next_stops : (k : ℕ) (s : State)
-    → (past (k + 1) s).stops ≡ (past k s).stops + stops_of (step (state_after k s)).turn
-next_stops k s = ap (λ (p : Past). p.stops) (past_next k s)
+    → (progress (k + 1) s).stops ≡ (progress k s).stops + stops_of (step (state_after k s)).turn
+next_stops k s = ap (λ (p : Progress). p.stops) (past_next k s)
 
 -- ---- some after others
 
 -- what was printed and the stops of both, in the state that the later ones lead to
-abbrev pub past_after : Past → Past → Past
+abbrev pub past_after : Progress → Progress → Progress
 past_after p q = record { state = q.state; codes = p.codes ++ q.codes; stops = p.stops + q.stops }
 
-pub past_sum : (a b : ℕ) (s : State) → past (a + b) s ≡ past_after (past a s) (past b (state_after a s))
-unfolding past
+pub past_sum : (a b : ℕ) (s : State) → progress (a + b) s ≡ past_after (progress a s) (progress b (state_after a s))
+unfolding progress
 past_sum a zero s =
     let e : a + 0 ≡ a = omega arith in
-    let z : (past a s).stops + 0 ≡ (past a s).stops = omega arith in
-    rw e (λ i. record { state = state_after a s; codes = sym (append-nil (past a s).codes) i; stops = sym z i })
+    let z : (progress a s).stops + 0 ≡ (progress a s).stops = omega arith in
+    rw e (λ i. record { state = state_after a s; codes = sym (append-nil (progress a s).codes) i; stops = sym z i })
 past_sum a (suc b) s =
     let e : a + suc b ≡ suc (a + b) = omega arith in
-    let p = past a s in
-    let q = past b p.state in
+    let p = progress a s in
+    let q = progress b p.state in
     let z : p.stops + q.stops + stops_of (step q.state).turn ≡ p.stops + (q.stops + stops_of (step q.state).turn) =
     omega arith in
     rw e
-    (ap next_past (past_sum a b s)
+    (ap next_progress (past_sum a b s)
     ∙ (λ i. record {
       state = (step q.state).state;
       codes = append_assoc p.codes q.codes (codes_of (step q.state).turn) i;
@@ -54,7 +55,7 @@ past_sum a (suc b) s =
     }))
 
 pub after_sum : (a b : ℕ) (s : State) → state_after (a + b) s ≡ state_after b (state_after a s)
-after_sum a b s = ap (λ (p : Past). p.state) (past_sum a b s)
+after_sum a b s = ap (λ (p : Progress). p.state) (past_sum a b s)
 
 -- what holds of the states before a steps and of those before b more holds before all of them
 pub each_sum : (P : State → Type 0) (a b : ℕ) (s : State) → ((j : ℕ) → j < a → P (state_after j s))
@@ -68,11 +69,12 @@ each_sum P a b s first more j h = by_place (cases_lt j a)
         subst P (sym (after_sum a (j - a) s) ∙ ap (λ k. state_after k s) e) (more (j - a) (omega arith))
 
 -- orders obeyed after orders obeyed
-pub free_sum : (a b : ℕ) (s : State) → IsFree a s → IsFree b (state_after a s) → IsFree (a + b) s
+pub free_sum : (a b : ℕ) (s : State) → AreObeyed a s → AreObeyed b (state_after a s) → AreObeyed (a + b) s
 free_sum = each_sum (λ (x : State). is_obeyed (step x).turn ≡ true)
 
 -- one more order obeyed after some
-pub free_more : (k : ℕ) (s : State) → IsFree k s → is_obeyed (step (state_after k s)).turn ≡ true → IsFree (suc k) s
+pub free_more : (k : ℕ) (s : State) → AreObeyed k s → is_obeyed (step (state_after k s)).turn ≡ true
+    → AreObeyed (suc k) s
 free_more k s free more j h =
     below_more (λ j. is_obeyed (step (state_after j s)).turn ≡ true) k free more j (omega arith)
 
@@ -86,9 +88,9 @@ one_code (NoOrder function) = omega arith
 one_code NoTape = omega arith
 
 -- no more codes than steps
-pub few_codes : (k : ℕ) (s : State) → length (past k s).codes ≤ k
-unfolding past
+pub few_codes : (k : ℕ) (s : State) → length (progress k s).codes ≤ k
+unfolding progress
 few_codes zero s = omega arith
 few_codes (suc k) s =
     let turn = (step (state_after k s)).turn in
-    omega (arith, few_codes k s, one_code turn, length-append (past k s).codes (codes_of turn))
+    omega (arith, few_codes k s, one_code turn, length-append (progress k s).codes (codes_of turn))

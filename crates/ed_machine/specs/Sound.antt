@@ -4,7 +4,7 @@ use Rattle.ed_words.specs.Sizes.{locations}
 use Rattle.ed_store.specs.Cells.{IsStore}
 use Rattle.ed_machine.specs.State.{State}
 use Rattle.ed_machine.specs.OrderTable.{last_code}
-use Rattle.ed_machine.specs.Steps.{IsFree, state_after}
+use Rattle.ed_machine.specs.Steps.{AreObeyed, state_after}
 
 -- a state within its bounds: its words, its registers, its counter, the rows of its tape and its last code
 pub record IsSound (s : State) : Type 0 where
@@ -21,4 +21,4 @@ StaysSound = (k : ℕ) (s : State) → IsSound s → IsSound (state_after k s)
 
 -- if each of k steps obeyed an order, the count of orders grew by k
 abbrev pub CountsOrders : Type 0
-CountsOrders = (k : ℕ) (s : State) → IsFree k s → (state_after k s).orders ≡ s.orders + k
+CountsOrders = (k : ℕ) (s : State) → AreObeyed k s → (state_after k s).orders ≡ s.orders + k

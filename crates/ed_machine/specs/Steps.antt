@@ -1,5 +1,5 @@
 -- Many orders one after the other. A state in which no order can be obeyed stays the same, so any number of steps leads
--- to a state; `IsFree` says that each of them obeyed an order.
+-- to a state; `AreObeyed` says that each of them obeyed an order.
 use Rattle.std.specs.Prelude.{◌≡◌, ℕ, zero, suc, ◌+◌, ◌<◌, List, [], ◌∷◌, ◌++◌, Bool, true, false, if◌then◌else◌}
 use Rattle.ed_machine.specs.State.{State}
 use Rattle.ed_machine.specs.OrderTable.{step}
@@ -36,31 +36,31 @@ is_stop Stopped = true
 is_stop turn = false
 
 -- where a number of orders led: the state, the codes printed on the way, and how many of the orders were stops
-pub record Past : Type 0 where
+pub record Progress : Type 0 where
   pub state : State
   pub codes : List ℕ
   pub stops : ℕ
 
 -- the same after one more order
-abbrev pub next_past : Past → Past
-next_past p = record {
+abbrev pub next_progress : Progress → Progress
+next_progress p = record {
   state = (step p.state).state;
   codes = p.codes ++ codes_of (step p.state).turn;
   stops = p.stops + stops_of (step p.state).turn;
 }
 
 -- where k steps from a state lead
-unfoldable pub past : ℕ → State → Past
-past zero s = record { state = s; codes = []; stops = 0 }
-past (suc k) s = next_past (past k s)
+unfoldable pub progress : ℕ → State → Progress
+progress zero s = record { state = s; codes = []; stops = 0 }
+progress (suc k) s = next_progress (progress k s)
 
 -- the state after k steps
 abbrev pub state_after : ℕ → State → State
-state_after k s = (past k s).state
+state_after k s = (progress k s).state
 
 -- each of the first k steps was an order obeyed
-abbrev pub IsFree : ℕ → State → Type 0
-IsFree k s = (j : ℕ) → j < k → is_obeyed (step (state_after j s)).turn ≡ true
+abbrev pub AreObeyed : ℕ → State → Type 0
+AreObeyed k s = (j : ℕ) → j < k → is_obeyed (step (state_after j s)).turn ≡ true
 
 -- the least number below n for which a test holds, or n if it holds for none
 unfoldable pub least : (ℕ → Bool) → ℕ → ℕ

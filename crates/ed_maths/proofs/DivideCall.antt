@@ -19,7 +19,8 @@ use Rattle.ed_routines.specs.Standing.{Stands, IsOutside, caller}
 use Rattle.ed_routines.specs.Returns.{IsOther}
 use Rattle.ed_routines.proofs.Image.{Makes, none, more}
 use Rattle.ed_routines.proofs.Called.{Call, IsWithin, image, holds, kept, beside, call_of}
-use Rattle.ed_maths.specs.Quotients.{divide, with_hnm, dividend, divide_orders, ones, IsDivision, IsOtherPair, Divided}
+use Rattle.ed_maths.specs.Quotients.{divide, with_hnm, dividend, divide_orders, ones, IsDivision, IsOtherPair}
+use Rattle.ed_maths.specs.Quotients.{HasDivided}
 use Rattle.ed_maths.proofs.Quotient.{numbers}
 use Rattle.ed_maths.proofs.Ones.{few_ones}
 use Rattle.ed_maths.proofs.Divide.{Given, Work, cells, digits, run, work, whole}
@@ -223,7 +224,7 @@ module _ {b high low by top : ℕ} {s : State} (o : CallsDivide b high low by to
     | inr g ↦ get_above false s.store.sandwich (b / 2 + 18) (digits left) p (omega arith)
   ]
 
-  pub divided : (t : State) → t ≡ last → Divided b high low by s t
+  pub divided : (t : State) → t ≡ last → HasDivided b high low by s t
   divided t e = record {
     quotient = ap (λ (x : State). get_or x.store.words low 0) e ∙ at_low;
     remainder = ap (λ (x : State). get_or x.store.words high 0) e ∙ at_high;

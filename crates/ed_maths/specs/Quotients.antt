@@ -50,7 +50,7 @@ pub record IsOtherPair (base pair : ℕ) : Type 0 where
 -- the quotient is in the low location and the remainder in the high one; the counter is after the call, the accumulator
 -- is clear, and the orders are counted; otherwise only words in working locations have changed, and sandwich digits of
 -- pairs of these
-pub record Divided (base high low by : ℕ) (s t : State) : Type 0 where
+pub record HasDivided (base high low by : ℕ) (s t : State) : Type 0 where
   pub quotient : short_at t.store low ≡ dividend high low s / short_at s.store by
   pub remainder : short_at t.store high ≡ dividend high low s % short_at s.store by
   pub is : t

@@ -2,7 +2,7 @@ ghost use Rattle.std.specs.Prelude.{◌≡◌, ◌+◌, ◌*◌, ◌/◌, ◌%�
 ghost use Rattle.ed_store.specs.Cells.{short_at};
 ghost use Rattle.ed_routines.specs.Returns.{IsAfter};
 ghost use Rattle.ed_routines.specs.Standing.{Stands, caller};
-ghost use Rattle.ed_maths.specs.Quotients.{Divided, IsDivision, divide, divide_orders, dividend, ones, with_hnm};
+ghost use Rattle.ed_maths.specs.Quotients.{HasDivided, IsDivision, divide, divide_orders, dividend, ones, with_hnm};
 
 use ed_machine::Machine;
 use ed_routines::{Back, obey_count, way_back};
@@ -19,7 +19,7 @@ pub fn divide_integers(machine: &mut Machine, base: u16, high: u16, low: u16, by
     ensures orders { result.orders ≡ divide_orders (dividend high low machine.old / short_at machine.old.store by) }
     ensures few { result.orders ≤ 212 }
     ensures after { IsAfter result.orders machine.old machine.new }
-    ensures divided { Divided base high low by machine.old machine.new }
+    ensures divided { HasDivided base high low by machine.old machine.new }
 {
     let at = way_back(machine);
     let number = 65536 * machine.word(high).value() + machine.word(low).value();

@@ -6,7 +6,7 @@ use Rattle.ed_store.specs.Cells.{Cells}
 use Rattle.ed_notation.specs.declared.reader.Reached.{Reached}
 use Rattle.ed_notation.specs.declared.cause.TapeFault.{TapeFault}
 use Rattle.ed_notation.specs.declared.cause.TapeFault.TheVariants.{At, Memory}
-use Rattle.ed_notation.specs.Fold.{Note}
+use Rattle.ed_notation.specs.Fold.{NotationState}
 use Rattle.ed_notation.specs.Openings.{opening_with}
 use Rattle.ed_notation.specs.Checks.{Accepts, AnswersCheck, Arrives, ReadsCopy}
 use Rattle.ed_notation.specs.Reports.{Report}
@@ -28,7 +28,8 @@ report_of r contents marks = record {
 pub whole : (m xs : List Bool) (n : ℕ) → length m ≡ n → take n (m ++ xs) ≡ m
 whole m xs n l = ap (λ k. take k (m ++ xs)) (sym l) ∙ take-append_seam m xs
 
-module _ {z : Size} {words : List ℕ} {start : Note} {base : ℕ} {rows : List ℕ} {r : Reached} {contents : List ℕ}
+module _ {z : Size} {words : List ℕ} {start : NotationState} {base : ℕ} {rows : List ℕ} {r : Reached}
+    {contents : List ℕ}
     {marks : List Bool} (a : Arrives z words start base rows r contents marks) where
   pub accepted : Accepts z words start base rows (report_of r contents marks)
   accepted = record {
@@ -41,7 +42,8 @@ module _ {z : Size} {words : List ℕ} {start : Note} {base : ℕ} {rows : List 
     orders_are = a.orders_are;
     rows_are = a.rows_are;
     theta_is = a.theta_is;
-    map_is = λ i h. rw (a.contents_are, a.marks_are) (word_is words a.locations_are a.entry.note.placed i h a.places);
+    map_is = λ i h. rw (a.contents_are, a.marks_are)
+        (word_is words a.locations_are a.entry.notation.placed i h a.places);
   }
 
   pub bounded : r.orders ≤ 17 * r.rows + base

@@ -5,33 +5,40 @@ use Rattle.ed_words.specs.Words.{digit}
 use Rattle.ed_notation.specs.declared.kind.RowKind.{RowKind}
 use Rattle.ed_notation.specs.declared.kind.RowKind.TheVariants.{Letter}
 use Rattle.ed_notation.specs.Items.{row_kind, Written, mark_rows, begun_rows, rows_of, spelled, item}
-use Rattle.ed_notation.specs.Fold.{Note, act, aim_of, enters_at, end_cost, cost_of, costs}
+use Rattle.ed_notation.specs.Fold.{NotationState, act, letter_action_of, enters_at, end_cost, cost_of, costs}
 use Rattle.ed_notation.specs.Faults.{TapeEntry, ComesTo}
 
 if_most : (b : Bool) → (if b then 13 else 17) ≤ 17
 if_most true = lit≤ tt
 if_most false = lit≤ tt
 
-end_most : (r : RowKind) (note : Note) → end_cost r note ≤ 17
-end_most Letter note = if_most (enters_at (aim_of note.directive))
-end_most r note = lit≤ tt
+end_most : (r : RowKind) (notation : NotationState) → end_cost r notation ≤ 17
+end_most Letter notation = if_most (enters_at (letter_action_of notation.directive))
+end_most r notation = lit≤ tt
 
 mark_most : (m : Bool) → 15 * digit m ≤ 17 * length (mark_rows m)
 mark_most true = lit≤ tt
 mark_most false = lit≤ tt
 
-one_most : (note : Note) (w : Written) → cost_of note w ≤ 17 * length (rows_of w)
-one_most note w =
+one_most : (notation : NotationState) (w : Written) → cost_of notation w ≤ 17 * length (rows_of w)
+one_most notation w =
     let b = w.begun in
     let last = length-append (begun_rows b) (w.end ∷ []) in
-    omega (arith, end_most (row_kind w.end) note, mark_most b.mark, last, length-append b.digits (mark_rows b.mark))
+    omega (arith, end_most (row_kind w.end) notation, mark_most b.mark, last, length-append b.digits (mark_rows b.mark))
 
-all_most : (words : List ℕ) (note : Note) (ws : List Written) → costs words note ws ≤ 17 * length (spelled ws)
-all_most words note [] = lit≤ tt
-all_most words note (w ∷ ws) =
-    omega (arith, one_most note w, all_most words (act words note (item w)) ws, length-append (rows_of w) (spelled ws))
+all_most : (words : List ℕ) (notation : NotationState) (ws : List Written)
+    → costs words notation ws ≤ 17 * length (spelled ws)
+all_most words notation [] = lit≤ tt
+all_most words notation (w ∷ ws) =
+    omega (
+      arith,
+      one_most notation w,
+      all_most words (act words notation (item w)) ws,
+      length-append (rows_of w) (spelled ws),
+    )
 
-pub most : (words : List ℕ) (start : Note) (base : ℕ) (rows : List ℕ) (e : TapeEntry) → ComesTo words start base rows e
+pub most : (words : List ℕ) (start : NotationState) (base : ℕ) (rows : List ℕ) (e : TapeEntry)
+    → ComesTo words start base rows e
     → e.cost ≤ base + 17 * e.rows
 most words start base rows e c =
-    omega (arith, c.cost_is, c.read_is, all_most words start c.before, one_most e.note c.last)
+    omega (arith, c.cost_is, c.read_is, all_most words start c.before, one_most e.notation c.last)

@@ -2,7 +2,7 @@
 use Rattle.std.proofs.Common.{◌≡◌, ℕ, ◌+◌, refl, sym, ap, ◌∙◌, arith, List, [], ◌∷◌, ◌++◌, append_assoc}
 use Rattle.ed_notation.specs.declared.item.Item.{Item}
 use Rattle.ed_notation.specs.Items.{Written, rows_of, spelled, item, items}
-use Rattle.ed_notation.specs.Fold.{Note, act, fold, costs}
+use Rattle.ed_notation.specs.Fold.{NotationState, act, fold, costs}
 use Rattle.ed_words.specs.declared.size.Size.{Size}
 use Rattle.ed_notation.specs.Faults.{AreRead, AreSound}
 use Rattle.ed_notation.specs.Spellings.{canonical, canonicals}
@@ -16,26 +16,32 @@ spelled-append [] ws = refl
 spelled-append (v ∷ vs) ws =
     ap (λ rows. rows_of v ++ rows) (spelled-append vs ws) ∙ sym (append_assoc (rows_of v) (spelled vs) (spelled ws))
 
-pub fold-append : (words : List ℕ) (note : Note) (is js : List Item)
-    → fold words note (is ++ js) ≡ fold words (fold words note is) js
-fold-append words note [] js = refl
-fold-append words note (i ∷ is) js = fold-append words (act words note i) is js
+pub fold-append : (words : List ℕ) (notation : NotationState) (is js : List Item)
+    → fold words notation (is ++ js) ≡ fold words (fold words notation is) js
+fold-append words notation [] js = refl
+fold-append words notation (i ∷ is) js = fold-append words (act words notation i) is js
 
-pub costs-append : (words : List ℕ) (note : Note) (vs ws : List Written)
-    → costs words note (vs ++ ws) ≡ costs words note vs + costs words (fold words note (items vs)) ws
-costs-append words note [] ws = omega arith
-costs-append words note (v ∷ vs) ws = let rest = costs-append words (act words note (item v)) vs ws
+pub costs-append : (words : List ℕ) (notation : NotationState) (vs ws : List Written)
+    → costs words notation (vs ++ ws) ≡ costs words notation vs + costs words (fold words notation (items vs)) ws
+costs-append words notation [] ws = omega arith
+costs-append words notation (v ∷ vs) ws = let rest = costs-append words (act words notation (item v)) vs ws
     in omega (arith, rest)
 
-pub AreRead-append : (words : List ℕ) (note : Note) (vs ws : List Written) → AreRead words note vs
-    → AreRead words (fold words note (items vs)) ws → AreRead words note (vs ++ ws)
-AreRead-append words note [] ws h k = k
-AreRead-append words note (v ∷ vs) ws h k = (h.0, h.1, AreRead-append words (act words note (item v)) vs ws h.2 k)
+pub AreRead-append : (words : List ℕ) (notation : NotationState) (vs ws : List Written) → AreRead words notation vs
+    → AreRead words (fold words notation (items vs)) ws → AreRead words notation (vs ++ ws)
+AreRead-append words notation [] ws h k = k
+AreRead-append words notation (v ∷ vs) ws h k = (
+  h.0,
+  h.1,
+  AreRead-append words (act words notation (item v)) vs ws h.2 k,
+)
 
-pub AreSound-append : (z : Size) (words : List ℕ) (note : Note) (vs ws : List Written) → AreSound z words note vs
-    → AreSound z words (fold words note (items vs)) ws → AreSound z words note (vs ++ ws)
-AreSound-append z words note [] ws h k = k
-AreSound-append z words note (v ∷ vs) ws h k = (h.0, AreSound-append z words (act words note (item v)) vs ws h.1 k)
+pub AreSound-append : (z : Size) (words : List ℕ) (notation : NotationState) (vs ws : List Written)
+    → AreSound z words notation vs
+    → AreSound z words (fold words notation (items vs)) ws → AreSound z words notation (vs ++ ws)
+AreSound-append z words notation [] ws h k = k
+AreSound-append z words notation (v ∷ vs) ws h k =
+    (h.0, AreSound-append z words (act words notation (item v)) vs ws h.1 k)
 
 pub canonicals-append : (is js : List Item) → canonicals (is ++ js) ≡ canonicals is ++ canonicals js
 canonicals-append [] js = refl

@@ -4,27 +4,27 @@ use Rattle.std.proofs.Common.{nat_lt, nat_le, if◌then◌else◌, List}
 use Rattle.ed_words.specs.declared.size.Size.{Size}
 use Rattle.ed_words.specs.Sizes.{locations}
 use Rattle.ed_words.proofs.SizeLemmas.{most}
-use Rattle.ed_notation.specs.declared.reader.Part.{Part}
-use Rattle.ed_notation.specs.declared.reader.Taken.{Taken}
-use Rattle.ed_notation.specs.declared.reader.Taken.TheVariants.{Ended, Placed}
+use Rattle.ed_notation.specs.declared.reader.PartialItem.{PartialItem}
+use Rattle.ed_notation.specs.declared.reader.RowEffect.{RowEffect}
+use Rattle.ed_notation.specs.declared.reader.RowEffect.TheVariants.{Ended, Placed}
 use Rattle.ed_notation.specs.declared.kind.RowKind.{RowKind}
 use Rattle.ed_notation.specs.declared.kind.RowKind.TheVariants.{Digit, Mark, Zed, Kay, Blank, Letter, Other}
 use Rattle.ed_notation.specs.declared.kind.Control.{Control}
 use Rattle.ed_notation.specs.declared.kind.Control.TheVariants.{Directive, ThetaByBlank, ThetaByG, Neither}
-use Rattle.ed_notation.specs.declared.kind.Aim.{Aim}
-use Rattle.ed_notation.specs.declared.kind.Aim.TheVariants.{Places, Enters, Nowhere, Unset}
-use Rattle.ed_notation.specs.Fold.{Note, over, address, control_of, aim_of}
+use Rattle.ed_notation.specs.declared.kind.LetterAction.{LetterAction}
+use Rattle.ed_notation.specs.declared.kind.LetterAction.TheVariants.{Places, Enters, Nowhere, Unset}
+use Rattle.ed_notation.specs.Fold.{NotationState, over, address, control_of, letter_action_of}
 use Rattle.ed_notation.specs.Openings.{IsDirective}
 use Rattle.ed_notation.specs.Faults.{is_place}
-use Rattle.ed_notation.specs.Reading.{taken, setting_of, kay_sets, zed_sets, letter_taken}
+use Rattle.ed_notation.specs.Reading.{row_effect, setting_of, kay_sets, zed_sets, letter_effect}
 use Rattle.ed_words.proofs.Numbers.{not_lt_of, not_le_of}
 use Rattle.ed_notation.proofs.Tests.{ControlMeans, control_means, is_place_means}
 
 -- what a row does leaves a directive
-abbrev pub KeepsDirective : Note → Taken → Type 0
-KeepsDirective note (Ended s k) = IsDirective s.directive
-KeepsDirective note (Placed at word) = IsDirective (note.directive + 2)
-KeepsDirective note t = Unit {0}
+abbrev pub KeepsDirective : NotationState → RowEffect → Type 0
+KeepsDirective notation (Ended s k) = IsDirective s.directive
+KeepsDirective notation (Placed at word) = IsDirective (notation.directive + 2)
+KeepsDirective notation t = Unit {0}
 
 record IsSetting (f : ℕ) : Type 0 where
   no_1 : f ≢ 1
@@ -40,13 +40,15 @@ sets_directive f e =
 place_directive : (x : ℕ) → is_place x ≡ true → IsDirective x
 place_directive x h = let range = (is_place_means x h).range in omega (arith, range)
 
-module _ (z : Size) (words : List ℕ) (note : Note) (i : Part) (c : ℕ) (d : IsDirective note.directive) where
-  keep_if : (b : Bool) (x y : Taken) → (b ≡ true → KeepsDirective note x) → (b ≡ false → KeepsDirective note y)
-      → KeepsDirective note (if b then x else y)
+module _ (z : Size) (words : List ℕ) (notation : NotationState) (i : PartialItem) (c : ℕ)
+    (d : IsDirective notation.directive) where
+  keep_if : (b : Bool) (x y : RowEffect) → (b ≡ true → KeepsDirective notation x)
+      → (b ≡ false → KeepsDirective notation y)
+      → KeepsDirective notation (if b then x else y)
   keep_if true x y f g = f refl
   keep_if false x y f g = g refl
 
-  kay : (k : Control) → control_of i.function ≡ k → KeepsDirective note (kay_sets k (setting_of note) i)
+  kay : (k : Control) → control_of i.function ≡ k → KeepsDirective notation (kay_sets k (setting_of notation) i)
   kay Directive e =
       let q = sets_directive i.function e in
       keep_if (nat_lt 1023 i.number) _ _ (λ h. tt) (λ h.
@@ -61,17 +63,17 @@ module _ (z : Size) (words : List ℕ) (note : Note) (i : Part) (c : ℕ) (d : I
   kay ThetaByG e = keep_if (nat_lt 1023 i.number) _ _ (λ h. tt) (λ h. d)
   kay Neither e = tt
 
-  zed : (k : Control) → KeepsDirective note (zed_sets k (setting_of note) i)
+  zed : (k : Control) → KeepsDirective notation (zed_sets k (setting_of notation) i)
   zed Directive =
-      keep_if (is_place (4096 * i.function + 2 * i.number + note.theta)) _ _ (λ h. place_directive _ h) (λ h. tt)
-  zed ThetaByBlank = keep_if (nat_le 65536 (2 * i.number + note.theta)) _ _ (λ h. tt) (λ h. d)
+      keep_if (is_place (4096 * i.function + 2 * i.number + notation.theta)) _ _ (λ h. place_directive _ h) (λ h. tt)
+  zed ThetaByBlank = keep_if (nat_le 65536 (2 * i.number + notation.theta)) _ _ (λ h. tt) (λ h. d)
   zed ThetaByG = tt
   zed Neither = tt
 
-  letter : (k : Aim) (word : ℕ) → KeepsDirective note (letter_taken z k (setting_of note) word)
+  letter : (k : LetterAction) (word : ℕ) → KeepsDirective notation (letter_effect z k (setting_of notation) word)
   letter Places word =
-      keep_if (nat_lt (address note.directive) 44) _ _ (λ h. tt) (λ h.
-      keep_if (nat_le (locations z) (address note.directive)) _ _ (λ g. tt) (λ g.
+      keep_if (nat_lt (address notation.directive) 44) _ _ (λ h. tt) (λ h.
+      keep_if (nat_le (locations z) (address notation.directive)) _ _ (λ g. tt) (λ g.
       let l = not_le_of _ _ g in
       let m = most z in
       record {
@@ -81,18 +83,19 @@ module _ (z : Size) (words : List ℕ) (note : Note) (i : Part) (c : ℕ) (d : I
         most = omega (arith, l, m, d.most);
       }))
   letter Enters word =
-      keep_if (nat_le (locations z) (address note.directive)) _ _ (λ h. tt) (λ h.
+      keep_if (nat_le (locations z) (address notation.directive)) _ _ (λ h. tt) (λ h.
       keep_if (nat_le 65536 word) _ _ (λ h. tt) (λ h.
-      keep_if (nat_lt (address note.directive) 44) _ _ (λ h. tt) (λ h. tt)))
+      keep_if (nat_lt (address notation.directive) 44) _ _ (λ h. tt) (λ h. tt)))
   letter Nowhere word = tt
   letter Unset word = tt
 
   -- whatever a row does
-  pub keeps : (r : RowKind) → KeepsDirective note (taken z r (over note.placed words) (setting_of note) i c)
+  pub keeps : (r : RowKind) → KeepsDirective notation
+      (row_effect z r (over notation.placed words) (setting_of notation) i c)
   keeps Digit = keep_if i.mark _ _ (λ h. tt) (λ h. keep_if (nat_lt 32767 (10 * i.number + c)) _ _ (λ h. tt) (λ h. tt))
   keeps Mark = keep_if i.mark _ _ (λ h. tt) (λ h. tt)
   keeps Zed = keep_if i.mark _ _ (λ h. tt) (λ h. zed (control_of i.function))
   keeps Kay = keep_if i.mark _ _ (λ h. tt) (λ h. kay (control_of i.function) refl)
   keeps Blank = keep_if i.blank _ _ (λ h. d) (λ h. tt)
-  keeps Letter = letter (aim_of note.directive) _
+  keeps Letter = letter (letter_action_of notation.directive) _
   keeps Other = tt

@@ -7,16 +7,17 @@ use Rattle.ed_words.specs.declared.size.Size.{Size}
 use Rattle.ed_words.specs.Words.{digit}
 use Rattle.ed_notation.specs.declared.cause.TapeCause.{TapeCause}
 use Rattle.ed_notation.specs.declared.cause.TapeCause.TheVariants.{BadRow}
-use Rattle.ed_notation.specs.declared.reader.Part.{Part}
-use Rattle.ed_notation.specs.declared.reader.Taken.{Taken}
-use Rattle.ed_notation.specs.declared.reader.Taken.TheVariants.{Refused, Longer, Ended, Placed, Entered}
+use Rattle.ed_notation.specs.declared.reader.PartialItem.{PartialItem}
+use Rattle.ed_notation.specs.declared.reader.RowEffect.{RowEffect}
+use Rattle.ed_notation.specs.declared.reader.RowEffect.TheVariants.{Refused, Longer, Ended, Placed, Entered}
 use Rattle.ed_notation.specs.declared.kind.RowKind.{RowKind}
 use Rattle.ed_notation.specs.Items.{row_kind, Begun, Written, digits_number, is_empty, mark_rows}
 use Rattle.ed_notation.specs.Items.{begun_rows, rows_of, IsBegun, IsWritten, AreDigits, ends, item, item_of}
 use Rattle.ed_notation.specs.Openings.{IsDirective}
-use Rattle.ed_notation.specs.Fold.{Note, over, address, act, acted, entering, begun_cost, end_cost, cost_of}
+use Rattle.ed_notation.specs.Fold.{NotationState, over, address, act, ending_effect, entering, begun_cost, end_cost}
+use Rattle.ed_notation.specs.Fold.{cost_of}
 use Rattle.ed_notation.specs.Faults.{part_rows}
-use Rattle.ed_notation.specs.Reading.{taken, setting_of, set_by, placed_by, entry_by}
+use Rattle.ed_notation.specs.Reading.{row_effect, setting_of, set_by, placed_by, entry_by}
 use Rattle.ed_notation.specs.Reading.{reading_on, Verdict, Faulty, Arrived, part_of}
 use Rattle.ed_notation.proofs.Rows.{RowLaw, row_law_of, as_part, first}
 use Rattle.ed_notation.proofs.Directives.{KeepsDirective, keeps}
@@ -30,57 +31,59 @@ pub record Reader : Type 0 where
   pub words : List ℕ
   pub row : ℕ
   pub cost : ℕ
-  pub note : Note
+  pub notation : NotationState
 
 -- the result of its reading from there
-abbrev pub reads : Reader → Option Part → List ℕ → Verdict
-reads p part rows = reading_on p.size p.words p.row p.cost p.note part rows
+abbrev pub reads : Reader → Option PartialItem → List ℕ → Verdict
+reads p part rows = reading_on p.size p.words p.row p.cost p.notation part rows
 
 -- the reader this many rows and orders later, in this state
-abbrev pub passed : Reader → ℕ → ℕ → Note → Reader
-passed p rows orders note = record {
+abbrev pub passed : Reader → ℕ → ℕ → NotationState → Reader
+passed p rows orders notation = record {
   size = p.size;
   words = p.words;
   row = p.row + rows;
   cost = p.cost + orders;
-  note = note;
+  notation = notation;
 }
 
 -- after an item, and inside one
 abbrev pub behind : Reader → Written → Reader
-behind p w = passed p (length (rows_of w)) (cost_of p.note w) (act p.words p.note (item w))
+behind p w = passed p (length (rows_of w)) (cost_of p.notation w) (act p.words p.notation (item w))
 
 abbrev pub part_cost : Option Begun → ℕ
 part_cost None = 0
 part_cost (Some b) = begun_cost b
 
 abbrev pub inside : Reader → Option Begun → Reader
-inside p part = passed p (length (part_rows part)) (part_cost part) p.note
+inside p part = passed p (length (part_rows part)) (part_cost part) p.notation
 
 -- what follows a row inside an item
-abbrev pub follow : Reader → Part → ℕ → List ℕ → Taken → Verdict
+abbrev pub follow : Reader → PartialItem → ℕ → List ℕ → RowEffect → Verdict
 follow p part c rows t = elim t [
   | Refused cause ↦ Faulty p.row cause
-  | Longer longer k ↦ reads (passed p 1 k p.note) (Some longer) rows
-  | Ended setting k ↦ reads (passed p 1 k (set_by setting p.note)) None rows
-  | Placed at word ↦ reads (passed p 1 17 (placed_by at word p.note)) None rows
-  | Entered at ↦ Arrived (entry_by p.words p.row p.cost p.note part c rows at)
+  | Longer longer k ↦ reads (passed p 1 k p.notation) (Some longer) rows
+  | Ended setting k ↦ reads (passed p 1 k (set_by setting p.notation)) None rows
+  | Placed at word ↦ reads (passed p 1 17 (placed_by at word p.notation)) None rows
+  | Entered at ↦ Arrived (entry_by p.words p.row p.cost p.notation part c rows at)
 ]
 
 -- what a row is taken for, over the words placed so far
-abbrev pub seen : Size → List ℕ → Note → Begun → ℕ → Taken
-seen z words note b c = taken z (row_kind c) (over note.placed words) (setting_of note) (as_part b) c
+abbrev pub seen : Size → List ℕ → NotationState → Begun → ℕ → RowEffect
+seen z words notation b c = row_effect z (row_kind c) (over notation.placed words) (setting_of notation) (as_part b) c
 
 -- it is what the rules say
-pub law : (z : Size) (words : List ℕ) (note : Note) (b : Begun) (c : ℕ) → IsDirective note.directive → IsBegun b
-    → RowLaw (row_kind c) z words note b c (seen z words note b c)
-law z words note b c set good = row_law_of z words note c set b good
+pub law : (z : Size) (words : List ℕ) (notation : NotationState) (b : Begun) (c : ℕ)
+    → IsDirective notation.directive → IsBegun b
+    → RowLaw (row_kind c) z words notation b c (seen z words notation b c)
+law z words notation b c set good = row_law_of z words notation c set b good
 
-pub seen_keeps : (z : Size) (words : List ℕ) (note : Note) (b : Begun) (c : ℕ) → IsDirective note.directive
-    → KeepsDirective note (seen z words note b c)
-seen_keeps z words note b c d = keeps z words note (as_part b) c d (row_kind c)
+pub seen_keeps : (z : Size) (words : List ℕ) (notation : NotationState) (b : Begun) (c : ℕ)
+    → IsDirective notation.directive
+    → KeepsDirective notation (seen z words notation b c)
+seen_keeps z words notation b c d = keeps z words notation (as_part b) c d (row_kind c)
 
-abbrev pub reader_part : Option Begun → Option Part
+abbrev pub reader_part : Option Begun → Option PartialItem
 reader_part None = None
 reader_part (Some b) = Some (as_part b)
 
@@ -92,22 +95,22 @@ number_le (d ∷ ds) n = omega (arith, number_le ds (10 * n + d))
 -- a function row
 pub function_read : (p : Reader) (f : ℕ) (rows : List ℕ) {t : Bool} → nat_lt f 32 ≡ t
     → reads p None (f ∷ rows)
-    ≡ (elim t [ true ↦ reads (passed p 1 6 p.note) (Some (part_of f)) rows | false ↦ Faulty p.row BadRow ])
+    ≡ (elim t [ true ↦ reads (passed p 1 6 p.notation) (Some (part_of f)) rows | false ↦ Faulty p.row BadRow ])
 unfolding reading_on
 function_read p f rows h =
     ap (λ (x : Bool). elim x as (λ y. Verdict) [
-      | true ↦ reads (passed p 1 6 p.note) (Some (part_of f)) rows
+      | true ↦ reads (passed p 1 6 p.notation) (Some (part_of f)) rows
       | false ↦ Faulty p.row BadRow
     ]) h
 
 pub function_begins : (p : Reader) (f : ℕ) (rows : List ℕ) → f < 32
-    → reads p None (f ∷ rows) ≡ reads (passed p 1 6 p.note) (Some (part_of f)) rows
+    → reads p None (f ∷ rows) ≡ reads (passed p 1 6 p.notation) (Some (part_of f)) rows
 function_begins p f rows h = function_read p f rows (lt_true f 32 h)
 
 -- digit rows
 digits_read : (p : Reader) (ds rest : List ℕ) (f n : ℕ) (blank : Bool) → AreDigits ds → digits_number n ds ≤ 32767
     → reads p (Some (record { function = f; number = n; mark = false; blank = blank })) (ds ++ rest)
-    ≡ reads (passed p (length ds) (9 * length ds) p.note)
+    ≡ reads (passed p (length ds) (9 * length ds) p.notation)
     (Some (record { function = f; number = digits_number n ds; mark = false; blank = is_empty ds && blank })) rest
 unfolding reading_on
 digits_read p [] rest f n blank are fits =
@@ -120,16 +123,16 @@ digits_read p (d ∷ ds) rest f n blank are fits =
     let k : p.cost + 9 * suc (length ds) ≡ p.cost + 9 + 9 * length ds = omega arith in
     let a = lt_true d 10 are.0 in
     let b = lt_false 32767 (10 * n + d) small in
-    let part : Part = record { function = f; number = n; mark = false; blank = blank } in
-    let t : taken p.size (row_kind d) (over p.note.placed p.words) (setting_of p.note) part d
+    let part : PartialItem = record { function = f; number = n; mark = false; blank = blank } in
+    let t : row_effect p.size (row_kind d) (over p.notation.placed p.words) (setting_of p.notation) part d
     ≡ Longer (record { function = f; number = 10 * n + d; mark = false; blank = false }) 9 = rw (a, b) refl in
-    let ih = digits_read (passed p 1 9 p.note) ds rest f (10 * n + d) false are.1 fits in
+    let ih = digits_read (passed p 1 9 p.notation) ds rest f (10 * n + d) false are.1 fits in
     ap (follow p part d (ds ++ rest)) t ∙ rw (r, k) (ih ∙ rw (and-false (is_empty ds)) refl)
 
 -- a mark, or none
 mark_read : (p : Reader) (f : ℕ) (ds rest : List ℕ) (m : Bool)
     → reads p (Some (as_part (record { function = f; digits = ds; mark = false }))) (mark_rows m ++ rest)
-    ≡ reads (passed p (length (mark_rows m)) (15 * digit m) p.note)
+    ≡ reads (passed p (length (mark_rows m)) (15 * digit m) p.notation)
     (Some (as_part (record { function = f; digits = ds; mark = m }))) rest
 unfolding reading_on
 mark_read p f ds rest false =
@@ -149,8 +152,8 @@ begun_read p b rest good =
     omega (arith, l) in
     let k : p.cost + (6 + 9 * length ds + 15 * digit b.mark) ≡ p.cost + 6 + 9 * length ds + 15 * digit b.mark =
     omega arith in
-    let q : Reader = passed p 1 6 p.note in
-    let q' : Reader = passed q (length ds) (9 * length ds) p.note in
+    let q : Reader = passed p 1 6 p.notation in
+    let q' : Reader = passed q (length ds) (9 * length ds) p.notation in
     function_begins p f ((ds ++ mark_rows b.mark) ++ rest) good.function
     ∙ ap (λ x. reads q (Some (part_of f)) x) (append_assoc ds (mark_rows b.mark) rest)
     ∙ digits_read q ds (mark_rows b.mark ++ rest) f 0 (nat_eq f 16) good.digits good.fits
@@ -193,35 +196,37 @@ module _ (p : Reader) (w : Written) (rest : List ℕ) where
   abbrev here : Verdict
   here = reads p (Some (as_part b)) (c ∷ rest)
 
-  abbrev next : Taken → Verdict
+  abbrev next : RowEffect → Verdict
   next t = follow p (as_part b) c rest t
 
   abbrev r : RowKind
   r = row_kind c
 
   abbrev first_broken : Option TapeCause
-  first_broken = first r p.size p.words p.note b c
+  first_broken = first r p.size p.words p.notation b c
 
   abbrev pub closed : Reader
-  closed = passed p 1 (end_cost r p.note) (acted r p.words p.note (item_of b c))
+  closed = passed p 1 (end_cost r p.notation) (ending_effect r p.words p.notation (item_of b c))
 
   abbrev arrived : Verdict
-  arrived = Arrived (entry_by p.words p.row p.cost p.note (as_part b) c rest (address p.note.directive))
+  arrived = Arrived (entry_by p.words p.row p.cost p.notation (as_part b) c rest (address p.notation.directive))
 
-  abbrev Law : Taken → Type 0
-  Law t = RowLaw r p.size p.words p.note b c t
+  abbrev Law : RowEffect → Type 0
+  Law t = RowLaw r p.size p.words p.notation b c t
 
-  goes_by : (t : Taken) → KeepsDirective p.note t → Law t → first_broken ≡ None → ends r b ≡ true
-      → entering r p.note ≡ false → (next t ≡ reads closed None rest) × IsDirective closed.note.directive
+  goes_by : (t : RowEffect) → KeepsDirective p.notation t → Law t → first_broken ≡ None → ends r b ≡ true
+      → entering r p.notation ≡ false → (next t ≡ reads closed None rest) × IsDirective closed.notation.directive
   goes_by (Refused cause) u h s e n = let q : Some cause ≡ None = sym h ∙ s in absurd (cc)
   goes_by (Longer i k) u h s e n = absurd (true≢false (sym e ∙ h.1))
   goes_by (Ended m k) u h s e n =
-      (rw (h.1.note_is, h.1.cost_is) refl, subst (λ (x : Note). IsDirective x.directive) h.1.note_is u)
-  goes_by (Placed at word) u h s e n =
-      (rw (h.1.note_is, sym h.1.cost_is) refl, subst (λ (x : Note). IsDirective x.directive) h.1.note_is u)
+      (rw (h.1.notation_is, h.1.cost_is) refl, subst (λ (x : NotationState). IsDirective x.directive) h.1.notation_is u)
+  goes_by (Placed at word) u h s e n = (
+    rw (h.1.notation_is, sym h.1.cost_is) refl,
+    subst (λ (x : NotationState). IsDirective x.directive) h.1.notation_is u,
+  )
   goes_by (Entered at) u h s e n = absurd (true≢false (sym h.1.entered ∙ n))
 
-  arrives_by : (t : Taken) → Law t → first_broken ≡ None → ends r b ≡ true → entering r p.note ≡ true
+  arrives_by : (t : RowEffect) → Law t → first_broken ≡ None → ends r b ≡ true → entering r p.notation ≡ true
       → next t ≡ arrived
   arrives_by (Refused cause) h s e n = let q : Some cause ≡ None = sym h ∙ s in absurd (cc)
   arrives_by (Longer i k) h s e n = absurd (true≢false (sym e ∙ h.1))
@@ -229,22 +234,23 @@ module _ (p : Reader) (w : Written) (rest : List ℕ) where
   arrives_by (Placed at word) h s e n = absurd (true≢false (sym n ∙ h.1.goes_on))
   arrives_by (Entered at) h s e n = rw h.1.at_is refl
 
-  ended_by : (t : Taken) → KeepsDirective p.note t → Law t → ends r b ≡ true → entering r p.note ≡ false
-      → Goes (next t) (reads closed None rest) closed.row closed.note.directive
+  ended_by : (t : RowEffect) → KeepsDirective p.notation t → Law t → ends r b ≡ true → entering r p.notation ≡ false
+      → Goes (next t) (reads closed None rest) closed.row closed.notation.directive
   ended_by (Refused cause) u h e n = inr (record { at = p.row; cause = cause; is = refl; before = omega arith })
   ended_by (Longer i k) u h e n = inl (goes_by (Longer i k) u h h.0 e n)
   ended_by (Ended m k) u h e n = inl (goes_by (Ended m k) u h h.0 e n)
   ended_by (Placed at word) u h e n = inl (goes_by (Placed at word) u h h.0 e n)
   ended_by (Entered at) u h e n = inl (goes_by (Entered at) u h h.0 e n)
 
-  entered_by : (t : Taken) → Law t → ends r b ≡ true → entering r p.note ≡ true → Passes (next t) arrived (p.row + 1)
+  entered_by : (t : RowEffect) → Law t → ends r b ≡ true → entering r p.notation ≡ true
+      → Passes (next t) arrived (p.row + 1)
   entered_by (Refused cause) h e n = inr (record { at = p.row; cause = cause; is = refl; before = omega arith })
   entered_by (Longer i k) h e n = inl (arrives_by (Longer i k) h h.0 e n)
   entered_by (Ended m k) h e n = inl (arrives_by (Ended m k) h h.0 e n)
   entered_by (Placed at word) h e n = inl (arrives_by (Placed at word) h h.0 e n)
   entered_by (Entered at) h e n = inl (arrives_by (Entered at) h h.0 e n)
 
-  refused_by : (t : Taken) {cause : TapeCause} → Law t → first_broken ≡ Some cause → next t ≡ Faulty p.row cause
+  refused_by : (t : RowEffect) {cause : TapeCause} → Law t → first_broken ≡ Some cause → next t ≡ Faulty p.row cause
   refused_by (Refused k) {cause} h e =
       let q : Some k ≡ Some cause = sym h ∙ e in let s : k ≡ cause = cc in rw s refl
   refused_by (Longer i k) {cause} h e = let q : None ≡ Some cause = sym h.0 ∙ e in cc
@@ -252,31 +258,31 @@ module _ (p : Reader) (w : Written) (rest : List ℕ) where
   refused_by (Placed at word) {cause} h e = let q : None ≡ Some cause = sym h.0 ∙ e in cc
   refused_by (Entered at) {cause} h e = let q : None ≡ Some cause = sym h.0 ∙ e in cc
 
-  module _ (set : IsDirective p.note.directive) where
-    abbrev t : Taken
-    t = seen p.size p.words p.note b c
+  module _ (set : IsDirective p.notation.directive) where
+    abbrev t : RowEffect
+    t = seen p.size p.words p.notation b c
 
     is_law : IsBegun b → Law t
-    is_law good = law p.size p.words p.note b c set good
+    is_law good = law p.size p.words p.notation b c set good
 
     -- it breaks no rule and ends an item that is not an entry item
-    pub goes_on : IsWritten w → first_broken ≡ None → entering r p.note ≡ false
-        → (here ≡ reads closed None rest) × IsDirective closed.note.directive
+    pub goes_on : IsWritten w → first_broken ≡ None → entering r p.notation ≡ false
+        → (here ≡ reads closed None rest) × IsDirective closed.notation.directive
     unfolding reading_on
-    goes_on good s n = goes_by t (seen_keeps p.size p.words p.note b c set) (is_law good.begun) s good.ended n
+    goes_on good s n = goes_by t (seen_keeps p.size p.words p.notation b c set) (is_law good.begun) s good.ended n
 
     -- it breaks no rule and ends the entry item
-    pub arrives : IsWritten w → first_broken ≡ None → entering r p.note ≡ true → here ≡ arrived
+    pub arrives : IsWritten w → first_broken ≡ None → entering r p.notation ≡ true → here ≡ arrived
     unfolding reading_on
     arrives good s n = arrives_by t (is_law good.begun) s good.ended n
 
     -- the same of a row that may break a rule
-    pub ended : IsWritten w → entering r p.note ≡ false
-        → Goes here (reads closed None rest) closed.row closed.note.directive
+    pub ended : IsWritten w → entering r p.notation ≡ false
+        → Goes here (reads closed None rest) closed.row closed.notation.directive
     unfolding reading_on
-    ended good n = ended_by t (seen_keeps p.size p.words p.note b c set) (is_law good.begun) good.ended n
+    ended good n = ended_by t (seen_keeps p.size p.words p.notation b c set) (is_law good.begun) good.ended n
 
-    pub entered : IsWritten w → entering r p.note ≡ true → Passes here arrived (p.row + 1)
+    pub entered : IsWritten w → entering r p.notation ≡ true → Passes here arrived (p.row + 1)
     unfolding reading_on
     entered good n = entered_by t (is_law good.begun) good.ended n
 

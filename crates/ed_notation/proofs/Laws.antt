@@ -8,7 +8,7 @@ use Rattle.ed_notation.specs.declared.kind.RowKind.{RowKind}
 use Rattle.ed_notation.specs.declared.kind.RowKind.TheVariants.{Letter}
 use Rattle.ed_notation.specs.Items.{row_kind, begun_rows, rows_of, item_of}
 use Rattle.ed_notation.specs.Openings.{IsDirective}
-use Rattle.ed_notation.specs.Fold.{Note, item_word, address, aim_of, enters_at}
+use Rattle.ed_notation.specs.Fold.{NotationState, item_word, address, letter_action_of, enters_at}
 use Rattle.ed_notation.specs.Fold.{entering, end_cost, cost_of}
 use Rattle.ed_notation.specs.Faults.{cause_number, TapeEntry, Breaks, IsFault, WellFormed, ComesTo}
 use Rattle.ed_notation.specs.Reading.{ReadingIsRules, ReadingAlwaysIsRules, reading_on, Verdict, Faulty, Arrived}
@@ -44,16 +44,17 @@ if_thirteen : (b : Bool) → b ≡ true → ◌≡◌ {A = ℕ} (if b then 13 el
 if_thirteen true h = refl
 if_thirteen false h = cc
 
-entry_ends : (r : RowKind) (note : Note) → entering r note ≡ true → end_cost r note ≡ 13
-entry_ends Letter note h = if_thirteen (enters_at (aim_of note.directive)) h
-entry_ends r note h = cc
+entry_ends : (r : RowKind) (notation : NotationState) → entering r notation ≡ true → end_cost r notation ≡ 13
+entry_ends Letter notation h = if_thirteen (enters_at (letter_action_of notation.directive)) h
+entry_ends r notation h = cc
 
-module _ (z : Size) (words : List ℕ) (start : Note) (base : ℕ) (rows : List ℕ) (set : IsDirective start.directive) where
+module _ (z : Size) (words : List ℕ) (start : NotationState) (base : ℕ) (rows : List ℕ)
+    (set : IsDirective start.directive) where
   abbrev pub answer : Verdict
   answer = reading_on z words 0 base start None rows
 
   abbrev here : Reader
-  here = record { size = z; words = words; row = 0; cost = base; note = start }
+  here = record { size = z; words = words; row = 0; cost = base; notation = start }
 
   told : Tells here rows answer
   told = let none : base + 0 ≡ base = omega arith in rw none at (tells rows here None set tt)
@@ -121,29 +122,30 @@ module _ (z : Size) (words : List ℕ) (start : Note) (base : ℕ) (rows : List 
       let b = w.begun in
       let p : Reader = behind_all here c.before in
       let q : Reader = inside p (Some b) in
-      let note = p.note in
+      let notation = p.notation in
       let a = kept_set (no_fault well) (ap (λ x. reads here None x) c.rows_are)
       (many c.before here (rows_of w ++ e.rest) set c.are_read) in
-      let is_entry = rw c.note_is at c.is_entry in
+      let is_entry = rw c.notation_is at c.is_entry in
       let f = entered q w e.rest a.1 c.is_written is_entry in
-      let entry = entry_by words q.row q.cost note (as_part b) w.end e.rest (address note.directive) in
+      let entry = entry_by words q.row q.cost notation (as_part b) w.end e.rest (address notation.directive) in
       let h : answer ≡ Arrived entry = kept well (a.0 ∙ to_end p w e.rest c.is_written) f in
-      let n : e.note ≡ note = c.note_is in
+      let n : e.notation ≡ notation = c.notation_is in
       let l = length-append (begun_rows b) (w.end ∷ []) in
-      let p1 : entry.at ≡ e.at = ap (λ (x : Note). address x.directive) (sym n) ∙ sym c.at_is in
-      let p2 : entry.word ≡ e.word = ap (λ (x : Note). item_word words x (item_of b w.end)) (sym n) ∙ sym c.word_is in
-      let k : cost_of e.note w ≡ cost_of note w = ap (λ (x : Note). cost_of x w) n in
-      let k' : end_cost (row_kind w.end) note ≡ 13 = entry_ends (row_kind w.end) note is_entry in
+      let p1 : entry.at ≡ e.at = ap (λ (x : NotationState). address x.directive) (sym n) ∙ sym c.at_is in
+      let p2 : entry.word ≡ e.word = ap (λ (x : NotationState). item_word words x (item_of b w.end)) (sym n)
+      ∙ sym c.word_is in
+      let k : cost_of e.notation w ≡ cost_of notation w = ap (λ (x : NotationState). cost_of x w) n in
+      let k' : end_cost (row_kind w.end) notation ≡ 13 = entry_ends (row_kind w.end) notation is_entry in
       let p3 : entry.cost ≡ e.cost = omega (arith, c.cost_is, k, k') in
       let p4 : entry.rows ≡ e.rows = omega (arith, c.read_is, l) in
-      let p5 : entry.note ≡ e.note = sym n in
+      let p5 : entry.notation ≡ e.notation = sym n in
       let p6 : entry.last ≡ e.last = sym c.last_is in
       h ∙ (λ i. Arrived (record {
         at = p1 i;
         word = p2 i;
         cost = p3 i;
         rows = p4 i;
-        note = p5 i;
+        notation = p5 i;
         last = p6 i;
         rest = e.rest;
       }))

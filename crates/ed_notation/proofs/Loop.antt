@@ -8,16 +8,16 @@ use Rattle.std.proofs.lemmas.List.{drop_all}
 use Rattle.ed_words.specs.declared.size.Size.{Size}
 use Rattle.ed_notation.specs.declared.cause.TapeCause.{TapeCause}
 use Rattle.ed_notation.specs.declared.cause.TapeCause.TheVariants.{EndOfTape}
-use Rattle.ed_notation.specs.declared.reader.Setting.{Setting}
-use Rattle.ed_notation.specs.declared.reader.Part.{Part}
-use Rattle.ed_notation.specs.declared.reader.Taken.{Taken}
-use Rattle.ed_notation.specs.declared.reader.Taken.TheVariants.{Refused, Longer, Ended, Placed, Entered}
+use Rattle.ed_notation.specs.declared.reader.DirectiveState.{DirectiveState}
+use Rattle.ed_notation.specs.declared.reader.PartialItem.{PartialItem}
+use Rattle.ed_notation.specs.declared.reader.RowEffect.{RowEffect}
+use Rattle.ed_notation.specs.declared.reader.RowEffect.TheVariants.{Refused, Longer, Ended, Placed, Entered}
 use Rattle.ed_notation.specs.Items.{row_kind}
 use Rattle.ed_notation.specs.Openings.{IsDirective, opening_with}
-use Rattle.ed_notation.specs.Fold.{Note, over}
+use Rattle.ed_notation.specs.Fold.{NotationState, over}
 use Rattle.ed_notation.specs.Faults.{IsFault}
-use Rattle.ed_notation.specs.Reading.{taken, setting_of, set_by, placed_by, entry_by}
-use Rattle.ed_notation.specs.Reading.{reading_on, part_of, IsPartial, IsTaken}
+use Rattle.ed_notation.specs.Reading.{row_effect, setting_of, set_by, placed_by, entry_by}
+use Rattle.ed_notation.specs.Reading.{reading_on, part_of, IsPartial, IsEffectInRange}
 use Rattle.ed_notation.specs.Checks.{marked, ArePlaces, Arrives}
 use Rattle.ed_notation.proofs.Follow.{Reader, reads, follow, function_begins}
 use Rattle.ed_notation.proofs.Laws.{faulty_is, arrived_well, arrived_comes}
@@ -26,28 +26,30 @@ use Rattle.ed_notation.proofs.Laws.{faulty_is, arrived_well, arrived_comes}
 pub record Check : Type 0 where
   pub size : Size
   pub words : List ℕ
-  pub start : Note
+  pub start : NotationState
   pub base : ℕ
   pub rows : List ℕ
 
 -- the reader of a check at a row
-abbrev pub reader : Check → ℕ → ℕ → Note → Reader
-reader k row cost note = record { size = k.size; words = k.words; row = row; cost = cost; note = note }
+abbrev pub reader : Check → ℕ → ℕ → NotationState → Reader
+reader k row cost notation = record { size = k.size; words = k.words; row = row; cost = cost; notation = notation }
 
 -- the state of the notation that the loop holds as a setting, contents and marks
-pub record Holds (words : List ℕ) (note : Note) (setting : Setting) (contents : List ℕ) (marks : List Bool) :
+pub record Holds (words : List ℕ) (notation : NotationState) (setting : DirectiveState) (contents : List ℕ)
+    (marks : List Bool) :
     Type 0 where
-  pub setting_is : setting_of note ≡ setting
-  pub contents_are : over note.placed words ≡ contents
-  pub marks_are : marked note.placed ≡ marks
-  pub places : ArePlaces note.placed
+  pub setting_is : setting_of notation ≡ setting
+  pub contents_are : over notation.placed words ≡ contents
+  pub marks_are : marked notation.placed ≡ marks
+  pub places : ArePlaces notation.placed
 
 -- the loop at a row: the state of the notation there, from which the reader goes on
-pub record StandsAt (k : Check) (row cost : ℕ) (setting : Setting) (part : Option Part) (contents : List ℕ)
+pub record StandsAt (k : Check) (row cost : ℕ) (setting : DirectiveState) (part : Option PartialItem)
+    (contents : List ℕ)
     (marks : List Bool) : Type 0 where
-  pub note : Note
-  pub same : reads (reader k 0 k.base k.start) None k.rows ≡ reads (reader k row cost note) part (drop row k.rows)
-  pub state : Holds k.words note setting contents marks
+  pub notation : NotationState
+  pub same : reads (reader k 0 k.base k.start) None k.rows ≡ reads (reader k row cost notation) part (drop row k.rows)
+  pub state : Holds k.words notation setting contents marks
   pub locations_are : length k.words ≡ 1024
   pub opened : IsDirective k.start.directive
   pub partial : IsPartial part
@@ -58,7 +60,7 @@ pub began : {z : Size} {words : List ℕ} {directive theta base : ℕ} {rows : L
     → StandsAt (record { size = z; words = words; start = opening_with directive words; base = base; rows = rows })
     0 base (record { directive = directive; theta = theta }) None words marks
 began {words = words} {directive} t l m o = record {
-  note = opening_with directive words;
+  notation = opening_with directive words;
   same = refl;
   state = record {
     setting_is = λ i. record { directive = directive; theta = sym t i };
@@ -79,16 +81,16 @@ next_row rows row c l e =
     let n : row + 1 ≡ suc row = omega arith in
     rw n (drop-cons rows row c l ∙ ap (λ x. x ∷ drop (suc row) rows) (sym e))
 
-module _ {k : Check} {row cost : ℕ} {setting : Setting} {contents : List ℕ} {marks : List Bool} {c : ℕ} where
+module _ {k : Check} {row cost : ℕ} {setting : DirectiveState} {contents : List ℕ} {marks : List Bool} {c : ℕ} where
   pub function_row : StandsAt k row cost setting None contents marks → row < length k.rows
       → c ≡ get_or k.rows row c → c < 32
       → StandsAt k (row + 1) (cost + 6) setting (Some (part_of c)) contents marks
   function_row a l e small = record {
-    note = a.note;
+    notation = a.notation;
     same =
         a.same
-        ∙ ap (λ x. reads (reader k row cost a.note) None x) (next_row k.rows row c l e)
-        ∙ function_begins (reader k row cost a.note) c (drop (row + 1) k.rows) small;
+        ∙ ap (λ x. reads (reader k row cost a.notation) None x) (next_row k.rows row c l e)
+        ∙ function_begins (reader k row cost a.notation) c (drop (row + 1) k.rows) small;
     state = a.state;
     locations_are = a.locations_are;
     opened = a.opened;
@@ -96,28 +98,28 @@ module _ {k : Check} {row cost : ℕ} {setting : Setting} {contents : List ℕ} 
     cheap = omega (arith, a.cheap);
   }
 
-  module _ (i : Part) (a : StandsAt k row cost setting (Some i) contents marks) (l : row < length k.rows)
+  module _ (i : PartialItem) (a : StandsAt k row cost setting (Some i) contents marks) (l : row < length k.rows)
       (e : c ≡ get_or k.rows row c) where
-    abbrev Row : Taken → Type 0
-    Row t = t ≡ taken k.size (row_kind c) contents setting i c
+    abbrev Row : RowEffect → Type 0
+    Row t = t ≡ row_effect k.size (row_kind c) contents setting i c
 
     abbrev here : Reader
-    here = reader k row cost a.note
+    here = reader k row cost a.notation
 
-    same : (t : Taken) → Row t
+    same : (t : RowEffect) → Row t
         → reads (reader k 0 k.base k.start) None k.rows ≡ follow here i c (drop (row + 1) k.rows) t
     unfolding reading_on
     same t h =
-        let seen : taken k.size (row_kind c) (over a.note.placed k.words) (setting_of a.note) i c ≡ t =
+        let seen : row_effect k.size (row_kind c) (over a.notation.placed k.words) (setting_of a.notation) i c ≡ t =
         rw (a.state.contents_are, a.state.setting_is) (sym h) in
         a.same
         ∙ ap (λ x. reads here (Some i) x) (next_row k.rows row c l e)
         ∙ ap (λ t. follow here i c (drop (row + 1) k.rows) t) seen
 
-    pub longer : {j : Part} {n : ℕ} → Row (Longer j n) → IsTaken setting (Longer j n)
+    pub longer : {j : PartialItem} {n : ℕ} → Row (Longer j n) → IsEffectInRange setting (Longer j n)
         → StandsAt k (row + 1) (cost + n) setting (Some j) contents marks
     longer {j} {n} h f = record {
-      note = a.note;
+      notation = a.notation;
       same = same (Longer j n) h;
       state = a.state;
       locations_are = a.locations_are;
@@ -126,10 +128,10 @@ module _ {k : Check} {row cost : ℕ} {setting : Setting} {contents : List ℕ} 
       cheap = omega (arith, a.cheap, f.1);
     }
 
-    pub ended : {s : Setting} {n : ℕ} → Row (Ended s n) → IsTaken setting (Ended s n)
+    pub ended : {s : DirectiveState} {n : ℕ} → Row (Ended s n) → IsEffectInRange setting (Ended s n)
         → StandsAt k (row + 1) (cost + n) s None contents marks
     ended {s} {n} h f = record {
-      note = set_by s a.note;
+      notation = set_by s a.notation;
       same = same (Ended s n) h;
       state = record {
         setting_is = refl;
@@ -143,15 +145,16 @@ module _ {k : Check} {row cost : ℕ} {setting : Setting} {contents : List ℕ} 
       cheap = omega (arith, a.cheap, f);
     }
 
-    pub placed : {at word : ℕ} → Row (Placed at word) → IsTaken setting (Placed at word)
+    pub placed : {at word : ℕ} → Row (Placed at word) → IsEffectInRange setting (Placed at word)
         → StandsAt k (row + 1) (cost + 17) (record { directive = setting.directive + 2; theta = setting.theta }) None
         (slice_set contents at word) (slice_set marks at true)
     placed {at} {word} h f = record {
-      note = placed_by at word a.note;
+      notation = placed_by at word a.notation;
       same = same (Placed at word) h;
       state = record {
         setting_is =
-            ap (λ (s : Setting). let x : Setting = record { directive = s.directive + 2; theta = s.theta } in x)
+            ap (λ (s : DirectiveState). let x : DirectiveState =
+            record { directive = s.directive + 2; theta = s.theta } in x)
             a.state.setting_is;
         contents_are = ap (λ x. slice_set x at word) a.state.contents_are;
         marks_are = ap (λ x. slice_set x at true) a.state.marks_are;
@@ -178,12 +181,12 @@ module _ {k : Check} {row cost : ℕ} {setting : Setting} {contents : List ℕ} 
         let q = same (Entered at) h in
         record {
           well = arrived_well k.size k.words k.start k.base k.rows a.opened q;
-          entry = entry_by k.words row cost a.note i c (drop (row + 1) k.rows) at;
+          entry = entry_by k.words row cost a.notation i c (drop (row + 1) k.rows) at;
           comes = arrived_comes k.size k.words k.start k.base k.rows a.opened q;
           entry_is = refl;
           orders_are = refl;
           rows_are = refl;
-          theta_is = ap (λ (s : Setting). s.theta) (sym a.state.setting_is);
+          theta_is = ap (λ (s : DirectiveState). s.theta) (sym a.state.setting_is);
           contents_are = sym a.state.contents_are;
           marks_are = sym a.state.marks_are;
           places = a.state.places;
@@ -191,12 +194,13 @@ module _ {k : Check} {row cost : ℕ} {setting : Setting} {contents : List ℕ} 
         }
 
 -- at the end of the rows
-pub at_end : {k : Check} {row cost : ℕ} {setting : Setting} {part : Option Part} {contents : List ℕ} {marks : List Bool}
+pub at_end : {k : Check} {row cost : ℕ} {setting : DirectiveState} {part : Option PartialItem} {contents : List ℕ}
+    {marks : List Bool}
     → StandsAt k row cost setting part contents marks → row ≡ length k.rows
     → IsFault k.size k.words k.start k.rows (length k.rows) EndOfTape
 unfolding reading_on
 at_end {k} {row} {cost} {part = part} a l =
     let d : drop row k.rows ≡ [] = drop_all row k.rows (omega (arith, l)) in
-    let q = a.same ∙ ap (λ x. reads (reader k row cost a.note) part x) d in
+    let q = a.same ∙ ap (λ x. reads (reader k row cost a.notation) part x) d in
     subst (λ n. IsFault k.size k.words k.start k.rows n EndOfTape) l
     (faulty_is k.size k.words k.start k.base k.rows a.opened q)

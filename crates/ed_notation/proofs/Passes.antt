@@ -8,7 +8,7 @@ use Rattle.ed_notation.specs.declared.cause.TapeCause.{TapeCause}
 use Rattle.ed_notation.specs.declared.cause.TapeCause.TheVariants.{EndOfTape, BadRow}
 use Rattle.ed_notation.specs.Items.{row_kind, Begun, Written, begun_rows, rows_of, spelled, IsWritten, item, items}
 use Rattle.ed_notation.specs.Openings.{IsDirective}
-use Rattle.ed_notation.specs.Fold.{Note, is_entry, fold, end_cost, cost_of, costs}
+use Rattle.ed_notation.specs.Fold.{NotationState, is_entry, fold, end_cost, cost_of, costs}
 use Rattle.ed_notation.specs.Faults.{cause_number, breaks, broken, is_bad_row, part_rows, AreRead, IsPart, Breaks}
 use Rattle.ed_notation.specs.Reading.{reading_on, Verdict, Faulty}
 use Rattle.ed_notation.proofs.Least.{least_of, one_least}
@@ -31,14 +31,14 @@ carried e (inl h) = inl (e ∙ h.0, h.1)
 carried {n = n} e (inr h) = inr (early_later e (let l : n ≤ n = omega arith in l) h)
 
 -- an item before a row
-one : (p : Reader) (w : Written) (rest : List ℕ) → IsDirective p.note.directive → IsWritten w
-    → is_entry p.note (item w) ≡ false
+one : (p : Reader) (w : Written) (rest : List ℕ) → IsDirective p.notation.directive → IsWritten w
+    → is_entry p.notation (item w) ≡ false
     → Goes (reads p None (rows_of w ++ rest)) (reads (behind p w) None rest) (behind p w).row
-    (behind p w).note.directive
+    (behind p w).notation.directive
 one p w rest set good goes =
     let q : Reader = inside p (Some w.begun) in
     let l : q.row + 1 ≡ p.row + length (rows_of w) = omega (arith, length-append (begun_rows w.begun) (w.end ∷ [])) in
-    let k : q.cost + end_cost (row_kind w.end) p.note ≡ p.cost + cost_of p.note w = omega arith in
+    let k : q.cost + end_cost (row_kind w.end) p.notation ≡ p.cost + cost_of p.notation w = omega arith in
     rw (sym l, sym k) (carried (to_end p w rest good) (ended q w rest set good goes))
 
 -- one stretch of rows after the other
@@ -48,12 +48,12 @@ chained l (inr e) h = inr (early_later refl l e)
 
 -- whole items before a row
 abbrev pub behind_all : Reader → List Written → Reader
-behind_all p ws = passed p (length (spelled ws)) (costs p.words p.note ws) (fold p.words p.note (items ws))
+behind_all p ws = passed p (length (spelled ws)) (costs p.words p.notation ws) (fold p.words p.notation (items ws))
 
-pub many : (before : List Written) (p : Reader) (rest : List ℕ) → IsDirective p.note.directive
-    → AreRead p.words p.note before
+pub many : (before : List Written) (p : Reader) (rest : List ℕ) → IsDirective p.notation.directive
+    → AreRead p.words p.notation before
     → Goes (reads p None (spelled before ++ rest)) (reads (behind_all p before) None rest) (behind_all p before).row
-    (behind_all p before).note.directive
+    (behind_all p before).notation.directive
 many [] p rest set are =
     let r : p.row + 0 ≡ p.row = omega arith in
     let k : p.cost + 0 ≡ p.cost = omega arith in
@@ -62,9 +62,9 @@ many (w ∷ ws) p rest set are =
     let q : Reader = behind p w in
     let l : q.row + length (spelled ws) ≡ p.row + length (spelled (w ∷ ws)) =
     omega (arith, length-append (rows_of w) (spelled ws)) in
-    let k : q.cost + costs p.words q.note ws ≡ p.cost + costs p.words p.note (w ∷ ws) = omega arith in
+    let k : q.cost + costs p.words q.notation ws ≡ p.cost + costs p.words p.notation (w ∷ ws) = omega arith in
     let a = one p w (spelled ws ++ rest) set are.0 are.1 in
-    let ih = λ (s : IsDirective q.note.directive). many ws q rest s are.2 in
+    let ih = λ (s : IsDirective q.notation.directive). many ws q rest s are.2 in
     let e = ap (λ x. reads p None x) (append_assoc (rows_of w) (spelled ws) rest) in
     rw (sym l, sym k) (carried e (chained (omega arith) a ih))
 
@@ -83,8 +83,8 @@ record Refuses (v : Verdict) (row : ℕ) (cause : TapeCause) : Type 0 where
   is : v ≡ Faulty row found
   least : cause_number found ≤ cause_number cause
 
-broken_here : (p : Reader) (part : Option Begun) (rest : List ℕ) (cause : TapeCause) → IsDirective p.note.directive
-    → IsPart part → broken p.size p.words p.note part rest cause ≡ true
+broken_here : (p : Reader) (part : Option Begun) (rest : List ℕ) (cause : TapeCause) → IsDirective p.notation.directive
+    → IsPart part → broken p.size p.words p.notation part rest cause ≡ true
     → Refuses (reads p (reader_part part) rest) p.row cause
 unfolding reading_on
 broken_here p None [] cause set is h = record { found = EndOfTape; is = refl; least = one_least cause }
@@ -93,7 +93,7 @@ broken_here p None (c ∷ rest) cause set is h =
     let f = bad_row cause (nat_lt c 32) h in
     record { found = BadRow; is = function_read p c rest f.test; least = f.least }
 broken_here p (Some b) (c ∷ rest) cause set is h =
-    let f = least_of (λ k. breaks k (row_kind c) p.size p.words p.note b c) cause h in
+    let f = least_of (λ k. breaks k (row_kind c) p.size p.words p.notation b c) cause h in
     record { found = f.found; is = refused p (record { begun = b; end = c }) rest set is f.is; least = f.least }
 
 -- the reader's fault is no later than a broken rule
@@ -111,14 +111,15 @@ no_later {row = row} l (inl e) f =
 no_later l (inr h) f = record { at = h.at; found = h.cause; is = h.is; least = inl (omega (arith, l, h.before)) }
 
 -- if a tape breaks a rule the reader finds a fault, no later than it
-pub broken_found : {z : Size} {words : List ℕ} {start : Note} (base : ℕ) {rows : List ℕ} {row : ℕ} {cause : TapeCause}
+pub broken_found : {z : Size} {words : List ℕ} {start : NotationState} (base : ℕ) {rows : List ℕ} {row : ℕ}
+    {cause : TapeCause}
     → IsDirective start.directive → Breaks z words start rows row cause
     → NoLater (reading_on z words 0 base start None rows) row cause
 broken_found {z} {words} {start} base {row = row} {cause = cause} set b =
     let s = b.stands in
-    let p : Reader = record { size = z; words = words; row = 0; cost = base; note = start } in
+    let p : Reader = record { size = z; words = words; row = 0; cost = base; notation = start } in
     let q : Reader = behind_all p s.before in
-    let r = λ (d : IsDirective q.note.directive).
+    let r = λ (d : IsDirective q.notation.directive).
     broken_here (inside q s.part) s.part s.rest cause d s.is_part b.breaks in
     let l : q.row + length (part_rows s.part) ≡ row = omega (arith, s.row_is) in
     rw (s.rows_are) (no_later (omega (arith, s.row_is)) (many s.before p (part_rows s.part ++ s.rest) set s.are_read)

@@ -11,7 +11,7 @@ use Rattle.ed_notation.specs.declared.item.Item.{Item}
 use Rattle.ed_notation.specs.declared.kind.RowKind.{RowKind}
 use Rattle.ed_notation.specs.declared.kind.RowKind.TheVariants.{Letter}
 use Rattle.ed_notation.specs.Items.{row_kind}
-use Rattle.ed_notation.specs.Fold.{Note, over, value_of, word_with, item_word, begun_cost}
+use Rattle.ed_notation.specs.Fold.{NotationState, over, value_of, word_with, item_word, begun_cost}
 use Rattle.ed_notation.specs.Spellings.{canonical, is_spellable}
 use Rattle.ed_notation.proofs.Contents.{length-over}
 use Rattle.ed_notation.proofs.Steps.{Reads, reads_none, reads_one, placing, placing_cost}
@@ -85,40 +85,40 @@ value_same : (xs ys : List ℕ) (theta c : ℕ) → c < 32 → ((j : ℕ) → j 
 value_same xs ys theta c h same = let e = same (24 + c) (omega arith) in rw e refl
 
 -- the state after items that place words
-abbrev pub behind : List ℕ → Note → ℕ → List Item → Note
-behind contents note a is = record {
+abbrev pub behind : List ℕ → NotationState → ℕ → List Item → NotationState
+behind contents notation a is = record {
   directive = 20480 + 2 * (a + length is);
-  theta = note.theta;
-  placed = laid a (block contents note.theta is) note.placed;
+  theta = notation.theta;
+  placed = laid a (block contents notation.theta is) notation.placed;
 }
 
 -- items that place words under T a K, from 56 upwards, are read without a fault and place their words one after the
 -- other; `contents` are the words below 56
-pub placing_all : {z : Size} {words : List ℕ} (contents : List ℕ) {note : Note} (a : ℕ) (is : List Item)
-    → all_letters is ≡ true → note.directive ≡ 20480 + 2 * a → 56 ≤ a → a + length is ≤ locations z
-    → ((j : ℕ) → j < 56 → get_or (over note.placed words) j 0 ≡ get_or contents j 0)
-    → Reads z words note is (behind contents note a is) (block_cost is)
-placing_all {z} {words} contents {note} a [] h d low fits same =
+pub placing_all : {z : Size} {words : List ℕ} (contents : List ℕ) {notation : NotationState} (a : ℕ) (is : List Item)
+    → all_letters is ≡ true → notation.directive ≡ 20480 + 2 * a → 56 ≤ a → a + length is ≤ locations z
+    → ((j : ℕ) → j < 56 → get_or (over notation.placed words) j 0 ≡ get_or contents j 0)
+    → Reads z words notation is (behind contents notation a is) (block_cost is)
+placing_all {z} {words} contents {notation} a [] h d low fits same =
     let e : a + 0 ≡ a = omega arith in
-    let is : note ≡ behind contents note a [] =
-    rw e (λ k. record { directive = d k; theta = note.theta; placed = note.placed }) in
-    subst (λ (n : Note). Reads z words note [] n 0) is (reads_none z words note)
-placing_all {z} {words} contents {note} a (i ∷ is) h d low fits same =
+    let is : notation ≡ behind contents notation a [] =
+    rw e (λ k. record { directive = d k; theta = notation.theta; placed = notation.placed }) in
+    subst (λ (n : NotationState). Reads z words notation [] n 0) is (reads_none z words notation)
+placing_all {z} {words} contents {notation} a (i ∷ is) h d low fits same =
     let p = and_parts (is_spellable i && is_letter (row_kind i.end)) (all_letters is) h in
     let q = and_parts (is_spellable i) (is_letter (row_kind i.end)) p.0 in
     let k : row_kind i.end ≡ Letter = letter_of (row_kind i.end) q.1 in
     let below : a < locations z = omega arith in
-    let word : ℕ = word_with i.function i.number i.mark (value_of contents note.theta i.end) in
-    let next : Note = record {
+    let word : ℕ = word_with i.function i.number i.mark (value_of contents notation.theta i.end) in
+    let next : NotationState = record {
       directive = 20480 + 2 * (a + 1);
-      theta = note.theta;
-      placed = (a, word) ∷ note.placed;
+      theta = notation.theta;
+      placed = (a, word) ∷ notation.placed;
     } in
-    let value = value_same contents (over note.placed words) note.theta i.end (code_of i.end k) same in
-    let word_is : item_word words note i ≡ word = ap (λ v. word_with i.function i.number i.mark v) value in
+    let value = value_same contents (over notation.placed words) notation.theta i.end (code_of i.end k) same in
+    let word_is : item_word words notation i ≡ word = ap (λ v. word_with i.function i.number i.mark v) value in
     let rest : Reads z words next is (behind contents next (a + 1) is) (block_cost is) =
-    placing_all contents {note = next} (a + 1) is p.1 refl (omega arith) (omega arith)
-    (λ j l. get_or-set_other (over note.placed words) a j word 0 (omega arith) ∙ same j l) in
+    placing_all contents {notation = next} (a + 1) is p.1 refl (omega arith) (omega arith)
+    (λ j l. get_or-set_other (over notation.placed words) a j word 0 (omega arith) ∙ same j l) in
     let n : a + suc (length is) ≡ a + 1 + length is = omega arith in
-    let cost = placing_cost z words note i a k d below in
+    let cost = placing_cost z words notation i a k d below in
     rw (n, sym cost) (reads_one z words i q.0 (placing z words a k d (omega arith) below word_is) rest)

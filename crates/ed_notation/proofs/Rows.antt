@@ -10,22 +10,22 @@ use Rattle.ed_notation.specs.declared.cause.TapeCause.TheVariants.{EndOfTape, Ba
 use Rattle.ed_notation.specs.declared.cause.TapeCause.TheVariants.{AfterMark, BadControl}
 use Rattle.ed_notation.specs.declared.cause.TapeCause.TheVariants.{LoaderStore, StoreEnd, NoPlace}
 use Rattle.ed_notation.specs.declared.cause.TapeCause.TheVariants.{EntryNegative, EntryInLoader}
-use Rattle.ed_notation.specs.declared.reader.Part.{Part}
-use Rattle.ed_notation.specs.declared.reader.Taken.{Taken}
-use Rattle.ed_notation.specs.declared.reader.Taken.TheVariants.{Refused, Longer, Ended, Placed, Entered}
+use Rattle.ed_notation.specs.declared.reader.PartialItem.{PartialItem}
+use Rattle.ed_notation.specs.declared.reader.RowEffect.{RowEffect}
+use Rattle.ed_notation.specs.declared.reader.RowEffect.TheVariants.{Refused, Longer, Ended, Placed, Entered}
 use Rattle.ed_notation.specs.declared.kind.RowKind.{RowKind}
 use Rattle.ed_notation.specs.declared.kind.RowKind.TheVariants.{Digit, Mark, Zed, Kay, Blank, Letter, Other}
 use Rattle.ed_notation.specs.declared.kind.Control.{Control}
 use Rattle.ed_notation.specs.declared.kind.Control.TheVariants.{Directive, ThetaByBlank, ThetaByG, Neither}
-use Rattle.ed_notation.specs.declared.kind.Aim.{Aim}
-use Rattle.ed_notation.specs.declared.kind.Aim.TheVariants.{Places, Enters, Nowhere, Unset}
+use Rattle.ed_notation.specs.declared.kind.LetterAction.{LetterAction}
+use Rattle.ed_notation.specs.declared.kind.LetterAction.TheVariants.{Places, Enters, Nowhere, Unset}
 use Rattle.ed_notation.specs.Items.{row_kind, Begun, digits_number, is_empty, begun_rows}
 use Rattle.ed_notation.specs.Items.{IsBegun, AreDigits, is_blank_row, ends, item_of}
-use Rattle.ed_notation.specs.Fold.{Note, over, item_word, address, control_of}
-use Rattle.ed_notation.specs.Fold.{aim_of, acted, entering, begun_cost, end_cost}
+use Rattle.ed_notation.specs.Fold.{NotationState, over, item_word, address, control_of}
+use Rattle.ed_notation.specs.Fold.{letter_action_of, ending_effect, entering, begun_cost, end_cost}
 use Rattle.ed_notation.specs.Openings.{IsDirective}
 use Rattle.ed_notation.specs.Faults.{breaks, is_place}
-use Rattle.ed_notation.specs.Reading.{taken, setting_of, set_by, placed_by}
+use Rattle.ed_notation.specs.Reading.{row_effect, setting_of, set_by, placed_by}
 use Rattle.ed_words.proofs.Numbers.{not_lt_of, not_eq_of, if_means}
 use Rattle.ed_notation.proofs.Tests.{RowMeans, row_means}
 use Rattle.std.proofs.Math.Bool.{and-false}
@@ -46,11 +46,11 @@ causes =
     ∷ LoaderStore ∷ StoreEnd ∷ NoPlace ∷ EntryNegative ∷ EntryInLoader ∷ []
 
 -- the first rule that the row breaks
-abbrev pub first : RowKind → Size → List ℕ → Note → Begun → ℕ → Option TapeCause
-first r z words note b c = first_of (λ k. breaks k r z words note b c) causes
+abbrev pub first : RowKind → Size → List ℕ → NotationState → Begun → ℕ → Option TapeCause
+first r z words notation b c = first_of (λ k. breaks k r z words notation b c) causes
 
 -- the reader's part of an item
-abbrev pub as_part : Begun → Part
+abbrev pub as_part : Begun → PartialItem
 as_part b = record {
   function = b.function;
   number = digits_number 0 b.digits;
@@ -59,7 +59,7 @@ as_part b = record {
 }
 
 -- the row is one more of the item's rows before its ending
-pub record Extends (b : Begun) (c : ℕ) (part : Part) (k : ℕ) : Type 0 where
+pub record Extends (b : Begun) (c : ℕ) (part : PartialItem) (k : ℕ) : Type 0 where
   pub next : Begun
   pub good : IsBegun next
   pub part_is : part ≡ as_part next
@@ -67,26 +67,29 @@ pub record Extends (b : Begun) (c : ℕ) (part : Part) (k : ℕ) : Type 0 where
   pub cost_is : begun_cost next ≡ begun_cost b + k
 
 -- the row ends an item that is not an entry item
-pub record EndsItem (r : RowKind) (words : List ℕ) (note : Note) (b : Begun) (c : ℕ) (n : Note) (k : ℕ) : Type 0 where
+pub record EndsItem (r : RowKind) (words : List ℕ) (notation : NotationState) (b : Begun) (c : ℕ) (n : NotationState)
+    (k : ℕ) : Type 0 where
   pub ended : ends r b ≡ true
-  pub goes_on : entering r note ≡ false
-  pub note_is : n ≡ acted r words note (item_of b c)
-  pub cost_is : k ≡ end_cost r note
+  pub goes_on : entering r notation ≡ false
+  pub notation_is : n ≡ ending_effect r words notation (item_of b c)
+  pub cost_is : k ≡ end_cost r notation
 
 -- the row ends the entry item
-pub record IsEntry (r : RowKind) (note : Note) (b : Begun) (at : ℕ) : Type 0 where
+pub record IsEntry (r : RowKind) (notation : NotationState) (b : Begun) (at : ℕ) : Type 0 where
   pub ended : ends r b ≡ true
-  pub entered : entering r note ≡ true
-  pub at_is : at ≡ address note.directive
-  pub cost_is : 13 ≡ end_cost r note
+  pub entered : entering r notation ≡ true
+  pub at_is : at ≡ address notation.directive
+  pub cost_is : 13 ≡ end_cost r notation
 
-abbrev pub RowLaw : RowKind → Size → List ℕ → Note → Begun → ℕ → Taken → Type 0
-RowLaw r z words note b c (Refused cause) = first r z words note b c ≡ Some cause
-RowLaw r z words note b c (Longer part k) = (first r z words note b c ≡ None) × (ends r b ≡ false) × Extends b c part k
-RowLaw r z words note b c (Ended s k) = (first r z words note b c ≡ None) × EndsItem r words note b c (set_by s note) k
-RowLaw r z words note b c (Placed at word) =
-    (first r z words note b c ≡ None) × EndsItem r words note b c (placed_by at word note) 17
-RowLaw r z words note b c (Entered at) = (first r z words note b c ≡ None) × IsEntry r note b at
+abbrev pub RowLaw : RowKind → Size → List ℕ → NotationState → Begun → ℕ → RowEffect → Type 0
+RowLaw r z words notation b c (Refused cause) = first r z words notation b c ≡ Some cause
+RowLaw r z words notation b c (Longer part k) = (first r z words notation b c ≡ None) × (ends r b ≡ false)
+    × Extends b c part k
+RowLaw r z words notation b c (Ended s k) = (first r z words notation b c ≡ None)
+    × EndsItem r words notation b c (set_by s notation) k
+RowLaw r z words notation b c (Placed at word) =
+    (first r z words notation b c ≡ None) × EndsItem r words notation b c (placed_by at word notation) 17
+RowLaw r z words notation b c (Entered at) = (first r z words notation b c ≡ None) × IsEntry r notation b at
 
 -- one digit row more
 pub number_more : (ds : List ℕ) (n c : ℕ) → digits_number n (ds ++ (c ∷ [])) ≡ 10 * digits_number n ds + c
@@ -101,22 +104,22 @@ pub digits_more : (ds : List ℕ) (c : ℕ) → AreDigits ds → c < 10 → AreD
 digits_more [] c h k = (k, tt)
 digits_more (d ∷ ds) c h k = (h.0, digits_more ds c h.1 k)
 
-not_unset : (d : ℕ) → IsDirective d → aim_of d ≡ Unset → ⊥
+not_unset : (d : ℕ) → IsDirective d → letter_action_of d ≡ Unset → ⊥
 not_unset d s =
-    let P : Aim → Type 0 = λ a. a ≡ Unset → ⊥ in
+    let P : LetterAction → Type 0 = λ a. a ≡ Unset → ⊥ in
     if_means P (nat_eq (d / 4096) 5) _ _ (λ h e. cc) (λ h.
     if_means P (nat_eq (d / 4096) 3) _ _ (λ g e. cc) (λ g.
     if_means P (nat_eq (d / 4096) 0) _ _ (λ o e. cc) (λ o e.
     omega (arith, not_eq_of _ _ h, not_eq_of _ _ g, not_eq_of _ _ o, s.no_1, s.no_2, s.no_4, s.most))))
 
-module _ (z : Size) (words : List ℕ) (note : Note) (c : ℕ) (set : IsDirective note.directive) where
+module _ (z : Size) (words : List ℕ) (notation : NotationState) (c : ℕ) (set : IsDirective notation.directive) where
   module _ (f : ℕ) (ds : List ℕ) where
     abbrev begun : Bool → Begun
     begun m = record { function = f; digits = ds; mark = m }
 
     abbrev Law : RowKind → Bool → Type 0
-    Law r m = RowLaw r z words note (begun m) c
-        (taken z r (over note.placed words) (setting_of note) (as_part (begun m)) c)
+    Law r m = RowLaw r z words notation (begun m) c
+        (row_effect z r (over notation.placed words) (setting_of notation) (as_part (begun m)) c)
 
     by_digit : (m x : Bool) → IsBegun (begun m) → c < 10 → nat_lt 32767 (10 * digits_number 0 ds + c) ≡ x → Law Digit m
     by_digit true x good h e = refl
@@ -157,7 +160,7 @@ module _ (z : Size) (words : List ℕ) (note : Note) (c : ℕ) (set : IsDirectiv
     )
 
     by_blank : (m x : Bool) → is_blank_row (begun m) ≡ x → Law Blank m
-    by_blank m true e = rw e (rw e refl, record { ended = e; goes_on = refl; note_is = refl; cost_is = refl })
+    by_blank m true e = rw e (rw e refl, record { ended = e; goes_on = refl; notation_is = refl; cost_is = refl })
     by_blank m false e = rw (e, e) refl
 
     by_kay : (m : Bool) (k : Control) (x : Bool) → control_of f ≡ k → nat_lt 1023 (digits_number 0 ds) ≡ x → Law Kay m
@@ -167,32 +170,33 @@ module _ (z : Size) (words : List ℕ) (note : Note) (c : ℕ) (set : IsDirectiv
     by_kay false ThetaByBlank true h e = rw (h, e, h, e) refl
     by_kay false ThetaByG true h e = rw (h, e, h, e) refl
     by_kay false Directive false h e =
-        rw (h, e) (rw (h, e) refl, record { ended = refl; goes_on = refl; note_is = rw h refl; cost_is = refl })
+        rw (h, e) (rw (h, e) refl, record { ended = refl; goes_on = refl; notation_is = rw h refl; cost_is = refl })
     by_kay false ThetaByBlank false h e =
-        rw (h, e) (rw (h, e) refl, record { ended = refl; goes_on = refl; note_is = rw h refl; cost_is = refl })
+        rw (h, e) (rw (h, e) refl, record { ended = refl; goes_on = refl; notation_is = rw h refl; cost_is = refl })
     by_kay false ThetaByG false h e =
-        rw (h, e) (rw (h, e) refl, record { ended = refl; goes_on = refl; note_is = rw h refl; cost_is = refl })
+        rw (h, e) (rw (h, e) refl, record { ended = refl; goes_on = refl; notation_is = rw h refl; cost_is = refl })
 
     by_zed : (m : Bool) (k : Control) (x y : Bool) → control_of f ≡ k
-        → is_place (4096 * f + 2 * digits_number 0 ds + note.theta) ≡ x
-        → nat_le 65536 (2 * digits_number 0 ds + note.theta) ≡ y
+        → is_place (4096 * f + 2 * digits_number 0 ds + notation.theta) ≡ x
+        → nat_le 65536 (2 * digits_number 0 ds + notation.theta) ≡ y
         → Law Zed m
     by_zed true k x y h e g = refl
     by_zed false Neither x y h e g = rw (h, h) refl
     by_zed false ThetaByG x y h e g = rw (h, h) refl
     by_zed false Directive false y h e g = rw (h, e, h, e) refl
     by_zed false Directive true y h e g =
-        rw (h, e) (rw (h, e) refl, record { ended = refl; goes_on = refl; note_is = rw h refl; cost_is = refl })
+        rw (h, e) (rw (h, e) refl, record { ended = refl; goes_on = refl; notation_is = rw h refl; cost_is = refl })
     by_zed false ThetaByBlank x true h e g = rw (h, g, h, g) refl
     by_zed false ThetaByBlank x false h e g =
-        rw (h, g) (rw (h, g) refl, record { ended = refl; goes_on = refl; note_is = rw h refl; cost_is = refl })
+        rw (h, g) (rw (h, g) refl, record { ended = refl; goes_on = refl; notation_is = rw h refl; cost_is = refl })
 
-    by_letter : (m : Bool) {k : Aim} {x y w : Bool} → aim_of note.directive ≡ k → nat_lt (address note.directive) 44 ≡ x
-        → nat_le (locations z) (address note.directive) ≡ y
-        → nat_le 65536 (item_word words note (item_of (begun m) c)) ≡ w
+    by_letter : (m : Bool) {k : LetterAction} {x y w : Bool} → letter_action_of notation.directive ≡ k
+        → nat_lt (address notation.directive) 44 ≡ x
+        → nat_le (locations z) (address notation.directive) ≡ y
+        → nat_le 65536 (item_word words notation (item_of (begun m) c)) ≡ w
         → Law Letter m
     by_letter m {k = Nowhere} h e g o = rw (h, h) refl
-    by_letter m {k = Unset} h e g o = absurd (not_unset note.directive set h)
+    by_letter m {k = Unset} h e g o = absurd (not_unset notation.directive set h)
     by_letter m {k = Places} {x = true} h e g o = rw (h, e, h, e) refl
     by_letter m {k = Places} {x = false} {y = true} h e g o = rw (h, e, g, h, e, g) refl
     by_letter m {k = Places} {x = false} {y = false} h e g o =
@@ -201,7 +205,7 @@ module _ (z : Size) (words : List ℕ) (note : Note) (c : ℕ) (set : IsDirectiv
           record {
             ended = refl;
             goes_on = rw h refl;
-            note_is = rw h refl;
+            notation_is = rw h refl;
             cost_is = rw h refl;
           },
         )
@@ -229,6 +233,6 @@ module _ (z : Size) (words : List ℕ) (note : Note) (c : ℕ) (set : IsDirectiv
     row_law m good Other h = refl
 
   -- what the reader does at a row is what the rules say
-  pub row_law_of : (b : Begun) → IsBegun b → RowLaw (row_kind c) z words note b c
-      (taken z (row_kind c) (over note.placed words) (setting_of note) (as_part b) c)
+  pub row_law_of : (b : Begun) → IsBegun b → RowLaw (row_kind c) z words notation b c
+      (row_effect z (row_kind c) (over notation.placed words) (setting_of notation) (as_part b) c)
   row_law_of b good = row_law b.function b.digits b.mark good (row_kind c) (row_means c)

@@ -7,7 +7,7 @@ use Rattle.ed_words.specs.declared.size.Size.{Size}
 use Rattle.ed_notation.specs.declared.cause.TapeCause.{TapeCause}
 use Rattle.ed_notation.specs.Items.{row_kind, Written, begun_rows, rows_of, spelled, IsWritten, item, items}
 use Rattle.ed_notation.specs.Openings.{IsDirective}
-use Rattle.ed_notation.specs.Fold.{Note, address, act, is_entry, fold, end_cost, cost_of, costs}
+use Rattle.ed_notation.specs.Fold.{NotationState, address, act, is_entry, fold, end_cost, cost_of, costs}
 use Rattle.ed_notation.specs.Faults.{breaks, AreRead, WellFormed, ComesTo, TapeEntry, EndsSound, AreSound}
 use Rattle.ed_notation.specs.Reading.{entry_by, Arrived}
 use Rattle.ed_notation.proofs.Rows.{first, first_of, causes, as_part}
@@ -20,26 +20,26 @@ none_first : (f : TapeCause → Bool) (cs : List TapeCause) → ((k : TapeCause)
 none_first f [] h = refl
 none_first f (c ∷ cs) h = rw (h c) (none_first f cs h)
 
-no_rule : (p : Reader) (w : Written) → EndsSound p.size p.words p.note w
-    → first (row_kind w.end) p.size p.words p.note w.begun w.end ≡ None
-no_rule p w s = none_first (λ k. breaks k (row_kind w.end) p.size p.words p.note w.begun w.end) causes s
+no_rule : (p : Reader) (w : Written) → EndsSound p.size p.words p.notation w
+    → first (row_kind w.end) p.size p.words p.notation w.begun w.end ≡ None
+no_rule p w s = none_first (λ k. breaks k (row_kind w.end) p.size p.words p.notation w.begun w.end) causes s
 
 -- an item that breaks no rule
-one : (p : Reader) (w : Written) (rest : List ℕ) → IsDirective p.note.directive → IsWritten w
-    → is_entry p.note (item w) ≡ false → EndsSound p.size p.words p.note w
-    → (reads p None (rows_of w ++ rest) ≡ reads (behind p w) None rest) × IsDirective (behind p w).note.directive
+one : (p : Reader) (w : Written) (rest : List ℕ) → IsDirective p.notation.directive → IsWritten w
+    → is_entry p.notation (item w) ≡ false → EndsSound p.size p.words p.notation w
+    → (reads p None (rows_of w ++ rest) ≡ reads (behind p w) None rest) × IsDirective (behind p w).notation.directive
 one p w rest set good goes sound =
     let q : Reader = inside p (Some w.begun) in
     let l : q.row + 1 ≡ p.row + length (rows_of w) = omega (arith, length-append (begun_rows w.begun) (w.end ∷ [])) in
-    let k : q.cost + end_cost (row_kind w.end) p.note ≡ p.cost + cost_of p.note w = omega arith in
+    let k : q.cost + end_cost (row_kind w.end) p.notation ≡ p.cost + cost_of p.notation w = omega arith in
     let h = goes_on q w rest set good (no_rule p w sound) goes in
     rw (sym l, sym k) (to_end p w rest good ∙ h.0, h.1)
 
 -- the reader goes over items that break no rule as the fold says
-pub many : (before : List Written) (p : Reader) (rest : List ℕ) → IsDirective p.note.directive
-    → AreRead p.words p.note before → AreSound p.size p.words p.note before
+pub many : (before : List Written) (p : Reader) (rest : List ℕ) → IsDirective p.notation.directive
+    → AreRead p.words p.notation before → AreSound p.size p.words p.notation before
     → (reads p None (spelled before ++ rest) ≡ reads (behind_all p before) None rest)
-    × IsDirective (behind_all p before).note.directive
+    × IsDirective (behind_all p before).notation.directive
 many [] p rest set are sound =
     let r : p.row + 0 ≡ p.row = omega arith in
     let k : p.cost + 0 ≡ p.cost = omega arith in
@@ -48,35 +48,38 @@ many (w ∷ ws) p rest set are sound =
     let q : Reader = behind p w in
     let l : q.row + length (spelled ws) ≡ p.row + length (spelled (w ∷ ws)) =
     omega (arith, length-append (rows_of w) (spelled ws)) in
-    let k : q.cost + costs p.words q.note ws ≡ p.cost + costs p.words p.note (w ∷ ws) = omega arith in
+    let k : q.cost + costs p.words q.notation ws ≡ p.cost + costs p.words p.notation (w ∷ ws) = omega arith in
     let a = one p w (spelled ws ++ rest) set are.0 are.1 sound.0 in
     let ih = many ws q rest a.1 are.2 sound.1 in
     let e = ap (λ x. reads p None x) (append_assoc (rows_of w) (spelled ws) rest) in
     rw (sym l, sym k) (e ∙ a.0 ∙ ih.0, ih.1)
 
 -- it reaches the entry item
-last_read : (p : Reader) (w : Written) (rest : List ℕ) → IsDirective p.note.directive → IsWritten w
-    → is_entry p.note (item w) ≡ true → EndsSound p.size p.words p.note w
+last_read : (p : Reader) (w : Written) (rest : List ℕ) → IsDirective p.notation.directive → IsWritten w
+    → is_entry p.notation (item w) ≡ true → EndsSound p.size p.words p.notation w
     → reads p None (rows_of w ++ rest)
-    ≡ Arrived (entry_by p.words (inside p (Some w.begun)).row (inside p (Some w.begun)).cost p.note (as_part w.begun)
-    w.end rest (address p.note.directive))
+    ≡ Arrived (entry_by p.words (inside p (Some w.begun)).row (inside p (Some w.begun)).cost p.notation
+    (as_part w.begun)
+    w.end rest (address p.notation.directive))
 last_read p w rest set good enters sound =
     to_end p w rest good
     ∙ arrives (inside p (Some w.begun)) w rest set good (no_rule p w sound) enters
 
 -- a tape whose items break no rule, up to an entry item, is well formed
-pub sound_well : {z : Size} {words : List ℕ} {start : Note} (before : List Written) {last : Written} (rest : List ℕ)
+pub sound_well : {z : Size} {words : List ℕ} {start : NotationState} (before : List Written) {last : Written}
+    (rest : List ℕ)
     → IsDirective start.directive → AreRead words start before → AreSound z words start before → IsWritten last
     → is_entry (fold words start (items before)) (item last) ≡ true
     → EndsSound z words (fold words start (items before)) last
     → WellFormed z words start (spelled before ++ (rows_of last ++ rest))
 sound_well {z} {words} {start} before {last} rest set are sound good enters s =
-    let p : Reader = record { size = z; words = words; row = 0; cost = 0; note = start } in
+    let p : Reader = record { size = z; words = words; row = 0; cost = 0; notation = start } in
     let a = many before p (rows_of last ++ rest) set are sound in
     let e = last_read (behind_all p before) last rest a.1 good enters s in
     arrived_well z words start 0 (spelled before ++ (rows_of last ++ rest)) set (a.0 ∙ e)
 
-module _ {z : Size} {words : List ℕ} {start : Note} {rows : List ℕ} (well : WellFormed z words start rows) where
+module _ {z : Size} {words : List ℕ} {start : NotationState} {rows : List ℕ}
+    (well : WellFormed z words start rows) where
   -- an item of a well-formed tape breaks no rule
   item_sound : (before : List Written) (w : Written) (rest : List ℕ) → AreRead words start before → IsWritten w
       → rows ≡ spelled before ++ (rows_of w ++ rest) → EndsSound z words (fold words start (items before)) w
@@ -110,20 +113,20 @@ module _ {z : Size} {words : List ℕ} {start : Note} {rows : List ℕ} (well : 
       ap (λ is. fold words start is) (items-append before (w ∷ []))
       ∙ fold-append words start (items before) (item w ∷ []) in
       let a = AreRead-append words start before (w ∷ []) are (more.0, more.1, tt) in
-      let m = subst (λ (x : Note). AreRead words x ws) (sym n) more.2 in
+      let m = subst (λ (x : NotationState). AreRead words x ws) (sym n) more.2 in
       let t : spelled after ≡ spelled before ++ rows_of w =
       spelled-append before (w ∷ []) ∙ ap (λ x. spelled before ++ x) (append-nil (rows_of w)) in
       let g =
       f ∙ sym (append_assoc (spelled before) (rows_of w) (spelled ws ++ rest))
       ∙ ap (λ x. x ++ (spelled ws ++ rest)) (sym t) in
       let r = all_sound ws after rest a m g in
-      (s, subst (λ (x : Note). AreSound z words x ws) n r)
+      (s, subst (λ (x : NotationState). AreSound z words x ws) n r)
 
   -- the items of a well-formed tape break no rule
   pub well_sound : {base : ℕ} {e : TapeEntry} (c : ComesTo words start base rows e)
-      → AreSound z words start c.before × EndsSound z words e.note c.last
+      → AreSound z words start c.before × EndsSound z words e.notation c.last
   well_sound {e = e} c =
       let last = item_sound c.before c.last e.rest c.are_read c.is_written c.rows_are in (
         all_sound c.before [] (rows_of c.last ++ e.rest) tt c.are_read c.rows_are,
-        subst (λ (x : Note). EndsSound z words x c.last) (sym c.note_is) last,
+        subst (λ (x : NotationState). EndsSound z words x c.last) (sym c.notation_is) last,
       )

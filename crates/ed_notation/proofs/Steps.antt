@@ -12,9 +12,9 @@ use Rattle.ed_notation.specs.declared.cause.TapeCause.TheVariants.{BadControl, L
 use Rattle.ed_notation.specs.declared.cause.TapeCause.TheVariants.{EntryNegative, EntryInLoader}
 use Rattle.ed_notation.specs.declared.kind.RowKind.{RowKind}
 use Rattle.ed_notation.specs.declared.kind.RowKind.TheVariants.{Letter}
-use Rattle.ed_notation.specs.declared.kind.Aim.TheVariants.{Places, Enters as EntersAt}
+use Rattle.ed_notation.specs.declared.kind.LetterAction.TheVariants.{Places, Enters as EntersAt}
 use Rattle.ed_notation.specs.Items.{row_kind, Begun, item, items}
-use Rattle.ed_notation.specs.Fold.{Note, act, aim_of, address, control_of, is_entry}
+use Rattle.ed_notation.specs.Fold.{NotationState, act, letter_action_of, address, control_of, is_entry}
 use Rattle.ed_notation.specs.Fold.{item_word, fold, begun_cost, cost_of, costs}
 use Rattle.ed_notation.specs.Faults.{breaks, bad_kay, AreRead, EndsSound, AreSound}
 use Rattle.ed_notation.specs.Spellings.{canonical, canonicals, is_spellable}
@@ -28,142 +28,149 @@ plain f n end = record { function = f; number = n; mark = false; end = end }
 
 module _ (z : Size) (words : List ℕ) where
   -- an item that is not an entry item is read without a fault, and leaves this state
-  pub record Does (note : Note) (i : Item) (next : Note) : Type 0 where
-    pub goes_on : is_entry note i ≡ false
-    pub sound : EndsSound z words note (canonical i)
-    pub acts : act words note i ≡ next
+  pub record Does (notation : NotationState) (i : Item) (next : NotationState) : Type 0 where
+    pub goes_on : is_entry notation i ≡ false
+    pub sound : EndsSound z words notation (canonical i)
+    pub acts : act words notation i ≡ next
 
   -- items are read so one after the other, at this cost
-  pub record Reads (note : Note) (is : List Item) (next : Note) (cost : ℕ) : Type 0 where
-    pub are_read : AreRead words note (canonicals is)
-    pub are_sound : AreSound z words note (canonicals is)
-    pub folds : fold words note (items (canonicals is)) ≡ next
-    pub costs_are : costs words note (canonicals is) ≡ cost
+  pub record Reads (notation : NotationState) (is : List Item) (next : NotationState) (cost : ℕ) : Type 0 where
+    pub are_read : AreRead words notation (canonicals is)
+    pub are_sound : AreSound z words notation (canonicals is)
+    pub folds : fold words notation (items (canonicals is)) ≡ next
+    pub costs_are : costs words notation (canonicals is) ≡ cost
 
-  pub reads_none : (note : Note) → Reads note [] note 0
-  reads_none note = record { are_read = tt; are_sound = tt; folds = refl; costs_are = refl }
+  pub reads_none : (notation : NotationState) → Reads notation [] notation 0
+  reads_none notation = record { are_read = tt; are_sound = tt; folds = refl; costs_are = refl }
 
-  pub reads_one : {note m : Note} (i : Item) {is : List Item} {next : Note} {cost : ℕ} → is_spellable i ≡ true
-      → Does note i m → Reads m is next cost → Reads note (i ∷ is) next (cost_of note (canonical i) + cost)
-  reads_one {note} {m} i {is} can d r =
+  pub reads_one : {notation m : NotationState} (i : Item) {is : List Item} {next : NotationState} {cost : ℕ}
+      → is_spellable i ≡ true
+      → Does notation i m → Reads m is next cost → Reads notation (i ∷ is) next (cost_of notation (canonical i) + cost)
+  reads_one {notation} {m} i {is} can d r =
       let it : item (canonical i) ≡ i = same_item i can in
-      let e : act words note (item (canonical i)) ≡ m = ap (act words note) it ∙ d.acts in
+      let e : act words notation (item (canonical i)) ≡ m = ap (act words notation) it ∙ d.acts in
       record {
         are_read = (
           is_written i can,
-          ap (is_entry note) it ∙ d.goes_on,
-          subst (λ (n : Note). AreRead words n (canonicals is)) (sym e) r.are_read,
+          ap (is_entry notation) it ∙ d.goes_on,
+          subst (λ (n : NotationState). AreRead words n (canonicals is)) (sym e) r.are_read,
         );
-        are_sound = (d.sound, subst (λ (n : Note). AreSound z words n (canonicals is)) (sym e) r.are_sound);
-        folds = ap (λ (n : Note). fold words n (items (canonicals is))) e ∙ r.folds;
-        costs_are = ap (λ (n : Note). cost_of note (canonical i) + costs words n (canonicals is)) e
-            ∙ ap (λ k. cost_of note (canonical i) + k) r.costs_are;
+        are_sound = (d.sound, subst (λ (n : NotationState). AreSound z words n (canonicals is)) (sym e) r.are_sound);
+        folds = ap (λ (n : NotationState). fold words n (items (canonicals is))) e ∙ r.folds;
+        costs_are = ap (λ (n : NotationState). cost_of notation (canonical i) + costs words n (canonicals is)) e
+            ∙ ap (λ k. cost_of notation (canonical i) + k) r.costs_are;
       }
 
-  pub reads_both : {note m next : Note} {is js : List Item} {c d : ℕ} → Reads note is m c → Reads m js next d
-      → Reads note (is ++ js) next (c + d)
-  reads_both {note} {m} {is} {js} {c} a b =
+  pub reads_both : {notation m next : NotationState} {is js : List Item} {c d : ℕ} → Reads notation is m c
+      → Reads m js next d
+      → Reads notation (is ++ js) next (c + d)
+  reads_both {notation} {m} {is} {js} {c} a b =
       let vs = canonicals is in
       let ws = canonicals js in
-      let e : fold words note (items vs) ≡ m = a.folds in
+      let e : fold words notation (items vs) ≡ m = a.folds in
       let both : canonicals (is ++ js) ≡ vs ++ ws = canonicals-append is js in
       record {
-        are_read = rw both (AreRead-append words note vs ws a.are_read
-            (subst (λ (n : Note). AreRead words n ws) (sym e) b.are_read));
+        are_read = rw both (AreRead-append words notation vs ws a.are_read
+            (subst (λ (n : NotationState). AreRead words n ws) (sym e) b.are_read));
         are_sound =
-            rw both (AreSound-append z words note vs ws a.are_sound
-            (subst (λ (n : Note). AreSound z words n ws) (sym e) b.are_sound));
-        folds = ap (λ us. fold words note (items us)) both ∙ ap (fold words note) (items-append vs ws)
-            ∙ fold-append words note (items vs) (items ws) ∙ ap (λ (n : Note). fold words n (items ws)) e ∙ b.folds;
-        costs_are = ap (costs words note) both ∙ costs-append words note vs ws
-            ∙ ap (λ (n : Note). costs words note vs + costs words n ws) e
+            rw both (AreSound-append z words notation vs ws a.are_sound
+            (subst (λ (n : NotationState). AreSound z words n ws) (sym e) b.are_sound));
+        folds = ap (λ us. fold words notation (items us)) both ∙ ap (fold words notation) (items-append vs ws)
+            ∙ fold-append words notation (items vs) (items ws)
+            ∙ ap (λ (n : NotationState). fold words n (items ws)) e ∙ b.folds;
+        costs_are = ap (costs words notation) both ∙ costs-append words notation vs ws
+            ∙ ap (λ (n : NotationState). costs words notation vs + costs words n ws) e
             ∙ ap (λ k. k + costs words m ws) a.costs_are ∙ ap (λ k. c + k) b.costs_are;
       }
 
   -- K breaks no rule if its function sets something and its number is a location
-  pub kay_sound : (note : Note) (f n : ℕ) → bad_kay (control_of f) ≡ false → n ≤ 1023
-      → EndsSound z words note (canonical (plain f n 14))
-  kay_sound note f n good few BadControl = good
-  kay_sound note f n good few StoreEnd = let l : n ≤ 32767 = omega arith
+  pub kay_sound : (notation : NotationState) (f n : ℕ) → bad_kay (control_of f) ≡ false → n ≤ 1023
+      → EndsSound z words notation (canonical (plain f n 14))
+  kay_sound notation f n good few BadControl = good
+  kay_sound notation f n good few StoreEnd = let l : n ≤ 32767 = omega arith
       in rw ((digits_are n l).number_is) (lt_false 1023 n few)
-  kay_sound note f n good few cause = refl
+  kay_sound notation f n good few cause = refl
 
   -- T p K
-  pub aiming : (note : Note) (p : ℕ) → p ≤ 1023 → Does note (plain 5 p 14) (record note { directive = 20480 + 2 * p })
-  aiming note p h = record { goes_on = refl; sound = kay_sound note 5 p refl h; acts = refl }
+  pub aiming : (notation : NotationState) (p : ℕ) → p ≤ 1023
+      → Does notation (plain 5 p 14) (record notation { directive = 20480 + 2 * p })
+  aiming notation p h = record { goes_on = refl; sound = kay_sound notation 5 p refl h; acts = refl }
 
   -- E p K
-  pub aiming_entry : (note : Note) (p : ℕ) → p ≤ 1023
-      → Does note (plain 3 p 14) (record note { directive = 12288 + 2 * p })
-  aiming_entry note p h = record { goes_on = refl; sound = kay_sound note 3 p refl h; acts = refl }
+  pub aiming_entry : (notation : NotationState) (p : ℕ) → p ≤ 1023
+      → Does notation (plain 3 p 14) (record notation { directive = 12288 + 2 * p })
+  aiming_entry notation p h = record { goes_on = refl; sound = kay_sound notation 3 p refl h; acts = refl }
 
   -- G K under a T directive: θ is twice the location
-  pub setting_theta : (note : Note) (p : ℕ) → p ≤ 1023 → note.directive ≡ 20480 + 2 * p
-      → Does note (plain 27 0 14) (record note { theta = 2 * p })
-  setting_theta note p h d = record {
+  pub setting_theta : (notation : NotationState) (p : ℕ) → p ≤ 1023 → notation.directive ≡ 20480 + 2 * p
+      → Does notation (plain 27 0 14) (record notation { theta = 2 * p })
+  setting_theta notation p h d = record {
     goes_on = refl;
-    sound = kay_sound note 27 0 refl (omega arith);
-    acts = let e : (110592 + note.directive) % 2 ^ 17 ≡ 2 * p = omega arith in rw e refl;
+    sound = kay_sound notation 27 0 refl (omega arith);
+    acts = let e : (110592 + notation.directive) % 2 ^ 17 ≡ 2 * p = omega arith in rw e refl;
   }
 
   -- a code letter breaks no rule under a directive that aims into the store, above the loader
-  letter_rule : {r : RowKind} → r ≡ Letter → (note : Note) (b : Begun) (c : ℕ) → aim_of note.directive ≡ Places
-      → nat_lt (address note.directive) 44 ≡ false → nat_le (locations z) (address note.directive) ≡ false
-      → (cause : TapeCause) → breaks cause r z words note b c ≡ false
-  letter_rule e note b c aim low high cause = subst (λ x. breaks cause x z words note b c ≡ false) (sym e) (of cause)
+  letter_rule : {r : RowKind} → r ≡ Letter → (notation : NotationState) (b : Begun) (c : ℕ)
+      → letter_action_of notation.directive ≡ Places
+      → nat_lt (address notation.directive) 44 ≡ false → nat_le (locations z) (address notation.directive) ≡ false
+      → (cause : TapeCause) → breaks cause r z words notation b c ≡ false
+  letter_rule e notation b c action low high cause =
+      subst (λ x. breaks cause x z words notation b c ≡ false) (sym e) (of cause)
     where
-      of : (k : TapeCause) → breaks k Letter z words note b c ≡ false
-      of LoaderStore = rw aim low
-      of StoreEnd = rw aim high
-      of NoPlace = rw aim refl
-      of EntryNegative = rw aim refl
-      of EntryInLoader = rw aim refl
+      of : (k : TapeCause) → breaks k Letter z words notation b c ≡ false
+      of LoaderStore = rw action low
+      of StoreEnd = rw action high
+      of NoPlace = rw action refl
+      of EntryNegative = rw action refl
+      of EntryInLoader = rw action refl
       of k = refl
 
   -- a code letter under T p K places its word
-  pub placing : {note : Note} {i : Item} (place : ℕ) {w : ℕ} → row_kind i.end ≡ Letter
-      → note.directive ≡ 20480 + 2 * place → 44 ≤ place → place < locations z → item_word words note i ≡ w
-      → Does note i (record {
+  pub placing : {notation : NotationState} {i : Item} (place : ℕ) {w : ℕ} → row_kind i.end ≡ Letter
+      → notation.directive ≡ 20480 + 2 * place → 44 ≤ place → place < locations z → item_word words notation i ≡ w
+      → Does notation i (record {
         directive = 20480 + 2 * (place + 1);
-        theta = note.theta;
-        placed = (place, w) ∷ note.placed;
+        theta = notation.theta;
+        placed = (place, w) ∷ notation.placed;
       })
-  placing {note} {i} place letter d low high is =
+  placing {notation} {i} place letter d low high is =
       let m = most z in
-      let five : note.directive / 4096 ≡ 5 = omega arith in
-      let aim : aim_of note.directive ≡ Places = rw five refl in
-      let a : address note.directive ≡ place = omega arith in
-      let n : note.directive + 2 ≡ 20480 + 2 * (place + 1) = omega arith in
+      let five : notation.directive / 4096 ≡ 5 = omega arith in
+      let action : letter_action_of notation.directive ≡ Places = rw five refl in
+      let a : address notation.directive ≡ place = omega arith in
+      let n : notation.directive + 2 ≡ 20480 + 2 * (place + 1) = omega arith in
       record {
-        goes_on = rw (letter, aim) refl;
-        sound = letter_rule letter note (canonical i).begun i.end aim
+        goes_on = rw (letter, action) refl;
+        sound = letter_rule letter notation (canonical i).begun i.end action
             (rw a (lt_false place 44 low)) (rw a (le_false (locations z) place high));
-        acts = rw (letter, aim, a, is, n) refl;
+        acts = rw (letter, action, a, is, n) refl;
       }
 
   -- the orders that read a code letter which places a word
-  pub placing_cost : (note : Note) (i : Item) (place : ℕ) → row_kind i.end ≡ Letter
-      → note.directive ≡ 20480 + 2 * place → place < locations z
-      → cost_of note (canonical i) ≡ begun_cost (canonical i).begun + 17
-  placing_cost note i place letter d high =
+  pub placing_cost : (notation : NotationState) (i : Item) (place : ℕ) → row_kind i.end ≡ Letter
+      → notation.directive ≡ 20480 + 2 * place → place < locations z
+      → cost_of notation (canonical i) ≡ begun_cost (canonical i).begun + 17
+  placing_cost notation i place letter d high =
       let m = most z in
-      let five : note.directive / 4096 ≡ 5 = omega arith in
-      let aim : aim_of note.directive ≡ Places = rw five refl in
-      rw (letter, aim) refl
+      let five : notation.directive / 4096 ≡ 5 = omega arith in
+      let action : letter_action_of notation.directive ≡ Places = rw five refl in
+      rw (letter, action) refl
 
   -- the entry item P F
-  pub record Enters (note : Note) (p : ℕ) : Type 0 where
-    pub enters : is_entry note (plain 0 0 17) ≡ true
-    pub sound : EndsSound z words note (canonical (plain 0 0 17))
-    pub place : address note.directive ≡ p
-    pub word : item_word words note (plain 0 0 17) ≡ 0
+  pub record Enters (notation : NotationState) (p : ℕ) : Type 0 where
+    pub enters : is_entry notation (plain 0 0 17) ≡ true
+    pub sound : EndsSound z words notation (canonical (plain 0 0 17))
+    pub place : address notation.directive ≡ p
+    pub word : item_word words notation (plain 0 0 17) ≡ 0
 
   -- P F under E p K enters
-  pub entering_at : (note : Note) (p : ℕ) → note.directive ≡ 12288 + 2 * p → 44 ≤ p → p < locations z → Enters note p
-  entering_at note p d low high =
+  pub entering_at : (notation : NotationState) (p : ℕ) → notation.directive ≡ 12288 + 2 * p → 44 ≤ p → p < locations z
+      → Enters notation p
+  entering_at notation p d low high =
       let m = most z in
-      let three : note.directive / 4096 ≡ 3 = omega arith in
-      let a : address note.directive ≡ p = omega arith in
+      let three : notation.directive / 4096 ≡ 3 = omega arith in
+      let a : address notation.directive ≡ p = omega arith in
       record {
         enters = rw three refl;
         sound = λ cause. by_cause (rw three refl) (rw a (lt_false p 44 low))
@@ -172,12 +179,12 @@ module _ (z : Size) (words : List ℕ) where
         word = refl;
       }
     where
-      by_cause : aim_of note.directive ≡ EntersAt → nat_lt (address note.directive) 44 ≡ false
-          → nat_le (locations z) (address note.directive) ≡ false → (c : TapeCause)
-          → breaks c (row_kind 17) z words note (canonical (plain 0 0 17)).begun 17 ≡ false
-      by_cause aim l h LoaderStore = rw aim refl
-      by_cause aim l h StoreEnd = rw aim h
-      by_cause aim l h NoPlace = rw aim refl
-      by_cause aim l h EntryNegative = rw aim refl
-      by_cause aim l h EntryInLoader = rw aim l
-      by_cause aim l h c = refl
+      by_cause : letter_action_of notation.directive ≡ EntersAt → nat_lt (address notation.directive) 44 ≡ false
+          → nat_le (locations z) (address notation.directive) ≡ false → (c : TapeCause)
+          → breaks c (row_kind 17) z words notation (canonical (plain 0 0 17)).begun 17 ≡ false
+      by_cause action l h LoaderStore = rw action refl
+      by_cause action l h StoreEnd = rw action h
+      by_cause action l h NoPlace = rw action refl
+      by_cause action l h EntryNegative = rw action refl
+      by_cause action l h EntryInLoader = rw action l
+      by_cause action l h c = refl

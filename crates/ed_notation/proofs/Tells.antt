@@ -3,11 +3,11 @@ use Rattle.std.proofs.Common.{◌≡◌, ℕ, ◌+◌, refl, sym, ap, ◌∙◌,
 use Rattle.std.proofs.Common.{Option, Some, None, List, [], ◌∷◌, ◌++◌, length, length-append, append_assoc}
 use Rattle.ed_notation.specs.declared.cause.TapeCause.{TapeCause}
 use Rattle.ed_notation.specs.declared.cause.TapeCause.TheVariants.{EndOfTape, BadRow}
-use Rattle.ed_notation.specs.declared.reader.Taken.{Taken}
-use Rattle.ed_notation.specs.declared.reader.Taken.TheVariants.{Refused, Longer, Ended, Placed, Entered}
+use Rattle.ed_notation.specs.declared.reader.RowEffect.{RowEffect}
+use Rattle.ed_notation.specs.declared.reader.RowEffect.TheVariants.{Refused, Longer, Ended, Placed, Entered}
 use Rattle.ed_notation.specs.Items.{row_kind, Begun, Written, begun_rows, rows_of, spelled, IsBegun, IsWritten, item}
 use Rattle.ed_notation.specs.Openings.{IsDirective}
-use Rattle.ed_notation.specs.Fold.{Note, act, is_entry, begun_cost, cost_of}
+use Rattle.ed_notation.specs.Fold.{NotationState, act, is_entry, begun_cost, cost_of}
 use Rattle.ed_notation.specs.Faults.{breaks, broken, part_rows, IsPart, TapeEntry, Breaks, ComesTo}
 use Rattle.ed_notation.specs.Reading.{reading_on, Verdict, Faulty, Arrived}
 use Rattle.ed_notation.proofs.Rows.{RowLaw, EndsItem, as_part, causes}
@@ -21,19 +21,19 @@ use Rattle.ed_words.proofs.Numbers.{lt_of}
 pub record TellsFault (p : Reader) (tape : List ℕ) (row : ℕ) (cause : TapeCause) : Type 0 where
   pub offset : ℕ
   pub row_is : row ≡ p.row + offset
-  pub breaks : Breaks p.size p.words p.note tape offset cause
+  pub breaks : Breaks p.size p.words p.notation tape offset cause
 
 pub record TellsEntry (p : Reader) (tape : List ℕ) (e : TapeEntry) : Type 0 where
   pub read : ℕ
   pub rows_are : e.rows ≡ p.row + read
-  pub comes : ComesTo p.words p.note p.cost tape (record e { rows = read })
+  pub comes : ComesTo p.words p.notation p.cost tape (record e { rows = read })
 
 abbrev pub Tells : Reader → List ℕ → Verdict → Type 0
 Tells p tape (Faulty row cause) = TellsFault p tape row cause
 Tells p tape (Arrived e) = TellsEntry p tape e
 
 -- one more item before rows whose verdict is known
-before : (p : Reader) (w : Written) (rows : List ℕ) (v : Verdict) → IsWritten w → is_entry p.note (item w) ≡ false
+before : (p : Reader) (w : Written) (rows : List ℕ) (v : Verdict) → IsWritten w → is_entry p.notation (item w) ≡ false
     → Tells (behind p w) rows v → Tells p (rows_of w ++ rows) v
 before p w rows (Faulty row cause) good goes t =
     let s = t.breaks.stands in
@@ -65,7 +65,7 @@ before p w rows (Arrived e) good goes t =
         last = c.last;
         are_read = (good, goes, c.are_read);
         is_written = c.is_written;
-        note_is = c.note_is;
+        notation_is = c.notation_is;
         is_entry = c.is_entry;
         rows_are =
             ap (λ x. rows_of w ++ x) c.rows_are
@@ -80,7 +80,7 @@ before p w rows (Arrived e) good goes t =
 
 -- a rule that is broken after a part of an item
 at_end : (p : Reader) (part : Option Begun) (rest : List ℕ) (cause : TapeCause) → IsPart part
-    → broken p.size p.words p.note part rest cause ≡ true
+    → broken p.size p.words p.notation part rest cause ≡ true
     → TellsFault p (part_rows part ++ rest) (inside p part).row cause
 at_end p part rest cause is h = record {
   offset = length (part_rows part);
@@ -101,11 +101,11 @@ at_end p part rest cause is h = record {
 
 -- what is known of rows after every part of an item
 abbrev Told : List ℕ → Type 0
-Told rows = (p : Reader) (part : Option Begun) → IsDirective p.note.directive → IsPart part
+Told rows = (p : Reader) (part : Option Begun) → IsDirective p.notation.directive → IsPart part
     → Tells p (part_rows part ++ rows) (reads (inside p part) (reader_part part) rows)
 
 -- a row inside an item
-module _ (p : Reader) (b : Begun) (c : ℕ) (rows : List ℕ) (told : Told rows) (set : IsDirective p.note.directive)
+module _ (p : Reader) (b : Begun) (c : ℕ) (rows : List ℕ) (told : Told rows) (set : IsDirective p.notation.directive)
     (good : IsBegun b) where
   abbrev here : Reader
   here = inside p (Some b)
@@ -114,23 +114,23 @@ module _ (p : Reader) (b : Begun) (c : ℕ) (rows : List ℕ) (told : Told rows)
   w = record { begun = b; end = c }
 
   -- it ends an item that is not an entry item
-  by_end : {m : Note} {n : ℕ} → EndsItem (row_kind c) p.words p.note b c m n → IsDirective m.directive
+  by_end : {m : NotationState} {n : ℕ} → EndsItem (row_kind c) p.words p.notation b c m n → IsDirective m.directive
       → Tells p (begun_rows b ++ (c ∷ rows)) (reads (passed here 1 n m) None rows)
   by_end {m} {n} x u =
-      let d = subst (λ (y : Note). IsDirective y.directive) x.note_is u in
+      let d = subst (λ (y : NotationState). IsDirective y.directive) x.notation_is u in
       let l = length-append (begun_rows b) (c ∷ []) in
       let row_is : p.row + length (rows_of w) + 0 ≡ here.row + 1 = omega (arith, l) in
-      let cost_is : p.cost + cost_of p.note w + 0 ≡ here.cost + n = omega (arith, x.cost_is) in
-      let v = reads (passed here 1 n (act p.words p.note (item w))) None rows in
+      let cost_is : p.cost + cost_of p.notation w + 0 ≡ here.cost + n = omega (arith, x.cost_is) in
+      let v = reads (passed here 1 n (act p.words p.notation (item w))) None rows in
       let ih : Tells (behind p w) rows v = (rw (row_is, cost_is) at (told (behind p w) None d tt)) in
       let e : rows_of w ++ rows ≡ begun_rows b ++ (c ∷ rows) = append_assoc (begun_rows b) (c ∷ []) rows in
       let is : IsWritten w = record { begun = good; ended = x.ended } in
-      rw (x.note_is) (subst (λ y. Tells p y v) e (before p w rows v is x.goes_on ih))
+      rw (x.notation_is) (subst (λ y. Tells p y v) e (before p w rows v is x.goes_on ih))
 
-  by_taken : (t : Taken) → KeepsDirective p.note t → RowLaw (row_kind c) p.size p.words p.note b c t
+  by_taken : (t : RowEffect) → KeepsDirective p.notation t → RowLaw (row_kind c) p.size p.words p.notation b c t
       → Tells p (begun_rows b ++ (c ∷ rows)) (follow here (as_part b) c rows t)
   by_taken (Refused cause) u law =
-      let broken = found_is (λ x. breaks x (row_kind c) p.size p.words p.note b c) causes cause law in
+      let broken = found_is (λ x. breaks x (row_kind c) p.size p.words p.notation b c) causes cause law in
       at_end p (Some b) (c ∷ rows) cause good broken
   by_taken (Longer i n) u law =
       let x = law.2 in
@@ -138,7 +138,7 @@ module _ (p : Reader) (b : Begun) (c : ℕ) (rows : List ℕ) (told : Told rows)
       let m = length-append (begun_rows b) (c ∷ []) in
       let row_is : p.row + length (begun_rows x.next) ≡ here.row + 1 = omega (arith, l, m) in
       let cost_is : p.cost + begun_cost x.next ≡ here.cost + n = omega (arith, x.cost_is) in
-      let v = reads (passed here 1 n p.note) (Some (as_part x.next)) rows in
+      let v = reads (passed here 1 n p.notation) (Some (as_part x.next)) rows in
       let ih : Tells p (begun_rows x.next ++ rows) v = (rw (row_is, cost_is) at (told p (Some x.next) set x.good)) in
       let e : begun_rows x.next ++ rows ≡ begun_rows b ++ (c ∷ rows) =
       ap (λ y. y ++ rows) x.rows_are ∙ append_assoc (begun_rows b) (c ∷ []) rows in
@@ -156,7 +156,7 @@ module _ (p : Reader) (b : Begun) (c : ℕ) (rows : List ℕ) (told : Told rows)
           last = w;
           are_read = tt;
           is_written = record { begun = good; ended = x.ended };
-          note_is = refl;
+          notation_is = refl;
           is_entry = x.entered;
           rows_are = sym (append_assoc (begun_rows b) (c ∷ []) rows);
           last_is = refl;
@@ -170,11 +170,11 @@ module _ (p : Reader) (b : Begun) (c : ℕ) (rows : List ℕ) (told : Told rows)
   after_row : Tells p (begun_rows b ++ (c ∷ rows)) (reads here (Some (as_part b)) (c ∷ rows))
   unfolding reading_on
   after_row =
-      by_taken (seen p.size p.words p.note b c) (seen_keeps p.size p.words p.note b c set)
-      (law p.size p.words p.note b c set good)
+      by_taken (seen p.size p.words p.notation b c) (seen_keeps p.size p.words p.notation b c set)
+      (law p.size p.words p.notation b c set good)
 
 -- a function row
-by_function : (p : Reader) (f : ℕ) (rows : List ℕ) {t : Bool} → Told rows → IsDirective p.note.directive
+by_function : (p : Reader) (f : ℕ) (rows : List ℕ) {t : Bool} → Told rows → IsDirective p.notation.directive
     → nat_lt f 32 ≡ t → Tells p (f ∷ rows) (reads (inside p None) None (f ∷ rows))
 by_function p f rows {t = true} told d h =
     let good : IsBegun (record { function = f; digits = []; mark = false }) =

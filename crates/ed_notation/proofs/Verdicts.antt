@@ -1,7 +1,7 @@
 -- A list of rows reaches one entry, or has one fault.
 use Rattle.std.proofs.Common.{◌≡◌, ℕ, sym, ◌∙◌, List}
 use Rattle.ed_words.specs.declared.size.Size.{Size}
-use Rattle.ed_notation.specs.Fold.{Note}
+use Rattle.ed_notation.specs.Fold.{NotationState}
 use Rattle.ed_notation.specs.Faults.{ComesTo, IsFault, TapeEntry, WellFormed}
 use Rattle.ed_notation.specs.Reading.{Arrived, Faulty, ReadingIsRules}
 use Rattle.ed_notation.specs.declared.cause.TapeCause.{TapeCause}
@@ -12,7 +12,7 @@ entry_of is = cc
 row_of : {r q : ℕ} {a b : TapeCause} → Faulty r a ≡ Faulty q b → (r ≡ q) × (a ≡ b)
 row_of is = (cc, cc)
 
-module _ {z : Size} {words : List ℕ} {start : Note} {base : ℕ} {rows : List ℕ}
+module _ {z : Size} {words : List ℕ} {start : NotationState} {base : ℕ} {rows : List ℕ}
     (law : ReadingIsRules z words start base rows) where
   pub entry_once : {e f : TapeEntry} → WellFormed z words start rows → ComesTo words start base rows e
       → ComesTo words start base rows f → e ≡ f

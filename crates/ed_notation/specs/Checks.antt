@@ -5,27 +5,28 @@ use Rattle.ed_words.specs.declared.size.Size.{Size}
 use Rattle.ed_notation.specs.declared.reader.Reached.{Reached}
 use Rattle.ed_notation.specs.declared.cause.TapeFault.{TapeFault}
 use Rattle.ed_notation.specs.declared.cause.TapeFault.TheVariants.{At, Memory}
-use Rattle.ed_notation.specs.Fold.{Note, placed_at, over}
+use Rattle.ed_notation.specs.Fold.{NotationState, placed_at, over}
 use Rattle.ed_notation.specs.Openings.{opening_with}
 use Rattle.ed_notation.specs.Faults.{TapeEntry, IsFault, WellFormed, ComesTo, EndsSound, AreSound}
 use Rattle.ed_notation.specs.Reports.{Report, word_in}
 
 -- the answer for a well-formed tape: no rule is broken at any row; the first rows spell items that the fold takes
 -- without a fault, and only the last is an entry item; the report is what their fold gives
-pub record Accepts (z : Size) (words : List ℕ) (start : Note) (base : ℕ) (rows : List ℕ) (r : Report) : Type 0 where
+pub record Accepts (z : Size) (words : List ℕ) (start : NotationState) (base : ℕ) (rows : List ℕ) (r : Report) :
+    Type 0 where
   pub well : WellFormed z words start rows
   pub entry : TapeEntry
   pub comes : ComesTo words start base rows entry
   pub sound : AreSound z words start comes.before
-  pub last_sound : EndsSound z words entry.note comes.last
+  pub last_sound : EndsSound z words entry.notation comes.last
   pub entry_is : r.entry ≡ entry.at
   pub orders_are : r.orders ≡ entry.cost
   pub rows_are : r.rows ≡ entry.rows
-  pub theta_is : r.theta ≡ entry.note.theta
-  pub map_is : (a : ℕ) → a < 1024 → word_in r a ≡ placed_at entry.note.placed a
+  pub theta_is : r.theta ≡ entry.notation.theta
+  pub map_is : (a : ℕ) → a < 1024 → word_in r a ≡ placed_at entry.notation.placed a
 
 -- the answer is that for a well-formed tape, or the fault, or that no memory was found
-abbrev pub AnswersCheck : Size → List ℕ → Note → ℕ → List ℕ → Result Report TapeFault → Type 0
+abbrev pub AnswersCheck : Size → List ℕ → NotationState → ℕ → List ℕ → Result Report TapeFault → Type 0
 AnswersCheck z words start base rows (Ok r) = Accepts z words start base rows r
 AnswersCheck z words start base rows (Err (At row cause)) = IsFault z words start rows row cause
 AnswersCheck z words start base rows (Err Memory) = Unit {0}
@@ -47,7 +48,7 @@ ContentIsMapOrStore =
     → slice_index (over placed words) a ≡ unwrap_or (placed_at placed a) (slice_index words a)
 
 -- the state after the reading of a well-formed tape: the contents of all locations, and where words were placed
-pub record Arrives (z : Size) (words : List ℕ) (start : Note) (base : ℕ) (rows : List ℕ) (r : Reached)
+pub record Arrives (z : Size) (words : List ℕ) (start : NotationState) (base : ℕ) (rows : List ℕ) (r : Reached)
     (contents : List ℕ) (marks : List Bool) : Type 0 where
   pub well : WellFormed z words start rows
   pub entry : TapeEntry
@@ -55,10 +56,10 @@ pub record Arrives (z : Size) (words : List ℕ) (start : Note) (base : ℕ) (ro
   pub entry_is : r.entry ≡ entry.at
   pub orders_are : r.orders ≡ entry.cost
   pub rows_are : r.rows ≡ entry.rows
-  pub theta_is : r.theta ≡ entry.note.theta
-  pub contents_are : contents ≡ over entry.note.placed words
-  pub marks_are : marks ≡ marked entry.note.placed
-  pub places : ArePlaces entry.note.placed
+  pub theta_is : r.theta ≡ entry.notation.theta
+  pub contents_are : contents ≡ over entry.notation.placed words
+  pub marks_are : marks ≡ marked entry.notation.placed
+  pub places : ArePlaces entry.notation.placed
   pub locations_are : length words ≡ 1024
 
 -- the answer of a reading on a copy of the store, and the state of that copy after it

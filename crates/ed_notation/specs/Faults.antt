@@ -15,12 +15,12 @@ use Rattle.ed_notation.specs.declared.kind.RowKind.{RowKind}
 use Rattle.ed_notation.specs.declared.kind.RowKind.TheVariants.{Digit, Mark, Zed, Kay, Blank, Letter, Other}
 use Rattle.ed_notation.specs.declared.kind.Control.{Control}
 use Rattle.ed_notation.specs.declared.kind.Control.TheVariants.{Directive, ThetaByBlank, ThetaByG, Neither}
-use Rattle.ed_notation.specs.declared.kind.Aim.{Aim}
-use Rattle.ed_notation.specs.declared.kind.Aim.TheVariants.{Places, Nowhere}
+use Rattle.ed_notation.specs.declared.kind.LetterAction.{LetterAction}
+use Rattle.ed_notation.specs.declared.kind.LetterAction.TheVariants.{Places, Nowhere}
 use Rattle.ed_notation.specs.Items.{row_kind, Begun, Written, digits_number, begun_rows, rows_of, spelled, IsBegun}
 use Rattle.ed_notation.specs.Items.{IsWritten}
 use Rattle.ed_notation.specs.Items.{is_blank_row, item, item_of, items}
-use Rattle.ed_notation.specs.Fold.{Note, item_word, address, control_of, aim_of}
+use Rattle.ed_notation.specs.Fold.{NotationState, item_word, address, control_of, letter_action_of}
 use Rattle.ed_notation.specs.Fold.{enters_at, act, is_entry, fold, costs, cost_of}
 
 -- the numbers of the rules; if two rules are broken at one row, the one with the lesser number is the fault
@@ -53,41 +53,43 @@ bad_zed ThetaByG = true
 bad_zed control = false
 
 -- whether what Z would set is out of range: a directive that `is_place` refuses, or a sum for θ of 65536 or more
-abbrev pub past_zed : Control → Note → Item → Bool
-past_zed Directive note i = not (is_place (4096 * i.function + 2 * i.number + note.theta))
-past_zed ThetaByBlank note i = nat_le 65536 (2 * i.number + note.theta)
-past_zed control note i = false
+abbrev pub past_zed : Control → NotationState → Item → Bool
+past_zed Directive notation i = not (is_place (4096 * i.function + 2 * i.number + notation.theta))
+past_zed ThetaByBlank notation i = nat_le 65536 (2 * i.number + notation.theta)
+past_zed control notation i = false
 
 -- whether a code letter places a word
-abbrev pub places_at : Aim → Bool
+abbrev pub places_at : LetterAction → Bool
 places_at Places = true
-places_at aim = false
+places_at action = false
 
 -- whether a code letter has no location to go to, under a P directive
-abbrev pub is_nowhere : Aim → Bool
+abbrev pub is_nowhere : LetterAction → Bool
 is_nowhere Nowhere = true
-is_nowhere aim = false
+is_nowhere action = false
 
 -- whether the row c, of this kind, breaks the rule after the rows of b: one line for each case of a rule
-abbrev pub breaks : TapeCause → RowKind → Size → List ℕ → Note → Begun → ℕ → Bool
-breaks BadRow Other z words note b c = true
-breaks BadRow Blank z words note b c = not (is_blank_row b)
-breaks NumberTooLarge Digit z words note b c = not b.mark && nat_lt 32767 (10 * digits_number 0 b.digits + c)
-breaks AfterMark Digit z words note b c = b.mark
-breaks AfterMark Mark z words note b c = b.mark
-breaks BadControl Kay z words note b c = b.mark || bad_kay (control_of b.function)
-breaks BadControl Zed z words note b c = b.mark || bad_zed (control_of b.function)
-breaks LoaderStore Letter z words note b c = places_at (aim_of note.directive) && nat_lt (address note.directive) 44
-breaks StoreEnd Letter z words note b c =
-    (places_at (aim_of note.directive) || enters_at (aim_of note.directive))
-    && nat_le (locations z) (address note.directive)
-breaks StoreEnd Kay z words note b c = nat_lt 1023 (digits_number 0 b.digits)
-breaks StoreEnd Zed z words note b c = past_zed (control_of b.function) note (item_of b c)
-breaks NoPlace Letter z words note b c = is_nowhere (aim_of note.directive)
-breaks EntryNegative Letter z words note b c =
-    enters_at (aim_of note.directive) && nat_le 65536 (item_word words note (item_of b c))
-breaks EntryInLoader Letter z words note b c = enters_at (aim_of note.directive) && nat_lt (address note.directive) 44
-breaks cause kind z words note b c = false
+abbrev pub breaks : TapeCause → RowKind → Size → List ℕ → NotationState → Begun → ℕ → Bool
+breaks BadRow Other z words notation b c = true
+breaks BadRow Blank z words notation b c = not (is_blank_row b)
+breaks NumberTooLarge Digit z words notation b c = not b.mark && nat_lt 32767 (10 * digits_number 0 b.digits + c)
+breaks AfterMark Digit z words notation b c = b.mark
+breaks AfterMark Mark z words notation b c = b.mark
+breaks BadControl Kay z words notation b c = b.mark || bad_kay (control_of b.function)
+breaks BadControl Zed z words notation b c = b.mark || bad_zed (control_of b.function)
+breaks LoaderStore Letter z words notation b c = places_at (letter_action_of notation.directive)
+    && nat_lt (address notation.directive) 44
+breaks StoreEnd Letter z words notation b c =
+    (places_at (letter_action_of notation.directive) || enters_at (letter_action_of notation.directive))
+    && nat_le (locations z) (address notation.directive)
+breaks StoreEnd Kay z words notation b c = nat_lt 1023 (digits_number 0 b.digits)
+breaks StoreEnd Zed z words notation b c = past_zed (control_of b.function) notation (item_of b c)
+breaks NoPlace Letter z words notation b c = is_nowhere (letter_action_of notation.directive)
+breaks EntryNegative Letter z words notation b c =
+    enters_at (letter_action_of notation.directive) && nat_le 65536 (item_word words notation (item_of b c))
+breaks EntryInLoader Letter z words notation b c =
+    enters_at (letter_action_of notation.directive) && nat_lt (address notation.directive) 44
+breaks cause kind z words notation b c = false
 
 -- whether the rule is the first one: the tape must not end here
 abbrev pub is_end_of_tape : TapeCause → Bool
@@ -100,16 +102,16 @@ is_bad_row BadRow = true
 is_bad_row cause = false
 
 -- whether the rule is broken when this part of an item has been read and these rows are left
-abbrev pub broken : Size → List ℕ → Note → Option Begun → List ℕ → TapeCause → Bool
-broken z words note part [] cause = is_end_of_tape cause
-broken z words note None (c ∷ rest) cause = is_bad_row cause && not (nat_lt c 32)
-broken z words note (Some b) (c ∷ rest) cause = breaks cause (row_kind c) z words note b c
+abbrev pub broken : Size → List ℕ → NotationState → Option Begun → List ℕ → TapeCause → Bool
+broken z words notation part [] cause = is_end_of_tape cause
+broken z words notation None (c ∷ rest) cause = is_bad_row cause && not (nat_lt c 32)
+broken z words notation (Some b) (c ∷ rest) cause = breaks cause (row_kind c) z words notation b c
 
 -- whole items one after the other, none of them an entry item
-abbrev pub AreRead : List ℕ → Note → List Written → Type 0
-AreRead words note [] = Unit {0}
-AreRead words note (w ∷ ws) = IsWritten w × (is_entry note (item w) ≡ false)
-    × AreRead words (act words note (item w)) ws
+abbrev pub AreRead : List ℕ → NotationState → List Written → Type 0
+AreRead words notation [] = Unit {0}
+AreRead words notation (w ∷ ws) = IsWritten w × (is_entry notation (item w) ≡ false)
+    × AreRead words (act words notation (item w)) ws
 
 -- the rows of a part of an item; there are none between two items
 abbrev pub part_rows : Option Begun → List ℕ
@@ -122,7 +124,7 @@ IsPart None = Unit {0}
 IsPart (Some b) = IsBegun b
 
 -- the row is read: whole items come before it, no entry item among them, and then a part of its own item
-pub record IsRead (words : List ℕ) (start : Note) (rows : List ℕ) (row : ℕ) : Type 0 where
+pub record IsRead (words : List ℕ) (start : NotationState) (rows : List ℕ) (row : ℕ) : Type 0 where
   pub before : List Written
   pub part : Option Begun
   pub rest : List ℕ
@@ -132,20 +134,20 @@ pub record IsRead (words : List ℕ) (start : Note) (rows : List ℕ) (row : ℕ
   pub row_is : row ≡ length (spelled before) + length (part_rows part)
 
 -- the tape breaks the rule at the row
-pub record Breaks (z : Size) (words : List ℕ) (start : Note) (rows : List ℕ) (row : ℕ) (cause : TapeCause) :
+pub record Breaks (z : Size) (words : List ℕ) (start : NotationState) (rows : List ℕ) (row : ℕ) (cause : TapeCause) :
     Type 0 where
   pub stands : IsRead words start rows row
   pub breaks : broken z words (fold words start (items stands.before)) stands.part stands.rest cause ≡ true
 
 -- the fault of a tape: the first row at which a rule is broken, and the rule with the least number broken there
-pub record IsFault (z : Size) (words : List ℕ) (start : Note) (rows : List ℕ) (row : ℕ) (cause : TapeCause) :
+pub record IsFault (z : Size) (words : List ℕ) (start : NotationState) (rows : List ℕ) (row : ℕ) (cause : TapeCause) :
     Type 0 where
   pub is : Breaks z words start rows row cause
   pub least : (r : ℕ) (other : TapeCause) → Breaks z words start rows r other
       → (row < r) ⊎ ((row ≡ r) × (cause_number cause ≤ cause_number other))
 
 -- a tape is well formed: no rule is broken at any row
-abbrev pub WellFormed : Size → List ℕ → Note → List ℕ → Type 0
+abbrev pub WellFormed : Size → List ℕ → NotationState → List ℕ → Type 0
 WellFormed z words start rows = (row : ℕ) (cause : TapeCause) → Breaks z words start rows row cause → ⊥
 
 -- the entry that a tape reaches: its address, the entry item and its word, the cost in orders and the number of rows
@@ -155,31 +157,32 @@ pub record TapeEntry : Type 0 where
   pub word : ℕ
   pub cost : ℕ
   pub rows : ℕ
-  pub note : Note
+  pub notation : NotationState
   pub last : Item
   pub rest : List ℕ
 
 -- the first rows of the tape spell items, only the last of them an entry item, and the entry is what their fold gives;
 -- `base` is the cost before the first row
-pub record ComesTo (words : List ℕ) (start : Note) (base : ℕ) (rows : List ℕ) (e : TapeEntry) : Type 0 where
+pub record ComesTo (words : List ℕ) (start : NotationState) (base : ℕ) (rows : List ℕ) (e : TapeEntry) : Type 0 where
   pub before : List Written
   pub last : Written
   pub are_read : AreRead words start before
   pub is_written : IsWritten last
-  pub note_is : e.note ≡ fold words start (items before)
-  pub is_entry : is_entry e.note (item last) ≡ true
+  pub notation_is : e.notation ≡ fold words start (items before)
+  pub is_entry : is_entry e.notation (item last) ≡ true
   pub rows_are : rows ≡ spelled before ++ (rows_of last ++ e.rest)
   pub last_is : e.last ≡ item last
-  pub at_is : e.at ≡ address e.note.directive
-  pub word_is : e.word ≡ item_word words e.note (item last)
-  pub cost_is : e.cost ≡ base + costs words start before + cost_of e.note last
+  pub at_is : e.at ≡ address e.notation.directive
+  pub word_is : e.word ≡ item_word words e.notation (item last)
+  pub cost_is : e.cost ≡ base + costs words start before + cost_of e.notation last
   pub read_is : e.rows ≡ length (spelled before) + length (rows_of last)
 
 -- an item breaks no rule at its ending row
-abbrev pub EndsSound : Size → List ℕ → Note → Written → Type 0
-EndsSound z words note w = (cause : TapeCause) → breaks cause (row_kind w.end) z words note w.begun w.end ≡ false
+abbrev pub EndsSound : Size → List ℕ → NotationState → Written → Type 0
+EndsSound z words notation w = (cause : TapeCause)
+    → breaks cause (row_kind w.end) z words notation w.begun w.end ≡ false
 
 -- none of the items breaks a rule at its ending row: the fold takes them without a fault
-abbrev pub AreSound : Size → List ℕ → Note → List Written → Type 0
-AreSound z words note [] = Unit {0}
-AreSound z words note (w ∷ ws) = EndsSound z words note w × AreSound z words (act words note (item w)) ws
+abbrev pub AreSound : Size → List ℕ → NotationState → List Written → Type 0
+AreSound z words notation [] = Unit {0}
+AreSound z words notation (w ∷ ws) = EndsSound z words notation w × AreSound z words (act words notation (item w)) ws

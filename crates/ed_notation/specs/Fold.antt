@@ -8,12 +8,12 @@ use Rattle.ed_notation.specs.declared.kind.RowKind.{RowKind}
 use Rattle.ed_notation.specs.declared.kind.RowKind.TheVariants.{Zed, Kay, Blank, Letter}
 use Rattle.ed_notation.specs.declared.kind.Control.{Control}
 use Rattle.ed_notation.specs.declared.kind.Control.TheVariants.{Directive, ThetaByBlank, ThetaByG, Neither}
-use Rattle.ed_notation.specs.declared.kind.Aim.{Aim}
-use Rattle.ed_notation.specs.declared.kind.Aim.TheVariants.{Places, Enters, Nowhere, Unset}
+use Rattle.ed_notation.specs.declared.kind.LetterAction.{LetterAction}
+use Rattle.ed_notation.specs.declared.kind.LetterAction.TheVariants.{Places, Enters, Nowhere, Unset}
 use Rattle.ed_notation.specs.Items.{row_kind, Begun, Written, item}
 
 -- the state of the notation: the directive, θ, and the words placed so far with their locations, the latest first
-pub record Note : Type 0 where
+pub record NotationState : Type 0 where
   pub directive : ℕ
   pub theta : ℕ
   pub placed : List (ℕ × ℕ)
@@ -41,8 +41,9 @@ abbrev pub word_with : ℕ → ℕ → Bool → ℕ → ℕ
 word_with function number mark value = (4096 * function + 2 * number + digit mark + value) % 2 ^ 17
 
 -- the word of an item that ends with a code letter
-abbrev pub item_word : List ℕ → Note → Item → ℕ
-item_word words note i = word_with i.function i.number i.mark (value_of (over note.placed words) note.theta i.end)
+abbrev pub item_word : List ℕ → NotationState → Item → ℕ
+item_word words notation i = word_with i.function i.number i.mark
+    (value_of (over notation.placed words) notation.theta i.end)
 
 -- the address of a directive
 abbrev pub address : ℕ → ℕ
@@ -57,63 +58,73 @@ control_of f =
     else Neither
 
 -- what a code letter does under a directive: T places, E enters, P does neither
-abbrev pub aim_of : ℕ → Aim
-aim_of directive =
+abbrev pub letter_action_of : ℕ → LetterAction
+letter_action_of directive =
     if nat_eq (directive / 4096) 5 then Places
     else if nat_eq (directive / 4096) 3 then Enters
     else if nat_eq (directive / 4096) 0 then Nowhere
     else Unset
 
 -- K: θ is set by blank and by G, and the directive by every other function
-abbrev pub with_kay : Control → Note → Item → Note
-with_kay ThetaByBlank note i = record note { theta = (4096 * i.function + 2 * i.number + note.directive) % 2 ^ 17 }
-with_kay ThetaByG note i = record note { theta = (4096 * i.function + 2 * i.number + note.directive) % 2 ^ 17 }
-with_kay control note i = record note { directive = 4096 * i.function + 2 * i.number }
+abbrev pub with_kay : Control → NotationState → Item → NotationState
+with_kay ThetaByBlank notation i = record notation {
+  theta =
+      (4096 * i.function + 2 * i.number + notation.directive) % 2 ^ 17;
+}
+with_kay ThetaByG notation i = record notation {
+  theta =
+      (4096 * i.function + 2 * i.number + notation.directive) % 2 ^ 17;
+}
+with_kay control notation i = record notation { directive = 4096 * i.function + 2 * i.number }
 
 -- Z: θ is set by blank, and the directive by every other function
-abbrev pub with_zed : Control → Note → Item → Note
-with_zed ThetaByBlank note i = record note { theta = (65536 + 2 * i.number + note.theta + note.directive) % 2 ^ 17 }
-with_zed control note i = record note { directive = 4096 * i.function + 2 * i.number + note.theta }
+abbrev pub with_zed : Control → NotationState → Item → NotationState
+with_zed ThetaByBlank notation i = record notation {
+  theta =
+      (65536 + 2 * i.number + notation.theta + notation.directive) % 2 ^ 17;
+}
+with_zed control notation i = record notation { directive = 4096 * i.function + 2 * i.number + notation.theta }
 
 -- a code letter: at an entry it sets nothing; otherwise the word is placed, and the directive advances by one location
-abbrev pub with_letter : Aim → Note → ℕ → Note
-with_letter Enters note word = note
-with_letter aim note word = record {
-  directive = note.directive + 2;
-  theta = note.theta;
-  placed = (address note.directive, word) ∷ note.placed;
+abbrev pub with_letter : LetterAction → NotationState → ℕ → NotationState
+with_letter Enters notation word = notation
+with_letter action notation word = record {
+  directive = notation.directive + 2;
+  theta = notation.theta;
+  placed = (address notation.directive, word) ∷ notation.placed;
 }
 
 -- what an item sets, by the kind of its ending row; the second blank of a blank pair sets θ to the directive
-abbrev pub acted : RowKind → List ℕ → Note → Item → Note
-acted Blank words note i = record note { theta = note.directive }
-acted Kay words note i = with_kay (control_of i.function) note i
-acted Zed words note i = with_zed (control_of i.function) note i
-acted Letter words note i = with_letter (aim_of note.directive) note (item_word words note i)
-acted kind words note i = note
+abbrev pub ending_effect : RowKind → List ℕ → NotationState → Item → NotationState
+ending_effect Blank words notation i = record notation { theta = notation.directive }
+ending_effect Kay words notation i = with_kay (control_of i.function) notation i
+ending_effect Zed words notation i = with_zed (control_of i.function) notation i
+ending_effect Letter words notation i = with_letter (letter_action_of notation.directive) notation
+    (item_word words notation i)
+ending_effect kind words notation i = notation
 
 -- the state after an item
-abbrev pub act : List ℕ → Note → Item → Note
-act words note i = acted (row_kind i.end) words note i
+abbrev pub act : List ℕ → NotationState → Item → NotationState
+act words notation i = ending_effect (row_kind i.end) words notation i
 
 -- the state after items one after the other
-abbrev pub fold : List ℕ → Note → List Item → Note
-fold words note [] = note
-fold words note (i ∷ is) = fold words (act words note i) is
+abbrev pub fold : List ℕ → NotationState → List Item → NotationState
+fold words notation [] = notation
+fold words notation (i ∷ is) = fold words (act words notation i) is
 
 -- whether a code letter enters
-abbrev pub enters_at : Aim → Bool
+abbrev pub enters_at : LetterAction → Bool
 enters_at Enters = true
-enters_at aim = false
+enters_at action = false
 
 -- whether an item whose ending row is of this kind is the entry item
-abbrev pub entering : RowKind → Note → Bool
-entering Letter note = enters_at (aim_of note.directive)
-entering kind note = false
+abbrev pub entering : RowKind → NotationState → Bool
+entering Letter notation = enters_at (letter_action_of notation.directive)
+entering kind notation = false
 
 -- whether an item is the entry item: a code letter under an E directive
-abbrev pub is_entry : Note → Item → Bool
-is_entry note i = entering (row_kind i.end) note
+abbrev pub is_entry : NotationState → Item → Bool
+is_entry notation i = entering (row_kind i.end) notation
 
 -- the number of orders that read the rows before an ending row: 6 for the function row, 9 for each digit row, 15 for π
 abbrev pub begun_cost : Begun → ℕ
@@ -121,18 +132,18 @@ begun_cost b = 6 + 9 * length b.digits + 15 * digit b.mark
 
 -- the number of orders that read an ending row: 16 for K, 17 for Z, 14 for the second blank of a pair, and for a code
 -- letter 13 at the entry item and 17 elsewhere
-abbrev pub end_cost : RowKind → Note → ℕ
-end_cost Kay note = 16
-end_cost Zed note = 17
-end_cost Blank note = 14
-end_cost Letter note = if enters_at (aim_of note.directive) then 13 else 17
-end_cost kind note = 0
+abbrev pub end_cost : RowKind → NotationState → ℕ
+end_cost Kay notation = 16
+end_cost Zed notation = 17
+end_cost Blank notation = 14
+end_cost Letter notation = if enters_at (letter_action_of notation.directive) then 13 else 17
+end_cost kind notation = 0
 
 -- the number of orders that read an item
-abbrev pub cost_of : Note → Written → ℕ
-cost_of note w = begun_cost w.begun + end_cost (row_kind w.end) note
+abbrev pub cost_of : NotationState → Written → ℕ
+cost_of notation w = begun_cost w.begun + end_cost (row_kind w.end) notation
 
 -- the number of orders that read items one after the other
-abbrev pub costs : List ℕ → Note → List Written → ℕ
-costs words note [] = 0
-costs words note (w ∷ ws) = cost_of note w + costs words (act words note (item w)) ws
+abbrev pub costs : List ℕ → NotationState → List Written → ℕ
+costs words notation [] = 0
+costs words notation (w ∷ ws) = cost_of notation w + costs words (act words notation (item w)) ws

@@ -13,30 +13,30 @@ use Rattle.ed_notation.specs.declared.kind.RowKind.{RowKind}
 use Rattle.ed_notation.specs.declared.kind.RowKind.TheVariants.{Digit, Mark, Zed, Kay, Blank, Letter, Other}
 use Rattle.ed_notation.specs.declared.kind.Control.{Control}
 use Rattle.ed_notation.specs.declared.kind.Control.TheVariants.{Directive, ThetaByBlank, Neither}
-use Rattle.ed_notation.specs.declared.kind.Aim.{Aim}
-use Rattle.ed_notation.specs.declared.kind.Aim.TheVariants.{Places, Enters}
-use Rattle.ed_notation.specs.declared.reader.Setting.{Setting}
-use Rattle.ed_notation.specs.declared.reader.Part.{Part}
-use Rattle.ed_notation.specs.declared.reader.Taken.{Taken}
-use Rattle.ed_notation.specs.declared.reader.Taken.TheVariants.{Refused, Longer, Ended, Placed, Entered}
+use Rattle.ed_notation.specs.declared.kind.LetterAction.{LetterAction}
+use Rattle.ed_notation.specs.declared.kind.LetterAction.TheVariants.{Places, Enters}
+use Rattle.ed_notation.specs.declared.reader.DirectiveState.{DirectiveState}
+use Rattle.ed_notation.specs.declared.reader.PartialItem.{PartialItem}
+use Rattle.ed_notation.specs.declared.reader.RowEffect.{RowEffect}
+use Rattle.ed_notation.specs.declared.reader.RowEffect.TheVariants.{Refused, Longer, Ended, Placed, Entered}
 use Rattle.ed_notation.specs.Items.{row_kind}
-use Rattle.ed_notation.specs.Fold.{Note, over, value_of, word_with, address, control_of, aim_of}
+use Rattle.ed_notation.specs.Fold.{NotationState, over, value_of, word_with, address, control_of, letter_action_of}
 use Rattle.ed_notation.specs.Openings.{IsDirective}
 use Rattle.ed_notation.specs.Faults.{is_place, TapeEntry, IsFault, WellFormed, ComesTo}
 
 -- a digit row
-abbrev pub digit_taken : Part → ℕ → Taken
-digit_taken part c =
+abbrev pub digit_effect : PartialItem → ℕ → RowEffect
+digit_effect part c =
     if part.mark then Refused AfterMark
     else if nat_lt 32767 (10 * part.number + c) then Refused NumberTooLarge
     else Longer (record part { number = 10 * part.number + c; blank = false }) 9
 
 -- a π row
-abbrev pub mark_taken : Part → Taken
-mark_taken part = if part.mark then Refused AfterMark else Longer (record part { mark = true; blank = false }) 15
+abbrev pub mark_effect : PartialItem → RowEffect
+mark_effect part = if part.mark then Refused AfterMark else Longer (record part { mark = true; blank = false }) 15
 
 -- the row K, by what the function sets
-abbrev pub kay_sets : Control → Setting → Part → Taken
+abbrev pub kay_sets : Control → DirectiveState → PartialItem → RowEffect
 kay_sets Directive setting part =
     if nat_lt 1023 part.number then Refused StoreEnd
     else Ended (record setting { directive = 4096 * part.function + 2 * part.number }) 16
@@ -46,11 +46,11 @@ kay_sets control setting part =
     else Ended (record setting { theta = (4096 * part.function + 2 * part.number + setting.directive) % 2 ^ 17 }) 16
 
 -- the row K, which may not follow a mark
-abbrev pub kay_taken : Control → Setting → Part → Taken
-kay_taken control setting part = if part.mark then Refused BadControl else kay_sets control setting part
+abbrev pub kay_effect : Control → DirectiveState → PartialItem → RowEffect
+kay_effect control setting part = if part.mark then Refused BadControl else kay_sets control setting part
 
 -- the row Z, by what the function sets
-abbrev pub zed_sets : Control → Setting → Part → Taken
+abbrev pub zed_sets : Control → DirectiveState → PartialItem → RowEffect
 zed_sets Directive setting part =
     if is_place (4096 * part.function + 2 * part.number + setting.theta)
     then Ended (record setting { directive = 4096 * part.function + 2 * part.number + setting.theta }) 17
@@ -61,42 +61,42 @@ zed_sets ThetaByBlank setting part =
 zed_sets control setting part = Refused BadControl
 
 -- the row Z, which may not follow a mark
-abbrev pub zed_taken : Control → Setting → Part → Taken
-zed_taken control setting part = if part.mark then Refused BadControl else zed_sets control setting part
+abbrev pub zed_effect : Control → DirectiveState → PartialItem → RowEffect
+zed_effect control setting part = if part.mark then Refused BadControl else zed_sets control setting part
 
 -- a blank row
-abbrev pub blank_taken : Setting → Part → Taken
-blank_taken setting part =
+abbrev pub blank_effect : DirectiveState → PartialItem → RowEffect
+blank_effect setting part =
     if part.blank then Ended (record setting { theta = setting.directive }) 14 else Refused BadRow
 
 -- a code letter, by what it does, with the item's word
-abbrev pub letter_taken : Size → Aim → Setting → ℕ → Taken
-letter_taken z Places setting word =
+abbrev pub letter_effect : Size → LetterAction → DirectiveState → ℕ → RowEffect
+letter_effect z Places setting word =
     if nat_lt (address setting.directive) 44 then Refused LoaderStore
     else if nat_le (locations z) (address setting.directive) then Refused StoreEnd
     else Placed (address setting.directive) word
-letter_taken z Enters setting word =
+letter_effect z Enters setting word =
     if nat_le (locations z) (address setting.directive) then Refused StoreEnd
     else if nat_le 65536 word then Refused EntryNegative
     else if nat_lt (address setting.directive) 44 then Refused EntryInLoader
     else Entered (address setting.directive)
-letter_taken z aim setting word = Refused NoPlace
+letter_effect z action setting word = Refused NoPlace
 
 -- the word of the item so far with a code letter
-abbrev pub part_word : List ℕ → Setting → Part → ℕ → ℕ
+abbrev pub part_word : List ℕ → DirectiveState → PartialItem → ℕ → ℕ
 part_word contents setting part c =
     word_with part.function part.number part.mark (value_of contents setting.theta c)
 
 -- what a row of this kind does inside an item
-abbrev pub taken : Size → RowKind → List ℕ → Setting → Part → ℕ → Taken
-taken z Digit contents setting part c = digit_taken part c
-taken z Mark contents setting part c = mark_taken part
-taken z Zed contents setting part c = zed_taken (control_of part.function) setting part
-taken z Kay contents setting part c = kay_taken (control_of part.function) setting part
-taken z Blank contents setting part c = blank_taken setting part
-taken z Letter contents setting part c =
-    letter_taken z (aim_of setting.directive) setting (part_word contents setting part c)
-taken z Other contents setting part c = Refused BadRow
+abbrev pub row_effect : Size → RowKind → List ℕ → DirectiveState → PartialItem → ℕ → RowEffect
+row_effect z Digit contents setting part c = digit_effect part c
+row_effect z Mark contents setting part c = mark_effect part
+row_effect z Zed contents setting part c = zed_effect (control_of part.function) setting part
+row_effect z Kay contents setting part c = kay_effect (control_of part.function) setting part
+row_effect z Blank contents setting part c = blank_effect setting part
+row_effect z Letter contents setting part c =
+    letter_effect z (letter_action_of setting.directive) setting (part_word contents setting part c)
+row_effect z Other contents setting part c = Refused BadRow
 
 -- the result of reading a tape
 pub data Verdict : Type 0 where
@@ -104,69 +104,69 @@ pub data Verdict : Type 0 where
   Arrived : TapeEntry → Verdict
 
 -- an item whose function row alone has been read
-abbrev pub part_of : ℕ → Part
+abbrev pub part_of : ℕ → PartialItem
 part_of f = record { function = f; number = 0; mark = false; blank = nat_eq f 16 }
 
 -- the directive and θ
-abbrev pub setting_of : Note → Setting
-setting_of note = record { directive = note.directive; theta = note.theta }
+abbrev pub setting_of : NotationState → DirectiveState
+setting_of notation = record { directive = notation.directive; theta = notation.theta }
 
 -- the state with its directive and θ set
-abbrev pub set_by : Setting → Note → Note
-set_by setting note = record { directive = setting.directive; theta = setting.theta; placed = note.placed }
+abbrev pub set_by : DirectiveState → NotationState → NotationState
+set_by setting notation = record { directive = setting.directive; theta = setting.theta; placed = notation.placed }
 
 -- the state with a word placed
-abbrev pub placed_by : ℕ → ℕ → Note → Note
-placed_by at word note = record {
-  directive = note.directive + 2;
-  theta = note.theta;
-  placed = (at, word) ∷ note.placed;
+abbrev pub placed_by : ℕ → ℕ → NotationState → NotationState
+placed_by at word notation = record {
+  directive = notation.directive + 2;
+  theta = notation.theta;
+  placed = (at, word) ∷ notation.placed;
 }
 
 -- the entry at a row c that ends the entry item
-abbrev pub entry_by : List ℕ → ℕ → ℕ → Note → Part → ℕ → List ℕ → ℕ → TapeEntry
-entry_by words row cost note part c rest at = record {
+abbrev pub entry_by : List ℕ → ℕ → ℕ → NotationState → PartialItem → ℕ → List ℕ → ℕ → TapeEntry
+entry_by words row cost notation part c rest at = record {
   at = at;
-  word = part_word (over note.placed words) (setting_of note) part c;
+  word = part_word (over notation.placed words) (setting_of notation) part c;
   cost = cost + 13;
   rows = row + 1;
-  note = note;
+  notation = notation;
   last = record { function = part.function; number = part.number; mark = part.mark; end = c };
   rest = rest;
 }
 
 -- the reading of these rows, between two items or inside one; the first of them is row number `row`
-unfoldable pub reading_on : Size → List ℕ → ℕ → ℕ → Note → Option Part → List ℕ → Verdict
-reading_on z words row cost note part [] = Faulty row EndOfTape
-reading_on z words row cost note None (f ∷ rows) =
+unfoldable pub reading_on : Size → List ℕ → ℕ → ℕ → NotationState → Option PartialItem → List ℕ → Verdict
+reading_on z words row cost notation part [] = Faulty row EndOfTape
+reading_on z words row cost notation None (f ∷ rows) =
     elim (nat_lt f 32) [
-      | true ↦ reading_on z words (row + 1) (cost + 6) note (Some (part_of f)) rows
+      | true ↦ reading_on z words (row + 1) (cost + 6) notation (Some (part_of f)) rows
       | false ↦ Faulty row BadRow
     ]
-reading_on z words row cost note (Some part) (c ∷ rows) =
-    elim (taken z (row_kind c) (over note.placed words) (setting_of note) part c) [
+reading_on z words row cost notation (Some part) (c ∷ rows) =
+    elim (row_effect z (row_kind c) (over notation.placed words) (setting_of notation) part c) [
       | Refused cause ↦ Faulty row cause
-      | Longer longer k ↦ reading_on z words (row + 1) (cost + k) note (Some longer) rows
-      | Ended setting k ↦ reading_on z words (row + 1) (cost + k) (set_by setting note) None rows
-      | Placed at word ↦ reading_on z words (row + 1) (cost + 17) (placed_by at word note) None rows
-      | Entered at ↦ Arrived (entry_by words row cost note part c rows at)
+      | Longer longer k ↦ reading_on z words (row + 1) (cost + k) notation (Some longer) rows
+      | Ended setting k ↦ reading_on z words (row + 1) (cost + k) (set_by setting notation) None rows
+      | Placed at word ↦ reading_on z words (row + 1) (cost + 17) (placed_by at word notation) None rows
+      | Entered at ↦ Arrived (entry_by words row cost notation part c rows at)
     ]
 
 -- the number of an item so far is in range
-abbrev pub IsPartial : Option Part → Type 0
+abbrev pub IsPartial : Option PartialItem → Type 0
 IsPartial None = Unit {0}
 IsPartial (Some part) = part.number ≤ 32767
 
 -- the numbers of what a row does are in range
-abbrev pub IsTaken : Setting → Taken → Type 0
-IsTaken setting (Refused cause) = Unit {0}
-IsTaken setting (Longer part k) = (part.number ≤ 32767) × (k ≤ 17)
-IsTaken setting (Ended next k) = k ≤ 17
-IsTaken setting (Placed at word) = (at < 1024) × (setting.directive < 24576)
-IsTaken setting (Entered at) = at < 1024
+abbrev pub IsEffectInRange : DirectiveState → RowEffect → Type 0
+IsEffectInRange setting (Refused cause) = Unit {0}
+IsEffectInRange setting (Longer part k) = (part.number ≤ 32767) × (k ≤ 17)
+IsEffectInRange setting (Ended next k) = k ≤ 17
+IsEffectInRange setting (Placed at word) = (at < 1024) × (setting.directive < 24576)
+IsEffectInRange setting (Entered at) = at < 1024
 
 -- the reading and the rules over items agree on this tape, from this opening state
-pub record ReadingIsRules (z : Size) (words : List ℕ) (start : Note) (base : ℕ) (rows : List ℕ) : Type 0 where
+pub record ReadingIsRules (z : Size) (words : List ℕ) (start : NotationState) (base : ℕ) (rows : List ℕ) : Type 0 where
   pub faulty : (row : ℕ) (cause : TapeCause) → reading_on z words 0 base start None rows ≡ Faulty row cause
       → IsFault z words start rows row cause
   pub found : (row : ℕ) (cause : TapeCause) → IsFault z words start rows row cause
@@ -182,5 +182,5 @@ pub record ReadingIsRules (z : Size) (words : List ℕ) (start : Note) (base : �
 -- that holds from every opening state whose directive is an order P, E or T
 abbrev pub ReadingAlwaysIsRules : Type 0
 ReadingAlwaysIsRules =
-    (z : Size) (words : List ℕ) (start : Note) (base : ℕ) (rows : List ℕ) → IsDirective start.directive
+    (z : Size) (words : List ℕ) (start : NotationState) (base : ℕ) (rows : List ℕ) → IsDirective start.directive
     → ReadingIsRules z words start base rows

@@ -5,7 +5,7 @@ ghost use Rattle.ed_notation.specs.Checks.{AnswersCheck, ContentIsMapOrStore, Re
 
 use crate::cause::{TapeCause, TapeFault};
 use crate::checked::Checked;
-use crate::reader::{Part, Reached, Setting, Taken, take};
+use crate::reader::{DirectiveState, PartialItem, Reached, RowEffect, take};
 use ed_codes::Code;
 use ed_store::Store;
 use ed_words::{Size, Word};
@@ -86,37 +86,37 @@ fn read_rows(
     requires placed { placed.old ≡ replicate 1024 false }
     ensures { ReadsCopy size contents.old.words directive base rows.now result contents.new.words placed.new }
 {
-    let mut setting = Setting {
+    let mut setting = DirectiveState {
         directive,
         theta: contents.short(THETA),
     };
     let mut orders = base;
-    let mut item: Option<Part> = None;
+    let mut item: Option<PartialItem> = None;
     for (row, code) in rows.iter().enumerate() {
         match item {
             None => {
-                item = Some(Part::begun(*code));
+                item = Some(PartialItem::begun(*code));
                 orders += 6;
             }
             Some(part) => match take(size, &*contents, &setting, &part, *code) {
-                Taken::Refused(cause) => return Err(TapeFault::At { row, cause }),
-                Taken::Longer(longer, more) => {
+                RowEffect::Refused(cause) => return Err(TapeFault::At { row, cause }),
+                RowEffect::Longer(longer, more) => {
                     item = Some(longer);
                     orders += more;
                 }
-                Taken::Ended(next, more) => {
+                RowEffect::Ended(next, more) => {
                     setting = next;
                     item = None;
                     orders += more;
                 }
-                Taken::Placed(at, word) => {
+                RowEffect::Placed(at, word) => {
                     contents.put_short(at, word);
                     placed[usize::from(at)] = true;
                     setting = setting.moved_on();
                     item = None;
                     orders += 17;
                 }
-                Taken::Entered(entry) => {
+                RowEffect::Entered(entry) => {
                     return Ok(Reached {
                         entry,
                         orders: orders + 13,

@@ -1,6 +1,6 @@
 ghost use Rattle.std.specs.Prelude.{◌≡◌};
 ghost use Rattle.ed_notation.specs.Items.{row_kind};
-ghost use Rattle.ed_notation.specs.Fold.{control_of, aim_of};
+ghost use Rattle.ed_notation.specs.Fold.{control_of, letter_action_of};
 
 use ed_codes::Code;
 use ed_words::Word;
@@ -39,7 +39,7 @@ pub enum Control {
 
 /// What a code letter does under a directive.
 #[derive(Clone, Copy)]
-pub enum Aim {
+pub enum LetterAction {
     /// T: the item's word is placed.
     Places,
     /// E: the program is entered.
@@ -92,20 +92,20 @@ impl Control {
     }
 }
 
-impl Aim {
+impl LetterAction {
     /// What a code letter does under a directive.
-    pub fn of(directive: Word) -> Aim
-        ensures { result ≡ aim_of directive }
+    pub fn of(directive: Word) -> LetterAction
+        ensures { result ≡ letter_action_of directive }
     {
         let function = directive.value() / 4096;
         if function == 5 {
-            Aim::Places
+            LetterAction::Places
         } else if function == 3 {
-            Aim::Enters
+            LetterAction::Enters
         } else if function == 0 {
-            Aim::Nowhere
+            LetterAction::Nowhere
         } else {
-            Aim::Unset
+            LetterAction::Unset
         }
     }
 }

@@ -1,26 +1,27 @@
 ghost use Rattle.std.specs.Prelude.{◌≡◌, ◌+◌, ◌*◌, ◌%◌, ◌<◌, ◌≤◌, ◌^◌, false};
 ghost use Rattle.ed_notation.specs.Items.{row_kind};
-ghost use Rattle.ed_notation.specs.Fold.{address, control_of, aim_of};
+ghost use Rattle.ed_notation.specs.Fold.{address, control_of, letter_action_of};
 ghost use Rattle.ed_notation.specs.Faults.{is_place};
-ghost use Rattle.ed_notation.specs.Reading.{digit_taken, mark_taken, kay_taken, zed_taken, blank_taken, letter_taken};
-ghost use Rattle.ed_notation.specs.Reading.{part_word, part_of, taken, IsTaken};
+ghost use Rattle.ed_notation.specs.Reading.{digit_effect, mark_effect, kay_effect, zed_effect, blank_effect};
+ghost use Rattle.ed_notation.specs.Reading.{letter_effect};
+ghost use Rattle.ed_notation.specs.Reading.{part_word, part_of, row_effect, IsEffectInRange};
 
 use crate::cause::TapeCause;
-use crate::kind::{Aim, Control, RowKind};
+use crate::kind::{Control, LetterAction, RowKind};
 use ed_codes::Code;
 use ed_store::Store;
 use ed_words::{Size, Word};
 
 /// The directive and θ.
 #[derive(Clone, Copy)]
-pub struct Setting {
+pub struct DirectiveState {
     pub directive: Word,
     pub theta: Word,
 }
 
 /// An item whose function row, and perhaps more rows, have been read.
 #[derive(Clone, Copy)]
-pub struct Part {
+pub struct PartialItem {
     pub function: Code,
     pub number: u16,
     pub mark: bool,
@@ -30,13 +31,13 @@ pub struct Part {
 
 /// What a row inside an item does. The numbers are numbers of orders.
 #[derive(Clone, Copy)]
-pub enum Taken {
+pub enum RowEffect {
     /// The row breaks a rule.
     Refused(TapeCause),
     /// The item goes on.
-    Longer(Part, u64),
+    Longer(PartialItem, u64),
     /// The item ends and sets the directive or θ.
-    Ended(Setting, u64),
+    Ended(DirectiveState, u64),
     /// The item ends and its word is placed at an address.
     Placed(u16, Word),
     /// The entry item ends, and the program is entered at an address.
@@ -53,10 +54,16 @@ pub struct Reached {
 }
 
 /// What a row inside an item does, over the store with the words placed so far.
-pub fn take(size: Size, contents: &Store, setting: &Setting, part: &Part, row: Code) -> Taken
+pub fn take(
+    size: Size,
+    contents: &Store,
+    setting: &DirectiveState,
+    part: &PartialItem,
+    row: Code,
+) -> RowEffect
     requires { part.now.number ≤ 32767 }
-    ensures is { result ≡ taken size (row_kind row) contents.now.words setting.now part.now row }
-    ensures fits { IsTaken setting.now result }
+    ensures is { result ≡ row_effect size (row_kind row) contents.now.words setting.now part.now row }
+    ensures fits { IsEffectInRange setting.now result }
 {
     match RowKind::of(row) {
         RowKind::Digit => part.take_digit(row.value()),
@@ -65,17 +72,17 @@ pub fn take(size: Size, contents: &Store, setting: &Setting, part: &Part, row: C
         RowKind::Kay => part.take_kay(setting),
         RowKind::Blank => part.take_blank(setting),
         RowKind::Letter => setting.take_letter(size, part.word(contents, setting, row)),
-        RowKind::Other => Taken::Refused(TapeCause::BadRow),
+        RowKind::Other => RowEffect::Refused(TapeCause::BadRow),
     }
 }
 
-impl Part {
+impl PartialItem {
     /// The item that a function row begins.
-    pub fn begun(function: Code) -> Part
+    pub fn begun(function: Code) -> PartialItem
         ensures is { result ≡ part_of function }
         ensures fits { function < 32 }
     {
-        Part {
+        PartialItem {
             function,
             number: 0,
             mark: false,
@@ -84,39 +91,39 @@ impl Part {
     }
 
     /// A digit row.
-    fn take_digit(&self, digit: u8) -> Taken
+    fn take_digit(&self, digit: u8) -> RowEffect
         requires number { self.now.number ≤ 32767 }
         requires digit { digit < 10 }
-        ensures is { result ≡ digit_taken self.now digit }
-        ensures fits { IsTaken (record { directive = 0; theta = 0 }) result }
+        ensures is { result ≡ digit_effect self.now digit }
+        ensures fits { IsEffectInRange (record { directive = 0; theta = 0 }) result }
     {
         if self.mark {
-            return Taken::Refused(TapeCause::AfterMark);
+            return RowEffect::Refused(TapeCause::AfterMark);
         }
         let number = 10 * u32::from(self.number) + u32::from(digit);
         if 32767 < number {
-            return Taken::Refused(TapeCause::NumberTooLarge);
+            return RowEffect::Refused(TapeCause::NumberTooLarge);
         }
-        Taken::Longer(self.longer(number as u16, false), 9)
+        RowEffect::Longer(self.longer(number as u16, false), 9)
     }
 
     /// A π row.
-    fn take_mark(&self) -> Taken
+    fn take_mark(&self) -> RowEffect
         requires { self.now.number ≤ 32767 }
-        ensures is { result ≡ mark_taken self.now }
-        ensures fits { IsTaken (record { directive = 0; theta = 0 }) result }
+        ensures is { result ≡ mark_effect self.now }
+        ensures fits { IsEffectInRange (record { directive = 0; theta = 0 }) result }
     {
         if self.mark {
-            return Taken::Refused(TapeCause::AfterMark);
+            return RowEffect::Refused(TapeCause::AfterMark);
         }
-        Taken::Longer(self.longer(self.number, true), 15)
+        RowEffect::Longer(self.longer(self.number, true), 15)
     }
 
     /// The item with one more row, after which it can't be a blank pair.
-    fn longer(&self, number: u16, mark: bool) -> Part
+    fn longer(&self, number: u16, mark: bool) -> PartialItem
         ensures { result ≡ record self.now { number = number; mark = mark; blank = false } }
     {
-        Part {
+        PartialItem {
             function: self.function,
             number,
             mark,
@@ -125,43 +132,43 @@ impl Part {
     }
 
     /// A blank row, which may only end a blank pair.
-    fn take_blank(&self, setting: &Setting) -> Taken
-        ensures is { result ≡ blank_taken setting.now self.now }
-        ensures fits { IsTaken setting.now result }
+    fn take_blank(&self, setting: &DirectiveState) -> RowEffect
+        ensures is { result ≡ blank_effect setting.now self.now }
+        ensures fits { IsEffectInRange setting.now result }
     {
         if self.blank {
-            let next = Setting {
+            let next = DirectiveState {
                 directive: setting.directive,
                 theta: setting.directive,
             };
-            Taken::Ended(next, 14)
+            RowEffect::Ended(next, 14)
         } else {
-            Taken::Refused(TapeCause::BadRow)
+            RowEffect::Refused(TapeCause::BadRow)
         }
     }
 
     /// The row K.
-    fn take_kay(&self, setting: &Setting) -> Taken
+    fn take_kay(&self, setting: &DirectiveState) -> RowEffect
         requires { self.now.number ≤ 32767 }
-        ensures is { result ≡ kay_taken (control_of self.now.function) setting.now self.now }
-        ensures fits { IsTaken setting.now result }
+        ensures is { result ≡ kay_effect (control_of self.now.function) setting.now self.now }
+        ensures fits { IsEffectInRange setting.now result }
     {
         if self.mark {
-            return Taken::Refused(TapeCause::BadControl);
+            return RowEffect::Refused(TapeCause::BadControl);
         }
         match Control::of(self.function) {
-            Control::Neither => Taken::Refused(TapeCause::BadControl),
+            Control::Neither => RowEffect::Refused(TapeCause::BadControl),
             Control::Directive => {
                 if 1023 < self.number {
-                    return Taken::Refused(TapeCause::StoreEnd);
+                    return RowEffect::Refused(TapeCause::StoreEnd);
                 }
-                Taken::Ended(setting.with_directive(self.sum()), 16)
+                RowEffect::Ended(setting.with_directive(self.sum()), 16)
             }
             Control::ThetaByBlank | Control::ThetaByG => {
                 if 1023 < self.number {
-                    return Taken::Refused(TapeCause::StoreEnd);
+                    return RowEffect::Refused(TapeCause::StoreEnd);
                 }
-                Taken::Ended(
+                RowEffect::Ended(
                     setting.with_theta(self.sum() + setting.directive.value()),
                     16,
                 )
@@ -170,29 +177,29 @@ impl Part {
     }
 
     /// The row Z, which adds θ.
-    fn take_zed(&self, setting: &Setting) -> Taken
+    fn take_zed(&self, setting: &DirectiveState) -> RowEffect
         requires { self.now.number ≤ 32767 }
-        ensures is { result ≡ zed_taken (control_of self.now.function) setting.now self.now }
-        ensures fits { IsTaken setting.now result }
+        ensures is { result ≡ zed_effect (control_of self.now.function) setting.now self.now }
+        ensures fits { IsEffectInRange setting.now result }
     {
         if self.mark {
-            return Taken::Refused(TapeCause::BadControl);
+            return RowEffect::Refused(TapeCause::BadControl);
         }
         match Control::of(self.function) {
-            Control::Neither | Control::ThetaByG => Taken::Refused(TapeCause::BadControl),
+            Control::Neither | Control::ThetaByG => RowEffect::Refused(TapeCause::BadControl),
             Control::Directive => {
                 let sum = self.sum() + setting.theta.value();
                 if !is_place(sum) {
-                    return Taken::Refused(TapeCause::StoreEnd);
+                    return RowEffect::Refused(TapeCause::StoreEnd);
                 }
-                Taken::Ended(setting.with_directive(sum), 17)
+                RowEffect::Ended(setting.with_directive(sum), 17)
             }
             Control::ThetaByBlank => {
                 let sum = 2 * u32::from(self.number) + setting.theta.value();
                 if 65536 <= sum {
-                    return Taken::Refused(TapeCause::StoreEnd);
+                    return RowEffect::Refused(TapeCause::StoreEnd);
                 }
-                Taken::Ended(
+                RowEffect::Ended(
                     setting.with_theta(65536 + sum + setting.directive.value()),
                     17,
                 )
@@ -210,7 +217,7 @@ impl Part {
     }
 
     /// The word of the item that a code letter ends.
-    fn word(&self, contents: &Store, setting: &Setting, letter: Code) -> Word
+    fn word(&self, contents: &Store, setting: &DirectiveState, letter: Code) -> Word
         requires { self.now.number ≤ 32767 }
         ensures { result ≡ part_word contents.now.words setting.now self.now letter }
     {
@@ -224,30 +231,30 @@ impl Part {
     }
 }
 
-impl Setting {
+impl DirectiveState {
     /// The setting with another directive.
-    fn with_directive(&self, directive: u32) -> Setting
+    fn with_directive(&self, directive: u32) -> DirectiveState
         requires { directive < 2 ^ 17 }
         ensures { result ≡ record self.now { directive = directive } }
     {
-        Setting {
+        DirectiveState {
             directive: word(directive),
             theta: self.theta,
         }
     }
 
     /// The setting with θ a sum modulo 2^17.
-    fn with_theta(&self, sum: u32) -> Setting
+    fn with_theta(&self, sum: u32) -> DirectiveState
         ensures { result ≡ record self.now { theta = sum % 2 ^ 17 } }
     {
-        Setting {
+        DirectiveState {
             directive: self.directive,
             theta: word(sum % (1 << 17)),
         }
     }
 
     /// The setting with the directive advanced by one location.
-    pub fn moved_on(&self) -> Setting
+    pub fn moved_on(&self) -> DirectiveState
         requires { self.now.directive + 2 < 2 ^ 17 }
         ensures { result ≡ record self.now { directive = self.now.directive + 2 } }
     {
@@ -263,33 +270,33 @@ impl Setting {
     }
 
     /// A code letter that ends an item with this word.
-    fn take_letter(&self, size: Size, word: Word) -> Taken
-        ensures is { result ≡ letter_taken size (aim_of self.now.directive) self.now word }
-        ensures fits { IsTaken self.now result }
+    fn take_letter(&self, size: Size, word: Word) -> RowEffect
+        ensures is { result ≡ letter_effect size (letter_action_of self.now.directive) self.now word }
+        ensures fits { IsEffectInRange self.now result }
     {
         let at = self.address();
-        match Aim::of(self.directive) {
-            Aim::Places => {
+        match LetterAction::of(self.directive) {
+            LetterAction::Places => {
                 if at < 44 {
-                    Taken::Refused(TapeCause::LoaderStore)
+                    RowEffect::Refused(TapeCause::LoaderStore)
                 } else if size.value() <= at {
-                    Taken::Refused(TapeCause::StoreEnd)
+                    RowEffect::Refused(TapeCause::StoreEnd)
                 } else {
-                    Taken::Placed(at, word)
+                    RowEffect::Placed(at, word)
                 }
             }
-            Aim::Enters => {
+            LetterAction::Enters => {
                 if size.value() <= at {
-                    Taken::Refused(TapeCause::StoreEnd)
+                    RowEffect::Refused(TapeCause::StoreEnd)
                 } else if 65536 <= word.value() {
-                    Taken::Refused(TapeCause::EntryNegative)
+                    RowEffect::Refused(TapeCause::EntryNegative)
                 } else if at < 44 {
-                    Taken::Refused(TapeCause::EntryInLoader)
+                    RowEffect::Refused(TapeCause::EntryInLoader)
                 } else {
-                    Taken::Entered(at)
+                    RowEffect::Entered(at)
                 }
             }
-            Aim::Nowhere | Aim::Unset => Taken::Refused(TapeCause::NoPlace),
+            LetterAction::Nowhere | LetterAction::Unset => RowEffect::Refused(TapeCause::NoPlace),
         }
     }
 }

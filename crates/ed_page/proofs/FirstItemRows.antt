@@ -1,6 +1,8 @@
 -- That the plain program over rows makes the table of the items of May 1949 that the rows spell.
-use Rattle.std.proofs.Common.{◌≡◌, ◌∙◌, ℕ, ◌+◌, ◌*◌, ◌<◌, ◌≤◌, refl, sym, ap, subst, arith, inl, inr, lit≤, Bool, true, false}
-use Rattle.std.proofs.Common.{nat_lt, Option, Some, None, List, [], ◌∷◌, ◌++◌, append_assoc, drop, get_or, length, length-append}
+use Rattle.std.proofs.Common.{◌≡◌, ◌∙◌, ℕ, ◌+◌, ◌*◌, ◌<◌, ◌≤◌, refl, sym, ap, subst, arith, inl, inr, lit≤, Bool, true}
+use Rattle.std.proofs.Common.{false}
+use Rattle.std.proofs.Common.{nat_lt, Option, Some, None, List, [], ◌∷◌, ◌++◌, append_assoc, drop, get_or, length}
+use Rattle.std.proofs.Common.{length-append}
 use Rattle.std.proofs.Common.{if◌then◌else◌, take}
 use Rattle.std.specs.Prelude.{Ok}
 use Rattle.std.proofs.lemmas.List.{append-nil, drop_all}
@@ -17,7 +19,7 @@ use Rattle.ed_report.specs.FirstNotes.{rule1_line}
 use Rattle.ed_answers.specs.Outcome.{Outcome, done}
 use Rattle.ed_page.specs.TapeItems.{item_line, item_table1}
 use Rattle.ed_page.specs.Private.ItemTables.{first_word, item_at, table_on1, opened_with}
-use Rattle.ed_page.specs.Private.Stages.{AreToldOf1, TellsOutcome}
+use Rattle.ed_page.specs.Private.Stages.{AreToldOf1, HoldsOutcome}
 use Rattle.ed_page.specs.declared.items.OpenItem.{OpenItem}
 use Rattle.ed_page.specs.declared.told.Told.{Told}
 use Rattle.ed_page.proofs.ItemRows.{IsOpen, larger, with_number}
@@ -93,7 +95,8 @@ part_table1 : (row location : ℕ) (p : Option Begun1) → IsPart1 p → table_o
 unfolding table_on1
 part_table1 row location None is = refl
 part_table1 row location (Some b) is =
-    ap (λ xs. table_on1 row location None (b.function ∷ xs)) (sym (append-nil b.digits)) ∙ begun_table1 row location b [] is
+    ap (λ xs. table_on1 row location None (b.function ∷ xs)) (sym (append-nil b.digits))
+    ∙ begun_table1 row location b [] is
 
 -- ---- the rows of items
 
@@ -109,7 +112,7 @@ table_is1 row location (i ∷ is) p are part =
 
 -- what is told of a tape without a fault
 pub program_told1 : {codes : List ℕ} {r : Report1} {count : ℕ} {told : Told} → Accepts1 codes r → count ≡ r.rows
-    → TellsOutcome told (done (table_on1 0 31 None (take count codes))) → AreToldOf1 codes (Ok told)
+    → HoldsOutcome told (done (table_on1 0 31 None (take count codes))) → AreToldOf1 codes (Ok told)
 program_told1 {codes} {r} {count} {told} accepts many tells =
     let is = accepts.tape.items in
     let n : count ≡ length (spelled1 is) = many ∙ ap (λ (x : Report1). x.rows) accepts.report_is in
@@ -119,12 +122,12 @@ program_told1 {codes} {r} {count} {told} accepts many tells =
     ap (table_on1 0 31 None) (head ∙ sym (append-nil (spelled1 is))) ∙ table_is1 0 31 is None accepts.comes.good tt in (
       done (item_table1 0 31 is),
       inl (record { tape = accepts.tape; comes = accepts.comes; outcome = refl }),
-      subst (λ (out : List ℕ). TellsOutcome told (done out)) same tells,
+      subst (λ (out : List ℕ). HoldsOutcome told (done out)) same tells,
     )
 
 -- what is told of a tape with a fault
 pub fault_told1 : {codes : List ℕ} {row : ℕ} {cause : Tape1Cause} {told : Told} → IsFault1 codes row cause
-    → TellsOutcome told (record {
+    → HoldsOutcome told (record {
       out = table_on1 0 31 None (take row codes);
       note = rule1_line row cause;
       status = 3;
@@ -134,14 +137,20 @@ fault_told1 {codes} {row} {cause} {told} f tells =
     let s = f.is.stands in
     let read = spelled1 s.before ++ part_rows1 s.part in
     let n : row ≡ length read = s.row_is ∙ sym (length-append (spelled1 s.before) (part_rows1 s.part)) in
-    let whole : codes ≡ read ++ s.rest = s.rows_are ∙ sym (append_assoc (spelled1 s.before) (part_rows1 s.part) s.rest) in
+    let whole : codes ≡ read ++ s.rest = s.rows_are
+    ∙ sym (append_assoc (spelled1 s.before) (part_rows1 s.part) s.rest) in
     let head : take row codes ≡ read = (λ i. take (n i) (whole i)) ∙ take-append_seam read s.rest in
     let same : table_on1 0 31 None (take row codes) ≡ item_table1 0 31 s.before =
     ap (table_on1 0 31 None) head ∙ table_is1 0 31 s.before s.part s.good s.is_part in
-    let outcome : List ℕ → Outcome = λ (out : List ℕ). record { out = out; note = rule1_line row cause; status = 3 } in (
+    let outcome : List ℕ → Outcome = λ (out : List ℕ). record {
+      out = out;
+      note =
+          rule1_line row cause;
+      status = 3;
+    } in (
       outcome (item_table1 0 31 s.before),
       inr (record { row = row; cause = cause; fault = f; outcome = refl }),
-      subst (λ (out : List ℕ). TellsOutcome told (outcome out)) same tells,
+      subst (λ (out : List ℕ). HoldsOutcome told (outcome out)) same tells,
     )
 
 -- ---- the loop over rows

@@ -6,7 +6,7 @@ use Rattle.std.proofs.lemmas.Bool.Decides.{nat_tests}
 use Rattle.ed_words.proofs.Numbers.{eq_false, lt_false}
 use Rattle.ed_machine.specs.State.{State}
 use Rattle.ed_machine.specs.OrderTable.{step}
-use Rattle.ed_machine.specs.Steps.{Past, least, past, state_after}
+use Rattle.ed_machine.specs.Steps.{Progress, least, progress, state_after}
 use Rattle.ed_machine.specs.declared.ending.Ending.{Ending}
 use Rattle.ed_machine.specs.declared.ending.Ending.TheVariants.{Stopped, Limit}
 use Rattle.ed_machine.proofs.LeastNumbers.{least_on}
@@ -20,7 +20,7 @@ use Rattle.ed_answers.specs.Runs.{paper_room, run_of}
 use Rattle.ed_page.specs.Going.{GoingLaw, run_following}
 
 -- if a run goes on, the next order doesn't end it
-next_open : (limit resumes room k : ℕ) (p : Past) → end_at limit resumes room k p ≡ None
+next_open : (limit resumes room k : ℕ) (p : Progress) → end_at limit resumes room k p ≡ None
     → end_by (step p.state).turn (nat_le room (length p.codes)) ≡ None
 next_open limit resumes room k p = by_tests (nat_lt resumes p.stops) (nat_eq k limit)
   where
@@ -33,13 +33,13 @@ next_open limit resumes room k p = by_tests (nat_lt resumes p.stops) (nat_eq k l
     by_tests false false h = h
 
 -- the number of stops never decreases
-more_stops : (j k : ℕ) (s : State) → j ≤ k → (past j s).stops ≤ (past k s).stops
+more_stops : (j k : ℕ) (s : State) → j ≤ k → (progress j s).stops ≤ (progress k s).stops
 more_stops j k s below =
     let whole : j + (k - j) ≡ k = omega arith in
-    let stops : (past (j + (k - j)) s).stops ≡ (past j s).stops + (past (k - j) (state_after j s)).stops =
-    ap (λ (p : Past). p.stops) (past_sum j (k - j) s) in
-    let last : (past k s).stops ≡ (past j s).stops + (past (k - j) (state_after j s)).stops =
-    ap (λ n. (past n s).stops) (sym whole) ∙ stops in
+    let stops : (progress (j + (k - j)) s).stops ≡ (progress j s).stops + (progress (k - j) (state_after j s)).stops =
+    ap (λ (p : Progress). p.stops) (past_sum j (k - j) s) in
+    let last : (progress k s).stops ≡ (progress j s).stops + (progress (k - j) (state_after j s)).stops =
+    ap (λ n. (progress n s).stops) (sym whole) ∙ stops in
     omega (arith, last)
 
 -- the tests of an end, seen from later
@@ -56,24 +56,35 @@ later_room a b c = grind (arith, nat_tests)
 goes_on : (limit resumes room orders more : ℕ) (s : State)
     → let k = run_orders limit resumes room s in
     let first = ran limit resumes room s in
-    ran (k + orders) ((past k s).stops + more) room s
-    ≡ run_following (past k s) (ran orders more (room - length first.codes) first.state)
+    ran (k + orders) ((progress k s).stops + more) room s
+    ≡ run_following (progress k s) (ran orders more (room - length first.codes) first.state)
 unfolding ran
 goes_on limit resumes room orders more s =
     let k = run_orders limit resumes room s in
-    let p = past k s in
+    let p = progress k s in
     let left = room - length p.codes in
-    let test : ℕ → Bool = λ j. is_some (end_at (k + orders) (p.stops + more) room j (past j s)) in
-    let later : ℕ → Bool = λ j. is_some (end_at orders more left j (past j p.state)) in
+    let test : ℕ → Bool = λ j. is_some (end_at (k + orders) (p.stops + more) room j (progress j s)) in
+    let later : ℕ → Bool = λ j. is_some (end_at orders more left j (progress j p.state)) in
     let none : (j : ℕ) → j < k → test j ≡ false = λ j l.
-    let open_at = next_open limit resumes room j (past j s) ((ran_ends limit resumes room s).first j l) in
+    let open_at = next_open limit resumes room j (progress j s) ((ran_ends limit resumes room s).first j l) in
     let few = more_stops j k s (omega arith) in
-    rw (lt_false (p.stops + more) (past j s).stops (omega (arith, few)), eq_false j (k + orders) (omega (arith, l)), open_at) refl in
-    let at : (j : ℕ) → end_at (k + orders) (p.stops + more) room (k + j) (past (k + j) s)
-    ≡ end_at orders more left j (past j p.state) = λ j.
-    let q = past j p.state in
-    rw (past_sum k j s, later_stops p.stops more q.stops, later_limit k j orders, length-append p.codes q.codes, later_room room (length p.codes) (length q.codes)) refl in
-    let place : least test (k + orders) ≡ k + least later orders = least_on test later k orders none (λ j. ap is_some (at j)) in
+    rw (
+      lt_false (p.stops + more) (progress j s).stops (omega (arith, few)),
+      eq_false j (k + orders) (omega (arith, l)),
+      open_at,
+    ) refl in
+    let at : (j : ℕ) → end_at (k + orders) (p.stops + more) room (k + j) (progress (k + j) s)
+    ≡ end_at orders more left j (progress j p.state) = λ j.
+    let q = progress j p.state in
+    rw (
+      past_sum k j s,
+      later_stops p.stops more q.stops,
+      later_limit k j orders,
+      length-append p.codes q.codes,
+      later_room room (length p.codes) (length q.codes),
+    ) refl in
+    let place : least test (k + orders) ≡ k + least later orders =
+    least_on test later k orders none (λ j. ap is_some (at j)) in
     let m = least later orders in
     rw place (λ i. record {
       ending = unwrap_or (at m i) Limit;

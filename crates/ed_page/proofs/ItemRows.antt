@@ -1,6 +1,8 @@
 -- That the plain program over rows makes the table of the items that the rows spell.
-use Rattle.std.proofs.Common.{◌≡◌, ◌∙◌, ℕ, ◌+◌, ◌*◌, ◌^◌, drop, ◌<◌, ◌≤◌, refl, sym, ap, arith, Bool, true, false, nat_lt}
-use Rattle.std.proofs.Common.{Option, Some, None, List, [], ◌∷◌, ◌++◌, append_assoc, length, length-append, if◌then◌else◌, subst, take, inl, inr, lit<, lit≤, get_or}
+use Rattle.std.proofs.Common.{◌≡◌, ◌∙◌, ℕ, ◌+◌, ◌*◌, ◌^◌, drop, ◌<◌, ◌≤◌, refl, sym, ap, arith, Bool, true, false}
+use Rattle.std.proofs.Common.{nat_lt}
+use Rattle.std.proofs.Common.{Option, Some, None, List, [], ◌∷◌, ◌++◌, append_assoc, length, length-append}
+use Rattle.std.proofs.Common.{if◌then◌else◌, subst, take, inl, inr, lit<, lit≤, get_or}
 use Rattle.std.proofs.lemmas.List.{append-nil, drop_all, get_or-replicate}
 use Rattle.std.proofs.Math.Seq.{set_out, take-append-add, take-append_seam}
 use Rattle.std.specs.Prelude.{Err, Ok, slice_set}
@@ -25,18 +27,20 @@ use Rattle.ed_notation.proofs.Loop.{next_row}
 use Rattle.ed_report.specs.Notes.{rule_line}
 use Rattle.ed_answers.specs.Outcome.{Outcome, done}
 use Rattle.ed_answers.specs.Tapes.{first_note}
-use Rattle.ed_notation.specs.Fold.{Note, act, acted, address, aim_of, control_of, enters_at, item_word, over, value_of}
+use Rattle.ed_notation.specs.Fold.{NotationState, act, acted, address, letter_action_of, control_of, enters_at}
+use Rattle.ed_notation.specs.Fold.{item_word, over, value_of}
 use Rattle.ed_notation.specs.Fold.{with_kay, with_letter, with_zed, word_with}
 use Rattle.ed_notation.specs.Items.{AreDigits, Begun, IsBegun, IsWritten, Written, digits_number, ends, item, mark_rows}
 use Rattle.ed_notation.specs.Items.{row_kind, rows_of, spelled}
 use Rattle.ed_notation.specs.Spellings.{AreWritten}
 use Rattle.ed_page.specs.TapeItems.{PlacingLaw, item_line, item_table, placing, placing_by, tape_table, with_placing}
-use Rattle.ed_page.specs.Private.ItemTables.{IsSetBelow, cells_with, is_last_row, item_at, notation_after, note_over, placing_over}
+use Rattle.ed_page.specs.Private.ItemTables.{IsSetBelow, cells_with, is_last_row, item_at, notation_after, note_over}
+use Rattle.ed_page.specs.Private.ItemTables.{placing_over}
 use Rattle.ed_page.specs.Private.ItemTables.{table_on, whole_item, opened_with}
 use Rattle.ed_page.specs.declared.items.Notation.{Notation}
 use Rattle.ed_page.specs.declared.items.OpenItem.{OpenItem}
 use Rattle.ed_page.specs.declared.told.Told.{Told}
-use Rattle.ed_page.specs.Private.Stages.{AreToldOf, TellsOutcome}
+use Rattle.ed_page.specs.Private.Stages.{AreItemsOf, HoldsOutcome}
 
 -- ---- what the fold places
 
@@ -60,18 +64,18 @@ placing_law words note i = by_kind (row_kind i.end)
     by_kind : (r : RowKind) → (acted r words note i).placed ≡ with_placing (placing_by r words note i) note.placed
     by_kind Kay = by_control (control_of i.function)
     by_kind Zed = by_control_zed (control_of i.function)
-    by_kind Letter = by_aim (aim_of note.directive)
+    by_kind Letter = by_aim (letter_action_of note.directive)
     by_kind r = refl
 
 -- ---- the state over one store
 
 -- a state of the notation is a note over the words of a store
-pub record IsNoteOver (words : List ℕ) (note : Note) (n : Notation) : Type 0 where
+pub record IsNoteOver (words : List ℕ) (note : NotationState) (n : Notation) : Type 0 where
   pub directive : n.directive ≡ note.directive
   pub theta : n.theta ≡ note.theta
   pub contents : n.contents.words ≡ over note.placed words
 
-module _ {words : List ℕ} {note : Note} {n : Notation} (o : IsNoteOver words note n) (i : Item) where
+module _ {words : List ℕ} {note : NotationState} {n : Notation} (o : IsNoteOver words note n) (i : Item) where
   same_word : item_word n.contents.words (note_over n) i ≡ item_word words note i
   same_word = λ k. word_with i.function i.number i.mark (value_of (o.contents k) (o.theta k) i.end)
 
@@ -80,7 +84,8 @@ module _ {words : List ℕ} {note : Note} {n : Notation} (o : IsNoteOver words n
     where
       by_kind : (r : RowKind) → placing_by r n.contents.words (note_over n) i ≡ placing_by r words note i
       by_kind Letter =
-          λ k. if enters_at (aim_of (o.directive k)) then None else Some (address (o.directive k), same_word k)
+          λ k. if enters_at (letter_action_of (o.directive k)) then None
+          else Some (address (o.directive k), same_word k)
       by_kind r = refl
 
   same_directive : (act n.contents.words (note_over n) i).directive ≡ (act words note i).directive
@@ -103,8 +108,9 @@ module _ {words : List ℕ} {note : Note} {n : Notation} (o : IsNoteOver words n
       by_kind Kay = by_kay (control_of i.function)
       by_kind Zed = by_zed (control_of i.function)
       by_kind Letter =
-          ap (λ d. (with_letter (aim_of d) (note_over n) (item_word n.contents.words (note_over n) i)).directive) o.directive
-          ∙ by_aim (aim_of note.directive) _ _
+          ap (λ d. (with_letter (letter_action_of d) (note_over n)
+          (item_word n.contents.words (note_over n) i)).directive) o.directive
+          ∙ by_aim (letter_action_of note.directive) _ _
       by_kind r = o.directive
 
   same_theta : (act n.contents.words (note_over n) i).theta ≡ (act words note i).theta
@@ -129,8 +135,9 @@ module _ {words : List ℕ} {note : Note} {n : Notation} (o : IsNoteOver words n
       by_kind Kay = by_kay (control_of i.function)
       by_kind Zed = by_zed (control_of i.function)
       by_kind Letter =
-          ap (λ d. (with_letter (aim_of d) (note_over n) (item_word n.contents.words (note_over n) i)).theta) o.directive
-          ∙ by_aim (aim_of note.directive) _ _
+          ap (λ d. (with_letter (letter_action_of d) (note_over n)
+          (item_word n.contents.words (note_over n) i)).theta) o.directive
+          ∙ by_aim (letter_action_of note.directive) _ _
       by_kind r = o.theta
 
   same_contents : (cells_with (placing_over n i) n.contents).words ≡ over (act words note i).placed words
@@ -160,7 +167,8 @@ with_number p number = record p { number = number }
 digit_row : (row : ℕ) (n : Notation) (p : OpenItem) (d : ℕ) (more : List ℕ) → d < 10 → p.number ≤ 32767
     → table_on row n (Some p) (d ∷ more) ≡ table_on (row + 1) n (Some (with_number p (10 * p.number + d))) more
 unfolding table_on
-digit_row row n p d more low few = ap by_kind kind ∙ ap (λ (m : ℕ). table_on (row + 1) n (Some (with_number p m)) more) fits
+digit_row row n p d more low few = ap by_kind kind
+    ∙ ap (λ (m : ℕ). table_on (row + 1) n (Some (with_number p m)) more) fits
   where
     kind : row_kind d ≡ Digit
     kind = rw (lt_true d 10 low) refl
@@ -228,7 +236,8 @@ begun_table : (row : ℕ) (n : Notation) (b : Begun) (more : List ℕ) → IsBeg
 unfolding table_on
 begun_table row n b more is =
     digit_rows (row + 1) n (item_at row b.function) b.digits (mark_rows b.mark ++ more) is.digits is.fits
-    ∙ mark_row (row + 1 + length b.digits) n (with_number (item_at row b.function) (digits_number 0 b.digits)) b.mark more
+    ∙ mark_row (row + 1 + length b.digits) n (with_number (item_at row b.function)
+    (digits_number 0 b.digits)) b.mark more
     refl
 
 -- the rows of a whole item
@@ -260,7 +269,7 @@ part_table row n (Some b) is =
 
 -- ---- the rows of items
 
-pub table_is : (words : List ℕ) (row : ℕ) (note : Note) (n : Notation) (ws : List Written) (p : Option Begun)
+pub table_is : (words : List ℕ) (row : ℕ) (note : NotationState) (n : Notation) (ws : List Written) (p : Option Begun)
     → IsNoteOver words note n → AreWritten ws → IsPart p
     → table_on row n None (spelled ws ++ part_rows p) ≡ item_table words note row ws
 unfolding item_table
@@ -273,7 +282,7 @@ table_is words row note n (w ∷ ws) p o are part =
     (table_is words next (act words note (item w)) (notation_after n (item w)) ws p (over_after o (item w)) are.1 part)
     ∙ ap (λ q. item_line row next q ++ item_table words (act words note (item w)) next ws) (same_placing o (item w))
 
-pub are_written : (words : List ℕ) (note : Note) (ws : List Written) → AreRead words note ws → AreWritten ws
+pub are_written : (words : List ℕ) (note : NotationState) (ws : List Written) → AreRead words note ws → AreWritten ws
 are_written words note [] are = tt
 are_written words note (w ∷ ws) are = (are.0, are_written words (act words note (item w)) ws are.2)
 
@@ -317,7 +326,7 @@ AreWritten-append (v ∷ vs) ws a b = (a.0, AreWritten-append vs ws a.1 b)
 -- what is told of a well-formed tape
 pub entered_told : (z : Size) {codes : List ℕ} {store : Cells} {r : Report} {count : ℕ} {told : Told}
     → store ≡ cleared_cells → Accepts z store.words (opening store.words) 9 codes r → count ≡ r.rows
-    → TellsOutcome told (done (table_on 0 first_notation None (take count codes))) → AreToldOf z codes (Ok told)
+    → HoldsOutcome told (done (table_on 0 first_notation None (take count codes))) → AreItemsOf z codes (Ok told)
 entered_told z {codes} {r = r} {count} {told} is accepts many tells =
     let f : Accepts z cleared_cells.words (opening cleared_cells.words) 9 codes r =
     subst (λ (c : Cells). Accepts z c.words (opening c.words) 9 codes r) is accepts in
@@ -330,26 +339,28 @@ entered_told z {codes} {r = r} {count} {told} is accepts many tells =
     ∙ take-append-add (spelled ws) (rows_of last ++ f.entry.rest) (length (rows_of last))
     ∙ ap (λ xs. spelled ws ++ xs) (take-append_seam (rows_of last) f.entry.rest) in
     let rows_are : spelled all ++ [] ≡ spelled ws ++ rows_of last =
-    append-nil (spelled all) ∙ spelled-append ws (last ∷ []) ∙ ap (λ xs. spelled ws ++ xs) (append-nil (rows_of last)) in
+    append-nil (spelled all) ∙ spelled-append ws (last ∷ [])
+    ∙ ap (λ xs. spelled ws ++ xs) (append-nil (rows_of last)) in
     let same : table_on 0 first_notation None (take count codes) ≡ tape_table all =
     ap (table_on 0 first_notation None) (head ∙ sym rows_are)
     ∙ table_is cleared_cells.words 0 first_note first_notation all None first_over
-    (AreWritten-append ws (last ∷ []) (are_written cleared_cells.words first_note ws f.comes.are_read) (f.comes.is_written, tt))
+    (AreWritten-append ws (last ∷ []) (are_written cleared_cells.words first_note ws f.comes.are_read)
+    (f.comes.is_written, tt))
     tt in (
       done (tape_table all),
       inl (record { well = f.well; entry = f.entry; comes = f.comes; outcome = refl }),
-      subst (λ (out : List ℕ). TellsOutcome told (done out)) same tells,
+      subst (λ (out : List ℕ). HoldsOutcome told (done out)) same tells,
     )
 
 -- what is told of a tape with a fault
 pub fault_told : (z : Size) {codes : List ℕ} {store : Cells} {row : ℕ} {cause : TapeCause} {told : Told}
     → store ≡ cleared_cells → AnswersCheck z store.words (opening store.words) 9 codes (Err (At row cause))
-    → TellsOutcome told (record {
+    → HoldsOutcome told (record {
       out = table_on 0 first_notation None (take row codes);
       note = rule_line row cause;
       status = 3;
     })
-    → AreToldOf z codes (Ok told)
+    → AreItemsOf z codes (Ok told)
 fault_told z {codes} {row = row} {cause} {told} is answers tells =
     let f : IsFault z cleared_cells.words first_note codes row cause =
     subst (λ (c : Cells). IsFault z c.words (opening c.words) codes row cause) is answers in
@@ -366,7 +377,7 @@ fault_told z {codes} {row = row} {cause} {told} is answers tells =
     let outcome : List ℕ → Outcome = λ (out : List ℕ). record { out = out; note = rule_line row cause; status = 3 } in (
       outcome (tape_table ws),
       inr (record { row = row; cause = cause; fault = f; outcome = refl }),
-      subst (λ (out : List ℕ). TellsOutcome told (outcome out)) same tells,
+      subst (λ (out : List ℕ). HoldsOutcome told (outcome out)) same tells,
     )
 
 -- ---- the turns of the loop

@@ -22,9 +22,9 @@ use Rattle.ed_answers.specs.Sources.{of_source, run_outcome}
 use Rattle.ed_answers.proofs.Sources.{accepted_is}
 use Rattle.ed_run.specs.Run.{RunEnd}
 use Rattle.ed_page.specs.Answers.{RowsEnd, SourceEnds}
-use Rattle.ed_page.specs.TapeItems.{AreItemsTold, items_answer}
-use Rattle.ed_page.specs.Private.Stages.{AreToldOf, Draws, TellsOutcome, IsRunOf, IsAnswered, Retells}
-use Rattle.ed_page.specs.Private.Stages.{TellsAnswer, TellsRejection}
+use Rattle.ed_page.specs.TapeItems.{IsItemsOutcome, items_answer}
+use Rattle.ed_page.specs.Private.Stages.{AreItemsOf, Draws, HoldsOutcome, IsRunOf, IsAnswered, KeepsText}
+use Rattle.ed_page.specs.Private.Stages.{HoldsAnswer, HoldsRejection}
 use Rattle.ed_answers.specs.Replies.{LinksSource, RefusesText, Replies}
 use Rattle.ed_answers.specs.declared.reply.Rejection.{Rejection}
 use Rattle.ed_answers.specs.declared.reply.Rejection.TheVariants.{Memory, Refused}
@@ -35,13 +35,13 @@ use Rattle.ed_page.specs.declared.told.Told.{Told}
 -- ---- a text that is too long
 
 pub long_replied : (answers : Text → Outcome → Type 0) (text : Text) (r : Result Told NoMemory) → 262144 < length text
-    → IfOk r (λ told. TellsOutcome told too_long_outcome) → IsAnswered (of_input answers) text r
+    → IfOk r (λ told. HoldsOutcome told too_long_outcome) → IsAnswered (of_input answers) text r
 long_replied answers text (Ok told) long gives = (too_long_outcome, inr (long, refl), gives)
 long_replied answers text (Err e) long gives = tt
 
 pub long_drawn : (answers : Text → Outcome → Type 0) (Ends : Text → State → Type 0) (text : Text) (told : Told)
     → 262144 < length text
-    → TellsOutcome told too_long_outcome
+    → HoldsOutcome told too_long_outcome
     → Draws (of_input answers) Ends text (Ok (record { told = told; machine = None }))
 long_drawn answers Ends text told long gives = (
   too_long_outcome,
@@ -57,20 +57,20 @@ at_reading f r codes is = subst (λ (q : Reading). OfReading (exactly f) q (f co
 
 pub rows_replied : (f : List ℕ → Outcome) (text : Text) (codes : List ℕ) (r : Result Told NoMemory)
     → length text ≤ 262144
-    → reading text ≡ rows codes → IfOk r (λ told. TellsOutcome told (f codes)) → IsAnswered (of_rows (exactly f)) text r
+    → reading text ≡ rows codes → IfOk r (λ told. HoldsOutcome told (f codes)) → IsAnswered (of_rows (exactly f)) text r
 rows_replied f text codes (Ok told) few is gives = (f codes, inl (few, at_reading f (reading text) codes is), gives)
 rows_replied f text codes (Err e) few is gives = tt
 
 -- a text that is refused
 refused_told : (answers : List ℕ → Outcome → Type 0) (q : Reading) (reply : Reply) (told : Told)
     → RefusesText q (Refused reply)
-    → Retells reply told → (o : Outcome) × OfReading answers q o × TellsOutcome told o
+    → KeepsText reply told → (o : Outcome) × OfReading answers q o × HoldsOutcome told o
 refused_told answers (rows codes) reply told refuses tells = absurd refuses
 refused_told answers (no_row place byte) reply told refuses tells = (_, refl, tells _ refuses)
 refused_told answers (open_comment place) reply told refuses tells = (_, refl, tells _ refuses)
 
 pub tape_refused : (answers : List ℕ → Outcome → Type 0) (text : Text) (e : Rejection) (r : Result Told NoMemory)
-    → length text ≤ 262144 → RefusesText (reading text) e → TellsRejection e r
+    → length text ≤ 262144 → RefusesText (reading text) e → HoldsRejection e r
     → IsAnswered (of_rows answers) text r
 tape_refused answers text (Refused reply) (Ok told) few refuses tells =
     let o = refused_told answers (reading text) reply told refuses tells in (o.0, inl (few, o.1), o.2)
@@ -79,10 +79,10 @@ tape_refused answers text e (Err none) few refuses tells = tt
 
 -- the items of a tape's rows are told
 pub items_told : (z : Size) (text : Text) (codes : List ℕ) (r : Result Told NoMemory) → length text ≤ 262144
-    → reading text ≡ rows codes → AreToldOf z codes r → IsAnswered (items_answer z) text r
+    → reading text ≡ rows codes → AreItemsOf z codes r → IsAnswered (items_answer z) text r
 items_told z text codes (Ok told) few is t = (
   t.0,
-  inl (few, subst (λ (q : Reading). OfReading (AreItemsTold z) q t.0) (sym is) t.1),
+  inl (few, subst (λ (q : Reading). OfReading (IsItemsOutcome z) q t.0) (sym is) t.1),
   t.2,
 )
 items_told z text codes (Err e) few is t = tt
@@ -116,7 +116,7 @@ tape_drawn outcome run text codes (Err e) few is ran = tt
 
 pub tape_refusal_drawn : (outcome : List ℕ → Outcome) (run : List ℕ → RunEnd) (text : Text) (e : Rejection)
     (told : Told) → length text ≤ 262144
-    → RefusesText (reading text) e → TellsRejection e (Ok told)
+    → RefusesText (reading text) e → HoldsRejection e (Ok told)
     → Draws (of_rows (exactly outcome)) (RowsEnd run) text (Ok (record { told = told; machine = None }))
 tape_refusal_drawn outcome run text Memory told few refuses tells = absurd tells
 tape_refusal_drawn outcome run text (Refused reply) told few refuses tells =
@@ -135,14 +135,14 @@ tape_refusal_drawn outcome run text (Refused reply) told few refuses tells =
 pub linked_replied : (z : Size) (f : List Line → Outcome) (text : Text) (k : Linked) (r : Result Told NoMemory)
     → length text ≤ 262144
     → LinksSource z text (Ok k)
-    → IfOk r (λ told. (lines : List Line) → IsLinked z lines k → TellsOutcome told (f lines))
+    → IfOk r (λ told. (lines : List Line) → IsLinked z lines k → HoldsOutcome told (f lines))
     → IsAnswered (of_source z f) text r
 linked_replied z f text k (Ok told) few l gives =
     (f l.0, inl (few, accepted_is z f text l.0 l.1), gives l.0 l.2)
 linked_replied z f text k (Err e) few l gives = tt
 
 pub source_refused : (z : Size) (f : List Line → Outcome) (text : Text) (e : Rejection) (r : Result Told NoMemory)
-    → length text ≤ 262144 → LinksSource z text (Err e) → TellsRejection e r → IsAnswered (of_source z f) text r
+    → length text ≤ 262144 → LinksSource z text (Err e) → HoldsRejection e r → IsAnswered (of_source z f) text r
 source_refused z f text (Refused reply) (Ok told) few l tells =
     (refused (source_fault_line (At l.0 l.1)), inl (few, inl (l.0, l.1, l.2, refl)), tells _ l.3)
 source_refused z f text Memory (Ok told) few l tells = absurd tells
@@ -150,7 +150,7 @@ source_refused z f text e (Err none) few l tells = tt
 
 -- the texts are what the program answers to a text
 pub answer_told : (answers : Text → Outcome → Type 0) (text : Text) (a : Result Reply Rejection)
-    (r : Result Told NoMemory) → length text ≤ 262144 → Replies (of_input answers) text a → TellsAnswer a r
+    (r : Result Told NoMemory) → length text ≤ 262144 → Replies (of_input answers) text a → HoldsAnswer a r
     → IsAnswered (of_input answers) text r
 answer_told answers text (Ok reply) (Ok told) few is tells = (is.0, inl (few, is.1), tells is.0 is.2)
 answer_told answers text (Ok reply) (Err e) few is tells = absurd tells
@@ -182,7 +182,7 @@ source_drawn s text k (Err e) few l ran = tt
 
 -- a source that is refused is not accepted, so that no run of it ends
 pub source_refusal_drawn : (s : Settings) (text : Text) (e : Rejection) (told : Told) → length text ≤ 262144
-    → LinksSource s.size text (Err e) → TellsRejection e (Ok told)
+    → LinksSource s.size text (Err e) → HoldsRejection e (Ok told)
     → Draws (of_source s.size (run_outcome s)) (SourceEnds s) text (Ok (record { told = told; machine = None }))
 source_refusal_drawn s text Memory told few l tells = absurd tells
 source_refusal_drawn s text (Refused reply) told few l tells = (

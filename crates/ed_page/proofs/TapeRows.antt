@@ -7,7 +7,7 @@ use Rattle.ed_orders.specs.declared.kind.Kind.{Kind}
 use Rattle.ed_orders.specs.declared.kind.Kind.TheVariants.{E, G, I}
 use Rattle.ed_machine.specs.State.{State}
 use Rattle.ed_machine.specs.OrderTable.{jumped, next_word, obey_word, place_of, step, took_row}
-use Rattle.ed_machine.specs.Steps.{past, state_after}
+use Rattle.ed_machine.specs.Steps.{progress, state_after}
 use Rattle.ed_run.specs.Run.{ran, run_orders}
 use Rattle.ed_loads.specs.EntryState.{first_state}
 use Rattle.ed_answers.specs.FirstOrders.{first_state1}
@@ -39,7 +39,7 @@ unfolding step
 by_step s = by_order (kind_of_function (function_of (next_word s))) (next_word s) s
 
 pub by_steps : (k : ℕ) (s : State) → IsEndOf (state_after k s).tape s.tape
-unfolding past
+unfolding progress
 by_steps zero s = ([], refl)
 by_steps (suc k) s =
     let before = by_steps k s in

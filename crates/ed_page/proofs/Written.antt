@@ -6,15 +6,15 @@ use Rattle.ed_machine.specs.State.{State}
 use Rattle.ed_words.specs.Texts.{Text}
 use Rattle.ed_answers.specs.Outcome.{Outcome, too_long, too_long_outcome}
 use Rattle.ed_answers.specs.Answer.{Answer, HasOneOutcome, IsDue, of_input}
-use Rattle.ed_page.specs.Answers.{Buffers, HasBufferRoom, HasPictureRoom, IsShown, IsTextTold, LacksLine, LacksRoom}
-use Rattle.ed_page.specs.Answers.{ShowsNone, Tells, TextBuffers}
+use Rattle.ed_page.specs.Answers.{Buffers, HasBufferRoom, HasPictureRoom, IsShown, IsTextWritten, LacksLine, LacksRoom}
+use Rattle.ed_page.specs.Answers.{ShowsNone, HoldsText, TextBuffers}
 use Rattle.ed_page.specs.Pictures.{Pictures}
-use Rattle.ed_page.specs.Private.Stages.{Draws, IsAnswered, TellsOutcome, WritesBuffers, IsWrittenOut}
+use Rattle.ed_page.specs.Private.Stages.{Draws, IsAnswered, HoldsOutcome, WritesBuffers, IsWrittenOut}
 use Rattle.ed_page.specs.declared.running.Shown.{Shown}
 use Rattle.ed_page.specs.declared.told.Told.{Told}
 
 -- the buffers of two texts have room if they have it for the texts written
-has_room : (o : Outcome) (told : Told) (out note : List ℕ) → TellsOutcome told o → length told.out.items ≤ length out
+has_room : (o : Outcome) (told : Told) (out note : List ℕ) → HoldsOutcome told o → length told.out.items ≤ length out
     → length told.note.items ≤ length note → HasBufferRoom o out note
 has_room o told out note g out_fits note_fits = record {
   out_fits = subst (λ (t : Text). length t ≤ length out) g.out_is out_fits;
@@ -22,7 +22,7 @@ has_room o told out note g out_fits note_fits = record {
 }
 
 -- and only then
-told_room : (o : Outcome) (told : Told) (out note : List ℕ) → TellsOutcome told o → HasBufferRoom o out note
+told_room : (o : Outcome) (told : Told) (out note : List ℕ) → HoldsOutcome told o → HasBufferRoom o out note
     → (length told.out.items ≤ length out) × (length told.note.items ≤ length note)
 told_room o told out note g room = (
   subst (λ (t : Text). length t ≤ length out) (sym g.out_is) room.out_fits,
@@ -37,10 +37,10 @@ twelve : ◌≢◌ {A = ℕ} 12 10
 twelve e = cc
 
 -- the texts were written
-pub told_written : (o : Outcome) (told : Told) (before after : TextBuffers) → TellsOutcome told o
+pub told_written : (o : Outcome) (told : Told) (before after : TextBuffers) → HoldsOutcome told o
     → length told.out.items ≤ length before.out
     → length told.note.items ≤ length before.note
-    → Tells o before.out before.note after.out after.note after.lengths.out after.lengths.note told.status
+    → HoldsText o before.out before.note after.out after.note after.lengths.out after.lengths.note told.status
     → IsWrittenOut o before after told.status
 told_written o told before after g out_fits note_fits t = (
   g.found,
@@ -52,7 +52,7 @@ told_written o told before after g out_fits note_fits t = (
 )
 
 -- there was no room
-pub told_nowhere : (o : Outcome) (told : Told) (before : TextBuffers) → TellsOutcome told o
+pub told_nowhere : (o : Outcome) (told : Told) (before : TextBuffers) → HoldsOutcome told o
     → ((length told.out.items ≤ length before.out) × (length told.note.items ≤ length before.note) → ⊥)
     → IsWrittenOut o before before 12
 told_nowhere o told before g none = (
@@ -66,10 +66,11 @@ told_nowhere o told before g none = (
 
 -- a picture was written
 pub picture_written : {o : Outcome} {told : Told} {machine : Option State} {before after : Buffers}
-    → TellsOutcome told o
+    → HoldsOutcome told o
     → length before.words ≡ 1024 → length before.digits ≡ 512 → length told.out.items ≤ length before.paper
     → length told.note.items ≤ length before.note
-    → Tells o before.paper before.note after.paper after.note after.registers.printed after.registers.noted told.status
+    → HoldsText o before.paper before.note after.paper after.note after.registers.printed
+    after.registers.noted told.status
     → IfSome machine (λ m. Pictures m after.words after.digits after.registers)
     → (machine ≡ None → ShowsNone before after)
     → WritesBuffers o machine before after told.status
@@ -90,7 +91,7 @@ picture_written {o} {told} {before = before} g words digits out_fits note_fits t
 )
 
 -- there was no room for it
-pub picture_nowhere : (o : Outcome) (told : Told) (machine : Option State) (before : Buffers) → TellsOutcome told o
+pub picture_nowhere : (o : Outcome) (told : Told) (machine : Option State) (before : Buffers) → HoldsOutcome told o
     → ((length told.out.items ≤ length before.paper) × (length told.note.items ≤ length before.note) → ⊥)
     → WritesBuffers o machine before before 12
 picture_nowhere o told machine before g none = (
@@ -105,8 +106,8 @@ picture_nowhere o told machine before g none = (
 -- the texts for an input were written
 pub text_told : (wanted : Answer) (text : Text) (told : Told) {before after : TextBuffers} {answer : ℕ}
     → (LacksLine text before.note → ⊥)
-    → IsAnswered wanted text (Ok told) → ((o : Outcome) → TellsOutcome told o → IsWrittenOut o before after answer)
-    → IsTextTold wanted text before after answer
+    → IsAnswered wanted text (Ok told) → ((o : Outcome) → HoldsOutcome told o → IsWrittenOut o before after answer)
+    → IsTextWritten wanted text before after answer
 text_told wanted text told room answered written =
     let is = written answered.0 answered.2 in
     record {
@@ -117,7 +118,7 @@ text_told wanted text told room answered written =
 
 -- no memory was found
 pub text_unmade : (wanted : Answer) (text : Text) (before : TextBuffers) → (LacksLine text before.note → ⊥)
-    → IsTextTold wanted text before before 10
+    → IsTextWritten wanted text before before 10
 text_unmade wanted text before room = record {
   memory = λ e. refl;
   told = λ not10. absurd (not10 refl);
@@ -143,7 +144,7 @@ line_lacks answers text out note lacks o (inr due) room =
     absurd (omega (arith, fits, lacks.1))
 
 pub text_early : (answers : Text → Outcome → Type 0) (text : Text) (before : TextBuffers) → LacksLine text before.note
-    → IsTextTold (of_input answers) text before before 12
+    → IsTextWritten (of_input answers) text before before 12
 text_early answers text before lacks = record {
   memory = λ e. absurd (twelve e);
   told = λ not10. (
@@ -189,7 +190,7 @@ pub drawn_shown : (wanted : Answer) (Ends : Text → State → Type 0) (text : T
     {before after : Buffers} {answer : ℕ}
     → (LacksRoom text before → ⊥)
     → Draws wanted Ends text (Ok left)
-    → ((o : Outcome) → TellsOutcome left.told o → WritesBuffers o left.machine before after answer)
+    → ((o : Outcome) → HoldsOutcome left.told o → WritesBuffers o left.machine before after answer)
     → IsShown wanted Ends text before after answer
 drawn_shown wanted Ends text left {after = after} room drawn written =
     let o = drawn.0 in

@@ -24,7 +24,7 @@ abbrev pub Holds : Text → (before after : List ℕ) → ℕ → Type 0
 Holds text before after n = (n ≡ length text) × (after ≡ text ++ drop (length text) before)
 
 -- both texts of an outcome were written at the beginnings of two buffers, and the answer is its status
-pub record Tells (o : Outcome) (out note out_after note_after : List ℕ) (printed noted answer : ℕ) : Type 0 where
+pub record HoldsText (o : Outcome) (out note out_after note_after : List ℕ) (printed noted answer : ℕ) : Type 0 where
   pub out_is : Holds o.out out out_after printed
   pub note_is : Holds o.note note note_after noted
   pub status_is : answer ≡ o.status
@@ -61,11 +61,11 @@ LacksLine text note = (262144 < length text) × (length note < length too_long)
 
 -- what the program answers to a text, written into two buffers; or no memory was found (10), and the buffers are
 -- unchanged. 12 comes first if no memory is needed to see that there is no room
-pub record IsTextTold (wanted : Answer) (text : Text) (before after : TextBuffers) (answer : ℕ) : Type 0 where
+pub record IsTextWritten (wanted : Answer) (text : Text) (before after : TextBuffers) (answer : ℕ) : Type 0 where
   pub memory : answer ≡ 10 → after ≡ before
   pub told : answer ≢ 10 → (o : Outcome) × IsDue wanted text o
       × HasItsCause (HasBufferRoom o before.out before.note) (after ≡ before)
-      (Tells o before.out before.note after.out after.note after.lengths.out after.lengths.note answer) answer
+      (HoldsText o before.out before.note after.out after.note after.lengths.out after.lengths.note answer) answer
   pub early : LacksLine text before.note → answer ≡ 12
 
 -- the rows of a source's tape
@@ -134,7 +134,7 @@ pub record ShowsNone (before after : Buffers) : Type 0 where
 -- they show no machine
 pub record Shows (Ends : Text → State → Type 0) (text : Text) (o : Outcome) (before after : Buffers) (answer : ℕ) :
     Type 0 where
-  pub told : Tells o before.paper before.note after.paper after.note after.registers.printed after.registers.noted
+  pub told : HoldsText o before.paper before.note after.paper after.note after.registers.printed after.registers.noted
       answer
   pub state : length text ≤ 262144 → (m : State) → Ends text m → Pictures m after.words after.digits after.registers
   pub none : ((m : State) → length text ≤ 262144 → Ends text m → ⊥) → ShowsNone before after

@@ -1,10 +1,11 @@
 -- Continuing from a picture: the states that buffers picture, what they hold after more orders, and the text of the
 -- codes that were printed (this project's own rules).
-use Rattle.std.specs.Prelude.{◌≡◌, ◌≢◌, ℕ, ◌+◌, ◌-◌, ◌<◌, ◌≤◌, ◌⊎◌, Bool, false, List, ◌++◌, length, reverse, slice_index}
+use Rattle.std.specs.Prelude.{◌≡◌, ◌≢◌, ℕ, ◌+◌, ◌-◌, ◌<◌, ◌≤◌, ◌⊎◌, Bool, false, List, ◌++◌, length, reverse}
+use Rattle.std.specs.Prelude.{slice_index}
 use Rattle.ed_words.specs.Texts.{Text}
 use Rattle.ed_printer.specs.Paper.{latest_shift, paper, paper_from}
 use Rattle.ed_machine.specs.State.{State}
-use Rattle.ed_machine.specs.Steps.{Past, past, state_after}
+use Rattle.ed_machine.specs.Steps.{Progress, progress, state_after}
 use Rattle.ed_run.specs.Run.{RunEnd, ran, run_orders}
 use Rattle.ed_loads.specs.EntryState.{first_state}
 use Rattle.ed_command.specs.declared.command.Settings.{Settings}
@@ -79,7 +80,7 @@ pub record IsGoneOn (r : RunEnd) (before after : GoingBuffers) (answer : ℕ) : 
 -- ---- laws
 
 -- a run that follows orders: what they printed comes first
-abbrev pub run_following : Past → RunEnd → RunEnd
+abbrev pub run_following : Progress → RunEnd → RunEnd
 run_following p r = record { ending = r.ending; state = r.state; codes = p.codes ++ r.codes }
 
 -- Wherever a run ended, continuing from there is the one run from the beginning: with the orders that the first part
@@ -90,8 +91,8 @@ pub record GoingLaw : Type 0 where
   pub goes_on : (limit resumes room orders more : ℕ) (s : State)
       → let k = run_orders limit resumes room s in
       let first = ran limit resumes room s in
-      ran (k + orders) ((past k s).stops + more) room s
-      ≡ run_following (past k s) (ran orders more (room - length first.codes) first.state)
+      ran (k + orders) ((progress k s).stops + more) room s
+      ≡ run_following (progress k s) (ran orders more (room - length first.codes) first.state)
   pub from_start : (s : Settings) (codes : List ℕ)
       → run_of s codes ≡ ran s.limit s.resumes paper_room (state_after 0 (first_state s.size codes))
   pub from_start1 : (s : Settings) (codes : List ℕ)
@@ -111,7 +112,7 @@ PaperLaw = (before codes : List ℕ) → paper (before ++ codes) ≡ paper befor
 
 -- the text that codes add was written at the beginning of a buffer, with its length, and the answer is 0; or there was
 -- no room (12) or no memory (10), and nothing was written
-pub record IsPaperTold (before codes buffer after : List ℕ) (n n_after answer : ℕ) : Type 0 where
+pub record IsPaperWritten (before codes buffer after : List ℕ) (n n_after answer : ℕ) : Type 0 where
   pub memory : answer ≡ 10 → (after ≡ buffer) × (n_after ≡ n)
   pub told : answer ≢ 10 → HasItsCause (length (added_text before codes) ≤ length buffer)
       ((after ≡ buffer) × (n_after ≡ n))

@@ -18,13 +18,14 @@ code_buffer codes printed = record { codes = codes; printed = printed }
 
 -- the codes that a post-mortem prints of a state were written at the head of a buffer, with their number, and the answer
 -- is 0; or there was no memory (10) or no room (12), and nothing was written
-pub record IsWindowTold (w : Window) (s : State) (before after : CodeBuffer) (answer : ℕ) : Type 0 where
+pub record IsWindowWritten (w : Window) (s : State) (before after : CodeBuffer) (answer : ℕ) : Type 0 where
   pub memory : answer ≡ 10 → after ≡ before
   pub told : answer ≢ 10 → HasItsCause (length (post_mortem_codes (Some w) s) ≤ length before.codes) (after ≡ before)
       (Holds (post_mortem_codes (Some w) s) before.codes after.codes after.printed × (answer ≡ 0)) answer
 
 -- what is answered on a machine of a size: 3 if the window is none of its store, and then nothing is written; and else
 -- never 3
-pub record IsPostMortemTold (z : Size) (w : Window) (s : State) (before after : CodeBuffer) (answer : ℕ) : Type 0 where
+pub record IsPostMortemWritten (z : Size) (w : Window) (s : State) (before after : CodeBuffer) (answer : ℕ) :
+    Type 0 where
   pub refused : (IsWindowOf z w → ⊥) → (answer ≡ 3) × (after ≡ before)
-  pub told : IsWindowOf z w → IsWindowTold w s before after answer
+  pub told : IsWindowOf z w → IsWindowWritten w s before after answer

@@ -1,6 +1,7 @@
 -- The items of a tape as the page is told them: the rows that spell each, and the word that it places (this project's own
 -- rules).
-use Rattle.std.specs.Prelude.{◌≡◌, ◌⊎◌, ℕ, ◌+◌, ◌/◌, ◌%◌, Option, Some, None, List, [], ◌∷◌, ◌++◌, length, if◌then◌else◌}
+use Rattle.std.specs.Prelude.{◌≡◌, ◌⊎◌, ℕ, ◌+◌, ◌/◌, ◌%◌, Option, Some, None, List, [], ◌∷◌, ◌++◌, length}
+use Rattle.std.specs.Prelude.{if◌then◌else◌}
 use Rattle.ed_words.specs.declared.size.Size.{Size}
 use Rattle.ed_store.specs.Cells.{cleared_cells}
 use Rattle.ed_notation.specs.declared.cause.TapeCause.{TapeCause}
@@ -8,7 +9,7 @@ use Rattle.ed_notation.specs.declared.item.Item.{Item}
 use Rattle.ed_notation.specs.declared.kind.RowKind.{RowKind}
 use Rattle.ed_notation.specs.declared.kind.RowKind.TheVariants.{Letter}
 use Rattle.ed_notation.specs.Faults.{ComesTo, IsFault, TapeEntry, WellFormed}
-use Rattle.ed_notation.specs.Fold.{Note, act, address, aim_of, enters_at, item_word}
+use Rattle.ed_notation.specs.Fold.{NotationState, act, address, letter_action_of, enters_at, item_word}
 use Rattle.ed_notation.specs.Items.{Written, item, row_kind, rows_of}
 use Rattle.ed_initial1.specs.declared.cause.Tape1Cause.{Tape1Cause}
 use Rattle.ed_initial1.specs.Faults.{Comes1, IsFault1, Tape}
@@ -23,13 +24,13 @@ use Rattle.ed_answers.specs.Tapes.{first_note}
 
 -- the location and the word that an item places, by the kind of its ending row: a code letter that does not enter places
 -- the item's word at the directive's address
-abbrev pub placing_by : RowKind → List ℕ → Note → Item → Option (ℕ × ℕ)
+abbrev pub placing_by : RowKind → List ℕ → NotationState → Item → Option (ℕ × ℕ)
 placing_by Letter words note i =
-    if enters_at (aim_of note.directive) then None else Some (address note.directive, item_word words note i)
+    if enters_at (letter_action_of note.directive) then None else Some (address note.directive, item_word words note i)
 placing_by kind words note i = None
 
 -- the location and the word that an item places, if it places one
-abbrev pub placing : List ℕ → Note → Item → Option (ℕ × ℕ)
+abbrev pub placing : List ℕ → NotationState → Item → Option (ℕ × ℕ)
 placing words note i = placing_by (row_kind i.end) words note i
 
 -- what was placed, the last first, with what an item places
@@ -39,7 +40,7 @@ with_placing (Some p) placed = p ∷ placed
 
 -- so the fold has it after the item
 abbrev pub PlacingLaw : Type 0
-PlacingLaw = (words : List ℕ) (note : Note) (i : Item)
+PlacingLaw = (words : List ℕ) (note : NotationState) (i : Item)
     → (act words note i).placed ≡ with_placing (placing words note i) note.placed
 
 -- ---- the table
@@ -59,7 +60,7 @@ item_line first after None = four_numbers first after 1024 0
 item_line first after (Some p) = four_numbers first after p.0 p.1
 
 -- the table of items one after the other, of which the first begins at a row
-unfoldable pub item_table : List ℕ → Note → ℕ → List Written → List ℕ
+unfoldable pub item_table : List ℕ → NotationState → ℕ → List Written → List ℕ
 item_table words note row [] = []
 item_table words note row (w ∷ ws) =
     item_line row (row + length (rows_of w)) (placing words note (item w))
@@ -87,12 +88,12 @@ pub record OfFaultyTape (z : Size) (codes : List ℕ) (o : Outcome) : Type 0 whe
       (record { out = tape_table fault.is.stands.before; note = rule_line row cause; status = 3 }) o
 
 -- of either
-abbrev pub AreItemsTold : Size → List ℕ → Outcome → Type 0
-AreItemsTold z codes o = OfEnteredTape z codes o ⊎ OfFaultyTape z codes o
+abbrev pub IsItemsOutcome : Size → List ℕ → Outcome → Type 0
+IsItemsOutcome z codes o = OfEnteredTape z codes o ⊎ OfFaultyTape z codes o
 
 -- what is told of the items of a tape's text; a text that spells no rows is refused
 abbrev pub items_answer : Size → Answer
-items_answer z = of_rows (AreItemsTold z)
+items_answer z = of_rows (IsItemsOutcome z)
 
 -- ---- tapes of May 1949
 

@@ -1,7 +1,7 @@
 //! The items of a tape of May 1949: the rows that spell each, and the word that it places.
 
 ghost use Rattle.std.specs.Prelude.{◌≡◌, ◌≤◌, IfOk, None, length};
-ghost use Rattle.ed_page.specs.Answers.{IsTextTold, text_buffers};
+ghost use Rattle.ed_page.specs.Answers.{IsTextWritten, text_buffers};
 ghost use Rattle.ed_page.specs.Private.ItemTables.{first_word, table_on1};
 ghost use Rattle.ed_page.specs.Private.Stages.{AreToldOf1, IsAnswered};
 ghost use Rattle.ed_page.specs.TapeItems.{items1_answer};
@@ -32,7 +32,7 @@ pub extern "C" fn page_items1(
     note: &mut [u8],
     lengths: &mut Lengths,
 ) -> u32
-    ensures { IsTextTold items1_answer text.now (text_buffers items.old note.old lengths.old)
+    ensures { IsTextWritten items1_answer text.now (text_buffers items.old note.old lengths.old)
         (text_buffers items.new note.new lengths.new) result }
 {
     if lacks_line(text, note) {

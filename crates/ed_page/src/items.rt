@@ -5,11 +5,12 @@ ghost use Rattle.ed_store.specs.Cells.{cleared_cells, with_short};
 ghost use Rattle.ed_notation.specs.Fold.{address, control_of, item_word, with_kay, with_zed};
 ghost use Rattle.ed_notation.specs.Items.{row_kind};
 ghost use Rattle.ed_notation.specs.declared.kind.RowKind.TheVariants.{Digit};
-ghost use Rattle.ed_page.specs.Answers.{IsTextTold, text_buffers};
+ghost use Rattle.ed_page.specs.Answers.{IsTextWritten, text_buffers};
 ghost use Rattle.ed_page.specs.Pictures.{size_shown};
-ghost use Rattle.ed_page.specs.Private.ItemTables.{IsSetAs, IsSetBelow, is_last_row, item_at, notation_after, note_over};
+ghost use Rattle.ed_page.specs.Private.ItemTables.{IsSetAs, IsSetBelow, is_last_row, item_at, notation_after};
+ghost use Rattle.ed_page.specs.Private.ItemTables.{note_over};
 ghost use Rattle.ed_page.specs.Private.ItemTables.{placing_over, table_on, whole_item, opened_with};
-ghost use Rattle.ed_page.specs.Private.Stages.{AreToldOf, IsAnswered};
+ghost use Rattle.ed_page.specs.Private.Stages.{AreItemsOf, IsAnswered};
 ghost use Rattle.ed_page.specs.TapeItems.{PlacingLaw, four_bytes, four_numbers, item_line, items_answer};
 
 use crate::running::size_of;
@@ -64,7 +65,7 @@ pub extern "C" fn page_items(
     note: &mut [u8],
     lengths: &mut Lengths,
 ) -> u32
-    ensures told { IsTextTold (items_answer (size_shown small)) text.now
+    ensures told { IsTextWritten (items_answer (size_shown small)) text.now
         (text_buffers items.old note.old lengths.old)
         (text_buffers items.new note.new lengths.new) result }
     ensures law { PlacingLaw }
@@ -94,7 +95,7 @@ fn tape_items(alloc: Global, size: Size, text: &[u8]) -> Result<Told, NoMemory>
 /// What is told of the items of rows.
 fn row_items(alloc: Global, size: Size, rows: &[Code]) -> Result<Told, NoMemory>
     requires { length rows.now ≤ 262144 }
-    ensures { AreToldOf size rows.now result }
+    ensures { AreItemsOf size rows.now result }
 {
     let store = Store::cleared(alloc)?;
     match check(alloc, size, &store, rows) {

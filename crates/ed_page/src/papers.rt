@@ -3,7 +3,7 @@
 ghost use Rattle.std.specs.Prelude.{◌≡◌, ◌<◌, ◌==◌, ◌||◌, IfOk, IfSome, List, ℕ, reverse};
 ghost use Rattle.std.specs.List.{find};
 ghost use Rattle.ed_printer.specs.Paper.{latest_shift};
-ghost use Rattle.ed_page.specs.Going.{AreCodes, IsPaperTold, PaperLaw, added_text};
+ghost use Rattle.ed_page.specs.Going.{AreCodes, IsPaperWritten, PaperLaw, added_text};
 
 use crate::pictured::code_of;
 use crate::told::{NO_MEMORY, NO_ROOM};
@@ -33,7 +33,7 @@ pub extern "C" fn page_paper(
 ) -> u32
     requires before { AreCodes before.now }
     requires codes { AreCodes codes.now }
-    ensures text { IsPaperTold before.now codes.now text.old text.new printed.old printed.new result }
+    ensures text { IsPaperWritten before.now codes.now text.old text.new printed.old printed.new result }
     ensures law { PaperLaw }
 {
     match added_text(alloc, before, codes) {
@@ -87,7 +87,7 @@ fn sets_shift(code: u8) -> bool
 /// Writes a text and its length, if the buffer has room.
 fn tell(added: &[u8], text: &mut [u8], printed: &mut u64) -> u32
     ensures { (before codes : List ℕ) → added.now ≡ added_text before codes
-        → IsPaperTold before codes text.old text.new printed.old printed.new result }
+        → IsPaperWritten before codes text.old text.new printed.old printed.new result }
 {
     if text.len() < added.len() {
         return NO_ROOM;

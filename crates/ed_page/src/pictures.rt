@@ -12,7 +12,7 @@ ghost use Rattle.ed_page.specs.Answers.{EachRunReadsOn, IsShown, LacksLine, Sour
 ghost use Rattle.ed_page.specs.Answers.{EachRun1ReadsOn, Tape1Ends, picture_buffers};
 ghost use Rattle.ed_page.specs.Going.{BeginsOnTheWay};
 ghost use Rattle.ed_page.specs.Pictures.{Pictures, asked, size_shown};
-ghost use Rattle.ed_page.specs.Private.Stages.{Draws, TellsOutcome, WritesBuffers};
+ghost use Rattle.ed_page.specs.Private.Stages.{Draws, HoldsOutcome, WritesBuffers};
 
 use crate::running::{Shown, asked, run_linked, run_tape, run_tape1};
 use crate::told::{NO_MEMORY, NO_ROOM, Told, is_too_long, lacks_line, rejected};
@@ -183,7 +183,7 @@ fn show(
 ) -> u32
     requires words { length words.old ≡ 1024 }
     requires digits { length digits.old ≡ 512 }
-    ensures { (o : Outcome) → TellsOutcome shown.now.told o → WritesBuffers o shown.now.machine
+    ensures { (o : Outcome) → HoldsOutcome shown.now.told o → WritesBuffers o shown.now.machine
         (picture_buffers words.old digits.old paper.old note.old registers.old)
         (picture_buffers words.new digits.new paper.new note.new registers.new) result }
 {

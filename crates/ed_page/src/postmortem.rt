@@ -9,7 +9,7 @@ ghost use Rattle.ed_postmortem.specs.Codes.{printed_codes};
 ghost use Rattle.ed_answers.specs.Runs.{post_mortem_codes};
 ghost use Rattle.ed_page.specs.Going.{CanGoOn, IsAfterStart};
 ghost use Rattle.ed_page.specs.Pictures.{Pictures, size_shown};
-ghost use Rattle.ed_page.specs.PostMortems.{IsPostMortemTold, IsWindowTold, code_buffer};
+ghost use Rattle.ed_page.specs.PostMortems.{IsPostMortemWritten, IsWindowWritten, code_buffer};
 
 use crate::pictured::pictured;
 use crate::running::size_of;
@@ -55,7 +55,7 @@ pub extern "C" fn page_post_mortem(
     ensures told { length words.now ≡ 1024 → length digits.now ≡ 512
         → (s : State) → IsAfterStart small rows.now s → (k : ℕ)
         → Pictures (state_after k s) words.now digits.now registers.now
-        → IsPostMortemTold (size_shown small) (record { first = first; count = count }) (state_after k s)
+        → IsPostMortemWritten (size_shown small) (record { first = first; count = count }) (state_after k s)
         (code_buffer codes.old printed.old) (code_buffer codes.new printed.new) result }
     ensures early { (length words.now ≢ 1024) ⊎ (length digits.now ≢ 512)
         → (result ≡ 12) × (code_buffer codes.new printed.new ≡ code_buffer codes.old printed.old) }
@@ -128,7 +128,7 @@ fn window_codes(alloc: Global, machine: &mut Machine, window: Window) -> Result<
 /// Writes codes and their number, if the buffer has room.
 fn tell(found: &[u8], codes: &mut [u8], printed: &mut u64) -> u32
     ensures { (w : Window) (s : State) → found.now ≡ post_mortem_codes (Some w) s
-        → IsWindowTold w s (code_buffer codes.old printed.old) (code_buffer codes.new printed.new) result }
+        → IsWindowWritten w s (code_buffer codes.old printed.old) (code_buffer codes.new printed.new) result }
 {
     if codes.len() < found.len() {
         return NO_ROOM;

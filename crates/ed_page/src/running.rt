@@ -8,10 +8,10 @@ ghost use Rattle.ed_answers.specs.Tapes.{tape_outcome};
 ghost use Rattle.ed_answers.specs.Runs.{run_of, status_of};
 ghost use Rattle.ed_answers.specs.Sources.{run_outcome};
 ghost use Rattle.ed_page.specs.Pictures.{asked, size_shown};
-ghost use Rattle.ed_page.specs.Private.Stages.{TellsOutcome, IsRunOf};
+ghost use Rattle.ed_page.specs.Private.Stages.{HoldsOutcome, IsRunOf};
 
 use crate::told::Told;
-use ed_answers::{Ran, ran_reply, run_linked as run_source, run_rows, run_rows1};
+use ed_answers::{FinishedRun, ran_reply, run_linked as run_source, run_rows, run_rows1};
 use ed_codes::Code;
 use ed_command::Settings;
 use ed_link::Linked;
@@ -39,8 +39,8 @@ impl Shown {
     }
 
     /// The same for a run that ended, with its note.
-    fn of_run(alloc: Global, ran: Ran, note: Vec<u8>) -> Result<Shown, NoMemory>
-        ensures told { IfOk result (λ shown. TellsOutcome shown.told
+    fn of_run(alloc: Global, ran: FinishedRun, note: Vec<u8>) -> Result<Shown, NoMemory>
+        ensures told { IfOk result (λ shown. HoldsOutcome shown.told
             (record { out = paper ran.paper.codes; note = note.items; status = status_of ran.ending })) }
         ensures machine { IfOk result (λ shown. shown.machine ≡ Some ran.machine) }
     {

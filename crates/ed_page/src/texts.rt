@@ -2,9 +2,9 @@ ghost use Rattle.std.specs.Prelude.{◌≡◌, IfOk};
 ghost use Rattle.ed_answers.specs.Answer.{exactly, of_rows};
 ghost use Rattle.ed_answers.specs.Outcome.{Outcome, done};
 ghost use Rattle.ed_answers.specs.Sources.{listing_answer, of_source, punch_answer};
-ghost use Rattle.ed_page.specs.Answers.{IsTextTold, source_rows, text_buffers};
+ghost use Rattle.ed_page.specs.Answers.{IsTextWritten, source_rows, text_buffers};
 ghost use Rattle.ed_page.specs.Pictures.{asked, size_shown};
-ghost use Rattle.ed_page.specs.Private.Stages.{TellsOutcome, IsWrittenOut, IsAnswered};
+ghost use Rattle.ed_page.specs.Private.Stages.{HoldsOutcome, IsWrittenOut, IsAnswered};
 
 use crate::running::{asked, size_of};
 use crate::told::{NO_MEMORY, NO_ROOM, Told, is_too_long, lacks_line, rejected, told_of};
@@ -26,7 +26,7 @@ pub extern "C" fn page_tape_rows(
     note: &mut [u8],
     lengths: &mut Lengths,
 ) -> u32
-    ensures { IsTextTold (of_rows (exactly done)) text.now (text_buffers rows.old note.old lengths.old)
+    ensures { IsTextWritten (of_rows (exactly done)) text.now (text_buffers rows.old note.old lengths.old)
         (text_buffers rows.new note.new lengths.new) result }
 {
     if lacks_line(text, note) {
@@ -48,7 +48,7 @@ pub extern "C" fn page_source_rows(
     note: &mut [u8],
     lengths: &mut Lengths,
 ) -> u32
-    ensures { IsTextTold (of_source (size_shown small) source_rows) text.now
+    ensures { IsTextWritten (of_source (size_shown small) source_rows) text.now
         (text_buffers rows.old note.old lengths.old)
         (text_buffers rows.new note.new lengths.new) result }
 {
@@ -71,7 +71,7 @@ pub extern "C" fn page_punch(
     note: &mut [u8],
     lengths: &mut Lengths,
 ) -> u32
-    ensures { IsTextTold (punch_answer (asked small 0 0)) text.now (text_buffers tape.old note.old lengths.old)
+    ensures { IsTextWritten (punch_answer (asked small 0 0)) text.now (text_buffers tape.old note.old lengths.old)
         (text_buffers tape.new note.new lengths.new) result }
 {
     if lacks_line(text, note) {
@@ -93,7 +93,7 @@ pub extern "C" fn page_listing(
     note: &mut [u8],
     lengths: &mut Lengths,
 ) -> u32
-    ensures { IsTextTold (listing_answer (asked small 0 0)) text.now (text_buffers listing.old note.old lengths.old)
+    ensures { IsTextWritten (listing_answer (asked small 0 0)) text.now (text_buffers listing.old note.old lengths.old)
         (text_buffers listing.new note.new lengths.new) result }
 {
     if lacks_line(text, note) {
@@ -107,7 +107,7 @@ pub extern "C" fn page_listing(
 
 /// Writes what is told into two buffers, where they have room.
 pub fn tell(told: &Told, out: &mut [u8], note: &mut [u8], lengths: &mut Lengths) -> u32
-    ensures { (o : Outcome) → TellsOutcome told.now o → IsWrittenOut o (text_buffers out.old note.old lengths.old)
+    ensures { (o : Outcome) → HoldsOutcome told.now o → IsWrittenOut o (text_buffers out.old note.old lengths.old)
         (text_buffers out.new note.new lengths.new) result }
 {
     if !told.fits(out, note) {

@@ -1,7 +1,7 @@
 ghost use Rattle.std.specs.Prelude.{◌≡◌, ◌≤◌, IfOk, IsTrue, ◌↔◌, length, nat_lt};
 ghost use Rattle.ed_answers.specs.Outcome.{Outcome, done, too_long_outcome};
-ghost use Rattle.ed_page.specs.Answers.{LacksLine, Tells};
-ghost use Rattle.ed_page.specs.Private.Stages.{TellsAnswer, TellsOutcome, TellsRejection};
+ghost use Rattle.ed_page.specs.Answers.{LacksLine, HoldsText};
+ghost use Rattle.ed_page.specs.Private.Stages.{HoldsAnswer, HoldsOutcome, HoldsRejection};
 ghost use Rattle.ed_answers.specs.Replies.{Gives};
 
 use crate::writing::{Lengths, write_text};
@@ -32,7 +32,7 @@ pub struct Told {
 impl Told {
     /// The texts of a command that is finished, with a text on `out`.
     pub fn done(alloc: Global, out: Vec<u8>) -> Told
-        ensures { TellsOutcome result (done out.items) }
+        ensures { HoldsOutcome result (done out.items) }
     {
         Told {
             out,
@@ -43,7 +43,7 @@ impl Told {
 
     /// What is told where a text is refused, with what is found of it on `out`.
     pub fn refused(out: Vec<u8>, note: Vec<u8>) -> Told
-        ensures { TellsOutcome result (record { out = out.items; note = note.items; status = 3 }) }
+        ensures { HoldsOutcome result (record { out = out.items; note = note.items; status = 3 }) }
     {
         Told {
             out,
@@ -54,7 +54,7 @@ impl Told {
 
     /// What is told of a reply.
     pub fn of_reply(reply: Reply) -> Told
-        ensures { (o : Outcome) → Gives reply o → TellsOutcome result o }
+        ensures { (o : Outcome) → Gives reply o → HoldsOutcome result o }
     {
         Told {
             out: reply.out,
@@ -65,7 +65,7 @@ impl Told {
 
     /// The texts for an input that is too long.
     pub fn too_long(alloc: Global) -> Result<Told, NoMemory>
-        ensures { IfOk result (λ told. TellsOutcome told too_long_outcome) }
+        ensures { IfOk result (λ told. HoldsOutcome told too_long_outcome) }
     {
         let mut note = Vec::new(alloc);
         if note.extend_from_slice(TOO_LONG).is_err() {
@@ -90,8 +90,8 @@ impl Told {
     pub fn write(&self, out: &mut [u8], note: &mut [u8]) -> Lengths
         requires out { length self.now.out.items ≤ length out.old }
         requires note { length self.now.note.items ≤ length note.old }
-        ensures { (o : Outcome) → TellsOutcome self.now o
-            → Tells o out.old note.old out.new note.new result.out result.note self.now.status }
+        ensures { (o : Outcome) → HoldsOutcome self.now o
+            → HoldsText o out.old note.old out.new note.new result.out result.note self.now.status }
     {
         write_text(&self.out, out);
         write_text(&self.note, note);
@@ -104,7 +104,7 @@ impl Told {
 
 /// The texts of an answer, whether it refuses the text or not.
 pub fn told_of(answer: Result<Reply, Rejection>) -> Result<Told, NoMemory>
-    ensures { TellsAnswer answer result }
+    ensures { HoldsAnswer answer result }
 {
     match answer {
         Ok(reply) => Ok(Told::of_reply(reply)),
@@ -114,7 +114,7 @@ pub fn told_of(answer: Result<Reply, Rejection>) -> Result<Told, NoMemory>
 
 /// The texts of a rejection.
 pub fn rejected(rejection: Rejection) -> Result<Told, NoMemory>
-    ensures { TellsRejection rejection result }
+    ensures { HoldsRejection rejection result }
 {
     match rejection {
         Rejection::Refused(reply) => Ok(Told::of_reply(reply)),

@@ -11,11 +11,11 @@ use Rattle.ed_notation.proofs.Laws.{reading_is_rules}
 use Rattle.ed_notation.proofs.Verdicts as verdicts
 use Rattle.ed_interlude.specs.Returned.{IsReturned, reopening}
 use Rattle.ed_interlude.proofs.Resumed.{is_directive}
-use Rattle.ed_parts.specs.Parts.{HasFault, LeadsTo, TapePart, base_of, first_part, note_of}
+use Rattle.ed_parts.specs.Parts.{HasFault, LeadsTo, TapePart, base_of, first_part, notation_of}
 
 -- the directive under which a part begins is an order P, E or T
 abbrev pub Opens : TapePart → Type 0
-Opens p = IsDirective (note_of p).directive
+Opens p = IsDirective (notation_of p).directive
 
 pub first_opens : (s : State) → Opens (first_part s)
 first_opens s = let set : IsDirective 20568 = omega arith in set
@@ -31,8 +31,9 @@ part_opens p home = by_number (nat_eq p.number 1) refl
 pub home_opens : (p : TapePart) → IsReturned p.state → Opens p
 home_opens p home = part_opens p (λ e. home)
 
-rules : (p : TapePart) → Opens p → ReadingIsRules p.state.size p.state.store.words (note_of p) (base_of p) p.state.tape
-rules p opens = reading_is_rules p.state.size p.state.store.words (note_of p) (base_of p) p.state.tape opens
+rules : (p : TapePart) → Opens p → ReadingIsRules p.state.size p.state.store.words (notation_of p) (base_of p)
+    p.state.tape
+rules p opens = reading_is_rules p.state.size p.state.store.words (notation_of p) (base_of p) p.state.tape opens
 
 pub fault_or_entry : (p : TapePart) → Opens p
     → ((row : ℕ) × (cause : TapeCause) × HasFault p row cause) ⊎ ((e : TapeEntry) × LeadsTo p e)

@@ -20,12 +20,12 @@ use Rattle.ed_parts.specs.declared.part.Passed.TheVariants.{Over, Back}
 use Rattle.ed_parts.specs.declared.tape.PartsEnd.{PartsEnd}
 use Rattle.ed_parts.specs.declared.tape.PartsFault.{PartsFault}
 use Rattle.ed_parts.specs.declared.tape.PartsFault.TheVariants.{Failed, Memory}
-use Rattle.ed_parts.specs.Parts.{ComesHome, Finishes, GoesBack, IsTold, LeadsTo, TapePart, PartsAnswer}
-use Rattle.ed_parts.specs.Parts.{TapeTells, Told}
-use Rattle.ed_parts.specs.Parts.{entry_done, part_entry_state, entry_told, finished, first_part}
-use Rattle.ed_parts.specs.Parts.{BreaksPart, ReachesPart, of_entry, of_return, return_told, told_lines}
-use Rattle.ed_parts.specs.Parts.{part_behind, read_before}
-use Rattle.ed_parts.specs.Private.Stages.{Ahead, BreaksTold, Passes}
+use Rattle.ed_parts.specs.Parts.{ComesHome, Finishes, GoesBack, ReportsParts, LeadsTo, TapePart, PartsAnswer}
+use Rattle.ed_parts.specs.Parts.{IsReportOfTape, PartsReport}
+use Rattle.ed_parts.specs.Parts.{entry_done, part_entry_state, entry_report, finished, first_part}
+use Rattle.ed_parts.specs.Parts.{BreaksPart, ReachesPart, of_entry, of_return, return_report, part_report}
+use Rattle.ed_parts.specs.Parts.{part_after, read_before}
+use Rattle.ed_parts.specs.Private.Stages.{Ahead, BreaksReport, Passes}
 use Rattle.ed_parts.proofs.Parting.{Opens}
 use Rattle.ed_parts.proofs.Programs.{home_within}
 use Rattle.ed_parts.proofs.Rows.{some_cost}
@@ -59,7 +59,7 @@ module _ (limit rows : ℕ) (p : TapePart) where
   -- ---- what breaks off
 
   -- nothing is written yet
-  pub breaks_first : (a : Option (List ℕ)) → Opens p → BreaksTold limit rows p a a
+  pub breaks_first : (a : Option (List ℕ)) → Opens p → BreaksReport limit rows p a a
   breaks_first a opens =
       let t = some_told limit rows p opens in record {
         returns = t.0;
@@ -69,33 +69,33 @@ module _ (limit rows : ℕ) (p : TapePart) where
       }
 
   -- after the lines of a part that returned, a prefix of a text is written
-  back_breaks : (b : GoesBack limit p) (a c : Option (List ℕ)) → GainsPart a c (told_lines rows p b)
-      → BreaksTold limit rows p a c
+  back_breaks : (b : GoesBack limit p) (a c : Option (List ℕ)) → GainsPart a c (part_report rows p b)
+      → BreaksReport limit rows p a c
   back_breaks b a c g =
-      let t = some_told limit rows (part_behind p b) (behind_opens p b) in
+      let t = some_told limit rows (part_after p b) (behind_opens p b) in
       record {
         returns = suc t.0;
-        tale = record t.1 { text = told_lines rows p b ++ t.1.text };
+        tale = record t.1 { text = part_report rows p b ++ t.1.text };
         told = (b, t.1, t.2, refl);
-        gains = longer a c (told_lines rows p b) t.1.text _ refl g;
+        gains = longer a c (part_report rows p b) t.1.text _ refl g;
       }
 
   -- the line of the entry breaks off
   pub entry_breaks : (e : TapeEntry) {a c : Option (List ℕ)} → LeadsTo p e → entry_done p e ≤ limit
-      → GainsPart a c (entry_told rows p e) → BreaksTold limit rows p a c
+      → GainsPart a c (entry_report rows p e) → BreaksReport limit rows p a c
   entry_breaks e {a} {c} leads within g = by_program (from_entry limit rows p e leads within)
     where
       by_program : ((k : ℕ) × (ending : Ending) × Finishes (limit - entry_done p e) k (part_entry_state p e) ending)
-          ⊎ ((k : ℕ) × ComesHome (limit - entry_done p e) k (part_entry_state p e)) → BreaksTold limit rows p a c
+          ⊎ ((k : ℕ) × ComesHome (limit - entry_done p e) k (part_entry_state p e)) → BreaksReport limit rows p a c
       by_program (inl f) =
           record { returns = 0; tale = _; told = finished e f.0 f.1 leads within f.2 refl; gains = g }
       by_program (inr h) =
           back_breaks (record { entry = e; leads = leads; within = within; orders = h.0; comes = h.1 }) a c
-          (longer a c (entry_told rows p e) _ _ refl g)
+          (longer a c (entry_report rows p e) _ _ refl g)
 
   -- the part breaks off at the line of its entry
   pub entry_stops : (e : TapeEntry) {last : State} {a c : Option (List ℕ)} → LeadsTo p e → entry_done p e ≤ limit
-      → last ≡ part_entry_state p e → (fault : PartsFault) → GainsPart a c (entry_told rows p e)
+      → last ≡ part_entry_state p e → (fault : PartsFault) → GainsPart a c (entry_report rows p e)
       → (fault ≡ Memory → c ≡ a) → BreaksPart limit rows p fault last a c
   entry_stops e leads within state Failed g same = record {
     line = _;
@@ -114,8 +114,8 @@ module _ (limit rows : ℕ) (p : TapePart) where
   })
 
   pub return_stops : (b : GoesBack limit p) {last : State} (a c d : Option (List ℕ))
-      → last ≡ (part_behind p b).state → Gains a c (entry_told rows p b.entry)
-      → (fault : PartsFault) → GainsPart c d (return_told p b) → (fault ≡ Memory → d ≡ c)
+      → last ≡ (part_after p b).state → Gains a c (entry_report rows p b.entry)
+      → (fault : PartsFault) → GainsPart c d (return_report p b) → (fault ≡ Memory → d ≡ c)
       → BreaksPart limit rows p fault last a d
   return_stops b {last} a c d state whole Failed g same = record {
     line = _;
@@ -124,19 +124,19 @@ module _ (limit rows : ℕ) (p : TapePart) where
     part = g.part;
     rest = g.rest;
     whole = g.whole;
-    gains = gains_more a c d (entry_told rows p b.entry) g.part whole g.gains;
+    gains = gains_more a c d (entry_report rows p b.entry) g.part whole g.gains;
   }
   return_stops b {last} a c d state whole Memory g same = inr (record {
     line = _;
     is = of_return b refl;
     state_is = state;
-    gains = subst (λ (x : Option (List ℕ)). Gains a x (entry_told rows p b.entry)) (sym (same refl)) whole;
+    gains = subst (λ (x : Option (List ℕ)). Gains a x (entry_report rows p b.entry)) (sym (same refl)) whole;
   })
 
   -- the line of the return breaks off
-  pub return_breaks : (b : GoesBack limit p) {a c d : Option (List ℕ)} → Gains a c (entry_told rows p b.entry)
-      → GainsPart c d (return_told p b)
-      → BreaksTold limit rows p a d
+  pub return_breaks : (b : GoesBack limit p) {a c d : Option (List ℕ)} → Gains a c (entry_report rows p b.entry)
+      → GainsPart c d (return_report p b)
+      → BreaksReport limit rows p a d
   return_breaks b {a} {c} {d} whole g = back_breaks b a d (and_part a c d _ _ whole g)
 
 -- ---- the whole tape
@@ -144,33 +144,34 @@ module _ (limit rows : ℕ) (p : TapePart) where
 module _ {limit rows : ℕ} {p first : TapePart} {a c : Option (List ℕ)} (h : Ahead limit rows first p a c)
     (d : Option (List ℕ)) where
   -- the part breaks off
-  pub tells_part : BreaksTold limit rows p c d
-      → (m : ℕ) × (t : Told) × IsTold limit rows m first t × GainsPart a d t.text
+  pub tells_part : BreaksReport limit rows p c d
+      → (m : ℕ) × (t : PartsReport) × ReportsParts limit rows m first t × GainsPart a d t.text
   tells_part b =
       let whole = h.completes b.returns b.tale b.told in
       (whole.0, _, whole.1, and_part a c d h.text b.tale.text h.gains b.gains)
 
   -- it is the last one
   pub tells_all : {end : PartsEnd} {last : State} → Passes limit rows p (Ok (Over end)) last c d
-      → (m : ℕ) × (t : Told) × IsTold limit rows m first t × (end ≡ t.end) × (last ≡ t.last) × Gains a d t.text
+      → (m : ℕ) × (t : PartsReport) × ReportsParts limit rows m first t × (end ≡ t.end) × (last ≡ t.last)
+      × Gains a d t.text
   tells_all q =
       let whole = h.completes 0 q.0 q.1 in
       (whole.0, _, whole.1, q.2, q.3, gains_more a c d h.text q.0.text h.gains q.4)
 
   -- it returns
-  pub goes_back : (b : GoesBack limit p) → Gains c d (told_lines rows p b)
-      → Ahead limit rows first (part_behind p b) a d
+  pub goes_back : (b : GoesBack limit p) → Gains c d (part_report rows p b)
+      → Ahead limit rows first (part_after p b) a d
   goes_back b g = record {
     returns = suc h.returns;
-    text = h.text ++ told_lines rows p b;
+    text = h.text ++ part_report rows p b;
     reached = (p, b, h.text, h.reached, refl, refl);
-    gains = gains_more a c d h.text (told_lines rows p b) h.gains g;
+    gains = gains_more a c d h.text (part_report rows p b) h.gains g;
     completes = λ n rest told.
-        let whole = h.completes (suc n) (record rest { text = told_lines rows p b ++ rest.text })
+        let whole = h.completes (suc n) (record rest { text = part_report rows p b ++ rest.text })
         (b, rest, told, refl) in (
           whole.0,
-          subst (λ (x : List ℕ). IsTold limit rows whole.0 first (record rest { text = x }))
-              (sym (append_assoc h.text (told_lines rows p b) rest.text)) whole.1,
+          subst (λ (x : List ℕ). ReportsParts limit rows whole.0 first (record rest { text = x }))
+              (sym (append_assoc h.text (part_report rows p b) rest.text)) whole.1,
         );
   }
 
@@ -180,14 +181,14 @@ address_is d w is least most = omega arith
 
 -- the line of the return, as the code makes it
 pub returned_is : {limit : ℕ} {p : TapePart} (b : GoesBack limit p) {last : State} {word done : ℕ} {order : Order}
-    → last ≡ (part_behind p b).state → word ≡ directive last → order ≡ order_of word → done ≡ (part_behind p b).done
-    → returned_line order.address done ≡ return_told p b
+    → last ≡ (part_after p b).state → word ≡ directive last → order ≡ order_of word → done ≡ (part_after p b).done
+    → returned_line order.address done ≡ return_report p b
 returned_is {limit} {p} b {last} {word} {done} {order} is is_word is_order count =
     let leaves = b.comes.home.leaves in
-    let whole : word ≡ directive (part_behind p b).state = is_word ∙ ap directive is in
-    let same : order.address ≡ address (directive (part_behind p b).state) =
+    let whole : word ≡ directive (part_after p b).state = is_word ∙ ap directive is in
+    let same : order.address ≡ address (directive (part_after p b).state) =
     ap (λ (o : Order). o.address) is_order
-    ∙ address_is (directive (part_behind p b).state) word whole leaves.least leaves.most in
+    ∙ address_is (directive (part_after p b).state) word whole leaves.least leaves.most in
     λ i. returned_line (same i) (count i)
 
 -- a text that was made, as an equal text
@@ -197,7 +198,7 @@ made_as r xs ys is made = subst (λ (t : List ℕ). IfOk r (λ bytes. bytes.item
 
 -- the line of the entry, as the code makes it
 pub entry_is : (rows : ℕ) (p : TapePart) (e : TapeEntry) {at orders count : ℕ} → at ≡ e.at → orders ≡ e.cost
-    → count ≡ read_before rows p + e.rows → entry_line at (p.done + orders) count ≡ entry_told rows p e
+    → count ≡ read_before rows p + e.rows → entry_line at (p.done + orders) count ≡ entry_report rows p e
 entry_is rows p e a o n = λ i. entry_line (a i) (p.done + o i) (n i)
 
 module _ (limit : ℕ) (p : TapePart) (e : TapeEntry) {cost : ℕ} {m : State} (same : cost ≡ e.cost)
@@ -235,7 +236,7 @@ pub record Later (limit : ℕ) (p q : TapePart) : Type 0 where
   pub later : p.done + 2 ≤ q.done
   pub within : q.done ≤ limit
 
-pub behind_later : (limit : ℕ) (p : TapePart) (b : GoesBack limit p) → Later limit p (part_behind p b)
+pub behind_later : (limit : ℕ) (p : TapePart) (b : GoesBack limit p) → Later limit p (part_after p b)
 behind_later limit p b =
     let entry = steps_follow b.entry.cost p.state in
     let program = steps_follow b.orders (part_entry_state p b.entry) in
@@ -266,8 +267,8 @@ pub record Onward (limit rows : ℕ) (first p q : TapePart) (a d : Option (List 
 
 module _ {limit l rows : ℕ} {s : State} {p : TapePart} {a c : Option (List ℕ)} (d : Option (List ℕ)) (same : l ≡ limit)
     (count : rows ≡ length s.tape) (h : Ahead limit rows (first_part s) p a c) where
-  tells : (m : ℕ) (t : Told) → IsTold limit rows m (first_part s) t → TapeTells limit s t
-  tells m t told = record { returns = m; told = subst (λ n. IsTold limit n m (first_part s) t) count told }
+  tells : (m : ℕ) (t : PartsReport) → ReportsParts limit rows m (first_part s) t → IsReportOfTape limit s t
+  tells m t told = record { returns = m; told = subst (λ n. ReportsParts limit n m (first_part s) t) count told }
 
   pub answers_over : {end : PartsEnd} {last : State} → Passes l rows p (Ok (Over end)) last c d
       → PartsAnswer limit s (Ok end) last a d
@@ -298,7 +299,7 @@ module _ {limit l rows : ℕ} {s : State} {p : TapePart} {a c : Option (List ℕ
       → Onward limit rows (first_part s) p (record { number = p.number + 1; done = done; state = last }) a d
   goes_onward {done} {last} q =
       let b = subst (λ n. Passes n rows p (Ok (Back done)) last c d) same q in
-      let next : part_behind p b.0 ≡ record { number = p.number + 1; done = done; state = last } =
+      let next : part_after p b.0 ≡ record { number = p.number + 1; done = done; state = last } =
       λ i. record { number = p.number + 1; done = sym b.1 i; state = sym b.2 i } in
       subst (λ (x : TapePart). Onward limit rows (first_part s) p x a d) next (record {
         ahead = goes_back h d b.0 b.3;

@@ -5,7 +5,7 @@ use Rattle.std.proofs.lemmas.Bool.{cases_lt, cases_order}
 use Rattle.ed_words.proofs.Numbers.{eq_false, eq_true, lt_false, lt_true}
 use Rattle.ed_machine.specs.State.{State}
 use Rattle.ed_machine.specs.OrderTable.{step}
-use Rattle.ed_machine.specs.Steps.{past, state_after, stops_of}
+use Rattle.ed_machine.specs.Steps.{progress, state_after, stops_of}
 use Rattle.ed_machine.specs.declared.turn.Turn.{Turn}
 use Rattle.ed_machine.specs.declared.turn.Turn.TheVariants.{Went, Printed, Stopped as Stops, NoOrder as IsNoOrder}
 use Rattle.ed_machine.specs.declared.turn.Turn.TheVariants.{NoTape as HasNoTape}
@@ -38,21 +38,21 @@ CameTo left s = (k : ℕ) × (ComesHome left k s ⊎ ((ending : Ending) × Finis
 
 module _ (left : ℕ) (s : State) where
   -- after a stop the end is that stop
-  pub stop_ends : (k : ℕ) → 0 < (past k s).stops → program_end left k s ≡ Some Stopped
-  stop_ends k h = let a = lt_true 0 (past k s).stops h in rw a refl
+  pub stop_ends : (k : ℕ) → 0 < (progress k s).stops → program_end left k s ≡ Some Stopped
+  stop_ends k h = let a = lt_true 0 (progress k s).stops h in rw a refl
 
   -- at the limit
-  pub limit_ends : (k : ℕ) → k ≡ left → (past k s).stops ≡ 0 → program_end left k s ≡ Some Limit
+  pub limit_ends : (k : ℕ) → k ≡ left → (progress k s).stops ≡ 0 → program_end left k s ≡ Some Limit
   limit_ends k is none =
-      let a = lt_false 0 (past k s).stops (omega arith) in
+      let a = lt_false 0 (progress k s).stops (omega arith) in
       let b = eq_true k left is in
       rw (a, b) refl
 
   -- and otherwise by the next order
-  pub next_ends : (k : ℕ) → k < left → (past k s).stops ≡ 0
+  pub next_ends : (k : ℕ) → k < left → (progress k s).stops ≡ 0
       → program_end left k s ≡ end_by (step (state_after k s)).turn false
   next_ends k below none =
-      let a = lt_false 0 (past k s).stops (omega arith) in
+      let a = lt_false 0 (progress k s).stops (omega arith) in
       let b = eq_false k left (omega arith) in
       rw (a, b) refl
 
@@ -64,22 +64,22 @@ module _ (left : ℕ) (s : State) where
   not_stopped HasNoTape h = cc
 
   -- if no stop was obeyed, the end is not a stop
-  no_stop_end : (k : ℕ) → (past k s).stops ≡ 0 → program_end left k s ≡ Some Stopped → ⊥
+  no_stop_end : (k : ℕ) → (progress k s).stops ≡ 0 → program_end left k s ≡ Some Stopped → ⊥
   no_stop_end k none is = by_place (cases_order k left)
     where
       by_place : (k ≡ left) ⊎ ((k < left) ⊎ (left < k)) → ⊥
       by_place (inl e) = let bad : Some Limit ≡ Some Stopped = sym (limit_ends k e none) ∙ is in cc
       by_place (inr (inl low)) = not_stopped _ (sym (next_ends k low none) ∙ is)
       by_place (inr (inr high)) =
-          let a = lt_false 0 (past k s).stops (omega arith) in
+          let a = lt_false 0 (progress k s).stops (omega arith) in
           let b = eq_false k left (omega arith) in
           not_stopped (step (state_after k s)).turn (rw (a, b) at is)
 
   -- what is under way is within its limit
   pub way_within : (k : ℕ) → IsUnderWay left k s → k ≢ left
-  way_within k way is = by_stops (cases_lt 0 (past k s).stops)
+  way_within k way is = by_stops (cases_lt 0 (progress k s).stops)
     where
-      by_stops : (0 < (past k s).stops) ⊎ ((past k s).stops ≤ 0) → ⊥
+      by_stops : (0 < (progress k s).stops) ⊎ ((progress k s).stops ≤ 0) → ⊥
       by_stops (inl many) = no_end Stopped (sym way.no_end ∙ stop_ends k many)
       by_stops (inr none) = no_end Limit (sym way.no_end ∙ limit_ends k is (omega arith))
 
@@ -94,9 +94,9 @@ module _ (left : ℕ) (s : State) where
   home_within k h = runs_within k h.runs
 
   -- and has obeyed no stop
-  pub way_stops : (k : ℕ) → IsUnderWay left k s → (past k s).stops ≡ 0
+  pub way_stops : (k : ℕ) → IsUnderWay left k s → (progress k s).stops ≡ 0
   way_stops k way =
-      elim (cases_lt 0 (past k s).stops) [
+      elim (cases_lt 0 (progress k s).stops) [
         | inl many ↦ absurd (no_end Stopped (sym way.no_end ∙ stop_ends k many))
         | inr none ↦ omega arith
       ]
@@ -117,7 +117,7 @@ module _ (left : ℕ) (s : State) where
       by_place : (j ≡ k) ⊎ ((j < k) ⊎ (k < j)) → ⊥
       by_place (inl e) =
           let home : IsReturned (state_after k s) = subst (λ n. IsReturned (state_after n s)) e a.home in
-          let none : (past k s).stops ≡ 0 = subst (λ n. (past n s).stops ≡ 0) e a.stops in
+          let none : (progress k s).stops ≡ 0 = subst (λ n. (progress n s).stops ≡ 0) e a.stops in
           no_stop_end k none (b.ends ∙ ap Some (b.stopped home))
       by_place (inr (inl low)) = (b.runs j low).away a.home
       by_place (inr (inr high)) = no_end ending (sym (a.runs k high).no_end ∙ b.ends)
@@ -138,14 +138,15 @@ module _ (left : ℕ) (s : State) where
 
   -- what it did by k orders, or what it does after that if it is still under way
   here_or_on : (k : ℕ) → RunsOn left k s → (IsUnderWay left k s → CameTo left s) → CameTo left s
-  here_or_on k runs on = by_home (home_or_not (state_after k s)) (cases_lt 0 (past k s).stops)
+  here_or_on k runs on = by_home (home_or_not (state_after k s)) (cases_lt 0 (progress k s).stops)
     where
       by_end : (IsReturned (state_after k s) → ⊥) → (o : Option Ending) → program_end left k s ≡ o → CameTo left s
       by_end away None is = on (record { no_end = is; away = away })
       by_end away (Some ending) is =
           (k, inr (ending, record { runs = runs; ends = is; stopped = λ home. absurd (away home) }))
 
-      by_home : Decided (IsReturned (state_after k s)) → (0 < (past k s).stops) ⊎ ((past k s).stops ≤ 0) → CameTo left s
+      by_home : Decided (IsReturned (state_after k s)) → (0 < (progress k s).stops) ⊎ ((progress k s).stops ≤ 0)
+          → CameTo left s
       by_home home (inl many) = (k, inr (Stopped, record { runs = runs; ends = stop_ends k many; stopped = λ h. refl }))
       by_home (inl home) (inr none) = (k, inl (record { runs = runs; stops = omega arith; home = home }))
       by_home (inr away) (inr none) = by_end away (program_end left k s) refl
@@ -163,17 +164,17 @@ module _ (left : ℕ) (s : State) where
   pub record Running (k : ℕ) (m : State) : Type 0 where
     pub state : m ≡ state_after k s
     pub runs : RunsOn left k s
-    pub stops : (past k s).stops ≡ 0
+    pub stops : (progress k s).stops ≡ 0
 
   pub running_first : Running 0 s
-  unfolding past
+  unfolding progress
   running_first = record { state = refl; runs = λ j h. absurd (omega arith); stops = refl }
 
 -- such a program
 module _ {left : ℕ} {s : State} {k : ℕ} {m : State} (r : Running left s k m) where
   -- it has returned
-  pub is_home : IsReturned m → ComesHome left k s
-  is_home home = record { runs = r.runs; stops = r.stops; home = subst (λ t. IsReturned t) r.state home }
+  pub is_definition_of : IsReturned m → ComesHome left k s
+  is_definition_of home = record { runs = r.runs; stops = r.stops; home = subst (λ t. IsReturned t) r.state home }
 
   away_there : (IsReturned m → ⊥) → IsReturned (state_after k s) → ⊥
   away_there away home = away (subst (λ t. IsReturned t) (sym r.state) home)
@@ -197,7 +198,7 @@ module _ {left : ℕ} {s : State} {k : ℕ} {m : State} (r : Running left s k m)
     way : end_by turn false ≡ None → RunsOn left (k + 1) s
     way none = one_more left s k r.runs (record { no_end = end_there ∙ none; away = away_there away })
 
-    stops_more : (past (k + 1) s).stops ≡ stops_of turn
+    stops_more : (progress (k + 1) s).stops ≡ stops_of turn
     stops_more =
         let same : stops_of (step (state_after k s)).turn ≡ stops_of turn = ap stops_of (sym turn_there) in
         omega (arith, next_stops k s, same, r.stops)
@@ -205,7 +206,7 @@ module _ {left : ℕ} {s : State} {k : ℕ} {m : State} (r : Running left s k m)
     -- it stops
     pub stops_there : turn ≡ Stops → Finishes left (k + 1) s Stopped
     stops_there stop =
-        let one : (past (k + 1) s).stops ≡ 1 = stops_more ∙ ap stops_of stop in
+        let one : (progress (k + 1) s).stops ≡ 1 = stops_more ∙ ap stops_of stop in
         record {
           runs = way (ap (λ t. end_by t false) stop);
           ends = stop_ends left s (k + 1) (omega (arith, one));

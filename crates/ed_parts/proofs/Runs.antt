@@ -5,7 +5,7 @@ use Rattle.std.proofs.lemmas.Bool.{cases_lt}
 use Rattle.ed_machine.specs.State.{State}
 use Rattle.ed_machine.specs.OrderTable.{step}
 use Rattle.ed_machine.specs.Sound.{IsSound}
-use Rattle.ed_machine.specs.Steps.{IsFree, Past, codes_of, is_obeyed, past, state_after, stops_of}
+use Rattle.ed_machine.specs.Steps.{AreObeyed, Progress, codes_of, is_obeyed, progress, state_after, stops_of}
 use Rattle.ed_machine.specs.declared.turn.Turn.{Turn}
 use Rattle.ed_machine.specs.declared.turn.Turn.TheVariants.{Went, Printed, Stopped as Stops}
 use Rattle.ed_machine.specs.declared.turn.Turn.TheVariants.{NoOrder as IsNoOrder, NoTape as HasNoTape}
@@ -24,9 +24,9 @@ use Rattle.ed_loads.specs.EntryState.{first_state}
 use Rattle.ed_loads.proofs.Entries.{starts}
 use Rattle.ed_parts.specs.declared.tape.PartsEnd.TheVariants.{Ended, Faulty}
 use Rattle.ed_parts.specs.Laws.{Begins, EachEndIsTheRuns, EndsAsParts, EndsAsRun}
-use Rattle.ed_parts.specs.Parts.{Concludes, Finishes, GoesBack, IsTold, LeadsTo}
-use Rattle.ed_parts.specs.Parts.{TapePart, RunsOn, Told, cut, entry_done, part_entry_state}
-use Rattle.ed_parts.specs.Parts.{faulty, finished, first_part, last_printed, part_behind, printed_from}
+use Rattle.ed_parts.specs.Parts.{Concludes, Finishes, GoesBack, ReportsParts, LeadsTo}
+use Rattle.ed_parts.specs.Parts.{TapePart, RunsOn, PartsReport, cut, entry_done, part_entry_state}
+use Rattle.ed_parts.specs.Parts.{faulty, finished, first_part, last_printed, part_after, printed_from}
 use Rattle.ed_parts.proofs.Programs.{home_within, limit_ends, next_ends, runs_within, some_end, stop_ends, way_stops}
 use Rattle.ed_parts.proofs.Reached.{leads_in}
 use Rattle.ed_parts.proofs.Starts.{sound_start}
@@ -36,26 +36,26 @@ use Rattle.ed_parts.proofs.Starts.{sound_start}
 -- k orders are obeyed, none of which is a stop; they lead from s to m and print these codes
 record Walks (k : ℕ) (s m : State) (codes : List ℕ) : Type 0 where
   there : m ≡ state_after k s
-  free : IsFree k s
-  stops : (past k s).stops ≡ 0
-  prints : (past k s).codes ≡ codes
+  free : AreObeyed k s
+  stops : (progress k s).stops ≡ 0
+  prints : (progress k s).codes ≡ codes
 
 -- two walks, one after the other
 and_then : (a b : ℕ) {s m n : State} {xs ys : List ℕ} → Walks a s m xs → Walks b m n ys → Walks (a + b) s n (xs ++ ys)
 and_then a b {s} first next = record {
   there = next.there ∙ ap (state_after b) first.there ∙ sym (after_sum a b s);
-  free = free_sum a b s first.free (subst (IsFree b) first.there next.free);
-  stops = ap (λ (p : Past). p.stops) (past_sum a b s)
-      ∙ omega (arith, first.stops, next.stops, ap (λ (t : State). (past b t).stops) first.there);
-  prints = ap (λ (p : Past). p.codes) (past_sum a b s)
-      ∙ (λ i. first.prints i ++ (sym (ap (λ (t : State). (past b t).codes) first.there) ∙ next.prints) i);
+  free = free_sum a b s first.free (subst (AreObeyed b) first.there next.free);
+  stops = ap (λ (p : Progress). p.stops) (past_sum a b s)
+      ∙ omega (arith, first.stops, next.stops, ap (λ (t : State). (progress b t).stops) first.there);
+  prints = ap (λ (p : Progress). p.codes) (past_sum a b s)
+      ∙ (λ i. first.prints i ++ (sym (ap (λ (t : State). (progress b t).codes) first.there) ∙ next.prints) i);
 }
 
-quiet_codes : (k : ℕ) (s : State) → AllWent k s → (past k s).codes ≡ []
-unfolding past
+quiet_codes : (k : ℕ) (s : State) → AllWent k s → (progress k s).codes ≡ []
+unfolding progress
 quiet_codes zero s went = refl
 quiet_codes (suc k) s went =
-    let before : (past k s).codes ≡ [] = quiet_codes k s (λ j h. went j (omega arith)) in
+    let before : (progress k s).codes ≡ [] = quiet_codes k s (λ j h. went j (omega arith)) in
     let turn = went k (omega arith) in
     rw (before, turn) refl
 
@@ -99,19 +99,19 @@ no_fault : (part row : ℕ) (cause : TapeCause) (ending : Ending) → Faulty par
 no_fault part row cause ending e = cc
 
 module _ (left : ℕ) (m : State) where
-  run_free : (k : ℕ) → RunsOn left k m → IsFree k m
+  run_free : (k : ℕ) → RunsOn left k m → AreObeyed k m
   run_free k runs j h =
       let way = runs j h in
       obeyed_of (step (state_after j m)).turn
       (sym (next_ends left m j (omega (arith, runs_within left m k runs)) (way_stops left m j way)) ∙ way.no_end)
 
-  run_walk : (k : ℕ) → RunsOn left k m → (past k m).stops ≡ 0 → Walks k m (state_after k m) (past k m).codes
+  run_walk : (k : ℕ) → RunsOn left k m → (progress k m).stops ≡ 0 → Walks k m (state_after k m) (progress k m).codes
   run_walk k runs none = record { there = refl; free = run_free k runs; stops = none; prints = refl }
 
 -- ---- the end of the run
 
 module _ (limit : ℕ) (s : State) where
-  room : (k : ℕ) → k ≤ limit → IsFree k s → HasRoom limit k s
+  room : (k : ℕ) → k ≤ limit → AreObeyed k s → HasRoom limit k s
   room k few free = record { obeyed = free; printed = omega (arith, few_codes k s) }
 
   -- at the limit
@@ -125,12 +125,12 @@ module _ (limit : ℕ) (s : State) where
 
   module _ (a left : ℕ) (m : State) (before : List ℕ) (whole : a + left ≡ limit) (first : Walks a s m before) where
     -- no stop was obeyed
-    without_stop : (k : ℕ) (ending : Ending) → Finishes left k m ending → (past k m).stops ≡ 0
-        → EndsAsRun limit s ending (state_after k m) (before ++ (past k m).codes)
+    without_stop : (k : ℕ) (ending : Ending) → Finishes left k m ending → (progress k m).stops ≡ 0
+        → EndsAsRun limit s ending (state_after k m) (before ++ (progress k m).codes)
     without_stop k ending f none = by_place (cases_lt k left)
       where
         codes : List ℕ
-        codes = before ++ (past k m).codes
+        codes = before ++ (progress k m).codes
 
         walk : Walks (a + k) s (state_after k m) codes
         walk = and_then a k first (run_walk left m k f.runs none)
@@ -157,35 +157,35 @@ module _ (limit : ℕ) (s : State) where
             (at_limit (state_after k m) codes (subst (λ n. Walks n s (state_after k m) codes) total walk))
 
     -- the last one was a stop
-    with_stop : (k : ℕ) (ending : Ending) → Finishes left k m ending → 0 < (past k m).stops
-        → EndsAsRun limit s ending (state_after k m) (before ++ (past k m).codes)
-    unfolding past
+    with_stop : (k : ℕ) (ending : Ending) → Finishes left k m ending → 0 < (progress k m).stops
+        → EndsAsRun limit s ending (state_after k m) (before ++ (progress k m).codes)
+    unfolding progress
     with_stop zero ending f many = absurd (omega arith)
     with_stop (suc j) ending f many =
         let way = f.runs j (omega arith) in
         let none = way_stops left m j way in
         let stop : (step (state_after j m)).turn ≡ Stops = stop_of _ (omega (arith, none)) in
-        let walk : Walks (a + j) s (state_after j m) (before ++ (past j m).codes) =
+        let walk : Walks (a + j) s (state_after j m) (before ++ (progress j m).codes) =
         and_then a j first (run_walk left m j (λ i h. f.runs i (omega arith)) none) in
         let turn : (step (state_after (a + j) s)).turn ≡ Stops =
         ap (λ (t : State). (step t).turn) (sym walk.there) ∙ stop in
-        let free : IsFree (suc (a + j)) s = free_more (a + j) s walk.free (ap is_obeyed turn) in
+        let free : AreObeyed (suc (a + j)) s = free_more (a + j) s walk.free (ap is_obeyed turn) in
         let is : Stopped ≡ ending = some_end Stopped ending (sym (stop_ends left m (suc j) many) ∙ f.ends) in
         let within = runs_within left m (suc j) f.runs in
-        let codes = before ++ (past (suc j) m).codes in
+        let codes = before ++ (progress (suc j) m).codes in
         subst (λ (d : Ending). EndsAsRun limit s d (state_after (suc j) m) codes) is (record {
           orders = suc (a + j);
           ends = places.at_stop limit 0 (room (suc (a + j)) (omega arith) free) walk.stops
               (omega arith) turn;
           state_is = ap (λ (t : State). (step t).state) walk.there;
           prints = (λ i. walk.prints i ++ codes_of ((turn ∙ sym stop) i))
-              ∙ append_assoc before (past j m).codes (codes_of (step (state_after j m)).turn);
+              ∙ append_assoc before (progress j m).codes (codes_of (step (state_after j m)).turn);
         })
 
     program_ends : (k : ℕ) (ending : Ending) → Finishes left k m ending
-        → EndsAsRun limit s ending (state_after k m) (before ++ (past k m).codes)
+        → EndsAsRun limit s ending (state_after k m) (before ++ (progress k m).codes)
     program_ends k ending f =
-        elim (cases_lt 0 (past k m).stops) [
+        elim (cases_lt 0 (progress k m).stops) [
           | inl many ↦ with_stop k ending f many
           | inr none ↦ without_stop k ending f (omega arith)
         ]
@@ -205,11 +205,11 @@ module _ (limit : ℕ) (s : State) where
       subst (λ (codes : List ℕ). Walks (entry_done p e) s (part_entry_state p e) codes) (append-nil before)
       (and_then p.done e.cost h.walk (quiet_walk e.cost p.state (leads_in p e h.begins leads).went))
 
-  concludes : (p : TapePart) (before : List ℕ) (t : Told) (ending : Ending) → Along p before
+  concludes : (p : TapePart) (before : List ℕ) (t : PartsReport) (ending : Ending) → Along p before
       → (told : Concludes limit (length s.tape) p t) → t.end ≡ Ended ending
       → EndsAsRun limit s ending t.last (before ++ last_printed told)
   concludes p before t ending h (faulty row cause fault is) end =
-      absurd (no_fault _ _ _ ending (sym (ap (λ (x : Told). x.end) is) ∙ end))
+      absurd (no_fault _ _ _ ending (sym (ap (λ (x : PartsReport). x.end) is) ∙ end))
   concludes p before t ending h (cut e leads short is) end =
       let left = limit - p.done in
       let went = (leads_in p e h.begins leads).went in
@@ -217,30 +217,30 @@ module _ (limit : ℕ) (s : State) where
       (quiet_walk left p.state (λ j low. went j (omega (arith, h.within)))) in
       let total : p.done + left ≡ limit = omega (arith, h.within) in
       let codes = before ++ [] in
-      let same : Limit ≡ ending = ended_is _ _ (sym (ap (λ (x : Told). x.end) is) ∙ end) in
-      let there : state_after left p.state ≡ t.last = sym (ap (λ (x : Told). x.last) is) in
+      let same : Limit ≡ ending = ended_is _ _ (sym (ap (λ (x : PartsReport). x.end) is) ∙ end) in
+      let there : state_after left p.state ≡ t.last = sym (ap (λ (x : PartsReport). x.last) is) in
       subst (λ (d : Ending). EndsAsRun limit s d t.last codes) same
       (subst (λ (x : State). EndsAsRun limit s Limit x codes) there
       (at_limit (state_after left p.state) codes
       (subst (λ n. Walks n s (state_after left p.state) codes) total walk)))
   concludes p before t ending h (finished e k d leads within f is) end =
-      let codes = before ++ (past k (part_entry_state p e)).codes in
-      let same : d ≡ ending = ended_is _ _ (sym (ap (λ (x : Told). x.end) is) ∙ end) in
-      let there : state_after k (part_entry_state p e) ≡ t.last = sym (ap (λ (x : Told). x.last) is) in
+      let codes = before ++ (progress k (part_entry_state p e)).codes in
+      let same : d ≡ ending = ended_is _ _ (sym (ap (λ (x : PartsReport). x.end) is) ∙ end) in
+      let there : state_after k (part_entry_state p e) ≡ t.last = sym (ap (λ (x : PartsReport). x.last) is) in
       subst (λ (c : Ending). EndsAsRun limit s c t.last codes) same
       (subst (λ (x : State). EndsAsRun limit s d x codes) there
       (program_ends (entry_done p e) (limit - entry_done p e) (part_entry_state p e) before (omega (arith, within))
       (to_entry p e before h leads) k d f))
 
   next_along : IsSound s → (p : TapePart) (before : List ℕ) (b : GoesBack limit p) → Along p before
-      → Along (part_behind p b) (before ++ (past b.orders (part_entry_state p b.entry)).codes)
+      → Along (part_after p b) (before ++ (progress b.orders (part_entry_state p b.entry)).codes)
   next_along sound p before b h =
       let c = b.comes in
       let left = limit - entry_done p b.entry in
       let walk = and_then (entry_done p b.entry) b.orders (to_entry p b.entry before h b.leads)
       (run_walk left (part_entry_state p b.entry) b.orders c.runs c.stops) in
       let few = home_within left (part_entry_state p b.entry) b.orders c in
-      let there : IsSound (part_behind p b).state =
+      let there : IsSound (part_after p b).state =
       subst (λ (x : State). IsSound x) (sym walk.there) (sound_after _ s sound) in
       record {
         walk = walk;
@@ -249,17 +249,17 @@ module _ (limit : ℕ) (s : State) where
         begins = record { store = there.store; first = λ e. absurd (omega (arith, h.some)); further = λ e. c.home };
       }
 
-  ends : IsSound s → (n : ℕ) (t : Told) {p : TapePart} {ending : Ending} (before : List ℕ) → Along p before
-      → (told : IsTold limit (length s.tape) n p t) → t.end ≡ Ended ending
+  ends : IsSound s → (n : ℕ) (t : PartsReport) {p : TapePart} {ending : Ending} (before : List ℕ) → Along p before
+      → (told : ReportsParts limit (length s.tape) n p t) → t.end ≡ Ended ending
       → EndsAsRun limit s ending t.last (before ++ printed_from limit (length s.tape) n p t told)
   ends sound zero t {p} {ending} before h told end = concludes p before t ending h told end
   ends sound (suc n) t {p} {ending} before h told end =
-      let codes = (past told.0.orders (part_entry_state p told.0.entry)).codes in
-      let later = printed_from limit (length s.tape) n (part_behind p told.0) told.1 told.2 in
+      let codes = (progress told.0.orders (part_entry_state p told.0.entry)).codes in
+      let later = printed_from limit (length s.tape) n (part_after p told.0) told.1 told.2 in
       let rest = ends sound n told.1 (before ++ codes) (next_along sound p before told.0 h) told.2
-      (sym (ap (λ (x : Told). x.end) told.3) ∙ end) in
+      (sym (ap (λ (x : PartsReport). x.end) told.3) ∙ end) in
       subst (λ (x : State). EndsAsRun limit s ending x (before ++ (codes ++ later)))
-      (sym (ap (λ (x : Told). x.last) told.3))
+      (sym (ap (λ (x : PartsReport). x.last) told.3))
       (subst (λ (xs : List ℕ). EndsAsRun limit s ending told.1.last xs) (append_assoc before codes later) rest)
 
 -- from every such state

@@ -4,11 +4,11 @@ use Rattle.std.specs.Prelude.{ℕ, zero, suc, ◌≡◌, ◌⊎◌, ◌+◌, ◌
 use Rattle.std.specs.Prelude.{Option, Some, None, List, [], ◌++◌, length}
 use Rattle.std.specs.Prelude.{Result, Ok, Err}
 use Rattle.ed_machine.specs.State.{State}
-use Rattle.ed_machine.specs.Steps.{past, state_after}
+use Rattle.ed_machine.specs.Steps.{progress, state_after}
 use Rattle.ed_machine.specs.declared.ending.Ending.{Ending}
 use Rattle.ed_machine.specs.declared.ending.Ending.TheVariants.{Stopped, Limit}
 use Rattle.ed_run.specs.Run.{end_at}
-use Rattle.ed_notation.specs.Fold.{Note, address}
+use Rattle.ed_notation.specs.Fold.{NotationState, address}
 use Rattle.ed_notation.specs.Openings.{opening}
 use Rattle.ed_notation.specs.Faults.{TapeEntry, ComesTo, IsFault, WellFormed}
 use Rattle.ed_notation.specs.declared.cause.TapeCause.{TapeCause}
@@ -35,8 +35,8 @@ first_part s = record { number = 1; done = 0; state = s }
 
 -- the state of the notation before its first row: that of a whole tape, and in a further part the one that the program
 -- left
-abbrev pub note_of : TapePart → Note
-note_of p = if nat_eq p.number 1 then opening p.state.store.words else reopening p.state
+abbrev pub notation_of : TapePart → NotationState
+notation_of p = if nat_eq p.number 1 then opening p.state.store.words else reopening p.state
 
 -- the number of orders before its first row
 abbrev pub base_of : TapePart → ℕ
@@ -44,12 +44,12 @@ base_of p = if nat_eq p.number 1 then 9 else 2
 
 -- its rows have this fault
 abbrev pub HasFault : TapePart → ℕ → TapeCause → Type 0
-HasFault p row cause = IsFault p.state.size p.state.store.words (note_of p) p.state.tape row cause
+HasFault p row cause = IsFault p.state.size p.state.store.words (notation_of p) p.state.tape row cause
 
 -- its rows are well formed, and reach this entry
 pub record LeadsTo (p : TapePart) (e : TapeEntry) : Type 0 where
-  pub well : WellFormed p.state.size p.state.store.words (note_of p) p.state.tape
-  pub comes : ComesTo p.state.store.words (note_of p) (base_of p) p.state.tape e
+  pub well : WellFormed p.state.size p.state.store.words (notation_of p) p.state.tape
+  pub comes : ComesTo p.state.store.words (notation_of p) (base_of p) p.state.tape e
 
 -- the number of the tape's rows that were read before the part
 abbrev pub read_before : ℕ → TapePart → ℕ
@@ -64,15 +64,15 @@ abbrev pub part_entry_state : TapePart → TapeEntry → State
 part_entry_state p e = state_after e.cost p.state
 
 -- the line that reports its entry
-abbrev pub entry_told : ℕ → TapePart → TapeEntry → List ℕ
-entry_told rows p e = entry_line e.at (entry_done p e) (read_before rows p + e.rows)
+abbrev pub entry_report : ℕ → TapePart → TapeEntry → List ℕ
+entry_report rows p e = entry_line e.at (entry_done p e) (read_before rows p + e.rows)
 
 -- ---- its program
 
 -- how a program that may obey `left` orders ends after k of them, if it does: as a run that is never resumed. What it
 -- prints is dropped, so no paper is ever full.
 abbrev pub program_end : ℕ → ℕ → State → Option Ending
-program_end left k s = end_at left 0 1 k (record (past k s) { codes = [] })
+program_end left k s = end_at left 0 1 k (record (progress k s) { codes = [] })
 
 -- the program has not ended after k orders and has not returned
 pub record IsUnderWay (left k : ℕ) (s : State) : Type 0 where
@@ -86,7 +86,7 @@ RunsOn left k s = (j : ℕ) → j < k → IsUnderWay left j s
 -- the program returns after k orders without a stop
 pub record ComesHome (left k : ℕ) (s : State) : Type 0 where
   pub runs : RunsOn left k s
-  pub stops : (past k s).stops ≡ 0
+  pub stops : (progress k s).stops ≡ 0
   pub home : IsReturned (state_after k s)
 
 -- the program ends after k orders; if it also returned then, the end is a stop, which takes precedence over a return
@@ -98,13 +98,13 @@ pub record Finishes (left k : ℕ) (s : State) (ending : Ending) : Type 0 where
 -- ---- the report
 
 -- the report on a tape in parts: the lines, how it ended, and the state in which it ended
-pub record Told : Type 0 where
+pub record PartsReport : Type 0 where
   pub text : List ℕ
   pub end : PartsEnd
   pub last : State
 
 -- this is the report of the last part
-pub data Concludes (limit rows : ℕ) (p : TapePart) (t : Told) : Type 0 where
+pub data Concludes (limit rows : ℕ) (p : TapePart) (t : PartsReport) : Type 0 where
   -- the part has a fault, whose row counts from the tape's first row; none of the part's orders is obeyed
   faulty : (row : ℕ) (cause : TapeCause) → HasFault p row cause
       → t ≡ record { text = []; end = Faulty p.number (read_before rows p + row) cause; last = p.state }
@@ -116,7 +116,7 @@ pub data Concludes (limit rows : ℕ) (p : TapePart) (t : Told) : Type 0 where
   -- the part's program ends
   finished : (e : TapeEntry) (k : ℕ) (ending : Ending) → LeadsTo p e → entry_done p e ≤ limit
       → Finishes (limit - entry_done p e) k (part_entry_state p e) ending
-      → t ≡ record { text = entry_told rows p e; end = Ended ending; last = state_after k (part_entry_state p e) }
+      → t ≡ record { text = entry_report rows p e; end = Ended ending; last = state_after k (part_entry_state p e) }
       → Concludes limit rows p t
 
 -- the part's program returns
@@ -128,50 +128,50 @@ pub record GoesBack (limit : ℕ) (p : TapePart) : Type 0 where
   pub comes : ComesHome (limit - entry_done p entry) orders (part_entry_state p entry)
 
 -- the part that begins at that return
-abbrev pub part_behind : {limit : ℕ} → (p : TapePart) → GoesBack limit p → TapePart
-part_behind p b = record {
+abbrev pub part_after : {limit : ℕ} → (p : TapePart) → GoesBack limit p → TapePart
+part_after p b = record {
   number = p.number + 1;
   done = entry_done p b.entry + b.orders;
   state = state_after b.orders (part_entry_state p b.entry);
 }
 
 -- the line that reports its return
-abbrev pub return_told : {limit : ℕ} → (p : TapePart) → GoesBack limit p → List ℕ
-return_told p b = returned_line (address (directive (part_behind p b).state)) (part_behind p b).done
+abbrev pub return_report : {limit : ℕ} → (p : TapePart) → GoesBack limit p → List ℕ
+return_report p b = returned_line (address (directive (part_after p b).state)) (part_after p b).done
 
 -- the lines that report its entry and its return
-abbrev pub told_lines : {limit : ℕ} → ℕ → (p : TapePart) → GoesBack limit p → List ℕ
-told_lines rows p b = entry_told rows p b.entry ++ return_told p b
+abbrev pub part_report : {limit : ℕ} → ℕ → (p : TapePart) → GoesBack limit p → List ℕ
+part_report rows p b = entry_report rows p b.entry ++ return_report p b
 
 -- beginning with this part, n parts return, and the one after them is the last; this is the report
-abbrev pub IsTold : ℕ → ℕ → ℕ → TapePart → Told → Type 0
-IsTold limit rows zero p t = Concludes limit rows p t
-IsTold limit rows (suc n) p t =
-    (b : GoesBack limit p) × (rest : Told) × IsTold limit rows n (part_behind p b) rest
-    × (t ≡ record rest { text = told_lines rows p b ++ rest.text })
+abbrev pub ReportsParts : ℕ → ℕ → ℕ → TapePart → PartsReport → Type 0
+ReportsParts limit rows zero p t = Concludes limit rows p t
+ReportsParts limit rows (suc n) p t =
+    (b : GoesBack limit p) × (rest : PartsReport) × ReportsParts limit rows n (part_after p b) rest
+    × (t ≡ record rest { text = part_report rows p b ++ rest.text })
 
 -- this is the report on the tape of a machine at Start
-pub record TapeTells (limit : ℕ) (s : State) (t : Told) : Type 0 where
+pub record IsReportOfTape (limit : ℕ) (s : State) (t : PartsReport) : Type 0 where
   pub returns : ℕ
-  pub told : IsTold limit (length s.tape) returns (first_part s) t
+  pub told : ReportsParts limit (length s.tape) returns (first_part s) t
 
 -- ---- what the programs print
 
 -- what the last part's program printed; nothing if a fault or the limit came before its entry
-abbrev pub last_printed : {limit rows : ℕ} {p : TapePart} {t : Told} → Concludes limit rows p t → List ℕ
+abbrev pub last_printed : {limit rows : ℕ} {p : TapePart} {t : PartsReport} → Concludes limit rows p t → List ℕ
 last_printed (faulty row cause fault is) = []
 last_printed (cut e leads short is) = []
-last_printed {p = p} (finished e k ending leads within ends is) = (past k (part_entry_state p e)).codes
+last_printed {p = p} (finished e k ending leads within ends is) = (progress k (part_entry_state p e)).codes
 
 -- what the programs printed from a part onwards, one after the other
-abbrev pub printed_from : (limit rows n : ℕ) (p : TapePart) (t : Told) → IsTold limit rows n p t → List ℕ
+abbrev pub printed_from : (limit rows n : ℕ) (p : TapePart) (t : PartsReport) → ReportsParts limit rows n p t → List ℕ
 printed_from limit rows zero p t told = last_printed told
 printed_from limit rows (suc n) p t told =
-    (past told.0.orders (part_entry_state p told.0.entry)).codes
-    ++ printed_from limit rows n (part_behind p told.0) told.1 told.2
+    (progress told.0.orders (part_entry_state p told.0.entry)).codes
+    ++ printed_from limit rows n (part_after p told.0) told.1 told.2
 
 -- what the programs of a tape printed
-abbrev pub programs_printed : {limit : ℕ} {s : State} {t : Told} → TapeTells limit s t → List ℕ
+abbrev pub programs_printed : {limit : ℕ} {s : State} {t : PartsReport} → IsReportOfTape limit s t → List ℕ
 programs_printed {limit} {s} {t} tells = printed_from limit (length s.tape) tells.returns (first_part s) t tells.told
 
 -- ---- if it breaks off
@@ -181,7 +181,7 @@ abbrev pub ReachesPart : ℕ → ℕ → TapePart → ℕ → List ℕ → TapeP
 ReachesPart limit rows first zero text p = (text ≡ []) × (p ≡ first)
 ReachesPart limit rows first (suc n) text p =
     (q : TapePart) × (b : GoesBack limit q) × (before : List ℕ) × ReachesPart limit rows first n before q
-    × (text ≡ before ++ told_lines rows q b) × (p ≡ part_behind q b)
+    × (text ≡ before ++ part_report rows q b) × (p ≡ part_after q b)
 
 -- a line of a part: what the part wrote before it, its text, and the state in which it is written
 pub record PartLine : Type 0 where
@@ -192,10 +192,10 @@ pub record PartLine : Type 0 where
 -- a part writes this line: that of its entry, or that of its return
 pub data WritesLine (limit rows : ℕ) (p : TapePart) (l : PartLine) : Type 0 where
   of_entry : (e : TapeEntry) → LeadsTo p e → entry_done p e ≤ limit
-      → l ≡ record { before = []; text = entry_told rows p e; state = part_entry_state p e }
+      → l ≡ record { before = []; text = entry_report rows p e; state = part_entry_state p e }
       → WritesLine limit rows p l
   of_return : (b : GoesBack limit p)
-      → l ≡ record { before = entry_told rows p b.entry; text = return_told p b; state = (part_behind p b).state }
+      → l ≡ record { before = entry_report rows p b.entry; text = return_report p b; state = (part_after p b).state }
       → WritesLine limit rows p l
 
 -- the write of a line of this part failed: the machine is in the state in which the line is written, and the lines
@@ -241,9 +241,10 @@ pub record BreaksOff (limit : ℕ) (s : State) (fault : PartsFault) (last : Stat
 -- which state the machine is in and which lines have been written
 abbrev pub PartsAnswer : ℕ → State → Result PartsEnd PartsFault → State → Option (List ℕ) → Option (List ℕ) → Type 0
 PartsAnswer limit s (Ok end) last before after =
-    (t : Told) × TapeTells limit s t × (end ≡ t.end) × (last ≡ t.last) × Gains before after t.text
+    (t : PartsReport) × IsReportOfTape limit s t × (end ≡ t.end) × (last ≡ t.last) × Gains before after t.text
 PartsAnswer limit s (Err fault) last before after =
-    (t : Told) × TapeTells limit s t × GainsPart before after t.text × BreaksOff limit s fault last before after
+    (t : PartsReport) × IsReportOfTape limit s t × GainsPart before after t.text
+    × BreaksOff limit s fault last before after
 
 -- the sink's count of faults afterwards: one more if a write failed, else unchanged
 abbrev pub parts_faults : {T : Type 0} → Result T PartsFault → ℕ → ℕ

@@ -5,7 +5,7 @@ ghost use Rattle.ed_notation.specs.Checks.{AnswersCheck};
 ghost use Rattle.ed_notation.specs.Faults.{TapeEntry};
 ghost use Rattle.ed_interlude.specs.Returned.{IsReturned};
 ghost use Rattle.ed_io.specs.Bytes.{Gains, GainsPart};
-ghost use Rattle.ed_parts.specs.Parts.{base_of, note_of, parts_faults, read_before};
+ghost use Rattle.ed_parts.specs.Parts.{base_of, notation_of, parts_faults, read_before};
 ghost use Rattle.ed_parts.specs.Private.Stages.{IsArrival, Passes, stage_part};
 
 use crate::program::{Met, obey, run_program};
@@ -87,7 +87,7 @@ fn check_part(alloc: Global, number: u32, machine: &Machine) -> Result<Checked, 
     requires rows { length machine.now.tape ≤ 2 ^ 32 }
     requires back { number ≢ 1 → IsReturned machine.now }
     ensures { AnswersCheck machine.now.size machine.now.store.words
-        (note_of (record { number = number; done = 0; state = machine.now }))
+        (notation_of (record { number = number; done = 0; state = machine.now }))
         (base_of (record { number = number; done = 0; state = machine.now })) machine.now.tape result }
 {
     if number == 1 {

@@ -1,6 +1,6 @@
 //! The parts of a tape, one after the other.
 ghost use Rattle.std.specs.Prelude.{◌≡◌, ◌+◌, ◌≤◌, ◌^◌, length};
-ghost use Rattle.ed_parts.specs.Laws.{EachEndIsTheRuns, EachEntryIsReached, EachTapeIsToldOnce};
+ghost use Rattle.ed_parts.specs.Laws.{EachEndIsTheRuns, EachEntryIsReached, EachTapeHasOneReport};
 ghost use Rattle.ed_parts.specs.Parts.{PartsAnswer, parts_faults};
 
 use crate::part::{Passed, Stage, run_part};
@@ -73,7 +73,7 @@ pub fn run_parts<K: Sink>(
     requires rows { length machine.old.tape ≤ 2 ^ 32 }
     ensures tells { PartsAnswer limit machine.old result machine.new (K.held out.old) (K.held out.new) }
     ensures faults { K.faults out.new ≡ parts_faults result (K.faults out.old) }
-    ensures law { EachTapeIsToldOnce }
+    ensures law { EachTapeHasOneReport }
     ensures reached { EachEntryIsReached }
     ensures runs { EachEndIsTheRuns }
 {

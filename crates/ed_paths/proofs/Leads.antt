@@ -4,7 +4,7 @@ use Rattle.std.proofs.Common.{Bool, true, false, true≢false, List, ◌++◌}
 use Rattle.std.proofs.lemmas.Bool.{cases_lt}
 use Rattle.ed_machine.specs.State.{State}
 use Rattle.ed_machine.specs.OrderTable.{step}
-use Rattle.ed_machine.specs.Steps.{IsFree, Past, past, state_after, stops_of, is_obeyed}
+use Rattle.ed_machine.specs.Steps.{AreObeyed, Progress, progress, state_after, stops_of, is_obeyed}
 use Rattle.ed_machine.proofs.Steps.{past_sum, after_sum}
 use Rattle.ed_machine.specs.declared.turn.Turn.{Turn}
 use Rattle.ed_machine.specs.declared.turn.Turn.TheVariants.{Went, Printed, Stopped, NoOrder, NoTape}
@@ -18,7 +18,7 @@ goes_on turn = false
 -- k orders lead from s to t and print the codes, and none of them stops the machine or is blocked
 pub record Leads (k : ℕ) (s : State) (codes : List ℕ) (t : State) : Type 0 where
   pub state_is : state_after k s ≡ t
-  pub codes_are : (past k s).codes ≡ codes
+  pub codes_are : (progress k s).codes ≡ codes
   pub goes : (j : ℕ) → j < k → goes_on (step (state_after j s)).turn ≡ true
 
 -- a turn that goes on is an order obeyed, and not a stop
@@ -37,13 +37,13 @@ no_stop (NoOrder function) e = refl
 no_stop NoTape e = refl
 
 -- such orders are obeyed
-pub free : {k : ℕ} {s t : State} {codes : List ℕ} → Leads k s codes t → IsFree k s
+pub free : {k : ℕ} {s t : State} {codes : List ℕ} → Leads k s codes t → AreObeyed k s
 free o j l = obeyed_of _ (o.goes j l)
 
 -- and none of them stops the machine
 pub no_stops : (k : ℕ) (s : State) → ((j : ℕ) → j < k → goes_on (step (state_after j s)).turn ≡ true)
-    → (past k s).stops ≡ 0
-unfolding past
+    → (progress k s).stops ≡ 0
+unfolding progress
 no_stops zero s goes = refl
 no_stops (suc k) s goes =
     let before = no_stops k s (λ j l. goes j (omega arith)) in
@@ -54,8 +54,8 @@ no_stops (suc k) s goes =
 pub joined : {a b : ℕ} {s t u : State} {cs ds : List ℕ} → Leads a s cs t → Leads b t ds u → Leads (a + b) s (cs ++ ds) u
 joined {a} {b} {s} {t} {u} {cs} {ds} first second = record {
   state_is = after_sum a b s ∙ ap (state_after b) first.state_is ∙ second.state_is;
-  codes_are = ap (λ (p : Past). p.codes) (past_sum a b s)
-      ∙ (λ i. first.codes_are i ++ (past b (first.state_is i)).codes)
+  codes_are = ap (λ (p : Progress). p.codes) (past_sum a b s)
+      ∙ (λ i. first.codes_are i ++ (progress b (first.state_is i)).codes)
       ∙ ap (λ x. cs ++ x) second.codes_are;
   goes = goes;
 }

@@ -5,7 +5,7 @@ use Rattle.std.proofs.Common.{append-nil}
 use Rattle.ed_orders.specs.declared.kind.Kind.{Kind}
 use Rattle.ed_machine.specs.State.{State}
 use Rattle.ed_machine.specs.OrderTable.{Obeyed, step}
-use Rattle.ed_machine.specs.Steps.{past, state_after, codes_of}
+use Rattle.ed_machine.specs.Steps.{progress, state_after, codes_of}
 use Rattle.ed_machine.specs.declared.turn.Turn.{Turn}
 use Rattle.ed_machine.specs.declared.turn.Turn.TheVariants.{Went, Printed}
 use Rattle.ed_paths.proofs.Leads.{Leads, goes_on}
@@ -32,36 +32,38 @@ followed {b = b} (prints {k = k} first rest) next =
 
 -- the states after an order and after later ones
 pub no_state : (s : State) → state_after 0 s ≡ s
-unfolding past
+unfolding progress
 no_state s = refl
 
 pub first_state : (k : ℕ) (s : State) → state_after (suc k) s ≡ state_after k (step s).state
-unfolding past
+unfolding progress
 first_state zero s = refl
 first_state (suc k) s = ap (λ (x : State). (step x).state) (first_state k s)
 
-first_codes : (k : ℕ) (s : State) → (past (suc k) s).codes ≡ codes_of (step s).turn ++ (past k (step s).state).codes
-unfolding past
+first_codes : (k : ℕ) (s : State) → (progress (suc k) s).codes ≡ codes_of (step s).turn
+    ++ (progress k (step s).state).codes
+unfolding progress
 first_codes zero s = sym (append-nil (codes_of (step s).turn))
 first_codes (suc k) s =
     ap (λ x. x ++ codes_of (step (state_after (suc k) s)).turn) (first_codes k s)
-    ∙ append_assoc (codes_of (step s).turn) (past k (step s).state).codes (codes_of (step (state_after (suc k) s)).turn)
-    ∙ ap (λ (x : State). codes_of (step s).turn ++ ((past k (step s).state).codes ++ codes_of (step x).turn))
+    ∙ append_assoc (codes_of (step s).turn) (progress k (step s).state).codes
+    (codes_of (step (state_after (suc k) s)).turn)
+    ∙ ap (λ (x : State). codes_of (step s).turn ++ ((progress k (step s).state).codes ++ codes_of (step x).turn))
     (first_state k s)
 
 -- one more order, at the front
 preceded : {k : ℕ} {s m t : State} {w : Turn} {cs : List ℕ} → step s ≡ record { state = m; turn = w }
     → goes_on w ≡ true → Leads k m cs t
     → Leads (suc k) s (codes_of w ++ cs) t
-unfolding past
+unfolding progress
 preceded {k} {s} {m} {w = w} {cs} first ok rest =
     let a : (step s).state ≡ m = ap (λ (o : Obeyed). o.state) first in
     let b : (step s).turn ≡ w = ap (λ (o : Obeyed). o.turn) first in
     record {
       state_is = first_state k s ∙ ap (state_after k) a ∙ rest.state_is;
       codes_are = first_codes k s
-          ∙ ap (λ x. codes_of (step s).turn ++ (past k x).codes) a
-          ∙ ap (λ x. codes_of x ++ (past k m).codes) b
+          ∙ ap (λ x. codes_of (step s).turn ++ (progress k x).codes) a
+          ∙ ap (λ x. codes_of x ++ (progress k m).codes) b
           ∙ ap (λ x. codes_of w ++ x) rest.codes_are;
       goes = later;
     }
@@ -73,7 +75,7 @@ preceded {k} {s} {m} {w = w} {cs} first ok rest =
         ∙ rest.goes j (omega arith)
 
 none : (s : State) → Leads 0 s [] s
-unfolding past
+unfolding progress
 none s = record { state_is = refl; codes_are = refl; goes = λ j h. absurd (omega arith) }
 
 -- a path leads the machine where it says, whatever the count of orders before

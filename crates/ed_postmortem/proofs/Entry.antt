@@ -8,7 +8,7 @@ use Rattle.ed_words.proofs.Numbers.{le_true}
 use Rattle.ed_words.proofs.SizeLemmas.{least}
 use Rattle.ed_notation.specs.declared.item.Item.{Item}
 use Rattle.ed_notation.specs.Items.{rows_of, spelled}
-use Rattle.ed_notation.specs.Fold.{Note, over, is_entry}
+use Rattle.ed_notation.specs.Fold.{NotationState, over, is_entry}
 use Rattle.ed_notation.specs.Openings.{opening, IsDirective}
 use Rattle.ed_notation.specs.Faults.{TapeEntry, WellFormed, ComesTo, EndsSound}
 use Rattle.ed_notation.specs.Spellings.{canonical, canonicals, digits_of, is_spellable}
@@ -73,7 +73,7 @@ module _ (z : Size) (words : List ℕ) (first count : ℕ) (f_fits : first ≤ 1
   abbrev pub parameters : List (ℕ × ℕ)
   parameters = (46, 2 * count) ∷ (45, 2 * first) ∷ []
 
-  abbrev at_head : Note
+  abbrev at_head : NotationState
   at_head = record { directive = 20480 + 2 * 56; theta = 112; placed = parameters }
 
   low : (a : ℕ) → a < 512 → a < locations z
@@ -84,10 +84,10 @@ module _ (z : Size) (words : List ℕ) (first count : ℕ) (f_fits : first ≤ 1
       (148 + 9 * (length (digits_of first) + length (digits_of count)))
   head =
       let theta : ℕ = (opening words).theta in
-      let n1 : Note = record { directive = 20480 + 2 * 45; theta = theta; placed = [] } in
-      let n2 : Note = record { directive = 20480 + 2 * 46; theta = theta; placed = (45, 2 * first) ∷ [] } in
-      let n3 : Note = record { directive = 20480 + 2 * 47; theta = theta; placed = parameters } in
-      let n4 : Note = record { directive = 20480 + 2 * 56; theta = theta; placed = parameters } in
+      let n1 : NotationState = record { directive = 20480 + 2 * 45; theta = theta; placed = [] } in
+      let n2 : NotationState = record { directive = 20480 + 2 * 46; theta = theta; placed = (45, 2 * first) ∷ [] } in
+      let n3 : NotationState = record { directive = 20480 + 2 * 47; theta = theta; placed = parameters } in
+      let n4 : NotationState = record { directive = 20480 + 2 * 56; theta = theta; placed = parameters } in
       let r5 = reads_one z words (plain 27 0 14) refl
       (setting_theta z words n4 56 (lit≤ tt) refl)
       (reads_none z words at_head) in
@@ -112,10 +112,10 @@ module _ (z : Size) (words : List ℕ) (first count : ℕ) (f_fits : first ≤ 1
   abbrev pub placed_all : List (ℕ × ℕ)
   placed_all = laid 56 words_placed parameters
 
-  abbrev at_orders : Note
+  abbrev at_orders : NotationState
   at_orders = record { directive = 20480 + 2 * 140; theta = 112; placed = placed_all }
 
-  abbrev pub at_last : Note
+  abbrev pub at_last : NotationState
   at_last = record { directive = 12288 + 2 * 56; theta = 112; placed = placed_all }
 
   places : Reads z words at_head listing at_orders (block_cost listing)
@@ -143,7 +143,7 @@ module _ (z : Size) (words : List ℕ) (first count : ℕ) (f_fits : first ≤ 1
     word = 0;
     cost = 9 + items_cost + 19;
     rows = length (spelled (canonicals (before first count))) + length (rows_of (canonical last));
-    note = at_last;
+    notation = at_last;
     last = last;
     rest = [];
   }
@@ -154,7 +154,7 @@ module _ (z : Size) (words : List ℕ) (first count : ℕ) (f_fits : first ≤ 1
     last = canonical last;
     are_read = all_read.are_read;
     is_written = is_written last refl;
-    note_is = sym all_read.folds;
+    notation_is = sym all_read.folds;
     is_entry = refl;
     rows_are = rows_are first count;
     last_is = refl;
@@ -170,5 +170,5 @@ module _ (z : Size) (words : List ℕ) (first count : ℕ) (f_fits : first ≤ 1
       let set : IsDirective 20568 = omega arith in
       subst (WellFormed z words (opening words)) (sym (rows_are first count)) (
       sound_well (canonicals (before first count)) [] set all_read.are_read all_read.are_sound
-      (is_written last refl) (ap (λ (n : Note). is_entry n last) all_read.folds ∙ e.enters)
-      (subst (λ (n : Note). EndsSound z words n (canonical last)) (sym all_read.folds) e.sound))
+      (is_written last refl) (ap (λ (n : NotationState). is_entry n last) all_read.folds ∙ e.enters)
+      (subst (λ (n : NotationState). EndsSound z words n (canonical last)) (sym all_read.folds) e.sound))

@@ -6,7 +6,7 @@ use Rattle.std.proofs.lemmas.Bool.{cases_lt}
 use Rattle.ed_machine.specs.State.{State}
 use Rattle.ed_machine.specs.OrderTable.{Obeyed, step}
 use Rattle.ed_machine.specs.Sheet.{Sheet}
-use Rattle.ed_machine.specs.Steps.{past, state_after, codes_of, is_obeyed}
+use Rattle.ed_machine.specs.Steps.{progress, state_after, codes_of, is_obeyed}
 use Rattle.ed_machine.specs.declared.ending.Ending.{Ending}
 use Rattle.ed_machine.specs.declared.ending.Ending.TheVariants.{Stopped}
 use Rattle.ed_machine.specs.declared.turn.Turn.{Turn}
@@ -25,13 +25,14 @@ module _ {k : ℕ} {s t u : State} {codes : List ℕ} (l : Leads k s codes t)
 
   -- the state after the stop
   pub behind_stop : state_after (suc k) s ≡ u
-  unfolding past
+  unfolding progress
   behind_stop = ap (λ (x : State). (step x).state) l.state_is ∙ ap (λ (o : Obeyed). o.state) last
 
-  codes_are : (past (suc k) s).codes ≡ codes
-  unfolding past
+  codes_are : (progress (suc k) s).codes ≡ codes
+  unfolding progress
   codes_are =
-      ap (λ (turn : Turn). (past k s).codes ++ codes_of turn) turn_is ∙ append-nil (past k s).codes ∙ l.codes_are
+      ap (λ (turn : Turn). (progress k s).codes ++ codes_of turn) turn_is ∙ append-nil (progress k s).codes
+      ∙ l.codes_are
 
   all_obeyed : (j : ℕ) → (j < k) ⊎ (k ≤ j) → j < suc k → is_obeyed (step (state_after j s)).turn ≡ true
   all_obeyed j (inl below) h = free l j below
@@ -55,7 +56,7 @@ module _ {k : ℕ} {s t u : State} {codes : List ℕ} (l : Leads k s codes t)
       (ends_once run.ends ends).0 in (
         run.state_is ∙ ap (λ j. state_after j s) orders ∙ behind_stop,
         run.sheet_is ∙ (λ i. record {
-          codes = sheet.codes ++ (ap (λ j. (past j s).codes) orders ∙ codes_are) i;
+          codes = sheet.codes ++ (ap (λ j. (progress j s).codes) orders ∙ codes_are) i;
           room = sheet.room;
         }),
       )

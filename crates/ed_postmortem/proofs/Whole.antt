@@ -151,7 +151,8 @@ module _ {s : State} {first count : ℕ} (store : IsStore s.store) (range : InRa
   around_long : length around ≡ 1024
   around_long = length-append head (drop 44 placed) ∙ omega (arith, length-drop 44 placed, placed_long)
 
-  at_words : head ++ drop 44 (over entry.note.placed ws) ≡ patched 0 around 56 (cells (ready first count placed_work))
+  at_words : head ++ drop 44 (over entry.notation.placed ws)
+      ≡ patched 0 around 56 (cells (ready first count placed_work))
   at_words =
       let cs : List ℕ = cells (ready first count placed_work) in
       ap (λ x. head ++ drop 44 x)

@@ -1,5 +1,6 @@
 -- Lines whose locations are after those of all earlier lines have no fault.
-use Rattle.std.proofs.Common.{◌≡◌, ◌∙◌, ℕ, ◌+◌, ◌≤◌, Bool, true, false, List, [], ◌∷◌, ◌++◌, refl, ap, arith, length, nat_le, nat_lt}
+use Rattle.std.proofs.Common.{◌≡◌, ◌∙◌, ℕ, ◌+◌, ◌≤◌, Bool, true, false, List, [], ◌∷◌, ◌++◌, refl, ap, arith, length}
+use Rattle.std.proofs.Common.{nat_le, nat_lt}
 use Rattle.std.specs.Prelude.{max, min, Option, Some, None, is_none}
 use Rattle.std.specs.List.{list_all, list_any}
 use Rattle.std.proofs.lemmas.Bool.{and_parts}
@@ -12,15 +13,15 @@ use Rattle.ed_library.specs.Routines.{find}
 use Rattle.ed_syntax.specs.Parts.{array}
 use Rattle.ed_syntax.specs.declared.program.Setting.{Setting}
 use Rattle.ed_syntax.specs.declared.program.Statement.TheVariants as statements
-use Rattle.ed_symbols.specs.declared.spots.Spot.{Spot}
-use Rattle.ed_symbols.specs.declared.homes.Home.{Home}
+use Rattle.ed_symbols.specs.declared.location_counter.LocationCounter.{LocationCounter}
+use Rattle.ed_symbols.specs.declared.symbols.Definition.{Definition}
 use Rattle.ed_symbols.specs.Names.{place_on}
 use Rattle.ed_symbols.specs.Places.{even_from, routine_places}
 use Rattle.ed_sources.proofs.Said.{said}
 use Rattle.ed_syntax.specs.declared.fault.SourceCause.{SourceCause}
 use Rattle.ed_syntax.specs.declared.fault.SourceFault.{SourceFault}
 use Rattle.ed_symbols.specs.Faults.{or_later}
-use Rattle.ed_link.specs.Private.FaultTests.{LinesBefore, cause_of, meets, sets}
+use Rattle.ed_link.specs.Private.FaultTests.{LinesBefore, cause_of, overlaps, sets}
 
 -- the extents of lines, from the first location to the one after the last, are below a location
 abbrev pub are_below : ℕ → List (ℕ × ℕ) → Bool
@@ -45,7 +46,7 @@ one_more p a q runs l h =
 
 -- extents from there upwards don't overlap them
 pub apart : (p a b : ℕ) (runs : List (ℕ × ℕ)) → p ≤ a → are_below p runs ≡ true
-    → list_any (λ run. meets (a, b) run) runs ≡ false
+    → list_any (λ run. overlaps (a, b) run) runs ≡ false
 apart p a b [] l h = refl
 apart p a b (r ∷ runs) l h =
     let s = and_parts (nat_le r.1 p) (are_below p runs) h in
@@ -74,17 +75,17 @@ sound top a b low fits = record {
 
 -- ---- lines after a program: a block of words, a routine of the library, and the entry
 
--- a spot inside a segment, and lines before any `enter`
-abbrev pub spot : ℕ → ℕ → ℕ → Spot
-spot place base segments = record { place = place; base = base; segments = segments; inside = true }
+-- a location counter inside a segment, and lines before any `enter`
+abbrev pub counter : ℕ → ℕ → ℕ → LocationCounter
+counter place base segments = record { place = place; base = base; segments = segments; inside = true }
 
 abbrev pub past : List (ℕ × ℕ) → LinesBefore
 past runs = record { runs = runs; entered = false }
 
-module _ (z : Size) (homes : List Home) (runs : List (ℕ × ℕ)) where
+module _ (z : Size) (symbols : List Definition) (runs : List (ℕ × ℕ)) where
   pub block_sound : (l p b g : ℕ) (label : Option Text) (rows : List ℕ) → 56 ≤ p → p + length rows ≤ locations z
       → are_below p runs ≡ true
-      → cause_of z homes true (past runs) (said l label (statements.Text (array rows))) (spot p b g) ≡ None
+      → cause_of z symbols true (past runs) (said l label (statements.Text (array rows))) (counter p b g) ≡ None
   block_sound l p b g label rows low fits below =
       let s = sound (locations z) p (p + length rows) low fits in
       let loader = s.loader in let parameters = s.parameters in let store = s.store in
@@ -94,7 +95,7 @@ module _ (z : Size) (homes : List Home) (runs : List (ℕ × ℕ)) where
   pub use_sound : (l p b g : ℕ) (inside : Bool) (routine name : Text) (settings : List Setting) → 56 ≤ p
       → even_from p + routine_places (find routine) ≤ locations z
       → are_below p runs ≡ true → is_none (find routine) ≡ false → sets settings (find routine) ≡ true
-      → cause_of z homes true (past runs) (said l None (statements.Fetch routine name (array settings)))
+      → cause_of z symbols true (past runs) (said l None (statements.Fetch routine name (array settings)))
       (record { place = p; base = b; segments = g; inside = inside }) ≡ None
   use_sound l p b g true routine name settings low fits below known set =
       let s = sound (locations z) (even_from p) (even_from p + routine_places (find routine)) (omega arith) fits in
@@ -107,9 +108,9 @@ module _ (z : Size) (homes : List Home) (runs : List (ℕ × ℕ)) where
       let others = apart p (even_from p) (even_from p + routine_places (find routine)) runs (omega arith) below in
       rw (loader, parameters, store, others, known, set) refl
 
-  pub enter_sound : (l q b g e : ℕ) (name : Text) → place_on homes None name ≡ Some e → 56 ≤ e → e + 1 ≤ locations z
+  pub enter_sound : (l q b g e : ℕ) (name : Text) → place_on symbols None name ≡ Some e → 56 ≤ e → e + 1 ≤ locations z
       → are_below q runs ≡ true
-      → cause_of z homes true (past runs) (said l None (statements.Enter name))
+      → cause_of z symbols true (past runs) (said l None (statements.Enter name))
       (record { place = q; base = b; segments = g; inside = false }) ≡ None
   enter_sound l q b g e name place low fits below =
       let s = sound (locations z) e (e + 1) low fits in

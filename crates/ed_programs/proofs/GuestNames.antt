@@ -10,41 +10,42 @@ use Rattle.ed_syntax.specs.declared.program.Statement.TheVariants.{Segment, Orde
 use Rattle.ed_syntax.specs.declared.program.Statement.TheVariants.{Rows}
 use Rattle.ed_syntax.specs.declared.program.Line.{Line}
 use Rattle.ed_syntax.specs.declared.fault.SourceCause.TheVariants as causes
-use Rattle.ed_symbols.specs.declared.spots.Spot.{Spot}
-use Rattle.ed_symbols.specs.declared.homes.Home.{Home}
-use Rattle.ed_symbols.specs.Places.{first_spot, passed}
-use Rattle.ed_symbols.specs.Names.{defined, home_of, home_place, homes_from, is_home, is_local, label_home, listed}
-use Rattle.ed_symbols.specs.Names.{name_home, place_on, same_segment}
+use Rattle.ed_symbols.specs.declared.location_counter.LocationCounter.{LocationCounter}
+use Rattle.ed_symbols.specs.declared.symbols.Definition.{Definition}
+use Rattle.ed_symbols.specs.Places.{first_counter, after_statement}
+use Rattle.ed_symbols.specs.Names.{line_definitions, definition_of, definition_place, symbols_from, is_definition_of}
+use Rattle.ed_symbols.specs.Names.{is_local, label_definition, as_list}
+use Rattle.ed_symbols.specs.Names.{statement_definition, place_on, same_segment}
 use Rattle.ed_symbols.specs.Faults.{defines_again, is_again}
-use Rattle.ed_symbols.specs.NameFaults.{spot_after, spot_from}
+use Rattle.ed_symbols.specs.NameFaults.{counter_after, counter_from}
 use Rattle.ed_symbols.proofs.AgainSentences.{s6}
 use Rattle.ed_link.specs.Faults.{HasEnter, HasNoFault, IsData, on_line}
-use Rattle.ed_link.specs.Linked.{entered_place, entry_from, entry_of, homes_of}
+use Rattle.ed_link.specs.Linked.{entered_place, entry_from, entry_of, symbols_of}
 use Rattle.ed_programs.specs.Guests.{EntersChecker, checker_base}
 
 -- ---- the line that enters
 
 -- a line that is not an `enter` leaves the entry to the lines after it
-other_line : (homes : List Home) (st : Option Statement) (later : ℕ)
-    → ((name : List ℕ) → st ≡ Some (Enter name) → ⊥) → entered_place homes st later ≡ later
-other_line homes None later none = refl
-other_line homes (Some (Segment n b)) later none = refl
-other_line homes (Some (Order f o d)) later none = refl
-other_line homes (Some (Number v)) later none = refl
-other_line homes (Some (Text codes)) later none = refl
-other_line homes (Some (Long v)) later none = refl
-other_line homes (Some (Fetch r n ts)) later none = refl
-other_line homes (Some (Enter n)) later none = absurd (none n refl)
-other_line homes (Some (Rows codes)) later none = refl
+other_line : (symbols : List Definition) (st : Option Statement) (later : ℕ)
+    → ((name : List ℕ) → st ≡ Some (Enter name) → ⊥) → entered_place symbols st later ≡ later
+other_line symbols None later none = refl
+other_line symbols (Some (Segment n b)) later none = refl
+other_line symbols (Some (Order f o d)) later none = refl
+other_line symbols (Some (Number v)) later none = refl
+other_line symbols (Some (Text codes)) later none = refl
+other_line symbols (Some (Long v)) later none = refl
+other_line symbols (Some (Fetch r n ts)) later none = refl
+other_line symbols (Some (Enter n)) later none = absurd (none n refl)
+other_line symbols (Some (Rows codes)) later none = refl
 
 -- and so do lines without one
-first_enter : (homes : List Home) (ahead rest : List Line) → (HasEnter ahead → ⊥)
-    → entry_from homes (ahead ++ rest) ≡ entry_from homes rest
-first_enter homes [] rest none = refl
-first_enter homes (l ∷ ahead) rest none =
-    other_line homes l.statement (entry_from homes (ahead ++ rest))
+first_enter : (symbols : List Definition) (ahead rest : List Line) → (HasEnter ahead → ⊥)
+    → entry_from symbols (ahead ++ rest) ≡ entry_from symbols rest
+first_enter symbols [] rest none = refl
+first_enter symbols (l ∷ ahead) rest none =
+    other_line symbols l.statement (entry_from symbols (ahead ++ rest))
     (λ name e. none ([], l, record { after = ahead; lines_are = refl }, (name, e)))
-    ∙ first_enter homes ahead rest (λ h. none (
+    ∙ first_enter symbols ahead rest (λ h. none (
       l ∷ h.0,
       h.1,
       record { after = h.2.after; lines_are = ap (λ (x : List Line). l ∷ x) h.2.lines_are },
@@ -54,23 +55,23 @@ first_enter homes (l ∷ ahead) rest none =
 -- ---- the name
 
 -- what lines define, and what more lines do
-homes_append : (s : Spot) (xs ys : List Line)
-    → homes_from s (xs ++ ys) ≡ homes_from s xs ++ homes_from (spot_from s xs) ys
+homes_append : (s : LocationCounter) (xs ys : List Line)
+    → symbols_from s (xs ++ ys) ≡ symbols_from s xs ++ symbols_from (counter_from s xs) ys
 homes_append s [] ys = refl
 homes_append s (x ∷ xs) ys =
-    ap (λ (hs : List Home). defined x s ++ hs) (homes_append (passed x.statement s) xs ys)
-    ∙ sym (append_assoc (defined x s) (homes_from (passed x.statement s) xs)
-    (homes_from (spot_from (passed x.statement s) xs) ys))
+    ap (λ (hs : List Definition). line_definitions x s ++ hs) (homes_append (after_statement x.statement s) xs ys)
+    ∙ sym (append_assoc (line_definitions x s) (symbols_from (after_statement x.statement s) xs)
+    (symbols_from (counter_from (after_statement x.statement s) xs) ys))
 
 -- a name that isn't defined by the first ones
-later_home : (g : Option ℕ) (name : List ℕ) (hs rest : List Home) → is_some (home_of g name hs) ≡ false
-    → home_of g name (hs ++ rest) ≡ home_of g name rest
+later_home : (g : Option ℕ) (name : List ℕ) (hs rest : List Definition) → is_some (definition_of g name hs) ≡ false
+    → definition_of g name (hs ++ rest) ≡ definition_of g name rest
 later_home g name [] rest none = refl
-later_home g name (h ∷ hs) rest none = by_test (is_home g name h) none (later_home g name hs rest)
+later_home g name (h ∷ hs) rest none = by_test (is_definition_of g name h) none (later_home g name hs rest)
   where
-    by_test : (t : Bool) → is_some (if t then Some h else home_of g name hs) ≡ false
-        → (is_some (home_of g name hs) ≡ false → home_of g name (hs ++ rest) ≡ home_of g name rest)
-        → (if t then Some h else home_of g name (hs ++ rest)) ≡ home_of g name rest
+    by_test : (t : Bool) → is_some (if t then Some h else definition_of g name hs) ≡ false
+        → (is_some (definition_of g name hs) ≡ false → definition_of g name (hs ++ rest) ≡ definition_of g name rest)
+        → (if t then Some h else definition_of g name (hs ++ rest)) ≡ definition_of g name rest
     by_test true none more = absurd (true≢false none)
     by_test false none more = more none
 
@@ -79,14 +80,14 @@ no_local : (a : Option ℕ) → same_segment a None ≡ false
 no_local None = refl
 no_local (Some k) = refl
 
-local_unseen : (name : List ℕ) → is_local name ≡ true → (hs : List Home) → home_of None name hs ≡ None
+local_unseen : (name : List ℕ) → is_local name ≡ true → (hs : List Definition) → definition_of None name hs ≡ None
 local_unseen name e [] = refl
 local_unseen name e (h ∷ hs) =
     let inside = no_local h.segment in
     by_test (bytes_eq h.name name) (is_local name) (same_segment h.segment None) e inside (local_unseen name e hs)
   where
-    by_test : (t is same : Bool) → is ≡ true → same ≡ false → home_of None name hs ≡ None
-        → (if t && (not is || same) then Some h else home_of None name hs) ≡ None
+    by_test : (t is same : Bool) → is ≡ true → same ≡ false → definition_of None name hs ≡ None
+        → (if t && (not is || same) then Some h else definition_of None name hs) ≡ None
     by_test true true false e inside rest = rest
     by_test true true true e inside rest = absurd (true≢false inside)
     by_test true false same e inside rest = absurd (true≢false (sym e))
@@ -114,64 +115,69 @@ module _ (z : Size) (lines : List Line) (faultless : HasNoFault z lines) (c : En
       clash : ◌≡◌ {A = Option Statement} None (Some (Enter c.name)) → ⊥
       clash e = absurd (cc)
 
-  entered : entry_of lines ≡ unwrap_or (place_on (homes_of lines) None c.name) 0
+  entered : entry_of lines ≡ unwrap_or (place_on (symbols_of lines) None c.name) 0
   entered =
-      ap (entry_from (homes_of lines)) c.follows.lines_are
-      ∙ first_enter (homes_of lines) c.ahead (c.entering ∷ c.follows.after) none_ahead
-      ∙ ap (λ st. entered_place (homes_of lines) st (entry_from (homes_of lines) c.follows.after)) c.enters
+      ap (entry_from (symbols_of lines)) c.follows.lines_are
+      ∙ first_enter (symbols_of lines) c.ahead (c.entering ∷ c.follows.after) none_ahead
+      ∙ ap (λ st. entered_place (symbols_of lines) st (entry_from (symbols_of lines) c.follows.after)) c.enters
 
   -- the name that is entered is known, so it is not local
   is_global : is_local c.name ≡ false
   is_global = not_so (is_local c.name) (λ e.
       faultless _ causes.LabelUnknown
-      (on_line c.follows (inr (c.name, c.enters, ap (option_map home_place) (local_unseen c.name e (homes_of lines))))))
+      (on_line c.follows (inr (
+        c.name,
+        c.enters,
+        ap (option_map definition_place)
+            (local_unseen c.name e (symbols_of lines)),
+      ))))
 
-  abbrev spot : Spot
-  spot = spot_after c.before
+  abbrev counter : LocationCounter
+  counter = counter_after c.before
 
-  abbrev home : Home
+  abbrev home : Definition
   home = record { name = c.name; place = checker_base c.before; segment = None }
 
-  abbrev labels : List Home
-  labels = listed (label_home c.using.label c.using.statement spot)
+  abbrev labels : List Definition
+  labels = as_list (label_definition c.using.label c.using.statement counter)
 
-  abbrev earlier : List Home
-  earlier = homes_from first_spot c.before
+  abbrev earlier : List Definition
+  earlier = symbols_from first_counter c.before
 
-  names : name_home c.using.statement spot ≡ Some home
-  names = ap (λ st. name_home st spot) c.uses
+  names : statement_definition c.using.statement counter ≡ Some home
+  names = ap (λ st. statement_definition st counter) c.uses
 
   -- no line up to the `use` defines its name
-  new : is_some (home_of None c.name (earlier ++ labels)) ≡ false
+  new : is_some (definition_of None c.name (earlier ++ labels)) ≡ false
   new =
-      let once : (defines_again earlier c.using spot ≡ true) → ⊥ =
+      let once : (defines_again earlier c.using counter ≡ true) → ⊥ =
       λ t. faultless _ causes.LabelTwice (on_line c.stands ((s6 c.before c.using).says t)) in
-      let again : is_again (earlier ++ labels) (name_home c.using.statement spot) ≡ false =
-      or_false (is_again earlier (label_home c.using.label c.using.statement spot)) _
-      (not_so (defines_again earlier c.using spot) once) in
+      let again : is_again (earlier ++ labels) (statement_definition c.using.statement counter) ≡ false =
+      or_false (is_again earlier (label_definition c.using.label c.using.statement counter)) _
+      (not_so (defines_again earlier c.using counter) once) in
       sym (ap (is_again (earlier ++ labels)) names) ∙ again
 
-  abbrev later : List Home
-  later = homes_from (passed c.using.statement spot) c.stands.after
+  abbrev later : List Definition
+  later = symbols_from (after_statement c.using.statement counter) c.stands.after
 
-  all_homes : homes_of lines ≡ (earlier ++ labels) ++ home ∷ later
+  all_homes : symbols_of lines ≡ (earlier ++ labels) ++ home ∷ later
   all_homes =
-      ap (homes_from first_spot) c.stands.lines_are
-      ∙ homes_append first_spot c.before (c.using ∷ c.stands.after)
-      ∙ ap (λ (o : Option Home). earlier ++ ((labels ++ listed o) ++ later)) names
-      ∙ ap (λ (hs : List Home). earlier ++ hs) (append_assoc labels (home ∷ []) later)
+      ap (symbols_from first_counter) c.stands.lines_are
+      ∙ homes_append first_counter c.before (c.using ∷ c.stands.after)
+      ∙ ap (λ (o : Option Definition). earlier ++ ((labels ++ as_list o) ++ later)) names
+      ∙ ap (λ (hs : List Definition). earlier ++ hs) (append_assoc labels (home ∷ []) later)
       ∙ sym (append_assoc earlier labels (home ∷ later))
 
-  itself : home_of None c.name (home ∷ later) ≡ Some home
+  itself : definition_of None c.name (home ∷ later) ≡ Some home
   itself =
       let same : bytes_eq c.name c.name ≡ true = (bytes_eq-Decides c.name c.name).1 refl in
       let global = is_global in
       rw (same, global) refl
 
-  pub placed : place_on (homes_of lines) None c.name ≡ Some (checker_base c.before)
+  pub placed : place_on (symbols_of lines) None c.name ≡ Some (checker_base c.before)
   placed =
-      ap (option_map home_place)
-      (ap (home_of None c.name) all_homes
+      ap (option_map definition_place)
+      (ap (definition_of None c.name) all_homes
       ∙ later_home None c.name (earlier ++ labels) (home ∷ later) new
       ∙ itself)
 

@@ -9,7 +9,7 @@ use Rattle.ed_words.proofs.SizeLemmas.{most}
 use Rattle.ed_words.specs.Texts.{Text}
 use Rattle.ed_machine.specs.State.{State}
 use Rattle.ed_machine.specs.OrderTable.{step}
-use Rattle.ed_machine.specs.Steps.{IsFree, Past, is_obeyed, past, state_after, stops_of}
+use Rattle.ed_machine.specs.Steps.{AreObeyed, Progress, is_obeyed, progress, state_after, stops_of}
 use Rattle.ed_machine.specs.declared.turn.Turn.{Turn}
 use Rattle.ed_machine.specs.declared.turn.Turn.TheVariants.{Went, Printed, Stopped, NoOrder, NoTape}
 use Rattle.ed_machine.proofs.Steps.{no_step}
@@ -17,7 +17,7 @@ use Rattle.ed_paths.proofs.Leads.{goes_on}
 use Rattle.ed_routines.proofs.Journeys.{ComesToStop}
 use Rattle.ed_syntax.specs.Sources.{IsProgram}
 use Rattle.ed_syntax.specs.declared.program.Line.{Line}
-use Rattle.ed_link.specs.Linked.{homes_of, operand_number}
+use Rattle.ed_link.specs.Linked.{symbols_of, operand_number}
 use Rattle.ed_link.specs.Refusals.{IsAcceptedAs}
 use Rattle.ed_loads.specs.EntryState.{entry_state}
 use Rattle.ed_printer.specs.Paper.{paper}
@@ -49,9 +49,9 @@ goes_of Stopped o e = absurd (omega (arith, e))
 goes_of (NoOrder function) o e = absurd (true≢false (sym o))
 goes_of NoTape o e = absurd (true≢false (sym o))
 
-all_go : (k : ℕ) (s : State) → IsFree k s → (past k s).stops ≡ 0 → (j : ℕ) → j < k
+all_go : (k : ℕ) (s : State) → AreObeyed k s → (progress k s).stops ≡ 0 → (j : ℕ) → j < k
     → goes_on (step (state_after j s)).turn ≡ true
-unfolding past
+unfolding progress
 all_go zero s free none j l = absurd (omega arith)
 all_go (suc k) s free none j l =
     elim (cases_lt j k) [
@@ -68,9 +68,9 @@ stops_at base q m c = record {
   to_stop = record {
     last = c.last;
     leads = record {
-      state_is = ap (λ (p : Past). p.state) c.ran.is;
-      codes_are = ap (λ (p : Past). p.codes) c.ran.is;
-      goes = all_go c.count m c.ran.free (ap (λ (p : Past). p.stops) c.ran.is);
+      state_is = ap (λ (p : Progress). p.state) c.ran.is;
+      codes_are = ap (λ (p : Progress). p.codes) c.ran.is;
+      goes = all_go c.count m c.ran.free (ap (λ (p : Progress). p.stops) c.ran.is);
     };
     stops = c.stops;
   };
@@ -78,13 +78,13 @@ stops_at base q m c = record {
 }
 
 -- the machine stops there after the turns of its guest
-record Checked (base q : ℕ) (m g : State) : Type 0 where
+record HasChecked (base q : ℕ) (m g : State) : Type 0 where
   count : ℕ
   exact : count + 17 ≡ checked_orders g (suc q)
   comes : ComesToStop count m (checked_codes g (suc q)) (base + planting_place + 1)
 
 checked_to_stop : (base q : ℕ) (m : State) → HasGuest base m → StopsAtZ base q (guest base m)
-    → Checked base q m (guest base m)
+    → HasChecked base q m (guest base m)
 checked_to_stop base q m has z =
     let c = checker_law.to_stop base q m has z.followed z.stops z.allowed in
     let there = stops_at base (suc q) m c in
@@ -124,13 +124,13 @@ module _ (s : Settings) (source : Text) (lines : List Line) (c : EntersChecker l
   g = entry_guest s.size lines c.first
 
   -- the guest of the machine is the guest of the source
-  stopped : (q : ℕ) → StopsAtZ base q g → Checked base q m g
+  stopped : (q : ℕ) → StopsAtZ base q g → HasChecked base q m g
   stopped q z =
       let size = most s.size in
       let next = first_below base q g z in
-      let low : operand_number (homes_of lines) None c.first < 1024 = omega (arith, next, size) in
+      let low : operand_number (symbols_of lines) None c.first < 1024 = omega (arith, next, size) in
       let same = guest_is s.size source lines accepted c low in
-      subst (λ (x : State). Checked base q m x) same
+      subst (λ (x : State). HasChecked base q m x) same
       (checked_to_stop base q m (has_guest s.size source lines accepted c low)
       (subst (StopsAtZ base q) (sym same) z))
 

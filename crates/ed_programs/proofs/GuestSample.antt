@@ -13,7 +13,7 @@ use Rattle.ed_orders.specs.Kinds.{kind_of_function}
 use Rattle.ed_orders.specs.declared.kind.Kind.TheVariants.{O}
 use Rattle.ed_machine.specs.State.{State}
 use Rattle.ed_machine.specs.OrderTable.{next_word, obey_word, step}
-use Rattle.ed_machine.specs.Steps.{codes_of, is_obeyed, past, state_after, stops_of}
+use Rattle.ed_machine.specs.Steps.{codes_of, is_obeyed, progress, state_after, stops_of}
 use Rattle.ed_machine.specs.declared.turn.Turn.TheVariants.{Printed, Stopped}
 use Rattle.ed_machine.proofs.Steps.{no_step}
 use Rattle.ed_notation.specs.Fold.{placed_at}
@@ -123,7 +123,7 @@ module _ (z : Size) where
   second = (obey_word (Some O) 36980 g).state
 
   second_is : state_after 1 g ≡ second
-  unfolding past step
+  unfolding progress step
   second_is = ap (λ w. (obey_word (kind_of_function (function_of w)) w g).state) first_word
 
   -- Z F
@@ -163,8 +163,8 @@ module _ (z : Size) where
   obeyed zero l = ap (λ (x : State). is_obeyed (step x).turn) (sym (no_step g)) ∙ ap is_obeyed first_turn
   obeyed (suc j) l = absurd (omega arith)
 
-  no_stops : (past 1 g).stops ≡ 0
-  unfolding past
+  no_stops : (progress 1 g).stops ≡ 0
+  unfolding progress
   no_stops = ap (λ t. 0 + stops_of t) first_turn
 
   after_first : (step (state_after 1 g)).turn ≡ Stopped
@@ -183,13 +183,13 @@ module _ (z : Size) where
   next = ap next_word second_is ∙ second_word
 
   codes_are : checked_codes g 2 ≡ 9 ∷ 28 ∷ 13 ∷ []
-  unfolding checked_codes past
+  unfolding checked_codes progress
   codes_are = λ i.
       ([] ++ (function_of (first_word i) ∷ codes_of (first_turn i)))
       ++ (function_of (next i) ∷ codes_of (after_first i))
 
   orders_are : stopped_orders g 2 ≡ 54
-  unfolding checked_orders past
+  unfolding checked_orders progress
   orders_are = λ i.
       0 + orders_by (function_of (first_word i)) g.acc
       + orders_by (function_of (next i)) (state_after 1 g).acc - 16

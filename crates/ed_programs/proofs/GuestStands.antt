@@ -28,9 +28,9 @@ use Rattle.ed_library.specs.Entries.{entry}
 use Rattle.ed_library.specs.Images.{image_word, parameter_store, routine_word}
 use Rattle.ed_library.specs.Routines.{is_working, routine_item, table_item}
 use Rattle.ed_syntax.specs.declared.program.Line.{Line}
-use Rattle.ed_symbols.specs.NameFaults.{spot_after}
+use Rattle.ed_symbols.specs.NameFaults.{counter_after}
 use Rattle.ed_notation.specs.Spellings.{canonicals, text_of}
-use Rattle.ed_link.specs.Linked.{data_behind, first_place, homes_of, operand_number}
+use Rattle.ed_link.specs.Linked.{data_after, first_place, symbols_of, operand_number}
 use Rattle.ed_link.specs.Punch.{punched}
 use Rattle.ed_link.specs.Refusals.{IsAcceptedAs}
 use Rattle.ed_link.specs.Tapes.{after_text, cost, tape}
@@ -79,7 +79,7 @@ sound_start z source lines a = record {
   acc = lit< tt;
   multiplier = lit< tt;
   counter = let size = least z in omega arith;
-  tape = read_fit (text_of (canonicals (punched lines)) ++ after_text (data_behind lines)) (tape lines)
+  tape = read_fit (text_of (canonicals (punched lines)) ++ after_text (data_after lines)) (tape lines)
       (text_is_tape z source lines a);
   last = lit< tt;
 }
@@ -136,19 +136,19 @@ module _ (z : Size) (source : Text) (lines : List Line) (accepted : IsAcceptedAs
   base = checker_base c.before
 
   abbrev h : ℕ
-  h = operand_number (homes_of lines) None c.first
+  h = operand_number (symbols_of lines) None c.first
 
   abbrev m : State
   m = entry_state z lines
 
-  words_are : words_of_line (homes_of lines) (spot_after c.before) c.using.statement ≡ table_words h base
-  words_are = ap (words_of_line (homes_of lines) (spot_after c.before)) c.uses
+  words_are : words_of_line (symbols_of lines) (counter_after c.before) c.using.statement ≡ table_words h base
+  words_are = ap (words_of_line (symbols_of lines) (counter_after c.before)) c.uses
 
   places : (i : ℕ) → i < 66 → LinePlaces lines c.before c.using (base + i) (get_or (table_words h base) i 0)
   places i l = record {
     index = i;
     below = subst (λ (ws : List ℕ). i < length ws) (sym words_are) l;
-    place_is = ap (λ st. first_place st (spot_after c.before) + i) (sym c.uses);
+    place_is = ap (λ st. first_place st (counter_after c.before) + i) (sym c.uses);
     word_is = ap (λ (ws : List ℕ). get_or ws i 0) (sym words_are);
   }
 

@@ -13,17 +13,18 @@ use Rattle.ed_syntax.specs.declared.program.Statement.{Statement}
 use Rattle.ed_syntax.specs.declared.program.Statement.TheVariants as statements
 use Rattle.ed_words.specs.declared.size.Size.TheVariants.{Small, Full}
 use Rattle.ed_symbols.specs.Faults.{resolved}
-use Rattle.ed_symbols.specs.Places.{even_from, first_spot}
+use Rattle.ed_symbols.specs.Places.{even_from, first_counter}
 use Rattle.ed_link.specs.Private.FaultTests.{fault, fault_from, missing, sooner}
-use Rattle.ed_link.specs.Linked.{homes_of, linked}
+use Rattle.ed_link.specs.Linked.{symbols_of, linked}
 use Rattle.ed_paths.proofs.Places.{IsOutside}
 use Rattle.ed_routines.proofs.Lines.{newline_line}
 use Rattle.ed_sources.proofs.Blocks.{order_at}
 use Rattle.ed_sources.proofs.Said.{order, said, stop}
-use Rattle.ed_programs.specs.Hello.{EachTextIsPrinted, IsRows, hello_data, hello_orders, hello_pieces, hello_prints, hello_rows}
+use Rattle.ed_programs.specs.Hello.{EachTextIsPrinted, IsRows, hello_data, hello_orders, hello_pieces, hello_prints}
+use Rattle.ed_programs.specs.Hello.{hello_rows}
 use Rattle.ed_programs.specs.Hello.{hello_text, is_capital, of_letters}
 use Rattle.ed_programs.proofs.Capitals.{are_rows, letters_shown}
-use Rattle.ed_programs.proofs.Faults.{past, spot}
+use Rattle.ed_programs.proofs.Faults.{past, counter}
 use Rattle.ed_programs.proofs.ProgramEntry.{stops_by}
 use Rattle.ed_programs.proofs.SourceRuns.{read_runs}
 use Rattle.ed_programs.proofs.TextLines.{IsAround, all_plain, number_says, text_mark}
@@ -44,7 +45,8 @@ printing q = 36864 + 2 * q
 -- its words: the jump to `newline`, the order after the last one that prints, the one that does, and a spare cell
 abbrev cells : ℕ → ℕ → ℕ → ℕ → List ℕ
 cells jump behind order scrap =
-    to 5 12 ∷ order ∷ to 28 1 ∷ 114692 ∷ to 7 1 ∷ to 12 11 ∷ to 27 0 ∷ to 5 12 ∷ to 28 8 ∷ jump ∷ 53248 ∷ behind ∷ scrap ∷ []
+    to 5 12 ∷ order ∷ to 28 1 ∷ 114692 ∷ to 7 1 ∷ to 12 11 ∷ to 27 0 ∷ to 5 12 ∷ to 28 8 ∷ jump ∷ 53248 ∷ behind
+    ∷ scrap ∷ []
 
 module _ (z : Size) (around : Moment) (all : length around.words ≡ 1024) (second : get_or around.words 2 0 ≡ 2)
     (w e : ℕ) (room : e ≤ 500) where
@@ -169,17 +171,18 @@ module _ (rows : List ℕ) (few : length rows ≤ 41) where
       (56, 56) ∷ (56, 56) ∷ (56, 56) ∷ (56, 56) ∷ (56, 57) ∷ (57, 58) ∷ (58, 59) ∷ (59, 60) ∷ (60, 61) ∷ (61, 62)
       ∷ (62, 63) ∷ (63, 64) ∷ (64, 65) ∷ (65, 66) ∷ (66, 67) ∷ (67, 68) ∷ (68, 69) ∷ (69, 69) ∷ []
 
-  placed_well : (z : Size) → fault_from z (homes_of lines) true (past runs) (spot 69 69 2)
+  placed_well : (z : Size) → fault_from z (symbols_of lines) true (past runs) (counter 69 69 2)
       (last_lines 19 (codes "letters") rows (codes "n") (codes "main")) ≡ None
-      → fault_from z (homes_of lines) true (past []) first_spot lines ≡ None
+      → fault_from z (symbols_of lines) true (past []) first_counter lines ≡ None
   placed_well Small h = h
   placed_well Full h = h
 
   faultless : (z : Size) → fault z lines ≡ None
   faultless z =
-      (λ i. sooner (named i) (sooner (fault_from z (homes_of lines) true (past []) first_spot lines) (missing true (length lines))))
+      (λ i. sooner (named i) (sooner (fault_from z (symbols_of lines) true (past []) first_counter lines)
+      (missing true (length lines))))
       ∙ ap (λ f. sooner None (sooner f None)) (placed_well z
-      (text_sound z (homes_of lines) runs 69 69 2 19 (codes "letters") (codes "n") (codes "main") rows (lit≤ tt)
+      (text_sound z (symbols_of lines) runs 69 69 2 19 (codes "letters") (codes "n") (codes "main") rows (lit≤ tt)
       (omega arith) refl refl))
 
 ends : (c : ℕ) (cs : List ℕ) → length (c ∷ cs) ≤ 41 → list_all (λ c. nat_lt c 32) (c ∷ cs) ≡ true → (z : Size)
@@ -213,10 +216,12 @@ module _ (b : ℕ) (r : Text) (o : IsRows (b ∷ r)) where
   few : length rows ≤ 41
   few = let f = o.few in omega (arith, long)
 
-  last_says : line_of true 16 (codes "_last: O letters+" ++ (decimal (length q) ++ codes " F  ; the order behind the last letter"))
+  last_says : line_of true 16 (codes "_last: O letters+"
+      ++ (decimal (length q) ++ codes " F  ; the order behind the last letter"))
       ≡ Ok (record { label = Some (codes "_last"); statement = Some (behind (length rows)) })
   last_says =
-      subst (λ n. line_of true 16 (codes "_last: O letters+" ++ (decimal n ++ codes " F  ; the order behind the last letter"))
+      subst (λ n. line_of true 16 (codes "_last: O letters+"
+      ++ (decimal n ++ codes " F  ; the order behind the last letter"))
       ≡ Ok (record { label = Some (codes "_last"); statement = Some (behind (length rows)) })) long
       (number_says (number_line (length rows) (omega (arith, few))) (omega (arith, few)))
 

@@ -48,7 +48,7 @@ module _ (z : Size) (tape_rows rest : List ℕ) (n cost read : ℕ) (small : n �
     word = 0;
     cost = cost;
     rows = read;
-    note = interlude_note z (first_state z tape_rows).store.words n small;
+    notation = interlude_note z (first_state z tape_rows).store.words n small;
     last = plain 0 0 17;
     rest = rest;
   }
@@ -175,7 +175,7 @@ module _ (z : Size) (tape_rows rest : List ℕ) (n cost read : ℕ) (small : n �
       word = 0;
       cost = 280;
       rows = end;
-      note = program_note z W n 200 low fits;
+      notation = program_note z W n 200 low fits;
       last = plain 0 0 17;
       rest = [];
     }

@@ -8,7 +8,7 @@ use Rattle.ed_words.specs.Sizes.{locations}
 use Rattle.ed_words.specs.declared.size.Size.{Size}
 use Rattle.ed_notation.specs.declared.item.Item.{Item}
 use Rattle.ed_notation.specs.Items.{rows_of, spelled}
-use Rattle.ed_notation.specs.Fold.{Note, cost_of, is_entry, over}
+use Rattle.ed_notation.specs.Fold.{NotationState, cost_of, is_entry, over}
 use Rattle.ed_notation.specs.Openings.{IsDirective, opening}
 use Rattle.ed_notation.specs.Faults.{ComesTo, EndsSound, WellFormed}
 use Rattle.ed_notation.specs.Spellings.{canonical, canonicals, digits_of}
@@ -19,7 +19,8 @@ use Rattle.ed_notation.proofs.Steps.{Enters, Reads, aiming, aiming_entry, enteri
 use Rattle.ed_notation.proofs.Steps.{reads_one, setting_theta}
 
 -- items before an entry item P F, and the entry to which they lead from a state of the notation
-pub record Entered (z : Size) (words : List ℕ) (start : Note) (base at : ℕ) (is : List Item) (last : Note) (cost : ℕ)
+pub record Entered (z : Size) (words : List ℕ) (start : NotationState) (base at : ℕ) (is : List Item)
+    (last : NotationState) (cost : ℕ)
     (rest : List ℕ) : Type 0 where
   pub well : WellFormed z words start (spelled (canonicals is) ++ (rows_of (canonical (plain 0 0 17)) ++ rest))
   pub comes : ComesTo words start base (spelled (canonicals is) ++ (rows_of (canonical (plain 0 0 17)) ++ rest))
@@ -28,12 +29,13 @@ pub record Entered (z : Size) (words : List ℕ) (start : Note) (base at : ℕ) 
         word = 0;
         cost = base + cost + 19;
         rows = length (spelled (canonicals is)) + 2;
-        note = last;
+        notation = last;
         last = plain 0 0 17;
         rest = rest;
       })
 
-pub entered : {z : Size} {words : List ℕ} {start last : Note} {is : List Item} {cost : ℕ} (base at : ℕ) (rest : List ℕ)
+pub entered : {z : Size} {words : List ℕ} {start last : NotationState} {is : List Item} {cost : ℕ} (base at : ℕ)
+    (rest : List ℕ)
     → IsDirective start.directive → Reads z words start is last cost → last.directive ≡ 12288 + 2 * at → 44 ≤ at
     → at < locations z → Entered z words start base at is last cost rest
 entered {z} {words} {start} {last} {is} {cost} base at rest set reads aim low high =
@@ -44,14 +46,14 @@ entered {z} {words} {start} {last} {is} {cost} base at rest set reads aim low hi
     let end : cost_of last (canonical (plain 0 0 17)) ≡ 19 = rw three refl in
     record {
       well = sound_well (canonicals is) rest set reads.are_read reads.are_sound (is_written (plain 0 0 17) refl)
-          (ap (λ (n : Note). is_entry n (plain 0 0 17)) reads.folds ∙ enters)
-          (subst (λ (n : Note). EndsSound z words n (canonical (plain 0 0 17))) (sym reads.folds) e.sound);
+          (ap (λ (n : NotationState). is_entry n (plain 0 0 17)) reads.folds ∙ enters)
+          (subst (λ (n : NotationState). EndsSound z words n (canonical (plain 0 0 17))) (sym reads.folds) e.sound);
       comes = record {
         before = canonicals is;
         last = canonical (plain 0 0 17);
         are_read = reads.are_read;
         is_written = is_written (plain 0 0 17) refl;
-        note_is = sym reads.folds;
+        notation_is = sym reads.folds;
         is_entry = enters;
         rows_are = refl;
         last_is = refl;
@@ -76,7 +78,7 @@ module _ (z : Size) (words : List ℕ) (n : ℕ) (small : n ≤ 510) where
   abbrev pub interlude_placed : List (ℕ × ℕ)
   interlude_placed = laid 100 (block words 200 (orders n)) []
 
-  abbrev pub interlude_note : Note
+  abbrev pub interlude_note : NotationState
   interlude_note = record { directive = 12488; theta = 200; placed = interlude_placed }
 
   letters : all_letters (orders n) ≡ true
@@ -86,13 +88,13 @@ module _ (z : Size) (words : List ℕ) (n : ℕ) (small : n ≤ 510) where
       (344 + 9 * length (digits_of n))
   interlude_reads =
       let theta : ℕ = (opening words).theta in
-      let n1 : Note = record { directive = 20680; theta = theta; placed = [] } in
-      let n2 : Note = record { directive = 20680; theta = 200; placed = [] } in
-      let n3 : Note = record { directive = 20694; theta = 200; placed = interlude_placed } in
+      let n1 : NotationState = record { directive = 20680; theta = theta; placed = [] } in
+      let n2 : NotationState = record { directive = 20680; theta = 200; placed = [] } in
+      let n3 : NotationState = record { directive = 20694; theta = 200; placed = interlude_placed } in
       let head = reads_one z words (plain 5 100 14) refl (aiming z words (opening words) 100 (lit≤ tt))
       (reads_one z words (plain 27 0 14) refl (setting_theta z words n1 100 (lit≤ tt) refl) (reads_none z words n2)) in
       let high = least z in
-      let places = placing_all {z = z} {words = words} words {note = n2} 100 (orders n) letters refl (lit≤ tt)
+      let places = placing_all {z = z} {words = words} words {notation = n2} 100 (orders n) letters refl (lit≤ tt)
       (omega arith) (λ j l. refl) in
       let tail = reads_one z words (plain 3 100 14) refl (aiming_entry z words n3 100 (lit≤ tt))
       (reads_none z words interlude_note) in
@@ -117,7 +119,7 @@ abbrev pub program_items : List Item
 program_items = printed_words ++ plain 5 64 14 ∷ (printing_orders ++ plain 3 64 14 ∷ [])
 
 module _ (z : Size) (words : List ℕ) (n theta : ℕ) (low : 34 ≤ n) (fits : 2 * n + 3 ≤ locations z) where
-  abbrev pub from_return : Note
+  abbrev pub from_return : NotationState
   from_return = record { directive = 20480 + 2 * (2 * n); theta = theta; placed = [] }
 
   abbrev words_placed : List (ℕ × ℕ)
@@ -126,7 +128,7 @@ module _ (z : Size) (words : List ℕ) (n theta : ℕ) (low : 34 ≤ n) (fits : 
   abbrev pub program_placed : List (ℕ × ℕ)
   program_placed = laid 64 (block words theta printing_orders) words_placed
 
-  abbrev pub program_note : Note
+  abbrev pub program_note : NotationState
   program_note = record { directive = 12416; theta = theta; placed = program_placed }
 
   -- the words that are printed are at 68 and above
@@ -138,14 +140,14 @@ module _ (z : Size) (words : List ℕ) (n theta : ℕ) (low : 34 ≤ n) (fits : 
 
   pub program_reads : Reads z words from_return program_items program_note 259
   program_reads =
-      let n1 : Note = record { directive = 20480 + 2 * (2 * n + 3); theta = theta; placed = words_placed } in
-      let n2 : Note = record { directive = 20608; theta = theta; placed = words_placed } in
-      let n3 : Note = record { directive = 20616; theta = theta; placed = program_placed } in
+      let n1 : NotationState = record { directive = 20480 + 2 * (2 * n + 3); theta = theta; placed = words_placed } in
+      let n2 : NotationState = record { directive = 20608; theta = theta; placed = words_placed } in
+      let n3 : NotationState = record { directive = 20616; theta = theta; placed = program_placed } in
       let high = least z in
-      let first = placing_all {z = z} {words = words} words {note = from_return} (2 * n) printed_words refl refl
+      let first = placing_all {z = z} {words = words} words {notation = from_return} (2 * n) printed_words refl refl
       (omega arith) (omega arith) (λ j l. refl) in
       let aims = reads_one z words (plain 5 64 14) refl (aiming z words n1 64 (lit≤ tt)) (reads_none z words n2) in
-      let second = placing_all {z = z} {words = words} words {note = n2} 64 printing_orders refl refl (lit≤ tt)
+      let second = placing_all {z = z} {words = words} words {notation = n2} 64 printing_orders refl refl (lit≤ tt)
       (omega arith) apart in
       let tail = reads_one z words (plain 3 64 14) refl (aiming_entry z words n3 64 (lit≤ tt))
       (reads_none z words program_note) in

@@ -22,7 +22,7 @@ use Rattle.ed_codes.proofs.Readings.{has_one_reading}
 use Rattle.ed_notation.specs.Items.{AreDigits, rows_of, spelled}
 use Rattle.ed_notation.proofs.Canonical.{digits_are}
 use Rattle.ed_notation.specs.Faults.{ComesTo, TapeEntry, WellFormed}
-use Rattle.ed_notation.specs.Fold.{Note, address}
+use Rattle.ed_notation.specs.Fold.{NotationState, address}
 use Rattle.ed_notation.specs.Spellings.{canonical, canonicals, digits_of}
 use Rattle.ed_notation.proofs.Steps.{plain}
 use Rattle.ed_initial.specs.Entry.{Comes}
@@ -198,8 +198,8 @@ module _ (z : Size) (n : ℕ) (low : 34 ≤ n) (small : n ≤ 510) (fits : 2 * n
       let e = entered 2 64 [] (omega arith) (program_reads z words n 200 low fits) refl (lit≤ tt) (omega arith) in
       let same = sym (reopens z (tape_rows n) program_rows n loaded read small low fits 26) in
       record {
-        well = subst (λ (x : Note). WellFormed z words x program_rows) same e.well;
-        comes = subst (λ (x : Note). ComesTo words x 2 program_rows second) same e.comes;
+        well = subst (λ (x : NotationState). WellFormed z words x program_rows) same e.well;
+        comes = subst (λ (x : NotationState). ComesTo words x 2 program_rows second) same e.comes;
       }
 
   abbrev course : Course z (tape_rows n) 68 (15 ∷ 21 ∷ 8 ∷ [])

@@ -47,7 +47,7 @@ mirror_entry rest = record {
   word = 0;
   cost = 1259;
   rows = 119;
-  note = record { directive = 12416; theta = 128; placed = placed };
+  notation = record { directive = 12416; theta = 128; placed = placed };
   last = record { function = 0; number = 0; mark = false; end = 17 };
   rest = rest;
 }

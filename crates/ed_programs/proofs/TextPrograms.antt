@@ -18,19 +18,21 @@ use Rattle.ed_library.specs.Routines.{table_item}
 use Rattle.ed_syntax.specs.Parts.{array}
 use Rattle.ed_syntax.specs.declared.program.Line.{Line}
 use Rattle.ed_syntax.specs.declared.program.Statement.TheVariants as statements
-use Rattle.ed_symbols.specs.declared.homes.Home.{Home}
+use Rattle.ed_symbols.specs.declared.symbols.Definition.{Definition}
 use Rattle.ed_symbols.specs.Names.{place_on}
 use Rattle.ed_symbols.specs.Places.{even_from}
-use Rattle.ed_link.specs.Linked.{laid, linked}
+use Rattle.ed_link.specs.Linked.{placed_words, linked}
 use Rattle.ed_link.specs.Private.FaultTests.{fault_from}
 use Rattle.ed_loads.specs.EntryState.{entry_state}
 use Rattle.ed_routines.specs.Catalogue.{newline}
 use Rattle.ed_routines.proofs.Journeys.{HasRoutine}
 use Rattle.ed_sources.proofs.AtEntry.{have_places}
-use Rattle.ed_sources.proofs.Blocks.{beside_block, block_places, in_block, last_append, last_at, last_is, or_else, word_of}
+use Rattle.ed_sources.proofs.Blocks.{beside_block, block_places, in_block, last_append, last_at, last_is, or_else}
+use Rattle.ed_sources.proofs.Blocks.{word_of}
 use Rattle.ed_sources.proofs.Entries.{frame_at}
 use Rattle.ed_sources.proofs.Said.{said}
-use Rattle.ed_programs.proofs.Faults.{are_below, block_sound, enter_sound, none_later, one_more, past, spot, use_sound}
+use Rattle.ed_programs.proofs.Faults.{are_below, block_sound, enter_sound, none_later, one_more, past, counter}
+use Rattle.ed_programs.proofs.Faults.{use_sound}
 
 -- ---- faults
 
@@ -43,21 +45,21 @@ last_lines k label rows name main =
     ∷ []
 
 -- they have none, where the lines before them have the places of these runs, which end at p
-pub text_sound : (z : Size) (homes : List Home) (runs : List (ℕ × ℕ)) (p b g k : ℕ) (label name main : Text)
-    (rows : List ℕ) → 56 ≤ p → p + length rows ≤ 500 → are_below p runs ≡ true → place_on homes None main ≡ Some 56
-    → fault_from z homes true (past runs) (spot p b g) (last_lines k label rows name main) ≡ None
-text_sound z homes runs p b g k label name main rows low high first place =
+pub text_sound : (z : Size) (symbols : List Definition) (runs : List (ℕ × ℕ)) (p b g k : ℕ) (label name main : Text)
+    (rows : List ℕ) → 56 ≤ p → p + length rows ≤ 500 → are_below p runs ≡ true → place_on symbols None main ≡ Some 56
+    → fault_from z symbols true (past runs) (counter p b g) (last_lines k label rows name main) ≡ None
+text_sound z symbols runs p b g k label name main rows low high first place =
     let size = least z in
     let n : ℕ = length rows in
     let w : ℕ = even_from (p + n) in
     let second = one_more p p (p + n) runs (omega arith) first in
     let third = one_more (p + n) w (w + 7) (runs ++ (p, p + n) ∷ []) (omega arith) second in
-    none_later k _ _ (block_sound z homes runs k p b g (Some label) rows (omega arith) (omega arith) first)
+    none_later k _ _ (block_sound z symbols runs k p b g (Some label) rows (omega arith) (omega arith) first)
     (none_later (k + 1) _ _
-    (use_sound z homes (runs ++ (p, p + n) ∷ []) (k + 1) (p + n) b g true (codes "newline") name []
+    (use_sound z symbols (runs ++ (p, p + n) ∷ []) (k + 1) (p + n) b g true (codes "newline") name []
     (omega arith) (omega arith) second refl refl)
     (none_later (k + 1 + 1) _ _
-    (enter_sound z homes ((runs ++ (p, p + n) ∷ []) ++ (w, w + 7) ∷ []) (k + 1 + 1) (w + 7) w (g + 1) 56 main place
+    (enter_sound z symbols ((runs ++ (p, p + n) ∷ []) ++ (w, w + 7) ∷ []) (k + 1 + 1) (w + 7) w (g + 1) 56 main place
     (omega arith) (omega arith) third)
     refl))
 
@@ -91,7 +93,8 @@ Spells ws q (c ∷ cs) = (get_or ws q 0 ≡ 4096 * c) × (c < 32) × Spells ws (
 -- the words of the text and of the routine, from the place p on
 abbrev pub text_words : ℕ → List ℕ → List (ℕ × ℕ)
 text_words p rows =
-    laid p (map (λ c. 4096 * c) rows) ++ (laid (even_from (p + length rows)) (newline_words (even_from (p + length rows))) ++ [])
+    placed_words p (map (λ c. 4096 * c) rows) ++ (placed_words (even_from (p + length rows))
+    (newline_words (even_from (p + length rows))) ++ [])
 
 module _ (z : Size) (lines : List Line) (p : ℕ) (rows : List ℕ) (low : 56 ≤ p) (high : p + length rows ≤ 500)
     (front : List (ℕ × ℕ)) (are : linked lines ≡ front ++ text_words p rows) (fit : have_places front ≡ true) where
@@ -104,22 +107,27 @@ module _ (z : Size) (lines : List Line) (p : ℕ) (rows : List ℕ) (low : 56 �
   abbrev codes_in : List ℕ
   codes_in = map (λ c. 4096 * c) rows
 
-  rest_at : (a : ℕ) → last_at (text_words p rows) a ≡ or_else (last_at (laid w (newline_words w)) a) (last_at (laid p codes_in) a)
+  rest_at : (a : ℕ) → last_at (text_words p rows) a
+      ≡ or_else (last_at (placed_words w (newline_words w)) a) (last_at (placed_words p codes_in) a)
   rest_at a =
-      last_append (laid p codes_in) (laid w (newline_words w) ++ []) a
-      ∙ ap (λ (x : List (ℕ × ℕ)). or_else (last_at x a) (last_at (laid p codes_in) a)) (append-nil (laid w (newline_words w)))
+      last_append (placed_words p codes_in) (placed_words w (newline_words w) ++ []) a
+      ∙ ap (λ (x : List (ℕ × ℕ)). or_else (last_at x a) (last_at (placed_words p codes_in) a))
+      (append-nil (placed_words w (newline_words w)))
 
   rest_places : have_places (text_words p rows) ≡ true
   rest_places =
       let long = length-map rows (λ c. 4096 * c) in
       let first = block_places p codes_in (omega arith) in
       let second = block_places w (newline_words w) (omega arith) in
-      list_all-append (λ (x : ℕ × ℕ). nat_lt x.0 1024) (laid p codes_in) (laid w (newline_words w) ++ [])
-      ∙ ap (λ (x : List (ℕ × ℕ)). have_places (laid p codes_in) && have_places x) (append-nil (laid w (newline_words w)))
+      list_all-append (λ (x : ℕ × ℕ). nat_lt x.0 1024) (placed_words p codes_in)
+      (placed_words w (newline_words w) ++ [])
+      ∙ ap (λ (x : List (ℕ × ℕ)). have_places (placed_words p codes_in)
+      && have_places x) (append-nil (placed_words w (newline_words w)))
       ∙ (λ i. first i && second i)
 
   word_at_entry : (a : ℕ) → 44 ≤ a → a < 1024
-      → get_or ws a 0 ≡ unwrap_or (or_else (or_else (last_at (laid w (newline_words w)) a) (last_at (laid p codes_in) a)) (last_at front a)) 0
+      → get_or ws a 0 ≡ unwrap_or (or_else (or_else (last_at (placed_words w (newline_words w)) a)
+      (last_at (placed_words p codes_in) a)) (last_at front a)) 0
   word_at_entry a from below =
       word_of z lines front (text_words p rows) are fit rest_places a from below
       ∙ ap (λ o. unwrap_or (or_else o (last_at front a)) 0) (rest_at a)
@@ -169,6 +177,7 @@ module _ (z : Size) (lines : List Line) (p : ℕ) (rows : List ℕ) (low : 56 �
     image = λ i l free.
         let here = in_block w (newline_words w) i l in
         word_at_entry (w + i) (omega arith) (omega arith)
-        ∙ (λ j. unwrap_or (or_else (or_else (here j) (last_at (laid p codes_in) (w + i))) (last_at front (w + i))) 0)
+        ∙ (λ j. unwrap_or (or_else (or_else (here j) (last_at (placed_words p codes_in) (w + i)))
+        (last_at front (w + i))) 0)
         ∙ newline_is w i l;
   }

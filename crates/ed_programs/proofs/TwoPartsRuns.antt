@@ -13,7 +13,7 @@ use Rattle.ed_codes.specs.Reading.{reading, rows}
 use Rattle.ed_store.specs.Cells.{IsStore}
 use Rattle.ed_machine.specs.State.{State}
 use Rattle.ed_machine.specs.OrderTable.{Obeyed, step}
-use Rattle.ed_machine.specs.Steps.{is_obeyed, past, state_after, stops_of}
+use Rattle.ed_machine.specs.Steps.{is_obeyed, progress, state_after, stops_of}
 use Rattle.ed_machine.specs.declared.turn.Turn.{Turn}
 use Rattle.ed_machine.specs.declared.turn.Turn.TheVariants.{Went, Printed, Stopped as Stops, NoOrder, NoTape}
 use Rattle.ed_machine.specs.declared.ending.Ending.TheVariants.{Stopped}
@@ -39,9 +39,10 @@ use Rattle.ed_report.specs.Entries.{entry_line, returned_line}
 use Rattle.ed_report.specs.Notes.{at_after}
 use Rattle.ed_sources.proofs.Stops.{LeadsToStop, ran_to_stop}
 use Rattle.ed_parts.specs.Parts.{ComesHome, Concludes, Finishes, GoesBack, IsUnderWay, LeadsTo, RunsOn, TapePart}
-use Rattle.ed_parts.specs.Parts.{TapeTells}
-use Rattle.ed_parts.specs.Parts.{Told, entry_done, entry_told, finished, first_part, part_behind, part_entry_state}
-use Rattle.ed_parts.specs.Parts.{program_end, told_lines}
+use Rattle.ed_parts.specs.Parts.{IsReportOfTape}
+use Rattle.ed_parts.specs.Parts.{PartsReport, entry_done, entry_report, finished, first_part, part_after}
+use Rattle.ed_parts.specs.Parts.{part_entry_state}
+use Rattle.ed_parts.specs.Parts.{program_end, part_report}
 use Rattle.ed_parts.specs.declared.tape.PartsEnd.TheVariants.{Ended}
 use Rattle.ed_command.specs.declared.command.Settings.{Settings}
 use Rattle.ed_answers.specs.Answer.{OfReading, exactly}
@@ -105,10 +106,10 @@ no_end (NoOrder function) e = cc
 no_end NoTape e = cc
 
 module _ (left : ℕ) (s : State) where
-  under_way : (k : ℕ) → k < left → (past k s).stops ≡ 0 → is_obeyed (step (state_after k s)).turn ≡ true
+  under_way : (k : ℕ) → k < left → (progress k s).stops ≡ 0 → is_obeyed (step (state_after k s)).turn ≡ true
       → (state_after k s).counter ≢ 25 → IsUnderWay left k s
   under_way k below none obeyed place =
-      let a = lt_false 0 (past k s).stops (omega (arith, none)) in
+      let a = lt_false 0 (progress k s).stops (omega (arith, none)) in
       let b = eq_false k left (omega arith) in
       record { no_end = rw (a, b) (no_end _ obeyed); away = λ home. place home.counter }
 
@@ -131,7 +132,7 @@ module _ (left : ℕ) (s : State) where
       turn : (step (state_after k s)).turn ≡ Stops
       turn = ap (λ (x : State). (step x).turn) o.leads.state_is ∙ o.stops
 
-      none : (past k s).stops ≡ 0
+      none : (progress k s).stops ≡ 0
       none = no_stops k s o.leads.goes
 
       runs : RunsOn left (k + 1) s
@@ -146,11 +147,11 @@ module _ (left : ℕ) (s : State) where
                 (under_way k (omega arith) none (ap is_obeyed turn) (far k (omega arith)))
           ]
 
-      some : 0 < (past (k + 1) s).stops
+      some : 0 < (progress (k + 1) s).stops
       some = let one = ap stops_of turn in omega (arith, next_stops k s, none, one)
 
       ends : program_end left (k + 1) s ≡ Some Stopped
-      ends = let a = lt_true 0 (past (k + 1) s).stops some in rw a refl
+      ends = let a = lt_true 0 (progress (k + 1) s).stops some in rw a refl
 
 -- ---- a tape
 
@@ -241,7 +242,7 @@ module _ {z : Size} {tape_rows : List ℕ} {at : ℕ} {printed : List ℕ} (c : 
     }
 
     abbrev two : TapePart
-    two = part_behind one goes_back
+    two = part_after one goes_back
 
     there : two.state ≡ c.back
     there = ap (state_after c.orders) first.arrives ∙ c.leads.state_is
@@ -254,9 +255,9 @@ module _ {z : Size} {tape_rows : List ℕ} {at : ℕ} {printed : List ℕ} (c : 
     entered : part_entry_state two c.program ≡ at_entry c.back c.program
     entered = ap (state_after c.program.cost) there ∙ second.arrives
 
-    abbrev end : Told
+    abbrev end : PartsReport
     end = record {
-      text = entry_told (length start.tape) two c.program;
+      text = entry_report (length start.tape) two c.program;
       end = Ended Stopped;
       last = state_after (c.orders_on + 1) (part_entry_state two c.program);
     }
@@ -268,10 +269,10 @@ module _ {z : Size} {tape_rows : List ℕ} {at : ℕ} {printed : List ℕ} (c : 
         (finishes _ _ c.stops c.stays_away (omega (arith, fits))))
         refl
 
-    abbrev whole : Told
-    whole = record end { text = told_lines (length start.tape) one goes_back ++ end.text }
+    abbrev whole : PartsReport
+    whole = record end { text = part_report (length start.tape) one goes_back ++ end.text }
 
-    tells : TapeTells limit start whole
+    tells : IsReportOfTape limit start whole
     tells = record { returns = 1; told = (goes_back, end, concludes, refl) }
 
     last_is : end.last ≡ (step c.stops.last).state

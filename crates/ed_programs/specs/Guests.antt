@@ -14,8 +14,8 @@ use Rattle.ed_syntax.specs.declared.program.Statement.{Statement}
 use Rattle.ed_syntax.specs.declared.program.Statement.TheVariants.{Fetch, Enter}
 use Rattle.ed_syntax.specs.declared.program.Line.{Line}
 use Rattle.ed_symbols.specs.Places.{even_from}
-use Rattle.ed_symbols.specs.NameFaults.{StandsAfter, spot_after}
-use Rattle.ed_link.specs.Linked.{entry_of, homes_of, operand_number}
+use Rattle.ed_symbols.specs.NameFaults.{StandsAfter, counter_after}
+use Rattle.ed_link.specs.Linked.{entry_of, symbols_of, operand_number}
 use Rattle.ed_link.specs.Refusals.{IsAcceptedAs}
 use Rattle.ed_loads.specs.EntryState.{entry_state}
 use Rattle.ed_checker.specs.Checker.{IsAllowed, checked_codes, checked_orders, guest, planting_place, saving_orders}
@@ -50,14 +50,14 @@ pub record EntersChecker (lines : List Line) : Type 0 where
 
 -- the base of the routine: the next even location after the lines before its `use`
 abbrev pub checker_base : List Line → ℕ
-checker_base before = even_from (spot_after before).place
+checker_base before = even_from (counter_after before).place
 
 -- ---- the guest
 
 -- the guest's first order is the one at H, so the guest is the machine at the entry with its counter there
 abbrev pub entry_guest : Size → List Line → Operand → State
 entry_guest z lines first =
-    record (entry_state z lines) { counter = operand_number (homes_of lines) None first; orders = 0 }
+    record (entry_state z lines) { counter = operand_number (symbols_of lines) None first; orders = 0 }
 
 -- the first q orders of a guest are allowed and obeyed, none of them is a stop, and the next one is an allowed Z
 pub record StopsAtZ (base q : ℕ) (g : State) : Type 0 where
@@ -77,7 +77,7 @@ stopped_orders g q = checked_orders g q - saving_orders
 -- these orders and of the Z, in exactly their turns, and stops at the routine's planting place
 pub record ChecksGuest (s : Settings) (source : Text) (lines : List Line) (c : EntersChecker lines) : Type 0 where
   pub entry : entry_of lines ≡ checker_base c.before
-  pub finds : operand_number (homes_of lines) None c.first < 1024
+  pub finds : operand_number (symbols_of lines) None c.first < 1024
       → guest (checker_base c.before) (entry_state s.size lines) ≡ entry_guest s.size lines c.first
   pub runs : (q : ℕ) → StopsAtZ (checker_base c.before) q (entry_guest s.size lines c.first)
       → length (checked_codes (entry_guest s.size lines c.first) (suc q)) ≤ paper_room

@@ -5,7 +5,7 @@ use Rattle.std.proofs.Common.{◌∷◌, ◌++◌, length, length-append, map}
 use Rattle.std.specs.Fmt.{decimal}
 use Rattle.std.proofs.lemmas.Fmt.{decimal_digit, decimal_step}
 use Rattle.std.proofs.lemmas.Bool.{cases_lt}
-use Rattle.ed_routines.specs.Digits.{digits_value, value_behind, without_zeros, before_units, digits, DigitsLaw}
+use Rattle.ed_routines.specs.Digits.{digits_value, value_after, without_zeros, before_units, digits, DigitsLaw}
 
 -- leading zeros make no difference
 value_without : (ds : List ℕ) (u : ℕ) → digits_value (without_zeros ds ++ u ∷ []) ≡ 10 * digits_value ds + u
@@ -13,7 +13,7 @@ value_without [] u = refl
 value_without (zero ∷ ds) u = value_without ds u
 value_without (suc d ∷ ds) u = after (10 * 0 + suc d) ds u
   where
-    after : (n : ℕ) (ds : List ℕ) (u : ℕ) → value_behind n (ds ++ u ∷ []) ≡ 10 * value_behind n ds + u
+    after : (n : ℕ) (ds : List ℕ) (u : ℕ) → value_after n (ds ++ u ∷ []) ≡ 10 * value_after n ds + u
     after n [] u = refl
     after n (d ∷ ds) u = after (10 * n + d) ds u
 

@@ -10,7 +10,7 @@ use Rattle.ed_paths.proofs.Orders.{word_is}
 use Rattle.ed_paths.proofs.Shifts.{LD, L1F}
 use Rattle.ed_paths.proofs.Moves.{A, S, T, U, I, E_jumps, E_stays, L}
 use Rattle.ed_paths.proofs.Paths.{Path, stay, on, followed}
-use Rattle.ed_routines.specs.Digits.{digits_value, value_behind}
+use Rattle.ed_routines.specs.Digits.{digits_value, value_after}
 use Rattle.ed_routines.proofs.Called.{Call, moment}
 
 -- the cells that change: the order that returns, the number so far, the row, and a spare cell
@@ -129,7 +129,7 @@ module _ (call : Call 24 0) (h : ℕ) where
   })
 
   value_kept : (n : ℕ) (ds : List ℕ) (w : Work) → w.at21 ≡ n % 2 ^ 17
-      → (worked n ds w).at21 ≡ value_behind n ds % 2 ^ 17
+      → (worked n ds w).at21 ≡ value_after n ds % 2 ^ 17
   value_kept n [] w e = e
   value_kept n (d ∷ ds) w e =
       value_kept (10 * n + d) ds (record w { at21 = (10 * n + d) % 2 ^ 17; at22 = d; at23 = (2 * n) % 2 ^ 17 }) refl

@@ -2,7 +2,7 @@
 use Rattle.std.proofs.Common.{◌≡◌, ℕ, ◌+◌, ◌-◌, ◌≤◌, ap}
 use Rattle.std.proofs.Common.{◌∙◌, arith, List, ◌++◌, length}
 use Rattle.ed_machine.specs.State.{State}
-use Rattle.ed_machine.specs.Steps.{past, state_after}
+use Rattle.ed_machine.specs.Steps.{progress, state_after}
 use Rattle.ed_machine.specs.Sheet.{Sheet}
 use Rattle.ed_machine.specs.declared.ending.Ending.{Ending}
 use Rattle.ed_run.specs.Run.{IsRun}
@@ -21,12 +21,12 @@ pub ran : {k : ℕ} {s t last : State} {sheet full : Sheet} {codes : List ℕ} {
     → Ran (state_after k s) last sheet full codes
 ran {k} {s} {sheet = sheet} {codes = codes} o room r =
     let stops = no_stops k s o.goes in
-    let few : length (past k s).codes ≤ sheet.room - length sheet.codes = let e = ap length o.codes_are
+    let few : length (progress k s).codes ≤ sheet.room - length sheet.codes = let e = ap length o.codes_are
     in omega (arith, e) in
     let has : HasRoom (sheet.room - length sheet.codes) k s = record { obeyed = free o; printed = few } in
     let one = ends_once r.ends (at_limit k 0 has (omega (arith, stops))) in
     record {
       state_is = r.state_is ∙ ap (λ j. state_after j s) one.0;
-      sheet_is = r.sheet_is ∙ ap (λ j. record { codes = sheet.codes ++ (past j s).codes; room = sheet.room }) one.0
+      sheet_is = r.sheet_is ∙ ap (λ j. record { codes = sheet.codes ++ (progress j s).codes; room = sheet.room }) one.0
           ∙ ap (λ x. record { codes = sheet.codes ++ x; room = sheet.room }) o.codes_are;
     }

@@ -4,13 +4,13 @@ use Rattle.std.specs.Prelude.{List, [], ◌∷◌, ◌++◌, length, map, if◌t
 use Rattle.std.specs.Fmt.{decimal}
 
 -- the number that digits spell when appended to a number, the most significant digit first
-abbrev pub value_behind : ℕ → List ℕ → ℕ
-value_behind n [] = n
-value_behind n (d ∷ ds) = value_behind (10 * n + d) ds
+abbrev pub value_after : ℕ → List ℕ → ℕ
+value_after n [] = n
+value_after n (d ∷ ds) = value_after (10 * n + d) ds
 
 -- the number that digits spell
 abbrev pub digits_value : List ℕ → ℕ
-digits_value ds = value_behind 0 ds
+digits_value ds = value_after 0 ds
 
 -- digits without leading zeros
 abbrev pub without_zeros : List ℕ → List ℕ

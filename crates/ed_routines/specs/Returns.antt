@@ -3,7 +3,7 @@ use Rattle.std.specs.Prelude.{◌≡◌, ◌≢◌, ◌⊎◌, ℕ, ◌+◌, ◌
 use Rattle.ed_store.specs.Cells.{short_at}
 use Rattle.ed_machine.specs.State.{State}
 use Rattle.ed_machine.specs.OrderTable.{step}
-use Rattle.ed_machine.specs.Steps.{IsFree, state_after}
+use Rattle.ed_machine.specs.Steps.{AreObeyed, state_after}
 use Rattle.ed_machine.specs.declared.turn.Turn.TheVariants.{NoTape as HasNoTape}
 use Rattle.ed_library.specs.Routines.{is_working, place_count}
 use Rattle.ed_routines.specs.Standing.{caller}
@@ -22,7 +22,7 @@ pub record Keeps (r base : ℕ) (s t : State) : Type 0 where
 -- t is the state `count` orders after s, and each of them was obeyed
 pub record IsAfter (count : ℕ) (s t : State) : Type 0 where
   pub state_is : t ≡ state_after count s
-  pub free : IsFree count s
+  pub free : AreObeyed count s
 
 -- the routine has returned: the counter is after the call, the accumulator is clear, these are the rows left and the
 -- last printed code, and nothing else has changed but words

@@ -4,7 +4,7 @@ use Rattle.std.proofs.Common.{true≢false, nat_eq, nat_lt, Option, Some, None, 
 use Rattle.std.proofs.lemmas.Bool.{cases_lt}
 use Rattle.std.proofs.lemmas.Bool.Decides.{nat_tests}
 use Rattle.ed_machine.specs.State.{State}
-use Rattle.ed_machine.specs.Steps.{Past, past}
+use Rattle.ed_machine.specs.Steps.{Progress, progress}
 use Rattle.ed_machine.specs.Sheet.{Sheet}
 use Rattle.ed_machine.specs.declared.ending.Ending.{Ending}
 use Rattle.ed_machine.specs.declared.ending.Ending.TheVariants.{Limit}
@@ -12,7 +12,7 @@ use Rattle.ed_run.specs.Run.{end_at, ran, run_orders, EndsAfter, IsLeft, IsRun}
 use Rattle.ed_machine.proofs.LeastNumbers.{least_holds, least_first}
 
 -- at the limit there is an end
-limit_ends : (limit resumes room : ℕ) (p : Past) → is_some (end_at limit resumes room limit p) ≡ true
+limit_ends : (limit resumes room : ℕ) (p : Progress) → is_some (end_at limit resumes room limit p) ≡ true
 limit_ends limit resumes room p = by_stops (nat_lt resumes p.stops) refl
   where
     same : nat_eq limit limit ≡ true
@@ -37,11 +37,11 @@ pub ran_ends : (limit resumes room : ℕ) (s : State)
 unfolding ran
 ran_ends limit resumes room s =
     let k = run_orders limit resumes room s in
-    let test : ℕ → Bool = λ j. is_some (end_at limit resumes room j (past j s)) in
+    let test : ℕ → Bool = λ j. is_some (end_at limit resumes room j (progress j s)) in
     record {
-      now = is_of (end_at limit resumes room k (past k s)) Limit
-          (least_holds test limit (limit_ends limit resumes room (past limit s)));
-      first = λ j h. none_of (end_at limit resumes room j (past j s)) (least_first test limit j h);
+      now = is_of (end_at limit resumes room k (progress k s)) Limit
+          (least_holds test limit (limit_ends limit resumes room (progress limit s)));
+      first = λ j h. none_of (end_at limit resumes room j (progress j s)) (least_first test limit j h);
     }
 
 -- two ends of one run are the same
@@ -55,7 +55,7 @@ ends_once {limit} {resumes} {room} {s} {j} {k} {d} {e} g h =
             | inl l ↦ absurd (none_some e (sym (g.first k l) ∙ h.now))
             | inr n ↦
                 let same : j ≡ k = omega arith in
-                (same, some_is d e (sym g.now ∙ ap (λ i. end_at limit resumes room i (past i s)) same ∙ h.now))
+                (same, some_is d e (sym g.now ∙ ap (λ i. end_at limit resumes room i (progress i s)) same ∙ h.now))
           ]
     ]
   where

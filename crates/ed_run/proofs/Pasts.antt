@@ -7,7 +7,7 @@ use Rattle.ed_words.proofs.Numbers.{lt_true, lt_false, eq_false}
 use Rattle.ed_machine.specs.State.{State}
 use Rattle.ed_machine.specs.OrderTable.{step}
 use Rattle.std.specs.Bool.{OnTrue}
-use Rattle.ed_machine.specs.Steps.{Past, codes_of, is_obeyed, stops_of, past}
+use Rattle.ed_machine.specs.Steps.{Progress, codes_of, is_obeyed, stops_of, progress}
 use Rattle.ed_machine.specs.Sheet.{Sheet}
 use Rattle.ed_machine.specs.declared.turn.Turn.{Turn}
 use Rattle.ed_machine.specs.declared.turn.Turn.TheVariants.{Went, Printed, Stopped as Stops, NoOrder, NoTape}
@@ -17,7 +17,7 @@ use Rattle.ed_machine.proofs.Steps.{past_next}
 use Rattle.ed_run.specs.Run.{end_by, end_at, prints, IsRun}
 
 -- a run with a resume left and orders left ends as its next order says
-by_next : (limit resumes room k : ℕ) (p : Past) → p.stops ≤ resumes → k < limit
+by_next : (limit resumes room k : ℕ) (p : Progress) → p.stops ≤ resumes → k < limit
     → end_at limit resumes room k p ≡ end_by (step p.state).turn (nat_le room (length p.codes))
 by_next limit resumes room k p within below =
     let a = lt_false resumes p.stops within in let b = eq_false k limit (omega arith) in rw (a, b) refl
@@ -52,18 +52,18 @@ is_full paper = nat_le paper.room (length paper.codes)
 module _ (limit resumes : ℕ) (s : State) (sheet : Sheet) where
   -- how the run ends after k orders, if it does
   abbrev end_after : ℕ → Option Ending
-  end_after k = end_at limit resumes (sheet.room - length sheet.codes) k (past k s)
+  end_after k = end_at limit resumes (sheet.room - length sheet.codes) k (progress k s)
 
   -- the state of the program after k orders
   pub record Running (k : ℕ) (m : State) (paper : Sheet) (stops : ℕ) : Type 0 where
-    pub state : m ≡ (past k s).state
-    pub codes : paper ≡ record { codes = sheet.codes ++ (past k s).codes; room = sheet.room }
-    pub stops_are : stops ≡ (past k s).stops
+    pub state : m ≡ (progress k s).state
+    pub codes : paper ≡ record { codes = sheet.codes ++ (progress k s).codes; room = sheet.room }
+    pub stops_are : stops ≡ (progress k s).stops
     pub within : stops ≤ resumes
     pub first : (j : ℕ) → j < k → end_after j ≡ None
 
   pub at_first : Running 0 s sheet 0
-  unfolding past
+  unfolding progress
   at_first = record {
     state = refl;
     codes = λ i. record { codes = sym (append-nil sheet.codes) i; room = sheet.room };
@@ -77,11 +77,11 @@ module _ {limit resumes : ℕ} {s : State} {sheet : Sheet} {k : ℕ} {m : State}
     (r : Running limit resumes s sheet k m paper stops) where
   -- the state of the program after one more order
   taken : {m' : State} {paper' : Sheet} {stops' : ℕ} {turn : Turn} → Took m paper stops turn m' paper' stops'
-      → (m' ≡ (past (k + 1) s).state)
-      × (paper' ≡ record { codes = sheet.codes ++ (past (k + 1) s).codes; room = sheet.room })
-      × (stops' ≡ (past (k + 1) s).stops)
+      → (m' ≡ (progress (k + 1) s).state)
+      × (paper' ≡ record { codes = sheet.codes ++ (progress (k + 1) s).codes; room = sheet.room })
+      × (stops' ≡ (progress (k + 1) s).stops)
   taken {paper' = paper'} {turn = turn} t =
-      let p = past k s in
+      let p = progress k s in
       let turn_is : (step p.state).turn ≡ turn = ap (λ (x : State). (step x).turn) (sym r.state) ∙ t.turn_is in
       let whole : paper'.codes ≡ sheet.codes ++ (p.codes ++ codes_of (step p.state).turn) =
       ap (λ (x : Sheet). x.codes) t.paper_is
@@ -97,12 +97,12 @@ module _ {limit resumes : ℕ} {s : State} {sheet : Sheet} {k : ℕ} {m : State}
       )
 
   -- the room left for the codes of a run is what is left of the sheet's
-  full_is : nat_le (sheet.room - length sheet.codes) (length (past k s).codes) ≡ is_full paper
+  full_is : nat_le (sheet.room - length sheet.codes) (length (progress k s).codes) ≡ is_full paper
   full_is =
-      let codes : length paper.codes ≡ length sheet.codes + length (past k s).codes =
-      ap (λ (x : Sheet). length x.codes) r.codes ∙ length-append sheet.codes (past k s).codes in
+      let codes : length paper.codes ≡ length sheet.codes + length (progress k s).codes =
+      ap (λ (x : Sheet). length x.codes) r.codes ∙ length-append sheet.codes (progress k s).codes in
       let room : paper.room ≡ sheet.room = ap (λ (x : Sheet). x.room) r.codes in
-      rw (codes, room) (moved sheet.room (length sheet.codes) (length (past k s).codes))
+      rw (codes, room) (moved sheet.room (length sheet.codes) (length (progress k s).codes))
     where
       moved : (a b c : ℕ) → nat_le (a - b) c ≡ nat_le a (b + c)
       moved a b c = grind (arith, nat_tests)
@@ -110,8 +110,10 @@ module _ {limit resumes : ℕ} {s : State} {sheet : Sheet} {k : ℕ} {m : State}
   -- how the next order ends the run, seen from the program
   next_end : k < limit → end_after limit resumes s sheet k ≡ end_by (step m).turn (is_full paper)
   next_end below =
-      by_next limit resumes (sheet.room - length sheet.codes) k (past k s) (omega (arith, r.stops_are, r.within)) below
-      ∙ ap (λ (x : State). end_by (step x).turn (nat_le (sheet.room - length sheet.codes) (length (past k s).codes)))
+      by_next limit resumes (sheet.room - length sheet.codes) k (progress k s)
+      (omega (arith, r.stops_are, r.within)) below
+      ∙ ap (λ (x : State). end_by (step x).turn (nat_le (sheet.room - length sheet.codes)
+      (length (progress k s).codes)))
       (sym r.state)
       ∙ ap (λ b. end_by (step m).turn b) full_is
 
@@ -135,7 +137,7 @@ module _ {limit resumes : ℕ} {s : State} {sheet : Sheet} {k : ℕ} {m : State}
   ends_with_stop {stops' = stops'} below t many =
       let now = taken t in
       let free : end_by (step m).turn (is_full paper) ≡ None = ap (λ (u : Turn). end_by u (is_full paper)) t.turn_is in
-      let a = lt_true resumes (past (k + 1) s).stops (omega (arith, many, now.2)) in
+      let a = lt_true resumes (progress (k + 1) s).stops (omega (arith, many, now.2)) in
       record {
         orders = k + 1;
         ends = record { now = rw a refl; first = first_after below free };

@@ -5,7 +5,7 @@ use Rattle.std.proofs.Common.{length, length-append, Some, None}
 use Rattle.ed_words.proofs.Numbers.{lt_true, lt_false, eq_true, eq_false, le_of}
 use Rattle.ed_machine.specs.State.{State}
 use Rattle.ed_machine.specs.OrderTable.{step}
-use Rattle.ed_machine.specs.Steps.{Past, past, state_after, codes_of, stops_of, is_obeyed}
+use Rattle.ed_machine.specs.Steps.{Progress, progress, state_after, codes_of, stops_of, is_obeyed}
 use Rattle.ed_machine.specs.declared.turn.Turn.{Turn}
 use Rattle.ed_machine.specs.declared.turn.Turn.TheVariants.{Went, Printed, Stopped as Stops, NoOrder, NoTape}
 use Rattle.ed_machine.specs.declared.ending.Ending.{Ending}
@@ -16,22 +16,25 @@ use Rattle.ed_run.specs.Laws.{HasRoom}
 
 -- what one order adds
 next_codes : (j : ℕ) (s : State)
-    → length (past (suc j) s).codes ≡ length (past j s).codes + length (codes_of (step (state_after j s)).turn)
-unfolding past
-next_codes j s = length-append (past j s).codes (codes_of (step (state_after j s)).turn)
+    → length (progress (suc j) s).codes ≡ length (progress j s).codes + length (codes_of (step (state_after j s)).turn)
+unfolding progress
+next_codes j s = length-append (progress j s).codes (codes_of (step (state_after j s)).turn)
 
-next_stops : (j : ℕ) (s : State) → (past (suc j) s).stops ≡ (past j s).stops + stops_of (step (state_after j s)).turn
-unfolding past
+next_stops : (j : ℕ) (s : State) → (progress (suc j) s).stops
+    ≡ (progress j s).stops + stops_of (step (state_after j s)).turn
+unfolding progress
 next_stops j s = refl
 
 -- the numbers of codes and of stops never decrease
 grows : (j d : ℕ) (s : State)
-    → ((past j s).stops ≤ (past (j + d) s).stops) × (length (past j s).codes ≤ length (past (j + d) s).codes)
+    → ((progress j s).stops ≤ (progress (j + d) s).stops)
+    × (length (progress j s).codes ≤ length (progress (j + d) s).codes)
 grows j d s =
-    let later = past d (state_after j s) in
-    let stops : (past (j + d) s).stops ≡ (past j s).stops + later.stops = ap (λ (p : Past). p.stops) (past_sum j d s) in
-    let codes : length (past (j + d) s).codes ≡ length (past j s).codes + length later.codes =
-    ap (λ (p : Past). length p.codes) (past_sum j d s) ∙ length-append (past j s).codes later.codes in
+    let later = progress d (state_after j s) in
+    let stops : (progress (j + d) s).stops ≡ (progress j s).stops + later.stops =
+    ap (λ (p : Progress). p.stops) (past_sum j d s) in
+    let codes : length (progress (j + d) s).codes ≡ length (progress j s).codes + length later.codes =
+    ap (λ (p : Progress). length p.codes) (past_sum j d s) ∙ length-append (progress j s).codes later.codes in
     (omega (arith, stops), omega (arith, codes))
 
 -- an order that is obeyed doesn't end the run if it prints nothing or has room
@@ -46,46 +49,47 @@ goes_by NoTape full o h = absurd (true≢false (sym o))
 
 -- no end comes before an order that is obeyed and has room, if resumes are left
 not_before : (limit resumes : ℕ) {room k : ℕ} {s : State} → HasRoom room k s → k ≤ limit → (j : ℕ) → j < k
-    → (past j s).stops ≤ resumes → end_at limit resumes room j (past j s) ≡ None
+    → (progress j s).stops ≤ resumes → end_at limit resumes room j (progress j s) ≡ None
 not_before limit resumes {room} {k} {s} r below j l few =
     let whole : suc j + (k - suc j) ≡ k = omega arith in
     let more = (grows (suc j) (k - suc j) s).1 in
-    let most : length (past (suc j) s).codes ≤ length (past k s).codes = rw whole at more in
-    rw (lt_false resumes (past j s).stops few, eq_false j limit (omega arith))
-    (goes_by (step (state_after j s)).turn (nat_le room (length (past j s).codes)) (r.obeyed j l)
-    (λ full. let m = le_of room (length (past j s).codes) full in omega (arith, m, most, r.printed, next_codes j s)))
+    let most : length (progress (suc j) s).codes ≤ length (progress k s).codes = rw whole at more in
+    rw (lt_false resumes (progress j s).stops few, eq_false j limit (omega arith))
+    (goes_by (step (state_after j s)).turn (nat_le room (length (progress j s).codes)) (r.obeyed j l)
+    (λ full. let m = le_of room (length (progress j s).codes) full in
+    omega (arith, m, most, r.printed, next_codes j s)))
 
 -- a bound on the number of stops at the end is one at each order before
-was_few : (k j n : ℕ) (s : State) → j ≤ k → (past k s).stops ≤ n → (past j s).stops ≤ n
+was_few : (k j n : ℕ) (s : State) → j ≤ k → (progress k s).stops ≤ n → (progress j s).stops ≤ n
 was_few k j n s l h =
     let whole : j + (k - j) ≡ k = omega arith in
     let more = (grows j (k - j) s).0 in
-    let most : (past j s).stops ≤ (past k s).stops = rw whole at more in
+    let most : (progress j s).stops ≤ (progress k s).stops = rw whole at more in
     omega (arith, most, h)
 
-pub at_limit : (limit resumes : ℕ) {room : ℕ} {s : State} → HasRoom room limit s → (past limit s).stops ≤ resumes
+pub at_limit : (limit resumes : ℕ) {room : ℕ} {s : State} → HasRoom room limit s → (progress limit s).stops ≤ resumes
     → EndsAfter limit resumes room s limit Limit
 at_limit limit resumes {s = s} r few = record {
-  now = rw (lt_false resumes (past limit s).stops few, eq_true limit limit refl) refl;
+  now = rw (lt_false resumes (progress limit s).stops few, eq_true limit limit refl) refl;
   first = λ j l. not_before limit resumes r (omega arith) j l (was_few limit j resumes s (omega arith) few);
 }
 
 pub at_block : (limit resumes : ℕ) {room k : ℕ} {s : State} {e : Ending} → HasRoom room k s
-    → (past k s).stops ≤ resumes → k < limit
-    → end_by (step (state_after k s)).turn (nat_le room (length (past k s).codes)) ≡ Some e
+    → (progress k s).stops ≤ resumes → k < limit
+    → end_by (step (state_after k s)).turn (nat_le room (length (progress k s).codes)) ≡ Some e
     → EndsAfter limit resumes room s k e
 at_block limit resumes {k = k} {s = s} r few l h = record {
-  now = rw (lt_false resumes (past k s).stops few, eq_false k limit (omega arith)) h;
+  now = rw (lt_false resumes (progress k s).stops few, eq_false k limit (omega arith)) h;
   first = λ j m. not_before limit resumes r (omega arith) j m (was_few k j resumes s (omega arith) few);
 }
 
-pub at_stop : (limit resumes : ℕ) {room j : ℕ} {s : State} → HasRoom room (suc j) s → (past j s).stops ≡ resumes
+pub at_stop : (limit resumes : ℕ) {room j : ℕ} {s : State} → HasRoom room (suc j) s → (progress j s).stops ≡ resumes
     → suc j ≤ limit
     → (step (state_after j s)).turn ≡ Stops → EndsAfter limit resumes room s (suc j) Stopped
 at_stop limit resumes {j = j} {s = s} r few l stop =
-    let more : (past (suc j) s).stops ≡ (past j s).stops + 1 = next_stops j s
-    ∙ ap (λ (t : Turn). (past j s).stops + stops_of t) stop in
+    let more : (progress (suc j) s).stops ≡ (progress j s).stops + 1 = next_stops j s
+    ∙ ap (λ (t : Turn). (progress j s).stops + stops_of t) stop in
     record {
-      now = rw (lt_true resumes (past (suc j) s).stops (omega (arith, few, more))) refl;
+      now = rw (lt_true resumes (progress (suc j) s).stops (omega (arith, few, more))) refl;
       first = λ i m. not_before limit resumes r l i m (was_few j i resumes s (omega arith) (omega (arith, few)));
     }

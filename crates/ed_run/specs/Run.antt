@@ -4,7 +4,7 @@ use Rattle.std.specs.Prelude.{◌≡◌, ℕ, ◌-◌, ◌<◌, Bool, true, fals
 use Rattle.std.specs.Prelude.{if◌then◌else◌, Option, Some, None, is_some, unwrap_or, List, ◌++◌, length}
 use Rattle.ed_machine.specs.State.{State}
 use Rattle.ed_machine.specs.OrderTable.{step}
-use Rattle.ed_machine.specs.Steps.{Past, least, past}
+use Rattle.ed_machine.specs.Steps.{Progress, least, progress}
 use Rattle.ed_machine.specs.Sheet.{Sheet}
 use Rattle.ed_machine.specs.declared.turn.Turn.{Turn}
 use Rattle.ed_machine.specs.declared.turn.Turn.TheVariants.{Went, Printed, Stopped as Stops}
@@ -29,7 +29,7 @@ end_by Went full = None
 end_by Stops full = None
 
 -- how a run ends after k orders, if it does: more stops than resumes, else the limit, else the next order
-abbrev pub end_at : ℕ → ℕ → ℕ → ℕ → Past → Option Ending
+abbrev pub end_at : ℕ → ℕ → ℕ → ℕ → Progress → Option Ending
 end_at limit resumes room k p =
     if nat_lt resumes p.stops then Some Stopped
     else if nat_eq k limit then Some Limit
@@ -37,20 +37,20 @@ end_at limit resumes room k p =
 
 -- a run from a state ends with this ending after k orders, and not before
 pub record EndsAfter (limit resumes room : ℕ) (s : State) (k : ℕ) (ending : Ending) : Type 0 where
-  pub now : end_at limit resumes room k (past k s) ≡ Some ending
-  pub first : (j : ℕ) → j < k → end_at limit resumes room j (past j s) ≡ None
+  pub now : end_at limit resumes room k (progress k s) ≡ Some ending
+  pub first : (j : ℕ) → j < k → end_at limit resumes room j (progress j s) ≡ None
 
 -- a run from a state onto a sheet of paper: its ending, the state that it leaves, and the sheet with its codes added
 pub record IsRun (limit resumes : ℕ) (s : State) (sheet : Sheet) (ending : Ending) (last : State) (full : Sheet) :
     Type 0 where
   pub orders : ℕ
   pub ends : EndsAfter limit resumes (sheet.room - length sheet.codes) s orders ending
-  pub state_is : last ≡ (past orders s).state
-  pub sheet_is : full ≡ record { codes = sheet.codes ++ (past orders s).codes; room = sheet.room }
+  pub state_is : last ≡ (progress orders s).state
+  pub sheet_is : full ≡ record { codes = sheet.codes ++ (progress orders s).codes; room = sheet.room }
 
 -- the number of orders that a run obeys: the least number after which it ends, at most the limit
 abbrev pub run_orders : ℕ → ℕ → ℕ → State → ℕ
-run_orders limit resumes room s = least (λ j. is_some (end_at limit resumes room j (past j s))) limit
+run_orders limit resumes room s = least (λ j. is_some (end_at limit resumes room j (progress j s))) limit
 
 -- the result of a run
 pub record RunEnd : Type 0 where
@@ -63,9 +63,9 @@ unfoldable pub ran : ℕ → ℕ → ℕ → State → RunEnd
 ran limit resumes room s =
     let k = run_orders limit resumes room s in
     record {
-      ending = unwrap_or (end_at limit resumes room k (past k s)) Limit;
-      state = (past k s).state;
-      codes = (past k s).codes;
+      ending = unwrap_or (end_at limit resumes room k (progress k s)) Limit;
+      state = (progress k s).state;
+      codes = (progress k s).codes;
     }
 
 -- the ending, the state and the sheet with its codes added are those of a run

@@ -6,7 +6,7 @@ use Rattle.ed_machine.specs.State.{State}
 use Rattle.ed_routines.specs.Returns.{IsOther}
 use Rattle.ed_routines.specs.Standing.{IsOutside, Stands}
 use Rattle.ed_routines.proofs.Called.{within_size}
-use Rattle.ed_maths.specs.Quotients.{Divided, IsDivision, divide, divide_orders, dividend, with_hnm}
+use Rattle.ed_maths.specs.Quotients.{HasDivided, IsDivision, divide, divide_orders, dividend, with_hnm}
 use Rattle.ed_maths.specs.Roots.{IsRoot, root, root_orders, with_hn}
 use Rattle.ed_maths.proofs.DivideCall as divide_call
 use Rattle.ed_maths.proofs.RootCall as root_call
@@ -65,7 +65,7 @@ module _ {s : State} {m base : ℕ} (o : IsBefore s m base) where
     abbrev end : State
     end = divide_call.last dividing
 
-    divided : Divided base high low by t end
+    divided : HasDivided base high low by t end
     divided = divide_call.divided dividing end refl
 
     pub divides : Divides s m from (base + 41) high low by

@@ -7,7 +7,7 @@ use Rattle.ed_words.specs.declared.size.Size.{Size}
 use Rattle.ed_words.specs.Words.{function_of}
 use Rattle.ed_machine.specs.State.{State}
 use Rattle.ed_machine.specs.OrderTable.{next_word, step}
-use Rattle.ed_machine.specs.Steps.{IsFree, Past, codes_of, is_obeyed, past, state_after, stops_of}
+use Rattle.ed_machine.specs.Steps.{AreObeyed, Progress, codes_of, is_obeyed, progress, state_after, stops_of}
 use Rattle.ed_machine.specs.declared.turn.Turn.{Turn}
 use Rattle.ed_machine.specs.declared.turn.Turn.TheVariants.{Went, Printed, Stopped, NoOrder, NoTape}
 use Rattle.ed_loads.specs.EntryState.{entry_state}
@@ -28,9 +28,9 @@ goes_of Stopped o e = absurd (omega (arith, e))
 goes_of (NoOrder function) o e = absurd (true≢false (sym o))
 goes_of NoTape o e = absurd (true≢false (sym o))
 
-all_go : (k : ℕ) (s : State) → IsFree k s → (past k s).stops ≡ 0 → (j : ℕ) → j < k
+all_go : (k : ℕ) (s : State) → AreObeyed k s → (progress k s).stops ≡ 0 → (j : ℕ) → j < k
     → goes_on (step (state_after j s)).turn ≡ true
-unfolding past
+unfolding progress
 all_go zero s free none j l = absurd (omega arith)
 all_go (suc k) s free none j l =
     elim (cases_lt j k) [
@@ -87,9 +87,9 @@ module _ (z : Size) (n : ℕ) (small : n < 65536) where
         to_stop = record {
           last = c.last;
           leads = record {
-            state_is = ap (λ (p : Past). p.state) c.ran.is;
-            codes_are = ap (λ (p : Past). p.codes) c.ran.is;
-            goes = all_go c.count (entry_state z (check_lines n)) c.ran.free (ap (λ (p : Past). p.stops) c.ran.is);
+            state_is = ap (λ (p : Progress). p.state) c.ran.is;
+            codes_are = ap (λ (p : Progress). p.codes) c.ran.is;
+            goes = all_go c.count (entry_state z (check_lines n)) c.ran.free (ap (λ (p : Progress). p.stops) c.ran.is);
           };
           stops = c.stops;
         };

@@ -20,7 +20,7 @@ use Rattle.ed_orders.specs.declared.kind.Kind.TheVariants.{A, G}
 use Rattle.ed_machine.specs.State.{State}
 use Rattle.ed_machine.specs.OrderTable.{jumped, next_word, obey_word, place_of, step}
 use Rattle.ed_machine.specs.Sound.{IsSound}
-use Rattle.ed_machine.specs.Steps.{past, state_after}
+use Rattle.ed_machine.specs.Steps.{progress, state_after}
 use Rattle.ed_notation.specs.Fold.{over, placed_at}
 use Rattle.ed_initial.specs.Rests.{initial_words}
 use Rattle.ed_library.specs.Images.{image_word, parameter_store}
@@ -292,7 +292,7 @@ module _ (z : Size) (n : ℕ) (small : n < 65536) where
   second = (obey_word (Some A) 114800 g).state
 
   second_is : state_after 1 g ≡ second
-  unfolding past step
+  unfolding progress step
   second_is = ap (λ w. (obey_word (kind_of_function (function_of w)) w g).state) first_word
 
   second_counter : second.counter ≡ 57
@@ -321,7 +321,7 @@ module _ (z : Size) (n : ℕ) (small : n < 65536) where
       (λ kind x o same. allowed_below 112 refl kind x o (rw same (omega arith))) i l (size_after i t)
 
   no_orders : state_after 0 g ≡ g
-  unfolding past
+  unfolding progress
   no_orders = refl
 
   each : (j : ℕ) → j < 2 + count → IsAllowed 112 (state_after j g)
@@ -372,7 +372,7 @@ module _ (z : Size) (n : ℕ) (small : n < 65536) where
   jump_keeps false p x = refl
 
   jump_is : state_after 2 g ≡ (obey_word (Some G) 110712 second).state
-  unfolding past step
+  unfolding progress step
   jump_is = ap (λ (x : State). (step x).state) second_is
       ∙ ap (λ w. (obey_word (kind_of_function (function_of w)) w second).state) second_word
 

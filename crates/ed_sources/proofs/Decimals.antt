@@ -14,7 +14,7 @@ use Rattle.ed_syntax.specs.Private.Grammar.{row, spells}
 use Rattle.ed_words.specs.Decimals.{is_digit, value as spelled_value}
 use Rattle.ed_syntax.specs.Parts.{is_run_byte}
 use Rattle.ed_syntax.specs.Parts.{is_line_byte}
-use Rattle.ed_routines.specs.Digits.{before_units, digits, value_behind, without_zeros}
+use Rattle.ed_routines.specs.Digits.{before_units, digits, value_after, without_zeros}
 use Rattle.ed_routines.proofs.Digits.{digits_law, few_digits, tens}
 
 abbrev pub are_digits : List ℕ → Bool
@@ -89,7 +89,7 @@ pub rows_are : (ds : List ℕ) → are_digits ds ≡ true → map (λ b. row (ro
 rows_are ds are = rows_from ds (each_passes (λ d. nat_eq (row (row_of (48 + d))) d) refl ds are)
 
 -- and their number is that of the digits
-value_from : (n : ℕ) (ds : List ℕ) → fold (λ n b. 10 * n + (b - 48)) n (written ds) ≡ value_behind n ds
+value_from : (n : ℕ) (ds : List ℕ) → fold (λ n b. 10 * n + (b - 48)) n (written ds) ≡ value_after n ds
 value_from n [] = refl
 value_from n (d ∷ ds) =
     let e : 10 * n + (48 + d - 48) ≡ 10 * n + d = omega arith in

@@ -9,7 +9,7 @@ use Rattle.ed_sources.proofs.Decimals.{both}
 use Rattle.ed_syntax.specs.Parts.{is_line_byte}
 use Rattle.ed_syntax.specs.Private.SourceReading.{program_of}
 use Rattle.ed_sources.specs.Accepted.{EachDemoIsAccepted}
-use Rattle.ed_sources.specs.Demo.{adding, number_behind, demo_source, demo_text, next, segments, word_lines}
+use Rattle.ed_sources.specs.Demo.{adding, number_after, demo_source, demo_text, next, segments, word_lines}
 use Rattle.ed_sources.specs.Demo.{number_word}
 use Rattle.ed_sources.proofs.CallsAccepted.{accepted_as, decimal_plain}
 use Rattle.ed_sources.proofs.DemoFaultless.{demo_faultless}
@@ -29,9 +29,9 @@ segments_plain : (n k x : ℕ) → k + n ≤ 65536 → list_all (list_all is_lin
 segments_plain zero k x few = refl
 segments_plain (suc n) k x few =
     let number = decimal_plain k (omega arith) in
-    let rest : list_all (list_all is_line_byte) (word_lines 8 x ++ segments n (k + 1) (number_behind 8 x)) ≡ true =
-    list_all-append (list_all is_line_byte) (word_lines 8 x) (segments n (k + 1) (number_behind 8 x))
-    ∙ both _ _ (words_plain 8 x) (segments_plain n (k + 1) (number_behind 8 x) (omega arith)) in
+    let rest : list_all (list_all is_line_byte) (word_lines 8 x ++ segments n (k + 1) (number_after 8 x)) ≡ true =
+    list_all-append (list_all is_line_byte) (word_lines 8 x) (segments n (k + 1) (number_after 8 x))
+    ∙ both _ _ (words_plain 8 x) (segments_plain n (k + 1) (number_after 8 x) (omega arith)) in
     rw (number, rest) refl
 
 adding_plain : (words : ℕ) → words < 65536 → list_all (list_all is_line_byte) (adding words) ≡ true
@@ -57,8 +57,8 @@ segments_count : (n k x : ℕ) → length (segments n k x) ≡ 9 * n
 segments_count zero k x = refl
 segments_count (suc n) k x =
     let words = words_count 8 x in
-    let rest = segments_count n (k + 1) (number_behind 8 x) in
-    omega (arith, words, rest, length-append (word_lines 8 x) (segments n (k + 1) (number_behind 8 x)))
+    let rest = segments_count n (k + 1) (number_after 8 x) in
+    omega (arith, words, rest, length-append (word_lines 8 x) (segments n (k + 1) (number_after 8 x)))
 
 -- ---- what the source is read as
 

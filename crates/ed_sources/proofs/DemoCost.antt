@@ -3,13 +3,13 @@ use Rattle.std.proofs.Common.{◌≡◌, ◌∙◌, ℕ, zero, suc, ◌+◌, ◌
 use Rattle.std.proofs.Common.{refl, ap, arith, lit≤, length, length-append, codes, nat_eq, take}
 use Rattle.ed_notation.specs.declared.item.Item.{Item}
 use Rattle.ed_syntax.specs.declared.program.Line.{Line}
-use Rattle.ed_symbols.specs.declared.homes.Home.{Home}
-use Rattle.ed_link.specs.Linked.{homes_of}
+use Rattle.ed_symbols.specs.declared.symbols.Definition.{Definition}
+use Rattle.ed_link.specs.Linked.{symbols_of}
 use Rattle.ed_link.specs.Punch.{heads, punched, punched_from, word_item}
 use Rattle.ed_link.specs.Tapes.{punched_rows}
 use Rattle.ed_link.proofs.Bounds.{rows_few}
-use Rattle.ed_sources.specs.Demo.{next, number_behind, number_word}
-use Rattle.ed_sources.proofs.DemoFaultless.{lines_behind, lines_with, spot}
+use Rattle.ed_sources.specs.Demo.{next, number_after, number_word}
+use Rattle.ed_sources.proofs.DemoFaultless.{lines_behind, lines_with, counter}
 use Rattle.ed_sources.proofs.SaidDemo.{enter_line, segment_forms, word_forms}
 
 -- a word has an item of its own, and two before it if it is the first of its segment
@@ -17,26 +17,26 @@ one_word : (first : Bool) (base : ℕ) → length (heads first base) ≤ 2
 one_word true base = lit≤ tt
 one_word false base = lit≤ tt
 
-words_few : (homes : List Home) (n l x p b g : ℕ) (rest : List Line) (k : ℕ)
-    → ((q : ℕ) → length (punched_from homes (spot q b g) rest) ≤ k)
-    → length (punched_from homes (spot p b g) (word_forms n l x ++ rest)) ≤ 3 * n + k
-words_few homes zero l x p b g rest k tail = let few = tail p in omega (arith, few)
-words_few homes (suc n) l x p b g rest k tail =
-    let few = words_few homes n (l + 1) (next x) (p + 1) b g rest k tail in
+words_few : (symbols : List Definition) (n l x p b g : ℕ) (rest : List Line) (k : ℕ)
+    → ((q : ℕ) → length (punched_from symbols (counter q b g) rest) ≤ k)
+    → length (punched_from symbols (counter p b g) (word_forms n l x ++ rest)) ≤ 3 * n + k
+words_few symbols zero l x p b g rest k tail = let few = tail p in omega (arith, few)
+words_few symbols (suc n) l x p b g rest k tail =
+    let few = words_few symbols n (l + 1) (next x) (p + 1) b g rest k tail in
     let first = one_word (nat_eq p b) b in
     let item : Item = word_item (number_word (next x)) in
-    let others : List Item = punched_from homes (spot (p + 1) b g) (word_forms n (l + 1) (next x) ++ rest) in
+    let others : List Item = punched_from symbols (counter (p + 1) b g) (word_forms n (l + 1) (next x) ++ rest) in
     let own = length-append (heads (nat_eq p b) b) (item ∷ []) in
     let all = length-append (heads (nat_eq p b) b ++ item ∷ []) others in
     omega (arith, few, first, own, all)
 
-segments_few : (homes : List Home) (n k l x m p b g : ℕ)
-    → length (punched_from homes (spot p b g) (segment_forms n k l x ++ enter_line m ∷ [])) ≤ 24 * n + 2
-segments_few homes zero k l x m p b g = lit≤ tt
-segments_few homes (suc n) k l x m p b g =
+segments_few : (symbols : List Definition) (n k l x m p b g : ℕ)
+    → length (punched_from symbols (counter p b g) (segment_forms n k l x ++ enter_line m ∷ [])) ≤ 24 * n + 2
+segments_few symbols zero k l x m p b g = lit≤ tt
+segments_few symbols (suc n) k l x m p b g =
     let few =
-    words_few homes 8 (l + 1) x p p (g + 1) (segment_forms n (k + 1) (l + 9) (number_behind 8 x) ++ enter_line m ∷ [])
-    (24 * n + 2) (λ q. segments_few homes n (k + 1) (l + 9) (number_behind 8 x) m q p (g + 1)) in
+    words_few symbols 8 (l + 1) x p p (g + 1) (segment_forms n (k + 1) (l + 9) (number_after 8 x) ++ enter_line m ∷ [])
+    (24 * n + 2) (λ q. segments_few symbols n (k + 1) (l + 9) (number_after 8 x) m q p (g + 1)) in
     omega (arith, few)
 
 -- with n segments after the first
@@ -49,7 +49,7 @@ module _ (words n x l : ℕ) where
   front = take 73 (punched lines)
 
   abbrev rest : List Item
-  rest = punched_from (homes_of lines) (spot 123 123 3) (lines_behind n x l)
+  rest = punched_from (symbols_of lines) (counter 123 123 3) (lines_behind n x l)
 
   parts : punched lines ≡ front ++ rest
   parts = refl
@@ -60,8 +60,8 @@ module _ (words n x l : ℕ) where
   rest_few : length rest ≤ 24 * suc n + 2
   rest_few =
       let few =
-      words_few (homes_of lines) 8 20 x 123 123 3 (segment_forms n 2 28 (number_behind 8 x) ++ enter_line l ∷ [])
-      (24 * n + 2) (λ q. segments_few (homes_of lines) n 2 28 (number_behind 8 x) l q 123 3) in
+      words_few (symbols_of lines) 8 20 x 123 123 3 (segment_forms n 2 28 (number_after 8 x) ++ enter_line l ∷ [])
+      (24 * n + 2) (λ q. segments_few (symbols_of lines) n 2 28 (number_after 8 x) l q 123 3) in
       omega (arith, few)
 
   pub few_rows : length (punched_rows lines) ≤ 192 * suc n + 600

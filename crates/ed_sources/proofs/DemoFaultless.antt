@@ -15,15 +15,15 @@ use Rattle.ed_syntax.specs.declared.fault.SourceCause.{SourceCause}
 use Rattle.ed_syntax.specs.declared.fault.SourceFault.{SourceFault}
 use Rattle.ed_syntax.specs.declared.program.Line.{Line}
 use Rattle.ed_syntax.specs.declared.program.Statement.TheVariants as statements
-use Rattle.ed_symbols.specs.declared.spots.Spot.{Spot}
-use Rattle.ed_symbols.specs.declared.homes.Home.{Home}
+use Rattle.ed_symbols.specs.declared.location_counter.LocationCounter.{LocationCounter}
+use Rattle.ed_symbols.specs.declared.symbols.Definition.{Definition}
 use Rattle.ed_symbols.specs.Faults.{or_later, resolved}
-use Rattle.ed_symbols.specs.Names.{homes_from}
-use Rattle.ed_symbols.specs.Places.{first_spot}
-use Rattle.ed_link.specs.Private.FaultTests.{LinesBefore, any_enter, cause_of, fault, fault_from, meets, missing}
+use Rattle.ed_symbols.specs.Names.{symbols_from}
+use Rattle.ed_symbols.specs.Places.{first_counter}
+use Rattle.ed_link.specs.Private.FaultTests.{LinesBefore, any_enter, cause_of, fault, fault_from, overlaps, missing}
 use Rattle.ed_link.specs.Private.FaultTests.{sooner}
-use Rattle.ed_link.specs.Linked.{homes_of}
-use Rattle.ed_sources.specs.Demo.{number_behind, next, number_word}
+use Rattle.ed_link.specs.Linked.{symbols_of}
+use Rattle.ed_sources.specs.Demo.{number_after, next, number_word}
 use Rattle.ed_sources.proofs.Decimals.{decimal_is}
 use Rattle.ed_sources.proofs.DemoNames.{enter_named, first_free, first_homes, program_named, segments_named}
 use Rattle.ed_sources.proofs.DemoNames.{words_named}
@@ -55,7 +55,7 @@ one_more p a q runs l h =
     list_all-append (λ r. nat_le r.1 q) runs ((a, q) ∷ []) ∙ rw (before, last) refl
 
 -- extents from there upwards don't overlap them
-apart : (p b : ℕ) (runs : List (ℕ × ℕ)) → are_below p runs ≡ true → list_any (λ run. meets (p, b) run) runs ≡ false
+apart : (p b : ℕ) (runs : List (ℕ × ℕ)) → are_below p runs ≡ true → list_any (λ run. overlaps (p, b) run) runs ≡ false
 apart p b [] h = refl
 apart p b (r ∷ runs) h =
     let s = and_parts (nat_le r.1 p) (are_below p runs) h in
@@ -69,9 +69,9 @@ none_later : (l : ℕ) (cause : Option SourceCause) (later : Option SourceFault)
     → or_later l cause later ≡ None
 none_later l cause later here there = ap (λ (c : Option SourceCause). or_later l c later) here ∙ there
 
--- a spot inside a segment
-abbrev pub spot : ℕ → ℕ → ℕ → Spot
-spot place base segments = record { place = place; base = base; segments = segments; inside = true }
+-- a location counter inside a segment
+abbrev pub counter : ℕ → ℕ → ℕ → LocationCounter
+counter place base segments = record { place = place; base = base; segments = segments; inside = true }
 
 -- lines before any `enter`
 abbrev past : List (ℕ × ℕ) → LinesBefore
@@ -90,18 +90,19 @@ first_runs = (56, 56) ∷ one_by_one 16 56 ++ (72, 123) ∷ (123, 123) ∷ []
 
 -- the lines after those of the program and of the first segment's line, if n segments more follow
 abbrev pub lines_behind : ℕ → ℕ → ℕ → List Line
-lines_behind n x l = word_forms 8 20 x ++ segment_forms n 2 28 (number_behind 8 x) ++ enter_line l ∷ []
+lines_behind n x l = word_forms 8 20 x ++ segment_forms n 2 28 (number_after 8 x) ++ enter_line l ∷ []
 
--- no line from a spot onwards has one, if the lines before them have these extents
-record AreSound (z : Size) (homes : List Home) (runs : List (ℕ × ℕ)) (s : Spot) (lines : List Line) : Type 0 where
-  none : fault_from z homes true (past runs) s lines ≡ None
+-- no line from a location counter onwards has one, if the lines before them have these extents
+record AreSound (z : Size) (symbols : List Definition) (runs : List (ℕ × ℕ)) (s : LocationCounter) (lines : List Line)
+    : Type 0 where
+  none : fault_from z symbols true (past runs) s lines ≡ None
 
-module _ (z : Size) (rest_homes : List Home) where
-  abbrev homes : List Home
-  homes = first_homes ++ rest_homes
+module _ (z : Size) (rest_homes : List Definition) where
+  abbrev symbols : List Definition
+  symbols = first_homes ++ rest_homes
 
   word_sound : (l w p b g : ℕ) (runs : List (ℕ × ℕ)) → (56 ≤ p) × (p + 1 ≤ locations z) → are_below p runs ≡ true
-      → cause_of z homes true (past runs) (said l None (statements.Number w)) (spot p b g) ≡ None
+      → cause_of z symbols true (past runs) (said l None (statements.Number w)) (counter p b g) ≡ None
   word_sound l w p b g runs inside below =
       let low = inside.0 in
       let fits = inside.1 in
@@ -114,7 +115,7 @@ module _ (z : Size) (rest_homes : List Home) where
       rw (loader, parameters, store, others) refl
 
   segment_sound : (l p b g : ℕ) (n : Text) (runs : List (ℕ × ℕ)) → are_below p runs ≡ true
-      → cause_of z homes true (past runs) (segment_line l n) (spot p b g) ≡ None
+      → cause_of z symbols true (past runs) (segment_line l n) (counter p b g) ≡ None
   segment_sound l p b g n runs below =
       let loader : nat_lt (max p 0) (min p 44) ≡ false = lt_false (max p 0) (min p 44) (omega arith) in
       let parameters : nat_lt (max p 44) (min p 56) ≡ false = lt_false (max p 44) (min p 56) (omega arith) in
@@ -125,17 +126,18 @@ module _ (z : Size) (rest_homes : List Home) where
 
   words_sound : (n l x : ℕ) {p b g : ℕ} {runs : List (ℕ × ℕ)} {rest : List Line} → 56 ≤ p → p + n ≤ locations z
       → are_below p runs ≡ true
-      → ((more : List (ℕ × ℕ)) → are_below (p + n) more ≡ true → AreSound z homes more (spot (p + n) b g) rest)
-      → AreSound z homes runs (spot p b g) (word_forms n l x ++ rest)
+      → ((more : List (ℕ × ℕ)) → are_below (p + n) more ≡ true → AreSound z symbols more (counter (p + n) b g) rest)
+      → AreSound z symbols runs (counter p b g) (word_forms n l x ++ rest)
   words_sound zero l x {p} {b} {g} {runs} {rest} low fits below behind =
       let e : p + 0 ≡ p = omega arith in
-      subst (λ q. AreSound z homes runs (spot q b g) rest) e
+      subst (λ q. AreSound z symbols runs (counter q b g) rest) e
       (behind runs (subst (λ q. are_below q runs ≡ true) (sym e) below))
   words_sound (suc n) l x {p} {b} {g} {runs} {rest} low fits below behind =
       let e : p + suc n ≡ p + 1 + n = omega arith in
-      let more : AreSound z homes (runs ++ (p, p + 1) ∷ []) (spot (p + 1) b g) (word_forms n (l + 1) (next x) ++ rest) =
+      let more : AreSound z symbols (runs ++ (p, p + 1)
+      ∷ []) (counter (p + 1) b g) (word_forms n (l + 1) (next x) ++ rest) =
       words_sound n (l + 1) (next x) (omega arith) (omega arith) (one_more p p (p + 1) runs (omega arith) below)
-      (λ more under. subst (λ q. AreSound z homes more (spot q b g) rest) e
+      (λ more under. subst (λ q. AreSound z symbols more (counter q b g) rest) e
       (behind more (subst (λ q. are_below q more ≡ true) (sym e) under))) in
       record {
         none = none_later l _ _ (word_sound l (number_word (next x)) p b g runs (low, omega arith) below) more.none;
@@ -143,18 +145,18 @@ module _ (z : Size) (rest_homes : List Home) where
 
   segments_sound : (n k l x : ℕ) {p b g : ℕ} {runs : List (ℕ × ℕ)} {rest : List Line} → 56 ≤ p
       → p + 8 * n ≤ locations z → are_below p runs ≡ true
-      → ((more : List (ℕ × ℕ)) (q c h : ℕ) → are_below q more ≡ true → AreSound z homes more (spot q c h) rest)
-      → AreSound z homes runs (spot p b g) (segment_forms n k l x ++ rest)
+      → ((more : List (ℕ × ℕ)) (q c h : ℕ) → are_below q more ≡ true → AreSound z symbols more (counter q c h) rest)
+      → AreSound z symbols runs (counter p b g) (segment_forms n k l x ++ rest)
   segments_sound zero k l x {p} {b} {g} {runs} low fits below behind = behind runs p b g below
   segments_sound (suc n) k l x {p} {b} {g} {runs} {rest} low fits below behind =
-      let more : AreSound z homes (runs ++ (p, p) ∷ []) (spot p p (g + 1))
-      (word_forms 8 (l + 1) x ++ segment_forms n (k + 1) (l + 9) (number_behind 8 x) ++ rest) =
+      let more : AreSound z symbols (runs ++ (p, p) ∷ []) (counter p p (g + 1))
+      (word_forms 8 (l + 1) x ++ segment_forms n (k + 1) (l + 9) (number_after 8 x) ++ rest) =
       words_sound 8 (l + 1) x low (omega arith) (one_more p p p runs (omega arith) below)
-      (λ more under. segments_sound n (k + 1) (l + 9) (number_behind 8 x) (omega arith) (omega arith) under behind) in
+      (λ more under. segments_sound n (k + 1) (l + 9) (number_after 8 x) (omega arith) (omega arith) under behind) in
       record { none = none_later l _ _ (segment_sound l p b g (name k) runs below) more.none }
 
   enter_sound : (l q b g : ℕ) (runs : List (ℕ × ℕ)) → are_below q runs ≡ true
-      → AreSound z homes runs (spot q b g) (enter_line l ∷ [])
+      → AreSound z symbols runs (counter q b g) (enter_line l ∷ [])
   enter_sound l q b g runs below =
       let store : nat_lt (max 56 (locations z)) (min 57 57) ≡ false = within z in
       let others = apart q q runs below in
@@ -165,15 +167,15 @@ module _ (z : Size) (rest_homes : List Home) where
       within Full = refl
 
   behind_sound : (n x l : ℕ) → 131 + 8 * n ≤ locations z
-      → AreSound z homes first_runs (spot 123 123 3) (lines_behind n x l)
+      → AreSound z symbols first_runs (counter 123 123 3) (lines_behind n x l)
   behind_sound n x l fits =
       words_sound 8 20 x (omega arith) (omega (arith, fits)) refl
-      (λ more under. segments_sound n 2 28 (number_behind 8 x) (omega arith) fits under
+      (λ more under. segments_sound n 2 28 (number_after 8 x) (omega arith) fits under
       (λ runs q c h below. enter_sound l q c h runs below))
 
-program_sound : (z : Size) (rest_homes : List Home) (words : ℕ) (rest : List Line)
-    → fault_from z (first_homes ++ rest_homes) true (past first_runs) (spot 123 123 3) rest ≡ None
-    → fault_from z (first_homes ++ rest_homes) true (past []) first_spot
+program_sound : (z : Size) (rest_homes : List Definition) (words : ℕ) (rest : List Line)
+    → fault_from z (first_homes ++ rest_homes) true (past first_runs) (counter 123 123 3) rest ≡ None
+    → fault_from z (first_homes ++ rest_homes) true (past []) first_counter
     (adding_lines words ++ segment_line 19 (codes "s1") ∷ rest) ≡ None
 program_sound Small rest_homes words rest behind_it = behind_it
 program_sound Full rest_homes words rest behind_it = behind_it
@@ -182,7 +184,7 @@ program_sound Full rest_homes words rest behind_it = behind_it
 
 segments_enter : (n k l x : ℕ) (rest : List Line) → any_enter (segment_forms n k l x ++ rest) ≡ any_enter rest
 segments_enter zero k l x rest = refl
-segments_enter (suc n) k l x rest = segments_enter n (k + 1) (l + 9) (number_behind 8 x) rest
+segments_enter (suc n) k l x rest = segments_enter n (k + 1) (l + 9) (number_after 8 x) rest
 
 abbrev pub lines_with : Text → ℕ → ℕ → ℕ → ℕ → List Line
 lines_with first words n x l = adding_lines words ++ segment_line 19 first ∷ lines_behind n x l
@@ -191,26 +193,26 @@ module _ (z : Size) (words n x l : ℕ) (few : n ≤ 111) (near : words ≤ 900)
   abbrev lines : List Line
   lines = lines_with (codes "s1") words n x l
 
-  abbrev rest_homes : List Home
-  rest_homes = homes_from (spot 123 123 3) (lines_behind n x l)
+  abbrev rest_homes : List Definition
+  rest_homes = symbols_from (counter 123 123 3) (lines_behind n x l)
 
   named : (resolved lines).fault ≡ None
   named =
       program_named rest_homes words near
       (words_named rest_homes 8 20 x
-      (λ t. segments_named rest_homes n 2 28 (number_behind 8 x) (omega (arith, few)) first_free
+      (λ t. segments_named rest_homes n 2 28 (number_after 8 x) (omega (arith, few)) first_free
       (λ e s. enter_named rest_homes l)))
 
-  sound : fault_from z (homes_of lines) true (past []) first_spot lines ≡ None
+  sound : fault_from z (symbols_of lines) true (past []) first_counter lines ≡ None
   sound = program_sound z rest_homes words (lines_behind n x l)
       (behind_sound z rest_homes n x l fits).none
 
   entered : any_enter lines ≡ true
-  entered = segments_enter n 2 28 (number_behind 8 x) (enter_line l ∷ [])
+  entered = segments_enter n 2 28 (number_after 8 x) (enter_line l ∷ [])
 
   pub lines_faultless : fault z lines ≡ None
   lines_faultless =
-      (λ i. sooner (named i) (sooner (fault_from z (homes_of lines) (entered i) (past []) first_spot lines)
+      (λ i. sooner (named i) (sooner (fault_from z (symbols_of lines) (entered i) (past []) first_counter lines)
       (missing (entered i) (length lines))))
       ∙ ap (λ (f : Option SourceFault). sooner None (sooner f None)) sound
 

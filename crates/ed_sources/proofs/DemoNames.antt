@@ -13,27 +13,28 @@ use Rattle.ed_words.proofs.Numbers.{lt_false}
 use Rattle.ed_words.specs.Texts.{Text}
 use Rattle.ed_words.specs.Decimals.{value}
 use Rattle.ed_syntax.specs.declared.program.Line.{Line}
-use Rattle.ed_symbols.specs.declared.spots.Spot.{Spot}
-use Rattle.ed_symbols.specs.declared.homes.Home.{Home}
+use Rattle.ed_symbols.specs.declared.location_counter.LocationCounter.{LocationCounter}
+use Rattle.ed_symbols.specs.declared.symbols.Definition.{Definition}
 use Rattle.ed_symbols.specs.Faults.{naming_fault_from}
-use Rattle.ed_symbols.specs.Names.{home_of}
-use Rattle.ed_symbols.specs.Places.{first_spot}
+use Rattle.ed_symbols.specs.Names.{definition_of}
+use Rattle.ed_symbols.specs.Places.{first_counter}
 use Rattle.ed_routines.specs.Digits.{digits}
-use Rattle.ed_sources.specs.Demo.{number_behind, next}
+use Rattle.ed_sources.specs.Demo.{number_after, next}
 use Rattle.ed_sources.proofs.Decimals.{among, decimal_is, value_is, written}
 use Rattle.ed_sources.proofs.SaidDemo.{adding_lines, enter_line, name, segment_forms, segment_line, word_forms}
 
--- ---- homes without a name
+-- ---- definitions without a name
 
-abbrev pub has_none : Text → List Home → Bool
-has_none n homes = list_all (λ h. not (bytes_eq h.name n)) homes
+abbrev pub has_none : Text → List Definition → Bool
+has_none n symbols = list_all (λ h. not (bytes_eq h.name n)) symbols
 
-no_home : (segment : Option ℕ) (n : Text) (homes : List Home) → has_none n homes ≡ true → home_of segment n homes ≡ None
+no_home : (segment : Option ℕ) (n : Text) (symbols : List Definition) → has_none n symbols ≡ true
+    → definition_of segment n symbols ≡ None
 no_home segment n [] e = refl
-no_home segment n (h ∷ homes) e =
-    let p = and_parts (not (bytes_eq h.name n)) (has_none n homes) e in
+no_home segment n (h ∷ symbols) e =
+    let p = and_parts (not (bytes_eq h.name n)) (has_none n symbols) e in
     let other : bytes_eq h.name n ≡ false = not-true (bytes_eq h.name n) p.0 in
-    rw other (no_home segment n homes p.1)
+    rw other (no_home segment n symbols p.1)
 
 -- ---- the names of segments
 
@@ -57,85 +58,88 @@ names_differ i j small other differ = by_test (bytes_eq (name i) (name j)) refl
         absurd (differ (sym (value_of i small) ∙ ap value_behind_s same ∙ value_of j other))
 
 -- what the program's lines and the first segment define
-abbrev home : Text → ℕ → Home
-home name place = record { name = name; place = place; segment = Some 1 }
+abbrev definition : Text → ℕ → Definition
+definition name place = record { name = name; place = place; segment = Some 1 }
 
-abbrev pub first_homes : List Home
+abbrev pub first_homes : List Definition
 first_homes =
-    home (codes "main") 56
-    ∷ home (codes "loop") 56
-    ∷ home (codes "add") 58
-    ∷ home (codes "here") 66
-    ∷ home (codes "stop") 69
-    ∷ home (codes "junk") 70
-    ∷ home (codes "total") 71
+    definition (codes "main") 56
+    ∷ definition (codes "loop") 56
+    ∷ definition (codes "add") 58
+    ∷ definition (codes "here") 66
+    ∷ definition (codes "stop") 69
+    ∷ definition (codes "junk") 70
+    ∷ definition (codes "total") 71
     ∷ record { name = codes "p"; place = 72; segment = None }
     ∷ record { name = codes "s1"; place = 123; segment = Some 3 }
     ∷ []
 
 -- none of these definitions has the name of a segment with this number or a greater one
-abbrev pub IsFree : ℕ → List Home → Type 0
-IsFree k homes = (j : ℕ) → k ≤ j → j ≤ 112 → has_none (name j) homes ≡ true
+abbrev pub IsFree : ℕ → List Definition → Type 0
+IsFree k symbols = (j : ℕ) → k ≤ j → j ≤ 112 → has_none (name j) symbols ≡ true
 
 pub first_free : IsFree 2 first_homes
 first_free j low high =
     subst (λ (bytes : Text). has_none (115 ∷ bytes) first_homes ≡ true) (decimal_is j (omega arith))
     (among (λ j. has_none (115 ∷ written (digits j)) first_homes) 2 111 j refl low (omega arith))
 
-more_free : (k : ℕ) (homes : List Home) (h : Home) → h.name ≡ name k → k ≤ 112 → IsFree k homes
-    → IsFree (k + 1) (homes ++ h ∷ [])
-more_free k homes h is few free = λ j low high.
-    let before : has_none (name j) homes ≡ true = free j (omega arith) high in
+more_free : (k : ℕ) (symbols : List Definition) (h : Definition) → h.name ≡ name k → k ≤ 112 → IsFree k symbols
+    → IsFree (k + 1) (symbols ++ h ∷ [])
+more_free k symbols h is few free = λ j low high.
+    let before : has_none (name j) symbols ≡ true = free j (omega arith) high in
     let other : bytes_eq h.name (name j) ≡ false =
     ap (λ (n : Text). bytes_eq n (name j)) is ∙ names_differ k j (omega arith) (omega arith) (omega arith) in
-    list_all-append (λ h. not (bytes_eq h.name (name j))) homes (h ∷ []) ∙ rw (before, other) refl
+    list_all-append (λ h. not (bytes_eq h.name (name j))) symbols (h ∷ []) ∙ rw (before, other) refl
 
 -- ---- no line has one of the faults S6 to S8
 
--- no line from a spot onwards has one of them
-pub record AreNamed (homes earlier : List Home) (s : Spot) (lines : List Line) : Type 0 where
-  pub none : naming_fault_from homes earlier s lines ≡ None
+-- no line from a location counter onwards has one of them
+pub record AreNamed (symbols earlier : List Definition) (s : LocationCounter) (lines : List Line) : Type 0 where
+  pub none : naming_fault_from symbols earlier s lines ≡ None
 
-module _ (rest_homes : List Home) where
-  abbrev homes : List Home
-  homes = first_homes ++ rest_homes
+module _ (rest_homes : List Definition) where
+  abbrev symbols : List Definition
+  symbols = first_homes ++ rest_homes
 
-  pub words_named : (n l x : ℕ) {earlier : List Home} {s : Spot} {rest : List Line}
-      → ((t : Spot) → AreNamed homes earlier t rest) → AreNamed homes earlier s (word_forms n l x ++ rest)
+  pub words_named : (n l x : ℕ) {earlier : List Definition} {s : LocationCounter} {rest : List Line}
+      → ((t : LocationCounter) → AreNamed symbols earlier t rest)
+      → AreNamed symbols earlier s (word_forms n l x ++ rest)
   words_named zero l x {s = s} behind = behind s
   words_named (suc n) l x {earlier} {s} {rest} behind = record {
     none =
-        let next_spot : Spot = record s { place = s.place + 1 } in
-        let more : AreNamed homes earlier next_spot (word_forms n (l + 1) (next x) ++ rest) =
+        let next_spot : LocationCounter = record s { place = s.place + 1 } in
+        let more : AreNamed symbols earlier next_spot (word_forms n (l + 1) (next x) ++ rest) =
         words_named n (l + 1) (next x) behind in
-        subst (λ (e : List Home). naming_fault_from homes e next_spot (word_forms n (l + 1) (next x) ++ rest) ≡ None)
+        subst (λ (e : List Definition). naming_fault_from symbols e next_spot (word_forms n (l + 1) (next x)
+        ++ rest) ≡ None)
         (sym (append-nil earlier)) more.none;
   }
 
-  pub segments_named : (n k l x : ℕ) {earlier : List Home} {s : Spot} {rest : List Line} → k + n ≤ 113
-      → IsFree k earlier → ((e : List Home) (t : Spot) → AreNamed homes e t rest)
-      → AreNamed homes earlier s (segment_forms n k l x ++ rest)
+  pub segments_named : (n k l x : ℕ) {earlier : List Definition} {s : LocationCounter} {rest : List Line} → k + n ≤ 113
+      → IsFree k earlier → ((e : List Definition) (t : LocationCounter) → AreNamed symbols e t rest)
+      → AreNamed symbols earlier s (segment_forms n k l x ++ rest)
   segments_named zero k l x {earlier} {s} few free behind = behind earlier s
   segments_named (suc n) k l x {earlier} {s} {rest} few free behind =
-      let own : Home = record { name = name k; place = s.place; segment = Some (s.segments + 1) } in
+      let own : Definition = record { name = name k; place = s.place; segment = Some (s.segments + 1) } in
       let free_more = more_free k earlier own refl (omega arith) free in
-      let none : home_of (Some (s.segments + 1)) (name k) earlier ≡ None =
+      let none : definition_of (Some (s.segments + 1)) (name k) earlier ≡ None =
       no_home (Some (s.segments + 1)) (name k) earlier (free k (omega arith) (omega arith)) in
-      let new : home_of (Some (s.segments + 1)) (name k) (earlier ++ []) ≡ None =
-      ap (home_of (Some (s.segments + 1)) (name k)) (append-nil earlier) ∙ none in
-      let more : AreNamed homes (earlier ++ own ∷ [])
+      let new : definition_of (Some (s.segments + 1)) (name k) (earlier ++ []) ≡ None =
+      ap (definition_of (Some (s.segments + 1)) (name k)) (append-nil earlier) ∙ none in
+      let more : AreNamed symbols (earlier ++ own ∷ [])
       (record { place = s.place; base = s.place; segments = s.segments + 1; inside = true })
-      (word_forms 8 (l + 1) x ++ segment_forms n (k + 1) (l + 9) (number_behind 8 x) ++ rest) =
-      words_named 8 (l + 1) x (λ t. segments_named n (k + 1) (l + 9) (number_behind 8 x)
+      (word_forms 8 (l + 1) x ++ segment_forms n (k + 1) (l + 9) (number_after 8 x) ++ rest) =
+      words_named 8 (l + 1) x (λ t. segments_named n (k + 1) (l + 9) (number_after 8 x)
       (omega arith) free_more behind) in
       record { none = rw new more.none }
 
-  pub enter_named : {earlier : List Home} {s : Spot} (l : ℕ) → AreNamed homes earlier s (enter_line l ∷ [])
+  pub enter_named : {earlier : List Definition} {s : LocationCounter} (l : ℕ)
+      → AreNamed symbols earlier s (enter_line l ∷ [])
   enter_named l = record { none = refl }
 
   pub program_named : {rest : List Line} (words : ℕ) → words ≤ 900
-      → AreNamed homes first_homes (record { place = 123; base = 123; segments = 3; inside = true }) rest
-      → naming_fault_from homes [] first_spot (adding_lines words ++ segment_line 19 (codes "s1") ∷ rest) ≡ None
+      → AreNamed symbols first_homes (record { place = 123; base = 123; segments = 3; inside = true }) rest
+      → naming_fault_from symbols [] first_counter (adding_lines words ++ segment_line 19 (codes "s1") ∷ rest) ≡ None
   program_named words few behind =
       let positive : nat_lt (123 + words) 0 ≡ false = lt_false (123 + words) 0 (omega arith) in
       let near : nat_lt 1023 (123 + words) ≡ false = lt_false 1023 (123 + words) (omega arith) in

@@ -10,22 +10,22 @@ use Rattle.ed_store.specs.Cells.{short_at}
 use Rattle.ed_library.specs.Images.{image_word, parameter_store}
 use Rattle.ed_library.specs.Routines.{place_count}
 use Rattle.ed_syntax.specs.declared.program.Line.{Line}
-use Rattle.ed_symbols.specs.declared.homes.Home.{Home}
-use Rattle.ed_link.specs.Linked.{entry_from, entry_of, homes_of, laid, linked, placed_from}
+use Rattle.ed_symbols.specs.declared.symbols.Definition.{Definition}
+use Rattle.ed_link.specs.Linked.{entry_from, entry_of, symbols_of, placed_words, linked, placed_from}
 use Rattle.ed_loads.specs.EntryState.{entry_state}
 use Rattle.ed_routines.specs.Catalogue.{print, with_h}
-use Rattle.ed_sources.specs.Demo.{next, number_behind, number_word, words_after}
+use Rattle.ed_sources.specs.Demo.{next, number_after, number_word, words_after}
 use Rattle.ed_sources.proofs.AtEntry.{have_places}
 use Rattle.ed_sources.proofs.Blocks.{beside_block, block_places, front_word, in_block, last_at, order_at, rest_word}
 use Rattle.ed_sources.proofs.Decimals.{numbers}
-use Rattle.ed_sources.proofs.DemoFaultless.{lines_behind, lines_with, spot}
+use Rattle.ed_sources.proofs.DemoFaultless.{lines_behind, lines_with, counter}
 use Rattle.ed_sources.proofs.DemoLoop.{StandFrom}
 use Rattle.ed_sources.proofs.SaidDemo.{enter_line, segment_forms, word_forms}
 
 -- ---- the words of the sequence
 
 -- the words of more numbers are those of the first, and then those of the others
-pub more_words : (a b x : ℕ) → words_after (a + b) x ≡ words_after a x ++ words_after b (number_behind a x)
+pub more_words : (a b x : ℕ) → words_after (a + b) x ≡ words_after a x ++ words_after b (number_after a x)
 more_words zero b x = ap (λ k. words_after k x) (omega arith)
 more_words (suc a) b x =
     let e : suc a + b ≡ suc (a + b) = omega arith in
@@ -45,29 +45,30 @@ small_sum (suc n) x =
 
 -- ---- what the lines of words and segments place
 
-words_laid : (homes : List Home) (n l x p b g : ℕ) (rest : List Line) (ws : List ℕ)
-    → ((q : ℕ) → q ≡ p + n → placed_from homes (spot q b g) rest ≡ laid q ws)
-    → placed_from homes (spot p b g) (word_forms n l x ++ rest) ≡ laid p (words_after n x ++ ws)
-words_laid homes zero l x p b g rest ws tail = tail p (omega arith)
-words_laid homes (suc n) l x p b g rest ws tail =
+words_laid : (symbols : List Definition) (n l x p b g : ℕ) (rest : List Line) (ws : List ℕ)
+    → ((q : ℕ) → q ≡ p + n → placed_from symbols (counter q b g) rest ≡ placed_words q ws)
+    → placed_from symbols (counter p b g) (word_forms n l x ++ rest) ≡ placed_words p (words_after n x ++ ws)
+words_laid symbols zero l x p b g rest ws tail = tail p (omega arith)
+words_laid symbols (suc n) l x p b g rest ws tail =
     ap (λ (ps : List (ℕ × ℕ)). (p, number_word (next x)) ∷ ps)
-    (words_laid homes n (l + 1) (next x) (p + 1) b g rest ws (λ q e. tail q (omega arith)))
+    (words_laid symbols n (l + 1) (next x) (p + 1) b g rest ws (λ q e. tail q (omega arith)))
 
-segments_laid : (homes : List Home) (n k l x m p b g : ℕ)
-    → placed_from homes (spot p b g) (segment_forms n k l x ++ enter_line m ∷ []) ≡ laid p (words_after (8 * n) x)
-segments_laid homes zero k l x m p b g = refl
-segments_laid homes (suc n) k l x m p b g =
+segments_laid : (symbols : List Definition) (n k l x m p b g : ℕ)
+    → placed_from symbols (counter p b g) (segment_forms n k l x ++ enter_line m ∷ [])
+    ≡ placed_words p (words_after (8 * n) x)
+segments_laid symbols zero k l x m p b g = refl
+segments_laid symbols (suc n) k l x m p b g =
     let e : 8 * suc n ≡ 8 + 8 * n = omega arith in
-    words_laid homes 8 (l + 1) x p p (g + 1) (segment_forms n (k + 1) (l + 9) (number_behind 8 x) ++ enter_line m ∷ [])
-    (words_after (8 * n) (number_behind 8 x))
-    (λ q at. segments_laid homes n (k + 1) (l + 9) (number_behind 8 x) m q p (g + 1))
-    ∙ ap (laid p) (sym (ap (λ j. words_after j x) e ∙ more_words 8 (8 * n) x))
+    words_laid symbols 8 (l + 1) x p p (g + 1) (segment_forms n (k + 1) (l + 9) (number_after 8 x) ++ enter_line m ∷ [])
+    (words_after (8 * n) (number_after 8 x))
+    (λ q at. segments_laid symbols n (k + 1) (l + 9) (number_after 8 x) m q p (g + 1))
+    ∙ ap (placed_words p) (sym (ap (λ j. words_after j x) e ∙ more_words 8 (8 * n) x))
 
 -- they have no entry but the last line
-segments_entry : (homes : List Home) (n k l x : ℕ) (rest : List Line)
-    → entry_from homes (segment_forms n k l x ++ rest) ≡ entry_from homes rest
-segments_entry homes zero k l x rest = refl
-segments_entry homes (suc n) k l x rest = segments_entry homes n (k + 1) (l + 9) (number_behind 8 x) rest
+segments_entry : (symbols : List Definition) (n k l x : ℕ) (rest : List Line)
+    → entry_from symbols (segment_forms n k l x ++ rest) ≡ entry_from symbols rest
+segments_entry symbols zero k l x rest = refl
+segments_entry symbols (suc n) k l x rest = segments_entry symbols n (k + 1) (l + 9) (number_after 8 x) rest
 
 -- ---- the store at the entry, if n segments follow the first
 
@@ -82,15 +83,15 @@ module _ (words n x l : ℕ) where
   abbrev pub front : List (ℕ × ℕ)
   front = take 68 (linked lines)
 
-  rest_is : placed_from (homes_of lines) (spot 123 123 3) (lines_behind n x l) ≡ laid 123 items
+  rest_is : placed_from (symbols_of lines) (counter 123 123 3) (lines_behind n x l) ≡ placed_words 123 items
   rest_is =
       let e : 8 * suc n ≡ 8 + 8 * n = omega arith in
-      words_laid (homes_of lines) 8 20 x 123 123 3 (segment_forms n 2 28 (number_behind 8 x) ++ enter_line l ∷ [])
-      (words_after (8 * n) (number_behind 8 x))
-      (λ q at. segments_laid (homes_of lines) n 2 28 (number_behind 8 x) l q 123 3)
-      ∙ ap (laid 123) (sym (ap (λ j. words_after j x) e ∙ more_words 8 (8 * n) x))
+      words_laid (symbols_of lines) 8 20 x 123 123 3 (segment_forms n 2 28 (number_after 8 x) ++ enter_line l ∷ [])
+      (words_after (8 * n) (number_after 8 x))
+      (λ q at. segments_laid (symbols_of lines) n 2 28 (number_after 8 x) l q 123 3)
+      ∙ ap (placed_words 123) (sym (ap (λ j. words_after j x) e ∙ more_words 8 (8 * n) x))
 
-  parts : linked lines ≡ front ++ laid 123 items
+  parts : linked lines ≡ front ++ placed_words 123 items
   parts = ap (λ (ps : List (ℕ × ℕ)). front ++ ps) rest_is
 
   front_places : have_places front ≡ true
@@ -110,17 +111,17 @@ module _ (words n x l : ℕ) where
 
   -- it is entered at its first order
   pub entry_is : entry_of lines ≡ 56
-  entry_is = segments_entry (homes_of lines) n 2 28 (number_behind 8 x) (enter_line l ∷ [])
+  entry_is = segments_entry (symbols_of lines) n 2 28 (number_after 8 x) (enter_line l ∷ [])
 
   module _ (z : Size) (few : n ≤ 111) where
-    rest_places : have_places (laid 123 items) ≡ true
+    rest_places : have_places (placed_words 123 items) ≡ true
     rest_places = let count = long in block_places 123 items (omega arith)
 
     -- a word of the program or of `print`
     pub early_word : (a : ℕ) → 44 ≤ a → a < 123
         → short_at (entry_state z lines).store a ≡ unwrap_or (last_at front a) 0
     early_word a low high =
-        front_word z lines front (laid 123 items) parts front_places rest_places a low (omega arith)
+        front_word z lines front (placed_words 123 items) parts front_places rest_places a low (omega arith)
         (beside_block 123 items a (inl high))
 
     -- the words of the segments
@@ -130,7 +131,8 @@ module _ (words n x l : ℕ) where
     stand_from (c ∷ cs) k same whole =
         let count = long in
         let next : 123 + k + 1 ≡ 123 + (k + 1) = omega arith in (
-          rest_word z lines front (laid 123 items) parts front_places rest_places (123 + k) (omega arith) (omega arith)
+          rest_word z lines front (placed_words 123 items) parts front_places rest_places (123 + k) (omega arith)
+              (omega arith)
               (in_block 123 items k (omega arith))
               ∙ ap (λ j. get_or items j 0) (omega arith)
               ∙ same 0 (omega arith),

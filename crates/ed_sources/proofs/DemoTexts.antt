@@ -5,7 +5,7 @@ use Rattle.std.specs.Fmt.{decimal}
 use Rattle.std.proofs.lemmas.Grind.{flat_map-append}
 use Rattle.ed_words.specs.Texts.{Text}
 use Rattle.ed_sources.specs.Calls.{text_of_lines}
-use Rattle.ed_sources.specs.Demo.{adding, number_behind, demo_text, next, segments, word_lines, number_word}
+use Rattle.ed_sources.specs.Demo.{adding, number_after, demo_text, next, segments, word_lines, number_word}
 
 -- a line, of those that are left
 pub one_line : (before line digits rest whole : Text) → line ≡ digits ++ codes "\n"
@@ -15,9 +15,9 @@ one_line before line digits rest whole is h =
     append_assoc before line rest ∙ ap (λ (t : Text). before ++ (t ++ rest)) is ∙ h
 
 -- the next number of the sequence is one step nearer to the last
-pub one_behind : {n m y last : ℕ} (x : ℕ) → n ≡ suc m → y ≡ next x → number_behind n x ≡ last
-    → number_behind m y ≡ last
-one_behind {m = m} x less is h = ap (number_behind m) is ∙ ap (λ k. number_behind k x) (sym less) ∙ h
+pub one_behind : {n m y last : ℕ} (x : ℕ) → n ≡ suc m → y ≡ next x → number_after n x ≡ last
+    → number_after m y ≡ last
+one_behind {m = m} x less is h = ap (number_after m) is ∙ ap (λ k. number_after k x) (sym less) ∙ h
 
 -- one word fewer is left
 pub one_word : {n m y : ℕ} {line bytes grown whole : Text} (x : ℕ) (before : Text) → n ≡ suc m → y ≡ next x
@@ -31,8 +31,8 @@ one_word {m = m} {bytes = bytes} {whole = whole} x before less is says same more
     (ap (λ k. before ++ text_of_lines (word_lines k x)) (sym less) ∙ h)
 
 -- no word is left
-pub no_number : {last : ℕ} (n x : ℕ) → n ≡ 0 → number_behind n x ≡ last → x ≡ last
-no_number n x none h = ap (λ k. number_behind k x) (sym none) ∙ h
+pub no_number : {last : ℕ} (n x : ℕ) → n ≡ 0 → number_after n x ≡ last → x ≡ last
+no_number n x none h = ap (λ k. number_after k x) (sym none) ∙ h
 
 pub no_word : {whole : Text} (n x : ℕ) (before : Text) → n ≡ 0 → before ++ text_of_lines (word_lines n x) ≡ whole
     → before ≡ whole
@@ -43,17 +43,17 @@ no_word n x before none h =
 pub one_segment : {n m last : ℕ} {bytes with_line with_words whole : Text} (k x : ℕ) (before : Text) → n ≡ suc m
     → bytes ≡ codes "segment s" ++ decimal k ++ codes "\n"
     → (with_line ≡ before ++ bytes) × (with_words ≡ with_line ++ text_of_lines (word_lines 8 x))
-    → last ≡ number_behind 8 x
+    → last ≡ number_after 8 x
     → before ++ text_of_lines (segments n k x) ≡ whole → with_words ++ text_of_lines (segments m (k + 1) last) ≡ whole
 one_segment {m = m} {bytes = bytes} {with_line = with_line} {whole = whole} k x before less says grown end h =
-    let rest : Text = text_of_lines (segments m (k + 1) (number_behind 8 x)) in
+    let rest : Text = text_of_lines (segments m (k + 1) (number_after 8 x)) in
     let words : Text = text_of_lines (word_lines 8 x) in
     (λ i. grown.1 i ++ text_of_lines (segments m (k + 1) (end i)))
     ∙ append_assoc with_line words rest
     ∙ ap (λ (t : Text). t ++ (words ++ rest)) grown.0
     ∙ one_line before bytes (codes "segment s" ++ decimal k) (words ++ rest) whole says
     (ap (λ (t : Text). before ++ (((codes "segment s" ++ decimal k) ++ 10 ∷ []) ++ t))
-    (sym (flat_map-append (λ line. line ++ 10 ∷ []) (word_lines 8 x) (segments m (k + 1) (number_behind 8 x))))
+    (sym (flat_map-append (λ line. line ++ 10 ∷ []) (word_lines 8 x) (segments m (k + 1) (number_after 8 x))))
     ∙ ap (λ j. before ++ text_of_lines (segments j k x)) (sym less) ∙ h)
 
 pub no_segment : {n : ℕ} {whole : Text} (k x : ℕ) (before : Text) → n ≡ 0 → before
@@ -63,7 +63,7 @@ no_segment k x before none h =
     sym (append-nil before) ∙ ap (λ j. before ++ text_of_lines (segments j k x)) (sym none) ∙ h
 
 -- the numbers of the sequence
-pub behind_low : (n x : ℕ) → x < 65536 → number_behind n x < 65536
+pub behind_low : (n x : ℕ) → x < 65536 → number_after n x < 65536
 behind_low zero x small = small
 behind_low (suc n) x small = behind_low n (next x) (omega arith)
 

@@ -22,7 +22,7 @@ use Rattle.ed_syntax.specs.declared.program.Statement.{Statement}
 use Rattle.ed_syntax.specs.declared.program.Statement.TheVariants as statements
 use Rattle.ed_syntax.proofs.PartLemmas.{run_parts}
 use Rattle.ed_routines.specs.Digits.{digits}
-use Rattle.ed_sources.specs.Demo.{adding, number_behind, demo_source, next, segments, word_lines, number_word}
+use Rattle.ed_sources.specs.Demo.{adding, number_after, demo_source, next, segments, word_lines, number_word}
 use Rattle.ed_sources.proofs.Decimals.{are, decimal_is, digit_bytes, few_bytes, line_bytes, run_bytes, some_digit}
 use Rattle.ed_sources.proofs.Decimals.{value_is, written}
 use Rattle.ed_sources.proofs.Said.{IsWordFront, a_number, number_parts, order, said, stop, word_says}
@@ -77,7 +77,7 @@ segment_line l name = said l None (statements.Segment name None)
 abbrev pub segment_forms : ℕ → ℕ → ℕ → ℕ → List Line
 segment_forms zero k l x = []
 segment_forms (suc n) k l x =
-    segment_line l (name k) ∷ word_forms 8 (l + 1) x ++ segment_forms n (k + 1) (l + 9) (number_behind 8 x)
+    segment_line l (name k) ∷ word_forms 8 (l + 1) x ++ segment_forms n (k + 1) (l + 9) (number_after 8 x)
 
 abbrev pub enter_line : ℕ → Line
 enter_line l = said l None (statements.Enter (codes "main"))
@@ -140,10 +140,10 @@ segments_say (suc n) k l x {rest} {program} second few tail =
     let last : l + 9 * suc n ≡ l + 9 + 9 * n = omega arith in
     says (segment_says l k second (omega arith))
     (words_say 8 (l + 1) x (omega arith)
-    (subst (λ j. Says j (segments n (k + 1) (number_behind 8 x) ++ rest)
-    (segment_forms n (k + 1) (l + 9) (number_behind 8 x) ++ program))
+    (subst (λ j. Says j (segments n (k + 1) (number_after 8 x) ++ rest)
+    (segment_forms n (k + 1) (l + 9) (number_after 8 x) ++ program))
     (sym behind_words)
-    (segments_say n (k + 1) (l + 9) (number_behind 8 x) (omega arith) (omega arith)
+    (segments_say n (k + 1) (l + 9) (number_after 8 x) (omega arith) (omega arith)
     (subst (λ j. Says j rest program) last tail))))
 
 -- ---- the program

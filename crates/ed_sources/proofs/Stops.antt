@@ -11,7 +11,7 @@ use Rattle.ed_orders.specs.declared.kind.Kind.{Kind}
 use Rattle.ed_orders.specs.declared.kind.Kind.TheVariants.{E, G, I, Z}
 use Rattle.ed_machine.specs.State.{State}
 use Rattle.ed_machine.specs.OrderTable.{after, done_at, jumped, next_word, obey_word, place_of, step, took_row}
-use Rattle.ed_machine.specs.Steps.{IsFree, Past, codes_of, is_obeyed, past, state_after}
+use Rattle.ed_machine.specs.Steps.{AreObeyed, Progress, codes_of, is_obeyed, progress, state_after}
 use Rattle.ed_machine.specs.declared.turn.Turn.{Turn}
 use Rattle.ed_machine.specs.declared.turn.Turn.TheVariants.{Stopped as Stops}
 use Rattle.ed_machine.specs.declared.ending.Ending.TheVariants.{Stopped}
@@ -103,24 +103,24 @@ pub record RanToStop (r : RunEnd) (codes : List ℕ) (last : State) : Type 0 whe
 -- a run without resumes whose limit they keep, and whose paper has room for the codes, ends there
 pub ran_to_stop : (limit room k : ℕ) (s : State) (codes : List ℕ) (o : LeadsToStop k s codes) → length codes ≤ room
     → suc k ≤ limit → RanToStop (ran limit 0 room s) codes o.last
-unfolding past ran
+unfolding progress ran
 ran_to_stop limit room k s codes o fits less =
     let turn : (step (state_after k s)).turn ≡ Stops = ap (λ (x : State). (step x).turn) o.leads.state_is ∙ o.stops in
-    let all : (past (suc k) s).codes ≡ codes =
-    ap (λ (t : Turn). (past k s).codes ++ codes_of t) turn ∙ append-nil (past k s).codes ∙ o.leads.codes_are in
-    let obeyed : IsFree (suc k) s = λ j l.
+    let all : (progress (suc k) s).codes ≡ codes =
+    ap (λ (t : Turn). (progress k s).codes ++ codes_of t) turn ∙ append-nil (progress k s).codes ∙ o.leads.codes_are in
+    let obeyed : AreObeyed (suc k) s = λ j l.
     elim (cases_lt j k) [
       | inl below ↦ free o.leads j below
       | inr here ↦ let e : j ≡ k = omega arith in ap (λ x. is_obeyed (step (state_after x s)).turn) e
           ∙ ap is_obeyed turn
     ] in
-    let few : length (past (suc k) s).codes ≤ room = let n = ap (λ (x : List ℕ). length x) all in
+    let few : length (progress (suc k) s).codes ≤ room = let n = ap (λ (x : List ℕ). length x) all in
     omega (arith, n, fits) in
     let has : HasRoom room (suc k) s = record { obeyed = obeyed; printed = few } in
     let at = at_stop limit 0 has (no_stops k s o.leads.goes) less turn in
     let once = ends_once (ran_ends limit 0 room s) at in
     record {
-      codes_are = ap (λ j. (past j s).codes) once.0 ∙ all;
+      codes_are = ap (λ j. (progress j s).codes) once.0 ∙ all;
       ending = once.1;
       state_is = ap (λ j. state_after j s) once.0 ∙ ap (λ (x : State). (step x).state) o.leads.state_is;
     }

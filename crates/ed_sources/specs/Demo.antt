@@ -10,9 +10,9 @@ abbrev pub next : ℕ → ℕ
 next x = (1105 * x + 12345) % 65536
 
 -- the number n steps after a given one
-abbrev pub number_behind : ℕ → ℕ → ℕ
-number_behind zero x = x
-number_behind (suc n) x = number_behind n (next x)
+abbrev pub number_after : ℕ → ℕ → ℕ
+number_after zero x = x
+number_after (suc n) x = number_after n (next x)
 
 -- the word of a number of the sequence; it is below 64
 abbrev pub number_word : ℕ → ℕ
@@ -38,7 +38,7 @@ word_lines n x = map (λ word. codes "word " ++ decimal word) (words_after n x)
 -- n segments of 8 words each, named s and a number from k upwards, with the words of the numbers after a given one
 abbrev pub segments : ℕ → ℕ → ℕ → List Text
 segments zero k x = []
-segments (suc n) k x = (codes "segment s" ++ decimal k) ∷ word_lines 8 x ++ segments n (k + 1) (number_behind 8 x)
+segments (suc n) k x = (codes "segment s" ++ decimal k) ∷ word_lines 8 x ++ segments n (k + 1) (number_after 8 x)
 
 -- the program for a number of words: the order at `add` adds them one after the other, until it equals the order at
 -- `stop`, which would add the word after the last

@@ -2,7 +2,7 @@ ghost use Rattle.std.specs.Prelude.{◌≡◌, ◌++◌, ◌<◌, ◌≤◌, cod
 ghost use Rattle.std.specs.Fmt.{decimal};
 ghost use Rattle.ed_sources.specs.Accepted.{EachDemoIsAccepted};
 ghost use Rattle.ed_sources.specs.Calls.{text_of_lines};
-ghost use Rattle.ed_sources.specs.Demo.{adding, number_behind, demo_text, next, segments, word_lines, number_word};
+ghost use Rattle.ed_sources.specs.Demo.{adding, number_after, demo_text, next, segments, word_lines, number_word};
 
 use ed_report::bytes_of_text;
 use ed_words::NoMemory;
@@ -57,7 +57,7 @@ fn segment_line(alloc: Global, k: u32) -> Result<Vec<u8>, NoMemory>
 /// Adds the 8 words of the numbers after a given one to a source, and answers the last of these numbers.
 fn push_words(alloc: Global, text: &mut Vec<u8>, before: u32) -> Result<u32, NoMemory>
     requires { before < 65536 }
-    ensures last { IfOk result (λ last. last ≡ number_behind 8 before) }
+    ensures last { IfOk result (λ last. last ≡ number_after 8 before) }
     ensures text { IfOk result (λ _. text.new.items ≡ text.old.items ++ text_of_lines (word_lines 8 before)) }
 {
     let mut number = before;

@@ -5,8 +5,8 @@ use Rattle.ed_words.specs.Texts.{Text}
 use Rattle.ed_stepper.specs.Commands.{LineSaysCommand, go, no_part, one_part, one_space}
 use Rattle.ed_stepper.specs.ScriptLines.{HasBadLine}
 use Rattle.ed_stepper.specs.Private.CommandReading.{bad_line}
-use Rattle.ed_stepper.specs.declared.moves.Aim.TheVariants as aims
-use Rattle.ed_stepper.specs.declared.commands.Command.TheVariants.{Accumulator, Move, Nothing, Show}
+use Rattle.ed_stepper.specs.declared.moves.MoveTarget.TheVariants as aims
+use Rattle.ed_stepper.specs.declared.commands.SessionCommand.TheVariants.{Accumulator, Move, Nothing, Show}
 use Rattle.ed_stepper.proofs.CommandLaws.{read_line_says}
 use Rattle.ed_stepper.proofs.ScriptLaws.{bad_line_is, never_both, one_bad_line}
 

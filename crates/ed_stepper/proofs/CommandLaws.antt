@@ -15,10 +15,10 @@ use Rattle.ed_stepper.specs.Commands.{IsNumberWithin, LineSaysCommand, SaysComma
 use Rattle.ed_stepper.specs.Commands.{back, entry, go, show_acc, show_from, show_last, show_mult, show_one, to, trace}
 use Rattle.ed_stepper.specs.Private.CommandReading.{of_one, of_parts, of_three, of_two, parts_between_spaces}
 use Rattle.ed_stepper.specs.Private.CommandReading.{session_command, show_command, shown}
-use Rattle.ed_stepper.specs.declared.moves.Aim.TheVariants as aims
-use Rattle.ed_stepper.specs.declared.commands.Command.{Command}
-use Rattle.ed_stepper.specs.declared.commands.Command.TheVariants.{Nothing, Move, Back, Trace, Show}
-use Rattle.ed_stepper.specs.declared.commands.Command.TheVariants.{Accumulator, Multiplier, LastPrinted}
+use Rattle.ed_stepper.specs.declared.moves.MoveTarget.TheVariants as aims
+use Rattle.ed_stepper.specs.declared.commands.SessionCommand.{SessionCommand}
+use Rattle.ed_stepper.specs.declared.commands.SessionCommand.TheVariants.{Nothing, Move, Back, Trace, Show}
+use Rattle.ed_stepper.specs.declared.commands.SessionCommand.TheVariants.{Accumulator, Multiplier, LastPrinted}
 
 -- ---- parts
 
@@ -170,7 +170,7 @@ window_is a b i j le =
     rw (first, last) (rw order refl)
 
 -- what parts say is read
-pub command_is_read : (parts : List Text) (c : Command) → SaysCommand parts c → of_parts parts ≡ Some c
+pub command_is_read : (parts : List Text) (c : SessionCommand) → SaysCommand parts c → of_parts parts ≡ Some c
 command_is_read _ _ nothing = refl
 command_is_read _ _ (go n i) = ap (option_map (λ n. Move (aims.Orders n))) (number_is_read 1 100000000 n i)
 command_is_read _ _ (to a i) = ap (option_map (λ n. Move (aims.Address n))) (number_is_read 0 1023 a i)
@@ -188,11 +188,11 @@ word_is : (w word : Text) → bytes_eq w word ≡ true → w ≡ word
 word_is w word e = (bytes_eq-Decides w word).0 e
 
 -- a command with one number
-record WithNumber (least most : ℕ) (a : Text) (f : ℕ → Command) (c : Command) : Type 0 where
+record WithNumber (least most : ℕ) (a : Text) (f : ℕ → SessionCommand) (c : SessionCommand) : Type 0 where
   pub number : IsNumberWithin least most a
   pub is : f (value a) ≡ c
 
-with_number : (least most : ℕ) (a : Text) (f : ℕ → Command) (c : Command)
+with_number : (least most : ℕ) (a : Text) (f : ℕ → SessionCommand) (c : SessionCommand)
     → option_map f (number_within least most a) ≡ Some c → WithNumber least most a f c
 with_number least most a f c e = by_number (number_within least most a) refl e
   where
@@ -204,13 +204,13 @@ with_number least most a f c e = by_number (number_within least most a) refl e
         let made : f x ≡ c = cc in
         record { number = n.number; is = ap f n.is ∙ made }
 
-record IsWindow (a b : Text) (c : Command) : Type 0 where
+record IsWindow (a b : Text) (c : SessionCommand) : Type 0 where
   pub first : IsNumberWithin 0 1023 a
   pub last : IsNumberWithin 0 1023 b
   pub order : value a ≤ value b
   pub is : Show (value a) (value b) ≡ c
 
-read_is_window : (a b : Text) (c : Command)
+read_is_window : (a b : Text) (c : SessionCommand)
     → show_command (number_within 0 1023 a) (number_within 0 1023 b) ≡ Some c → IsWindow a b c
 read_is_window a b c e = by_numbers (number_within 0 1023 a) (number_within 0 1023 b) refl refl e
   where
@@ -237,7 +237,7 @@ read_is_window a b c e = by_numbers (number_within 0 1023 a) (number_within 0 10
         }
 
 -- what is read in one part is said
-one_said : (w : Text) (c : Command) → of_one w ≡ Some c → SaysCommand (w ∷ []) c
+one_said : (w : Text) (c : SessionCommand) → of_one w ≡ Some c → SaysCommand (w ∷ []) c
 one_said w c e = by_test (bytes_eq w (codes "entry")) refl e
   where
     by_test : (t : Bool) → bytes_eq w (codes "entry") ≡ t → (if t then Some (Move aims.Entry) else None) ≡ Some c
@@ -248,7 +248,7 @@ one_said w c e = by_test (bytes_eq w (codes "entry")) refl e
     by_test false f e = absurd (cc)
 
 -- after `show`
-shown_said : (a : Text) (c : Command) → shown a ≡ Some c → SaysCommand (codes "show" ∷ a ∷ []) c
+shown_said : (a : Text) (c : SessionCommand) → shown a ≡ Some c → SaysCommand (codes "show" ∷ a ∷ []) c
 shown_said a c e =
     by_tests (bytes_eq a (codes "acc")) (bytes_eq a (codes "mult")) (bytes_eq a (codes "last")) refl refl refl e
   where
@@ -271,12 +271,12 @@ shown_said a c e =
         subst (λ x. SaysCommand (codes "show" ∷ a ∷ []) x) w.is (show_one a w.first)
 
 -- in two parts
-two_said : (w a : Text) (c : Command) → of_two w a ≡ Some c → SaysCommand (w ∷ a ∷ []) c
+two_said : (w a : Text) (c : SessionCommand) → of_two w a ≡ Some c → SaysCommand (w ∷ a ∷ []) c
 two_said w a c e =
     by_tests (bytes_eq w (codes "go")) (bytes_eq w (codes "to")) (bytes_eq w (codes "back"))
     (bytes_eq w (codes "trace")) (bytes_eq w (codes "show")) refl refl refl refl refl e
   where
-    said : (word : Text) → bytes_eq w word ≡ true → (x : Command) → x ≡ c → SaysCommand (word ∷ a ∷ []) x
+    said : (word : Text) → bytes_eq w word ≡ true → (x : SessionCommand) → x ≡ c → SaysCommand (word ∷ a ∷ []) x
         → SaysCommand (w ∷ a ∷ []) c
     said word f x same s = rw (word_is w word f) (subst (λ y. SaysCommand (word ∷ a ∷ []) y) same s)
 
@@ -301,7 +301,7 @@ two_said w a c e =
     by_tests false false false false false f g h i j e = absurd (cc)
 
 -- in three
-three_said : (w a b : Text) (c : Command) → of_three w a b ≡ Some c → SaysCommand (w ∷ a ∷ b ∷ []) c
+three_said : (w a b : Text) (c : SessionCommand) → of_three w a b ≡ Some c → SaysCommand (w ∷ a ∷ b ∷ []) c
 three_said w a b c e = by_test (bytes_eq w (codes "show")) refl e
   where
     by_test : (t : Bool) → bytes_eq w (codes "show") ≡ t
@@ -314,7 +314,7 @@ three_said w a b c e = by_test (bytes_eq w (codes "show")) refl e
     by_test false f e = absurd (cc)
 
 -- what is read in parts is said
-pub read_is_said : (parts : List Text) (c : Command) → of_parts parts ≡ Some c → SaysCommand parts c
+pub read_is_said : (parts : List Text) (c : SessionCommand) → of_parts parts ≡ Some c → SaysCommand parts c
 read_is_said [] c e =
     let same : Nothing ≡ c = cc in subst (λ x. SaysCommand [] x) same nothing
 read_is_said (w ∷ []) c e = one_said w c e
@@ -325,12 +325,12 @@ read_is_said (w ∷ a ∷ b ∷ d ∷ parts) c e = absurd (cc)
 -- ---- lines
 
 -- what a line says is read
-pub line_is_read : (line : Text) (c : Command) → LineSaysCommand line c → session_command line ≡ Some c
+pub line_is_read : (line : Text) (c : SessionCommand) → LineSaysCommand line c → session_command line ≡ Some c
 line_is_read line c s =
     ap of_parts (parts_are_read line s.parts s.has_parts) ∙ command_is_read s.parts c s.says
 
 -- what is read in a line is said
-pub read_line_says : (line : Text) (c : Command) → session_command line ≡ Some c → LineSaysCommand line c
+pub read_line_says : (line : Text) (c : SessionCommand) → session_command line ≡ Some c → LineSaysCommand line c
 read_line_says line c e = record {
   parts = parts_between_spaces line;
   has_parts = read_parts_are line;
@@ -342,6 +342,6 @@ pub unread_says_none : (line : Text) → session_command line ≡ None → SaysN
 unread_says_none line none = λ c s. let read = line_is_read line c s in absurd (cc)
 
 -- a line says one command
-pub one_command : (line : Text) (c d : Command) → LineSaysCommand line c → LineSaysCommand line d → c ≡ d
+pub one_command : (line : Text) (c d : SessionCommand) → LineSaysCommand line c → LineSaysCommand line d → c ≡ d
 one_command line c d s t =
     let first = line_is_read line c s in let second = line_is_read line d t in cc

@@ -6,7 +6,7 @@ use Rattle.std.specs.Prelude.{◌==◌, not, position, slice_index_or, if◌then
 use Rattle.std.proofs.lemmas.List.{append-nil, append_assoc, drop_all, length-append, take_at}
 use Rattle.ed_words.specs.Texts.{Text}
 use Rattle.ed_syntax.specs.Lines.{lines_of}
-use Rattle.ed_stepper.specs.Inputs.{Input, announced, at_line, behind_line, divided, divided_at, first_line}
+use Rattle.ed_stepper.specs.Inputs.{Input, announced, at_line, after_line, divided, divided_at, first_line}
 use Rattle.ed_stepper.specs.Inputs.{with_byte_before}
 use Rattle.ed_stepper.specs.Private.Fronts.{unended}
 use Rattle.ed_stepper.specs.declared.inputs.TextKind.{TextKind}
@@ -15,21 +15,21 @@ use Rattle.ed_stepper.proofs.Heads.{found, none_found}
 -- ---- the bytes of a first line
 
 -- what follows the first line, by the offset of its line feed
-behind_is : (text : Text) → behind_line text ≡ drop (unended text + 1) text
+behind_is : (text : Text) → after_line text ≡ drop (unended text + 1) text
 behind_is [] = refl
 behind_is (b ∷ bs) = by_test (b == 10) (behind_is bs)
   where
-    by_test : (t : Bool) → behind_line bs ≡ drop (unended bs + 1) bs
-        → (if t then bs else behind_line bs) ≡ drop ((if not t then 1 + unended bs else 0) + 1) (b ∷ bs)
+    by_test : (t : Bool) → after_line bs ≡ drop (unended bs + 1) bs
+        → (if t then bs else after_line bs) ≡ drop ((if not t then 1 + unended bs else 0) + 1) (b ∷ bs)
     by_test true h = refl
     by_test false h = let s : 1 + unended bs + 1 ≡ suc (unended bs + 1) = omega arith in rw s h
 
 pub behind_ended : (text : Text) (end : ℕ) → position (λ b. b == 10) text ≡ Some end
-    → behind_line text ≡ drop (end + 1) text
+    → after_line text ≡ drop (end + 1) text
 behind_ended text end at =
     behind_is text ∙ ap (λ n. drop (n + 1) text) (sym (found (λ b. b == 10) text end at).0)
 
-pub behind_unended : (text : Text) → position (λ b. b == 10) text ≡ None → behind_line text ≡ []
+pub behind_unended : (text : Text) → position (λ b. b == 10) text ≡ None → after_line text ≡ []
 behind_unended text none =
     let all = none_found (λ b. b == 10) text none in
     behind_is text ∙ drop_all (unended text + 1) text (omega (arith, all))
@@ -40,12 +40,12 @@ line_front [] = []
 line_front (b ∷ bs) = if b == 10 then b ∷ [] else b ∷ line_front bs
 
 -- it and what follows it are the text
-pub front_whole : (text : Text) → line_front text ++ behind_line text ≡ text
+pub front_whole : (text : Text) → line_front text ++ after_line text ≡ text
 front_whole [] = refl
 front_whole (b ∷ bs) = by_test (b == 10) (front_whole bs)
   where
-    by_test : (t : Bool) → line_front bs ++ behind_line bs ≡ bs
-        → (if t then b ∷ [] else b ∷ line_front bs) ++ (if t then bs else behind_line bs) ≡ b ∷ bs
+    by_test : (t : Bool) → line_front bs ++ after_line bs ≡ bs
+        → (if t then b ∷ [] else b ∷ line_front bs) ++ (if t then bs else after_line bs) ≡ b ∷ bs
     by_test true h = refl
     by_test false h = ap (λ (x : Text). b ∷ x) h
 
@@ -72,19 +72,19 @@ one_front b more (Some i) = refl
 -- ---- lines
 
 -- if no line begins here, the input is divided after the first line feed
-skips : (text : Text) → divided_at false text ≡ prefixed (line_front text) (divided (behind_line text))
+skips : (text : Text) → divided_at false text ≡ prefixed (line_front text) (divided (after_line text))
 skips [] = refl
 skips (b ∷ bs) = by_test (b == 10) (skips bs)
   where
-    by_test : (t : Bool) → divided_at false bs ≡ prefixed (line_front bs) (divided (behind_line bs))
+    by_test : (t : Bool) → divided_at false bs ≡ prefixed (line_front bs) (divided (after_line bs))
         → with_byte_before b (divided_at t bs)
-        ≡ prefixed (if t then b ∷ [] else b ∷ line_front bs) (divided (if t then bs else behind_line bs))
+        ≡ prefixed (if t then b ∷ [] else b ∷ line_front bs) (divided (if t then bs else after_line bs))
     by_test true h = ap (with_byte_before b) (sym (prefixed_none (divided bs))) ∙ one_front b [] (divided bs)
-    by_test false h = ap (with_byte_before b) h ∙ one_front b (line_front bs) (divided (behind_line bs))
+    by_test false h = ap (with_byte_before b) h ∙ one_front b (line_front bs) (divided (after_line bs))
 
 -- the same after a line that announces nothing
 pub passes : (text : Text) → 0 < length text → announced (first_line text) ≡ None
-    → divided text ≡ prefixed (line_front text) (divided (behind_line text))
+    → divided text ≡ prefixed (line_front text) (divided (after_line text))
 passes [] some none = absurd (omega arith)
 passes (b ∷ bs) some none =
     ap (λ (k : Option TextKind). at_line k (b ∷ bs) (with_byte_before b (divided_at (b == 10) bs))) none
@@ -92,7 +92,7 @@ passes (b ∷ bs) some none =
 
 -- and a line that announces a text divides it
 pub divides : (text : Text) (kind : TextKind) → 0 < length text → announced (first_line text) ≡ Some kind
-    → divided text ≡ Some (record { script = []; kind = kind; text = behind_line text })
+    → divided text ≡ Some (record { script = []; kind = kind; text = after_line text })
 divides [] kind some is = absurd (omega arith)
 divides (b ∷ bs) kind some is =
     ap (λ (k : Option TextKind). at_line k (b ∷ bs) (with_byte_before b (divided_at (b == 10) bs))) is
@@ -128,7 +128,7 @@ at_start input =
 
 -- after a line that announces nothing
 pub goes_on : (input rest after : Text) → Stands input rest → 0 < length rest → announced (first_line rest) ≡ None
-    → after ≡ behind_line rest → Stands input after
+    → after ≡ after_line rest → Stands input after
 goes_on input rest after s some none is =
     let before : Text = take (length input - length rest) input in
     let front = line_front rest in
@@ -147,7 +147,7 @@ goes_on input rest after s some none is =
 
 -- at a line that announces a text
 pub ends_at : (input rest after : Text) (kind : TextKind) → Stands input rest → 0 < length rest
-    → announced (first_line rest) ≡ Some kind → after ≡ behind_line rest
+    → announced (first_line rest) ≡ Some kind → after ≡ after_line rest
     → divided input ≡ Some (record { script = take (length input - length rest) input; kind = kind; text = after })
 ends_at input rest after kind s some found is =
     let before : Text = take (length input - length rest) input in

@@ -8,11 +8,11 @@ use Rattle.ed_machine.proofs.LeastNumbers.{least_found, least_none}
 use Rattle.ed_stepper.specs.MoveEnds.{Ends, end_after, move_end, move_orders, or_else, own_end, stopped_after}
 use Rattle.ed_stepper.specs.declared.moves.MoveEnd.{MoveEnd}
 use Rattle.ed_stepper.specs.declared.moves.MoveEnd.TheVariants.{Limit, Stopped, Went}
-use Rattle.ed_stepper.specs.declared.moves.Aim.{Aim}
-use Rattle.ed_stepper.specs.declared.moves.Aim.TheVariants.{Orders}
+use Rattle.ed_stepper.specs.declared.moves.MoveTarget.{MoveTarget}
+use Rattle.ed_stepper.specs.declared.moves.MoveTarget.TheVariants.{Orders}
 
 -- an end holds at the limit
-limit_ends : (aim : Aim) (left : ℕ) (s : State) → end_after aim left left s ≡ None → ⊥
+limit_ends : (aim : MoveTarget) (left : ℕ) (s : State) → end_after aim left left s ≡ None → ⊥
 limit_ends aim left s is = by_stop (stopped_after left s) refl
   where
     by_own : (o : Option MoveEnd) → or_else o (Some Limit) ≡ None → ⊥
@@ -24,7 +24,7 @@ limit_ends aim left s is = by_stop (stopped_after left s) refl
     by_stop false h = let m = eq_true left left refl in by_own (own_end aim left s) (sym (rw (h, m) refl) ∙ is)
 
 -- no move obeys more orders than are left
-pub within_left : (aim : Aim) (left k : ℕ) (s : State) (end : MoveEnd) → Ends aim left s k end → k ≤ left
+pub within_left : (aim : MoveTarget) (left k : ℕ) (s : State) (end : MoveEnd) → Ends aim left s k end → k ≤ left
 within_left aim left k s end e = by_place (grind arith)
   where
     by_place : (k ≤ left) ⊎ (left < k) → k ≤ left
@@ -50,7 +50,7 @@ at_most n left k s end e = by_place (grind arith)
     by_place (inr h) = absurd (own_ends n left s (e.first n h))
 
 -- the orders of a move as a function
-pub orders_found : (aim : Aim) (left k : ℕ) (s : State) (end : MoveEnd) → Ends aim left s k end
+pub orders_found : (aim : MoveTarget) (left k : ℕ) (s : State) (end : MoveEnd) → Ends aim left s k end
     → k ≡ move_orders aim left s
 unfolding move_orders
 orders_found aim left k s end e = by_place (split (within_left aim left k s end e))
@@ -66,6 +66,7 @@ orders_found aim left k s end e = by_place (split (within_left aim left k s end 
     by_place (inr is) = sym (least_none _ left (λ j h. fails j (omega arith)) ∙ sym is)
 
 -- its end as a function
-pub end_found : (aim : Aim) (left k : ℕ) (s : State) (end : MoveEnd) → Ends aim left s k end → end ≡ move_end aim left s
+pub end_found : (aim : MoveTarget) (left k : ℕ) (s : State) (end : MoveEnd) → Ends aim left s k end
+    → end ≡ move_end aim left s
 unfolding move_end
 end_found aim left k s end e = let n = sym (orders_found aim left k s end e) in sym (rw (n, e.now) refl)

@@ -8,7 +8,7 @@ use Rattle.ed_stepper.specs.MoveEnds.{Ends}
 use Rattle.ed_stepper.specs.Sessions.{Moves}
 use Rattle.ed_stepper.specs.Private.Kept.{AreMarks, IsMark}
 use Rattle.ed_stepper.specs.declared.marks.Mark.{Mark}
-use Rattle.ed_stepper.specs.declared.moves.Aim.{Aim}
+use Rattle.ed_stepper.specs.declared.moves.MoveTarget.{MoveTarget}
 use Rattle.ed_stepper.specs.declared.moves.MoveEnd.{MoveEnd}
 use Rattle.ed_stepper.proofs.Founds.{orders_found, end_found}
 
@@ -19,7 +19,7 @@ no_marks start marks is = subst (λ ms. AreMarks start ms) (sym is) none
     none k d h = absurd (omega arith)
 
 -- a walk from the state of a session is a move
-pub moves_so : {aim : Aim} {start machine last : State} {limit done orders at : ℕ} {end : MoveEnd}
+pub moves_so : {aim : MoveTarget} {start machine last : State} {limit done orders at : ℕ} {end : MoveEnd}
     → machine ≡ state_after done start
     → Ends aim (limit - done) machine orders end → last ≡ state_after orders machine → at ≡ last.counter
     → Moves aim (record { start = start; limit = limit; done = done }) (record {

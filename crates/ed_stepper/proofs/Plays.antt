@@ -8,15 +8,15 @@ use Rattle.ed_syntax.specs.Lines.{lines_of}
 use Rattle.ed_stepper.specs.Sessions.{Stand}
 use Rattle.ed_stepper.specs.Private.CommandReading.{bad_from, bad_line, commands_of, line_commands, session_command}
 use Rattle.ed_stepper.specs.Scripts.{GoesTooFar, LeftBy, Played, TooFar, left_by}
-use Rattle.ed_stepper.specs.Scripts.{behind, is_too_far, play, writes}
+use Rattle.ed_stepper.specs.Scripts.{after_text_of, is_too_far, play, writes}
 use Rattle.std.specs.Prelude.{Err}
 use Rattle.ed_stepper.specs.ScriptLines.{IsScript}
 use Rattle.ed_stepper.specs.Scripts.{ScriptEnds}
 use Rattle.ed_stepper.specs.Private.Lines.{LineEnds, fault_on}
 use Rattle.ed_stepper.specs.declared.moves.BackFault.{BackFault}
 use Rattle.ed_stepper.specs.declared.moves.BackFault.TheVariants as back
-use Rattle.ed_stepper.specs.declared.commands.Command.{Command}
-use Rattle.ed_stepper.specs.declared.commands.Command.TheVariants.{Nothing}
+use Rattle.ed_stepper.specs.declared.commands.SessionCommand.{SessionCommand}
+use Rattle.ed_stepper.specs.declared.commands.SessionCommand.TheVariants.{Nothing}
 
 -- what lines that ran completely wrote, and the session after them
 abbrev whole_play : Text → Stand → Played
@@ -26,35 +26,36 @@ not_refused : (far : TooFar) → Some far ≡ None → ⊥
 not_refused far e = cc
 
 -- lines after others that ran completely
-play_more : (ran more : List Command) (k : ℕ) (s t : Stand) (text : Text) → play k ran s ≡ whole_play text t
-    → play k (ran ++ more) s ≡ behind text (play (k + length ran) more t)
+play_more : (ran more : List SessionCommand) (k : ℕ) (s t : Stand) (text : Text) → play k ran s ≡ whole_play text t
+    → play k (ran ++ more) s ≡ after_text_of text (play (k + length ran) more t)
 play_more [] more k s t text is =
     let none : [] ≡ text = ap (λ (p : Played). p.text) is in
     let same : s ≡ t = ap (λ (p : Played). p.stand) is in
     let e : k + 0 ≡ k = omega arith in
-    rw e (λ i. behind (none i) (play k more (same i)))
+    rw e (λ i. after_text_of (none i) (play k more (same i)))
 play_more (c ∷ ran) more k s t text is = by_test (is_too_far c s) refl (play_more ran more (k + 1) (left_by c s) t)
   where
     rest : Played
     rest = play (k + 1) ran (left_by c s)
 
     by_test : (b : Bool) → is_too_far c s ≡ b
-        → ((before : Text) → rest ≡ whole_play before t → play (k + 1) (ran ++ more) (left_by c s) ≡ behind before
+        → ((before : Text) → rest ≡ whole_play before t
+        → play (k + 1) (ran ++ more) (left_by c s) ≡ after_text_of before
         (play (k + 1 + length ran) more t))
-        → play k (c ∷ (ran ++ more)) s ≡ behind text (play (k + length (c ∷ ran)) more t)
+        → play k (c ∷ (ran ++ more)) s ≡ after_text_of text (play (k + length (c ∷ ran)) more t)
     by_test true e before_rest =
         let far : TooFar = record { line = k; done = s.done } in
         let now : play k (c ∷ ran) s ≡ record { text = []; stand = s; refused = Some far } = rw e refl in
         absurd (not_refused far (sym (ap (λ (p : Played). p.refused) now) ∙ ap (λ (p : Played). p.refused) is))
     by_test false e before_rest =
-        let now : behind (writes c s) rest ≡ whole_play text t = sym (rw e refl) ∙ is in
+        let now : after_text_of (writes c s) rest ≡ whole_play text t = sym (rw e refl) ∙ is in
         let text_is : writes c s ++ rest.text ≡ text = ap (λ (p : Played). p.text) now in
         let before : rest ≡ whole_play rest.text t =
         (λ i. record { text = rest.text; stand = (now i).stand; refused = (now i).refused }) in
         let ih = before_rest rest.text before in
         let count : k + 1 + length ran ≡ k + length (c ∷ ran) = omega arith in
         let end : Played = play (k + length (c ∷ ran)) more t in
-        rw e (ap (behind (writes c s)) (ih ∙ ap (λ n. behind rest.text (play n more t)) count)
+        rw e (ap (after_text_of (writes c s)) (ih ∙ ap (λ n. after_text_of rest.text (play n more t)) count)
         ∙ (λ i. record end {
           text =
               (sym (append_assoc (writes c s) rest.text end.text) ∙ ap (λ x. x ++ end.text) text_is) i;
@@ -62,7 +63,7 @@ play_more (c ∷ ran) more k s t text is = by_test (is_too_far c s) refl (play_m
 
 -- the lines of a script so far ran completely, and none of the others is bad
 pub record Playing (script : Text) (s : Stand) (line : ℕ) (rest text : Text) (t : Stand) : Type 0 where
-  pub ran : List Command
+  pub ran : List SessionCommand
   pub whole : commands_of script ≡ ran ++ commands_of rest
   pub left : play 1 ran s ≡ record { text = text; stand = t; refused = None }
   pub number : line ≡ 1 + length ran
@@ -122,11 +123,11 @@ module _ {script : Text} {s : Stand} {line : ℕ} {rest text : Text} {t : Stand}
     pub has_command : IsSome (session_command bytes)
     has_command = some_of (session_command bytes) good.some
       where
-        some_of : (o : Option Command) → is_none o ≡ false → IsSome o
+        some_of : (o : Option SessionCommand) → is_none o ≡ false → IsSome o
         some_of None e = absurd (cc)
         some_of (Some c) e = refl
 
-    module _ {c : Command} (command : session_command bytes ≡ Some c) where
+    module _ {c : SessionCommand} (command : session_command bytes ≡ Some c) where
       -- the commands that are left begin with it
       begins_with : commands_of rest ≡ c ∷ commands_of more
       begins_with =

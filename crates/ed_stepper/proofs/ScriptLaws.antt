@@ -9,8 +9,8 @@ use Rattle.ed_syntax.proofs.SourceLaws.{lines_are_read, read_lines_are}
 use Rattle.ed_stepper.specs.ScriptLines.{EachScriptHasOneMeaning, HasBadLine, IsBadLine, IsFirstBadLine, IsScript}
 use Rattle.ed_stepper.specs.ScriptLines.{LinesSayCommands, and_more, no_command, no_more, too_many_lines}
 use Rattle.ed_stepper.specs.Private.CommandReading.{bad_from, bad_line, commands_of, line_commands, session_command}
-use Rattle.ed_stepper.specs.declared.commands.Command.{Command}
-use Rattle.ed_stepper.specs.declared.commands.Command.TheVariants.{Nothing}
+use Rattle.ed_stepper.specs.declared.commands.SessionCommand.{SessionCommand}
+use Rattle.ed_stepper.specs.declared.commands.SessionCommand.TheVariants.{Nothing}
 use Rattle.ed_stepper.proofs.CommandLaws.{line_is_read, one_command, read_line_says, unread_says_none}
 
 -- ---- lines one after the other
@@ -25,7 +25,7 @@ record BadFrom (k : ℕ) (lines : List Text) (number : ℕ) : Type 0 where
   pub before : List Text
   pub line : Text
   pub after : List Text
-  pub said : List Command
+  pub said : List SessionCommand
   pub lines_are : lines ≡ before ++ line ∷ after
   pub says : LinesSayCommands before said
   pub number_is : number ≡ length before + k
@@ -36,14 +36,14 @@ IsAnswerFrom k lines None = SayFrom k lines
 IsAnswerFrom k lines (Some number) = BadFrom k lines number
 
 -- a good line before others
-and_good : (k : ℕ) (line : Text) (lines : List Text) (c : Command) (o : Option ℕ) → session_command line ≡ Some c
+and_good : (k : ℕ) (line : Text) (lines : List Text) (c : SessionCommand) (o : Option ℕ) → session_command line ≡ Some c
     → IsAnswerFrom (k + 1) lines o → IsAnswerFrom k (line ∷ lines) o
 and_good k line lines c None e a =
     let few = a.few in
     let says = and_more line lines c _ (read_line_says line c e) a.says in
     record {
-      says = subst (λ (x : Command). LinesSayCommands (line ∷ lines) (x ∷ line_commands lines))
-          (sym (ap (λ (o : Option Command). unwrap_or o Nothing) e)) says;
+      says = subst (λ (x : SessionCommand). LinesSayCommands (line ∷ lines) (x ∷ line_commands lines))
+          (sym (ap (λ (o : Option SessionCommand). unwrap_or o Nothing) e)) says;
       few = omega (arith, few);
     }
 and_good k line lines c (Some number) e a =
@@ -76,7 +76,7 @@ lines_answer : (k : ℕ) (lines : List Text) → k ≤ 1001 → IsAnswerFrom k l
 lines_answer k [] le = record { says = no_more; few = omega arith }
 lines_answer k (line ∷ lines) le = by_tests (k == 1001) (session_command line) refl refl (lines_answer (k + 1) lines)
   where
-    by_tests : (t : Bool) (o : Option Command) → (k == 1001) ≡ t → session_command line ≡ o
+    by_tests : (t : Bool) (o : Option SessionCommand) → (k == 1001) ≡ t → session_command line ≡ o
         → (k + 1 ≤ 1001 → IsAnswerFrom (k + 1) lines (bad_from (k + 1) lines))
         → IsAnswerFrom k (line ∷ lines) (if t || is_none o then Some k else bad_from (k + 1) lines)
     by_tests true o e f h = at_once k line lines (too_many_lines ((Decides-eqb k 1001).0 e))
@@ -88,7 +88,7 @@ lines_answer k (line ∷ lines) le = by_tests (k == 1001) (session_command line)
         and_good k line lines c (bad_from (k + 1) lines) f (h (omega (arith, few)))
 
 -- lines that say commands, and lines after them
-said_are_read : (k : ℕ) (lines more : List Text) (cs : List Command) → LinesSayCommands lines cs
+said_are_read : (k : ℕ) (lines more : List Text) (cs : List SessionCommand) → LinesSayCommands lines cs
     → length lines + k ≤ 1001 → bad_from k (lines ++ more) ≡ bad_from (length lines + k) more
 said_are_read k _ more _ no_more le = let e : 0 + k ≡ k = omega arith in sym (ap (λ n. bad_from n more) e)
 said_are_read k _ more _ (and_more line lines c cs s says) le =
@@ -97,12 +97,12 @@ said_are_read k _ more _ (and_more line lines c cs s says) le =
     let e : length lines + (k + 1) ≡ length (line ∷ lines) + k = omega arith in
     rw (none, read) (said_are_read (k + 1) lines more cs says (omega (arith, e, le)) ∙ ap (λ n. bad_from n more) e)
 
-pub commands_are : (lines : List Text) (cs : List Command) → LinesSayCommands lines cs → line_commands lines ≡ cs
+pub commands_are : (lines : List Text) (cs : List SessionCommand) → LinesSayCommands lines cs → line_commands lines ≡ cs
 commands_are _ _ no_more = refl
 commands_are _ _ (and_more line lines c cs s says) =
     let read = line_is_read line c s in
     let rest = commands_are lines cs says in
-    (λ i. unwrap_or (read i) Nothing ∷ line_commands lines) ∙ ap (λ (x : List Command). c ∷ x) rest
+    (λ i. unwrap_or (read i) Nothing ∷ line_commands lines) ∙ ap (λ (x : List SessionCommand). c ∷ x) rest
 
 -- ---- scripts
 
@@ -135,7 +135,7 @@ bad_line_is script o e =
     }
 
 -- what a script says is read
-pub script_is_read : (script : Text) (commands : List Command) → IsScript script commands
+pub script_is_read : (script : Text) (commands : List SessionCommand) → IsScript script commands
     → (bad_line script ≡ None) × (commands_of script ≡ commands)
 script_is_read script commands s =
     let lines = lines_are_read script s.lines s.has_lines in
@@ -153,7 +153,7 @@ found_here number line after (no_command le none) = by_option (session_command l
     low : (number == 1001) ≡ false
     low = grind (arith, nat_tests)
 
-    by_option : (o : Option Command) → session_command line ≡ o
+    by_option : (o : Option SessionCommand) → session_command line ≡ o
         → (if (number == 1001) || is_none o then Some number else bad_from (number + 1) after) ≡ Some number
     by_option None e = rw low refl
     by_option (Some c) e = absurd (none c (read_line_says line c e))
@@ -179,21 +179,22 @@ pub good_script : (script : Text) → bad_line script ≡ None → IsScript scri
 good_script script e =
     let s = bad_line_is script None e in subst (IsScript script) (sym (script_is_read script s.0 s.1).1) s.1
 
-each_script : (script : Text) → ((commands : List Command) × IsScript script commands)
+each_script : (script : Text) → ((commands : List SessionCommand) × IsScript script commands)
     ⊎ ((number : ℕ) × IsFirstBadLine script number)
 each_script script = by_line (bad_line script) refl
   where
-    by_line : (o : Option ℕ) → bad_line script ≡ o → ((commands : List Command) × IsScript script commands)
+    by_line : (o : Option ℕ) → bad_line script ≡ o → ((commands : List SessionCommand) × IsScript script commands)
         ⊎ ((number : ℕ) × IsFirstBadLine script number)
     by_line None e = inl (commands_of script, good_script script e)
     by_line (Some number) e = inr (number, bad_line_is script (Some number) e)
 
-pub one_script : (script : Text) (commands others : List Command) → IsScript script commands → IsScript script others
+pub one_script : (script : Text) (commands others : List SessionCommand) → IsScript script commands
+    → IsScript script others
     → commands ≡ others
 one_script script commands others s t =
     sym (script_is_read script commands s).1 ∙ (script_is_read script others t).1
 
-pub never_both : (script : Text) (commands : List Command) (number : ℕ) → IsScript script commands
+pub never_both : (script : Text) (commands : List SessionCommand) (number : ℕ) → IsScript script commands
     → IsFirstBadLine script number → ⊥
 never_both script commands number s b =
     let good = (script_is_read script commands s).0 in let bad = bad_line_is_found script number b in cc

@@ -5,18 +5,18 @@ use Rattle.std.specs.Prelude.{if◌then◌else◌}
 use Rattle.ed_words.proofs.Numbers.{eq_false}
 use Rattle.ed_machine.specs.State.{State}
 use Rattle.ed_machine.specs.OrderTable.{step}
-use Rattle.ed_machine.specs.Steps.{IsFree, is_obeyed, state_after}
+use Rattle.ed_machine.specs.Steps.{AreObeyed, is_obeyed, state_after}
 use Rattle.ed_machine.specs.declared.turn.Turn.{Turn}
 use Rattle.ed_machine.specs.declared.turn.Turn.TheVariants.{Went, Printed, Stopped, NoOrder, NoTape}
 use Rattle.ed_machine.proofs.LeastNumbers.{least_below, least_first}
 use Rattle.ed_machine.proofs.Steps.{free_sum}
 use Rattle.ed_stepper.specs.MoveEnds.{blocked_end, end_after, move_orders, or_else, own_end, stopped_after}
 use Rattle.ed_stepper.specs.Sessions.{Stand, left, stands_at}
-use Rattle.ed_stepper.specs.Scripts.{LeftBy, behind, is_too_far, left_by, moved, play, writes}
-use Rattle.ed_stepper.specs.declared.commands.Command.{Command}
-use Rattle.ed_stepper.specs.declared.commands.Command.TheVariants as commands
-use Rattle.ed_stepper.specs.declared.moves.Aim.{Aim}
-use Rattle.ed_stepper.specs.declared.moves.Aim.TheVariants.{Orders}
+use Rattle.ed_stepper.specs.Scripts.{LeftBy, after_text_of, is_too_far, left_by, moved, play, writes}
+use Rattle.ed_stepper.specs.declared.commands.SessionCommand.{SessionCommand}
+use Rattle.ed_stepper.specs.declared.commands.SessionCommand.TheVariants as commands
+use Rattle.ed_stepper.specs.declared.moves.MoveTarget.{MoveTarget}
+use Rattle.ed_stepper.specs.declared.moves.MoveTarget.TheVariants.{Orders}
 use Rattle.ed_stepper.specs.declared.moves.MoveEnd.{MoveEnd}
 use Rattle.ed_stepper.specs.declared.moves.MoveEnd.TheVariants as ends
 
@@ -40,7 +40,7 @@ no_end None h = refl
 no_end (Some end) h = absurd (cc)
 
 -- each order of a move is obeyed
-pub move_free : (aim : Aim) (n : ℕ) (s : State) → IsFree (move_orders aim n s) s
+pub move_free : (aim : MoveTarget) (n : ℕ) (s : State) → AreObeyed (move_orders aim n s) s
 unfolding move_orders
 move_free aim n s j below =
     let test : ℕ → Bool = λ k. is_some (end_after aim n k s) in
@@ -49,7 +49,7 @@ move_free aim n s j below =
     none_of (stopped_after j s) (nat_eq j n) (own_end aim j s) (step (state_after j s)).turn
     (eq_false j n (omega (arith, below, most))) none
 
-pub move_within : (aim : Aim) (n : ℕ) (s : State) → move_orders aim n s ≤ n
+pub move_within : (aim : MoveTarget) (n : ℕ) (s : State) → move_orders aim n s ≤ n
 unfolding move_orders
 move_within aim n s = least_below _ n
 
@@ -59,10 +59,10 @@ move_within aim n s = least_below _ n
 pub record Keeps (first t : Stand) : Type 0 where
   pub start : t.start ≡ first.start
   pub limit : t.limit ≡ first.limit
-  pub free : IsFree t.done t.start
+  pub free : AreObeyed t.done t.start
   pub most : t.done ≤ t.limit
 
-pub moved_keeps : (aim : Aim) {first t : Stand} → Keeps first t → Keeps first (moved aim t)
+pub moved_keeps : (aim : MoveTarget) {first t : Stand} → Keeps first t → Keeps first (moved aim t)
 moved_keeps aim {first} {t} k =
     let n = move_orders aim (left t) (stands_at t) in
     let few = move_within aim (left t) (stands_at t) in
@@ -73,7 +73,7 @@ moved_keeps aim {first} {t} k =
       most = omega (arith, few, k.most);
     }
 
-line_keeps : (c : Command) {first t : Stand} → Keeps first t → Keeps first (left_by c t)
+line_keeps : (c : SessionCommand) {first t : Stand} → Keeps first t → Keeps first (left_by c t)
 line_keeps commands.Nothing k = k
 line_keeps (commands.Move aim) k = moved_keeps aim k
 line_keeps (commands.Back n) k = record {
@@ -88,19 +88,20 @@ line_keeps commands.Accumulator k = k
 line_keeps commands.Multiplier k = k
 line_keeps commands.LastPrinted k = k
 
-play_keeps : (ran : List Command) (line : ℕ) {first t : Stand} → Keeps first t → Keeps first (play line ran t).stand
+play_keeps : (ran : List SessionCommand) (line : ℕ) {first t : Stand} → Keeps first t
+    → Keeps first (play line ran t).stand
 play_keeps [] line k = k
 play_keeps (c ∷ ran) line {first} {t} k =
     by_test (is_too_far c t) (play_keeps ran (line + 1) (line_keeps c k))
   where
     by_test : (b : Bool) → Keeps first (play (line + 1) ran (left_by c t)).stand
         → Keeps first (if b then record { text = []; stand = t; refused = Some (record { line = line; done = t.done }) }
-        else behind (writes c t) (play (line + 1) ran (left_by c t))).stand
+        else after_text_of (writes c t) (play (line + 1) ran (left_by c t))).stand
     by_test true rest = k
     by_test false rest = rest
 
 -- wherever a line leaves a session
-pub left_keeps : {all : List Command} {first t : Stand} → first.done ≡ 0 → LeftBy all first t → Keeps first t
+pub left_keeps : {all : List SessionCommand} {first t : Stand} → first.done ≡ 0 → LeftBy all first t → Keeps first t
 left_keeps {first = first} none l =
     subst (Keeps first) l.stand (play_keeps l.ran 1 (record {
       start = refl;

@@ -4,24 +4,24 @@ use Rattle.std.proofs.Common.{below_more, true, false, Some, None, ◌⊎◌, in
 use Rattle.ed_words.proofs.Numbers.{eq_true, eq_false}
 use Rattle.ed_machine.specs.State.{State}
 use Rattle.ed_machine.specs.OrderTable.{step}
-use Rattle.ed_machine.specs.Steps.{IsFree, is_obeyed, is_stop, state_after}
+use Rattle.ed_machine.specs.Steps.{AreObeyed, is_obeyed, is_stop, state_after}
 use Rattle.ed_machine.specs.declared.turn.Turn.{Turn}
 use Rattle.ed_machine.specs.declared.turn.Turn.TheVariants.{Went, Printed, Stopped, NoOrder, NoTape}
 use Rattle.ed_machine.proofs.Steps.{after_sum, next_state, no_step}
 use Rattle.ed_stepper.specs.MoveEnds.{Ends, blocked_end, end_after, own_end, stopped_after}
 use Rattle.ed_stepper.specs.declared.moves.MoveEnd.{MoveEnd}
 use Rattle.ed_stepper.specs.declared.moves.MoveEnd.TheVariants.{Limit, Stopped as EndStopped}
-use Rattle.ed_stepper.specs.declared.moves.Aim.{Aim}
+use Rattle.ed_stepper.specs.declared.moves.MoveTarget.{MoveTarget}
 
 -- k orders of a move have been obeyed, and it has not ended; the limit and a blocked order are not tested yet
-pub record Walking (aim : Aim) (left : ℕ) (s : State) (k : ℕ) (m : State) : Type 0 where
+pub record Walking (aim : MoveTarget) (left : ℕ) (s : State) (k : ℕ) (m : State) : Type 0 where
   pub state : m ≡ state_after k s
-  pub free : IsFree k s
+  pub free : AreObeyed k s
   pub quiet : stopped_after k s ≡ false
   pub going : own_end aim k s ≡ None
   pub first : (j : ℕ) → j < k → end_after aim left j s ≡ None
 
-pub at_first : (aim : Aim) (left : ℕ) (s : State) → own_end aim 0 s ≡ None → Walking aim left s 0 s
+pub at_first : (aim : MoveTarget) (left : ℕ) (s : State) → own_end aim 0 s ≡ None → Walking aim left s 0 s
 at_first aim left s none = record {
   state = no_step s;
   free = λ j h. absurd (omega arith);
@@ -43,14 +43,15 @@ quiet_turn t (inl e) = (ap is_obeyed e, ap is_stop e)
 quiet_turn t (inr p) = (ap is_obeyed p.1, ap is_stop p.1)
 
 -- an order that was obeyed
-pub record Next (aim : Aim) (left : ℕ) (s : State) (k : ℕ) (m n : State) (turn : Turn) : Type 0 where
+pub record Next (aim : MoveTarget) (left : ℕ) (s : State) (k : ℕ) (m n : State) (turn : Turn) : Type 0 where
   pub state : n ≡ state_after (k + 1) s
-  pub free : IsFree (k + 1) s
+  pub free : AreObeyed (k + 1) s
   pub stop_is : stopped_after (k + 1) s ≡ is_stop turn
   pub first : (j : ℕ) → j < k + 1 → end_after aim left j s ≡ None
 
 -- k orders of a move below its limit have been obeyed
-module _ {aim : Aim} {left : ℕ} {s : State} {k : ℕ} {m : State} (w : Walking aim left s k m) (below : k < left) where
+module _ {aim : MoveTarget} {left : ℕ} {s : State} {k : ℕ} {m : State} (w : Walking aim left s k m)
+    (below : k < left) where
   -- only an order that can't be obeyed ends it now
   by_next : end_after aim left k s ≡ blocked_end (step m).turn
   by_next =
@@ -79,7 +80,7 @@ module _ {aim : Aim} {left : ℕ} {s : State} {k : ℕ} {m : State} (w : Walking
     taken quiet = let q = quiet_turn turn quiet in (next q.0, q.1)
 
 -- after such an order
-module _ {aim : Aim} {left : ℕ} {s : State} {k : ℕ} {m n : State} {turn : Turn}
+module _ {aim : MoveTarget} {left : ℕ} {s : State} {k : ℕ} {m n : State} {turn : Turn}
     (next : Next aim left s k m n turn) where
   -- the move goes on
   pub goes_on : is_stop turn ≡ false → own_end aim (k + 1) s ≡ None → Walking aim left s (k + 1) n
@@ -95,14 +96,14 @@ module _ {aim : Aim} {left : ℕ} {s : State} {k : ℕ} {m n : State} {turn : Tu
   owns go own = let e = next.stop_is ∙ go in record { now = rw (e, own) refl; first = next.first }
 
 -- a move reaches the limit
-pub limits : {aim : Aim} {left : ℕ} {s m : State} → Walking aim left s left m → Ends aim left s left Limit
+pub limits : {aim : MoveTarget} {left : ℕ} {s m : State} → Walking aim left s left m → Ends aim left s left Limit
 limits {left = left} w = let e = eq_true left left refl in record {
   now = rw (w.quiet, w.going, e) refl;
   first = w.first;
 }
 
 -- it ends before any order
-pub ends_at_once : (aim : Aim) (left : ℕ) (s : State) (end : MoveEnd) → own_end aim 0 s ≡ Some end
+pub ends_at_once : (aim : MoveTarget) (left : ℕ) (s : State) (end : MoveEnd) → own_end aim 0 s ≡ Some end
     → Ends aim left s 0 end
 ends_at_once aim left s end own = record { now = rw own refl; first = λ j h. absurd (omega arith) }
 

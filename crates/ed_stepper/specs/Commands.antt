@@ -4,10 +4,10 @@ use Rattle.std.specs.Prelude.{ℕ, ◌≡◌, ◌≤◌, ◌==◌, not, Bool, tr
 use Rattle.std.specs.List.{list_all, list_any}
 use Rattle.ed_words.specs.Decimals.{is_digit, value}
 use Rattle.ed_words.specs.Texts.{Text}
-use Rattle.ed_stepper.specs.declared.moves.Aim.TheVariants as aims
-use Rattle.ed_stepper.specs.declared.commands.Command.{Command}
-use Rattle.ed_stepper.specs.declared.commands.Command.TheVariants.{Nothing, Move, Back, Trace, Show}
-use Rattle.ed_stepper.specs.declared.commands.Command.TheVariants.{Accumulator, Multiplier, LastPrinted}
+use Rattle.ed_stepper.specs.declared.moves.MoveTarget.TheVariants as aims
+use Rattle.ed_stepper.specs.declared.commands.SessionCommand.{SessionCommand}
+use Rattle.ed_stepper.specs.declared.commands.SessionCommand.TheVariants.{Nothing, Move, Back, Trace, Show}
+use Rattle.ed_stepper.specs.declared.commands.SessionCommand.TheVariants.{Accumulator, Multiplier, LastPrinted}
 
 -- ---- a line and its parts
 
@@ -42,7 +42,7 @@ pub record IsNumberWithin (least most : ℕ) (n : Text) : Type 0 where
   pub at_most : value n ≤ most
 
 -- the parts say this; a line without parts does nothing
-pub data SaysCommand : List Text → Command → Type 0 where
+pub data SaysCommand : List Text → SessionCommand → Type 0 where
   nothing : SaysCommand [] Nothing
   go : (n : Text) → IsNumberWithin 1 100000000 n
       → SaysCommand (codes "go" ∷ n ∷ []) (Move (aims.Orders (value n)))
@@ -59,11 +59,11 @@ pub data SaysCommand : List Text → Command → Type 0 where
   show_last : SaysCommand (codes "show" ∷ codes "last" ∷ []) LastPrinted
 
 -- the line says this command
-pub record LineSaysCommand (line : Text) (command : Command) : Type 0 where
+pub record LineSaysCommand (line : Text) (command : SessionCommand) : Type 0 where
   pub parts : List Text
   pub has_parts : HasCommandParts line parts
   pub says : SaysCommand parts command
 
 -- the line says no command
 abbrev pub SaysNoCommand : Text → Type 0
-SaysNoCommand line = (command : Command) → LineSaysCommand line command → ⊥
+SaysNoCommand line = (command : SessionCommand) → LineSaysCommand line command → ⊥

@@ -14,9 +14,9 @@ abbrev pub first_line : Text → Text
 first_line text = slice_index_or (lines_of text) 0 []
 
 -- what follows the first line and its end
-abbrev pub behind_line : Text → Text
-behind_line [] = []
-behind_line (b ∷ bs) = if b == 10 then bs else behind_line bs
+abbrev pub after_line : Text → Text
+after_line [] = []
+after_line (b ∷ bs) = if b == 10 then bs else after_line bs
 
 -- what a line announces, if it is a dividing line: it is exactly `tape` or `source`
 abbrev pub announced : Text → Option TextKind
@@ -36,7 +36,7 @@ with_byte_before b (Some i) = Some (record i { script = b ∷ i.script })
 
 -- the input is divided here if a line announces a text, else further on
 abbrev pub at_line : Option TextKind → Text → Option Input → Option Input
-at_line (Some kind) text later = Some (record { script = []; kind = kind; text = behind_line text })
+at_line (Some kind) text later = Some (record { script = []; kind = kind; text = after_line text })
 at_line None text later = later
 
 -- an input, which begins at the beginning of a line or not, divided by the first line that announces a text

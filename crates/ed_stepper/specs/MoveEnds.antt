@@ -10,8 +10,8 @@ use Rattle.ed_machine.specs.declared.turn.Turn.TheVariants.{NoOrder as TurnNoOrd
 use Rattle.ed_initial.specs.Load.{enters}
 use Rattle.ed_stepper.specs.declared.moves.MoveEnd.{MoveEnd}
 use Rattle.ed_stepper.specs.declared.moves.MoveEnd.TheVariants.{Went, There, Entered, Stopped, NoOrder, NoTape, Limit}
-use Rattle.ed_stepper.specs.declared.moves.Aim.{Aim}
-use Rattle.ed_stepper.specs.declared.moves.Aim.TheVariants.{Orders, Address, Entry}
+use Rattle.ed_stepper.specs.declared.moves.MoveTarget.{MoveTarget}
+use Rattle.ed_stepper.specs.declared.moves.MoveTarget.TheVariants.{Orders, Address, Entry}
 
 -- whether the last of k orders from a state was a stop
 abbrev pub stopped_after : ℕ → State → Bool
@@ -29,7 +29,7 @@ is_some_order zero = false
 is_some_order (suc k) = true
 
 -- a move's own end after k orders from a state, if it has been reached
-abbrev pub own_end : Aim → ℕ → State → Option MoveEnd
+abbrev pub own_end : MoveTarget → ℕ → State → Option MoveEnd
 own_end (Orders n) k s = if nat_eq k n then Some Went else None
 own_end (Address a) k s = if is_some_order k && nat_eq (state_after k s).counter a then Some There else None
 own_end Entry k s = if entered_after k s then Some Entered else None
@@ -46,20 +46,20 @@ or_else None other = other
 or_else (Some end) other = Some end
 
 -- how a move ends after k orders, if it does, when `left` orders are left before the limit
-abbrev pub end_after : Aim → ℕ → ℕ → State → Option MoveEnd
+abbrev pub end_after : MoveTarget → ℕ → ℕ → State → Option MoveEnd
 end_after aim left k s =
     if stopped_after k s then Some Stopped
     else or_else (own_end aim k s) (if nat_eq k left then Some Limit else blocked_end (step (state_after k s)).turn)
 
 -- a move from a state ends with this end after k orders, and not before
-pub record Ends (aim : Aim) (left : ℕ) (s : State) (k : ℕ) (end : MoveEnd) : Type 0 where
+pub record Ends (aim : MoveTarget) (left : ℕ) (s : State) (k : ℕ) (end : MoveEnd) : Type 0 where
   pub now : end_after aim left k s ≡ Some end
   pub first : (j : ℕ) → j < k → end_after aim left j s ≡ None
 
 -- the number of orders that a move obeys: the least number after which it ends, at most `left`
-unfoldable pub move_orders : Aim → ℕ → State → ℕ
+unfoldable pub move_orders : MoveTarget → ℕ → State → ℕ
 move_orders aim left s = least (λ j. is_some (end_after aim left j s)) left
 
 -- the end of a move
-unfoldable pub move_end : Aim → ℕ → State → MoveEnd
+unfoldable pub move_end : MoveTarget → ℕ → State → MoveEnd
 move_end aim left s = unwrap_or (end_after aim left (move_orders aim left s) s) Limit

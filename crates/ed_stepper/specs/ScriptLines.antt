@@ -3,16 +3,16 @@ use Rattle.std.specs.Prelude.{ℕ, ◌≡◌, ◌⊎◌, ◌+◌, ◌≤◌, Lis
 use Rattle.ed_words.specs.Texts.{Text}
 use Rattle.ed_syntax.specs.Lines.{HasLines}
 use Rattle.ed_stepper.specs.Commands.{LineSaysCommand, SaysNoCommand}
-use Rattle.ed_stepper.specs.declared.commands.Command.{Command}
+use Rattle.ed_stepper.specs.declared.commands.SessionCommand.{SessionCommand}
 
 -- the commands of a script, in the order of its lines
 abbrev pub CommandList : Type 0
-CommandList = List Command
+CommandList = List SessionCommand
 
 -- the lines say these commands, each line one
 pub data LinesSayCommands : List Text → CommandList → Type 0 where
   no_more : LinesSayCommands [] []
-  and_more : (line : Text) (lines : List Text) (c : Command) (cs : CommandList) → LineSaysCommand line c
+  and_more : (line : Text) (lines : List Text) (c : SessionCommand) (cs : CommandList) → LineSaysCommand line c
       → LinesSayCommands lines cs → LinesSayCommands (line ∷ lines) (c ∷ cs)
 
 -- the text is a script of at most 1,000 lines that say these commands
@@ -52,7 +52,7 @@ HasBadLine text (Some number) = IsFirstBadLine text number
 -- Each line says at most one command. Each text is a script that says one list of commands, or has one first bad line,
 -- and never both.
 pub record EachScriptHasOneMeaning : Type 0 where
-  pub one_command : (line : Text) (c d : Command) → LineSaysCommand line c → LineSaysCommand line d → c ≡ d
+  pub one_command : (line : Text) (c d : SessionCommand) → LineSaysCommand line c → LineSaysCommand line d → c ≡ d
   pub every : (text : Text) → ((commands : CommandList) × IsScript text commands)
       ⊎ ((number : ℕ) × IsFirstBadLine text number)
   pub one_script : (text : Text) (commands others : CommandList) → IsScript text commands → IsScript text others

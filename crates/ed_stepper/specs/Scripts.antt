@@ -11,11 +11,11 @@ use Rattle.ed_report.specs.Traces.{functions_after, trace_text}
 use Rattle.ed_stepper.specs.MoveEnds.{move_end, move_orders}
 use Rattle.ed_stepper.specs.Sessions.{Stand, left, stands_at}
 use Rattle.ed_stepper.specs.ScriptLines.{IsFirstBadLine, OfScript}
-use Rattle.ed_stepper.specs.declared.commands.Command.{Command}
-use Rattle.ed_stepper.specs.declared.commands.Command.TheVariants.{Nothing, Move, Back, Trace, Show}
-use Rattle.ed_stepper.specs.declared.commands.Command.TheVariants.{Accumulator, Multiplier, LastPrinted}
-use Rattle.ed_stepper.specs.declared.moves.Aim.{Aim}
-use Rattle.ed_stepper.specs.declared.moves.Aim.TheVariants.{Orders}
+use Rattle.ed_stepper.specs.declared.commands.SessionCommand.{SessionCommand}
+use Rattle.ed_stepper.specs.declared.commands.SessionCommand.TheVariants.{Nothing, Move, Back, Trace, Show}
+use Rattle.ed_stepper.specs.declared.commands.SessionCommand.TheVariants.{Accumulator, Multiplier, LastPrinted}
+use Rattle.ed_stepper.specs.declared.moves.MoveTarget.{MoveTarget}
+use Rattle.ed_stepper.specs.declared.moves.MoveTarget.TheVariants.{Orders}
 use Rattle.ed_stepper.specs.declared.moves.MoveEnd.{MoveEnd}
 use Rattle.ed_stepper.specs.declared.moves.MoveEnd.TheVariants as ends
 use Rattle.ed_stepper.specs.declared.script.ScriptFault.{ScriptFault}
@@ -40,7 +40,7 @@ move_line at done end = codes "at " ++ decimal at ++ codes " after " ++ decimal 
     ++ end_word end ++ 10 ∷ []
 
 -- the session after a move forward
-abbrev pub moved : Aim → Stand → Stand
+abbrev pub moved : MoveTarget → Stand → Stand
 moved aim s = record s { done = s.done + move_orders aim (left s) (stands_at s) }
 
 -- the session after a move back
@@ -52,7 +52,7 @@ abbrev pub line_at : Stand → MoveEnd → Text
 line_at t end = move_line (stands_at t).counter t.done end
 
 -- the line of a move forward
-abbrev pub line_of_move : Aim → Stand → Text
+abbrev pub line_of_move : MoveTarget → Stand → Text
 line_of_move aim s = line_at (moved aim s) (move_end aim (left s) (stands_at s))
 
 -- the functions of the orders of a move by n orders
@@ -69,7 +69,7 @@ abbrev pub words_shown : ℕ → ℕ → Stand → Text
 words_shown a b s = listing (stands_at s).store (range_with_len a (b + 1 - a))
 
 -- what a line writes
-abbrev pub writes : Command → Stand → Text
+abbrev pub writes : SessionCommand → Stand → Text
 writes Nothing s = []
 writes (Move aim) s = line_of_move aim s
 writes (Back n) s = line_at (moved_back n s) ends.Back
@@ -80,14 +80,14 @@ writes Multiplier s = codes "mult " ++ decimal (stands_at s).multiplier ++ 10 �
 writes LastPrinted s = codes "last " ++ last_word (stands_at s).last ++ 10 ∷ []
 
 -- the session after a line
-abbrev pub left_by : Command → Stand → Stand
+abbrev pub left_by : SessionCommand → Stand → Stand
 left_by (Move aim) s = moved aim s
 left_by (Back n) s = moved_back n s
 left_by (Trace n) s = moved (Orders n) s
 left_by command s = s
 
 -- whether a line goes back by more orders than were obeyed
-abbrev pub is_too_far : Command → Stand → Bool
+abbrev pub is_too_far : SessionCommand → Stand → Bool
 is_too_far (Back n) s = nat_lt s.done n
 is_too_far command s = false
 
@@ -105,26 +105,26 @@ pub record Played : Type 0 where
   pub refused : Option TooFar
 
 -- the same with a text before it
-abbrev pub behind : Text → Played → Played
-behind text p = record p { text = text ++ p.text }
+abbrev pub after_text_of : Text → Played → Played
+after_text_of text p = record p { text = text ++ p.text }
 
 -- lines one after the other until one goes back too far; the first of them has the number k
-abbrev pub play : ℕ → List Command → Stand → Played
+abbrev pub play : ℕ → List SessionCommand → Stand → Played
 play k [] s = record { text = []; stand = s; refused = None }
 play k (command ∷ rest) s = if is_too_far command s
     then record { text = []; stand = s; refused = Some (record { line = k; done = s.done }) }
-    else behind (writes command s) (play (k + 1) rest (left_by command s))
+    else after_text_of (writes command s) (play (k + 1) rest (left_by command s))
 
 -- the first of the commands have run, each completely, and the session is where they left it
-pub record LeftBy (commands : List Command) (s t : Stand) : Type 0 where
-  pub ran : List Command
-  pub rest : List Command
+pub record LeftBy (commands : List SessionCommand) (s t : Stand) : Type 0 where
+  pub ran : List SessionCommand
+  pub rest : List SessionCommand
   pub whole : commands ≡ ran ++ rest
   pub none_refused : (play 1 ran s).refused ≡ None
   pub stand : (play 1 ran s).stand ≡ t
 
 -- a line went back too far: the commands before it have run, and the session is where they left it
-pub record GoesTooFar (commands : List Command) (s t : Stand) (line done : ℕ) : Type 0 where
+pub record GoesTooFar (commands : List SessionCommand) (s t : Stand) (line done : ℕ) : Type 0 where
   pub refused : (play 1 commands s).refused ≡ Some (record { line = line; done = done })
   pub stand : (play 1 commands s).stand ≡ t
 

@@ -3,7 +3,7 @@ use Rattle.std.specs.Prelude.{ℕ, ◌≡◌, ◌+◌, ◌-◌, ◌≤◌, ◌<�
 use Rattle.ed_machine.specs.State.{State}
 use Rattle.ed_machine.specs.Steps.{state_after}
 use Rattle.ed_stepper.specs.MoveEnds.{Ends, move_end, move_orders}
-use Rattle.ed_stepper.specs.declared.moves.Aim.{Aim}
+use Rattle.ed_stepper.specs.declared.moves.MoveTarget.{MoveTarget}
 use Rattle.ed_stepper.specs.declared.moves.MoveEnd.TheVariants.{Back}
 use Rattle.ed_stepper.specs.declared.moves.Moved.{Moved}
 use Rattle.ed_stepper.specs.declared.moves.BackFault.{BackFault}
@@ -24,7 +24,7 @@ abbrev pub left : Stand → ℕ
 left s = s.limit - s.done
 
 -- a move forward: it ends after the least number of orders after which an end holds, in the state after them
-pub record Moves (aim : Aim) (s t : Stand) (m : Moved) : Type 0 where
+pub record Moves (aim : MoveTarget) (s t : Stand) (m : Moved) : Type 0 where
   pub orders : ℕ
   pub ends : Ends aim (left s) (stands_at s) orders m.end
   pub orders_are : orders ≡ move_orders aim (left s) (stands_at s)

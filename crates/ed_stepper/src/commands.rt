@@ -6,16 +6,16 @@ ghost use Rattle.ed_stepper.specs.Private.CommandReading.{shown, show_command};
 ghost use Rattle.ed_stepper.specs.Private.Commands.{IsCommandInRange};
 
 use crate::fronts::first_part;
-use crate::moves::Aim;
+use crate::moves::MoveTarget;
 use ed_words::number_within;
 
 /// What a line of a script does.
 #[derive(Clone, Copy)]
-pub(crate) enum Command {
+pub(crate) enum SessionCommand {
     /// Nothing.
     Nothing,
     /// Moves the session forward.
-    Move(Aim),
+    Move(MoveTarget),
     /// Moves it back by this number of orders.
     Back(u32),
     /// Moves it forward by this number of orders, and writes the letter of each.
@@ -31,12 +31,12 @@ pub(crate) enum Command {
 }
 
 /// The command that a line says, if it says one.
-pub(crate) fn command_of(line: &[u8]) -> Option<Command>
+pub(crate) fn command_of(line: &[u8]) -> Option<SessionCommand>
     ensures is { result ≡ session_command line.now }
     ensures in_range { IfSome result IsCommandInRange }
 {
     let Some((word, rest)) = first_part(line) else {
-        return Some(Command::Nothing);
+        return Some(SessionCommand::Nothing);
     };
     let Some((second, rest)) = first_part(rest) else {
         return of_one(word);
@@ -51,64 +51,64 @@ pub(crate) fn command_of(line: &[u8]) -> Option<Command>
 }
 
 /// The command of one part.
-fn of_one(word: &[u8]) -> Option<Command>
+fn of_one(word: &[u8]) -> Option<SessionCommand>
     ensures is { result ≡ of_one word.now }
     ensures in_range { IfSome result IsCommandInRange }
 {
     match word {
-        b"entry" => Some(Command::Move(Aim::Entry)),
+        b"entry" => Some(SessionCommand::Move(MoveTarget::Entry)),
         _ => None,
     }
 }
 
 /// The command of two parts.
-fn of_two(word: &[u8], argument: &[u8]) -> Option<Command>
+fn of_two(word: &[u8], argument: &[u8]) -> Option<SessionCommand>
     ensures is { result ≡ of_two word.now argument.now }
     ensures in_range { IfSome result IsCommandInRange }
 {
     match word {
         b"go" => go(argument),
         b"to" => to(argument),
-        b"back" => number_within(argument, 0, 100_000_000).map(Command::Back),
-        b"trace" => number_within(argument, 1, 10_000).map(Command::Trace),
+        b"back" => number_within(argument, 0, 100_000_000).map(SessionCommand::Back),
+        b"trace" => number_within(argument, 1, 10_000).map(SessionCommand::Trace),
         b"show" => shown(argument),
         _ => None,
     }
 }
 
 /// The command `go`.
-fn go(argument: &[u8]) -> Option<Command>
-    ensures is { result ≡ option_map (λ n. Command.Move (Aim.Orders n)) (number_within 1 100000000 argument.now) }
+fn go(argument: &[u8]) -> Option<SessionCommand>
+    ensures is { result ≡ option_map (λ n. SessionCommand.Move (MoveTarget.Orders n)) (number_within 1 100000000 argument.now) }
     ensures in_range { IfSome result IsCommandInRange }
 {
     let orders = number_within(argument, 1, 100_000_000)?;
-    Some(Command::Move(Aim::Orders(u64::from(orders))))
+    Some(SessionCommand::Move(MoveTarget::Orders(u64::from(orders))))
 }
 
 /// The command `to`.
-fn to(argument: &[u8]) -> Option<Command>
-    ensures is { result ≡ option_map (λ n. Command.Move (Aim.Address n)) (number_within 0 1023 argument.now) }
+fn to(argument: &[u8]) -> Option<SessionCommand>
+    ensures is { result ≡ option_map (λ n. SessionCommand.Move (MoveTarget.Address n)) (number_within 0 1023 argument.now) }
     ensures in_range { IfSome result IsCommandInRange }
 {
     let address = address(argument)?;
-    Some(Command::Move(Aim::Address(address)))
+    Some(SessionCommand::Move(MoveTarget::Address(address)))
 }
 
 /// The command `show` with one part.
-fn shown(argument: &[u8]) -> Option<Command>
+fn shown(argument: &[u8]) -> Option<SessionCommand>
     ensures is { result ≡ shown argument.now }
     ensures in_range { IfSome result IsCommandInRange }
 {
     match argument {
-        b"acc" => Some(Command::Accumulator),
-        b"mult" => Some(Command::Multiplier),
-        b"last" => Some(Command::LastPrinted),
+        b"acc" => Some(SessionCommand::Accumulator),
+        b"mult" => Some(SessionCommand::Multiplier),
+        b"last" => Some(SessionCommand::LastPrinted),
         _ => window(address(argument), address(argument)),
     }
 }
 
 /// The command of three parts.
-fn of_three(word: &[u8], first: &[u8], last: &[u8]) -> Option<Command>
+fn of_three(word: &[u8], first: &[u8], last: &[u8]) -> Option<SessionCommand>
     ensures is { result ≡ of_three word.now first.now last.now }
     ensures in_range { IfSome result IsCommandInRange }
 {
@@ -119,7 +119,7 @@ fn of_three(word: &[u8], first: &[u8], last: &[u8]) -> Option<Command>
 }
 
 /// The command that lists the words from the first location to the last.
-fn window(first: Option<u16>, last: Option<u16>) -> Option<Command>
+fn window(first: Option<u16>, last: Option<u16>) -> Option<SessionCommand>
     requires { IfSome last (λ n. n ≤ 1023) }
     ensures is { result ≡ show_command first last }
     ensures in_range { IfSome result IsCommandInRange }
@@ -127,7 +127,7 @@ fn window(first: Option<u16>, last: Option<u16>) -> Option<Command>
     let first = first?;
     let last = last?;
     if first <= last {
-        Some(Command::Show(first, last))
+        Some(SessionCommand::Show(first, last))
     } else {
         None
     }

@@ -2,14 +2,14 @@
 ghost use Rattle.std.specs.Prelude.{◌≡◌, ◌==◌, ◌∷◌, ◌≤◌, ◌<◌, not, IfSome, length, position};
 ghost use Rattle.ed_syntax.specs.Lines.{lines_of};
 ghost use Rattle.ed_stepper.specs.Commands.{is_space};
-ghost use Rattle.ed_stepper.specs.Inputs.{behind_line};
+ghost use Rattle.ed_stepper.specs.Inputs.{after_line};
 ghost use Rattle.ed_stepper.specs.Private.Fronts.{TakesPart, stop_of};
 
 /// The first line without its end, and what follows it.
 pub(crate) fn first_line<'a>(text: &'a [u8]) -> (&'a [u8], &'a [u8])
     requires { 0 < length text.now }
     ensures lines { lines_of text.entry.now ≡ result.0.now ∷ lines_of result.1.now }
-    ensures behind { result.1.now ≡ behind_line text.entry.now }
+    ensures behind { result.1.now ≡ after_line text.entry.now }
     ensures shorter { length result.1.now < length text.entry.now }
 {
     match first_end(text) {

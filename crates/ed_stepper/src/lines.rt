@@ -8,8 +8,8 @@ ghost use Rattle.ed_stepper.specs.Sessions.{stands_at};
 ghost use Rattle.ed_stepper.specs.Private.Commands.{IsCommandInRange};
 ghost use Rattle.ed_stepper.specs.Private.Lines.{LineEnds};
 
-use crate::commands::Command;
-use crate::moves::{Aim, BackFault, MoveEnd, Moved};
+use crate::commands::SessionCommand;
+use crate::moves::{BackFault, MoveEnd, MoveTarget, Moved};
 use crate::session::Session;
 use ed_machine::Machine;
 use ed_report::{bytes_of_text, listing, trace_text};
@@ -20,26 +20,26 @@ use std::alloc::{AllocError, Global};
 pub(crate) fn carry_out(
     alloc: Global,
     session: &mut Session,
-    command: Command,
+    command: SessionCommand,
 ) -> Result<Vec<u8>, BackFault>
     requires { IsCommandInRange command }
     ensures { LineEnds command session.old result session.new }
 {
     match command {
-        Command::Nothing => Ok(Vec::new(alloc)),
-        Command::Move(aim) => move_on(alloc, session, aim),
-        Command::Back(orders) => move_back(alloc, session, orders),
-        Command::Trace(orders) => trace(alloc, session, orders),
-        Command::Show(first, last) => Ok(show(alloc, session.machine(), first, last)?),
-        Command::Accumulator => Ok(accumulator(alloc, session.machine())?),
-        Command::Multiplier => Ok(multiplier(alloc, session.machine())?),
-        Command::LastPrinted => Ok(last_printed(alloc, session.machine())?),
+        SessionCommand::Nothing => Ok(Vec::new(alloc)),
+        SessionCommand::Move(aim) => move_on(alloc, session, aim),
+        SessionCommand::Back(orders) => move_back(alloc, session, orders),
+        SessionCommand::Trace(orders) => trace(alloc, session, orders),
+        SessionCommand::Show(first, last) => Ok(show(alloc, session.machine(), first, last)?),
+        SessionCommand::Accumulator => Ok(accumulator(alloc, session.machine())?),
+        SessionCommand::Multiplier => Ok(multiplier(alloc, session.machine())?),
+        SessionCommand::LastPrinted => Ok(last_printed(alloc, session.machine())?),
     }
 }
 
 /// Moves forward, and writes the line of the move.
-fn move_on(alloc: Global, session: &mut Session, aim: Aim) -> Result<Vec<u8>, BackFault>
-    ensures { LineEnds (Command.Move aim) session.old result session.new }
+fn move_on(alloc: Global, session: &mut Session, aim: MoveTarget) -> Result<Vec<u8>, BackFault>
+    ensures { LineEnds (SessionCommand.Move aim) session.old result session.new }
 {
     let moved = session.advance(aim);
     Ok(move_line(alloc, moved)?)
@@ -47,7 +47,7 @@ fn move_on(alloc: Global, session: &mut Session, aim: Aim) -> Result<Vec<u8>, Ba
 
 /// Moves back, and writes the line of the move.
 fn move_back(alloc: Global, session: &mut Session, orders: u32) -> Result<Vec<u8>, BackFault>
-    ensures { LineEnds (Command.Back orders) session.old result session.new }
+    ensures { LineEnds (SessionCommand.Back orders) session.old result session.new }
 {
     let moved = session.back(u64::from(orders))?;
     Ok(move_line(alloc, moved)?)
@@ -56,7 +56,7 @@ fn move_back(alloc: Global, session: &mut Session, orders: u32) -> Result<Vec<u8
 /// Moves forward, and writes the letter of each order obeyed and the line of the move.
 fn trace(alloc: Global, session: &mut Session, orders: u32) -> Result<Vec<u8>, BackFault>
     requires { orders ≤ 10000 }
-    ensures { LineEnds (Command.Trace orders) session.old result session.new }
+    ensures { LineEnds (SessionCommand.Trace orders) session.old result session.new }
 {
     let traced = session.trace(u64::from(orders))?;
     let mut text = trace_text(alloc, &traced.functions)?;

@@ -35,7 +35,7 @@ pub struct Moved {
 
 /// Where a move aims.
 #[derive(Clone, Copy)]
-pub enum Aim {
+pub enum MoveTarget {
     /// This number of orders.
     Orders(u64),
     /// An address, after at least one order.

@@ -1,13 +1,13 @@
 ghost use Rattle.std.specs.Prelude.{◌≡◌, ◌+◌, ◌-◌, ◌≤◌, ◌^◌, ◌++◌, IfOk, MatchResult, vec_len, vec_capacity};
 ghost use Rattle.ed_words.specs.Words.{function_of};
 ghost use Rattle.ed_machine.specs.OrderTable.{next_word};
-ghost use Rattle.ed_machine.specs.Steps.{IsFree, state_after};
+ghost use Rattle.ed_machine.specs.Steps.{AreObeyed, state_after};
 ghost use Rattle.ed_report.specs.Traces.{functions_after};
 ghost use Rattle.ed_stepper.specs.Sessions.{Moves, MovesBack, stands_at};
-ghost use Rattle.ed_stepper.specs.declared.moves.Aim.TheVariants.{Address, Entry, Orders};
+ghost use Rattle.ed_stepper.specs.declared.moves.MoveTarget.TheVariants.{Address, Entry, Orders};
 
 use crate::marks::{Mark, latest, replay};
-use crate::moves::{Aim, BackFault, MoveEnd, Moved};
+use crate::moves::{BackFault, MoveEnd, MoveTarget, Moved};
 use crate::walk::walk;
 use ed_codes::Code;
 use ed_machine::Machine;
@@ -85,7 +85,7 @@ impl Session {
     /// The machine in its present state: after the orders obeyed since the start.
     pub fn machine(&self) -> &Machine
         ensures is { result.now ≡ stands_at self.now }
-        ensures free { IsFree self.now.done self.now.start }
+        ensures free { AreObeyed self.now.done self.now.start }
         ensures most { self.now.done ≤ self.now.limit }
     {
         &self.machine
@@ -95,21 +95,21 @@ impl Session {
     pub fn go(&mut self, n: u64) -> Moved
         ensures { Moves (Orders n) self.old self.new result }
     {
-        self.advance(Aim::Orders(n))
+        self.advance(MoveTarget::Orders(n))
     }
 
     /// Obeys orders, at least one, until the counter is the address or another end comes.
     pub fn to(&mut self, address: u16) -> Moved
         ensures { Moves (Address address) self.old self.new result }
     {
-        self.advance(Aim::Address(address))
+        self.advance(MoveTarget::Address(address))
     }
 
     /// Obeys orders until an E order at 22 has jumped or another end comes.
     pub fn until_entry(&mut self) -> Moved
         ensures { Moves Entry self.old self.new result }
     {
-        self.advance(Aim::Entry)
+        self.advance(MoveTarget::Entry)
     }
 
     /// Obeys n orders as `go` does, and gives the function of each order obeyed. A refusal changes nothing.
@@ -146,7 +146,7 @@ impl Session {
     }
 
     /// Moves forward until an end comes.
-    pub(crate) fn advance(&mut self, aim: Aim) -> Moved
+    pub(crate) fn advance(&mut self, aim: MoveTarget) -> Moved
         ensures { Moves aim self.old self.new result }
     {
         let walked = walk(

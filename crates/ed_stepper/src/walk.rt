@@ -1,13 +1,13 @@
 ghost use Rattle.std.specs.Prelude.{◌≡◌, ◌+◌, ◌≤◌, ◌^◌, ℕ, Some, None, suc, true, false, if◌then◌else◌};
 ghost use Rattle.ed_initial.specs.Load.{enters};
 ghost use Rattle.ed_machine.specs.State.{State};
-ghost use Rattle.ed_machine.specs.Steps.{IsFree, state_after};
+ghost use Rattle.ed_machine.specs.Steps.{AreObeyed, state_after};
 ghost use Rattle.ed_stepper.specs.MoveEnds.{Ends, own_end};
 ghost use Rattle.ed_stepper.specs.declared.moves.MoveEnd.TheVariants.{Went};
 ghost use Rattle.ed_stepper.specs.Private.Kept.{AreMarks};
 
 use crate::marks::{Mark, keep};
-use crate::moves::{Aim, MoveEnd};
+use crate::moves::{MoveEnd, MoveTarget};
 use ed_machine::{Machine, Turn};
 use ed_orders::{Kind, kind_of};
 
@@ -24,14 +24,14 @@ pub(crate) fn walk(
     machine: &mut Machine,
     marks: &mut Vec<Mark>,
     from: u64,
-    aim: Aim,
+    aim: MoveTarget,
     left: u64,
 ) -> Walked
     requires orders { machine.old.orders + left ≤ 2 ^ 63 }
     requires done { from + left ≤ 2 ^ 63 }
     ensures ends { Ends aim left machine.old result.orders result.end }
     ensures state { machine.new ≡ state_after result.orders machine.old }
-    ensures free { IsFree result.orders machine.old }
+    ensures free { AreObeyed result.orders machine.old }
     ensures most { result.orders ≤ left }
     ensures count { machine.new.orders ≤ machine.old.orders + result.orders }
     ensures marks { (start : State) → machine.old ≡ state_after from start → machine.old.orders ≤ start.orders + from
@@ -81,26 +81,26 @@ pub(crate) fn walk(
 }
 
 /// Whether a move ends before any order: one by 0 orders.
-fn is_at_once(aim: &Aim) -> bool
+fn is_at_once(aim: &MoveTarget) -> bool
     ensures yes { result ≡ true → (s : State) → own_end aim.now 0 s ≡ Some Went }
     ensures no { result ≡ false → (s : State) → own_end aim.now 0 s ≡ None }
 {
     match aim {
-        Aim::Orders(n) => *n == 0,
-        Aim::Address(_) | Aim::Entry => false,
+        MoveTarget::Orders(n) => *n == 0,
+        MoveTarget::Address(_) | MoveTarget::Entry => false,
     }
 }
 
 /// A move's own end after at least one order, if it has been reached.
-fn own_end(aim: &Aim, orders: u64, at: u16, entered: bool) -> Option<MoveEnd>
+fn own_end(aim: &MoveTarget, orders: u64, at: u16, entered: bool) -> Option<MoveEnd>
     ensures { (s : State) (k : ℕ) → orders ≡ suc k → at ≡ (state_after orders s).counter
         → entered ≡ enters (state_after k s)
         → result ≡ own_end aim.now orders s }
 {
     match aim {
-        Aim::Orders(n) => when(*n == orders, MoveEnd::Went),
-        Aim::Address(a) => when(*a == at, MoveEnd::There),
-        Aim::Entry => when(entered, MoveEnd::Entered),
+        MoveTarget::Orders(n) => when(*n == orders, MoveEnd::Went),
+        MoveTarget::Address(a) => when(*a == at, MoveEnd::There),
+        MoveTarget::Entry => when(entered, MoveEnd::Entered),
     }
 }
 

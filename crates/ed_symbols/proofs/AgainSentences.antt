@@ -10,55 +10,59 @@ use Rattle.std.proofs.lemmas.List.Folds.{Any-from_list_any, list_any-from_Any}
 use Rattle.std.proofs.lemmas.List.Elements.{Contains-append_cases, Contains-append_left, Contains-append_right}
 use Rattle.ed_words.proofs.Numbers.{eq_of, eq_true}
 use Rattle.ed_syntax.specs.declared.program.Line.{Line}
-use Rattle.ed_symbols.specs.declared.spots.Spot.{Spot}
-use Rattle.ed_symbols.specs.declared.homes.Home.{Home}
-use Rattle.ed_symbols.specs.Places.{passed, first_spot}
-use Rattle.ed_symbols.specs.Names.{defined, home_of, homes_from, is_home, is_local, label_home, listed, name_home}
+use Rattle.ed_symbols.specs.declared.location_counter.LocationCounter.{LocationCounter}
+use Rattle.ed_symbols.specs.declared.symbols.Definition.{Definition}
+use Rattle.ed_symbols.specs.Places.{after_statement, first_counter}
+use Rattle.ed_symbols.specs.Names.{line_definitions, definition_of, symbols_from, is_definition_of, is_local}
+use Rattle.ed_symbols.specs.Names.{label_definition, as_list, statement_definition}
 use Rattle.ed_symbols.specs.Names.{same_segment}
 use Rattle.ed_symbols.specs.Faults.{defines_again, is_again}
-use Rattle.ed_symbols.specs.NameFaults.{StandsAfter, spot_from, spot_after, AreAlike, DefinesAgain}
+use Rattle.ed_symbols.specs.NameFaults.{StandsAfter, counter_from, counter_after, AreAlike, DefinesAgain}
 use Rattle.ed_symbols.proofs.Sentences.{Ties, or_left, or_right, and_of, and_true}
 
 none_in : {A : Type 0} (x : A) → Contains [] x → ⊥
 none_in x h = absurd (omega (arith, h.1))
 
-listed_says : (o : Option Home) (h : Home) → Contains (listed o) h → o ≡ Some h
+listed_says : (o : Option Definition) (h : Definition) → Contains (as_list o) h → o ≡ Some h
 listed_says None h c = absurd (none_in h c)
 listed_says (Some x) h (zero, below, is) = ap (λ y. Some y) is
 listed_says (Some x) h (suc k, below, is) = absurd (omega (arith, below))
 
-listed_has : (o : Option Home) (h : Home) → o ≡ Some h → Contains (listed o) h
-listed_has o h e = subst (λ x. Contains (listed x) h) (sym e) (0, omega arith, refl)
+listed_has : (o : Option Definition) (h : Definition) → o ≡ Some h → Contains (as_list o) h
+listed_has o h e = subst (λ x. Contains (as_list x) h) (sym e) (0, omega arith, refl)
 
--- a definition among those of some lines, from a spot onwards, is one of a line of them
-abbrev IsOfLine : Spot → List Line → Home → Type 0
+-- a definition among those of some lines, from a location counter onwards, is one of a line of them
+abbrev IsOfLine : LocationCounter → List Line → Definition → Type 0
 IsOfLine s lines h = (earlier : List Line) × (e : Line) × StandsAfter lines earlier e
-    × Contains (defined e (spot_from s earlier)) h
+    × Contains (line_definitions e (counter_from s earlier)) h
 
-of_line_says : (s : Spot) (lines : List Line) (h : Home) → Contains (homes_from s lines) h → IsOfLine s lines h
+of_line_says : (s : LocationCounter) (lines : List Line) (h : Definition) → Contains (symbols_from s lines) h
+    → IsOfLine s lines h
 of_line_says s [] h c = absurd (none_in h c)
 of_line_says s (l ∷ lines) h c =
-    by_case (λ g. of_line_says (passed l.statement s) lines h g)
-    (Contains-append_cases (defined l s) (homes_from (passed l.statement s) lines) h c)
+    by_case (λ g. of_line_says (after_statement l.statement s) lines h g)
+    (Contains-append_cases (line_definitions l s) (symbols_from (after_statement l.statement s) lines) h c)
   where
-    by_case : (Contains (homes_from (passed l.statement s) lines) h → IsOfLine (passed l.statement s) lines h)
-        → Contains (defined l s) h ⊎ Contains (homes_from (passed l.statement s) lines) h
+    by_case : (Contains (symbols_from (after_statement l.statement s) lines) h
+        → IsOfLine (after_statement l.statement s) lines h)
+        → Contains (line_definitions l s) h ⊎ Contains (symbols_from (after_statement l.statement s) lines) h
         → IsOfLine s (l ∷ lines) h
     by_case more (inl g) = ([], l, record { after = lines; lines_are = refl }, g)
     by_case more (inr g) =
         let r = more g in
         (l ∷ r.0, r.1, record { after = r.2.after; lines_are = ap (λ x. l ∷ x) r.2.lines_are }, r.3)
 
-of_line_among : (s : Spot) (earlier : List Line) (e : Line) (after : List Line) (h : Home)
-    → Contains (defined e (spot_from s earlier)) h → Contains (homes_from s (earlier ++ e ∷ after)) h
+of_line_among : (s : LocationCounter) (earlier : List Line) (e : Line) (after : List Line) (h : Definition)
+    → Contains (line_definitions e (counter_from s earlier)) h → Contains (symbols_from s (earlier ++ e ∷ after)) h
 of_line_among s [] e after h c =
-    Contains-append_left (defined e s) (homes_from (passed e.statement s) after) h c
+    Contains-append_left (line_definitions e s) (symbols_from (after_statement e.statement s) after) h c
 of_line_among s (l ∷ earlier) e after h c =
-    Contains-append_right (defined l s) (homes_from (passed l.statement s) (earlier ++ e ∷ after)) h
-    (of_line_among (passed l.statement s) earlier e after h c)
+    Contains-append_right (line_definitions l s) (symbols_from (after_statement l.statement s) (earlier ++ e ∷ after)) h
+    (of_line_among (after_statement l.statement s) earlier e after h c)
 
-of_line_has : (s : Spot) (lines : List Line) (h : Home) → IsOfLine s lines h → Contains (homes_from s lines) h
-of_line_has s lines h r = subst (λ x. Contains (homes_from s x) h) (sym r.2.lines_are)
+of_line_has : (s : LocationCounter) (lines : List Line) (h : Definition) → IsOfLine s lines h
+    → Contains (symbols_from s lines) h
+of_line_has s lines h r = subst (λ x. Contains (symbols_from s x) h) (sym r.2.lines_are)
     (of_line_among s r.0 r.1 r.2.after h r.3)
 
 same_says : (a b : Option ℕ) → same_segment a b ≡ true → (k : ℕ) × (b ≡ Some k) × (a ≡ Some k)
@@ -80,7 +84,7 @@ local_tests : (is : Bool) (a b : Option ℕ) → (is ≡ true → (k : ℕ) × (
 local_tests false a b h = refl
 local_tests true a b h = let k = h refl in same_tests a b k.0 k.1 k.2
 
-alike_says : (h other : Home) → is_home h.segment h.name other ≡ true → AreAlike h other
+alike_says : (h other : Definition) → is_definition_of h.segment h.name other ≡ true → AreAlike h other
 alike_says h other t =
     let p = and_of (bytes_eq other.name h.name) (not (is_local h.name) || same_segment other.segment h.segment) t in
     record {
@@ -88,55 +92,57 @@ alike_says h other t =
       segments = local_says (is_local h.name) other.segment h.segment p.1;
     }
 
-alike_tests : (h other : Home) → AreAlike h other → is_home h.segment h.name other ≡ true
+alike_tests : (h other : Definition) → AreAlike h other → is_definition_of h.segment h.name other ≡ true
 alike_tests h other a =
     and_true (bytes_eq other.name h.name) (not (is_local h.name) || same_segment other.segment h.segment)
     ((bytes_eq-Decides other.name h.name).1 a.names)
     (local_tests (is_local h.name) other.segment h.segment a.segments)
 
-found_any : (g : Option ℕ) (name : List ℕ) (homes : List Home)
-    → is_some (home_of g name homes) ≡ list_any (is_home g name) homes
+found_any : (g : Option ℕ) (name : List ℕ) (symbols : List Definition)
+    → is_some (definition_of g name symbols) ≡ list_any (is_definition_of g name) symbols
 found_any g name [] = refl
-found_any g name (h ∷ homes) = by_test (is_home g name h) (found_any g name homes)
+found_any g name (h ∷ symbols) = by_test (is_definition_of g name h) (found_any g name symbols)
   where
-    by_test : (t : Bool) → is_some (home_of g name homes) ≡ list_any (is_home g name) homes
-        → is_some (if t then Some h else home_of g name homes) ≡ (t || list_any (is_home g name) homes)
+    by_test : (t : Bool) → is_some (definition_of g name symbols) ≡ list_any (is_definition_of g name) symbols
+        → is_some (if t then Some h else definition_of g name symbols)
+        ≡ (t || list_any (is_definition_of g name) symbols)
     by_test true e = refl
     by_test false e = e
 
 -- the definition defines again a name of these
-abbrev IsAgain : List Home → Option Home → Type 0
-IsAgain earlier o = (h : Home) × (o ≡ Some h) × (other : Home) × Contains earlier other × AreAlike h other
+abbrev IsAgain : List Definition → Option Definition → Type 0
+IsAgain earlier o = (h : Definition) × (o ≡ Some h) × (other : Definition) × Contains earlier other × AreAlike h other
 
-again_says : (earlier : List Home) (o : Option Home) → is_again earlier o ≡ true → IsAgain earlier o
+again_says : (earlier : List Definition) (o : Option Definition) → is_again earlier o ≡ true → IsAgain earlier o
 again_says earlier None t = cc
 again_says earlier (Some h) t =
-    let a = Any-from_list_any (is_home h.segment h.name) earlier (sym (found_any h.segment h.name earlier) ∙ t) in
+    let a = Any-from_list_any (is_definition_of h.segment h.name) earlier
+    (sym (found_any h.segment h.name earlier) ∙ t) in
     (h, refl, a.1, (a.0, a.2, a.3), alike_says h a.1 a.4)
 
-again_tests : (earlier : List Home) (o : Option Home) → IsAgain earlier o → is_again earlier o ≡ true
+again_tests : (earlier : List Definition) (o : Option Definition) → IsAgain earlier o → is_again earlier o ≡ true
 again_tests earlier o a = ap (is_again earlier) a.1 ∙ (found_any a.0.segment a.0.name earlier
-    ∙ list_any-from_Any (is_home a.0.segment a.0.name) earlier
+    ∙ list_any-from_Any (is_definition_of a.0.segment a.0.name) earlier
     (a.3.0, a.2, a.3.1, a.3.2, alike_tests a.0 a.2 a.4))
 
 module _ (before : List Line) (l : Line) where
-  abbrev here : Spot
-  here = spot_after before
+  abbrev here : LocationCounter
+  here = counter_after before
 
-  abbrev labels : Option Home
-  labels = label_home l.label l.statement here
+  abbrev labels : Option Definition
+  labels = label_definition l.label l.statement here
 
-  abbrev names : Option Home
-  names = name_home l.statement here
+  abbrev names : Option Definition
+  names = statement_definition l.statement here
 
-  abbrev earlier_homes : List Home
-  earlier_homes = homes_from first_spot before
+  abbrev earlier_homes : List Definition
+  earlier_homes = symbols_from first_counter before
 
   by_label : IsAgain earlier_homes labels → DefinesAgain before l
-  by_label a = let r = of_line_says first_spot before a.2 a.3 in
+  by_label a = let r = of_line_says first_counter before a.2 a.3 in
       inl (
         a.0,
-        Contains-append_left (listed labels) (listed names) a.0 (listed_has labels a.0 a.1),
+        Contains-append_left (as_list labels) (as_list names) a.0 (listed_has labels a.0 a.1),
         r.0,
         r.1,
         r.2,
@@ -145,14 +151,14 @@ module _ (before : List Line) (l : Line) where
         a.4,
       )
 
-  by_name : IsAgain (earlier_homes ++ listed labels) names → DefinesAgain before l
-  by_name a = by_case (Contains-append_cases earlier_homes (listed labels) a.2 a.3)
+  by_name : IsAgain (earlier_homes ++ as_list labels) names → DefinesAgain before l
+  by_name a = by_case (Contains-append_cases earlier_homes (as_list labels) a.2 a.3)
     where
-      by_case : Contains earlier_homes a.2 ⊎ Contains (listed labels) a.2 → DefinesAgain before l
-      by_case (inl c) = let r = of_line_says first_spot before a.2 c in
+      by_case : Contains earlier_homes a.2 ⊎ Contains (as_list labels) a.2 → DefinesAgain before l
+      by_case (inl c) = let r = of_line_says first_counter before a.2 c in
           inl (
             a.0,
-            Contains-append_right (listed labels) (listed names) a.0 (listed_has names a.0 a.1),
+            Contains-append_right (as_list labels) (as_list names) a.0 (listed_has names a.0 a.1),
             r.0,
             r.1,
             r.2,
@@ -163,40 +169,40 @@ module _ (before : List Line) (l : Line) where
       by_case (inr c) = inr (a.0, a.1, a.2, listed_says labels a.2 c, a.4)
 
   either : (is_again earlier_homes labels ≡ true)
-      ⊎ (is_again (earlier_homes ++ listed labels) names ≡ true) → DefinesAgain before l
+      ⊎ (is_again (earlier_homes ++ as_list labels) names ≡ true) → DefinesAgain before l
   either (inl t) = by_label (again_says earlier_homes labels t)
-  either (inr t) = by_name (again_says (earlier_homes ++ listed labels) names t)
+  either (inr t) = by_name (again_says (earlier_homes ++ as_list labels) names t)
 
   again_of : DefinesAgain before l → defines_again earlier_homes l here ≡ true
   again_of (inl (h, c, e, x, stands, other, d, alike)) =
-      by_case (Contains-append_cases (listed labels) (listed names) h c)
+      by_case (Contains-append_cases (as_list labels) (as_list names) h c)
     where
       among : Contains earlier_homes other
-      among = of_line_has first_spot before other (e, x, stands, d)
+      among = of_line_has first_counter before other (e, x, stands, d)
 
-      by_case : Contains (listed labels) h ⊎ Contains (listed names) h → defines_again earlier_homes l here ≡ true
-      by_case (inl g) = or_left (is_again earlier_homes labels) (is_again (earlier_homes ++ listed labels) names)
+      by_case : Contains (as_list labels) h ⊎ Contains (as_list names) h → defines_again earlier_homes l here ≡ true
+      by_case (inl g) = or_left (is_again earlier_homes labels) (is_again (earlier_homes ++ as_list labels) names)
           (again_tests earlier_homes labels (h, listed_says labels h g, other, among, alike))
-      by_case (inr g) = or_right (is_again earlier_homes labels) (is_again (earlier_homes ++ listed labels) names)
-          (again_tests (earlier_homes ++ listed labels) names (
+      by_case (inr g) = or_right (is_again earlier_homes labels) (is_again (earlier_homes ++ as_list labels) names)
+          (again_tests (earlier_homes ++ as_list labels) names (
             h,
             listed_says names h g,
             other,
-            Contains-append_left earlier_homes (listed labels) other among,
+            Contains-append_left earlier_homes (as_list labels) other among,
             alike,
           ))
   again_of (inr (h, e, other, d, alike)) =
-      or_right (is_again earlier_homes labels) (is_again (earlier_homes ++ listed labels) names)
-      (again_tests (earlier_homes ++ listed labels) names (
+      or_right (is_again earlier_homes labels) (is_again (earlier_homes ++ as_list labels) names)
+      (again_tests (earlier_homes ++ as_list labels) names (
         h,
         e,
         other,
-        Contains-append_right earlier_homes (listed labels) other (listed_has labels other d),
+        Contains-append_right earlier_homes (as_list labels) other (listed_has labels other d),
         alike,
       ))
 
-  pub s6 : Ties (defines_again (homes_from first_spot before) l (spot_after before)) (DefinesAgain before l)
+  pub s6 : Ties (defines_again (symbols_from first_counter before) l (counter_after before)) (DefinesAgain before l)
   s6 = record {
-    says = λ t. either (or_cases (is_again earlier_homes labels) (is_again (earlier_homes ++ listed labels) names) t);
+    says = λ t. either (or_cases (is_again earlier_homes labels) (is_again (earlier_homes ++ as_list labels) names) t);
     tests = again_of;
   }

@@ -5,14 +5,15 @@ use Rattle.ed_syntax.specs.declared.program.Line.{Line}
 use Rattle.ed_syntax.specs.declared.fault.SourceCause.{SourceCause}
 use Rattle.ed_syntax.specs.declared.fault.SourceFault.TheVariants.{At}
 use Rattle.ed_symbols.specs.Faults.{naming_cause, defines_again, naming_fault_from}
-use Rattle.ed_symbols.specs.declared.spots.Spot.{Spot}
-use Rattle.ed_symbols.specs.declared.homes.Home.{Home}
+use Rattle.ed_symbols.specs.declared.location_counter.LocationCounter.{LocationCounter}
+use Rattle.ed_symbols.specs.declared.symbols.Definition.{Definition}
 
 -- a line with a fault, at an index, is the first one among those from that index upwards
-pub is_least_at : (homes earlier : List Home) (s : Spot) {lines read : List Line} {i : ℕ} {l : Line} {again : Bool}
+pub is_least_at : (symbols earlier : List Definition) (s : LocationCounter) {lines read : List Line} {i : ℕ} {l : Line}
+    {again : Bool}
     {cause : SourceCause}
     → read ≡ lines → i < length read → l ≡ get_or read i l
-    → again ≡ defines_again earlier l s → naming_cause homes again l s ≡ Some cause
-    → naming_fault_from homes earlier s (drop i lines) ≡ Some (At l.number cause)
-is_least_at homes earlier s {read = read} {i = i} {l = l} whole inside is same found =
+    → again ≡ defines_again earlier l s → naming_cause symbols again l s ≡ Some cause
+    → naming_fault_from symbols earlier s (drop i lines) ≡ Some (At l.number cause)
+is_least_at symbols earlier s {read = read} {i = i} {l = l} whole inside is same found =
     rw (sym whole, drop-cons read i l inside, sym is) (rw (sym same, found) refl)

@@ -10,12 +10,13 @@ use Rattle.ed_syntax.specs.declared.fault.SourceCause.{SourceCause}
 use Rattle.ed_syntax.specs.declared.fault.SourceCause.TheVariants as causes
 use Rattle.ed_syntax.specs.declared.fault.SourceFault.{SourceFault}
 use Rattle.ed_syntax.specs.declared.fault.SourceFault.TheVariants.{At, Memory}
-use Rattle.ed_symbols.specs.declared.spots.Spot.{Spot}
-use Rattle.ed_symbols.specs.Places.{passed, first_spot}
-use Rattle.ed_symbols.specs.Names.{defined, homes_from}
+use Rattle.ed_symbols.specs.declared.location_counter.LocationCounter.{LocationCounter}
+use Rattle.ed_symbols.specs.Places.{after_statement, first_counter}
+use Rattle.ed_symbols.specs.Names.{line_definitions, symbols_from}
 use Rattle.ed_symbols.specs.Faults.{or_later, defines_again, naming_cause, naming_fault_from, names_unknown}
 use Rattle.ed_symbols.specs.Faults.{reaches_outside, resolved}
-use Rattle.ed_symbols.specs.NameFaults.{StandsAfter, spot_from, spot_after, number_of, LineHasNameFault, HasNameFault}
+use Rattle.ed_symbols.specs.NameFaults.{StandsAfter, counter_from, counter_after, number_of, LineHasNameFault}
+use Rattle.ed_symbols.specs.NameFaults.{HasNameFault}
 use Rattle.ed_symbols.specs.NameFaults.{NameFaultIs, EachHasOneNameFault}
 use Rattle.ed_symbols.proofs.NamingSentences.{s7, s8}
 use Rattle.ed_symbols.proofs.AgainSentences.{s6}
@@ -45,12 +46,13 @@ from_six lines before l causes.Enter h = absurd h
 from_six lines before l causes.SandwichDigit h = absurd h
 
 of_names : (lines before : List Line) (l : Line) → Least (LineHasNameFault lines before l)
-    (naming_cause (homes_from first_spot lines) (defines_again (homes_from first_spot before) l (spot_after before)) l
-    (spot_after before))
+    (naming_cause (symbols_from first_counter lines) (defines_again
+    (symbols_from first_counter before) l (counter_after before)) l
+    (counter_after before))
 of_names lines before l = picks (LineHasNameFault lines before l) 6
-    ((defines_again (homes_from first_spot before) l (spot_after before), causes.LabelTwice)
-    ∷ (names_unknown (homes_from first_spot lines) l (spot_after before), causes.LabelUnknown)
-    ∷ (reaches_outside (homes_from first_spot lines) l (spot_after before), causes.AddressRange) ∷ []) (
+    ((defines_again (symbols_from first_counter before) l (counter_after before), causes.LabelTwice)
+    ∷ (names_unknown (symbols_from first_counter lines) l (counter_after before), causes.LabelUnknown)
+    ∷ (reaches_outside (symbols_from first_counter lines) l (counter_after before), causes.AddressRange) ∷ []) (
       s6 before l,
       refl,
       (
@@ -63,31 +65,34 @@ of_names lines before l = picks (LineHasNameFault lines before l) 6
 
 -- ---- the pass of the code, by what comes before a line
 
-pub spot_snoc : (s : Spot) (b : List Line) (l : Line) → spot_from s (b ++ l ∷ []) ≡ passed l.statement (spot_from s b)
+pub spot_snoc : (s : LocationCounter) (b : List Line) (l : Line)
+    → counter_from s (b ++ l ∷ []) ≡ after_statement l.statement (counter_from s b)
 spot_snoc s [] l = refl
-spot_snoc s (e ∷ b) l = spot_snoc (passed e.statement s) b l
+spot_snoc s (e ∷ b) l = spot_snoc (after_statement e.statement s) b l
 
-homes_snoc : (s : Spot) (b : List Line) (l : Line)
-    → homes_from s (b ++ l ∷ []) ≡ homes_from s b ++ defined l (spot_from s b)
-homes_snoc s [] l = append-nil (defined l s)
-homes_snoc s (e ∷ b) l = ap (λ x. defined e s ++ x) (homes_snoc (passed e.statement s) b l)
-    ∙ sym (append_assoc (defined e s) (homes_from (passed e.statement s) b)
-    (defined l (spot_from (passed e.statement s) b)))
+homes_snoc : (s : LocationCounter) (b : List Line) (l : Line)
+    → symbols_from s (b ++ l ∷ []) ≡ symbols_from s b ++ line_definitions l (counter_from s b)
+homes_snoc s [] l = append-nil (line_definitions l s)
+homes_snoc s (e ∷ b) l = ap (λ x. line_definitions e s ++ x) (homes_snoc (after_statement e.statement s) b l)
+    ∙ sym (append_assoc (line_definitions e s) (symbols_from (after_statement e.statement s) b)
+    (line_definitions l (counter_from (after_statement e.statement s) b)))
 
 module _ (lines : List Line) where
   abbrev ask_names : List Line → Line → Option SourceCause
-  ask_names b l = naming_cause (homes_from first_spot lines)
-      (defines_again (homes_from first_spot b) l (spot_after b)) l (spot_after b)
+  ask_names b l = naming_cause (symbols_from first_counter lines)
+      (defines_again (symbols_from first_counter b) l (counter_after b)) l (counter_after b)
 
   names_pass : (b rest : List Line)
-      → naming_fault_from (homes_from first_spot lines) (homes_from first_spot b) (spot_after b) rest
+      → naming_fault_from (symbols_from first_counter lines) (symbols_from first_counter b) (counter_after b) rest
       ≡ first ask_names b rest
   names_pass b [] = refl
   names_pass b (l ∷ rest) = ap (λ f. or_later l.number (ask_names b l) f)
-      (ap (λ h. naming_fault_from (homes_from first_spot lines) h (passed l.statement (spot_after b)) rest)
-      (sym (homes_snoc first_spot b l))
-      ∙ (ap (λ s. naming_fault_from (homes_from first_spot lines) (homes_from first_spot (b ++ l ∷ [])) s rest)
-      (sym (spot_snoc first_spot b l))
+      (ap (λ h. naming_fault_from (symbols_from first_counter lines) h
+      (after_statement l.statement (counter_after b)) rest)
+      (sym (homes_snoc first_counter b l))
+      ∙ (ap (λ s. naming_fault_from (symbols_from first_counter lines)
+      (symbols_from first_counter (b ++ l ∷ [])) s rest)
+      (sym (spot_snoc first_counter b l))
       ∙ names_pass (b ++ l ∷ []) rest))
 
 -- ---- the least of several

@@ -13,12 +13,12 @@ use Rattle.ed_syntax.specs.declared.program.Statement.{Statement}
 use Rattle.ed_syntax.specs.declared.program.Statement.TheVariants.{Segment, Order, Number, Text, Long, Fetch, Enter}
 use Rattle.ed_syntax.specs.declared.program.Statement.TheVariants.{Rows}
 use Rattle.ed_syntax.specs.declared.program.Line.{Line}
-use Rattle.ed_symbols.specs.declared.homes.Home.{Home}
-use Rattle.ed_symbols.specs.Places.{first_spot, segment_of}
-use Rattle.ed_symbols.specs.Names.{homes_from, place_on}
+use Rattle.ed_symbols.specs.declared.symbols.Definition.{Definition}
+use Rattle.ed_symbols.specs.Places.{first_counter, segment_of}
+use Rattle.ed_symbols.specs.Names.{symbols_from, place_on}
 use Rattle.ed_symbols.specs.Faults.{any_operand, enters_unknown, is_far, is_no_address, is_unknown, names_unknown}
 use Rattle.ed_symbols.specs.Faults.{operand_of, operand_value, reaches_outside, sum_of_places, with_more}
-use Rattle.ed_symbols.specs.NameFaults.{spot_after, HasOperand, HasName, NamesUnknown, ReachesOutside}
+use Rattle.ed_symbols.specs.NameFaults.{counter_after, HasOperand, HasName, NamesUnknown, ReachesOutside}
 use Rattle.ed_symbols.proofs.Sentences.{Ties, or_left, or_right}
 
 -- ---- S7 and S8: the operands
@@ -58,8 +58,8 @@ operand_tests test (Some (Enter n)) h = absurd h.1
 operand_tests test (Some (Rows codes)) h = absurd h.1
 
 -- a name of the operand is unknown
-abbrev Lacks : List Home → Option ℕ → Operand → Type 0
-Lacks homes g o = (name : List ℕ) × HasName o name × (place_on homes g name ≡ None)
+abbrev Lacks : List Definition → Option ℕ → Operand → Type 0
+Lacks symbols g o = (name : List ℕ) × HasName o name × (place_on symbols g name ≡ None)
 
 unplaced : (o : Option ℕ) → is_none o ≡ true → ◌≡◌ {A = Option ℕ} o None
 unplaced None h = refl
@@ -81,76 +81,82 @@ sum_none minus (Some p) None h = refl
 sum_none minus (Some p) (Some q) (inl h) = cc
 sum_none minus (Some p) (Some q) (inr h) = cc
 
-lacks_says : (homes : List Home) (g : Option ℕ) (o : Operand) → is_unknown homes g o ≡ true → Lacks homes g o
-lacks_says homes g (operands.Number n) h = cc
-lacks_says homes g (operands.Label name plus) h = (name, refl, more_says plus (place_on homes g name) h)
-lacks_says homes g (operands.Two first second minus) h =
-    by_case (sum_says minus (place_on homes g first) (place_on homes g second) h)
+lacks_says : (symbols : List Definition) (g : Option ℕ) (o : Operand) → is_unknown symbols g o ≡ true
+    → Lacks symbols g o
+lacks_says symbols g (operands.Number n) h = cc
+lacks_says symbols g (operands.Label name plus) h = (name, refl, more_says plus (place_on symbols g name) h)
+lacks_says symbols g (operands.Two first second minus) h =
+    by_case (sum_says minus (place_on symbols g first) (place_on symbols g second) h)
   where
-    by_case : (place_on homes g first ≡ None) ⊎ (place_on homes g second ≡ None)
-        → Lacks homes g (operands.Two first second minus)
+    by_case : (place_on symbols g first ≡ None) ⊎ (place_on symbols g second ≡ None)
+        → Lacks symbols g (operands.Two first second minus)
     by_case (inl e) = (first, inl refl, e)
     by_case (inr e) = (second, inr refl, e)
 
-lacks_tests : (homes : List Home) (g : Option ℕ) (o : Operand) → Lacks homes g o → is_unknown homes g o ≡ true
-lacks_tests homes g (operands.Number n) h = absurd h.1
-lacks_tests homes g (operands.Label name plus) h =
-    ap (λ o. is_none (with_more plus o)) (ap (λ x. place_on homes g x) (sym h.1) ∙ h.2)
-lacks_tests homes g (operands.Two first second minus) (name, inl e, h) =
-    sum_none minus (place_on homes g first) (place_on homes g second)
-    (inl (ap (λ x. place_on homes g x) (sym e) ∙ h))
-lacks_tests homes g (operands.Two first second minus) (name, inr e, h) =
-    sum_none minus (place_on homes g first) (place_on homes g second)
-    (inr (ap (λ x. place_on homes g x) (sym e) ∙ h))
+lacks_tests : (symbols : List Definition) (g : Option ℕ) (o : Operand) → Lacks symbols g o
+    → is_unknown symbols g o ≡ true
+lacks_tests symbols g (operands.Number n) h = absurd h.1
+lacks_tests symbols g (operands.Label name plus) h =
+    ap (λ o. is_none (with_more plus o)) (ap (λ x. place_on symbols g x) (sym h.1) ∙ h.2)
+lacks_tests symbols g (operands.Two first second minus) (name, inl e, h) =
+    sum_none minus (place_on symbols g first) (place_on symbols g second)
+    (inl (ap (λ x. place_on symbols g x) (sym e) ∙ h))
+lacks_tests symbols g (operands.Two first second minus) (name, inr e, h) =
+    sum_none minus (place_on symbols g first) (place_on symbols g second)
+    (inr (ap (λ x. place_on symbols g x) (sym e) ∙ h))
 
 -- an `enter` of an unknown name
-abbrev EntersNowhere : List Home → Option Statement → Type 0
-EntersNowhere homes st = (name : List ℕ) × (st ≡ Some (Enter name)) × (place_on homes None name ≡ None)
+abbrev EntersNowhere : List Definition → Option Statement → Type 0
+EntersNowhere symbols st = (name : List ℕ) × (st ≡ Some (Enter name)) × (place_on symbols None name ≡ None)
 
-nowhere_says : (homes : List Home) (st : Option Statement) → enters_unknown homes st ≡ true → EntersNowhere homes st
-nowhere_says homes (Some (Enter name)) h = (name, refl, unplaced (place_on homes None name) h)
-nowhere_says homes None h = cc
-nowhere_says homes (Some (Segment n b)) h = cc
-nowhere_says homes (Some (Order f o d)) h = cc
-nowhere_says homes (Some (Number w)) h = cc
-nowhere_says homes (Some (Text codes)) h = cc
-nowhere_says homes (Some (Long v)) h = cc
-nowhere_says homes (Some (Fetch r n ts)) h = cc
-nowhere_says homes (Some (Rows codes)) h = cc
+nowhere_says : (symbols : List Definition) (st : Option Statement) → enters_unknown symbols st ≡ true
+    → EntersNowhere symbols st
+nowhere_says symbols (Some (Enter name)) h = (name, refl, unplaced (place_on symbols None name) h)
+nowhere_says symbols None h = cc
+nowhere_says symbols (Some (Segment n b)) h = cc
+nowhere_says symbols (Some (Order f o d)) h = cc
+nowhere_says symbols (Some (Number w)) h = cc
+nowhere_says symbols (Some (Text codes)) h = cc
+nowhere_says symbols (Some (Long v)) h = cc
+nowhere_says symbols (Some (Fetch r n ts)) h = cc
+nowhere_says symbols (Some (Rows codes)) h = cc
 
-nowhere_tests : (homes : List Home) (st : Option Statement) → EntersNowhere homes st → enters_unknown homes st ≡ true
-nowhere_tests homes st h = ap (enters_unknown homes) h.1 ∙ ap is_none h.2
+nowhere_tests : (symbols : List Definition) (st : Option Statement) → EntersNowhere symbols st
+    → enters_unknown symbols st ≡ true
+nowhere_tests symbols st h = ap (enters_unknown symbols) h.1 ∙ ap is_none h.2
 
 module _ (lines before : List Line) (l : Line) where
   abbrev here : Option ℕ
-  here = segment_of l (spot_after before)
+  here = segment_of l (counter_after before)
 
-  unknown_by : (any_operand (is_unknown (homes_from first_spot lines) here) l.statement ≡ true)
-      ⊎ (enters_unknown (homes_from first_spot lines) l.statement ≡ true) → NamesUnknown lines before l
+  unknown_by : (any_operand (is_unknown (symbols_from first_counter lines) here) l.statement ≡ true)
+      ⊎ (enters_unknown (symbols_from first_counter lines) l.statement ≡ true) → NamesUnknown lines before l
   unknown_by (inl h) =
-      let p = operand_says (is_unknown (homes_from first_spot lines) here) l.statement h in
-      let k = lacks_says (homes_from first_spot lines) here p.0 p.2 in inl (p.0, p.1, k.0, k.1, k.2)
-  unknown_by (inr h) = inr (nowhere_says (homes_from first_spot lines) l.statement h)
+      let p = operand_says (is_unknown (symbols_from first_counter lines) here) l.statement h in
+      let k = lacks_says (symbols_from first_counter lines) here p.0 p.2 in inl (p.0, p.1, k.0, k.1, k.2)
+  unknown_by (inr h) = inr (nowhere_says (symbols_from first_counter lines) l.statement h)
 
-  unknown_of : NamesUnknown lines before l → names_unknown (homes_from first_spot lines) l (spot_after before) ≡ true
-  unknown_of (inl h) = or_left (any_operand (is_unknown (homes_from first_spot lines) here) l.statement)
-      (enters_unknown (homes_from first_spot lines) l.statement)
-      (operand_tests (is_unknown (homes_from first_spot lines) here) l.statement
-      (h.0, h.1, lacks_tests (homes_from first_spot lines) here h.0 (h.2, h.3, h.4)))
-  unknown_of (inr h) = or_right (any_operand (is_unknown (homes_from first_spot lines) here) l.statement)
-      (enters_unknown (homes_from first_spot lines) l.statement)
-      (nowhere_tests (homes_from first_spot lines) l.statement h)
+  unknown_of : NamesUnknown lines before l → names_unknown (symbols_from first_counter lines) l
+      (counter_after before) ≡ true
+  unknown_of (inl h) = or_left (any_operand (is_unknown (symbols_from first_counter lines) here) l.statement)
+      (enters_unknown (symbols_from first_counter lines) l.statement)
+      (operand_tests (is_unknown (symbols_from first_counter lines) here) l.statement
+      (h.0, h.1, lacks_tests (symbols_from first_counter lines) here h.0 (h.2, h.3, h.4)))
+  unknown_of (inr h) = or_right (any_operand (is_unknown (symbols_from first_counter lines) here) l.statement)
+      (enters_unknown (symbols_from first_counter lines) l.statement)
+      (nowhere_tests (symbols_from first_counter lines) l.statement h)
 
-  pub s7 : Ties (names_unknown (homes_from first_spot lines) l (spot_after before)) (NamesUnknown lines before l)
+  pub s7 : Ties (names_unknown (symbols_from first_counter lines) l (counter_after before))
+      (NamesUnknown lines before l)
   s7 = record {
-    says = λ h. unknown_by (or_cases (any_operand (is_unknown (homes_from first_spot lines) here) l.statement)
-        (enters_unknown (homes_from first_spot lines) l.statement) h);
+    says = λ h. unknown_by (or_cases (any_operand (is_unknown (symbols_from first_counter lines) here) l.statement)
+        (enters_unknown (symbols_from first_counter lines) l.statement) h);
     tests = unknown_of;
   }
 
 -- the value of an operand with a name is not an address
-abbrev IsFar : List Home → Option ℕ → Operand → Type 0
-IsFar homes g o = (name : List ℕ) × HasName o name × (v : ℤ) × (operand_value homes g o ≡ Some v)
+abbrev IsFar : List Definition → Option ℕ → Operand → Type 0
+IsFar symbols g o = (name : List ℕ) × HasName o name × (v : ℤ) × (operand_value symbols g o ≡ Some v)
     × ((int_lt v (pos 0) ≡ true) ⊎ (int_lt (pos 1023) v ≡ true))
 
 far_says : (o : Option ℤ) → is_far o ≡ true
@@ -163,27 +169,29 @@ far_tests : (o : Option ℤ) (v : ℤ) → o ≡ Some v → (int_lt v (pos 0) �
 far_tests o v e (inl h) = ap is_far e ∙ or_left (int_lt v (pos 0)) (int_lt (pos 1023) v) h
 far_tests o v e (inr h) = ap is_far e ∙ or_right (int_lt v (pos 0)) (int_lt (pos 1023) v) h
 
-no_address_says : (homes : List Home) (g : Option ℕ) (o : Operand) → is_no_address homes g o ≡ true → IsFar homes g o
-no_address_says homes g (operands.Number n) h = cc
-no_address_says homes g (operands.Label name plus) h =
-    let f = far_says (operand_value homes g (operands.Label name plus)) h in (name, refl, f.0, f.1, f.2)
-no_address_says homes g (operands.Two first second minus) h =
-    let f = far_says (operand_value homes g (operands.Two first second minus)) h in (first, inl refl, f.0, f.1, f.2)
+no_address_says : (symbols : List Definition) (g : Option ℕ) (o : Operand) → is_no_address symbols g o ≡ true
+    → IsFar symbols g o
+no_address_says symbols g (operands.Number n) h = cc
+no_address_says symbols g (operands.Label name plus) h =
+    let f = far_says (operand_value symbols g (operands.Label name plus)) h in (name, refl, f.0, f.1, f.2)
+no_address_says symbols g (operands.Two first second minus) h =
+    let f = far_says (operand_value symbols g (operands.Two first second minus)) h in (first, inl refl, f.0, f.1, f.2)
 
-no_address_tests : (homes : List Home) (g : Option ℕ) (o : Operand) → IsFar homes g o → is_no_address homes g o ≡ true
-no_address_tests homes g (operands.Number n) h = absurd h.1
-no_address_tests homes g (operands.Label name plus) h =
-    far_tests (operand_value homes g (operands.Label name plus)) h.2 h.3 h.4
-no_address_tests homes g (operands.Two first second minus) h =
-    far_tests (operand_value homes g (operands.Two first second minus)) h.2 h.3 h.4
+no_address_tests : (symbols : List Definition) (g : Option ℕ) (o : Operand) → IsFar symbols g o
+    → is_no_address symbols g o ≡ true
+no_address_tests symbols g (operands.Number n) h = absurd h.1
+no_address_tests symbols g (operands.Label name plus) h =
+    far_tests (operand_value symbols g (operands.Label name plus)) h.2 h.3 h.4
+no_address_tests symbols g (operands.Two first second minus) h =
+    far_tests (operand_value symbols g (operands.Two first second minus)) h.2 h.3 h.4
 
 pub s8 : (lines before : List Line) (l : Line)
-    → Ties (reaches_outside (homes_from first_spot lines) l (spot_after before)) (ReachesOutside lines before l)
+    → Ties (reaches_outside (symbols_from first_counter lines) l (counter_after before)) (ReachesOutside lines before l)
 s8 lines before l =
-    let g = segment_of l (spot_after before) in
+    let g = segment_of l (counter_after before) in
     record {
-      says = λ h. let p = operand_says (is_no_address (homes_from first_spot lines) g) l.statement h in
-          let k = no_address_says (homes_from first_spot lines) g p.0 p.2 in (p.0, p.1, k.0, k.1, k.2, k.3, k.4);
-      tests = λ h. operand_tests (is_no_address (homes_from first_spot lines) g) l.statement
-          (h.0, h.1, no_address_tests (homes_from first_spot lines) g h.0 (h.2, h.3, h.4, h.5, h.6));
+      says = λ h. let p = operand_says (is_no_address (symbols_from first_counter lines) g) l.statement h in
+          let k = no_address_says (symbols_from first_counter lines) g p.0 p.2 in (p.0, p.1, k.0, k.1, k.2, k.3, k.4);
+      tests = λ h. operand_tests (is_no_address (symbols_from first_counter lines) g) l.statement
+          (h.0, h.1, no_address_tests (symbols_from first_counter lines) g h.0 (h.2, h.3, h.4, h.5, h.6));
     }

@@ -13,11 +13,12 @@ use Rattle.ed_syntax.specs.declared.fault.SourceCause.{SourceCause}
 use Rattle.ed_syntax.specs.declared.fault.SourceCause.TheVariants.{LabelTwice, LabelUnknown, AddressRange}
 use Rattle.ed_syntax.specs.declared.fault.SourceFault.{SourceFault}
 use Rattle.ed_syntax.specs.declared.fault.SourceFault.TheVariants.{At}
-use Rattle.ed_symbols.specs.Places.{first_spot, passed, segment_of, standings_from}
-use Rattle.ed_symbols.specs.Names.{defined, home_of, homes_from, label_home, listed, name_home, place_on}
-use Rattle.ed_symbols.specs.declared.spots.Spot.{Spot}
-use Rattle.ed_symbols.specs.declared.spots.Standing.{Standing}
-use Rattle.ed_symbols.specs.declared.homes.Home.{Home}
+use Rattle.ed_symbols.specs.Places.{first_counter, after_statement, segment_of, positions_from}
+use Rattle.ed_symbols.specs.Names.{line_definitions, definition_of, symbols_from, label_definition, as_list}
+use Rattle.ed_symbols.specs.Names.{statement_definition, place_on}
+use Rattle.ed_symbols.specs.declared.location_counter.LocationCounter.{LocationCounter}
+use Rattle.ed_symbols.specs.declared.location_counter.LinePosition.{LinePosition}
+use Rattle.ed_symbols.specs.declared.symbols.Definition.{Definition}
 
 -- the sum or the difference of two locations
 abbrev pub sum_of_places : Bool → Option ℕ → Option ℕ → Option ℤ
@@ -30,15 +31,15 @@ with_more plus None = None
 with_more plus (Some p) = Some (pos p +ℤ plus)
 
 -- the value of an operand on a line of this segment; None if one of its names is unknown there
-abbrev pub operand_value : List Home → Option ℕ → Operand → Option ℤ
-operand_value homes segment (Number n) = Some (pos n)
-operand_value homes segment (Label name plus) = with_more plus (place_on homes segment name)
-operand_value homes segment (Two first second minus) =
-    sum_of_places minus (place_on homes segment first) (place_on homes segment second)
+abbrev pub operand_value : List Definition → Option ℕ → Operand → Option ℤ
+operand_value symbols segment (Number n) = Some (pos n)
+operand_value symbols segment (Label name plus) = with_more plus (place_on symbols segment name)
+operand_value symbols segment (Two first second minus) =
+    sum_of_places minus (place_on symbols segment first) (place_on symbols segment second)
 
 -- whether an operand has a name that is unknown on its line
-abbrev pub is_unknown : List Home → Option ℕ → Operand → Bool
-is_unknown homes segment o = is_none (operand_value homes segment o)
+abbrev pub is_unknown : List Definition → Option ℕ → Operand → Bool
+is_unknown symbols segment o = is_none (operand_value symbols segment o)
 
 -- whether a value is outside 0 to 1023, the addresses of the full store
 abbrev pub is_far : Option ℤ → Bool
@@ -46,10 +47,10 @@ is_far None = false
 is_far (Some v) = int_lt v (pos 0) || int_lt (pos 1023) v
 
 -- whether an operand with a name has a value outside 0 to 1023
-abbrev pub is_no_address : List Home → Option ℕ → Operand → Bool
-is_no_address homes segment (Number n) = false
-is_no_address homes segment (Label name plus) = is_far (operand_value homes segment (Label name plus))
-is_no_address homes segment (Two first second minus) = is_far (operand_value homes segment (Two first second minus))
+abbrev pub is_no_address : List Definition → Option ℕ → Operand → Bool
+is_no_address symbols segment (Number n) = false
+is_no_address symbols segment (Label name plus) = is_far (operand_value symbols segment (Label name plus))
+is_no_address symbols segment (Two first second minus) = is_far (operand_value symbols segment (Two first second minus))
 
 -- the operand of a setting
 abbrev pub operand_of : Setting → Operand
@@ -62,35 +63,35 @@ any_operand test (Some (Fetch routine name settings)) = list_any (λ t. test (op
 any_operand test _ = false
 
 -- whether an `enter` names something unknown
-abbrev pub enters_unknown : List Home → Option Statement → Bool
-enters_unknown homes (Some (Enter name)) = is_none (place_on homes None name)
-enters_unknown homes _ = false
+abbrev pub enters_unknown : List Definition → Option Statement → Bool
+enters_unknown symbols (Some (Enter name)) = is_none (place_on symbols None name)
+enters_unknown symbols _ = false
 
 -- whether this name is defined earlier already, a local name in the same segment
-abbrev pub is_again : List Home → Option Home → Bool
+abbrev pub is_again : List Definition → Option Definition → Bool
 is_again earlier None = false
-is_again earlier (Some h) = is_some (home_of h.segment h.name earlier)
+is_again earlier (Some h) = is_some (definition_of h.segment h.name earlier)
 
 -- S6: the line defines a name that an earlier line defines, or that it defines twice
-abbrev pub defines_again : List Home → Line → Spot → Bool
-defines_again earlier l s = is_again earlier (label_home l.label l.statement s)
-    || is_again (earlier ++ listed (label_home l.label l.statement s)) (name_home l.statement s)
+abbrev pub defines_again : List Definition → Line → LocationCounter → Bool
+defines_again earlier l s = is_again earlier (label_definition l.label l.statement s)
+    || is_again (earlier ++ as_list (label_definition l.label l.statement s)) (statement_definition l.statement s)
 
 -- S7: an operand or `enter` has a name that is unknown on the line
-abbrev pub names_unknown : List Home → Line → Spot → Bool
-names_unknown homes l s = any_operand (is_unknown homes (segment_of l s)) l.statement
-    || enters_unknown homes l.statement
+abbrev pub names_unknown : List Definition → Line → LocationCounter → Bool
+names_unknown symbols l s = any_operand (is_unknown symbols (segment_of l s)) l.statement
+    || enters_unknown symbols l.statement
 
 -- S8: the value of an operand with a name is not an address
-abbrev pub reaches_outside : List Home → Line → Spot → Bool
-reaches_outside homes l s = any_operand (is_no_address homes (segment_of l s)) l.statement
+abbrev pub reaches_outside : List Definition → Line → LocationCounter → Bool
+reaches_outside symbols l s = any_operand (is_no_address symbols (segment_of l s)) l.statement
 
 -- the fault of a line with the least number; `again` says whether the line defines a name again
-abbrev pub naming_cause : List Home → Bool → Line → Spot → Option SourceCause
-naming_cause homes again l s =
+abbrev pub naming_cause : List Definition → Bool → Line → LocationCounter → Option SourceCause
+naming_cause symbols again l s =
     if again then Some LabelTwice
-    else if names_unknown homes l s then Some LabelUnknown
-    else if reaches_outside homes l s then Some AddressRange
+    else if names_unknown symbols l s then Some LabelUnknown
+    else if reaches_outside symbols l s then Some AddressRange
     else None
 
 -- a fault of a line, or else that of a later line
@@ -98,23 +99,23 @@ abbrev pub or_later : ℕ → Option SourceCause → Option SourceFault → Opti
 or_later line None later = later
 or_later line (Some cause) later = Some (At line cause)
 
--- the fault of the first line, from a spot onwards, that has one
-abbrev pub naming_fault_from : List Home → List Home → Spot → List Line → Option SourceFault
-naming_fault_from homes earlier s [] = None
-naming_fault_from homes earlier s (l ∷ lines) =
-    or_later l.number (naming_cause homes (defines_again earlier l s) l s)
-    (naming_fault_from homes (earlier ++ defined l s) (passed l.statement s) lines)
+-- the fault of the first line, from a location counter onwards, that has one
+abbrev pub naming_fault_from : List Definition → List Definition → LocationCounter → List Line → Option SourceFault
+naming_fault_from symbols earlier s [] = None
+naming_fault_from symbols earlier s (l ∷ lines) =
+    or_later l.number (naming_cause symbols (defines_again earlier l s) l s)
+    (naming_fault_from symbols (earlier ++ line_definitions l s) (after_statement l.statement s) lines)
 
 -- what resolving the names of a source gives: the location of each line, what is defined, and the first fault
 pub record Resolved : Type 0 where
-  pub standings : List Standing
-  pub homes : List Home
+  pub positions : List LinePosition
+  pub symbols : List Definition
   pub fault : Option SourceFault
 
 -- the same for the lines of a source
 abbrev pub resolved : List Line → Resolved
 resolved lines = record {
-  standings = standings_from first_spot lines;
-  homes = homes_from first_spot lines;
-  fault = naming_fault_from (homes_from first_spot lines) [] first_spot lines;
+  positions = positions_from first_counter lines;
+  symbols = symbols_from first_counter lines;
+  fault = naming_fault_from (symbols_from first_counter lines) [] first_counter lines;
 }

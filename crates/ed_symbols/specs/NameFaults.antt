@@ -13,10 +13,11 @@ use Rattle.ed_syntax.specs.declared.fault.SourceCause.{SourceCause}
 use Rattle.ed_syntax.specs.declared.fault.SourceCause.TheVariants as causes
 use Rattle.ed_syntax.specs.declared.fault.SourceFault.{SourceFault}
 use Rattle.ed_syntax.specs.declared.fault.SourceFault.TheVariants.{At, Memory}
-use Rattle.ed_symbols.specs.declared.spots.Spot.{Spot}
-use Rattle.ed_symbols.specs.declared.homes.Home.{Home}
-use Rattle.ed_symbols.specs.Places.{passed, first_spot, segment_of}
-use Rattle.ed_symbols.specs.Names.{defined, homes_from, is_local, label_home, name_home, place_on}
+use Rattle.ed_symbols.specs.declared.location_counter.LocationCounter.{LocationCounter}
+use Rattle.ed_symbols.specs.declared.symbols.Definition.{Definition}
+use Rattle.ed_symbols.specs.Places.{after_statement, first_counter, segment_of}
+use Rattle.ed_symbols.specs.Names.{line_definitions, symbols_from, is_local, label_definition, statement_definition}
+use Rattle.ed_symbols.specs.Names.{place_on}
 use Rattle.ed_symbols.specs.Faults.{operand_of, operand_value}
 
 -- ---- lines and those before them
@@ -26,14 +27,14 @@ pub record StandsAfter (lines before : List Line) (l : Line) : Type 0 where
   pub after : List Line
   pub lines_are : lines ≡ before ++ l ∷ after
 
--- the location and the segment after some lines, beginning at a spot
-abbrev pub spot_from : Spot → List Line → Spot
-spot_from s [] = s
-spot_from s (l ∷ lines) = spot_from (passed l.statement s) lines
+-- the location and the segment after some lines, beginning at a location counter
+abbrev pub counter_from : LocationCounter → List Line → LocationCounter
+counter_from s [] = s
+counter_from s (l ∷ lines) = counter_from (after_statement l.statement s) lines
 
 -- the location and the segment after some lines of a source
-abbrev pub spot_after : List Line → Spot
-spot_after before = spot_from first_spot before
+abbrev pub counter_after : List Line → LocationCounter
+counter_after before = counter_from first_counter before
 
 -- ---- what a line says
 
@@ -50,7 +51,7 @@ HasName (operands.Label first plus) name = name ≡ first
 HasName (operands.Two first second minus) name = (name ≡ first) ⊎ (name ≡ second)
 
 -- two definitions of one name; local names are alike only within one segment
-pub record AreAlike (h other : Home) : Type 0 where
+pub record AreAlike (h other : Definition) : Type 0 where
   pub names : other.name ≡ h.name
   pub segments : is_local h.name ≡ true → (k : ℕ) × (h.segment ≡ Some k) × (other.segment ≡ Some k)
 
@@ -59,23 +60,25 @@ pub record AreAlike (h other : Home) : Type 0 where
 -- S6: the line defines a name that an earlier line defines, or that it defines twice
 abbrev pub DefinesAgain : List Line → Line → Type 0
 DefinesAgain before l =
-    ((h : Home) × Contains (defined l (spot_after before)) h
+    ((h : Definition) × Contains (line_definitions l (counter_after before)) h
     × (earlier : List Line) × (e : Line) × StandsAfter before earlier e
-    × (other : Home) × Contains (defined e (spot_after earlier)) other × AreAlike h other)
-    ⊎ ((h : Home) × (name_home l.statement (spot_after before) ≡ Some h)
-    × (other : Home) × (label_home l.label l.statement (spot_after before) ≡ Some other) × AreAlike h other)
+    × (other : Definition) × Contains (line_definitions e (counter_after earlier)) other × AreAlike h other)
+    ⊎ ((h : Definition) × (statement_definition l.statement (counter_after before) ≡ Some h)
+    × (other : Definition) × (label_definition l.label l.statement (counter_after before) ≡ Some other)
+    × AreAlike h other)
 
 -- S7: an operand or `enter` has a name that is unknown on the line
 abbrev pub NamesUnknown : List Line → List Line → Line → Type 0
 NamesUnknown lines before l =
     ((o : Operand) × HasOperand l.statement o × (name : List ℕ) × HasName o name
-    × (place_on (homes_from first_spot lines) (segment_of l (spot_after before)) name ≡ None))
-    ⊎ ((name : List ℕ) × (l.statement ≡ Some (Enter name)) × (place_on (homes_from first_spot lines) None name ≡ None))
+    × (place_on (symbols_from first_counter lines) (segment_of l (counter_after before)) name ≡ None))
+    ⊎ ((name : List ℕ) × (l.statement ≡ Some (Enter name))
+    × (place_on (symbols_from first_counter lines) None name ≡ None))
 
 -- S8: the value of an operand that has a name is below 0 or above 1023
 abbrev pub ReachesOutside : List Line → List Line → Line → Type 0
 ReachesOutside lines before l = (o : Operand) × HasOperand l.statement o × (name : List ℕ) × HasName o name
-    × (v : ℤ) × (operand_value (homes_from first_spot lines) (segment_of l (spot_after before)) o ≡ Some v)
+    × (v : ℤ) × (operand_value (symbols_from first_counter lines) (segment_of l (counter_after before)) o ≡ Some v)
     × ((int_lt v (pos 0) ≡ true) ⊎ (int_lt (pos 1023) v ≡ true))
 
 -- the line after these lines has this fault of names

@@ -6,19 +6,19 @@ use Rattle.std.specs.Str.{bytes_eq}
 use Rattle.ed_syntax.specs.declared.program.Statement.{Statement}
 use Rattle.ed_syntax.specs.declared.program.Statement.TheVariants.{Segment, Fetch, Long}
 use Rattle.ed_syntax.specs.declared.program.Line.{Line}
-use Rattle.ed_symbols.specs.Places.{even_from, passed, segment_at}
-use Rattle.ed_symbols.specs.declared.spots.Spot.{Spot}
-use Rattle.ed_symbols.specs.declared.homes.Home.{Home}
+use Rattle.ed_symbols.specs.Places.{even_from, after_statement, segment_at}
+use Rattle.ed_symbols.specs.declared.location_counter.LocationCounter.{LocationCounter}
+use Rattle.ed_symbols.specs.declared.symbols.Definition.{Definition}
 
 -- the location of a line's label; that of a `long` is rounded up to even
-abbrev pub label_place : Option Statement → Spot → ℕ
+abbrev pub label_place : Option Statement → LocationCounter → ℕ
 label_place (Some (Long value)) s = even_from s.place
 label_place _ s = s.place
 
 -- the definition by a line's label, in the segment of the line
-abbrev pub label_home : Option (List ℕ) → Option Statement → Spot → Option Home
-label_home None statement s = None
-label_home (Some name) statement s = Some (record {
+abbrev pub label_definition : Option (List ℕ) → Option Statement → LocationCounter → Option Definition
+label_definition None statement s = None
+label_definition (Some name) statement s = Some (record {
   name = name;
   place = label_place statement s;
   segment = segment_at s;
@@ -26,26 +26,26 @@ label_home (Some name) statement s = Some (record {
 
 -- the definition by a statement: a segment's name, which belongs to its segment, or the second name of a `use`, which
 -- belongs to no segment
-abbrev pub name_home : Option Statement → Spot → Option Home
-name_home (Some (Segment name base)) s =
+abbrev pub statement_definition : Option Statement → LocationCounter → Option Definition
+statement_definition (Some (Segment name base)) s =
     Some (record { name = name; place = unwrap_or base s.place; segment = Some (s.segments + 1) })
-name_home (Some (Fetch routine name settings)) s =
+statement_definition (Some (Fetch routine name settings)) s =
     Some (record { name = name; place = even_from s.place; segment = None })
-name_home _ s = None
+statement_definition _ s = None
 
 -- a list of one definition or none
-abbrev pub listed : Option Home → List Home
-listed None = []
-listed (Some h) = h ∷ []
+abbrev pub as_list : Option Definition → List Definition
+as_list None = []
+as_list (Some h) = h ∷ []
 
 -- what a line defines
-abbrev pub defined : Line → Spot → List Home
-defined l s = listed (label_home l.label l.statement s) ++ listed (name_home l.statement s)
+abbrev pub line_definitions : Line → LocationCounter → List Definition
+line_definitions l s = as_list (label_definition l.label l.statement s) ++ as_list (statement_definition l.statement s)
 
--- what the lines from a spot onwards define, in their order
-abbrev pub homes_from : Spot → List Line → List Home
-homes_from s [] = []
-homes_from s (l ∷ lines) = defined l s ++ homes_from (passed l.statement s) lines
+-- what the lines from a location counter onwards define, in their order
+abbrev pub symbols_from : LocationCounter → List Line → List Definition
+symbols_from s [] = []
+symbols_from s (l ∷ lines) = line_definitions l s ++ symbols_from (after_statement l.statement s) lines
 
 -- whether a name is local: it begins with _
 abbrev pub is_local : List ℕ → Bool
@@ -58,18 +58,19 @@ same_segment (Some a) (Some b) = a == b
 same_segment _ b = false
 
 -- whether a definition is of this name, as seen from a line of this segment
-abbrev pub is_home : Option ℕ → List ℕ → Home → Bool
-is_home segment name h = bytes_eq h.name name && (not (is_local name) || same_segment h.segment segment)
+abbrev pub is_definition_of : Option ℕ → List ℕ → Definition → Bool
+is_definition_of segment name h = bytes_eq h.name name && (not (is_local name) || same_segment h.segment segment)
 
 -- the first definition of a name, as seen from a line of this segment
-abbrev pub home_of : Option ℕ → List ℕ → List Home → Option Home
-home_of segment name [] = None
-home_of segment name (h ∷ homes) = if is_home segment name h then Some h else home_of segment name homes
+abbrev pub definition_of : Option ℕ → List ℕ → List Definition → Option Definition
+definition_of segment name [] = None
+definition_of segment name (h ∷ symbols) = if is_definition_of segment name h then Some h
+    else definition_of segment name symbols
 
 -- the location of a definition
-abbrev pub home_place : Home → ℕ
-home_place h = h.place
+abbrev pub definition_place : Definition → ℕ
+definition_place h = h.place
 
 -- the location of a name on a line of this segment, if it is known there
-abbrev pub place_on : List Home → Option ℕ → List ℕ → Option ℕ
-place_on homes segment name = option_map home_place (home_of segment name homes)
+abbrev pub place_on : List Definition → Option ℕ → List ℕ → Option ℕ
+place_on symbols segment name = option_map definition_place (definition_of segment name symbols)

@@ -6,8 +6,8 @@ use Rattle.ed_syntax.specs.declared.program.Statement.{Statement}
 use Rattle.ed_syntax.specs.declared.program.Statement.TheVariants.{Segment, Order, Number, Text}
 use Rattle.ed_syntax.specs.declared.program.Statement.TheVariants.{Fetch, Enter, Rows, Long}
 use Rattle.ed_syntax.specs.declared.program.Line.{Line}
-use Rattle.ed_symbols.specs.declared.spots.Spot.{Spot}
-use Rattle.ed_symbols.specs.declared.spots.Standing.{Standing}
+use Rattle.ed_symbols.specs.declared.location_counter.LocationCounter.{LocationCounter}
+use Rattle.ed_symbols.specs.declared.location_counter.LinePosition.{LinePosition}
 
 -- a location, rounded up to even
 abbrev pub even_from : ℕ → ℕ
@@ -19,47 +19,47 @@ routine_places None = 0
 routine_places (Some r) = place_count r
 
 -- before the first line: location 56, outside every segment
-abbrev pub first_spot : Spot
-first_spot = record { place = 56; base = 56; segments = 0; inside = false }
+abbrev pub first_counter : LocationCounter
+first_counter = record { place = 56; base = 56; segments = 0; inside = false }
 
 -- the location counter advanced by n words
-abbrev pub moved_on : ℕ → Spot → Spot
+abbrev pub moved_on : ℕ → LocationCounter → LocationCounter
 moved_on n s = record s { place = s.place + n }
 
 -- after a statement: `segment` may set the location, an order and `word` take 1 word, `text` one for each row, `use`
 -- the routine's length from an even location, and `long` 2 from an even location; `segment` and `use` have their base
 -- where they begin
-abbrev pub passed : Option Statement → Spot → Spot
-passed None s = s
-passed (Some (Segment name base)) s =
+abbrev pub after_statement : Option Statement → LocationCounter → LocationCounter
+after_statement None s = s
+after_statement (Some (Segment name base)) s =
     record { place = unwrap_or base s.place; base = unwrap_or base s.place; segments = s.segments + 1; inside = true }
-passed (Some (Order function operand length)) s = moved_on 1 s
-passed (Some (Number value)) s = moved_on 1 s
-passed (Some (Text codes)) s = moved_on (length codes.items) s
-passed (Some (Fetch routine name settings)) s =
+after_statement (Some (Order function operand length)) s = moved_on 1 s
+after_statement (Some (Number value)) s = moved_on 1 s
+after_statement (Some (Text codes)) s = moved_on (length codes.items) s
+after_statement (Some (Fetch routine name settings)) s =
     record {
       place = even_from s.place + routine_places (find routine);
       base = even_from s.place;
       segments = s.segments + 1;
       inside = false;
     }
-passed (Some (Enter name)) s = s
-passed (Some (Rows codes)) s = s
-passed (Some (Long value)) s = record s { place = even_from s.place + 2 }
+after_statement (Some (Enter name)) s = s
+after_statement (Some (Rows codes)) s = s
+after_statement (Some (Long value)) s = record s { place = even_from s.place + 2 }
 
--- the segment of a spot: its number if the last `segment` or `use` line was a `segment`
-abbrev pub segment_at : Spot → Option ℕ
+-- the segment of a location counter: its number if the last `segment` or `use` line was a `segment`
+abbrev pub segment_at : LocationCounter → Option ℕ
 segment_at s = if s.inside then Some s.segments else None
 
 -- the segment to which a line belongs: a `segment` line to the one it begins, a `use` line to none
-abbrev pub segment_of : Line → Spot → Option ℕ
-segment_of l s = segment_at (passed l.statement s)
+abbrev pub segment_of : Line → LocationCounter → Option ℕ
+segment_of l s = segment_at (after_statement l.statement s)
 
 -- the location before a line, and the segment to which the line belongs
-abbrev pub standing : Line → Spot → Standing
-standing l s = record { place = s.place; segment = segment_of l s }
+abbrev pub position : Line → LocationCounter → LinePosition
+position l s = record { place = s.place; segment = segment_of l s }
 
--- the same for each line from a spot onwards
-abbrev pub standings_from : Spot → List Line → List Standing
-standings_from s [] = []
-standings_from s (l ∷ lines) = standing l s ∷ standings_from (passed l.statement s) lines
+-- the same for each line from a location counter onwards
+abbrev pub positions_from : LocationCounter → List Line → List LinePosition
+positions_from s [] = []
+positions_from s (l ∷ lines) = position l s ∷ positions_from (after_statement l.statement s) lines

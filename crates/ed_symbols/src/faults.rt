@@ -5,18 +5,18 @@ ghost use Rattle.ed_symbols.specs.Faults.{any_operand, enters_unknown, is_far};
 ghost use Rattle.ed_symbols.specs.Faults.{is_no_address, is_unknown, sum_of_places, operand_of};
 ghost use Rattle.ed_symbols.specs.Faults.{operand_value, with_more, naming_cause};
 
-use crate::homes::{Home, find_place};
-use crate::spots::Spot;
+use crate::location_counter::LocationCounter;
+use crate::symbols::{Definition, find_place};
 use ed_syntax::{Line, Operand, Setting, SourceCause, Statement};
 
 /// The value of an operand on a line of a segment.
-pub fn value(homes: &[Home], segment: Option<u32>, operand: &Operand) -> Option<i64>
-    ensures { result ≡ operand_value homes.now segment operand.now }
+pub fn value(symbols: &[Definition], segment: Option<u32>, operand: &Operand) -> Option<i64>
+    ensures { result ≡ operand_value symbols.now segment operand.now }
 {
     match operand {
         Operand::Number(number) => Some(i64::from(*number)),
         Operand::Label { name, plus } => {
-            let place = find_place(homes, segment, name)?;
+            let place = find_place(symbols, segment, name)?;
             Some(i64::from(place) + i64::from(*plus))
         }
         Operand::Two {
@@ -24,8 +24,8 @@ pub fn value(homes: &[Home], segment: Option<u32>, operand: &Operand) -> Option<
             second,
             minus,
         } => {
-            let first = i64::from(find_place(homes, segment, first)?);
-            let second = i64::from(find_place(homes, segment, second)?);
+            let first = i64::from(find_place(symbols, segment, first)?);
+            let second = i64::from(find_place(symbols, segment, second)?);
             Some(if *minus {
                 first - second
             } else {
@@ -36,19 +36,19 @@ pub fn value(homes: &[Home], segment: Option<u32>, operand: &Operand) -> Option<
 }
 
 /// Whether an operand has a name that is unknown on its line.
-fn is_unknown(homes: &[Home], segment: Option<u32>, operand: &Operand) -> bool
-    ensures { result ≡ is_unknown homes.now segment operand.now }
+fn is_unknown(symbols: &[Definition], segment: Option<u32>, operand: &Operand) -> bool
+    ensures { result ≡ is_unknown symbols.now segment operand.now }
 {
-    value(homes, segment, operand).is_none()
+    value(symbols, segment, operand).is_none()
 }
 
 /// Whether an operand with a name has a value outside 0 to 1023.
-fn is_outside(homes: &[Home], segment: Option<u32>, operand: &Operand) -> bool
-    ensures { result ≡ is_no_address homes.now segment operand.now }
+fn is_outside(symbols: &[Definition], segment: Option<u32>, operand: &Operand) -> bool
+    ensures { result ≡ is_no_address symbols.now segment operand.now }
 {
     match operand {
         Operand::Number(_) => false,
-        Operand::Label { .. } | Operand::Two { .. } => match value(homes, segment, operand) {
+        Operand::Label { .. } | Operand::Two { .. } => match value(symbols, segment, operand) {
             Some(value) => value < 0 || 1023 < value,
             None => false,
         },
@@ -56,11 +56,11 @@ fn is_outside(homes: &[Home], segment: Option<u32>, operand: &Operand) -> bool
 }
 
 /// Whether the operand of a setting has a name that is unknown on its line.
-fn set_unknown(homes: &[Home], segment: Option<u32>, settings: &[Setting]) -> bool
-    ensures { result ≡ list_any (λ t. is_unknown homes.now segment (operand_of t)) settings.now }
+fn set_unknown(symbols: &[Definition], segment: Option<u32>, settings: &[Setting]) -> bool
+    ensures { result ≡ list_any (λ t. is_unknown symbols.now segment (operand_of t)) settings.now }
 {
     for setting in settings {
-        if is_unknown(homes, segment, &setting.operand) {
+        if is_unknown(symbols, segment, &setting.operand) {
             return true;
         }
     }
@@ -68,11 +68,11 @@ fn set_unknown(homes: &[Home], segment: Option<u32>, settings: &[Setting]) -> bo
 }
 
 /// Whether the operand of a setting has a name and a value outside 0 to 1023.
-fn set_outside(homes: &[Home], segment: Option<u32>, settings: &[Setting]) -> bool
-    ensures { result ≡ list_any (λ t. is_no_address homes.now segment (operand_of t)) settings.now }
+fn set_outside(symbols: &[Definition], segment: Option<u32>, settings: &[Setting]) -> bool
+    ensures { result ≡ list_any (λ t. is_no_address symbols.now segment (operand_of t)) settings.now }
 {
     for setting in settings {
-        if is_outside(homes, segment, &setting.operand) {
+        if is_outside(symbols, segment, &setting.operand) {
             return true;
         }
     }
@@ -80,41 +80,54 @@ fn set_outside(homes: &[Home], segment: Option<u32>, settings: &[Setting]) -> bo
 }
 
 /// Whether an operand of a line, or its `enter`, has a name that is unknown there.
-fn names_unknown(homes: &[Home], segment: Option<u32>, statement: &Option<Statement>) -> bool
-    ensures { result ≡ (any_operand (is_unknown homes.now segment) statement.now
-        || enters_unknown homes.now statement.now) }
+fn names_unknown(
+    symbols: &[Definition],
+    segment: Option<u32>,
+    statement: &Option<Statement>,
+) -> bool
+    ensures { result ≡ (any_operand (is_unknown symbols.now segment) statement.now
+        || enters_unknown symbols.now statement.now) }
 {
     match statement {
-        Some(Statement::Order { operand, .. }) => is_unknown(homes, segment, operand),
-        Some(Statement::Fetch { settings, .. }) => set_unknown(homes, segment, settings),
-        Some(Statement::Enter { name }) => find_place(homes, None, name).is_none(),
+        Some(Statement::Order { operand, .. }) => is_unknown(symbols, segment, operand),
+        Some(Statement::Fetch { settings, .. }) => set_unknown(symbols, segment, settings),
+        Some(Statement::Enter { name }) => find_place(symbols, None, name).is_none(),
         _ => false,
     }
 }
 
 /// Whether an operand of a line has a name and a value outside 0 to 1023.
-fn reaches_outside(homes: &[Home], segment: Option<u32>, statement: &Option<Statement>) -> bool
-    ensures { result ≡ any_operand (is_no_address homes.now segment) statement.now }
+fn reaches_outside(
+    symbols: &[Definition],
+    segment: Option<u32>,
+    statement: &Option<Statement>,
+) -> bool
+    ensures { result ≡ any_operand (is_no_address symbols.now segment) statement.now }
 {
     match statement {
-        Some(Statement::Order { operand, .. }) => is_outside(homes, segment, operand),
-        Some(Statement::Fetch { settings, .. }) => set_outside(homes, segment, settings),
+        Some(Statement::Order { operand, .. }) => is_outside(symbols, segment, operand),
+        Some(Statement::Fetch { settings, .. }) => set_outside(symbols, segment, settings),
         _ => false,
     }
 }
 
 /// The fault of a line with the least number; `again` says whether it defines a name again.
-pub(crate) fn cause_of(homes: &[Home], again: bool, line: &Line, spot: Spot) -> Option<SourceCause>
-    requires place { spot.place ≤ 2 ^ 30 }
-    requires segments { spot.segments ≤ 2000 }
-    ensures { result ≡ naming_cause homes.now again line.now spot }
+pub(crate) fn cause_of(
+    symbols: &[Definition],
+    again: bool,
+    line: &Line,
+    counter: LocationCounter,
+) -> Option<SourceCause>
+    requires place { counter.place ≤ 2 ^ 30 }
+    requires segments { counter.segments ≤ 2000 }
+    ensures { result ≡ naming_cause symbols.now again line.now counter }
 {
-    let segment = spot.passed(&line.statement).segment();
+    let segment = counter.after_statement(&line.statement).segment();
     if again {
         Some(SourceCause::LabelTwice)
-    } else if names_unknown(homes, segment, &line.statement) {
+    } else if names_unknown(symbols, segment, &line.statement) {
         Some(SourceCause::LabelUnknown)
-    } else if reaches_outside(homes, segment, &line.statement) {
+    } else if reaches_outside(symbols, segment, &line.statement) {
         Some(SourceCause::AddressRange)
     } else {
         None

@@ -6,11 +6,11 @@
 #![tactic(auto)]
 
 mod faults;
-mod homes;
+mod location_counter;
 mod places;
-mod spots;
+mod symbols;
 
 pub use faults::value;
-pub use homes::{Home, find_home, find_place, is_local};
+pub use location_counter::{LocationCounter, even};
 pub use places::{Places, resolve};
-pub use spots::{Spot, even};
+pub use symbols::{Definition, find_definition, find_place, is_local};

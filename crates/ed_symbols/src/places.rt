@@ -1,13 +1,13 @@
 ghost use Rattle.std.specs.Prelude.{◌≡◌, ◌-◌, ◌≤◌, IfOk, None, [], length};
 ghost use Rattle.ed_symbols.specs.Faults.{naming_fault_from, resolved};
 ghost use Rattle.ed_symbols.specs.NameFaults.{EachHasOneNameFault, NameFaultIs};
-ghost use Rattle.ed_symbols.specs.Names.{home_of, homes_from, place_on};
-ghost use Rattle.ed_symbols.specs.Places.{first_spot, standings_from};
-ghost use Rattle.ed_symbols.specs.Readers.{line_place, line_segment, standing_at};
+ghost use Rattle.ed_symbols.specs.Names.{definition_of, symbols_from, place_on};
+ghost use Rattle.ed_symbols.specs.Places.{first_counter, positions_from};
+ghost use Rattle.ed_symbols.specs.Readers.{line_place, line_segment, position_at};
 
 use crate::faults::cause_of;
-use crate::homes::{Home, add_line, find_home, find_place};
-use crate::spots::{Spot, Standing, standing_of};
+use crate::location_counter::{LinePosition, LocationCounter, position_of};
+use crate::symbols::{Definition, add_line, find_definition, find_place};
 use ed_syntax::{Name, Program, SourceFault};
 use ed_words::NoMemory;
 use std::alloc::Global;
@@ -16,8 +16,8 @@ use std::marker::Model;
 /// The locations of a source's lines and names, and the first fault of its names.
 #[derive(Drop)]
 pub struct Places {
-    standings: Vec<Standing>,
-    homes: Vec<Home>,
+    positions: Vec<LinePosition>,
+    symbols: Vec<Definition>,
     fault: Option<SourceFault>,
 }
 
@@ -26,45 +26,48 @@ impl Model for Places {
 
     ghost Value = { Resolved };
 
-    ghost view = { λ p. record { standings = p.standings.items; homes = p.homes.items; fault = p.fault } };
+    ghost view = { λ p. record { positions = p.positions.items; symbols = p.symbols.items; fault = p.fault } };
 }
 
 /// The locations of a program's lines, and what they define.
-fn resolve_places(alloc: Global, program: &Program) -> Result<(Vec<Standing>, Vec<Home>), NoMemory>
-    ensures standings { IfOk result (λ r. r.0.items ≡ standings_from first_spot program.now.lines.items) }
-    ensures homes { IfOk result (λ r. r.1.items ≡ homes_from first_spot program.now.lines.items) }
+fn resolve_places(
+    alloc: Global,
+    program: &Program,
+) -> Result<(Vec<LinePosition>, Vec<Definition>), NoMemory>
+    ensures positions { IfOk result (λ r. r.0.items ≡ positions_from first_counter program.now.lines.items) }
+    ensures symbols { IfOk result (λ r. r.1.items ≡ symbols_from first_counter program.now.lines.items) }
     ensures lines { IfOk result (λ r. length r.0.items ≡ length program.now.lines.items) }
 {
-    let mut standings = Vec::new(alloc);
-    let mut homes = Vec::new(alloc);
-    let mut spot = Spot::first();
+    let mut positions = Vec::new(alloc);
+    let mut symbols = Vec::new(alloc);
+    let mut counter = LocationCounter::first();
     for line in &program.lines {
-        standings.push(standing_of(line, spot))?;
-        let _ = add_line(&mut homes, line, spot)?;
-        spot = spot.passed(&line.statement);
+        positions.push(position_of(line, counter))?;
+        let _ = add_line(&mut symbols, line, counter)?;
+        counter = counter.after_statement(&line.statement);
     }
-    Ok((standings, homes))
+    Ok((positions, symbols))
 }
 
 /// The first fault of a program's names.
 fn find_fault(
     alloc: Global,
-    homes: &[Home],
+    symbols: &[Definition],
     program: &Program,
 ) -> Result<Option<SourceFault>, NoMemory>
-    ensures { IfOk result (λ fault. fault ≡ naming_fault_from homes.now [] first_spot program.now.lines.items) }
+    ensures { IfOk result (λ fault. fault ≡ naming_fault_from symbols.now [] first_counter program.now.lines.items) }
 {
     let mut earlier = Vec::new(alloc);
-    let mut spot = Spot::first();
+    let mut counter = LocationCounter::first();
     for line in &program.lines {
-        let again = add_line(&mut earlier, line, spot)?;
-        if let Some(cause) = cause_of(homes, again, line, spot) {
+        let again = add_line(&mut earlier, line, counter)?;
+        if let Some(cause) = cause_of(symbols, again, line, counter) {
             return Ok(Some(SourceFault::At {
                 line: line.number,
                 cause,
             }));
         }
-        spot = spot.passed(&line.statement);
+        counter = counter.after_statement(&line.statement);
     }
     Ok(None)
 }
@@ -75,78 +78,78 @@ pub fn resolve(alloc: Global, program: &Program) -> Result<Places, NoMemory>
     ensures fault { IfOk result (λ p. NameFaultIs program.now.lines.items p.fault) }
     ensures one { EachHasOneNameFault }
     ensures is { IfOk result (λ p. p ≡ resolved program.now.lines.items) }
-    ensures lines { IfOk result (λ p. length p.standings ≡ length program.now.lines.items) }
+    ensures lines { IfOk result (λ p. length p.positions ≡ length program.now.lines.items) }
 {
-    let (standings, homes) = resolve_places(alloc, program)?;
-    let fault = find_fault(alloc, &homes, program)?;
+    let (positions, symbols) = resolve_places(alloc, program)?;
+    let fault = find_fault(alloc, &symbols, program)?;
     Ok(Places {
-        standings,
-        homes,
+        positions,
+        symbols,
         fault,
     })
 }
 
 impl Places {
     /// What the source defines, in its order: the labels, the names of segments and the second names of `use` lines.
-    pub fn homes(&self) -> &[Home]
-        ensures { result.now ≡ self.now.homes }
+    pub fn symbols(&self) -> &[Definition]
+        ensures { result.now ≡ self.now.symbols }
     {
-        self.homes.as_slice()
+        self.symbols.as_slice()
     }
 
     /// The location and the segment of a line.
-    fn standing(&self, line: u32) -> Standing
+    fn position(&self, line: u32) -> LinePosition
         requires from_one { 1 ≤ line }
-        requires of_the_program { line ≤ length self.now.standings }
-        ensures { result ≡ standing_at self.now line }
+        requires of_the_program { line ≤ length self.now.positions }
+        ensures { result ≡ position_at self.now line }
     {
-        self.standings[(line - 1) as usize]
+        self.positions[(line - 1) as usize]
     }
 
     /// The location before a line. The line is one of the program, counted from 1.
     pub fn line_place(&self, line: u32) -> u32
         requires from_one { 1 ≤ line }
-        requires of_the_program { line ≤ length self.now.standings }
+        requires of_the_program { line ≤ length self.now.positions }
         ensures { result ≡ line_place self.now line }
     {
-        self.standing(line).place
+        self.position(line).place
     }
 
     /// The number of the segment to which a line belongs, if it belongs to one. The line is one of the program, counted
     /// from 1.
     pub fn line_segment(&self, line: u32) -> Option<u32>
         requires from_one { 1 ≤ line }
-        requires of_the_program { line ≤ length self.now.standings }
+        requires of_the_program { line ≤ length self.now.positions }
         ensures { result ≡ line_segment self.now line }
     {
-        self.standing(line).segment
+        self.position(line).segment
     }
 
     /// The location of a name that isn't local, by its first definition; None for a local name.
     pub fn label(&self, name: &Name) -> Option<u32>
-        ensures { result ≡ place_on self.now.homes None name.now }
+        ensures { result ≡ place_on self.now.symbols None name.now }
     {
-        find_place(&self.homes, None, name)
+        find_place(&self.symbols, None, name)
     }
 
     /// The location of a name on a line of the program, counted from 1. A local name has one on the lines of a segment
     /// that defines it.
     pub fn label_at(&self, line: u32, name: &Name) -> Option<u32>
         requires from_one { 1 ≤ line }
-        requires of_the_program { line ≤ length self.now.standings }
-        ensures { result ≡ place_on self.now.homes (line_segment self.now line) name.now }
+        requires of_the_program { line ≤ length self.now.positions }
+        ensures { result ≡ place_on self.now.symbols (line_segment self.now line) name.now }
     {
-        find_place(&self.homes, self.line_segment(line), name)
+        find_place(&self.symbols, self.line_segment(line), name)
     }
 
     /// The definition of a name that a line sees, with the number of the segment to which the name belongs. The line is
     /// one of the program, counted from 1.
-    pub fn home_at(&self, line: u32, name: &Name) -> Option<Home>
+    pub fn home_at(&self, line: u32, name: &Name) -> Option<Definition>
         requires from_one { 1 ≤ line }
-        requires of_the_program { line ≤ length self.now.standings }
-        ensures { result ≡ home_of (line_segment self.now line) name.now self.now.homes }
+        requires of_the_program { line ≤ length self.now.positions }
+        ensures { result ≡ definition_of (line_segment self.now line) name.now self.now.symbols }
     {
-        find_home(&self.homes, self.line_segment(line), name)
+        find_definition(&self.symbols, self.line_segment(line), name)
     }
 
     /// The first of the faults S6 to S8 by line and then number, if there is one.

@@ -26,30 +26,30 @@ pub(crate) struct OpenQuote;
 
 /// Why a line has no parts.
 #[derive(Clone, Copy)]
-pub(crate) enum PartsFault {
+pub(crate) enum QuoteFault {
     OpenQuote,
     Memory,
 }
 
-impl From<OpenQuote> for PartsFault {
+impl From<OpenQuote> for QuoteFault {
     ghost use Rattle.std.specs.Prelude.{◌≡◌};
-    ghost use Rattle.ed_syntax.specs.declared.parts.PartsFault.TheVariants.{OpenQuote};
+    ghost use Rattle.ed_syntax.specs.declared.parts.QuoteFault.TheVariants.{OpenQuote};
 
     ghost from_gives = { λ _ e. e ≡ OpenQuote };
 
-    fn from(_open: OpenQuote) -> PartsFault {
-        PartsFault::OpenQuote
+    fn from(_open: OpenQuote) -> QuoteFault {
+        QuoteFault::OpenQuote
     }
 }
 
-impl<T: Drop> From<AllocFailed<T>> for PartsFault {
+impl<T: Drop> From<AllocFailed<T>> for QuoteFault {
     ghost use Rattle.std.specs.Prelude.{◌≡◌};
-    ghost use Rattle.ed_syntax.specs.declared.parts.PartsFault.TheVariants.{Memory};
+    ghost use Rattle.ed_syntax.specs.declared.parts.QuoteFault.TheVariants.{Memory};
 
     ghost from_gives = { λ _ e. e ≡ Memory };
 
-    fn from(_failed: AllocFailed<T>) -> PartsFault {
-        PartsFault::Memory
+    fn from(_failed: AllocFailed<T>) -> QuoteFault {
+        QuoteFault::Memory
     }
 }
 
@@ -154,9 +154,9 @@ fn next_part<'a>(line: &'a [u8]) -> Result<Option<(Part<'a>, &'a [u8])>, OpenQuo
 }
 
 /// The parts of a line.
-pub(crate) fn parts_of<'a>(alloc: Global, line: &'a [u8]) -> Result<Vec<Part<'a>>, PartsFault>
+pub(crate) fn parts_of<'a>(alloc: Global, line: &'a [u8]) -> Result<Vec<Part<'a>>, QuoteFault>
     ensures some { IfOk result (λ v. parts_of line.entry.now ≡ Some (map part v.items)) }
-    ensures none { IfErr result (λ e. e ≡ PartsFault.OpenQuote → parts_of line.entry.now ≡ None) }
+    ensures none { IfErr result (λ e. e ≡ QuoteFault.OpenQuote → parts_of line.entry.now ≡ None) }
 {
     let mut parts = Vec::new(alloc);
     let mut rest = line;

@@ -12,7 +12,7 @@ ghost use Rattle.ed_syntax.specs.Parts.{is_line_byte};
 ghost use Rattle.ed_syntax.specs.Private.SourceReading.{is_two, line_of, lines_from, or_cause, program_of, version_of};
 
 use crate::fault::FormFault;
-use crate::parts::{PartsFault, parts_of};
+use crate::parts::{QuoteFault, parts_of};
 use crate::program::Form;
 use crate::statements::{form_at, is_version_two};
 use crate::{Line, Program, SourceCause, SourceFault, Version};
@@ -38,16 +38,16 @@ impl LineFault {
     }
 }
 
-impl From<PartsFault> for LineFault {
+impl From<QuoteFault> for LineFault {
     ghost use Rattle.std.specs.Prelude.{◌≡◌};
     ghost use Rattle.ed_syntax.specs.Private.Answers.{parts_fault};
 
     ghost from_gives = { λ fault e. e ≡ parts_fault fault };
 
-    fn from(fault: PartsFault) -> LineFault {
+    fn from(fault: QuoteFault) -> LineFault {
         match fault {
-            PartsFault::OpenQuote => LineFault::Of(SourceCause::NotAStatement),
-            PartsFault::Memory => LineFault::Memory,
+            QuoteFault::OpenQuote => LineFault::Of(SourceCause::NotAStatement),
+            QuoteFault::Memory => LineFault::Memory,
         }
     }
 }
@@ -121,8 +121,8 @@ fn version_of(alloc: Global, text: &[u8]) -> Result<Version, NoMemory>
     let (line, _) = split_line(text);
     match parts_of(alloc, line) {
         Ok(parts) if is_version_two(&parts) => Ok(Version::Two),
-        Ok(_) | Err(PartsFault::OpenQuote) => Ok(Version::One),
-        Err(PartsFault::Memory) => Err(NoMemory),
+        Ok(_) | Err(QuoteFault::OpenQuote) => Ok(Version::One),
+        Err(QuoteFault::Memory) => Err(NoMemory),
     }
 }
 

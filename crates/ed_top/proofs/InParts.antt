@@ -3,7 +3,7 @@ use Rattle.std.proofs.Common.{◌≡◌, ◌∙◌, ℕ, List, [], refl, sym, ap
 use Rattle.std.specs.Prelude.{Ok, Err}
 use Rattle.ed_machine.specs.State.{State}
 use Rattle.ed_loads.specs.EntryState.{first_state}
-use Rattle.ed_parts.specs.Parts.{PartsAnswer, TapeTells, Told, parts_faults}
+use Rattle.ed_parts.specs.Parts.{PartsAnswer, IsReportOfTape, PartsReport, parts_faults}
 use Rattle.ed_parts.specs.declared.tape.PartsEnd.{PartsEnd}
 use Rattle.ed_parts.specs.declared.tape.PartsFault.{PartsFault}
 use Rattle.ed_parts.specs.declared.tape.PartsFault.TheVariants as parts
@@ -11,7 +11,7 @@ use Rattle.ed_parts.proofs.Tales.{each_told_once}
 use Rattle.ed_command.specs.declared.command.Settings.{Settings}
 use Rattle.ed_answers.specs.Answer.{Answer, of_input}
 use Rattle.ed_top.specs.Clause.{Device, Wrote, WrotePart}
-use Rattle.ed_top.specs.Parts.{IsInParts, end_note, end_status, told_outcome}
+use Rattle.ed_top.specs.Parts.{IsInParts, end_note, end_status, report_outcome}
 use Rattle.ed_top.specs.Private.Stages.{Carried, IsToTell, parts_stop}
 use Rattle.ed_answers.specs.Replies.{ForInput}
 use Rattle.ed_answers.proofs.Replies.{HasOne}
@@ -21,16 +21,16 @@ pub parts_one : (s : Settings) → HasOne (IsInParts s)
 parts_one s = record {
   some = λ codes.
       let one = (each_told_once s.limit (first_state s.size codes)).some in
-      (told_outcome one.0, record { told = one.0; tells = one.1; outcome = refl });
+      (report_outcome one.0, record { told = one.0; tells = one.1; outcome = refl });
   once = λ codes o other p q.
       let same = (each_told_once s.limit (first_state s.size codes)).once p.told q.told p.tells q.tells in
-      sym p.outcome ∙ ap told_outcome same ∙ q.outcome;
+      sym p.outcome ∙ ap report_outcome same ∙ q.outcome;
 }
 
 module _ (s : Settings) (codes : List ℕ) {start : State} (is : start ≡ first_state s.size codes) (out : Device) where
-  due : (t : Told) → TapeTells s.limit start t → IsInParts s codes (told_outcome t)
+  due : (t : PartsReport) → IsReportOfTape s.limit start t → IsInParts s codes (report_outcome t)
   due t tells =
-      record { told = t; tells = subst (λ (x : State). TapeTells s.limit x t) is tells; outcome = refl }
+      record { told = t; tells = subst (λ (x : State). IsReportOfTape s.limit x t) is tells; outcome = refl }
 
   -- the run ended, and its lines are on `out`
   pub parts_told : {end : PartsEnd} {last : State} {note : List ℕ} {status : ℕ}
@@ -38,7 +38,7 @@ module _ (s : Settings) (codes : List ℕ) {start : State} (is : start ≡ first
       → note ≡ end_note end last → status ≡ end_status end
       → ForInput (of_input (λ _. IsInParts s codes)) [] (IsToTell out note status)
   parts_told a note_is status_is = (
-    told_outcome a.0,
+    report_outcome a.0,
     due a.0 a.1,
     record {
       wrote = a.4;
@@ -51,7 +51,7 @@ module _ (s : Settings) (codes : List ℕ) {start : State} (is : start ≡ first
   pub parts_untold : {end : PartsEnd} {last : State} → PartsAnswer s.limit start (Ok end) last out.before out.after
       → ForInput (of_input (λ _. IsInParts s codes)) [] (λ o. WrotePart out o.out)
   parts_untold a = (
-    told_outcome a.0,
+    report_outcome a.0,
     due a.0 a.1,
     record {
       part = a.0.text;
@@ -65,7 +65,7 @@ module _ (s : Settings) (codes : List ℕ) {start : State} (is : start ≡ first
   pub parts_broken : (fault : PartsFault) (last : State)
       → PartsAnswer s.limit start (Err fault) last out.before out.after
       → ForInput (of_input (λ _. IsInParts s codes)) [] (λ o. WrotePart out o.out)
-  parts_broken fault last a = (told_outcome a.0, due a.0 a.1, a.2)
+  parts_broken fault last a = (report_outcome a.0, due a.0 a.1, a.2)
 
 -- nothing was written
 pub parts_none : (s : Settings) (codes : List ℕ) (out : Device) → Wrote out []

@@ -10,7 +10,7 @@ use Rattle.ed_words.specs.Words.{function_of}
 use Rattle.ed_codes.specs.Spelling.{byte_of}
 use Rattle.ed_machine.specs.State.{State}
 use Rattle.ed_machine.specs.OrderTable.{next_word}
-use Rattle.ed_machine.specs.Steps.{IsFree, past, state_after}
+use Rattle.ed_machine.specs.Steps.{AreObeyed, progress, state_after}
 use Rattle.ed_machine.specs.declared.ending.Ending.TheVariants.{Limit}
 use Rattle.ed_machine.proofs.Counts.{counted_after}
 use Rattle.ed_machine.proofs.Steps.{after_sum, few_codes, free_sum}
@@ -21,10 +21,11 @@ use Rattle.ed_run.proofs.Places.{at_limit}
 use Rattle.ed_loads.specs.EntryState.{first_state}
 use Rattle.ed_report.specs.Listings.{listing}
 use Rattle.ed_report.specs.Notes.{ending_line}
-use Rattle.ed_report.specs.Traces.{functions_after, is_full, last_end, letters_from, line_end, trace_text, traced_letter}
+use Rattle.ed_report.specs.Traces.{functions_after, is_full, last_end, letters_from, line_end, trace_text}
+use Rattle.ed_report.specs.Traces.{traced_letter}
 use Rattle.ed_stepper.specs.Sessions.{Stand, left}
 use Rattle.ed_stepper.specs.MoveEnds.{move_orders}
-use Rattle.ed_stepper.specs.declared.moves.Aim.TheVariants.{Orders}
+use Rattle.ed_stepper.specs.declared.moves.MoveTarget.TheVariants.{Orders}
 use Rattle.ed_trace.specs.Traces.{trace_to}
 use Rattle.ed_command.specs.declared.command.Settings.{Settings}
 use Rattle.ed_answers.specs.Runs.{paper_room, ran_outcome, run_of, with_post_mortem}
@@ -37,9 +38,9 @@ use Rattle.ed_stepper.proofs.Stands.{Keeps, left_keeps, move_free}
 -- ---- a run that is cut off
 
 -- it is in the state after as many orders, each of them obeyed
-run_cut : (k resumes room : ℕ) (s : State) → HasRoom room k s → (past k s).stops ≤ resumes
+run_cut : (k resumes room : ℕ) (s : State) → HasRoom room k s → (progress k s).stops ≤ resumes
     → (run_orders k resumes room s ≡ k)
-    × (ran k resumes room s ≡ record { ending = Limit; state = state_after k s; codes = (past k s).codes })
+    × (ran k resumes room s ≡ record { ending = Limit; state = state_after k s; codes = (progress k s).codes })
 run_cut k resumes room s fits few =
     let ends = at_limit k resumes fits few in
     ((ends_once (ran_ends k resumes room s) ends).0, ran_is k resumes room k s Limit ends)
@@ -128,22 +129,27 @@ module _ (s : Settings) (rows : List ℕ) (resumes : ℕ) where
   after n = record (stand_on s rows) { done = n }
 
   -- the run of `trace`, whose paper is never full
-  trace_cut : (n : ℕ) → IsFree n first → (past n first).stops ≤ resumes
+  trace_cut : (n : ℕ) → AreObeyed n first → (progress n first).stops ≤ resumes
       → (run_orders n resumes n first ≡ n)
-      × (ran n resumes n first ≡ record { ending = Limit; state = state_after n first; codes = (past n first).codes })
+      × (ran n resumes n first ≡ record {
+        ending = Limit;
+        state = state_after n first;
+        codes =
+            (progress n first).codes;
+      })
   trace_cut n free few =
       run_cut n resumes n first (record { obeyed = free; printed = few_codes n first }) few
 
-  module _ (n : ℕ) (free : IsFree n first) (most : n ≤ s.limit) (few : (past n first).stops ≤ resumes) where
+  module _ (n : ℕ) (free : AreObeyed n first) (most : n ≤ s.limit) (few : (progress n first).stops ≤ resumes) where
     count : (state_after n first).orders ≡ n
     count = counted_after n first free ∙ ap (λ m. m + n) (none_done s.size rows) ∙ omega arith
 
     note_there : ending_line Limit (state_after n first) ≡ limit_note (after n)
     note_there = ap (λ m. ending_line Limit (record (state_after n first) { orders = m })) count
 
-    tape_cut : length (past n first).codes ≤ paper_room
+    tape_cut : length (progress n first).codes ≤ paper_room
         → run_of (cut_at (after n) resumes s) rows
-        ≡ record { ending = Limit; state = state_after n first; codes = (past n first).codes }
+        ≡ record { ending = Limit; state = state_after n first; codes = (progress n first).codes }
     tape_cut room = (run_cut n resumes paper_room first (record { obeyed = free; printed = room }) few).1
 
     steps_there : StepsAreRun s rows (after n) resumes
@@ -162,7 +168,8 @@ module _ (s : Settings) (rows : List ℕ) (resumes : ℕ) where
           let cut = λ (j : ℕ). trace_to j first in
           ap (λ j. letters_in (cut j)) (trace_cut (n + k) both more).0
           ∙ letters_sum n k first
-          ∙ ap (λ j. letters_in (cut j) ++ letters_in (trace_to k (state_after n first))) (sym (trace_cut n free few).0);
+          ∙ ap (λ j. letters_in (cut j) ++ letters_in
+          (trace_to k (state_after n first))) (sym (trace_cut n free few).0);
       ends = λ aim ending is fits. run_ends s.limit paper_room n first free most aim ending fits is;
     }
 
@@ -171,8 +178,8 @@ each_step_is_run s commands rows t resumes left few =
     let k : Keeps (stand_on s rows) t = left_keeps refl left in
     let there : record (stand_on s rows) { done = t.done } ≡ t =
     (λ i. record { start = sym k.start i; limit = sym k.limit i; done = t.done }) in
-    let free : IsFree t.done (first_state s.size rows) = subst (λ (x : State). IsFree t.done x) k.start k.free in
-    let stops : (past t.done (first_state s.size rows)).stops ≤ resumes =
-    subst (λ (x : State). (past t.done x).stops ≤ resumes) k.start few in
+    let free : AreObeyed t.done (first_state s.size rows) = subst (λ (x : State). AreObeyed t.done x) k.start k.free in
+    let stops : (progress t.done (first_state s.size rows)).stops ≤ resumes =
+    subst (λ (x : State). (progress t.done x).stops ≤ resumes) k.start few in
     let most : t.done ≤ s.limit = omega (arith, k.most, k.limit) in
     subst (λ (u : Stand). StepsAreRun s rows u resumes) there (steps_there s rows resumes t.done free most stops)

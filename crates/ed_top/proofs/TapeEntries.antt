@@ -16,17 +16,17 @@ use Rattle.ed_notation.specs.declared.kind.RowKind.{RowKind}
 use Rattle.ed_notation.specs.declared.kind.RowKind.TheVariants.{Digit, Mark, Zed, Kay, Blank, Letter, Other}
 use Rattle.ed_notation.specs.declared.kind.Control.{Control}
 use Rattle.ed_notation.specs.declared.kind.Control.TheVariants.{Directive, ThetaByBlank, ThetaByG, Neither}
-use Rattle.ed_notation.specs.declared.reader.Setting.{Setting}
-use Rattle.ed_notation.specs.declared.reader.Part.{Part}
-use Rattle.ed_notation.specs.declared.reader.Taken.{Taken}
-use Rattle.ed_notation.specs.declared.reader.Taken.TheVariants.{Refused, Longer, Ended, Placed, Entered}
+use Rattle.ed_notation.specs.declared.reader.DirectiveState.{DirectiveState}
+use Rattle.ed_notation.specs.declared.reader.PartialItem.{PartialItem}
+use Rattle.ed_notation.specs.declared.reader.RowEffect.{RowEffect}
+use Rattle.ed_notation.specs.declared.reader.RowEffect.TheVariants.{Refused, Longer, Ended, Placed, Entered}
 use Rattle.ed_notation.specs.Items.{row_kind}
-use Rattle.ed_notation.specs.Fold.{Note, aim_of, control_of, over, value_of, word_with}
+use Rattle.ed_notation.specs.Fold.{NotationState, letter_action_of, control_of, over, value_of, word_with}
 use Rattle.ed_notation.specs.Faults.{TapeEntry, ComesTo, WellFormed, is_place}
 use Rattle.ed_notation.specs.Openings.{IsDirective, opening}
-use Rattle.ed_notation.specs.Reading.{Verdict, Arrived, Faulty, part_word, reading_on, setting_of, taken}
+use Rattle.ed_notation.specs.Reading.{Verdict, Arrived, Faulty, part_word, reading_on, setting_of, row_effect}
 use Rattle.ed_notation.specs.Reading.{kay_sets, zed_sets}
-use Rattle.ed_notation.specs.Reading.{letter_taken, entry_by, part_of, set_by, placed_by}
+use Rattle.ed_notation.specs.Reading.{letter_effect, entry_by, part_of, set_by, placed_by}
 use Rattle.ed_notation.proofs.Laws.{reading_is_rules}
 use Rattle.ed_initial.specs.Entry.{Comes}
 use Rattle.ed_initial.proofs.Quiet.{LeadsIn, comes_in}
@@ -89,37 +89,39 @@ letter_from c =
     by_tests false false false false false false h is k = absurd (cc)
 
 -- an entry comes only at a code letter
-abbrev is_entered : Taken → Bool
+abbrev is_entered : RowEffect → Bool
 is_entered (Entered at) = true
 is_entered (Refused cause) = false
 is_entered (Longer part k) = false
 is_entered (Ended setting k) = false
 is_entered (Placed at word) = false
 
-neither : (b : Bool) (t u : Taken) → is_entered t ≡ false → is_entered u ≡ false
+neither : (b : Bool) (t u : RowEffect) → is_entered t ≡ false → is_entered u ≡ false
     → is_entered (if b then t else u) ≡ false
 neither true t u first second = first
 neither false t u first second = second
 
-digit_goes_on : (b : Bool) (part : Part)
+digit_goes_on : (b : Bool) (part : PartialItem)
     → is_entered (if b then Refused NumberTooLarge else Longer part 9) ≡ false
 digit_goes_on b part = neither b (Refused NumberTooLarge) (Longer part 9) refl refl
 
-kay_goes_on : (c : Control) (setting : Setting) (part : Part) → is_entered (kay_sets c setting part) ≡ false
+kay_goes_on : (c : Control) (setting : DirectiveState) (part : PartialItem)
+    → is_entered (kay_sets c setting part) ≡ false
 kay_goes_on Directive setting part = neither (nat_lt 1023 part.number) _ _ refl refl
 kay_goes_on Neither setting part = refl
 kay_goes_on ThetaByBlank setting part = neither (nat_lt 1023 part.number) _ _ refl refl
 kay_goes_on ThetaByG setting part = neither (nat_lt 1023 part.number) _ _ refl refl
 
-zed_goes_on : (c : Control) (setting : Setting) (part : Part) → is_entered (zed_sets c setting part) ≡ false
+zed_goes_on : (c : Control) (setting : DirectiveState) (part : PartialItem)
+    → is_entered (zed_sets c setting part) ≡ false
 zed_goes_on Directive setting part =
     neither (is_place (4096 * part.function + 2 * part.number + setting.theta)) _ _ refl refl
 zed_goes_on ThetaByBlank setting part = neither (nat_le 65536 (2 * part.number + setting.theta)) _ _ refl refl
 zed_goes_on ThetaByG setting part = refl
 zed_goes_on Neither setting part = refl
 
-goes_on : (z : Size) (k : RowKind) (contents : List ℕ) (setting : Setting) (part : Part) (c : ℕ)
-    → is_entered (taken z k contents setting part c) ≡ true → k ≡ Letter
+goes_on : (z : Size) (k : RowKind) (contents : List ℕ) (setting : DirectiveState) (part : PartialItem) (c : ℕ)
+    → is_entered (row_effect z k contents setting part c) ≡ true → k ≡ Letter
 goes_on z Letter contents setting part c h = refl
 goes_on z Digit contents setting part c h =
     absurd (true≢false (sym h ∙ neither part.mark _ _ refl (digit_goes_on (nat_lt 32767 (10 * part.number + c)) _)))
@@ -131,10 +133,10 @@ goes_on z Kay contents setting part c h =
 goes_on z Blank contents setting part c h = absurd (true≢false (sym h ∙ neither part.blank _ _ refl refl))
 goes_on z Other contents setting part c h = absurd (true≢false (sym h))
 
-taken_agrees : (z : Size) (k : RowKind) (v w : List ℕ) (setting : Setting) (part : Part) (c : ℕ)
+taken_agrees : (z : Size) (k : RowKind) (v w : List ℕ) (setting : DirectiveState) (part : PartialItem) (c : ℕ)
     → (k ≡ Letter → part_word v setting part c ≡ part_word w setting part c)
-    → taken z k v setting part c ≡ taken z k w setting part c
-taken_agrees z Letter v w setting part c h = ap (letter_taken z (aim_of setting.directive) setting) (h refl)
+    → row_effect z k v setting part c ≡ row_effect z k w setting part c
+taken_agrees z Letter v w setting part c h = ap (letter_effect z (letter_action_of setting.directive) setting) (h refl)
 taken_agrees z Digit v w setting part c h = refl
 taken_agrees z Mark v w setting part c h = refl
 taken_agrees z Zed v w setting part c h = refl
@@ -143,61 +145,66 @@ taken_agrees z Blank v w setting part c h = refl
 taken_agrees z Other v w setting part c h = refl
 
 -- the result of the reading at a row inside an item
-abbrev on_row : Size → List ℕ → ℕ → ℕ → Note → Part → ℕ → List ℕ → Taken → Verdict
-on_row z words row cost note part c rows t = elim t [
+abbrev on_row : Size → List ℕ → ℕ → ℕ → NotationState → PartialItem → ℕ → List ℕ → RowEffect → Verdict
+on_row z words row cost notation part c rows t = elim t [
   | Refused cause ↦ Faulty row cause
-  | Longer longer k ↦ reading_on z words (row + 1) (cost + k) note (Some longer) rows
-  | Ended setting k ↦ reading_on z words (row + 1) (cost + k) (set_by setting note) None rows
-  | Placed at word ↦ reading_on z words (row + 1) (cost + 17) (placed_by at word note) None rows
-  | Entered at ↦ Arrived (entry_by words row cost note part c rows at)
+  | Longer longer k ↦ reading_on z words (row + 1) (cost + k) notation (Some longer) rows
+  | Ended setting k ↦ reading_on z words (row + 1) (cost + k) (set_by setting notation) None rows
+  | Placed at word ↦ reading_on z words (row + 1) (cost + 17) (placed_by at word notation) None rows
+  | Entered at ↦ Arrived (entry_by words row cost notation part c rows at)
 ]
 
-row_agrees : (z : Size) (v w : List ℕ) (row cost : ℕ) (note : Note) (part : Part) (c : ℕ) (rows : List ℕ) (t : Taken)
-    → ((n k : ℕ) (m : Note) (p : Option Part) → reading_on z v n k m p rows ≡ reading_on z w n k m p rows)
+row_agrees : (z : Size) (v w : List ℕ) (row cost : ℕ) (notation : NotationState) (part : PartialItem) (c : ℕ)
+    (rows : List ℕ) (t : RowEffect)
+    → ((n k : ℕ) (m : NotationState) (p : Option PartialItem)
+    → reading_on z v n k m p rows ≡ reading_on z w n k m p rows)
     → (is_entered t ≡ true
-    → part_word (over note.placed v) (setting_of note) part c ≡ part_word (over note.placed w) (setting_of note) part c)
-    → on_row z v row cost note part c rows t ≡ on_row z w row cost note part c rows t
-row_agrees z v w row cost note part c rows (Refused cause) ih same = refl
-row_agrees z v w row cost note part c rows (Longer longer k) ih same = ih (row + 1) (cost + k) note (Some longer)
-row_agrees z v w row cost note part c rows (Ended setting k) ih same =
-    ih (row + 1) (cost + k) (set_by setting note) None
-row_agrees z v w row cost note part c rows (Placed at word) ih same =
-    ih (row + 1) (cost + 17) (placed_by at word note) None
-row_agrees z v w row cost note part c rows (Entered at) ih same =
-    ap (λ word. Arrived (record (entry_by v row cost note part c rows at) { word = word })) (same refl)
+    → part_word (over notation.placed v) (setting_of notation) part c
+    ≡ part_word (over notation.placed w) (setting_of notation) part c)
+    → on_row z v row cost notation part c rows t ≡ on_row z w row cost notation part c rows t
+row_agrees z v w row cost notation part c rows (Refused cause) ih same = refl
+row_agrees z v w row cost notation part c rows (Longer longer k) ih same =
+    ih (row + 1) (cost + k) notation (Some longer)
+row_agrees z v w row cost notation part c rows (Ended setting k) ih same =
+    ih (row + 1) (cost + k) (set_by setting notation) None
+row_agrees z v w row cost notation part c rows (Placed at word) ih same =
+    ih (row + 1) (cost + 17) (placed_by at word notation) None
+row_agrees z v w row cost notation part c rows (Entered at) ih same =
+    ap (λ word. Arrived (record (entry_by v row cost notation part c rows at) { word = word })) (same refl)
 
-reading_agrees : (z : Size) (v w : List ℕ) → Agree v w → (rows : List ℕ) (row cost : ℕ) (note : Note) (part : Option Part)
-    → reading_on z v row cost note part rows ≡ reading_on z w row cost note part rows
+reading_agrees : (z : Size) (v w : List ℕ) → Agree v w
+    → (rows : List ℕ) (row cost : ℕ) (notation : NotationState) (part : Option PartialItem)
+    → reading_on z v row cost notation part rows ≡ reading_on z w row cost notation part rows
 unfolding reading_on
-reading_agrees z v w h [] row cost note part = refl
-reading_agrees z v w h (f ∷ rows) row cost note None =
-    by_test (nat_lt f 32) (reading_agrees z v w h rows (row + 1) (cost + 6) note (Some (part_of f)))
+reading_agrees z v w h [] row cost notation part = refl
+reading_agrees z v w h (f ∷ rows) row cost notation None =
+    by_test (nat_lt f 32) (reading_agrees z v w h rows (row + 1) (cost + 6) notation (Some (part_of f)))
   where
     by_test : (b : Bool)
-        → reading_on z v (row + 1) (cost + 6) note (Some (part_of f)) rows
-        ≡ reading_on z w (row + 1) (cost + 6) note (Some (part_of f)) rows
+        → reading_on z v (row + 1) (cost + 6) notation (Some (part_of f)) rows
+        ≡ reading_on z w (row + 1) (cost + 6) notation (Some (part_of f)) rows
         → ◌≡◌ {A = Verdict}
         (elim b [
-          | true ↦ reading_on z v (row + 1) (cost + 6) note (Some (part_of f)) rows
+          | true ↦ reading_on z v (row + 1) (cost + 6) notation (Some (part_of f)) rows
           | false ↦ Faulty row BadRow
         ])
         (elim b [
-          | true ↦ reading_on z w (row + 1) (cost + 6) note (Some (part_of f)) rows
+          | true ↦ reading_on z w (row + 1) (cost + 6) notation (Some (part_of f)) rows
           | false ↦ Faulty row BadRow
         ])
     by_test true ih = ih
     by_test false ih = refl
-reading_agrees z v w h (c ∷ rows) row cost note (Some part) =
-    let setting = setting_of note in
-    let over_v = over note.placed v in
-    let over_w = over note.placed w in
+reading_agrees z v w h (c ∷ rows) row cost notation (Some part) =
+    let setting = setting_of notation in
+    let over_v = over notation.placed v in
+    let over_w = over notation.placed w in
     let same : row_kind c ≡ Letter → part_word over_v setting part c ≡ part_word over_w setting part c =
     λ k. ap (word_with part.function part.number part.mark)
-    (value_agrees over_v over_w note.theta c (letter_from c k) (over_agrees note.placed v w h)) in
-    row_agrees z v w row cost note part c rows (taken z (row_kind c) over_v setting part c)
+    (value_agrees over_v over_w notation.theta c (letter_from c k) (over_agrees notation.placed v w h)) in
+    row_agrees z v w row cost notation part c rows (row_effect z (row_kind c) over_v setting part c)
     (λ n k m p. reading_agrees z v w h rows n k m p)
     (λ e. same (goes_on z (row_kind c) over_v setting part c e))
-    ∙ ap (on_row z w row cost note part c rows) (taken_agrees z (row_kind c) over_v over_w setting part c same)
+    ∙ ap (on_row z w row cost notation part c rows) (taken_agrees z (row_kind c) over_v over_w setting part c same)
 
 -- ---- a cleared machine that is started on the tape
 

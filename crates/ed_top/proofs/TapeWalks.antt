@@ -8,7 +8,7 @@ use Rattle.std.proofs.lemmas.Bool.Decides.{nat_tests}
 use Rattle.ed_words.proofs.Numbers.{eq_false, le_false, lt_false}
 use Rattle.ed_machine.specs.State.{State}
 use Rattle.ed_machine.specs.OrderTable.{step}
-use Rattle.ed_machine.specs.Steps.{is_stop, past, state_after}
+use Rattle.ed_machine.specs.Steps.{is_stop, progress, state_after}
 use Rattle.ed_machine.specs.declared.turn.Turn.{Turn}
 use Rattle.ed_machine.specs.declared.ending.Ending.{Ending}
 use Rattle.ed_machine.specs.declared.ending.Ending.TheVariants.{Stopped, Limit}
@@ -24,7 +24,7 @@ use Rattle.ed_loads.specs.EntryState.{first_state}
 use Rattle.ed_report.specs.Notes.{ending_line}
 use Rattle.ed_stepper.specs.MoveEnds.{Ends, entered_after, move_end, move_orders, stopped_after}
 use Rattle.ed_stepper.specs.Scripts.{move_line}
-use Rattle.ed_stepper.specs.declared.moves.Aim.TheVariants.{Entry}
+use Rattle.ed_stepper.specs.declared.moves.MoveTarget.TheVariants.{Entry}
 use Rattle.ed_stepper.specs.declared.moves.MoveEnd.TheVariants.{Entered}
 use Rattle.ed_stepper.proofs.Founds.{end_found, orders_found}
 use Rattle.ed_trace.specs.Traces.{trace_to}
@@ -36,22 +36,23 @@ use Rattle.ed_top.proofs.Stepped.{letters_sum}
 
 -- ---- a trace whose first orders neither print nor stop
 
-module _ (limit resumes k : ℕ) (s : State) (went : AllWent k s) (silent : (past k s).codes ≡ []) (fits : k ≤ limit) where
+module _ (limit resumes k : ℕ) (s : State) (went : AllWent k s) (silent : (progress k s).codes
+    ≡ []) (fits : k ≤ limit) where
   abbrev pub t : State
   t = state_after k s
 
-  past_on : (j : ℕ) → past (k + j) s ≡ past j t
+  past_on : (j : ℕ) → progress (k + j) s ≡ progress j t
   past_on j =
-      let q = past j t in
-      let stops : (past k s).stops + q.stops ≡ q.stops =
+      let q = progress j t in
+      let stops : (progress k s).stops + q.stops ≡ q.stops =
       ap (λ n. n + q.stops) (quiet_stops k s went) ∙ omega arith in
       past_sum k j s ∙ (λ i. record { state = q.state; codes = silent i ++ q.codes; stops = stops i })
 
   -- an end of the run from there is one of the whole run
-  same_end : (j : ℕ) → j ≤ limit - k → end_at limit resumes limit (k + j) (past (k + j) s)
-      ≡ end_at (limit - k) resumes (limit - k) j (past j t)
+  same_end : (j : ℕ) → j ≤ limit - k → end_at limit resumes limit (k + j) (progress (k + j) s)
+      ≡ end_at (limit - k) resumes (limit - k) j (progress j t)
   same_end j below =
-      let p = past j t in
+      let p = progress j t in
       ap (end_at limit resumes limit (k + j)) (past_on j)
       ∙ by_tests (nat_lt resumes p.stops) (nat_eq j (limit - k)) (nat_eq (k + j) limit)
       (nat_le limit (length p.codes)) (nat_le (limit - k) (length p.codes)) eq_is
@@ -65,7 +66,7 @@ module _ (limit resumes k : ℕ) (s : State) (went : AllWent k s) (silent : (pas
       low other = grind (arith, nat_tests)
 
       turn : Turn
-      turn = (step (past j t).state).turn
+      turn = (step (progress j t).state).turn
 
       by_tests : (a b c full other : Bool) → c ≡ b → (b ≡ false → full ≡ false) → (b ≡ false → other ≡ false)
           → ◌≡◌ {A = Option Ending}
@@ -78,11 +79,15 @@ module _ (limit resumes k : ℕ) (s : State) (went : AllWent k s) (silent : (pas
       by_tests false false true full other e f g = absurd (cc)
 
   -- no end comes before
-  none_before : (j : ℕ) → j < k → end_at limit resumes limit j (past j s) ≡ None
+  none_before : (j : ℕ) → j < k → end_at limit resumes limit j (progress j s) ≡ None
   none_before j below =
-      let stops : (past j s).stops ≡ 0 = quiet_stops j s (λ i l. went i (omega (arith, l, below))) in
+      let stops : (progress j s).stops ≡ 0 = quiet_stops j s (λ i l. went i (omega (arith, l, below))) in
       let turn = went j below in
-      rw (lt_false resumes (past j s).stops (omega (arith, stops)), eq_false j limit (omega (arith, below, fits)), turn)
+      rw (
+        lt_false resumes (progress j s).stops (omega (arith, stops)),
+        eq_false j limit (omega (arith, below, fits)),
+        turn,
+      )
       refl
 
   whole_ends : EndsAfter limit resumes limit s (k + run_orders (limit - k) resumes (limit - k) t)
@@ -98,7 +103,7 @@ module _ (limit resumes k : ℕ) (s : State) (went : AllWent k s) (silent : (pas
           | inr high ↦
               let e : k + (j - k) ≡ j = omega arith in
               let less : j - k < m = omega arith in
-              ap (λ n. end_at limit resumes limit n (past n s)) (sym e)
+              ap (λ n. end_at limit resumes limit n (progress n s)) (sym e)
               ∙ same_end (j - k) (omega (arith, less, most)) ∙ ends.first (j - k) less
         ];
       }

@@ -1,7 +1,7 @@
 -- What holds of every run over devices in memory whose calls never fail: it has the outcome that is due, unless no
 -- memory is found (this project's own rule).
 use Rattle.std.specs.Prelude.{◌≡◌, ◌⊎◌, ℕ, false, Option, Some}
-use Rattle.ed_io.specs.Memory.{Roll, new_roll, told}
+use Rattle.ed_io.specs.Memory.{Roll, new_roll, reported_bytes}
 use Rattle.ed_words.specs.Texts.{Text}
 use Rattle.ed_command.specs.declared.command.Command.{Command}
 use Rattle.ed_answers.specs.Outcome.{Outcome}
@@ -15,7 +15,7 @@ sure_source input left = device (λ bytes. Some bytes) (λ _. 0) input left
 
 -- a new sink in memory whose calls never fail, with room for `room` bytes, and the sink after the call
 abbrev pub sure_sink : ℕ → Roll → Device
-sure_sink room after = device told (λ _. 0) (new_roll room) after
+sure_sink room after = device reported_bytes (λ _. 0) (new_roll room) after
 
 -- the status and both texts are exactly those of the outcome that is due to the input
 pub record IsWhole (answer : Answer) (input : Text) (out note : Roll) (status : ℕ) : Type 0 where

@@ -3,7 +3,7 @@ use Rattle.std.specs.Prelude.{◌≡◌, ℕ, List}
 use Rattle.ed_machine.specs.State.{State}
 use Rattle.ed_loads.specs.EntryState.{first_state}
 use Rattle.ed_report.specs.Notes.{ending_line, part_line}
-use Rattle.ed_parts.specs.Parts.{TapeTells, Told}
+use Rattle.ed_parts.specs.Parts.{IsReportOfTape, PartsReport}
 use Rattle.ed_parts.specs.declared.tape.PartsEnd.{PartsEnd}
 use Rattle.ed_parts.specs.declared.tape.PartsEnd.TheVariants.{Ended, Faulty}
 use Rattle.ed_command.specs.declared.command.Settings.{Settings}
@@ -22,11 +22,11 @@ end_status (Ended ending) = status_of ending
 end_status (Faulty part row cause) = 3
 
 -- the lines of the entries and returns, which are kept even if a part is refused
-abbrev pub told_outcome : Told → Outcome
-told_outcome t = record { out = t.text; note = end_note t.end t.last; status = end_status t.end }
+abbrev pub report_outcome : PartsReport → Outcome
+report_outcome t = record { out = t.text; note = end_note t.end t.last; status = end_status t.end }
 
 -- `parts`: the report on the rows, from a cleared machine that is started on them
 pub record IsInParts (s : Settings) (codes : List ℕ) (o : Outcome) : Type 0 where
-  pub told : Told
-  pub tells : TapeTells s.limit (first_state s.size codes) told
-  pub outcome : told_outcome told ≡ o
+  pub told : PartsReport
+  pub tells : IsReportOfTape s.limit (first_state s.size codes) told
+  pub outcome : report_outcome told ≡ o

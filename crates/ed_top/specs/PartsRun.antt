@@ -6,12 +6,12 @@ use Rattle.ed_machine.specs.declared.ending.Ending.{Ending}
 use Rattle.ed_machine.specs.declared.ending.Ending.TheVariants.{PaperFull}
 use Rattle.ed_printer.specs.Paper.{paper}
 use Rattle.ed_loads.specs.EntryState.{first_state}
-use Rattle.ed_parts.specs.Parts.{TapeTells, Told, programs_printed}
+use Rattle.ed_parts.specs.Parts.{IsReportOfTape, PartsReport, programs_printed}
 use Rattle.ed_parts.specs.declared.tape.PartsEnd.TheVariants.{Ended}
 use Rattle.ed_command.specs.declared.command.Settings.{Settings}
 use Rattle.ed_words.specs.Texts.{Text}
 use Rattle.ed_answers.specs.Tapes.{tape_outcome}
-use Rattle.ed_top.specs.Parts.{told_outcome}
+use Rattle.ed_top.specs.Parts.{report_outcome}
 use Rattle.ed_answers.specs.Runs.{paper_room, run_of, status_of}
 
 -- the same settings for a run that is never resumed, without a post-mortem
@@ -22,8 +22,8 @@ run_once s = record s { resumes = 0; post_mortem = None }
 pub record EndsInParts (s : Settings) (codes : List ℕ) : Type 0 where
   pub text : Text
   pub read : reading text ≡ rows codes
-  pub told : Told
-  pub tells : TapeTells s.limit (first_state s.size codes) told
+  pub told : PartsReport
+  pub tells : IsReportOfTape s.limit (first_state s.size codes) told
   pub ending : Ending
   pub end_is : told.end ≡ Ended ending
 
@@ -33,9 +33,9 @@ printed_by p = programs_printed p.tells
 
 -- the note and the status of `tape` are those of `parts`, and its run ends in the same state. It prints what the
 -- programs print and nothing else: the loads print nothing.
-pub record PartsAreRun (s : Settings) (codes : List ℕ) (t : Told) (printed : List ℕ) : Type 0 where
-  pub note_is : (tape_outcome s codes).note ≡ (told_outcome t).note
-  pub status_is : (tape_outcome s codes).status ≡ (told_outcome t).status
+pub record PartsAreRun (s : Settings) (codes : List ℕ) (t : PartsReport) (printed : List ℕ) : Type 0 where
+  pub note_is : (tape_outcome s codes).note ≡ (report_outcome t).note
+  pub status_is : (tape_outcome s codes).status ≡ (report_outcome t).status
   pub state_is : (run_of s codes).state ≡ t.last
   pub out_is : (tape_outcome s codes).out ≡ paper printed
 

@@ -3,7 +3,7 @@
 use Rattle.std.specs.Prelude.{◌≡◌, ℕ, ◌+◌, ◌-◌, ◌≤◌, List, ◌∷◌, [], ◌++◌, Option, Some, None, codes, length}
 use Rattle.std.specs.Fmt.{decimal}
 use Rattle.std.specs.List.{range_with_len}
-use Rattle.ed_machine.specs.Steps.{Past, past}
+use Rattle.ed_machine.specs.Steps.{Progress, progress}
 use Rattle.ed_machine.specs.declared.ending.Ending.{Ending}
 use Rattle.ed_machine.specs.declared.ending.Ending.TheVariants.{Stopped, Limit, NoOrder, NoTape}
 use Rattle.ed_run.specs.Run.{RunEnd}
@@ -15,8 +15,8 @@ use Rattle.ed_stepper.specs.MoveEnds.{move_end}
 use Rattle.ed_stepper.specs.ScriptLines.{CommandList}
 use Rattle.ed_stepper.specs.Scripts.{LeftBy, end_word, line_at, moved, traced, words_shown}
 use Rattle.ed_stepper.specs.Sessions.{Stand, left, stands_at}
-use Rattle.ed_stepper.specs.declared.moves.Aim.{Aim}
-use Rattle.ed_stepper.specs.declared.moves.Aim.TheVariants.{Orders}
+use Rattle.ed_stepper.specs.declared.moves.MoveTarget.{MoveTarget}
+use Rattle.ed_stepper.specs.declared.moves.MoveTarget.TheVariants.{Orders}
 use Rattle.ed_stepper.specs.declared.moves.MoveEnd.{MoveEnd}
 use Rattle.ed_stepper.specs.declared.moves.MoveEnd.TheVariants as ends
 use Rattle.ed_command.specs.declared.command.Settings.{Settings}
@@ -38,8 +38,8 @@ abbrev pub with_window : Window → Settings → Settings
 with_window w s = record s { post_mortem = Some w }
 
 -- the run of a session so far: its state, the codes printed, and the number of stops
-abbrev pub way : Stand → Past
-way t = past t.done t.start
+abbrev pub way : Stand → Progress
+way t = progress t.done t.start
 
 -- such a run is resumed after each stop
 abbrev pub IsResumed : ℕ → Stand → Type 0
@@ -99,7 +99,7 @@ pub record StepsAreRun (s : Settings) (rows : List ℕ) (t : Stand) (resumes : �
       ≡ letters_in (trace_outcome (cut_at t resumes s) rows).out ++ letters_in (trace_text (traced n t))
   -- a move forward from here that doesn't end by its own end stops where the run of `tape` with the session's limit
   -- ends, and reports the same ending
-  pub ends : (aim : Aim) (ending : Ending) → ending_of (move_end aim (left t) (stands_at t)) ≡ Some ending
+  pub ends : (aim : MoveTarget) (ending : Ending) → ending_of (move_end aim (left t) (stands_at t)) ≡ Some ending
       → HasRoomFor (moved aim t)
       → run_with (resumes_to ending (way (moved aim t)).stops) s rows
       ≡ record { ending = ending; state = stands_at (moved aim t); codes = (way (moved aim t)).codes }

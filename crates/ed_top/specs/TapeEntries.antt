@@ -3,7 +3,7 @@
 use Rattle.std.specs.Prelude.{◌≡◌, ℕ, ◌-◌, ◌<◌, ◌≤◌, List, [], ◌++◌}
 use Rattle.ed_store.specs.Cells.{cleared_cells}
 use Rattle.ed_machine.specs.State.{State}
-use Rattle.ed_machine.specs.Steps.{past, state_after}
+use Rattle.ed_machine.specs.Steps.{progress, state_after}
 use Rattle.ed_run.specs.Run.{ran}
 use Rattle.ed_printer.specs.Paper.{paper}
 use Rattle.ed_notation.specs.Faults.{TapeEntry, ComesTo, WellFormed}
@@ -11,7 +11,7 @@ use Rattle.ed_initial.specs.Entry.{at_entry}
 use Rattle.ed_loads.specs.EntryState.{first_state}
 use Rattle.ed_report.specs.Entries.{entry_line}
 use Rattle.ed_stepper.specs.Scripts.{line_of_move, move_line, moved}
-use Rattle.ed_stepper.specs.declared.moves.Aim.TheVariants.{Entry}
+use Rattle.ed_stepper.specs.declared.moves.MoveTarget.TheVariants.{Entry}
 use Rattle.ed_stepper.specs.declared.moves.MoveEnd.TheVariants.{Entered}
 use Rattle.ed_trace.specs.Traces.{trace_to}
 use Rattle.ed_command.specs.declared.command.Settings.{Settings}
@@ -50,7 +50,7 @@ pub record StepsToEntry (s : Settings) (codes : List ℕ) (e : TapeEntry) : Type
 pub record TapeRunsFromEntry (s : Settings) (codes : List ℕ) (e : TapeEntry) : Type 0 where
   pub checked : IsChecked s codes (done (entry_line e.at e.cost e.rows))
   pub enters : state_after e.cost (first_state s.size codes) ≡ tape_state s codes e
-  pub silent : (past e.cost (first_state s.size codes)).codes ≡ []
+  pub silent : (progress e.cost (first_state s.size codes)).codes ≡ []
   pub runs : e.cost ≤ s.limit → tape_outcome s codes
       ≡ ran_outcome []
       (with_post_mortem s.post_mortem (ran (s.limit - e.cost) s.resumes paper_room (tape_state s codes e)))

@@ -4,7 +4,7 @@ use Rattle.std.proofs.Common.{Bool, true, false, nat_le, Some, None, length}
 use Rattle.ed_words.proofs.Numbers.{eq_false, eq_true, le_false, lt_false, lt_true}
 use Rattle.ed_machine.specs.State.{State}
 use Rattle.ed_machine.specs.OrderTable.{step}
-use Rattle.ed_machine.specs.Steps.{is_obeyed, is_stop, past, state_after, stops_of}
+use Rattle.ed_machine.specs.Steps.{is_obeyed, is_stop, progress, state_after, stops_of}
 use Rattle.ed_machine.specs.declared.turn.Turn.{Turn}
 use Rattle.ed_machine.specs.declared.turn.Turn.TheVariants.{Went, Printed, Stopped as Stops}
 use Rattle.ed_machine.specs.declared.turn.Turn.TheVariants.{NoOrder as IsNoOrder, NoTape as HasNoTape}
@@ -44,40 +44,40 @@ module _ (limit resumes : ℕ) (s : State) where
   -- k orders of the run have been obeyed, and it has not ended
   pub record Going (k : ℕ) (m : State) (stops : ℕ) : Type 0 where
     pub state : m ≡ state_after k s
-    pub stops_are : stops ≡ (past k s).stops
+    pub stops_are : stops ≡ (progress k s).stops
     pub within : stops ≤ resumes
-    pub first : (j : ℕ) → j < k → end_at limit resumes limit j (past j s) ≡ None
+    pub first : (j : ℕ) → j < k → end_at limit resumes limit j (progress j s) ≡ None
 
   pub going_first : Going 0 s 0
-  unfolding past
+  unfolding progress
   going_first = record { state = refl; stops_are = refl; within = omega arith; first = λ j h. absurd (omega arith) }
 
 -- k orders of it have been obeyed
 module _ {limit resumes : ℕ} {s : State} {k : ℕ} {m : State} {stops : ℕ} (g : Going limit resumes s k m stops) where
   by_next : k < limit
-      → end_at limit resumes limit k (past k s) ≡ end_by (step m).turn (nat_le limit (length (past k s).codes))
+      → end_at limit resumes limit k (progress k s) ≡ end_by (step m).turn (nat_le limit (length (progress k s).codes))
   by_next below =
-      let a = lt_false resumes (past k s).stops (omega (arith, g.stops_are, g.within)) in
+      let a = lt_false resumes (progress k s).stops (omega (arith, g.stops_are, g.within)) in
       let b = eq_false k limit (omega arith) in
-      rw (a, b) (ap (λ (x : State). end_by (step x).turn (nat_le limit (length (past k s).codes))) (sym g.state))
+      rw (a, b) (ap (λ (x : State). end_by (step x).turn (nat_le limit (length (progress k s).codes))) (sym g.state))
 
   -- it ends before its next order
   pub blocks : {ending : Ending} → k < limit
-      → end_by (step m).turn (nat_le limit (length (past k s).codes)) ≡ Some ending
+      → end_by (step m).turn (nat_le limit (length (progress k s).codes)) ≡ Some ending
       → EndsAfter limit resumes limit s k ending
   blocks below is = record { now = by_next below ∙ is; first = g.first }
 
   -- its next order has this turn
   module _ {turn : Turn} (below : k < limit) (is : turn ≡ (step m).turn) where
     -- if the order was obeyed no end comes before it
-    pub first_more : is_obeyed turn ≡ true → (j : ℕ) → j < k + 1 → end_at limit resumes limit j (past j s) ≡ None
+    pub first_more : is_obeyed turn ≡ true → (j : ℕ) → j < k + 1 → end_at limit resumes limit j (progress j s) ≡ None
     first_more obeyed =
-        let room : nat_le limit (length (past k s).codes) ≡ false = le_false _ _ (omega (arith, few_codes k s)) in
-        below_more (λ j. end_at limit resumes limit j (past j s) ≡ None) k g.first
-        (by_next below ∙ ap (λ t. end_by t (nat_le limit (length (past k s).codes))) (sym is)
+        let room : nat_le limit (length (progress k s).codes) ≡ false = le_false _ _ (omega (arith, few_codes k s)) in
+        below_more (λ j. end_at limit resumes limit j (progress j s) ≡ None) k g.first
+        (by_next below ∙ ap (λ t. end_by t (nat_le limit (length (progress k s).codes))) (sym is)
         ∙ obeyed_ends turn _ obeyed room)
 
-    stops_more : (past (k + 1) s).stops ≡ stops + stops_of turn
+    stops_more : (progress (k + 1) s).stops ≡ stops + stops_of turn
     stops_more =
         next_stops k s ∙ ap (λ n. n + stops_of (step (state_after k s)).turn) (sym g.stops_are)
         ∙ ap (λ (x : State). stops + stops_of (step x).turn) (sym g.state) ∙ ap (λ t. stops + stops_of t) (sym is)
@@ -95,14 +95,14 @@ module _ {limit resumes : ℕ} {s : State} {k : ℕ} {m : State} {stops : ℕ} (
     -- it ends with a stop for which no resume is left
     pub stopped : turn ≡ Stops → resumes ≤ stops → EndsAfter limit resumes limit s (k + 1) Stopped
     stopped stop many =
-        let n : (past (k + 1) s).stops ≡ stops + 1 = stops_more ∙ ap (λ t. stops + stops_of t) stop in
-        let a = lt_true resumes (past (k + 1) s).stops (omega (arith, many, n)) in
+        let n : (progress (k + 1) s).stops ≡ stops + 1 = stops_more ∙ ap (λ t. stops + stops_of t) stop in
+        let a = lt_true resumes (progress (k + 1) s).stops (omega (arith, many, n)) in
         record { now = rw a refl; first = first_more (ap is_obeyed stop) }
 
 -- it reaches its limit
 pub at_limit : {limit resumes : ℕ} {s m : State} {stops : ℕ} → Going limit resumes s limit m stops
     → EndsAfter limit resumes limit s limit Limit
 at_limit {limit} {resumes} {s} g =
-    let a = lt_false resumes (past limit s).stops (omega (arith, g.stops_are, g.within)) in
+    let a = lt_false resumes (progress limit s).stops (omega (arith, g.stops_are, g.within)) in
     let b = eq_true limit limit refl in
     record { now = rw (a, b) refl; first = g.first }

@@ -4,7 +4,7 @@ use Rattle.std.proofs.Common.{◌∙◌, subst, arith, Bool, true, false, Option
 use Rattle.std.proofs.Common.{List, [], ◌∷◌, ◌++◌, length, append_assoc, append-nil, length-append}
 use Rattle.std.proofs.lemmas.Bool.Decides.{nat_tests}
 use Rattle.ed_machine.specs.State.{State}
-use Rattle.ed_machine.specs.Steps.{past, state_after}
+use Rattle.ed_machine.specs.Steps.{progress, state_after}
 use Rattle.ed_run.specs.Run.{end_at}
 use Rattle.ed_io.specs.Bytes.{Gains, GainsPart}
 use Rattle.ed_io.specs.declared.device.Failed.{Failed}
@@ -70,7 +70,8 @@ lined_open k e =
     let n : (k + 1) % 50 ≡ k % 50 + 1 = grind arith in (grind arith, n)
 
 -- the letter of one order more
-module _ {k : ℕ} {s m : State} {before now : Option (List ℕ)} {held : List ℕ} {l : ℕ} (lines : Lines k s before now held)
+module _ {k : ℕ} {s m : State} {before now : Option (List ℕ)} {held : List ℕ} {l : ℕ}
+    (lines : Lines k s before now held)
     (is : m ≡ state_after k s) (at : l ≡ letter m) where
   more : (full : Bool) → full ≡ is_full (k + 1)
       → traced_letters (k + 1) s ≡ traced_letters (lined k) s ++ (held ++ l ∷ line_end full)
@@ -109,7 +110,7 @@ module _ {k : ℕ} {s m : State} {before now : Option (List ℕ)} {held : List �
   -- the line was then full, and its write failed
   pub breaks_line : {limit resumes : ℕ} {last : State} {after : Option (List ℕ)} (left : List ℕ) (e : Failed)
       → Puts (is_full (k + 1)) (Err e) now after held l left
-      → ((j : ℕ) → j < k + 1 → end_at limit resumes limit j (past j s) ≡ None)
+      → ((j : ℕ) → j < k + 1 → end_at limit resumes limit j (progress j s) ≡ None)
       → last ≡ state_after (k + 1) s → BreaksTrace limit resumes s last before after
   breaks_line {limit} {resumes} {last} {after} left e p first state = by_test (is_full (k + 1)) refl p
     where

@@ -4,7 +4,7 @@ use Rattle.std.proofs.Common.{ap, ◌∙◌, subst, arith, Bool, true, false, if
 use Rattle.std.proofs.Common.{append_assoc, append-nil, Option, Some, None, Result, Ok, Err}
 use Rattle.ed_words.proofs.Numbers.{eq_false, eq_true}
 use Rattle.ed_machine.specs.State.{State}
-use Rattle.ed_machine.specs.Steps.{past, state_after}
+use Rattle.ed_machine.specs.Steps.{progress, state_after}
 use Rattle.ed_machine.specs.declared.ending.Ending.{Ending}
 use Rattle.ed_run.specs.Run.{EndsAfter, end_at, ran, run_orders}
 use Rattle.ed_run.proofs.Ends.{ends_once, ran_ends}
@@ -56,7 +56,7 @@ trace_open k s h =
 
 -- no more orders are obeyed than those of the run
 within_run : (limit resumes : ℕ) (s : State) (k : ℕ)
-    → ((j : ℕ) → j < k → end_at limit resumes limit j (past j s) ≡ None) → k ≤ run_orders limit resumes limit s
+    → ((j : ℕ) → j < k → end_at limit resumes limit j (progress j s) ≡ None) → k ≤ run_orders limit resumes limit s
 within_run limit resumes s k first = by_place (split k (run_orders limit resumes limit s))
   where
     split : (j k : ℕ) → (j ≤ k) ⊎ (k < j)
@@ -177,7 +177,8 @@ broke_part {limit} {resumes} {s} b is = record {
 }
 
 -- the write of the last line failed
-pub last_failed : {limit resumes k : ℕ} {s last : State} {before now after : Option (List ℕ)} {held : List ℕ} (e : Failed)
+pub last_failed : {limit resumes k : ℕ} {s last : State} {before now after : Option (List ℕ)} {held : List ℕ}
+    (e : Failed)
     → Lines k s before now held → k ≡ run_orders limit resumes limit s → last ≡ state_after k s
     → EndsLine held (Err e) now after
     → GainsPart before after (trace_of limit resumes s) × TraceBroke limit resumes s last before after

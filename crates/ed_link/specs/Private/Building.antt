@@ -7,11 +7,11 @@ use Rattle.ed_syntax.specs.declared.program.Line.{Line}
 use Rattle.ed_syntax.specs.declared.program.Statement.{Statement}
 use Rattle.ed_syntax.specs.declared.program.Statement.TheVariants.{Text, Fetch, Rows}
 use Rattle.ed_syntax.specs.declared.fault.SourceFault.{SourceFault}
-use Rattle.ed_symbols.specs.declared.homes.Home.{Home}
-use Rattle.ed_symbols.specs.Places.{first_spot}
+use Rattle.ed_symbols.specs.declared.symbols.Definition.{Definition}
+use Rattle.ed_symbols.specs.Places.{first_counter}
 use Rattle.ed_link.specs.declared.building.Built.{Built}
 use Rattle.ed_link.specs.declared.linked.Linked.{Linked}
-use Rattle.ed_link.specs.Linked.{data_behind, entry_from, placed_from}
+use Rattle.ed_link.specs.Linked.{data_after, entry_from, placed_from}
 use Rattle.ed_link.specs.Punch.{punched_from, routine_items}
 use Rattle.ed_link.specs.Private.FaultTests.{IsFirstFault, LinesBefore, fault_from}
 use Rattle.ed_link.specs.Tables.{table_of, words_from}
@@ -29,26 +29,28 @@ abbrev pub first_past : LinesBefore
 first_past = record { runs = []; entered = false }
 
 -- what is built from lines that have none of the faults S9 to S17
-pub record IsBuilt (z : Size) (homes : List Home) (any : Bool) (lines : List Line) (b : Built) : Type 0 where
-  pub accepted : fault_from z homes any first_past first_spot lines ≡ None
-  pub items : b.items.items ≡ punched_from homes first_spot lines
+pub record IsBuilt (z : Size) (symbols : List Definition) (has_enter : Bool) (lines : List Line) (b : Built) :
+    Type 0 where
+  pub accepted : fault_from z symbols has_enter first_past first_counter lines ≡ None
+  pub items : b.items.items ≡ punched_from symbols first_counter lines
   pub spellable : AreSpellable b.items.items
-  pub table : b.table.items ≡ table_of (placed_from homes first_spot lines)
+  pub table : b.table.items ≡ table_of (placed_from symbols first_counter lines)
   pub size : length b.table.items ≡ 1024
-  pub entry : unwrap_or b.entry 0 ≡ entry_from homes lines
-  pub after : b.after.items ≡ data_behind lines
+  pub entry : unwrap_or b.entry 0 ≡ entry_from symbols lines
+  pub after : b.after.items ≡ data_after lines
   pub few_items : length b.items.items ≤ 480000
   pub few_rows : length b.after.items ≤ 240000
 
 -- the lines are built, or this is their fault
-abbrev pub BuildIs : Size → List Home → Bool → List Line → Result Built SourceFault → Type 0
-BuildIs z homes any lines (Ok b) = IsBuilt z homes any lines b
-BuildIs z homes any lines (Err e) = IsFirstFault (fault_from z homes any first_past first_spot lines) e
+abbrev pub BuildIs : Size → List Definition → Bool → List Line → Result Built SourceFault → Type 0
+BuildIs z symbols has_enter lines (Ok b) = IsBuilt z symbols has_enter lines b
+BuildIs z symbols has_enter lines (Err e) = IsFirstFault
+    (fault_from z symbols has_enter first_past first_counter lines) e
 
 -- a linked program made of what was built
-pub record IsFinished (homes : List Home) (b : Built) (k : Linked) : Type 0 where
+pub record IsFinished (symbols : List Definition) (b : Built) (k : Linked) : Type 0 where
   pub items : k.items.items ≡ b.items.items
   pub words : k.words.items ≡ words_from 0 b.table.items
   pub entry : k.entry ≡ unwrap_or b.entry 0
   pub after : k.after.items ≡ b.after.items
-  pub labels : k.labels.items ≡ labels homes
+  pub labels : k.labels.items ≡ labels symbols

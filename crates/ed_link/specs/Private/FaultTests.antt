@@ -16,15 +16,15 @@ use Rattle.ed_syntax.specs.declared.fault.SourceCause.{SourceCause}
 use Rattle.ed_syntax.specs.declared.fault.SourceCause.TheVariants as causes
 use Rattle.ed_syntax.specs.declared.fault.SourceFault.{SourceFault}
 use Rattle.ed_syntax.specs.declared.fault.SourceFault.TheVariants.{At, Memory}
-use Rattle.ed_symbols.specs.declared.spots.Spot.{Spot}
-use Rattle.ed_symbols.specs.declared.homes.Home.{Home}
-use Rattle.ed_symbols.specs.Places.{passed, first_spot}
+use Rattle.ed_symbols.specs.declared.location_counter.LocationCounter.{LocationCounter}
+use Rattle.ed_symbols.specs.declared.symbols.Definition.{Definition}
+use Rattle.ed_symbols.specs.Places.{after_statement, first_counter}
 use Rattle.ed_symbols.specs.Names.{place_on}
 use Rattle.ed_symbols.specs.Faults.{or_later, resolved}
-use Rattle.ed_link.specs.Linked.{first_place, end_place, set_to, homes_of}
+use Rattle.ed_link.specs.Linked.{first_place, end_place, set_to, symbols_of}
 
 -- the extent of a line's words: the first location, and the one after the last
-abbrev pub word_run : Option Statement → Spot → ℕ × ℕ
+abbrev pub word_run : Option Statement → LocationCounter → ℕ × ℕ
 word_run st s = (first_place st s, end_place st s)
 
 -- the extent of one location, or an empty one
@@ -33,13 +33,13 @@ run_at None = (0, 0)
 run_at (Some p) = (p, p + 1)
 
 -- the extent that a line needs: that of its words, and for `enter` the location of its name
-abbrev pub reach : List Home → Option Statement → Spot → ℕ × ℕ
-reach homes (Some (Enter name)) s = run_at (place_on homes None name)
-reach homes st s = word_run st s
+abbrev pub reach : List Definition → Option Statement → LocationCounter → ℕ × ℕ
+reach symbols (Some (Enter name)) s = run_at (place_on symbols None name)
+reach symbols st s = word_run st s
 
 -- whether two extents overlap
-abbrev pub meets : ℕ × ℕ → ℕ × ℕ → Bool
-meets run other = nat_lt (max run.0 other.0) (min run.1 other.1)
+abbrev pub overlaps : ℕ × ℕ → ℕ × ℕ → Bool
+overlaps run other = nat_lt (max run.0 other.0) (min run.1 other.1)
 
 -- an order, `word`, `text` or `long`
 abbrev pub is_in_segment : Option Statement → Bool
@@ -50,7 +50,7 @@ is_in_segment (Some (Long v)) = true
 is_in_segment st = false
 
 -- S9
-abbrev pub is_outside : Line → Spot → Bool
+abbrev pub is_outside : Line → LocationCounter → Bool
 is_outside l s = not s.inside && (is_some l.label || is_in_segment l.statement)
 
 -- S14
@@ -86,9 +86,9 @@ any_enter (l ∷ lines) = is_enter l.statement || any_enter lines
 
 -- S16: after the first `enter` any form but `data`; before it `data`, in a source that has an `enter`
 abbrev pub is_misplaced : Bool → Bool → Line → Bool
-is_misplaced entered any l =
+is_misplaced entered has_enter l =
     if entered then (is_some l.label || is_some l.statement) && not (is_rows l.statement)
-    else any && is_rows l.statement
+    else has_enter && is_rows l.statement
 
 -- S17
 abbrev pub has_sandwich : Option Statement → Bool
@@ -101,36 +101,37 @@ pub record LinesBefore : Type 0 where
   pub entered : Bool
 
 -- the same after one more line
-abbrev pub past_of : LinesBefore → Line → Spot → LinesBefore
+abbrev pub past_of : LinesBefore → Line → LocationCounter → LinesBefore
 past_of past l s = record {
   runs = past.runs ++ word_run l.statement s ∷ [];
   entered = past.entered || is_enter l.statement;
 }
 
 -- the fault of a line with the least number, among S9 to S17
-abbrev pub cause_of : Size → List Home → Bool → LinesBefore → Line → Spot → Option SourceCause
-cause_of z homes any past l s =
+abbrev pub cause_of : Size → List Definition → Bool → LinesBefore → Line → LocationCounter → Option SourceCause
+cause_of z symbols has_enter past l s =
     if is_outside l s then Some causes.OutsideSegment
-    else if meets (reach homes l.statement s) (0, 44) then Some causes.LoaderStore
-    else if meets (reach homes l.statement s) (44, 56) then Some causes.ParameterStore
-    else if meets (reach homes l.statement s) (locations z, (reach homes l.statement s).1) then Some causes.StoreEnd
-    else if list_any (λ run. meets (word_run l.statement s) run) past.runs then Some causes.Overlap
+    else if overlaps (reach symbols l.statement s) (0, 44) then Some causes.LoaderStore
+    else if overlaps (reach symbols l.statement s) (44, 56) then Some causes.ParameterStore
+    else if overlaps (reach symbols l.statement s) (locations z, (reach symbols l.statement s).1)
+    then Some causes.StoreEnd
+    else if list_any (λ run. overlaps (word_run l.statement s) run) past.runs then Some causes.Overlap
     else if has_no_routine l.statement then Some causes.NoSuchRoutine
     else if sets_otherwise l.statement then Some causes.Parameters
-    else if is_misplaced past.entered any l then Some causes.Enter
+    else if is_misplaced past.entered has_enter l then Some causes.Enter
     else if has_sandwich l.statement then Some causes.SandwichDigit
     else None
 
--- the fault of the first line, from a spot onwards, that has one of S9 to S17
-abbrev pub fault_from : Size → List Home → Bool → LinesBefore → Spot → List Line → Option SourceFault
-fault_from z homes any past s [] = None
-fault_from z homes any past s (l ∷ lines) =
-    or_later l.number (cause_of z homes any past l s)
-    (fault_from z homes any (past_of past l s) (passed l.statement s) lines)
+-- the fault of the first line, from a location counter onwards, that has one of S9 to S17
+abbrev pub fault_from : Size → List Definition → Bool → LinesBefore → LocationCounter → List Line → Option SourceFault
+fault_from z symbols has_enter past s [] = None
+fault_from z symbols has_enter past s (l ∷ lines) =
+    or_later l.number (cause_of z symbols has_enter past l s)
+    (fault_from z symbols has_enter (past_of past l s) (after_statement l.statement s) lines)
 
 -- S16 if there is no `enter`: at the number of lines plus 1
 abbrev pub missing : Bool → ℕ → Option SourceFault
-missing any n = if any then None else Some (At (n + 1) causes.Enter)
+missing has_enter n = if has_enter then None else Some (At (n + 1) causes.Enter)
 
 -- the line of a fault
 abbrev pub fault_line : SourceFault → ℕ
@@ -147,7 +148,8 @@ sooner (Some a) (Some b) = if nat_le (fault_line a) (fault_line b) then Some a e
 abbrev pub fault : Size → List Line → Option SourceFault
 fault z lines =
     sooner (resolved lines).fault
-    (sooner (fault_from z (homes_of lines) (any_enter lines) (record { runs = []; entered = false }) first_spot lines)
+    (sooner (fault_from z (symbols_of lines) (any_enter lines) (record { runs = []; entered = false })
+    first_counter lines)
     (missing (any_enter lines) (length lines)))
 
 -- a fault is the one wanted, or memory ran out

@@ -1,11 +1,12 @@
 -- The plain program that reads rows into the table of items, from a state of the notation over one store.
-use Rattle.std.specs.Prelude.{◌≡◌, ℕ, ◌+◌, ◌*◌, ◌^◌, ◌%◌, ◌≤◌, Bool, true, false, Option, Some, None, List, [], ◌∷◌, ◌++◌, if◌then◌else◌, nat_eq, nat_lt}
+use Rattle.std.specs.Prelude.{◌≡◌, ℕ, ◌+◌, ◌*◌, ◌^◌, ◌%◌, ◌≤◌, Bool, true, false, Option, Some, None, List, [], ◌∷◌}
+use Rattle.std.specs.Prelude.{◌++◌, if◌then◌else◌, nat_eq, nat_lt}
 use Rattle.ed_words.specs.Words.{digit}
 use Rattle.ed_store.specs.Cells.{Cells, with_short}
 use Rattle.ed_notation.specs.declared.item.Item.{Item}
 use Rattle.ed_notation.specs.declared.kind.RowKind.{RowKind}
 use Rattle.ed_notation.specs.declared.kind.RowKind.TheVariants.{Digit, Zed, Kay, Blank, Letter}
-use Rattle.ed_notation.specs.Fold.{Note, act}
+use Rattle.ed_notation.specs.Fold.{NotationState, act}
 use Rattle.ed_notation.specs.Items.{row_kind}
 use Rattle.ed_page.specs.TapeItems.{item_line, placing}
 use Rattle.ed_page.specs.declared.items.Notation.{Notation}
@@ -33,7 +34,7 @@ abbrev pub whole_item : OpenItem → ℕ → Item
 whole_item p c = record { function = p.function; number = p.number; mark = p.mark; end = c }
 
 -- the state of the notation in which nothing was placed: the store has what was
-abbrev pub note_over : Notation → Note
+abbrev pub note_over : Notation → NotationState
 note_over n = record { directive = n.directive; theta = n.theta; placed = [] }
 
 -- the location and the word that an item places
@@ -54,7 +55,7 @@ notation_after n i = record {
 }
 
 -- a state is as a note has it, with the store of another
-pub record IsSetAs (note : Note) (before after : Notation) : Type 0 where
+pub record IsSetAs (note : NotationState) (before after : Notation) : Type 0 where
   pub directive : after.directive ≡ note.directive
   pub theta : after.theta ≡ note.theta
   pub contents : after.contents ≡ before.contents

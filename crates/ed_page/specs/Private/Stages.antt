@@ -11,15 +11,16 @@ use Rattle.ed_answers.specs.Replies.{Gives}
 use Rattle.ed_answers.specs.declared.reply.Rejection.{Rejection}
 use Rattle.ed_answers.specs.declared.reply.Rejection.TheVariants.{Memory, Refused}
 use Rattle.ed_answers.specs.declared.reply.Reply.{Reply}
-use Rattle.ed_page.specs.Answers.{Buffers, HasItsCause, HasPictureRoom, HasBufferRoom, ShowsNone, Tells, TextBuffers}
+use Rattle.ed_page.specs.Answers.{Buffers, HasItsCause, HasPictureRoom, HasBufferRoom, ShowsNone, HoldsText}
+use Rattle.ed_page.specs.Answers.{TextBuffers}
 use Rattle.ed_page.specs.Pictures.{Pictures}
-use Rattle.ed_page.specs.TapeItems.{AreItemsTold, AreItemsTold1}
+use Rattle.ed_page.specs.TapeItems.{IsItemsOutcome, AreItemsTold1}
 use Rattle.ed_page.specs.declared.going.Gone.{Gone}
 use Rattle.ed_page.specs.declared.running.Shown.{Shown}
 use Rattle.ed_page.specs.declared.told.Told.{Told}
 
 -- both texts and the status are those of an outcome; the status is not that of no memory or of no room
-pub record TellsOutcome (told : Told) (o : Outcome) : Type 0 where
+pub record HoldsOutcome (told : Told) (o : Outcome) : Type 0 where
   pub out_is : told.out.items ≡ o.out
   pub note_is : told.note.items ≡ o.note
   pub status_is : told.status ≡ o.status
@@ -28,29 +29,29 @@ pub record TellsOutcome (told : Told) (o : Outcome) : Type 0 where
 
 -- the texts are what the program answers
 abbrev pub IsAnswered : Answer → Text → Result Told NoMemory → Type 0
-IsAnswered wanted text (Ok told) = (o : Outcome) × IsDue wanted text o × TellsOutcome told o
+IsAnswered wanted text (Ok told) = (o : Outcome) × IsDue wanted text o × HoldsOutcome told o
 IsAnswered wanted text (Err e) = Unit {0}
 
 -- a reply is passed on unchanged
-abbrev pub Retells : Reply → Told → Type 0
-Retells reply told = (o : Outcome) → Gives reply o → TellsOutcome told o
+abbrev pub KeepsText : Reply → Told → Type 0
+KeepsText reply told = (o : Outcome) → Gives reply o → HoldsOutcome told o
 
 -- the texts of a rejection are those of its reply; there are none if no memory was found
-abbrev pub TellsRejection : Rejection → Result Told NoMemory → Type 0
-TellsRejection (Refused reply) (Ok told) = Retells reply told
-TellsRejection (Refused reply) (Err e) = ⊥
-TellsRejection Memory (Ok told) = ⊥
-TellsRejection Memory (Err e) = Unit {0}
+abbrev pub HoldsRejection : Rejection → Result Told NoMemory → Type 0
+HoldsRejection (Refused reply) (Ok told) = KeepsText reply told
+HoldsRejection (Refused reply) (Err e) = ⊥
+HoldsRejection Memory (Ok told) = ⊥
+HoldsRejection Memory (Err e) = Unit {0}
 
 -- the texts of an answer, whether it refuses the text or not
-abbrev pub TellsAnswer : Result Reply Rejection → Result Told NoMemory → Type 0
-TellsAnswer (Ok reply) (Ok told) = Retells reply told
-TellsAnswer (Ok reply) (Err e) = ⊥
-TellsAnswer (Err rejection) r = TellsRejection rejection r
+abbrev pub HoldsAnswer : Result Reply Rejection → Result Told NoMemory → Type 0
+HoldsAnswer (Ok reply) (Ok told) = KeepsText reply told
+HoldsAnswer (Ok reply) (Err e) = ⊥
+HoldsAnswer (Err rejection) r = HoldsRejection rejection r
 
 -- what is shown of a run is an outcome, and its machine
 pub record IsRunOf (o : Outcome) (r : RunEnd) (shown : Shown) : Type 0 where
-  pub told : TellsOutcome shown.told o
+  pub told : HoldsOutcome shown.told o
   pub machine : shown.machine ≡ Some r.state
 
 -- a machine is in the state in which the run of a text ends, if there is such a state; otherwise there is no machine
@@ -60,7 +61,7 @@ pub record IsMachineOf (Ends : Text → State → Type 0) (text : Text) (machine
 
 -- what is shown of a text is what the program answers, and the machine in which its run ends
 abbrev pub Draws : Answer → (Text → State → Type 0) → Text → Result Shown NoMemory → Type 0
-Draws wanted Ends text (Ok shown) = (o : Outcome) × IsDue wanted text o × TellsOutcome shown.told o
+Draws wanted Ends text (Ok shown) = (o : Outcome) × IsDue wanted text o × HoldsOutcome shown.told o
     × IsMachineOf Ends text shown.machine
 Draws wanted Ends text (Err e) = Unit {0}
 
@@ -68,11 +69,11 @@ Draws wanted Ends text (Err e) = Unit {0}
 abbrev pub IsWrittenOut : Outcome → (before after : TextBuffers) → ℕ → Type 0
 IsWrittenOut o before after answer = (answer ≢ 10)
     × HasItsCause (HasBufferRoom o before.out before.note) (after ≡ before)
-    (Tells o before.out before.note after.out after.note after.lengths.out after.lengths.note answer) answer
+    (HoldsText o before.out before.note after.out after.note after.lengths.out after.lengths.note answer) answer
 
 -- buffers show an outcome, and a machine if there is one
 pub record ShowsMachine (o : Outcome) (machine : Option State) (before after : Buffers) (answer : ℕ) : Type 0 where
-  pub told : Tells o before.paper before.note after.paper after.note after.registers.printed after.registers.noted
+  pub told : HoldsText o before.paper before.note after.paper after.note after.registers.printed after.registers.noted
       answer
   pub state : IfSome machine (λ m. Pictures m after.words after.digits after.registers)
   pub none : machine ≡ None → ShowsNone before after
@@ -89,11 +90,11 @@ pub record IsGone (r : RunEnd) (gone : Gone) : Type 0 where
   pub codes_are : gone.codes.items ≡ r.codes
 
 -- what is told of the items of rows
-abbrev pub AreToldOf : Size → List ℕ → Result Told NoMemory → Type 0
-AreToldOf z codes (Ok told) = (o : Outcome) × AreItemsTold z codes o × TellsOutcome told o
-AreToldOf z codes (Err e) = Unit {0}
+abbrev pub AreItemsOf : Size → List ℕ → Result Told NoMemory → Type 0
+AreItemsOf z codes (Ok told) = (o : Outcome) × IsItemsOutcome z codes o × HoldsOutcome told o
+AreItemsOf z codes (Err e) = Unit {0}
 
 -- and of rows of May 1949
 abbrev pub AreToldOf1 : List ℕ → Result Told NoMemory → Type 0
-AreToldOf1 codes (Ok told) = (o : Outcome) × AreItemsTold1 codes o × TellsOutcome told o
+AreToldOf1 codes (Ok told) = (o : Outcome) × AreItemsTold1 codes o × HoldsOutcome told o
 AreToldOf1 codes (Err e) = Unit {0}

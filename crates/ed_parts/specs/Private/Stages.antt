@@ -11,8 +11,9 @@ use Rattle.ed_parts.specs.declared.part.Arrival.{Arrival}
 use Rattle.ed_parts.specs.declared.program.Met.{Met}
 use Rattle.ed_parts.specs.declared.program.Met.TheVariants.{Finished, Returned}
 use Rattle.ed_parts.specs.declared.tape.PartsFault.{PartsFault}
-use Rattle.ed_parts.specs.Parts.{ComesHome, Concludes, Finishes, GoesBack, IsTold, LeadsTo, TapePart, Told, told_lines}
-use Rattle.ed_parts.specs.Parts.{BreaksPart, ReachesPart, part_behind}
+use Rattle.ed_parts.specs.Parts.{ComesHome, Concludes, Finishes, GoesBack, ReportsParts, LeadsTo, TapePart, PartsReport}
+use Rattle.ed_parts.specs.Parts.{part_report}
+use Rattle.ed_parts.specs.Parts.{BreaksPart, ReachesPart, part_after}
 use Rattle.ed_parts.specs.Parts.{read_before}
 
 -- a program ended or returned
@@ -32,22 +33,22 @@ pub record IsArrival (rows : ℕ) (p : TapePart) (a : Arrival) (e : TapeEntry) :
   pub rows_are : a.rows ≡ read_before rows p + e.rows
 
 -- a sink has gained a prefix of the report from a part onwards
-pub record BreaksTold (limit rows : ℕ) (p : TapePart) (before after : Option (List ℕ)) : Type 0 where
+pub record BreaksReport (limit rows : ℕ) (p : TapePart) (before after : Option (List ℕ)) : Type 0 where
   pub returns : ℕ
-  pub tale : Told
-  pub told : IsTold limit rows returns p tale
+  pub tale : PartsReport
+  pub told : ReportsParts limit rows returns p tale
   pub gains : GainsPart before after tale.text
 
 -- a part was passed: it is the last one, and its report is written; or its program returned, and its lines are written;
 -- or it broke off
 abbrev pub Passes : ℕ → ℕ → TapePart → Result Passed PartsFault → State → Option (List ℕ) → Option (List ℕ) → Type 0
 Passes limit rows p (Ok (Over end)) last before after =
-    (t : Told) × Concludes limit rows p t × (end ≡ t.end) × (last ≡ t.last) × Gains before after t.text
+    (t : PartsReport) × Concludes limit rows p t × (end ≡ t.end) × (last ≡ t.last) × Gains before after t.text
 Passes limit rows p (Ok (Back done)) last before after =
-    (b : GoesBack limit p) × (done ≡ (part_behind p b).done) × (last ≡ (part_behind p b).state)
-    × Gains before after (told_lines rows p b)
+    (b : GoesBack limit p) × (done ≡ (part_after p b).done) × (last ≡ (part_after p b).state)
+    × Gains before after (part_report rows p b)
 Passes limit rows p (Err fault) last before after =
-    BreaksTold limit rows p before after × BreaksPart limit rows p fault last before after
+    BreaksReport limit rows p before after × BreaksPart limit rows p fault last before after
 
 -- the lines of the parts that returned are written so far, and the report from here on completes the report on the tape
 pub record Ahead (limit rows : ℕ) (first p : TapePart) (before after : Option (List ℕ)) : Type 0 where
@@ -55,5 +56,5 @@ pub record Ahead (limit rows : ℕ) (first p : TapePart) (before after : Option 
   pub text : List ℕ
   pub reached : ReachesPart limit rows first returns text p
   pub gains : Gains before after text
-  pub completes : (n : ℕ) (rest : Told) → IsTold limit rows n p rest
-      → (m : ℕ) × IsTold limit rows m first (record rest { text = text ++ rest.text })
+  pub completes : (n : ℕ) (rest : PartsReport) → ReportsParts limit rows n p rest
+      → (m : ℕ) × ReportsParts limit rows m first (record rest { text = text ++ rest.text })

@@ -2,7 +2,7 @@
 use Rattle.std.specs.Prelude.{ℕ, ◌≡◌, ◌+◌, ◌^◌, ◌≤◌, List}
 use Rattle.std.specs.List.{All}
 use Rattle.ed_machine.specs.State.{State}
-use Rattle.ed_machine.specs.Steps.{IsFree, state_after}
+use Rattle.ed_machine.specs.Steps.{AreObeyed, state_after}
 use Rattle.ed_stepper.specs.declared.marks.Mark.{Mark}
 
 -- a copy of the machine is that of the state after `done` orders
@@ -18,7 +18,7 @@ AreMarks start marks = All (λ m. IsMark start m) marks
 pub record IsSession (start : State) (machine : State) (marks : List Mark) (limit done : ℕ) : Type 0 where
   pub is : machine ≡ state_after done start
   pub count : machine.orders ≤ start.orders + done
-  pub free : IsFree done start
+  pub free : AreObeyed done start
   pub kept : AreMarks start marks
   pub most : done ≤ limit
   pub room : start.orders + limit ≤ 2 ^ 63

@@ -5,7 +5,7 @@ use Rattle.ed_codes.specs.Spelling.{byte_of}
 use Rattle.ed_words.specs.Words.{function_of}
 use Rattle.ed_machine.specs.State.{State}
 use Rattle.ed_machine.specs.OrderTable.{next_word}
-use Rattle.ed_machine.specs.Steps.{past, state_after}
+use Rattle.ed_machine.specs.Steps.{progress, state_after}
 use Rattle.ed_machine.specs.declared.ending.Ending.{Ending}
 use Rattle.ed_run.specs.Run.{EndsAfter, end_at}
 use Rattle.ed_io.specs.Bytes.{Gains, GainsPart}
@@ -57,7 +57,7 @@ pub record BreaksTrace (limit resumes : ℕ) (s last : State) (before after : Op
   pub orders : ℕ
   pub some : 0 < orders
   pub full : orders % 50 ≡ 0
-  pub first : (j : ℕ) → j < orders → end_at limit resumes limit j (past j s) ≡ None
+  pub first : (j : ℕ) → j < orders → end_at limit resumes limit j (progress j s) ≡ None
   pub state_is : last ≡ state_after orders s
   pub part : List ℕ
   pub rest : List ℕ

@@ -2,7 +2,7 @@ use Rattle.std.proofs.Common.{◌≡◌, arith, sym, ap, ◌∙◌, rules}
 use Rattle.ed_machine.specs.OrderTable.{step}
 use Rattle.ed_machine.specs.Steps.{is_obeyed}
 use Rattle.ed_machine.specs.declared.turn.Turn.TheVariants.{Went}
-use Rattle.ed_initial.specs.Load.{is_went}
+use Rattle.ed_initial.specs.Load.{is_quiet_turn}
 use Rattle.ed_machine.proofs.Steps.{next_state}
 use Rattle.ed_initial.proofs.Runs.{no_orders}
 use Rattle.ed_initial1.proofs.Turns.{more_quiet, sounded_now, sounds}
@@ -20,7 +20,7 @@ returns-in-Printed-clause-ends c =
     let turn = sym c.step.ensures.turn in
     let h = sounds c.step.result c.in-Printed.is in
     sounded_now _ (omega arith) l.went l.state c.step.ensures.state
-    (ap is_obeyed turn ∙ h.0) (ap is_went turn ∙ h.1) (search rules)
+    (ap is_obeyed turn ∙ h.0) (ap is_quiet_turn turn ∙ h.1) (search rules)
 
 pub returns-in-Printed-clause-state : goal.returns-in-Printed-clause-state
 returns-in-Printed-clause-state c = next_state _ _ c.loop-orders.invariant.state c.step.ensures.state

@@ -5,13 +5,13 @@ use Rattle.ed_link.proofs.building.build.Goals as goal
 pub loop-line-init : goal.loop-line-init
 loop-line-init c =
     let s = c.in_ok-built.ensures in
-    start (λ i. record { runs = c.new.ensures.items i; entered = false }) c.first-spot.ensures s.0 s.1 s.2 s.3
+    start (λ i. record { runs = c.new.ensures.items i; entered = false }) c.first-counter.ensures s.0 s.1 s.2 s.3
 
 pub loop-line-preserved : goal.loop-line-preserved
 loop-line-preserved c =
     let added = c.in_ok-add_line.ensures in
-    let passed = c.in_ok-pass_line.ensures in
-    let spot = c.passed-spot.ensures in
+    let after_statement = c.in_ok-pass_line.ensures in
+    let counter = c.after_statement-counter.ensures in
     step c.loop-line.invariant c.loop-line-test.true c.line-item.is (record {
       cause = sym c.in-None.ensures;
       few = c.bound_rows.ensures;
@@ -21,16 +21,16 @@ loop-line-preserved c =
       size = added.size;
       rows_are = added.after;
       entry_is = added.entry;
-      spot_is = spot.is;
-      place = spot.place;
-      segments = spot.segments;
-      runs = passed.runs;
-      entered = passed.entered;
+      spot_is = counter.is;
+      place = counter.place;
+      segments = counter.segments;
+      runs = after_statement.runs;
+      entered = after_statement.entered;
     })
 
 pub add_line-requires-clause-fits : goal.add_line-requires-clause-fits
 add_line-requires-clause-fits c =
-    reach_fits c.args.size c.args.homes.now c.args.any
+    reach_fits c.args.size c.args.symbols.now c.args.has_enter
     (record { runs = c.loop-line.past.runs.items; entered = c.loop-line.past.entered }) c.line-item.result
-    c.loop-line.spot
+    c.loop-line.counter
     (sym c.in-None.ensures)

@@ -8,11 +8,11 @@ use Rattle.ed_link.proofs.linking.link_names.Goals as goal
 pub returns-clause-linked : goal.returns-clause-linked
 returns-clause-linked c =
     let n : c.len.result ≡ length c.args.program.now.lines.items = omega arith in
-    let missed = c.missing-missing.ensures ∙ ap (λ (x : ℕ). missing c.any_enter-any.result x) n in
+    let missed = c.missing-missing.ensures ∙ ap (λ (x : ℕ). missing c.any_enter-has_enter.result x) n in
     finished _ c.catalogue_size-ready.ensures.ready c.args.program.now.numbered c.args.program.now.formed
-    c.requires.homes
-    (c.any_enter-any.ensures ∙ ap (λ (x : List Line). any_enter x) c.deref.ensures.value)
+    c.requires.symbols
+    (c.any_enter-has_enter.ensures ∙ ap (λ (x : List Line). any_enter x) c.deref.ensures.value)
     (sym c.requires.names ∙ c.in_default.is, sym missed ∙ c.in_default-missing.is)
-    (subst (λ (x : List Line). IsBuilt c.args.size c.args.homes.now c.any_enter-any.result x c.in-Ok.built)
+    (subst (λ (x : List Line). IsBuilt c.args.size c.args.symbols.now c.any_enter-has_enter.result x c.in-Ok.built)
     c.deref-2.ensures.value c.in-Ok.ensures)
     c.in_ok-finish.ensures

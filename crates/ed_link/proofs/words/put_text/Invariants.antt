@@ -1,10 +1,10 @@
 use Rattle.std.proofs.Common.{◌≡◌, ◌+◌, ◌*◌, drop, map, length}
-use Rattle.ed_link.specs.Linked.{laid}
+use Rattle.ed_link.specs.Linked.{placed_words}
 use Rattle.ed_link.specs.Tables.{put_all}
 use Rattle.ed_link.proofs.words.put_text.Given as goal
 
 abbrev pub invariant-loop-code : goal.invariant-loop-code
 invariant-loop-code l =
-    (put_all l.table.items (laid l.at (map (λ c. 4096 * c) (drop l.code-index l.codes)))
-    ≡ put_all l.fn.table.items (laid l.place (map (λ c. 4096 * c) l.codes)))
+    (put_all l.table.items (placed_words l.at (map (λ c. 4096 * c) (drop l.code-index l.codes)))
+    ≡ put_all l.fn.table.items (placed_words l.place (map (λ c. 4096 * c) l.codes)))
     × (l.at ≡ l.place + l.code-index) × (length l.table.items ≡ length l.fn.table.items)

@@ -5,14 +5,14 @@ use Rattle.ed_initial1.specs.declared.cause.Tape1Fault.{Tape1Fault}
 use Rattle.ed_initial1.specs.declared.cause.Tape1Fault.TheVariants.{At}
 use Rattle.ed_report.specs.FirstNotes.{rule1_line}
 use Rattle.ed_answers.specs.Outcome.{done}
-use Rattle.ed_page.specs.Private.Stages.{TellsOutcome}
+use Rattle.ed_page.specs.Private.Stages.{HoldsOutcome}
 use Rattle.ed_page.proofs.FirstItemRows.{fault_told1, program_told1}
 use Rattle.ed_page.proofs.first_items.row_items1.Goals as goal
 
 pub returns-in_ok-item_table1-in-Ok : goal.returns-in_ok-item_table1-in-Ok
 returns-in_ok-item_table1-in-Ok c =
     program_told1 c.in-Ok.ensures.answers c.rows.ensures
-    (subst (λ (out : List ℕ). TellsOutcome c.done.result (done out)) c.in_ok-item_table1-in-Ok.ensures c.done.ensures)
+    (subst (λ (out : List ℕ). HoldsOutcome c.done.result (done out)) c.in_ok-item_table1-in-Ok.ensures c.done.ensures)
 
 pub returns-in_ok-tape1_fault-in-Err-At : goal.returns-in_ok-tape1_fault-in-Err-At
 returns-in_ok-tape1_fault-in-Err-At c =
@@ -21,9 +21,14 @@ returns-in_ok-tape1_fault-in-Err-At c =
     let items = c.in_ok-items-in-Err-At.items.items in
     let answers : Answers1 c.args.rows.now (Err (At row cause)) =
     subst (λ (f : Tape1Fault). Answers1 c.args.rows.now (Err f)) c.in-Err-At.field-0-is c.in-Err-At.ensures.answers in
-    let noted : TellsOutcome c.refused.result (record { out = items; note = rule1_line row cause; status = 3 }) =
-    subst (λ (note : List ℕ). TellsOutcome c.refused.result (record { out = items; note = note; status = 3 }))
+    let noted : HoldsOutcome c.refused.result (record { out = items; note = rule1_line row cause; status = 3 }) =
+    subst (λ (note : List ℕ). HoldsOutcome c.refused.result (record { out = items; note = note; status = 3 }))
     c.in_ok-tape1_fault-in-Err-At.ensures c.refused.ensures in
     fault_told1 answers
-    (subst (λ (out : List ℕ). TellsOutcome c.refused.result (record { out = out; note = rule1_line row cause; status = 3 }))
+    (subst (λ (out : List ℕ). HoldsOutcome c.refused.result (record {
+      out = out;
+      note =
+          rule1_line row cause;
+      status = 3;
+    }))
     c.in_ok-items-in-Err-At.ensures noted)

@@ -6,14 +6,14 @@ use Rattle.ed_notation.specs.declared.cause.TapeFault.{TapeFault}
 use Rattle.ed_notation.specs.declared.cause.TapeFault.TheVariants.{At}
 use Rattle.ed_report.specs.Notes.{rule_line}
 use Rattle.ed_answers.specs.Outcome.{done}
-use Rattle.ed_page.specs.Private.Stages.{TellsOutcome}
+use Rattle.ed_page.specs.Private.Stages.{HoldsOutcome}
 use Rattle.ed_page.proofs.ItemRows.{entered_told, fault_told}
 use Rattle.ed_page.proofs.items.row_items.Goals as goal
 
 pub returns-in-Ok : goal.returns-in-Ok
 returns-in-Ok c =
     entered_told c.args.size c.in_ok-store.ensures c.in-Ok.ensures.answers c.rows.ensures
-    (subst (λ (out : List ℕ). TellsOutcome c.done.result (done out)) c.in_ok-item_table-in-Ok.ensures c.done.ensures)
+    (subst (λ (out : List ℕ). HoldsOutcome c.done.result (done out)) c.in_ok-item_table-in-Ok.ensures c.done.ensures)
 
 pub returns-in-Err-At : goal.returns-in-Err-At
 returns-in-Err-At c =
@@ -24,9 +24,14 @@ returns-in-Err-At c =
     let answers : AnswersCheck c.args.size words (opening words) 9 c.args.rows.now (Err (At row cause)) =
     subst (λ (f : TapeFault). AnswersCheck c.args.size words (opening words) 9 c.args.rows.now (Err f))
     c.in-Err-At.field-0-is c.in-Err-At.ensures.answers in
-    let noted : TellsOutcome c.refused.result (record { out = items; note = rule_line row cause; status = 3 }) =
-    subst (λ (note : List ℕ). TellsOutcome c.refused.result (record { out = items; note = note; status = 3 }))
+    let noted : HoldsOutcome c.refused.result (record { out = items; note = rule_line row cause; status = 3 }) =
+    subst (λ (note : List ℕ). HoldsOutcome c.refused.result (record { out = items; note = note; status = 3 }))
     c.in_ok-tape_fault-in-Err-At.ensures c.refused.ensures in
     fault_told c.args.size c.in_ok-store.ensures answers
-    (subst (λ (out : List ℕ). TellsOutcome c.refused.result (record { out = out; note = rule_line row cause; status = 3 }))
+    (subst (λ (out : List ℕ). HoldsOutcome c.refused.result (record {
+      out = out;
+      note =
+          rule_line row cause;
+      status = 3;
+    }))
     c.in_ok-items-in-Err-At.ensures noted)

@@ -1,7 +1,7 @@
 use Rattle.std.proofs.Common.{◌≡◌, ◌+◌, ◌≤◌, refl, ap, arith}
 use Rattle.std.proofs.lemmas.Result.{err_from_is_err_and}
 use Rattle.ed_io.proofs.Calls.{gains_more, gains_none}
-use Rattle.ed_parts.specs.Parts.{cut, entry_done, finished, part_behind}
+use Rattle.ed_parts.specs.Parts.{cut, entry_done, finished, part_after}
 use Rattle.ed_parts.specs.Private.Stages.{stage_part}
 use Rattle.ed_parts.proofs.Passing.{back_from, behind_is, entry_breaks, entry_is, finishes_there, made_as}
 use Rattle.ed_parts.proofs.Passing.{entry_stops, return_breaks, return_stops, returned_is, there}
@@ -65,7 +65,7 @@ returns-in_ok-write_line-in-Returned-clause-passes g c =
     back_from l p a.0 a.1.orders_are c.obey-2.ensures.state a.1.leads
     (omega (arith, c.if-left-arrival.false, c.requires.done)) m.0 in
     let last = behind_is l p a.0 a.1.orders_are c.obey-2.ensures.state c.in-Returned.orders m.1 in
-    let count : c.args.stage.done + c.args.arrival.orders + c.in-Returned.orders ≡ (part_behind p b).done =
+    let count : c.args.stage.done + c.args.arrival.orders + c.in-Returned.orders ≡ (part_after p b).done =
     ap (λ n. c.args.stage.done + n + c.in-Returned.orders) a.1.orders_are in
     let told = returned_is b last c.directive.ensures c.order-address.ensures.is count in (
       b,
@@ -86,7 +86,7 @@ returns-in_err-write_line-in-Returned-clause-passes g c =
     back_from l p a.0 a.1.orders_are c.obey-2.ensures.state a.1.leads
     (omega (arith, c.if-left-arrival.false, c.requires.done)) m.0 in
     let last = behind_is l p a.0 a.1.orders_are c.obey-2.ensures.state c.in-Returned.orders m.1 in
-    let count : c.args.stage.done + c.args.arrival.orders + c.in-Returned.orders ≡ (part_behind p b).done =
+    let count : c.args.stage.done + c.args.arrival.orders + c.in-Returned.orders ≡ (part_after p b).done =
     ap (λ n. c.args.stage.done + n + c.in-Returned.orders) a.1.orders_are in
     let told = returned_is b last c.directive.ensures c.order-address.ensures.is count in
     let whole = c.in_ok-write_line.ensures.whole _ (made_as _ _ _ line c.entry_text.ensures) in

@@ -1,13 +1,13 @@
 use Rattle.std.proofs.Common.{◌≡◌, ◌++◌, ◌-◌, ◌<◌}
 use Rattle.ed_sources.specs.Calls.{text_of_lines}
-use Rattle.ed_sources.specs.Demo.{number_behind, word_lines}
+use Rattle.ed_sources.specs.Demo.{number_after, word_lines}
 use Rattle.ed_sources.proofs.demo.push_words.Given as goal
 
 -- the number so far is on the way to the last; the text so far, and then the lines of the words that are left
 abbrev pub invariant-loop-word : goal.invariant-loop-word
 invariant-loop-word l = record {
   low : l.number < 65536;
-  last : number_behind (8 - l._word) l.number ≡ number_behind 8 l.before;
+  last : number_after (8 - l._word) l.number ≡ number_after 8 l.before;
   text : l.text.items ++ text_of_lines (word_lines (8 - l._word) l.number)
       ≡ l.initial.text.items ++ text_of_lines (word_lines 8 l.before);
 }

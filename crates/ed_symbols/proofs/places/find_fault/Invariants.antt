@@ -1,12 +1,12 @@
 use Rattle.std.proofs.Common.{◌≡◌, ◌+◌, ◌*◌, ◌≤◌, [], drop}
 use Rattle.ed_symbols.specs.Faults.{naming_fault_from}
-use Rattle.ed_symbols.specs.Places.{first_spot}
+use Rattle.ed_symbols.specs.Places.{first_counter}
 use Rattle.ed_symbols.proofs.places.find_fault.Given as goal
 
 -- the fault is that of the lines that are left
 abbrev pub invariant-loop-line : goal.invariant-loop-line
 invariant-loop-line l =
-    (naming_fault_from l.homes l.earlier.items l.spot (drop l.line-index l.program.lines.items)
-    ≡ naming_fault_from l.homes [] first_spot l.program.lines.items)
-    × (l.spot.place ≤ 56 + 65536 * l.line-index)
-    × (l.spot.segments ≤ l.line-index)
+    (naming_fault_from l.symbols l.earlier.items l.counter (drop l.line-index l.program.lines.items)
+    ≡ naming_fault_from l.symbols [] first_counter l.program.lines.items)
+    × (l.counter.place ≤ 56 + 65536 * l.line-index)
+    × (l.counter.segments ≤ l.line-index)

@@ -1,6 +1,6 @@
 use Rattle.std.proofs.Common.{◌+◌, sym, ap, subst, ◌∙◌, arith}
 use Rattle.ed_machine.specs.State.{State}
-use Rattle.ed_machine.specs.Steps.{IsFree, state_after}
+use Rattle.ed_machine.specs.Steps.{AreObeyed, state_after}
 use Rattle.ed_stepper.specs.Sessions.{Moves, Stand}
 use Rattle.ed_stepper.specs.declared.moves.Moved.{Moved}
 use Rattle.ed_machine.proofs.Steps.{after_sum, free_sum}
@@ -14,7 +14,7 @@ invariant_of-self c =
     record {
       is = w.state ∙ ap (state_after c.walk-walked.result.orders) i.is ∙ sym (after_sum _ _ _);
       count = omega (arith, w.count, i.count);
-      free = free_sum _ _ _ i.free (subst (λ (x : State). IsFree c.walk-walked.result.orders x) i.is w.free);
+      free = free_sum _ _ _ i.free (subst (λ (x : State). AreObeyed c.walk-walked.result.orders x) i.is w.free);
       kept = w.marks c.self.inside.start i.is i.count i.kept;
       most = omega (arith, w.most, i.most);
       room = i.room;

@@ -5,18 +5,18 @@ use Rattle.std.proofs.Common.{List, [], ◌++◌}
 use Rattle.std.proofs.lemmas.Bool.{cases_lt}
 use Rattle.ed_machine.specs.State.{State}
 use Rattle.ed_machine.specs.OrderTable.{Obeyed, step}
-use Rattle.ed_machine.specs.Steps.{Past, past, state_after, codes_of, stops_of, is_obeyed}
+use Rattle.ed_machine.specs.Steps.{Progress, progress, state_after, codes_of, stops_of, is_obeyed}
 use Rattle.ed_machine.specs.declared.turn.Turn.{Turn}
 use Rattle.ed_paths.proofs.Leads.{Leads, free, no_stops}
 use Rattle.ed_machine.proofs.Steps.{past_after, past_sum, after_sum}
-use Rattle.ed_checker.specs.Laws.{Ran}
+use Rattle.ed_checker.specs.Laws.{HasRun}
 
 -- orders after orders
-pub joined : {a b n l : ℕ} {cs ds : List ℕ} {s m t : State} → Ran a s cs n m → Ran b m ds l t
-    → Ran (a + b) s (cs ++ ds) (n + l) t
+pub joined : {a b n l : ℕ} {cs ds : List ℕ} {s m t : State} → HasRun a s cs n m → HasRun b m ds l t
+    → HasRun (a + b) s (cs ++ ds) (n + l) t
 joined {a} {b} {n} {l} {cs} {ds} {s} {m} {t} g h = record {
   is = past_sum a b s
-      ∙ ap (λ (p : Past). past_after p (past b p.state)) g.is
+      ∙ ap (λ (p : Progress). past_after p (progress b p.state)) g.is
       ∙ ap (past_after (record { state = m; codes = cs; stops = n })) h.is;
   free = λ j lj. by_place j lj (cases_lt j a);
 }
@@ -26,18 +26,18 @@ joined {a} {b} {n} {l} {cs} {ds} {s} {m} {t} g h = record {
     by_place j lj (inr high) =
         let e : a + (j - a) ≡ j = omega arith in
         let same : state_after (j - a) m ≡ state_after j s =
-        ap (λ (p : Past). state_after (j - a) p.state) (sym g.is)
+        ap (λ (p : Progress). state_after (j - a) p.state) (sym g.is)
         ∙ sym (after_sum a (j - a) s)
         ∙ ap (λ x. state_after x s) e in
         ap (λ (x : State). is_obeyed (step x).turn) (sym same) ∙ h.free (j - a) (omega arith)
 
-pub none : (s : State) → Ran 0 s [] 0 s
-unfolding past
+pub none : (s : State) → HasRun 0 s [] 0 s
+unfolding progress
 none s = record { is = refl; free = λ j h. absurd (omega arith) }
 
 pub one : (s t : State) (u : Turn) → step s ≡ record { state = t; turn = u } → is_obeyed u ≡ true
-    → Ran 1 s (codes_of u) (stops_of u) t
-unfolding past
+    → HasRun 1 s (codes_of u) (stops_of u) t
+unfolding progress
 one s t u e o = record {
   is = ap (λ (x : Obeyed). record { state = x.state; codes = codes_of x.turn; stops = 0 + stops_of x.turn }) e
       ∙ (let z : 0 + stops_of u ≡ stops_of u = omega arith
@@ -48,11 +48,11 @@ one s t u e o = record {
 }
 
 -- the orders of a path
-pub along : {k : ℕ} {s t : State} {cs : List ℕ} → Leads k s cs t → Ran k s cs 0 t
+pub along : {k : ℕ} {s t : State} {cs : List ℕ} → Leads k s cs t → HasRun k s cs 0 t
 along {k} {s} o = record {
   is = λ i. record { state = o.state_is i; codes = o.codes_are i; stops = no_stops k s o.goes i };
   free = free o;
 }
 
-pub renamed : {k n l : ℕ} {s t : State} {cs ds : List ℕ} → Ran k s cs n t → cs ≡ ds → n ≡ l → Ran k s ds l t
-renamed {k} {n} {s = s} {t} {ds = ds} r c e = subst (λ l. Ran k s ds l t) e (subst (λ xs. Ran k s xs n t) c r)
+pub renamed : {k n l : ℕ} {s t : State} {cs ds : List ℕ} → HasRun k s cs n t → cs ≡ ds → n ≡ l → HasRun k s ds l t
+renamed {k} {n} {s = s} {t} {ds = ds} r c e = subst (λ l. HasRun k s ds l t) e (subst (λ xs. HasRun k s xs n t) c r)

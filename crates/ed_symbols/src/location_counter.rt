@@ -1,14 +1,15 @@
 //! The location of a line.
 ghost use Rattle.std.specs.Prelude.{◌≡◌, ◌+◌, ◌≤◌, ◌^◌, unwrap_or};
 ghost use Rattle.ed_library.specs.Routines.{find};
-ghost use Rattle.ed_symbols.specs.Places.{even_from, first_spot, passed, segment_at, standing, routine_places};
+ghost use Rattle.ed_symbols.specs.Places.{even_from, first_counter, after_statement, segment_at, position};
+ghost use Rattle.ed_symbols.specs.Places.{routine_places};
 
 use ed_library::find;
 use ed_syntax::{Line, Name, Statement};
 
 /// The location counter and the segment before a line.
 #[derive(Clone, Copy, Debug, PartialEq, Eq)]
-pub struct Spot {
+pub struct LocationCounter {
     /// The location before the line.
     pub place: u32,
     /// The location at which the last `segment` or `use` line before it begins, or 56 if there is none.
@@ -21,7 +22,7 @@ pub struct Spot {
 
 /// The location before a line, and the segment to which the line belongs.
 #[derive(Clone, Copy)]
-pub(crate) struct Standing {
+pub(crate) struct LinePosition {
     pub(crate) place: u32,
     pub(crate) segment: Option<u32>,
 }
@@ -57,12 +58,12 @@ pub(crate) fn base_or(base: &Option<u16>, place: u32) -> u32
     }
 }
 
-impl Spot {
+impl LocationCounter {
     /// Before the first line.
-    pub fn first() -> Spot
-        ensures { result ≡ first_spot }
+    pub fn first() -> LocationCounter
+        ensures { result ≡ first_counter }
     {
-        Spot {
+        LocationCounter {
             place: 56,
             base: 56,
             segments: 0,
@@ -71,22 +72,22 @@ impl Spot {
     }
 
     /// The same, some words further on.
-    fn moved(self, words: u32) -> Spot
+    fn moved(self, words: u32) -> LocationCounter
         requires place { self.place ≤ 2 ^ 30 }
         requires words { words ≤ 65536 }
         ensures { result ≡ record self { place = self.place + words } }
     {
-        Spot {
+        LocationCounter {
             place: self.place + words,
             ..self
         }
     }
 
     /// After a statement.
-    pub fn passed(self, statement: &Option<Statement>) -> Spot
+    pub fn after_statement(self, statement: &Option<Statement>) -> LocationCounter
         requires place { self.place ≤ 2 ^ 30 }
         requires segments { self.segments ≤ 2000 }
-        ensures is { result ≡ passed statement.now self }
+        ensures is { result ≡ after_statement statement.now self }
         ensures place { result.place ≤ self.place + 65536 }
         ensures segments { result.segments ≤ self.segments + 1 }
     {
@@ -94,17 +95,17 @@ impl Spot {
             None | Some(Statement::Enter { .. } | Statement::Rows { .. }) => self,
             Some(Statement::Order { .. } | Statement::Number { .. }) => self.moved(1),
             Some(Statement::Text { codes }) => self.moved(codes.len() as u32),
-            Some(Statement::Long { .. }) => Spot {
+            Some(Statement::Long { .. }) => LocationCounter {
                 place: even(self.place) + 2,
                 ..self
             },
-            Some(Statement::Segment { base, .. }) => Spot {
+            Some(Statement::Segment { base, .. }) => LocationCounter {
                 place: base_or(base, self.place),
                 base: base_or(base, self.place),
                 segments: self.segments + 1,
                 inside: true,
             },
-            Some(Statement::Fetch { routine, .. }) => Spot {
+            Some(Statement::Fetch { routine, .. }) => LocationCounter {
                 place: even(self.place) + taken(routine),
                 base: even(self.place),
                 segments: self.segments + 1,
@@ -113,7 +114,7 @@ impl Spot {
         }
     }
 
-    /// The segment of the spot.
+    /// The segment of the location counter.
     pub fn segment(self) -> Option<u32>
         ensures { result ≡ segment_at self }
     {
@@ -126,13 +127,13 @@ impl Spot {
 }
 
 /// The location before a line, and the segment to which it belongs.
-pub(crate) fn standing_of(line: &Line, spot: Spot) -> Standing
-    requires place { spot.place ≤ 2 ^ 30 }
-    requires segments { spot.segments ≤ 2000 }
-    ensures { result ≡ standing line.now spot }
+pub(crate) fn position_of(line: &Line, counter: LocationCounter) -> LinePosition
+    requires place { counter.place ≤ 2 ^ 30 }
+    requires segments { counter.segments ≤ 2000 }
+    ensures { result ≡ position line.now counter }
 {
-    Standing {
-        place: spot.place,
-        segment: spot.passed(&line.statement).segment(),
+    LinePosition {
+        place: counter.place,
+        segment: counter.after_statement(&line.statement).segment(),
     }
 }

@@ -1,9 +1,0 @@
-use Rattle.std.proofs.Common.{◌≡◌, drop}
-use Rattle.std.specs.List.{list_any}
-use Rattle.ed_link.specs.Private.FaultTests.{meets}
-use Rattle.ed_link.proofs.faults.meets_any.Given as goal
-
--- the same for the extents that are left
-abbrev pub invariant-loop-other : goal.invariant-loop-other
-invariant-loop-other l = list_any (λ other. meets l.run other) (drop l.other-index l.others)
-    ≡ list_any (λ other. meets l.run other) l.others
