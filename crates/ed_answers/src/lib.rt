@@ -18,6 +18,6 @@ pub use check::check_tape;
 pub use first_orders::{check_tape1, run_rows1, tape1};
 pub use reply::{Rejection, Reply};
 pub use rows::rows_of;
-pub use running::{FinishedRun, ran_reply, run_rows, status_of};
+pub use running::{FinishedRun, ran_reply, run_rows, status_of, window_printed};
 pub use source::{NotedRun, linked_of, list, list_linked, punch, run, run_linked};
 pub use tapes::tape;

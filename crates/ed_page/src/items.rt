@@ -198,10 +198,8 @@ fn push_number(table: &mut Vec<u8>, number: u32) -> Result<(), NoMemory>
 fn push_byte(table: &mut Vec<u8>, byte: u8) -> Result<(), NoMemory>
     ensures { IfOk result (λ _. table.new.items ≡ table.old.items ++ byte ∷ []) }
 {
-    match table.push(byte) {
-        Ok(()) => Ok(()),
-        Err(_) => Err(NoMemory),
-    }
+    table.push(byte)?;
+    Ok(())
 }
 
 impl OpenItem {

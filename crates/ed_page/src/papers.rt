@@ -51,9 +51,7 @@ fn added_text(alloc: Global, before: &[u8], codes: &[u8]) -> Result<Vec<u8>, NoM
     let mut printer = printer_after(before);
     let mut text = Vec::new(alloc);
     for code in codes {
-        if printer.print(code_of(*code), &mut text).is_err() {
-            return Err(NoMemory);
-        }
+        printer.print(code_of(*code), &mut text)?;
     }
     Ok(text)
 }

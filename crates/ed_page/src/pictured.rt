@@ -81,9 +81,7 @@ fn rows_left(alloc: Global, rows: &[u8], left: usize) -> Result<Vec<Code>, NoMem
 {
     let mut codes = Vec::new(alloc);
     for row in &rows[rows.len() - left..] {
-        if codes.push(code_of(*row)).is_err() {
-            return Err(NoMemory);
-        }
+        codes.push(code_of(*row))?;
     }
     Ok(codes)
 }

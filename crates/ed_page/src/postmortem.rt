@@ -1,11 +1,10 @@
 //! The post-mortem of the state that a picture shows.
 
-ghost use Rattle.std.specs.Prelude.{◌≡◌, ◌⊎◌, ◌≢◌, ◌↔◌, ℕ, ◌+◌, ◌^◌, ◌≤◌, IfErr, IfOk, IsTrue, List, Some, length};
+ghost use Rattle.std.specs.Prelude.{◌≡◌, ◌⊎◌, ◌≢◌, ◌↔◌, ℕ, ◌+◌, ◌^◌, ◌≤◌, IfOk, IsTrue, List, Some, length};
 ghost use Rattle.ed_command.specs.Ranges.{IsWindowOf};
 ghost use Rattle.ed_command.specs.declared.command.Window.{Window};
 ghost use Rattle.ed_machine.specs.State.{State};
 ghost use Rattle.ed_machine.specs.Steps.{state_after};
-ghost use Rattle.ed_postmortem.specs.Codes.{printed_codes};
 ghost use Rattle.ed_answers.specs.Runs.{post_mortem_codes};
 ghost use Rattle.ed_page.specs.Going.{CanGoOn, IsAfterStart};
 ghost use Rattle.ed_page.specs.Pictures.{Pictures, size_shown};
@@ -16,9 +15,8 @@ use crate::running::size_of;
 use crate::texts::bytes_of_rows;
 use crate::told::{NO_MEMORY, NO_ROOM};
 use crate::writing::{Registers, write_text};
+use ed_answers::window_printed;
 use ed_command::Window;
-use ed_machine::{Machine, Paper};
-use ed_postmortem::{PmFault, post_mortem};
 use ed_words::{NoMemory, Size};
 use std::alloc::Global;
 
@@ -27,9 +25,6 @@ const WRITTEN: u32 = 0;
 
 /// The answer where there are no such locations.
 const REFUSED: u32 = 3;
-
-/// How many codes the paper of a post-mortem holds, which are enough for all words that can be printed.
-const ROOM: usize = 9_680;
 
 /// Writes the codes that a post-mortem prints of the words at `window` in the state that a picture shows, and their
 /// number, and answers 0.
@@ -101,28 +96,8 @@ fn pictured_codes(
         → found.items ≡ post_mortem_codes (Some window) (state_after k s)) }
 {
     let mut machine = pictured(alloc, small, rows, words, digits, registers)?;
-    match window_codes(alloc, &mut machine, window) {
-        Ok(codes) => Ok(codes),
-        Err(_) => Err(NoMemory),
-    }
-}
-
-/// The codes of the words at a window. No post-mortem of it is refused: it lies in the store, and the paper has room.
-fn window_codes(alloc: Global, machine: &mut Machine, window: Window) -> Result<Vec<u8>, PmFault>
-    requires window { IsWindowOf machine.old.size window }
-    requires orders { machine.old.orders + 300000 ≤ 2 ^ 63 }
-    ensures is { IfOk result (λ found.
-        found.items ≡ printed_codes machine.old.store.words window.first window.count) }
-    ensures memory { IfErr result (λ fault. fault ≡ PmFault.Memory) }
-{
-    let Ok(mut paper) = Paper::new(alloc, ROOM) else {
-        return Err(PmFault::Memory);
-    };
-    post_mortem(alloc, machine, window.first, window.count, &mut paper)?;
-    match bytes_of_rows(alloc, paper.codes()) {
-        Ok(codes) => Ok(codes),
-        Err(NoMemory) => Err(PmFault::Memory),
-    }
+    let paper = window_printed(alloc, window, &mut machine)?;
+    bytes_of_rows(alloc, paper.codes())
 }
 
 /// Writes codes and their number, if the buffer has room.

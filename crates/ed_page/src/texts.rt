@@ -169,9 +169,7 @@ pub fn bytes_of_rows(alloc: Global, rows: &[Code]) -> Result<Vec<u8>, NoMemory>
 {
     let mut bytes = Vec::new(alloc);
     for row in rows {
-        if bytes.push(row.value()).is_err() {
-            return Err(NoMemory);
-        }
+        bytes.push(row.value())?;
     }
     Ok(bytes)
 }

@@ -68,9 +68,7 @@ impl Told {
         ensures { IfOk result (λ told. HoldsOutcome told too_long_outcome) }
     {
         let mut note = Vec::new(alloc);
-        if note.extend_from_slice(TOO_LONG).is_err() {
-            return Err(NoMemory);
-        }
+        note.extend_from_slice(TOO_LONG)?;
         Ok(Told {
             out: Vec::new(alloc),
             note,

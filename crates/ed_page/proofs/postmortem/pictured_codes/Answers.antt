@@ -6,8 +6,8 @@ use Rattle.ed_page.specs.Pictures.{size_shown}
 use Rattle.ed_page.proofs.OnTheWay.{begun, way_size}
 use Rattle.ed_page.proofs.postmortem.pictured_codes.Goals as goal
 
-pub window_codes-requires-clause-window : goal.window_codes-requires-clause-window
-window_codes-requires-clause-window c =
+pub window_printed-requires-clause-window : goal.window_printed-requires-clause-window
+window_printed-requires-clause-window c =
     let p = c.requires.picture in
     let size : c.in_ok-machine.machine.size ≡ size_shown c.args.small =
     ap (λ (s : State). s.size) (c.in_ok-machine.ensures p.first p.begins p.way.orders p.way.pictured)
