@@ -1,9 +1,10 @@
 //! What a web page shows of the machine: pictures of the run of a tape, for either Initial Orders, or of a source,
-//! after a number of orders from Start, the rows of tapes, the listing of a source, and the texts of rows and orders.
+//! after a number of orders from Start, the rows and the items of tapes, the tape and the listing of a source, what an
+//! order names, a post-mortem, and the texts of rows and orders.
 //!
 //! The exports keep no state. Their contract is that each answer is the program's own to the same text, with its texts
 //! at the heads of the caller's buffers, and that each other answer has its cause. Stands on `ed_answers` for what the program
-//! answers, and on `ed_run` and `ed_report`.
+//! answers, and on `ed_notation`, `ed_initial1`, `ed_orders`, `ed_postmortem`, `ed_run` and `ed_report`.
 #![tactic(auto)]
 
 mod first_items;
