@@ -19,7 +19,7 @@ use Rattle.ed_report.specs.FirstNotes.{rule1_line}
 use Rattle.ed_answers.specs.Outcome.{Outcome, done}
 use Rattle.ed_page.specs.TapeItems.{item_line, item_table1}
 use Rattle.ed_page.specs.Private.ItemTables.{first_word, item_at, table_on1, opened_with}
-use Rattle.ed_page.specs.Private.Stages.{AreToldOf1, HoldsOutcome}
+use Rattle.ed_page.specs.Private.Stages.{AreItemsOf1, HoldsOutcome}
 use Rattle.ed_page.specs.declared.items.OpenItem.{OpenItem}
 use Rattle.ed_page.specs.declared.told.Told.{Told}
 use Rattle.ed_page.proofs.ItemRows.{IsOpen, larger, with_number}
@@ -112,7 +112,7 @@ table_is1 row location (i ∷ is) p are part =
 
 -- what is told of a tape without a fault
 pub program_told1 : {codes : List ℕ} {r : Report1} {count : ℕ} {told : Told} → Accepts1 codes r → count ≡ r.rows
-    → HoldsOutcome told (done (table_on1 0 31 None (take count codes))) → AreToldOf1 codes (Ok told)
+    → HoldsOutcome told (done (table_on1 0 31 None (take count codes))) → AreItemsOf1 codes (Ok told)
 program_told1 {codes} {r} {count} {told} accepts many tells =
     let is = accepts.tape.items in
     let n : count ≡ length (spelled1 is) = many ∙ ap (λ (x : Report1). x.rows) accepts.report_is in
@@ -132,7 +132,7 @@ pub fault_told1 : {codes : List ℕ} {row : ℕ} {cause : Tape1Cause} {told : To
       note = rule1_line row cause;
       status = 3;
     })
-    → AreToldOf1 codes (Ok told)
+    → AreItemsOf1 codes (Ok told)
 fault_told1 {codes} {row} {cause} {told} f tells =
     let s = f.is.stands in
     let read = spelled1 s.before ++ part_rows1 s.part in

@@ -119,9 +119,9 @@ pub record OfFaultyTape1 (codes : List ℕ) (o : Outcome) : Type 0 where
       (record { out = item_table1 0 31 fault.is.stands.before; note = rule1_line row cause; status = 3 }) o
 
 -- of either
-abbrev pub AreItemsTold1 : List ℕ → Outcome → Type 0
-AreItemsTold1 codes o = OfWholeTape1 codes o ⊎ OfFaultyTape1 codes o
+abbrev pub IsItemsOutcome1 : List ℕ → Outcome → Type 0
+IsItemsOutcome1 codes o = OfWholeTape1 codes o ⊎ OfFaultyTape1 codes o
 
 -- what is told of the items of such a tape's text
 abbrev pub items1_answer : Answer
-items1_answer = of_rows AreItemsTold1
+items1_answer = of_rows IsItemsOutcome1

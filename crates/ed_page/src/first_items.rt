@@ -3,7 +3,7 @@
 ghost use Rattle.std.specs.Prelude.{◌≡◌, ◌≤◌, IfOk, None, length};
 ghost use Rattle.ed_page.specs.Answers.{IsTextWritten, text_buffers};
 ghost use Rattle.ed_page.specs.Private.ItemTables.{first_word, table_on1};
-ghost use Rattle.ed_page.specs.Private.Stages.{AreToldOf1, IsAnswered};
+ghost use Rattle.ed_page.specs.Private.Stages.{AreItemsOf1, IsAnswered};
 ghost use Rattle.ed_page.specs.TapeItems.{items1_answer};
 
 use crate::items::{OpenItem, push_numbers};
@@ -60,7 +60,7 @@ fn tape_items1(alloc: Global, text: &[u8]) -> Result<Told, NoMemory>
 /// What is told of the items of rows.
 fn row_items1(alloc: Global, rows: &[Code]) -> Result<Told, NoMemory>
     requires { length rows.now ≤ 262144 }
-    ensures { AreToldOf1 rows.now result }
+    ensures { AreItemsOf1 rows.now result }
 {
     match check1(alloc, rows) {
         Ok(checked) => Ok(Told::done(alloc, item_table1(alloc, &rows[..checked.rows()])?)),

@@ -1,9 +1,9 @@
-//! A static library for a web page: pictures of the machine in the run of a tape or a source, the rows of tapes, and
-//! the texts of rows, orders and listings.
+//! A static library for a web page: pictures of the machine in the run of a tape or a source, post-mortems, the rows
+//! and items of tapes, what orders name, and the texts of rows, orders, tapes and listings.
 //!
 //! Contract: each picture and text is what the program answers to the same text, in the caller's buffers, and a run can
 //! continue from a picture; every other answer has its cause. The exports keep no state. Depends on `ed_answers`, and
-//! on `ed_run` and `ed_report`.
+//! on `ed_notation`, `ed_initial1`, `ed_orders`, `ed_run` and `ed_report`.
 #![tactic(auto)]
 
 mod first_items;

@@ -14,7 +14,7 @@ use Rattle.ed_answers.specs.declared.reply.Reply.{Reply}
 use Rattle.ed_page.specs.Answers.{Buffers, HasItsCause, HasPictureRoom, HasBufferRoom, ShowsNone, HoldsText}
 use Rattle.ed_page.specs.Answers.{TextBuffers}
 use Rattle.ed_page.specs.Pictures.{Pictures}
-use Rattle.ed_page.specs.TapeItems.{IsItemsOutcome, AreItemsTold1}
+use Rattle.ed_page.specs.TapeItems.{IsItemsOutcome, IsItemsOutcome1}
 use Rattle.ed_page.specs.declared.going.Gone.{Gone}
 use Rattle.ed_page.specs.declared.running.Shown.{Shown}
 use Rattle.ed_page.specs.declared.told.Told.{Told}
@@ -95,6 +95,6 @@ AreItemsOf z codes (Ok told) = (o : Outcome) × IsItemsOutcome z codes o × Hold
 AreItemsOf z codes (Err e) = Unit {0}
 
 -- and of rows of May 1949
-abbrev pub AreToldOf1 : List ℕ → Result Told NoMemory → Type 0
-AreToldOf1 codes (Ok told) = (o : Outcome) × AreItemsTold1 codes o × HoldsOutcome told o
-AreToldOf1 codes (Err e) = Unit {0}
+abbrev pub AreItemsOf1 : List ℕ → Result Told NoMemory → Type 0
+AreItemsOf1 codes (Ok told) = (o : Outcome) × IsItemsOutcome1 codes o × HoldsOutcome told o
+AreItemsOf1 codes (Err e) = Unit {0}
