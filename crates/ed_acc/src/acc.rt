@@ -1,4 +1,5 @@
-ghost use Rattle.std.specs.Prelude.{◌≡◌, ◌<◌, ◌≤◌, ◌^◌, ◌*◌, ◌/◌, ◌%◌, ◌+◌, ◌-◌, ◌↔◌, IsTrue, IsNone, IfSome, pos, neg_ℤ, ◌≤ℤ◌, ◌*ℤ◌};
+ghost use Rattle.std.specs.Prelude.{◌≡◌, ◌<◌, ◌≤◌, ◌^◌, ◌*◌, ◌/◌, ◌%◌, ◌+◌, ◌-◌, ◌↔◌, IsTrue, IsNone, IfSome, pos};
+ghost use Rattle.std.specs.Prelude.{neg_ℤ, ◌≤ℤ◌, ◌*ℤ◌};
 ghost use Rattle.ed_words.specs.Signed.{signed};
 ghost use Rattle.ed_acc.specs.Arithmetic.{collated, left71, minus71, minus_product, plus71, plus_product, right71};
 ghost use Rattle.ed_acc.specs.Arithmetic.{common, modulo71, product};

@@ -123,7 +123,11 @@ fn post_mortem_of(
 }
 
 /// The paper of the words in a window. No post-mortem of it is refused: it is within the store, and the paper has room.
-pub fn window_printed(alloc: Global, window: Window, machine: &mut Machine) -> Result<Paper, NoMemory>
+pub fn window_printed(
+    alloc: Global,
+    window: Window,
+    machine: &mut Machine,
+) -> Result<Paper, NoMemory>
     requires window { IsWindowOf machine.old.size window }
     requires orders { machine.old.orders + 300000 ≤ 2 ^ 63 }
     ensures { IfOk result (λ p. p.codes ≡ printed_codes machine.old.store.words window.first window.count) }

@@ -90,8 +90,10 @@ pub gone_of : (limit resumes room : ℕ) (m : State) (sheet full : Sheet) (gone 
 gone_of limit resumes room m sheet full gone fresh left codes =
     let whole : room - 0 ≡ room = omega arith in
     let same : ran limit resumes (room - 0) m ≡ ran limit resumes room m = ap (λ n. ran limit resumes n m) whole in
-    let is : IsLeft (ran limit resumes (room - 0) m) (record { codes = []; room = room }) gone.ending gone.machine full =
-    subst (λ (x : Sheet). IsLeft (ran limit resumes (x.room - length x.codes) m) x gone.ending gone.machine full) fresh left in
+    let is : IsLeft (ran limit resumes (room - 0) m) (record { codes = []; room = room }) gone.ending
+    gone.machine full =
+    subst (λ (x : Sheet). IsLeft (ran limit resumes (x.room - length x.codes) m) x gone.ending gone.machine full)
+    fresh left in
     record {
       ending_is = is.ending_is ∙ ap (λ (r : RunEnd). r.ending) same;
       state_is = is.state_is ∙ ap (λ (r : RunEnd). r.state) same;

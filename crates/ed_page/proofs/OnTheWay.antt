@@ -1,7 +1,9 @@
 -- The states on the way of a tape, from Start with either Initial Orders: they are within their bounds, Start and
 -- orders lead to them, and a picture shows one of them alone.
-use Rattle.std.proofs.Common.{◌≡◌, ◌∙◌, ℕ, ◌+◌, ◌-◌, ◌/◌, ◌%◌, ◌^◌, ◌<◌, ◌≤◌, refl, sym, ap, subst, arith, lit<, lit≤, rules}
-use Rattle.std.proofs.Common.{Bool, false, inl, inr, Option, Some, None, List, ◌++◌, drop, get_or, length, length-append}
+use Rattle.std.proofs.Common.{◌≡◌, ◌∙◌, ℕ, ◌+◌, ◌-◌, ◌/◌, ◌%◌, ◌^◌, ◌<◌, ◌≤◌, refl, sym, ap, subst, arith, lit<, lit≤}
+use Rattle.std.proofs.Common.{rules}
+use Rattle.std.proofs.Common.{Bool, false, inl, inr, Option, Some, None, List, ◌++◌, drop, get_or, length}
+use Rattle.std.proofs.Common.{length-append}
 use Rattle.std.specs.Prelude.{◌↔◌, IfSome, IsNone, replicate, unwrap_or}
 use Rattle.std.proofs.Math.Seq.{drop-append_seam}
 use Rattle.std.proofs.lemmas.List.{length-drop, length-replicate}
@@ -189,7 +191,8 @@ most_places Full = lit≤ tt
 last_is : (read last : Option ℕ) (n : ℕ) → (IsNone read ↔ (32 ≤ n)) → IfSome read (λ code. code ≡ n)
     → n ≡ last_shown last → unwrap_or last 0 < 32 → read ≡ last
 last_is None None n none some is low = refl
-last_is None (Some code) n none some is low = let past : 32 ≤ n = none.0 (search rules) in absurd (omega (arith, past, is, low))
+last_is None (Some code) n none some is low = let past : 32 ≤ n =
+    none.0 (search rules) in absurd (omega (arith, past, is, low))
 last_is (Some read) None n none some is low = absurd (not_none read (none.1 (omega (arith, is))))
   where
     not_none : (k : ℕ) → IsNone (Some k) → ⊥

@@ -16,7 +16,8 @@ use Rattle.ed_paths.proofs.Places.{IsOutside, early, own, out}
 use Rattle.ed_paths.proofs.Orders.{Does, there_is}
 use Rattle.ed_paths.proofs.Moves.{A, S, T, U, O, H, C, L, Z, E_jumps, E_stays, G_jumps, G_stays}
 use Rattle.ed_paths.proofs.Paths.{Path, stay, on, prints, followed}
-use Rattle.ed_postmortem.specs.Codes.{address_digits, is_even, length_code, length_orders, number_in, word_codes, word_orders}
+use Rattle.ed_postmortem.specs.Codes.{address_digits, is_even, length_code, length_orders, number_in, word_codes}
+use Rattle.ed_postmortem.specs.Codes.{word_orders}
 use Rattle.ed_postmortem.specs.Codes.{printed_codes, words_orders}
 use Rattle.ed_paths.proofs.Zeros.{flag_of, shown, begun, spared, last_of, taken_away}
 use Rattle.ed_postmortem.proofs.Digits.{began, Digits, digits_are}

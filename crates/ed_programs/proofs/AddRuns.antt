@@ -34,7 +34,8 @@ module _ (z : Size) (m : Moment) where
       → ComesToStop (13 * length (digits a) + 13 * length (digits b) + print_orders (a + b) + 33)
       (state f (at 0 m.words 0 0 0 (number_rows (a ∷ b ∷ []))) done) (11 ∷ digits (a + b)) 68
   stops o a b small done =
-      let start : IsIn f (at 0 m.words 0 0 0 (number_rows (a ∷ b ∷ []))) = record { above = lit≤ tt; all = o.all; own = refl } in
+      let start : IsIn f (at 0 m.words 0 0 0 (number_rows (a ∷ b ∷ []))) =
+      record { above = lit≤ tt; all = o.all; own = refl } in
       let one : HasRead start 0 12 70 a (number_rows (b ∷ [])) =
       reads_number start 0 12 a (number_rows (b ∷ [])) o.reads refl (omega arith) (lit< tt) (lit≤ tt) refl refl refl in
       let after_one = both_after one o in
@@ -76,5 +77,6 @@ module _ (a b : ℕ) (small : a + b < 65536) where
       (stops_from_entry z lines refl 14 (lit≤ tt) (cells 0 0) refl refl (number_rows (a ∷ b ∷ []))
       (sym (append-nil (number_rows (a ∷ b ∷ []))))
       (stops z (moment_at (entry_state z lines))
-      (both_at_entry z lines 14 (lit≤ tt) 70 94 12 refl (lit≤ tt) (lit≤ tt) (lit≤ tt)) a b small (entry_state z lines).orders))
+      (both_at_entry z lines 14 (lit≤ tt) 70 94 12 refl (lit≤ tt) (lit≤ tt) (lit≤ tt)) a b small
+      (entry_state z lines).orders))
       (omega arith) (omega arith) (digits_printed (a + b) small)

@@ -17,7 +17,8 @@ use Rattle.ed_programs.specs.Hello.{hello_rows, is_row_byte}
 -- what is so of each letter, as a test
 abbrev fine : ℕ → Bool
 fine b = is_row_byte b
-    && (bytes_eq (struck Letters (row (row_of b))) (b ∷ []) && (not (row (row_of b) == 11) && not (row (row_of b) == 15)))
+    && (bytes_eq (struck Letters (row (row_of b))) (b ∷ [])
+    && (not (row (row_of b) == 11) && not (row (row_of b) == 15)))
 
 pub record Letter (b : ℕ) : Type 0 where
   pub row_byte : is_row_byte b ≡ true

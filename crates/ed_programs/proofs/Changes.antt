@@ -1,5 +1,6 @@
 -- A call of a routine that writes in a cell of the piece, as one line; and so `read`.
-use Rattle.std.proofs.Common.{◌≡◌, ◌≢◌, ◌⊎◌, inl, inr, ℕ, ◌+◌, ◌*◌, ◌/◌, ◌%◌, ◌^◌, ◌<◌, ◌≤◌, refl, sym, ap, ◌∙◌, subst, arith}
+use Rattle.std.proofs.Common.{◌≡◌, ◌≢◌, ◌⊎◌, inl, inr, ℕ, ◌+◌, ◌*◌, ◌/◌, ◌%◌, ◌^◌, ◌<◌, ◌≤◌, refl, sym, ap, ◌∙◌, subst}
+use Rattle.std.proofs.Common.{arith}
 use Rattle.std.proofs.Common.{Bool, false, lit<, List, [], ◌∷◌, ◌++◌, Option, get_or, length, set}
 use Rattle.std.proofs.lemmas.Bool.{cases_lt}
 use Rattle.std.proofs.lemmas.List.{get_or-set_same, get_or-set_other, length-set}
@@ -52,39 +53,41 @@ module _ {n h : ℕ} {f : Frame n h} {r : Moment} (o : IsIn f r) where
 
   pub changes : {r0 w : ℕ} {parameters : List ℕ} {k : ℕ} {codes : List ℕ} (i : ℕ) (words : List ℕ) (digits : List Bool)
       (cells rows : List ℕ) (l : Option ℕ) (has : HasRoutine f r.words r0 w parameters)
-      → ((done : ℕ) → Stands r0 parameters w (state f (called o i w) done) → Leaves i w k codes words digits rows l done)
+      → ((done : ℕ) → Stands r0 parameters w (state f (called o i w) done)
+      → Leaves i w k codes words digits rows l done)
       → length words ≡ 1024 → length cells ≡ n
       → ((j : ℕ) → j < n → get_or words (f.base + j) 0 ≡ get_or cells j 0)
       → i + 3 ≤ n → r.acc ≡ 0 → Reads {f = f} {r = r} i 28 (own i)
       → Jumps {f = f} {r = record r { acc = short (114688 + 2 * (f.base + i)); counter = f.base + (i + 1) }}
       (i + 1) 27 (any w has.reached)
       → Journey f (2 + k) r codes (after_change i words digits cells rows l)
-  changes {w = w} {k = k} {codes} i words digits cells rows l has returns long own_long same room clear first second = record {
-    leads = λ done.
-        let size = most f.size in let under = f.under in let fits = f.fits in
-        let word : get_or r.cells i 0 ≡ 114688 + 2 * (f.base + i) = ap (λ x. x.1.0) first in
-        let two : Path f 2 r [] (called o i w) =
-        on (A i (own i) (short (114688 + 2 * (f.base + i))) first (omega arith))
-        (on (G_jumps (i + 1) (any w has.reached) second (omega arith)) stay) in
-        let back = returns (done + 2) (stands o i (done + 2) room has) in
-        let whole : patched 0 words f.base cells ≡ words =
-        patched_self 0 words f.base cells (omega arith) (λ j m. sym (same j (omega arith))) in
-        let count : done + 2 + k ≡ done + (2 + k) = omega arith in
-        let c : caller (state f (called o i w) (done + 2)) + 2 ≡ f.base + (i + 2) =
-        omega (arith, caller_is o i w (done + 2)) in
-        subst (λ (t : State). Leads (2 + k) (state f r done) codes t)
-        (λ j. record {
-          size = f.size;
-          store = record { words = sym whole j; sandwich = all_digits digits (f.base / 2 + h) r.pairs };
-          acc = 0;
-          multiplier = r.multiplier;
-          counter = c j;
-          tape = rows;
-          last = l;
-          orders = count j;
-        })
-        (joined (leads two done) back);
-  }
+  changes {w = w} {k = k} {codes} i words digits cells rows l has returns long own_long same room clear first
+      second = record {
+        leads = λ done.
+            let size = most f.size in let under = f.under in let fits = f.fits in
+            let word : get_or r.cells i 0 ≡ 114688 + 2 * (f.base + i) = ap (λ x. x.1.0) first in
+            let two : Path f 2 r [] (called o i w) =
+            on (A i (own i) (short (114688 + 2 * (f.base + i))) first (omega arith))
+            (on (G_jumps (i + 1) (any w has.reached) second (omega arith)) stay) in
+            let back = returns (done + 2) (stands o i (done + 2) room has) in
+            let whole : patched 0 words f.base cells ≡ words =
+            patched_self 0 words f.base cells (omega arith) (λ j m. sym (same j (omega arith))) in
+            let count : done + 2 + k ≡ done + (2 + k) = omega arith in
+            let c : caller (state f (called o i w) (done + 2)) + 2 ≡ f.base + (i + 2) =
+            omega (arith, caller_is o i w (done + 2)) in
+            subst (λ (t : State). Leads (2 + k) (state f r done) codes t)
+            (λ j. record {
+              size = f.size;
+              store = record { words = sym whole j; sandwich = all_digits digits (f.base / 2 + h) r.pairs };
+              acc = 0;
+              multiplier = r.multiplier;
+              counter = c j;
+              tape = rows;
+              last = l;
+              orders = count j;
+            })
+            (joined (leads two done) back);
+      }
 
   -- ---- `read`, which puts its number in the cell j
 
@@ -150,7 +153,8 @@ module _ {n h : ℕ} {f : Frame n h} {r : Moment} (o : IsIn f r) where
             let long = o.own in
             let there_is : j < length r.cells = omega arith in
             ap (λ x. get_or words_read (f.base + x) 0) e
-            ∙ (read_call.has_read (reading 0 (there 0)) ends code (read_call.last (reading 0 (there 0)) ends code) refl).number
+            ∙ (read_call.has_read (reading 0 (there 0)) ends code (read_call.last (reading 0 (there 0)) ends code)
+            refl).number
             ∙ sym (get_or-set_same r.cells j number_read 0 there_is)
             ∙ ap (λ x. get_or cells_read x 0) (sym e)
 
@@ -158,11 +162,13 @@ module _ {n h : ℕ} {f : Frame n h} {r : Moment} (o : IsIn f r) where
     pub read_line : r.acc ≡ 0 → Reads {f = f} {r = r} i 28 (own i)
         → Jumps {f = f} {r = record r { acc = short (114688 + 2 * (f.base + i)); counter = f.base + (i + 1) }}
         (i + 1) 27 (any w has.reached)
-        → Journey f (2 + (11 + 13 * length (digit_rows r.tape))) r [] (after_change i words_read r.digits cells_read rest r.last)
+        → Journey f (2 + (11 + 13 * length (digit_rows r.tape))) r []
+        (after_change i words_read r.digits cells_read rest r.last)
     read_line clear first second =
         let long = length-set r.cells j number_read in
         let own = o.own in
-        changes i words_read r.digits cells_read rest r.last has leaves read_long (omega arith) read_own room clear first second
+        changes i words_read r.digits cells_read rest r.last has leaves read_long (omega arith) read_own room clear
+        first second
 
     pub read_in : IsIn f (after_change i words_read r.digits cells_read rest r.last)
     read_in = record {
@@ -171,7 +177,8 @@ module _ {n h : ℕ} {f : Frame n h} {r : Moment} (o : IsIn f r) where
       own = let long = length-set r.cells j number_read in let own = o.own in omega arith;
     }
 
-    keeps_beside : (q : ℕ) → (q < f.base) ⊎ (f.base + n ≤ q) → IsOther read w q → get_or words_read q 0 ≡ get_or r.words q 0
+    keeps_beside : (q : ℕ) → (q < f.base) ⊎ (f.base + n ≤ q) → IsOther read w q
+        → get_or words_read q 0 ≡ get_or r.words q 0
     keeps_beside q place other = keeps q (differs q place) other ∙ beside_word o q place
       where
         differs : (q : ℕ) → (q < f.base) ⊎ (f.base + n ≤ q) → q ≢ f.base + j
@@ -191,7 +198,8 @@ module _ {n h : ℕ} {f : Frame n h} {r : Moment} (o : IsIn f r) where
       at3 = early 3 (lit< tt) ∙ there.at3;
       image = λ m l free.
           let place = away m l there.apart in
-          keeps (w1 + m) (differs (w1 + m) place) (other m l free) ∙ beside_word o (w1 + m) place ∙ there.image m l free;
+          keeps (w1 + m) (differs (w1 + m) place) (other m l free) ∙ beside_word o (w1 + m) place
+          ∙ there.image m l free;
     }
       where
         differs : (q : ℕ) → (q < f.base) ⊎ (f.base + n ≤ q) → q ≢ f.base + j
@@ -214,7 +222,8 @@ module _ {n h : ℕ} {f : Frame n h} {r : Moment} (o : IsIn f r) where
   -- the number is in the cell j, the rows after it are left, and the piece and the routines are as before
   pub record HasRead (i j w v : ℕ) (rest : List ℕ) : Type 0 where
     pub words : List ℕ
-    pub journey : Journey f (13 + 13 * length (digits v)) r [] (after_change i words r.digits (set r.cells j v) rest r.last)
+    pub journey : Journey f (13 + 13 * length (digits v)) r []
+        (after_change i words r.digits (set r.cells j v) rest r.last)
     pub still_in : IsIn f (after_change i words r.digits (set r.cells j v) rest r.last)
     pub has : {r1 w1 : ℕ} {others : List ℕ} → HasRoutine f r.words r1 w1 others
         → ((m : ℕ) → m < place_count r1 → is_working r1 m ≡ false → IsOther read w (w1 + m))

@@ -1,6 +1,8 @@
 -- A line `data` with numbers, each ended by F: what it says, and what its rows are.
-use Rattle.std.proofs.Common.{◌≡◌, ◌∙◌, ℕ, zero, suc, ◌+◌, ◌*◌, ◌<◌, ◌≤◌, Bool, true, false, List, [], ◌∷◌, ◌++◌, ap, refl, sym, subst, arith}
-use Rattle.std.proofs.Common.{append_assoc, codes, Fits, get_or, length, drop, drop-cons, length-append, map, nat_lt, slice_index_or, w16}
+use Rattle.std.proofs.Common.{◌≡◌, ◌∙◌, ℕ, zero, suc, ◌+◌, ◌*◌, ◌<◌, ◌≤◌, Bool, true, false, List, [], ◌∷◌, ◌++◌, ap}
+use Rattle.std.proofs.Common.{refl, sym, subst, arith}
+use Rattle.std.proofs.Common.{append_assoc, codes, Fits, get_or, length, drop, drop-cons, length-append, map, nat_lt}
+use Rattle.std.proofs.Common.{slice_index_or, w16}
 use Rattle.std.specs.Prelude.{◌==◌, not, Some, None, Ok}
 use Rattle.std.specs.Fmt.{decimal}
 use Rattle.std.specs.List.{list_all}
@@ -16,7 +18,8 @@ use Rattle.ed_syntax.specs.Private.SourceReading.{line_of}
 use Rattle.ed_syntax.specs.declared.program.Statement.TheVariants as statements
 use Rattle.ed_syntax.proofs.PartLemmas.{quote_parts}
 use Rattle.ed_routines.specs.Digits.{digits}
-use Rattle.ed_sources.proofs.Decimals.{are, both, decimal_is, few_bytes, line_bytes, no_quotes, row_bytes, rows_are, written}
+use Rattle.ed_sources.proofs.Decimals.{are, both, decimal_is, few_bytes, line_bytes, no_quotes, row_bytes, rows_are}
+use Rattle.ed_sources.proofs.Decimals.{written}
 use Rattle.ed_programs.proofs.SourceLines.{Marked, by_parts}
 
 -- numbers in decimal, each with an F (70), which ends it
@@ -40,7 +43,8 @@ are_small ns = list_all (λ n. nat_lt n 65536) ns
 -- so are those of a slice
 pub all_fit : (ns : List ℕ) → ((i : ℕ) → Fits w16 (slice_index_or ns i 0)) → are_small ns ≡ true
 all_fit [] fit = refl
-all_fit (n ∷ ns) fit = both (nat_lt n 65536) (are_small ns) (lt_true n 65536 (fit 0).fits) (all_fit ns (λ i. fit (suc i)))
+all_fit (n ∷ ns) fit = both (nat_lt n 65536) (are_small ns) (lt_true n 65536 (fit 0).fits)
+    (all_fit ns (λ i. fit (suc i)))
 
 pub small_at : (ns : List ℕ) → are_small ns ≡ true → (i : ℕ) → i < length ns → get_or ns i 0 < 65536
 small_at [] h i l = absurd (omega arith)
@@ -127,7 +131,8 @@ numbers_and (n ∷ ns) rest = decimal n ++ 70 ∷ numbers_and ns rest
 pub numbers_and_is : (ns : List ℕ) (rest : Text) → numbers_and ns rest ≡ numbers_text ns ++ rest
 numbers_and_is [] rest = refl
 numbers_and_is (n ∷ ns) rest =
-    ap (λ (t : Text). decimal n ++ 70 ∷ t) (numbers_and_is ns rest) ∙ sym (append_assoc (decimal n) (70 ∷ numbers_text ns) rest)
+    ap (λ (t : Text). decimal n ++ 70 ∷ t) (numbers_and_is ns rest)
+    ∙ sym (append_assoc (decimal n) (70 ∷ numbers_text ns) rest)
 
 -- a line `data` with numbers, as a mark
 abbrev pub data_mark : {two : Bool} (k : ℕ) (ns : List ℕ) → 2 ≤ k → 1 ≤ length ns → length ns ≤ 18 → are_small ns ≡ true

@@ -14,7 +14,8 @@ use Rattle.ed_programs.proofs.Kit.{HasBoth, both_after, both_at_entry}
 -- its words, with the three cells that change
 abbrev cells : ℕ → ℕ → ℕ → List ℕ
 cells number first scrap =
-    to 28 0 ∷ calling 76 ∷ to 28 16 ∷ to 5 17 ∷ to 28 4 ∷ calling 76 ∷ to 28 16 ∷ to 12 17 ∷ to 3 12 ∷ to 5 18 ∷ to 28 17
+    to 28 0 ∷ calling 76 ∷ to 28 16 ∷ to 5 17 ∷ to 28 4 ∷ calling 76 ∷ to 28 16 ∷ to 12 17 ∷ to 3 12
+    ∷ to 5 18 ∷ to 28 17
     ∷ to 12 16 ∷ to 5 16 ∷ to 28 13 ∷ calling 100 ∷ 53248 ∷ number ∷ first ∷ scrap ∷ []
 
 module _ (z : Size) (m : Moment) where
@@ -82,7 +83,8 @@ module _ (z : Size) (m : Moment) where
       (on (T 3 (own 17) _ refl refl) stay)))
       ((then) two.journey
       ((then) (along takes.1)
-      (print_line last {v = distance a b} 13 16 after_two.prints number (lit< tt) (omega arith) (lit≤ tt) refl refl refl)))))
+      (print_line last {v = distance a b} 13 16 after_two.prints number (lit< tt) (omega arith) (lit≤ tt) refl
+      refl refl)))))
       (Z 15 53248 refl refl) done) (omega arith)
 
 module _ (a b : ℕ) (first : a < 65536) (second : b < 65536) where

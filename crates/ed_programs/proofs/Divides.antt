@@ -1,5 +1,6 @@
 -- A call of `divide` as one line: the three words are cells of the piece, and it writes two of them.
-use Rattle.std.proofs.Common.{◌≡◌, ◌≢◌, ◌⊎◌, inl, inr, ℕ, ◌+◌, ◌*◌, ◌/◌, ◌%◌, ◌<◌, ◌≤◌, Bool, false, refl, sym, ap, ◌∙◌, subst, arith}
+use Rattle.std.proofs.Common.{◌≡◌, ◌≢◌, ◌⊎◌, inl, inr, ℕ, ◌+◌, ◌*◌, ◌/◌, ◌%◌, ◌<◌, ◌≤◌, Bool, false, refl, sym, ap, ◌∙◌}
+use Rattle.std.proofs.Common.{subst, arith}
 use Rattle.std.proofs.Common.{List, [], get_or, length, set, lit<}
 use Rattle.std.proofs.lemmas.Bool.{cases_lt}
 use Rattle.std.proofs.lemmas.List.{get_or-set_same, get_or-set_other, length-set}
@@ -171,7 +172,8 @@ module _ {n h : ℕ} {f : Frame n h} (r : Moment) (o : IsIn f (flat r)) where
         by_low (inr other) = by_high other (cases m jh)
 
     -- outside the piece only the routine's working locations change
-    beside : (q : ℕ) → (q < f.base) ⊎ (f.base + n ≤ q) → IsOther divide w q → get_or last.store.words q 0 ≡ get_or r.words q 0
+    beside : (q : ℕ) → (q < f.base) ⊎ (f.base + n ≤ q) → IsOther divide w q
+        → get_or last.store.words q 0 ≡ get_or r.words q 0
     beside q place other =
         keeps q (differs jh d.in_high place) (differs jl d.in_low place) other ∙ beside_word o q place
       where
@@ -216,7 +218,8 @@ module _ {n h : ℕ} {f : Frame n h} (r : Moment) (o : IsIn f (flat r)) where
         record {
           words = last.store.words;
           digits = last.store.sandwich;
-          digits_long = length_patched false r.digits (w / 2 + 18) _ (let l = d.digits_long in omega arith) ∙ d.digits_long;
+          digits_long = length_patched false r.digits (w / 2 + 18) _ (let l = d.digits_long in omega arith)
+              ∙ d.digits_long;
           journey = subst (λ k. Journey f (2 + k) (flat r) []
               (after_change o i last.store.words last.store.sandwich cells_divided r.tape r.last)) orders
               (changes o i last.store.words last.store.sandwich cells_divided r.tape r.last has

@@ -28,7 +28,8 @@ pub record Work : Type 0 where
 -- its words at b, with `read`, `divide` and `print` at r, d and p
 abbrev pub cells : ℕ → ℕ → ℕ → ℕ → Work → List ℕ
 cells b r d p k =
-    (114688 + 2 * (b + 0)) ∷ (110592 + 2 * r) ∷ (114688 + 2 * (b + 33)) ∷ (20480 + 2 * (b + 34)) ∷ (114688 + 2 * (b + 4))
+    (114688 + 2 * (b + 0)) ∷ (110592 + 2 * r) ∷ (114688 + 2 * (b + 33)) ∷ (20480 + 2 * (b + 34))
+    ∷ (114688 + 2 * (b + 4))
     ∷ (110592 + 2 * r) ∷ (114688 + 2 * (b + 33)) ∷ (20480 + 2 * (b + 36)) ∷ (114688 + 2 * (b + 8)) ∷ (110592 + 2 * r)
     ∷ (114688 + 2 * (b + 10)) ∷ (110592 + 2 * d) ∷ (114688 + 2 * (b + 12)) ∷ (110592 + 2 * p) ∷ (36864 + 2 * (b + 37))
     ∷ (20480 + 2 * (b + 39)) ∷ (114688 + 2 * (b + 33)) ∷ (49152 + 2 * (b + 38)) ∷ (110592 + 2 * (b + 32))
@@ -69,7 +70,8 @@ module _ (given : Given) where
   -- ---- what is around it after a routine
 
   pub after_read : {around : Moment} {k : Work} {i v : ℕ} {rest : List ℕ} (o : IsAround given around)
-      (one : HasRead (in_at around i k o) i 33 r v rest) → IsAround given (record around { words = one.words; tape = rest })
+      (one : HasRead (in_at around i k o) i 33 r v rest)
+      → IsAround given (record around { words = one.words; tape = rest })
   after_read o one =
       let a = given.read_divide in let b = given.divide_print in
       record {
@@ -94,7 +96,8 @@ module _ (given : Given) where
       }
 
   -- `print` of the number in the cell `low`
-  pub number_is : (around : Moment) (i : ℕ) (k : Work) (o : IsAround given around) → number_at (in_at around i k o) 34 ≡ k.low
+  pub number_is : (around : Moment) (i : ℕ) (k : Work) (o : IsAround given around)
+      → number_at (in_at around i k o) 34 ≡ k.low
   number_is around i k o = get_own 0 around.words f.base (cells f.base r d p k) 34 (lit< tt)
 
   abbrev pub printed_words : (around : Moment) (i : ℕ) (k : Work) (o : IsAround given around) (v : ℕ) → List ℕ
@@ -169,7 +172,8 @@ module _ (given : Given) where
       let same : 65536 * 0 + 10 * rest ≡ 10 * rest = omega arith in
       let one : HasDivided (at around 27 k1) (in_at around 27 k1 o) 27 d 35 34 (10 * rest) by =
       subst (λ x. HasDivided (at around 27 k1) (in_at around 27 k1 o) 27 d 35 34 x by) same
-      (divide_line (at around 27 k1) (in_at around 27 k1 o) 27 o.divides given.even division (lit≤ tt) refl refl refl) in
+      (divide_line (at around 27 k1) (in_at around 27 k1 o) 27 o.divides given.even division (lit≤ tt) refl
+      refl refl) in
       let around2 : Moment = record around { words = one.words; digits = one.digits } in
       let o2 : IsAround given around2 = after_divide {k = k1} o one in
       let v : ℕ = 10 * rest / by in
@@ -178,7 +182,8 @@ module _ (given : Given) where
       (omega arith) (lit≤ tt) refl refl refl in
       let now : Moment = record around2 { words = printed_words around2 29 k2 o2 v; last = Some (v % 10) } in
       let back : Path f 1 (at now 31 k2) [] (at now 15 k2) = on (E_jumps 31 (own 15) refl (lit< tt)) stay in
-      let sum : 12 + ((2 + divide_orders v) + ((2 + print_orders v) + 1)) ≡ 17 + divide_orders v + print_orders v = omega arith in
+      let sum : 12 + ((2 + divide_orders v) + ((2 + print_orders v) + 1)) ≡ 17 + divide_orders v + print_orders v =
+      omega arith in
       record {
         now = now;
         work = k2;
@@ -186,7 +191,8 @@ module _ (given : Given) where
         number = refl;
         rest_is = refl;
         by_is = is_by;
-        journey = subst (λ (codes : List ℕ). Journey f (17 + divide_orders v + print_orders v) (at around 15 k) codes (at now 15 k2))
+        journey = subst (λ (codes : List ℕ). Journey f (17 + divide_orders v + print_orders v) (at around 15 k) codes
+            (at now 15 k2))
             (append-nil (11 ∷ digits v))
             (subst (λ n. Journey f n (at around 15 k) (11 ∷ digits v ++ []) (at now 15 k2)) sum
             (then (along first) (then one.journey (then shown (along back)))));

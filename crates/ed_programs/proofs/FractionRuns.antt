@@ -16,7 +16,8 @@ use Rattle.ed_routines.proofs.Journeys.{ComesToStop}
 use Rattle.ed_sources.proofs.AtEntry.{all_words}
 use Rattle.ed_sources.proofs.Entries.{frame_at, moment_at}
 use Rattle.ed_command.specs.declared.command.Settings.{Settings}
-use Rattle.ed_programs.specs.Fraction.{figure_orders, fraction_orders, fraction_prints, fraction_data, fraction_pieces, fraction_text}
+use Rattle.ed_programs.specs.Fraction.{figure_orders, fraction_orders, fraction_prints, fraction_data, fraction_pieces}
+use Rattle.ed_programs.specs.Fraction.{fraction_text}
 use Rattle.ed_programs.specs.Programs.{SourceRuns}
 use Rattle.ed_programs.proofs.FractionProgram.{Given, IsAround, Work, cells}
 use Rattle.ed_programs.proofs.FractionWhole.{all_shown, few_codes, figure_codes, fraction_stops, quotient_small}

@@ -1,7 +1,9 @@
 -- The program of `examples/fraction.edsac` from its entry to its stop, and the figures that it prints.
-use Rattle.std.proofs.Common.{◌≡◌, ◌∙◌, ℕ, zero, suc, ◌+◌, ◌*◌, ◌/◌, ◌%◌, ◌^◌, ◌<◌, ◌≤◌, refl, sym, ap, subst, arith, lit<, lit≤}
+use Rattle.std.proofs.Common.{◌≡◌, ◌∙◌, ℕ, zero, suc, ◌+◌, ◌*◌, ◌/◌, ◌%◌, ◌^◌, ◌<◌, ◌≤◌, refl, sym, ap, subst, arith}
+use Rattle.std.proofs.Common.{lit<, lit≤}
 use Rattle.std.proofs.Common.{List, [], ◌∷◌, ◌++◌, Some, append-nil, append_assoc, length, length-append}
-use Rattle.std.proofs.Math.Nat.{add-mul-div_left, add-mul-mod_self_left, div-add-mod, div-lt_iff_lt-mul, mod-lt, mul_assoc, pow-succ'}
+use Rattle.std.proofs.Math.Nat.{add-mul-div_left, add-mul-mod_self_left, div-add-mod, div-lt_iff_lt-mul, mod-lt}
+use Rattle.std.proofs.Math.Nat.{mul_assoc, pow-succ'}
 use Rattle.std.specs.Fmt.{decimal}
 use Rattle.ed_words.specs.Texts.{Text}
 use Rattle.ed_paths.proofs.Frames.{Moment, short, state}
@@ -18,7 +20,8 @@ use Rattle.ed_programs.specs.Fraction.{figure, figure_orders, figures}
 use Rattle.ed_programs.proofs.Changes.{HasRead, reads_number}
 use Rattle.ed_programs.proofs.DataLines.{number_rows}
 use Rattle.ed_programs.proofs.Divides.{HasDivided, IsDivided, divide_line}
-use Rattle.ed_programs.proofs.FractionProgram.{Given, IsAround, Turned, Work, after_divide, after_print, after_read, at, in_at, number_is, printed_words, turn}
+use Rattle.ed_programs.proofs.FractionProgram.{Given, IsAround, Turned, Work, after_divide, after_print, after_read, at}
+use Rattle.ed_programs.proofs.FractionProgram.{in_at, number_is, printed_words, turn}
 use Rattle.ed_routines.proofs.Journeys.{ComesToStop, Journey, along, stop_after, then, to_stop}
 use Rattle.ed_routines.proofs.Lines.{print_line}
 
@@ -39,7 +42,8 @@ module _ (u l n : ℕ) (some : 0 < l) where
       ap (λ k. 10 ^ k * u) e ∙ ap (λ x. x * u) (pow-succ' 10 n) ∙ mul_assoc 10 (10 ^ n) u ∙ omega (arith, is, swap)
 
   pub digit_small : 10 * left / l < 10
-  digit_small = let low = mod-lt before some in (div-lt_iff_lt-mul {k = l} {x = 10 * left} {y = 10} some).1 (omega arith)
+  digit_small = let low = mod-lt before some in (div-lt_iff_lt-mul {k = l} {x = 10 * left} {y = 10} some).1
+      (omega arith)
 
   pub figure_is : 10 * left / l ≡ figure u l (n + 1)
   figure_is =
@@ -84,7 +88,8 @@ figures_shown u l (suc n) rest =
     ∙ ap (λ (t : Text). figures u l n ++ t) (number_shown x (omega arith) rest)
     ∙ sym (append_assoc (figures u l n) (decimal x) (paper_from Figures rest))
 
-pub all_shown : (u l n w : ℕ) → w < 65536 → paper (11 ∷ digits w ++ 23 ∷ figure_codes u l n) ≡ decimal w ++ 46 ∷ figures u l n
+pub all_shown : (u l n w : ℕ) → w < 65536 → paper (11 ∷ digits w ++ 23 ∷ figure_codes u l n) ≡ decimal w ++ 46
+    ∷ figures u l n
 all_shown u l n w small =
     number_shown w small (23 ∷ figure_codes u l n)
     ∙ ap (λ (t : Text). decimal w ++ 46 ∷ t)
@@ -176,7 +181,8 @@ module _ (given : Given) where
       let one : HasRead (in_at given around 0 k o) 0 33 r v rest =
       reads_number (in_at given around 0 k o) 0 33 v rest o.reads tape small (lit< tt) (lit≤ tt) refl refl refl in
       let now : Moment = record around { words = one.words; tape = rest } in
-      let next : Path f 2 (at given now 2 (record k { number = v })) [] (at given now 4 (record k { number = v; low = v })) =
+      let next : Path f 2 (at given now 2 (record k { number = v })) []
+      (at given now 4 (record k { number = v; low = v })) =
       on (A 2 (own 33) (short v) refl (omega (arith, small))) (on (T 3 (own 34) _ refl refl) stay) in
       record { now = now; is = after_read given {k = k} o one; tape_is = refl; journey = then one.journey (along next) }
 
@@ -187,7 +193,8 @@ module _ (given : Given) where
       let one : HasRead (in_at given around 4 k o) 4 33 r v rest =
       reads_number (in_at given around 4 k o) 4 33 v rest o.reads tape small (lit< tt) (lit≤ tt) refl refl refl in
       let now : Moment = record around { words = one.words; tape = rest } in
-      let next : Path f 2 (at given now 6 (record k { number = v })) [] (at given now 8 (record k { number = v; divisor = v })) =
+      let next : Path f 2 (at given now 6 (record k { number = v })) []
+      (at given now 8 (record k { number = v; divisor = v })) =
       on (A 6 (own 33) (short v) refl (omega (arith, small))) (on (T 7 (own 36) _ refl refl) stay) in
       record { now = now; is = after_read given {k = k} o one; tape_is = refl; journey = then one.journey (along next) }
 
@@ -256,9 +263,11 @@ module _ (given : Given) where
 
   ends : (around : Moment) (k : Work) (u l n : ℕ) → IsAround given around → k.number ≡ n → k.rest ≡ u % l
       → k.divisor ≡ l → 1 ≤ l → l ≤ 6553 → n < 65536 → (done : ℕ)
-      → ComesToStop (figure_orders u l n + 4) (state f (at given around 15 k) done) (figure_codes u l n ++ []) (f.base + 33)
+      → ComesToStop (figure_orders u l n + 4) (state f (at given around 15 k) done) (figure_codes u l n ++ [])
+      (f.base + 33)
   ends around k u l n o number is_rest is_by some few small done =
-      let all = reached around k u l n 0 o (number ∙ none_more n) (none_most n small) is_rest is_by (positive l some) few in
+      let all = reached around k u l n 0 o (number ∙ none_more n) (none_most n small) is_rest is_by
+      (positive l some) few in
       to_stop (then all.journey (along (closes all.now all.work all.number))) (Z 32 53248 refl refl) done
 
   -- ---- the program
@@ -278,24 +287,29 @@ module _ (given : Given) where
       let four = divided three.now k3 u l three.is clear refl refl small_u some few_l in
       let now : Moment = record three.now { words = four.words; digits = four.digits } in
       let k4 : Work = record k3 { rest = u % l; low = u / l } in
-      let five = shown now k4 (u / l) (after_divide given {k = k3} three.is four) refl (quotient_small u l small_u some) in
+      let five = shown now k4 (u / l) (after_divide given {k = k3} three.is four) refl
+      (quotient_small u l small_u some) in
       let first = then one.journey (then two.journey (then three.journey (then four.journey five.journey))) in
       let rest = ends five.now k4 u l n five.is refl refl refl some few_l small_n in
       joins first rest (orders_are (length (digits u)) (length (digits l)) (length (digits n)) (divide_orders (u / l))
       (print_orders (u / l)) (figure_orders u l n)) done
     where
       joins : {many : ℕ} {t : Moment} → Journey f many (at given around 0 k) (11 ∷ digits (u / l) ++ 23 ∷ []) t
-          → ((done : ℕ) → ComesToStop (figure_orders u l n + 4) (state f t done) (figure_codes u l n ++ []) (f.base + 33))
+          → ((done : ℕ) → ComesToStop (figure_orders u l n + 4) (state f t done) (figure_codes u l n ++ [])
+          (f.base + 33))
           → many + (figure_orders u l n + 4)
           ≡ 13 * length (digits u) + 13 * length (digits l) + 13 * length (digits n) + divide_orders (u / l)
           + print_orders (u / l) + figure_orders u l n + 52
           → (done : ℕ)
-          → ComesToStop (13 * length (digits u) + 13 * length (digits l) + 13 * length (digits n) + divide_orders (u / l)
+          → ComesToStop (13 * length (digits u) + 13 * length (digits l) + 13 * length (digits n) +
+          divide_orders (u / l)
           + print_orders (u / l) + figure_orders u l n + 52)
           (state f (at given around 0 k) done) (11 ∷ digits (u / l) ++ 23 ∷ figure_codes u l n) (f.base + 33)
       joins {many} first rest count done =
-          subst (λ (codes : List ℕ). ComesToStop (13 * length (digits u) + 13 * length (digits l) + 13 * length (digits n)
-          + divide_orders (u / l) + print_orders (u / l) + figure_orders u l n + 52) (state f (at given around 0 k) done)
+          subst (λ (codes : List ℕ). ComesToStop (13 * length (digits u) + 13 * length (digits l) + 13 *
+          length (digits n)
+          + divide_orders (u / l) + print_orders (u / l) + figure_orders u l n + 52)
+          (state f (at given around 0 k) done)
           codes (f.base + 33))
           (append_assoc (11 ∷ digits (u / l)) (23 ∷ []) (figure_codes u l n ++ [])
           ∙ ap (λ (cs : List ℕ). 11 ∷ digits (u / l) ++ 23 ∷ cs) (append-nil (figure_codes u l n)))

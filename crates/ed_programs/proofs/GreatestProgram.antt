@@ -1,5 +1,6 @@
 -- The program of `examples/answer6.edsac`, at any base and for a list of any length: two orders go along the list.
-use Rattle.std.proofs.Common.{◌≡◌, ◌∙◌, inr, ℕ, ◌+◌, ◌-◌, ◌*◌, ◌<◌, ◌≤◌, Bool, true, false, max, refl, ap, subst, arith, lit<, lit≤}
+use Rattle.std.proofs.Common.{◌≡◌, ◌∙◌, inr, ℕ, ◌+◌, ◌-◌, ◌*◌, ◌<◌, ◌≤◌, Bool, true, false, max, refl, ap, subst, arith}
+use Rattle.std.proofs.Common.{lit<, lit≤}
 use Rattle.std.proofs.Common.{List, [], ◌∷◌, get_or, length, nat_lt}
 use Rattle.std.specs.Prelude.{if◌then◌else◌}
 use Rattle.ed_words.proofs.Numbers.{lt_of, not_lt_of}

@@ -109,5 +109,6 @@ each_greatest s ns eight small =
     let is = listed_is 8 ns eight in
     let all : are_small (listed 0 8 ns) ≡ true = ap are_small is ∙ small in
     subst (λ (ns : List ℕ). SourceRuns s (greatest_text ns) (greatest_orders ns) 76 (greatest_prints ns)) is
-    (eight_run (get_or ns 0 0) (get_or ns 1 0) (get_or ns 2 0) (get_or ns 3 0) (get_or ns 4 0) (get_or ns 5 0) (get_or ns 6 0)
+    (eight_run (get_or ns 0 0) (get_or ns 1 0) (get_or ns 2 0) (get_or ns 3 0) (get_or ns 4 0) (get_or ns 5 0)
+    (get_or ns 6 0)
     (get_or ns 7 0) all s)

@@ -1,6 +1,7 @@
 -- The names that the proof of a program cites, passed on from one place, and what its path says in few words.
 pub use Rattle.std.proofs.Common.{◌≡◌, ◌∙◌, ◌⊎◌, inl, inr, ℕ, zero, suc, ◌+◌, ◌-◌, ◌*◌, ◌<◌, ◌≤◌, refl, sym, ap, subst}
-pub use Rattle.std.proofs.Common.{arith, lit<, lit≤, true, false, List, [], ◌∷◌, ◌++◌, Ok, Some, None, codes, get_or, length}
+pub use Rattle.std.proofs.Common.{arith, lit<, lit≤, true, false, List, [], ◌∷◌, ◌++◌, Ok, Some, None, codes, get_or}
+pub use Rattle.std.proofs.Common.{length}
 pub use Rattle.std.proofs.Common.{append_assoc, append-nil, length-append}
 pub use Rattle.std.specs.Fmt.{decimal}
 pub use Rattle.ed_words.proofs.SizeLemmas.{least}
@@ -23,7 +24,8 @@ pub use Rattle.ed_paths.proofs.Window.{get_own}
 pub use Rattle.ed_routines.specs.Catalogue.{newline, print, read, with_h}
 pub use Rattle.ed_routines.specs.Digits.{digits, print_orders}
 pub use Rattle.ed_routines.proofs.Digits.{few_digits}
-pub use Rattle.ed_routines.proofs.Journeys.{ComesToStop, HasRoutine, IsIn, Journey, along, elsewhere, no_working, then, to_stop}
+pub use Rattle.ed_routines.proofs.Journeys.{ComesToStop, HasRoutine, IsIn, Journey, along, elsewhere, no_working, then}
+pub use Rattle.ed_routines.proofs.Journeys.{to_stop}
 pub use Rattle.ed_routines.proofs.Lines.{print_line}
 use Rattle.std.specs.Prelude.{◌&&◌}
 use Rattle.std.proofs.lemmas.Bool.{and_parts}

@@ -39,7 +39,8 @@ module _ (z : Size) (c : ℕ) where
     loop : (l p q k h : ℕ) → p + l * r ≡ q → l < 65536 → q < 65536
         → Path f (l * 9) (at m 17 0 l r p 0 k h) [] (at m 17 0 0 r q 0 k h)
     loop zero p q k h e few small =
-        counted (subst (λ x. Path f 0 (at m 17 0 0 r p 0 k h) [] (at m 17 0 0 r x 0 k h)) (omega arith) stay) (omega arith)
+        counted (subst (λ x. Path f 0 (at m 17 0 0 r p 0 k h) [] (at m 17 0 0 r x 0 k h)) (omega arith) stay)
+        (omega arith)
     loop (suc l) p q k h e few small =
         let sum : suc l * r ≡ r + l * r = omega arith in
         counted (on (A 17 (own 27) (short (suc l)) refl (omega arith))
@@ -72,7 +73,8 @@ module _ (z : Size) (c : ℕ) where
     record Shown (l p s k h : ℕ) : Type 0 where
       after : Moment
       is : IsAround after
-      journey : Journey f (2 + ((9 + print_orders p) + 1)) (at m 32 (to 28 j) l r p s k h) (11 ∷ digits p ++ 18 ∷ 24 ∷ [])
+      journey : Journey f (2 + ((9 + print_orders p) + 1)) (at m 32 (to 28 j) l r p s k h)
+          (11 ∷ digits p ++ 18 ∷ 24 ∷ [])
           (at after (j + 2) 0 l r p s k (link j))
 
     show : (l p s k h : ℕ) → p < 65536 → Shown l p s k h
@@ -80,7 +82,8 @@ module _ (z : Size) (c : ℕ) where
         let third = o.prints.at3 in let all = o.all in
         let called : IsIn f (at m 34 0 l r p s k (link j)) = record { above = lit≤ tt; all = all; own = refl } in
         let shown : HasShown called 34 29 96 148 p =
-        shows_number called 34 29 p o.prints o.lines (lit≤ tt) refl small (lit< tt) (lit≤ tt) refl refl refl refl refl in
+        shows_number called 34 29 p o.prints o.lines (lit≤ tt) refl small (lit< tt) (lit≤ tt) refl refl refl
+        refl refl in
         record {
           after = record m { words = shown.words; last = Some 24 };
           is = record { all = shown.still_in.all; prints = shown.prints; lines = shown.lines };
@@ -92,10 +95,12 @@ module _ (z : Size) (c : ℕ) where
 
   -- both calls of each, to the stop
   stops : (m : Moment) (o : IsAround m) (a b : ℕ) → a < 65536 → a * b < 65536 → c < 65536 → c * c < 65536 → (done : ℕ)
-      → ComesToStop (9 * a + 9 * c + print_orders (a * b) + print_orders (c * c) + 53) (state f (at m 0 0 a b 0 0 0 0) done)
+      → ComesToStop (9 * a + 9 * c + print_orders (a * b) + print_orders (c * c) + 53)
+      (state f (at m 0 0 a b 0 0 0 0) done)
       ((11 ∷ digits (a * b) ++ 18 ∷ 24 ∷ []) ++ (11 ∷ digits (c * c) ++ 18 ∷ 24 ∷ [])) 68
   stops m o a b few small few_c small_c done =
-      let one : Shown m o 2 b (lit≤ tt) 0 (a * b) 131071 (link 0) 0 = show m o 2 b (lit≤ tt) 0 (a * b) 131071 (link 0) 0 small in
+      let one : Shown m o 2 b (lit≤ tt) 0 (a * b) 131071 (link 0) 0 =
+      show m o 2 b (lit≤ tt) 0 (a * b) 131071 (link 0) 0 small in
       let now : Moment = one.after in
       let two = show now one.is 9 c (lit≤ tt) 0 (c * c) 131071 (link 7) (link 2) small_c in
       stop_counted (to_stop
@@ -122,7 +127,8 @@ module _ (a b c : ℕ) (few : a < 65536) (also : b < 65536) (small : a * b < 655
   abbrev lines : List Line
   lines = lines_of_pieces true multiply_pieces (multiply_data a b c) marks
 
-  pub each_product : (s : Settings) → SourceRuns s (multiply_text a b c) (multiply_orders a b c) 68 (multiply_prints a b c)
+  pub each_product : (s : Settings) → SourceRuns s (multiply_text a b c) (multiply_orders a b c) 68
+      (multiply_prints a b c)
   unfolding settings parameter_store
   each_product s =
       let z : Size = s.size in

@@ -1,5 +1,6 @@
 -- Lines of a source with data: one that ends with `word N`, for any number, and a `use` line with H.
-use Rattle.std.proofs.Common.{◌≡◌, ◌∙◌, ℕ, ◌+◌, ◌<◌, ◌≤◌, Bool, true, false, List, [], ◌∷◌, ◌++◌, refl, sym, ap, subst, arith, true≢false}
+use Rattle.std.proofs.Common.{◌≡◌, ◌∙◌, ℕ, ◌+◌, ◌<◌, ◌≤◌, Bool, true, false, List, [], ◌∷◌, ◌++◌, refl, sym, ap, subst}
+use Rattle.std.proofs.Common.{arith, true≢false}
 use Rattle.std.proofs.Common.{append-nil, append_assoc, codes, length, length-append, lit≤, nat_le, pos}
 use Rattle.std.specs.Prelude.{◌==◌, ◌&&◌, Option, Some, None, Ok}
 use Rattle.std.specs.Fmt.{decimal}
@@ -92,7 +93,8 @@ label_front two k (b ∷ r) later fits =
       plain = λ bytes h. list_all-append is_line_byte (l ++ codes ": word ") bytes ∙ (λ i. line i && h i);
       short = let long = length-append l (codes ": word ") in omega (arith, long, few);
       parts = λ bytes h.
-          ap parts_of (append_assoc l (codes ": word ") bytes) ∙ run_parts b r (codes ": word " ++ bytes) u.1 refl ∙ rw h refl;
+          ap parts_of (append_assoc l (codes ": word ") bytes) ∙ run_parts b r (codes ": word " ++ bytes) u.1 refl
+          ∙ rw h refl;
       form = λ bytes number in_range.
           let no_version : (k == 1) ≡ false = eq_false k 1 (omega (arith, later)) in
           rw (no_version, name, number, in_range) refl;
@@ -100,7 +102,8 @@ label_front two k (b ∷ r) later fits =
 
 module _ {two : Bool} (k : ℕ) (n : ℕ) (small : n < 65536) where
   -- a line that ends with `word N`
-  abbrev pub marked_word : {front : Text} {label : Option Text} {before : List LinePart} → IsWordFront two k front label before → Marked two
+  abbrev pub marked_word : {front : Text} {label : Option Text} {before : List LinePart}
+      → IsWordFront two k front label before → Marked two
   marked_word {front} {label} is_front = record {
     number = k;
     text = front ++ (decimal n ++ []);

@@ -47,7 +47,8 @@ module _ (z : Size) (lines : List Line) (fit : have_places (placed lines) ≡ tr
 
 -- the n words from 56 on are the cells, as far as those words are known
 module _ (z : Size) (lines : List Line) (n : ℕ) (few : n ≤ 456) (ps : List (ℕ × ℕ))
-    (known : (j : ℕ) → j < n → get_or (entry_state z lines).store.words (56 + j) 0 ≡ unwrap_or (placed_at ps (56 + j)) 0)
+    (known : (j : ℕ) → j < n → get_or (entry_state z lines).store.words (56 + j) 0
+    ≡ unwrap_or (placed_at ps (56 + j)) 0)
     (cells : List ℕ) (are : words_from ps 56 n ≡ cells) where
   abbrev first : State
   first = entry_state z lines
@@ -62,7 +63,8 @@ module _ (z : Size) (lines : List Line) (n : ℕ) (few : n ≤ 456) (ps : List (
 
   -- so a stop of the program, from the moment at its entry, is a stop of the source
   pub stops_by : {k at : ℕ} {codes : List ℕ} → entry_of lines ≡ 56 → (tape : List ℕ) → tape ≡ first.tape
-      → ComesToStop k (state (frame_at n z few) (record (moment_at first) { cells = cells; tape = tape }) first.orders) codes
+      → ComesToStop k (state (frame_at n z few) (record (moment_at first) { cells = cells; tape = tape })
+      first.orders) codes
       at
       → ComesToStop k first codes at
   stops_by {k} {at} {codes} at_56 tape rows =

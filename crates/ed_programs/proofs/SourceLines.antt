@@ -1,7 +1,8 @@
 -- What the lines of a source say: most lines by computation, those with data by a proof.
 --
 -- Only this module uses the definitions of how a source is read.
-use Rattle.std.proofs.Common.{◌≡◌, ◌∙◌, ℕ, suc, ◌+◌, ◌-◌, ◌≤◌, Bool, true, false, List, [], ◌∷◌, ap, sym, refl, subst, arith, length, nat_lt}
+use Rattle.std.proofs.Common.{◌≡◌, ◌∙◌, ℕ, suc, ◌+◌, ◌-◌, ◌≤◌, Bool, true, false, List, [], ◌∷◌, ap, sym, refl, subst}
+use Rattle.std.proofs.Common.{arith, length, nat_lt}
 use Rattle.std.proofs.Common.{drop, get_or, lit≤, map, nat_eq, nat_le}
 use Rattle.std.specs.Prelude.{◌==◌, ◌||◌, ◌&&◌, not, Option, Some, None, if◌then◌else◌, Result, Ok, Err, is_ok}
 use Rattle.std.specs.List.{list_all}
@@ -23,7 +24,8 @@ use Rattle.ed_sources.proofs.TextLines.{lines_back}
 pub data Says (two : Bool) : ℕ → List Text → List Line → Type 0 where
   ends : {k : ℕ} → Says two k [] []
   says : {k : ℕ} {line : Text} {lines : List Text} {l : Line} {program : List Line}
-      → ((rest : List Line) → and_lines k (line_of two k line) (Ok rest) ≡ Ok (l ∷ rest)) → Says two (k + 1) lines program
+      → ((rest : List Line) → and_lines k (line_of two k line) (Ok rest) ≡ Ok (l ∷ rest))
+      → Says two (k + 1) lines program
       → Says two k (line ∷ lines) (l ∷ program)
 
 -- lines that say so are read so, if there are at most 2000
@@ -102,7 +104,8 @@ form_first and each (Err cause) h rest = absurd (cc)
 
 module _ (two : Bool) (all : List Text) where
   -- so a line says what it is marked with or read as
-  read_so : (k : ℕ) (line : Text) (ms : List (Marked two)) → get_or all (k - 1) [] ≡ line → texts_at all ms ≡ marked_texts ms
+  read_so : (k : ℕ) (line : Text) (ms : List (Marked two)) → get_or all (k - 1) [] ≡ line
+      → texts_at all ms ≡ marked_texts ms
       → (is_marked k ms || is_ok (line_of two k line)) ≡ true → (rest : List Line)
       → and_lines k (line_of two k line) (Ok rest) ≡ Ok (line_said two k line ms ∷ rest)
   read_so k line [] same marked read rest =
@@ -113,7 +116,8 @@ module _ (two : Bool) (all : List Text) where
       by_test : ((is_marked k ms || is_ok (line_of two k line)) ≡ true
           → and_lines k (line_of two k line) (Ok rest) ≡ Ok (line_said two k line ms ∷ rest))
           → (b : Bool) → nat_eq m.number k ≡ b → ((b || is_marked k ms) || is_ok (line_of two k line)) ≡ true
-          → and_lines k (line_of two k line) (Ok rest) ≡ Ok ((if b then marked_line m else line_said two k line ms) ∷ rest)
+          → and_lines k (line_of two k line) (Ok rest)
+          ≡ Ok ((if b then marked_line m else line_said two k line ms) ∷ rest)
       by_test other true e read =
           let is : line_of two k line ≡ Ok (record { label = m.label; statement = Some m.statement }) =
           ap (line_of two k) (sym same)
@@ -142,7 +146,8 @@ module _ (two : Bool) (all : List Text) where
 
 -- a line that is read is one of a text, and short
 line_fine : {F : Type 0} (plain long : Bool) (r : Result F SourceCause)
-    → is_ok (if not plain then Err BadByte else if long then Err LongLine else r) ≡ true → (plain ≡ true) × (long ≡ false)
+    → is_ok (if not plain then Err BadByte else if long then Err LongLine else r) ≡ true
+    → (plain ≡ true) × (long ≡ false)
 line_fine true false r h = (refl, refl)
 line_fine true true r h = absurd (cc)
 line_fine false long r h = absurd (cc)
@@ -161,7 +166,8 @@ pub said_fine : {two : Bool} {k : ℕ} {lines : List Text} {program : List Line}
     → (list_all (list_all is_line_byte) lines ≡ true) × (list_all (λ line. nat_le (length line) 120) lines ≡ true)
 said_fine ends = (refl, refl)
 said_fine {two} {k} (says {line = line} here rest) =
-    let is = line_fine (list_all is_line_byte line) (nat_lt 120 (length line)) _ (is_read (λ r. and_lines k r (Ok [])) k (λ c. refl) (line_of two k line) (here [])) in
+    let is = line_fine (list_all is_line_byte line) (nat_lt 120 (length line)) _
+    (is_read (λ r. and_lines k r (Ok [])) k (λ c. refl) (line_of two k line) (here [])) in
     let plain = is.0 in
     let short = le_true (length line) 120 (not_lt_of 120 (length line) is.1) in
     let more = said_fine rest in

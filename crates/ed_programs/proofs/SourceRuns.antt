@@ -22,12 +22,14 @@ use Rattle.ed_answers.proofs.Sources.{accepted_is, headline}
 use Rattle.ed_top.proofs.Stopped.{stopped_outcome}
 use Rattle.ed_programs.specs.Programs.{SourceRuns, woven}
 use Rattle.ed_programs.proofs.Answered.{are_short, is_due}
-use Rattle.ed_programs.proofs.SourceLines.{Marked, are_read, lines_said, marked_texts, said_fine, source_read, source_said, texts_at}
+use Rattle.ed_programs.proofs.SourceLines.{Marked, are_read, lines_said, marked_texts, said_fine, source_read}
+use Rattle.ed_programs.proofs.SourceLines.{source_said, texts_at}
 use Rattle.ed_programs.proofs.WovenLines.{unended, woven_is, woven_lines}
 
 -- a source that is read as these lines, has no fault and reaches its stop
 pub source_runs : (s : Settings) (texts : List Text) {lines : List Line} {k at : ℕ} {printed : List ℕ}
-    → are_short texts ≡ true → length texts ≤ 2000 → program_of (text_of_lines texts) ≡ Ok lines → fault s.size lines ≡ None
+    → are_short texts ≡ true → length texts ≤ 2000 → program_of (text_of_lines texts) ≡ Ok lines
+    → fault s.size lines ≡ None
     → ComesToStop k (entry_state s.size lines) printed at → length printed ≤ 1000000
     → SourceRuns s (text_of_lines texts) (k + 1) at (paper printed)
 source_runs s texts {lines} short small reads faultless stops few =
@@ -55,8 +57,17 @@ Read = Text × (Bool × (Bool × List Text))
 
 abbrev pub read_of : (two : Bool) → List Text → List Text → List (Marked two) → Read
 read_of two pieces ds marks =
-    let texts = woven_lines pieces ds in
-    (unended pieces ds, (is_two texts, (nat_le (length texts) 2000 && are_read two 1 texts marks, texts_at texts marks)))
+    let texts = woven_lines pieces ds in (
+      unended pieces ds,
+      (
+        is_two texts,
+        (
+          nat_le (length texts) 2000
+              && are_read two 1 texts marks,
+          texts_at texts marks,
+        ),
+      ),
+    )
 
 abbrev pub wanted : (two : Bool) → List (Marked two) → Read
 wanted two marks = ([], (two, (true, marked_texts marks)))
@@ -96,5 +107,6 @@ pub program_runs : (s : Settings) (two : Bool) (pieces ds : List Text) (marks : 
     → k + 1 ≡ orders → paper printed ≡ text → SourceRuns s (woven pieces ds) orders at text
 program_runs s two pieces ds marks o =
     read_runs s two pieces ds marks (ap (λ (t : Read × (Option SourceFault × Option SourceFault)). t.0) o)
-    (no_fault (lines_of_pieces two pieces ds marks) (ap (λ (t : Read × (Option SourceFault × Option SourceFault)). t.1.0) o)
+    (no_fault (lines_of_pieces two pieces ds marks)
+    (ap (λ (t : Read × (Option SourceFault × Option SourceFault)). t.1.0) o)
     (ap (λ (t : Read × (Option SourceFault × Option SourceFault)). t.1.1) o) s.size)

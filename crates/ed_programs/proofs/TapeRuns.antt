@@ -56,7 +56,8 @@ holds_in words image base test i l =
 -- Orders begins; both are computed
 pub record Arrives (z : Size) (tape_rows : List ℕ) (e : TapeEntry) : Type 0 where
   pub cleared : reading_on z cleared_cells.words 0 9 first_note None tape_rows ≡ Arrived e
-  pub started : reading_on z (first_state z tape_rows).store.words 0 9 (opening (first_state z tape_rows).store.words) None
+  pub started : reading_on z (first_state z tape_rows).store.words 0 9
+      (opening (first_state z tape_rows).store.words) None
       tape_rows
       ≡ Arrived e
 
@@ -121,7 +122,8 @@ tape_runs s tape tape_rows e {k} {at} {printed} reads short arrives stops few =
 
 -- a law of a tape's text is one of the text that is answered
 pub tape_prints_of : {cost orders at : ℕ} {tape printed : Text} (r : Result (String Global) Refusal)
-    → GivesProgram None tape r → ((s : Settings) → TapeRuns s tape cost orders at printed) → TapePrints cost orders at printed r
+    → GivesProgram None tape r → ((s : Settings) → TapeRuns s tape cost orders at printed)
+    → TapePrints cost orders at printed r
 tape_prints_of {cost} {orders} {at} {printed = printed} (Ok text) gives law = λ s.
     subst (λ (t : Text). TapeRuns s t cost orders at printed) (sym gives.1) (law s)
 tape_prints_of (Err refusal) gives law = tt

@@ -1,5 +1,6 @@
 -- Lines of a source with data: one with a text of rows, and one that has a number between other parts.
-use Rattle.std.proofs.Common.{◌≡◌, ◌∙◌, ℕ, ◌+◌, ◌<◌, ◌≤◌, Bool, true, false, true≢false, List, [], ◌∷◌, ◌++◌, refl, sym, ap}
+use Rattle.std.proofs.Common.{◌≡◌, ◌∙◌, ℕ, ◌+◌, ◌<◌, ◌≤◌, Bool, true, false, true≢false, List, [], ◌∷◌, ◌++◌, refl, sym}
+use Rattle.std.proofs.Common.{ap}
 use Rattle.std.proofs.Common.{subst, arith, codes, length, length-append, nat_le, nat_lt}
 use Rattle.std.specs.Prelude.{◌==◌, ◌&&◌, ◌||◌, not, Option, Some, Ok}
 use Rattle.std.specs.Fmt.{decimal}
@@ -11,7 +12,8 @@ use Rattle.ed_words.proofs.Numbers.{eq_false, le_of, le_true, lt_of}
 use Rattle.ed_words.specs.Texts.{Text}
 use Rattle.ed_words.specs.Decimals.{value}
 use Rattle.ed_codes.specs.Spelling.{row_of}
-use Rattle.ed_syntax.specs.Parts.{LinePart, run, sign, quoted, begins_run, array, is_number, is_place_name, is_line_byte}
+use Rattle.ed_syntax.specs.Parts.{LinePart, run, sign, quoted, begins_run, array, is_number, is_place_name}
+use Rattle.ed_syntax.specs.Parts.{is_line_byte}
 use Rattle.ed_syntax.specs.Parts.{has_quote, is_run_byte}
 use Rattle.ed_syntax.specs.Private.Grammar.{form_at, row, spells}
 use Rattle.ed_syntax.specs.Private.PartReading.{parts_of}
@@ -20,7 +22,8 @@ use Rattle.ed_syntax.specs.declared.program.Statement.{Statement}
 use Rattle.ed_syntax.specs.declared.program.Statement.TheVariants as statements
 use Rattle.ed_syntax.proofs.PartLemmas.{quote_parts, run_parts}
 use Rattle.ed_routines.specs.Digits.{digits}
-use Rattle.ed_sources.proofs.Decimals.{among, are, both, decimal_is, digit_bytes, few_bytes, line_bytes, run_bytes, some_digit}
+use Rattle.ed_sources.proofs.Decimals.{among, are, both, decimal_is, digit_bytes, few_bytes, line_bytes, run_bytes}
+use Rattle.ed_sources.proofs.Decimals.{some_digit}
 use Rattle.ed_sources.proofs.Decimals.{value_is, written}
 use Rattle.ed_sources.proofs.Said.{a_number}
 use Rattle.ed_programs.specs.Hello.{hello_rows, is_row_byte}
@@ -44,7 +47,8 @@ spelling b h =
     let small = lt_of b 128 (and_parts (nat_lt b 128) (spells (row_of b)) h).0 in
     let all : fine b ≡ true = among fine 0 128 b refl (omega arith) (omega arith) in
     let is : (is_line_byte b && (not (b == 34) && (spells (row_of b) && nat_lt (row (row_of b)) 32))) ≡ true =
-    subst (λ t. (not t || (is_line_byte b && (not (b == 34) && (spells (row_of b) && nat_lt (row (row_of b)) 32)))) ≡ true) h all in
+    subst (λ t. (not t || (is_line_byte b && (not (b == 34) && (spells (row_of b) && nat_lt (row (row_of b)) 32))))
+    ≡ true) h all in
     let p = and_parts (is_line_byte b) _ is in
     let q = and_parts (not (b == 34)) _ p.1 in
     let r = and_parts (spells (row_of b)) _ q.1 in
@@ -87,7 +91,8 @@ text_says two k (b ∷ r) q later fits some few rows =
     let no_version : (k == 1) ≡ false = eq_false k 1 (omega (arith, later)) in
     let plain = all_plain q rows in
     let spelled = plain.spelled in
-    let line : list_all is_line_byte rest ≡ true = list_all-append is_line_byte q (34 ∷ []) ∙ ap (λ t. t && true) plain.line in
+    let line : list_all is_line_byte rest ≡ true =
+    list_all-append is_line_byte q (34 ∷ []) ∙ ap (λ t. t && true) plain.line in
     let long = length-append q (34 ∷ []) in
     let all = length-append l rest in
     let there = le_true 1 (length q) some in
@@ -110,7 +115,8 @@ text_mark {two} k label q later fits some few rows = record {
 -- ---- a line with a number between two fixed texts
 
 -- what its front and its tail make of it, whatever digits stand between them
-pub record IsAround (two : Bool) (k : ℕ) (front tail : Text) (before after : List LinePart) (n : ℕ) (label : Option Text)
+pub record IsAround (two : Bool) (k : ℕ) (front tail : Text) (before after : List LinePart) (n : ℕ)
+    (label : Option Text)
     (statement : Statement) : Type 0 where
   pub plain : (t : Text) → list_all is_line_byte t ≡ true → list_all is_line_byte (front ++ t) ≡ true
   pub tail_plain : list_all is_line_byte tail ≡ true
@@ -136,7 +142,8 @@ module _ {two : Bool} {k : ℕ} {front tail : Text} {before after : List LinePar
       by_parts two k (front ++ (bytes ++ tail)) (before ++ run bytes ∷ after)
       (o.plain (bytes ++ tail) (list_all-append is_line_byte bytes tail ∙ both _ _ plain o.tail_plain))
       (omega (arith, all, long, short, few))
-      (o.parts (bytes ++ tail) (run bytes ∷ after) (run_parts b r tail runs o.ends ∙ rw here refl)) (o.form bytes number is)
+      (o.parts (bytes ++ tail) (run bytes ∷ after) (run_parts b r tail runs o.ends ∙ rw here refl))
+      (o.form bytes number is)
 
   pub number_says : n < 65536
       → line_of two k (front ++ (decimal n ++ tail)) ≡ Ok (record { label = label; statement = Some statement })

@@ -28,7 +28,8 @@ texts_append (x ∷ xs) ys =
 -- a law of a text is one of the program that was written so
 pub runs_as : {orders at : ℕ} {text printed : Text} {program : Text} → program ≡ text
     → ((s : Settings) → SourceRuns s text orders at printed) → (s : Settings) → SourceRuns s program orders at printed
-runs_as {orders} {at} {printed = printed} is law s = subst (λ (t : Text). SourceRuns s t orders at printed) (sym is) (law s)
+runs_as {orders} {at} {printed = printed} is law s =
+    subst (λ (t : Text). SourceRuns s t orders at printed) (sym is) (law s)
 
 -- ---- data with one text between each two of them
 
@@ -48,7 +49,8 @@ woven_joined next head t (u ∷ us) pieces ds =
     let j : Text = joined next u us in
     let w : Text = woven pieces ds in
     ap (λ (x : Text). head ++ (t ++ x)) (woven_joined next next u us pieces ds)
-    ∙ ap (λ (x : Text). head ++ x) (sym (append_assoc t (next ++ j) w ∙ ap (λ (x : Text). t ++ x) (append_assoc next j w)))
+    ∙ ap (λ (x : Text). head ++ x) (sym (append_assoc t (next ++ j) w
+    ∙ ap (λ (x : Text). t ++ x) (append_assoc next j w)))
 
 -- they are written in two halves
 pub halves : (next head tail t u : Text) (ts us : List Text) {x y : Text} → x ≡ joined next t ts → y ≡ joined next u us

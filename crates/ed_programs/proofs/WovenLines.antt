@@ -107,7 +107,8 @@ lines_are (t ∷ u ∷ ts) =
     ∙ ap (λ (x : Text). (t ++ 10 ∷ []) ++ x) (lines_are (u ∷ ts))
     ∙ append_assoc t (10 ∷ []) (between (u ∷ ts))
 
-pub woven_is : (pieces ds : List Text) → unended pieces ds ≡ [] → text_of_lines (woven_lines pieces ds) ≡ woven pieces ds
+pub woven_is : (pieces ds : List Text) → unended pieces ds ≡ []
+    → text_of_lines (woven_lines pieces ds) ≡ woven pieces ds
 woven_is pieces ds e =
     sym (append-nil (text_of_lines (woven_lines pieces ds)))
     ∙ ap (λ (x : Text). text_of_lines (woven_lines pieces ds) ++ x) (sym e)

@@ -28,7 +28,8 @@ pub record SourceRuns (s : Settings) (source : Text) (orders at : ℕ) (text : T
   pub outcome : s.resumes ≡ 0 → s.post_mortem ≡ None → cost lines + orders ≤ s.limit
       → IsDue (output (Some (record { action = Run; settings = s }))) source (record {
         out = text;
-        note = entered (entry_of lines) (cost lines) ++ (at_after (codes "stopped") at (cost lines + orders) ++ 10 ∷ []);
+        note = entered (entry_of lines) (cost lines)
+            ++ (at_after (codes "stopped") at (cost lines + orders) ++ 10 ∷ []);
         status = 0;
       })
 

@@ -46,7 +46,8 @@ module _ {n h : ℕ} {f : Frame n h} where
   }
 
   -- a journey that ends at an order Z
-  pub to_stop : {k : ℕ} {r t u : Moment} {codes : List ℕ} → Journey f k r codes t → Does f KindZ t Stopped u → (done : ℕ)
+  pub to_stop : {k : ℕ} {r t u : Moment} {codes : List ℕ} → Journey f k r codes t → Does f KindZ t Stopped u
+      → (done : ℕ)
       → ComesToStop k (state f r done) codes u.counter
   to_stop {k} {t = t} journey z done = record {
     last = state f t (done + k);
@@ -90,7 +91,8 @@ pub record HasRoutine {n h : ℕ} (f : Frame n h) (words : List ℕ) (r w : ℕ)
   pub apart : (w + place_count r ≤ f.base) ⊎ (f.base + n ≤ w)
   pub at2 : get_or words 2 0 ≡ 2
   pub at3 : get_or words 3 0 ≡ 28676
-  pub image : (i : ℕ) → i < place_count r → is_working r i ≡ false → get_or words (w + i) 0 ≡ image_word r i w parameters
+  pub image : (i : ℕ) → i < place_count r → is_working r i ≡ false
+      → get_or words (w + i) 0 ≡ image_word r i w parameters
 
 -- the piece is above the parameters, in a store of 1024 words
 pub record IsIn {n h : ℕ} (f : Frame n h) (r : Moment) : Type 0 where

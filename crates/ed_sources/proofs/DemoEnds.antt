@@ -104,10 +104,12 @@ module _ (z : Size) (n : ℕ) (few : n ≤ 111) (fits : 123 + 8 * suc n ≤ loca
   ends_so : ComesToStop (9 * words + (3 + print_orders (demo_sum (suc n)))) s (11 ∷ digits (demo_sum (suc n))) 69
   ends_so =
       let count = long words n (suc n) last_line in
-      subst (λ k. ComesToStop (9 * k + (3 + print_orders (demo_sum (suc n)))) s (11 ∷ digits (demo_sum (suc n))) 69) count
+      subst (λ k. ComesToStop (9 * k + (3 + print_orders (demo_sum (suc n)))) s
+      (11 ∷ digits (demo_sum (suc n))) 69) count
       (subst (λ (x : State). ComesToStop (9 * length (demo_words (suc n)) + (3 + print_orders (demo_sum (suc n)))) x
       (11 ∷ digits (demo_sum (suc n))) 69) begins
-      (demo_stops given (demo_sum (suc n)) (sum_small (suc n) (omega arith)) first (demo_words (suc n)) (omega arith) fine
+      (demo_stops given (demo_sum (suc n)) (sum_small (suc n) (omega arith)) first (demo_words (suc n))
+      (omega arith) fine
       s.orders))
 
 -- the source with the name of its first segment as its lines have it
@@ -125,7 +127,8 @@ pub demo_ends : (z : Size) (n : ℕ) → 1 ≤ n → n ≤ 112 → 123 + 8 * n �
     → ComesToStop (72 * n + 3 + print_orders (demo_sum n)) (entry_state z (demo_lines n)) (11 ∷ digits (demo_sum n)) 69
 demo_ends z zero some few fits = absurd (omega arith)
 demo_ends z (suc n) some few fits =
-    let count : 9 * (8 * suc n) + (3 + print_orders (demo_sum (suc n))) ≡ 72 * suc n + 3 + print_orders (demo_sum (suc n)) =
+    let count : 9 * (8 * suc n) + (3 + print_orders (demo_sum (suc n)))
+    ≡ 72 * suc n + 3 + print_orders (demo_sum (suc n)) =
     omega arith in
     subst (λ k. ComesToStop k (entry_state z (demo_lines (suc n))) (11 ∷ digits (demo_sum (suc n))) 69) count
     (subst (λ (ls : List Line). ComesToStop (9 * (8 * suc n) + (3 + print_orders (demo_sum (suc n)))) (entry_state z ls)

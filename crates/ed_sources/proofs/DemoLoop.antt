@@ -138,7 +138,8 @@ module _ (given : Given) where
         let number : get_or (cells f.base w stop (taking y.q) 0 y.total) 15 0 ≡ n = is in
         let prints =
         print_line here {v = n} 10 15 given.prints
-        (get_own 0 around.words f.base (cells f.base w stop (taking y.q) 0 y.total) 15 (lit< tt) ∙ number) (lit< tt) small
+        (get_own 0 around.words f.base (cells f.base w stop (taking y.q) 0 y.total) 15 (lit< tt) ∙ number)
+        (lit< tt) small
         (lit≤ tt) refl refl refl in
         let count : 1 + (2 + print_orders n) ≡ 3 + print_orders n = omega arith in
         subst (λ k. ComesToStop k (state f (before y []) done) (11 ∷ digits n) (f.base + 13)) count

@@ -1,5 +1,6 @@
 -- A program whose words are known at its entry is at its base, by one test.
-use Rattle.std.proofs.Common.{◌≡◌, ◌∙◌, ◌⊎◌, refl, ℕ, ◌+◌, ◌<◌, ◌≤◌, Bool, true, List, [], arith, get_or, length, nat_eq}
+use Rattle.std.proofs.Common.{◌≡◌, ◌∙◌, ◌⊎◌, refl, ℕ, ◌+◌, ◌<◌, ◌≤◌, Bool, true, List, [], arith, get_or, length}
+use Rattle.std.proofs.Common.{nat_eq}
 use Rattle.std.specs.Prelude.{Option, Some, None, unwrap_or}
 use Rattle.std.specs.List.{list_all}
 use Rattle.ed_words.proofs.Numbers.{eq_of}

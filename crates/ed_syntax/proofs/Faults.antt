@@ -21,7 +21,8 @@ made_fault f (Some None) e h = let same : e ≡ OutOfRange = cc in ap (λ (x : F
 made_fault f (Some (Some a)) e h = absurd (cc)
 
 -- a line that has no form has the fault
-pub line_fault : (o : Option (Ranged Form)) (e : FormFault) → Err e ≡ answered o → LineIs (or_cause o) (Err (form_fault e))
+pub line_fault : (o : Option (Ranged Form)) (e : FormFault) → Err e ≡ answered o
+    → LineIs (or_cause o) (Err (form_fault e))
 line_fault None e h = let same : NotThisForm ≡ e = cc in rw (← same) refl
 line_fault (Some None) e h = let same : OutOfRange ≡ e = cc in rw (← same) refl
 line_fault (Some (Some f)) e h = absurd (cc)

@@ -105,7 +105,8 @@ word_back v w more others same =
     λ x rest. decimal_digits (number_in x) 15 (tail_of x rest) (lit≤ tt) in
     let numbers : number_in v ≡ number_in w =
     sym (decimal_value (number_in v) (omega arith))
-    ∙ ap digits_value (sym (from v more).0 ∙ ap (λ (codes : List ℕ). digit_rows (drop 3 codes)) whole ∙ (from w others).0)
+    ∙ ap digits_value (sym (from v more).0 ∙ ap (λ (codes : List ℕ). digit_rows (drop 3 codes)) whole
+    ∙ (from w others).0)
     ∙ decimal_value (number_in w) (omega arith) in
     let tails = sym (from v more).1 ∙ ap (λ (codes : List ℕ). after_digits (drop 3 codes)) whole ∙ (from w others).1 in
     let parity = same_parity v w (ap (λ (codes : List ℕ). get_or codes 1 0) tails) in

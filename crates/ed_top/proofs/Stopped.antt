@@ -49,7 +49,8 @@ stopped_outcome s {lines} {k} {at} {printed} entry stops few none plain fits =
     let first : State = entry_state s.size lines in
     let r : RunEnd = ran left 0 paper_room first in
     let before : Text = entered (entry_of lines) (cost lines) in
-    let to_stop : LeadsToStop k first printed = record { last = stops.last; leads = stops.leads; stops = stops.stops } in
+    let to_stop : LeadsToStop k first printed = record
+    { last = stops.last; leads = stops.leads; stops = stops.stops } in
     let ended = ran_to_stop left paper_room k first printed to_stop few (omega (arith, fits)) in
     let count : (step stops.last).state.orders ≡ cost lines + (k + 1) = omega (arith, stops.orders) in
     entry.runs (omega (arith, fits))

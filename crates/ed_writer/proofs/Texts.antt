@@ -13,7 +13,8 @@ use Rattle.ed_syntax.specs.Lines.{HasLines, nothing, ended, has_end, without_ret
 use Rattle.ed_syntax.specs.Parts.{run, is_line_byte}
 use Rattle.ed_syntax.specs.Forms.{SpellsLine, version, has_few_settings}
 use Rattle.ed_syntax.specs.Programs.{AreNumbered, is_line}
-use Rattle.ed_syntax.specs.Sources.{IsPlain, LineSays, IsVersionTwo, IsOfVersion, LinesSay, no_more, and_more, IsProgram}
+use Rattle.ed_syntax.specs.Sources.{IsPlain, LineSays, IsVersionTwo, IsOfVersion, LinesSay, no_more, and_more}
+use Rattle.ed_syntax.specs.Sources.{IsProgram}
 use Rattle.ed_syntax.specs.declared.program.Line.{Line}
 use Rattle.ed_syntax.specs.declared.program.Statement.{Statement}
 use Rattle.ed_syntax.proofs.LineLaws.{one_form}

@@ -24,7 +24,8 @@ returns-then-len-from c =
     rw (c.new.ensures, c.in_ok-push-in-Ended.ensures.items)
     (made_whole (rw c.in-Some.is at c.loop-row.invariant) c.loop-row-test.true row.is empty
     (sym c.in-Ended.is ∙ c.take.ensures) c.word_of.ensures c.end_behind-end.ensures
-    (rw (sym c.in_ok-push-in-Ended.ensures.items) (omega (arith, c.len.ensures, past, c.from.ensures, c.if-len-from.true))))
+    (rw (sym c.in_ok-push-in-Ended.ensures.items)
+    (omega (arith, c.len.ensures, past, c.from.ensures, c.if-len-from.true))))
 
 pub loop-row-preserved : goal.loop-row-preserved
 loop-row-preserved c = elim c.match-item.branch [

@@ -13,7 +13,8 @@ pub returns-in-Ok-clause-told : goal.returns-in-Ok-clause-told
 returns-in-Ok-clause-told c =
     text_told (items_answer (size_shown c.args.small)) c.args.text.now c.in-Ok.told
     (refuted c.lacks_line.result c.if-lacks_line.false c.lacks_line.ensures)
-    (subst (λ (z : Size). IsAnswered (items_answer z) c.args.text.now (Ok c.in-Ok.told)) c.size_of.ensures c.in-Ok.ensures)
+    (subst (λ (z : Size). IsAnswered (items_answer z) c.args.text.now (Ok c.in-Ok.told)) c.size_of.ensures
+    c.in-Ok.ensures)
     c.tell.ensures
 
 pub returns-then-lacks_line-clause-told : goal.returns-then-lacks_line-clause-told

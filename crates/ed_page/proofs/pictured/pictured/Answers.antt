@@ -3,7 +3,8 @@ use Rattle.ed_words.specs.Sizes.{locations}
 use Rattle.ed_words.specs.declared.size.Size.{Size}
 use Rattle.ed_machine.specs.Reached.{IsReached}
 use Rattle.ed_page.specs.Pictures.{size_shown}
-use Rattle.ed_page.proofs.OnTheWay.{begun, fit_counter, fit_last, fit_multiplier, fit_rows, fit_words, is_first, most_places}
+use Rattle.ed_page.proofs.OnTheWay.{begun, fit_counter, fit_last, fit_multiplier, fit_rows, fit_words, is_first}
+use Rattle.ed_page.proofs.OnTheWay.{most_places}
 use Rattle.ed_page.proofs.OnTheWay.{shown_state, way_reached}
 use Rattle.ed_page.proofs.pictured.pictured.Goals as goal
 
@@ -40,7 +41,8 @@ reached-requires-clause-is c =
 
 pub reached-requires-clause-counter : goal.reached-requires-clause-counter
 reached-requires-clause-counter c =
-    subst (λ (z : Size). c.args.registers.now.counter < locations z) (sym c.size_of.ensures) (fit_counter c.requires.picture)
+    subst (λ (z : Size). c.args.registers.now.counter < locations z) (sym c.size_of.ensures)
+    (fit_counter c.requires.picture)
 
 pub returns : goal.returns
 returns c first begins k pictures =

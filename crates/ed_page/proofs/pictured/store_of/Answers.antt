@@ -4,8 +4,10 @@ use Rattle.ed_page.proofs.Stores.{cleared_store, same_cells}
 use Rattle.ed_page.proofs.pictured.store_of.Goals as goal
 
 pub loop-k-init : goal.loop-k-init
-loop-k-init c =
-    (subst (λ (s : Cells). IsStore s) (sym c.in_ok-store.ensures) cleared_store, λ s store pictures j none. absurd (omega arith))
+loop-k-init c = (
+  subst (λ (s : Cells). IsStore s) (sym c.in_ok-store.ensures) cleared_store,
+  λ s store pictures j none. absurd (omega arith),
+)
 
 pub returns : goal.returns
 returns c s store pictures =

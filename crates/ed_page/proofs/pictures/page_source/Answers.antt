@@ -51,8 +51,10 @@ pub returns-in-Ok-clause-next : goal.returns-in-Ok-clause-next
 returns-in-Ok-clause-next c lines accepted =
     let s = asked c.args.small c.args.orders c.args.resumes in
     let text = c.args.text.now in
-    begins_on (run_answer s) (SourceEnds s) text _ _ _ _ c.args.orders c.args.resumes (tape lines) (run_of s (tape lines))
-    (returns-in-Ok-clause-shown c) (source_codes s.size text lines accepted) (from_start s (tape lines)) (lines, accepted, refl)
+    begins_on (run_answer s) (SourceEnds s) text _ _ _ _ c.args.orders c.args.resumes (tape lines)
+    (run_of s (tape lines))
+    (returns-in-Ok-clause-shown c) (source_codes s.size text lines accepted) (from_start s (tape lines))
+    (lines, accepted, refl)
 
 pub returns-then-lacks_room-clause-next : goal.returns-then-lacks_room-clause-next
 returns-then-lacks_room-clause-next c lines accepted few not10 not12 = absurd (not12 refl)

@@ -12,10 +12,12 @@ returns-in_ok-rejected-in-Err c =
     let s = c.args.settings in
     let text = c.args.text.now in
     subst (λ (x : Shown). Draws (tape1_answer s) (Tape1Ends s) text (Ok x)) (sym c.refused-in-Err.ensures)
-    (tape_refusal_drawn (tape1_outcome s) (run1_of s) text c.in-Err.rejection c.in_ok-rejected-in-Err.field-0 (search rules) c.in-Err.ensures.is
+    (tape_refusal_drawn (tape1_outcome s) (run1_of s) text c.in-Err.rejection c.in_ok-rejected-in-Err.field-0
+    (search rules) c.in-Err.ensures.is
     c.in_ok-rejected-in-Err.ensures)
 
 pub returns-in-Ok : goal.returns-in-Ok
 returns-in-Ok c =
-    tape_drawn (tape1_outcome c.args.settings) (run1_of c.args.settings) c.args.text.now c.in-Ok.rows.items c.run_tape1.result (search rules) c.in-Ok.ensures.is
+    tape_drawn (tape1_outcome c.args.settings) (run1_of c.args.settings) c.args.text.now c.in-Ok.rows.items
+    c.run_tape1.result (search rules) c.in-Ok.ensures.is
     c.run_tape1.ensures

@@ -13,10 +13,12 @@ returns-in_ok-rejected-in-Err c =
     let s = c.args.settings in
     let text = c.args.text.now in
     subst (λ (x : Shown). Draws (tape_answer s) (TapeEnds s) text (Ok x)) (sym c.refused-in-Err.ensures)
-    (tape_refusal_drawn (tape_outcome s) (run_of s) text c.in-Err.rejection c.in_ok-rejected-in-Err.field-0 (search rules) c.in-Err.ensures.is
+    (tape_refusal_drawn (tape_outcome s) (run_of s) text c.in-Err.rejection c.in_ok-rejected-in-Err.field-0
+    (search rules) c.in-Err.ensures.is
     c.in_ok-rejected-in-Err.ensures)
 
 pub returns-in-Ok : goal.returns-in-Ok
 returns-in-Ok c =
-    tape_drawn (tape_outcome c.args.settings) (run_of c.args.settings) c.args.text.now c.in-Ok.rows.items c.run_tape.result (search rules) c.in-Ok.ensures.is
+    tape_drawn (tape_outcome c.args.settings) (run_of c.args.settings) c.args.text.now c.in-Ok.rows.items
+    c.run_tape.result (search rules) c.in-Ok.ensures.is
     c.run_tape.ensures

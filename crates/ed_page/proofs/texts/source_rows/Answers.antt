@@ -4,4 +4,5 @@ use Rattle.ed_page.proofs.Replies.{source_refused}
 use Rattle.ed_page.proofs.texts.source_rows.Goals as goal
 
 pub returns-in-Err : goal.returns-in-Err
-returns-in-Err c = source_refused c.args.size source_rows c.args.text.now _ _ (search rules) c.in-Err.ensures c.rejected.ensures
+returns-in-Err c = source_refused c.args.size source_rows c.args.text.now _ _ (search rules) c.in-Err.ensures
+    c.rejected.ensures

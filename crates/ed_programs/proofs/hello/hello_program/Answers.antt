@@ -25,7 +25,8 @@ returns-clause-law c =
     let letters : Text = c.args.letters.now in
     let rows : length letters + 1 ≡ suc (length letters) = omega arith in
     let capital : list_all is_capital letters ≡ true =
-    ap (list_all is_capital) (sym c.as_bytes.ensures.value) ∙ sym c.are_capitals.ensures ∙ c.if-not-are_capitals.false in
+    ap (list_all is_capital) (sym c.as_bytes.ensures.value) ∙ sym c.are_capitals.ensures
+    ∙ c.if-not-are_capitals.false in
     runs_as (c.in_ok-format.ensures.ok ∙ ap (λ n. woven hello_pieces (decimal n ∷ of_letters letters ∷ [])) rows)
     (each_name letters (grind (arith, c.if-is_empty.false, c.is_empty.ensures))
     (omega (arith, c.if-letters-gt-MOST_LETTERS.false)) capital)

@@ -44,7 +44,8 @@ loop-rest-preserved c =
     let ran = mapped_ok c.carry_out.result c.map_err.result _ c.in_ok-written.written c.map_err.ensures.cases
     c.in_ok-written.was in
     let ends = rw ran at c.carry_out.ensures in
-    let grown : c.extend_from_slice.new.self.items ≡ c.loop-rest.text.items ++ c.in_ok-written.written.items = search rules in
+    let grown : c.extend_from_slice.new.self.items ≡ c.loop-rest.text.items ++ c.in_ok-written.written.items =
+    search rules in
     playing_next c.loop-rest.invariant c.first_line.result.1.now c.first_line.ensures.lines
     (sym c.command_of.ensures.is ∙ c.unwrap-command.ensures) ends grown
 

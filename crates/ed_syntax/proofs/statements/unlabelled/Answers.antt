@@ -13,4 +13,5 @@ pub returns-in_err-statement : goal.returns-in_err-statement
 returns-in_err-statement c =
     let p = err_from_is_err_and c.from_residual.result c.from_residual.ensures.1 in
     let form : Statement → Form = λ (s : Statement). record { label = None; statement = Some s } in
-    rw (p.1, p.2) (made_fault form (statement (is_second c.args.version) (map part c.args.parts.now)) _ c.in_err-statement.ensures)
+    rw (p.1, p.2) (made_fault form (statement (is_second c.args.version) (map part c.args.parts.now)) _
+    c.in_err-statement.ensures)

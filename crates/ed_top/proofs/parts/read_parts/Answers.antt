@@ -38,6 +38,7 @@ returns-in_err-end g c =
     let p = err_from_is_err_and r.result r.ensures.1 in
     let fault = c.in_err-end.field-0.0 in
     let out = device g.K.Sink.held g.K.Sink.faults c.args.out.now c.run_parts.new.out in
-    rw (p.1, p.2) (parts_stopped (of_input (λ _. IsInParts c.args.settings c.args.rows.items)) fault out c.in_err-end.ensures.faults
+    rw (p.1, p.2) (parts_stopped (of_input (λ _. IsInParts c.args.settings c.args.rows.items)) fault out
+    c.in_err-end.ensures.faults
     (parts_broken c.args.settings c.args.rows.items c.in_ok-machine.ensures.is out fault c.run_parts.new.machine
     c.in_err-end.ensures.tells))

@@ -8,7 +8,8 @@ returns-in_err-ending g c =
     let r = c.from_residual-in_err-ending in
     let p = err_from_is_err_and r.result r.ensures.1 in
     let out = device g.K.Sink.held g.K.Sink.faults c.args.out.now c.trace_run.new.out in
-    let told = trace_stopped c.args.settings c.args.rows.items c.in_ok-machine.ensures.is out c.from.result c.from.ensures
+    let told = trace_stopped c.args.settings c.args.rows.items c.in_ok-machine.ensures.is out c.from.result
+    c.from.ensures
     c.in_err-ending.field-0.0 c.trace_run.new.machine c.in_err-ending.ensures.trace c.in_err-ending.ensures.faults in
     rw (p.1, p.2) told
 
@@ -17,6 +18,7 @@ returns-in_err-ending_text g c =
     let r = c.from_residual-in_err-ending_text in
     let p = err_from_is_err_and r.result r.ensures.1 in
     let out = device g.K.Sink.held g.K.Sink.faults c.args.out.now c.trace_run.new.out in
-    let told = trace_untold c.args.settings c.args.rows.items c.in_ok-machine.ensures.is out c.from.result c.from.ensures
+    let told = trace_untold c.args.settings c.args.rows.items c.in_ok-machine.ensures.is out c.from.result
+    c.from.ensures
     c.in_ok-ending.ending c.trace_run.new.machine c.in_ok-ending.ensures.trace in
     rw (p.1, p.2) (c.in_ok-ending.ensures.faults, told)

@@ -11,7 +11,8 @@ returns-clause-trace g c =
     let t = c.in_ok-ending.ensures.trace in (
       ending_found t.ends,
       t.state_is ∙ state_found t.ends,
-      subst (λ n. Gains (g.K.Sink.held c.args.out.now) (g.K.Sink.held c.end_line.new.out) (trace_to n c.args.machine.now))
+      subst (λ n. Gains (g.K.Sink.held c.args.out.now) (g.K.Sink.held c.end_line.new.out)
+          (trace_to n c.args.machine.now))
           (orders_found t.ends) (all_written _ _ _ t.lines c.in_ok-end_line.ensures.ends),
     )
 

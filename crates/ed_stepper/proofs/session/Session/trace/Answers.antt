@@ -17,4 +17,11 @@ pub list_functions-requires-clause-room : goal.list_functions-requires-clause-ro
 list_functions-requires-clause-room c =
     let m = c.go-moved.ensures in
     let done = ap (λ (x : Stand). x.done) c.self.view_is in
-    omega (arith, at_most _ _ m.orders _ _ m.ends, m.done_is, done, c.in_ok-functions.ensures.len, c.in_ok-functions.ensures.capacity)
+    omega (
+      arith,
+      at_most _ _ m.orders _ _ m.ends,
+      m.done_is,
+      done,
+      c.in_ok-functions.ensures.len,
+      c.in_ok-functions.ensures.capacity,
+    )
