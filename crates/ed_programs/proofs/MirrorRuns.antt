@@ -1,13 +1,13 @@
 -- What `examples/mirror.tape` prints, for any word.
 use Rattle.std.proofs.Common.{◌≡◌, ◌∙◌, ℕ, zero, suc, ◌+◌, ◌*◌, ◌≤◌, true, List, [], ◌∷◌, ◌++◌}
 use Rattle.std.proofs.Common.{refl, sym, ap, subst, arith}
-use Rattle.std.proofs.Common.{append_assoc, append-nil, length, length-append, nat_lt}
+use Rattle.std.proofs.Common.{append_assoc, append-nil, get_or, length, length-append, nat_lt}
 use Rattle.std.specs.Prelude.{Option, Some, None, reverse}
 use Rattle.std.specs.Fmt.{decimal}
 use Rattle.std.specs.List.{list_all}
 use Rattle.std.proofs.lemmas.Bool.{and_parts}
 use Rattle.std.proofs.lemmas.List.{length-map, length-reverse, reverse-append}
-use Rattle.ed_words.proofs.Numbers.{le_true, lt_of}
+use Rattle.ed_words.proofs.Numbers.{le_of, lt_of}
 use Rattle.ed_words.specs.Texts.{Text}
 use Rattle.ed_codes.specs.Reading.{IsReadingOf, reading, rows}
 use Rattle.ed_codes.specs.Spelling.{row_of}
@@ -20,22 +20,19 @@ use Rattle.ed_syntax.specs.Private.Grammar.{row as code_of, spells}
 use Rattle.ed_command.specs.declared.command.Settings.{Settings}
 use Rattle.ed_routines.specs.Digits.{digits}
 use Rattle.ed_sources.proofs.Decimals.{decimal_is, few_bytes, written}
-use Rattle.ed_sources.specs.Calls.{text_of_lines}
 use Rattle.ed_programs.specs.Hello.{hello_rows, is_capital}
-use Rattle.ed_programs.specs.Mirror.{mirror_cost, mirror_front, mirror_line, mirror_orders, mirror_prints, mirror_text}
+use Rattle.ed_programs.specs.Mirror.{mirror_cost, mirror_orders, mirror_pieces, mirror_prints, mirror_text}
 use Rattle.ed_programs.specs.Tapes.{TapeRuns}
-use Rattle.ed_programs.proofs.Answered.{are_short, text_length}
 use Rattle.ed_programs.proofs.Capitals.{are_rows, letter}
 use Rattle.ed_programs.proofs.TextLines.{all_plain}
 use Rattle.ed_programs.proofs.MirrorEnds.{mirror_arrives, mirror_ends, mirror_entry, mirror_rows}
 use Rattle.ed_programs.proofs.MirrorProgram.{AreCodes}
 use Rattle.ed_programs.proofs.TapeRuns.{tape_runs}
-use Rattle.ed_programs.proofs.Texts.{texts_append}
 
 -- ---- the rows of the text
 
 abbrev pub front : Text
-front = text_of_lines mirror_front
+front = get_or mirror_pieces 0 []
 
 front_reading : reading front ≡ rows (mirror_rows [])
 front_reading = refl
@@ -77,11 +74,12 @@ are_codes (c ∷ cs) h =
     let p = and_parts (nat_lt c 32) (list_all (λ c. nat_lt c 32) cs) h in
     (lt_of c 32 p.0, are_codes cs p.1)
 
--- the text is the lines before the word, and the last line
-pub text_is : (letters : Text) → front ++ (mirror_line letters ++ 10 ∷ []) ≡ mirror_text letters
-text_is letters =
-    ap (λ (t : Text). front ++ t) (sym (append-nil (mirror_line letters ++ 10 ∷ [])))
-    ∙ texts_append mirror_front (mirror_line letters ∷ [])
+-- the last line: the number of letters, and the letters
+abbrev mirror_line : Text → Text
+mirror_line letters = decimal (length letters) ++ letters
+
+text_is : (letters : Text) → front ++ (mirror_line letters ++ 10 ∷ []) ≡ mirror_text letters
+text_is letters = ap (λ (t : Text). front ++ t) (append_assoc (decimal (length letters)) letters (10 ∷ []))
 
 -- 1 to 9 capital letters
 pub record IsWord (letters : Text) : Type 0 where
@@ -146,11 +144,12 @@ each_word s (b ∷ q) o =
     let number : length (written (digits (length letters))) ≡ length (decimal (length letters)) =
     ap (λ (t : Text). length t) (decimal_is (length letters) (omega (arith, few))) in
     let together = length-append (decimal (length letters)) letters in
-    let line = le_true (length (mirror_line letters)) 120 (omega (arith, bytes, number, together, few)) in
-    let lines : List Text = mirror_front ++ mirror_line letters ∷ [] in
-    let are_all : are_short lines ≡ true = rw line refl in
-    let size : length (mirror_text letters) ≤ 121 * 29 = text_length lines are_all in
-    let short : length (mirror_text letters) ≤ 262144 = omega (arith, size) in
+    let line = length-append (mirror_line letters) (10 ∷ []) in
+    let all = length-append front (mirror_line letters ++ 10 ∷ []) in
+    let whole = ap (λ (t : Text). length t) (text_is letters) in
+    let before : length front ≤ 3000 = le_of (length front) 3000 refl in
+    let short : length (mirror_text letters) ≤ 262144 =
+    omega (arith, bytes, number, together, few, line, all, whole, before) in
     let runs = tape_runs s (mirror_text letters) (mirror_rows (length codes ∷ codes))
     (mirror_entry (length codes ∷ codes)) reads short (mirror_arrives s.size (length codes ∷ codes))
     (mirror_ends s (code_of (row_of b)) (hello_rows q) are (omega (arith, long, few)))

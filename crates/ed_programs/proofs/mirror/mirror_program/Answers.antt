@@ -1,4 +1,4 @@
-use Rattle.std.proofs.Common.{◌≡◌, ◌∙◌, ◌≤◌, true, arith, length, sym, ap}
+use Rattle.std.proofs.Common.{◌≡◌, ◌∙◌, ◌≤◌, true, Ok, arith, length, refl, sym, ap}
 use Rattle.std.specs.List.{list_all}
 use Rattle.ed_programs.specs.Hello.{is_capital}
 use Rattle.ed_programs.proofs.MirrorRuns.{IsWord, each_word}
@@ -16,4 +16,4 @@ returns-clause-law c =
       few = few;
       capital = capital;
     } in
-    tape_prints_of c.mirror_tape.result c.mirror_tape.ensures (λ s. each_word s c.args.letters.now word)
+    tape_prints_of (Ok c.in_ok-format.field-0) (refl, c.in_ok-format.ensures.ok) (λ s. each_word s c.args.letters.now word)
