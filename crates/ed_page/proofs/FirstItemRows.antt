@@ -110,7 +110,7 @@ table_is1 row location (i ∷ is) p are part =
     ∙ item_rows1 row location i.begun i.long (spelled1 is ++ part_rows1 p) are.0
     ∙ ap (λ rest. item_line row next (Some (location, word1 i)) ++ rest) (table_is1 next (location + 1) is p are.1 part)
 
--- what is told of a tape without a fault
+-- what is answered to a tape without a fault
 pub program_told1 : {codes : List ℕ} {r : Report1} {count : ℕ} {told : Told} → Accepts1 codes r → count ≡ r.rows
     → HoldsOutcome told (done (table_on1 0 31 None (take count codes))) → AreItemsOf1 codes (Ok told)
 program_told1 {codes} {r} {count} {told} accepts many tells =
@@ -125,7 +125,7 @@ program_told1 {codes} {r} {count} {told} accepts many tells =
       subst (λ (out : List ℕ). HoldsOutcome told (done out)) same tells,
     )
 
--- what is told of a tape with a fault
+-- what is answered to a tape with a fault
 pub fault_told1 : {codes : List ℕ} {row : ℕ} {cause : Tape1Cause} {told : Told} → IsFault1 codes row cause
     → HoldsOutcome told (record {
       out = table_on1 0 31 None (take row codes);

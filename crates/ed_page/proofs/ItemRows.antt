@@ -323,7 +323,7 @@ AreWritten-append : (vs ws : List Written) → AreWritten vs → AreWritten ws �
 AreWritten-append [] ws a b = b
 AreWritten-append (v ∷ vs) ws a b = (a.0, AreWritten-append vs ws a.1 b)
 
--- what is told of a well-formed tape
+-- what is answered to a well-formed tape
 pub entered_told : (z : Size) {codes : List ℕ} {store : Cells} {r : Report} {count : ℕ} {told : Told}
     → store ≡ cleared_cells → Accepts z store.words (opening store.words) 9 codes r → count ≡ r.rows
     → HoldsOutcome told (done (table_on 0 first_notation None (take count codes))) → AreItemsOf z codes (Ok told)
@@ -352,7 +352,7 @@ entered_told z {codes} {r = r} {count} {told} is accepts many tells =
       subst (λ (out : List ℕ). HoldsOutcome told (done out)) same tells,
     )
 
--- what is told of a tape with a fault
+-- what is answered to a tape with a fault
 pub fault_told : (z : Size) {codes : List ℕ} {store : Cells} {row : ℕ} {cause : TapeCause} {told : Told}
     → store ≡ cleared_cells → AnswersCheck z store.words (opening store.words) 9 codes (Err (At row cause))
     → HoldsOutcome told (record {

@@ -77,7 +77,7 @@ tape_refused answers text (Refused reply) (Ok told) few refuses tells =
 tape_refused answers text Memory (Ok told) few refuses tells = absurd tells
 tape_refused answers text e (Err none) few refuses tells = tt
 
--- the items of a tape's rows are told
+-- the items of a tape's rows are written
 pub items_told : (z : Size) (text : Text) (codes : List ℕ) (r : Result Told NoMemory) → length text ≤ 262144
     → reading text ≡ rows codes → AreItemsOf z codes r → IsAnswered (items_answer z) text r
 items_told z text codes (Ok told) few is t = (

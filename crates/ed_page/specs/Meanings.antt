@@ -1,4 +1,4 @@
--- What an order word names, as the page is told it (this project's own rules, over the definitions of orders and words).
+-- What an order word names, as the page gets it (this project's own rules, over the definitions of orders and words).
 use Rattle.std.specs.Prelude.{◌≡◌, ℕ, Option, Some, None, slice_index}
 use Rattle.ed_words.specs.Signed.{signed}
 use Rattle.ed_words.specs.Sizes.{within}
@@ -26,7 +26,7 @@ abbrev pub names_shown : Option Kind → ℕ
 names_shown None = 0
 names_shown (Some kind) = digit (names_location kind)
 
--- how many places an order shifts, and 0 where it is no shift
+-- how many places an order shifts, and 0 if it is not a shift
 abbrev pub shift_shown : Option Kind → ℕ → ℕ
 shift_shown (Some R) w = places w
 shift_shown (Some L) w = places w

@@ -1,4 +1,4 @@
--- The post-mortem of a state that a picture shows, as the page is told it (this project's own rules).
+-- The post-mortem of a state that a picture shows, as the page gets it (this project's own rules).
 use Rattle.std.specs.Prelude.{◌≡◌, ◌≢◌, ℕ, ◌≤◌, Some, List, length}
 use Rattle.ed_words.specs.declared.size.Size.{Size}
 use Rattle.ed_machine.specs.State.{State}
@@ -23,7 +23,7 @@ pub record IsWindowWritten (w : Window) (s : State) (before after : CodeBuffer) 
   pub told : answer ≢ 10 → HasItsCause (length (post_mortem_codes (Some w) s) ≤ length before.codes) (after ≡ before)
       (Holds (post_mortem_codes (Some w) s) before.codes after.codes after.printed × (answer ≡ 0)) answer
 
--- what is answered on a machine of a size: 3 if the window is none of its store, and then nothing is written; and else
+-- what is answered on a machine of a size: 3 if the window is not within its store, and then nothing is written; otherwise
 -- never 3
 pub record IsPostMortemWritten (z : Size) (w : Window) (s : State) (before after : CodeBuffer) (answer : ℕ) :
     Type 0 where

@@ -1,4 +1,4 @@
--- The items of a tape as the page is told them: the rows that spell each, and the word that it places (this project's own
+-- The items of a tape as the page gets them: the rows that spell each, and the word that it places (this project's own
 -- rules).
 use Rattle.std.specs.Prelude.{◌≡◌, ◌⊎◌, ℕ, ◌+◌, ◌/◌, ◌%◌, Option, Some, None, List, [], ◌∷◌, ◌++◌, length}
 use Rattle.std.specs.Prelude.{if◌then◌else◌}
@@ -59,7 +59,7 @@ abbrev pub item_line : (first after : ℕ) → Option (ℕ × ℕ) → List ℕ
 item_line first after None = four_numbers first after 1024 0
 item_line first after (Some p) = four_numbers first after p.0 p.1
 
--- the table of items one after the other, of which the first begins at a row
+-- the table of items one after the other; the first begins at a row
 unfoldable pub item_table : List ℕ → NotationState → ℕ → List Written → List ℕ
 item_table words note row [] = []
 item_table words note row (w ∷ ws) =
@@ -91,13 +91,13 @@ pub record OfFaultyTape (z : Size) (codes : List ℕ) (o : Outcome) : Type 0 whe
 abbrev pub IsItemsOutcome : Size → List ℕ → Outcome → Type 0
 IsItemsOutcome z codes o = OfEnteredTape z codes o ⊎ OfFaultyTape z codes o
 
--- what is told of the items of a tape's text; a text that spells no rows is refused
+-- what is answered about the items of a tape's text; a text that spells no rows is refused
 abbrev pub items_answer : Size → Answer
 items_answer z = of_rows (IsItemsOutcome z)
 
 -- ---- tapes of May 1949
 
--- the table of items of such a tape, of which the first begins at a row and goes to a location
+-- the table of items of such a tape; the first begins at a row and goes to a location
 unfoldable pub item_table1 : (row location : ℕ) → List Item1 → List ℕ
 item_table1 row location [] = []
 item_table1 row location (i ∷ is) =
@@ -122,6 +122,6 @@ pub record OfFaultyTape1 (codes : List ℕ) (o : Outcome) : Type 0 where
 abbrev pub IsItemsOutcome1 : List ℕ → Outcome → Type 0
 IsItemsOutcome1 codes o = OfWholeTape1 codes o ⊎ OfFaultyTape1 codes o
 
--- what is told of the items of such a tape's text
+-- what is answered about the items of such a tape's text
 abbrev pub items1_answer : Answer
 items1_answer = of_rows IsItemsOutcome1

@@ -44,7 +44,7 @@ pub extern "C" fn page_items1(
     }
 }
 
-/// What is told of the items of a tape's text.
+/// What is answered about the items of a tape's text.
 fn tape_items1(alloc: Global, text: &[u8]) -> Result<Told, NoMemory>
     ensures { IsAnswered items1_answer text.now result }
 {
@@ -57,7 +57,7 @@ fn tape_items1(alloc: Global, text: &[u8]) -> Result<Told, NoMemory>
     }
 }
 
-/// What is told of the items of rows.
+/// What is answered about the items of rows.
 fn row_items1(alloc: Global, rows: &[Code]) -> Result<Told, NoMemory>
     requires { length rows.now ≤ 262144 }
     ensures { AreItemsOf1 rows.now result }

@@ -34,7 +34,7 @@ const NO_LOCATION: u32 = 1024;
 /// How many locations a store has.
 const LOCATIONS: u16 = 1024;
 
-/// An item of which the function row and perhaps more rows have been read.
+/// An item whose function row, and perhaps more rows, have been read.
 #[derive(Clone, Copy)]
 pub struct OpenItem {
     /// The row of its function.
@@ -79,7 +79,7 @@ pub extern "C" fn page_items(
     }
 }
 
-/// What is told of the items of a tape's text.
+/// What is answered about the items of a tape's text.
 fn tape_items(alloc: Global, size: Size, text: &[u8]) -> Result<Told, NoMemory>
     ensures { IsAnswered (items_answer size) text.now result }
 {
@@ -92,7 +92,7 @@ fn tape_items(alloc: Global, size: Size, text: &[u8]) -> Result<Told, NoMemory>
     }
 }
 
-/// What is told of the items of rows.
+/// What is answered about the items of rows.
 fn row_items(alloc: Global, size: Size, rows: &[Code]) -> Result<Told, NoMemory>
     requires { length rows.now ≤ 262144 }
     ensures { AreItemsOf size rows.now result }
@@ -315,7 +315,7 @@ impl Notation {
           contents = with_short self.old.contents location word;
         } }
     {
-        // The contract of `short` tells the proof that the store is one.
+        // This call is there for its contract alone: that this is a store.
         let _ = self.contents.short(0);
         if location < LOCATIONS {
             self.contents.put_short(location, word);

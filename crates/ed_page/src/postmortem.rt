@@ -20,10 +20,10 @@ use ed_command::Window;
 use ed_words::{NoMemory, Size};
 use std::alloc::Global;
 
-/// The answer where the codes were written.
+/// The answer if the codes were written.
 const WRITTEN: u32 = 0;
 
-/// The answer where there are no such locations.
+/// The answer if there are no such locations.
 const REFUSED: u32 = 3;
 
 /// Writes the codes that a post-mortem prints of the words at `window` in the state that a picture shows, and their

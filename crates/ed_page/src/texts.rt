@@ -105,7 +105,7 @@ pub extern "C" fn page_listing(
     }
 }
 
-/// Writes what is told into two buffers, where they have room.
+/// Writes the texts into two buffers, if they have room.
 pub fn tell(told: &Told, out: &mut [u8], note: &mut [u8], lengths: &mut Lengths) -> u32
     ensures { (o : Outcome) → HoldsOutcome told.now o → IsWrittenOut o (text_buffers out.old note.old lengths.old)
         (text_buffers out.new note.new lengths.new) result }
@@ -143,7 +143,7 @@ fn source_rows(alloc: Global, size: Size, text: &[u8]) -> Result<Told, NoMemory>
     }
 }
 
-/// What is told of the text of a source's tape.
+/// What is answered about the tape of a source.
 fn source_tape(alloc: Global, settings: Settings, text: &[u8]) -> Result<Told, NoMemory>
     ensures { IsAnswered (punch_answer settings) text.now result }
 {
@@ -153,7 +153,7 @@ fn source_tape(alloc: Global, settings: Settings, text: &[u8]) -> Result<Told, N
     told_of(punch(alloc, settings, text))
 }
 
-/// What is told of the listing of a source.
+/// What is answered about the listing of a source.
 fn source_listing(alloc: Global, settings: Settings, text: &[u8]) -> Result<Told, NoMemory>
     ensures { IsAnswered (listing_answer settings) text.now result }
 {

@@ -41,7 +41,7 @@ impl Told {
         }
     }
 
-    /// What is told where a text is refused, with what is found of it on `out`.
+    /// The texts for a refused input, with what was found of it on `out`.
     pub fn refused(out: Vec<u8>, note: Vec<u8>) -> Told
         ensures { HoldsOutcome result (record { out = out.items; note = note.items; status = 3 }) }
     {
@@ -52,7 +52,7 @@ impl Told {
         }
     }
 
-    /// What is told of a reply.
+    /// The texts of a reply.
     pub fn of_reply(reply: Reply) -> Told
         ensures { (o : Outcome) → Gives reply o → HoldsOutcome result o }
     {

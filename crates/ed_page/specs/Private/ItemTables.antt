@@ -12,7 +12,7 @@ use Rattle.ed_page.specs.TapeItems.{item_line, placing}
 use Rattle.ed_page.specs.declared.items.Notation.{Notation}
 use Rattle.ed_page.specs.declared.items.OpenItem.{OpenItem}
 
--- an item of which the function row alone has been read
+-- an item whose function row alone has been read
 abbrev pub item_at : (row function : ℕ) → OpenItem
 item_at row f = record { first = row; function = f; number = 0; mark = false }
 
@@ -80,7 +80,7 @@ table_on row n (Some p) (c ∷ rows) =
 abbrev pub first_word : OpenItem → ℕ → ℕ
 first_word p c = (4096 * p.function + 2 * p.number + digit (nat_eq c 25)) % 2 ^ 17
 
--- the table of the items of May 1949 that rows spell from a row on, of which the next goes to a location
+-- the table of the items of May 1949 that rows spell from a row onwards; the next goes to a location
 unfoldable pub table_on1 : (row location : ℕ) → Option OpenItem → List ℕ → List ℕ
 table_on1 row location part [] = []
 table_on1 row location None (f ∷ rows) = table_on1 (row + 1) location (Some (item_at row f)) rows

@@ -1,4 +1,4 @@
--- How what is told and shown of a text stands to what the program answers.
+-- How the texts and pictures that are written relate to what the program answers.
 use Rattle.std.specs.Prelude.{◌≡◌, ◌≢◌, ℕ, ◌<◌, ◌≤◌, length, List, Option, None, Some, IfSome, Result, Ok, Err}
 use Rattle.ed_words.specs.declared.memory.NoMemory.{NoMemory}
 use Rattle.ed_words.specs.declared.size.Size.{Size}
@@ -89,7 +89,7 @@ pub record IsGone (r : RunEnd) (gone : Gone) : Type 0 where
   pub state_is : gone.machine ≡ r.state
   pub codes_are : gone.codes.items ≡ r.codes
 
--- what is told of the items of rows
+-- what is answered about the items of rows
 abbrev pub AreItemsOf : Size → List ℕ → Result Told NoMemory → Type 0
 AreItemsOf z codes (Ok told) = (o : Outcome) × IsItemsOutcome z codes o × HoldsOutcome told o
 AreItemsOf z codes (Err e) = Unit {0}
