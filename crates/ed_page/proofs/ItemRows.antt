@@ -10,8 +10,8 @@ use Rattle.ed_words.specs.declared.size.Size.{Size}
 use Rattle.ed_words.proofs.Numbers.{lt_false, lt_true}
 use Rattle.ed_store.specs.Cells.{Cells, IsStore, cleared_cells, with_short}
 use Rattle.ed_notation.specs.declared.item.Item.{Item}
-use Rattle.ed_notation.specs.declared.kind.Aim.{Aim}
-use Rattle.ed_notation.specs.declared.kind.Aim.TheVariants.{Enters}
+use Rattle.ed_notation.specs.declared.kind.LetterAction.{LetterAction}
+use Rattle.ed_notation.specs.declared.kind.LetterAction.TheVariants.{Enters}
 use Rattle.ed_notation.specs.declared.kind.Control.{Control}
 use Rattle.ed_notation.specs.declared.kind.Control.TheVariants.{ThetaByBlank, ThetaByG}
 use Rattle.ed_notation.specs.declared.kind.RowKind.{RowKind}
@@ -27,7 +27,7 @@ use Rattle.ed_notation.proofs.Loop.{next_row}
 use Rattle.ed_report.specs.Notes.{rule_line}
 use Rattle.ed_answers.specs.Outcome.{Outcome, done}
 use Rattle.ed_answers.specs.Tapes.{first_note}
-use Rattle.ed_notation.specs.Fold.{NotationState, act, acted, address, letter_action_of, control_of, enters_at}
+use Rattle.ed_notation.specs.Fold.{NotationState, act, ending_effect, address, letter_action_of, control_of, enters_at}
 use Rattle.ed_notation.specs.Fold.{item_word, over, value_of}
 use Rattle.ed_notation.specs.Fold.{with_kay, with_letter, with_zed, word_with}
 use Rattle.ed_notation.specs.Items.{AreDigits, Begun, IsBegun, IsWritten, Written, digits_number, ends, item, mark_rows}
@@ -56,12 +56,12 @@ placing_law words note i = by_kind (row_kind i.end)
     by_control_zed ThetaByBlank = refl
     by_control_zed k = refl
 
-    by_aim : (a : Aim) → (with_letter a note (item_word words note i)).placed
+    by_aim : (a : LetterAction) → (with_letter a note (item_word words note i)).placed
         ≡ with_placing (if enters_at a then None else Some (address note.directive, item_word words note i)) note.placed
     by_aim Enters = refl
     by_aim a = refl
 
-    by_kind : (r : RowKind) → (acted r words note i).placed ≡ with_placing (placing_by r words note i) note.placed
+    by_kind : (r : RowKind) → (ending_effect r words note i).placed ≡ with_placing (placing_by r words note i) note.placed
     by_kind Kay = by_control (control_of i.function)
     by_kind Zed = by_control_zed (control_of i.function)
     by_kind Letter = by_aim (letter_action_of note.directive)
@@ -100,11 +100,11 @@ module _ {words : List ℕ} {note : NotationState} {n : Notation} (o : IsNoteOve
       by_zed ThetaByBlank = o.directive
       by_zed k = ap (λ t. 4096 * i.function + 2 * i.number + t) o.theta
 
-      by_aim : (a : Aim) (w v : ℕ) → (with_letter a (note_over n) w).directive ≡ (with_letter a note v).directive
+      by_aim : (a : LetterAction) (w v : ℕ) → (with_letter a (note_over n) w).directive ≡ (with_letter a note v).directive
       by_aim Enters w v = o.directive
       by_aim a w v = ap (λ d. d + 2) o.directive
 
-      by_kind : (r : RowKind) → (acted r n.contents.words (note_over n) i).directive ≡ (acted r words note i).directive
+      by_kind : (r : RowKind) → (ending_effect r n.contents.words (note_over n) i).directive ≡ (ending_effect r words note i).directive
       by_kind Kay = by_kay (control_of i.function)
       by_kind Zed = by_zed (control_of i.function)
       by_kind Letter =
@@ -126,11 +126,11 @@ module _ {words : List ℕ} {note : NotationState} {n : Notation} (o : IsNoteOve
           λ j. (with_zed ThetaByBlank (record note { directive = o.directive j; theta = o.theta j }) i).theta
       by_zed k = o.theta
 
-      by_aim : (a : Aim) (w v : ℕ) → (with_letter a (note_over n) w).theta ≡ (with_letter a note v).theta
+      by_aim : (a : LetterAction) (w v : ℕ) → (with_letter a (note_over n) w).theta ≡ (with_letter a note v).theta
       by_aim Enters w v = o.theta
       by_aim a w v = o.theta
 
-      by_kind : (r : RowKind) → (acted r n.contents.words (note_over n) i).theta ≡ (acted r words note i).theta
+      by_kind : (r : RowKind) → (ending_effect r n.contents.words (note_over n) i).theta ≡ (ending_effect r words note i).theta
       by_kind Blank = o.directive
       by_kind Kay = by_kay (control_of i.function)
       by_kind Zed = by_zed (control_of i.function)
