@@ -97,7 +97,7 @@ async function faults(b) {
     await b.expect('nothing is refused while keys are typed', await b.ask('by("refusal").hidden'), true);
     await b.until('editor.timer === undefined');
     await b.expect('a faulty source', await b.text('refused'),
-        (said) => said.startsWith(`The machine refuses this text: line ${line}: S3 not a statement. The machine knows`));
+        (said) => said.startsWith(`The machine refuses this text: line ${line}: S3 not a statement. The machine does not know`));
     await b.expect(
         'its line is coloured',
         await b.ask(`[...document.querySelectorAll('.faulty')].map((node) => node.textContent).join('').includes('Z')`),
