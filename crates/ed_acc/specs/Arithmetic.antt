@@ -34,8 +34,8 @@ common zero m x = 0
 common (suc k) m x = common k m x + 2 ^ k * (m / 2 ^ k % 2 * (x / 2 ^ k % 2))
 
 -- the accumulator with the digits that two long words have in common added
-unfoldable pub collated : ℕ → ℕ → ℕ → ℕ
-collated acc m x = (acc + 2 ^ 36 * common 35 m x) % 2 ^ 71
+unfoldable pub plus_common : ℕ → ℕ → ℕ → ℕ
+plus_common acc m x = (acc + 2 ^ 36 * common 35 m x) % 2 ^ 71
 
 -- the accumulator shifted p places to the left; digits shifted out at the top are lost
 unfoldable pub left71 : ℕ → ℕ → ℕ

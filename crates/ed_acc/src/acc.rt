@@ -1,7 +1,7 @@
 ghost use Rattle.std.specs.Prelude.{◌≡◌, ◌<◌, ◌≤◌, ◌^◌, ◌*◌, ◌/◌, ◌%◌, ◌+◌, ◌-◌, ◌↔◌, IsTrue, IsNone, IfSome, pos};
 ghost use Rattle.std.specs.Prelude.{neg_ℤ, ◌≤ℤ◌, ◌*ℤ◌};
 ghost use Rattle.ed_words.specs.Signed.{signed};
-ghost use Rattle.ed_acc.specs.Arithmetic.{collated, left71, minus71, minus_product, plus71, plus_product, right71};
+ghost use Rattle.ed_acc.specs.Arithmetic.{plus_common, left71, minus71, minus_product, plus71, plus_product, right71};
 ghost use Rattle.ed_acc.specs.Arithmetic.{common, modulo71, product};
 
 use ed_words::{Long, Word};
@@ -118,9 +118,9 @@ impl Acc {
     }
 
     /// Adds the digits that two long words have in common to the most significant digits.
-    #[tactic(auto, unfolding(crate::specs::Arithmetic::collated))]
+    #[tactic(auto, unfolding(crate::specs::Arithmetic::plus_common))]
     pub fn collate(&mut self, m: Long, x: Long)
-        ensures { self.new ≡ collated self.old m x }
+        ensures { self.new ≡ plus_common self.old m x }
     {
         self.add(u128::from(common(m, x)) << 36);
     }

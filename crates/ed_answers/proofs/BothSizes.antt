@@ -11,11 +11,11 @@ use Rattle.ed_orders.specs.Kinds.{kind_of_function}
 use Rattle.ed_orders.specs.declared.kind.Kind.{Kind}
 use Rattle.ed_orders.specs.declared.kind.Kind.TheVariants.{A, S, H, V, N, T, U, C, R, L, E, G, I, O, F, X, Y, Z}
 use Rattle.ed_machine.specs.State.{State}
-use Rattle.ed_machine.specs.OrderTable.{Obeyed, jumped, next_word, obey_word, place_of, step, took_row}
+use Rattle.ed_machine.specs.OrderTable.{Obeyed, jump_order, next_word, obey_word, place_of, step, row_order}
 use Rattle.ed_machine.specs.Steps.{Progress, codes_of, next_progress, progress, state_after, stops_of}
 use Rattle.ed_machine.specs.declared.ending.Ending.{Ending}
 use Rattle.ed_machine.specs.declared.ending.Ending.TheVariants.{Stopped, Limit, NoOrder, NoTape, PaperFull}
-use Rattle.ed_run.specs.Run.{EndsAfter, RunEnd, end_at, end_by, ran, run_orders}
+use Rattle.ed_run.specs.Run.{EndsAfter, RunEnd, end_at, end_by, run_end, run_orders}
 use Rattle.ed_run.proofs.Ends.{ends_once, ran_ends}
 use Rattle.ed_link.specs.Tapes.{tape}
 use Rattle.ed_loads.specs.EntryState.{first_state}
@@ -44,12 +44,12 @@ module _ (z : Size) (w : ℕ) (s : State) (next : s.counter < 511) where
   after_is = is_below (s.counter + 1) (omega (arith, next))
 
   jumps_same : (b : Bool) → address_of w < 512
-      → jumped b (place_of (sized z s) w) (sized z s) ≡ obeyed_sized z (jumped b (place_of s w) s)
+      → jump_order b (place_of (sized z s) w) (sized z s) ≡ obeyed_sized z (jump_order b (place_of s w) s)
   jumps_same true l = let at = is_below (address_of w) l in rw at refl
   jumps_same false l = rw after_is refl
 
   row_same : (rows : List ℕ) → address_of w < 512
-      → took_row rows w (sized z s) ≡ obeyed_sized z (took_row rows w s)
+      → row_order rows w (sized z s) ≡ obeyed_sized z (row_order rows w s)
   row_same [] l = refl
   row_same (row ∷ rows) l = let at = is_below (address_of w) l in rw (at, after_is) refl
 
@@ -82,12 +82,12 @@ step_same z s low =
 -- ---- how the next order ends a run, whatever it names
 
 module _ (z : Size) (w : ℕ) (s : State) (full : Bool) where
-  jump_ends : (b : Bool) → end_by (jumped b (place_of (sized z s) w) (sized z s)).turn full
-      ≡ end_by (jumped b (place_of s w) s).turn full
+  jump_ends : (b : Bool) → end_by (jump_order b (place_of (sized z s) w) (sized z s)).turn full
+      ≡ end_by (jump_order b (place_of s w) s).turn full
   jump_ends true = refl
   jump_ends false = refl
 
-  row_ends : (rows : List ℕ) → end_by (took_row rows w (sized z s)).turn full ≡ end_by (took_row rows w s).turn full
+  row_ends : (rows : List ℕ) → end_by (row_order rows w (sized z s)).turn full ≡ end_by (row_order rows w s).turn full
   row_ends [] = refl
   row_ends (row ∷ rows) = refl
 
@@ -153,8 +153,8 @@ end_sized z r = record r { state = sized z r.state }
 
 run_same : (z : Size) (limit resumes room : ℕ) (s : State)
     → ((j : ℕ) → j < run_orders limit resumes room s → StaysBelow (state_after j s))
-    → ran limit resumes room (sized z s) ≡ end_sized z (ran limit resumes room s)
-unfolding ran
+    → run_end limit resumes room (sized z s) ≡ end_sized z (run_end limit resumes room s)
+unfolding run_end
 run_same z limit resumes room s low =
     let k = run_orders limit resumes room s in
     let ends = ran_ends limit resumes room s in
@@ -162,7 +162,7 @@ run_same z limit resumes room s low =
     → end_at limit resumes room j (progress j (sized z s)) ≡ end_at limit resumes room j (progress j s) =
     λ j l. ap (end_at limit resumes room j) (past_same z j s (λ i m. low i (omega (arith, l, m))))
     ∙ end_same z limit resumes room j (progress j s) in
-    let there : EndsAfter limit resumes room (sized z s) k (ran limit resumes room s).ending = record {
+    let there : EndsAfter limit resumes room (sized z s) k (run_end limit resumes room s).ending = record {
       now = at k (omega arith) ∙ ends.now;
       first = λ j l. at j (omega (arith, l)) ∙ ends.first j l;
     } in
@@ -201,14 +201,14 @@ module _ (z : Size) (s : Settings) (before : State → Text) (same : (t : State)
 
   run_outcome_same : (codes : List ℕ) → RunStaysBelow s codes → first_state z codes ≡ sized z (first_state Small codes)
       → (λ (r : RunEnd). ran_outcome (before r.state) (with_post_mortem s.post_mortem r))
-      (ran s.limit s.resumes paper_room (first_state z codes))
+      (run_end s.limit s.resumes paper_room (first_state z codes))
       ≡ (λ (r : RunEnd). ran_outcome (before r.state) (with_post_mortem s.post_mortem r))
-      (ran s.limit s.resumes paper_room (first_state Small codes))
+      (run_end s.limit s.resumes paper_room (first_state Small codes))
   run_outcome_same codes low first =
       ap (λ (r : RunEnd). ran_outcome (before r.state) (with_post_mortem s.post_mortem r))
-      (ap (ran s.limit s.resumes paper_room) first
+      (ap (run_end s.limit s.resumes paper_room) first
       ∙ run_same z s.limit s.resumes paper_room (first_state Small codes) low)
-      ∙ outcome_same (ran s.limit s.resumes paper_room (first_state Small codes))
+      ∙ outcome_same (run_end s.limit s.resumes paper_room (first_state Small codes))
 
 first_same : (z : Size) (codes : List ℕ) → first_state z codes ≡ sized z (first_state Small codes)
 unfolding first_state

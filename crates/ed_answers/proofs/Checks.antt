@@ -15,7 +15,7 @@ use Rattle.ed_notation.proofs.Laws.{reading_is_rules}
 use Rattle.ed_notation.proofs.Verdicts.{entry_once, fault_once}
 use Rattle.ed_report.specs.Notes.{rule_line, tape_fault_line}
 use Rattle.ed_command.specs.declared.command.Settings.{Settings}
-use Rattle.ed_answers.specs.Outcome.{Outcome, done, refused}
+use Rattle.ed_answers.specs.Outcome.{Outcome, done, refusal}
 use Rattle.ed_report.specs.Entries.{entry_line}
 use Rattle.ed_answers.specs.Tapes.{IsChecked, first_note}
 use Rattle.ed_answers.specs.Replies.{Gives}
@@ -45,7 +45,7 @@ has_checked s codes = by_case (law s codes).either
       }),
     )
     by_case (inr (row, cause, fault)) =
-        (refused (rule_line row cause), inr (record { row = row; cause = cause; fault = fault; outcome = refl }))
+        (refusal (rule_line row cause), inr (record { row = row; cause = cause; fault = fault; outcome = refl }))
 
 -- and not two of either
 checked_once : (s : Settings) (codes : List ℕ) (o other : Outcome) → IsChecked s codes o → IsChecked s codes other
@@ -57,7 +57,7 @@ checked_once s codes o other (inl a) (inr b) = absurd (a.well b.row b.cause b.fa
 checked_once s codes o other (inr a) (inl b) = absurd (b.well a.row a.cause a.fault.is)
 checked_once s codes o other (inr a) (inr b) =
     let same = fault_once (law s codes) a.fault b.fault in
-    sym a.outcome ∙ (λ i. refused (rule_line (same.0 i) (same.1 i))) ∙ b.outcome
+    sym a.outcome ∙ (λ i. refusal (rule_line (same.0 i) (same.1 i))) ∙ b.outcome
 
 pub checked_one : (s : Settings) → HasOne (IsChecked s)
 checked_one s = record { some = has_checked s; once = checked_once s }
@@ -83,11 +83,11 @@ entry_found s {codes} {r = r} {at = at} {orders} {count} (Ok reply) is accepts a
 -- the reply to a tape with a fault
 pub fault_found : (s : Settings) (codes : List ℕ) {store : Cells} (fault : TapeFault) (given : Result Reply NoMemory)
     → store ≡ cleared_cells → checks.AnswersCheck s.size store.words (opening store.words) 9 codes (Err fault)
-    → IfOk given (λ reply. Gives reply (refused (tape_fault_line fault))) → IfOk given (λ reply. fault ≢ Memory)
+    → IfOk given (λ reply. Gives reply (refusal (tape_fault_line fault))) → IfOk given (λ reply. fault ≢ Memory)
     → IfOk given (λ reply. (o : Outcome) × IsChecked s codes o × Gives reply o)
 fault_found s codes fault (Err e) is answers gives other = tt
 fault_found s codes Memory (Ok reply) is answers gives other = absurd (other refl)
 fault_found s codes (At row cause) (Ok reply) is answers gives other =
     let f : IsFault s.size cleared_cells.words (opening cleared_cells.words) codes row cause =
     subst (λ (c : Cells). IsFault s.size c.words (opening c.words) codes row cause) is answers in
-    (refused (rule_line row cause), inr (record { row = row; cause = cause; fault = f; outcome = refl }), gives)
+    (refusal (rule_line row cause), inr (record { row = row; cause = cause; fault = f; outcome = refl }), gives)

@@ -11,7 +11,7 @@ use Rattle.ed_initial1.proofs.Unique.{one_verdict}
 use Rattle.ed_report.specs.FirstNotes.{rule1_line, tape1_fault_line}
 use Rattle.ed_report.specs.Entries.{entry_line}
 use Rattle.ed_answers.specs.FirstOrders.{IsChecked1}
-use Rattle.ed_answers.specs.Outcome.{Outcome, done, refused}
+use Rattle.ed_answers.specs.Outcome.{Outcome, done, refusal}
 use Rattle.ed_answers.specs.Replies.{Gives}
 use Rattle.ed_answers.specs.declared.reply.Reply.{Reply}
 use Rattle.ed_answers.proofs.Replies.{HasOne}
@@ -28,7 +28,7 @@ has_checked codes = by_case (one_verdict codes).some
         → (o : Outcome) × IsChecked1 codes o
     by_case (inl (t, comes)) = (told t, inl (record { tape = t; comes = comes; outcome = refl }))
     by_case (inr (row, cause, fault)) =
-        (refused (rule1_line row cause), inr (record { row = row; cause = cause; fault = fault; outcome = refl }))
+        (refusal (rule1_line row cause), inr (record { row = row; cause = cause; fault = fault; outcome = refl }))
 
 -- and not two of either
 checked_once : (codes : List ℕ) (o other : Outcome) → IsChecked1 codes o → IsChecked1 codes other → o ≡ other
@@ -38,7 +38,7 @@ checked_once codes o other (inl a) (inr b) = absurd ((one_verdict codes).apart a
 checked_once codes o other (inr a) (inl b) = absurd ((one_verdict codes).apart b.tape b.comes a.row a.cause a.fault.is)
 checked_once codes o other (inr a) (inr b) =
     let same = (one_verdict codes).fault a.row b.row a.cause b.cause a.fault b.fault in
-    sym a.outcome ∙ (λ i. refused (rule1_line (same.0 i) (same.1 i))) ∙ b.outcome
+    sym a.outcome ∙ (λ i. refusal (rule1_line (same.0 i) (same.1 i))) ∙ b.outcome
 
 pub checked1_one : HasOne IsChecked1
 checked1_one = record { some = has_checked; once = checked_once }
@@ -58,9 +58,9 @@ program_found {orders} {count} (Ok reply) a o n gives =
 -- the reply to a tape with a fault
 pub first_fault_found : (codes : List ℕ) (fault : Tape1Fault) (given : Result Reply NoMemory)
     → Answers1 codes (Err fault)
-    → IfOk given (λ reply. Gives reply (refused (tape1_fault_line fault))) → IfOk given (λ reply. fault ≢ Memory)
+    → IfOk given (λ reply. Gives reply (refusal (tape1_fault_line fault))) → IfOk given (λ reply. fault ≢ Memory)
     → IfOk given (λ reply. (o : Outcome) × IsChecked1 codes o × Gives reply o)
 first_fault_found codes fault (Err e) answers gives other = tt
 first_fault_found codes Memory (Ok reply) answers gives other = absurd (other refl)
 first_fault_found codes (At row cause) (Ok reply) answers gives other =
-    (refused (rule1_line row cause), inr (record { row = row; cause = cause; fault = answers; outcome = refl }), gives)
+    (refusal (rule1_line row cause), inr (record { row = row; cause = cause; fault = answers; outcome = refl }), gives)

@@ -4,9 +4,9 @@ use Rattle.std.proofs.lemmas.List.{length-append, length-drop, length-replicate}
 use Rattle.std.specs.Prelude.{replicate}
 use Rattle.ed_initial1.specs.Listing.{first_orders}
 use Rattle.ed_printer.specs.Paper.{paper}
-use Rattle.ed_machine.specs.State.{cleared}
+use Rattle.ed_machine.specs.State.{cleared_state}
 use Rattle.ed_words.specs.declared.size.Size.TheVariants.{Full}
-use Rattle.ed_run.specs.Run.{ran}
+use Rattle.ed_run.specs.Run.{run_end}
 use Rattle.ed_run.proofs.Later.{ran_later}
 use Rattle.ed_initial1.specs.Entry.{IsStarted1, at_entry1}
 use Rattle.ed_initial1.specs.Faults.{Tape, Comes1}
@@ -34,7 +34,7 @@ first_store codes = record {
 
 starts : (codes : List ℕ) → IsStarted1 (first_state1 codes)
 unfolding first_state1
-starts codes = is_started codes (cleared Full) refl
+starts codes = is_started codes (cleared_state Full) refl
 
 reaches : (codes : List ℕ) (t : Tape) → Comes1 codes t
     → Reaches (cost1 t) (first_state1 codes) (at_entry1 (first_state1 codes) t)
@@ -54,6 +54,6 @@ runs_from_31 s codes t c =
       runs = λ fits.
           ap (ran_outcome [])
           (ran_later s.limit s.resumes paper_room k first went fits
-          ∙ ap (ran (s.limit - k) s.resumes paper_room) there);
+          ∙ ap (run_end (s.limit - k) s.resumes paper_room) there);
       short = λ below. ap paper (silent s.limit s.resumes paper_room k first went below);
     }

@@ -5,7 +5,7 @@ use Rattle.ed_words.specs.declared.memory.NoMemory.{NoMemory}
 use Rattle.ed_machine.specs.State.{State}
 use Rattle.ed_machine.specs.Steps.{least, progress, state_after}
 use Rattle.ed_printer.specs.Paper.{paper}
-use Rattle.ed_run.specs.Run.{RunEnd, ran}
+use Rattle.ed_run.specs.Run.{RunEnd, run_end}
 use Rattle.ed_run.specs.Laws.{AllWent}
 use Rattle.ed_run.proofs.Later.{ran_later}
 use Rattle.ed_syntax.specs.declared.program.Line.{Line}
@@ -16,7 +16,7 @@ use Rattle.ed_link.specs.declared.linked.Linked.{Linked}
 use Rattle.ed_loads.specs.EntryState.{Enters, entry_state, first_state}
 use Rattle.ed_loads.specs.EntryWords.{EntryHasWords}
 use Rattle.ed_loads.proofs.Entries.{enters as enters_of}
-use Rattle.ed_report.specs.Notes.{entered}
+use Rattle.ed_report.specs.Notes.{entry_note}
 use Rattle.ed_command.specs.declared.command.Settings.{Settings}
 use Rattle.ed_words.specs.Texts.{Text}
 use Rattle.ed_words.proofs.Numbers.{le_true}
@@ -30,42 +30,42 @@ use Rattle.ed_answers.proofs.Keeping.{run_follows}
 -- ---- from the entry
 
 reached : (lines : List Line) (s : State) → cost lines ≤ s.orders
-    → entered_before lines s ≡ entered (entry_of lines) (cost lines)
+    → entered_before lines s ≡ entry_note (entry_of lines) (cost lines)
 reached lines s h =
-    ap (λ (b : Bool). if b then entered (entry_of lines) (cost lines) else []) (le_true (cost lines) s.orders h)
+    ap (λ (b : Bool). if b then entry_note (entry_of lines) (cost lines) else []) (le_true (cost lines) s.orders h)
 
 -- a run with no order prints nothing
-none_first : (resumes room : ℕ) (s : State) → (ran 0 resumes room s).codes ≡ []
-unfolding ran progress least
+none_first : (resumes room : ℕ) (s : State) → (run_end 0 resumes room s).codes ≡ []
+unfolding run_end progress least
 none_first resumes room s = refl
 
 -- nor does one whose limit is below the number of orders that neither print nor stop
-pub silent : (limit resumes room k : ℕ) (s : State) → AllWent k s → limit < k → (ran limit resumes room s).codes ≡ []
+pub silent : (limit resumes room k : ℕ) (s : State) → AllWent k s → limit < k → (run_end limit resumes room s).codes ≡ []
 silent limit resumes room k s went below =
     let zero : limit - limit ≡ 0 = omega arith in
-    let later : ran limit resumes room s ≡ ran (limit - limit) resumes room (state_after limit s) =
+    let later : run_end limit resumes room s ≡ run_end (limit - limit) resumes room (state_after limit s) =
     ran_later limit resumes room limit s (λ j l. went j (omega (arith, l, below))) (omega arith) in
-    ap (λ (r : RunEnd). r.codes) (later ∙ ap (λ n. ran n resumes room (state_after limit s)) zero)
+    ap (λ (r : RunEnd). r.codes) (later ∙ ap (λ n. run_end n resumes room (state_after limit s)) zero)
     ∙ none_first resumes room (state_after limit s)
 
 -- the run from Start is that from the state at the entry, with the limit less the cost
 run_on : (s : Settings) (lines : List Line) → Enters s.size lines → cost lines ≤ s.limit
-    → run_of s (tape lines) ≡ ran (s.limit - cost lines) s.resumes paper_room (entry_state s.size lines)
+    → run_of s (tape lines) ≡ run_end (s.limit - cost lines) s.resumes paper_room (entry_state s.size lines)
 run_on s lines enters fits =
     ran_later s.limit s.resumes paper_room (cost lines) (first_state s.size (tape lines)) enters.went fits
-    ∙ ap (ran (s.limit - cost lines) s.resumes paper_room) enters.state_is
+    ∙ ap (run_end (s.limit - cost lines) s.resumes paper_room) enters.state_is
 
 -- so the run of a machine that was led to the entry of a linked program only has to continue
 pub goes_on : (s : Settings) (k : Linked) (entered : State) (r : Result FinishedRun NoMemory) → entered.orders ≤ s.limit
     → ((lines : List Line) → IsLinked s.size lines k → entered ≡ entry_state s.size lines)
-    → IfOk r (IsRan (ran (s.limit - entered.orders) s.resumes paper_room entered))
-    → IfOk r (λ ran. (lines : List Line) → IsLinked s.size lines k → IsRan (run_of s (tape lines)) ran)
+    → IfOk r (IsRan (run_end (s.limit - entered.orders) s.resumes paper_room entered))
+    → IfOk r (λ run. (lines : List Line) → IsLinked s.size lines k → IsRan (run_of s (tape lines)) run)
 goes_on s k entered (Err e) fits at is = tt
 goes_on s k entered (Ok left) fits at is = λ lines linked.
-    let whole : entered.orders ≤ s.limit → IsRan (ran (s.limit - entered.orders) s.resumes paper_room entered) left
+    let whole : entered.orders ≤ s.limit → IsRan (run_end (s.limit - entered.orders) s.resumes paper_room entered) left
     → IsRan (run_of s (tape lines)) left =
     subst
-    (λ (t : State). t.orders ≤ s.limit → IsRan (ran (s.limit - t.orders) s.resumes paper_room t) left
+    (λ (t : State). t.orders ≤ s.limit → IsRan (run_end (s.limit - t.orders) s.resumes paper_room t) left
     → IsRan (run_of s (tape lines)) left)
     (sym (at lines linked))
     (λ few went. subst (λ (e : RunEnd). IsRan e left)
@@ -78,7 +78,7 @@ runs_from_entry s lines enters has_words = record {
   enters = enters;
   has_words = has_words;
   runs = λ fits.
-      let from : RunEnd = ran (s.limit - cost lines) s.resumes paper_room (entry_state s.size lines) in
+      let from : RunEnd = run_end (s.limit - cost lines) s.resumes paper_room (entry_state s.size lines) in
       let later : run_of s (tape lines) ≡ from = run_on s lines enters fits in
       let kept : cost lines ≤ from.state.orders =
       (run_follows (s.limit - cost lines) s.resumes paper_room (entry_state s.size lines)).later in

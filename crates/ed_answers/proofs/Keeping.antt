@@ -4,11 +4,11 @@ use Rattle.ed_words.specs.declared.size.Size.{Size}
 use Rattle.ed_machine.specs.State.{State}
 use Rattle.ed_machine.proofs.Keeping.{Follows, steps_follow}
 use Rattle.ed_machine.proofs.LeastNumbers.{least_below}
-use Rattle.ed_run.specs.Run.{ran, run_orders}
+use Rattle.ed_run.specs.Run.{run_end, run_orders}
 use Rattle.ed_loads.specs.EntryState.{first_state}
 
-pub run_follows : (limit resumes room : ℕ) (s : State) → Follows limit s (ran limit resumes room s).state
-unfolding ran
+pub run_follows : (limit resumes room : ℕ) (s : State) → Follows limit s (run_end limit resumes room s).state
+unfolding run_end
 run_follows limit resumes room s =
     let k = run_orders limit resumes room s in
     let few : k ≤ limit = least_below _ limit in
@@ -16,7 +16,7 @@ run_follows limit resumes room s =
     record { size_is = f.size_is; fewer = f.fewer; later = f.later; soon = omega (arith, f.soon, few) }
 
 -- a run ends on a machine of the size of the first one
-pub ran_size : (limit resumes room : ℕ) (s last : State) → last ≡ (ran limit resumes room s).state → last.size ≡ s.size
+pub ran_size : (limit resumes room : ℕ) (s last : State) → last ≡ (run_end limit resumes room s).state → last.size ≡ s.size
 ran_size limit resumes room s last e = ap (λ (t : State). t.size) e ∙ (run_follows limit resumes room s).size_is
 
 -- that size is the one of the command line
@@ -25,7 +25,7 @@ unfolding first_state
 first_size z rows s is = ap (λ (t : State). t.size) is
 
 -- it counts at most as many further orders as its limit
-pub ran_orders : (limit resumes room : ℕ) (s last : State) → last ≡ (ran limit resumes room s).state
+pub ran_orders : (limit resumes room : ℕ) (s last : State) → last ≡ (run_end limit resumes room s).state
     → last.orders ≤ s.orders + limit
 ran_orders limit resumes room s last e =
     let f = run_follows limit resumes room s in

@@ -17,9 +17,9 @@ use Rattle.ed_machine.specs.declared.ending.Ending.{Ending}
 use Rattle.ed_machine.specs.declared.ending.Ending.TheVariants.{Stopped, Limit, NoOrder, NoTape, PaperFull}
 use Rattle.ed_machine.proofs.LeastNumbers.{least_below}
 use Rattle.ed_machine.proofs.Steps.{past_sum}
-use Rattle.ed_run.specs.Run.{EndsAfter, RunEnd, end_at, end_by, ran, run_orders}
+use Rattle.ed_run.specs.Run.{EndsAfter, RunEnd, end_at, end_by, run_end, run_orders}
 use Rattle.ed_run.proofs.Ends.{ends_once, ran_ends}
-use Rattle.ed_printer.specs.Paper.{paper, paper_from, shift_after, struck}
+use Rattle.ed_printer.specs.Paper.{paper, paper_from, shift_after, struck_bytes}
 use Rattle.ed_printer.specs.declared.printer.Shift.{Shift}
 use Rattle.ed_printer.specs.declared.printer.Shift.TheVariants.{Letters}
 use Rattle.ed_syntax.specs.declared.program.Line.{Line}
@@ -80,14 +80,14 @@ none_stands low high resumes room k p l below =
     by_tests false false false later h = h
 
 -- a run that ends before its limit is the same with a greater one
-longer : (low high resumes room : ℕ) (s : State) → low ≤ high → (ran low resumes room s).ending ≢ Limit
-    → ran high resumes room s ≡ ran low resumes room s
-unfolding ran
+longer : (low high resumes room : ℕ) (s : State) → low ≤ high → (run_end low resumes room s).ending ≢ Limit
+    → run_end high resumes room s ≡ run_end low resumes room s
+unfolding run_end
 longer low high resumes room s l other =
     let k = run_orders low resumes room s in
     let ends = ran_ends low resumes room s in
     let few : k ≤ low = least_below _ low in
-    let stands : EndsAfter high resumes room s k (ran low resumes room s).ending = record {
+    let stands : EndsAfter high resumes room s k (run_end low resumes room s).ending = record {
       now = end_stands low high resumes room k (progress k s) _ l few other ends.now;
       first = λ j h. none_stands low high resumes room j (progress j s) l (omega (arith, h, few)) (ends.first j h);
     } in
@@ -119,7 +119,7 @@ at_limit low resumes room k p = by_tests (nat_lt resumes p.stops) (nat_eq k low)
     by_tests false false e h = absurd (not_limit (step p.state).turn (nat_le room (length p.codes)) h)
 
 -- and a greater limit is reached later
-no_sooner : (low high resumes room : ℕ) (s : State) → low ≤ high → (ran low resumes room s).ending ≡ Limit
+no_sooner : (low high resumes room : ℕ) (s : State) → low ≤ high → (run_end low resumes room s).ending ≡ Limit
     → (run_orders low resumes room s ≡ low) × (low ≤ run_orders high resumes room s)
 no_sooner low high resumes room s l is =
     let ends = ran_ends low resumes room s in
@@ -135,9 +135,9 @@ no_sooner low high resumes room s l is =
     ] in
     (at, late)
 
-cut : (low high resumes room : ℕ) (s : State) → low ≤ high → (ran low resumes room s).ending ≡ Limit
-    → StartsWith (ran high resumes room s).codes (ran low resumes room s).codes
-unfolding ran
+cut : (low high resumes room : ℕ) (s : State) → low ≤ high → (run_end low resumes room s).ending ≡ Limit
+    → StartsWith (run_end high resumes room s).codes (run_end low resumes room s).codes
+unfolding run_end
 cut low high resumes room s l is =
     let both = no_sooner low high resumes room s l is in
     let m = run_orders high resumes room s in
@@ -149,19 +149,19 @@ cut low high resumes room s l is =
 
 -- the text that a run prints is the beginning of what the same run prints with a greater limit
 starts : (low high resumes room : ℕ) (s : State) → low ≤ high
-    → StartsWith (ran high resumes room s).codes (ran low resumes room s).codes
-starts low high resumes room s l = by_ending (ran low resumes room s).ending refl
+    → StartsWith (run_end high resumes room s).codes (run_end low resumes room s).codes
+starts low high resumes room s l = by_ending (run_end low resumes room s).ending refl
   where
-    whole : (ran low resumes room s).ending ≢ Limit
-        → StartsWith (ran high resumes room s).codes (ran low resumes room s).codes
+    whole : (run_end low resumes room s).ending ≢ Limit
+        → StartsWith (run_end high resumes room s).codes (run_end low resumes room s).codes
     whole other = (
       [],
       ap (λ (r : RunEnd). r.codes) (longer low high resumes room s l other)
-          ∙ sym (append-nil (ran low resumes room s).codes),
+          ∙ sym (append-nil (run_end low resumes room s).codes),
     )
 
-    by_ending : (e : Ending) → (ran low resumes room s).ending ≡ e
-        → StartsWith (ran high resumes room s).codes (ran low resumes room s).codes
+    by_ending : (e : Ending) → (run_end low resumes room s).ending ≡ e
+        → StartsWith (run_end high resumes room s).codes (run_end low resumes room s).codes
     by_ending Limit is = cut low high resumes room s l is
     by_ending Stopped is = whole (λ e. cc)
     by_ending NoOrder is = whole (λ e. cc)
@@ -176,8 +176,8 @@ paper_starts shift [] rest = (paper_from shift rest, refl)
 paper_starts shift (code ∷ part) rest =
     let more = paper_starts (shift_after shift code) part rest in (
       more.0,
-      ap (λ (t : Text). struck shift code ++ t) more.1
-          ∙ sym (append_assoc (struck shift code) (paper_from (shift_after shift code) part) more.0),
+      ap (λ (t : Text). struck_bytes shift code ++ t) more.1
+          ∙ sym (append_assoc (struck_bytes shift code) (paper_from (shift_after shift code) part) more.0),
     )
 
 -- whether a text begins with another doesn't depend on how the two are written
@@ -197,13 +197,13 @@ none_added window r is =
 
 -- from the answers to the end of a run
 module _ (low high resumes : ℕ) (s : State) (give : RunEnd → Outcome) (more : low ≤ high) where
-  same_of : (give (ran low resumes paper_room s)).status ≡ status_of (ran low resumes paper_room s).ending
-      → (give (ran low resumes paper_room s)).status ≢ 4
-      → give (ran high resumes paper_room s) ≡ give (ran low resumes paper_room s)
+  same_of : (give (run_end low resumes paper_room s)).status ≡ status_of (run_end low resumes paper_room s).ending
+      → (give (run_end low resumes paper_room s)).status ≢ 4
+      → give (run_end high resumes paper_room s) ≡ give (run_end low resumes paper_room s)
   same_of is other = ap give (longer low high resumes paper_room s more (λ e. other (is ∙ ap status_of e)))
 
   begins_of : ((r : RunEnd) → (give r).out ≡ paper r.codes)
-      → StartsWith (give (ran high resumes paper_room s)).out (give (ran low resumes paper_room s)).out
+      → StartsWith (give (run_end high resumes paper_room s)).out (give (run_end low resumes paper_room s)).out
   begins_of out = starts_as (out _) (out _) (printed_starts _ _ (starts low high resumes paper_room s more))
 
 tape_keeps : (codes : List ℕ) → KeepsLimits (λ s. tape_outcome s codes)

@@ -3,12 +3,12 @@ use Rattle.std.proofs.Common.{◌≡◌, ◌∙◌, ℕ, ◌-◌, sym, ap, arith
 use Rattle.std.specs.Prelude.{Some}
 use Rattle.ed_machine.specs.State.{State}
 use Rattle.ed_machine.specs.Steps.{least, progress}
-use Rattle.ed_run.specs.Run.{RunEnd, ran}
+use Rattle.ed_run.specs.Run.{RunEnd, run_end}
 use Rattle.ed_link.specs.Linked.{entry_of}
 use Rattle.ed_link.specs.Tapes.{cost}
 use Rattle.ed_loads.specs.EntryState.{entry_state}
 use Rattle.ed_report.specs.Listings.{listing}
-use Rattle.ed_report.specs.Notes.{entered}
+use Rattle.ed_report.specs.Notes.{entry_note}
 use Rattle.ed_command.specs.declared.command.Settings.{Settings}
 use Rattle.ed_answers.specs.Outcome.{Outcome}
 use Rattle.ed_answers.specs.Runs.{paper_room, ran_outcome, with_post_mortem}
@@ -16,12 +16,12 @@ use Rattle.ed_answers.specs.Listed.{EachListedIsLoaded, listed_places, up_to_ent
 use Rattle.ed_answers.proofs.Sources.{headline}
 
 -- a run of no order leaves the state unchanged
-no_order : (resumes room : ℕ) (s : State) → (ran 0 resumes room s).state ≡ s
-unfolding ran progress least
+no_order : (resumes room : ℕ) (s : State) → (run_end 0 resumes room s).state ≡ s
+unfolding run_end progress least
 no_order resumes room s = refl
 
-no_code : (resumes room : ℕ) (s : State) → (ran 0 resumes room s).codes ≡ []
-unfolding ran progress least
+no_code : (resumes room : ℕ) (s : State) → (run_end 0 resumes room s).codes ≡ []
+unfolding run_end progress least
 no_code resumes room s = refl
 
 pub each_listed_is_loaded : EachListedIsLoaded
@@ -34,11 +34,11 @@ each_listed_is_loaded s source lines accepted =
           let whole = (headline t source lines accepted).runs (omega arith) in
           let none : cost lines - cost lines ≡ 0 = omega arith in
           let end : ℕ → RunEnd = λ n. with_post_mortem (Some w)
-          (ran n s.resumes paper_room (entry_state s.size lines)) in
+          (run_end n s.resumes paper_room (entry_state s.size lines)) in
           ap (λ (o : Outcome). o.out) whole
-          ∙ ap (λ n. (ran_outcome (entered (entry_of lines) (cost lines)) (end n)).out) none
-          ∙ (λ i. (ran_outcome (entered (entry_of lines) (cost lines)) (with_post_mortem (Some w) (record {
-            ending = (ran 0 s.resumes paper_room (entry_state s.size lines)).ending;
+          ∙ ap (λ n. (ran_outcome (entry_note (entry_of lines) (cost lines)) (end n)).out) none
+          ∙ (λ i. (ran_outcome (entry_note (entry_of lines) (cost lines)) (with_post_mortem (Some w) (record {
+            ending = (run_end 0 s.resumes paper_room (entry_state s.size lines)).ending;
             state = no_order s.resumes paper_room (entry_state s.size lines) i;
             codes = no_code s.resumes paper_room (entry_state s.size lines) i;
           }))).out);

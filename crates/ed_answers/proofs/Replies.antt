@@ -5,7 +5,7 @@ use Rattle.ed_codes.specs.Reading.{Reading, rows, no_row, open_comment, reading}
 use Rattle.ed_codes.specs.declared.tape.TextFault.TheVariants.{NoRow, OpenComment}
 use Rattle.ed_report.specs.Notes.{text_fault_line}
 use Rattle.ed_words.specs.Texts.{Text}
-use Rattle.ed_answers.specs.Outcome.{Outcome, refused}
+use Rattle.ed_answers.specs.Outcome.{Outcome, refusal}
 use Rattle.ed_answers.specs.Answer.{of_rows, exactly, OfReading}
 use Rattle.ed_answers.specs.Replies.{Gives, RefusesText, Replies}
 use Rattle.ed_answers.specs.declared.reply.Rejection.{Rejection}
@@ -24,8 +24,8 @@ exactly_one f = record { some = λ codes. (f codes, refl); once = λ codes o oth
 pub text_outcome : (answers : List ℕ → Outcome → Type 0) → HasOne answers → (q : Reading)
     → (o : Outcome) × OfReading answers q o × Unit {0}
 text_outcome answers one (rows codes) = let h = one.some codes in (h.0, h.1, tt)
-text_outcome answers one (no_row place byte) = (refused (text_fault_line (NoRow place byte)), refl, tt)
-text_outcome answers one (open_comment place) = (refused (text_fault_line (OpenComment place)), refl, tt)
+text_outcome answers one (no_row place byte) = (refusal (text_fault_line (NoRow place byte)), refl, tt)
+text_outcome answers one (open_comment place) = (refusal (text_fault_line (OpenComment place)), refl, tt)
 
 -- the reply to a text's rows is the reply to the text
 at_reading : (answers : List ℕ → Outcome → Type 0) (q : Reading) (codes : List ℕ) (o : Outcome) → q ≡ rows codes
@@ -53,8 +53,8 @@ exactly_replied f input codes reply is gives =
 refused_at : (answers : List ℕ → Outcome → Type 0) (q : Reading) (reply : Reply) → RefusesText q (Refused reply)
     → (o : Outcome) × OfReading answers q o × Gives reply o
 refused_at answers (rows codes) reply r = absurd r
-refused_at answers (no_row place byte) reply r = (refused (text_fault_line (NoRow place byte)), refl, r)
-refused_at answers (open_comment place) reply r = (refused (text_fault_line (OpenComment place)), refl, r)
+refused_at answers (no_row place byte) reply r = (refusal (text_fault_line (NoRow place byte)), refl, r)
+refused_at answers (open_comment place) reply r = (refusal (text_fault_line (OpenComment place)), refl, r)
 
 pub rejected : (answers : List ℕ → Outcome → Type 0) (input : Text) (e : Rejection) → HasOne answers
     → RefusesText (reading input) e → Replies (of_rows answers) input (Err e)

@@ -18,7 +18,7 @@ use Rattle.ed_syntax.specs.Sources.{HasFormFault, IsProgram}
 use Rattle.ed_link.specs.Answers.{HasMeaningFault, IsLinked}
 use Rattle.ed_link.specs.Refusals.{IsAcceptedAs, IsAcceptedOrRefused, for_form, for_meaning}
 use Rattle.ed_link.proofs.EachSource.{one_answer}
-use Rattle.ed_link.specs.Linked.{linked}
+use Rattle.ed_link.specs.Linked.{linked_words}
 use Rattle.ed_link.specs.Tables.{table_of, words_from}
 use Rattle.ed_link.specs.Tapes.{after_text}
 use Rattle.ed_link.specs.declared.linked.Linked.{Linked}
@@ -30,7 +30,7 @@ use Rattle.ed_report.specs.Listings.{listing}
 use Rattle.ed_report.specs.Notes.{ending_line, source_fault_line}
 use Rattle.ed_command.specs.declared.command.Window.{Window}
 use Rattle.ed_words.specs.Texts.{Text}
-use Rattle.ed_answers.specs.Outcome.{Outcome, done, refused}
+use Rattle.ed_answers.specs.Outcome.{Outcome, done, refusal}
 use Rattle.ed_answers.specs.Runs.{post_mortem_codes, ran_outcome, status_of, with_post_mortem}
 use Rattle.ed_answers.specs.Sources.{OfSource, listing_outcome, of_source, punch_outcome}
 use Rattle.ed_answers.specs.Headline.{Headline}
@@ -57,13 +57,13 @@ some_outcome z accepted text = by_answer (one_answer.every z text)
   where
     by_answer : IsAcceptedOrRefused z text → (o : Outcome) × OfSource z accepted text o
     by_answer (inl a) = (accepted a.0, inr (a.0, a.1, refl))
-    by_answer (inr r) = (refused (source_fault_line (At r.0 r.1)), inl (r.0, r.1, r.2, refl))
+    by_answer (inr r) = (refusal (source_fault_line (At r.0 r.1)), inl (r.0, r.1, r.2, refl))
 
 pub source_outcome : (z : Size) (accepted : List Line → Outcome) (text : Text) (o other : Outcome)
     → OfSource z accepted text o → OfSource z accepted text other → o ≡ other
 source_outcome z accepted text o other (inl r) (inl q) =
     let same = one_answer.one_fault z text r.0 q.0 r.1 q.1 r.2 q.2 in
-    sym r.3 ∙ (λ i. refused (source_fault_line (At (same.0 i) (same.1 i)))) ∙ q.3
+    sym r.3 ∙ (λ i. refusal (source_fault_line (At (same.0 i) (same.1 i)))) ∙ q.3
 source_outcome z accepted text o other (inl r) (inr b) =
     absurd (one_answer.never_both z text b.0 r.0 r.1 b.1 r.2)
 source_outcome z accepted text o other (inr a) (inl q) =
@@ -101,8 +101,8 @@ pub linked_or_refused : (z : Size) {text : Text} {two : Bool} {lines : List Line
     → ((f : SourceFault) (e : Rejection) → Q f e
     → Refuses (source_fault_line f) e × (f ≡ Memory → e ≡ rejection.Memory))
     → LinksSource z text told
-linked_or_refused z (Ok k) told Q p linked faulty is made = rw is (linked_accepted z k p linked)
-linked_or_refused z (Err f) told Q p linked faulty is made =
+linked_or_refused z (Ok k) told Q p is_linked faulty is made = rw is (linked_accepted z k p is_linked)
+linked_or_refused z (Err f) told Q p is_linked faulty is made =
     let e = err_from_is_err_and told is in
     let refuses = made f e.0 e.2 in
     rw e.1 (refused_meaning z f e.0 p faulty refuses.0 refuses.1)
@@ -120,7 +120,7 @@ linked_replied z accepted input k reply l g = (accepted l.0, accepted_is z accep
 source_rejected : (z : Size) (accepted : List Line → Outcome) (input : Text) (e : Rejection)
     → LinksSource z input (Err e) → Replies (of_source z accepted) input (Err e)
 source_rejected z accepted input (rejection.Refused reply) l =
-    (refused (source_fault_line (At l.0 l.1)), inl (l.0, l.1, l.2, refl), l.3)
+    (refusal (source_fault_line (At l.0 l.1)), inl (l.0, l.1, l.2, refl), l.3)
 source_rejected z accepted input rejection.Memory l = let some = some_outcome z accepted input in (some.0, some.1, tt)
 
 -- if it is passed on by `?`
@@ -180,6 +180,6 @@ pub listing_gives : {z : Size} {lines : List Line} {k : Linked} {reply : Reply} 
     → out ≡ listing store places → Gives reply (done out) → Gives reply (listing_outcome lines)
 listing_gives {lines} {reply} {store} {places} is entry s p o gives =
     let at : store ≡ entry_store lines = s ∙ ap (λ (x : State). x.store) entry in
-    let all : places ≡ map (λ (p : Placed). p.place) (words_from 0 (table_of (linked lines))) =
+    let all : places ≡ map (λ (p : Placed). p.place) (words_from 0 (table_of (linked_words lines))) =
     p ∙ ap (map (λ (p : Placed). p.place)) is.words in
     subst (λ (t : Text). Gives reply (done t)) (o ∙ (λ i. listing (at i) (all i))) gives

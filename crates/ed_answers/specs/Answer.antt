@@ -4,7 +4,7 @@ use Rattle.ed_codes.specs.Reading.{Reading, rows, no_row, open_comment, reading}
 use Rattle.ed_codes.specs.declared.tape.TextFault.TheVariants.{NoRow, OpenComment}
 use Rattle.ed_report.specs.Notes.{text_fault_line}
 use Rattle.ed_words.specs.Texts.{Text}
-use Rattle.ed_answers.specs.Outcome.{Outcome, refused, too_long_outcome}
+use Rattle.ed_answers.specs.Outcome.{Outcome, refusal, too_long_outcome}
 
 -- no input is read, and this is the outcome, or this says which outcomes it may be; or an input is read, and this says
 -- which outcome an input of at most 262,144 bytes has
@@ -20,8 +20,8 @@ exactly f x o = f x ≡ o
 -- the outcome of a tape's text: that of its rows, or its refusal
 abbrev pub OfReading : (List ℕ → Outcome → Type 0) → Reading → Outcome → Type 0
 OfReading answers (rows codes) o = answers codes o
-OfReading answers (no_row place byte) o = refused (text_fault_line (NoRow place byte)) ≡ o
-OfReading answers (open_comment place) o = refused (text_fault_line (OpenComment place)) ≡ o
+OfReading answers (no_row place byte) o = refusal (text_fault_line (NoRow place byte)) ≡ o
+OfReading answers (open_comment place) o = refusal (text_fault_line (OpenComment place)) ≡ o
 
 -- the input is the text of a tape, and this says which outcome its rows have
 abbrev pub of_rows : (List ℕ → Outcome → Type 0) → Answer

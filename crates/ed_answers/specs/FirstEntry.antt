@@ -2,7 +2,7 @@
 -- `tape1` is the run from there.
 use Rattle.std.specs.Prelude.{◌≡◌, ℕ, ◌-◌, ◌<◌, ◌≤◌, List, []}
 use Rattle.ed_machine.specs.Steps.{progress, state_after}
-use Rattle.ed_run.specs.Run.{ran}
+use Rattle.ed_run.specs.Run.{run_end}
 use Rattle.ed_initial1.specs.Checks.{report1}
 use Rattle.ed_initial1.specs.Entry.{at_entry1}
 use Rattle.ed_initial1.specs.Faults.{Tape, Comes1}
@@ -21,7 +21,7 @@ pub record RunsFrom31 (s : Settings) (codes : List ℕ) (t : Tape) : Type 0 wher
   pub enters : state_after (cost1 t) (first_state1 codes) ≡ at_entry1 (first_state1 codes) t
   pub silent : (progress (cost1 t) (first_state1 codes)).codes ≡ []
   pub runs : cost1 t ≤ s.limit → tape1_outcome s codes
-      ≡ ran_outcome [] (ran (s.limit - cost1 t) s.resumes paper_room (at_entry1 (first_state1 codes) t))
+      ≡ ran_outcome [] (run_end (s.limit - cost1 t) s.resumes paper_room (at_entry1 (first_state1 codes) t))
   pub short : s.limit < cost1 t → (tape1_outcome s codes).out ≡ []
 
 -- the same for every tape that gives a program

@@ -1,9 +1,9 @@
 -- The program's answers to a tape of Initial Orders 1 (this project's own rules).
 use Rattle.std.specs.Prelude.{◌≡◌, ◌⊎◌, ℕ, [], List}
 use Rattle.ed_words.specs.declared.size.Size.TheVariants.{Full}
-use Rattle.ed_machine.specs.State.{State, cleared}
-use Rattle.ed_machine.specs.Start.{started}
-use Rattle.ed_run.specs.Run.{RunEnd, ran}
+use Rattle.ed_machine.specs.State.{State, cleared_state}
+use Rattle.ed_machine.specs.Start.{start_state}
+use Rattle.ed_run.specs.Run.{RunEnd, run_end}
 use Rattle.ed_initial1.specs.Listing.{first_orders}
 use Rattle.ed_initial1.specs.Faults.{Tape, Comes1, IsFault1}
 use Rattle.ed_initial1.specs.Checks.{report1}
@@ -11,17 +11,17 @@ use Rattle.ed_initial1.specs.declared.cause.Tape1Cause.{Tape1Cause}
 use Rattle.ed_report.specs.FirstNotes.{rule1_line}
 use Rattle.ed_command.specs.declared.command.Settings.{Settings}
 use Rattle.ed_answers.specs.Answer.{Answer, exactly, of_rows}
-use Rattle.ed_answers.specs.Outcome.{Outcome, done, refused}
+use Rattle.ed_answers.specs.Outcome.{Outcome, done, refusal}
 use Rattle.ed_answers.specs.Runs.{paper_room, ran_outcome}
 use Rattle.ed_report.specs.Entries.{entry_line}
 
 -- a cleared machine of full size, started on rows with Initial Orders 1
 unfoldable pub first_state1 : List ℕ → State
-first_state1 codes = started first_orders codes (cleared Full)
+first_state1 codes = start_state first_orders codes (cleared_state Full)
 
 -- the run of rows from there
 abbrev pub run1_of : Settings → List ℕ → RunEnd
-run1_of s codes = ran s.limit s.resumes paper_room (first_state1 codes)
+run1_of s codes = run_end s.limit s.resumes paper_room (first_state1 codes)
 
 -- `tape1`: the run of the rows
 abbrev pub tape1_outcome : Settings → List ℕ → Outcome
@@ -42,7 +42,7 @@ pub record OfFirstFault (codes : List ℕ) (o : Outcome) : Type 0 where
   pub row : ℕ
   pub cause : Tape1Cause
   pub fault : IsFault1 codes row cause
-  pub outcome : refused (rule1_line row cause) ≡ o
+  pub outcome : refusal (rule1_line row cause) ≡ o
 
 -- `check-tape1`
 abbrev pub IsChecked1 : List ℕ → Outcome → Type 0

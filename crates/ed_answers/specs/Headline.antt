@@ -1,7 +1,7 @@
 -- What holds of every source that is accepted: its tape leads to the state at the entry, and its run is the run from
 -- there.
 use Rattle.std.specs.Prelude.{◌≡◌, ◌-◌, ◌<◌, ◌≤◌, List}
-use Rattle.ed_run.specs.Run.{ran}
+use Rattle.ed_run.specs.Run.{run_end}
 use Rattle.ed_syntax.specs.declared.program.Line.{Line}
 use Rattle.ed_link.specs.Refusals.{IsAcceptedAs}
 use Rattle.ed_link.specs.Linked.{entry_of}
@@ -9,7 +9,7 @@ use Rattle.ed_link.specs.Tapes.{cost, tape}
 use Rattle.ed_loads.specs.EntryState.{Enters, entry_state}
 use Rattle.ed_loads.specs.EntryWords.{EntryHasWords}
 use Rattle.ed_printer.specs.Paper.{paper}
-use Rattle.ed_report.specs.Notes.{entered}
+use Rattle.ed_report.specs.Notes.{entry_note}
 use Rattle.ed_command.specs.declared.command.Settings.{Settings}
 use Rattle.ed_words.specs.Texts.{Text}
 use Rattle.ed_answers.specs.Runs.{paper_room, post_mortem_codes, ran_outcome, run_of, with_post_mortem}
@@ -24,8 +24,8 @@ pub record RunsFromEntry (s : Settings) (lines : List Line) : Type 0 where
   pub enters : Enters s.size lines
   pub has_words : EntryHasWords lines
   pub runs : cost lines ≤ s.limit → run_outcome s lines
-      ≡ ran_outcome (entered (entry_of lines) (cost lines))
-      (with_post_mortem s.post_mortem (ran (s.limit - cost lines) s.resumes paper_room (entry_state s.size lines)))
+      ≡ ran_outcome (entry_note (entry_of lines) (cost lines))
+      (with_post_mortem s.post_mortem (run_end (s.limit - cost lines) s.resumes paper_room (entry_state s.size lines)))
   pub short : s.limit < cost lines
       → (run_outcome s lines).out ≡ paper (post_mortem_codes s.post_mortem (run_of s (tape lines)).state)
 

@@ -4,7 +4,7 @@ use Rattle.ed_machine.specs.Steps.{state_after}
 use Rattle.ed_printer.specs.Paper.{paper}
 use Rattle.ed_postmortem.specs.Codes.{printed_codes}
 use Rattle.ed_syntax.specs.declared.program.Line.{Line}
-use Rattle.ed_link.specs.Linked.{linked}
+use Rattle.ed_link.specs.Linked.{linked_words}
 use Rattle.ed_link.specs.Refusals.{IsAcceptedAs}
 use Rattle.ed_link.specs.Tables.{table_of, words_from}
 use Rattle.ed_link.specs.Tapes.{cost, tape}
@@ -17,7 +17,7 @@ use Rattle.ed_answers.specs.Sources.{listing_outcome, run_outcome}
 
 -- the locations of the linked program, in ascending order
 abbrev pub listed_places : List Line → List ℕ
-listed_places lines = map (λ p. p.place) (words_from 0 (table_of (linked lines)))
+listed_places lines = map (λ p. p.place) (words_from 0 (table_of (linked_words lines)))
 
 -- the same settings for a run up to the entry, with a post-mortem of a window
 abbrev pub up_to_entry : Settings → List Line → Window → Settings

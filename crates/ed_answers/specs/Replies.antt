@@ -14,7 +14,7 @@ use Rattle.ed_link.specs.Tapes.{tape}
 use Rattle.ed_command.specs.declared.command.Settings.{Settings}
 use Rattle.ed_report.specs.Notes.{ending_line, source_fault_line, text_fault_line}
 use Rattle.ed_words.specs.Texts.{Text}
-use Rattle.ed_answers.specs.Outcome.{Outcome, refused}
+use Rattle.ed_answers.specs.Outcome.{Outcome, refusal}
 use Rattle.ed_answers.specs.Answer.{Answer, known, of_made, of_input}
 use Rattle.ed_answers.specs.Runs.{run_of}
 use Rattle.ed_answers.specs.Sources.{entered_before}
@@ -46,15 +46,15 @@ Replies answer input (Err Memory) = ForInput answer input (λ o. Unit {0})
 
 -- a rejection refuses an input with a line, or reports that no memory was found
 abbrev pub Refuses : Text → Rejection → Type 0
-Refuses line (Refused reply) = Gives reply (refused line)
+Refuses line (Refused reply) = Gives reply (refusal line)
 Refuses line Memory = Unit {0}
 
 -- a reply refuses a text for its fault
 abbrev pub RefusesText : Reading → Rejection → Type 0
 RefusesText r Memory = Unit {0}
 RefusesText (rows codes) (Refused reply) = ⊥
-RefusesText (no_row place byte) (Refused reply) = Gives reply (refused (text_fault_line (NoRow place byte)))
-RefusesText (open_comment place) (Refused reply) = Gives reply (refused (text_fault_line (OpenComment place)))
+RefusesText (no_row place byte) (Refused reply) = Gives reply (refusal (text_fault_line (NoRow place byte)))
+RefusesText (open_comment place) (Refused reply) = Gives reply (refusal (text_fault_line (OpenComment place)))
 
 -- a run that ended is the one of the definition
 pub record IsRan (r : RunEnd) (ran : FinishedRun) : Type 0 where
@@ -72,5 +72,5 @@ pub record IsRanOf (s : Settings) (lines : List Line) (noted : NotedRun) : Type 
 abbrev pub LinksSource : Size → Text → Result Linked Rejection → Type 0
 LinksSource z text (Ok k) = (lines : List Line) × IsAcceptedAs z text lines × IsLinked z lines k
 LinksSource z text (Err (Refused reply)) =
-    (k : ℕ) × (c : SourceCause) × IsRefused z text k c × Gives reply (refused (source_fault_line (At k c)))
+    (k : ℕ) × (c : SourceCause) × IsRefused z text k c × Gives reply (refusal (source_fault_line (At k c)))
 LinksSource z text (Err Memory) = Unit {0}

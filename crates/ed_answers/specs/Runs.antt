@@ -4,7 +4,7 @@ use Rattle.ed_printer.specs.Paper.{paper}
 use Rattle.ed_machine.specs.State.{State}
 use Rattle.ed_machine.specs.declared.ending.Ending.{Ending}
 use Rattle.ed_machine.specs.declared.ending.Ending.TheVariants.{Stopped, Limit, NoOrder, NoTape, PaperFull}
-use Rattle.ed_run.specs.Run.{RunEnd, ran}
+use Rattle.ed_run.specs.Run.{RunEnd, run_end}
 use Rattle.ed_postmortem.specs.Codes.{printed_codes}
 use Rattle.ed_loads.specs.EntryState.{first_state}
 use Rattle.ed_report.specs.Notes.{ending_line}
@@ -27,7 +27,7 @@ paper_room = 1000000
 
 -- the run of rows: from a cleared machine, started on them with the Initial Orders
 abbrev pub run_of : Settings → List ℕ → RunEnd
-run_of s codes = ran s.limit s.resumes paper_room (first_state s.size codes)
+run_of s codes = run_end s.limit s.resumes paper_room (first_state s.size codes)
 
 -- the codes that a post-mortem prints of a state: those of the words in a window, or none without a window
 abbrev pub post_mortem_codes : Option Window → State → List ℕ

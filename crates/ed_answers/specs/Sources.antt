@@ -7,16 +7,16 @@ use Rattle.ed_syntax.specs.declared.program.Line.{Line}
 use Rattle.ed_syntax.specs.declared.fault.SourceCause.{SourceCause}
 use Rattle.ed_syntax.specs.declared.fault.SourceFault.TheVariants.{At}
 use Rattle.ed_link.specs.Refusals.{IsAcceptedAs, IsRefused}
-use Rattle.ed_link.specs.Linked.{data_after, entry_of, linked}
-use Rattle.ed_link.specs.Punch.{punched}
+use Rattle.ed_link.specs.Linked.{data_after, entry_of, linked_words}
+use Rattle.ed_link.specs.Punch.{punched_items}
 use Rattle.ed_link.specs.Tables.{table_of, words_from}
 use Rattle.ed_link.specs.Tapes.{after_text, cost, tape}
 use Rattle.ed_loads.specs.EntryState.{entry_store}
 use Rattle.ed_report.specs.Listings.{listing}
-use Rattle.ed_report.specs.Notes.{entered, source_fault_line}
+use Rattle.ed_report.specs.Notes.{entry_note, source_fault_line}
 use Rattle.ed_command.specs.declared.command.Settings.{Settings}
 use Rattle.ed_words.specs.Texts.{Text}
-use Rattle.ed_answers.specs.Outcome.{Outcome, done, refused}
+use Rattle.ed_answers.specs.Outcome.{Outcome, done, refusal}
 use Rattle.ed_answers.specs.Answer.{Answer, of_input}
 use Rattle.ed_answers.specs.Runs.{ran_outcome, run_of, with_post_mortem}
 
@@ -24,7 +24,7 @@ use Rattle.ed_answers.specs.Runs.{ran_outcome, run_of, with_post_mortem}
 -- function gives for its lines
 abbrev pub OfSource : Size → (List Line → Outcome) → Text → Outcome → Type 0
 OfSource z accepted text o =
-    ((k : ℕ) × (c : SourceCause) × IsRefused z text k c × (refused (source_fault_line (At k c)) ≡ o))
+    ((k : ℕ) × (c : SourceCause) × IsRefused z text k c × (refusal (source_fault_line (At k c)) ≡ o))
     ⊎ ((lines : List Line) × IsAcceptedAs z text lines × (accepted lines ≡ o))
 
 -- the input is a source, and this is the answer if it is accepted
@@ -34,7 +34,7 @@ of_source z accepted = of_input (OfSource z accepted)
 -- the text before the line of an ending: if the run obeyed all orders that the tape costs up to its entry, the entry
 -- and their number
 abbrev pub entered_before : List Line → State → Text
-entered_before lines s = if nat_le (cost lines) s.orders then entered (entry_of lines) (cost lines) else []
+entered_before lines s = if nat_le (cost lines) s.orders then entry_note (entry_of lines) (cost lines) else []
 
 -- `run`: the run of the punched tape, with the post-mortem that is requested
 abbrev pub run_outcome : Settings → List Line → Outcome
@@ -43,11 +43,11 @@ run_outcome s lines =
 
 -- `punch`: the text of the punched tape
 abbrev pub punch_outcome : List Line → Outcome
-punch_outcome lines = done (text_of (canonicals (punched lines)) ++ after_text (data_after lines))
+punch_outcome lines = done (text_of (canonicals (punched_items lines)) ++ after_text (data_after lines))
 
 -- `listing`: the locations of the linked program, with the words of the store at the entry
 abbrev pub listing_outcome : List Line → Outcome
-listing_outcome lines = done (listing (entry_store lines) (map (λ p. p.place) (words_from 0 (table_of (linked lines)))))
+listing_outcome lines = done (listing (entry_store lines) (map (λ p. p.place) (words_from 0 (table_of (linked_words lines)))))
 
 -- the answer of `run`
 abbrev pub run_answer : Settings → Answer

@@ -10,7 +10,7 @@ use Rattle.ed_report.specs.Entries.{entry_line}
 use Rattle.ed_report.specs.Notes.{rule_line}
 use Rattle.ed_command.specs.declared.command.Settings.{Settings}
 use Rattle.ed_answers.specs.Answer.{Answer, exactly, of_rows}
-use Rattle.ed_answers.specs.Outcome.{Outcome, done, refused}
+use Rattle.ed_answers.specs.Outcome.{Outcome, done, refusal}
 use Rattle.ed_answers.specs.Runs.{ran_outcome, run_of, with_post_mortem}
 
 -- ---- runs
@@ -41,7 +41,7 @@ pub record OfFaulty (z : Size) (codes : List ℕ) (o : Outcome) : Type 0 where
   pub row : ℕ
   pub cause : TapeCause
   pub fault : IsFault z cleared_cells.words first_note codes row cause
-  pub outcome : refused (rule_line row cause) ≡ o
+  pub outcome : refusal (rule_line row cause) ≡ o
 
 -- `check-tape`
 abbrev pub IsChecked : Settings → List ℕ → Outcome → Type 0

@@ -1,7 +1,7 @@
 ghost use Rattle.std.specs.Prelude.{◌≡◌, ◌≢◌, ◌≤◌, ◌^◌, IfOk, length};
 ghost use Rattle.ed_report.specs.Notes.{tape_fault_line};
 ghost use Rattle.ed_answers.specs.Replies.{Gives, Replies};
-ghost use Rattle.ed_answers.specs.Outcome.{Outcome, done, refused};
+ghost use Rattle.ed_answers.specs.Outcome.{Outcome, done, refusal};
 ghost use Rattle.ed_report.specs.Entries.{entry_line};
 ghost use Rattle.ed_answers.specs.Tapes.{IsChecked, check_tape_answer};
 
@@ -37,7 +37,7 @@ fn check_rows(alloc: Global, settings: Settings, rows: &[Code]) -> Result<Reply,
 
 /// The reply to rows that are not a tape of the notation.
 fn fault_reply(alloc: Global, fault: &TapeFault) -> Result<Reply, NoMemory>
-    ensures is { IfOk result (λ reply. Gives reply (refused (tape_fault_line fault.now))) }
+    ensures is { IfOk result (λ reply. Gives reply (refusal (tape_fault_line fault.now))) }
     ensures told { IfOk result (λ _. fault.now ≢ TapeFault.Memory) }
 {
     match fault {

@@ -2,7 +2,7 @@ ghost use Rattle.std.specs.Prelude.{◌≡◌, ◌≢◌, ◌≤◌, ◌^◌, If
 ghost use Rattle.ed_report.specs.FirstNotes.{tape1_fault_line};
 ghost use Rattle.ed_answers.specs.FirstOrders.{IsChecked1, check_tape1_answer, first_state1, tape1_answer};
 ghost use Rattle.ed_answers.specs.FirstOrders.{run1_of, tape1_outcome};
-ghost use Rattle.ed_answers.specs.Outcome.{Outcome, refused};
+ghost use Rattle.ed_answers.specs.Outcome.{Outcome, refusal};
 ghost use Rattle.ed_answers.specs.Replies.{Gives, IsRan, Replies};
 
 use crate::check::entry_reply;
@@ -82,7 +82,7 @@ fn check_rows1(alloc: Global, rows: &[Code]) -> Result<Reply, NoMemory>
 
 /// The reply to rows that are not a tape of Initial Orders 1.
 fn fault_reply1(alloc: Global, fault: &Tape1Fault) -> Result<Reply, NoMemory>
-    ensures is { IfOk result (λ reply. Gives reply (refused (tape1_fault_line fault.now))) }
+    ensures is { IfOk result (λ reply. Gives reply (refusal (tape1_fault_line fault.now))) }
     ensures told { IfOk result (λ _. fault.now ≢ Tape1Fault.Memory) }
 {
     match fault {

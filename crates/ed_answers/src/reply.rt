@@ -1,6 +1,6 @@
 ghost use Rattle.std.specs.Prelude.{◌≡◌, IfOk, IsErr};
 ghost use Rattle.ed_answers.specs.Replies.{Gives, Refuses};
-ghost use Rattle.ed_answers.specs.Outcome.{done, refused};
+ghost use Rattle.ed_answers.specs.Outcome.{done, refusal};
 
 use ed_words::NoMemory;
 use std::alloc::Global;
@@ -39,7 +39,7 @@ impl Reply {
 
     /// The reply that refuses an input, with a line.
     pub fn refusal(alloc: Global, line: Vec<u8>) -> Reply
-        ensures { Gives result (refused line.items) }
+        ensures { Gives result (refusal line.items) }
     {
         Reply {
             out: Vec::new(alloc),

@@ -1,5 +1,5 @@
 ghost use Rattle.std.specs.Prelude.{◌≡◌, ◌<◌, ◌≤◌, ◌+◌, ◌-◌, ◌^◌, ◌++◌, IfErr, IfOk, IfSome};
-ghost use Rattle.ed_run.specs.Run.{ran};
+ghost use Rattle.ed_run.specs.Run.{run_end};
 ghost use Rattle.ed_printer.specs.Paper.{paper};
 ghost use Rattle.ed_postmortem.specs.Codes.{printed_codes};
 ghost use Rattle.ed_command.specs.Ranges.{AreSettingsInRange, IsWindowOf};
@@ -51,7 +51,7 @@ pub fn run_machine(
 ) -> Result<FinishedRun, NoMemory>
     requires { machine.orders ≤ settings.limit }
     ensures is { IfOk result (λ left.
-        IsRan (ran (settings.limit - machine.orders) settings.resumes paper_room machine) left) }
+        IsRan (run_end (settings.limit - machine.orders) settings.resumes paper_room machine) left) }
     ensures size { IfOk result (λ left. left.machine.size ≡ machine.size) }
     ensures orders { IfOk result (λ left. left.machine.orders ≤ settings.limit) }
 {

@@ -4,7 +4,7 @@ ghost use Rattle.ed_syntax.specs.declared.program.Line.{Line};
 ghost use Rattle.ed_link.specs.Answers.{IsLinked};
 ghost use Rattle.ed_link.specs.Tapes.{after_text, cost, tape};
 ghost use Rattle.ed_loads.specs.EntryState.{entry_state};
-ghost use Rattle.ed_report.specs.Notes.{ending_line, entered, source_fault_line};
+ghost use Rattle.ed_report.specs.Notes.{ending_line, entry_note, source_fault_line};
 ghost use Rattle.ed_command.specs.Ranges.{AreSettingsInRange};
 ghost use Rattle.ed_answers.specs.Outcome.{done};
 ghost use Rattle.ed_answers.specs.Replies.{Gives, IsRan, IsRanOf, LinksSource, Refuses, Replies};
@@ -127,7 +127,7 @@ fn run_entered(
 /// The line of a run's ending, after the entry and its cost if these orders were obeyed.
 fn notation_of(alloc: Global, entry: u16, cost: u64, ran: &FinishedRun) -> Result<Vec<u8>, NoMemory>
     ensures { IfOk result (λ bytes. bytes.items
-        ≡ (if nat_le cost ran.now.machine.orders then entered entry cost else [])
+        ≡ (if nat_le cost ran.now.machine.orders then entry_note entry cost else [])
         ++ ending_line ran.now.ending ran.now.machine) }
 {
     if cost <= ran.machine.orders_done() {

@@ -3,7 +3,7 @@ use Rattle.std.proofs.Common.{ℕ, ◌^◌, ◌<◌, lit<, Bool, true, false, na
 use Rattle.ed_orders.specs.declared.kind.Kind.{Kind}
 use Rattle.ed_orders.specs.declared.kind.Kind.TheVariants.{A, S, H, V, N, T, U, C, R, L, E, G, I, O, F, X, Y, Z}
 use Rattle.ed_machine.specs.State.{State}
-use Rattle.ed_machine.specs.OrderTable.{obey_word, place_of, jumped, took_row}
+use Rattle.ed_machine.specs.OrderTable.{obey_word, place_of, jump_order, row_order}
 use Rattle.ed_machine.proofs.SoundSteps.{plus71_fits, minus71_fits, plus_product_fits, minus_product_fits}
 use Rattle.ed_machine.proofs.SoundSteps.{collated_fits, left71_fits, right71_fits}
 
@@ -21,17 +21,17 @@ acc_fits (Some R) w s h = right71_fits _ _
 acc_fits (Some L) w s h = left71_fits _ _
 acc_fits (Some E) w s h = by_test (nat_lt s.acc (2 ^ 70))
   where
-    by_test : (b : Bool) → (jumped b (place_of s w) s).state.acc < 2 ^ 71
+    by_test : (b : Bool) → (jump_order b (place_of s w) s).state.acc < 2 ^ 71
     by_test true = h
     by_test false = h
 acc_fits (Some G) w s h = by_test (nat_le (2 ^ 70) s.acc)
   where
-    by_test : (b : Bool) → (jumped b (place_of s w) s).state.acc < 2 ^ 71
+    by_test : (b : Bool) → (jump_order b (place_of s w) s).state.acc < 2 ^ 71
     by_test true = h
     by_test false = h
 acc_fits (Some I) w s h = by_tape s.tape
   where
-    by_tape : (xs : List ℕ) → (took_row xs w s).state.acc < 2 ^ 71
+    by_tape : (xs : List ℕ) → (row_order xs w s).state.acc < 2 ^ 71
     by_tape [] = h
     by_tape (x ∷ xs) = h
 acc_fits (Some O) w s h = h

@@ -9,7 +9,7 @@ use Rattle.ed_orders.specs.Kinds.{kind_of_function}
 use Rattle.ed_orders.specs.declared.kind.Kind.{Kind}
 use Rattle.ed_orders.specs.declared.kind.Kind.TheVariants.{E, G}
 use Rattle.ed_machine.specs.State.{State}
-use Rattle.ed_machine.specs.OrderTable.{Obeyed, step, next_word, obey_word, jumped, place_of, after, done_at}
+use Rattle.ed_machine.specs.OrderTable.{Obeyed, step, next_word, obey_word, jump_order, place_of, after, done_at}
 use Rattle.ed_machine.specs.Steps.{Progress, progress, state_after, codes_of, stops_of, is_obeyed}
 use Rattle.ed_machine.specs.declared.turn.Turn.TheVariants.{Went, Stopped}
 use Rattle.ed_checker.specs.Checker.{IsOutsideChecker, IsAllowed, IsAllowedOrder, Agree, guest, checked_codes}
@@ -93,7 +93,7 @@ module _ {base : ℕ} (even_base : base % 2 ≡ 0) {s t : State} (p : Agree base
     };
   }
 
-  both_jump : (b : Bool) (j : ℕ) → Both (jumped b j s) (jumped b j t)
+  both_jump : (b : Bool) (j : ℕ) → Both (jump_order b j s) (jump_order b j t)
   both_jump true j = both_moved refl
   both_jump false j = both_moved (λ i. within (p.size i) (p.counter i + 1))
 
@@ -101,11 +101,11 @@ module _ {base : ℕ} (even_base : base % 2 ≡ 0) {s t : State} (p : Agree base
   place = ap (λ z. within z (address_of x)) p.size
 
   both_E : Both (obey_word (Some E) x s) (obey_word (Some E) x t)
-  both_E = subst (Both (obey_word (Some E) x s)) (λ i. jumped (nat_lt (p.acc i) (2 ^ 70)) (place i) t)
+  both_E = subst (Both (obey_word (Some E) x s)) (λ i. jump_order (nat_lt (p.acc i) (2 ^ 70)) (place i) t)
       (both_jump (nat_lt s.acc (2 ^ 70)) (place_of s x))
 
   both_G : Both (obey_word (Some G) x s) (obey_word (Some G) x t)
-  both_G = subst (Both (obey_word (Some G) x s)) (λ i. jumped (nat_le (2 ^ 70) (p.acc i)) (place i) t)
+  both_G = subst (Both (obey_word (Some G) x s)) (λ i. jump_order (nat_le (2 ^ 70) (p.acc i)) (place i) t)
       (both_jump (nat_le (2 ^ 70) s.acc) (place_of s x))
 
   module _ (a : IsStore s.store) (b : IsStore t.store) where

@@ -8,7 +8,7 @@ use Rattle.ed_words.proofs.SizeLemmas.{within_below}
 use Rattle.ed_orders.specs.declared.kind.Kind.{Kind}
 use Rattle.ed_orders.specs.declared.kind.Kind.TheVariants.{A, S, H, V, N, T, U, C, R, L, E, G, I, O, F, X, Y, Z}
 use Rattle.ed_machine.specs.State.{State}
-use Rattle.ed_machine.specs.OrderTable.{jumped, next_word, obey_word, place_of, step, took_row}
+use Rattle.ed_machine.specs.OrderTable.{jump_order, next_word, obey_word, place_of, step, row_order}
 use Rattle.ed_machine.specs.Steps.{progress, state_after}
 use Rattle.ed_paths.proofs.Orders.{IsNear, IsOrder}
 use Rattle.ed_checker.specs.Checker.{IsAllowed, IsAllowedOrder, IsPlainJump, AccessesOutside}
@@ -64,17 +64,17 @@ allowed_below base even kind s o room = record {
 same_size : (k : Option Kind) (w : ℕ) (s : State) → (obey_word k w s).state.size ≡ s.size
 same_size (Some E) w s = by_test (nat_lt s.acc (2 ^ 70))
   where
-    by_test : (b : Bool) → (jumped b (place_of s w) s).state.size ≡ s.size
+    by_test : (b : Bool) → (jump_order b (place_of s w) s).state.size ≡ s.size
     by_test true = refl
     by_test false = refl
 same_size (Some G) w s = by_test (nat_le (2 ^ 70) s.acc)
   where
-    by_test : (b : Bool) → (jumped b (place_of s w) s).state.size ≡ s.size
+    by_test : (b : Bool) → (jump_order b (place_of s w) s).state.size ≡ s.size
     by_test true = refl
     by_test false = refl
 same_size (Some I) w s = by_tape s.tape
   where
-    by_tape : (xs : List ℕ) → (took_row xs w s).state.size ≡ s.size
+    by_tape : (xs : List ℕ) → (row_order xs w s).state.size ≡ s.size
     by_tape [] = refl
     by_tape (x ∷ xs) = refl
 same_size None w s = refl

@@ -5,6 +5,7 @@ use Rattle.std.proofs.Common.{false, List, [], Option, None, length, get_or}
 use Rattle.ed_words.specs.Sizes.{locations}
 use Rattle.ed_words.specs.Words.{address_of}
 use Rattle.ed_words.proofs.SizeLemmas.{most}
+use Rattle.ed_words.specs.declared.order_words.TheConstants.{A_F}
 use Rattle.ed_store.specs.Cells.{IsStore, short_at, long_at}
 use Rattle.ed_machine.specs.State.{State}
 use Rattle.ed_library.specs.Routines.{is_working}
@@ -142,7 +143,7 @@ module _ (f : Frame 66 30) (even : f.base % 2 ≡ 0) (o : Around) (w : Work) whe
   low_is : long_at the_state.store (f.base + 64) ≡ w.low
   low_is = reads f the_moment (pair 64 2 even) refl refl ∙ parted w.low
 
-  pub guest_counter : (c : ℕ) → w.at0 ≡ 114688 + 2 * c → c < 1024 → (guest f.base the_state).counter ≡ c
+  pub guest_counter : (c : ℕ) → w.at0 ≡ A_F + 2 * c → c < 1024 → (guest f.base the_state).counter ≡ c
   guest_counter c fetch room = ap address_of (first_word ∙ fetch) ∙ omega arith
 
   pub guest_acc : (guest f.base the_state).acc ≡ whole w.high w.middle w.low
@@ -166,7 +167,7 @@ module _ (f : Frame 66 30) (even : f.base % 2 ≡ 0) (o : Around) (w : Work) whe
   }
 
   -- the routine is at the beginning of a turn
-  pub stands_again : {c k : ℕ} {last : Option ℕ} {m : State} → w.at0 ≡ 114688 + 2 * c → c < 1024
+  pub stands_again : {c k : ℕ} {last : Option ℕ} {m : State} → w.at0 ≡ A_F + 2 * c → c < 1024
       → HasImage f.base m → IsSaved w.high w.middle w.low → CheckerStands f.base (at_turn last k)
   stands_again {c} fetch room old saved =
       let few = saved.few in
@@ -175,7 +176,7 @@ module _ (f : Frame 66 30) (even : f.base % 2 ≡ 0) (o : Around) (w : Work) whe
         counter = omega arith;
         acc = refl;
         image = λ i l. record { has = (image_is old i l).has };
-        fetch = first_word ∙ fetch ∙ ap (λ x. 114688 + 2 * x) (sym (guest_counter c fetch room));
+        fetch = first_word ∙ fetch ∙ ap (λ x. A_F + 2 * x) (sym (guest_counter c fetch room));
         middle = rw middle_is saved.middle_fits;
         low = rw (low_is, low) (omega arith);
         low_few = rw (low_is, low) (omega arith);

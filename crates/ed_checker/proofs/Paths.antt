@@ -2,6 +2,7 @@
 -- guest's counter.
 use Rattle.std.proofs.Common.{◌≡◌, ℕ, ◌+◌, ◌-◌, ◌*◌, ◌/◌, ◌%◌, ◌^◌, ◌<◌, ◌≤◌, refl, arith}
 use Rattle.std.proofs.Common.{lit<, Bool, nat_eq, List, [], ◌∷◌, Option, Some, get_or}
+use Rattle.ed_words.specs.declared.order_words.TheConstants.{A_D, A_F, E_F, G_F, L_F, O_F, R_F, S_D, S_F, T_D, T_F, U_D, U_F}
 use Rattle.ed_paths.proofs.Sums.{parted}
 use Rattle.ed_paths.proofs.Frames.{Frame, Moment}
 use Rattle.ed_paths.proofs.Places.{IsOutside, own, out, pair}
@@ -24,18 +25,18 @@ pub record Work : Type 0 where
 -- the routine's words, with those of its last six locations
 abbrev pub cells_with : ℕ → Work → ℕ → ℕ → ℕ → ℕ → ℕ → ℕ → List ℕ
 cells_with b w a60 a61 a62 a63 a64 a65 =
-    w.at0 ∷ (28672 + 2 * (b + 40)) ∷ (36864 + 2 * (b + 40)) ∷ (12288 + 2 * (b + 13)) ∷ (49152 + 2 * (b + 53))
-    ∷ (110592 + 2 * (b + 30)) ∷ (49152 + 2 * (b + 55)) ∷ (12288 + 2 * (b + 30)) ∷ (114688 + 2 * (b + 56))
-    ∷ (20480 + 2 * (b + 58)) ∷ (114689 + 2 * (b + 60)) ∷ (110592 + 2 * (b + 26)) ∷ (12288 + 2 * (b + 21))
-    ∷ (49152 + 2 * (b + 54)) ∷ (110592 + 2 * (b + 30)) ∷ (49152 + 2 * (b + 55)) ∷ (12288 + 2 * (b + 30))
-    ∷ (114688 + 2 * (b + 56)) ∷ (20480 + 2 * (b + 58)) ∷ (114689 + 2 * (b + 60)) ∷ (12288 + 2 * (b + 26))
-    ∷ (20480 + 2 * (b + 59)) ∷ (114688 + 2 * (b + 0)) ∷ (114688 + 2 * (b + 57)) ∷ (20480 + 2 * (b + 0))
-    ∷ (12288 + 2 * (b + 0)) ∷ (20480 + 2 * (b + 59)) ∷ (114688 + 2 * (b + 58)) ∷ (20480 + 2 * (b + 0))
-    ∷ (12288 + 2 * (b + 0)) ∷ (20480 + 2 * (b + 59)) ∷ (114689 + 2 * (b + 64)) ∷ 16384 ∷ 16384 ∷ 16392
-    ∷ (114689 + 2 * (b + 62)) ∷ 16384 ∷ 16384 ∷ 16392 ∷ (114689 + 2 * (b + 60)) ∷ w.at40
-    ∷ (28673 + 2 * (b + 60)) ∷ (49153 + 2 * (b + 60)) ∷ 102400 ∷ 102400 ∷ 102528 ∷ (28673 + 2 * (b + 62))
-    ∷ (49153 + 2 * (b + 62)) ∷ 102400 ∷ 102400 ∷ 102528 ∷ (20481 + 2 * (b + 64)) ∷ (12288 + 2 * (b + 22))
-    ∷ 110592 ∷ 12288 ∷ 4096 ∷ 118784 ∷ 2 ∷ w.at58 ∷ w.at59 ∷ a60 ∷ a61 ∷ a62 ∷ a63 ∷ a64 ∷ a65 ∷ []
+    w.at0 ∷ (U_F + 2 * (b + 40)) ∷ (O_F + 2 * (b + 40)) ∷ (E_F + 2 * (b + 13)) ∷ (S_F + 2 * (b + 53))
+    ∷ (G_F + 2 * (b + 30)) ∷ (S_F + 2 * (b + 55)) ∷ (E_F + 2 * (b + 30)) ∷ (A_F + 2 * (b + 56))
+    ∷ (T_F + 2 * (b + 58)) ∷ (A_D + 2 * (b + 60)) ∷ (G_F + 2 * (b + 26)) ∷ (E_F + 2 * (b + 21))
+    ∷ (S_F + 2 * (b + 54)) ∷ (G_F + 2 * (b + 30)) ∷ (S_F + 2 * (b + 55)) ∷ (E_F + 2 * (b + 30))
+    ∷ (A_F + 2 * (b + 56)) ∷ (T_F + 2 * (b + 58)) ∷ (A_D + 2 * (b + 60)) ∷ (E_F + 2 * (b + 26))
+    ∷ (T_F + 2 * (b + 59)) ∷ (A_F + 2 * (b + 0)) ∷ (A_F + 2 * (b + 57)) ∷ (T_F + 2 * (b + 0))
+    ∷ (E_F + 2 * (b + 0)) ∷ (T_F + 2 * (b + 59)) ∷ (A_F + 2 * (b + 58)) ∷ (T_F + 2 * (b + 0))
+    ∷ (E_F + 2 * (b + 0)) ∷ (T_F + 2 * (b + 59)) ∷ (A_D + 2 * (b + 64)) ∷ R_F ∷ R_F ∷ 16392
+    ∷ (A_D + 2 * (b + 62)) ∷ R_F ∷ R_F ∷ 16392 ∷ (A_D + 2 * (b + 60)) ∷ w.at40
+    ∷ (U_D + 2 * (b + 60)) ∷ (S_D + 2 * (b + 60)) ∷ L_F ∷ L_F ∷ 102528 ∷ (U_D + 2 * (b + 62))
+    ∷ (S_D + 2 * (b + 62)) ∷ L_F ∷ L_F ∷ 102528 ∷ (T_D + 2 * (b + 64)) ∷ (E_F + 2 * (b + 22))
+    ∷ G_F ∷ E_F ∷ 4096 ∷ 118784 ∷ 2 ∷ w.at58 ∷ w.at59 ∷ a60 ∷ a61 ∷ a62 ∷ a63 ∷ a64 ∷ a65 ∷ []
 
 abbrev pub cells : ℕ → Work → List ℕ
 cells b w = cells_with b w (w.high % 2 ^ 17) (w.high / 2 ^ 18) (w.middle % 2 ^ 17) (w.middle / 2 ^ 18)
@@ -136,7 +137,7 @@ module _ (f : Frame 66 30) (f_even : f.base % 2 ≡ 0) (o : Around) where
       (on (E_jumps 52 (own 22) refl (lit< tt)) stay)))))))))))
 
   -- words 0 to 2: the guest's order is fetched and copied, and its function printed
-  pub fetch : {c x : ℕ} {last : Option ℕ} (w : Work) → w.at0 ≡ 114688 + 2 * c → IsOutside f o.words c
+  pub fetch : {c x : ℕ} {last : Option ℕ} (w : Work) → w.at0 ≡ A_F + 2 * c → IsOutside f o.words c
       → get_or o.words c 0 ≡ x → x < 2 ^ 17
       → Path f 3 (moment f.base o w 0 0 last) (x / 4096 ∷ [])
       (moment f.base o (record w { at40 = x }) (x * 2 ^ 54) 3 (Some (x / 4096)))
@@ -146,7 +147,7 @@ module _ (f : Frame 66 30) (f_even : f.base % 2 ≡ 0) (o : Around) where
       (prints (O 2 (own 40) (x / 4096) refl (omega arith)) stay))
 
   -- words 3 to 16: the tests, for a function that is neither E nor G
-  pub below_E : (w : Work) (x : ℕ) (last : Option ℕ) → x < 12288
+  pub below_E : (w : Work) (x : ℕ) (last : Option ℕ) → x < E_F
       → Path f 3 (moment f.base o w (x * 2 ^ 54) 3 last) [] (moment f.base o w ((x + 118784) * 2 ^ 54) 30 last)
   below_E w x last h =
       on (E_jumps 3 (own 13) refl (omega arith))
@@ -157,52 +158,52 @@ module _ (f : Frame 66 30) (f_even : f.base % 2 ≡ 0) (o : Around) where
       → Path f 5 (moment f.base o w (x * 2 ^ 54) 3 last) [] (moment f.base o w ((x - 16384) * 2 ^ 54) 30 last)
   above_E w x last low high =
       on (E_jumps 3 (own 13) refl (omega arith))
-      (on (S 13 (own 54) ((x - 12288) * 2 ^ 54) refl (omega arith, omega arith))
+      (on (S 13 (own 54) ((x - E_F) * 2 ^ 54) refl (omega arith, omega arith))
       (on (G_stays 14 (own 30) refl (omega arith))
       (on (S 15 (own 55) ((x - 16384) * 2 ^ 54) refl (omega arith, omega arith))
       (on (E_jumps 16 (own 30) refl (omega arith)) stay))))
 
-  pub below_G : (w : Work) (x : ℕ) (last : Option ℕ) → 65536 ≤ x → x < 110592
-      → Path f 3 (moment f.base o w (x * 2 ^ 54) 3 last) [] (moment f.base o w ((x + 20480) * 2 ^ 54) 30 last)
+  pub below_G : (w : Work) (x : ℕ) (last : Option ℕ) → 65536 ≤ x → x < G_F
+      → Path f 3 (moment f.base o w (x * 2 ^ 54) 3 last) [] (moment f.base o w ((x + T_F) * 2 ^ 54) 30 last)
   below_G w x last low high =
       on (E_stays 3 (own 13) refl (omega arith))
-      (on (S 4 (own 53) ((x + 20480) * 2 ^ 54) refl (omega arith, omega arith))
+      (on (S 4 (own 53) ((x + T_F) * 2 ^ 54) refl (omega arith, omega arith))
       (on (G_jumps 5 (own 30) refl (omega arith)) stay))
 
-  pub above_G : (w : Work) (x : ℕ) (last : Option ℕ) → 114688 ≤ x → x < 2 ^ 17
-      → Path f 5 (moment f.base o w (x * 2 ^ 54) 3 last) [] (moment f.base o w ((x - 114688) * 2 ^ 54) 30 last)
+  pub above_G : (w : Work) (x : ℕ) (last : Option ℕ) → A_F ≤ x → x < 2 ^ 17
+      → Path f 5 (moment f.base o w (x * 2 ^ 54) 3 last) [] (moment f.base o w ((x - A_F) * 2 ^ 54) 30 last)
   above_G w x last low high =
       on (E_stays 3 (own 13) refl (omega arith))
-      (on (S 4 (own 53) ((x - 110592) * 2 ^ 54) refl (omega arith, omega arith))
+      (on (S 4 (own 53) ((x - G_F) * 2 ^ 54) refl (omega arith, omega arith))
       (on (G_stays 5 (own 30) refl (omega arith))
-      (on (S 6 (own 55) ((x - 114688) * 2 ^ 54) refl (omega arith, omega arith))
+      (on (S 6 (own 55) ((x - A_F) * 2 ^ 54) refl (omega arith, omega arith))
       (on (E_jumps 7 (own 30) refl (omega arith)) stay))))
 
   -- for E and G the address of the jump is made an A order, and the saved accumulator is brought to the most
   -- significant end
-  at_E : {last : Option ℕ} (w : Work) (x : ℕ) → (12288 ≤ x) × (x < 16384) → w.high < 2 ^ 35
+  at_E : {last : Option ℕ} (w : Work) (x : ℕ) → (E_F ≤ x) × (x < 16384) → w.high < 2 ^ 35
       → Path f 8 (moment f.base o w (x * 2 ^ 54) 3 last) []
-      (moment f.base o (record w { at58 = x + 102400 }) (w.high * 2 ^ 36) 20 last)
+      (moment f.base o (record w { at58 = x + L_F }) (w.high * 2 ^ 36) 20 last)
   at_E w x range fits =
       let low = range.0 in
       let high = range.1 in
       on (E_jumps 3 (own 13) refl (omega arith))
-      (on (S 13 (own 54) ((x - 12288) * 2 ^ 54) refl (omega arith, omega arith))
+      (on (S 13 (own 54) ((x - E_F) * 2 ^ 54) refl (omega arith, omega arith))
       (on (G_stays 14 (own 30) refl (omega arith))
-      (on (S 15 (own 55) ((x + 114688) * 2 ^ 54) refl (omega arith, omega arith))
+      (on (S 15 (own 55) ((x + A_F) * 2 ^ 54) refl (omega arith, omega arith))
       (on (E_stays 16 (own 30) refl (omega arith))
-      (on (A 17 (own 56) ((x + 102400) * 2 ^ 54) refl (omega arith))
-      (on (T_top 18 (own 58) (x + 102400) refl (omega arith))
+      (on (A 17 (own 56) ((x + L_F) * 2 ^ 54) refl (omega arith))
+      (on (T_top 18 (own 58) (x + L_F) refl (omega arith))
       (on (A 19 (pair 60 0 f_even) (w.high * 2 ^ 36) refl (rw (parted w.high) (omega arith))) stay)))))))
 
-  at_G : {last : Option ℕ} (w : Work) (x : ℕ) → (110592 ≤ x) × (x < 114688) → w.high < 2 ^ 35
+  at_G : {last : Option ℕ} (w : Work) (x : ℕ) → (G_F ≤ x) × (x < A_F) → w.high < 2 ^ 35
       → Path f 8 (moment f.base o w (x * 2 ^ 54) 3 last) []
       (moment f.base o (record w { at58 = x + 4096 }) (w.high * 2 ^ 36) 11 last)
   at_G w x range fits =
       let low = range.0 in
       let high = range.1 in
       on (E_stays 3 (own 13) refl (omega arith))
-      (on (S 4 (own 53) ((x - 110592) * 2 ^ 54) refl (omega arith, omega arith))
+      (on (S 4 (own 53) ((x - G_F) * 2 ^ 54) refl (omega arith, omega arith))
       (on (G_stays 5 (own 30) refl (omega arith))
       (on (S 6 (own 55) ((x + 16384) * 2 ^ 54) refl (omega arith, omega arith))
       (on (E_stays 7 (own 30) refl (omega arith))
@@ -211,27 +212,27 @@ module _ (f : Frame 66 30) (f_even : f.base % 2 ≡ 0) (o : Around) where
       (on (A 10 (pair 60 0 f_even) (w.high * 2 ^ 36) refl (rw (parted w.high) (omega arith))) stay)))))))
 
   -- an E or G order of the guest, from word 3 to the beginning of the next turn: the four cases
-  pub E_taken : {last : Option ℕ} (w : Work) (x : ℕ) → (12288 ≤ x) × (x < 16384) → w.high < 2 ^ 34
+  pub E_taken : {last : Option ℕ} (w : Work) (x : ℕ) → (E_F ≤ x) × (x < 16384) → w.high < 2 ^ 34
       → Path f 13 (moment f.base o w (x * 2 ^ 54) 3 last) []
-      (moment f.base o (record w { at0 = x + 102400; at58 = x + 102400; at59 = w.high * 2 ^ 36 / 2 ^ 54 }) 0 0 last)
+      (moment f.base o (record w { at0 = x + L_F; at58 = x + L_F; at59 = w.high * 2 ^ 36 / 2 ^ 54 }) 0 0 last)
   E_taken {last} w x range fits =
       followed (at_E w x range (omega arith))
       (on (E_jumps 20 (own 26) refl (omega arith))
-      (jump (record w { at58 = x + 102400 }) (w.high * 2 ^ 36) last (omega (arith, range.0, range.1))))
+      (jump (record w { at58 = x + L_F }) (w.high * 2 ^ 36) last (omega (arith, range.0, range.1))))
 
-  pub E_passed : {last : Option ℕ} (w : Work) (x : ℕ) → (12288 ≤ x) × (x < 16384)
+  pub E_passed : {last : Option ℕ} (w : Work) (x : ℕ) → (E_F ≤ x) × (x < 16384)
       → (2 ^ 34 ≤ w.high) × (w.high < 2 ^ 35) → w.at0 + 2 < 2 ^ 17
       → Path f 14 (moment f.base o w (x * 2 ^ 54) 3 last) []
-      (moment f.base o (record w { at0 = w.at0 + 2; at58 = x + 102400; at59 = w.high * 2 ^ 36 / 2 ^ 54 }) 0 0 last)
+      (moment f.base o (record w { at0 = w.at0 + 2; at58 = x + L_F; at59 = w.high * 2 ^ 36 / 2 ^ 54 }) 0 0 last)
   E_passed {last} w x range sign room =
       let negative = sign.0 in
       let fits = sign.1 in
       followed (at_E w x range fits)
       (on (E_stays 20 (own 26) refl (omega arith))
       (on (T_top 21 (own 59) (w.high * 2 ^ 36 / 2 ^ 54) refl refl)
-      (advance (record w { at58 = x + 102400; at59 = w.high * 2 ^ 36 / 2 ^ 54 }) last room)))
+      (advance (record w { at58 = x + L_F; at59 = w.high * 2 ^ 36 / 2 ^ 54 }) last room)))
 
-  pub G_taken : {last : Option ℕ} (w : Work) (x : ℕ) → (110592 ≤ x) × (x < 114688)
+  pub G_taken : {last : Option ℕ} (w : Work) (x : ℕ) → (G_F ≤ x) × (x < A_F)
       → (2 ^ 34 ≤ w.high) × (w.high < 2 ^ 35)
       → Path f 13 (moment f.base o w (x * 2 ^ 54) 3 last) []
       (moment f.base o (record w { at0 = x + 4096; at58 = x + 4096; at59 = w.high * 2 ^ 36 / 2 ^ 54 }) 0 0 last)
@@ -242,7 +243,7 @@ module _ (f : Frame 66 30) (f_even : f.base % 2 ≡ 0) (o : Around) where
       (on (G_jumps 11 (own 26) refl (omega arith))
       (jump (record w { at58 = x + 4096 }) (w.high * 2 ^ 36) last (omega (arith, range.0, range.1))))
 
-  pub G_passed : {last : Option ℕ} (w : Work) (x : ℕ) → (110592 ≤ x) × (x < 114688) → w.high < 2 ^ 34
+  pub G_passed : {last : Option ℕ} (w : Work) (x : ℕ) → (G_F ≤ x) × (x < A_F) → w.high < 2 ^ 34
       → w.at0 + 2 < 2 ^ 17
       → Path f 15 (moment f.base o w (x * 2 ^ 54) 3 last) []
       (moment f.base o (record w { at0 = w.at0 + 2; at58 = x + 4096; at59 = w.high * 2 ^ 36 / 2 ^ 54 }) 0 0 last)

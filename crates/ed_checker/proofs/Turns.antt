@@ -13,12 +13,13 @@ use Rattle.ed_orders.specs.Kinds.{kind_of_function, kinds}
 use Rattle.ed_orders.specs.declared.kind.Kind.{Kind}
 use Rattle.ed_orders.specs.declared.kind.Kind.TheVariants.{E, G}
 use Rattle.ed_machine.specs.State.{State}
-use Rattle.ed_machine.specs.OrderTable.{Obeyed, step, next_word, obey_word, done_at, jumped}
+use Rattle.ed_machine.specs.OrderTable.{Obeyed, step, next_word, obey_word, done_at, jump_order}
 use Rattle.ed_machine.specs.Steps.{codes_of, stops_of, is_obeyed}
 use Rattle.ed_machine.specs.declared.turn.Turn.TheVariants.{Went, Stopped}
 use Rattle.ed_checker.specs.Checker.{IsOutsideChecker, CheckerStands, IsAllowed, IsAllowedOrder}
 use Rattle.ed_checker.specs.Checker.{IsPlainJump, Agree, guest, turn_orders}
 use Rattle.ed_words.proofs.Numbers.{eq_true, eq_false, lt_true, lt_false, le_true, le_false}
+use Rattle.ed_words.specs.declared.order_words.TheConstants.{A_F, L_F}
 use Rattle.ed_checker.proofs.AccFits.{acc_fits}
 use Rattle.ed_paths.proofs.Frames.{Frame, Beside, state}
 use Rattle.ed_paths.proofs.Places.{IsOutside as IsPlaceOutside}
@@ -153,7 +154,7 @@ module _ (base : ℕ) (even_base : base % 2 ≡ 0) (m : State) (store : IsStore 
       subst (λ a. state f (moment base o w0 a 0 m.last) m.orders ≡ m) stands.acc
       (opened f even_base w0 m 0 (holds base even_base m store room stands) (omega (arith, stands.counter)))
 
-  at0_is : w0.at0 ≡ 114688 + 2 * c
+  at0_is : w0.at0 ≡ A_F + 2 * c
   at0_is = let z : base + 0 ≡ base = omega arith in ap (λ j. get_or m.store.words j 0) z ∙ stands.fetch
 
   c_outside : IsPlaceOutside f o.words c
@@ -341,7 +342,7 @@ module _ (base : ℕ) (even_base : base % 2 ≡ 0) (m : State) (store : IsStore 
         let w3 : Work = record w2 { high = high_of m2.acc; middle = middle_of m2.acc; low = low_of m2.acc } in
         let w4 : Work = record w3 { at0 = w0.at0 + 2 } in
         let o2 : Around = around m2 in
-        let at_next : w0.at0 + 2 ≡ 114688 + 2 * (c + 1) = rw at0_is (omega arith) in
+        let at_next : w0.at0 + 2 ≡ A_F + 2 * (c + 1) = rw at0_is (omega arith) in
         let runs = followed (save f even_base o2 w2 m2.acc m2.last m2_acc)
         (advance f even_base o2 w3 m2.last (rw at_next (omega (arith, c_fits)))) in
         let m3 : State = state f (moment base o2 w4 0 0 m2.last) (m2.orders + 16) in
@@ -391,7 +392,7 @@ module _ (base : ℕ) (even_base : base % 2 ≡ 0) (m : State) (store : IsStore 
 
   -- an order of the guest that changes its counter alone
   jump_end : {k : ℕ} (w : Work) (d : ℕ) → Path f k (moment base o w0 0 0 m.last) (n ∷ []) (moment base o w 0 0 (Some n))
-      → (k ≡ turn_orders g) × (k ≤ 35) → (w.at0 ≡ 114688 + 2 * d) × (d < 1024)
+      → (k ≡ turn_orders g) × (k ≤ 35) → (w.at0 ≡ A_F + 2 * d) × (d < 1024)
       → (w.high ≡ w0.high) × (w.middle ≡ w0.middle) × (w.low ≡ w0.low)
       → step g ≡ record { state = done_at d g; turn = Went } → Turned base m
   jump_end {k} w d runs exact next same is =
@@ -444,7 +445,7 @@ module _ (base : ℕ) (even_base : base % 2 ≡ 0) (m : State) (store : IsStore 
   room_next : w0.at0 + 2 < 2 ^ 17
   room_next = rw at0_is (omega (arith, c_fits))
 
-  at_next_is : w0.at0 + 2 ≡ 114688 + 2 * (c + 1)
+  at_next_is : w0.at0 + 2 ≡ A_F + 2 * (c + 1)
   at_next_is = rw at0_is (omega arith)
 
   next_is : within m.size (c + 1) ≡ c + 1
@@ -465,14 +466,14 @@ module _ (base : ℕ) (even_base : base % 2 ≡ 0) (m : State) (store : IsStore 
       elim (cases_lt w0.high (2 ^ 34)) [
         | inl l ↦
             let t : nat_lt g.acc (2 ^ 70) ≡ true = lt_true g.acc (2 ^ 70) (acc_low l) in
-            jump_end (record w1 { at0 = x + 102400; at58 = x + 102400; at59 = w0.high * 2 ^ 36 / 2 ^ 54 })
+            jump_end (record w1 { at0 = x + L_F; at58 = x + L_F; at59 = w0.high * 2 ^ 36 / 2 ^ 54 })
             (address_of x) (followed fetched (E_taken f even_base o w1 x (omega arith, omega arith) l))
             (sym (by_tests (eq_true n 3 e) refl refl refl refl ∙ rw t refl), lit≤ tt)
             (omega arith, omega (arith, p.below)) (refl, refl, refl)
             (s ∙ rw (t, q) refl)
         | inr h ↦
             let t : nat_lt g.acc (2 ^ 70) ≡ false = lt_false g.acc (2 ^ 70) (acc_high h) in
-            jump_end (record w1 { at0 = w0.at0 + 2; at58 = x + 102400; at59 = w0.high * 2 ^ 36 / 2 ^ 54 }) (c + 1)
+            jump_end (record w1 { at0 = w0.at0 + 2; at58 = x + L_F; at59 = w0.high * 2 ^ 36 / 2 ^ 54 }) (c + 1)
             (followed fetched (E_passed f even_base o w1 x (omega arith, omega arith) (h, high_fits) room_next))
             (sym (by_tests (eq_true n 3 e) refl refl refl refl ∙ rw t refl), lit≤ tt)
             (at_next_is, c_fits) (refl, refl, refl)
@@ -531,7 +532,7 @@ module _ (base : ℕ) (even_base : base % 2 ≡ 0) (m : State) (store : IsStore 
             ]
       ]
     where
-      jump_obeyed : (b : Bool) (p : ℕ) → is_obeyed (jumped b p g).turn ≡ true
+      jump_obeyed : (b : Bool) (p : ℕ) → is_obeyed (jump_order b p g).turn ≡ true
       jump_obeyed true p = refl
       jump_obeyed false p = refl
 
@@ -557,6 +558,6 @@ module _ (base : ℕ) (even_base : base % 2 ≡ 0) (m : State) (store : IsStore 
             ]
       ]
     where
-      never : (b : Bool) (p : ℕ) → (jumped b p g).turn ≡ Stopped → ⊥
+      never : (b : Bool) (p : ℕ) → (jump_order b p g).turn ≡ Stopped → ⊥
       never true p h = cc
       never false p h = cc

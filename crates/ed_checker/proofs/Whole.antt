@@ -10,7 +10,7 @@ use Rattle.ed_orders.specs.Kinds.{kind_of_function}
 use Rattle.ed_orders.specs.declared.kind.Kind.{Kind}
 use Rattle.ed_orders.specs.declared.kind.Kind.TheVariants.{E, G, I}
 use Rattle.ed_machine.specs.State.{State}
-use Rattle.ed_machine.specs.OrderTable.{Obeyed, step, next_word, obey_word, jumped, took_row, place_of}
+use Rattle.ed_machine.specs.OrderTable.{Obeyed, step, next_word, obey_word, jump_order, row_order, place_of}
 use Rattle.ed_machine.specs.Steps.{Progress, progress, codes_of, stops_of, is_obeyed}
 use Rattle.ed_machine.specs.Sheet.{Sheet}
 use Rattle.ed_machine.specs.declared.turn.Turn.{Turn}
@@ -45,18 +45,18 @@ same_state : (k : Option Kind) (w : ℕ) (s : State) → is_obeyed (obey_word k 
     → ((obey_word k w s).state ≡ s) × (codes_of (obey_word k w s).turn ≡ [])
 same_state (Some E) w s h = absurd (by_test (nat_lt s.acc (2 ^ 70)) h)
   where
-    by_test : (b : Bool) → is_obeyed (jumped b (place_of s w) s).turn ≡ false → ⊥
+    by_test : (b : Bool) → is_obeyed (jump_order b (place_of s w) s).turn ≡ false → ⊥
     by_test true h = true≢false h
     by_test false h = true≢false h
 same_state (Some G) w s h = absurd (by_test (nat_le (2 ^ 70) s.acc) h)
   where
-    by_test : (b : Bool) → is_obeyed (jumped b (place_of s w) s).turn ≡ false → ⊥
+    by_test : (b : Bool) → is_obeyed (jump_order b (place_of s w) s).turn ≡ false → ⊥
     by_test true h = true≢false h
     by_test false h = true≢false h
 same_state (Some I) w s h = by_tape s.tape h
   where
-    by_tape : (xs : List ℕ) → is_obeyed (took_row xs w s).turn ≡ false
-        → ((took_row xs w s).state ≡ s) × (codes_of (took_row xs w s).turn ≡ [])
+    by_tape : (xs : List ℕ) → is_obeyed (row_order xs w s).turn ≡ false
+        → ((row_order xs w s).state ≡ s) × (codes_of (row_order xs w s).turn ≡ [])
     by_tape [] h = (refl, refl)
     by_tape (x ∷ xs) h = absurd (true≢false h)
 same_state None w s h = (refl, refl)
@@ -67,17 +67,17 @@ answer_of : (k : Option Kind) (w n : ℕ) (s : State) → is_obeyed (obey_word k
     → answer_by (obey_word k w s).turn n ≡ (if is_Z k then HasStopped n else HasGone n)
 answer_of (Some E) w n s h = by_test (nat_lt s.acc (2 ^ 70))
   where
-    by_test : (b : Bool) → answer_by (jumped b (place_of s w) s).turn n ≡ HasGone n
+    by_test : (b : Bool) → answer_by (jump_order b (place_of s w) s).turn n ≡ HasGone n
     by_test true = refl
     by_test false = refl
 answer_of (Some G) w n s h = by_test (nat_le (2 ^ 70) s.acc)
   where
-    by_test : (b : Bool) → answer_by (jumped b (place_of s w) s).turn n ≡ HasGone n
+    by_test : (b : Bool) → answer_by (jump_order b (place_of s w) s).turn n ≡ HasGone n
     by_test true = refl
     by_test false = refl
 answer_of (Some I) w n s h = by_tape s.tape h
   where
-    by_tape : (xs : List ℕ) → is_obeyed (took_row xs w s).turn ≡ true → answer_by (took_row xs w s).turn n ≡ HasGone n
+    by_tape : (xs : List ℕ) → is_obeyed (row_order xs w s).turn ≡ true → answer_by (row_order xs w s).turn n ≡ HasGone n
     by_tape [] h = absurd (true≢false (sym h))
     by_tape (x ∷ xs) h = refl
 answer_of None w n s h = absurd (true≢false (sym h))

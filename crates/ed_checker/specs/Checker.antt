@@ -8,6 +8,7 @@ use Rattle.std.specs.Prelude.{Bool, true, false, List, [], ◌∷◌, ◌++◌, 
 use Rattle.ed_words.specs.declared.size.Size.{Size}
 use Rattle.ed_words.specs.Sizes.{locations, within}
 use Rattle.ed_words.specs.Words.{function_of, address_of, is_long, is_spare}
+use Rattle.ed_words.specs.declared.order_words.TheConstants.{A_F}
 use Rattle.ed_store.specs.Cells.{short_at, long_at, sandwich_at, even, odd}
 use Rattle.ed_orders.specs.Kinds.{kind_of_function}
 use Rattle.ed_orders.specs.declared.kind.Kind.{Kind}
@@ -15,7 +16,7 @@ use Rattle.ed_orders.specs.declared.kind.Kind.TheVariants.{A, S, H, V, N, T, U, 
 use Rattle.ed_machine.specs.State.{State}
 use Rattle.ed_machine.specs.OrderTable.{step, next_word}
 use Rattle.ed_machine.specs.Steps.{codes_of, is_obeyed, state_after}
-use Rattle.ed_routines.specs.Catalogue.{named, with_h}
+use Rattle.ed_routines.specs.Catalogue.{routine_named, with_h}
 use Rattle.ed_routines.specs.Standing.{HasWord}
 
 -- the number of locations of the routine
@@ -93,7 +94,7 @@ pub record IsAllowed (base : ℕ) (g : State) : Type 0 where
 
 -- the routine in the catalogue of the library
 abbrev pub check : ℕ
-check = named (codes "check")
+check = routine_named (codes "check")
 
 -- each word of the routine is a working one, or is the one of the library's text; its parameter H is in the word of a
 -- working location alone
@@ -106,7 +107,7 @@ pub record CheckerStands (base : ℕ) (s : State) : Type 0 where
   pub acc : s.acc ≡ 0
   pub image : HasImage base s
   -- the first word is A c F, without the spare digit
-  pub fetch : short_at s.store base ≡ 114688 + 2 * address_of (short_at s.store base)
+  pub fetch : short_at s.store base ≡ A_F + 2 * address_of (short_at s.store base)
   pub middle : long_at s.store (base + 62) < 2 ^ 34
   -- the lowest long word is 0, 1, 2 or 3 times 2^32
   pub low : long_at s.store (base + 64) % 2 ^ 32 ≡ 0

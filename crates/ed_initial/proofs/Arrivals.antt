@@ -11,7 +11,7 @@ use Rattle.ed_initial.specs.declared.resting.Rested.TheVariants.{Entered, At, Lo
 use Rattle.ed_initial.specs.Load.{enters}
 use Rattle.ed_initial.specs.Walks.{Event, Blocks, Enters, Rests, Sounds, Goes, event}
 use Rattle.ed_initial.specs.Walks.{event_by, is_rest, IsWalk, WalksTo, IsStray}
-use Rattle.ed_initial.specs.Walks.{blocked, sounded, too_long, WalkEnds, walked}
+use Rattle.ed_initial.specs.Walks.{blocked, sounded, too_long, WalkEnds, walk_orders}
 use Rattle.ed_paths.proofs.Frames.{Moment}
 use Rattle.ed_paths.proofs.Paths.{first_state}
 use Rattle.ed_initial.proofs.Paths.{Kept, state, is_calm, Walk, stay, on, ToRest, ends, Enters as EntersBy}
@@ -98,7 +98,7 @@ enters_at f (Lost k) h = absurd (not_stray f h (λ x. cc) (λ x. cc))
 -- a walk along a path
 pub walks_path : {f : Kept} {k : ℕ} {r t : Moment} → ToRest f k r t → is_rest t.counter ≡ true → k ≤ 17
     → (o : ℕ) (u : State) (res : Rested)
-    → WalkEnds (state f r o) res → u ≡ state_after (walked res) (state f r o)
+    → WalkEnds (state f r o) res → u ≡ state_after (walk_orders res) (state f r o)
     → (res ≡ At t.counter k) × (u ≡ state f t (o + k))
 walks_path {f} {t = t} (ends {k = k} {r = r} {m = m} runs last calm) rest most o u res h is =
     let s = state f r o in
@@ -111,12 +111,12 @@ walks_path {f} {t = t} (ends {k = k} {r = r} {m = m} runs last calm) rest most o
     let a : res ≡ At (state_after (suc k) s).counter (suc k) =
     rests_at (record { walk = walk_along runs o; last = e; fits = omega arith; not_goes = λ x. cc }) res h in
     let place : (state_after (suc k) s).counter ≡ t.counter = ap (λ (x : State). x.counter) end in
-    (a ∙ (λ i. At (place i) (suc k)), is ∙ ap (λ x. state_after (walked x) s) a ∙ end)
+    (a ∙ (λ i. At (place i) (suc k)), is ∙ ap (λ x. state_after (walk_orders x) s) a ∙ end)
 
 -- a walk that enters the program
 pub walks_in : {f : Kept} {k : ℕ} {r m t : Moment} → Walk f k r m → EntersBy f m t → k < 17
     → (o : ℕ) (u : State) (res : Rested)
-    → WalkEnds (state f r o) res → u ≡ state_after (walked res) (state f r o)
+    → WalkEnds (state f r o) res → u ≡ state_after (walk_orders res) (state f r o)
     → (res ≡ Entered t.counter (suc k)) × (u ≡ state f t (o + suc k))
 unfolding progress
 walks_in {f} {k} {r} {m} {t} runs last few o u res h is =
@@ -132,4 +132,4 @@ walks_in {f} {k} {r} {m} {t} runs last few o u res h is =
     let a : res ≡ Entered (state_after (suc k) s).counter (suc k) =
     enters_at (record { walk = walk_along runs o; last = e; fits = few; not_goes = λ x. cc }) res h in
     let place : (state_after (suc k) s).counter ≡ t.counter = ap (λ (x : State). x.counter) end in
-    (a ∙ (λ i. Entered (place i) (suc k)), is ∙ ap (λ x. state_after (walked x) s) a ∙ end)
+    (a ∙ (λ i. Entered (place i) (suc k)), is ∙ ap (λ x. state_after (walk_orders x) s) a ∙ end)

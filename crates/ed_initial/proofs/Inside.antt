@@ -20,7 +20,7 @@ use Rattle.ed_notation.specs.Faults.{is_place}
 use Rattle.ed_notation.specs.Reading.{row_effect, digit_effect, mark_effect, kay_effect, zed_effect, blank_effect}
 use Rattle.ed_notation.specs.Reading.{letter_effect}
 use Rattle.ed_notation.specs.Reading.{part_word, setting_of, set_by, placed_by, entry_by}
-use Rattle.ed_initial.specs.Rests.{Working, Scratch, working, begun, IsNotationState, IsPartSoFar}
+use Rattle.ed_initial.specs.Rests.{Working, Scratch, working, scratch_of, IsNotationState, IsPartSoFar}
 use Rattle.ed_initial.specs.Entry.{entry_words}
 use Rattle.ed_paths.proofs.Frames.{Moment}
 use Rattle.ed_initial.proofs.Paths.{Kept, Walk, ToRest, moment, Enters as EntersBy}
@@ -28,6 +28,7 @@ use Rattle.ed_initial.proofs.Paths.{digit_path, mark_path, kay_directive_path}
 use Rattle.ed_initial.proofs.Paths.{kay_theta_path, zed_directive_path}
 use Rattle.ed_initial.proofs.Paths.{zed_theta_path, blank_path, IsLetter, letter_row, placed_path, entry_order}
 use Rattle.ed_words.proofs.Numbers.{not_lt_of, not_le_of, if_means}
+use Rattle.ed_words.specs.declared.order_words.TheConstants.{A_F, E_F}
 use Rattle.ed_notation.proofs.Tests.{RowMeans, row_means, ControlMeans, control_means, AimMeans, aim_means}
 use Rattle.ed_notation.proofs.Tests.{is_place_means}
 use Rattle.ed_initial.proofs.Contents.{value_here}
@@ -37,7 +38,7 @@ abbrev pub between : Kept → List ℕ → Scratch → NotationState → List �
 between f ws w notation rows = moment f (working w notation) (over notation.placed ws) w.digit40 0 34 rows
 
 abbrev pub inside : Kept → List ℕ → PartialItem → ℕ → ℕ → NotationState → List ℕ → Moment
-inside f ws part at1 at20 notation rows = moment f (working (begun part at1 at20) notation) (over notation.placed ws)
+inside f ws part at1 at20 notation rows = moment f (working (scratch_of part at1 at20) notation) (over notation.placed ws)
     false 0 9 rows
 
 -- at the entry by an item whose ending row is c
@@ -99,7 +100,7 @@ module _ (row : AtRow) (good : IsNotationState row.notation) (phase : IsPartSoFa
   After t = Follows row t
 
   abbrev w : Working
-  w = working (begun part at1 at20) notation
+  w = working (scratch_of part at1 at20) notation
 
   abbrev high : List ℕ
   high = over notation.placed ws
@@ -145,7 +146,7 @@ module _ (row : AtRow) (good : IsNotationState row.notation) (phase : IsPartSoFa
 
   -- the words that the item changes, after K, Z or blank
   abbrev left : ℕ → Scratch
-  left end = begun part end (12320 + 2 * end)
+  left end = scratch_of part end (12320 + 2 * end)
 
   abbrev closes : (next : NotationState) (k end : ℕ) → c ≡ end → k ≤ 17 → IsNotationState next
       → ToRest f k (inside f ws part at1 at20 notation (end ∷ rows)) (between f ws (left end) next rows)
@@ -247,7 +248,7 @@ module _ (row : AtRow) (good : IsNotationState row.notation) (phase : IsPartSoFa
       let below : a < locations f.size = not_le_of _ _ q in
       let last : a < 1024 = omega (arith, most f.size) in
       record {
-        scratch = begun part c (114736 + 2 * c);
+        scratch = scratch_of part c (114736 + 2 * c);
         path = placed_path f w high false a (letter low code) (omega (arith, good, means)) (above, below);
         few = lit≤ tt;
         notation_is = omega (arith, good);
@@ -260,8 +261,8 @@ module _ (row : AtRow) (good : IsNotationState row.notation) (phase : IsPartSoFa
       let below : a < locations f.size = not_le_of _ _ p in
       let last : a < 1024 = omega (arith, most f.size) in
       let positive : word < 65536 = not_le_of _ _ q in
-      let twenty : 114736 + 2 * c ≡ 114688 + 2 * (24 + c) = omega arith in
-      let order : notation.directive ≡ 12288 + 2 * a = omega (arith, good) in
+      let twenty : 114736 + 2 * c ≡ A_F + 2 * (24 + c) = omega arith in
+      let order : notation.directive ≡ E_F + 2 * a = omega (arith, good) in
       record {
         middle = moment f lettered high false (word * 2 ^ 54) 22 rows;
         runs = letter_row f w high false (letter low code);

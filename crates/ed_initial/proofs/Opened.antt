@@ -2,6 +2,7 @@
 use Rattle.std.proofs.Common.{◌≡◌, ℕ, ◌*◌, ◌/◌, ◌^◌, ◌<◌, refl, sym, ap, ◌∙◌, arith, false, List, ◌∷◌, ◌++◌}
 use Rattle.std.proofs.Common.{length, get_or, set, drop, drop-cons, Bool}
 use Rattle.std.proofs.lemmas.List.{set-get_or}
+use Rattle.ed_words.specs.declared.order_words.TheConstants.{T_F}
 use Rattle.ed_store.specs.Cells.{IsStore}
 use Rattle.ed_machine.specs.State.{State}
 use Rattle.ed_notation.specs.Openings.{opening}
@@ -25,7 +26,7 @@ frame s store = record {
 -- the changing words: those of the listing, and the words after it
 abbrev pub listed : List ℕ → Working
 listed ws = record {
-  at0 = 20480;
+  at0 = T_F;
   at1 = 12328;
   at20 = 86032;
   at22 = 20566;
@@ -87,7 +88,7 @@ pub shown : (f : Kept) (w : Working) (words : List ℕ) (b : Bool) (acc counter 
       size = f.size;
       store = record { words = cells w ++ drop 44 words; sandwich = set f.digits 20 b };
       acc = acc;
-      multiplier = 20480 * 2 ^ 18;
+      multiplier = T_F * 2 ^ 18;
       counter = counter;
       tape = tape;
       last = f.last;

@@ -13,6 +13,7 @@ use Rattle.ed_machine.specs.State.{State}
 use Rattle.ed_machine.specs.OrderTable.{step}
 use Rattle.ed_machine.specs.declared.turn.Turn.TheVariants.{Went}
 use Rattle.ed_words.proofs.Numbers.{lt_true}
+use Rattle.ed_words.specs.declared.order_words.TheConstants.{A_F, E_F, L_D, T_F, V_F}
 use Rattle.ed_paths.proofs.Frames.{Frame, Moment, all_words, short, state as piece_state}
 use Rattle.ed_paths.proofs.Places.{own, out, pair, any}
 use Rattle.ed_paths.proofs.Orders.{word_is}
@@ -72,8 +73,8 @@ followed {b = b} (on {k = k} first away rest) h =
 -- the words of the 44 locations
 abbrev pub cells : Working → List ℕ
 cells w =
-    w.at0 ∷ w.at1 ∷ 2 ∷ 28676 ∷ 114766 ∷ 16392 ∷ 126976 ∷ 102416 ∷ 20480 ∷ 32770 ∷ 114690
-    ∷ 49230 ∷ 110600 ∷ 102401 ∷ 49230 ∷ 12322 ∷ 49166 ∷ 114758 ∷ 20520 ∷ 114688 ∷ w.at20 ∷ 114768
+    w.at0 ∷ w.at1 ∷ 2 ∷ 28676 ∷ 114766 ∷ 16392 ∷ V_F ∷ 102416 ∷ T_F ∷ 32770 ∷ 114690
+    ∷ 49230 ∷ 110600 ∷ L_D ∷ 49230 ∷ 12322 ∷ 49166 ∷ 114758 ∷ 20520 ∷ A_F ∷ w.at20 ∷ 114768
     ∷ w.at22 ∷ 114732 ∷ 114692 ∷ 20524 ∷ 12356 ∷ 114774 ∷ 12304 ∷ 114772 ∷ 114768 ∷ 12338 ∷ 114732
     ∷ 20564 ∷ 32849 ∷ 114769 ∷ 16416 ∷ 20561 ∷ 12304 ∷ 11 ∷ w.at40 ∷ w.at41 ∷ w.at42 ∷ w.at43 ∷ []
 
@@ -85,7 +86,7 @@ moment f w words digit40 acc counter tape = record {
   cells = cells w;
   pairs = digit40 ∷ [];
   acc = acc;
-  multiplier = 20480 * 2 ^ 18;
+  multiplier = T_F * 2 ^ 18;
   counter = counter;
   tape = tape;
   last = f.last;
@@ -101,7 +102,7 @@ module _ (f : Kept) (w : Working) (words : List ℕ) (digit40 : Bool) where
 
   -- the listing as Start places it
   abbrev pub begun : Working
-  begun = record w { at0 = 20480; at1 = 12328; at20 = 86032; at22 = 20566; at40 = 1 }
+  begun = record w { at0 = T_F; at1 = 12328; at20 = 86032; at22 = 20566; at40 = 1 }
 
   -- the start, from any accumulator and multiplier
   pub start_path : (acc multiplier : ℕ) (tape : List ℕ)
@@ -180,7 +181,7 @@ module _ (f : Kept) (w : Working) (words : List ℕ) (digit40 : Bool) where
       → Walk f 12 (at w 0 9 (c ∷ rest)) (at (record w { at1 = c; at20 = 12320 + 2 * c }) (short w.at0) (16 + c) rest)
   control_row c rest low most fits =
       let least = least f.size in
-      let order : 12320 + 2 * c ≡ 12288 + 2 * (16 + c) = omega arith in
+      let order : 12320 + 2 * c ≡ E_F + 2 * (16 + c) = omega arith in
       followed (ending_row c rest low (omega arith))
       (on (E_stays 15 (own 17) refl (omega arith)) refl
       (on (S 16 (own 7) (short (2 ^ 17 + 2 * c - 33 - 102416)) refl (omega arith)) refl
@@ -270,7 +271,7 @@ module _ (f : Kept) (w : Working) (words : List ℕ) (digit40 : Bool) where
       → Walk f 12 (at w 0 9 (c ∷ rest)) (at (lettered c) (short u) 22 rest)
   letter_row {c} {x = x} {u} {rest} h =
       let least = least f.size in
-      let order : 114736 + 2 * c ≡ 114688 + 2 * (24 + c) = omega arith in
+      let order : 114736 + 2 * c ≡ A_F + 2 * (24 + c) = omega arith in
       let most = h.most in
       let below : 24 + c < locations f.size = omega arith in
       let low = h.low in
@@ -287,7 +288,7 @@ module _ (f : Kept) (w : Working) (words : List ℕ) (digit40 : Bool) where
       (on (A 21 (own 40) (short u) refl (omega arith)) refl stay))))))
 
   -- it places a word
-  pub placed_path : {c y x u : ℕ} (a : ℕ) {rest : List ℕ} → IsLetter c y x u → w.at22 ≡ 20480 + 2 * a
+  pub placed_path : {c y x u : ℕ} (a : ℕ) {rest : List ℕ} → IsLetter c y x u → w.at22 ≡ T_F + 2 * a
       → (44 ≤ a) × (a < locations f.size)
       → ToRest f 17 (at w 0 9 (c ∷ rest))
       (moment f (record (lettered c) { at22 = w.at22 + 2 }) (set words a u) digit40 0 34 rest)
@@ -303,7 +304,7 @@ module _ (f : Kept) (w : Working) (words : List ℕ) (digit40 : Bool) where
       (E_jumps 26 (own 34) refl (lit< tt)) refl
 
   -- the code letter of the entry item
-  pub entry_order : (u : ℕ) {a : ℕ} {rest : List ℕ} → w.at22 ≡ 12288 + 2 * a → a < locations f.size → u < 2 ^ 16
+  pub entry_order : (u : ℕ) {a : ℕ} {rest : List ℕ} → w.at22 ≡ E_F + 2 * a → a < locations f.size → u < 2 ^ 16
       → Enters f (at w (short u) 22 rest) (at w (short u) a rest)
   entry_order u {a} {rest} order below low =
       let m : Moves (piece f) KindE (at w (short u) 22 rest) (at w (short u) a rest) =

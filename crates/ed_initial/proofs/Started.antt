@@ -3,14 +3,14 @@
 use Rattle.std.proofs.Common.{ℕ, inl, inr, refl, arith, List, drop}
 use Rattle.std.proofs.Math.ListN.{get_or-append}
 use Rattle.ed_machine.specs.State.{State}
-use Rattle.ed_machine.specs.Start.{started}
+use Rattle.ed_machine.specs.Start.{start_state}
 use Rattle.ed_notation.specs.Openings.{IsDirective, opening}
 use Rattle.ed_notation.specs.Faults.{TapeEntry, WellFormed}
 use Rattle.ed_notation.proofs.Laws.{reading_is_rules}
 use Rattle.ed_initial.specs.Listing.{initial_orders}
 use Rattle.ed_initial.specs.Entry.{IsStarted, Comes}
 
-pub is_started : (rows : List ℕ) (s : State) → IsStarted (started initial_orders rows s)
+pub is_started : (rows : List ℕ) (s : State) → IsStarted (start_state initial_orders rows s)
 is_started rows s = record {
   counter = refl;
   orders = λ i h. get_or-append initial_orders (drop 41 s.store.words) 0 i h;

@@ -14,9 +14,9 @@ use Rattle.ed_notation.specs.Openings.{opening}
 use Rattle.ed_notation.specs.Reading.{part_of, setting_of, row_effect}
 use Rattle.ed_initial.specs.declared.resting.Rested.{Rested}
 use Rattle.ed_initial.specs.declared.resting.Rested.TheVariants.{At}
-use Rattle.ed_initial.specs.Rests.{Scratch, working, begun, rest34, rest9, rest_at, IsNotationState, IsPartSoFar}
+use Rattle.ed_initial.specs.Rests.{Scratch, working, scratch_of, rest34, rest9, rest_at, IsNotationState, IsPartSoFar}
 use Rattle.ed_initial.specs.Entry.{IsStarted}
-use Rattle.ed_initial.specs.Walks.{WalkEnds, walked, Between, Inside, DoesRow, is_rest}
+use Rattle.ed_initial.specs.Walks.{WalkEnds, walk_orders, Between, Inside, DoesRow, is_rest}
 use Rattle.ed_paths.proofs.Frames.{Moment}
 use Rattle.ed_initial.proofs.Paths.{Kept, state, ToRest, function_path}
 use Rattle.ed_initial.proofs.Inside.{between, inside, AtRow, Follows, follows}
@@ -27,9 +27,9 @@ use Rattle.ed_initial.proofs.Arrivals.{walks_path, walks_in}
 pub record IsWalked (s t : State) (r : Rested) : Type 0 where
   pub store : IsStore s.store
   pub ends : WalkEnds s r
-  pub is : t ≡ state_after (walked r) s
+  pub is : t ≡ state_after (walk_orders r) s
 
-pub walk_of : {s t : State} {r : Rested} → IsStore s.store → WalkEnds s r → t ≡ state_after (walked r) s
+pub walk_of : {s t : State} {r : Rested} → IsStore s.store → WalkEnds s r → t ≡ state_after (walk_orders r) s
     → IsWalked s t r
 walk_of store ends is = record { store = store; ends = ends; is = is }
 
@@ -39,7 +39,7 @@ moved : {f : Kept} {k : ℕ} {a b : Moment} {s t : State} {r : Rested} (orders :
     → (r ≡ At b.counter k) × (t ≡ state f b (orders + k))
 moved {t = t} {r} orders w same path rest few =
     walks_path path rest few orders t r (subst (λ x. WalkEnds x r) same w.ends)
-    (w.is ∙ ap (state_after (walked r)) same)
+    (w.is ∙ ap (state_after (walk_orders r)) same)
 
 -- the start
 pub from_start : {s t : State} {r : Rested} → IsWalked s t r → IsStarted s
@@ -90,7 +90,7 @@ module _ (o : State) {s t : State} {r : Rested} (w : IsWalked s t r) where
       (follows row good phase)
     where
       room : 20 < length o.store.sandwich
-      room = has_room 9 (begun part at1 at20) notation e
+      room = has_room 9 (scratch_of part at1 at20) notation e
 
       f : Kept
       f = held room
@@ -123,5 +123,5 @@ module _ (o : State) {s t : State} {r : Rested} (w : IsWalked s t r) where
           record { result_is = p.0; scratch = h.scratch; state_is = p.1 ∙ shown f _ _ _ _ _ _ _ }
       by_taken (Entered at) h =
           let here = subst (λ x. WalkEnds x r) same w.ends in
-          let p = walks_in h.runs h.last (lit< tt) o.orders t r here (w.is ∙ ap (state_after (walked r)) same) in
+          let p = walks_in h.runs h.last (lit< tt) o.orders t r here (w.is ∙ ap (state_after (walk_orders r)) same) in
           record { result_is = p.0; state_is = p.1 ∙ shown f _ _ _ _ _ _ _ }

@@ -9,7 +9,7 @@ ghost use Rattle.ed_notation.specs.Reading.{part_of, setting_of, row_effect};
 ghost use Rattle.ed_initial.specs.Entry.{IsStarted};
 ghost use Rattle.ed_initial.specs.Rests.{IsNotationState, IsPartSoFar, Scratch, rest34, rest9};
 ghost use Rattle.ed_initial.specs.Walks.{BeginsWalk, BreaksNone, Between, DoesItemRow, DoesRow};
-ghost use Rattle.ed_initial.specs.Walks.{Inside, WalkEnds, is_rest, part_so_far, walked};
+ghost use Rattle.ed_initial.specs.Walks.{Inside, WalkEnds, is_rest, part_so_far, walk_orders};
 
 use crate::turns::{is_entering, is_obeyed, is_quiet_turn};
 use ed_machine::Machine;
@@ -47,7 +47,7 @@ pub fn to_rest(machine: &mut Machine) -> Rested
     requires begins { BeginsWalk machine.old }
     requires room { machine.old.orders + 17 ≤ 2 ^ 63 }
     ensures ends { WalkEnds machine.old result }
-    ensures state { machine.new ≡ state_after (walked result) machine.old }
+    ensures state { machine.new ≡ state_after (walk_orders result) machine.old }
     ensures start { IsStarted machine.old →
         Between machine.old (opening machine.old.store.words) machine.old.tape 9 result machine.new }
     ensures function { (o : State) (w : Scratch) (notation : NotationState) (c : ℕ) (rows : List ℕ) → IsNotationState notation → c < 32 →
@@ -70,7 +70,7 @@ pub fn to_rest(machine: &mut Machine) -> Rested
 fn walk(machine: &mut Machine) -> Rested
     requires { machine.old.orders + 17 ≤ 2 ^ 63 }
     ensures ends { WalkEnds machine.old result }
-    ensures state { machine.new ≡ state_after (walked result) machine.old }
+    ensures state { machine.new ≡ state_after (walk_orders result) machine.old }
 {
     for orders in 0..17 {
         let enters = is_entering(machine);

@@ -1,5 +1,5 @@
 ghost use Rattle.std.specs.Prelude.{◌≡◌, ◌↔◌, IsTrue};
-ghost use Rattle.ed_machine.specs.Start.{EndsWith, started};
+ghost use Rattle.ed_machine.specs.Start.{EndsWith, start_state};
 ghost use Rattle.ed_initial.specs.Listing.{initial_orders};
 ghost use Rattle.ed_initial.specs.Entry.{IsStarted};
 
@@ -11,8 +11,8 @@ use ed_machine::Machine;
 ///
 /// Hands back the list of the old tape as `Machine::start` does.
 pub fn begin(machine: &mut Machine, rows: Vec<Code>) -> Vec<Code>
-    ensures state { machine.new ≡ started initial_orders rows.items machine.old }
-    ensures started { IsStarted machine.new }
+    ensures state { machine.new ≡ start_state initial_orders rows.items machine.old }
+    ensures start_state { IsStarted machine.new }
     ensures old_rows { EndsWith result.items machine.old.tape }
 {
     machine.start(&orders(), rows)

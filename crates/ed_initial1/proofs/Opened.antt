@@ -7,6 +7,7 @@ use Rattle.ed_words.specs.declared.size.Size.TheVariants.{Full}
 use Rattle.ed_words.specs.Words.{function_of, address_of, is_long}
 use Rattle.ed_words.specs.Sizes.{within}
 use Rattle.ed_words.proofs.SizeLemmas.{within_below}
+use Rattle.ed_words.specs.declared.order_words.TheConstants.{T_F}
 use Rattle.ed_store.specs.Cells.{Cells, with_short}
 use Rattle.ed_orders.specs.Kinds.{kind_of_function}
 use Rattle.ed_machine.specs.State.{State}
@@ -32,7 +33,7 @@ kept s = record { digits = s.store.sandwich; last = s.last }
 
 -- the words that change, as the listing has them, and the word at 31
 abbrev pub listed : List ℕ → Working
-listed ws = record { at0 = 20480; at1 = 86020; at2 = 20480; at3 = 12300; at25 = 20542; at31 = get_or ws 31 0 }
+listed ws = record { at0 = T_F; at1 = 86020; at2 = T_F; at3 = 12300; at25 = 20542; at31 = get_or ws 31 0 }
 
 -- the machine at the first order, on a tape
 abbrev pub begins : State → List ℕ → Moment
@@ -134,7 +135,7 @@ closed {s} store started {e} {i} is rest first count =
       size = size k;
       store = record { words = cells (record f { at3 = t k }) ++ d k; sandwich = ds k };
       acc = 0;
-      multiplier = 20480 * 2 ^ 18;
+      multiplier = T_F * 2 ^ 18;
       counter = 31;
       tape = rest;
       last = s.last;
@@ -142,14 +143,14 @@ closed {s} store started {e} {i} is rest first count =
     }
 
 -- T e S with the accumulator 0 clears location e
-pub clears : (u : State) (e : ℕ) → u.size ≡ Full → u.acc ≡ 0 → next_word u ≡ 20480 + 2 * e → e < 1024
+pub clears : (u : State) (e : ℕ) → u.size ≡ Full → u.acc ≡ 0 → next_word u ≡ T_F + 2 * e → e < 1024
     → (step u).state.store ≡ with_short u.store e 0
 unfolding step
 clears u e size acc word1 fits =
-    let function : function_of (20480 + 2 * e) ≡ 5 = omega arith in
-    let address : address_of (20480 + 2 * e) ≡ e = omega arith in
-    let short : is_long (20480 + 2 * e) ≡ false = (let even : (20480 + 2 * e) % 2 ≡ 0 = omega arith in rw even refl) in
-    let place : within u.size (address_of (20480 + 2 * e)) ≡ e =
-    ap (λ z. within z (address_of (20480 + 2 * e))) size ∙ ap (within Full) address ∙ within_below Full e fits in
+    let function : function_of (T_F + 2 * e) ≡ 5 = omega arith in
+    let address : address_of (T_F + 2 * e) ≡ e = omega arith in
+    let short : is_long (T_F + 2 * e) ≡ false = (let even : (T_F + 2 * e) % 2 ≡ 0 = omega arith in rw even refl) in
+    let place : within u.size (address_of (T_F + 2 * e)) ≡ e =
+    ap (λ z. within z (address_of (T_F + 2 * e))) size ∙ ap (within Full) address ∙ within_below Full e fits in
     ap (λ w. (obey_word (kind_of_function (function_of w)) w u).state.store) word1
     ∙ rw (function, short, place, acc) refl

@@ -7,6 +7,7 @@ use Rattle.ed_words.specs.declared.size.Size.TheVariants.{Full}
 use Rattle.ed_orders.specs.declared.kind.Kind.{Kind}
 use Rattle.ed_orders.specs.declared.kind.Kind.TheVariants.{T as KindT}
 use Rattle.ed_words.specs.Words.{digit}
+use Rattle.ed_words.specs.declared.order_words.TheConstants.{A_F, I_F, L_D, T_D, T_F}
 use Rattle.ed_initial1.specs.Items.{Item1, ending_row, word1}
 use Rattle.ed_paths.proofs.Frames.{Frame, Moment, short}
 use Rattle.ed_paths.proofs.Places.{own, out, pair}
@@ -50,8 +51,8 @@ pub record Working : Type 0 where
 -- the listing with those words, and the word at 31
 abbrev pub cells : Working → List ℕ
 cells w =
-    w.at0 ∷ w.at1 ∷ w.at2 ∷ w.at3 ∷ 2 ∷ 10 ∷ 20480 ∷ 32768 ∷ 114688 ∷ 16416 ∷ 20481 ∷ 32772 ∷ 114692 ∷ 49162 ∷ 12330
-    ∷ 20486 ∷ 126978 ∷ 102416 ∷ 114692 ∷ 20482 ∷ 12310 ∷ 16392 ∷ 114690 ∷ 102401 ∷ 114688 ∷ w.at25 ∷ 114738 ∷ 114696
+    w.at0 ∷ w.at1 ∷ w.at2 ∷ w.at3 ∷ 2 ∷ 10 ∷ T_F ∷ I_F ∷ A_F ∷ 16416 ∷ T_D ∷ 32772 ∷ 114692 ∷ 49162 ∷ 12330
+    ∷ 20486 ∷ 126978 ∷ 102416 ∷ 114692 ∷ 20482 ∷ 12310 ∷ 16392 ∷ 114690 ∷ L_D ∷ A_F ∷ w.at25 ∷ 114738 ∷ 114696
     ∷ 28722 ∷ 49214 ∷ 110604 ∷ w.at31 ∷ []
 
 -- what stays during a load: the other sandwich digits, and the last printed code
@@ -67,7 +68,7 @@ moment q w words digit0 acc counter tape = record {
   cells = cells w;
   pairs = digit0 ∷ [];
   acc = acc;
-  multiplier = 20480 * 2 ^ 18;
+  multiplier = T_F * 2 ^ 18;
   counter = counter;
   tape = tape;
   last = q.last;
@@ -96,7 +97,7 @@ module _ (q : Kept) (w : Working) (words : List ℕ) (digit0 : Bool) where
 
   -- the listing as Start places it
   abbrev pub begun : Working
-  begun = record w { at0 = 20480; at1 = 86020; at2 = 20480; at3 = 12300 }
+  begun = record w { at0 = T_F; at1 = 86020; at2 = T_F; at3 = 12300 }
 
   -- the start, from any accumulator and multiplier
   pub start_path : (acc multiplier : ℕ) (tape : List ℕ)
@@ -171,7 +172,7 @@ module _ (q : Kept) (w : Working) (words : List ℕ) (digit0 : Bool) where
       let low = bit i.long in on (T_top 25 (own 31) (word1 i) (word_is here) (omega arith)) refl stay
 
   -- or at a location a above it
-  pub placed : (i : Item1) (a : ℕ) {rest : List ℕ} → w.at25 ≡ 20480 + 2 * a → (32 ≤ a) × (a < 1024)
+  pub placed : (i : Item1) (a : ℕ) {rest : List ℕ} → w.at25 ≡ T_F + 2 * a → (32 ≤ a) × (a < 1024)
       → Walk 1 (at w (with_word i) 25 rest) (moment q w (set words a (word1 i)) digit0 0 26 rest)
   placed i a here range =
       let low = bit i.long in

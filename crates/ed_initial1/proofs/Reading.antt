@@ -17,7 +17,7 @@ use Rattle.ed_initial1.specs.Items.{Begun1, Item1, item_number, ending_row, begu
 use Rattle.ed_initial1.specs.Items.{AreItems}
 use Rattle.ed_initial1.specs.Items.{IsFirst}
 use Rattle.ed_initial1.specs.Faults.{Tape, Comes1, BeginsWith, IsLoading, part_rows1, IsPart1, is_first, is_none, ends1}
-use Rattle.ed_initial1.specs.Faults.{breaks1, broken1}
+use Rattle.ed_initial1.specs.Faults.{breaks1, is_broken1}
 use Rattle.ed_initial1.specs.Faults.{Breaks1, WellFormed1}
 
 -- an item so far, as the plain program has it
@@ -147,7 +147,7 @@ Holds rows (Whole t) = Comes1 rows t
 
 pub faulty : (rows : List ℕ) (row : ℕ) (before : List Item1) (part : Option Begun1) (rest : List ℕ) (cause : Tape1Cause)
     → Here rows row before part rest
-    → broken1 before part rest cause ≡ true → Breaks1 rows row cause
+    → is_broken1 before part rest cause ≡ true → Breaks1 rows row cause
 faulty rows row before part rest cause h is = record {
   stands = record {
     before = before;

@@ -4,6 +4,7 @@ use Rattle.std.proofs.Common.{◌≡◌, ℕ, suc, ◌+◌, ◌-◌, ◌*◌, �
 use Rattle.std.proofs.Common.{false}
 use Rattle.std.proofs.Common.{List, [], ◌∷◌, ◌++◌, length, set, append_assoc}
 use Rattle.ed_words.specs.Words.{digit}
+use Rattle.ed_words.specs.declared.order_words.TheConstants.{T_F}
 use Rattle.ed_notation.specs.Items.{digits_number, AreDigits}
 use Rattle.ed_notation.proofs.Follow.{number_le}
 use Rattle.ed_paths.proofs.Frames.{short}
@@ -61,12 +62,12 @@ final e y v i is = record {
   at1 = item_number (last_of i is);
   at2 = ending_row (last_of i is).long;
   at3 = thirds y (i ∷ is);
-  at25 = 20480 + 2 * e;
+  at25 = T_F + 2 * e;
   at31 = v;
 }
 
 -- T e S as a word
-pub first_word : (e : ℕ) (i : Item1) → IsFirst e i → word1 i ≡ 20480 + 2 * e
+pub first_word : (e : ℕ) (i : Item1) → IsFirst e i → word1 i ≡ T_F + 2 * e
 first_word e i first =
     let f = first.function in
     let s = ap digit first.short in
@@ -75,8 +76,8 @@ first_word e i first =
 -- what holds between two items after the first: the order at 25 places the next word at a, and that word and n more
 -- reach up to e
 record IsCounted (w : Working) (a e n : ℕ) : Type 0 where
-  next : w.at25 ≡ 20480 + 2 * a
-  end : w.at31 ≡ 20480 + 2 * e
+  next : w.at25 ≡ T_F + 2 * a
+  end : w.at31 ≡ T_F + 2 * e
   low : 32 ≤ a
   count : a + suc n ≡ e
   most : e ≤ 1023
@@ -106,24 +107,24 @@ module _ (q : Kept) where
       (followed (digit_walk begun ds good.digits good.fits) (ending_path q ended ws false i good.fits refl))
 
   -- from the order at 26 to the program
-  last_tail : (ws : List ℕ) (w : Working) (b : Bool) (e : ℕ) (rest : List ℕ) → w.at25 + 2 ≡ 20480 + 2 * e
-      → w.at31 ≡ 20480 + 2 * e
-      → e ≤ 1023 → ToProgram 5 (moment q w ws b 0 26 rest) (moment q (record w { at25 = 20480 + 2 * e }) ws b 0 31 rest)
+  last_tail : (ws : List ℕ) (w : Working) (b : Bool) (e : ℕ) (rest : List ℕ) → w.at25 + 2 ≡ T_F + 2 * e
+      → w.at31 ≡ T_F + 2 * e
+      → e ≤ 1023 → ToProgram 5 (moment q w ws b 0 26 rest) (moment q (record w { at25 = T_F + 2 * e }) ws b 0 31 rest)
   last_tail ws w b e rest rises end most =
       then (counted q w ws b 0 rises (omega arith, lit< tt) (omega arith))
-      (goes_on q (record w { at25 = 20480 + 2 * e }) ws b rest)
+      (goes_on q (record w { at25 = T_F + 2 * e }) ws b rest)
 
   -- or back to the rest at 6: the accumulator holds the number of words still to come, as a negative number
   abbrev to_come : ℕ → ℕ → ℕ
   to_come a e = 2 ^ 17 - 2 * (e - a)
 
-  back_tail : {ws : List ℕ} (w : Working) {b : Bool} (a e : ℕ) {rest : List ℕ} → w.at25 + 2 ≡ 20480 + 2 * a
-      → w.at31 ≡ 20480 + 2 * e → a < e → e ≤ 1023
+  back_tail : {ws : List ℕ} (w : Working) {b : Bool} (a e : ℕ) {rest : List ℕ} → w.at25 + 2 ≡ T_F + 2 * a
+      → w.at31 ≡ T_F + 2 * e → a < e → e ≤ 1023
       → Walk 5 (moment q w ws b 0 26 rest)
-      (moment q (record w { at25 = 20480 + 2 * a }) ws b (short (to_come a e)) 6 rest)
+      (moment q (record w { at25 = T_F + 2 * a }) ws b (short (to_come a e)) 6 rest)
   back_tail {ws} w {b} a e {rest} rises end less most =
       followed (counted q w ws b (to_come a e) rises (omega arith, omega arith) (omega arith))
-      (goes_back q (record w { at25 = 20480 + 2 * a }) ws b (to_come a e) rest (omega arith))
+      (goes_back q (record w { at25 = T_F + 2 * a }) ws b (to_come a e) rest (omega arith))
 
   -- the items after the first one
   loop : {ws : List ℕ} (w : Working) {b : Bool} {acc a e : ℕ} (i : Item1) (is : List Item1) {rest : List ℕ}
@@ -144,7 +145,7 @@ module _ (q : Kept) where
       let next = c.next in
       let low = c.low in
       let cost : costs1 (i ∷ (j ∷ js)) ≡ head_cost i + (1 + (5 + costs1 (j ∷ js))) = omega arith in
-      let w' : Working = record (left w i) { at25 = 20480 + 2 * (a + 1) } in
+      let w' : Working = record (left w i) { at25 = T_F + 2 * (a + 1) } in
       rw cost (then (head_walk ws w b acc i (tape_of (j ∷ js) rest) good.0)
       (then (placed q (left w i) ws false i a next (low, omega arith))
       (then (back_tail (left w i) (a + 1) e (omega arith) c.end (omega arith) most)
@@ -176,11 +177,11 @@ module _ (q : Kept) where
   pub whole_path : {ws : List ℕ} (w : Working) {b : Bool} {acc multiplier e : ℕ} (i : Item1) (is : List Item1)
       {rest : List ℕ} → AreItems (i ∷ is) → w.at25 ≡ 20542 → IsFirst e i → 31 + length (i ∷ is) ≡ e
       → ToProgram (4 + costs1 (i ∷ is))
-      (record (moment q (record w { at0 = 20480; at1 = 86020; at2 = 20480; at3 = 12300 }) ws b acc 0
+      (record (moment q (record w { at0 = T_F; at1 = 86020; at2 = T_F; at3 = 12300 }) ws b acc 0
       (tape_of (i ∷ is) rest))
       { multiplier = multiplier })
       (moment q (final e 12300 (word1 i) i is) (written ws 32 (words is)) false 0 31 rest)
   whole_path {ws} w {b} {acc} {multiplier} i is {rest} good next first count =
-      let started : Working = record w { at0 = 0; at1 = 86020; at2 = 20480; at3 = 12300 } in
+      let started : Working = record w { at0 = 0; at1 = 86020; at2 = T_F; at3 = 12300 } in
       then (start_path q w ws b acc multiplier (tape_of (i ∷ is) rest))
       (items_path started i is good next first (omega arith))

@@ -15,7 +15,7 @@ use Rattle.ed_initial1.specs.Items.{Begun1, Item1, item_number, ending_row, begu
 use Rattle.ed_initial1.specs.Items.{AreItems}
 use Rattle.ed_initial1.specs.Items.{IsFirst}
 use Rattle.ed_initial1.specs.Faults.{Tape, Comes1, BeginsWith, IsLoading, part_rows1, IsPart1, is_first, is_none, ends1}
-use Rattle.ed_initial1.specs.Faults.{breaks1, broken1}
+use Rattle.ed_initial1.specs.Faults.{breaks1, is_broken1}
 use Rattle.ed_initial1.specs.Faults.{rule, Breaks1, IsFault1, WellFormed1}
 use Rattle.ed_notation.proofs.Rows.{number_more}
 use Rattle.ed_notation.proofs.Follow.{number_le}
@@ -178,7 +178,7 @@ refused before b c FirstWord h =
     by_tests false false q r e t = absurd (let k : false ≡ true = rw (q, r) at e in cc)
 
 reads_fault : (row : ℕ) (before : List Item1) (part : Option Begun1) (rest : List ℕ) (cause : Tape1Cause)
-    → broken1 before part rest cause ≡ true
+    → is_broken1 before part rest cause ≡ true
     → read row before part rest ≡ Faulty row cause
 unfolding read
 reads_fault row before part [] EndOfTape h = refl

@@ -2,6 +2,7 @@
 -- without a fault).
 use Rattle.std.specs.Prelude.{ℕ, ◌≡◌, ◌+◌, ◌*◌, ◌^◌, ◌<◌, false, List, [], ◌++◌, slice_index, slice_set, drop}
 use Rattle.ed_words.specs.declared.size.Size.TheVariants.{Full}
+use Rattle.ed_words.specs.declared.order_words.TheConstants.{T_F}
 use Rattle.ed_store.specs.Cells.{short_at, with_short}
 use Rattle.ed_machine.specs.State.{State}
 use Rattle.ed_machine.specs.OrderTable.{step}
@@ -34,7 +35,7 @@ left_orders t =
     1 (item_number (last_item t)))
     2 (ending_row (last_item t).long))
     3 (131062 + last_of 0 (item_digits t.items)))
-    25 (20480 + 2 * t.end)
+    25 (T_F + 2 * t.end)
 
 -- the state at the entry: `s` is the state in which the load began
 abbrev pub at_entry1 : State → Tape → State
@@ -45,7 +46,7 @@ at_entry1 s t = record {
     sandwich = slice_set s.store.sandwich 0 false;
   };
   acc = 0;
-  multiplier = 20480 * 2 ^ 18;
+  multiplier = T_F * 2 ^ 18;
   counter = 31;
   tape = t.rest;
   last = s.last;

@@ -91,15 +91,15 @@ is_bad_row1 BadRow = true
 is_bad_row1 cause = false
 
 -- whether the rule is broken when these items and this part have been read and these rows are left
-abbrev pub broken1 : List Item1 → Option Begun1 → List ℕ → Tape1Cause → Bool
-broken1 before part [] cause = is_end_of_tape1 cause
-broken1 before None (c ∷ rest) cause = is_bad_row1 cause && not (nat_lt c 32)
-broken1 before (Some b) (c ∷ rest) cause = breaks1 cause before b c
+abbrev pub is_broken1 : List Item1 → Option Begun1 → List ℕ → Tape1Cause → Bool
+is_broken1 before part [] cause = is_end_of_tape1 cause
+is_broken1 before None (c ∷ rest) cause = is_bad_row1 cause && not (nat_lt c 32)
+is_broken1 before (Some b) (c ∷ rest) cause = breaks1 cause before b c
 
 -- the tape breaks the rule at the row
 pub record Breaks1 (rows : List ℕ) (row : ℕ) (cause : Tape1Cause) : Type 0 where
   pub stands : IsRead1 rows row
-  pub breaks : broken1 stands.before stands.part stands.rest cause ≡ true
+  pub breaks : is_broken1 stands.before stands.part stands.rest cause ≡ true
 
 -- the fault of a tape: the first row at which a rule is broken, and the rule with the least number broken there
 pub record IsFault1 (rows : List ℕ) (row : ℕ) (cause : Tape1Cause) : Type 0 where

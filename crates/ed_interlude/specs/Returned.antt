@@ -1,6 +1,7 @@
 -- A program that returned to the Initial Orders, and what they read next (what Initial Orders 2 of Wilkes, Wheeler and
 -- Gill 1951 do at 25: the order in the accumulator becomes their directive).
 use Rattle.std.specs.Prelude.{ℕ, ◌≡◌, ◌+◌, ◌*◌, ◌/◌, ◌%◌, ◌^◌, ◌<◌, ◌≤◌, slice_index}
+use Rattle.ed_words.specs.declared.order_words.TheConstants.{T_F}
 use Rattle.ed_store.specs.Cells.{Cells, short_at}
 use Rattle.ed_machine.specs.State.{State}
 use Rattle.ed_notation.specs.Fold.{NotationState}
@@ -19,8 +20,8 @@ directive s = s.acc / 2 ^ 54
 -- that word is an order T with length digit F and an address of at most 1023
 pub record LeavesDirective (s : State) : Type 0 where
   pub even : directive s % 2 ≡ 0
-  pub least : 20480 ≤ directive s
-  pub most : directive s ≤ 20480 + 2 * 1023
+  pub least : T_F ≤ directive s
+  pub most : directive s ≤ T_F + 2 * 1023
 
 -- the machine returned: it is at 25, the Initial Orders and their constants are as they left them, and the directive is
 -- in the accumulator
@@ -30,7 +31,7 @@ pub record IsReturned (s : State) : Type 0 where
   pub middle : AreListed s.store 21 22
   pub high : AreListed s.store 23 40
   pub one : short_at s.store 43 ≡ 1
-  pub multiplier : s.multiplier ≡ 20480 * 2 ^ 18
+  pub multiplier : s.multiplier ≡ T_F * 2 ^ 18
   pub leaves : LeavesDirective s
 
 -- the state of the notation that the program left: its directive, θ from location 42, and no word placed

@@ -6,6 +6,7 @@ use Rattle.std.specs.Prelude.{reverse, slice_index}
 use Rattle.std.specs.List.{list_all}
 use Rattle.std.proofs.lemmas.List.{append-nil}
 use Rattle.ed_words.specs.declared.size.Size.{Size}
+use Rattle.ed_words.specs.declared.order_words.TheConstants.{E_F}
 use Rattle.ed_notation.specs.declared.item.Item.{Item}
 use Rattle.ed_notation.specs.Items.{rows_of, spelled, item as item_in, items, IsWritten}
 use Rattle.ed_notation.specs.Fold.{NotationState, is_entry, item_word, fold, cost_of, costs, address}
@@ -21,8 +22,8 @@ use Rattle.ed_syntax.specs.declared.program.Line.{Line}
 use Rattle.ed_syntax.specs.declared.fault.SourceFault.{SourceFault}
 use Rattle.ed_syntax.specs.Programs.{is_line}
 use Rattle.ed_symbols.specs.Places.{first_counter}
-use Rattle.ed_link.specs.Linked.{symbols_of, linked, data_after, entry_of, theta_from}
-use Rattle.ed_link.specs.Punch.{item_with, punched}
+use Rattle.ed_link.specs.Linked.{symbols_of, linked_words, data_after, entry_of, theta_from}
+use Rattle.ed_link.specs.Punch.{item_with, punched_items}
 use Rattle.ed_link.specs.Private.FaultTests.{any_enter, missing, sooner, fault, fault_line}
 use Rattle.ed_link.specs.Tapes.{punched_rows, tape, arrival}
 use Rattle.ed_link.proofs.Passes.{taken}
@@ -77,29 +78,29 @@ module _ (tables : list_all is_ready catalogue ≡ true) (z : Size) (two : Bool)
       let w = canonical last_item in
       let t = (taken e.passes e.spelled).1 in
       let good : IsWritten w = is_written last_item refl in
-      let cut : canonicals (punched lines) ≡ ws ++ (w ∷ []) = ap (λ is. canonicals is) e.items
+      let cut : canonicals (punched_items lines) ≡ ws ++ (w ∷ []) = ap (λ is. canonicals is) e.items
       ∙ canonicals-append e.before (last_item ∷ []) in
       let rows : punched_rows lines ≡ spelled ws ++ rows_of w =
       ap (λ x. spelled x) cut ∙ spelled-append ws (w ∷ []) ∙ ap (λ x. spelled ws ++ x) (append-nil (rows_of w)) in
       let all : tape lines ≡ spelled ws ++ (rows_of w ++ data_after lines) =
       ap (λ x. x ++ data_after lines) rows ∙ append_assoc (spelled ws) (rows_of w) (data_after lines) in
       let notation : NotationState = record {
-        directive = 12288 + 2 * entry_of lines;
+        directive = E_F + 2 * entry_of lines;
         theta = theta_from (slice_index words 42)
             first_counter lines;
-        placed = reverse (linked lines);
+        placed = reverse (linked_words lines);
       } in
       let last_is : e.last ≡ notation = λ i. record {
         directive = e.directive i;
         theta = e.theta_is i;
-        placed = (e.placed ∙ append-nil (reverse (linked lines))) i;
+        placed = (e.placed ∙ append-nil (reverse (linked_words lines))) i;
       } in
       let f = t.folds in
       let zeds = no_zed-append e.before (last_item ∷ []) (passes_no_zed e.passes) (refl, tt) in
-      let k : costs [] (opening []) (canonicals (punched lines))
-      ≡ costs words (opening words) (canonicals (punched lines)) =
-      same_costs [] words (opening []) (opening words) (punched lines) (subst NoZed (sym e.items) zeds) refl in
-      let c : costs words (opening words) (canonicals (punched lines))
+      let k : costs [] (opening []) (canonicals (punched_items lines))
+      ≡ costs words (opening words) (canonicals (punched_items lines)) =
+      same_costs [] words (opening []) (opening words) (punched_items lines) (subst NoZed (sym e.items) zeds) refl in
+      let c : costs words (opening words) (canonicals (punched_items lines))
       ≡ costs words (opening words) ws + costs words (fold words (opening words) (items ws)) (w ∷ []) =
       ap (λ x. costs words (opening words) x) cut ∙ costs-append words (opening words) ws (w ∷ []) in
       let d : costs words (fold words (opening words) (items ws)) (w ∷ [])
@@ -129,6 +130,6 @@ module _ (tables : list_all is_ready catalogue ≡ true) (z : Size) (two : Bool)
   accepted_law = by_end an_end
 
   -- the items of its tape can be spelled
-  pub can_be_spelled : AreSpellable (punched lines)
+  pub can_be_spelled : AreSpellable (punched_items lines)
   can_be_spelled =
       subst AreSpellable (sym an_end.items) (joined an_end.before (last_item ∷ []) an_end.spelled (refl, tt))

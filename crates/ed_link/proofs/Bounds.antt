@@ -18,7 +18,7 @@ use Rattle.ed_symbols.specs.declared.symbols.Definition.{Definition}
 use Rattle.ed_symbols.specs.declared.location_counter.LocationCounter.{LocationCounter}
 use Rattle.ed_symbols.specs.Places.{even_from, segment_at}
 use Rattle.ed_link.specs.Linked.{parameter_letters, long_words, operand_number, data_rows as data_of, set_to}
-use Rattle.ed_link.specs.Punch.{goes_by_theta, heads, headed, order_item, items_of, preset_items, routine_items}
+use Rattle.ed_link.specs.Punch.{goes_by_theta, heads, with_heading, order_item, items_of, preset_items, routine_items}
 use Rattle.ed_link.specs.Punch.{use_items, word_item}
 use Rattle.ed_link.specs.Private.Building.{IsFew}
 
@@ -78,7 +78,7 @@ heads_few true base = lit≤ tt
 heads_few false base = lit≤ tt
 
 -- the head of a segment is 2 items
-headed_few : (is : List Item) (first : Bool) (base : ℕ) → length (headed is first base) ≤ length is + 2
+headed_few : (is : List Item) (first : Bool) (base : ℕ) → length (with_heading is first base) ≤ length is + 2
 headed_few [] first base = omega arith
 headed_few (i ∷ is) first base = omega (arith, length-append (heads first base) (i ∷ is), heads_few first base)
 
@@ -108,7 +108,7 @@ routine_few found n h symbols ts base =
       presets_few symbols ts parameter_letters,
       headed_few (routine_items found) true base,
       length-append (flat_map (λ c. preset_items symbols (set_to ts c) c) parameter_letters)
-          (headed (routine_items found) true base),
+          (with_heading (routine_items found) true base),
     )
 
 long_few : (b : Bool) (v w : ℕ) → length (map word_item ((if b then 0 ∷ [] else []) ++ (v ∷ (w ∷ [])))) ≤ 3

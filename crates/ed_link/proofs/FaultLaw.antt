@@ -18,7 +18,7 @@ use Rattle.ed_syntax.specs.declared.fault.SourceFault.{SourceFault}
 use Rattle.ed_syntax.specs.declared.fault.SourceFault.TheVariants.{At, Memory}
 use Rattle.ed_symbols.specs.declared.location_counter.LocationCounter.{LocationCounter}
 use Rattle.ed_symbols.specs.Places.{after_statement, first_counter}
-use Rattle.ed_symbols.specs.Faults.{or_later, resolved}
+use Rattle.ed_symbols.specs.Faults.{or_later, resolution}
 use Rattle.ed_link.specs.Linked.{symbols_of}
 use Rattle.ed_link.specs.Private.FaultTests.{IsFirstFault, any_enter, cause_of, fault, fault_from, is_enter, missing}
 use Rattle.ed_link.specs.Private.FaultTests.{past_of}
@@ -181,7 +181,7 @@ module _ (z : Size) (lines : List Line) (numbered : Numbered lines) where
       subst (λ x. number_of c ≤ number_of x) (sym m.2) (omega (arith, few lines n.0 n.1 c n.4))
 
   say_all : SaysLeast All (fault z lines)
-  say_all = merge Names (λ k c. Meanings k c ⊎ Lacking k c) names_first (resolved lines).fault
+  say_all = merge Names (λ k c. Meanings k c ⊎ Lacking k c) names_first (resolution lines).fault
       (sooner second (missing (any_enter lines) (length lines))) (say_names lines numbered)
       (merge Meanings Lacking not_both second (missing (any_enter lines) (length lines)) say_meaning say_lacking)
 

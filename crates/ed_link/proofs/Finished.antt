@@ -8,10 +8,10 @@ use Rattle.ed_syntax.specs.declared.program.Line.{Line}
 use Rattle.ed_syntax.specs.Programs.{AreNumbered, is_line}
 use Rattle.ed_symbols.specs.declared.symbols.Definition.{Definition}
 use Rattle.ed_symbols.specs.Places.{first_counter}
-use Rattle.ed_symbols.specs.Faults.{resolved}
+use Rattle.ed_symbols.specs.Faults.{resolution}
 use Rattle.ed_link.specs.declared.linked.Linked.{Linked}
 use Rattle.ed_link.specs.declared.building.Built.{Built}
-use Rattle.ed_link.specs.Linked.{symbols_of, linked, entry_from, placed_from}
+use Rattle.ed_link.specs.Linked.{symbols_of, linked_words, entry_from, placed_from}
 use Rattle.ed_link.specs.Punch.{punched_from}
 use Rattle.ed_link.specs.Private.FaultTests.{any_enter, fault, fault_from, missing}
 use Rattle.ed_link.specs.declared.linked.Placed.{Placed}
@@ -28,7 +28,7 @@ pub finished : {z : Size} {lines : List Line} {symbols : List Definition} {has_e
     (two : Bool)
     → list_all is_ready catalogue ≡ true → AreNumbered lines → list_all (is_line two) lines ≡ true
     → symbols ≡ symbols_of lines → has_enter ≡ any_enter lines
-    → ((resolved lines).fault ≡ None) × (missing has_enter (length lines) ≡ None)
+    → ((resolution lines).fault ≡ None) × (missing has_enter (length lines) ≡ None)
     → IsBuilt z symbols has_enter lines b → IsFinished symbols b k → IsLinked z lines k
 finished {z} {lines} {symbols} {has_enter} {b} {k} two tables numbered formed h a none built f =
     let e1 : fault_from z (symbols_of lines) (any_enter lines) first_past first_counter lines ≡ None =
@@ -39,14 +39,14 @@ finished {z} {lines} {symbols} {has_enter} {b} {k} two tables numbered formed h 
     let accepted : fault z lines ≡ None = rw (none.0, e1, e2) refl in
     let items : b.items.items ≡ punched_from (symbols_of lines) first_counter lines =
     built.items ∙ ap (λ (x : List Definition). punched_from x first_counter lines) h in
-    let words : k.words.items ≡ words_from 0 (table_of (linked lines)) =
+    let words : k.words.items ≡ words_from 0 (table_of (linked_words lines)) =
     f.words ∙ ap (λ t. words_from 0 t)
     (built.table ∙ ap (λ (x : List Definition). table_of (placed_from x first_counter lines)) h) in
     record {
       accepted = (fault_law z lines numbered).accepted accepted;
       items = f.items ∙ items;
       words = words;
-      map = λ a l. ap (λ (x : List Placed). word_at x a) words ∙ words_are (linked lines) a l;
+      map = λ a l. ap (λ (x : List Placed). word_at x a) words ∙ words_are (linked_words lines) a l;
       entry = f.entry ∙ built.entry ∙ ap (λ (x : List Definition). entry_from x lines) h;
       after = f.after ∙ built.after;
       labels = f.labels ∙ ap (λ (x : List Definition). labels x) h;

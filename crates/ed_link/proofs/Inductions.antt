@@ -36,6 +36,7 @@ use Rattle.ed_link.specs.Private.FaultTests.{sets_otherwise, is_enter, any_enter
 use Rattle.ed_link.specs.Private.FaultTests.{LinesBefore, past_of, cause_of, fault_from}
 use Rattle.ed_words.proofs.Numbers.{le_of}
 use Rattle.ed_words.proofs.SizeLemmas.{most}
+use Rattle.ed_words.specs.declared.order_words.TheConstants.{E_F}
 use Rattle.ed_notation.proofs.Steps.{Enters, aiming_entry, entering_at}
 use Rattle.ed_link.proofs.Passes.{Passes, stays, goes, join}
 use Rattle.ed_link.proofs.Spelled.{aiming_spelled, joined, line_spelled}
@@ -187,7 +188,7 @@ pub record Ends (z : Size) (words : List ℕ) (symbols : List Definition) (theta
   pub last : NotationState
   pub passes : Passes z words notation before last
   pub enters : Enters z words last (entry_from symbols lines)
-  pub directive : last.directive ≡ 12288 + 2 * entry_from symbols lines
+  pub directive : last.directive ≡ E_F + 2 * entry_from symbols lines
   pub theta_is : last.theta ≡ theta_from theta s lines
   pub placed : last.placed ≡ reverse (placed_from symbols s lines) ++ notation.placed
 
@@ -240,7 +241,7 @@ module _ {z : Size} {words : List ℕ} {symbols : List Definition} {has_enter : 
         last = r.last;
         passes = join a.passes r.passes;
         enters = subst (λ p. Enters z words r.last p) q r.enters;
-        directive = subst (λ p. r.last.directive ≡ 12288 + 2 * p) q r.directive;
+        directive = subst (λ p. r.last.directive ≡ E_F + 2 * p) q r.directive;
         theta_is = r.theta_is;
         placed = r.placed ∙ ap (λ m. reverse (placed_from symbols (after_statement st s) lines) ++ m) a.placed
             ∙ reversed (placed_by_line symbols s st) (placed_from symbols (after_statement st s) lines) notation.placed;
@@ -262,7 +263,7 @@ module _ {z : Size} {words : List ℕ} {symbols : List Definition} {has_enter : 
       let p = unwrap_or (place_on symbols None name) 0 in
       let g = placed_entry z (place_on symbols None name) known f.clear in
       let m = most z in
-      let last : NotationState = record notation { directive = 12288 + 2 * p } in
+      let last : NotationState = record notation { directive = E_F + 2 * p } in
       record {
         before = item_with 3 p false 14 ∷ [];
         items = ap (λ (is : List Item). item_with 3 p false 14 ∷ (item_with 0 0 false 17 ∷ is)) b.items;

@@ -25,9 +25,10 @@ use Rattle.ed_link.specs.Linked.{operand_number, long_words, placed_words, param
 use Rattle.ed_link.specs.Linked.{parameters}
 use Rattle.ed_link.specs.Linked.{image}
 use Rattle.ed_link.specs.Linked.{placed_by_line, first_place}
-use Rattle.ed_link.specs.Punch.{word_item, order_item, goes_by_theta, headed}
+use Rattle.ed_link.specs.Punch.{word_item, order_item, goes_by_theta, with_heading}
 use Rattle.ed_link.specs.Punch.{preset_items, routine_items, use_items, items_of}
 use Rattle.ed_words.proofs.Numbers.{eq_true, lt_true, lt_false}
+use Rattle.ed_words.specs.declared.order_words.TheConstants.{T_F}
 use Rattle.ed_link.proofs.Passes.{Passes, stays, join, at}
 use Rattle.ed_link.proofs.Orders.{split, laid_pass, order_pass, headed_pass, unheaded}
 use Rattle.ed_link.proofs.Uses.{AreKnown, all, holds, image_pass, reversed}
@@ -43,7 +44,7 @@ eq_same a = eq_true a a refl
 -- the state of the notation at a line
 pub record IsReady (theta : ℕ) (s : LocationCounter) (notation : NotationState) : Type 0 where
   pub base : s.base ≤ s.place
-  pub follows : nat_eq s.place s.base ≡ false → (notation.directive ≡ 20480 + 2 * s.place)
+  pub follows : nat_eq s.place s.base ≡ false → (notation.directive ≡ T_F + 2 * s.place)
       × (notation.theta ≡ 2 * s.base)
   pub theta_is : notation.theta ≡ theta
 
@@ -109,7 +110,7 @@ module _ {z : Size} {words : List ℕ} {theta : ℕ} {s : LocationCounter} {nota
       → Passes z words (at s.place s.base notation.placed) is
       (at (s.place + length ws) s.base (reverse (placed_words s.place ws) ++ notation.placed))
       → Line z words theta s.place (record s { place = s.place + length ws }) notation
-      (headed is (nat_eq s.place s.base) s.base)
+      (with_heading is (nat_eq s.place s.base) s.base)
       (placed_words s.place ws)
   in_segment is ws some more high p = record {
     last = at (s.place + length ws) s.base (reverse (placed_words s.place ws) ++ notation.placed);
@@ -123,11 +124,11 @@ module _ {z : Size} {words : List ℕ} {theta : ℕ} {s : LocationCounter} {nota
   }
 
   -- a line of numbers
-  numbered : (ws : List ℕ) → AreSpellable (headed (map word_item ws) (nat_eq s.place s.base) s.base) → 0 < length ws
+  numbered : (ws : List ℕ) → AreSpellable (with_heading (map word_item ws) (nat_eq s.place s.base) s.base) → 0 < length ws
       → 56 ≤ s.place
       → s.place + length ws ≤ locations z
       → Line z words theta s.place (record s { place = s.place + length ws }) notation
-      (headed (map word_item ws) (nat_eq s.place s.base) s.base) (placed_words s.place ws)
+      (with_heading (map word_item ws) (nat_eq s.place s.base) s.base) (placed_words s.place ws)
   numbered ws are some low high =
       in_segment (map word_item ws) ws (let l = length-map ws word_item in omega arith) some high
       (laid_pass s.base ws s.place (unheaded (map word_item ws) _ _ are) (omega arith) high)
@@ -141,7 +142,7 @@ module _ {z : Size} {words : List ℕ} {theta : ℕ} {s : LocationCounter} {nota
   use_line ts base (Some r) segments is are =
       let rows = (entry r).items in
       let js = flat_map (λ c. preset_items symbols (set_to ts c) c) parameter_letters in
-      let sp = split js (headed (routine_items (Some r)) true base) are in
+      let sp = split js (with_heading (routine_items (Some r)) true base) are in
       let a = all {z = z} {words = words} whole symbols ts parameter_letters refl notation sp.0 in
       let m = a.0.next in
       let held = holds words symbols ts m.placed a.1 in

@@ -21,10 +21,11 @@ use Rattle.ed_symbols.specs.declared.location_counter.LocationCounter.{LocationC
 use Rattle.ed_symbols.specs.Places.{segment_at}
 use Rattle.ed_symbols.specs.Names.{definition_of}
 use Rattle.ed_link.specs.Linked.{operand_number, placed_words}
-use Rattle.ed_link.specs.Punch.{word_item, order_item, goes_by_theta, is_in, headed}
+use Rattle.ed_link.specs.Punch.{word_item, order_item, goes_by_theta, is_in, with_heading}
 use Rattle.ed_notation.proofs.Steps.{placing}
 use Rattle.ed_words.proofs.Numbers.{lt_of, le_of, eq_of}
 use Rattle.ed_words.proofs.SizeLemmas.{most}
+use Rattle.ed_words.specs.declared.order_words.TheConstants.{T_F}
 use Rattle.ed_link.proofs.Passes.{Passes, stays, goes, join, at, heading}
 
 -- the function of an item that can be spelled
@@ -111,8 +112,8 @@ order_pass {z} {words} {placed} symbols s f o long low high =
 pub headed_pass : {z : Size} {words : List ℕ} {notation last : NotationState} {is : List Item} (place base : ℕ)
     (first : Bool)
     → nat_eq place base ≡ first → place < locations z → 0 < length is
-    → (first ≡ false → (notation.directive ≡ 20480 + 2 * place) × (notation.theta ≡ 2 * base))
-    → Passes z words (at place base notation.placed) is last → Passes z words notation (headed is first base) last
+    → (first ≡ false → (notation.directive ≡ T_F + 2 * place) × (notation.theta ≡ 2 * base))
+    → Passes z words (at place base notation.placed) is last → Passes z words notation (with_heading is first base) last
 headed_pass {is = []} place base first e high some follows p = absurd (omega arith)
 headed_pass {z} {words} {notation} {last} {is = i ∷ is} place base true e high some follows p =
     let m = most z in
@@ -128,7 +129,7 @@ headed_pass {z} {words} {notation} {last} {is = i ∷ is} place base false e hig
     subst (λ (x : NotationState). Passes z words x (i ∷ is) last) n p
 
 -- items after a head can be spelled
-pub unheaded : (is : List Item) (first : Bool) (base : ℕ) → AreSpellable (headed is first base) → AreSpellable is
+pub unheaded : (is : List Item) (first : Bool) (base : ℕ) → AreSpellable (with_heading is first base) → AreSpellable is
 unheaded [] first base are = tt
 unheaded (i ∷ is) true base are = are.1.1
 unheaded (i ∷ is) false base are = are

@@ -1,6 +1,7 @@
 -- Items one after the other, as the fold takes them from one state of the notation to the next.
 use Rattle.std.proofs.Common.{◌≡◌, ℕ, ◌+◌, ◌*◌, ◌≤◌, refl, false, nat_eq, List, [], ◌∷◌, ◌++◌}
 use Rattle.ed_words.specs.declared.size.Size.{Size}
+use Rattle.ed_words.specs.declared.order_words.TheConstants.{T_F}
 use Rattle.ed_notation.specs.declared.item.Item.{Item}
 use Rattle.ed_notation.specs.Fold.{NotationState}
 use Rattle.ed_notation.specs.Spellings.{AreSpellable}
@@ -31,11 +32,11 @@ taken {z} {words} (goes d e p) are =
 
 -- the state between the words of a segment
 abbrev pub at : ℕ → ℕ → List (ℕ × ℕ) → NotationState
-at place base placed = record { directive = 20480 + 2 * place; theta = 2 * base; placed = placed }
+at place base placed = record { directive = T_F + 2 * place; theta = 2 * base; placed = placed }
 
 -- the head of a segment
 pub heading : {z : Size} {words : List ℕ} {notation : NotationState} (p : ℕ) → p ≤ 1023
     → Passes z words notation (head p) (at p p notation.placed)
 heading {z} {words} {notation} p h =
-    let aimed : NotationState = record notation { directive = 20480 + 2 * p } in
+    let aimed : NotationState = record notation { directive = T_F + 2 * p } in
     goes (aiming z words notation p h) refl (goes (setting_theta z words aimed p h refl) refl stays)

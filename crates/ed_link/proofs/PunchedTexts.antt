@@ -28,7 +28,7 @@ use Rattle.ed_syntax.proofs.Formed.{program_formed}
 use Rattle.ed_syntax.proofs.PartTexts.{each_append}
 use Rattle.ed_syntax.proofs.SourceLaws.{program_is_read}
 use Rattle.ed_link.specs.Linked.{data_after, data_rows}
-use Rattle.ed_link.specs.Punch.{punched}
+use Rattle.ed_link.specs.Punch.{punched_items}
 use Rattle.ed_link.specs.Refusals.{IsAcceptedAs}
 use Rattle.ed_link.specs.Tapes.{after_text, punched_rows, tape}
 use Rattle.ed_link.proofs.Accepted.{can_be_spelled}
@@ -79,14 +79,14 @@ tables : list_all is_ready catalogue ≡ true
 tables = refl
 
 pub text_is_tape : (z : Size) (source : Text) (lines : List Line) → IsAcceptedAs z source lines
-    → reading (text_of (canonicals (punched lines)) ++ after_text (data_after lines)) ≡ rows (tape lines)
+    → reading (text_of (canonicals (punched_items lines)) ++ after_text (data_after lines)) ≡ rows (tape lines)
 text_is_tape z source lines a =
     let two = is_two (lines_of source) in
     let formed = (program_formed two (lines_of source) lines (program_is_read source a.two lines a.says)).formed in
     let spellable =
     can_be_spelled tables z two lines (accepted_is_read z source lines a) formed (replicate 1024 0)
     (length-replicate {A = ℕ} 1024 0) in
-    both_read (text_of (canonicals (punched lines))) (after_text (data_after lines)) (punched_rows lines)
+    both_read (text_of (canonicals (punched_items lines))) (after_text (data_after lines)) (punched_rows lines)
     (data_after lines)
-    (text_reads (canonicals (punched lines)) (are_written (punched lines) spellable))
+    (text_reads (canonicals (punched_items lines)) (are_written (punched_items lines) spellable))
     (after_spells (data_after lines) (data_codes two lines formed))

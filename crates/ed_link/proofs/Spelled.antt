@@ -27,7 +27,7 @@ use Rattle.ed_symbols.specs.declared.location_counter.LocationCounter.{LocationC
 use Rattle.ed_symbols.specs.Places.{even_from, segment_at}
 use Rattle.ed_symbols.specs.Faults.{operand_value}
 use Rattle.ed_link.specs.Linked.{parameter_letters, long_words, operand_number, order_number, set_to}
-use Rattle.ed_link.specs.Punch.{ending, goes_by_theta, headed, heads, item_with}
+use Rattle.ed_link.specs.Punch.{ending, goes_by_theta, with_heading, heads, item_with}
 use Rattle.ed_link.specs.Punch.{items_of, order_item, preset_items, routine_items}
 use Rattle.ed_link.specs.Punch.{use_items, word_item}
 use Rattle.ed_link.proofs.Closed.{rows_are_ready}
@@ -47,7 +47,7 @@ head_spelled true base few = (spelled 5 base 14 false (omega arith) few refl, (r
 head_spelled false base few = tt
 
 headed_spelled : (is : List Item) (first : Bool) (base : ℕ) → base ≤ 32767 → AreSpellable is
-    → AreSpellable (headed is first base)
+    → AreSpellable (with_heading is first base)
 headed_spelled [] first base few are = tt
 headed_spelled (i ∷ is) first base few are = joined (heads first base) (i ∷ is) (head_spelled first base few) are
 
@@ -140,7 +140,7 @@ use_spelled : (symbols : List Definition) (ts : List Setting) (base : ℕ) (foun
     → (base ≤ 32767) × AreSpellable (routine_items found) → AreSpellable (use_items symbols ts base found)
 use_spelled symbols ts base found r =
     joined (flat_map (λ c. preset_items symbols (set_to ts c) c) parameter_letters)
-    (headed (routine_items found) true base)
+    (with_heading (routine_items found) true base)
     (presets_spelled symbols ts parameter_letters refl) (headed_spelled (routine_items found) true base r.0 r.1)
 
 -- ---- lines

@@ -27,6 +27,7 @@ use Rattle.ed_link.specs.Linked.{operand_number, placed_words, parameter_letters
 use Rattle.ed_link.specs.Punch.{item_with, preset_items}
 use Rattle.ed_words.proofs.Numbers.{eq_false, le_of, lt_of}
 use Rattle.ed_words.proofs.SizeLemmas.{least}
+use Rattle.ed_words.specs.declared.order_words.TheConstants.{T_F}
 use Rattle.ed_notation.proofs.Steps.{aiming, placing}
 use Rattle.ed_link.proofs.Passes.{Passes, stays, goes, join, at}
 use Rattle.ed_link.proofs.Orders.{split, placed_more}
@@ -124,10 +125,10 @@ module _ {z : Size} {words : List ℕ} (whole : length words ≡ 1024) (symbols 
       let n = operand_number symbols None o in
       let m : n ≤ 32767 = spelled_number (item_with 0 n false 17) are.1.0 in
       let l = least z in
-      let aimed : NotationState = record notation { directive = 20480 + 2 * (24 + c) } in
+      let aimed : NotationState = record notation { directive = T_F + 2 * (24 + c) } in
       let w : word_in_fold words aimed (item_with 0 n false 17) ≡ 2 * n = omega arith in
       let next : NotationState = record {
-        directive = 20480 + 2 * (24 + c + 1);
+        directive = T_F + 2 * (24 + c + 1);
         theta = notation.theta;
         placed = (24 + c, 2 * n)
             ∷ notation.placed;

@@ -28,7 +28,7 @@ use Rattle.ed_symbols.specs.declared.symbols.Definition.{Definition}
 use Rattle.ed_symbols.specs.Places.{even_from, first_counter, after_statement, routine_places}
 use Rattle.ed_symbols.specs.NameFaults.{StandsAfter, counter_after, counter_from}
 use Rattle.ed_link.specs.Faults.{HasNoFault, LineHasWord, on_line}
-use Rattle.ed_link.specs.Linked.{end_place, first_place, symbols_of, image, placed_words, linked, operand_number}
+use Rattle.ed_link.specs.Linked.{end_place, first_place, symbols_of, image, placed_words, linked_words, operand_number}
 use Rattle.ed_link.specs.Linked.{parameter_letters, parameters, placed_by_line, placed_from, preset, presets, set_to}
 use Rattle.ed_link.specs.Words.{EachWordStands, IsLastSet, LinePlaces, LineSets, linked_word, words_of_line}
 use Rattle.ed_link.specs.Words.{routine_words}
@@ -389,7 +389,7 @@ module _ (z : Size) (lines : List Line) (faultless : HasNoFault z lines) where
       (among_left (presets symbols p.settings) (image symbols p.settings (even_from s.place)
       (find p.routine)) a w moved)
 
-  whole : (before : List Line) (l : Line) (st : StandsAfter lines before l) → linked lines
+  whole : (before : List Line) (l : Line) (st : StandsAfter lines before l) → linked_words lines
       ≡ placed_from symbols first_counter before ++ (placed_by_line symbols (counter_after before) l.statement
       ++ placed_from symbols (after_statement l.statement (counter_after before)) st.after)
   whole before l st =
@@ -496,17 +496,17 @@ module _ (z : Size) (lines : List Line) (faultless : HasNoFault z lines) where
   no_other : (a w : ℕ) → linked_word lines a ≡ Some w
       → (before : List Line) × (l : Line) × StandsAfter lines before l
       × (LinePlaces lines before l a w ⊎ LineSets lines l a w)
-  no_other a w e = by_found (found (linked lines) [] a)
+  no_other a w e = by_found (found (linked_words lines) [] a)
     where
-      is : placed_at (reverse (linked lines) ++ []) a ≡ Some w
-      is = ap (λ x. placed_at x a) (append-nil (reverse (linked lines))) ∙ e
+      is : placed_at (reverse (linked_words lines) ++ []) a ≡ Some w
+      is = ap (λ x. placed_at x a) (append-nil (reverse (linked_words lines))) ∙ e
 
-      by_found : Found (linked lines) [] a
+      by_found : Found (linked_words lines) [] a
           → (before : List Line) × (l : Line) × StandsAfter lines before l
           × (LinePlaces lines before l a w ⊎ LineSets lines l a w)
       by_found (inl f) =
           let same : f.0 ≡ w = some_same f.0 w (sym f.2 ∙ is) in
-          let r = of_a_line symbols first_counter lines a w (subst (λ x. Among (linked lines) a x) same f.1) in
+          let r = of_a_line symbols first_counter lines a w (subst (λ x. Among (linked_words lines) a x) same f.1) in
           (r.0, r.1, r.2, kinds r.0 r.1 a w r.3)
       by_found (inr f) = let none : ◌≡◌ {A = Option ℕ} None (Some w) = sym f.1 ∙ is in absurd (cc)
 

@@ -7,8 +7,8 @@ use Rattle.ed_syntax.specs.declared.program.Line.{Line}
 use Rattle.ed_syntax.specs.declared.fault.SourceFault.{SourceFault}
 use Rattle.ed_syntax.specs.declared.fault.SourceFault.TheVariants.{At, Memory}
 use Rattle.ed_link.specs.declared.linked.Linked.{Linked}
-use Rattle.ed_link.specs.Linked.{data_after, symbols_of, entry_of, linked}
-use Rattle.ed_link.specs.Punch.{punched}
+use Rattle.ed_link.specs.Linked.{data_after, symbols_of, entry_of, linked_words}
+use Rattle.ed_link.specs.Punch.{punched_items}
 use Rattle.ed_link.specs.Faults.{HasNoFault, IsMeaningFault}
 use Rattle.ed_link.specs.Refusals.{IsAcceptedAs}
 use Rattle.ed_link.specs.Tables.{table_of, word_at, words_from}
@@ -23,10 +23,10 @@ HasMeaningFault z lines Memory = Unit {0}
 -- the linked program of a source without a fault, and its tape
 pub record IsLinked (z : Size) (lines : List Line) (k : Linked) : Type 0 where
   pub accepted : HasNoFault z lines
-  pub items : k.items.items ≡ punched lines
-  pub words : k.words.items ≡ words_from 0 (table_of (linked lines))
+  pub items : k.items.items ≡ punched_items lines
+  pub words : k.words.items ≡ words_from 0 (table_of (linked_words lines))
   -- they are the map of the linked program
-  pub map : (a : ℕ) → a < 1024 → word_at k.words.items a ≡ placed_at (reverse (linked lines)) a
+  pub map : (a : ℕ) → a < 1024 → word_at k.words.items a ≡ placed_at (reverse (linked_words lines)) a
   pub entry : k.entry ≡ entry_of lines
   pub after : k.after.items ≡ data_after lines
   pub labels : k.labels.items ≡ labels (symbols_of lines)

@@ -135,8 +135,8 @@ abbrev pub symbols_of : List Line → List Definition
 symbols_of lines = symbols_from first_counter lines
 
 -- the words of the linked program with their locations, in the order of the lines; the last word at a location counts
-abbrev pub linked : List Line → List (ℕ × ℕ)
-linked lines = placed_from (symbols_of lines) first_counter lines
+abbrev pub linked_words : List Line → List (ℕ × ℕ)
+linked_words lines = placed_from (symbols_of lines) first_counter lines
 
 -- where the program begins
 abbrev pub entry_of : List Line → ℕ

@@ -19,7 +19,7 @@ use Rattle.ed_symbols.specs.declared.symbols.Definition.{Definition}
 use Rattle.ed_symbols.specs.Places.{even_from}
 use Rattle.ed_symbols.specs.NameFaults.{StandsAfter, counter_after}
 use Rattle.ed_link.specs.Faults.{HasNoFault}
-use Rattle.ed_link.specs.Linked.{first_place, symbols_of, line_words, linked, operand_number, parameter_letters}
+use Rattle.ed_link.specs.Linked.{first_place, symbols_of, line_words, linked_words, operand_number, parameter_letters}
 use Rattle.ed_link.specs.Linked.{parameters, set_to}
 
 -- the words of a routine at a base, with the parameters that are set
@@ -56,7 +56,7 @@ pub record LineSets (lines : List Line) (l : Line) (place word : ℕ) : Type 0 w
 
 -- the word of the linked program at a location, if it has one there
 abbrev pub linked_word : List Line → ℕ → Option ℕ
-linked_word lines place = placed_at (reverse (linked lines)) place
+linked_word lines place = placed_at (reverse (linked_words lines)) place
 
 -- no line after this one sets the parameter at this location
 abbrev pub IsLastSet : List Line → List Line → ℕ → Type 0

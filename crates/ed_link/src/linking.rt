@@ -1,7 +1,7 @@
 //! Linking a whole source.
 ghost use Rattle.std.specs.Prelude.{◌≡◌, ◌≤◌, IfOk, IfErr, length};
 ghost use Rattle.ed_notation.specs.Spellings.{AreSpellable};
-ghost use Rattle.ed_symbols.specs.Faults.{resolved};
+ghost use Rattle.ed_symbols.specs.Faults.{resolution};
 ghost use Rattle.ed_link.specs.Answers.{EachSourceComes, HasMeaningFault, IsLinked};
 ghost use Rattle.ed_link.specs.Refusals.{EachSourceHasOneAnswer};
 ghost use Rattle.ed_link.specs.Words.{EachWordStands};
@@ -41,7 +41,7 @@ fn link_names(
     names: Option<SourceFault>,
 ) -> Result<Linked, SourceFault>
     requires symbols { symbols.now ≡ symbols_of program.now.lines.items }
-    requires names { names ≡ (resolved program.now.lines.items).fault }
+    requires names { names ≡ (resolution program.now.lines.items).fault }
     ensures linked { IfOk result (λ k. IsLinked size program.now.lines.items k) }
     ensures fault { IfErr result (λ e. IsFirstFault (first_fault size program.now.lines.items) e) }
 {

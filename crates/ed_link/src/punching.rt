@@ -11,7 +11,7 @@ ghost use Rattle.ed_library.specs.Routines.{find, routine_item as item_at};
 ghost use Rattle.ed_symbols.specs.Places.{after_statement, routine_places};
 ghost use Rattle.ed_link.specs.Private.FaultTests.{reach};
 ghost use Rattle.ed_link.specs.Linked.{operand_number, long_words, set_to, parameter_letters, line_words};
-ghost use Rattle.ed_link.specs.Punch.{ending, head, headed, heads, item_with, items_of, order_item, goes_by_theta};
+ghost use Rattle.ed_link.specs.Punch.{ending, head, with_heading, heads, item_with, items_of, order_item, goes_by_theta};
 ghost use Rattle.ed_link.specs.Punch.{preset_items, routine_items, use_items, word_item, word_items};
 
 use crate::operands::{goes_by_theta, number, setting};

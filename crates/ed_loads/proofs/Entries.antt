@@ -8,8 +8,9 @@ use Rattle.std.proofs.lemmas.Bool.Decides.{nat_tests}
 use Rattle.std.proofs.lemmas.List.{drop-set-lt, drop-set-add, length-append, length-drop, length-replicate}
 use Rattle.ed_words.specs.declared.size.Size.{Size}
 use Rattle.ed_words.proofs.Numbers.{lt_of}
+use Rattle.ed_words.specs.declared.order_words.TheConstants.{T_F}
 use Rattle.ed_store.specs.Cells.{IsStore}
-use Rattle.ed_machine.specs.State.{State, cleared}
+use Rattle.ed_machine.specs.State.{State, cleared_state}
 use Rattle.ed_notation.specs.Fold.{over}
 use Rattle.ed_notation.specs.Faults.{TapeEntry}
 use Rattle.ed_notation.specs.Items.{spelled}
@@ -24,7 +25,7 @@ use Rattle.ed_initial.proofs.Quiet.{LeadsIn, comes_in}
 use Rattle.ed_syntax.specs.declared.program.Line.{Line}
 use Rattle.ed_link.specs.declared.linked.Linked.{Linked}
 use Rattle.ed_link.specs.Answers.{IsLinked}
-use Rattle.ed_link.specs.Linked.{linked, entry_of, data_after}
+use Rattle.ed_link.specs.Linked.{linked_words, entry_of, data_after}
 use Rattle.ed_link.proofs.EachSource.{each_source as comes_to}
 use Rattle.ed_link.specs.Tapes.{ComesToLinked, arrival, cost, tape}
 use Rattle.ed_loads.specs.EntryState.{Enters, EachSourceEnters, entry_state, first_state, own_words}
@@ -78,7 +79,7 @@ first_store z rows = record {
 
 pub starts : (z : Size) (rows : List ℕ) → IsStarted (first_state z rows)
 unfolding first_state
-starts z rows = is_started rows (cleared z)
+starts z rows = is_started rows (cleared_state z)
 
 -- ---- its state at the entry
 
@@ -90,13 +91,13 @@ entered : (z : Size) (lines : List Line)
     ≡ entry_state z lines
 unfolding first_state
 entered z lines = λ i.
-    let high : List ℕ = same_over (reverse (linked lines)) first_words (replicate 1024 0) refl i in
+    let high : List ℕ = same_over (reverse (linked_words lines)) first_words (replicate 1024 0) refl i in
     let k : ℕ = first_orders (cost lines) i in
     record {
       size = z;
       store = record { words = initial_words (own_words lines) ++ high; sandwich = replicate 512 false };
       acc = 0;
-      multiplier = 20480 * 2 ^ 18;
+      multiplier = T_F * 2 ^ 18;
       counter = entry_of lines;
       tape = data_after lines;
       last = None;

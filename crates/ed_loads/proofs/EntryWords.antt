@@ -12,7 +12,7 @@ use Rattle.ed_notation.specs.Fold.{over, placed_at}
 use Rattle.ed_notation.proofs.Contents.{content_is}
 use Rattle.ed_initial.specs.Rests.{initial_words}
 use Rattle.ed_syntax.specs.declared.program.Line.{Line}
-use Rattle.ed_link.specs.Linked.{linked}
+use Rattle.ed_link.specs.Linked.{linked_words}
 use Rattle.ed_link.specs.Words.{WordsStand, linked_word}
 use Rattle.ed_link.proofs.WordLaws.{each_word_stands}
 use Rattle.ed_loads.specs.EntryState.{entry_store, own_words}
@@ -38,7 +38,7 @@ module _ (lines : List Line) where
   zeros = replicate 1024 0
 
   abbrev placed : List (ℕ × ℕ)
-  placed = reverse (linked lines)
+  placed = reverse (linked_words lines)
 
   first_words : length (initial_words (own_words lines)) ≡ 44
   first_words = refl
@@ -55,8 +55,8 @@ module _ (lines : List Line) where
       ∙ ap (λ x. unwrap_or (placed_at placed a) x) (get_or-replicate 1024 a 0 0 high)
 
 module _ (z : Size) (lines : List Line) (w : WordsStand z lines) where
-  are : ArePlaces (reverse (linked lines))
-  are = are_places (reverse (linked lines))
+  are : ArePlaces (reverse (linked_words lines))
+  are = are_places (reverse (linked_words lines))
       (λ a v e. let p = w.within a v e in let m = most z in omega (arith, p.1, m))
 
   -- a location with a word

@@ -4,8 +4,8 @@ use Rattle.std.specs.Prelude.{◌≡◌, ℕ, ◌+◌, ◌*◌, ◌^◌, ◌<◌
 use Rattle.std.specs.Prelude.{◌++◌, None, drop, length, replicate, reverse}
 use Rattle.ed_words.specs.declared.size.Size.{Size}
 use Rattle.ed_store.specs.Cells.{Cells}
-use Rattle.ed_machine.specs.State.{State, cleared}
-use Rattle.ed_machine.specs.Start.{started}
+use Rattle.ed_machine.specs.State.{State, cleared_state}
+use Rattle.ed_machine.specs.Start.{start_state}
 use Rattle.ed_machine.specs.OrderTable.{step}
 use Rattle.ed_machine.specs.Steps.{progress, state_after}
 use Rattle.ed_machine.specs.declared.turn.Turn.TheVariants.{Went}
@@ -13,15 +13,16 @@ use Rattle.ed_notation.specs.Fold.{over}
 use Rattle.ed_initial.specs.Listing.{initial_orders}
 use Rattle.ed_initial.specs.Rests.{Working, initial_words}
 use Rattle.ed_words.specs.Texts.{Text}
+use Rattle.ed_words.specs.declared.order_words.TheConstants.{E_F, T_F}
 use Rattle.ed_syntax.specs.declared.program.Line.{Line}
 use Rattle.ed_symbols.specs.Places.{first_counter}
-use Rattle.ed_link.specs.Linked.{linked, entry_of, theta_from, data_after}
+use Rattle.ed_link.specs.Linked.{linked_words, entry_of, theta_from, data_after}
 use Rattle.ed_link.specs.Tapes.{cost, punched_rows, tape}
 use Rattle.ed_link.specs.Refusals.{IsAcceptedAs}
 
 -- a cleared machine of a size, started on rows with the Initial Orders
 unfoldable pub first_state : Size → List ℕ → State
-first_state z rows = started initial_orders rows (cleared z)
+first_state z rows = start_state initial_orders rows (cleared_state z)
 
 -- the words that the Initial Orders leave in the locations 0, 1, 20, 22 and 40 to 43; the others of 0 to 40 are as
 -- listed
@@ -30,7 +31,7 @@ own_words lines = record {
   at0 = 0;
   at1 = 17;
   at20 = 114770;
-  at22 = 12288 + 2 * entry_of lines;
+  at22 = E_F + 2 * entry_of lines;
   at40 = 0;
   at41 = 0;
   at42 = theta_from 0 first_counter lines;
@@ -40,7 +41,7 @@ own_words lines = record {
 -- the store at the entry: those words, and from 44 upwards the linked program's words over 0; every sandwich digit is 0
 abbrev pub entry_store : List Line → Cells
 entry_store lines = record {
-  words = initial_words (own_words lines) ++ drop 44 (over (reverse (linked lines)) (replicate 1024 0));
+  words = initial_words (own_words lines) ++ drop 44 (over (reverse (linked_words lines)) (replicate 1024 0));
   sandwich = replicate 512 false;
 }
 
@@ -50,7 +51,7 @@ entry_state z lines = record {
   size = z;
   store = entry_store lines;
   acc = 0;
-  multiplier = 20480 * 2 ^ 18;
+  multiplier = T_F * 2 ^ 18;
   counter = entry_of lines;
   tape = data_after lines;
   last = None;

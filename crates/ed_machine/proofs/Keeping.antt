@@ -4,7 +4,7 @@ use Rattle.std.proofs.Common.{Option, Some, None, List, [], ◌∷◌, length}
 use Rattle.ed_orders.specs.declared.kind.Kind.{Kind}
 use Rattle.ed_orders.specs.declared.kind.Kind.TheVariants.{A, S, H, V, N, T, U, C, R, L, E, G, I, O, F, X, Y, Z}
 use Rattle.ed_machine.specs.State.{State}
-use Rattle.ed_machine.specs.OrderTable.{Obeyed, blocked, jumped, obey_word, place_of, step, took_row}
+use Rattle.ed_machine.specs.OrderTable.{Obeyed, blocked_order, jump_order, obey_word, place_of, step, row_order}
 use Rattle.ed_machine.specs.Steps.{is_obeyed, progress, state_after}
 use Rattle.ed_machine.specs.declared.turn.Turn.{Turn}
 
@@ -34,17 +34,17 @@ reads_none : (s : State) (o : Obeyed) → o.state.size ≡ s.size → o.state.ta
 reads_none s o size tape orders = let e = ap length tape in one_more s o size (omega arith) orders
 
 -- no order is obeyed
-none_more : (s : State) (turn : Turn) → is_obeyed turn ≡ false → Leaves s (blocked turn s)
+none_more : (s : State) (turn : Turn) → is_obeyed turn ≡ false → Leaves s (blocked_order turn s)
 none_more s turn not_obeyed = record {
   follows = record { size_is = refl; fewer = omega arith; later = omega arith; soon = omega arith };
   count = λ obeyed. absurd (true≢false (sym obeyed ∙ not_obeyed));
 }
 
-jump_leaves : (b : Bool) (n : ℕ) (s : State) → Leaves s (jumped b n s)
+jump_leaves : (b : Bool) (n : ℕ) (s : State) → Leaves s (jump_order b n s)
 jump_leaves true n s = reads_none s _ refl refl refl
 jump_leaves false n s = reads_none s _ refl refl refl
 
-row_leaves : (rows : List ℕ) (w : ℕ) (s : State) → s.tape ≡ rows → Leaves s (took_row rows w s)
+row_leaves : (rows : List ℕ) (w : ℕ) (s : State) → s.tape ≡ rows → Leaves s (row_order rows w s)
 row_leaves [] w s is = none_more s _ refl
 row_leaves (row ∷ rows) w s is =
     let e : length s.tape ≡ length (row ∷ rows) = ap length is in one_more s _ refl (omega arith) refl

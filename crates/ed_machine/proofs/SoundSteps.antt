@@ -3,15 +3,15 @@ use Rattle.std.proofs.Common.{ℕ, zero, suc, ◌+◌, ◌*◌, ◌/◌, ◌^◌
 use Rattle.std.proofs.Common.{nat_lt, nat_le, List, [], ◌∷◌, Option, Some, None, get_or, set, pos, negsuc, ℤ}
 use Rattle.std.proofs.lemmas.List.{length-set}
 use Rattle.ed_words.specs.Sizes.{locations}
-use Rattle.ed_words.specs.Words.{address_of, is_long, halves_of, joined}
+use Rattle.ed_words.specs.Words.{address_of, is_long, halves_of, long_of_halves}
 use Rattle.ed_words.proofs.SizeLemmas.{within_fits}
-use Rattle.ed_acc.specs.Arithmetic.{modulo71, plus71, minus71, plus_product, minus_product, collated, left71, right71}
+use Rattle.ed_acc.specs.Arithmetic.{modulo71, plus71, minus71, plus_product, minus_product, plus_common, left71, right71}
 use Rattle.ed_store.specs.Cells.{Cells, IsStore, even, odd}
 use Rattle.ed_orders.specs.declared.kind.Kind.{Kind}
 use Rattle.ed_orders.specs.declared.kind.Kind.TheVariants.{A, S, H, V, N, T, U, C, R, L, E, G, I, O, F, X, Y, Z}
 use Rattle.ed_machine.specs.State.{State}
-use Rattle.ed_machine.specs.OrderTable.{step, obey_word, read_at, written, written_at}
-use Rattle.ed_machine.specs.OrderTable.{place_of, operand35, done_at, after, jumped, took_row}
+use Rattle.ed_machine.specs.OrderTable.{step, obey_word, read_at, written_store, written_cells}
+use Rattle.ed_machine.specs.OrderTable.{place_of, operand35, done_at, after, jump_order, row_order}
 use Rattle.ed_machine.specs.Steps.{progress, state_after}
 use Rattle.ed_machine.specs.Sound.{IsSound, StaysSound}
 
@@ -36,8 +36,8 @@ pub minus_product_fits : (a m x : ℕ) → minus_product a m x < 2 ^ 71
 unfolding minus_product
 minus_product_fits a m x = modulo71_fits _
 
-pub collated_fits : (a m x : ℕ) → collated a m x < 2 ^ 71
-unfolding collated
+pub collated_fits : (a m x : ℕ) → plus_common a m x < 2 ^ 71
+unfolding plus_common
 collated_fits a m x = omega arith
 
 pub left71_fits : (a p : ℕ) → left71 a p < 2 ^ 71
@@ -57,7 +57,7 @@ set_fits (x ∷ xs) (suc p) v zero m z h hv = h 0
 set_fits (x ∷ xs) (suc p) v (suc i) m z h hv = set_fits xs p v i m z (λ j. h (suc j)) hv
 
 written_fits : (l : Bool) (c : Cells) (p short long : ℕ) → IsStore c → short < 2 ^ 17 → long < 2 ^ 35
-    → IsStore (written_at l c p short long)
+    → IsStore (written_cells l c p short long)
 written_fits false c p short long h s d = record {
   words_are = length-set c.words p short ∙ h.words_are;
   digits_are = h.digits_are;
@@ -75,7 +75,7 @@ written_fits true c p short long h s d =
           (omega arith);
     }
 
-pub joined_fits : (o e : ℕ) (d : Bool) → o < 2 ^ 17 → e < 2 ^ 17 → joined o d e < 2 ^ 35
+pub joined_fits : (o e : ℕ) (d : Bool) → o < 2 ^ 17 → e < 2 ^ 17 → long_of_halves o d e < 2 ^ 35
 joined_fits o e true h g = omega arith
 joined_fits o e false h g = omega arith
 
@@ -144,12 +144,12 @@ module _ (s : State) (h : IsSound s) where
   went_on : IsSound (done_at (after s) s)
   went_on = done (after s) (within_fits s.size (s.counter + 1))
 
-  jumped_on : (b : Bool) (w : ℕ) → IsSound (jumped b (place_of s w) s).state
+  jumped_on : (b : Bool) (w : ℕ) → IsSound (jump_order b (place_of s w) s).state
   jumped_on true w = done (place_of s w) (within_fits s.size (address_of w))
   jumped_on false w = went_on
 
   -- a word written, a word read, a row taken
-  wrote : (w short long : ℕ) → short < 2 ^ 17 → long < 2 ^ 35 → IsSound (record s { store = written w s short long })
+  wrote : (w short long : ℕ) → short < 2 ^ 17 → long < 2 ^ 35 → IsSound (record s { store = written_store w s short long })
   wrote w short long fits fit =
       with_store _ (written_fits (is_long w) s.store (place_of s w) short long h.store fits fit)
 
@@ -157,11 +157,11 @@ module _ (s : State) (h : IsSound s) where
   read w = read_fits (is_long w) s.store (place_of s w) h.store
 
 top_written : (s : State) (w : ℕ) → IsSound s
-    → IsSound (record s { store = written w s (s.acc / 2 ^ 54) (s.acc / 2 ^ 36) })
+    → IsSound (record s { store = written_store w s (s.acc / 2 ^ 54) (s.acc / 2 ^ 36) })
 top_written s w h = let a = h.acc in wrote s h w _ _ (omega arith) (omega arith)
 
 row_taken : (rows : List ℕ) (w : ℕ) (s : State) → IsSound s → ((i : ℕ) → get_or rows i 0 < 32)
-    → IsSound (took_row rows w s).state
+    → IsSound (row_order rows w s).state
 row_taken [] w s h fit = h
 row_taken (row ∷ rows) w s h fit =
     let a : row < 32 = fit 0 in

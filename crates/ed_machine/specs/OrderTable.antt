@@ -5,7 +5,7 @@ use Rattle.std.specs.Prelude.{ℕ, List, [], ◌∷◌, Option, Some, None, unwr
 use Rattle.std.specs.Prelude.{true, false, ◌+◌, ◌*◌, ◌/◌, ◌^◌, nat_lt, nat_le}
 use Rattle.ed_words.specs.Words.{function_of, address_of, is_long}
 use Rattle.ed_words.specs.Sizes.{within}
-use Rattle.ed_acc.specs.Arithmetic.{plus71, minus71, plus_product, minus_product, collated, left71, right71}
+use Rattle.ed_acc.specs.Arithmetic.{plus71, minus71, plus_product, minus_product, plus_common, left71, right71}
 use Rattle.ed_store.specs.Cells.{Cells, short_at, long_at, with_short, with_long}
 use Rattle.ed_orders.specs.Kinds.{kind_of_function}
 use Rattle.ed_orders.specs.Places.{places}
@@ -38,13 +38,13 @@ abbrev pub operand71 : ℕ → State → ℕ
 operand71 w s = operand35 w s * 2 ^ 36
 
 -- the store with a number written at a location: `short` if the order is short, `long` if it is long
-abbrev pub written_at : Bool → Cells → ℕ → ℕ → ℕ → Cells
-written_at true c n short long = with_long c n long
-written_at false c n short long = with_short c n short
+abbrev pub written_cells : Bool → Cells → ℕ → ℕ → ℕ → Cells
+written_cells true c n short long = with_long c n long
+written_cells false c n short long = with_short c n short
 
 -- the store after an order that writes
-abbrev pub written : ℕ → State → ℕ → ℕ → Cells
-written w s short long = written_at (is_long w) s.store (place_of s w) short long
+abbrev pub written_store : ℕ → State → ℕ → ℕ → Cells
+written_store w s short long = written_cells (is_long w) s.store (place_of s w) short long
 
 -- the location after the counter's
 abbrev pub after : State → ℕ
@@ -55,30 +55,30 @@ abbrev pub done_at : ℕ → State → State
 done_at n s = record s { counter = n; orders = s.orders + 1 }
 
 -- an order after which the machine goes on at the next location
-abbrev pub went : State → Obeyed
-went s = record { state = done_at (after s) s; turn = Went }
+abbrev pub plain_order : State → Obeyed
+plain_order s = record { state = done_at (after s) s; turn = Went }
 
 -- an order that jumps to a location if a test holds, and goes on otherwise
-abbrev pub jumped : Bool → ℕ → State → Obeyed
-jumped true n s = record { state = done_at n s; turn = Went }
-jumped false n s = went s
+abbrev pub jump_order : Bool → ℕ → State → Obeyed
+jump_order true n s = record { state = done_at n s; turn = Went }
+jump_order false n s = plain_order s
 
 -- an order that prints a code
-abbrev pub printed : ℕ → State → Obeyed
-printed code s = record { state = record (done_at (after s) s) { last = Some code }; turn = Printed code }
+abbrev pub print_order : ℕ → State → Obeyed
+print_order code s = record { state = record (done_at (after s) s) { last = Some code }; turn = Printed code }
 
 -- an order that stops the machine, with the counter after it
-abbrev pub stopped : State → Obeyed
-stopped s = record { state = done_at (after s) s; turn = Stopped }
+abbrev pub stop_order : State → Obeyed
+stop_order s = record { state = done_at (after s) s; turn = Stopped }
 
 -- a state in which no order can be obeyed
-abbrev pub blocked : Turn → State → Obeyed
-blocked turn s = record { state = s; turn = turn }
+abbrev pub blocked_order : Turn → State → Obeyed
+blocked_order turn s = record { state = s; turn = turn }
 
 -- an order that reads a row of the tape, if there is one
-abbrev pub took_row : List ℕ → ℕ → State → Obeyed
-took_row [] w s = blocked NoTape s
-took_row (row ∷ rows) w s = went (record s { store = written w s row (row * 2 ^ 18); tape = rows })
+abbrev pub row_order : List ℕ → ℕ → State → Obeyed
+row_order [] w s = blocked_order NoTape s
+row_order (row ∷ rows) w s = plain_order (record s { store = written_store w s row (row * 2 ^ 18); tape = rows })
 
 -- the last printed code, or 0 if nothing was printed
 abbrev pub last_code : State → ℕ
@@ -86,28 +86,28 @@ last_code s = unwrap_or s.last 0
 
 -- the order table
 abbrev pub obey : Kind → ℕ → State → Obeyed
-obey A w s = went (record s { acc = plus71 s.acc (operand71 w s) })
-obey S w s = went (record s { acc = minus71 s.acc (operand71 w s) })
-obey H w s = went (record s { multiplier = operand35 w s })
-obey V w s = went (record s { acc = plus_product s.acc s.multiplier (operand35 w s) })
-obey N w s = went (record s { acc = minus_product s.acc s.multiplier (operand35 w s) })
-obey T w s = went (record s { store = written w s (s.acc / 2 ^ 54) (s.acc / 2 ^ 36); acc = 0 })
-obey U w s = went (record s { store = written w s (s.acc / 2 ^ 54) (s.acc / 2 ^ 36) })
-obey C w s = went (record s { acc = collated s.acc s.multiplier (operand35 w s) })
-obey R w s = went (record s { acc = right71 s.acc (places w) })
-obey L w s = went (record s { acc = left71 s.acc (places w) })
-obey E w s = jumped (nat_lt s.acc (2 ^ 70)) (place_of s w) s
-obey G w s = jumped (nat_le (2 ^ 70) s.acc) (place_of s w) s
-obey I w s = took_row s.tape w s
-obey O w s = printed (operand35 w s / 2 ^ 30) s
-obey F w s = went (record s { store = written w s (last_code s * 4096) (last_code s * 2 ^ 30) })
-obey X w s = went s
-obey Y w s = went (record s { acc = plus71 s.acc (2 ^ 35) })
-obey Z w s = stopped s
+obey A w s = plain_order (record s { acc = plus71 s.acc (operand71 w s) })
+obey S w s = plain_order (record s { acc = minus71 s.acc (operand71 w s) })
+obey H w s = plain_order (record s { multiplier = operand35 w s })
+obey V w s = plain_order (record s { acc = plus_product s.acc s.multiplier (operand35 w s) })
+obey N w s = plain_order (record s { acc = minus_product s.acc s.multiplier (operand35 w s) })
+obey T w s = plain_order (record s { store = written_store w s (s.acc / 2 ^ 54) (s.acc / 2 ^ 36); acc = 0 })
+obey U w s = plain_order (record s { store = written_store w s (s.acc / 2 ^ 54) (s.acc / 2 ^ 36) })
+obey C w s = plain_order (record s { acc = plus_common s.acc s.multiplier (operand35 w s) })
+obey R w s = plain_order (record s { acc = right71 s.acc (places w) })
+obey L w s = plain_order (record s { acc = left71 s.acc (places w) })
+obey E w s = jump_order (nat_lt s.acc (2 ^ 70)) (place_of s w) s
+obey G w s = jump_order (nat_le (2 ^ 70) s.acc) (place_of s w) s
+obey I w s = row_order s.tape w s
+obey O w s = print_order (operand35 w s / 2 ^ 30) s
+obey F w s = plain_order (record s { store = written_store w s (last_code s * 4096) (last_code s * 2 ^ 30) })
+obey X w s = plain_order s
+obey Y w s = plain_order (record s { acc = plus71 s.acc (2 ^ 35) })
+obey Z w s = stop_order s
 
 -- a word obeyed as an order, if its function is one
 abbrev pub obey_word : Option Kind → ℕ → State → Obeyed
-obey_word None w s = blocked (NoOrder (function_of w)) s
+obey_word None w s = blocked_order (NoOrder (function_of w)) s
 obey_word (Some kind) w s = obey kind w s
 
 -- the word at the counter

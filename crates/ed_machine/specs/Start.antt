@@ -9,8 +9,8 @@ abbrev pub with_image : List ℕ → Cells → Cells
 with_image image c = record { words = image ++ drop (length image) c.words; sandwich = c.sandwich }
 
 -- the state after Start
-abbrev pub started : List ℕ → List ℕ → State → State
-started image rows s = record s { store = with_image image s.store; counter = 0; tape = rows }
+abbrev pub start_state : List ℕ → List ℕ → State → State
+start_state image rows s = record s { store = with_image image s.store; counter = 0; tape = rows }
 
 -- a list that ends with the rows of another
 pub record EndsWith (xs ys : List ℕ) : Type 0 where

@@ -23,8 +23,8 @@ pub record State : Type 0 where
   pub orders : ℕ
 
 -- the state of a cleared machine: 0 everywhere, no tape, nothing printed
-abbrev pub cleared : Size → State
-cleared z = record {
+abbrev pub cleared_state : Size → State
+cleared_state z = record {
   size = z;
   store = cleared_cells;
   acc = 0;

@@ -2,12 +2,12 @@ ghost use Rattle.std.specs.Prelude.{◌≡◌, ◌<◌, ◌≤◌, ◌+◌, ◌^
 ghost use Rattle.ed_words.specs.Sizes.{locations};
 ghost use Rattle.ed_words.specs.declared.size.Size.TheVariants.{Full};
 ghost use Rattle.ed_store.specs.Cells.{Cells, IsStore, long_at, sandwich_at, short_at};
-ghost use Rattle.ed_machine.specs.State.{State, cleared};
+ghost use Rattle.ed_machine.specs.State.{State, cleared_state};
 ghost use Rattle.ed_machine.specs.OrderTable.{step};
 ghost use Rattle.ed_machine.specs.Sound.{CountsOrders, StaysSound};
 ghost use Rattle.ed_machine.specs.Steps.{is_obeyed};
 ghost use Rattle.ed_machine.specs.Reached.{IsReached, state_of};
-ghost use Rattle.ed_machine.specs.Start.{EndsWith, started, with_image};
+ghost use Rattle.ed_machine.specs.Start.{EndsWith, start_state, with_image};
 
 mod obeying;
 
@@ -78,14 +78,14 @@ impl Model for Machine {
 impl Machine {
     /// A cleared machine of 1,024 locations: 0 in every word, sandwich digit and register, no tape, nothing printed.
     pub fn cleared(alloc: Global) -> Result<Machine, NoMemory>
-        ensures { IfOk result (λ m. m ≡ cleared Full) }
+        ensures { IfOk result (λ m. m ≡ cleared_state Full) }
     {
         Machine::cleared_of(alloc, Size::Full)
     }
 
     /// A cleared machine of a given size.
     pub fn cleared_of(alloc: Global, size: Size) -> Result<Machine, NoMemory>
-        ensures { IfOk result (λ m. m ≡ cleared size) }
+        ensures { IfOk result (λ m. m ≡ cleared_state size) }
     {
         let store = Store::cleared(alloc)?;
         Ok(Machine {
@@ -148,7 +148,7 @@ impl Machine {
     /// the rows that were not read; nothing is claimed of the rows before them.
     pub fn start(&mut self, image: &[Word], tape: Vec<Code>) -> Vec<Code>
         requires { length image.now ≤ 41 }
-        ensures state { self.new ≡ started image.now tape.items self.old }
+        ensures state { self.new ≡ start_state image.now tape.items self.old }
         ensures old_rows { EndsWith result.items self.old.tape }
     {
         place_image(&mut self.store, image);

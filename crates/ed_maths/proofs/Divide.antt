@@ -5,8 +5,9 @@ use Rattle.std.proofs.Common.{◌<◌, ◌≤◌, refl, arith, lit<, Bool, true,
 use Rattle.std.proofs.Common.{nat_eq, List, [], ◌∷◌, get_or, set, length}
 use Rattle.std.proofs.lemmas.Bool.Decides.{nat_tests}
 use Rattle.std.proofs.lemmas.List.{get_or-set_same}
-use Rattle.ed_words.specs.Words.{joined}
+use Rattle.ed_words.specs.Words.{long_of_halves}
 use Rattle.ed_words.proofs.SizeLemmas.{most}
+use Rattle.ed_words.specs.declared.order_words.TheConstants.{A_D, A_F, E_F, G_F, L_D, L_F, R_D, R_F, S_F, T_D, T_F, U_F}
 use Rattle.ed_paths.proofs.Frames.{Moment, short, long}
 use Rattle.ed_paths.proofs.Places.{IsOutside, early, own, pair, out, any}
 use Rattle.ed_paths.proofs.Shifts.{RF, RD, LD, LF, L2F}
@@ -39,13 +40,13 @@ pub record Work : Type 0 where
 -- its words, and the sandwich digits of its two long words
 abbrev pub cells : ℕ → ℕ → ℕ → ℕ → Work → List ℕ
 cells b high low by w =
-    114694 ∷ (20480 + 2 * (b + 32)) ∷ (114688 + 2 * (b + 33)) ∷ 16384 ∷ 16385 ∷ (20481 + 2 * (b + 36))
-    ∷ (114688 + 2 * low) ∷ 16384 ∷ 16385 ∷ (114688 + 2 * high) ∷ (20481 + 2 * (b + 38)) ∷ (49152 + 2 * (b + 34))
-    ∷ (28672 + 2 * (b + 35)) ∷ (20480 + 2 * (b + 40)) ∷ (114689 + 2 * (b + 38)) ∷ 102401 ∷ (49152 + 2 * by)
-    ∷ (12288 + 2 * (b + 20)) ∷ (114688 + 2 * by) ∷ (12288 + 2 * (b + 21)) ∷ (114689 + 2 * (b + 36))
-    ∷ (20481 + 2 * (b + 38)) ∷ (114688 + 2 * (b + 35)) ∷ (114688 + 2 * (b + 33)) ∷ (28672 + 2 * (b + 35))
-    ∷ (110592 + 2 * (b + 13)) ∷ (114689 + 2 * (b + 38)) ∷ (28672 + 2 * high) ∷ (49152 + 2 * high) ∷ 102400
-    ∷ 102404 ∷ (20480 + 2 * low) ∷ w.at32 ∷ 1 ∷ 16 ∷ w.at35 ∷ w.at36.even ∷ w.at36.odd ∷ w.at38.even
+    114694 ∷ (T_F + 2 * (b + 32)) ∷ (A_F + 2 * (b + 33)) ∷ R_F ∷ R_D ∷ (T_D + 2 * (b + 36))
+    ∷ (A_F + 2 * low) ∷ R_F ∷ R_D ∷ (A_F + 2 * high) ∷ (T_D + 2 * (b + 38)) ∷ (S_F + 2 * (b + 34))
+    ∷ (U_F + 2 * (b + 35)) ∷ (T_F + 2 * (b + 40)) ∷ (A_D + 2 * (b + 38)) ∷ L_D ∷ (S_F + 2 * by)
+    ∷ (E_F + 2 * (b + 20)) ∷ (A_F + 2 * by) ∷ (E_F + 2 * (b + 21)) ∷ (A_D + 2 * (b + 36))
+    ∷ (T_D + 2 * (b + 38)) ∷ (A_F + 2 * (b + 35)) ∷ (A_F + 2 * (b + 33)) ∷ (U_F + 2 * (b + 35))
+    ∷ (G_F + 2 * (b + 13)) ∷ (A_D + 2 * (b + 38)) ∷ (U_F + 2 * high) ∷ (S_F + 2 * high) ∷ L_F
+    ∷ 102404 ∷ (T_F + 2 * low) ∷ w.at32 ∷ 1 ∷ 16 ∷ w.at35 ∷ w.at36.even ∷ w.at36.odd ∷ w.at38.even
     ∷ w.at38.odd ∷ w.at40 ∷ []
 
 abbrev pub digits : Work → List Bool
@@ -53,7 +54,7 @@ digits w = w.at36.digit ∷ w.at38.digit ∷ []
 
 -- the number at a location that holds a long word, by its parts
 whole_long : (a v u : ℕ) → (a + v * 2 ^ 36) % 2 ^ 71 ≡ u
-    → (a + joined (v / 2 ^ 18) (nat_eq (v / 2 ^ 17 % 2) 1) (v % 2 ^ 17) * 2 ^ 36) % 2 ^ 71 ≡ u
+    → (a + long_of_halves (v / 2 ^ 18) (nat_eq (v / 2 ^ 17 % 2) 1) (v % 2 ^ 17) * 2 ^ 36) % 2 ^ 71 ≡ u
 whole_long a v u e = rw (parted v) e
 
 -- a call of the routine, its three locations, and the words around it, with the halves h and l of the dividend and the
@@ -95,7 +96,7 @@ module _ (given : Given) where
 
   -- in the loop: the count, and the long word at 38
   abbrev pub work : ℕ → ℕ → ℕ → Work
-  work c v spare = record { at32 = 12288 + 2 * (m + 2); at35 = c; at36 = parts 4; at38 = parts v; at40 = spare }
+  work c v spare = record { at32 = E_F + 2 * (m + 2); at35 = c; at36 = parts 4; at38 = parts v; at40 = spare }
 
   -- a turn that subtracts the divisor, and one that doesn't
   turn_1 : {spare : ℕ} (c e x : ℕ) → 65536 * d ≤ 2 * x → x < 65536 * d → c < 2 ^ 17 → (c + 1) % 2 ^ 17 ≡ e
@@ -170,7 +171,7 @@ module _ (given : Given) where
   count zero x = let c = cost_is (bit d x) in omega arith
   count (suc k) x = let c = cost_is (bit d x) in let r = count k (next d (bit d x) x) in omega arith
 
-  opened : (w : Work) → Path f 13 (run ws w (short (114688 + 2 * m)) 0) []
+  opened : (w : Work) → Path f 13 (run ws w (short (A_F + 2 * m)) 0) []
       (run ws (work (2 ^ 17 - 16) (4 * (65536 * h + l)) w.at40) (short (2 ^ 17 - 16)) 13)
   opened w =
       let b = most f.size in
@@ -182,7 +183,7 @@ module _ (given : Given) where
       let few = small in
       let smaller = less in
       let divisor = fits in
-      on (A 0 (out 3 (early 3 behind (lit< tt) all)) (short (12288 + 2 * (m + 2))) refl (omega arith))
+      on (A 0 (out 3 (early 3 behind (lit< tt) all)) (short (E_F + 2 * (m + 2))) refl (omega arith))
       (on (T 1 (own 32) _ refl refl)
       (on (A 2 (own 33) (long (2 ^ 18)) refl refl)
       (on (R 3 RF (long 8) refl (omega arith))
@@ -216,7 +217,7 @@ module _ (given : Given) where
   n = 65536 * h + l
 
   pub whole : (w : Work) (k : ℕ) → k + ones 16 (n / d) ≡ 212
-      → Path f k (run ws w (short (114688 + 2 * m)) 0) []
+      → Path f k (run ws w (short (A_F + 2 * m)) 0) []
       (record (run (set (set ws high (n % d)) low (n / d)) (work 0 (4 * numbers d 15 n) (2 ^ 17 - 1)) 0 0)
       { counter = m + 2 })
   unfolding ones

@@ -4,6 +4,7 @@ use Rattle.std.proofs.Common.{◌<◌, refl, sym, ap, ◌∙◌, subst, arith, f
 use Rattle.std.proofs.Common.{List, [], ◌∷◌, get_or, set, length, inl, inr}
 use Rattle.std.proofs.lemmas.List.{get_or-set_same, get_or-set_other, length-set}
 use Rattle.ed_words.proofs.SizeLemmas.{most}
+use Rattle.ed_words.specs.declared.order_words.TheConstants.{A_F}
 use Rattle.ed_orders.specs.declared.kind.Kind.{Kind}
 use Rattle.ed_store.specs.Cells.{short_at}
 use Rattle.ed_machine.specs.State.{State}
@@ -122,7 +123,7 @@ module _ {b high low by top : ℕ} {s : State} (o : CallsDivide b high low by to
   digit_is (suc zero) l = refl
   digit_is (suc (suc j)) l = absurd (omega arith)
 
-  begins : state f (run given s.store.words first (short (114688 + 2 * caller s)) 0) s.orders ≡ s
+  begins : state f (run given s.store.words first (short (A_F + 2 * caller s)) 0) s.orders ≡ s
   begins =
       let size = most s.size in
       let fits = o.stands.fits in
@@ -131,7 +132,7 @@ module _ {b high low by top : ℕ} {s : State} (o : CallsDivide b high low by to
       let sandwich : patched false s.store.sandwich (b / 2 + 18) (digits first) ≡ s.store.sandwich =
       patched_self false s.store.sandwich (b / 2 + 18) (digits first) (omega (arith, fits, o.all_digits)) digit_is in
       let counter : b + 0 ≡ s.counter = omega (arith, o.stands.counter) in
-      let acc : short (114688 + 2 * caller s) ≡ s.acc = sym o.stands.call.acc in
+      let acc : short (A_F + 2 * caller s) ≡ s.acc = sym o.stands.call.acc in
       λ i. record s {
         store = record { words = words i; sandwich = sandwich i };
         acc = acc i;
@@ -148,7 +149,7 @@ module _ {b high low by top : ℕ} {s : State} (o : CallsDivide b high low by to
   total : divide_orders (n / d) + ones 16 (n / d) ≡ 212
   total = let few = few_ones 16 (n / d) in omega arith
 
-  path : Path f (divide_orders (n / d)) (run given s.store.words first (short (114688 + 2 * caller s)) 0) []
+  path : Path f (divide_orders (n / d)) (run given s.store.words first (short (A_F + 2 * caller s)) 0) []
       (record (run given ws left 0 0) { counter = caller s + 2 })
   path = whole given first (divide_orders (n / d)) total
 

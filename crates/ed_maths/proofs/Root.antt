@@ -3,6 +3,7 @@
 use Rattle.std.proofs.Common.{◌≡◌, ℕ, zero, suc, ◌+◌, ◌-◌, ◌*◌, ◌^◌, ◌<◌, ◌≤◌, refl, arith}
 use Rattle.std.proofs.Common.{List, [], ◌∷◌, get_or, set, length, lit<}
 use Rattle.ed_words.proofs.SizeLemmas.{most}
+use Rattle.ed_words.specs.declared.order_words.TheConstants.{A_F, E_F, G_F, R_D, S_F, T_F}
 use Rattle.ed_paths.proofs.Frames.{Moment, short}
 use Rattle.ed_paths.proofs.Places.{IsOutside, early, own, out, any}
 use Rattle.ed_paths.proofs.Shifts.{RD}
@@ -19,10 +20,10 @@ pub record Work : Type 0 where
 -- its words
 abbrev pub cells : ℕ → ℕ → ℕ → Work → List ℕ
 cells b source target w =
-    114694 ∷ (20480 + 2 * (b + 18)) ∷ (114688 + 2 * source) ∷ (20480 + 2 * (b + 21)) ∷ (114688 + 2 * (b + 19))
-    ∷ (20480 + 2 * (b + 22)) ∷ (114688 + 2 * (b + 21)) ∷ (49152 + 2 * (b + 22)) ∷ (110592 + 2 * (b + 14))
-    ∷ (20480 + 2 * (b + 21)) ∷ (114688 + 2 * (b + 22)) ∷ (114688 + 2 * (b + 20)) ∷ (20480 + 2 * (b + 22))
-    ∷ (12288 + 2 * (b + 6)) ∷ (20480 + 2 * (b + 21)) ∷ (114688 + 2 * (b + 22)) ∷ 16385 ∷ (20480 + 2 * target)
+    114694 ∷ (T_F + 2 * (b + 18)) ∷ (A_F + 2 * source) ∷ (T_F + 2 * (b + 21)) ∷ (A_F + 2 * (b + 19))
+    ∷ (T_F + 2 * (b + 22)) ∷ (A_F + 2 * (b + 21)) ∷ (S_F + 2 * (b + 22)) ∷ (G_F + 2 * (b + 14))
+    ∷ (T_F + 2 * (b + 21)) ∷ (A_F + 2 * (b + 22)) ∷ (A_F + 2 * (b + 20)) ∷ (T_F + 2 * (b + 22))
+    ∷ (E_F + 2 * (b + 6)) ∷ (T_F + 2 * (b + 21)) ∷ (A_F + 2 * (b + 22)) ∷ R_D ∷ (T_F + 2 * target)
     ∷ w.at18 ∷ 1 ∷ 2 ∷ w.at21 ∷ w.at22 ∷ []
 
 -- a call of the routine, its two locations, and the words around it, with the number n at the first
@@ -49,9 +50,9 @@ module _ (given : Given) where
 
   -- with what is left of the number, and the next odd number
   abbrev pub rest : ℕ → ℕ → Work
-  rest x o = record { at18 = 12288 + 2 * (m + 2); at21 = x; at22 = o }
+  rest x o = record { at18 = E_F + 2 * (m + 2); at21 = x; at22 = o }
 
-  opened : (w : Work) → Path f 6 (run ws w (114688 + 2 * m) 0) [] (run ws (rest n 1) 0 6)
+  opened : (w : Work) → Path f 6 (run ws w (A_F + 2 * m) 0) [] (run ws (rest n 1) 0 6)
   opened w =
       let b = most f.size in
       let fits = f.fits in
@@ -59,7 +60,7 @@ module _ (given : Given) where
       let back = room in
       let number = is in
       let few = small in
-      on (A 0 (out 3 (early 3 behind (lit< tt) all)) (short (12288 + 2 * (m + 2))) refl (omega arith))
+      on (A 0 (out 3 (early 3 behind (lit< tt) all)) (short (E_F + 2 * (m + 2))) refl (omega arith))
       (on (T 1 (own 18) _ refl refl)
       (on (A 2 (out source away_source) (short n) refl (omega arith))
       (on (T 3 (own 21) _ refl refl)
@@ -112,7 +113,7 @@ module _ (given : Given) where
       (on (E_jumps 18 (any (m + 2) there) refl (lit< tt)) stay)))))))
 
   pub whole : (w : Work) (r : ℕ) → r * r ≤ n → n < (r + 1) * (r + 1) → r < 256
-      → Path f (14 + 8 * r) (run ws w (114688 + 2 * m) 0) []
+      → Path f (14 + 8 * r) (run ws w (A_F + 2 * m) 0) []
       (record (run (set ws target r) (rest (n - r * r + 2 ^ 17 - (2 * r + 1)) (2 * r + 1)) 0 0) { counter = m + 2 })
   whole w r below above fits =
       let e : 14 + 8 * r ≡ 6 + (8 * r + 8) = omega arith in

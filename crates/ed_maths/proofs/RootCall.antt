@@ -4,6 +4,7 @@ use Rattle.std.proofs.Common.{List, [], ◌∷◌, get_or, set, length, inl, inr
 use Rattle.std.proofs.lemmas.Bool.{cases_lt}
 use Rattle.std.proofs.lemmas.List.{get_or-set_same, get_or-set_other, length-set}
 use Rattle.ed_words.proofs.SizeLemmas.{most}
+use Rattle.ed_words.specs.declared.order_words.TheConstants.{A_F}
 use Rattle.ed_orders.specs.declared.kind.Kind.{Kind}
 use Rattle.ed_store.specs.Cells.{short_at}
 use Rattle.ed_machine.specs.State.{State}
@@ -87,7 +88,7 @@ module _ {b source target top r : ℕ} {s : State} (o : CallsRoot b source targe
     at22 = get_or s.store.words (b + 22) 0;
   }
 
-  starts : state f (run given s.store.words first (114688 + 2 * caller s) 0) s.orders ≡ s
+  starts : state f (run given s.store.words first (A_F + 2 * caller s) 0) s.orders ≡ s
   starts = begins hs o.stands o.within o.all image_holds
 
   abbrev ws : List ℕ
@@ -97,7 +98,7 @@ module _ {b source target top r : ℕ} {s : State} (o : CallsRoot b source targe
   abbrev left : Work
   left = rest given (short_at s.store source - r * r + 2 ^ 17 - (2 * r + 1)) (2 * r + 1)
 
-  path : Path f (root_orders r) (run given s.store.words first (114688 + 2 * caller s) 0) []
+  path : Path f (root_orders r) (run given s.store.words first (A_F + 2 * caller s) 0) []
       (record (run given ws left 0 0) { counter = caller s + 2 })
   path = whole given first r o.is_root.square o.is_root.greatest (few (short_at s.store source) r o.is_root o.small)
 

@@ -5,13 +5,13 @@ use Rattle.std.specs.Prelude.{◌%◌, ◌<◌, ◌≤◌, false, List, [], ◌�
 use Rattle.std.specs.Prelude.{slice_index_or}
 use Rattle.ed_store.specs.Cells.{short_at}
 use Rattle.ed_machine.specs.State.{State}
-use Rattle.ed_routines.specs.Catalogue.{named}
+use Rattle.ed_routines.specs.Catalogue.{routine_named}
 use Rattle.ed_routines.specs.Standing.{IsOutside, caller}
 use Rattle.ed_routines.specs.Returns.{IsOther}
 
 -- the routine `divide`
 abbrev pub divide : ℕ
-divide = named (codes "divide")
+divide = routine_named (codes "divide")
 
 -- the parameters with H, N and M the locations of the high word, the low word and the divisor
 abbrev pub with_hnm : ℕ → ℕ → ℕ → List ℕ

@@ -1,10 +1,10 @@
 -- What `root` does: it finds the integer square root of a word (this project's own rule).
 use Rattle.std.specs.Prelude.{ℕ, zero, suc, nat_le, if◌then◌else◌, ◌+◌, ◌*◌, ◌<◌, ◌≤◌, List, [], ◌∷◌, codes}
-use Rattle.ed_routines.specs.Catalogue.{named}
+use Rattle.ed_routines.specs.Catalogue.{routine_named}
 
 -- the routine `root`
 abbrev pub root : ℕ
-root = named (codes "root")
+root = routine_named (codes "root")
 
 -- the parameters with H and N the locations of the number and of its root
 abbrev pub with_hn : ℕ → ℕ → List ℕ

@@ -5,16 +5,16 @@ use Rattle.std.specs.Prelude.{unwrap_or}
 use Rattle.std.proofs.lemmas.Bool.Decides.{nat_tests}
 use Rattle.std.proofs.lemmas.List.{get_or-set_same, get_or-set_other, length-set, length-replicate, get_or-replicate}
 use Rattle.ed_notation.specs.Fold.{over, placed_at}
-use Rattle.ed_notation.specs.Checks.{ArePlaces, ContentIsMapOrStore, marked}
+use Rattle.ed_notation.specs.Checks.{ArePlaces, ContentIsMapOrStore, marks_of}
 use Rattle.ed_words.proofs.Numbers.{eq_of}
 
 pub length-over : (placed : List (ℕ × ℕ)) (words : List ℕ) → length (over placed words) ≡ length words
 length-over [] words = refl
 length-over (p ∷ placed) words = length-set (over placed words) p.0 p.1 ∙ length-over placed words
 
-pub length-marked : (placed : List (ℕ × ℕ)) → length (marked placed) ≡ 1024
+pub length-marked : (placed : List (ℕ × ℕ)) → length (marks_of placed) ≡ 1024
 length-marked [] = length-replicate {A = Bool} 1024 false
-length-marked (p ∷ placed) = length-set (marked placed) p.0 true ∙ length-marked placed
+length-marked (p ∷ placed) = length-set (marks_of placed) p.0 true ∙ length-marked placed
 
 differs : (a b : ℕ) → nat_eq a b ≡ false → b ≢ a
 differs a b h = grind (arith, nat_tests)
@@ -35,16 +35,16 @@ content_is words l (p ∷ placed) a are = by_test (nat_eq p.0 a) refl (content_i
     by_test false e h = get_or-set_other W p.0 a p.1 0 (differs p.0 a e) ∙ h
 
 abbrev word_where : Bool → ℕ → Option ℕ
-word_where marked word = if marked then Some word else None
+word_where marks_of word = if marks_of then Some word else None
 
 -- the word placed at a location, by marks and contents
 pub word_is : (words : List ℕ) → length words ≡ 1024 → (placed : List (ℕ × ℕ)) (a : ℕ) → a < 1024 → ArePlaces placed
-    → word_where (get_or (marked placed) a false) (get_or (over placed words) a 0) ≡ placed_at placed a
+    → word_where (get_or (marks_of placed) a false) (get_or (over placed words) a 0) ≡ placed_at placed a
 word_is words l [] a h are = rw (get_or-replicate 1024 a false false h) refl
 word_is words l (p ∷ placed) a h are = by_test (nat_eq p.0 a) refl (word_is words l placed a h are.1)
   where
     M : List Bool
-    M = marked placed
+    M = marks_of placed
 
     W : List ℕ
     W = over placed words

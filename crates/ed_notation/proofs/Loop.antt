@@ -18,7 +18,7 @@ use Rattle.ed_notation.specs.Fold.{NotationState, over}
 use Rattle.ed_notation.specs.Faults.{IsFault}
 use Rattle.ed_notation.specs.Reading.{row_effect, setting_of, set_by, placed_by, entry_by}
 use Rattle.ed_notation.specs.Reading.{reading_on, part_of, IsPartial, IsEffectInRange}
-use Rattle.ed_notation.specs.Checks.{marked, ArePlaces, Arrives}
+use Rattle.ed_notation.specs.Checks.{marks_of, ArePlaces, Arrives}
 use Rattle.ed_notation.proofs.Follow.{Reader, reads, follow, function_begins}
 use Rattle.ed_notation.proofs.Laws.{faulty_is, arrived_well, arrived_comes}
 
@@ -40,7 +40,7 @@ pub record Holds (words : List ℕ) (notation : NotationState) (setting : Direct
     Type 0 where
   pub setting_is : setting_of notation ≡ setting
   pub contents_are : over notation.placed words ≡ contents
-  pub marks_are : marked notation.placed ≡ marks
+  pub marks_are : marks_of notation.placed ≡ marks
   pub places : ArePlaces notation.placed
 
 -- the loop at a row: the state of the notation there, from which the reader goes on

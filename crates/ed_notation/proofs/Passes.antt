@@ -9,7 +9,7 @@ use Rattle.ed_notation.specs.declared.cause.TapeCause.TheVariants.{EndOfTape, Ba
 use Rattle.ed_notation.specs.Items.{row_kind, Begun, Written, begun_rows, rows_of, spelled, IsWritten, item, items}
 use Rattle.ed_notation.specs.Openings.{IsDirective}
 use Rattle.ed_notation.specs.Fold.{NotationState, is_entry, fold, end_cost, cost_of, costs}
-use Rattle.ed_notation.specs.Faults.{cause_number, breaks, broken, is_bad_row, part_rows, AreRead, IsPart, Breaks}
+use Rattle.ed_notation.specs.Faults.{cause_number, breaks, is_broken, is_bad_row, part_rows, AreRead, IsPart, Breaks}
 use Rattle.ed_notation.specs.Reading.{reading_on, Verdict, Faulty}
 use Rattle.ed_notation.proofs.Least.{least_of, one_least}
 use Rattle.ed_notation.proofs.Follow.{Reader, reads, passed, behind, inside, Goes, reader_part}
@@ -84,7 +84,7 @@ record Refuses (v : Verdict) (row : ℕ) (cause : TapeCause) : Type 0 where
   least : cause_number found ≤ cause_number cause
 
 broken_here : (p : Reader) (part : Option Begun) (rest : List ℕ) (cause : TapeCause) → IsDirective p.notation.directive
-    → IsPart part → broken p.size p.words p.notation part rest cause ≡ true
+    → IsPart part → is_broken p.size p.words p.notation part rest cause ≡ true
     → Refuses (reads p (reader_part part) rest) p.row cause
 unfolding reading_on
 broken_here p None [] cause set is h = record { found = EndOfTape; is = refl; least = one_least cause }

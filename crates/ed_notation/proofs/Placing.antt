@@ -7,6 +7,7 @@ use Rattle.std.proofs.lemmas.Bool.Decides.{nat_tests}
 use Rattle.std.proofs.lemmas.List.{get_or-set_other}
 use Rattle.ed_words.specs.declared.size.Size.{Size}
 use Rattle.ed_words.specs.Sizes.{locations}
+use Rattle.ed_words.specs.declared.order_words.TheConstants.{T_F}
 use Rattle.ed_notation.specs.declared.item.Item.{Item}
 use Rattle.ed_notation.specs.declared.kind.RowKind.{RowKind}
 use Rattle.ed_notation.specs.declared.kind.RowKind.TheVariants.{Letter}
@@ -87,7 +88,7 @@ value_same xs ys theta c h same = let e = same (24 + c) (omega arith) in rw e re
 -- the state after items that place words
 abbrev pub behind : List ℕ → NotationState → ℕ → List Item → NotationState
 behind contents notation a is = record {
-  directive = 20480 + 2 * (a + length is);
+  directive = T_F + 2 * (a + length is);
   theta = notation.theta;
   placed = laid a (block contents notation.theta is) notation.placed;
 }
@@ -95,7 +96,7 @@ behind contents notation a is = record {
 -- items that place words under T a K, from 56 upwards, are read without a fault and place their words one after the
 -- other; `contents` are the words below 56
 pub placing_all : {z : Size} {words : List ℕ} (contents : List ℕ) {notation : NotationState} (a : ℕ) (is : List Item)
-    → all_letters is ≡ true → notation.directive ≡ 20480 + 2 * a → 56 ≤ a → a + length is ≤ locations z
+    → all_letters is ≡ true → notation.directive ≡ T_F + 2 * a → 56 ≤ a → a + length is ≤ locations z
     → ((j : ℕ) → j < 56 → get_or (over notation.placed words) j 0 ≡ get_or contents j 0)
     → Reads z words notation is (behind contents notation a is) (block_cost is)
 placing_all {z} {words} contents {notation} a [] h d low fits same =
@@ -110,7 +111,7 @@ placing_all {z} {words} contents {notation} a (i ∷ is) h d low fits same =
     let below : a < locations z = omega arith in
     let word : ℕ = word_with i.function i.number i.mark (value_of contents notation.theta i.end) in
     let next : NotationState = record {
-      directive = 20480 + 2 * (a + 1);
+      directive = T_F + 2 * (a + 1);
       theta = notation.theta;
       placed = (a, word) ∷ notation.placed;
     } in

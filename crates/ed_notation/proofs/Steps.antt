@@ -6,6 +6,7 @@ use Rattle.ed_words.proofs.Numbers.{lt_false, le_false}
 use Rattle.ed_words.proofs.SizeLemmas.{most}
 use Rattle.ed_words.specs.declared.size.Size.{Size}
 use Rattle.ed_words.specs.Sizes.{locations}
+use Rattle.ed_words.specs.declared.order_words.TheConstants.{E_F, G_F, T_F}
 use Rattle.ed_notation.specs.declared.item.Item.{Item}
 use Rattle.ed_notation.specs.declared.cause.TapeCause.{TapeCause}
 use Rattle.ed_notation.specs.declared.cause.TapeCause.TheVariants.{BadControl, LoaderStore, StoreEnd, NoPlace}
@@ -93,21 +94,21 @@ module _ (z : Size) (words : List ℕ) where
 
   -- T p K
   pub aiming : (notation : NotationState) (p : ℕ) → p ≤ 1023
-      → Does notation (plain 5 p 14) (record notation { directive = 20480 + 2 * p })
+      → Does notation (plain 5 p 14) (record notation { directive = T_F + 2 * p })
   aiming notation p h = record { goes_on = refl; sound = kay_sound notation 5 p refl h; acts = refl }
 
   -- E p K
   pub aiming_entry : (notation : NotationState) (p : ℕ) → p ≤ 1023
-      → Does notation (plain 3 p 14) (record notation { directive = 12288 + 2 * p })
+      → Does notation (plain 3 p 14) (record notation { directive = E_F + 2 * p })
   aiming_entry notation p h = record { goes_on = refl; sound = kay_sound notation 3 p refl h; acts = refl }
 
   -- G K under a T directive: θ is twice the location
-  pub setting_theta : (notation : NotationState) (p : ℕ) → p ≤ 1023 → notation.directive ≡ 20480 + 2 * p
+  pub setting_theta : (notation : NotationState) (p : ℕ) → p ≤ 1023 → notation.directive ≡ T_F + 2 * p
       → Does notation (plain 27 0 14) (record notation { theta = 2 * p })
   setting_theta notation p h d = record {
     goes_on = refl;
     sound = kay_sound notation 27 0 refl (omega arith);
-    acts = let e : (110592 + notation.directive) % 2 ^ 17 ≡ 2 * p = omega arith in rw e refl;
+    acts = let e : (G_F + notation.directive) % 2 ^ 17 ≡ 2 * p = omega arith in rw e refl;
   }
 
   -- a code letter breaks no rule under a directive that aims into the store, above the loader
@@ -128,9 +129,9 @@ module _ (z : Size) (words : List ℕ) where
 
   -- a code letter under T p K places its word
   pub placing : {notation : NotationState} {i : Item} (place : ℕ) {w : ℕ} → row_kind i.end ≡ Letter
-      → notation.directive ≡ 20480 + 2 * place → 44 ≤ place → place < locations z → item_word words notation i ≡ w
+      → notation.directive ≡ T_F + 2 * place → 44 ≤ place → place < locations z → item_word words notation i ≡ w
       → Does notation i (record {
-        directive = 20480 + 2 * (place + 1);
+        directive = T_F + 2 * (place + 1);
         theta = notation.theta;
         placed = (place, w) ∷ notation.placed;
       })
@@ -139,7 +140,7 @@ module _ (z : Size) (words : List ℕ) where
       let five : notation.directive / 4096 ≡ 5 = omega arith in
       let action : letter_action_of notation.directive ≡ Places = rw five refl in
       let a : address notation.directive ≡ place = omega arith in
-      let n : notation.directive + 2 ≡ 20480 + 2 * (place + 1) = omega arith in
+      let n : notation.directive + 2 ≡ T_F + 2 * (place + 1) = omega arith in
       record {
         goes_on = rw (letter, action) refl;
         sound = letter_rule letter notation (canonical i).begun i.end action
@@ -149,7 +150,7 @@ module _ (z : Size) (words : List ℕ) where
 
   -- the orders that read a code letter which places a word
   pub placing_cost : (notation : NotationState) (i : Item) (place : ℕ) → row_kind i.end ≡ Letter
-      → notation.directive ≡ 20480 + 2 * place → place < locations z
+      → notation.directive ≡ T_F + 2 * place → place < locations z
       → cost_of notation (canonical i) ≡ begun_cost (canonical i).begun + 17
   placing_cost notation i place letter d high =
       let m = most z in
@@ -165,7 +166,7 @@ module _ (z : Size) (words : List ℕ) where
     pub word : item_word words notation (plain 0 0 17) ≡ 0
 
   -- P F under E p K enters
-  pub entering_at : (notation : NotationState) (p : ℕ) → notation.directive ≡ 12288 + 2 * p → 44 ≤ p → p < locations z
+  pub entering_at : (notation : NotationState) (p : ℕ) → notation.directive ≡ E_F + 2 * p → 44 ≤ p → p < locations z
       → Enters notation p
   entering_at notation p d low high =
       let m = most z in

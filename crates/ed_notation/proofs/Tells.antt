@@ -8,7 +8,7 @@ use Rattle.ed_notation.specs.declared.reader.RowEffect.TheVariants.{Refused, Lon
 use Rattle.ed_notation.specs.Items.{row_kind, Begun, Written, begun_rows, rows_of, spelled, IsBegun, IsWritten, item}
 use Rattle.ed_notation.specs.Openings.{IsDirective}
 use Rattle.ed_notation.specs.Fold.{NotationState, act, is_entry, begun_cost, cost_of}
-use Rattle.ed_notation.specs.Faults.{breaks, broken, part_rows, IsPart, TapeEntry, Breaks, ComesTo}
+use Rattle.ed_notation.specs.Faults.{breaks, is_broken, part_rows, IsPart, TapeEntry, Breaks, ComesTo}
 use Rattle.ed_notation.specs.Reading.{reading_on, Verdict, Faulty, Arrived}
 use Rattle.ed_notation.proofs.Rows.{RowLaw, EndsItem, as_part, causes}
 use Rattle.ed_notation.proofs.Directives.{KeepsDirective}
@@ -80,7 +80,7 @@ before p w rows (Arrived e) good goes t =
 
 -- a rule that is broken after a part of an item
 at_end : (p : Reader) (part : Option Begun) (rest : List ℕ) (cause : TapeCause) → IsPart part
-    → broken p.size p.words p.notation part rest cause ≡ true
+    → is_broken p.size p.words p.notation part rest cause ≡ true
     → TellsFault p (part_rows part ++ rest) (inside p part).row cause
 at_end p part rest cause is h = record {
   offset = length (part_rows part);
@@ -130,8 +130,8 @@ module _ (p : Reader) (b : Begun) (c : ℕ) (rows : List ℕ) (told : Told rows)
   by_taken : (t : RowEffect) → KeepsDirective p.notation t → RowLaw (row_kind c) p.size p.words p.notation b c t
       → Tells p (begun_rows b ++ (c ∷ rows)) (follow here (as_part b) c rows t)
   by_taken (Refused cause) u law =
-      let broken = found_is (λ x. breaks x (row_kind c) p.size p.words p.notation b c) causes cause law in
-      at_end p (Some b) (c ∷ rows) cause good broken
+      let is_broken = found_is (λ x. breaks x (row_kind c) p.size p.words p.notation b c) causes cause law in
+      at_end p (Some b) (c ∷ rows) cause good is_broken
   by_taken (Longer i n) u law =
       let x = law.2 in
       let l = ap (λ (y : List ℕ). length y) x.rows_are in

@@ -32,9 +32,9 @@ AnswersCheck z words start base rows (Err (At row cause)) = IsFault z words star
 AnswersCheck z words start base rows (Err Memory) = Unit {0}
 
 -- for each location, whether a word was placed there
-abbrev pub marked : List (ℕ × ℕ) → List Bool
-marked [] = replicate 1024 false
-marked (p ∷ placed) = slice_set (marked placed) p.0 true
+abbrev pub marks_of : List (ℕ × ℕ) → List Bool
+marks_of [] = replicate 1024 false
+marks_of (p ∷ placed) = slice_set (marks_of placed) p.0 true
 
 -- all words are placed at locations of the store
 abbrev pub ArePlaces : List (ℕ × ℕ) → Type 0
@@ -58,7 +58,7 @@ pub record Arrives (z : Size) (words : List ℕ) (start : NotationState) (base :
   pub rows_are : r.rows ≡ entry.rows
   pub theta_is : r.theta ≡ entry.notation.theta
   pub contents_are : contents ≡ over entry.notation.placed words
-  pub marks_are : marks ≡ marked entry.notation.placed
+  pub marks_are : marks ≡ marks_of entry.notation.placed
   pub places : ArePlaces entry.notation.placed
   pub locations_are : length words ≡ 1024
 

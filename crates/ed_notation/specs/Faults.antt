@@ -5,6 +5,7 @@ use Rattle.std.specs.Prelude.{false, ◌&&◌, ◌||◌, not, nat_eq, nat_lt, na
 use Rattle.std.specs.Prelude.{Option, Some, None, List, [], ◌∷◌, ◌++◌, length}
 use Rattle.ed_words.specs.declared.size.Size.{Size}
 use Rattle.ed_words.specs.Sizes.{locations}
+use Rattle.ed_words.specs.declared.order_words.TheConstants.{E_F, T_F}
 use Rattle.ed_notation.specs.declared.item.Item.{Item}
 use Rattle.ed_notation.specs.declared.cause.TapeCause.{TapeCause}
 use Rattle.ed_notation.specs.declared.cause.TapeCause.TheVariants.{EndOfTape, BadRow, NumberTooLarge}
@@ -39,7 +40,7 @@ cause_number EntryInLoader = 10
 -- whether a word is an order P, E or T with length digit F and an address below 1024
 abbrev pub is_place : ℕ → Bool
 is_place x =
-    nat_eq (x % 2) 0 && (nat_lt x 2048 || ((nat_le 12288 x && nat_lt x 14336) || (nat_le 20480 x && nat_lt x 22528)))
+    nat_eq (x % 2) 0 && (nat_lt x 2048 || ((nat_le E_F x && nat_lt x 14336) || (nat_le T_F x && nat_lt x 22528)))
 
 -- whether K may not end an item of this function
 abbrev pub bad_kay : Control → Bool
@@ -102,10 +103,10 @@ is_bad_row BadRow = true
 is_bad_row cause = false
 
 -- whether the rule is broken when this part of an item has been read and these rows are left
-abbrev pub broken : Size → List ℕ → NotationState → Option Begun → List ℕ → TapeCause → Bool
-broken z words notation part [] cause = is_end_of_tape cause
-broken z words notation None (c ∷ rest) cause = is_bad_row cause && not (nat_lt c 32)
-broken z words notation (Some b) (c ∷ rest) cause = breaks cause (row_kind c) z words notation b c
+abbrev pub is_broken : Size → List ℕ → NotationState → Option Begun → List ℕ → TapeCause → Bool
+is_broken z words notation part [] cause = is_end_of_tape cause
+is_broken z words notation None (c ∷ rest) cause = is_bad_row cause && not (nat_lt c 32)
+is_broken z words notation (Some b) (c ∷ rest) cause = breaks cause (row_kind c) z words notation b c
 
 -- whole items one after the other, none of them an entry item
 abbrev pub AreRead : List ℕ → NotationState → List Written → Type 0
@@ -137,7 +138,7 @@ pub record IsRead (words : List ℕ) (start : NotationState) (rows : List ℕ) (
 pub record Breaks (z : Size) (words : List ℕ) (start : NotationState) (rows : List ℕ) (row : ℕ) (cause : TapeCause) :
     Type 0 where
   pub stands : IsRead words start rows row
-  pub breaks : broken z words (fold words start (items stands.before)) stands.part stands.rest cause ≡ true
+  pub breaks : is_broken z words (fold words start (items stands.before)) stands.part stands.rest cause ≡ true
 
 -- the fault of a tape: the first row at which a rule is broken, and the rule with the least number broken there
 pub record IsFault (z : Size) (words : List ℕ) (start : NotationState) (rows : List ℕ) (row : ℕ) (cause : TapeCause) :

@@ -11,7 +11,7 @@ use Rattle.ed_machine.specs.declared.ending.Ending.{Ending}
 use Rattle.ed_machine.specs.declared.ending.Ending.TheVariants.{Stopped, Limit}
 use Rattle.ed_machine.proofs.LeastNumbers.{least_on}
 use Rattle.ed_machine.proofs.Steps.{after_sum, no_step, past_sum}
-use Rattle.ed_run.specs.Run.{end_at, end_by, ran, run_orders}
+use Rattle.ed_run.specs.Run.{end_at, end_by, run_end, run_orders}
 use Rattle.ed_run.proofs.Ends.{ran_ends}
 use Rattle.ed_loads.specs.EntryState.{first_state}
 use Rattle.ed_command.specs.declared.command.Settings.{Settings}
@@ -55,10 +55,10 @@ later_room a b c = grind (arith, nat_tests)
 -- continuing twice is continuing once
 goes_on : (limit resumes room orders more : ℕ) (s : State)
     → let k = run_orders limit resumes room s in
-    let first = ran limit resumes room s in
-    ran (k + orders) ((progress k s).stops + more) room s
-    ≡ run_following (progress k s) (ran orders more (room - length first.codes) first.state)
-unfolding ran
+    let first = run_end limit resumes room s in
+    run_end (k + orders) ((progress k s).stops + more) room s
+    ≡ run_following (progress k s) (run_end orders more (room - length first.codes) first.state)
+unfolding run_end
 goes_on limit resumes room orders more s =
     let k = run_orders limit resumes room s in
     let p = progress k s in
@@ -94,17 +94,17 @@ goes_on limit resumes room orders more s =
 
 -- a run from Start is one on the way
 pub from_start : (s : Settings) (codes : List ℕ)
-    → run_of s codes ≡ ran s.limit s.resumes paper_room (state_after 0 (first_state s.size codes))
-from_start s codes = ap (ran s.limit s.resumes paper_room) (no_step (first_state s.size codes))
+    → run_of s codes ≡ run_end s.limit s.resumes paper_room (state_after 0 (first_state s.size codes))
+from_start s codes = ap (run_end s.limit s.resumes paper_room) (no_step (first_state s.size codes))
 
 pub from_start1 : (s : Settings) (codes : List ℕ)
-    → run1_of s codes ≡ ran s.limit s.resumes paper_room (state_after 0 (first_state1 codes))
-from_start1 s codes = ap (ran s.limit s.resumes paper_room) (no_step (first_state1 codes))
+    → run1_of s codes ≡ run_end s.limit s.resumes paper_room (state_after 0 (first_state1 codes))
+from_start1 s codes = ap (run_end s.limit s.resumes paper_room) (no_step (first_state1 codes))
 
 -- and where a run ends is on the way
 pub stays : (first : State) (k limit resumes room : ℕ)
-    → (j : ℕ) × ((ran limit resumes room (state_after k first)).state ≡ state_after (k + j) first)
-unfolding ran
+    → (j : ℕ) × ((run_end limit resumes room (state_after k first)).state ≡ state_after (k + j) first)
+unfolding run_end
 stays first k limit resumes room =
     let j = run_orders limit resumes room (state_after k first) in (j, sym (after_sum k j first))
 

@@ -5,7 +5,7 @@ use Rattle.ed_machine.specs.declared.ending.Ending.{Ending}
 use Rattle.ed_machine.specs.declared.ending.Ending.TheVariants.{Stopped, Limit, NoOrder, NoTape, PaperFull}
 use Rattle.ed_machine.specs.Sheet.{Sheet}
 use Rattle.ed_machine.specs.Steps.{state_after}
-use Rattle.ed_run.specs.Run.{IsLeft, RunEnd, ran}
+use Rattle.ed_run.specs.Run.{IsLeft, RunEnd, run_end}
 use Rattle.ed_words.specs.Texts.{Text}
 use Rattle.ed_answers.specs.Answer.{Answer}
 use Rattle.ed_answers.specs.Runs.{paper_room, status_of}
@@ -61,7 +61,7 @@ gone_shown r before after answer room shows =
 
 -- what is shown then is on the way again
 pub next_on : (first : State) (rows : List ℕ) (k limit resumes room : ℕ) (words digits : List ℕ) (registers : Registers)
-    → AreCodes rows → Pictures (ran limit resumes room (state_after k first)).state words digits registers
+    → AreCodes rows → Pictures (run_end limit resumes room (state_after k first)).state words digits registers
     → IsOnTheWay first rows words digits registers
 next_on first rows k limit resumes room words digits registers are pictures =
     let on = stays first k limit resumes room in
@@ -75,7 +75,7 @@ next_on first rows k limit resumes room words digits registers are pictures =
 pub begins_on : (wanted : Answer) (Ends : Text → State → Type 0) (text : Text) (before after : Buffers) (answer : ℕ)
     (first : State) (limit resumes : ℕ) (rows : List ℕ) (run : RunEnd)
     → IsShown wanted Ends text before after answer → AreCodes rows
-    → run ≡ ran limit resumes paper_room (state_after 0 first) → Ends text run.state
+    → run ≡ run_end limit resumes paper_room (state_after 0 first) → Ends text run.state
     → BeginsOnTheWay first rows text after.words after.digits after.registers answer
 begins_on wanted Ends text before after answer first limit resumes rows run shown are from_first ends few not10 not12 =
     let pictures = ((shown.told not10).2.shown not12).1.state few run.state ends in
@@ -85,14 +85,14 @@ begins_on wanted Ends text before after answer first limit resumes rows run show
 -- a run on a fresh paper with this room
 pub gone_of : (limit resumes room : ℕ) (m : State) (sheet full : Sheet) (gone : Gone)
     → sheet ≡ record { codes = []; room = room }
-    → IsLeft (ran limit resumes (sheet.room - length sheet.codes) m) sheet gone.ending gone.machine full
-    → gone.codes.items ≡ full.codes → IsGone (ran limit resumes room m) gone
+    → IsLeft (run_end limit resumes (sheet.room - length sheet.codes) m) sheet gone.ending gone.machine full
+    → gone.codes.items ≡ full.codes → IsGone (run_end limit resumes room m) gone
 gone_of limit resumes room m sheet full gone fresh left codes =
     let whole : room - 0 ≡ room = omega arith in
-    let same : ran limit resumes (room - 0) m ≡ ran limit resumes room m = ap (λ n. ran limit resumes n m) whole in
-    let is : IsLeft (ran limit resumes (room - 0) m) (record { codes = []; room = room }) gone.ending
+    let same : run_end limit resumes (room - 0) m ≡ run_end limit resumes room m = ap (λ n. run_end limit resumes n m) whole in
+    let is : IsLeft (run_end limit resumes (room - 0) m) (record { codes = []; room = room }) gone.ending
     gone.machine full =
-    subst (λ (x : Sheet). IsLeft (ran limit resumes (x.room - length x.codes) m) x gone.ending gone.machine full)
+    subst (λ (x : Sheet). IsLeft (run_end limit resumes (x.room - length x.codes) m) x gone.ending gone.machine full)
     fresh left in
     record {
       ending_is = is.ending_is ∙ ap (λ (r : RunEnd). r.ending) same;

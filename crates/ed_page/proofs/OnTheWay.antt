@@ -11,7 +11,7 @@ use Rattle.ed_words.specs.Sizes.{locations}
 use Rattle.ed_words.specs.declared.size.Size.{Size}
 use Rattle.ed_words.specs.declared.size.Size.TheVariants.{Small, Full}
 use Rattle.ed_store.specs.Cells.{Cells, IsStore}
-use Rattle.ed_machine.specs.State.{State, cleared}
+use Rattle.ed_machine.specs.State.{State, cleared_state}
 use Rattle.ed_machine.specs.Reached.{IsReached}
 use Rattle.ed_machine.specs.Reached.IsReached.{clear, start, obey}
 use Rattle.ed_machine.specs.Sound.{IsSound}
@@ -83,7 +83,7 @@ first_is : (z : Size) (rows : List ℕ) → AreCodes rows → IsFirst z rows (fi
 unfolding first_state
 first_is z rows are = record {
   sound = first_sound z rows are;
-  reached = start initial_orders rows (cleared z) (omega arith) (clear z);
+  reached = start initial_orders rows (cleared_state z) (omega arith) (clear z);
   size_is = refl;
   tape_is = refl;
 }
@@ -92,7 +92,7 @@ first_is1 : (rows : List ℕ) → AreCodes rows → IsFirst Full rows (first_sta
 unfolding first_state1
 first_is1 rows are = record {
   sound = first_sound1 rows are;
-  reached = start first_orders rows (cleared Full) (omega arith) (clear Full);
+  reached = start first_orders rows (cleared_state Full) (omega arith) (clear Full);
   size_is = refl;
   tape_is = refl;
 }

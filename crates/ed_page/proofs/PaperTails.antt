@@ -5,7 +5,7 @@ use Rattle.std.specs.List.{find}
 use Rattle.std.specs.Prelude.{◌==◌, ◌||◌, if◌then◌else◌, reverse}
 use Rattle.std.proofs.lemmas.List.{reverse-append}
 use Rattle.ed_words.specs.Texts.{Text}
-use Rattle.ed_printer.specs.Paper.{latest_shift, paper, paper_from, shift_after, struck}
+use Rattle.ed_printer.specs.Paper.{latest_shift, paper, paper_from, shift_after, struck_bytes}
 use Rattle.ed_printer.specs.declared.printer.Shift.{Shift}
 use Rattle.ed_printer.specs.declared.printer.Shift.TheVariants.{Figures, Letters}
 use Rattle.ed_printer.proofs.Latest.{in_latest_shift}
@@ -21,8 +21,8 @@ paper_law before (code ∷ codes) =
     ∙ paper_law (before ++ code ∷ []) codes
     ∙ ap (λ (t : Text). t ++ paper_from (latest_shift (reverse (before ++ code ∷ []))) codes)
     (in_latest_shift before code)
-    ∙ ap (λ (s : Shift). (paper before ++ struck shift code) ++ paper_from s codes) next
-    ∙ append_assoc (paper before) (struck shift code) (paper_from (shift_after shift code) codes)
+    ∙ ap (λ (s : Shift). (paper before ++ struck_bytes shift code) ++ paper_from s codes) next
+    ∙ append_assoc (paper before) (struck_bytes shift code) (paper_from (shift_after shift code) codes)
 
 -- the shift that a code sets, or letter shift if no code sets one
 abbrev pub shift_set : Option ℕ → Shift

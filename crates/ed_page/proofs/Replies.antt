@@ -16,7 +16,7 @@ use Rattle.ed_report.specs.Notes.{source_fault_line}
 use Rattle.ed_command.specs.declared.command.Settings.{Settings}
 use Rattle.ed_answers.specs.Answer.{OfReading, exactly, of_input, of_rows}
 use Rattle.ed_words.specs.Texts.{Text}
-use Rattle.ed_answers.specs.Outcome.{Outcome, refused, too_long_outcome}
+use Rattle.ed_answers.specs.Outcome.{Outcome, refusal, too_long_outcome}
 use Rattle.ed_answers.specs.Runs.{run_of}
 use Rattle.ed_answers.specs.Sources.{of_source, run_outcome}
 use Rattle.ed_answers.proofs.Sources.{accepted_is}
@@ -144,7 +144,7 @@ linked_replied z f text k (Err e) few l gives = tt
 pub source_refused : (z : Size) (f : List Line → Outcome) (text : Text) (e : Rejection) (r : Result Told NoMemory)
     → length text ≤ 262144 → LinksSource z text (Err e) → HoldsRejection e r → IsAnswered (of_source z f) text r
 source_refused z f text (Refused reply) (Ok told) few l tells =
-    (refused (source_fault_line (At l.0 l.1)), inl (few, inl (l.0, l.1, l.2, refl)), tells _ l.3)
+    (refusal (source_fault_line (At l.0 l.1)), inl (few, inl (l.0, l.1, l.2, refl)), tells _ l.3)
 source_refused z f text Memory (Ok told) few l tells = absurd tells
 source_refused z f text e (Err none) few l tells = tt
 
@@ -186,7 +186,7 @@ pub source_refusal_drawn : (s : Settings) (text : Text) (e : Rejection) (told : 
     → Draws (of_source s.size (run_outcome s)) (SourceEnds s) text (Ok (record { told = told; machine = None }))
 source_refusal_drawn s text Memory told few l tells = absurd tells
 source_refusal_drawn s text (Refused reply) told few l tells = (
-  refused (source_fault_line (At l.0 l.1)),
+  refusal (source_fault_line (At l.0 l.1)),
   inl (few, inl (l.0, l.1, l.2, refl)),
   tells _ l.3,
   record {

@@ -15,7 +15,7 @@ use Rattle.ed_notation.specs.Spellings.{canonicals, text_of}
 use Rattle.ed_syntax.specs.declared.program.Line.{Line}
 use Rattle.ed_link.specs.Refusals.{IsAcceptedAs}
 use Rattle.ed_link.specs.Linked.{data_after}
-use Rattle.ed_link.specs.Punch.{punched}
+use Rattle.ed_link.specs.Punch.{punched_items}
 use Rattle.ed_link.specs.Tapes.{after_text, tape}
 use Rattle.ed_link.proofs.PunchedTexts.{text_is_tape}
 use Rattle.ed_page.specs.Going.{AreCodes}
@@ -47,5 +47,5 @@ read_codes text codes is = spelled_codes (subst (λ (r : Reading). IsReadingOf t
 
 pub source_codes : (z : Size) (text : Text) (lines : List Line) → IsAcceptedAs z text lines → AreCodes (tape lines)
 source_codes z text lines accepted =
-    read_codes (text_of (canonicals (punched lines)) ++ after_text (data_after lines)) (tape lines)
+    read_codes (text_of (canonicals (punched_items lines)) ++ after_text (data_after lines)) (tape lines)
     (text_is_tape z text lines accepted)

@@ -6,9 +6,9 @@ use Rattle.ed_orders.specs.Kinds.{kind_of_function}
 use Rattle.ed_orders.specs.declared.kind.Kind.{Kind}
 use Rattle.ed_orders.specs.declared.kind.Kind.TheVariants.{E, G, I}
 use Rattle.ed_machine.specs.State.{State}
-use Rattle.ed_machine.specs.OrderTable.{jumped, next_word, obey_word, place_of, step, took_row}
+use Rattle.ed_machine.specs.OrderTable.{jump_order, next_word, obey_word, place_of, step, row_order}
 use Rattle.ed_machine.specs.Steps.{progress, state_after}
-use Rattle.ed_run.specs.Run.{ran, run_orders}
+use Rattle.ed_run.specs.Run.{run_end, run_orders}
 use Rattle.ed_loads.specs.EntryState.{first_state}
 use Rattle.ed_answers.specs.FirstOrders.{first_state1}
 use Rattle.ed_answers.specs.Runs.{paper_room}
@@ -18,17 +18,17 @@ use Rattle.ed_page.specs.Answers.{EachRun1ReadsOn, EachRunReadsOn, IsEndOf}
 by_order : (k : Option Kind) (w : ℕ) (s : State) → IsEndOf (obey_word k w s).state.tape s.tape
 by_order (Some E) w s = by_test (nat_lt s.acc (2 ^ 70))
   where
-    by_test : (b : Bool) → IsEndOf (jumped b (place_of s w) s).state.tape s.tape
+    by_test : (b : Bool) → IsEndOf (jump_order b (place_of s w) s).state.tape s.tape
     by_test true = ([], refl)
     by_test false = ([], refl)
 by_order (Some G) w s = by_test (nat_le (2 ^ 70) s.acc)
   where
-    by_test : (b : Bool) → IsEndOf (jumped b (place_of s w) s).state.tape s.tape
+    by_test : (b : Bool) → IsEndOf (jump_order b (place_of s w) s).state.tape s.tape
     by_test true = ([], refl)
     by_test false = ([], refl)
 by_order (Some I) w s = by_tape s.tape refl
   where
-    by_tape : (rows : List ℕ) → s.tape ≡ rows → IsEndOf (took_row rows w s).state.tape s.tape
+    by_tape : (rows : List ℕ) → s.tape ≡ rows → IsEndOf (row_order rows w s).state.tape s.tape
     by_tape [] e = ([], refl)
     by_tape (row ∷ rows) e = (row ∷ [], sym e)
 by_order None w s = ([], refl)
@@ -49,11 +49,11 @@ by_steps (suc k) s =
     (before.0 ++ here.0, all)
 
 pub each_run_reads_on : EachRunReadsOn
-unfolding ran first_state
+unfolding run_end first_state
 each_run_reads_on s codes =
     let first = first_state s.size codes in by_steps (run_orders s.limit s.resumes paper_room first) first
 
 pub each_run1_reads_on : EachRun1ReadsOn
-unfolding ran first_state1
+unfolding run_end first_state1
 each_run1_reads_on s codes =
     let first = first_state1 codes in by_steps (run_orders s.limit s.resumes paper_room first) first

@@ -6,7 +6,7 @@ use Rattle.ed_words.specs.Texts.{Text}
 use Rattle.ed_printer.specs.Paper.{latest_shift, paper, paper_from}
 use Rattle.ed_machine.specs.State.{State}
 use Rattle.ed_machine.specs.Steps.{Progress, progress, state_after}
-use Rattle.ed_run.specs.Run.{RunEnd, ran, run_orders}
+use Rattle.ed_run.specs.Run.{RunEnd, run_end, run_orders}
 use Rattle.ed_loads.specs.EntryState.{first_state}
 use Rattle.ed_command.specs.declared.command.Settings.{Settings}
 use Rattle.ed_answers.specs.FirstOrders.{first_state1, run1_of}
@@ -90,15 +90,15 @@ run_following p r = record { ending = r.ending; state = r.state; codes = p.codes
 pub record GoingLaw : Type 0 where
   pub goes_on : (limit resumes room orders more : ℕ) (s : State)
       → let k = run_orders limit resumes room s in
-      let first = ran limit resumes room s in
-      ran (k + orders) ((progress k s).stops + more) room s
-      ≡ run_following (progress k s) (ran orders more (room - length first.codes) first.state)
+      let first = run_end limit resumes room s in
+      run_end (k + orders) ((progress k s).stops + more) room s
+      ≡ run_following (progress k s) (run_end orders more (room - length first.codes) first.state)
   pub from_start : (s : Settings) (codes : List ℕ)
-      → run_of s codes ≡ ran s.limit s.resumes paper_room (state_after 0 (first_state s.size codes))
+      → run_of s codes ≡ run_end s.limit s.resumes paper_room (state_after 0 (first_state s.size codes))
   pub from_start1 : (s : Settings) (codes : List ℕ)
-      → run1_of s codes ≡ ran s.limit s.resumes paper_room (state_after 0 (first_state1 codes))
+      → run1_of s codes ≡ run_end s.limit s.resumes paper_room (state_after 0 (first_state1 codes))
   pub stays : (first : State) (k limit resumes room : ℕ)
-      → (j : ℕ) × ((ran limit resumes room (state_after k first)).state ≡ state_after (k + j) first)
+      → (j : ℕ) × ((run_end limit resumes room (state_after k first)).state ≡ state_after (k + j) first)
 
 -- ---- the text of codes
 

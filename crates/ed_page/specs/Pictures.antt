@@ -15,8 +15,8 @@ size_shown true = Small
 size_shown false = Full
 
 -- the settings of a run that is shown: its limit of orders, its resumes, and no post-mortem
-abbrev pub asked : Bool → ℕ → ℕ → Settings
-asked small orders resumes = record { limit = orders; resumes = resumes; size = size_shown small; post_mortem = None }
+abbrev pub run_settings : Bool → ℕ → ℕ → Settings
+run_settings small orders resumes = record { limit = orders; resumes = resumes; size = size_shown small; post_mortem = None }
 
 -- the words of all locations, and the sandwich digits of all pairs
 pub record PicturesStore (c : Cells) (words digits : List ℕ) : Type 0 where

@@ -3,7 +3,7 @@
 ghost use Rattle.std.specs.Prelude.{◌≡◌, ℕ, ◌+◌, ◌^◌, ◌≤◌, IfOk, length};
 ghost use Rattle.ed_machine.specs.State.{State};
 ghost use Rattle.ed_machine.specs.Steps.{state_after};
-ghost use Rattle.ed_run.specs.Run.{RunEnd, ran};
+ghost use Rattle.ed_run.specs.Run.{RunEnd, run_end};
 ghost use Rattle.ed_page.specs.Going.{CanGoOn, GoingLaw, IsAfterStart, IsGoneOn, IsOnTheWay, ShowsRun, going_buffers};
 ghost use Rattle.ed_page.specs.Pictures.{Pictures};
 ghost use Rattle.ed_page.specs.Private.Stages.{IsGone};
@@ -51,7 +51,7 @@ pub extern "C" fn page_go_on(
     requires count { registers.old.orders + orders ≤ 2 ^ 63 }
     ensures gone { (first : State) → IsAfterStart small rows.now first → (k : ℕ)
         → Pictures (state_after k first) words.old digits.old registers.old
-        → IsGoneOn (ran orders resumes (length codes.old) (state_after k first))
+        → IsGoneOn (run_end orders resumes (length codes.old) (state_after k first))
         (going_buffers words.old digits.old codes.old registers.old)
         (going_buffers words.new digits.new codes.new registers.new) result }
     ensures next { (first : State) → IsAfterStart small rows.now first
@@ -96,7 +96,7 @@ fn went_on(
     requires count { registers.now.orders + orders ≤ 2 ^ 63 }
     ensures gone { IfOk result (λ gone. (first : State) → IsAfterStart small rows.now first → (k : ℕ)
         → Pictures (state_after k first) words.now digits.now registers.now
-        → IsGone (ran orders resumes room (state_after k first)) gone) }
+        → IsGone (run_end orders resumes room (state_after k first)) gone) }
     ensures fits { IfOk result (λ gone. length gone.codes.items ≤ room) }
 {
     let machine = pictured(alloc, small, rows, words, digits, registers)?;
@@ -112,7 +112,7 @@ fn go_on(
     room: usize,
 ) -> Result<Gone, NoMemory>
     requires { machine.orders + orders ≤ 2 ^ 63 }
-    ensures gone { IfOk result (IsGone (ran orders resumes room machine)) }
+    ensures gone { IfOk result (IsGone (run_end orders resumes room machine)) }
     ensures fits { IfOk result (λ gone. length gone.codes.items ≤ room) }
 {
     let mut paper = Paper::new(alloc, room)?;

@@ -11,10 +11,10 @@ ghost use Rattle.ed_answers.specs.Tapes.{tape_answer};
 ghost use Rattle.ed_page.specs.Answers.{EachRunReadsOn, IsShown, LacksLine, SourceEnds, TapeEnds, blank_registers};
 ghost use Rattle.ed_page.specs.Answers.{EachRun1ReadsOn, Tape1Ends, picture_buffers};
 ghost use Rattle.ed_page.specs.Going.{BeginsOnTheWay};
-ghost use Rattle.ed_page.specs.Pictures.{Pictures, asked, size_shown};
+ghost use Rattle.ed_page.specs.Pictures.{Pictures, run_settings, size_shown};
 ghost use Rattle.ed_page.specs.Private.Stages.{Draws, HoldsOutcome, WritesBuffers};
 
-use crate::running::{Shown, asked, run_linked, run_tape, run_tape1};
+use crate::running::{Shown, run_linked, run_settings, run_tape, run_tape1};
 use crate::told::{NO_MEMORY, NO_ROOM, Told, is_too_long, lacks_line, rejected};
 use crate::writing::{Lengths, Registers, no_registers, registers_of, write_store};
 use ed_answers::{linked_of, rows_of};
@@ -45,7 +45,7 @@ pub extern "C" fn page_tape(
     note: &mut [u8],
     registers: &mut Registers,
 ) -> u32
-    ensures shown { let s = asked small orders resumes in IsShown (tape_answer s) (TapeEnds s) text.now
+    ensures shown { let s = run_settings small orders resumes in IsShown (tape_answer s) (TapeEnds s) text.now
         (picture_buffers words.old digits.old paper.old note.old registers.old)
         (picture_buffers words.new digits.new paper.new note.new registers.new) result }
     ensures rows { EachRunReadsOn }
@@ -55,7 +55,7 @@ pub extern "C" fn page_tape(
     if lacks_room(text, words, digits, note) {
         return NO_ROOM;
     }
-    match tape_shown(alloc, asked(small, orders, resumes), text) {
+    match tape_shown(alloc, run_settings(small, orders, resumes), text) {
         Ok(shown) => show(&shown, words, digits, paper, note, registers),
         Err(NoMemory) => NO_MEMORY,
     }
@@ -75,7 +75,7 @@ pub extern "C" fn page_tape1(
     note: &mut [u8],
     registers: &mut Registers,
 ) -> u32
-    ensures shown { let s = asked false orders resumes in IsShown (tape1_answer s) (Tape1Ends s) text.now
+    ensures shown { let s = run_settings false orders resumes in IsShown (tape1_answer s) (Tape1Ends s) text.now
         (picture_buffers words.old digits.old paper.old note.old registers.old)
         (picture_buffers words.new digits.new paper.new note.new registers.new) result }
     ensures rows { EachRun1ReadsOn }
@@ -85,7 +85,7 @@ pub extern "C" fn page_tape1(
     if lacks_room(text, words, digits, note) {
         return NO_ROOM;
     }
-    match tape1_shown(alloc, asked(false, orders, resumes), text) {
+    match tape1_shown(alloc, run_settings(false, orders, resumes), text) {
         Ok(shown) => show(&shown, words, digits, paper, note, registers),
         Err(NoMemory) => NO_MEMORY,
     }
@@ -106,7 +106,7 @@ pub extern "C" fn page_source(
     note: &mut [u8],
     registers: &mut Registers,
 ) -> u32
-    ensures shown { let s = asked small orders resumes in IsShown (run_answer s) (SourceEnds s) text.now
+    ensures shown { let s = run_settings small orders resumes in IsShown (run_answer s) (SourceEnds s) text.now
         (picture_buffers words.old digits.old paper.old note.old registers.old)
         (picture_buffers words.new digits.new paper.new note.new registers.new) result }
     ensures rows { EachRunReadsOn }
@@ -117,7 +117,7 @@ pub extern "C" fn page_source(
     if lacks_room(text, words, digits, note) {
         return NO_ROOM;
     }
-    match source_shown(alloc, asked(small, orders, resumes), text) {
+    match source_shown(alloc, run_settings(small, orders, resumes), text) {
         Ok(shown) => show(&shown, words, digits, paper, note, registers),
         Err(NoMemory) => NO_MEMORY,
     }

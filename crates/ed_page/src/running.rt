@@ -7,7 +7,7 @@ ghost use Rattle.ed_answers.specs.FirstOrders.{run1_of, tape1_outcome};
 ghost use Rattle.ed_answers.specs.Tapes.{tape_outcome};
 ghost use Rattle.ed_answers.specs.Runs.{run_of, status_of};
 ghost use Rattle.ed_answers.specs.Sources.{run_outcome};
-ghost use Rattle.ed_page.specs.Pictures.{asked, size_shown};
+ghost use Rattle.ed_page.specs.Pictures.{run_settings, size_shown};
 ghost use Rattle.ed_page.specs.Private.Stages.{HoldsOutcome, IsRunOf};
 
 use crate::told::Told;
@@ -60,8 +60,8 @@ pub fn size_of(small: bool) -> Size
 }
 
 /// The settings of a run: the size of the store, the limit of orders, the resumes.
-pub fn asked(small: bool, orders: u32, resumes: u32) -> Settings
-    ensures { result ≡ asked small orders resumes }
+pub fn run_settings(small: bool, orders: u32, resumes: u32) -> Settings
+    ensures { result ≡ run_settings small orders resumes }
 {
     Settings {
         limit: orders,

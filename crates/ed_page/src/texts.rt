@@ -3,10 +3,10 @@ ghost use Rattle.ed_answers.specs.Answer.{exactly, of_rows};
 ghost use Rattle.ed_answers.specs.Outcome.{Outcome, done};
 ghost use Rattle.ed_answers.specs.Sources.{listing_answer, of_source, punch_answer};
 ghost use Rattle.ed_page.specs.Answers.{IsTextWritten, source_rows, text_buffers};
-ghost use Rattle.ed_page.specs.Pictures.{asked, size_shown};
+ghost use Rattle.ed_page.specs.Pictures.{run_settings, size_shown};
 ghost use Rattle.ed_page.specs.Private.Stages.{HoldsOutcome, IsWrittenOut, IsAnswered};
 
-use crate::running::{asked, size_of};
+use crate::running::{run_settings, size_of};
 use crate::told::{NO_MEMORY, NO_ROOM, Told, is_too_long, lacks_line, rejected, told_of};
 use crate::writing::Lengths;
 use ed_answers::{linked_of, list, punch, rows_of};
@@ -71,13 +71,13 @@ pub extern "C" fn page_punch(
     note: &mut [u8],
     lengths: &mut Lengths,
 ) -> u32
-    ensures { IsTextWritten (punch_answer (asked small 0 0)) text.now (text_buffers tape.old note.old lengths.old)
+    ensures { IsTextWritten (punch_answer (run_settings small 0 0)) text.now (text_buffers tape.old note.old lengths.old)
         (text_buffers tape.new note.new lengths.new) result }
 {
     if lacks_line(text, note) {
         return NO_ROOM;
     }
-    match source_tape(alloc, asked(small, 0, 0), text) {
+    match source_tape(alloc, run_settings(small, 0, 0), text) {
         Ok(told) => tell(&told, tape, note, lengths),
         Err(NoMemory) => NO_MEMORY,
     }
@@ -93,13 +93,13 @@ pub extern "C" fn page_listing(
     note: &mut [u8],
     lengths: &mut Lengths,
 ) -> u32
-    ensures { IsTextWritten (listing_answer (asked small 0 0)) text.now (text_buffers listing.old note.old lengths.old)
+    ensures { IsTextWritten (listing_answer (run_settings small 0 0)) text.now (text_buffers listing.old note.old lengths.old)
         (text_buffers listing.new note.new lengths.new) result }
 {
     if lacks_line(text, note) {
         return NO_ROOM;
     }
-    match source_listing(alloc, asked(small, 0, 0), text) {
+    match source_listing(alloc, run_settings(small, 0, 0), text) {
         Ok(told) => tell(&told, listing, note, lengths),
         Err(NoMemory) => NO_MEMORY,
     }

@@ -1,6 +1,7 @@
 -- Whether a machine has returned can be decided.
 use Rattle.std.proofs.Common.{◌≡◌, ◌⊎◌, inl, inr, ℕ, zero, suc, ◌+◌, ◌*◌, ◌%◌, ◌^◌, ◌<◌, ◌≤◌, arith, get_or}
 use Rattle.std.proofs.lemmas.Bool.{cases_eq, cases_lt}
+use Rattle.ed_words.specs.declared.order_words.TheConstants.{T_F}
 use Rattle.ed_store.specs.Cells.{Cells, short_at}
 use Rattle.ed_machine.specs.State.{State}
 use Rattle.ed_initial.specs.Listing.{initial_orders}
@@ -31,10 +32,10 @@ listed c first (suc n) =
         by_place i low high (inr never) = all i low (omega arith)
 
 leaves : (s : State) → Decided (LeavesDirective s)
-leaves s = by_parts (cases_eq (directive s % 2) 0) (at_most 20480 (directive s))
-    (at_most (directive s) (20480 + 2 * 1023))
+leaves s = by_parts (cases_eq (directive s % 2) 0) (at_most T_F (directive s))
+    (at_most (directive s) (T_F + 2 * 1023))
   where
-    by_parts : Decided (directive s % 2 ≡ 0) → Decided (20480 ≤ directive s) → Decided (directive s ≤ 20480 + 2 * 1023)
+    by_parts : Decided (directive s % 2 ≡ 0) → Decided (T_F ≤ directive s) → Decided (directive s ≤ T_F + 2 * 1023)
         → Decided (LeavesDirective s)
     by_parts (inr never) b c = inr (λ l. never l.even)
     by_parts (inl a) (inr never) c = inr (λ l. never l.least)
@@ -58,10 +59,10 @@ listed_whole c = by_parts (listed c 2 20) (listed c 21 22) (listed c 23 40)
 pub home_or_not : (s : State) → Decided (IsReturned s)
 home_or_not s =
     by_parts (cases_eq s.counter 25) (listed_whole s.store) (cases_eq (short_at s.store 43) 1)
-    (cases_eq s.multiplier (20480 * 2 ^ 18)) (leaves s)
+    (cases_eq s.multiplier (T_F * 2 ^ 18)) (leaves s)
   where
     by_parts : Decided (s.counter ≡ 25) → Decided (IsListedWhole s.store) → Decided (short_at s.store 43 ≡ 1)
-        → Decided (s.multiplier ≡ 20480 * 2 ^ 18) → Decided (LeavesDirective s) → Decided (IsReturned s)
+        → Decided (s.multiplier ≡ T_F * 2 ^ 18) → Decided (LeavesDirective s) → Decided (IsReturned s)
     by_parts (inr never) b c d e = inr (λ h. never h.counter)
     by_parts (inl a) (inr never) c d e = inr (λ h. never (h.low, h.middle, h.high))
     by_parts (inl a) (inl b) (inr never) d e = inr (λ h. never h.one)

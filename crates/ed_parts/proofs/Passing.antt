@@ -6,6 +6,7 @@ use Rattle.std.specs.declared.alloc.Global.{Global}
 use Rattle.ed_words.specs.Words.{order_of}
 use Rattle.ed_words.specs.declared.memory.NoMemory.{NoMemory}
 use Rattle.ed_words.specs.declared.order.Order.{Order}
+use Rattle.ed_words.specs.declared.order_words.TheConstants.{T_F}
 use Rattle.ed_machine.specs.State.{State}
 use Rattle.ed_machine.specs.Steps.{state_after}
 use Rattle.ed_machine.specs.declared.ending.Ending.{Ending}
@@ -176,7 +177,7 @@ module _ {limit rows : ℕ} {p first : TapePart} {a c : Option (List ℕ)} (h : 
   }
 
 -- the address of a directive is that of its word
-address_is : (d w : ℕ) → w ≡ d → 20480 ≤ d → d ≤ 20480 + 2 * 1023 → w / 2 % 1024 ≡ d % 4096 / 2
+address_is : (d w : ℕ) → w ≡ d → T_F ≤ d → d ≤ T_F + 2 * 1023 → w / 2 % 1024 ≡ d % 4096 / 2
 address_is d w is least most = omega arith
 
 -- the line of the return, as the code makes it

@@ -11,7 +11,7 @@ use Rattle.ed_orders.specs.declared.kind.Kind.TheVariants.{U as KindU, C as Kind
 use Rattle.ed_orders.specs.declared.kind.Kind.TheVariants.{L as KindL, E as KindE, G as KindG}
 use Rattle.ed_orders.specs.declared.kind.Kind.TheVariants.{I as KindI, O as KindO, F as KindF}
 use Rattle.ed_orders.specs.declared.kind.Kind.TheVariants.{X as KindX, Y as KindY, Z as KindZ}
-use Rattle.ed_machine.specs.OrderTable.{step, took_row}
+use Rattle.ed_machine.specs.OrderTable.{step, row_order}
 use Rattle.ed_machine.specs.declared.turn.Turn.TheVariants.{Went, Printed, Stopped}
 use Rattle.ed_paths.proofs.Sums.{Remains, IsQuotient, AddsProduct, plus71_is, minus71_is}
 use Rattle.ed_paths.proofs.Sums.{left71_is, right71_is, plus_product_is, collated_is}
@@ -116,7 +116,7 @@ module _ {n h : ℕ} {f : Frame n h} {r : Moment} where
       → fitting f r p c (c * 2 ^ 18) ≡ u
       → Moves f KindI r (record (put f r p u) { tape = rest; counter = f.base + (i + 1) })
   I i p {c} u e row is = by_place i 8 p (is_written f r p) e refl refl (λ o k.
-      ap (λ x. took_row x o.w (state f r k)) row
+      ap (λ x. row_order x o.w (state f r k)) row
       ∙ rw (o.long, o.place, o.is.after, writes f r p c (c * 2 ^ 18) o.is.all o.there o.more_is, is) refl)
 
   -- F: the last printed code is written there. It is a step and not a line of a path, so that what holds of every path

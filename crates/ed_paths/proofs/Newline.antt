@@ -3,6 +3,7 @@ use Rattle.std.proofs.Common.{◌≡◌, ℕ, ◌+◌, ◌*◌, ◌<◌, ◌≤�
 use Rattle.std.proofs.Common.{List, [], ◌∷◌, Option, Some, None, get_or, length, lit<}
 use Rattle.ed_words.specs.Sizes.{locations}
 use Rattle.ed_words.proofs.SizeLemmas.{most}
+use Rattle.ed_words.specs.declared.order_words.TheConstants.{A_F, E_F, O_F, T_F}
 use Rattle.ed_orders.specs.declared.kind.Kind.{Kind}
 use Rattle.ed_machine.specs.State.{State}
 use Rattle.ed_machine.specs.Steps.{state_after}
@@ -18,13 +19,13 @@ use Rattle.ed_paths.proofs.Paths.{Path, stay, on, prints, leads, each}
 -- its listing at b: A3F T4θ O5θ O6θ, the order that returns, and the codes of carriage return and line feed
 abbrev pub image : ℕ → List (Option ℕ)
 image b =
-    Some 114694 ∷ Some (20480 + 2 * (b + 4)) ∷ Some (36864 + 2 * (b + 5)) ∷ Some (36864 + 2 * (b + 6)) ∷ None
+    Some 114694 ∷ Some (T_F + 2 * (b + 4)) ∷ Some (O_F + 2 * (b + 5)) ∷ Some (O_F + 2 * (b + 6)) ∷ None
     ∷ Some 73728 ∷ Some 98304 ∷ []
 
 -- its words; one of them changes
 abbrev pub cells : ℕ → ℕ → List ℕ
 cells b at4 =
-    114694 ∷ (20480 + 2 * (b + 4)) ∷ (36864 + 2 * (b + 5)) ∷ (36864 + 2 * (b + 6)) ∷ at4
+    114694 ∷ (T_F + 2 * (b + 4)) ∷ (O_F + 2 * (b + 5)) ∷ (O_F + 2 * (b + 6)) ∷ at4
     ∷ 73728 ∷ 98304 ∷ []
 
 -- it is at b, and is called from m: the accumulator holds the order A m F. It and the location to which it returns are
@@ -37,7 +38,7 @@ pub record IsCalled (s : State) (b m top : ℕ) : Type 0 where
   pub fits : top ≤ locations s.size
   pub at3 : get_or s.store.words 3 0 ≡ 28676
   pub holds : Holds (image b) s.store.words b
-  pub acc : s.acc ≡ short (114688 + 2 * m)
+  pub acc : s.acc ≡ short (A_F + 2 * m)
 
 module _ (s : State) (b m top : ℕ) (o : IsCalled s b m top) (all : length s.store.words ≡ 1024) where
   abbrev f : Frame 7 0
@@ -58,9 +59,9 @@ module _ (s : State) (b m top : ℕ) (o : IsCalled s b m top) (all : length s.st
 
   -- the order that returns: E (m + 2) F
   abbrev link : ℕ
-  link = 12288 + 2 * (m + 2)
+  link = E_F + 2 * (m + 2)
 
-  path : (at4 : ℕ) → Path f 5 (at 0 (short (114688 + 2 * m)) at4 s.last) (18 ∷ 24 ∷ [])
+  path : (at4 : ℕ) → Path f 5 (at 0 (short (A_F + 2 * m)) at4 s.last) (18 ∷ 24 ∷ [])
       (record (at 0 0 link (Some 24)) { counter = m + 2 })
   path at4 =
       let at3 = o.at3 in
@@ -73,7 +74,7 @@ module _ (s : State) (b m top : ℕ) (o : IsCalled s b m top) (all : length s.st
       (prints (O 3 (own 6) 24 refl refl)
       (on (E_jumps 4 (any (m + 2) back) refl (lit< tt)) stay))))
 
-  begins : state f (at 0 (short (114688 + 2 * m)) (get_or s.store.words (b + 4) 0) s.last) s.orders ≡ s
+  begins : state f (at 0 (short (A_F + 2 * m)) (get_or s.store.words (b + 4) 0) s.last) s.orders ≡ s
   begins =
       let size = most s.size in
       let same = opens (image b) s.store.words b (omega (arith, o.under, o.fits, size, all)) o.holds in

@@ -5,8 +5,8 @@ use Rattle.std.proofs.Common.{◌&&◌}
 use Rattle.std.proofs.Common.{nat_lt, nat_eq, List, length, get_or, set}
 use Rattle.std.proofs.lemmas.Bool.{and_parts}
 use Rattle.std.proofs.lemmas.List.{length-set}
-use Rattle.ed_words.specs.Words.{joined}
-use Rattle.ed_machine.specs.OrderTable.{read_at, written_at}
+use Rattle.ed_words.specs.Words.{long_of_halves}
+use Rattle.ed_machine.specs.OrderTable.{read_at, written_cells}
 use Rattle.ed_paths.proofs.Window.{get_own, set_own}
 use Rattle.ed_words.proofs.Numbers.{lt_of, eq_of}
 use Rattle.ed_paths.proofs.Frames.{Frame, Moment, Beside, short, long, all_words, store}
@@ -80,9 +80,9 @@ module _ {n h : ℕ} (f : Frame n h) (r : Moment) where
   -- the 35 digits there
   abbrev pub value : Place f r → ℕ
   value (own j) = get_or r.cells j 0 * 2 ^ 18
-  value (pair j p e) = joined (get_or r.cells (j + 1) 0) (get_or r.pairs p false) (get_or r.cells j 0)
+  value (pair j p e) = long_of_halves (get_or r.cells (j + 1) 0) (get_or r.pairs p false) (get_or r.cells j 0)
   value (out q a) = get_or r.words q 0 * 2 ^ 18
-  value (pair_out q a) = joined (get_or r.words (q + 1) 0) (get_or r.digits (q / 2) false) (get_or r.words q 0)
+  value (pair_out q a) = long_of_halves (get_or r.words (q + 1) 0) (get_or r.digits (q / 2) false) (get_or r.words q 0)
   value (any q b) = get_or (all_words f r) q 0 * 2 ^ 18
 
   -- the accumulator that holds the number u for this location at its upper end
@@ -191,7 +191,7 @@ module _ {n h : ℕ} (f : Frame n h) (r : Moment) where
   reads (any q b) all e = refl
 
   pub writes : (p : Place f r) (s l : ℕ) → length r.cells ≡ n → is_there p ≡ true → is_written p ≡ true
-      → written_at (is_pair p) (store f r) (address p) s l ≡ store f (put p (fitting p s l))
+      → written_cells (is_pair p) (store f r) (address p) s l ≡ store f (put p (fitting p s l))
   writes (own j) s l all e w =
       let inside = lt_of j n e in
       rw (set_own 0 r.words f.base r.cells j s (omega (arith, all))) refl

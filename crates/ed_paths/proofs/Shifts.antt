@@ -1,5 +1,6 @@
 -- The shift orders, each by its name on paper: R D shifts one place to the right, L F thirteen to the left.
 use Rattle.std.proofs.Common.{◌≡◌, ℕ, ◌/◌, refl}
+use Rattle.ed_words.specs.declared.order_words.TheConstants.{L_D, L_F, R_D}
 use Rattle.ed_orders.specs.Places.{places}
 use lib.Count.{count_trailing_zeros}
 
@@ -8,7 +9,7 @@ pub record IsShift (function word count : ℕ) : Type 0 where
   pub function_is : word / 4096 ≡ function
   pub places_are : places word ≡ count
 
-pub RD : IsShift 4 16385 1
+pub RD : IsShift 4 R_D 1
 unfolding places count_trailing_zeros
 RD = record { function_is = refl; places_are = refl }
 
@@ -24,7 +25,7 @@ pub RF : IsShift 4 16384 15
 unfolding places count_trailing_zeros
 RF = record { function_is = refl; places_are = refl }
 
-pub LD : IsShift 25 102401 1
+pub LD : IsShift 25 L_D 1
 unfolding places count_trailing_zeros
 LD = record { function_is = refl; places_are = refl }
 
@@ -48,6 +49,6 @@ pub L512F : IsShift 25 103424 11
 unfolding places count_trailing_zeros
 L512F = record { function_is = refl; places_are = refl }
 
-pub LF : IsShift 25 102400 13
+pub LF : IsShift 25 L_F 13
 unfolding places count_trailing_zeros
 LF = record { function_is = refl; places_are = refl }

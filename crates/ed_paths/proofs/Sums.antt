@@ -11,7 +11,7 @@ use Rattle.std.proofs.Math.Nat.{mod-eq_of_lt}
 use Rattle.std.specs.Int.Bits.{bit_and}
 use Rattle.ed_words.specs.Signed.{signed}
 use Rattle.ed_words.specs.Words.{digit}
-use Rattle.ed_acc.specs.Arithmetic.{plus71, minus71, right71, left71, plus_product, collated, common}
+use Rattle.ed_acc.specs.Arithmetic.{plus71, minus71, right71, left71, plus_product, plus_common, common}
 use Rattle.ed_acc.proofs.Common.{common_whole}
 
 pub plus71_is : (a x u : ℕ) → (a + x) % 2 ^ 71 ≡ u → plus71 a x ≡ u
@@ -58,8 +58,8 @@ plus_product_is a m x u h =
     let sum = h.3 in
     rw (signed_low 35 m h.0, signed_low 35 x h.1) (omega arith)
 
-pub collated_is : (a m x y u : ℕ) → common 35 m x ≡ y → (a + 2 ^ 36 * y) % 2 ^ 71 ≡ u → collated a m x ≡ u
-unfolding collated
+pub collated_is : (a m x y u : ℕ) → common 35 m x ≡ y → (a + 2 ^ 36 * y) % 2 ^ 71 ≡ u → plus_common a m x ≡ u
+unfolding plus_common
 collated_is a m x y u e h = rw e h
 
 -- the common digits with 4095 and with 1

@@ -1,6 +1,7 @@
 -- Digits that a piece prints one by one without leading zeros, as the print routine and the post-mortem do.
 use Rattle.std.proofs.Common.{◌≡◌, ℕ, zero, suc, ◌+◌, ◌*◌, ◌<◌, ◌≤◌, arith, Bool, true, false}
 use Rattle.std.proofs.Common.{List, [], ◌∷◌, Option, Some}
+use Rattle.ed_words.specs.declared.order_words.TheConstants.{V_F}
 use Rattle.ed_paths.proofs.Frames.{Frame, Moment}
 use Rattle.ed_paths.proofs.Paths.{Path, stay, followed}
 
@@ -23,7 +24,7 @@ begun true q = true
 
 -- the word that the accumulator was cleared into
 abbrev pub spared : Bool → ℕ → ℕ
-spared false zero = 126976
+spared false zero = V_F
 spared false (suc q) = 0
 spared true q = 0
 

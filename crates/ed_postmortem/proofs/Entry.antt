@@ -6,6 +6,7 @@ use Rattle.ed_words.specs.Sizes.{locations}
 use Rattle.ed_words.specs.declared.size.Size.{Size}
 use Rattle.ed_words.proofs.Numbers.{le_true}
 use Rattle.ed_words.proofs.SizeLemmas.{least}
+use Rattle.ed_words.specs.declared.order_words.TheConstants.{E_F, T_F}
 use Rattle.ed_notation.specs.declared.item.Item.{Item}
 use Rattle.ed_notation.specs.Items.{rows_of, spelled}
 use Rattle.ed_notation.specs.Fold.{NotationState, over, is_entry}
@@ -74,7 +75,7 @@ module _ (z : Size) (words : List ℕ) (first count : ℕ) (f_fits : first ≤ 1
   parameters = (46, 2 * count) ∷ (45, 2 * first) ∷ []
 
   abbrev at_head : NotationState
-  at_head = record { directive = 20480 + 2 * 56; theta = 112; placed = parameters }
+  at_head = record { directive = T_F + 2 * 56; theta = 112; placed = parameters }
 
   low : (a : ℕ) → a < 512 → a < locations z
   low a h = omega (arith, least z)
@@ -84,10 +85,10 @@ module _ (z : Size) (words : List ℕ) (first count : ℕ) (f_fits : first ≤ 1
       (148 + 9 * (length (digits_of first) + length (digits_of count)))
   head =
       let theta : ℕ = (opening words).theta in
-      let n1 : NotationState = record { directive = 20480 + 2 * 45; theta = theta; placed = [] } in
-      let n2 : NotationState = record { directive = 20480 + 2 * 46; theta = theta; placed = (45, 2 * first) ∷ [] } in
-      let n3 : NotationState = record { directive = 20480 + 2 * 47; theta = theta; placed = parameters } in
-      let n4 : NotationState = record { directive = 20480 + 2 * 56; theta = theta; placed = parameters } in
+      let n1 : NotationState = record { directive = T_F + 2 * 45; theta = theta; placed = [] } in
+      let n2 : NotationState = record { directive = T_F + 2 * 46; theta = theta; placed = (45, 2 * first) ∷ [] } in
+      let n3 : NotationState = record { directive = T_F + 2 * 47; theta = theta; placed = parameters } in
+      let n4 : NotationState = record { directive = T_F + 2 * 56; theta = theta; placed = parameters } in
       let r5 = reads_one z words (plain 27 0 14) refl
       (setting_theta z words n4 56 (lit≤ tt) refl)
       (reads_none z words at_head) in
@@ -113,10 +114,10 @@ module _ (z : Size) (words : List ℕ) (first count : ℕ) (f_fits : first ≤ 1
   placed_all = laid 56 words_placed parameters
 
   abbrev at_orders : NotationState
-  at_orders = record { directive = 20480 + 2 * 140; theta = 112; placed = placed_all }
+  at_orders = record { directive = T_F + 2 * 140; theta = 112; placed = placed_all }
 
   abbrev pub at_last : NotationState
-  at_last = record { directive = 12288 + 2 * 56; theta = 112; placed = placed_all }
+  at_last = record { directive = E_F + 2 * 56; theta = 112; placed = placed_all }
 
   places : Reads z words at_head listing at_orders (block_cost listing)
   places = placing_all (over parameters words) 56 listing refl refl (lit≤ tt) (omega (arith, least z))

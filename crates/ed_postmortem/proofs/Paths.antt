@@ -7,6 +7,7 @@ use Rattle.std.proofs.lemmas.Bool.Decides.{nat_tests}
 use Rattle.ed_words.specs.declared.size.Size.{Size}
 use Rattle.ed_words.specs.Sizes.{locations}
 use Rattle.ed_words.proofs.SizeLemmas.{most}
+use Rattle.ed_words.specs.declared.order_words.TheConstants.{C_F, O_F, S_F, V_F, Z_F}
 use Rattle.ed_orders.specs.declared.kind.Kind.TheVariants.{Z as KindZ}
 use Rattle.ed_machine.specs.declared.turn.Turn.TheVariants.{Stopped}
 use Rattle.ed_paths.proofs.Sums.{common_4095, common_1}
@@ -41,12 +42,12 @@ cells w =
     ∷ 20754 ∷ 12436 ∷ 20756 ∷ 114962 ∷ 114960 ∷ 49400 ∷ 110774 ∷ 37138 ∷ 20756 ∷ 114936 ∷ 20752 ∷ 20756
     ∷ 114838 ∷ 114692 ∷ 28822 ∷ 49404 ∷ 110736 ∷ 114956 ∷ 49422 ∷ 103424 ∷ 20754 ∷ 37138 ∷ 37104 ∷ 114958
     ∷ 49398 ∷ 12504 ∷ 37118 ∷ 110810 ∷ 37120 ∷ 37128 ∷ 37130 ∷ 20756 ∷ 114810 ∷ 114692 ∷ 20602 ∷ 114816
-    ∷ 114692 ∷ 20608 ∷ 12400 ∷ 53248 ∷ 61440 ∷ 45056 ∷ 4095 ∷ 1 ∷ 4096 ∷ 49410 ∷ 49416 ∷ 69632
+    ∷ 114692 ∷ 20608 ∷ 12400 ∷ Z_F ∷ 61440 ∷ 45056 ∷ 4095 ∷ 1 ∷ 4096 ∷ 49410 ∷ 49416 ∷ 69632
     ∷ 77824 ∷ 2000 ∷ 200 ∷ 20 ∷ 73728 ∷ 98304 ∷ w.at78 ∷ w.at79 ∷ w.at80 ∷ w.at81 ∷ w.at82 ∷ w.at83 ∷ []
 
 -- the cells before the word at p, where c words are left to print
 abbrev pub ready : ℕ → ℕ → Work → Work
-ready p c w = record w { at5 = 36864 + 2 * p; at8 = 122880 + 2 * p; at83 = 2 * c }
+ready p c w = record w { at5 = O_F + 2 * p; at8 = C_F + 2 * p; at83 = 2 * c }
 
 -- the post-mortem at 56, in a store of these words and sandwich digits around it
 pub record Given : Type 0 where
@@ -109,9 +110,9 @@ module _ (given : Given) where
     -- order and the last code
     abbrev at : ℕ → ℕ → ℕ → ℕ → ℕ → ℕ → ℕ → Option ℕ → Moment
     at j left flag count spare top i last = moment (record {
-      at5 = 36864 + 2 * p;
-      at8 = 122880 + 2 * p;
-      at19 = 49152 + 2 * (56 + j);
+      at5 = O_F + 2 * p;
+      at8 = C_F + 2 * p;
+      at19 = S_F + 2 * (56 + j);
       at78 = left;
       at79 = o;
       at80 = flag;
@@ -145,9 +146,9 @@ module _ (given : Given) where
         let inside = power.inside in
         let second = at2 in
         on (T 35 (own 82) _ refl refl)
-        (on (A 36 (own 19) (short (49152 + 2 * (56 + j))) refl (omega arith))
-        (on (A 37 (out 2 (early 2 (lit≤ tt) (lit< tt) all)) (short (49152 + 2 * (56 + (j + 1)))) refl (omega arith))
-        (on (U 38 (own 19) (49152 + 2 * (56 + (j + 1))) refl (omega arith))
+        (on (A 36 (own 19) (short (S_F + 2 * (56 + j))) refl (omega arith))
+        (on (A 37 (out 2 (early 2 (lit≤ tt) (lit< tt) all)) (short (S_F + 2 * (56 + (j + 1)))) refl (omega arith))
+        (on (U 38 (own 19) (S_F + 2 * (56 + (j + 1))) refl (omega arith))
         (on (S 39 (own 70) (short after) refl (omega arith)) stay))))
 
     -- a digit is printed, or omitted as a leading zero
@@ -167,12 +168,12 @@ module _ (given : Given) where
         (on (T 34 (own 80) _ refl refl) stay))))))))
 
     skip_digit : {rest spare : ℕ} {last : Option ℕ} (j top : ℕ) → top < 2 ^ 17
-        → Path f 5 (at j rest 0 0 spare top 26 last) [] (at j rest 0 0 top 126976 35 last)
+        → Path f 5 (at j rest 0 0 spare top 26 last) [] (at j rest 0 0 top V_F 35 last)
     skip_digit j top fits =
         on (T 26 (own 82) _ refl refl)
         (on (A 27 (own 81) (short 0) refl refl)
         (on (A 28 (own 80) (short 0) refl refl)
-        (on (S 29 (own 68) (short 126976) refl (omega arith))
+        (on (S 29 (own 68) (short V_F) refl (omega arith))
         (on (G_jumps 30 (own 35) refl (lit≤ tt)) stay))))
 
     -- from the test of a digit to the test for the next power
@@ -180,7 +181,7 @@ module _ (given : Given) where
         → q ≤ 9 → top < 2 ^ 17
         → Path f (10 + 4 * length (shown b q)) (at j rest (flag_of b) (4096 * q) spare top 26 last) (shown b q)
         (at (j + 1) rest (flag_of (begun b q)) (4096 * q) (spared b q) after 40 (last_of last (shown b q)))
-    show {j} zero top false power few fits = followed (skip_digit j top fits) (next 126976 power (lit< tt))
+    show {j} zero top false power few fits = followed (skip_digit j top fits) (next V_F power (lit< tt))
     show {j} (suc q) top false power few fits =
         followed (print_digit j (suc q) 0 top few (lit≤ tt) (omega arith) fits) (next 0 power (lit< tt))
     show {j} q top true power few fits =
@@ -264,9 +265,9 @@ module _ (given : Given) where
     moved_on : {left flag count spare : ℕ} {last : Option ℕ} (u : ℕ) → p < 1024
         → Path f 10 (at 76 left flag count spare u 53 last) (18 ∷ 24 ∷ [])
         (moment (record {
-          at5 = 36864 + 2 * (p + 1);
-          at8 = 122880 + 2 * (p + 1);
-          at19 = 49152 + 2 * (56 + 76);
+          at5 = O_F + 2 * (p + 1);
+          at8 = C_F + 2 * (p + 1);
+          at19 = S_F + 2 * (56 + 76);
           at78 = left;
           at79 = o;
           at80 = flag;
@@ -279,11 +280,11 @@ module _ (given : Given) where
         prints (O 53 (own 76) 18 refl refl)
         (prints (O 54 (own 77) 24 refl refl)
         (on (T 55 (own 82) _ refl refl)
-        (on (A 56 (own 5) (short (36864 + 2 * p)) refl (omega arith))
-        (on (A 57 (out 2 (early 2 (lit≤ tt) (lit< tt) all)) (short (36864 + 2 * (p + 1))) refl (omega arith))
+        (on (A 56 (own 5) (short (O_F + 2 * p)) refl (omega arith))
+        (on (A 57 (out 2 (early 2 (lit≤ tt) (lit< tt) all)) (short (O_F + 2 * (p + 1))) refl (omega arith))
         (on (T 58 (own 5) _ refl refl)
-        (on (A 59 (own 8) (short (122880 + 2 * p)) refl (omega arith))
-        (on (A 60 (out 2 (early 2 (lit≤ tt) (lit< tt) all)) (short (122880 + 2 * (p + 1))) refl (omega arith))
+        (on (A 59 (own 8) (short (C_F + 2 * p)) refl (omega arith))
+        (on (A 60 (out 2 (early 2 (lit≤ tt) (lit< tt) all)) (short (C_F + 2 * (p + 1))) refl (omega arith))
         (on (T 61 (own 8) _ refl refl)
         (on (E_jumps 62 (own 0) refl (lit< tt)) stay)))))))))
 
@@ -350,7 +351,7 @@ module _ (given : Given) where
           work = record {
             at5 = 0;
             at8 = 0;
-            at19 = 49152 + 2 * (56 + 76);
+            at19 = S_F + 2 * (56 + 76);
             at78 = 2 * d + o;
             at79 = o;
             at80 = flag_of b3;
@@ -407,7 +408,7 @@ module _ (given : Given) where
 
   stops : (w : Work) (p m : ℕ) (last : Option ℕ)
       → Does f KindZ (moment (ready p 0 w) 131070 m 63 last) Stopped (moment (ready p 0 w) 131070 m 64 last)
-  stops w p m last = Z 63 53248 refl refl
+  stops w p m last = Z 63 Z_F refl refl
 
   -- all words printed, and the states before and after the order that stops
   pub record PrintsAll (first count m : ℕ) (w : Work) (last : Option ℕ) : Type 0 where

@@ -5,12 +5,13 @@ use Rattle.std.proofs.Common.{List, [], ◌++◌, Option, length, get_or, set, d
 use Rattle.std.proofs.lemmas.List.{get_or-set_same, get_or-set_other, length-set, length-drop}
 use Rattle.ed_words.specs.Sizes.{locations}
 use Rattle.ed_words.proofs.SizeLemmas.{most, least}
+use Rattle.ed_words.specs.declared.order_words.TheConstants.{C_F, O_F, T_F}
 use Rattle.ed_store.specs.Cells.{IsStore}
 use Rattle.ed_machine.specs.State.{State}
 use Rattle.ed_machine.specs.OrderTable.{Obeyed, step}
 use Rattle.ed_machine.specs.Steps.{state_after}
 use Rattle.ed_machine.specs.Sheet.{Sheet}
-use Rattle.ed_machine.specs.Start.{started}
+use Rattle.ed_machine.specs.Start.{start_state}
 use Rattle.ed_machine.specs.declared.ending.Ending.{Ending}
 use Rattle.ed_machine.specs.declared.turn.Turn.TheVariants.{Stopped}
 use Rattle.ed_notation.specs.Fold.{over}
@@ -101,10 +102,10 @@ module _ {s : State} {first count : ℕ} (store : IsStore s.store) (range : InRa
 
   -- the load of a machine that was started on the tape
   pub loads_so : {m0 m1 : State} {image rows : List ℕ} {r : Loaded} → image ≡ initial_orders
-      → rows ≡ tape_rows first count → m0 ≡ started image rows s → ((e : TapeEntry) → Comes m0 e → IsLoaded m0 e r m1)
+      → rows ≡ tape_rows first count → m0 ≡ start_state image rows s → ((e : TapeEntry) → Comes m0 e → IsLoaded m0 e r m1)
       → m1 ≡ state_after (orders_of r) m0 → LoadsTape m1 r
   loads_so {m0} {m1} {r = r} e h is loads after =
-      let same : m0 ≡ b = is ∙ (λ i. started (e i) (h i) s) in
+      let same : m0 ≡ b = is ∙ (λ i. start_state (e i) (h i) s) in
       record {
         is = subst (λ (x : State). Comes x entry → IsLoaded x entry r m1) same (loads entry) comes;
         after = subst (λ (x : State). m1 ≡ state_after (orders_of r) x) same after;
@@ -135,8 +136,8 @@ module _ {s : State} {first count : ℕ} (store : IsStore s.store) (range : InRa
   block_is =
       let f = f_fits in
       let c = c_fits in
-      let e5 : (36864 + get_or placed 45 0) % 2 ^ 17 ≡ 36864 + 2 * first = omega (arith, at45) in
-      let e8 : (122880 + get_or placed 45 0) % 2 ^ 17 ≡ 122880 + 2 * first = omega (arith, at45) in
+      let e5 : (O_F + get_or placed 45 0) % 2 ^ 17 ≡ O_F + 2 * first = omega (arith, at45) in
+      let e8 : (C_F + get_or placed 45 0) % 2 ^ 17 ≡ C_F + 2 * first = omega (arith, at45) in
       let e83 : (0 + get_or placed 46 0) % 2 ^ 17 ≡ 2 * count = omega (arith, at46) in
       rw (e5, e8, e83) (refl {a = cells (ready first count placed_work)})
 
@@ -184,7 +185,7 @@ module _ {s : State} {first count : ℕ} (store : IsStore s.store) (range : InRa
   place = moment given
 
   abbrev unit : ℕ
-  unit = 20480 * 2 ^ 18
+  unit = T_F * 2 ^ 18
 
   -- the state at the entry, seen as one of the post-mortem's
   entered : at_entry b entry

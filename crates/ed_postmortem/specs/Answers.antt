@@ -4,7 +4,7 @@ use Rattle.std.specs.Prelude.{length, slice_index, slice_index_or, Result, Ok, E
 use Rattle.ed_words.specs.Sizes.{locations}
 use Rattle.ed_machine.specs.State.{State}
 use Rattle.ed_machine.specs.OrderTable.{step}
-use Rattle.ed_machine.specs.Start.{started}
+use Rattle.ed_machine.specs.Start.{start_state}
 use Rattle.ed_machine.specs.Steps.{state_after}
 use Rattle.ed_machine.specs.Sheet.{Sheet}
 use Rattle.ed_machine.specs.declared.turn.Turn.TheVariants.{Stopped}
@@ -18,7 +18,7 @@ use Rattle.ed_postmortem.specs.declared.fault.PmFault.TheVariants.{InItsOwnStore
 
 -- the machine started on the post-mortem's tape, without Clear
 abbrev pub begun_on : State → ℕ → ℕ → State
-begun_on s first count = started initial_orders (tape_rows first count) s
+begun_on s first count = start_state initial_orders (tape_rows first count) s
 
 -- a location that a post-mortem does not change: any but 0 to 43, 45, 46 and 56 to 139
 pub record IsUntouched (i : ℕ) : Type 0 where

@@ -3,7 +3,7 @@ use Rattle.std.proofs.Common.{◌≡◌, ◌∙◌, ℕ, List, [], ◌∷◌, �
 use Rattle.std.specs.Prelude.{reverse}
 use Rattle.std.proofs.lemmas.Grind.{reverse_onto}
 use Rattle.std.proofs.lemmas.List.{append-nil}
-use Rattle.ed_printer.specs.Paper.{struck, shift_after, paper_from, latest_shift, IsInLatestShift}
+use Rattle.ed_printer.specs.Paper.{struck_bytes, shift_after, paper_from, latest_shift, IsInLatestShift}
 use Rattle.ed_printer.specs.declared.printer.Shift.{Shift}
 use Rattle.ed_printer.specs.declared.printer.Shift.TheVariants.{Letters}
 
@@ -23,12 +23,12 @@ latest_earlier shift [] code = refl
 latest_earlier shift (c ∷ codes) code = ap (λ (s : Shift). shift_after s c) (latest_earlier shift codes code)
 
 more : (shift : Shift) (before : List ℕ) (code : ℕ)
-    → paper_from shift (before ++ code ∷ []) ≡ paper_from shift before ++ struck (latest_or shift (reverse before)) code
-more shift [] code = append-nil (struck shift code)
+    → paper_from shift (before ++ code ∷ []) ≡ paper_from shift before ++ struck_bytes (latest_or shift (reverse before)) code
+more shift [] code = append-nil (struck_bytes shift code)
 more shift (c ∷ before) code =
-    ap (λ (bytes : List ℕ). struck shift c ++ bytes) (more (shift_after shift c) before code)
-    ∙ sym (append_assoc (struck shift c) (paper_from (shift_after shift c) before) _)
-    ∙ ap (λ (s : Shift). (struck shift c ++ paper_from (shift_after shift c) before) ++ struck s code)
+    ap (λ (bytes : List ℕ). struck_bytes shift c ++ bytes) (more (shift_after shift c) before code)
+    ∙ sym (append_assoc (struck_bytes shift c) (paper_from (shift_after shift c) before) _)
+    ∙ ap (λ (s : Shift). (struck_bytes shift c ++ paper_from (shift_after shift c) before) ++ struck_bytes s code)
     (sym (latest_earlier shift (reverse before) c) ∙ ap (latest_or shift) (sym (reverse_onto before c [])))
 
 -- each code is printed in the latest shift

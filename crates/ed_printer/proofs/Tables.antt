@@ -4,7 +4,7 @@ use Rattle.std.specs.Prelude.{slice_index, slice_index_or}
 use Rattle.std.specs.Str.{bytes_eq}
 use Rattle.std.proofs.lemmas.Slice.Eq.{bytes_eq-Decides}
 use Rattle.ed_codes.proofs.Below.{holds_below, from_below}
-use Rattle.ed_printer.specs.Paper.{bytes_of, letters_printed, figures_printed, struck}
+use Rattle.ed_printer.specs.Paper.{bytes_of, letters_printed, figures_printed, struck_bytes}
 use Rattle.ed_printer.specs.declared.printer.Shift.{Shift}
 use Rattle.ed_printer.specs.declared.printer.Shift.TheVariants.{Letters, Figures}
 use Rattle.ed_printer.specs.declared.printer.TheConstants.{LETTERS, FIGURES}
@@ -22,10 +22,10 @@ entry characters lists place code all same below =
 
 -- letter shift
 pub letters_entry : (shift : Shift) (place code : ℕ) → shift ≡ Letters → place ≡ code → place < 32
-    → bytes_of (slice_index LETTERS.now place) ≡ struck shift code
+    → bytes_of (slice_index LETTERS.now place) ≡ struck_bytes shift code
 letters_entry shift place code is same below = rw is (entry LETTERS.now letters_printed place code refl same below)
 
 -- figure shift
 pub figures_entry : (shift : Shift) (place code : ℕ) → shift ≡ Figures → place ≡ code → place < 32
-    → bytes_of (slice_index FIGURES.now place) ≡ struck shift code
+    → bytes_of (slice_index FIGURES.now place) ≡ struck_bytes shift code
 figures_entry shift place code is same below = rw is (entry FIGURES.now figures_printed place code refl same below)

@@ -22,9 +22,9 @@ figures_printed =
     ∷ (10 ∷ []) ∷ codes ")" ∷ codes "/" ∷ codes "#" ∷ codes "-" ∷ codes "?" ∷ codes ":" ∷ codes "=" ∷ []
 
 -- the bytes that a code prints in a shift
-abbrev pub struck : Shift → ℕ → List ℕ
-struck Letters code = slice_index_or letters_printed code []
-struck Figures code = slice_index_or figures_printed code []
+abbrev pub struck_bytes : Shift → ℕ → List ℕ
+struck_bytes Letters code = slice_index_or letters_printed code []
+struck_bytes Figures code = slice_index_or figures_printed code []
 
 -- the shift after a code: 11 sets figure shift and 15 letter shift
 abbrev pub shift_after : Shift → ℕ → Shift
@@ -33,7 +33,7 @@ shift_after shift code = if code == 11 then Figures else if code == 15 then Lett
 -- the bytes that codes print, starting in a shift
 abbrev pub paper_from : Shift → List ℕ → List ℕ
 paper_from shift [] = []
-paper_from shift (code ∷ codes) = struck shift code ++ paper_from (shift_after shift code) codes
+paper_from shift (code ∷ codes) = struck_bytes shift code ++ paper_from (shift_after shift code) codes
 
 -- the bytes that codes print, starting in letter shift
 abbrev pub paper : List ℕ → List ℕ
@@ -48,7 +48,7 @@ latest_shift (code ∷ codes) = if code == 11 then Figures else if code == 15 th
 abbrev pub IsInLatestShift : Type 0
 IsInLatestShift =
     (before : List ℕ) (code : ℕ)
-    → paper (before ++ code ∷ []) ≡ paper before ++ struck (latest_shift (reverse before)) code
+    → paper (before ++ code ∷ []) ≡ paper before ++ struck_bytes (latest_shift (reverse before)) code
 
 -- the bytes of a character of the printer's tables: no byte for 0, two for the pound sign (163), else the one byte
 abbrev pub bytes_of : ℕ → List ℕ

@@ -1,5 +1,5 @@
 ghost use Rattle.std.specs.Prelude.{◌≡◌, ◌++◌, IfOk};
-ghost use Rattle.ed_printer.specs.Paper.{IsInLatestShift, bytes_of, shift_after, struck};
+ghost use Rattle.ed_printer.specs.Paper.{IsInLatestShift, bytes_of, shift_after, struck_bytes};
 
 use arrayvec::ArrayVec;
 use ed_codes::Code;
@@ -49,7 +49,7 @@ const BEFORE_POUND: u8 = 0xC2;
 impl Shift {
     /// The character of a code.
     fn character(self, code: Code) -> u8
-        ensures { bytes_of result ≡ struck self code }
+        ensures { bytes_of result ≡ struck_bytes self code }
     {
         let place = usize::from(code.value());
         match self {
@@ -98,7 +98,7 @@ impl Printer {
 
     /// Prints a code: the bytes are those of the shift that the printer was in.
     pub fn strike(&mut self, code: Code) -> ArrayVec<u8, 2>
-        ensures bytes { result.items ≡ struck self.old code }
+        ensures bytes { result.items ≡ struck_bytes self.old code }
         ensures shift { self.new ≡ shift_after self.old code }
         ensures law { IsInLatestShift }
     {
@@ -108,7 +108,7 @@ impl Printer {
     /// Prints a code onto a text: adds the bytes that [`strike`](Printer::strike) gives. It is much faster.
     #[inline(always)]
     pub fn print(&mut self, code: Code, text: &mut Vec<u8>) -> Result<(), AllocError>
-        ensures text { IfOk result (λ _. text.new.items ≡ text.old.items ++ struck self.old code) }
+        ensures text { IfOk result (λ _. text.new.items ≡ text.old.items ++ struck_bytes self.old code) }
         ensures shift { self.new ≡ shift_after self.old code }
     {
         match self.character(code) {
@@ -125,7 +125,7 @@ impl Printer {
     /// The character of a code in the printer's shift; the printer is then in the shift that the code sets.
     #[inline(always)]
     fn character(&mut self, code: Code) -> u8
-        ensures bytes { bytes_of result ≡ struck self.old code }
+        ensures bytes { bytes_of result ≡ struck_bytes self.old code }
         ensures shift { self.new ≡ shift_after self.old code }
     {
         let character = self.shift.character(code);

@@ -1,4 +1,5 @@
 -- The source of `examples/add.edsac` for any two numbers: its path, and what it prints.
+use Rattle.ed_words.specs.declared.order_words.TheConstants.{Z_F}
 use Rattle.ed_programs.specs.Add.{add_data, add_orders, add_pieces, add_prints, add_text}
 use Rattle.ed_programs.proofs.Kit.{◌≡◌, ℕ, ◌+◌, ◌*◌, ◌<◌, refl, sym, arith, lit<, lit≤, true, false, List, [], ◌∷◌}
 use Rattle.ed_programs.proofs.Kit.{append-nil, length, lt_true, Size, parameter_store, settings, Line, entry_state}
@@ -12,7 +13,7 @@ use Rattle.ed_programs.proofs.Kit.{calling, stop_counted, HasBoth, both_after, b
 abbrev cells : ℕ → ℕ → List ℕ
 cells value first =
     to 28 0 ∷ calling 70 ∷ to 28 12 ∷ to 5 13 ∷ to 28 4 ∷ calling 70 ∷ to 28 12 ∷ to 28 13 ∷ to 5 12 ∷ to 28 9
-    ∷ calling 94 ∷ 53248 ∷ value ∷ first ∷ []
+    ∷ calling 94 ∷ Z_F ∷ value ∷ first ∷ []
 
 module _ (z : Size) (m : Moment) where
   abbrev f : Frame 14 0
@@ -55,7 +56,7 @@ module _ (z : Size) (m : Moment) where
       (on (A 7 (own 13) (short (a + b)) refl (omega arith))
       (on (T 8 (own 12) _ refl refl) stay))))
       (print_line last {v = a + b} 9 12 after_two.prints number (lit< tt) small (lit≤ tt) refl refl refl)))))
-      (Z 11 53248 refl refl) done) (omega arith)
+      (Z 11 Z_F refl refl) done) (omega arith)
 
 module _ (a b : ℕ) (small : a + b < 65536) where
   two_small : are_small (a ∷ b ∷ []) ≡ true

@@ -8,7 +8,7 @@ use Rattle.std.proofs.lemmas.Slice.Eq.{bytes_eq-Decides}
 use Rattle.ed_words.proofs.Numbers.{le_of}
 use Rattle.ed_words.specs.Texts.{Text}
 use Rattle.ed_codes.specs.Spelling.{row_of}
-use Rattle.ed_printer.specs.Paper.{paper_from, struck}
+use Rattle.ed_printer.specs.Paper.{paper_from, struck_bytes}
 use Rattle.ed_printer.specs.declared.printer.Shift.TheVariants.{Letters}
 use Rattle.ed_syntax.specs.Private.Grammar.{row}
 use Rattle.ed_sources.proofs.Decimals.{among, both}
@@ -17,12 +17,12 @@ use Rattle.ed_programs.specs.Hello.{hello_rows, is_row_byte}
 -- what is so of each letter, as a test
 abbrev fine : ℕ → Bool
 fine b = is_row_byte b
-    && (bytes_eq (struck Letters (row (row_of b))) (b ∷ [])
+    && (bytes_eq (struck_bytes Letters (row (row_of b))) (b ∷ [])
     && (not (row (row_of b) == 11) && not (row (row_of b) == 15)))
 
 pub record Letter (b : ℕ) : Type 0 where
   pub row_byte : is_row_byte b ≡ true
-  pub struck_is : struck Letters (row (row_of b)) ≡ b ∷ []
+  pub struck_is : struck_bytes Letters (row (row_of b)) ≡ b ∷ []
   pub no_figures : (row (row_of b) == 11) ≡ false
   pub no_letters : (row (row_of b) == 15) ≡ false
 
@@ -33,11 +33,11 @@ letter b h =
     let high = le_of b 90 p.1 in
     let is = among fine 65 26 b refl (omega arith) (omega arith) in
     let q = and_parts (is_row_byte b) _ is in
-    let r = and_parts (bytes_eq (struck Letters (row (row_of b))) (b ∷ [])) _ q.1 in
+    let r = and_parts (bytes_eq (struck_bytes Letters (row (row_of b))) (b ∷ [])) _ q.1 in
     let t = and_parts (not (row (row_of b) == 11)) _ r.1 in
     record {
       row_byte = q.0;
-      struck_is = (bytes_eq-Decides (struck Letters (row (row_of b))) (b ∷ [])).0 r.0;
+      struck_is = (bytes_eq-Decides (struck_bytes Letters (row (row_of b))) (b ∷ [])).0 r.0;
       no_figures = not-true (row (row_of b) == 11) t.0;
       no_letters = not-true (row (row_of b) == 15) t.1;
     }

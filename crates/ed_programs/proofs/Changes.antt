@@ -6,6 +6,7 @@ use Rattle.std.proofs.lemmas.Bool.{cases_lt}
 use Rattle.std.proofs.lemmas.List.{get_or-set_same, get_or-set_other, length-set}
 use Rattle.ed_words.specs.Sizes.{locations}
 use Rattle.ed_words.proofs.SizeLemmas.{most}
+use Rattle.ed_words.specs.declared.order_words.TheConstants.{A_F}
 use Rattle.ed_machine.specs.State.{State}
 use Rattle.ed_library.specs.Routines.{is_working, place_count}
 use Rattle.ed_paths.proofs.Frames.{Frame, Moment, all_digits, all_words, state, short}
@@ -58,16 +59,16 @@ module _ {n h : ℕ} {f : Frame n h} {r : Moment} (o : IsIn f r) where
       → length words ≡ 1024 → length cells ≡ n
       → ((j : ℕ) → j < n → get_or words (f.base + j) 0 ≡ get_or cells j 0)
       → i + 3 ≤ n → r.acc ≡ 0 → Reads {f = f} {r = r} i 28 (own i)
-      → Jumps {f = f} {r = record r { acc = short (114688 + 2 * (f.base + i)); counter = f.base + (i + 1) }}
+      → Jumps {f = f} {r = record r { acc = short (A_F + 2 * (f.base + i)); counter = f.base + (i + 1) }}
       (i + 1) 27 (any w has.reached)
       → Journey f (2 + k) r codes (after_change i words digits cells rows l)
   changes {w = w} {k = k} {codes} i words digits cells rows l has returns long own_long same room clear first
       second = record {
         leads = λ done.
             let size = most f.size in let under = f.under in let fits = f.fits in
-            let word : get_or r.cells i 0 ≡ 114688 + 2 * (f.base + i) = ap (λ x. x.1.0) first in
+            let word : get_or r.cells i 0 ≡ A_F + 2 * (f.base + i) = ap (λ x. x.1.0) first in
             let two : Path f 2 r [] (called o i w) =
-            on (A i (own i) (short (114688 + 2 * (f.base + i))) first (omega arith))
+            on (A i (own i) (short (A_F + 2 * (f.base + i))) first (omega arith))
             (on (G_jumps (i + 1) (any w has.reached) second (omega arith)) stay) in
             let back = returns (done + 2) (stands o i (done + 2) room has) in
             let whole : patched 0 words f.base cells ≡ words =
@@ -160,7 +161,7 @@ module _ {n h : ℕ} {f : Frame n h} {r : Moment} (o : IsIn f r) where
 
     -- the number of the digit rows is in the cell, and the rows after the ending row are left
     pub read_line : r.acc ≡ 0 → Reads {f = f} {r = r} i 28 (own i)
-        → Jumps {f = f} {r = record r { acc = short (114688 + 2 * (f.base + i)); counter = f.base + (i + 1) }}
+        → Jumps {f = f} {r = record r { acc = short (A_F + 2 * (f.base + i)); counter = f.base + (i + 1) }}
         (i + 1) 27 (any w has.reached)
         → Journey f (2 + (11 + 13 * length (digit_rows r.tape))) r []
         (after_change i words_read r.digits cells_read rest r.last)
@@ -232,7 +233,7 @@ module _ {n h : ℕ} {f : Frame n h} {r : Moment} (o : IsIn f r) where
 
   pub reads_number : {w : ℕ} (i j v : ℕ) (rest : List ℕ) (has : HasRoutine f r.words read w (with_h (f.base + j)))
       → r.tape ≡ digits v ++ 17 ∷ rest → v < 65536 → j < n → i + 3 ≤ n → r.acc ≡ 0 → Reads {f = f} {r = r} i 28 (own i)
-      → Jumps {f = f} {r = record r { acc = short (114688 + 2 * (f.base + i)); counter = f.base + (i + 1) }}
+      → Jumps {f = f} {r = record r { acc = short (A_F + 2 * (f.base + i)); counter = f.base + (i + 1) }}
       (i + 1) 27 (any w has.reached)
       → HasRead i j w v rest
   reads_number {w} i j v rest has tape small inside room clear first second =

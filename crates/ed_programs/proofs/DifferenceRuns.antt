@@ -1,5 +1,6 @@
 -- The source of `examples/difference.edsac` for any two numbers: its path, and what it prints.
 use Rattle.std.specs.Prelude.{Bool, if◌then◌else◌, nat_lt}
+use Rattle.ed_words.specs.declared.order_words.TheConstants.{Z_F}
 use Rattle.ed_programs.specs.Difference.{difference_data, difference_orders, difference_pieces, difference_prints}
 use Rattle.ed_programs.specs.Difference.{difference_text, distance}
 use Rattle.ed_programs.proofs.Kit.{◌≡◌, ℕ, ◌+◌, ◌-◌, ◌*◌, ◌<◌, refl, sym, arith, lit<, lit≤, true, false, List, [], ◌∷◌}
@@ -16,7 +17,7 @@ abbrev cells : ℕ → ℕ → ℕ → List ℕ
 cells number first scrap =
     to 28 0 ∷ calling 76 ∷ to 28 16 ∷ to 5 17 ∷ to 28 4 ∷ calling 76 ∷ to 28 16 ∷ to 12 17 ∷ to 3 12
     ∷ to 5 18 ∷ to 28 17
-    ∷ to 12 16 ∷ to 5 16 ∷ to 28 13 ∷ calling 100 ∷ 53248 ∷ number ∷ first ∷ scrap ∷ []
+    ∷ to 12 16 ∷ to 5 16 ∷ to 28 13 ∷ calling 100 ∷ Z_F ∷ number ∷ first ∷ scrap ∷ []
 
 module _ (z : Size) (m : Moment) where
   abbrev f : Frame 19 0
@@ -85,7 +86,7 @@ module _ (z : Size) (m : Moment) where
       ((then) (along takes.1)
       (print_line last {v = distance a b} 13 16 after_two.prints number (lit< tt) (omega arith) (lit≤ tt) refl
       refl refl)))))
-      (Z 15 53248 refl refl) done) (omega arith)
+      (Z 15 Z_F refl refl) done) (omega arith)
 
 module _ (a b : ℕ) (first : a < 65536) (second : b < 65536) where
   two_small : are_small (a ∷ b ∷ []) ≡ true

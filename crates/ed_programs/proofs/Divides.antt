@@ -6,6 +6,7 @@ use Rattle.std.proofs.lemmas.Bool.{cases_lt}
 use Rattle.std.proofs.lemmas.List.{get_or-set_same, get_or-set_other, length-set}
 use Rattle.ed_words.specs.Sizes.{locations}
 use Rattle.ed_words.proofs.SizeLemmas.{most}
+use Rattle.ed_words.specs.declared.order_words.TheConstants.{A_F}
 use Rattle.ed_store.specs.Cells.{short_at}
 use Rattle.ed_machine.specs.State.{State}
 use Rattle.ed_library.specs.Routines.{is_working, place_count}
@@ -204,7 +205,7 @@ module _ {n h : ℕ} {f : Frame n h} (r : Moment) (o : IsIn f (flat r)) where
         away m l (inr b) = inr (omega arith)
 
     pub divide_line : r.acc ≡ 0 → Reads {f = f} {r = flat r} i 28 (own i)
-        → Jumps {f = f} {r = record (flat r) { acc = short (114688 + 2 * (f.base + i)); counter = f.base + (i + 1) }}
+        → Jumps {f = f} {r = record (flat r) { acc = short (A_F + 2 * (f.base + i)); counter = f.base + (i + 1) }}
         (i + 1) 27 (any w has.reached)
         → HasDivided i w jh jl (65536 * high + low) by
     divide_line clear first second =

@@ -14,7 +14,7 @@ use Rattle.ed_notation.specs.Items.{AreDigits}
 use Rattle.ed_initial1.specs.Entry.{at_entry1}
 use Rattle.ed_initial1.specs.Faults.{Comes1, Tape}
 use Rattle.ed_initial1.specs.Items.{AreItems, Item1, item_number}
-use Rattle.ed_run.specs.Run.{ran}
+use Rattle.ed_run.specs.Run.{run_end}
 use Rattle.ed_printer.specs.Paper.{paper}
 use Rattle.ed_report.specs.Notes.{at_after}
 use Rattle.ed_routines.proofs.Journeys.{ComesToStop}
@@ -95,8 +95,8 @@ first_tape_runs s tape tape_rows t {k} {at} {printed} reads short o stops few =
           } in
           let answer : tape1_outcome s tape_rows ≡ due =
           (runs_from_31 s tape_rows t o).runs (omega (arith, fits))
-          ∙ (λ i. ran_outcome [] (ran left (no_resumes i) paper_room entry))
-          ∙ answered [] (ran left 0 paper_room entry) ended stops.counter count in
+          ∙ (λ i. ran_outcome [] (run_end left (no_resumes i) paper_room entry))
+          ∙ answered [] (run_end left 0 paper_room entry) ended stops.counter count in
           inl (short, subst (λ r. OfReading (exactly (tape1_outcome s)) r due) (sym reads) answer);
     }
 

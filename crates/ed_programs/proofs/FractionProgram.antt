@@ -2,6 +2,7 @@
 use Rattle.std.proofs.Common.{◌≡◌, ◌∙◌, inl, inr, ℕ, suc, ◌+◌, ◌*◌, ◌/◌, ◌%◌, ◌<◌, ◌≤◌, refl, subst, arith, lit<, lit≤}
 use Rattle.std.proofs.Common.{List, [], ◌∷◌, ◌++◌, Some, append-nil, length}
 use Rattle.ed_words.proofs.SizeLemmas.{most}
+use Rattle.ed_words.specs.declared.order_words.TheConstants.{A_F, E_F, G_F, L_D, O_F, S_F, T_F, U_F, Z_F}
 use Rattle.ed_paths.proofs.Frames.{Frame, Moment, short}
 use Rattle.ed_paths.proofs.Places.{own}
 use Rattle.ed_paths.proofs.Moves.{A, S, T, U, L, E_jumps, G_stays}
@@ -28,14 +29,14 @@ pub record Work : Type 0 where
 -- its words at b, with `read`, `divide` and `print` at r, d and p
 abbrev pub cells : ℕ → ℕ → ℕ → ℕ → Work → List ℕ
 cells b r d p k =
-    (114688 + 2 * (b + 0)) ∷ (110592 + 2 * r) ∷ (114688 + 2 * (b + 33)) ∷ (20480 + 2 * (b + 34))
-    ∷ (114688 + 2 * (b + 4))
-    ∷ (110592 + 2 * r) ∷ (114688 + 2 * (b + 33)) ∷ (20480 + 2 * (b + 36)) ∷ (114688 + 2 * (b + 8)) ∷ (110592 + 2 * r)
-    ∷ (114688 + 2 * (b + 10)) ∷ (110592 + 2 * d) ∷ (114688 + 2 * (b + 12)) ∷ (110592 + 2 * p) ∷ (36864 + 2 * (b + 37))
-    ∷ (20480 + 2 * (b + 39)) ∷ (114688 + 2 * (b + 33)) ∷ (49152 + 2 * (b + 38)) ∷ (110592 + 2 * (b + 32))
-    ∷ (20480 + 2 * (b + 33)) ∷ (114688 + 2 * (b + 35)) ∷ 102401 ∷ (28672 + 2 * (b + 34)) ∷ 102402
-    ∷ (114688 + 2 * (b + 34)) ∷ (20480 + 2 * (b + 34)) ∷ (20480 + 2 * (b + 35)) ∷ (114688 + 2 * (b + 27))
-    ∷ (110592 + 2 * d) ∷ (114688 + 2 * (b + 29)) ∷ (110592 + 2 * p) ∷ (12288 + 2 * (b + 15)) ∷ 53248
+    (A_F + 2 * (b + 0)) ∷ (G_F + 2 * r) ∷ (A_F + 2 * (b + 33)) ∷ (T_F + 2 * (b + 34))
+    ∷ (A_F + 2 * (b + 4))
+    ∷ (G_F + 2 * r) ∷ (A_F + 2 * (b + 33)) ∷ (T_F + 2 * (b + 36)) ∷ (A_F + 2 * (b + 8)) ∷ (G_F + 2 * r)
+    ∷ (A_F + 2 * (b + 10)) ∷ (G_F + 2 * d) ∷ (A_F + 2 * (b + 12)) ∷ (G_F + 2 * p) ∷ (O_F + 2 * (b + 37))
+    ∷ (T_F + 2 * (b + 39)) ∷ (A_F + 2 * (b + 33)) ∷ (S_F + 2 * (b + 38)) ∷ (G_F + 2 * (b + 32))
+    ∷ (T_F + 2 * (b + 33)) ∷ (A_F + 2 * (b + 35)) ∷ L_D ∷ (U_F + 2 * (b + 34)) ∷ 102402
+    ∷ (A_F + 2 * (b + 34)) ∷ (T_F + 2 * (b + 34)) ∷ (T_F + 2 * (b + 35)) ∷ (A_F + 2 * (b + 27))
+    ∷ (G_F + 2 * d) ∷ (A_F + 2 * (b + 29)) ∷ (G_F + 2 * p) ∷ (E_F + 2 * (b + 15)) ∷ Z_F
     ∷ k.number ∷ k.low ∷ k.rest ∷ k.divisor ∷ 94208 ∷ 1 ∷ k.scrap ∷ []
 
 -- its base, and the routines after it

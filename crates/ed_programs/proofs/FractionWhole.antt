@@ -6,6 +6,7 @@ use Rattle.std.proofs.Math.Nat.{add-mul-div_left, add-mul-mod_self_left, div-add
 use Rattle.std.proofs.Math.Nat.{mul_assoc, pow-succ'}
 use Rattle.std.specs.Fmt.{decimal}
 use Rattle.ed_words.specs.Texts.{Text}
+use Rattle.ed_words.specs.declared.order_words.TheConstants.{Z_F}
 use Rattle.ed_paths.proofs.Frames.{Moment, short, state}
 use Rattle.ed_paths.proofs.Places.{own}
 use Rattle.ed_paths.proofs.Moves.{A, S, T, O, G_jumps, Z}
@@ -268,7 +269,7 @@ module _ (given : Given) where
   ends around k u l n o number is_rest is_by some few small done =
       let all = reached around k u l n 0 o (number ∙ none_more n) (none_most n small) is_rest is_by
       (positive l some) few in
-      to_stop (then all.journey (along (closes all.now all.work all.number))) (Z 32 53248 refl refl) done
+      to_stop (then all.journey (along (closes all.now all.work all.number))) (Z 32 Z_F refl refl) done
 
   -- ---- the program
 

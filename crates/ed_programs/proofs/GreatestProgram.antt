@@ -5,6 +5,7 @@ use Rattle.std.proofs.Common.{List, [], ◌∷◌, get_or, length, nat_lt}
 use Rattle.std.specs.Prelude.{if◌then◌else◌}
 use Rattle.ed_words.proofs.Numbers.{lt_of, not_lt_of}
 use Rattle.ed_words.proofs.SizeLemmas.{most}
+use Rattle.ed_words.specs.declared.order_words.TheConstants.{A_F, G_F, S_F, T_F, U_F, Z_F}
 use Rattle.ed_paths.proofs.Frames.{Frame, Moment, short, state}
 use Rattle.ed_paths.proofs.Places.{IsOutside, early, own, out}
 use Rattle.ed_paths.proofs.Moves.{A, S, T, U, G_jumps, G_stays, Z}
@@ -19,16 +20,16 @@ use Rattle.ed_paths.proofs.Loops.{all_spent, quiet_walks, walked}
 
 -- the order that gets the word at q
 abbrev pub getting : ℕ → ℕ
-getting q = 114688 + 2 * q
+getting q = A_F + 2 * q
 
 -- its words at b; the list ends before e, and `print` is at p. The two orders that get a number, the greatest
 -- and a cell for what is discarded change
 abbrev pub cells : ℕ → ℕ → ℕ → ℕ → ℕ → ℕ → ℕ → List ℕ
 cells b e p look take greatest scrap =
-    (20480 + 2 * (b + 22)) ∷ look ∷ (49152 + 2 * (b + 20)) ∷ (110592 + 2 * (b + 7)) ∷ (20480 + 2 * (b + 22)) ∷ take
-    ∷ (20480 + 2 * (b + 20)) ∷ (20480 + 2 * (b + 22)) ∷ (114688 + 2 * (b + 5)) ∷ 114692 ∷ (20480 + 2 * (b + 5))
-    ∷ (114688 + 2 * (b + 1)) ∷ 114692 ∷ (28672 + 2 * (b + 1)) ∷ (49152 + 2 * (b + 21)) ∷ (110592 + 2 * (b + 0))
-    ∷ (20480 + 2 * (b + 22)) ∷ (114688 + 2 * (b + 17)) ∷ (110592 + 2 * p) ∷ 53248 ∷ greatest ∷ (114688 + 2 * e)
+    (T_F + 2 * (b + 22)) ∷ look ∷ (S_F + 2 * (b + 20)) ∷ (G_F + 2 * (b + 7)) ∷ (T_F + 2 * (b + 22)) ∷ take
+    ∷ (T_F + 2 * (b + 20)) ∷ (T_F + 2 * (b + 22)) ∷ (A_F + 2 * (b + 5)) ∷ 114692 ∷ (T_F + 2 * (b + 5))
+    ∷ (A_F + 2 * (b + 1)) ∷ 114692 ∷ (U_F + 2 * (b + 1)) ∷ (S_F + 2 * (b + 21)) ∷ (G_F + 2 * (b + 0))
+    ∷ (T_F + 2 * (b + 22)) ∷ (A_F + 2 * (b + 17)) ∷ (G_F + 2 * p) ∷ Z_F ∷ greatest ∷ (A_F + 2 * e)
     ∷ scrap ∷ []
 
 -- its base, and what is around it
@@ -214,4 +215,4 @@ module _ (given : Given) where
       (11 ∷ digits v) (f.base + 20))
       is
       (subst (λ k. ComesToStop k (state f (before x ns) done) (11 ∷ digits y.most) (f.base + 20)) count
-      (to_stop whole (Z 19 53248 refl refl) done))
+      (to_stop whole (Z 19 Z_F refl refl) done))

@@ -8,6 +8,7 @@ use Rattle.ed_words.specs.declared.size.Size.TheVariants.{Small, Full}
 use Rattle.ed_words.specs.Words.{function_of}
 use Rattle.ed_words.proofs.SizeLemmas.{least}
 use Rattle.ed_words.specs.Texts.{Text}
+use Rattle.ed_words.specs.declared.order_words.TheConstants.{A_F, Z_F}
 use Rattle.ed_store.specs.Cells.{short_at}
 use Rattle.ed_orders.specs.Kinds.{kind_of_function}
 use Rattle.ed_orders.specs.declared.kind.Kind.TheVariants.{O}
@@ -109,7 +110,7 @@ module _ (z : Size) where
   unfolding parameter_store
   first_word = word 56 (lit≤ tt) (lit< tt)
 
-  letter : short_at g.store 58 ≡ 114688
+  letter : short_at g.store 58 ≡ A_F
   unfolding parameter_store
   letter = word 58 (lit≤ tt) (lit< tt)
 
@@ -127,7 +128,7 @@ module _ (z : Size) where
   second_is = ap (λ w. (obey_word (kind_of_function (function_of w)) w g).state) first_word
 
   -- Z F
-  second_word : next_word second ≡ 53248
+  second_word : next_word second ≡ Z_F
   unfolding parameter_store
   second_word = word 57 (lit≤ tt) (lit< tt)
 
@@ -179,7 +180,7 @@ module _ (z : Size) where
 
   -- ---- what is printed, and in how many orders
 
-  next : next_word (state_after 1 g) ≡ 53248
+  next : next_word (state_after 1 g) ≡ Z_F
   next = ap next_word second_is ∙ second_word
 
   codes_are : checked_codes g 2 ≡ 9 ∷ 28 ∷ 13 ∷ []

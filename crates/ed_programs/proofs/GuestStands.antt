@@ -11,9 +11,10 @@ use Rattle.std.proofs.lemmas.List.Quantifiers.{position-Some}
 use Rattle.std.proofs.Math.ListN.{get_or-map}
 use Rattle.ed_words.specs.declared.size.Size.{Size}
 use Rattle.ed_words.specs.Sizes.{locations}
-use Rattle.ed_words.specs.Words.{address_of, joined}
+use Rattle.ed_words.specs.Words.{address_of, long_of_halves}
 use Rattle.ed_words.proofs.SizeLemmas.{least, most}
 use Rattle.ed_words.specs.Texts.{Text}
+use Rattle.ed_words.specs.declared.order_words.TheConstants.{A_F}
 use Rattle.ed_codes.specs.Spelling.{letters, row_of}
 use Rattle.ed_codes.specs.Text.{Spells, none, row, spacing, comment}
 use Rattle.ed_codes.specs.Reading.{IsReadingOf, reading, rows}
@@ -31,7 +32,7 @@ use Rattle.ed_syntax.specs.declared.program.Line.{Line}
 use Rattle.ed_symbols.specs.NameFaults.{counter_after}
 use Rattle.ed_notation.specs.Spellings.{canonicals, text_of}
 use Rattle.ed_link.specs.Linked.{data_after, first_place, symbols_of, operand_number}
-use Rattle.ed_link.specs.Punch.{punched}
+use Rattle.ed_link.specs.Punch.{punched_items}
 use Rattle.ed_link.specs.Refusals.{IsAcceptedAs}
 use Rattle.ed_link.specs.Tapes.{after_text, cost, tape}
 use Rattle.ed_link.specs.Words.{LinePlaces, words_of_line}
@@ -79,7 +80,7 @@ sound_start z source lines a = record {
   acc = lit< tt;
   multiplier = lit< tt;
   counter = let size = least z in omega arith;
-  tape = read_fit (text_of (canonicals (punched lines)) ++ after_text (data_after lines)) (tape lines)
+  tape = read_fit (text_of (canonicals (punched_items lines)) ++ after_text (data_after lines)) (tape lines)
       (text_is_tape z source lines a);
   last = lit< tt;
 }
@@ -123,11 +124,11 @@ table_word h base i =
     get_or-map (λ row. routine_word (with_h h) base (table_item row)) (entry check).items i (0, 0, false, 0)
 
 -- the first word fetches the order at H
-fetches : (h base : ℕ) → h < 1024 → image_word check 0 base (with_h h) ≡ 114688 + 2 * h
+fetches : (h base : ℕ) → h < 1024 → image_word check 0 base (with_h h) ≡ A_F + 2 * h
 unfolding parameter_store
 fetches h base low = omega arith
 
-address_is : (h : ℕ) → h < 1024 → address_of (114688 + 2 * h) ≡ h
+address_is : (h : ℕ) → h < 1024 → address_of (A_F + 2 * h) ≡ h
 address_is h low = omega arith
 
 module _ (z : Size) (source : Text) (lines : List Line) (accepted : IsAcceptedAs z source lines)
@@ -188,7 +189,7 @@ module _ (z : Size) (source : Text) (lines : List Line) (accepted : IsAcceptedAs
       ap (short_at m.store) upper ∙ word (k + 1) l ∙ high in
       let second : short_at m.store (even (base + k)) ≡ 0 =
       ap (short_at m.store) lower ∙ word k (omega (arith, l)) ∙ low in
-      λ i. joined (first i) (digit i) (second i)
+      λ i. long_of_halves (first i) (digit i) (second i)
 
   no_high : long_at m.store (base + 60) ≡ 0
   no_high = no_long 60 refl (lit< tt) refl refl
@@ -200,7 +201,7 @@ module _ (z : Size) (source : Text) (lines : List Line) (accepted : IsAcceptedAs
   no_low = no_long 64 refl (lit< tt) refl refl
 
   module _ (in_range : h < 1024) where
-    first_word : short_at m.store base ≡ 114688 + 2 * h
+    first_word : short_at m.store base ≡ A_F + 2 * h
     first_word =
         let here : base ≡ base + 0 = omega arith in
         ap (short_at m.store) here ∙ word 0 (lit< tt) ∙ table_word h base 0 ∙ fetches h base in_range
@@ -217,7 +218,7 @@ module _ (z : Size) (source : Text) (lines : List Line) (accepted : IsAcceptedAs
         counter = entry_is z lines accepted.faultless c;
         acc = refl;
         image = image;
-        fetch = first_word ∙ ap (λ n. 114688 + 2 * n) (sym address);
+        fetch = first_word ∙ ap (λ n. A_F + 2 * n) (sym address);
         middle = subst (λ x. x < 2 ^ 34) (sym no_middle) (lit< tt);
         low = subst (λ x. x % 2 ^ 32 ≡ 0) (sym no_low) refl;
         low_few = subst (λ x. x < 2 ^ 34) (sym no_low) (lit< tt);

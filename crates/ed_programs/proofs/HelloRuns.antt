@@ -12,10 +12,11 @@ use Rattle.ed_syntax.specs.declared.program.Operand.TheVariants as operands
 use Rattle.ed_syntax.specs.declared.program.Statement.{Statement}
 use Rattle.ed_syntax.specs.declared.program.Statement.TheVariants as statements
 use Rattle.ed_words.specs.declared.size.Size.TheVariants.{Small, Full}
-use Rattle.ed_symbols.specs.Faults.{resolved}
+use Rattle.ed_words.specs.declared.order_words.TheConstants.{G_F, O_F, Z_F}
+use Rattle.ed_symbols.specs.Faults.{resolution}
 use Rattle.ed_symbols.specs.Places.{even_from, first_counter}
 use Rattle.ed_link.specs.Private.FaultTests.{fault, fault_from, missing, sooner}
-use Rattle.ed_link.specs.Linked.{symbols_of, linked}
+use Rattle.ed_link.specs.Linked.{symbols_of, linked_words}
 use Rattle.ed_paths.proofs.Places.{IsOutside}
 use Rattle.ed_routines.proofs.Lines.{newline_line}
 use Rattle.ed_sources.proofs.Blocks.{order_at}
@@ -40,12 +41,12 @@ use Rattle.ed_programs.proofs.Kit.{all_words, frame_at, moment_at, SourceRuns, M
 
 -- the order that prints what stands at q
 abbrev printing : ℕ → ℕ
-printing q = 36864 + 2 * q
+printing q = O_F + 2 * q
 
 -- its words: the jump to `newline`, the order after the last one that prints, the one that does, and a spare cell
 abbrev cells : ℕ → ℕ → ℕ → ℕ → List ℕ
 cells jump behind order scrap =
-    to 5 12 ∷ order ∷ to 28 1 ∷ 114692 ∷ to 7 1 ∷ to 12 11 ∷ to 27 0 ∷ to 5 12 ∷ to 28 8 ∷ jump ∷ 53248 ∷ behind
+    to 5 12 ∷ order ∷ to 28 1 ∷ 114692 ∷ to 7 1 ∷ to 12 11 ∷ to 27 0 ∷ to 5 12 ∷ to 28 8 ∷ jump ∷ Z_F ∷ behind
     ∷ scrap ∷ []
 
 module _ (z : Size) (around : Moment) (all : length around.words ≡ 1024) (second : get_or around.words 2 0 ≡ 2)
@@ -55,7 +56,7 @@ module _ (z : Size) (around : Moment) (all : length around.words ≡ 1024) (seco
 
   abbrev at : ℕ → ℕ → ℕ → ℕ → Option ℕ → Moment
   at i v order scrap last = record around {
-    cells = cells (110592 + 2 * w) (printing e) order scrap;
+    cells = cells (G_F + 2 * w) (printing e) order scrap;
     pairs = [];
     acc = short v;
     counter = 56 + i;
@@ -103,7 +104,7 @@ module _ (z : Size) (around : Moment) (all : length around.words ≡ 1024) (seco
       let here : IsIn f (at 8 0 (printing e) 0 x.0.1) = record { above = lit≤ tt; all = all; own = refl } in
       to_stop (then (along x.1)
       (then (along (on (T 7 (own 12) 0 refl refl) stay)) (newline_line here 8 has (lit≤ tt) refl refl refl)))
-      (Z 10 53248 refl refl)
+      (Z 10 Z_F refl refl)
 
 -- ---- its lines
 
@@ -157,7 +158,7 @@ module _ (rows : List ℕ) (few : length rows ≤ 41) where
   abbrev w : ℕ
   w = even_from (69 + length rows)
 
-  named : (resolved lines).fault ≡ None
+  named : (resolution lines).fault ≡ None
   named =
       let a : nat_lt (69 + length rows) 0 ≡ false = lt_false (69 + length rows) 0 (omega arith) in
       let b : nat_lt 1023 (69 + length rows) ≡ false = lt_false 1023 (69 + length rows) (omega arith) in
@@ -191,13 +192,13 @@ ends c cs few small z =
     let rows : List ℕ = c ∷ cs in
     let lines : List Line = hello_lines rows in
     let w : ℕ = even_from (69 + length rows) in
-    let front : List (ℕ × ℕ) = take 13 (linked lines) in
-    let jump : 4096 * 27 + 2 * (w + 0) ≡ 110592 + 2 * w = omega arith in
+    let front : List (ℕ × ℕ) = take 13 (linked_words lines) in
+    let jump : 4096 * 27 + 2 * (w + 0) ≡ G_F + 2 * w = omega arith in
     let order = order_at 27 (w + 0) (lit< tt) (omega arith) ∙ jump in
     let last = order_at 9 (69 + length rows) (lit< tt) (omega arith) in
     stops_by z lines 13 (lit≤ tt) (reverse front)
     (λ j l. before_text z lines 69 rows (lit≤ tt) (omega arith) front refl refl (56 + j) (omega arith) (omega arith))
-    (cells (110592 + 2 * w) (printing (69 + length rows)) (printing 69) 0)
+    (cells (G_F + 2 * w) (printing (69 + length rows)) (printing 69) 0)
     (λ i. cells (order i) (last i) (printing 69) 0) refl [] refl
     (stops z (moment_at (entry_state z lines)) (all_words z lines) refl w (69 + length rows) (omega arith)
     (newline_after z lines 69 rows (lit≤ tt) (omega arith) front refl refl (lit≤ tt) (lit≤ tt)) c cs

@@ -11,6 +11,7 @@ use Rattle.ed_words.proofs.Numbers.{eq_of, lt_true}
 use Rattle.ed_words.proofs.SizeLemmas.{least, most}
 use Rattle.ed_words.specs.Sizes.{locations}
 use Rattle.ed_words.specs.declared.size.Size.{Size}
+use Rattle.ed_words.specs.declared.order_words.TheConstants.{H_F, O_F, T_F, Z_F}
 use Rattle.ed_store.specs.Cells.{IsStore, short_at}
 use Rattle.ed_machine.specs.State.{State}
 use Rattle.ed_notation.specs.Fold.{over, word_with}
@@ -39,7 +40,7 @@ use Rattle.ed_programs.proofs.TwoPartsRuns.{IsAway, away, away_to_stop}
 
 -- its words, with the number in the last one
 abbrev pub cells : ℕ → List ℕ
-cells n = 114900 ∷ 114900 ∷ 28762 ∷ 114898 ∷ 12338 ∷ 20480 ∷ word_with 0 n false 0 ∷ []
+cells n = 114900 ∷ 114900 ∷ 28762 ∷ 114898 ∷ 12338 ∷ T_F ∷ word_with 0 n false 0 ∷ []
 
 module _ (z : Size) (tape_rows rest : List ℕ) (n cost read : ℕ) (small : n ≤ 510) where
   abbrev pub entry : TapeEntry
@@ -92,7 +93,7 @@ module _ (z : Size) (tape_rows rest : List ℕ) (n cost read : ℕ) (small : n �
 
   -- the moment of the return
   abbrev returning : Moment
-  returning = record (at 0 (set s.store.words 45 (4 * n)) (short (20480 + 4 * n))) { counter = 25 }
+  returning = record (at 0 (set s.store.words 45 (4 * n)) (short (T_F + 4 * n))) { counter = 25 }
 
   abbrev path : Path f 5 (at 0 s.store.words 0) [] returning
   path =
@@ -100,7 +101,7 @@ module _ (z : Size) (tape_rows rest : List ℕ) (n cost read : ℕ) (small : n �
       on (A 0 (own 6) (short (2 * n)) refl (omega arith))
       (on (A 1 (own 6) (short (4 * n)) refl (omega arith))
       (on (U 2 (out 45 (early 45 (lit≤ tt) (lit< tt) long)) _ refl refl)
-      (on (A 3 (own 5) (short (20480 + 4 * n)) refl (omega arith))
+      (on (A 3 (own 5) (short (T_F + 4 * n)) refl (omega arith))
       (on (E_jumps 4 (any 25 (omega arith)) refl (omega arith)) stay))))
 
   abbrev pub back : State
@@ -166,7 +167,7 @@ module _ (z : Size) (tape_rows rest : List ℕ) (n cost read : ℕ) (small : n �
 
     pub reopens : reopening back ≡ from_return z W n 200 low fits
     reopens =
-        let d : directive back ≡ 20480 + 2 * (2 * n) = omega arith in
+        let d : directive back ≡ T_F + 2 * (2 * n) = omega arith in
         λ i. record { directive = d i; theta = theta i; placed = [] }
 
     abbrev pub entry_on : TapeEntry
@@ -199,7 +200,7 @@ module _ (z : Size) (tape_rows rest : List ℕ) (n cost read : ℕ) (small : n �
     one = set W (2 * n) 61440
 
     abbrev two : List ℕ
-    two = set one (2 * n + 1) 86016
+    two = set one (2 * n + 1) H_F
 
     abbrev three : List ℕ
     three = set two (2 * n + 1 + 1) 32768
@@ -207,13 +208,13 @@ module _ (z : Size) (tape_rows rest : List ℕ) (n cost read : ℕ) (small : n �
     abbrev order : ℕ → ℕ
     order i = word_with 9 i false (get_or W 45 0)
 
-    order_is : (i : ℕ) → i ≤ 2 → order i ≡ 36864 + 2 * (2 * n + i)
+    order_is : (i : ℕ) → i ≤ 2 → order i ≡ O_F + 2 * (2 * n + i)
     order_is i few = omega (arith, letter_h)
 
     lengths : (length one ≡ 1024) × (length two ≡ 1024) × (length three ≡ 1024)
     lengths =
         let a : length one ≡ 1024 = length-set W (2 * n) 61440 ∙ back_long in
-        let b : length two ≡ 1024 = length-set one (2 * n + 1) 86016 ∙ a in
+        let b : length two ≡ 1024 = length-set one (2 * n + 1) H_F ∙ a in
         (a, b, length-set two (2 * n + 1 + 1) 32768 ∙ b)
 
     abbrev four : List ℕ
@@ -228,14 +229,14 @@ module _ (z : Size) (tape_rows rest : List ℕ) (n cost read : ℕ) (small : n �
     above : (a : ℕ) → 68 ≤ a → get_or m.store.words a 0 ≡ get_or three a 0
     above a l =
         placed_there a (omega arith)
-        ∙ get_or-set_other six 67 a 53248 0 (omega arith)
+        ∙ get_or-set_other six 67 a Z_F 0 (omega arith)
         ∙ get_or-set_other five 66 a (order 2) 0 (omega arith)
         ∙ get_or-set_other four 65 a (order 1) 0 (omega arith)
         ∙ get_or-set_other three 64 a (order 0) 0 (omega arith)
 
     record Letters : Type 0 where
       shift : get_or m.store.words (2 * n) 0 ≡ 61440
-      first : get_or m.store.words (2 * n + 1) 0 ≡ 86016
+      first : get_or m.store.words (2 * n + 1) 0 ≡ H_F
       second : get_or m.store.words (2 * n + 2) 0 ≡ 32768
 
     letters : Letters
@@ -248,43 +249,43 @@ module _ (z : Size) (tape_rows rest : List ℕ) (n cost read : ℕ) (small : n �
         let next : 2 * n + 2 ≡ 2 * n + 1 + 1 = omega arith in
         record {
           shift = above (2 * n) (omega arith) ∙ get_or-set_other two (2 * n + 1 + 1) (2 * n) 32768 0 (omega arith)
-              ∙ get_or-set_other one (2 * n + 1) (2 * n) 86016 0 (omega arith)
+              ∙ get_or-set_other one (2 * n + 1) (2 * n) H_F 0 (omega arith)
               ∙ get_or-set_same W (2 * n) 61440 0 (omega arith);
           first = above (2 * n + 1) (omega arith)
               ∙ get_or-set_other two (2 * n + 1 + 1) (2 * n + 1) 32768 0 (omega arith)
-              ∙ get_or-set_same one (2 * n + 1) 86016 0 (omega arith);
+              ∙ get_or-set_same one (2 * n + 1) H_F 0 (omega arith);
           second = ap (λ a. get_or m.store.words a 0) next ∙ above (2 * n + 1 + 1) (omega arith)
               ∙ get_or-set_same two (2 * n + 1 + 1) 32768 0 (omega arith);
         }
 
     abbrev image : List (Option ℕ)
     image =
-        Some (36864 + 2 * (2 * n)) ∷ Some (36864 + 2 * (2 * n + 1)) ∷ Some (36864 + 2 * (2 * n + 2)) ∷ Some 53248
+        Some (O_F + 2 * (2 * n)) ∷ Some (O_F + 2 * (2 * n + 1)) ∷ Some (O_F + 2 * (2 * n + 2)) ∷ Some Z_F
         ∷ None ∷ []
 
     holds : Holds image m.store.words 64
     holds zero l =
         let size = most z in
         let long = lengths.2 in
-        let here : order 0 ≡ 36864 + 2 * (2 * n) = omega (arith, order_is 0 (lit≤ tt)) in
+        let here : order 0 ≡ O_F + 2 * (2 * n) = omega (arith, order_is 0 (lit≤ tt)) in
         placed_there 64 (lit≤ tt)
-        ∙ get_or-set_other six 67 64 53248 0 (omega arith) ∙ get_or-set_other five 66 64 (order 2) 0 (omega arith)
+        ∙ get_or-set_other six 67 64 Z_F 0 (omega arith) ∙ get_or-set_other five 66 64 (order 2) 0 (omega arith)
         ∙ get_or-set_other four 65 64 (order 1) 0 (omega arith)
         ∙ get_or-set_same three 64 (order 0) 0 (omega arith) ∙ here
     holds (suc zero) l =
         let long = length-set three 64 (order 0) ∙ lengths.2 in
         placed_there 65 (lit≤ tt)
-        ∙ get_or-set_other six 67 65 53248 0 (omega arith) ∙ get_or-set_other five 66 65 (order 2) 0 (omega arith)
+        ∙ get_or-set_other six 67 65 Z_F 0 (omega arith) ∙ get_or-set_other five 66 65 (order 2) 0 (omega arith)
         ∙ get_or-set_same four 65 (order 1) 0 (omega arith) ∙ order_is 1 (lit≤ tt)
     holds (suc (suc zero)) l =
         let long = length-set four 65 (order 1) ∙ length-set three 64 (order 0) ∙ lengths.2 in
         placed_there 66 (lit≤ tt)
-        ∙ get_or-set_other six 67 66 53248 0 (omega arith)
+        ∙ get_or-set_other six 67 66 Z_F 0 (omega arith)
         ∙ get_or-set_same five 66 (order 2) 0 (omega arith) ∙ order_is 2 (lit≤ tt)
     holds (suc (suc (suc zero))) l =
         let long = length-set five 66 (order 2) ∙ length-set four 65 (order 1) ∙ length-set three 64 (order 0)
         ∙ lengths.2 in
-        placed_there 67 (lit≤ tt) ∙ get_or-set_same six 67 53248 0 (omega arith)
+        placed_there 67 (lit≤ tt) ∙ get_or-set_same six 67 Z_F 0 (omega arith)
     holds (suc (suc (suc (suc zero)))) l = tt
     holds (suc (suc (suc (suc (suc i))))) l = absurd (omega arith)
 
@@ -331,7 +332,7 @@ module _ (z : Size) (tape_rows rest : List ℕ) (n cost read : ℕ) (small : n �
     path_on =
         let shown = λ (a x : ℕ) (is : get_or m.store.words a 0 ≡ x). ap (λ (ws : List ℕ). get_or ws a 0) same_on ∙ is in
         let a = shown (2 * n) 61440 letters.shift in
-        let b = shown (2 * n + 1) 86016 letters.first in
+        let b = shown (2 * n + 1) H_F letters.first in
         let c = shown (2 * n + 2) 32768 letters.second in
         prints (O 0 (any (2 * n) (omega arith)) 15 refl (omega (arith, a)))
         (prints (O 1 (any (2 * n + 1) (omega arith)) 21 refl (omega (arith, b)))
@@ -340,7 +341,7 @@ module _ (z : Size) (tape_rows rest : List ℕ) (n cost read : ℕ) (small : n �
     pub program_stops : ComesToStop 3 m (15 ∷ 21 ∷ 8 ∷ []) 68
     program_stops =
         subst (λ (x : State). ComesToStop 3 x (15 ∷ 21 ∷ 8 ∷ []) 68) begins_on
-        (to_stop (along path_on) (Z 3 53248 refl refl) m.orders)
+        (to_stop (along path_on) (Z 3 Z_F refl refl) m.orders)
 
     pub program_away : IsAway 4 m
     program_away =

@@ -6,6 +6,7 @@ use Rattle.ed_words.proofs.Numbers.{le_true}
 use Rattle.ed_words.proofs.SizeLemmas.{least, most}
 use Rattle.ed_words.specs.Sizes.{locations}
 use Rattle.ed_words.specs.declared.size.Size.{Size}
+use Rattle.ed_words.specs.declared.order_words.TheConstants.{E_F, H_F, T_F}
 use Rattle.ed_notation.specs.declared.item.Item.{Item}
 use Rattle.ed_notation.specs.Items.{rows_of, spelled}
 use Rattle.ed_notation.specs.Fold.{NotationState, cost_of, is_entry, over}
@@ -36,7 +37,7 @@ pub record Entered (z : Size) (words : List ℕ) (start : NotationState) (base a
 
 pub entered : {z : Size} {words : List ℕ} {start last : NotationState} {is : List Item} {cost : ℕ} (base at : ℕ)
     (rest : List ℕ)
-    → IsDirective start.directive → Reads z words start is last cost → last.directive ≡ 12288 + 2 * at → 44 ≤ at
+    → IsDirective start.directive → Reads z words start is last cost → last.directive ≡ E_F + 2 * at → 44 ≤ at
     → at < locations z → Entered z words start base at is last cost rest
 entered {z} {words} {start} {last} {is} {cost} base at rest set reads aim low high =
     let e : Enters z words last at = entering_at z words last at aim low high in
@@ -120,7 +121,7 @@ program_items = printed_words ++ plain 5 64 14 ∷ (printing_orders ++ plain 3 6
 
 module _ (z : Size) (words : List ℕ) (n theta : ℕ) (low : 34 ≤ n) (fits : 2 * n + 3 ≤ locations z) where
   abbrev pub from_return : NotationState
-  from_return = record { directive = 20480 + 2 * (2 * n); theta = theta; placed = [] }
+  from_return = record { directive = T_F + 2 * (2 * n); theta = theta; placed = [] }
 
   abbrev words_placed : List (ℕ × ℕ)
   words_placed = laid (2 * n) (block words theta printed_words) []
@@ -134,13 +135,13 @@ module _ (z : Size) (words : List ℕ) (n theta : ℕ) (low : 34 ≤ n) (fits : 
   -- the words that are printed are at 68 and above
   apart : (j : ℕ) → j < 56 → get_or (over words_placed words) j 0 ≡ get_or words j 0
   apart j l =
-      get_or-set_other (set (set words (2 * n) 61440) (2 * n + 1) 86016) (2 * n + 1 + 1) j 32768 0 (omega arith)
-      ∙ get_or-set_other (set words (2 * n) 61440) (2 * n + 1) j 86016 0 (omega arith)
+      get_or-set_other (set (set words (2 * n) 61440) (2 * n + 1) H_F) (2 * n + 1 + 1) j 32768 0 (omega arith)
+      ∙ get_or-set_other (set words (2 * n) 61440) (2 * n + 1) j H_F 0 (omega arith)
       ∙ get_or-set_other words (2 * n) j 61440 0 (omega arith)
 
   pub program_reads : Reads z words from_return program_items program_note 259
   program_reads =
-      let n1 : NotationState = record { directive = 20480 + 2 * (2 * n + 3); theta = theta; placed = words_placed } in
+      let n1 : NotationState = record { directive = T_F + 2 * (2 * n + 3); theta = theta; placed = words_placed } in
       let n2 : NotationState = record { directive = 20608; theta = theta; placed = words_placed } in
       let n3 : NotationState = record { directive = 20616; theta = theta; placed = program_placed } in
       let high = least z in

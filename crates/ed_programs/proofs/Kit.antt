@@ -29,6 +29,7 @@ pub use Rattle.ed_routines.proofs.Journeys.{to_stop}
 pub use Rattle.ed_routines.proofs.Lines.{print_line}
 use Rattle.std.specs.Prelude.{◌&&◌}
 use Rattle.std.proofs.lemmas.Bool.{and_parts}
+use Rattle.ed_words.specs.declared.order_words.TheConstants.{A_F, G_F}
 use Rattle.ed_sources.proofs.AtEntry.{has_image, have_places, placed}
 pub use Rattle.ed_sources.proofs.AtEntry.{all_words}
 pub use Rattle.ed_sources.proofs.Entries.{frame_at, moment_at}
@@ -48,7 +49,7 @@ to function j = 4096 * function + 2 * (56 + j)
 
 -- the jump to a routine at a place: G
 abbrev pub calling : ℕ → ℕ
-calling place = 110592 + 2 * place
+calling place = G_F + 2 * place
 
 -- the order that returns after a call from cell j: E
 abbrev pub link : ℕ → ℕ
@@ -66,14 +67,14 @@ stop_counted {at = at} {s} {codes} stop e = subst (λ k. ComesToStop k s codes a
 -- a call of a routine of the program's own, from cell i: A i, G j
 pub calls_own : {n k : ℕ} {f : Frame n 0} {r t : Moment} {codes : List ℕ} (i j : ℕ) → r.acc ≡ 0
     → Reads {f = f} {r = r} i 28 (own i)
-    → Jumps {f = f} {r = record r { acc = short (114688 + 2 * (f.base + i)); counter = f.base + (i + 1) }} (i + 1) 27
+    → Jumps {f = f} {r = record r { acc = short (A_F + 2 * (f.base + i)); counter = f.base + (i + 1) }} (i + 1) 27
     (own j)
     → f.base + i < 1024
-    → Path f k (record r { acc = short (114688 + 2 * (f.base + i)); counter = f.base + j }) codes t
+    → Path f k (record r { acc = short (A_F + 2 * (f.base + i)); counter = f.base + j }) codes t
     → Path f (suc (suc k)) r codes t
 calls_own {f = f} {r} i j clear first second low rest =
-    let word : get_or r.cells i 0 ≡ 114688 + 2 * (f.base + i) = ap (λ x. x.1.0) first in
-    on (A i (own i) (short (114688 + 2 * (f.base + i))) first (omega arith))
+    let word : get_or r.cells i 0 ≡ A_F + 2 * (f.base + i) = ap (λ x. x.1.0) first in
+    on (A i (own i) (short (A_F + 2 * (f.base + i))) first (omega arith))
     (on (G_jumps (i + 1) (own j) second (omega arith)) rest)
 
 -- `read` and `print` beside a program, both for its cell j, and what `read` leaves of them

@@ -7,6 +7,7 @@ use Rattle.ed_words.proofs.SizeLemmas.{least}
 use Rattle.ed_words.specs.Sizes.{locations}
 use Rattle.ed_words.specs.declared.size.Size.{Size}
 use Rattle.ed_words.specs.declared.size.Size.TheVariants.{Small, Full}
+use Rattle.ed_words.specs.declared.order_words.TheConstants.{L_D, R_F, Z_F}
 use Rattle.ed_machine.specs.State.{State}
 use Rattle.ed_notation.specs.Faults.{TapeEntry}
 use Rattle.ed_notation.specs.Reading.{reading_on}
@@ -34,10 +35,10 @@ mirror_rows rest =
 -- the words that they place, the last one first
 abbrev placed : List (ℕ × ℕ)
 placed =
-    (96, 37074) ∷ (95, 16384) ∷ (94, 0) ∷ (93, 0) ∷ (92, 0) ∷ (91, 1) ∷ (90, 53248) ∷ (89, 53248) ∷ (88, 12452)
+    (96, 37074) ∷ (95, R_F) ∷ (94, 0) ∷ (93, 0) ∷ (92, 0) ∷ (91, 1) ∷ (90, Z_F) ∷ (89, Z_F) ∷ (88, 12452)
     ∷ (87, 114880) ∷ (86, 110772) ∷ (85, 49344) ∷ (84, 0) ∷ (83, 28840) ∷ (82, 49156) ∷ (81, 114878)
     ∷ (80, 114828) ∷ (79, 20666) ∷ (78, 12418) ∷ (77, 49334) ∷ (76, 28856) ∷ (75, 49334) ∷ (74, 114872)
-    ∷ (73, 20620) ∷ (72, 114692) ∷ (71, 114828) ∷ (70, 20688) ∷ (69, 102401) ∷ (68, 103424) ∷ (67, 114876)
+    ∷ (73, 20620) ∷ (72, 114692) ∷ (71, 114828) ∷ (70, 20688) ∷ (69, L_D) ∷ (68, 103424) ∷ (67, 114876)
     ∷ (66, 32956) ∷ (65, 20666) ∷ (64, 32952) ∷ []
 
 -- the entry that they reach

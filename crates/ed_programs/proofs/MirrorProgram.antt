@@ -7,6 +7,7 @@ use Rattle.std.proofs.Common.{List, [], ◌∷◌, ◌++◌, Option, Some, get_o
 use Rattle.std.specs.Prelude.{reverse}
 use Rattle.std.proofs.lemmas.List.{length-reverse, reverse-append, get_or-set_same, get_or-set_other, length-set}
 use Rattle.ed_words.proofs.SizeLemmas.{most}
+use Rattle.ed_words.specs.declared.order_words.TheConstants.{A_F, E_F, G_F, I_F, L_D, O_F, R_F, S_F, T_F, U_F, Z_F}
 use Rattle.ed_paths.proofs.Frames.{Frame, Moment, short, state}
 use Rattle.ed_paths.proofs.Places.{IsOutside, early, own, out}
 use Rattle.ed_paths.proofs.Moves.{A, S, T, U, I, O, L, Z, E_jumps, E_stays, G_jumps, G_stays}
@@ -27,21 +28,21 @@ pub record Work : Type 0 where
 -- its words at b
 abbrev pub cells : ℕ → Work → List ℕ
 cells b k =
-    (32768 + 2 * (b + 28)) ∷ (20480 + 2 * (b + 29)) ∷ (32768 + 2 * (b + 30)) ∷ (114688 + 2 * (b + 30)) ∷ 103424 ∷ 102401
-    ∷ k.store ∷ (114688 + 2 * (b + 6)) ∷ 114692 ∷ (20480 + 2 * (b + 6)) ∷ (114688 + 2 * (b + 28))
-    ∷ (49152 + 2 * (b + 27))
-    ∷ (28672 + 2 * (b + 28)) ∷ (49152 + 2 * (b + 27)) ∷ (12288 + 2 * (b + 1)) ∷ (20480 + 2 * (b + 29))
-    ∷ (114688 + 2 * (b + 6)) ∷ (114688 + 2 * (b + 31)) ∷ 49156 ∷ (28672 + 2 * (b + 20)) ∷ k.print
-    ∷ (49152 + 2 * (b + 32))
-    ∷ (110592 + 2 * (b + 26)) ∷ (114688 + 2 * (b + 32)) ∷ (12288 + 2 * (b + 18)) ∷ 53248 ∷ 53248 ∷ 1 ∷ k.count ∷ k.scrap
-    ∷ k.row ∷ 16384 ∷ (36864 + 2 * (b + 41)) ∷ []
+    (I_F + 2 * (b + 28)) ∷ (T_F + 2 * (b + 29)) ∷ (I_F + 2 * (b + 30)) ∷ (A_F + 2 * (b + 30)) ∷ 103424 ∷ L_D
+    ∷ k.store ∷ (A_F + 2 * (b + 6)) ∷ 114692 ∷ (T_F + 2 * (b + 6)) ∷ (A_F + 2 * (b + 28))
+    ∷ (S_F + 2 * (b + 27))
+    ∷ (U_F + 2 * (b + 28)) ∷ (S_F + 2 * (b + 27)) ∷ (E_F + 2 * (b + 1)) ∷ (T_F + 2 * (b + 29))
+    ∷ (A_F + 2 * (b + 6)) ∷ (A_F + 2 * (b + 31)) ∷ 49156 ∷ (U_F + 2 * (b + 20)) ∷ k.print
+    ∷ (S_F + 2 * (b + 32))
+    ∷ (G_F + 2 * (b + 26)) ∷ (A_F + 2 * (b + 32)) ∷ (E_F + 2 * (b + 18)) ∷ Z_F ∷ Z_F ∷ 1 ∷ k.count ∷ k.scrap
+    ∷ k.row ∷ R_F ∷ (O_F + 2 * (b + 41)) ∷ []
 
 -- the order that stores a letter at q, and the one that prints it
 abbrev pub storing : ℕ → ℕ
-storing q = 20480 + 2 * q
+storing q = T_F + 2 * q
 
 abbrev pub printing : ℕ → ℕ
-printing q = 36864 + 2 * q
+printing q = O_F + 2 * q
 
 -- codes are in words from q upwards, each in the first digits of its word; the last one comes first in the list
 abbrev pub Stored : List ℕ → ℕ → List ℕ → Type 0
@@ -304,7 +305,7 @@ module _ (given : Given) where
       let rest = closes x d ds is o in
       let count : k + (3 + (5 + length ds * 7)) ≡ k + (1 + suc (length ds) * 7) = omega arith in
       subst (λ n. ComesToStop n (state f r done) (d ∷ ds) (f.base + 27)) count
-      (to_stop (along (followed path rest.1)) (Z 26 53248 refl refl) done)
+      (to_stop (along (followed path rest.1)) (Z 26 Z_F refl refl) done)
 
   -- at the entry: the number of letters and the letters are on the tape
   abbrev pub entering : ℕ → List ℕ → Moment

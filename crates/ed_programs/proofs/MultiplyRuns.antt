@@ -1,4 +1,5 @@
 -- The source of `examples/answer5.edsac` for any numbers: its path, and what it prints.
+use Rattle.ed_words.specs.declared.order_words.TheConstants.{Z_F}
 use Rattle.ed_programs.specs.Multiply.{multiply_data, multiply_orders, multiply_pieces, multiply_prints, multiply_text}
 use Rattle.ed_programs.proofs.Kit.{◌≡◌, ◌∙◌, ℕ, zero, suc, ◌+◌, ◌*◌, ◌<◌, ◌≤◌, refl, ap, subst, arith, lit<, lit≤, true}
 use Rattle.ed_programs.proofs.Kit.{List, [], ◌∷◌, ◌++◌, Some, codes, length, append_assoc, length-append, decimal}
@@ -14,7 +15,7 @@ use Rattle.ed_programs.proofs.Kit.{program_runs, to, calling, link, calls_own}
 abbrev pub cells : ℕ → ℕ → ℕ → ℕ → ℕ → ℕ → ℕ → List ℕ
 cells c l r p s k h =
     to 28 0 ∷ to 27 13 ∷ to 28 2 ∷ to 27 32 ∷ to 28 12 ∷ to 7 27 ∷ to 5 28 ∷ to 28 7 ∷ to 27 13 ∷ to 28 9 ∷ to 27 32
-    ∷ 53248 ∷ c ∷ 114694 ∷ to 5 26 ∷ to 5 29 ∷ to 5 31 ∷ to 28 27 ∷ to 12 30 ∷ to 27 25 ∷ to 5 27 ∷ to 28 29
+    ∷ Z_F ∷ c ∷ 114694 ∷ to 5 26 ∷ to 5 29 ∷ to 5 31 ∷ to 28 27 ∷ to 12 30 ∷ to 27 25 ∷ to 5 27 ∷ to 28 29
     ∷ to 28 28 ∷ to 5 29 ∷ to 3 16 ∷ to 5 31 ∷ k ∷ l ∷ r ∷ p ∷ 1 ∷ s ∷ 114694 ∷ to 5 38 ∷ to 28 34
     ∷ calling 96 ∷ to 28 36 ∷ calling 148 ∷ h ∷ 0 ∷ []
 
@@ -114,7 +115,7 @@ module _ (z : Size) (c : ℕ) where
       (followed (times now one.is 7 c (lit≤ tt) c (a * b) 131071 (link 0) (link 2) few_c small_c)
       (calls_own 9 32 refl refl refl (lit< tt) stay)))))))
       two.journey)))
-      (Z 11 53248 refl refl) done) (omega arith)
+      (Z 11 Z_F refl refl) done) (omega arith)
 
 module _ (a b c : ℕ) (few : a < 65536) (also : b < 65536) (small : a * b < 65536) (few_c : c < 65536)
     (small_c : c * c < 65536) where

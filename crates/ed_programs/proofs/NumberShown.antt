@@ -1,6 +1,7 @@
 -- A number on a line of its own: the calls of `print` and of `newline` as one line of a journey.
 use Rattle.std.proofs.Common.{◌≡◌, ◌∙◌, ◌⊎◌, inl, inr, ℕ, ◌+◌, ◌*◌, ◌%◌, ◌<◌, ◌≤◌, arith, subst, false, List, [], ◌∷◌}
 use Rattle.std.proofs.Common.{◌++◌, refl, Some, append-nil, get_or}
+use Rattle.ed_words.specs.declared.order_words.TheConstants.{A_F}
 use Rattle.ed_library.specs.Routines.{is_working, place_count}
 use Rattle.ed_paths.proofs.Frames.{Frame, Moment, short}
 use Rattle.ed_paths.proofs.Moves.{Jumps, Reads}
@@ -43,10 +44,10 @@ module _ {n h : ℕ} {f : Frame n h} {r : Moment} (o : IsIn f r) where
   pub shows_number : {p w : ℕ} (i j v : ℕ) (prints : HasRoutine f r.words print p (with_h (f.base + j)))
       (lines : HasRoutine f r.words newline w []) → p + 51 ≤ w → get_or r.cells j 0 ≡ v → v < 65536 → j < n → i + 5 ≤ n
       → r.acc ≡ 0 → Reads {f = f} {r = r} i 28 (own i)
-      → Jumps {f = f} {r = record r { acc = short (114688 + 2 * (f.base + i)); counter = f.base + (i + 1) }}
+      → Jumps {f = f} {r = record r { acc = short (A_F + 2 * (f.base + i)); counter = f.base + (i + 1) }}
       (i + 1) 27 (any p prints.reached)
       → Reads {f = f} {r = record r { acc = 0; counter = f.base + (i + 2) }} (i + 2) 28 (own (i + 2))
-      → Jumps {f = f} {r = record r { acc = short (114688 + 2 * (f.base + (i + 2))); counter = f.base + (i + 2 + 1) }}
+      → Jumps {f = f} {r = record r { acc = short (A_F + 2 * (f.base + (i + 2))); counter = f.base + (i + 2 + 1) }}
       (i + 2 + 1) 27 (any w lines.reached)
       → HasShown i j p w v
   shows_number {p} {w} i j v prints lines next is small inside room clear first second third fourth =

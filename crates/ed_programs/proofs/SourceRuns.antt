@@ -20,7 +20,7 @@ use Rattle.ed_answers.specs.Headline.{RunsFromEntry}
 use Rattle.ed_answers.specs.Sources.{OfSource, run_outcome}
 use Rattle.ed_answers.proofs.Sources.{accepted_is, headline}
 use Rattle.ed_top.proofs.Stopped.{stopped_outcome}
-use Rattle.ed_programs.specs.Programs.{SourceRuns, woven}
+use Rattle.ed_programs.specs.Programs.{SourceRuns, woven_text}
 use Rattle.ed_programs.proofs.Answered.{are_short, is_due}
 use Rattle.ed_programs.proofs.SourceLines.{Marked, are_read, lines_said, marked_texts, said_fine, source_read}
 use Rattle.ed_programs.proofs.SourceLines.{source_said, texts_at}
@@ -77,7 +77,7 @@ pub read_runs : (s : Settings) (two : Bool) (pieces ds : List Text) (marks : Lis
     {printed : List ℕ} {text : Text} → read_of two pieces ds marks ≡ wanted two marks
     → fault s.size (lines_of_pieces two pieces ds marks) ≡ None
     → ComesToStop k (entry_state s.size (lines_of_pieces two pieces ds marks)) printed at → length printed ≤ 1000000
-    → k + 1 ≡ orders → paper printed ≡ text → SourceRuns s (woven pieces ds) orders at text
+    → k + 1 ≡ orders → paper printed ≡ text → SourceRuns s (woven_text pieces ds) orders at text
 read_runs s two pieces ds marks {k} {orders} {at} {printed} {text} o faultless stops few count shown =
     let texts : List Text = woven_lines pieces ds in
     let p = and_parts (nat_le (length texts) 2000) (are_read two 1 texts marks) (ap (λ (t : Read). t.1.1.0) o) in
@@ -104,7 +104,7 @@ no_fault lines small full Full = full
 pub program_runs : (s : Settings) (two : Bool) (pieces ds : List Text) (marks : List (Marked two)) {k orders at : ℕ}
     {printed : List ℕ} {text : Text} → AreSaid two pieces ds marks
     → ComesToStop k (entry_state s.size (lines_of_pieces two pieces ds marks)) printed at → length printed ≤ 1000000
-    → k + 1 ≡ orders → paper printed ≡ text → SourceRuns s (woven pieces ds) orders at text
+    → k + 1 ≡ orders → paper printed ≡ text → SourceRuns s (woven_text pieces ds) orders at text
 program_runs s two pieces ds marks o =
     read_runs s two pieces ds marks (ap (λ (t : Read × (Option SourceFault × Option SourceFault)). t.0) o)
     (no_fault (lines_of_pieces two pieces ds marks)

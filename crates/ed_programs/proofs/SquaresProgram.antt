@@ -3,6 +3,7 @@ use Rattle.std.proofs.Common.{◌≡◌, ℕ, zero, suc, ◌+◌, ◌-◌, ◌*�
 use Rattle.std.proofs.Common.{List, [], ◌∷◌, Option, Some}
 use Rattle.std.proofs.lemmas.Nat.{mul-le}
 use Rattle.ed_words.specs.declared.size.Size.TheVariants.{Full}
+use Rattle.ed_words.specs.declared.order_words.TheConstants.{A_F, E_F, G_F, O_F, S_F, T_F, Z_F}
 use Rattle.ed_paths.proofs.Frames.{Frame, Moment, short, state}
 use Rattle.ed_paths.proofs.Places.{own}
 use Rattle.ed_paths.proofs.Moves.{A, S, T, O, L, Z, E_jumps, G_jumps, G_stays}
@@ -23,12 +24,12 @@ pub record Work : Type 0 where
 -- its words from 31 upwards, and location 74, which its first order clears
 abbrev pub cells : Work → List ℕ
 cells k =
-    (20480 + 2 * 74) ∷ (36864 + 2 * 61) ∷ (20480 + 2 * 62) ∷ (114688 + 2 * 63) ∷ (114688 + 2 * 64) ∷ (20480 + 2 * 63)
-    ∷ (114688 + 2 * 64) ∷ (114688 + 2 * 65) ∷ (20480 + 2 * 64) ∷ (20480 + 2 * 69) ∷ (114688 + 2 * 63)
-    ∷ (49152 + 2 * 66) ∷ (110592 + 2 * 50) ∷ (20480 + 2 * 70) ∷ (114688 + 2 * 69) ∷ (114688 + 2 * 68)
-    ∷ (20480 + 2 * 69) ∷ (114688 + 2 * 70) ∷ (12288 + 2 * 42) ∷ (114688 + 2 * 66) ∷ 103424 ∷ (20480 + 2 * 71)
-    ∷ (36864 + 2 * 69) ∷ (36864 + 2 * 71) ∷ (36864 + 2 * 72) ∷ (36864 + 2 * 73) ∷ (114688 + 2 * 63)
-    ∷ (49152 + 2 * 67) ∷ (110592 + 2 * 33) ∷ 53248 ∷ 45056 ∷ k.scrap ∷ k.square ∷ k.odd ∷ 4 ∷ 20 ∷ 162 ∷ 4096
+    (T_F + 2 * 74) ∷ (O_F + 2 * 61) ∷ (T_F + 2 * 62) ∷ (A_F + 2 * 63) ∷ (A_F + 2 * 64) ∷ (T_F + 2 * 63)
+    ∷ (A_F + 2 * 64) ∷ (A_F + 2 * 65) ∷ (T_F + 2 * 64) ∷ (T_F + 2 * 69) ∷ (A_F + 2 * 63)
+    ∷ (S_F + 2 * 66) ∷ (G_F + 2 * 50) ∷ (T_F + 2 * 70) ∷ (A_F + 2 * 69) ∷ (A_F + 2 * 68)
+    ∷ (T_F + 2 * 69) ∷ (A_F + 2 * 70) ∷ (E_F + 2 * 42) ∷ (A_F + 2 * 66) ∷ 103424 ∷ (T_F + 2 * 71)
+    ∷ (O_F + 2 * 69) ∷ (O_F + 2 * 71) ∷ (O_F + 2 * 72) ∷ (O_F + 2 * 73) ∷ (A_F + 2 * 63)
+    ∷ (S_F + 2 * 67) ∷ (G_F + 2 * 33) ∷ Z_F ∷ 45056 ∷ k.scrap ∷ k.square ∷ k.odd ∷ 4 ∷ 20 ∷ 162 ∷ 4096
     ∷ k.tens ∷ k.left ∷ k.units ∷ 73728 ∷ 98304 ∷ 0 ∷ []
 
 abbrev pub frame : Frame 44 0
@@ -191,4 +192,4 @@ module _ (around : Moment) where
   whole = followed begins (followed (varying turn_orders before (λ i. figures (square_after i)) 8 turn) last_turn)
 
   pub squares_stop : (done : ℕ) → ComesToStop 383 (state frame entering done) all_codes 61
-  squares_stop done = to_stop (along whole) (Z 29 53248 refl refl) done
+  squares_stop done = to_stop (along whole) (Z 29 Z_F refl refl) done

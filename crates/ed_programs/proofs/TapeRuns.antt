@@ -21,7 +21,7 @@ use Rattle.ed_loads.specs.EntryState.{first_state}
 use Rattle.ed_loads.proofs.Entries.{first_store, starts}
 use Rattle.ed_initial.specs.Entry.{Comes}
 use Rattle.ed_initial.proofs.Quiet.{LeadsIn, comes_in}
-use Rattle.ed_run.specs.Run.{RunEnd, ran}
+use Rattle.ed_run.specs.Run.{RunEnd, run_end}
 use Rattle.ed_run.proofs.Later.{ran_later}
 use Rattle.ed_printer.specs.Paper.{paper}
 use Rattle.ed_paths.proofs.Standing.{Holds, Meets}
@@ -104,14 +104,14 @@ tape_runs s tape tape_rows e {k} {at} {printed} reads short arrives stops few =
       cost_is = refl;
       outcome = λ no_resumes plain fits.
           let ended = ran_to_stop left paper_room k first printed to_stop few (omega (arith, fits)) in
-          let whole : run_of s tape_rows ≡ ran left 0 paper_room first =
+          let whole : run_of s tape_rows ≡ run_end left 0 paper_room first =
           ran_later s.limit s.resumes paper_room e.cost (first_state s.size tape_rows) in_order.went
           (omega (arith, fits))
-          ∙ (λ i. ran left (no_resumes i) paper_room (in_order.arrives i)) in
+          ∙ (λ i. run_end left (no_resumes i) paper_room (in_order.arrives i)) in
           let answer = ap (λ (r : RunEnd). ran_outcome [] (with_post_mortem s.post_mortem r)) whole
-          ∙ (λ i. ran_outcome [] (with_post_mortem (plain i) (ran left 0 paper_room first)))
-          ∙ ap (ran_outcome []) (nothing_after (ran left 0 paper_room first))
-          ∙ answered [] (ran left 0 paper_room first) ended stops.counter count in
+          ∙ (λ i. ran_outcome [] (with_post_mortem (plain i) (run_end left 0 paper_room first)))
+          ∙ ap (ran_outcome []) (nothing_after (run_end left 0 paper_room first))
+          ∙ answered [] (run_end left 0 paper_room first) ended stops.counter count in
           let due : Outcome = record {
             out = paper printed;
             note = at_after (codes "stopped") at (e.cost + (k + 1)) ++ 10 ∷ [];

@@ -21,7 +21,7 @@ use Rattle.ed_syntax.specs.declared.program.Statement.TheVariants as statements
 use Rattle.ed_symbols.specs.declared.symbols.Definition.{Definition}
 use Rattle.ed_symbols.specs.Names.{place_on}
 use Rattle.ed_symbols.specs.Places.{even_from}
-use Rattle.ed_link.specs.Linked.{placed_words, linked}
+use Rattle.ed_link.specs.Linked.{placed_words, linked_words}
 use Rattle.ed_link.specs.Private.FaultTests.{fault_from}
 use Rattle.ed_loads.specs.EntryState.{entry_state}
 use Rattle.ed_routines.specs.Catalogue.{newline}
@@ -97,7 +97,7 @@ text_words p rows =
     (newline_words (even_from (p + length rows))) ++ [])
 
 module _ (z : Size) (lines : List Line) (p : ℕ) (rows : List ℕ) (low : 56 ≤ p) (high : p + length rows ≤ 500)
-    (front : List (ℕ × ℕ)) (are : linked lines ≡ front ++ text_words p rows) (fit : have_places front ≡ true) where
+    (front : List (ℕ × ℕ)) (are : linked_words lines ≡ front ++ text_words p rows) (fit : have_places front ≡ true) where
   abbrev w : ℕ
   w = even_from (p + length rows)
 

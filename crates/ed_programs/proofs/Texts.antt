@@ -6,7 +6,7 @@ use Rattle.std.specs.declared.alloc.Global.{Global}
 use Rattle.ed_words.specs.Texts.{Text}
 use Rattle.ed_command.specs.declared.command.Settings.{Settings}
 use Rattle.ed_sources.specs.Calls.{text_of_lines}
-use Rattle.ed_programs.specs.Programs.{GivesProgram, AnswersWritten, SourceRuns, woven}
+use Rattle.ed_programs.specs.Programs.{GivesProgram, AnswersWritten, SourceRuns, woven_text}
 use Rattle.ed_programs.specs.declared.refusal.Refusal.{Refusal}
 
 -- the answer is what `format!` wrote
@@ -43,11 +43,11 @@ nexts next [] pieces = pieces
 nexts next (t ∷ ts) pieces = next ∷ nexts next ts pieces
 
 woven_joined : (next head t : Text) (ts pieces ds : List Text)
-    → woven (head ∷ nexts next ts pieces) (t ∷ (ts ++ ds)) ≡ head ++ (joined next t ts ++ woven pieces ds)
+    → woven_text (head ∷ nexts next ts pieces) (t ∷ (ts ++ ds)) ≡ head ++ (joined next t ts ++ woven_text pieces ds)
 woven_joined next head t [] pieces ds = refl
 woven_joined next head t (u ∷ us) pieces ds =
     let j : Text = joined next u us in
-    let w : Text = woven pieces ds in
+    let w : Text = woven_text pieces ds in
     ap (λ (x : Text). head ++ (t ++ x)) (woven_joined next next u us pieces ds)
     ∙ ap (λ (x : Text). head ++ x) (sym (append_assoc t (next ++ j) w
     ∙ ap (λ (x : Text). t ++ x) (append_assoc next j w)))
@@ -55,7 +55,7 @@ woven_joined next head t (u ∷ us) pieces ds =
 -- they are written in two halves
 pub halves : (next head tail t u : Text) (ts us : List Text) {x y : Text} → x ≡ joined next t ts → y ≡ joined next u us
     → head ++ (x ++ (next ++ (y ++ tail)))
-    ≡ woven (head ∷ nexts next ts (next ∷ nexts next us (tail ∷ []))) (t ∷ (ts ++ (u ∷ (us ++ []))))
+    ≡ woven_text (head ∷ nexts next ts (next ∷ nexts next us (tail ∷ []))) (t ∷ (ts ++ (u ∷ (us ++ []))))
 halves next head tail t u ts us first last =
     (λ i. head ++ (first i ++ (next ++ (last i ++ tail))))
     ∙ sym (woven_joined next head t ts (next ∷ nexts next us (tail ∷ [])) (u ∷ (us ++ []))

@@ -19,7 +19,7 @@ use Rattle.ed_machine.specs.declared.turn.Turn.TheVariants.{Went, Printed, Stopp
 use Rattle.ed_machine.specs.declared.ending.Ending.TheVariants.{Stopped}
 use Rattle.ed_machine.proofs.Counts.{counted_after}
 use Rattle.ed_machine.proofs.Steps.{next_state, next_stops}
-use Rattle.ed_run.specs.Run.{end_by, ran}
+use Rattle.ed_run.specs.Run.{end_by, run_end}
 use Rattle.ed_printer.specs.Paper.{paper}
 use Rattle.ed_notation.specs.Fold.{address}
 use Rattle.ed_notation.specs.Faults.{TapeEntry}
@@ -345,9 +345,9 @@ two_parts_run s tape tape_rows {at} {printed} reads short c few =
           let ended = ran_to_stop s.limit paper_room (orders_to_program t + c.orders_on) first printed end few
           (omega (arith, fits)) in
           let answer : tape_outcome s tape_rows ≡ due =
-          (λ i. ran_outcome [] (with_post_mortem (plain i) (ran s.limit (no_resumes i) paper_room first)))
-          ∙ ap (ran_outcome []) (nothing_after (ran s.limit 0 paper_room first))
-          ∙ answered [] (ran s.limit 0 paper_room first) ended o.counter count in
+          (λ i. ran_outcome [] (with_post_mortem (plain i) (run_end s.limit (no_resumes i) paper_room first)))
+          ∙ ap (ran_outcome []) (nothing_after (run_end s.limit 0 paper_room first))
+          ∙ answered [] (run_end s.limit 0 paper_room first) ended o.counter count in
           inl (short, subst (λ r. OfReading (exactly (tape_outcome s)) r due) (sym reads) answer);
     }
 

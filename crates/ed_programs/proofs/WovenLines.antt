@@ -4,7 +4,7 @@ use Rattle.std.specs.Prelude.{◌==◌, Bool, true, false, if◌then◌else◌}
 use Rattle.ed_words.proofs.Numbers.{eq_of}
 use Rattle.ed_words.specs.Texts.{Text}
 use Rattle.ed_sources.specs.Calls.{text_of_lines}
-use Rattle.ed_programs.specs.Programs.{woven}
+use Rattle.ed_programs.specs.Programs.{woven_text}
 
 -- texts with line ends between them
 abbrev ended : List Text → Text
@@ -73,7 +73,7 @@ before_is (t ∷ u ∷ ts) us =
     ap (λ (x : Text). t ++ x) (ended_is u ts us ∙ ap (λ (x : Text). 10 ∷ x) (before_is (u ∷ ts) us))
     ∙ sym (append_assoc t (10 ∷ between (u ∷ ts)) (between us))
 
-segments_are : (pieces ds : List Text) → between (segments pieces ds) ≡ woven pieces ds
+segments_are : (pieces ds : List Text) → between (segments pieces ds) ≡ woven_text pieces ds
 segments_are [] ds = refl
 segments_are (piece ∷ pieces) [] =
     before_is (split piece) (segments pieces [])
@@ -108,7 +108,7 @@ lines_are (t ∷ u ∷ ts) =
     ∙ append_assoc t (10 ∷ []) (between (u ∷ ts))
 
 pub woven_is : (pieces ds : List Text) → unended pieces ds ≡ []
-    → text_of_lines (woven_lines pieces ds) ≡ woven pieces ds
+    → text_of_lines (woven_lines pieces ds) ≡ woven_text pieces ds
 woven_is pieces ds e =
     sym (append-nil (text_of_lines (woven_lines pieces ds)))
     ∙ ap (λ (x : Text). text_of_lines (woven_lines pieces ds) ++ x) (sym e)

@@ -3,7 +3,7 @@ use Rattle.std.specs.Prelude.{ℕ, ◌+◌, ◌*◌, List, [], ◌∷◌, length
 use Rattle.std.specs.Fmt.{decimal}
 use Rattle.ed_words.specs.Texts.{Text}
 use Rattle.ed_routines.specs.Digits.{digits, print_orders}
-use Rattle.ed_programs.specs.Programs.{woven}
+use Rattle.ed_programs.specs.Programs.{woven_text}
 use Rattle.ed_programs.specs.declared.add.TheConstants.{ADD}
 use Rattle.ed_programs.specs.declared.refusal.Refusal.{Refusal}
 use Rattle.ed_programs.specs.declared.refusal.Refusal.TheVariants.{Number}
@@ -17,7 +17,7 @@ add_data a b = decimal a ∷ decimal b ∷ []
 
 -- the whole text
 abbrev pub add_text : ℕ → ℕ → Text
-add_text a b = woven add_pieces (add_data a b)
+add_text a b = woven_text add_pieces (add_data a b)
 
 -- why the data of `examples/add.edsac`, two numbers below 65536, are refused, if they are: `print` can't print their
 -- sum

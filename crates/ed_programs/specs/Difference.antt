@@ -3,7 +3,7 @@ use Rattle.std.specs.Prelude.{ℕ, ◌+◌, ◌-◌, ◌*◌, List, [], ◌∷�
 use Rattle.std.specs.Fmt.{decimal}
 use Rattle.ed_words.specs.Texts.{Text}
 use Rattle.ed_routines.specs.Digits.{digits, print_orders}
-use Rattle.ed_programs.specs.Programs.{woven}
+use Rattle.ed_programs.specs.Programs.{woven_text}
 use Rattle.ed_programs.specs.declared.difference.TheConstants.{DIFFERENCE}
 
 -- its pieces, and the numbers between them
@@ -15,7 +15,7 @@ difference_data a b = decimal a ∷ decimal b ∷ []
 
 -- the whole text
 abbrev pub difference_text : ℕ → ℕ → Text
-difference_text a b = woven difference_pieces (difference_data a b)
+difference_text a b = woven_text difference_pieces (difference_data a b)
 
 -- how far two numbers are apart
 abbrev pub distance : ℕ → ℕ → ℕ

@@ -6,7 +6,7 @@ use Rattle.std.specs.Fmt.{decimal}
 use Rattle.ed_words.specs.Texts.{Text}
 use Rattle.ed_routines.specs.Digits.{digits, print_orders}
 use Rattle.ed_maths.specs.Quotients.{divide_orders}
-use Rattle.ed_programs.specs.Programs.{woven}
+use Rattle.ed_programs.specs.Programs.{woven_text}
 use Rattle.ed_programs.specs.declared.fraction.TheConstants.{FRACTION}
 use Rattle.ed_programs.specs.declared.refusal.Refusal.{Refusal}
 use Rattle.ed_programs.specs.declared.refusal.Refusal.TheVariants.{Divisor}
@@ -20,7 +20,7 @@ fraction_data u l n = decimal u ∷ decimal l ∷ decimal n ∷ []
 
 -- the whole text
 abbrev pub fraction_text : ℕ → ℕ → ℕ → Text
-fraction_text u l n = woven fraction_pieces (fraction_data u l n)
+fraction_text u l n = woven_text fraction_pieces (fraction_data u l n)
 
 -- why numbers below 65536 are refused as its data, if they are
 abbrev pub fraction_refusal : ℕ → Option Refusal

@@ -4,18 +4,18 @@ use Rattle.std.specs.Prelude.{Some, None}
 use Rattle.std.specs.Fmt.{decimal}
 use Rattle.ed_words.specs.Texts.{Text}
 use Rattle.ed_routines.specs.Digits.{print_orders}
-use Rattle.ed_programs.specs.Programs.{spread, woven}
+use Rattle.ed_programs.specs.Programs.{spread_pieces, woven_text}
 use Rattle.ed_programs.specs.declared.greatest.TheConstants.{GREATEST}
 use Rattle.ed_programs.specs.declared.refusal.Refusal.{Refusal}
 use Rattle.ed_programs.specs.declared.refusal.Refusal.TheVariants.{Count}
 
 -- its pieces; the eight numbers stand between them, each but the first on a line of its own (10)
 abbrev pub greatest_pieces : List Text
-greatest_pieces = spread 7 (10 ∷ codes "word ") (map (λ piece. piece.now) GREATEST)
+greatest_pieces = spread_pieces 7 (10 ∷ codes "word ") (map (λ piece. piece.now) GREATEST)
 
 -- the whole text
 abbrev pub greatest_text : List ℕ → Text
-greatest_text ns = woven greatest_pieces (map decimal ns)
+greatest_text ns = woven_text greatest_pieces (map decimal ns)
 
 -- why numbers below 65536 are refused as the data of `examples/answer6.edsac`, if they are
 abbrev pub greatest_refusal : List ℕ → Option Refusal

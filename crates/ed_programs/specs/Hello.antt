@@ -8,7 +8,7 @@ use Rattle.ed_codes.specs.Spelling.{row_of}
 use Rattle.ed_syntax.specs.Private.Grammar.{row, spells}
 use Rattle.ed_printer.specs.Paper.{paper}
 use Rattle.ed_command.specs.declared.command.Settings.{Settings}
-use Rattle.ed_programs.specs.Programs.{SourceRuns, woven}
+use Rattle.ed_programs.specs.Programs.{SourceRuns, woven_text}
 use Rattle.ed_programs.specs.declared.hello.TheConstants.{HELLO}
 use Rattle.ed_programs.specs.declared.refusal.Refusal.{Refusal}
 use Rattle.ed_programs.specs.declared.refusal.Refusal.TheVariants.{Length, Letter}
@@ -22,7 +22,7 @@ hello_data q = decimal (length q) ∷ q ∷ []
 
 -- the whole text
 abbrev pub hello_text : Text → Text
-hello_text q = woven hello_pieces (hello_data q)
+hello_text q = woven_text hello_pieces (hello_data q)
 
 -- a text of letters, after the letter shift with which it begins (42 is *)
 abbrev pub of_letters : Text → Text

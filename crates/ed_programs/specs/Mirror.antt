@@ -5,18 +5,18 @@ use Rattle.std.specs.Fmt.{decimal}
 use Rattle.std.specs.List.{list_all}
 use Rattle.ed_words.specs.Texts.{Text}
 use Rattle.ed_programs.specs.Hello.{is_capital}
-use Rattle.ed_programs.specs.Programs.{spread, woven}
+use Rattle.ed_programs.specs.Programs.{spread_pieces, woven_text}
 use Rattle.ed_programs.specs.declared.mirror.TheConstants.{MIRROR}
 use Rattle.ed_programs.specs.declared.refusal.Refusal.{Refusal}
 use Rattle.ed_programs.specs.declared.refusal.Refusal.TheVariants.{Length, Letter}
 
 -- its pieces; the number of letters and the letters stand between them
 abbrev pub mirror_pieces : List Text
-mirror_pieces = spread 1 [] (map (λ piece. piece.now) MIRROR)
+mirror_pieces = spread_pieces 1 [] (map (λ piece. piece.now) MIRROR)
 
 -- the whole tape
 abbrev pub mirror_text : Text → Text
-mirror_text letters = woven mirror_pieces (decimal (length letters) ∷ letters ∷ [])
+mirror_text letters = woven_text mirror_pieces (decimal (length letters) ∷ letters ∷ [])
 
 -- why a text is refused as the word, if it is: its length must be one digit, and not 0
 abbrev pub mirror_refusal : Text → Option Refusal

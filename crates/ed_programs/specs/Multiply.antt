@@ -3,7 +3,7 @@ use Rattle.std.specs.Prelude.{ℕ, ◌+◌, ◌*◌, List, [], ◌∷◌, ◌++�
 use Rattle.std.specs.Fmt.{decimal}
 use Rattle.ed_words.specs.Texts.{Text}
 use Rattle.ed_routines.specs.Digits.{print_orders}
-use Rattle.ed_programs.specs.Programs.{woven}
+use Rattle.ed_programs.specs.Programs.{woven_text}
 use Rattle.ed_programs.specs.declared.multiply.TheConstants.{MULTIPLY}
 use Rattle.ed_programs.specs.declared.refusal.Refusal.{Refusal}
 use Rattle.ed_programs.specs.declared.refusal.Refusal.TheVariants.{Number}
@@ -17,7 +17,7 @@ multiply_data a b c = decimal c ∷ decimal a ∷ decimal b ∷ []
 
 -- the whole text
 abbrev pub multiply_text : ℕ → ℕ → ℕ → Text
-multiply_text a b c = woven multiply_pieces (multiply_data a b c)
+multiply_text a b c = woven_text multiply_pieces (multiply_data a b c)
 
 -- why three numbers below 65536 are refused as the data of `examples/answer5.edsac`, if they are
 abbrev pub multiply_refusal : ℕ → ℕ → ℕ → Option Refusal

@@ -9,7 +9,7 @@ use Rattle.ed_syntax.specs.declared.program.Line.{Line}
 use Rattle.ed_link.specs.Refusals.{IsAcceptedAs}
 use Rattle.ed_link.specs.Linked.{entry_of}
 use Rattle.ed_link.specs.Tapes.{cost}
-use Rattle.ed_report.specs.Notes.{at_after, entered}
+use Rattle.ed_report.specs.Notes.{at_after, entry_note}
 use Rattle.ed_command.specs.declared.command.Action.TheVariants.{Run}
 use Rattle.ed_command.specs.declared.command.Settings.{Settings}
 use Rattle.ed_answers.specs.Answer.{IsDue}
@@ -28,21 +28,21 @@ pub record SourceRuns (s : Settings) (source : Text) (orders at : ℕ) (text : T
   pub outcome : s.resumes ≡ 0 → s.post_mortem ≡ None → cost lines + orders ≤ s.limit
       → IsDue (output (Some (record { action = Run; settings = s }))) source (record {
         out = text;
-        note = entered (entry_of lines) (cost lines)
+        note = entry_note (entry_of lines) (cost lines)
             ++ (at_after (codes "stopped") at (cost lines + orders) ++ 10 ∷ []);
         status = 0;
       })
 
 -- the pieces of a program's text, with the data between them
-abbrev pub woven : List Text → List Text → Text
-woven [] ds = []
-woven (piece ∷ pieces) [] = piece ++ woven pieces []
-woven (piece ∷ pieces) (d ∷ ds) = piece ++ (d ++ woven pieces ds)
+abbrev pub woven_text : List Text → List Text → Text
+woven_text [] ds = []
+woven_text (piece ∷ pieces) [] = piece ++ woven_text pieces []
+woven_text (piece ∷ pieces) (d ∷ ds) = piece ++ (d ++ woven_text pieces ds)
 
 -- the two pieces around k + 1 data, and a text between each two of these
-abbrev pub spread : ℕ → Text → List Text → List Text
-spread k next [] = []
-spread k next (head ∷ tail) = head ∷ replicate k next ++ tail
+abbrev pub spread_pieces : ℕ → Text → List Text → List Text
+spread_pieces k next [] = []
+spread_pieces k next (head ∷ tail) = head ∷ replicate k next ++ tail
 
 -- the answer is the program with this text if nothing refuses its data, otherwise the cause; it may also be that no
 -- memory was found

@@ -111,5 +111,5 @@ ending_line NoTape s = at_after (codes "no tape") s.counter s.orders ++ 10 ∷ [
 ending_line PaperFull s = at_after (codes "paper full") s.counter s.orders ++ 10 ∷ []
 
 -- `entered E after N orders, `, which comes before the line of an ending if the run entered its program
-abbrev pub entered : ℕ → ℕ → List ℕ
-entered at orders = codes "entered " ++ decimal at ++ codes " after " ++ decimal orders ++ codes " orders, "
+abbrev pub entry_note : ℕ → ℕ → List ℕ
+entry_note at orders = codes "entered " ++ decimal at ++ codes " after " ++ decimal orders ++ codes " orders, "

@@ -1,5 +1,5 @@
 ghost use Rattle.std.specs.Prelude.{◌≡◌, ◌∷◌, [], ◌++◌, IfOk};
-ghost use Rattle.ed_report.specs.Notes.{at_after, ending_line, entered};
+ghost use Rattle.ed_report.specs.Notes.{at_after, ending_line, entry_note};
 
 use crate::text::bytes_of_text;
 use ed_machine::{Ending, Machine};
@@ -30,17 +30,17 @@ pub fn entered_text(
     ending: Ending,
     machine: &Machine,
 ) -> Result<Vec<u8>, NoMemory>
-    ensures { IfOk result (λ bytes. bytes.items ≡ entered entry cost ++ ending_line ending machine.now) }
+    ensures { IfOk result (λ bytes. bytes.items ≡ entry_note entry cost ++ ending_line ending machine.now) }
 {
-    let mut text = entered(alloc, entry, cost)?;
+    let mut text = entry_note(alloc, entry, cost)?;
     let line = ending_text(alloc, ending, machine)?;
     text.extend_from_slice(&line)?;
     Ok(text)
 }
 
 /// The text before the line of an ending if the program was entered.
-fn entered(alloc: Global, entry: u16, cost: u64) -> Result<Vec<u8>, NoMemory>
-    ensures { IfOk result (λ bytes. bytes.items ≡ entered entry cost) }
+fn entry_note(alloc: Global, entry: u16, cost: u64) -> Result<Vec<u8>, NoMemory>
+    ensures { IfOk result (λ bytes. bytes.items ≡ entry_note entry cost) }
 {
     bytes_of_text(format!(in alloc; "entered {entry} after {cost} orders, "))
 }

@@ -6,6 +6,7 @@ use Rattle.std.specs.Prelude.{◌==◌}
 use Rattle.std.specs.List.{list_any}
 use Rattle.ed_words.specs.Sizes.{locations}
 use Rattle.ed_words.proofs.SizeLemmas.{most}
+use Rattle.ed_words.specs.declared.order_words.TheConstants.{A_F}
 use Rattle.ed_machine.specs.State.{State}
 use Rattle.ed_library.specs.Entries.{entry}
 use Rattle.ed_library.specs.Routines.{place_count}
@@ -127,7 +128,7 @@ moment call words cells top i = record {
 pub begins : {r n b h top : ℕ} {parameters : List ℕ} {s : State} (hs : List ℕ) (o : Stands r parameters b s)
     (within : IsWithin n b h top s) → length s.store.words ≡ 1024 → Holds (image r b hs) s.store.words b
     → state (call_of {pairs = 0} o.low within).frame (moment (call_of {pairs = 0} o.low within) s.store.words
-    (filled (image r b hs) s.store.words b 0) (114688 + 2 * caller s) 0) s.orders ≡ s
+    (filled (image r b hs) s.store.words b 0) (A_F + 2 * caller s) 0) s.orders ≡ s
 begins {r} {b = b} {s = s} hs o within all holds =
     let size = most s.size in
     let fits = o.fits in
@@ -135,7 +136,7 @@ begins {r} {b = b} {s = s} hs o within all holds =
     let words : patched 0 s.store.words b (filled (image r b hs) s.store.words b 0) ≡ s.store.words =
     opens (image r b hs) s.store.words b (omega (arith, fits, all, long)) holds in
     let counter : b + 0 ≡ s.counter = omega (arith, o.counter) in
-    let acc : short (114688 + 2 * caller s) ≡ s.acc = sym o.call.acc in
+    let acc : short (A_F + 2 * caller s) ≡ s.acc = sym o.call.acc in
     λ i. record s {
       store = record { words = words i; sandwich = s.store.sandwich };
       acc = acc i;

@@ -3,6 +3,7 @@ use Rattle.std.proofs.Common.{◌≡◌, ◌⊎◌, inl, inr, ℕ, ◌+◌, ◌-
 use Rattle.std.proofs.Common.{false, List, [], ◌++◌, Option, get_or, length}
 use Rattle.ed_words.specs.Sizes.{locations}
 use Rattle.ed_words.proofs.SizeLemmas.{most}
+use Rattle.ed_words.specs.declared.order_words.TheConstants.{A_F}
 use Rattle.ed_machine.specs.State.{State}
 use Rattle.ed_machine.specs.OrderTable.{Obeyed, step}
 use Rattle.ed_machine.specs.declared.turn.Turn.TheVariants.{Stopped}
@@ -117,7 +118,7 @@ module _ {n h : ℕ} {f : Frame n h} {r : Moment} (o : IsIn f r) where
 
   -- the moment in which a routine at w is called from the cell i
   abbrev pub called : ℕ → ℕ → Moment
-  called i w = record r { acc = short (114688 + 2 * (f.base + i)); counter = w }
+  called i w = record r { acc = short (A_F + 2 * (f.base + i)); counter = w }
 
   pub caller_is : (i w done : ℕ) → caller (state f (called i w) done) ≡ f.base + i
   caller_is i w done = omega arith
@@ -137,7 +138,7 @@ module _ {n h : ℕ} {f : Frame n h} {r : Moment} (o : IsIn f r) where
         at3 = beside_word 3 (inl (omega arith)) ∙ has.at3;
         image = λ j l. record { has = λ free. beside_word (w + j) (away j l has.apart) ∙ has.image j l free };
         call = record {
-          acc = ap (λ x. (114688 + 2 * x) * 2 ^ 54) (sym e);
+          acc = ap (λ x. (A_F + 2 * x) * 2 ^ 54) (sym e);
           room = omega (arith, e);
         };
       }
@@ -190,15 +191,15 @@ module _ {n h : ℕ} {f : Frame n h} {r : Moment} (o : IsIn f r) where
 
     -- the two orders of the call, and the routine
     pub calls : r.acc ≡ 0 → Reads {f = f} {r = r} i 28 (own i)
-        → Jumps {f = f} {r = record r { acc = short (114688 + 2 * (f.base + i)); counter = f.base + (i + 1) }}
+        → Jumps {f = f} {r = record r { acc = short (A_F + 2 * (f.base + i)); counter = f.base + (i + 1) }}
         (i + 1) 27 (any w has.reached)
         → Journey f (2 + k) r codes (after_call w i ds l)
     calls clear first second = record {
       leads = λ done.
           let size = most f.size in let under = f.under in let fits = f.fits in
-          let word : get_or r.cells i 0 ≡ 114688 + 2 * (f.base + i) = ap (λ x. x.1.0) first in
+          let word : get_or r.cells i 0 ≡ A_F + 2 * (f.base + i) = ap (λ x. x.1.0) first in
           let two : Path f 2 r [] (called i w) =
-          on (A i (own i) (short (114688 + 2 * (f.base + i))) first (omega arith))
+          on (A i (own i) (short (A_F + 2 * (f.base + i))) first (omega arith))
           (on (G_jumps (i + 1) (any w has.reached) second (omega arith)) stay) in
           let back : Returns r0 w (state f (called i w) (done + 2)) k codes ds l
           = returns (done + 2) (stands i (done + 2) room has) in

@@ -2,6 +2,7 @@
 use Rattle.std.proofs.Common.{◌≡◌, ◌⊎◌, inl, inr, ℕ, ◌+◌, ◌-◌, ◌*◌, ◌/◌, ◌%◌, ◌^◌, ◌<◌, ◌≤◌, refl, subst, arith}
 use Rattle.std.proofs.Common.{List, [], ◌∷◌, Some, get_or}
 use Rattle.ed_words.specs.Sizes.{locations}
+use Rattle.ed_words.specs.declared.order_words.TheConstants.{A_F, E_F, S_F}
 use Rattle.ed_machine.specs.State.{State}
 use Rattle.ed_paths.proofs.Frames.{Frame, Moment, all_words, state, short}
 use Rattle.ed_paths.proofs.Newline as newline_piece
@@ -19,13 +20,13 @@ use Rattle.ed_routines.proofs.Journeys.{HasRoutine, IsIn, Journey, Returns, all_
 
 -- the caller, as a routine computes it
 abbrev pub reckoned : ℕ → ℕ
-reckoned m = (short (114688 + 2 * m) / 2 ^ 54 - 114688) / 2
+reckoned m = (short (A_F + 2 * m) / 2 ^ 54 - A_F) / 2
 
 module _ {n h : ℕ} {f : Frame n h} {r : Moment} (o : IsIn f r) where
   -- ---- `newline`
 
   abbrev pub newline_left : ℕ → ℕ → List ℕ
-  newline_left w i = newline_piece.cells w (12288 + 2 * (reckoned (f.base + i) + 2))
+  newline_left w i = newline_piece.cells w (E_F + 2 * (reckoned (f.base + i) + 2))
 
   pub newline_returns : {w : ℕ} (i done : ℕ) → Stands newline [] w (state f (called o i w) done)
       → Returns newline w (state f (called o i w) done) 5 (18 ∷ 24 ∷ []) (newline_left w i) (Some 24)
@@ -46,7 +47,7 @@ module _ {n h : ℕ} {f : Frame n h} {r : Moment} (o : IsIn f r) where
 
   pub newline_line : {w : ℕ} (i : ℕ) (has : HasRoutine f r.words newline w []) → i + 3 ≤ n → r.acc ≡ 0
       → Reads {f = f} {r = r} i 28 (own i)
-      → Jumps {f = f} {r = record r { acc = short (114688 + 2 * (f.base + i)); counter = f.base + (i + 1) }}
+      → Jumps {f = f} {r = record r { acc = short (A_F + 2 * (f.base + i)); counter = f.base + (i + 1) }}
       (i + 1) 27 (any w has.reached)
       → Journey f 7 r (18 ∷ 24 ∷ []) (after_call o w i (newline_left w i) (Some 24))
   newline_line {w} i has room clear first second =
@@ -56,8 +57,8 @@ module _ {n h : ℕ} {f : Frame n h} {r : Moment} (o : IsIn f r) where
 
   abbrev pub print_left : ℕ → ℕ → ℕ → ℕ → List ℕ
   print_left w i j x = print_cells w (f.base + j) (record {
-    at11 = 49152 + 2 * (w + 47);
-    at38 = 12288 + 2 * (reckoned (f.base + i) + 2);
+    at11 = S_F + 2 * (w + 47);
+    at38 = E_F + 2 * (reckoned (f.base + i) + 2);
     at47 = x % 10;
     at48 = flag_of (begun (before_tens x) (x / 10 % 10));
     at49 = 4096 * (x % 10);
@@ -105,7 +106,7 @@ module _ {n h : ℕ} {f : Frame n h} {r : Moment} (o : IsIn f r) where
   pub print_line : {w v : ℕ} (i j : ℕ) (has : HasRoutine f r.words print w (with_h (f.base + j))) → number_at j ≡ v
       → j < n → v < 65536 → i + 3 ≤ n → r.acc ≡ 0
       → Reads {f = f} {r = r} i 28 (own i)
-      → Jumps {f = f} {r = record r { acc = short (114688 + 2 * (f.base + i)); counter = f.base + (i + 1) }}
+      → Jumps {f = f} {r = record r { acc = short (A_F + 2 * (f.base + i)); counter = f.base + (i + 1) }}
       (i + 1) 27 (any w has.reached)
       → Journey f (2 + print_orders v) r (11 ∷ digits v) (after_call o w i (print_left w i j v) (Some (v % 10)))
   print_line {w} {v} i j has number inside small room clear first second =

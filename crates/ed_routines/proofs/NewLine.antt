@@ -1,6 +1,7 @@
 -- `newline`, from the library's table to what it does.
 use Rattle.std.proofs.Common.{◌≡◌, ℕ, ◌+◌, ◌*◌, refl, ap, ◌∙◌, arith, ◌<◌, List, [], ◌∷◌, Some, get_or, length}
 use Rattle.ed_words.proofs.SizeLemmas.{most}
+use Rattle.ed_words.specs.declared.order_words.TheConstants.{E_F}
 use Rattle.ed_orders.specs.declared.kind.Kind.{Kind}
 use Rattle.ed_machine.specs.State.{State}
 use Rattle.ed_machine.specs.Steps.{state_after}
@@ -29,7 +30,7 @@ module _ {parameters : List ℕ} {b top : ℕ} {s : State} (all : length s.store
   }
 
   abbrev pub link : ℕ
-  link = 12288 + 2 * (caller s + 2)
+  link = E_F + 2 * (caller s + 2)
 
   abbrev pub last : State
   last = record s {

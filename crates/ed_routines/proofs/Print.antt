@@ -4,6 +4,7 @@ use Rattle.std.proofs.Common.{◌≤◌, refl, ap, arith, Bool, true, false, nat
 use Rattle.std.proofs.Common.{List, [], ◌∷◌, ◌++◌, Option, Some, get_or, length, lit<, lit≤}
 use Rattle.ed_words.proofs.Numbers.{lt_false, lt_true}
 use Rattle.ed_words.proofs.SizeLemmas.{most}
+use Rattle.ed_words.specs.declared.order_words.TheConstants.{A_F, E_F, G_F, L_D, O_F, S_F, T_F, U_F, V_F}
 use Rattle.ed_paths.proofs.Frames.{Moment, short}
 use Rattle.ed_paths.proofs.Places.{IsOutside, early, own, out, any}
 use Rattle.ed_paths.proofs.Orders.{there_is}
@@ -29,16 +30,16 @@ pub record Work : Type 0 where
 -- its words
 abbrev pub cells : ℕ → ℕ → Work → List ℕ
 cells b h w =
-    114694 ∷ (20480 + 2 * (b + 38)) ∷ (36864 + 2 * (b + 39)) ∷ (114688 + 2 * h) ∷ (20480 + 2 * (b + 47))
-    ∷ (20480 + 2 * (b + 48)) ∷ (114688 + 2 * (b + 41)) ∷ (20480 + 2 * (b + 11)) ∷ (20480 + 2 * (b + 50))
-    ∷ (20480 + 2 * (b + 49)) ∷ (114688 + 2 * (b + 47)) ∷ w.at11 ∷ (110592 + 2 * (b + 18))
-    ∷ (20480 + 2 * (b + 47)) ∷ (114688 + 2 * (b + 49)) ∷ (114688 + 2 * (b + 40)) ∷ (20480 + 2 * (b + 49))
-    ∷ (12288 + 2 * (b + 10)) ∷ (20480 + 2 * (b + 50)) ∷ (114688 + 2 * (b + 49)) ∷ (114688 + 2 * (b + 48))
-    ∷ (49152 + 2 * (b + 40)) ∷ (110592 + 2 * (b + 27)) ∷ (36864 + 2 * (b + 49)) ∷ (20480 + 2 * (b + 50))
-    ∷ (114688 + 2 * (b + 40)) ∷ (20480 + 2 * (b + 48)) ∷ (20480 + 2 * (b + 50)) ∷ (114688 + 2 * (b + 11))
-    ∷ 114692 ∷ (28672 + 2 * (b + 11)) ∷ (49152 + 2 * (b + 42)) ∷ (110592 + 2 * (b + 8))
-    ∷ (114688 + 2 * (b + 47)) ∷ 103424 ∷ 102401 ∷ (20480 + 2 * (b + 49)) ∷ (36864 + 2 * (b + 49)) ∷ w.at38
-    ∷ 45056 ∷ 4096 ∷ (49152 + 2 * (b + 43)) ∷ (49152 + 2 * (b + 47)) ∷ 10000 ∷ 1000 ∷ 100 ∷ 10 ∷ w.at47 ∷ w.at48
+    114694 ∷ (T_F + 2 * (b + 38)) ∷ (O_F + 2 * (b + 39)) ∷ (A_F + 2 * h) ∷ (T_F + 2 * (b + 47))
+    ∷ (T_F + 2 * (b + 48)) ∷ (A_F + 2 * (b + 41)) ∷ (T_F + 2 * (b + 11)) ∷ (T_F + 2 * (b + 50))
+    ∷ (T_F + 2 * (b + 49)) ∷ (A_F + 2 * (b + 47)) ∷ w.at11 ∷ (G_F + 2 * (b + 18))
+    ∷ (T_F + 2 * (b + 47)) ∷ (A_F + 2 * (b + 49)) ∷ (A_F + 2 * (b + 40)) ∷ (T_F + 2 * (b + 49))
+    ∷ (E_F + 2 * (b + 10)) ∷ (T_F + 2 * (b + 50)) ∷ (A_F + 2 * (b + 49)) ∷ (A_F + 2 * (b + 48))
+    ∷ (S_F + 2 * (b + 40)) ∷ (G_F + 2 * (b + 27)) ∷ (O_F + 2 * (b + 49)) ∷ (T_F + 2 * (b + 50))
+    ∷ (A_F + 2 * (b + 40)) ∷ (T_F + 2 * (b + 48)) ∷ (T_F + 2 * (b + 50)) ∷ (A_F + 2 * (b + 11))
+    ∷ 114692 ∷ (U_F + 2 * (b + 11)) ∷ (S_F + 2 * (b + 42)) ∷ (G_F + 2 * (b + 8))
+    ∷ (A_F + 2 * (b + 47)) ∷ 103424 ∷ L_D ∷ (T_F + 2 * (b + 49)) ∷ (O_F + 2 * (b + 49)) ∷ w.at38
+    ∷ 45056 ∷ 4096 ∷ (S_F + 2 * (b + 43)) ∷ (S_F + 2 * (b + 47)) ∷ 10000 ∷ 1000 ∷ 100 ∷ 10 ∷ w.at47 ∷ w.at48
     ∷ w.at49 ∷ w.at50 ∷ []
 
 -- digits without leading zeros, with the units
@@ -132,8 +133,8 @@ module _ (given : Given) where
   abbrev pub at : ℕ → ℕ → ℕ → ℕ → ℕ → ℕ → ℕ → Option ℕ → Moment
   at j rest flag count spare v i last =
       run (record {
-        at11 = 49152 + 2 * (f.base + j);
-        at38 = 12288 + 2 * (m + 2);
+        at11 = S_F + 2 * (f.base + j);
+        at38 = E_F + 2 * (m + 2);
         at47 = rest;
         at48 = flag;
         at49 = count;
@@ -185,8 +186,8 @@ module _ (given : Given) where
         record {
           path =
               on (T 27 (own 50) _ refl refl)
-              (on (A 28 (own 11) (short (49152 + 2 * (f.base + j))) refl (omega arith))
-              (on (A 29 (out 2 (early 2 behind (lit< tt) all)) (short (49152 + 2 * (f.base + (j + 1)))) refl
+              (on (A 28 (own 11) (short (S_F + 2 * (f.base + j))) refl (omega arith))
+              (on (A 29 (out 2 (early 2 behind (lit< tt) all)) (short (S_F + 2 * (f.base + (j + 1)))) refl
               (omega arith))
               (on (U 30 (own 11) _ refl refl)
               (on (S 31 (own 42) (short after) refl (omega arith)) stay))));
@@ -216,13 +217,13 @@ module _ (given : Given) where
         }
 
     skip_digit : {rest spare : ℕ} {last : Option ℕ} (j v : ℕ) → v < 2 ^ 17
-        → Walk w f 5 (4 * w.plain + w.taken) (at j rest 0 0 spare v 18 last) [] (at j rest 0 0 v 126976 27 last)
+        → Walk w f 5 (4 * w.plain + w.taken) (at j rest 0 0 spare v 18 last) [] (at j rest 0 0 v V_F 27 last)
     skip_digit j v fits = record {
       path =
           on (T 18 (own 50) _ refl refl)
           (on (A 19 (own 49) (short 0) refl refl)
           (on (A 20 (own 48) (short 0) refl refl)
-          (on (S 21 (own 40) (short 126976) refl (omega arith))
+          (on (S 21 (own 40) (short V_F) refl (omega arith))
           (on (G_jumps 22 (own 27) refl (lit≤ tt)) stay))));
       weighs = omega arith;
     }
@@ -233,7 +234,7 @@ module _ (given : Given) where
         → Walk w f (10 + 4 * length (shown b q)) (shown_weight w b q + 5 * w.plain)
         (at j rest (flag_of b) (4096 * q) spare v 18 last) (shown b q)
         (at (j + 1) rest (flag_of (begun b q)) (4096 * q) (spared b q) after 32 (last_of last (shown b q)))
-    show {j} zero v false o few fits = walked (skip_digit j v fits) (next 126976 o (lit< tt))
+    show {j} zero v false o few fits = walked (skip_digit j v fits) (next V_F o (lit< tt))
     show {j} (suc q) v false o few fits =
         walked (print_digit j (suc q) 0 v few (lit≤ tt) (omega arith) fits) (next 0 o (lit< tt))
     show {j} q v true o few fits =
@@ -276,19 +277,19 @@ module _ (given : Given) where
 
     -- the figure shift is printed, and the number taken
     opened : (work : Work) (v : ℕ) (last : Option ℕ) → get_or ws h 0 ≡ v → v < 2 ^ 16
-        → Walk w f 8 (8 * w.plain) (run work (114688 + 2 * m) 0 last) (11 ∷ [])
+        → Walk w f 8 (8 * w.plain) (run work (A_F + 2 * m) 0 last) (11 ∷ [])
         (at 43 v 0 work.at49 work.at50 0 8 (Some 11))
     opened work v last is low =
         let b = most f.size in let fits = f.fits in let third = at3 in let back = room in
         record {
           path =
-              on (A 0 (out 3 (early 3 behind (lit< tt) all)) (short (12288 + 2 * (m + 2))) refl (omega arith))
+              on (A 0 (out 3 (early 3 behind (lit< tt) all)) (short (E_F + 2 * (m + 2))) refl (omega arith))
               (on (T 1 (own 38) _ refl refl)
               (prints (O 2 (own 39) 11 refl refl)
               (on (A 3 (out h away) (short v) refl (omega arith))
               (on (T 4 (own 47) _ refl refl)
               (on (T 5 (own 48) _ refl refl)
-              (on (A 6 (own 41) (short (49152 + 2 * (f.base + 43))) refl (omega arith))
+              (on (A 6 (own 41) (short (S_F + 2 * (f.base + 43))) refl (omega arith))
               (on (T 7 (own 11) _ refl refl) stay)))))));
           weighs = eight w.plain;
         }
@@ -320,7 +321,7 @@ module _ (given : Given) where
 
     pub whole : (work : Work) (n : ℕ) (last : Option ℕ) → get_or ws h 0 ≡ n → n < 2 ^ 16
         → Walk w f (78 + 8 * sum (tens n) + 4 * shows false (tens n)) (print_weight w n)
-        (run work (114688 + 2 * m) 0 last) (11 ∷ spelled false (tens n) (n % 10))
+        (run work (A_F + 2 * m) 0 last) (11 ∷ spelled false (tens n) (n % 10))
         (record (at 47 (n % 10) (flag_of (begun (before_tens n) (n / 10 % 10))) (4096 * (n % 10))
         (spared (before_tens n) (n / 10 % 10)) 0 0
         (Some (n % 10))) { counter = m + 2 })

@@ -2,6 +2,7 @@
 use Rattle.std.proofs.Common.{◌≡◌, ℕ, ◌+◌, ◌*◌, ◌/◌, ◌%◌, ◌<◌, refl, ap, ◌∙◌, subst, arith, false, [], ◌∷◌, Some}
 use Rattle.std.proofs.Common.{get_or, length}
 use Rattle.ed_words.proofs.SizeLemmas.{most}
+use Rattle.ed_words.specs.declared.order_words.TheConstants.{A_F, E_F, S_F}
 use Rattle.ed_orders.specs.declared.kind.Kind.{Kind}
 use Rattle.ed_store.specs.Cells.{short_at}
 use Rattle.ed_machine.specs.State.{State}
@@ -57,7 +58,7 @@ module _ {b h top : ℕ} {s : State} (o : IsCalled print (with_h h) b h top s) (
   }
 
   abbrev moment : Moment
-  moment = run given first (114688 + 2 * caller s) 0 s.last
+  moment = run given first (A_F + 2 * caller s) 0 s.last
 
   starts : state f moment s.orders ≡ s
   starts = begins (h ∷ []) o.stands o.within o.all image_holds
@@ -65,8 +66,8 @@ module _ {b h top : ℕ} {s : State} (o : IsCalled print (with_h h) b h top s) (
   -- the words that change, as they are left
   abbrev left : Work
   left = record {
-    at11 = 49152 + 2 * (b + 47);
-    at38 = 12288 + 2 * (caller s + 2);
+    at11 = S_F + 2 * (b + 47);
+    at38 = E_F + 2 * (caller s + 2);
     at47 = n % 10;
     at48 = flag_of (begun (before_tens n) (n / 10 % 10));
     at49 = 4096 * (n % 10);

@@ -4,6 +4,7 @@ use Rattle.std.proofs.Common.{arith, List, [], ◌∷◌, ◌++◌, get_or}
 use Rattle.std.proofs.Common.{set, length}
 use Rattle.std.proofs.Common.{lit<}
 use Rattle.ed_words.proofs.SizeLemmas.{most}
+use Rattle.ed_words.specs.declared.order_words.TheConstants.{A_F, E_F, I_F, L_D, S_F, T_F, U_F}
 use Rattle.ed_paths.proofs.Frames.{Moment, short}
 use Rattle.ed_paths.proofs.Places.{IsOutside, early, own, out, any}
 use Rattle.ed_paths.proofs.Orders.{word_is}
@@ -23,10 +24,10 @@ pub record Work : Type 0 where
 -- its words
 abbrev pub cells : ℕ → ℕ → Work → List ℕ
 cells b h w =
-    114694 ∷ (20480 + 2 * (b + 19)) ∷ (20480 + 2 * (b + 21)) ∷ (32768 + 2 * (b + 22)) ∷ (114688 + 2 * (b + 22))
-    ∷ (49152 + 2 * (b + 20)) ∷ (12288 + 2 * (b + 16)) ∷ (20480 + 2 * (b + 23)) ∷ (114688 + 2 * (b + 21)) ∷ 102401
-    ∷ (28672 + 2 * (b + 23)) ∷ 102402 ∷ (114688 + 2 * (b + 23)) ∷ (114688 + 2 * (b + 22)) ∷ (20480 + 2 * (b + 21))
-    ∷ (12288 + 2 * (b + 3)) ∷ (20480 + 2 * (b + 23)) ∷ (114688 + 2 * (b + 21)) ∷ (20480 + 2 * h) ∷ w.at19
+    114694 ∷ (T_F + 2 * (b + 19)) ∷ (T_F + 2 * (b + 21)) ∷ (I_F + 2 * (b + 22)) ∷ (A_F + 2 * (b + 22))
+    ∷ (S_F + 2 * (b + 20)) ∷ (E_F + 2 * (b + 16)) ∷ (T_F + 2 * (b + 23)) ∷ (A_F + 2 * (b + 21)) ∷ L_D
+    ∷ (U_F + 2 * (b + 23)) ∷ 102402 ∷ (A_F + 2 * (b + 23)) ∷ (A_F + 2 * (b + 22)) ∷ (T_F + 2 * (b + 21))
+    ∷ (E_F + 2 * (b + 3)) ∷ (T_F + 2 * (b + 23)) ∷ (A_F + 2 * (b + 21)) ∷ (T_F + 2 * h) ∷ w.at19
     ∷ 10 ∷ w.at21 ∷ w.at22 ∷ w.at23 ∷ []
 
 -- the cells after digit rows that follow a number
@@ -90,21 +91,21 @@ module _ (call : Call 24 0) (h : ℕ) where
 
   -- the order that returns is made, and the number begins with 0
   abbrev pub opened_work : Work → Work
-  opened_work w = record w { at19 = 12288 + 2 * (m + 2); at21 = 0 }
+  opened_work w = record w { at19 = E_F + 2 * (m + 2); at21 = 0 }
 
   opened : {ws : List ℕ} (w : Work) (tape : List ℕ) → Around call h ws
-      → Path f 3 (run ws w (114688 + 2 * m) 0 tape) [] (run ws (opened_work w) 0 3 tape)
+      → Path f 3 (run ws w (A_F + 2 * m) 0 tape) [] (run ws (opened_work w) 0 3 tape)
   opened w tape around =
       let b = most f.size in
       let fits = f.fits in
       let room = around.room in
       let at3 = around.at3 in
-      on (A 0 (out 3 (early 3 behind (lit< tt) around.all)) (short (12288 + 2 * (m + 2))) refl (omega arith))
+      on (A 0 (out 3 (early 3 behind (lit< tt) around.all)) (short (E_F + 2 * (m + 2))) refl (omega arith))
       (on (T 1 (own 19) _ refl refl)
       (on (T 2 (own 21) _ refl refl) stay))
 
   -- an ending row
-  closed : {ws rest : List ℕ} {c v : ℕ} (w : Work) → Around call h ws → w.at19 ≡ 12288 + 2 * (m + 2)
+  closed : {ws rest : List ℕ} {c v : ℕ} (w : Work) → Around call h ws → w.at19 ≡ E_F + 2 * (m + 2)
       → w.at21 ≡ v → v < 2 ^ 17 → 10 ≤ c → c < 32
       → Path f 8 (run ws w 0 3 (c ∷ rest)) []
       (record (run (set ws h v) (record w { at22 = c; at23 = c - 10 }) 0 0 rest) { counter = m + 2 })
@@ -139,7 +140,7 @@ module _ (call : Call 24 0) (h : ℕ) where
   last_work ds c w = record (worked 0 ds (opened_work w)) { at22 = c; at23 = c - 10 }
 
   pub whole : {ws ds : List ℕ} {c : ℕ} (w : Work) (rest : List ℕ) → Around call h ws → Digits ds → 10 ≤ c → c < 32
-      → Path f (11 + 13 * length ds) (run ws w (114688 + 2 * m) 0 (ds ++ c ∷ rest)) []
+      → Path f (11 + 13 * length ds) (run ws w (A_F + 2 * m) 0 (ds ++ c ∷ rest)) []
       (record (run (set ws h (digits_value ds % 2 ^ 17)) (last_work ds c w) 0 0 rest) { counter = m + 2 })
   whole {ws} {ds} {c} w rest around ok end code =
       let start : Work = opened_work w in
@@ -150,7 +151,7 @@ module _ (call : Call 24 0) (h : ℕ) where
 
   -- the tape that ends
   pub until_end : {ws ds : List ℕ} (w : Work) → Around call h ws → Digits ds
-      → Path f (3 + 13 * length ds) (run ws w (114688 + 2 * m) 0 (ds ++ [])) []
+      → Path f (3 + 13 * length ds) (run ws w (A_F + 2 * m) 0 (ds ++ [])) []
       (run ws (worked 0 ds (opened_work w)) 0 3 [])
   until_end {ws} {ds} w around ok =
       followed (opened w (ds ++ []) around) (digits ws 0 (opened_work w) ds [] ok refl)

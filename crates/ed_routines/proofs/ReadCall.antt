@@ -5,6 +5,7 @@ use Rattle.std.proofs.Common.{List, [], ◌∷◌, ◌++◌, get_or, set, length
 use Rattle.std.proofs.lemmas.List.{get_or-set_same, get_or-set_other, length-set}
 use Rattle.ed_words.proofs.Numbers.{lt_of, not_lt_of}
 use Rattle.ed_words.proofs.SizeLemmas.{most}
+use Rattle.ed_words.specs.declared.order_words.TheConstants.{A_F}
 use Rattle.ed_orders.specs.declared.kind.Kind.{Kind}
 use Rattle.ed_orders.specs.declared.kind.Kind.TheVariants.{I as KindI}
 use Rattle.ed_machine.specs.State.{State}
@@ -123,9 +124,9 @@ module _ {b h top : ℕ} {s : State} (o : IsCalled read (with_h h) b h top s) wh
   }
 
   starts : (rows : List ℕ) → s.tape ≡ rows
-      → state f (run call h s.store.words first (114688 + 2 * caller s) 0 rows) s.orders ≡ s
+      → state f (run call h s.store.words first (A_F + 2 * caller s) 0 rows) s.orders ≡ s
   starts rows tape =
-      ap (λ x. state f (run call h s.store.words first (114688 + 2 * caller s) 0 x) s.orders) (sym tape)
+      ap (λ x. state f (run call h s.store.words first (A_F + 2 * caller s) 0 x) s.orders) (sym tape)
       ∙ begins (h ∷ []) o.stands o.within o.all image_holds
 
   -- a word outside the working locations is unchanged, whatever was written at h
@@ -161,7 +162,7 @@ module _ {b h top : ℕ} {s : State} (o : IsCalled read (with_h h) b h top s) wh
     end = record (run call h written left 0 0 rest) { counter = caller s + 2 }
 
     path : Path f (11 + 13 * length ds)
-        (run call h s.store.words first (114688 + 2 * caller s) 0 (ds ++ c ∷ rest)) [] end
+        (run call h s.store.words first (A_F + 2 * caller s) 0 (ds ++ c ∷ rest)) [] end
     path = whole call h first rest around (are_digits s.tape) (is_ending s.tape c rest e) code
 
     abbrev pub last : State
@@ -218,7 +219,7 @@ module _ {b h top : ℕ} {s : State} (o : IsCalled read (with_h h) b h top s) wh
     so_far = worked 0 ds (opened_work call h first)
 
     path_to_end : Path f (3 + 13 * length ds)
-        (run call h s.store.words first (114688 + 2 * caller s) 0 (ds ++ [])) []
+        (run call h s.store.words first (A_F + 2 * caller s) 0 (ds ++ [])) []
         (run call h s.store.words so_far 0 3 [])
     path_to_end = until_end call h first around (are_digits s.tape)
 

@@ -3,20 +3,20 @@ use Rattle.std.specs.Prelude.{ℕ, ◌*◌, List, [], ◌∷◌, codes, unwrap_o
 use Rattle.ed_library.specs.Routines.{find}
 
 -- the routine of a name
-abbrev pub named : List ℕ → ℕ
-named name = unwrap_or (find name) 0
+abbrev pub routine_named : List ℕ → ℕ
+routine_named name = unwrap_or (find name) 0
 
 -- the routine `newline`
 abbrev pub newline : ℕ
-newline = named (codes "newline")
+newline = routine_named (codes "newline")
 
 -- the routine `print`
 abbrev pub print : ℕ
-print = named (codes "print")
+print = routine_named (codes "print")
 
 -- the routine `read`
 abbrev pub read : ℕ
-read = named (codes "read")
+read = routine_named (codes "read")
 
 -- the parameters with H = 2h, which makes H the location h
 abbrev pub with_h : ℕ → List ℕ

@@ -2,6 +2,7 @@
 -- accumulator, and 2 and 3 hold the words that turn it into the order that returns (Wilkes, Wheeler and Gill 1951).
 use Rattle.std.specs.Prelude.{◌≡◌, ◌⊎◌, ℕ, ◌+◌, ◌-◌, ◌*◌, ◌/◌, ◌^◌, ◌<◌, ◌≤◌, false, List}
 use Rattle.ed_words.specs.Sizes.{locations}
+use Rattle.ed_words.specs.declared.order_words.TheConstants.{A_F}
 use Rattle.ed_store.specs.Cells.{short_at}
 use Rattle.ed_machine.specs.State.{State}
 use Rattle.ed_library.specs.Routines.{is_working, place_count}
@@ -9,11 +10,11 @@ use Rattle.ed_library.specs.Images.{image_word}
 
 -- the location of the order that put itself into the accumulator
 abbrev pub caller : State → ℕ
-caller s = (s.acc / 2 ^ 54 - 114688) / 2
+caller s = (s.acc / 2 ^ 54 - A_F) / 2
 
 -- the accumulator holds such an order, and the location to which the routine returns is within the size
 pub record IsCall (s : State) : Type 0 where
-  pub acc : s.acc ≡ (114688 + 2 * caller s) * 2 ^ 54
+  pub acc : s.acc ≡ (A_F + 2 * caller s) * 2 ^ 54
   pub room : caller s + 3 ≤ locations s.size
 
 -- the word at an offset is a working one, or is the routine's

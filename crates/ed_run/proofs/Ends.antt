@@ -8,7 +8,7 @@ use Rattle.ed_machine.specs.Steps.{Progress, progress}
 use Rattle.ed_machine.specs.Sheet.{Sheet}
 use Rattle.ed_machine.specs.declared.ending.Ending.{Ending}
 use Rattle.ed_machine.specs.declared.ending.Ending.TheVariants.{Limit}
-use Rattle.ed_run.specs.Run.{end_at, ran, run_orders, EndsAfter, IsLeft, IsRun}
+use Rattle.ed_run.specs.Run.{end_at, run_end, run_orders, EndsAfter, IsLeft, IsRun}
 use Rattle.ed_machine.proofs.LeastNumbers.{least_holds, least_first}
 
 -- at the limit there is an end
@@ -33,8 +33,8 @@ none_of (Some e) h = absurd (true≢false h)
 
 -- the run as a function ends this way
 pub ran_ends : (limit resumes room : ℕ) (s : State)
-    → EndsAfter limit resumes room s (run_orders limit resumes room s) (ran limit resumes room s).ending
-unfolding ran
+    → EndsAfter limit resumes room s (run_orders limit resumes room s) (run_end limit resumes room s).ending
+unfolding run_end
 ran_ends limit resumes room s =
     let k = run_orders limit resumes room s in
     let test : ℕ → Bool = λ j. is_some (end_at limit resumes room j (progress j s)) in
@@ -68,8 +68,8 @@ ends_once {limit} {resumes} {room} {s} {j} {k} {d} {e} g h =
 -- what a run leaves is what the function gives
 pub run_left : {limit resumes : ℕ} {s : State} {sheet : Sheet} {ending : Ending} {last : State} {full : Sheet}
     → IsRun limit resumes s sheet ending last full
-    → IsLeft (ran limit resumes (sheet.room - length sheet.codes) s) sheet ending last full
-unfolding ran
+    → IsLeft (run_end limit resumes (sheet.room - length sheet.codes) s) sheet ending last full
+unfolding run_end
 run_left {limit} {resumes} {s} {sheet} r =
     let room = sheet.room - length sheet.codes in
     let one = ends_once (ran_ends limit resumes room s) r.ends in

@@ -6,7 +6,7 @@ use Rattle.std.proofs.lemmas.Bool.Decides.{nat_tests}
 use Rattle.ed_machine.specs.State.{State}
 use Rattle.ed_machine.specs.Steps.{Progress, least, progress, next_progress, state_after}
 use Rattle.ed_machine.specs.declared.ending.Ending.TheVariants.{Limit}
-use Rattle.ed_run.specs.Run.{end_at, ran}
+use Rattle.ed_run.specs.Run.{end_at, run_end}
 use Rattle.ed_run.specs.Laws.{AllWent}
 use Rattle.ed_machine.proofs.LeastNumbers.{least_on}
 use Rattle.ed_words.proofs.Numbers.{eq_false}
@@ -43,8 +43,8 @@ none_less n = grind (arith, nat_tests)
 
 -- the run from the state after them
 pub ran_later : (limit resumes room k : ℕ) (s : State) → AllWent k s → k ≤ limit
-    → ran limit resumes room s ≡ ran (limit - k) resumes room (state_after k s)
-unfolding ran
+    → run_end limit resumes room s ≡ run_end (limit - k) resumes room (state_after k s)
+unfolding run_end
 ran_later limit resumes room k s h fits =
     let t = state_after k s in
     let test : ℕ → Bool = λ j. is_some (end_at limit resumes room j (progress j s)) in

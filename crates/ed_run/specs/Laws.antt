@@ -6,7 +6,7 @@ use Rattle.ed_machine.specs.Steps.{AreObeyed, progress, state_after}
 use Rattle.ed_machine.specs.declared.ending.Ending.{Ending}
 use Rattle.ed_machine.specs.declared.ending.Ending.TheVariants.{Stopped, Limit}
 use Rattle.ed_machine.specs.declared.turn.Turn.TheVariants.{Went, Stopped as Stops}
-use Rattle.ed_run.specs.Run.{EndsAfter, end_by, run_orders, ran}
+use Rattle.ed_run.specs.Run.{EndsAfter, end_by, run_orders, run_end}
 
 -- each of the first k orders neither prints nor stops
 abbrev pub AllWent : ℕ → State → Type 0
@@ -22,7 +22,7 @@ pub record HasRoom (room k : ℕ) (s : State) : Type 0 where
 -- whose first k orders neither print nor stop is the run from the state after them, with a limit less by k.
 pub record RunLaw : Type 0 where
   pub ends : (limit resumes room : ℕ) (s : State)
-      → EndsAfter limit resumes room s (run_orders limit resumes room s) (ran limit resumes room s).ending
+      → EndsAfter limit resumes room s (run_orders limit resumes room s) (run_end limit resumes room s).ending
   pub once : (limit resumes room : ℕ) (s : State) (j k : ℕ) (d e : Ending)
       → EndsAfter limit resumes room s j d → EndsAfter limit resumes room s k e → (j ≡ k) × (d ≡ e)
   pub at_limit : (limit resumes room : ℕ) (s : State) → HasRoom room limit s → (progress limit s).stops ≤ resumes
@@ -35,4 +35,4 @@ pub record RunLaw : Type 0 where
       → suc j ≤ limit
       → (step (state_after j s)).turn ≡ Stops → EndsAfter limit resumes room s (suc j) Stopped
   pub later : (limit resumes room k : ℕ) (s : State) → AllWent k s → k ≤ limit
-      → ran limit resumes room s ≡ ran (limit - k) resumes room (state_after k s)
+      → run_end limit resumes room s ≡ run_end (limit - k) resumes room (state_after k s)

@@ -59,8 +59,8 @@ pub record RunEnd : Type 0 where
   pub codes : List ℕ
 
 -- a run as a function
-unfoldable pub ran : ℕ → ℕ → ℕ → State → RunEnd
-ran limit resumes room s =
+unfoldable pub run_end : ℕ → ℕ → ℕ → State → RunEnd
+run_end limit resumes room s =
     let k = run_orders limit resumes room s in
     record {
       ending = unwrap_or (end_at limit resumes room k (progress k s)) Limit;

@@ -3,6 +3,7 @@ use Rattle.std.proofs.Common.{◌≡◌, inl, inr, ℕ, ◌+◌, ◌*◌, ◌<�
 use Rattle.std.specs.Prelude.{unwrap_or}
 use Rattle.ed_words.specs.declared.size.Size.{Size}
 use Rattle.ed_words.proofs.SizeLemmas.{least}
+use Rattle.ed_words.specs.declared.order_words.TheConstants.{A_F, G_F}
 use Rattle.ed_store.specs.Cells.{short_at}
 use Rattle.ed_machine.specs.State.{State}
 use Rattle.ed_notation.specs.Fold.{placed_at}
@@ -43,16 +44,16 @@ module _ {z : Size} {lines : List Line} {t : State} {from to m : ℕ} (o : IsAt 
 
   -- the two orders of a call are there
   pub before : {base : ℕ} → m + 3 ≤ from → 44 ≤ m → from ≤ 512 → base < 512
-      → unwrap_or (placed_at (placed lines) m) 0 ≡ 114688 + 2 * m
-      → unwrap_or (placed_at (placed lines) (m + 1)) 0 ≡ 110592 + 2 * base
+      → unwrap_or (placed_at (placed lines) m) 0 ≡ A_F + 2 * m
+      → unwrap_or (placed_at (placed lines) (m + 1)) 0 ≡ G_F + 2 * base
       → IsBefore t m base
   before {base} inside low near there first second =
       let size = least z in
       record {
         counter = o.counter;
         acc = o.acc;
-        first = word_there m (114688 + 2 * m) (inl (omega arith)) low (omega arith) first;
-        second = word_there (m + 1) (110592 + 2 * base) (inl (omega arith)) (omega arith) (omega arith) second;
+        first = word_there m (A_F + 2 * m) (inl (omega arith)) low (omega arith) first;
+        second = word_there (m + 1) (G_F + 2 * base) (inl (omega arith)) (omega arith) (omega arith) second;
         all = o.all;
         room = rw o.size (omega arith);
         there = rw o.size (omega arith);

@@ -15,14 +15,14 @@ use Rattle.ed_initial.specs.Rests.{initial_words}
 use Rattle.ed_library.specs.Images.{image_word}
 use Rattle.ed_library.specs.Routines.{place_count}
 use Rattle.ed_syntax.specs.declared.program.Line.{Line}
-use Rattle.ed_link.specs.Linked.{linked}
+use Rattle.ed_link.specs.Linked.{linked_words}
 use Rattle.ed_loads.specs.EntryState.{entry_state, own_words}
 use Rattle.ed_routines.specs.Standing.{HasWord}
 use Rattle.ed_sources.proofs.Decimals.{among, numbers}
 
 -- the words that a source places, the last one first
 abbrev pub placed : List Line → List (ℕ × ℕ)
-placed lines = reverse (linked lines)
+placed lines = reverse (linked_words lines)
 
 -- whether each has a location of the store
 abbrev pub have_places : List (ℕ × ℕ) → Bool

@@ -3,6 +3,7 @@ use Rattle.std.proofs.Common.{◌≡◌, ◌≢◌, ◌⊎◌, inl, inr, ℕ, �
 use Rattle.std.proofs.Common.{List, [], ◌∷◌}
 use Rattle.std.proofs.Common.{get_or, length}
 use Rattle.ed_words.specs.Sizes.{locations}
+use Rattle.ed_words.specs.declared.order_words.TheConstants.{Z_F}
 use Rattle.ed_store.specs.Cells.{short_at}
 use Rattle.ed_machine.specs.State.{State}
 use Rattle.ed_machine.specs.OrderTable.{step}
@@ -20,7 +21,7 @@ use Rattle.ed_sources.proofs.Calling.{HasRoutine, IsBefore, back, called, caller
 use Rattle.ed_sources.proofs.Stops.{LeadsToStop, StopsAt}
 
 -- the order Z F at the counter
-pub stop_at : (s : State) → get_or s.store.words s.counter 0 ≡ 53248 → (step s).turn ≡ Stopped
+pub stop_at : (s : State) → get_or s.store.words s.counter 0 ≡ Z_F → (step s).turn ≡ Stopped
 unfolding step
 stop_at s e = rw e refl
 
@@ -46,7 +47,7 @@ pub record ReadsNumber (s : State) (m h to : ℕ) : Type 0 where
 
 -- with a stop after it
 pub stopped : {k m from to : ℕ} {s : State} {codes : List ℕ} → Passes k s codes m from to → IsBeside from to (m + 2)
-    → short_at s.store (m + 2) ≡ 53248 → StopsAt k s codes (m + 2)
+    → short_at s.store (m + 2) ≡ Z_F → StopsAt k s codes (m + 2)
 stopped {m = m} p other stop = record {
   to_stop = record {
     last = p.last;

@@ -4,6 +4,7 @@ use Rattle.std.proofs.Common.{refl, sym, ap, ◌∙◌, subst, arith, List, [], 
 use Rattle.std.proofs.Common.{Some, None, get_or, length}
 use Rattle.ed_words.specs.Sizes.{locations}
 use Rattle.ed_words.proofs.SizeLemmas.{most}
+use Rattle.ed_words.specs.declared.order_words.TheConstants.{A_F, G_F}
 use Rattle.ed_store.specs.Cells.{short_at}
 use Rattle.ed_machine.specs.State.{State}
 use Rattle.ed_paths.proofs.Frames.{Frame, Moment, state, short}
@@ -20,15 +21,15 @@ use Rattle.ed_routines.specs.Standing.{HasWord, IsOutside, Stands, caller}
 pub record IsBefore (s : State) (m base : ℕ) : Type 0 where
   pub counter : s.counter ≡ m
   pub acc : s.acc ≡ 0
-  pub first : get_or s.store.words m 0 ≡ 114688 + 2 * m
-  pub second : get_or s.store.words (m + 1) 0 ≡ 110592 + 2 * base
+  pub first : get_or s.store.words m 0 ≡ A_F + 2 * m
+  pub second : get_or s.store.words (m + 1) 0 ≡ G_F + 2 * base
   pub all : length s.store.words ≡ 1024
   pub room : m + 3 ≤ locations s.size
   pub there : base < locations s.size
 
 -- the state after it, in which the routine is called
 abbrev pub called : State → ℕ → ℕ → State
-called s m base = record s { acc = short (114688 + 2 * m); counter = base; orders = s.orders + 2 }
+called s m base = record s { acc = short (A_F + 2 * m); counter = base; orders = s.orders + 2 }
 
 -- what a store has of a routine at a base
 pub record HasRoutine (s : State) (r base : ℕ) (parameters : List ℕ) : Type 0 where
@@ -43,7 +44,7 @@ module _ {s : State} {m base : ℕ} (o : IsBefore s m base) where
   f = record { size = s.size; base = m; top = locations s.size; under = o.room; fits = omega arith }
 
   abbrev cells : List ℕ
-  cells = (114688 + 2 * (m + 0)) ∷ (110592 + 2 * base) ∷ get_or s.store.words (m + 2) 0 ∷ []
+  cells = (A_F + 2 * (m + 0)) ∷ (G_F + 2 * base) ∷ get_or s.store.words (m + 2) 0 ∷ []
 
   abbrev at : ℕ → ℕ → Moment
   at v place = record {
@@ -58,17 +59,17 @@ module _ {s : State} {m base : ℕ} (o : IsBefore s m base) where
     last = s.last;
   }
 
-  path : Path f 2 (at 0 (m + 0)) [] (at (114688 + 2 * m) base)
+  path : Path f 2 (at 0 (m + 0)) [] (at (A_F + 2 * m) base)
   path =
       let size = most s.size in
       let room = o.room in
-      on (A 0 (own 0) (short (114688 + 2 * m)) refl (omega arith))
+      on (A 0 (own 0) (short (A_F + 2 * m)) refl (omega arith))
       (on (G_jumps 1 (any base o.there) refl (omega arith)) stay)
 
-  holds : Holds (Some (114688 + 2 * (m + 0)) ∷ Some (110592 + 2 * base) ∷ None ∷ []) s.store.words m
+  holds : Holds (Some (A_F + 2 * (m + 0)) ∷ Some (G_F + 2 * base) ∷ None ∷ []) s.store.words m
   holds zero l =
       let e : m + 0 ≡ m = omega arith in
-      ap (λ x. get_or s.store.words x 0) e ∙ o.first ∙ ap (λ x. 114688 + 2 * x) (sym e)
+      ap (λ x. get_or s.store.words x 0) e ∙ o.first ∙ ap (λ x. A_F + 2 * x) (sym e)
   holds (suc zero) l = o.second
   holds (suc (suc zero)) l = tt
   holds (suc (suc (suc i))) l = absurd (omega arith)
@@ -78,7 +79,7 @@ module _ {s : State} {m base : ℕ} (o : IsBefore s m base) where
       let size = most s.size in
       let room = o.room in
       let all = o.all in
-      opens (Some (114688 + 2 * (m + 0)) ∷ Some (110592 + 2 * base) ∷ None ∷ []) s.store.words m (omega arith) holds
+      opens (Some (A_F + 2 * (m + 0)) ∷ Some (G_F + 2 * base) ∷ None ∷ []) s.store.words m (omega arith) holds
 
   begins : state f (at 0 (m + 0)) s.orders ≡ s
   begins =
@@ -95,11 +96,11 @@ module _ {s : State} {m base : ℕ} (o : IsBefore s m base) where
         orders = s.orders;
       }
 
-  ends : state f (at (114688 + 2 * m) base) (s.orders + 2) ≡ called s m base
+  ends : state f (at (A_F + 2 * m) base) (s.orders + 2) ≡ called s m base
   ends = λ i. record {
     size = s.size;
     store = record { words = same i; sandwich = s.store.sandwich };
-    acc = short (114688 + 2 * m);
+    acc = short (A_F + 2 * m);
     multiplier = s.multiplier;
     counter = base;
     tape = s.tape;
@@ -110,7 +111,7 @@ module _ {s : State} {m base : ℕ} (o : IsBefore s m base) where
   pub calls : Leads 2 s [] (called s m base)
   calls =
       subst (λ (t : State). Leads 2 s [] t) ends
-      (subst (λ (x : State). Leads 2 x [] (state f (at (114688 + 2 * m) base) (s.orders + 2))) begins
+      (subst (λ (x : State). Leads 2 x [] (state f (at (A_F + 2 * m) base) (s.orders + 2))) begins
       (leads path s.orders))
 
   pub caller_is : caller (called s m base) ≡ m
@@ -134,5 +135,5 @@ module _ {s : State} {m base : ℕ} (o : IsBefore s m base) where
     at2 = has.at2;
     at3 = has.at3;
     image = λ i l. record { has = (has.image i l).has };
-    call = record { acc = ap (λ x. (114688 + 2 * x) * 2 ^ 54) (sym caller_is); room = back };
+    call = record { acc = ap (λ x. (A_F + 2 * x) * 2 ^ 54) (sym caller_is); room = back };
   }

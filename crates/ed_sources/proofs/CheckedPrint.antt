@@ -14,11 +14,12 @@ use Rattle.ed_words.specs.Sizes.{locations, within}
 use Rattle.ed_words.specs.Words.{address_of, function_of}
 use Rattle.ed_words.proofs.Numbers.{eq_of, lt_of, lt_true}
 use Rattle.ed_words.proofs.SizeLemmas.{least, within_below}
+use Rattle.ed_words.specs.declared.order_words.TheConstants.{Z_F}
 use Rattle.ed_store.specs.Cells.{long_at, short_at}
 use Rattle.ed_orders.specs.Kinds.{kind_of_function}
 use Rattle.ed_orders.specs.declared.kind.Kind.TheVariants.{A, G}
 use Rattle.ed_machine.specs.State.{State}
-use Rattle.ed_machine.specs.OrderTable.{jumped, next_word, obey_word, place_of, step}
+use Rattle.ed_machine.specs.OrderTable.{jump_order, next_word, obey_word, place_of, step}
 use Rattle.ed_machine.specs.Sound.{IsSound}
 use Rattle.ed_machine.specs.Steps.{progress, state_after}
 use Rattle.ed_notation.specs.Fold.{over, placed_at}
@@ -263,7 +264,7 @@ module _ (z : Size) (n : ℕ) (small : n < 65536) where
   end_counter : end.counter ≡ 58
   end_counter = ap (λ x. x + 2) (caller_is before_print)
 
-  end_word : next_word end ≡ 53248
+  end_word : next_word end ≡ Z_F
   end_word =
       ap (λ x. get_or end.store.words x 0) end_counter
       ∙ (print_call.keeps printing low end refl).words
@@ -367,7 +368,7 @@ module _ (z : Size) (n : ℕ) (small : n < 65536) where
   first_turn : turn_orders g ≡ 35
   first_turn = λ i. orders_by (function_of (first_word i)) (acc_is i)
 
-  jump_keeps : (b : Bool) (p : ℕ) (x : State) → (jumped b p x).state.acc ≡ x.acc
+  jump_keeps : (b : Bool) (p : ℕ) (x : State) → (jump_order b p x).state.acc ≡ x.acc
   jump_keeps true p x = refl
   jump_keeps false p x = refl
 

@@ -5,7 +5,7 @@ use Rattle.ed_notation.specs.declared.item.Item.{Item}
 use Rattle.ed_syntax.specs.declared.program.Line.{Line}
 use Rattle.ed_symbols.specs.declared.symbols.Definition.{Definition}
 use Rattle.ed_link.specs.Linked.{symbols_of}
-use Rattle.ed_link.specs.Punch.{heads, punched, punched_from, word_item}
+use Rattle.ed_link.specs.Punch.{heads, punched_items, punched_from, word_item}
 use Rattle.ed_link.specs.Tapes.{punched_rows}
 use Rattle.ed_link.proofs.Bounds.{rows_few}
 use Rattle.ed_sources.specs.Demo.{next, number_after, number_word}
@@ -46,12 +46,12 @@ module _ (words n x l : ℕ) where
 
   -- the items of the program and of `print`
   abbrev front : List Item
-  front = take 73 (punched lines)
+  front = take 73 (punched_items lines)
 
   abbrev rest : List Item
   rest = punched_from (symbols_of lines) (counter 123 123 3) (lines_behind n x l)
 
-  parts : punched lines ≡ front ++ rest
+  parts : punched_items lines ≡ front ++ rest
   parts = refl
 
   front_long : length front ≡ 73
@@ -67,5 +67,5 @@ module _ (words n x l : ℕ) where
   pub few_rows : length (punched_rows lines) ≤ 192 * suc n + 600
   few_rows =
       let long = ap (λ (is : List Item). length is) parts ∙ length-append front rest in
-      let first = front_long in let others = rest_few in let rows = rows_few (punched lines) in
+      let first = front_long in let others = rest_few in let rows = rows_few (punched_items lines) in
       omega (arith, long, first, others, rows)

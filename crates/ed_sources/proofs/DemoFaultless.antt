@@ -17,7 +17,7 @@ use Rattle.ed_syntax.specs.declared.program.Line.{Line}
 use Rattle.ed_syntax.specs.declared.program.Statement.TheVariants as statements
 use Rattle.ed_symbols.specs.declared.location_counter.LocationCounter.{LocationCounter}
 use Rattle.ed_symbols.specs.declared.symbols.Definition.{Definition}
-use Rattle.ed_symbols.specs.Faults.{or_later, resolved}
+use Rattle.ed_symbols.specs.Faults.{or_later, resolution}
 use Rattle.ed_symbols.specs.Names.{symbols_from}
 use Rattle.ed_symbols.specs.Places.{first_counter}
 use Rattle.ed_link.specs.Private.FaultTests.{LinesBefore, any_enter, cause_of, fault, fault_from, overlaps, missing}
@@ -196,7 +196,7 @@ module _ (z : Size) (words n x l : ℕ) (few : n ≤ 111) (near : words ≤ 900)
   abbrev rest_homes : List Definition
   rest_homes = symbols_from (counter 123 123 3) (lines_behind n x l)
 
-  named : (resolved lines).fault ≡ None
+  named : (resolution lines).fault ≡ None
   named =
       program_named rest_homes words near
       (words_named rest_homes 8 20 x

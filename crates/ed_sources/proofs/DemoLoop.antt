@@ -5,6 +5,7 @@ use Rattle.std.proofs.Common.{List, [], ◌∷◌, get_or, length}
 use Rattle.std.specs.Prelude.{sum}
 use Rattle.std.proofs.lemmas.List.Sums.{sum_by-cons}
 use Rattle.ed_words.proofs.SizeLemmas.{most}
+use Rattle.ed_words.specs.declared.order_words.TheConstants.{A_F, G_F, S_F, T_F, U_F, Z_F}
 use Rattle.ed_paths.proofs.Frames.{Frame, Moment, short, state}
 use Rattle.ed_paths.proofs.Places.{IsOutside, early, own, out}
 use Rattle.ed_paths.proofs.Moves.{A, S, T, U, Z, G_jumps, G_stays}
@@ -18,15 +19,15 @@ use Rattle.ed_routines.proofs.Lines.{print_line}
 
 -- the order that adds the word at q
 abbrev pub taking : ℕ → ℕ
-taking q = 114688 + 2 * q
+taking q = A_F + 2 * q
 
 -- its words at b, with `print` at w and the order at `stop`; the order that adds, a cell for what is discarded, and
 -- the sum so far change
 abbrev pub cells : ℕ → ℕ → ℕ → ℕ → ℕ → ℕ → List ℕ
 cells b w stop order scrap total =
-    (20480 + 2 * (b + 14)) ∷ (114688 + 2 * (b + 15)) ∷ order ∷ (20480 + 2 * (b + 15)) ∷ (114688 + 2 * (b + 2)) ∷ 114692
-    ∷ (28672 + 2 * (b + 2)) ∷ (49152 + 2 * (b + 13)) ∷ (110592 + 2 * (b + 0)) ∷ (20480 + 2 * (b + 14))
-    ∷ (114688 + 2 * (b + 10)) ∷ (110592 + 2 * w) ∷ 53248 ∷ stop ∷ scrap ∷ total ∷ []
+    (T_F + 2 * (b + 14)) ∷ (A_F + 2 * (b + 15)) ∷ order ∷ (T_F + 2 * (b + 15)) ∷ (A_F + 2 * (b + 2)) ∷ 114692
+    ∷ (U_F + 2 * (b + 2)) ∷ (S_F + 2 * (b + 13)) ∷ (G_F + 2 * (b + 0)) ∷ (T_F + 2 * (b + 14))
+    ∷ (A_F + 2 * (b + 10)) ∷ (G_F + 2 * w) ∷ Z_F ∷ stop ∷ scrap ∷ total ∷ []
 
 -- words are in a store from a location upwards
 abbrev pub StandFrom : List ℕ → ℕ → List ℕ → Type 0
@@ -143,7 +144,7 @@ module _ (given : Given) where
         (lit≤ tt) refl refl refl in
         let count : 1 + (2 + print_orders n) ≡ 3 + print_orders n = omega arith in
         subst (λ k. ComesToStop k (state f (before y []) done) (11 ∷ digits n) (f.base + 13)) count
-        (to_stop (then (along (on (T 9 (own 14) 0 refl refl) stay)) prints) (Z 12 53248 refl refl) done)
+        (to_stop (then (along (on (T 9 (own 14) 0 refl refl) stay)) prints) (Z 12 Z_F refl refl) done)
 
     -- the whole program adds up the words, prints the sum and stops
     pub demo_stops : (x : Turning) (cs : List ℕ) → 0 < length cs → Fine n x cs → (done : ℕ)

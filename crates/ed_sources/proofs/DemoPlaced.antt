@@ -6,12 +6,13 @@ use Rattle.std.specs.Prelude.{sum, take, unwrap_or}
 use Rattle.std.specs.List.{list_all}
 use Rattle.std.proofs.lemmas.List.Sums.{sum_by-cons}
 use Rattle.ed_words.specs.declared.size.Size.{Size}
+use Rattle.ed_words.specs.declared.order_words.TheConstants.{A_F}
 use Rattle.ed_store.specs.Cells.{short_at}
 use Rattle.ed_library.specs.Images.{image_word, parameter_store}
 use Rattle.ed_library.specs.Routines.{place_count}
 use Rattle.ed_syntax.specs.declared.program.Line.{Line}
 use Rattle.ed_symbols.specs.declared.symbols.Definition.{Definition}
-use Rattle.ed_link.specs.Linked.{entry_from, entry_of, symbols_of, placed_words, linked, placed_from}
+use Rattle.ed_link.specs.Linked.{entry_from, entry_of, symbols_of, placed_words, linked_words, placed_from}
 use Rattle.ed_loads.specs.EntryState.{entry_state}
 use Rattle.ed_routines.specs.Catalogue.{print, with_h}
 use Rattle.ed_sources.specs.Demo.{next, number_after, number_word, words_after}
@@ -81,7 +82,7 @@ module _ (words n x l : ℕ) where
 
   -- the words before those of the segments
   abbrev pub front : List (ℕ × ℕ)
-  front = take 68 (linked lines)
+  front = take 68 (linked_words lines)
 
   rest_is : placed_from (symbols_of lines) (counter 123 123 3) (lines_behind n x l) ≡ placed_words 123 items
   rest_is =
@@ -91,7 +92,7 @@ module _ (words n x l : ℕ) where
       (λ q at. segments_laid (symbols_of lines) n 2 28 (number_after 8 x) l q 123 3)
       ∙ ap (placed_words 123) (sym (ap (λ j. words_after j x) e ∙ more_words 8 (8 * n) x))
 
-  parts : linked lines ≡ front ++ placed_words 123 items
+  parts : linked_words lines ≡ front ++ placed_words 123 items
   parts = ap (λ (ps : List (ℕ × ℕ)). front ++ ps) rest_is
 
   front_places : have_places front ≡ true
@@ -106,7 +107,7 @@ module _ (words n x l : ℕ) where
   print_image = refl
 
   -- the order at `stop`
-  pub stop_word : words ≤ 900 → unwrap_or (last_at front 69) 0 ≡ 114688 + 2 * (123 + words)
+  pub stop_word : words ≤ 900 → unwrap_or (last_at front 69) 0 ≡ A_F + 2 * (123 + words)
   stop_word few = order_at 28 (123 + words) (lit< tt) (omega arith)
 
   -- it is entered at its first order

@@ -6,6 +6,7 @@ use Rattle.std.proofs.lemmas.List.{length-replicate}
 use Rattle.std.proofs.Math.Nat.{div-lt_iff_lt-mul, mod-lt}
 use Rattle.ed_words.specs.declared.size.Size.{Size}
 use Rattle.ed_words.proofs.SizeLemmas.{least}
+use Rattle.ed_words.specs.declared.order_words.TheConstants.{Z_F}
 use Rattle.ed_store.specs.Cells.{short_at}
 use Rattle.ed_machine.specs.State.{State}
 use Rattle.ed_library.specs.Images.{parameter_store}
@@ -157,7 +158,7 @@ module _ (z : Size) (high low by : ℕ) (positive : 1 ≤ by) (fits : by ≤ 327
       (lit≤ tt) (lit≤ tt) (lit≤ tt))
       (record { below = rw at_last.size (omega arith); beside = inl (lit< tt) }) still
       (remainder_low n by positive fits))
-      (inl (lit< tt)) (word_there at_last refl 64 53248
+      (inl (lit< tt)) (word_there at_last refl 64 Z_F
       (inl (lit< tt)) (lit≤ tt) (lit< tt) refl)
 
   pub divide_ends : StopsAt

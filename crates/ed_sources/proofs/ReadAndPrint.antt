@@ -4,6 +4,7 @@ use Rattle.std.proofs.Common.{List, [], ◌∷◌, ◌++◌, append-nil, length,
 use Rattle.std.proofs.lemmas.Bool.{and_parts}
 use Rattle.ed_words.specs.declared.size.Size.{Size}
 use Rattle.ed_words.proofs.SizeLemmas.{least}
+use Rattle.ed_words.specs.declared.order_words.TheConstants.{Z_F}
 use Rattle.ed_store.specs.Cells.{short_at}
 use Rattle.ed_machine.specs.State.{State}
 use Rattle.ed_library.specs.Images.{parameter_store}
@@ -94,7 +95,7 @@ module _ (z : Size) (n : ℕ) (small : n < 65536) where
       (print_passes before_print {h = 61} has_print
       (record { below = rw at_print.size (omega arith); beside = inl (lit< tt) })
       number small)
-      (inl (lit< tt)) (word_there at_print refl 60 53248 (inl (lit< tt)) (lit≤ tt) (lit< tt) refl)
+      (inl (lit< tt)) (word_there at_print refl 60 Z_F (inl (lit< tt)) (lit≤ tt) (lit< tt) refl)
 
   pub read_ends : StopsAt (2 + (11 + 13 * length (digits n)) + (2 + print_orders n)) s (11 ∷ digits n) 60
   read_ends =

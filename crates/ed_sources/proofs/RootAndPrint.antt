@@ -2,6 +2,7 @@
 use Rattle.std.proofs.Common.{◌≡◌, inl, ℕ, ◌+◌, ◌<◌, refl, arith, true, [], ◌∷◌, lit≤, lit<}
 use Rattle.ed_words.specs.declared.size.Size.{Size}
 use Rattle.ed_words.proofs.SizeLemmas.{least}
+use Rattle.ed_words.specs.declared.order_words.TheConstants.{Z_F}
 use Rattle.ed_store.specs.Cells.{short_at}
 use Rattle.ed_machine.specs.State.{State}
 use Rattle.ed_library.specs.Images.{parameter_store}
@@ -86,7 +87,7 @@ module _ (z : Size) (n : ℕ) (small : n < 65536) where
       stopped
       (print_passes before_print {h = 62} has_print
       (record { below = rw at_print.size (omega arith); beside = inl (lit< tt) }) taken.root_is (root_small n small))
-      (inl (lit< tt)) (word_there at_print refl 60 53248 (inl (lit< tt))
+      (inl (lit< tt)) (word_there at_print refl 60 Z_F (inl (lit< tt))
       (lit≤ tt) (lit< tt) refl)
 
   pub root_ends : StopsAt (2 + root_orders r + (2 + print_orders r)) s (11 ∷ digits r) 60

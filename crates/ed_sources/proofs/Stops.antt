@@ -10,12 +10,12 @@ use Rattle.ed_orders.specs.Kinds.{kind_of_function}
 use Rattle.ed_orders.specs.declared.kind.Kind.{Kind}
 use Rattle.ed_orders.specs.declared.kind.Kind.TheVariants.{E, G, I, Z}
 use Rattle.ed_machine.specs.State.{State}
-use Rattle.ed_machine.specs.OrderTable.{after, done_at, jumped, next_word, obey_word, place_of, step, took_row}
+use Rattle.ed_machine.specs.OrderTable.{after, done_at, jump_order, next_word, obey_word, place_of, step, row_order}
 use Rattle.ed_machine.specs.Steps.{AreObeyed, Progress, codes_of, is_obeyed, progress, state_after}
 use Rattle.ed_machine.specs.declared.turn.Turn.{Turn}
 use Rattle.ed_machine.specs.declared.turn.Turn.TheVariants.{Stopped as Stops}
 use Rattle.ed_machine.specs.declared.ending.Ending.TheVariants.{Stopped}
-use Rattle.ed_run.specs.Run.{RunEnd, ran}
+use Rattle.ed_run.specs.Run.{RunEnd, run_end}
 use Rattle.ed_run.specs.Laws.{HasRoom}
 use Rattle.ed_run.proofs.Ends.{ends_once, ran_ends}
 use Rattle.ed_run.proofs.Places.{at_stop}
@@ -51,19 +51,19 @@ stopped_state : (k : Option Kind) (w : ℕ) (x : State) → (obey_word k w x).tu
     → (obey_word k w x).state ≡ done_at (after x) x
 stopped_state (Some E) w x h = by_test (nat_lt x.acc (2 ^ 70)) h
   where
-    by_test : (b : Bool) → (jumped b (place_of x w) x).turn ≡ Stops
-        → (jumped b (place_of x w) x).state ≡ done_at (after x) x
+    by_test : (b : Bool) → (jump_order b (place_of x w) x).turn ≡ Stops
+        → (jump_order b (place_of x w) x).state ≡ done_at (after x) x
     by_test true h = cc
     by_test false h = refl
 stopped_state (Some G) w x h = by_test (nat_le (2 ^ 70) x.acc) h
   where
-    by_test : (b : Bool) → (jumped b (place_of x w) x).turn ≡ Stops
-        → (jumped b (place_of x w) x).state ≡ done_at (after x) x
+    by_test : (b : Bool) → (jump_order b (place_of x w) x).turn ≡ Stops
+        → (jump_order b (place_of x w) x).state ≡ done_at (after x) x
     by_test true h = cc
     by_test false h = refl
 stopped_state (Some I) w x h = by_tape x.tape h
   where
-    by_tape : (rows : List ℕ) → (took_row rows w x).turn ≡ Stops → (took_row rows w x).state ≡ done_at (after x) x
+    by_tape : (rows : List ℕ) → (row_order rows w x).turn ≡ Stops → (row_order rows w x).state ≡ done_at (after x) x
     by_tape [] h = cc
     by_tape (row ∷ rows) h = cc
 stopped_state (Some Z) w x h = refl
@@ -102,8 +102,8 @@ pub record RanToStop (r : RunEnd) (codes : List ℕ) (last : State) : Type 0 whe
 
 -- a run without resumes whose limit they keep, and whose paper has room for the codes, ends there
 pub ran_to_stop : (limit room k : ℕ) (s : State) (codes : List ℕ) (o : LeadsToStop k s codes) → length codes ≤ room
-    → suc k ≤ limit → RanToStop (ran limit 0 room s) codes o.last
-unfolding progress ran
+    → suc k ≤ limit → RanToStop (run_end limit 0 room s) codes o.last
+unfolding progress run_end
 ran_to_stop limit room k s codes o fits less =
     let turn : (step (state_after k s)).turn ≡ Stops = ap (λ (x : State). (step x).turn) o.leads.state_is ∙ o.stops in
     let all : (progress (suc k) s).codes ≡ codes =

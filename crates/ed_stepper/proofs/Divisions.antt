@@ -6,7 +6,7 @@ use Rattle.std.specs.Prelude.{◌==◌, not, position, slice_index_or, if◌then
 use Rattle.std.proofs.lemmas.List.{append-nil, append_assoc, drop_all, length-append, take_at}
 use Rattle.ed_words.specs.Texts.{Text}
 use Rattle.ed_syntax.specs.Lines.{lines_of}
-use Rattle.ed_stepper.specs.Inputs.{Input, announced, at_line, after_line, divided, divided_at, first_line}
+use Rattle.ed_stepper.specs.Inputs.{Input, text_kind_of, at_line, after_line, input_of, input_at, first_line}
 use Rattle.ed_stepper.specs.Inputs.{with_byte_before}
 use Rattle.ed_stepper.specs.Private.Fronts.{unended}
 use Rattle.ed_stepper.specs.declared.inputs.TextKind.{TextKind}
@@ -72,30 +72,30 @@ one_front b more (Some i) = refl
 -- ---- lines
 
 -- if no line begins here, the input is divided after the first line feed
-skips : (text : Text) → divided_at false text ≡ prefixed (line_front text) (divided (after_line text))
+skips : (text : Text) → input_at false text ≡ prefixed (line_front text) (input_of (after_line text))
 skips [] = refl
 skips (b ∷ bs) = by_test (b == 10) (skips bs)
   where
-    by_test : (t : Bool) → divided_at false bs ≡ prefixed (line_front bs) (divided (after_line bs))
-        → with_byte_before b (divided_at t bs)
-        ≡ prefixed (if t then b ∷ [] else b ∷ line_front bs) (divided (if t then bs else after_line bs))
-    by_test true h = ap (with_byte_before b) (sym (prefixed_none (divided bs))) ∙ one_front b [] (divided bs)
-    by_test false h = ap (with_byte_before b) h ∙ one_front b (line_front bs) (divided (after_line bs))
+    by_test : (t : Bool) → input_at false bs ≡ prefixed (line_front bs) (input_of (after_line bs))
+        → with_byte_before b (input_at t bs)
+        ≡ prefixed (if t then b ∷ [] else b ∷ line_front bs) (input_of (if t then bs else after_line bs))
+    by_test true h = ap (with_byte_before b) (sym (prefixed_none (input_of bs))) ∙ one_front b [] (input_of bs)
+    by_test false h = ap (with_byte_before b) h ∙ one_front b (line_front bs) (input_of (after_line bs))
 
 -- the same after a line that announces nothing
-pub passes : (text : Text) → 0 < length text → announced (first_line text) ≡ None
-    → divided text ≡ prefixed (line_front text) (divided (after_line text))
+pub passes : (text : Text) → 0 < length text → text_kind_of (first_line text) ≡ None
+    → input_of text ≡ prefixed (line_front text) (input_of (after_line text))
 passes [] some none = absurd (omega arith)
 passes (b ∷ bs) some none =
-    ap (λ (k : Option TextKind). at_line k (b ∷ bs) (with_byte_before b (divided_at (b == 10) bs))) none
+    ap (λ (k : Option TextKind). at_line k (b ∷ bs) (with_byte_before b (input_at (b == 10) bs))) none
     ∙ skips (b ∷ bs)
 
 -- and a line that announces a text divides it
-pub divides : (text : Text) (kind : TextKind) → 0 < length text → announced (first_line text) ≡ Some kind
-    → divided text ≡ Some (record { script = []; kind = kind; text = after_line text })
+pub divides : (text : Text) (kind : TextKind) → 0 < length text → text_kind_of (first_line text) ≡ Some kind
+    → input_of text ≡ Some (record { script = []; kind = kind; text = after_line text })
 divides [] kind some is = absurd (omega arith)
 divides (b ∷ bs) kind some is =
-    ap (λ (k : Option TextKind). at_line k (b ∷ bs) (with_byte_before b (divided_at (b == 10) bs))) is
+    ap (λ (k : Option TextKind). at_line k (b ∷ bs) (with_byte_before b (input_at (b == 10) bs))) is
 
 -- the first line of a text whose lines are known
 pub first_is : (text line : Text) (rest : List Text) → lines_of text ≡ line ∷ rest → first_line text ≡ line
@@ -115,7 +115,7 @@ cut front rest whole is =
 pub record Stands (input rest : Text) : Type 0 where
   pub few : length rest ≤ length input
   pub whole : take (length input - length rest) input ++ rest ≡ input
-  pub same : divided input ≡ prefixed (take (length input - length rest) input) (divided rest)
+  pub same : input_of input ≡ prefixed (take (length input - length rest) input) (input_of rest)
 
 -- before the first line
 pub at_start : (input : Text) → Stands input input
@@ -123,11 +123,11 @@ at_start input =
     let e = cut [] input input refl in record {
       few = omega arith;
       whole = ap (λ (x : Text). x ++ input) e;
-      same = sym (ap (λ (x : Text). prefixed x (divided input)) e ∙ prefixed_none (divided input));
+      same = sym (ap (λ (x : Text). prefixed x (input_of input)) e ∙ prefixed_none (input_of input));
     }
 
 -- after a line that announces nothing
-pub goes_on : (input rest after : Text) → Stands input rest → 0 < length rest → announced (first_line rest) ≡ None
+pub goes_on : (input rest after : Text) → Stands input rest → 0 < length rest → text_kind_of (first_line rest) ≡ None
     → after ≡ after_line rest → Stands input after
 goes_on input rest after s some none is =
     let before : Text = take (length input - length rest) input in
@@ -141,20 +141,20 @@ goes_on input rest after s some none is =
       few = omega (arith, long, length-append (before ++ front) after);
       whole = ap (λ (x : Text). x ++ after) e ∙ whole;
       same = s.same ∙ ap (prefixed before)
-          (passes rest some none ∙ ap (λ (x : Text). prefixed front (divided x)) (sym is))
-          ∙ prefixed-append before front (divided after) ∙ sym (ap (λ (x : Text). prefixed x (divided after)) e);
+          (passes rest some none ∙ ap (λ (x : Text). prefixed front (input_of x)) (sym is))
+          ∙ prefixed-append before front (input_of after) ∙ sym (ap (λ (x : Text). prefixed x (input_of after)) e);
     }
 
 -- at a line that announces a text
 pub ends_at : (input rest after : Text) (kind : TextKind) → Stands input rest → 0 < length rest
-    → announced (first_line rest) ≡ Some kind → after ≡ after_line rest
-    → divided input ≡ Some (record { script = take (length input - length rest) input; kind = kind; text = after })
+    → text_kind_of (first_line rest) ≡ Some kind → after ≡ after_line rest
+    → input_of input ≡ Some (record { script = take (length input - length rest) input; kind = kind; text = after })
 ends_at input rest after kind s some found is =
     let before : Text = take (length input - length rest) input in
     s.same ∙ ap (prefixed before) (divides rest kind some found)
     ∙ (λ i. Some (record { script = append-nil before i; kind = kind; text = sym is i }))
 
 -- after the last line
-pub at_end : (input rest : Text) → Stands input rest → length rest ≡ 0 → divided input ≡ None
+pub at_end : (input rest : Text) → Stands input rest → length rest ≡ 0 → input_of input ≡ None
 at_end input [] s none = s.same
 at_end input (b ∷ bs) s none = absurd (omega (arith, none))

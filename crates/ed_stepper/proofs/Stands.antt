@@ -12,7 +12,7 @@ use Rattle.ed_machine.proofs.LeastNumbers.{least_below, least_first}
 use Rattle.ed_machine.proofs.Steps.{free_sum}
 use Rattle.ed_stepper.specs.MoveEnds.{blocked_end, end_after, move_orders, or_else, own_end, stopped_after}
 use Rattle.ed_stepper.specs.Sessions.{Stand, left, stands_at}
-use Rattle.ed_stepper.specs.Scripts.{LeftBy, after_text_of, is_too_far, left_by, moved, play, writes}
+use Rattle.ed_stepper.specs.Scripts.{LeftBy, after_text_of, is_too_far, left_by, after_move, play, writes}
 use Rattle.ed_stepper.specs.declared.commands.SessionCommand.{SessionCommand}
 use Rattle.ed_stepper.specs.declared.commands.SessionCommand.TheVariants as commands
 use Rattle.ed_stepper.specs.declared.moves.MoveTarget.{MoveTarget}
@@ -62,7 +62,7 @@ pub record Keeps (first t : Stand) : Type 0 where
   pub free : AreObeyed t.done t.start
   pub most : t.done ≤ t.limit
 
-pub moved_keeps : (aim : MoveTarget) {first t : Stand} → Keeps first t → Keeps first (moved aim t)
+pub moved_keeps : (aim : MoveTarget) {first t : Stand} → Keeps first t → Keeps first (after_move aim t)
 moved_keeps aim {first} {t} k =
     let n = move_orders aim (left t) (stands_at t) in
     let few = move_within aim (left t) (stands_at t) in

@@ -19,8 +19,8 @@ after_line [] = []
 after_line (b ∷ bs) = if b == 10 then bs else after_line bs
 
 -- what a line announces, if it is a dividing line: it is exactly `tape` or `source`
-abbrev pub announced : Text → Option TextKind
-announced line = if bytes_eq line (codes "tape") then Some Tape else if bytes_eq line (codes "source")
+abbrev pub text_kind_of : Text → Option TextKind
+text_kind_of line = if bytes_eq line (codes "tape") then Some Tape else if bytes_eq line (codes "source")
     then Some Source else None
 
 -- a divided input: the bytes of the script, and the kind and the bytes of the text after the dividing line
@@ -40,17 +40,17 @@ at_line (Some kind) text later = Some (record { script = []; kind = kind; text =
 at_line None text later = later
 
 -- an input, which begins at the beginning of a line or not, divided by the first line that announces a text
-abbrev pub divided_at : Bool → Text → Option Input
-divided_at begins [] = None
-divided_at begins (b ∷ bs) =
-    at_line (if begins then announced (first_line (b ∷ bs)) else None) (b ∷ bs)
-    (with_byte_before b (divided_at (b == 10) bs))
+abbrev pub input_at : Bool → Text → Option Input
+input_at begins [] = None
+input_at begins (b ∷ bs) =
+    at_line (if begins then text_kind_of (first_line (b ∷ bs)) else None) (b ∷ bs)
+    (with_byte_before b (input_at (b == 10) bs))
 
 -- an input, divided
-abbrev pub divided : Text → Option Input
-divided input = divided_at true input
+abbrev pub input_of : Text → Option Input
+input_of input = input_at true input
 
 -- the parts found are those of the definition
 abbrev pub Divides : Text → Option Divided → Type 0
-Divides input None = divided input ≡ None
-Divides input (Some d) = divided input ≡ Some (record { script = d.script.now; kind = d.kind; text = d.text.now })
+Divides input None = input_of input ≡ None
+Divides input (Some d) = input_of input ≡ Some (record { script = d.script.now; kind = d.kind; text = d.text.now })

@@ -40,12 +40,12 @@ move_line at done end = codes "at " ++ decimal at ++ codes " after " ++ decimal 
     ++ end_word end ++ 10 ∷ []
 
 -- the session after a move forward
-abbrev pub moved : MoveTarget → Stand → Stand
-moved aim s = record s { done = s.done + move_orders aim (left s) (stands_at s) }
+abbrev pub after_move : MoveTarget → Stand → Stand
+after_move aim s = record s { done = s.done + move_orders aim (left s) (stands_at s) }
 
 -- the session after a move back
-abbrev pub moved_back : ℕ → Stand → Stand
-moved_back n s = record s { done = s.done - n }
+abbrev pub after_move_back : ℕ → Stand → Stand
+after_move_back n s = record s { done = s.done - n }
 
 -- the line of a move that leaves a session here
 abbrev pub line_at : Stand → MoveEnd → Text
@@ -53,11 +53,11 @@ line_at t end = move_line (stands_at t).counter t.done end
 
 -- the line of a move forward
 abbrev pub line_of_move : MoveTarget → Stand → Text
-line_of_move aim s = line_at (moved aim s) (move_end aim (left s) (stands_at s))
+line_of_move aim s = line_at (after_move aim s) (move_end aim (left s) (stands_at s))
 
 -- the functions of the orders of a move by n orders
-abbrev pub traced : ℕ → Stand → List ℕ
-traced n s = functions_after (move_orders (Orders n) (left s) (stands_at s)) (stands_at s)
+abbrev pub traced_functions : ℕ → Stand → List ℕ
+traced_functions n s = functions_after (move_orders (Orders n) (left s) (stands_at s)) (stands_at s)
 
 -- the last printed code, if there is one
 abbrev pub last_word : Option ℕ → Text
@@ -72,8 +72,8 @@ words_shown a b s = listing (stands_at s).store (range_with_len a (b + 1 - a))
 abbrev pub writes : SessionCommand → Stand → Text
 writes Nothing s = []
 writes (Move aim) s = line_of_move aim s
-writes (Back n) s = line_at (moved_back n s) ends.Back
-writes (Trace n) s = trace_text (traced n s) ++ line_of_move (Orders n) s
+writes (Back n) s = line_at (after_move_back n s) ends.Back
+writes (Trace n) s = trace_text (traced_functions n s) ++ line_of_move (Orders n) s
 writes (Show a b) s = words_shown a b s
 writes Accumulator s = codes "acc " ++ decimal (stands_at s).acc ++ 10 ∷ []
 writes Multiplier s = codes "mult " ++ decimal (stands_at s).multiplier ++ 10 ∷ []
@@ -81,9 +81,9 @@ writes LastPrinted s = codes "last " ++ last_word (stands_at s).last ++ 10 ∷ [
 
 -- the session after a line
 abbrev pub left_by : SessionCommand → Stand → Stand
-left_by (Move aim) s = moved aim s
-left_by (Back n) s = moved_back n s
-left_by (Trace n) s = moved (Orders n) s
+left_by (Move aim) s = after_move aim s
+left_by (Back n) s = after_move_back n s
+left_by (Trace n) s = after_move (Orders n) s
 left_by command s = s
 
 -- whether a line goes back by more orders than were obeyed

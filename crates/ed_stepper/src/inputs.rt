@@ -1,7 +1,7 @@
 //! The input of the command that runs a script: the script, a dividing line, and a text.
 ghost use Rattle.std.specs.Prelude.{◌≡◌, ◌≤◌, ◌<◌, length};
 ghost use Rattle.ed_syntax.specs.Lines.{lines_of};
-ghost use Rattle.ed_stepper.specs.Inputs.{Divides, announced};
+ghost use Rattle.ed_stepper.specs.Inputs.{Divides, text_kind_of};
 
 use crate::fronts::first_line;
 
@@ -32,7 +32,7 @@ pub fn divide<'a>(input: &'a [u8]) -> Option<Divided<'a>>
     let mut rest = input;
     while !rest.is_empty() {
         let (line, after) = first_line(rest);
-        if let Some(kind) = announced(line) {
+        if let Some(kind) = text_kind_of(line) {
             return Some(Divided {
                 script: &input[..input.len() - rest.len()],
                 kind,
@@ -45,8 +45,8 @@ pub fn divide<'a>(input: &'a [u8]) -> Option<Divided<'a>>
 }
 
 /// What a line announces, if it is a dividing line.
-fn announced(line: &[u8]) -> Option<TextKind>
-    ensures { result ≡ announced line.now }
+fn text_kind_of(line: &[u8]) -> Option<TextKind>
+    ensures { result ≡ text_kind_of line.now }
 {
     if line == b"tape".as_slice() {
         Some(TextKind::Tape)

@@ -7,7 +7,7 @@ use Rattle.std.proofs.lemmas.List.{set-get_or, get_or-set_other, get_or_read, le
 use Rattle.ed_words.specs.Words.{digit}
 use Rattle.ed_store.specs.Cells.{Cells, IsStore, cleared_cells, even, odd, short_at}
 use Rattle.ed_store.specs.Cells.{sandwich_at, long_at, with_short, with_long}
-use Rattle.ed_store.specs.Packed.{cell_words, sandwich_digits, unpacked, ArePacked}
+use Rattle.ed_store.specs.Packed.{cell_words, sandwich_digits, unpacked_cells, ArePacked}
 
 -- two stores with the same words and digits are equal
 cells_equal : (a b : Cells) → a.words ≡ b.words → a.sandwich ≡ b.sandwich → a ≡ b
@@ -60,7 +60,7 @@ words_fit (c ∷ cs) h (suc zero) = omega (arith, h 0)
 words_fit (c ∷ cs) h (suc (suc i)) = words_fit cs (λ k. h (suc k)) i
 
 -- packed cells are a store
-pub is_store : (cs : List ℕ) → ArePacked cs → IsStore (unpacked cs)
+pub is_store : (cs : List ℕ) → ArePacked cs → IsStore (unpacked_cells cs)
 is_store cs packed = record {
   words_are = omega (arith, length-words cs, packed.many);
   digits_are = length-digits cs ∙ packed.many;
@@ -75,22 +75,22 @@ cell_read cs a at x packed fits is read =
     get_or_read cs (a / 2) x (omega (arith, packed.many)) here 0
 
 -- a location's word from the cell of its pair
-pub short_low : (cs : List ℕ) (a : ℕ) → a % 2 ≡ 0 → short_at (unpacked cs) a ≡ get_or cs (a / 2) 0 % 2 ^ 17
+pub short_low : (cs : List ℕ) (a : ℕ) → a % 2 ≡ 0 → short_at (unpacked_cells cs) a ≡ get_or cs (a / 2) 0 % 2 ^ 17
 short_low cs a h = let e : a ≡ 2 * (a / 2) = omega arith in ap (λ i. get_or (cell_words cs) i 0) e ∙ get_low cs (a / 2)
 
-pub short_high : (cs : List ℕ) (a : ℕ) → a % 2 ≢ 0 → short_at (unpacked cs) a ≡ get_or cs (a / 2) 0 / 2 ^ 18
+pub short_high : (cs : List ℕ) (a : ℕ) → a % 2 ≢ 0 → short_at (unpacked_cells cs) a ≡ get_or cs (a / 2) 0 / 2 ^ 18
 short_high cs a h = let e : a ≡ suc (2 * (a / 2)) = omega arith in ap (λ i. get_or (cell_words cs) i 0) e
     ∙ get_high cs (a / 2)
 
 -- the sandwich digit of a location's pair from its cell
-pub digit_is : (cs : List ℕ) (a : ℕ) → sandwich_at (unpacked cs) a ≡ nat_eq (get_or cs (a / 2) 0 / 2 ^ 17 % 2) 1
+pub digit_is : (cs : List ℕ) (a : ℕ) → sandwich_at (unpacked_cells cs) a ≡ nat_eq (get_or cs (a / 2) 0 / 2 ^ 17 % 2) 1
 digit_is cs a = get_digit cs (a / 2)
 
 digit_number : (n : ℕ) → digit (nat_eq (n % 2) 1) ≡ n % 2
 digit_number n = grind (arith, nat_tests)
 
 -- the long word of a location's pair is its cell
-pub long_is : (cs : List ℕ) (a : ℕ) → long_at (unpacked cs) a ≡ get_or cs (a / 2) 0
+pub long_is : (cs : List ℕ) (a : ℕ) → long_at (unpacked_cells cs) a ≡ get_or cs (a / 2) 0
 long_is cs a =
     let e : even a ≡ 2 * (a / 2) = omega arith in
     let o : odd a ≡ suc (2 * (a / 2)) = omega arith in
@@ -102,11 +102,11 @@ long_is cs a =
     omega (arith, low, high, middle)
 
 -- cell k is the long word of the pair of 2k
-pub cell_is : (cs : List ℕ) (k : ℕ) → get_or cs k 0 ≡ long_at (unpacked cs) (2 * k)
+pub cell_is : (cs : List ℕ) (k : ℕ) → get_or cs k 0 ≡ long_at (unpacked_cells cs) (2 * k)
 cell_is cs k = let e : 2 * k / 2 ≡ k = omega arith in sym (long_is cs (2 * k) ∙ ap (λ i. get_or cs i 0) e)
 
 -- a cell is written
-pub put_long_is : (cs : List ℕ) (a x : ℕ) → unpacked (set cs (a / 2) x) ≡ with_long (unpacked cs) a x
+pub put_long_is : (cs : List ℕ) (a x : ℕ) → unpacked_cells (set cs (a / 2) x) ≡ with_long (unpacked_cells cs) a x
 put_long_is cs a x =
     let e : 2 * (a / 2) ≡ even a = omega arith in
     let o : suc (2 * (a / 2)) ≡ odd a = omega arith in
@@ -123,7 +123,7 @@ same_digit cs k x same =
 
 -- the lower half of a cell is written: the upper half and the sandwich digit are unchanged
 pub put_low_is : (cs : List ℕ) (a x w : ℕ) → a % 2 ≡ 0 → x % 2 ^ 17 ≡ w → x / 2 ^ 17 ≡ get_or cs (a / 2) 0 / 2 ^ 17
-    → unpacked (set cs (a / 2) x) ≡ with_short (unpacked cs) a w
+    → unpacked_cells (set cs (a / 2) x) ≡ with_short (unpacked_cells cs) a w
 put_low_is cs a x w h low rest =
     let k = a / 2 in let ws = cell_words cs in
     let place : 2 * k ≡ a = omega arith in
@@ -138,7 +138,7 @@ put_low_is cs a x w h low rest =
 
 -- the upper half of a cell is written: the lower half and the sandwich digit are unchanged
 pub put_high_is : (cs : List ℕ) (a x w : ℕ) → a % 2 ≢ 0 → x / 2 ^ 18 ≡ w → x % 2 ^ 18 ≡ get_or cs (a / 2) 0 % 2 ^ 18
-    → unpacked (set cs (a / 2) x) ≡ with_short (unpacked cs) a w
+    → unpacked_cells (set cs (a / 2) x) ≡ with_short (unpacked_cells cs) a w
 put_high_is cs a x w h high rest =
     let k = a / 2 in let ws = cell_words cs in
     let place : suc (2 * k) ≡ a = omega arith in
@@ -155,7 +155,7 @@ zeros_fit (suc n) zero = lit< tt
 zeros_fit (suc n) (suc k) = zeros_fit n k
 
 -- 0 in every cell is 0 everywhere
-pub cleared_is : unpacked (replicate 512 0) ≡ cleared_cells
+pub cleared_is : unpacked_cells (replicate 512 0) ≡ cleared_cells
 cleared_is = refl
 
 pub cleared_packed : ArePacked (replicate 512 0)
@@ -180,5 +180,5 @@ from_parts (x ∷ xs) (y ∷ ys) w d =
     ap₂ (λ c cs. c ∷ cs) (same_cell x y low high middle) (from_parts xs ys (ap (drop 2) w) (ap (drop 1) d))
 
 -- different cells are different stores
-pub unpacked_injective : (cs ds : List ℕ) → unpacked cs ≡ unpacked ds → cs ≡ ds
+pub unpacked_injective : (cs ds : List ℕ) → unpacked_cells cs ≡ unpacked_cells ds → cs ≡ ds
 unpacked_injective cs ds e = from_parts cs ds (ap (λ (c : Cells). c.words) e) (ap (λ (c : Cells). c.sandwich) e)

@@ -2,7 +2,7 @@
 -- locations, and that a short write keeps the sandwich digit, are this project's own rules).
 use Rattle.std.specs.Prelude.{ℕ, ◌+◌, ◌-◌, ◌/◌, ◌%◌, ◌^◌, Bool, false, List, slice_index}
 use Rattle.std.specs.Prelude.{slice_index_or, slice_set, replicate, ◌≡◌, ◌<◌, length}
-use Rattle.ed_words.specs.Words.{joined, halves_of}
+use Rattle.ed_words.specs.Words.{long_of_halves, halves_of}
 
 -- the words of all locations, and the sandwich digits of all pairs
 pub record Cells : Type 0 where
@@ -37,7 +37,7 @@ sandwich_at c a = slice_index_or c.sandwich (a / 2) false
 
 -- the long word of a location's pair
 abbrev pub long_at : Cells → ℕ → ℕ
-long_at c a = joined (slice_index c.words (odd a)) (sandwich_at c a) (slice_index c.words (even a))
+long_at c a = long_of_halves (slice_index c.words (odd a)) (sandwich_at c a) (slice_index c.words (even a))
 
 -- the store with a short word written; nothing else changes
 abbrev pub with_short : Cells → ℕ → ℕ → Cells

@@ -15,8 +15,8 @@ sandwich_digits [] = []
 sandwich_digits (cell ∷ cells) = (halves_of cell).sandwich ∷ sandwich_digits cells
 
 -- the store that the cells represent
-abbrev pub unpacked : List ℕ → Cells
-unpacked cells = record { words = cell_words cells; sandwich = sandwich_digits cells }
+abbrev pub unpacked_cells : List ℕ → Cells
+unpacked_cells cells = record { words = cell_words cells; sandwich = sandwich_digits cells }
 
 -- what holds of each list of cells
 pub record ArePacked (cells : List ℕ) : Type 0 where

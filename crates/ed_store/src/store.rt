@@ -19,11 +19,11 @@ pub struct Store {
 
 impl Model for Store {
     ghost use Rattle.ed_store.specs.Cells.{Cells};
-    ghost use Rattle.ed_store.specs.Packed.{ArePacked, unpacked};
+    ghost use Rattle.ed_store.specs.Packed.{ArePacked, unpacked_cells};
 
     ghost Value = { Cells };
 
-    ghost view = { λ s. unpacked s.cells.items };
+    ghost view = { λ s. unpacked_cells s.cells.items };
 
     ghost invariant = { λ s. ArePacked s.cells.items };
 }

@@ -14,7 +14,7 @@ use Rattle.ed_symbols.specs.declared.location_counter.LocationCounter.{LocationC
 use Rattle.ed_symbols.specs.Places.{after_statement, first_counter}
 use Rattle.ed_symbols.specs.Names.{line_definitions, symbols_from}
 use Rattle.ed_symbols.specs.Faults.{or_later, defines_again, naming_cause, naming_fault_from, names_unknown}
-use Rattle.ed_symbols.specs.Faults.{reaches_outside, resolved}
+use Rattle.ed_symbols.specs.Faults.{reaches_outside, resolution}
 use Rattle.ed_symbols.specs.NameFaults.{StandsAfter, counter_from, counter_after, number_of, LineHasNameFault}
 use Rattle.ed_symbols.specs.NameFaults.{HasNameFault}
 use Rattle.ed_symbols.specs.NameFaults.{NameFaultIs, EachHasOneNameFault}
@@ -129,8 +129,8 @@ numbers lines are before l st =
     ∙ get_or-append_seam before l st.after l in
     ap (λ (x : Line). x.number) (sym same) ∙ are (length before) l (omega (arith, n))
 
-pub say_names : (lines : List Line) → Numbered lines → SaysLeast (HasNameFault lines) (resolved lines).fault
-say_names lines numbered = found_says (LineHasNameFault lines) lines (resolved lines).fault
+pub say_names : (lines : List Line) → Numbered lines → SaysLeast (HasNameFault lines) (resolution lines).fault
+say_names lines numbered = found_says (LineHasNameFault lines) lines (resolution lines).fault
     (subst (Finds (LineHasNameFault lines) lines) (sym (names_pass lines [] lines))
     (finds (ask_names lines) (LineHasNameFault lines) lines numbered (λ b l. of_names lines b l) [] lines refl
     (λ b l c st h. omega arith)))
@@ -141,8 +141,8 @@ fault_of lines (Some Memory) h = h
 fault_of lines (Some (At k c)) h = record { is = h.0; least = h.1 }
 
 -- the fault that is found is that of the source
-pub found_is : (lines : List Line) → AreNumbered lines → NameFaultIs lines (resolved lines).fault
-found_is lines are = fault_of lines (resolved lines).fault (say_names lines (numbers lines are))
+pub found_is : (lines : List Line) → AreNumbered lines → NameFaultIs lines (resolution lines).fault
+found_is lines are = fault_of lines (resolution lines).fault (say_names lines (numbers lines are))
 
 one_fault : (lines : List Line) (f g : Option SourceFault) → NameFaultIs lines f → NameFaultIs lines g → f ≡ g
 one_fault lines None None h i = refl
@@ -162,4 +162,4 @@ one_fault lines (Some (At k c)) (Some (At m d)) h i = one (h.least m d i.is) (i.
         let e : c ≡ d = same_cause c d (omega (arith, x.1, y.1)) in λ i. Some (At (x.0 i) (e i))
 
 pub each_has_one : EachHasOneNameFault
-each_has_one = record { every = λ lines are. ((resolved lines).fault, found_is lines are); one = one_fault }
+each_has_one = record { every = λ lines are. ((resolution lines).fault, found_is lines are); one = one_fault }

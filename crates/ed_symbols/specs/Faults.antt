@@ -113,8 +113,8 @@ pub record Resolved : Type 0 where
   pub fault : Option SourceFault
 
 -- the same for the lines of a source
-abbrev pub resolved : List Line → Resolved
-resolved lines = record {
+abbrev pub resolution : List Line → Resolved
+resolution lines = record {
   positions = positions_from first_counter lines;
   symbols = symbols_from first_counter lines;
   fault = naming_fault_from (symbols_from first_counter lines) [] first_counter lines;

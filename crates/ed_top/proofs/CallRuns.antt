@@ -32,13 +32,13 @@ use Rattle.ed_maths.proofs.RootCall.{few as below_256}
 use Rattle.ed_routines.specs.Digits.{digits}
 use Rattle.ed_routines.proofs.Digits.{few_digits}
 use Rattle.ed_printer.specs.Paper.{paper}
-use Rattle.ed_run.specs.Run.{ran}
+use Rattle.ed_run.specs.Run.{run_end}
 use Rattle.ed_link.specs.Linked.{entry_of}
-use Rattle.ed_link.specs.Punch.{punched}
+use Rattle.ed_link.specs.Punch.{punched_items}
 use Rattle.ed_link.specs.Tapes.{cost}
 use Rattle.ed_link.proofs.Bounds.{rows_few}
 use Rattle.ed_loads.specs.EntryState.{entry_state}
-use Rattle.ed_report.specs.Notes.{at_after, entered}
+use Rattle.ed_report.specs.Notes.{at_after, entry_note}
 use Rattle.ed_command.specs.declared.command.Settings.{Settings}
 use Rattle.ed_words.specs.Texts.{Text}
 use Rattle.ed_top.specs.Calls.{CallRuns, EachCallRuns, GuestStops, call_entry, call_orders, call_prints, call_stop}
@@ -84,7 +84,7 @@ runs : (s : Settings) (call : Call) {lines : List Line} {k place : ℕ} {codes :
     → StopsAt k (entry_state s.size lines) codes place → length codes ≤ 1000000
     → (entry_of lines ≡ call_entry call) × (k + 1 ≡ call_orders call) × (place + 1 ≡ call_stop call) → place < 511
     → paper codes ≡ call_prints s.size lines call → GuestStops s.size lines call
-    → (length (punched lines) ≤ 190) × (call_orders call ≤ 14000) → CallRuns s call
+    → (length (punched_items lines) ≤ 190) × (call_orders call ≤ 14000) → CallRuns s call
 runs s call {lines} {k} {place} {codes} reads faultless stops few are low text guest short =
     let accepted = read_is_accepted s.size (call_text call) lines reads faultless in
     let entry : RunsFromEntry s lines = headline s (call_text call) lines accepted in
@@ -97,24 +97,24 @@ runs s call {lines} {k} {place} {codes} reads faultless stops few are low text g
       few =
           let items = short.0 in
           let orders = short.1 in
-          omega (arith, entry.enters.cheap, rows_few (punched lines), items, orders);
+          omega (arith, entry.enters.cheap, rows_few (punched_items lines), items, orders);
       guest_stops = guest;
       ends = λ none plain fits.
           let left : ℕ = s.limit - cost lines in
           let first : State = entry_state s.size lines in
-          let before : Text = entered (entry_of lines) (cost lines) in
+          let before : Text = entry_note (entry_of lines) (cost lines) in
           let size = least s.size in
           let left_behind = halted stops (omega arith) in
           let orders : (step stops.to_stop.last).state.orders ≡ cost lines + call_orders call =
           omega (arith, left_behind.orders, count) in
           let ended = ran_to_stop left paper_room k first codes stops.to_stop few (omega (arith, fits, count)) in
           entry.runs (omega (arith, fits))
-          ∙ (λ i. ran_outcome before (with_post_mortem (plain i) (ran left (none i) paper_room first)))
-          ∙ ap (ran_outcome before) (nothing_after (ran left 0 paper_room first))
-          ∙ answered before (ran left 0 paper_room first) ended (left_behind.counter ∙ are.2) orders
+          ∙ (λ i. ran_outcome before (with_post_mortem (plain i) (run_end left (none i) paper_room first)))
+          ∙ ap (ran_outcome before) (nothing_after (run_end left 0 paper_room first))
+          ∙ answered before (run_end left 0 paper_room first) ended (left_behind.counter ∙ are.2) orders
           ∙ (λ i. record {
             out = text i;
-            note = entered (are.0 i) (cost lines)
+            note = entry_note (are.0 i) (cost lines)
                 ++ (at_after (codes_of_text "stopped") (call_stop call) (cost lines + call_orders call) ++ 10 ∷ []);
             status = 0;
           });

@@ -3,7 +3,7 @@ use Rattle.std.proofs.Common.{◌≡◌, ◌∙◌, ◌+◌, ◌*◌, arith, Lis
 use Rattle.ed_syntax.specs.declared.program.Line.{Line}
 use Rattle.ed_link.specs.Tapes.{cost}
 use Rattle.ed_link.proofs.EachSource.{read_is_accepted}
-use Rattle.ed_report.specs.Notes.{at_after, entered}
+use Rattle.ed_report.specs.Notes.{at_after, entry_note}
 use Rattle.ed_routines.specs.Digits.{print_orders}
 use Rattle.ed_routines.proofs.Digits.{few_digits}
 use Rattle.ed_sources.specs.Demo.{demo_sum, demo_text}
@@ -40,7 +40,7 @@ each_demo_runs s n some few fits =
           (omega (arith, enough, count))
           ∙ (λ i. record {
             out = printed i;
-            note = entered (at i) (cost lines) ++ (at_after (codes "stopped") 69 (count i) ++ 10 ∷ []);
+            note = entry_note (at i) (cost lines) ++ (at_after (codes "stopped") 69 (count i) ++ 10 ∷ []);
             status = 0;
           });
       cheap =

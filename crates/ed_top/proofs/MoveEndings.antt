@@ -15,7 +15,7 @@ use Rattle.ed_machine.specs.declared.ending.Ending.TheVariants.{Stopped, Limit, 
 use Rattle.ed_machine.proofs.LeastNumbers.{least_holds}
 use Rattle.ed_machine.proofs.Steps.{after_sum, free_sum, next_stops}
 use Rattle.ed_run.specs.Laws.{HasRoom}
-use Rattle.ed_run.specs.Run.{EndsAfter, end_by, ran}
+use Rattle.ed_run.specs.Run.{EndsAfter, end_by, run_end}
 use Rattle.ed_run.proofs.Ends.{ends_once, ran_ends}
 use Rattle.ed_run.proofs.Places as places
 use Rattle.ed_stepper.specs.MoveEnds.{blocked_end, end_after, entered_after, is_some_order, move_end, move_orders}
@@ -30,8 +30,8 @@ use Rattle.ed_stepper.proofs.Stands.{move_free, move_within}
 -- ---- a run with this end
 
 pub ran_is : (limit resumes room k : ℕ) (s : State) (e : Ending) → EndsAfter limit resumes room s k e
-    → ran limit resumes room s ≡ record { ending = e; state = state_after k s; codes = (progress k s).codes }
-unfolding ran
+    → run_end limit resumes room s ≡ record { ending = e; state = state_after k s; codes = (progress k s).codes }
+unfolding run_end
 ran_is limit resumes room k s e ends =
     let one = ends_once (ran_ends limit resumes room s) ends in
     (λ i. record { ending = one.1 i; state = state_after (one.0 i) s; codes = (progress (one.0 i) s).codes })
@@ -191,7 +191,7 @@ module _ (limit room n : ℕ) (s : State) (free : AreObeyed n s) (most : n ≤ l
 
     -- the run ends so there
     pub run_ends : ending_of (move_end aim left at) ≡ Some ending
-        → ran limit (resumes_to ending (progress (n + orders) s).stops) room s
+        → run_end limit (resumes_to ending (progress (n + orders) s).stops) room s
         ≡ record { ending = ending; state = state_after (n + orders) s; codes = (progress (n + orders) s).codes }
     run_ends is =
         ran_is limit _ room (n + orders) s ending

@@ -8,14 +8,14 @@ use Rattle.ed_command.specs.declared.command.Action.{Action}
 use Rattle.ed_command.specs.declared.command.Action.TheVariants.{Tape, CheckTape, Run, Punch, Listing, Library, Demo}
 use Rattle.ed_command.specs.declared.command.Action.TheVariants.{Call as CallOf, Tape1, CheckTape1, Step, Trace, Parts}
 use Rattle.ed_words.specs.Texts.{Text}
-use Rattle.ed_answers.specs.Outcome.{Outcome, done, refused, usage_outcome}
+use Rattle.ed_answers.specs.Outcome.{Outcome, done, refusal, usage_outcome}
 use Rattle.ed_answers.specs.Answer.{HasOneOutcome, of_input}
 use Rattle.ed_answers.specs.FirstOrders.{tape1_outcome}
 use Rattle.ed_top.specs.Output.{EachLineHasOneOutcome, answer}
 use Rattle.ed_answers.specs.Tapes.{tape_outcome}
 use Rattle.ed_answers.specs.Sources.{listing_outcome, punch_outcome, run_outcome}
 use Rattle.ed_top.specs.Scripts.{OfDivided, OfStep, OnInput, OnText, on_rows}
-use Rattle.ed_stepper.specs.Inputs.{Input, divided}
+use Rattle.ed_stepper.specs.Inputs.{Input, input_of}
 use Rattle.ed_stepper.specs.ScriptLines.{CommandList, IsFirstBadLine, IsScript}
 use Rattle.ed_stepper.proofs.ScriptLaws.{one_meaning}
 use Rattle.ed_stepper.specs.declared.inputs.TextKind.{TextKind}
@@ -50,11 +50,11 @@ input_some s i = by_script (one_meaning.every i.script)
     by_script : ((commands : CommandList) × IsScript i.script commands)
         ⊎ ((line : ℕ) × IsFirstBadLine i.script line) → (o : Outcome) × OnInput s i o
     by_script (inl g) = let t = text_some s g.0 i.kind i.text in (t.0, inr (g.0, g.1, t.1))
-    by_script (inr b) = (refused (bad_command_line b.0), inl (b.0, b.1, refl))
+    by_script (inr b) = (refusal (bad_command_line b.0), inl (b.0, b.1, refl))
 
 input_same : (s : Settings) (i : Input) (o other : Outcome) → OnInput s i o → OnInput s i other → o ≡ other
 input_same s i o other (inl a) (inl b) =
-    sym a.2 ∙ ap (λ n. refused (bad_command_line n)) (one_meaning.one_bad_line i.script a.0 b.0 a.1 b.1) ∙ b.2
+    sym a.2 ∙ ap (λ n. refusal (bad_command_line n)) (one_meaning.one_bad_line i.script a.0 b.0 a.1 b.1) ∙ b.2
 input_same s i o other (inl a) (inr b) = absurd (one_meaning.never_both i.script b.0 a.0 b.1 a.1)
 input_same s i o other (inr a) (inl b) = absurd (one_meaning.never_both i.script a.0 b.0 a.1 b.1)
 input_same s i o other (inr a) (inr b) =
@@ -73,8 +73,8 @@ divided_same s input (Some i) o other p q = input_same s i o other p q
 step_once : (s : Settings) → HasOneOutcome (of_input (OfStep s))
 step_once s = record {
   some = λ input.
-      let d = divided_some s input (divided input) in some_within (OfStep s) input d.0 d.1;
-  once = λ input o other. within_once (OfStep s) input o other (divided_same s input (divided input) o other);
+      let d = divided_some s input (input_of input) in some_within (OfStep s) input d.0 d.1;
+  once = λ input o other. within_once (OfStep s) input o other (divided_same s input (input_of input) o other);
 }
 
 -- ---- every line of words

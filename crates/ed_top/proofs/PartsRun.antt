@@ -17,7 +17,7 @@ use Rattle.ed_machine.specs.declared.ending.Ending.{Ending}
 use Rattle.ed_machine.specs.declared.ending.Ending.TheVariants.{Stopped, Limit, PaperFull}
 use Rattle.ed_machine.proofs.LeastNumbers.{least_below}
 use Rattle.ed_machine.proofs.Steps.{few_codes, past_next, past_sum}
-use Rattle.ed_run.specs.Run.{EndsAfter, RunEnd, end_at, end_by, prints, ran, run_orders}
+use Rattle.ed_run.specs.Run.{EndsAfter, RunEnd, end_at, end_by, prints, run_end, run_orders}
 use Rattle.ed_run.proofs.Ends.{ends_once, ran_ends}
 use Rattle.ed_printer.specs.Paper.{paper}
 use Rattle.ed_loads.specs.EntryState.{first_state}
@@ -96,7 +96,7 @@ module _ (limit room : ℕ) (s : State) (k : ℕ)
 
   -- the end that comes then is that on such a paper
   pub roomy : (e : Ending) → EndsAfter limit 0 limit s k e
-      → ran limit 0 room s ≡ record { ending = e; state = state_after k s; codes = (progress k s).codes }
+      → run_end limit 0 room s ≡ record { ending = e; state = state_after k s; codes = (progress k s).codes }
   roomy e ends = ran_is limit 0 room k s e (record { now = some_there; first = none_there })
     where
       turn : Turn
@@ -124,7 +124,7 @@ module _ (limit room : ℕ) (s : State) (k : ℕ)
   -- an order for whose code there is no room ends the run
   pub filled : length (progress k s).codes ≡ room → prints (step (state_after k s)).turn ≡ true
       → end_at limit 0 limit k (progress k s) ≡ None
-      → ran limit 0 room s ≡ record { ending = PaperFull; state = state_after k s; codes = (progress k s).codes }
+      → run_end limit 0 room s ≡ record { ending = PaperFull; state = state_after k s; codes = (progress k s).codes }
   filled full printing going =
       ran_is limit 0 room k s PaperFull
       (record {
@@ -196,7 +196,7 @@ module _ (s : Settings) (codes : List ℕ) (p : EndsInParts s codes) where
 
   runs : length (printed_by p) ≤ paper_room → PartsAreRun (run_once s) codes p.told (printed_by p)
   runs fits =
-      let there : ran s.limit 0 paper_room start
+      let there : run_end s.limit 0 paper_room start
       ≡ record { ending = p.ending; state = p.told.last; codes = printed_by p } =
       roomy s.limit paper_room start run.orders run.ends.first
       (subst (λ (xs : List ℕ). length xs ≤ paper_room) (sym run.prints) fits) p.ending run.ends
@@ -215,7 +215,7 @@ module _ (s : Settings) (codes : List ℕ) (p : EndsInParts s codes) where
       crosses paper_room run.orders start
       (subst (λ (xs : List ℕ). paper_room < length xs) (sym run.prints) more) in
       let early = λ (j : ℕ) (below : j < c.at). run.ends.first j (omega (arith, below, c.before)) in
-      let there : ran s.limit 0 paper_room start
+      let there : run_end s.limit 0 paper_room start
       ≡ record { ending = PaperFull; state = state_after c.at start; codes = (progress c.at start).codes } =
       filled s.limit paper_room start c.at early (omega (arith, c.full)) c.full c.printing
       (run.ends.first c.at c.before) in

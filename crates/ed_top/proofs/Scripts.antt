@@ -4,7 +4,7 @@ use Rattle.std.specs.Prelude.{Option, Some, Result, Ok, Err, IfOk, Vec}
 use Rattle.std.specs.declared.alloc.Global.{Global}
 use Rattle.ed_words.specs.declared.memory.NoMemory.{NoMemory}
 use Rattle.ed_codes.specs.Reading.{Reading, rows, no_row, open_comment}
-use Rattle.ed_stepper.specs.Inputs.{Input, divided}
+use Rattle.ed_stepper.specs.Inputs.{Input, input_of}
 use Rattle.ed_stepper.specs.ScriptLines.{CommandList, HasBadLine, IsFirstBadLine, IsScript, OfScript}
 use Rattle.ed_stepper.specs.Scripts.{GoesTooFar, ScriptEnds, play}
 use Rattle.ed_stepper.specs.declared.script.ScriptFault.{ScriptFault}
@@ -12,7 +12,7 @@ use Rattle.ed_stepper.specs.declared.script.ScriptFault.TheVariants.{BackTooFar,
 use Rattle.ed_stepper.specs.Sessions.{Stand}
 use Rattle.ed_stepper.proofs.ScriptLaws.{never_both, one_script}
 use Rattle.ed_report.specs.Notes.{too_far_line}
-use Rattle.ed_answers.specs.Outcome.{done, refused}
+use Rattle.ed_answers.specs.Outcome.{done, refusal}
 use Rattle.ed_notation.specs.Items.{spelled}
 use Rattle.ed_notation.specs.Spellings.{canonicals}
 use Rattle.ed_stepper.specs.declared.inputs.TextKind.{TextKind}
@@ -41,7 +41,7 @@ text_refused s commands (open_comment place) (Refused reply) w = (_, refl, w)
 text_refused s commands r rejection.Memory w = (on_reading s commands r, refl, tt)
 
 -- an input that is divided this way
-pub divided_replied : (s : Settings) (input : Text) (i : Input) (r : Result Reply Rejection) → divided input ≡ Some i
+pub divided_replied : (s : Settings) (input : Text) (i : Input) (r : Result Reply Rejection) → input_of input ≡ Some i
     → Replies (of_made (OfDivided s input (Some i))) [] r → Replies (of_input (OfStep s)) input r
 divided_replied s input i r is replies =
     as_input (OfStep s) input r
@@ -78,7 +78,7 @@ rows_given s codes script commands from t text reply is stands ends gives =
 pub far_given : (s : Settings) (codes : List ℕ) (script : Text) (commands : CommandList) (from t : Stand)
     (fault : ScriptFault) (line done : ℕ) (reply : Reply) → IsScript script commands → from ≡ stand_on s codes
     → ScriptEnds script from (Err fault) t → fault ≡ BackTooFar line done
-    → Gives reply (refused (too_far_line line done)) → Gives reply (on_rows s commands codes)
+    → Gives reply (refusal (too_far_line line done)) → Gives reply (on_rows s commands codes)
 far_given s codes script commands from t fault line done reply is stands ends fault_is gives =
     let far : OfScript script (λ cs. GoesTooFar cs from t line done) =
     subst (λ f. ScriptEnds script from (Err f) t) fault_is ends in

@@ -15,7 +15,7 @@ use Rattle.ed_machine.specs.declared.ending.Ending.TheVariants.{Limit}
 use Rattle.ed_machine.proofs.Counts.{counted_after}
 use Rattle.ed_machine.proofs.Steps.{after_sum, few_codes, free_sum}
 use Rattle.ed_run.specs.Laws.{HasRoom}
-use Rattle.ed_run.specs.Run.{RunEnd, ran, run_orders}
+use Rattle.ed_run.specs.Run.{RunEnd, run_end, run_orders}
 use Rattle.ed_run.proofs.Ends.{ends_once, ran_ends}
 use Rattle.ed_run.proofs.Places.{at_limit}
 use Rattle.ed_loads.specs.EntryState.{first_state}
@@ -40,7 +40,7 @@ use Rattle.ed_stepper.proofs.Stands.{Keeps, left_keeps, move_free}
 -- it is in the state after as many orders, each of them obeyed
 run_cut : (k resumes room : ℕ) (s : State) → HasRoom room k s → (progress k s).stops ≤ resumes
     → (run_orders k resumes room s ≡ k)
-    × (ran k resumes room s ≡ record { ending = Limit; state = state_after k s; codes = (progress k s).codes })
+    × (run_end k resumes room s ≡ record { ending = Limit; state = state_after k s; codes = (progress k s).codes })
 run_cut k resumes room s fits few =
     let ends = at_limit k resumes fits few in
     ((ends_once (ran_ends k resumes room s) ends).0, ran_is k resumes room k s Limit ends)
@@ -131,7 +131,7 @@ module _ (s : Settings) (rows : List ℕ) (resumes : ℕ) where
   -- the run of `trace`, whose paper is never full
   trace_cut : (n : ℕ) → AreObeyed n first → (progress n first).stops ≤ resumes
       → (run_orders n resumes n first ≡ n)
-      × (ran n resumes n first ≡ record {
+      × (run_end n resumes n first ≡ record {
         ending = Limit;
         state = state_after n first;
         codes =

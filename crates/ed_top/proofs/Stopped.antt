@@ -4,13 +4,13 @@ use Rattle.std.specs.Prelude.{None}
 use Rattle.ed_words.specs.Texts.{Text}
 use Rattle.ed_machine.specs.State.{State}
 use Rattle.ed_machine.specs.OrderTable.{step}
-use Rattle.ed_run.specs.Run.{RunEnd, ran}
+use Rattle.ed_run.specs.Run.{RunEnd, run_end}
 use Rattle.ed_printer.specs.Paper.{paper}
 use Rattle.ed_syntax.specs.declared.program.Line.{Line}
 use Rattle.ed_link.specs.Linked.{entry_of}
 use Rattle.ed_link.specs.Tapes.{cost}
 use Rattle.ed_loads.specs.EntryState.{entry_state}
-use Rattle.ed_report.specs.Notes.{at_after, entered}
+use Rattle.ed_report.specs.Notes.{at_after, entry_note}
 use Rattle.ed_routines.proofs.Journeys.{ComesToStop}
 use Rattle.ed_sources.proofs.Stops.{LeadsToStop, RanToStop, ran_to_stop}
 use Rattle.ed_command.specs.declared.command.Settings.{Settings}
@@ -41,19 +41,19 @@ pub stopped_outcome : (s : Settings) {lines : List Line} {k at : ℕ} {printed :
     → s.resumes ≡ 0 → s.post_mortem ≡ None → cost lines + (k + 1) ≤ s.limit
     → run_outcome s lines ≡ record {
       out = paper printed;
-      note = entered (entry_of lines) (cost lines) ++ (at_after (codes "stopped") at (cost lines + (k + 1)) ++ 10 ∷ []);
+      note = entry_note (entry_of lines) (cost lines) ++ (at_after (codes "stopped") at (cost lines + (k + 1)) ++ 10 ∷ []);
       status = 0;
     }
 stopped_outcome s {lines} {k} {at} {printed} entry stops few none plain fits =
     let left : ℕ = s.limit - cost lines in
     let first : State = entry_state s.size lines in
-    let r : RunEnd = ran left 0 paper_room first in
-    let before : Text = entered (entry_of lines) (cost lines) in
+    let r : RunEnd = run_end left 0 paper_room first in
+    let before : Text = entry_note (entry_of lines) (cost lines) in
     let to_stop : LeadsToStop k first printed = record
     { last = stops.last; leads = stops.leads; stops = stops.stops } in
     let ended = ran_to_stop left paper_room k first printed to_stop few (omega (arith, fits)) in
     let count : (step stops.last).state.orders ≡ cost lines + (k + 1) = omega (arith, stops.orders) in
     entry.runs (omega (arith, fits))
-    ∙ (λ i. ran_outcome before (with_post_mortem (plain i) (ran left (none i) paper_room first)))
+    ∙ (λ i. ran_outcome before (with_post_mortem (plain i) (run_end left (none i) paper_room first)))
     ∙ ap (ran_outcome before) (nothing_after r)
     ∙ answered before r ended stops.counter count

@@ -8,7 +8,7 @@ use Rattle.std.proofs.lemmas.Bool.Decides.{nat_tests}
 use Rattle.std.proofs.lemmas.List.{drop-set-lt, drop-set-add, get_or-drop}
 use Rattle.ed_words.specs.declared.size.Size.{Size}
 use Rattle.ed_store.specs.Cells.{cleared_cells}
-use Rattle.ed_run.specs.Run.{RunEnd, ran}
+use Rattle.ed_run.specs.Run.{RunEnd, run_end}
 use Rattle.ed_run.proofs.Later.{ran_later}
 use Rattle.ed_printer.specs.Paper.{paper}
 use Rattle.ed_notation.specs.declared.cause.TapeCause.TheVariants.{BadRow, NumberTooLarge}
@@ -240,7 +240,7 @@ tapes_run_from_entry s codes e well to =
       runs = λ fits.
           ap (λ (r : RunEnd). ran_outcome [] (with_post_mortem s.post_mortem r))
           (ran_later s.limit s.resumes paper_room e.cost first in_order.went fits
-          ∙ ap (ran (s.limit - e.cost) s.resumes paper_room) in_order.arrives);
+          ∙ ap (run_end (s.limit - e.cost) s.resumes paper_room) in_order.arrives);
       short = λ below.
           ap (λ printed. paper (printed ++ post_mortem_codes s.post_mortem (run_of s codes).state))
           (silent s.limit s.resumes paper_room e.cost first in_order.went below);

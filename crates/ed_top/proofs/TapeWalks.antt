@@ -15,7 +15,7 @@ use Rattle.ed_machine.specs.declared.ending.Ending.TheVariants.{Stopped, Limit}
 use Rattle.ed_machine.proofs.LeastNumbers.{least_below}
 use Rattle.ed_machine.proofs.Steps.{after_sum, few_codes, no_step, past_sum}
 use Rattle.ed_run.specs.Laws.{AllWent}
-use Rattle.ed_run.specs.Run.{EndsAfter, end_at, end_by, ran, run_orders}
+use Rattle.ed_run.specs.Run.{EndsAfter, end_at, end_by, run_end, run_orders}
 use Rattle.ed_run.proofs.Ends.{ends_once, ran_ends}
 use Rattle.ed_run.proofs.Later.{quiet_stops}
 use Rattle.ed_notation.specs.Faults.{TapeEntry}
@@ -91,7 +91,7 @@ module _ (limit resumes k : ℕ) (s : State) (went : AllWent k s) (silent : (pro
       refl
 
   whole_ends : EndsAfter limit resumes limit s (k + run_orders (limit - k) resumes (limit - k) t)
-      (ran (limit - k) resumes (limit - k) t).ending
+      (run_end (limit - k) resumes (limit - k) t).ending
   whole_ends =
       let m = run_orders (limit - k) resumes (limit - k) t in
       let ends = ran_ends (limit - k) resumes (limit - k) t in
@@ -111,11 +111,11 @@ module _ (limit resumes k : ℕ) (s : State) (went : AllWent k s) (silent : (pro
   -- so the run obeys as many orders more, and ends as the other does
   pub record GoesOn : Type 0 where
     pub orders : run_orders limit resumes limit s ≡ k + run_orders (limit - k) resumes (limit - k) t
-    pub ending : (ran limit resumes limit s).ending ≡ (ran (limit - k) resumes (limit - k) t).ending
-    pub state : (ran limit resumes limit s).state ≡ (ran (limit - k) resumes (limit - k) t).state
+    pub ending : (run_end limit resumes limit s).ending ≡ (run_end (limit - k) resumes (limit - k) t).ending
+    pub state : (run_end limit resumes limit s).state ≡ (run_end (limit - k) resumes (limit - k) t).state
 
   pub goes_on : GoesOn
-  unfolding ran
+  unfolding run_end
   goes_on =
       let one = ends_once (ran_ends limit resumes limit s) whole_ends in
       record {
@@ -161,7 +161,7 @@ module _ (s : Settings) (codes : List ℕ) (e : TapeEntry) (into : LeadsIn (firs
   traces_from_entry =
       let less = s.limit - e.cost in
       let on = goes_on s.limit s.resumes e.cost first into.went into.prints_none fits in
-      let note = λ (x : State). ending_line (ran less s.resumes less x).ending (ran less s.resumes less x).state in
+      let note = λ (x : State). ending_line (run_end less s.resumes less x).ending (run_end less s.resumes less x).state in
       let letters = λ (x : State). letters_in (trace_to (run_orders less s.resumes less x) x) in
       record {
         letters = ap (λ n. letters_in (trace_to n first)) on.orders
@@ -169,7 +169,7 @@ module _ (s : Settings) (codes : List ℕ) (e : TapeEntry) (into : LeadsIn (firs
             ∙ ap (λ (x : State). letters_in (trace_to e.cost first) ++ letters x) into.arrives;
         note_is = (λ i. ending_line (on.ending i) (on.state i)) ∙ ap note into.arrives;
         status_is = ap status_of on.ending
-            ∙ ap (λ (x : State). status_of (ran less s.resumes less x).ending) into.arrives;
+            ∙ ap (λ (x : State). status_of (run_end less s.resumes less x).ending) into.arrives;
       }
 
   pub steps_to_entry : StepsToEntry s codes e

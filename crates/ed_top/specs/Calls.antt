@@ -8,7 +8,7 @@ use Rattle.ed_link.specs.Refusals.{IsAcceptedAs}
 use Rattle.ed_link.specs.Tapes.{cost}
 use Rattle.ed_loads.specs.EntryState.{entry_state}
 use Rattle.ed_printer.specs.Paper.{paper}
-use Rattle.ed_report.specs.Notes.{at_after, entered}
+use Rattle.ed_report.specs.Notes.{at_after, entry_note}
 use Rattle.ed_routines.specs.Digits.{before_units, digits, print_orders, sum}
 use Rattle.ed_maths.specs.Quotients.{divide_orders}
 use Rattle.ed_maths.specs.Roots.{root_of, root_orders}
@@ -77,7 +77,7 @@ call_stop (Check n) = check_base + planting_place + 1
 abbrev pub call_outcome : Size → List Line → Call → Outcome
 call_outcome z lines call = record {
   out = call_prints z lines call;
-  note = entered (call_entry call) (cost lines)
+  note = entry_note (call_entry call) (cost lines)
       ++ (at_after (codes "stopped") (call_stop call) (cost lines + call_orders call) ++ 10 ∷ []);
   status = 0;
 }

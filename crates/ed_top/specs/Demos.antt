@@ -5,7 +5,7 @@ use Rattle.ed_words.specs.Sizes.{locations}
 use Rattle.ed_syntax.specs.declared.program.Line.{Line}
 use Rattle.ed_link.specs.Refusals.{IsAcceptedAs}
 use Rattle.ed_link.specs.Tapes.{cost}
-use Rattle.ed_report.specs.Notes.{at_after, entered}
+use Rattle.ed_report.specs.Notes.{at_after, entry_note}
 use Rattle.ed_routines.specs.Digits.{print_orders}
 use Rattle.ed_sources.specs.Demo.{demo_sum, demo_text}
 use Rattle.ed_command.specs.declared.command.Settings.{Settings}
@@ -28,7 +28,7 @@ demo_orders n = 9 * (8 * n) + print_orders (demo_sum n) + 4
 abbrev pub demo_outcome : List Line → ℕ → Outcome
 demo_outcome lines n = record {
   out = decimal (demo_sum n);
-  note = entered 56 (cost lines) ++ (at_after (codes "stopped") 69 (cost lines + demo_orders n) ++ 10 ∷ []);
+  note = entry_note 56 (cost lines) ++ (at_after (codes "stopped") 69 (cost lines + demo_orders n) ++ 10 ∷ []);
   status = 0;
 }
 

@@ -6,7 +6,7 @@ use Rattle.ed_syntax.specs.Lines.{lines_of}
 use Rattle.ed_link.specs.Tapes.{tape}
 use Rattle.ed_loads.specs.EntryState.{first_state}
 use Rattle.ed_report.specs.Notes.{bad_command_line, no_text_line, text_fault_line, too_far_line}
-use Rattle.ed_stepper.specs.Inputs.{Input, divided}
+use Rattle.ed_stepper.specs.Inputs.{Input, input_of}
 use Rattle.ed_stepper.specs.ScriptLines.{CommandList, IsFirstBadLine, OfScript}
 use Rattle.ed_stepper.specs.Scripts.{Played, TooFar, play}
 use Rattle.ed_stepper.specs.Sessions.{Stand}
@@ -14,13 +14,13 @@ use Rattle.ed_stepper.specs.declared.inputs.TextKind.{TextKind}
 use Rattle.ed_stepper.specs.declared.inputs.TextKind.TheVariants as kinds
 use Rattle.ed_command.specs.declared.command.Settings.{Settings}
 use Rattle.ed_words.specs.Texts.{Text}
-use Rattle.ed_answers.specs.Outcome.{Outcome, done, refused}
+use Rattle.ed_answers.specs.Outcome.{Outcome, done, refusal}
 use Rattle.ed_answers.specs.Sources.{OfSource}
 
 -- a script that was played: its text, or no text if a line went back too far
 abbrev pub script_outcome : Option TooFar → Text → Outcome
 script_outcome None text = done text
-script_outcome (Some t) text = refused (too_far_line t.line t.done)
+script_outcome (Some t) text = refusal (too_far_line t.line t.done)
 
 -- the outcome of a script that was played
 abbrev pub played_outcome : Played → Outcome
@@ -37,8 +37,8 @@ on_rows s commands codes = played_outcome (play 1 commands (stand_on s codes))
 -- the same on the rows of a tape's text, or the refusal of the text
 abbrev pub on_reading : Settings → CommandList → Reading → Outcome
 on_reading s commands (rows codes) = on_rows s commands codes
-on_reading s commands (no_row place byte) = refused (text_fault_line (NoRow place byte))
-on_reading s commands (open_comment place) = refused (text_fault_line (OpenComment place))
+on_reading s commands (no_row place byte) = refusal (text_fault_line (NoRow place byte))
+on_reading s commands (open_comment place) = refusal (text_fault_line (OpenComment place))
 
 -- on what follows the dividing line: the text of a tape, or a source, which is punched
 abbrev pub OnText : Settings → CommandList → TextKind → Text → Outcome → Type 0
@@ -47,14 +47,14 @@ OnText s commands kinds.Source text o = OfSource s.size (λ lines. on_rows s com
 
 -- a script's first bad line is reported before the text is read
 abbrev pub OnInput : Settings → Input → Outcome → Type 0
-OnInput s i o = ((line : ℕ) × IsFirstBadLine i.script line × (refused (bad_command_line line) ≡ o))
+OnInput s i o = ((line : ℕ) × IsFirstBadLine i.script line × (refusal (bad_command_line line) ≡ o))
     ⊎ OfScript i.script (λ commands. OnText s commands i.kind i.text o)
 
 -- that the input has no dividing line is reported before anything else
 abbrev pub OfDivided : Settings → Text → Option Input → Outcome → Type 0
-OfDivided s input None o = refused (no_text_line (length (lines_of input) + 1)) ≡ o
+OfDivided s input None o = refusal (no_text_line (length (lines_of input) + 1)) ≡ o
 OfDivided s input (Some i) o = OnInput s i o
 
 -- `step`
 abbrev pub OfStep : Settings → Text → Outcome → Type 0
-OfStep s input = OfDivided s input (divided input)
+OfStep s input = OfDivided s input (input_of input)

@@ -13,7 +13,7 @@ use Rattle.ed_report.specs.Listings.{listing}
 use Rattle.ed_report.specs.Traces.{trace_text}
 use Rattle.ed_stepper.specs.MoveEnds.{move_end}
 use Rattle.ed_stepper.specs.ScriptLines.{CommandList}
-use Rattle.ed_stepper.specs.Scripts.{LeftBy, end_word, line_at, moved, traced, words_shown}
+use Rattle.ed_stepper.specs.Scripts.{LeftBy, end_word, line_at, after_move, traced_functions, words_shown}
 use Rattle.ed_stepper.specs.Sessions.{Stand, left, stands_at}
 use Rattle.ed_stepper.specs.declared.moves.MoveTarget.{MoveTarget}
 use Rattle.ed_stepper.specs.declared.moves.MoveTarget.TheVariants.{Orders}
@@ -94,15 +94,15 @@ pub record StepsAreRun (s : Settings) (rows : List ℕ) (t : Stand) (resumes : �
   pub printed : HasRoomFor t → (w : Window) → (tape_outcome (with_window w (cut_at t resumes s)) rows).out
       ≡ paper ((way t).codes ++ printed_codes (stands_at t).store.words w.first w.count)
   -- a line `trace N` writes the letters by which the trace up to its end is longer than the trace up to here
-  pub letters : (n : ℕ) → IsResumed resumes (moved (Orders n) t)
-      → letters_in (trace_outcome (cut_at (moved (Orders n) t) resumes s) rows).out
-      ≡ letters_in (trace_outcome (cut_at t resumes s) rows).out ++ letters_in (trace_text (traced n t))
+  pub letters : (n : ℕ) → IsResumed resumes (after_move (Orders n) t)
+      → letters_in (trace_outcome (cut_at (after_move (Orders n) t) resumes s) rows).out
+      ≡ letters_in (trace_outcome (cut_at t resumes s) rows).out ++ letters_in (trace_text (traced_functions n t))
   -- a move forward from here that doesn't end by its own end stops where the run of `tape` with the session's limit
   -- ends, and reports the same ending
   pub ends : (aim : MoveTarget) (ending : Ending) → ending_of (move_end aim (left t) (stands_at t)) ≡ Some ending
-      → HasRoomFor (moved aim t)
-      → run_with (resumes_to ending (way (moved aim t)).stops) s rows
-      ≡ record { ending = ending; state = stands_at (moved aim t); codes = (way (moved aim t)).codes }
+      → HasRoomFor (after_move aim t)
+      → run_with (resumes_to ending (way (after_move aim t)).stops) s rows
+      ≡ record { ending = ending; state = stands_at (after_move aim t); codes = (way (after_move aim t)).codes }
 
 -- the same wherever a line of a script leaves a session, on the rows of a tape or of a source's tape
 abbrev pub EachStepIsRun : Type 0

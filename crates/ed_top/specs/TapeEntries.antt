@@ -4,13 +4,13 @@ use Rattle.std.specs.Prelude.{◌≡◌, ℕ, ◌-◌, ◌<◌, ◌≤◌, List,
 use Rattle.ed_store.specs.Cells.{cleared_cells}
 use Rattle.ed_machine.specs.State.{State}
 use Rattle.ed_machine.specs.Steps.{progress, state_after}
-use Rattle.ed_run.specs.Run.{ran}
+use Rattle.ed_run.specs.Run.{run_end}
 use Rattle.ed_printer.specs.Paper.{paper}
 use Rattle.ed_notation.specs.Faults.{TapeEntry, ComesTo, WellFormed}
 use Rattle.ed_initial.specs.Entry.{at_entry}
 use Rattle.ed_loads.specs.EntryState.{first_state}
 use Rattle.ed_report.specs.Entries.{entry_line}
-use Rattle.ed_stepper.specs.Scripts.{line_of_move, move_line, moved}
+use Rattle.ed_stepper.specs.Scripts.{line_of_move, move_line, after_move}
 use Rattle.ed_stepper.specs.declared.moves.MoveTarget.TheVariants.{Entry}
 use Rattle.ed_stepper.specs.declared.moves.MoveEnd.TheVariants.{Entered}
 use Rattle.ed_trace.specs.Traces.{trace_to}
@@ -40,7 +40,7 @@ pub record TracesFromEntry (s : Settings) (codes : List ℕ) (e : TapeEntry) : T
 
 -- a session that moves to the entry gets there after as many orders as the tape costs, and reports so
 pub record StepsToEntry (s : Settings) (codes : List ℕ) (e : TapeEntry) : Type 0 where
-  pub stands : moved Entry (stand_on s codes) ≡ record (stand_on s codes) { done = e.cost }
+  pub stands : after_move Entry (stand_on s codes) ≡ record (stand_on s codes) { done = e.cost }
   pub line : line_of_move Entry (stand_on s codes) ≡ move_line e.at e.cost Entered
 
 -- `check-tape` reports the entry, its cost and its rows. The tape leads a cleared machine to the state at that entry,
@@ -53,7 +53,7 @@ pub record TapeRunsFromEntry (s : Settings) (codes : List ℕ) (e : TapeEntry) :
   pub silent : (progress e.cost (first_state s.size codes)).codes ≡ []
   pub runs : e.cost ≤ s.limit → tape_outcome s codes
       ≡ ran_outcome []
-      (with_post_mortem s.post_mortem (ran (s.limit - e.cost) s.resumes paper_room (tape_state s codes e)))
+      (with_post_mortem s.post_mortem (run_end (s.limit - e.cost) s.resumes paper_room (tape_state s codes e)))
   pub short : s.limit < e.cost
       → (tape_outcome s codes).out ≡ paper (post_mortem_codes s.post_mortem (run_of s codes).state)
   pub traced : e.cost ≤ s.limit → TracesFromEntry s codes e

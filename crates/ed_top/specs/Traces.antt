@@ -2,7 +2,7 @@
 use Rattle.std.specs.Prelude.{ℕ, ◌==◌, List, not}
 use Rattle.std.specs.List.{filter}
 use Rattle.ed_machine.specs.State.{State}
-use Rattle.ed_run.specs.Run.{ran}
+use Rattle.ed_run.specs.Run.{run_end}
 use Rattle.ed_loads.specs.EntryState.{first_state}
 use Rattle.ed_report.specs.Notes.{ending_line}
 use Rattle.ed_trace.specs.Traces.{trace_of}
@@ -15,8 +15,8 @@ use Rattle.ed_answers.specs.Runs.{status_of}
 abbrev pub traced_from : Settings → State → Outcome
 traced_from s start = record {
   out = trace_of s.limit s.resumes start;
-  note = ending_line (ran s.limit s.resumes s.limit start).ending (ran s.limit s.resumes s.limit start).state;
-  status = status_of (ran s.limit s.resumes s.limit start).ending;
+  note = ending_line (run_end s.limit s.resumes s.limit start).ending (run_end s.limit s.resumes s.limit start).state;
+  status = status_of (run_end s.limit s.resumes s.limit start).ending;
 }
 
 -- `trace`: the run of the rows, traced

@@ -6,7 +6,7 @@ use Rattle.ed_words.proofs.Numbers.{eq_false, eq_true}
 use Rattle.ed_machine.specs.State.{State}
 use Rattle.ed_machine.specs.Steps.{progress, state_after}
 use Rattle.ed_machine.specs.declared.ending.Ending.{Ending}
-use Rattle.ed_run.specs.Run.{EndsAfter, end_at, ran, run_orders}
+use Rattle.ed_run.specs.Run.{EndsAfter, end_at, run_end, run_orders}
 use Rattle.ed_run.proofs.Ends.{ends_once, ran_ends}
 use Rattle.ed_io.specs.Bytes.{Gains, GainsPart}
 use Rattle.ed_io.specs.declared.device.Failed.{Failed}
@@ -31,13 +31,13 @@ orders_found {limit} {resumes} {s} e = (ends_once e (ran_ends limit resumes limi
 
 -- its ending
 pub ending_found : {limit resumes : ℕ} {s : State} {k : ℕ} {ending : Ending} → EndsAfter limit resumes limit s k ending
-    → ending ≡ (ran limit resumes limit s).ending
+    → ending ≡ (run_end limit resumes limit s).ending
 ending_found {limit} {resumes} {s} e = (ends_once e (ran_ends limit resumes limit s)).1
 
 -- the state that it leaves
 pub state_found : {limit resumes : ℕ} {s : State} {k : ℕ} {ending : Ending} → EndsAfter limit resumes limit s k ending
-    → state_after k s ≡ (ran limit resumes limit s).state
-unfolding ran
+    → state_after k s ≡ (run_end limit resumes limit s).state
+unfolding run_end
 state_found {s} e = ap (λ n. state_after n s) (orders_found e)
 
 -- the trace of orders whose lines are full
@@ -66,7 +66,7 @@ within_run limit resumes s k first = by_place (split k (run_orders limit resumes
         → k ≤ run_orders limit resumes limit s
     by_place (inl low) = low
     by_place (inr high) =
-        let bad : None ≡ Some (ran limit resumes limit s).ending =
+        let bad : None ≡ Some (run_end limit resumes limit s).ending =
         sym (first (run_orders limit resumes limit s) high) ∙ (ran_ends limit resumes limit s).now in
         absurd (cc)
 

@@ -3,7 +3,7 @@ use Rattle.std.specs.Prelude.{ℕ, ◌≡◌, ◌⊎◌, ◌+◌, ◌%◌, ◌<�
 use Rattle.ed_machine.specs.State.{State}
 use Rattle.ed_machine.specs.Steps.{state_after}
 use Rattle.ed_machine.specs.declared.ending.Ending.{Ending}
-use Rattle.ed_run.specs.Run.{ran, run_orders}
+use Rattle.ed_run.specs.Run.{run_end, run_orders}
 use Rattle.ed_io.specs.Bytes.{Gains, GainsPart}
 use Rattle.ed_io.specs.Causes.{next_count}
 use Rattle.ed_report.specs.Traces.{functions_after, trace_text}
@@ -40,7 +40,7 @@ pub record TraceBroke (limit resumes : ℕ) (s last : State) (before after : Opt
 -- memory was found, nothing was written and no order obeyed
 abbrev pub TraceEnds : ℕ → ℕ → State → Result Ending TraceFault → State → Option (List ℕ) → Option (List ℕ) → Type 0
 TraceEnds limit resumes s (Ok ending) last before after =
-    (ending ≡ (ran limit resumes limit s).ending) × (last ≡ (ran limit resumes limit s).state)
+    (ending ≡ (run_end limit resumes limit s).ending) × (last ≡ (run_end limit resumes limit s).state)
     × Gains before after (trace_of limit resumes s)
 TraceEnds limit resumes s (Err Failed) last before after =
     GainsPart before after (trace_of limit resumes s) × TraceBroke limit resumes s last before after

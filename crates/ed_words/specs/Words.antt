@@ -33,12 +33,12 @@ abbrev pub word_of : Order → ℕ
 word_of o = 4096 * o.function + 2048 * digit o.spare + 2 * o.address + digit o.length
 
 -- the long word of an odd half, a sandwich digit and an even half
-abbrev pub joined : ℕ → Bool → ℕ → ℕ
-joined odd sandwich even = odd * 2 ^ 18 + digit sandwich * 2 ^ 17 + even
+abbrev pub long_of_halves : ℕ → Bool → ℕ → ℕ
+long_of_halves odd sandwich even = odd * 2 ^ 18 + digit sandwich * 2 ^ 17 + even
 
 -- the long word of three parts
 abbrev pub long_of : Halves → ℕ
-long_of h = joined h.odd h.sandwich h.even
+long_of h = long_of_halves h.odd h.sandwich h.even
 
 -- the three parts of a long word
 abbrev pub halves_of : ℕ → Halves

@@ -8,6 +8,7 @@ mod decimals;
 mod long;
 mod memory;
 mod order;
+pub mod order_words;
 mod size;
 mod word;
 

@@ -20,7 +20,7 @@ use Rattle.ed_symbols.specs.declared.location_counter.LocationCounter.{LocationC
 use Rattle.ed_symbols.specs.declared.symbols.Definition.{Definition}
 use Rattle.ed_symbols.specs.Places.{after_statement, first_counter}
 use Rattle.ed_symbols.specs.Names.{place_on}
-use Rattle.ed_symbols.specs.Faults.{or_later, resolved}
+use Rattle.ed_symbols.specs.Faults.{or_later, resolution}
 use Rattle.ed_link.specs.Linked.{first_place, end_place, set_to, symbols_of}
 
 -- the extent of a line's words: the first location, and the one after the last
@@ -147,7 +147,7 @@ sooner (Some a) (Some b) = if nat_le (fault_line a) (fault_line b) then Some a e
 -- the fault of a source on a machine of this size: the least number on the first faulty line
 abbrev pub fault : Size → List Line → Option SourceFault
 fault z lines =
-    sooner (resolved lines).fault
+    sooner (resolution lines).fault
     (sooner (fault_from z (symbols_of lines) (any_enter lines) (record { runs = []; entered = false })
     first_counter lines)
     (missing (any_enter lines) (length lines)))

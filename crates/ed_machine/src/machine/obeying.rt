@@ -6,8 +6,8 @@ ghost use Rattle.std.specs.Prelude.{◌≡◌, ◌<◌, ◌≤◌, ◌+◌, ◌*
 ghost use Rattle.ed_words.specs.Sizes.{locations, within};
 ghost use Rattle.ed_words.specs.Words.{function_of};
 ghost use Rattle.ed_orders.specs.Kinds.{kind_of_function};
-ghost use Rattle.ed_machine.specs.OrderTable.{after, done_at, jumped, last_code, obey, operand35};
-ghost use Rattle.ed_machine.specs.OrderTable.{place_of, printed, stopped, took_row, written};
+ghost use Rattle.ed_machine.specs.OrderTable.{after, done_at, jump_order, last_code, obey, operand35};
+ghost use Rattle.ed_machine.specs.OrderTable.{place_of, print_order, stop_order, row_order, written_store};
 
 use super::Machine;
 use crate::Turn;
@@ -110,7 +110,7 @@ impl Machine {
     /// Writes at the location that an order names: the short number or the long one, by the order's length.
     #[inline(always)]
     fn write(&mut self, word: Word, short: Word, long: Long)
-        ensures { self.new ≡ record self.old { store = written word self.old short long } }
+        ensures { self.new ≡ record self.old { store = written_store word self.old short long } }
     {
         let place = self.place(word);
         if word.order().length {
@@ -124,7 +124,7 @@ impl Machine {
     #[inline(always)]
     fn write_top(&mut self, word: Word)
         ensures { self.new ≡ record self.old
-            { store = written word self.old (self.old.acc / 2 ^ 54) (self.old.acc / 2 ^ 36) } }
+            { store = written_store word self.old (self.old.acc / 2 ^ 54) (self.old.acc / 2 ^ 36) } }
     {
         let short = self.acc.top_short();
         let long = self.acc.top_long();
@@ -135,7 +135,7 @@ impl Machine {
     #[inline(always)]
     fn write_last(&mut self, word: Word)
         ensures { self.new ≡ record self.old
-            { store = written word self.old (last_code self.old * 4096) (last_code self.old * 2 ^ 30) } }
+            { store = written_store word self.old (last_code self.old * 4096) (last_code self.old * 2 ^ 30) } }
     {
         let last = self.last;
         let code = code_or_zero(last);
@@ -165,8 +165,8 @@ impl Machine {
     #[inline(always)]
     fn jump(&mut self, word: Word, jumps: bool) -> Turn
         requires { self.old.orders < 2 ^ 63 }
-        ensures state { self.new ≡ (jumped jumps (place_of self.old word) self.old).state }
-        ensures turn { result ≡ (jumped jumps (place_of self.old word) self.old).turn }
+        ensures state { self.new ≡ (jump_order jumps (place_of self.old word) self.old).state }
+        ensures turn { result ≡ (jump_order jumps (place_of self.old word) self.old).turn }
     {
         if jumps {
             self.counter = self.place(word);
@@ -181,8 +181,8 @@ impl Machine {
     #[inline(always)]
     fn take_row(&mut self, word: Word) -> Turn
         requires { self.old.orders < 2 ^ 63 }
-        ensures state { self.new ≡ (took_row self.old.tape word self.old).state }
-        ensures turn { result ≡ (took_row self.old.tape word self.old).turn }
+        ensures state { self.new ≡ (row_order self.old.tape word self.old).state }
+        ensures turn { result ≡ (row_order self.old.tape word self.old).turn }
     {
         if self.row == self.tape.len() {
             return Turn::NoTape;
@@ -198,8 +198,8 @@ impl Machine {
     #[inline(always)]
     fn print(&mut self, word: Word) -> Turn
         requires { self.old.orders < 2 ^ 63 }
-        ensures state { self.new ≡ (printed (operand35 word self.old / 2 ^ 30) self.old).state }
-        ensures turn { result ≡ (printed (operand35 word self.old / 2 ^ 30) self.old).turn }
+        ensures state { self.new ≡ (print_order (operand35 word self.old / 2 ^ 30) self.old).state }
+        ensures turn { result ≡ (print_order (operand35 word self.old / 2 ^ 30) self.old).turn }
     {
         let code = Code::new((self.operand(word).value() >> 30) as u8).unwrap();
         self.last = Some(code);
@@ -211,8 +211,8 @@ impl Machine {
     #[inline(always)]
     fn stop(&mut self) -> Turn
         requires { self.old.orders < 2 ^ 63 }
-        ensures state { self.new ≡ (stopped self.old).state }
-        ensures turn { result ≡ (stopped self.old).turn }
+        ensures state { self.new ≡ (stop_order self.old).state }
+        ensures turn { result ≡ (stop_order self.old).turn }
     {
         self.advance();
         Turn::Stopped

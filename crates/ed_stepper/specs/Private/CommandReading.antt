@@ -28,8 +28,8 @@ show_command (Some a) (Some b) = if nat_le a b then Some (Show a b) else None
 show_command a b = None
 
 -- `show A`, `show acc`, `show mult` and `show last`
-abbrev pub shown : Text → Option SessionCommand
-shown a = if bytes_eq a (codes "acc") then Some Accumulator
+abbrev pub shown_command : Text → Option SessionCommand
+shown_command a = if bytes_eq a (codes "acc") then Some Accumulator
     else if bytes_eq a (codes "mult") then Some Multiplier
     else if bytes_eq a (codes "last") then Some LastPrinted
     else show_command (number_within 0 1023 a) (number_within 0 1023 a)
@@ -40,7 +40,7 @@ of_two w a = if bytes_eq w (codes "go") then option_map (λ n. Move (aims.Orders
     else if bytes_eq w (codes "to") then option_map (λ n. Move (aims.Address n)) (number_within 0 1023 a)
     else if bytes_eq w (codes "back") then option_map Back (number_within 0 100000000 a)
     else if bytes_eq w (codes "trace") then option_map Trace (number_within 1 10000 a)
-    else if bytes_eq w (codes "show") then shown a
+    else if bytes_eq w (codes "show") then shown_command a
     else None
 
 -- `show A B`

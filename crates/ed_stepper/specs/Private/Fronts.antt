@@ -16,8 +16,8 @@ abbrev pub solid : Text → ℕ
 solid = position_or_len is_space
 
 -- the number of bytes before its first line feed
-abbrev pub unended : Text → ℕ
-unended = position_or_len (λ b. b == 10)
+abbrev pub line_feed_place : Text → ℕ
+line_feed_place = position_or_len (λ b. b == 10)
 
 -- where the first line stops, if its line feed is at `end`: a carriage return just before it belongs to the end
 abbrev pub stop_of : Text → ℕ → ℕ

@@ -9,10 +9,10 @@ use Rattle.ed_syntax.specs.declared.fault.FormFault.TheVariants.{NotThisForm, Ou
 use Rattle.ed_syntax.specs.declared.parts.Part.{Part}
 
 -- what is read, or why nothing is: the parts don't have its form, or a number is out of its range
-abbrev pub answered : {A : Type 0} → Option (Ranged A) → Result A FormFault
-answered None = Err NotThisForm
-answered (Some None) = Err OutOfRange
-answered (Some (Some a)) = Ok a
+abbrev pub form_result : {A : Type 0} → Option (Ranged A) → Result A FormFault
+form_result None = Err NotThisForm
+form_result (Some None) = Err OutOfRange
+form_result (Some (Some a)) = Ok a
 
 -- what was found at the front, and the parts after it
 abbrev pub front : {A : Type 0} → Result (A × Bor (List Part)) FormFault → Option (A × List LinePart)

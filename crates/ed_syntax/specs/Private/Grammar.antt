@@ -24,8 +24,8 @@ abbrev pub Ranged : Type 0 → Type 0
 Ranged A = Option A
 
 -- what a function makes of something that has a form, if its numbers are in their ranges
-abbrev pub made : {A B : Type 0} → (A → B) → Option (Ranged A) → Option (Ranged B)
-made f o = option_map (option_map f) o
+abbrev pub ranged_map : {A B : Type 0} → (A → B) → Option (Ranged A) → Option (Ranged B)
+ranged_map f o = option_map (option_map f) o
 
 -- ---- names and numbers
 
@@ -39,8 +39,8 @@ number_up_to most r = if is_number r then Some (up_to most r) else None
 
 -- a number or, after a minus sign (45), its negative, from -least to most
 abbrev pub integer : ℕ → ℕ → List LinePart → Option (Ranged ℤ)
-integer least most (run r ∷ []) = made (with_sign false) (number_up_to most r)
-integer least most (sign s ∷ run r ∷ []) = if s == 45 then made (with_sign true) (number_up_to least r) else None
+integer least most (run r ∷ []) = ranged_map (with_sign false) (number_up_to most r)
+integer least most (sign s ∷ run r ∷ []) = if s == 45 then ranged_map (with_sign true) (number_up_to least r) else None
 integer least most _ = None
 
 -- ---- strings
@@ -122,13 +122,13 @@ order two b parts =
 -- ---- settings
 
 -- a letter with its operand
-abbrev pub lettered : ℕ → Ranged Operand → Ranged Setting
-lettered l o = option_map (λ a. record { letter = l; operand = a }) o
+abbrev pub letter_setting : ℕ → Ranged Operand → Ranged Setting
+letter_setting l o = option_map (λ a. record { letter = l; operand = a }) o
 
 -- a setting at the front, and the parts after it: a letter, `=` (61) and an operand
 abbrev pub setting : Bool → List LinePart → Option (Ranged Setting × List LinePart)
 setting two (sign b ∷ sign e ∷ parts) = if e == 61
-    then option_and_then (λ l. option_map (λ p. (lettered l p.0, p.1)) (operand two parts)) (setting_letter b)
+    then option_and_then (λ l. option_map (λ p. (letter_setting l p.0, p.1)) (operand two parts)) (setting_letter b)
     else None
 setting two _ = None
 
@@ -159,11 +159,11 @@ with_settings two _ = None
 
 -- `word N` or `word -N`: N modulo 2^17
 abbrev pub word : List LinePart → Option (Ranged Statement)
-word parts = made (λ z. statements.Number (modulo 17 z)) (integer 65536 131071 parts)
+word parts = ranged_map (λ z. statements.Number (modulo 17 z)) (integer 65536 131071 parts)
 
 -- `long N` or `long -N`: N modulo 2^35
 abbrev pub long : List LinePart → Option (Ranged Statement)
-long parts = made (λ z. statements.Long (modulo 35 z)) (integer 17179869184 34359738367 parts)
+long parts = ranged_map (λ z. statements.Long (modulo 35 z)) (integer 17179869184 34359738367 parts)
 
 -- `text STRING`
 abbrev pub text : List LinePart → Option (Ranged Statement)
@@ -181,28 +181,28 @@ enter _ = None
 -- nothing, or `at N`
 abbrev pub base : List LinePart → Option (Ranged (Option ℕ))
 base [] = Some (Some None)
-base (run a ∷ run n ∷ []) = if bytes_eq a (codes "at") then made Some (number_up_to 1023 n) else None
+base (run a ∷ run n ∷ []) = if bytes_eq a (codes "at") then ranged_map Some (number_up_to 1023 n) else None
 base _ = None
 
 -- `segment NAME` or `segment NAME at N`
 abbrev pub segment : List LinePart → Option (Ranged Statement)
-segment (run r ∷ parts) = if is_name r then made (statements.Segment r) (base parts) else None
+segment (run r ∷ parts) = if is_name r then ranged_map (statements.Segment r) (base parts) else None
 segment _ = None
 
 -- `use NAME as NAME`, or that followed by `with` and settings
 abbrev pub fetch : Bool → List LinePart → Option (Ranged Statement)
 fetch two (run r ∷ run a ∷ run n ∷ parts) = if bytes_eq a (codes "as") && (is_name r && is_name n)
-    then made (λ ss. statements.Fetch r n (array ss)) (with_settings two parts) else None
+    then ranged_map (λ ss. statements.Fetch r n (array ss)) (with_settings two parts) else None
 fetch two _ = None
 
 -- a statement that may have a label: an order, `word`, `text` or, in version 2, `long`
-abbrev pub placed : Bool → List LinePart → Option (Ranged Statement)
-placed two (sign b ∷ parts) = order two b parts
-placed two (run w ∷ parts) = if bytes_eq w (codes "word") then word parts
+abbrev pub placed_statement : Bool → List LinePart → Option (Ranged Statement)
+placed_statement two (sign b ∷ parts) = order two b parts
+placed_statement two (run w ∷ parts) = if bytes_eq w (codes "word") then word parts
     else if bytes_eq w (codes "text") then text parts
     else if two && bytes_eq w (codes "long") then long parts
     else None
-placed two _ = None
+placed_statement two _ = None
 
 -- any statement: `segment`, `use`, `enter`, `data` or one that may have a label
 abbrev pub statement : Bool → List LinePart → Option (Ranged Statement)
@@ -210,8 +210,8 @@ statement two (run w ∷ parts) = if bytes_eq w (codes "segment") then segment p
     else if bytes_eq w (codes "use") then fetch two parts
     else if bytes_eq w (codes "enter") then enter parts
     else if bytes_eq w (codes "data") then data_statement parts
-    else placed two (run w ∷ parts)
-statement two parts = placed two parts
+    else placed_statement two (run w ∷ parts)
+statement two parts = placed_statement two parts
 
 -- ---- lines
 
@@ -220,23 +220,23 @@ abbrev pub empty : Form
 empty = record { label = None; statement = None }
 
 -- a statement alone
-abbrev pub unlabelled : Bool → List LinePart → Option (Ranged Form)
-unlabelled two parts = made (λ s. record { label = None; statement = Some s }) (statement two parts)
+abbrev pub unlabelled_line : Bool → List LinePart → Option (Ranged Form)
+unlabelled_line two parts = ranged_map (λ s. record { label = None; statement = Some s }) (statement two parts)
 
 -- what follows a label: nothing, or a statement that may have one
 abbrev pub after_label : Bool → Text → List LinePart → Option (Ranged Form)
 after_label two r [] = Some (Some (record { label = Some r; statement = None }))
-after_label two r parts = made (λ s. record { label = Some r; statement = Some s }) (placed two parts)
+after_label two r parts = ranged_map (λ s. record { label = Some r; statement = Some s }) (placed_statement two parts)
 
 -- a line that begins with a label
-abbrev pub labelled : Bool → Text → List LinePart → Option (Ranged Form)
-labelled two r parts = if is_place_name two r then after_label two r parts else None
+abbrev pub labelled_line : Bool → Text → List LinePart → Option (Ranged Form)
+labelled_line two r parts = if is_place_name two r then after_label two r parts else None
 
 -- a line: empty, or a label, a statement, or both; a colon (58) follows a label
 abbrev pub form : Bool → List LinePart → Option (Ranged Form)
 form two [] = Some (Some empty)
-form two (run r ∷ sign s ∷ parts) = if s == 58 then labelled two r parts else unlabelled two (run r ∷ sign s ∷ parts)
-form two parts = unlabelled two parts
+form two (run r ∷ sign s ∷ parts) = if s == 58 then labelled_line two r parts else unlabelled_line two (run r ∷ sign s ∷ parts)
+form two parts = unlabelled_line two parts
 
 -- `version 2`, which may stand on line 1 alone
 abbrev pub is_version_two : List LinePart → Bool

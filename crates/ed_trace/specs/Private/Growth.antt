@@ -21,13 +21,13 @@ abbrev pub traced_letters : ℕ → State → List ℕ
 traced_letters k s = letters_from 0 (functions_after k s)
 
 -- how many of the first k orders have their letters in full lines
-abbrev pub lined : ℕ → ℕ
-lined k = k - k % 50
+abbrev pub orders_in_full_lines : ℕ → ℕ
+orders_in_full_lines k = k - k % 50
 
 -- the first k orders are traced: their full lines have been written, and the last line, if not full, is held back
 pub record Lines (k : ℕ) (s : State) (before after : Option (List ℕ)) (held : List ℕ) : Type 0 where
-  pub gains : Gains before after (traced_letters (lined k) s)
-  pub whole : traced_letters k s ≡ traced_letters (lined k) s ++ held
+  pub gains : Gains before after (traced_letters (orders_in_full_lines k) s)
+  pub whole : traced_letters k s ≡ traced_letters (orders_in_full_lines k) s ++ held
   pub few : length held ≡ k % 50
 
 -- a letter was added to a line; if that filled the line, it was written

@@ -1,5 +1,5 @@
 use Rattle.std.proofs.Common.{◌∙◌, subst, ℕ}
-use Rattle.ed_run.specs.Run.{ran}
+use Rattle.ed_run.specs.Run.{run_end}
 use Rattle.ed_page.specs.Private.Stages.{IsGone}
 use Rattle.ed_page.specs.declared.going.Gone.{Gone}
 use Rattle.ed_page.proofs.GoneOn.{gone_of}
@@ -9,6 +9,6 @@ pub returns-clause-gone : goal.returns-clause-gone
 returns-clause-gone c =
     let gone : Gone =
     record { ending = c.run-ending.result; machine = c.run-ending.new.machine; codes = c.in_ok-codes.codes } in
-    subst (λ (n : ℕ). IsGone (ran n c.args.resumes c.args.room c.args.machine) gone) c.from.ensures
+    subst (λ (n : ℕ). IsGone (run_end n c.args.resumes c.args.room c.args.machine) gone) c.from.ensures
     (gone_of c.from.result c.args.resumes c.args.room c.args.machine c.in_ok-paper.paper c.run-ending.new.paper gone
     c.in_ok-paper.ensures c.run-ending.ensures.ran (c.in_ok-codes.ensures ∙ c.codes.ensures.is))

@@ -6,7 +6,7 @@ use Rattle.ed_answers.specs.Tapes.{tape_answer, tape_outcome}
 use Rattle.ed_answers.proofs.Replies.{exactly_one}
 use Rattle.ed_answers.proofs.OneOutcome.{rows_once}
 use Rattle.ed_page.specs.Answers.{TapeEnds, picture_buffers}
-use Rattle.ed_page.specs.Pictures.{asked}
+use Rattle.ed_page.specs.Pictures.{run_settings}
 use Rattle.ed_page.specs.Private.Stages.{Draws}
 use Rattle.ed_page.proofs.Goes.{from_start}
 use Rattle.ed_page.proofs.GoneOn.{begins_on}
@@ -17,7 +17,7 @@ use Rattle.ed_page.proofs.pictures.page_tape.Goals as goal
 
 pub returns-in-Ok-clause-shown : goal.returns-in-Ok-clause-shown
 returns-in-Ok-clause-shown c =
-    let s = asked c.args.small c.args.orders c.args.resumes in
+    let s = run_settings c.args.small c.args.orders c.args.resumes in
     let text = c.args.text.now in
     drawn_shown (tape_answer s) (TapeEnds s) text c.in-Ok.shown
     (refuted c.lacks_room.result c.if-lacks_room.false c.lacks_room.ensures)
@@ -29,7 +29,7 @@ returns-in-Ok-clause-rows c = each_run_reads_on
 
 pub returns-then-lacks_room-clause-shown : goal.returns-then-lacks_room-clause-shown
 returns-then-lacks_room-clause-shown c =
-    let s = asked c.args.small c.args.orders c.args.resumes in
+    let s = run_settings c.args.small c.args.orders c.args.resumes in
     picture_early _ (TapeEnds s) c.args.text.now
     (picture_buffers c.args.words.now c.args.digits.now c.args.paper.now c.args.note.now c.args.registers.now)
     (rows_once _ (exactly_one (tape_outcome s))) (c.lacks_room.ensures.0 (search rules))
@@ -39,7 +39,7 @@ returns-then-lacks_room-clause-rows c = each_run_reads_on
 
 pub returns-in-Err-clause-shown : goal.returns-in-Err-clause-shown
 returns-in-Err-clause-shown c =
-    let s = asked c.args.small c.args.orders c.args.resumes in
+    let s = run_settings c.args.small c.args.orders c.args.resumes in
     picture_unmade (tape_answer s) (TapeEnds s) c.args.text.now
     (picture_buffers c.args.words.now c.args.digits.now c.args.paper.now c.args.note.now c.args.registers.now)
     (refuted c.lacks_room.result c.if-lacks_room.false c.lacks_room.ensures)
@@ -49,7 +49,7 @@ returns-in-Err-clause-rows c = each_run_reads_on
 
 pub returns-in-Ok-clause-next : goal.returns-in-Ok-clause-next
 returns-in-Ok-clause-next c codes is =
-    let s = asked c.args.small c.args.orders c.args.resumes in
+    let s = run_settings c.args.small c.args.orders c.args.resumes in
     let text = c.args.text.now in
     begins_on (tape_answer s) (TapeEnds s) text _ _ _ _ c.args.orders c.args.resumes codes (run_of s codes)
     (returns-in-Ok-clause-shown c) (read_codes text codes is) (from_start s codes) (codes, is, refl)

@@ -3,7 +3,7 @@ use Rattle.std.specs.Fmt.{decimal}
 use Rattle.std.specs.List.{list_all}
 use Rattle.ed_words.specs.Texts.{Text}
 use Rattle.ed_programs.specs.Hello.{hello_pieces, is_capital, of_letters}
-use Rattle.ed_programs.specs.Programs.{woven}
+use Rattle.ed_programs.specs.Programs.{woven_text}
 use Rattle.ed_programs.proofs.HelloRuns.{each_name, each_text}
 use Rattle.ed_programs.proofs.Texts.{runs_as}
 use Rattle.ed_programs.proofs.hello.hello_program.Goals as goal
@@ -27,6 +27,6 @@ returns-clause-law c =
     let capital : list_all is_capital letters ≡ true =
     ap (list_all is_capital) (sym c.as_bytes.ensures.value) ∙ sym c.are_capitals.ensures
     ∙ c.if-not-are_capitals.false in
-    runs_as (c.in_ok-format.ensures.ok ∙ ap (λ n. woven hello_pieces (decimal n ∷ of_letters letters ∷ [])) rows)
+    runs_as (c.in_ok-format.ensures.ok ∙ ap (λ n. woven_text hello_pieces (decimal n ∷ of_letters letters ∷ [])) rows)
     (each_name letters (grind (arith, c.if-is_empty.false, c.is_empty.ensures))
     (omega (arith, c.if-letters-gt-MOST_LETTERS.false)) capital)

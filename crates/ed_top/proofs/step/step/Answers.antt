@@ -1,4 +1,4 @@
-use Rattle.ed_stepper.specs.Inputs.{divided}
+use Rattle.ed_stepper.specs.Inputs.{input_of}
 use Rattle.ed_top.specs.Scripts.{OfStep}
 use Rattle.ed_top.proofs.OneOutcome.{divided_some}
 use Rattle.ed_top.proofs.Scripts.{divided_replied}
@@ -11,7 +11,7 @@ returns-in_err-no_text-in-None c =
     let input = c.args.input.now in
     as_input (OfStep s) input c.from_residual.result
     (none_replied (OfStep s input) c.from_residual.result c.from_residual.ensures
-    (divided_some s input (divided input)))
+    (divided_some s input (input_of input)))
 
 pub returns-in-Some : goal.returns-in-Some
 returns-in-Some c =

@@ -1,5 +1,5 @@
 use Rattle.std.proofs.Common.{◌≡◌, subst, rules}
-use Rattle.ed_answers.specs.Outcome.{refused}
+use Rattle.ed_answers.specs.Outcome.{refusal}
 use Rattle.ed_answers.specs.Replies.{Gives}
 use Rattle.ed_top.specs.Scripts.{stand_on}
 use Rattle.ed_top.proofs.Scripts.{far_given, never_refused, rows_given}
@@ -17,7 +17,7 @@ returns-in-Err-BackTooFar c = λ commands is.
     far_given c.args.settings c.args.rows.items c.args.script.now commands c.in_ok-session.session _
     c.in-Err-BackTooFar.field-0 c.in-Err-BackTooFar.line c.in-Err-BackTooFar.obeyed c.refusal.result is stands
     c.in-Err-BackTooFar.ensures c.in-Err-BackTooFar.field-0-is
-    (subst (λ t. Gives c.refusal.result (refused t)) (c.in_ok-back_too_far-in-Err-BackTooFar).ensures c.refusal.ensures)
+    (subst (λ t. Gives c.refusal.result (refusal t)) (c.in_ok-back_too_far-in-Err-BackTooFar).ensures c.refusal.ensures)
 
 pub unreachable-requires : goal.unreachable-requires
 unreachable-requires c =

@@ -1,5 +1,5 @@
 use Rattle.std.proofs.Common.{◌∙◌, ap}
-use Rattle.ed_store.specs.Packed.{unpacked}
+use Rattle.ed_store.specs.Packed.{unpacked_cells}
 use Rattle.ed_store.proofs.PackedLemmas.{cleared_is, cleared_packed}
 use Rattle.ed_store.proofs.store.Store.cleared.Goals as goal
 
@@ -7,4 +7,4 @@ pub invariant_of-result : goal.invariant_of-result
 invariant_of-result c = rw c.in_ok-cells.ensures cleared_packed
 
 pub returns : goal.returns
-returns c = ap unpacked c.in_ok-cells.ensures ∙ cleared_is
+returns c = ap unpacked_cells c.in_ok-cells.ensures ∙ cleared_is
