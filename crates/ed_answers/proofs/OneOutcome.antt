@@ -4,6 +4,7 @@ use Rattle.ed_words.specs.declared.size.Size.{Size}
 use Rattle.ed_words.specs.Texts.{Text}
 use Rattle.ed_codes.specs.Reading.{Reading, rows, no_row, open_comment, reading}
 use Rattle.ed_syntax.specs.declared.program.Line.{Line}
+use Rattle.ed_answers.specs.declared.input.TheConstants.{INPUT_BYTES}
 use Rattle.ed_answers.specs.Answer.{HasOneOutcome, OfReading, WithinLimit, exactly, known, of_input, of_made, of_rows}
 use Rattle.ed_answers.specs.Outcome.{Outcome, too_long_outcome}
 use Rattle.ed_answers.specs.Sources.{OfSource, of_source}
@@ -27,10 +28,10 @@ pub some_within : (answers : Text → Outcome → Type 0) (input : Text) (o : Ou
     → (o : Outcome) × WithinLimit answers input o
 some_within answers input o a = by_length (split (length input))
   where
-    split : (n : ℕ) → (n ≤ 262144) ⊎ (262144 < n)
+    split : (n : ℕ) → (n ≤ INPUT_BYTES) ⊎ (INPUT_BYTES < n)
     split n = grind arith
 
-    by_length : (length input ≤ 262144) ⊎ (262144 < length input) → (o : Outcome) × WithinLimit answers input o
+    by_length : (length input ≤ INPUT_BYTES) ⊎ (INPUT_BYTES < length input) → (o : Outcome) × WithinLimit answers input o
     by_length (inl few) = (o, inl (few, a))
     by_length (inr many) = (too_long_outcome, inr (many, refl))
 

@@ -4,6 +4,7 @@ use Rattle.ed_codes.specs.Reading.{Reading, rows, no_row, open_comment, reading}
 use Rattle.ed_codes.specs.declared.tape.TextFault.TheVariants.{NoRow, OpenComment}
 use Rattle.ed_report.specs.Notes.{text_fault_line}
 use Rattle.ed_words.specs.Texts.{Text}
+use Rattle.ed_answers.specs.declared.input.TheConstants.{INPUT_BYTES}
 use Rattle.ed_answers.specs.Outcome.{Outcome, refusal, too_long_outcome}
 
 -- no input is read, and this is the outcome, or this says which outcomes it may be; or an input is read, and this says
@@ -35,8 +36,8 @@ reads_input (of_input answers) = true
 
 -- the outcome of an input of at most 262,144 bytes, or of one that is too long
 abbrev pub WithinLimit : (Text → Outcome → Type 0) → Text → Outcome → Type 0
-WithinLimit answers input o = ((length input ≤ 262144) × answers input o)
-    ⊎ ((262144 < length input) × (too_long_outcome ≡ o))
+WithinLimit answers input o = ((length input ≤ INPUT_BYTES) × answers input o)
+    ⊎ ((INPUT_BYTES < length input) × (too_long_outcome ≡ o))
 
 -- the outcome that is due for an input
 abbrev pub IsDue : Answer → Text → Outcome → Type 0

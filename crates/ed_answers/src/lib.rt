@@ -8,6 +8,7 @@
 
 mod check;
 mod first_orders;
+mod input;
 mod reply;
 mod rows;
 mod running;
@@ -16,6 +17,7 @@ mod tapes;
 
 pub use check::check_tape;
 pub use first_orders::{check_tape1, run_rows1, tape1};
+pub use input::{INPUT_BYTES, TOO_LONG};
 pub use reply::{Rejection, Reply};
 pub use rows::rows_of;
 pub use running::{FinishedRun, ran_reply, run_rows, status_of, window_printed};

@@ -14,6 +14,7 @@ use Rattle.ed_link.specs.Tapes.{tape}
 use Rattle.ed_link.specs.declared.linked.Linked.{Linked}
 use Rattle.ed_report.specs.Notes.{source_fault_line}
 use Rattle.ed_command.specs.declared.command.Settings.{Settings}
+use Rattle.ed_answers.specs.declared.input.TheConstants.{INPUT_BYTES}
 use Rattle.ed_answers.specs.Answer.{OfReading, exactly, of_input, of_rows}
 use Rattle.ed_words.specs.Texts.{Text}
 use Rattle.ed_answers.specs.Outcome.{Outcome, refusal, too_long_outcome}
@@ -34,13 +35,13 @@ use Rattle.ed_page.specs.declared.told.Told.{Told}
 
 -- ---- a text that is too long
 
-pub long_replied : (answers : Text → Outcome → Type 0) (text : Text) (r : Result Told NoMemory) → 262144 < length text
+pub long_replied : (answers : Text → Outcome → Type 0) (text : Text) (r : Result Told NoMemory) → INPUT_BYTES < length text
     → IfOk r (λ told. HoldsOutcome told too_long_outcome) → IsAnswered (of_input answers) text r
 long_replied answers text (Ok told) long gives = (too_long_outcome, inr (long, refl), gives)
 long_replied answers text (Err e) long gives = tt
 
 pub long_drawn : (answers : Text → Outcome → Type 0) (Ends : Text → State → Type 0) (text : Text) (told : Told)
-    → 262144 < length text
+    → INPUT_BYTES < length text
     → HoldsOutcome told too_long_outcome
     → Draws (of_input answers) Ends text (Ok (record { told = told; machine = None }))
 long_drawn answers Ends text told long gives = (
@@ -56,7 +57,7 @@ at_reading : (f : List ℕ → Outcome) (r : Reading) (codes : List ℕ) → r �
 at_reading f r codes is = subst (λ (q : Reading). OfReading (exactly f) q (f codes)) (sym is) refl
 
 pub rows_replied : (f : List ℕ → Outcome) (text : Text) (codes : List ℕ) (r : Result Told NoMemory)
-    → length text ≤ 262144
+    → length text ≤ INPUT_BYTES
     → reading text ≡ rows codes → IfOk r (λ told. HoldsOutcome told (f codes)) → IsAnswered (of_rows (exactly f)) text r
 rows_replied f text codes (Ok told) few is gives = (f codes, inl (few, at_reading f (reading text) codes is), gives)
 rows_replied f text codes (Err e) few is gives = tt
@@ -70,7 +71,7 @@ refused_told answers (no_row place byte) reply told refuses tells = (_, refl, te
 refused_told answers (open_comment place) reply told refuses tells = (_, refl, tells _ refuses)
 
 pub tape_refused : (answers : List ℕ → Outcome → Type 0) (text : Text) (e : Rejection) (r : Result Told NoMemory)
-    → length text ≤ 262144 → RefusesText (reading text) e → HoldsRejection e r
+    → length text ≤ INPUT_BYTES → RefusesText (reading text) e → HoldsRejection e r
     → IsAnswered (of_rows answers) text r
 tape_refused answers text (Refused reply) (Ok told) few refuses tells =
     let o = refused_told answers (reading text) reply told refuses tells in (o.0, inl (few, o.1), o.2)
@@ -78,7 +79,7 @@ tape_refused answers text Memory (Ok told) few refuses tells = absurd tells
 tape_refused answers text e (Err none) few refuses tells = tt
 
 -- the items of a tape's rows are written
-pub items_told : (z : Size) (text : Text) (codes : List ℕ) (r : Result Told NoMemory) → length text ≤ 262144
+pub items_told : (z : Size) (text : Text) (codes : List ℕ) (r : Result Told NoMemory) → length text ≤ INPUT_BYTES
     → reading text ≡ rows codes → AreItemsOf z codes r → IsAnswered (items_answer z) text r
 items_told z text codes (Ok told) few is t = (
   t.0,
@@ -97,7 +98,7 @@ unfolding codes_of
 same_codes r codes others is same = ap codes_of (sym is ∙ same)
 
 pub tape_drawn : (outcome : List ℕ → Outcome) (run : List ℕ → RunEnd) (text : Text) (codes : List ℕ)
-    (r : Result Shown NoMemory) → length text ≤ 262144
+    (r : Result Shown NoMemory) → length text ≤ INPUT_BYTES
     → reading text ≡ rows codes → IfOk r (IsRunOf (outcome codes) (run codes))
     → Draws (of_rows (exactly outcome)) (RowsEnd run) text r
 tape_drawn outcome run text codes (Ok shown) few is ran = (
@@ -115,7 +116,7 @@ tape_drawn outcome run text codes (Ok shown) few is ran = (
 tape_drawn outcome run text codes (Err e) few is ran = tt
 
 pub tape_refusal_drawn : (outcome : List ℕ → Outcome) (run : List ℕ → RunEnd) (text : Text) (e : Rejection)
-    (told : Told) → length text ≤ 262144
+    (told : Told) → length text ≤ INPUT_BYTES
     → RefusesText (reading text) e → HoldsRejection e (Ok told)
     → Draws (of_rows (exactly outcome)) (RowsEnd run) text (Ok (record { told = told; machine = None }))
 tape_refusal_drawn outcome run text Memory told few refuses tells = absurd tells
@@ -133,7 +134,7 @@ tape_refusal_drawn outcome run text (Refused reply) told few refuses tells =
 -- ---- a source
 
 pub linked_replied : (z : Size) (f : List Line → Outcome) (text : Text) (k : Linked) (r : Result Told NoMemory)
-    → length text ≤ 262144
+    → length text ≤ INPUT_BYTES
     → LinksSource z text (Ok k)
     → IfOk r (λ told. (lines : List Line) → IsLinked z lines k → HoldsOutcome told (f lines))
     → IsAnswered (of_source z f) text r
@@ -142,7 +143,7 @@ linked_replied z f text k (Ok told) few l gives =
 linked_replied z f text k (Err e) few l gives = tt
 
 pub source_refused : (z : Size) (f : List Line → Outcome) (text : Text) (e : Rejection) (r : Result Told NoMemory)
-    → length text ≤ 262144 → LinksSource z text (Err e) → HoldsRejection e r → IsAnswered (of_source z f) text r
+    → length text ≤ INPUT_BYTES → LinksSource z text (Err e) → HoldsRejection e r → IsAnswered (of_source z f) text r
 source_refused z f text (Refused reply) (Ok told) few l tells =
     (refusal (source_fault_line (At l.0 l.1)), inl (few, inl (l.0, l.1, l.2, refl)), tells _ l.3)
 source_refused z f text Memory (Ok told) few l tells = absurd tells
@@ -150,7 +151,7 @@ source_refused z f text e (Err none) few l tells = tt
 
 -- the texts are what the program answers to a text
 pub answer_told : (answers : Text → Outcome → Type 0) (text : Text) (a : Result Reply Rejection)
-    (r : Result Told NoMemory) → length text ≤ 262144 → Replies (of_input answers) text a → HoldsAnswer a r
+    (r : Result Told NoMemory) → length text ≤ INPUT_BYTES → Replies (of_input answers) text a → HoldsAnswer a r
     → IsAnswered (of_input answers) text r
 answer_told answers text (Ok reply) (Ok told) few is tells = (is.0, inl (few, is.1), tells is.0 is.2)
 answer_told answers text (Ok reply) (Err e) few is tells = absurd tells
@@ -159,7 +160,7 @@ answer_told answers text (Err (Refused reply)) (Err e) few is tells = absurd tel
 answer_told answers text (Err Memory) (Ok told) few is tells = absurd tells
 answer_told answers text (Err Memory) (Err e) few is tells = tt
 
-pub source_drawn : (s : Settings) (text : Text) (k : Linked) (r : Result Shown NoMemory) → length text ≤ 262144
+pub source_drawn : (s : Settings) (text : Text) (k : Linked) (r : Result Shown NoMemory) → length text ≤ INPUT_BYTES
     → LinksSource s.size text (Ok k)
     → IfOk r (λ shown. (lines : List Line) → IsLinked s.size lines k
     → IsRunOf (run_outcome s lines) (run_of s (tape lines)) shown)
@@ -181,7 +182,7 @@ source_drawn s text k (Ok shown) few l ran =
 source_drawn s text k (Err e) few l ran = tt
 
 -- a source that is refused is not accepted, so that no run of it ends
-pub source_refusal_drawn : (s : Settings) (text : Text) (e : Rejection) (told : Told) → length text ≤ 262144
+pub source_refusal_drawn : (s : Settings) (text : Text) (e : Rejection) (told : Told) → length text ≤ INPUT_BYTES
     → LinksSource s.size text (Err e) → HoldsRejection e (Ok told)
     → Draws (of_source s.size (run_outcome s)) (SourceEnds s) text (Ok (record { told = told; machine = None }))
 source_refusal_drawn s text Memory told few l tells = absurd tells

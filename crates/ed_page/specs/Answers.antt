@@ -8,6 +8,7 @@ use Rattle.ed_link.specs.Refusals.{IsAcceptedAs}
 use Rattle.ed_link.specs.Tapes.{tape}
 use Rattle.ed_command.specs.declared.command.Settings.{Settings}
 use Rattle.ed_words.specs.Texts.{Text}
+use Rattle.ed_answers.specs.declared.input.TheConstants.{INPUT_BYTES}
 use Rattle.ed_answers.specs.Outcome.{Outcome, done, too_long}
 use Rattle.ed_answers.specs.Answer.{Answer, IsDue}
 use Rattle.ed_answers.specs.FirstOrders.{run1_of}
@@ -57,7 +58,7 @@ text_buffers out note lengths = record { out = out; note = note; lengths = lengt
 
 -- a text is too long, and the buffer of the note has no room for the line that says so
 abbrev pub LacksLine : Text → List ℕ → Type 0
-LacksLine text note = (262144 < length text) × (length note < length too_long)
+LacksLine text note = (INPUT_BYTES < length text) × (length note < length too_long)
 
 -- what the program answers to a text, written into two buffers; or no memory was found (10), and the buffers are
 -- unchanged. 12 comes first if no memory is needed to see that there is no room
@@ -136,8 +137,8 @@ pub record Shows (Ends : Text → State → Type 0) (text : Text) (o : Outcome) 
     Type 0 where
   pub told : HoldsText o before.paper before.note after.paper after.note after.registers.printed after.registers.noted
       answer
-  pub state : length text ≤ 262144 → (m : State) → Ends text m → Pictures m after.words after.digits after.registers
-  pub none : ((m : State) → length text ≤ 262144 → Ends text m → ⊥) → ShowsNone before after
+  pub state : length text ≤ INPUT_BYTES → (m : State) → Ends text m → Pictures m after.words after.digits after.registers
+  pub none : ((m : State) → length text ≤ INPUT_BYTES → Ends text m → ⊥) → ShowsNone before after
 
 -- a buffer of the store has the wrong length, or a text is too long and the line that says so has no room
 abbrev pub LacksRoom : Text → Buffers → Type 0

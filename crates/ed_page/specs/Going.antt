@@ -9,6 +9,7 @@ use Rattle.ed_machine.specs.Steps.{Progress, progress, state_after}
 use Rattle.ed_run.specs.Run.{RunEnd, run_end, run_orders}
 use Rattle.ed_loads.specs.EntryState.{first_state}
 use Rattle.ed_command.specs.declared.command.Settings.{Settings}
+use Rattle.ed_answers.specs.declared.input.TheConstants.{INPUT_BYTES}
 use Rattle.ed_answers.specs.FirstOrders.{first_state1, run1_of}
 use Rattle.ed_answers.specs.Runs.{paper_room, run_of, status_of}
 use Rattle.ed_page.specs.Answers.{HasItsCause, Holds}
@@ -42,7 +43,7 @@ pub record CanGoOn (small : Bool) (rows words digits : List ℕ) (registers : Re
 abbrev pub BeginsOnTheWay :
     (first : State) (rows : List ℕ) (text : Text) (words digits : List ℕ) → Registers → (answer : ℕ) → Type 0
 BeginsOnTheWay first rows text words digits registers answer =
-    length text ≤ 262144 → answer ≢ 10 → answer ≢ 12 → IsOnTheWay first rows words digits registers
+    length text ≤ INPUT_BYTES → answer ≢ 10 → answer ≢ 12 → IsOnTheWay first rows words digits registers
 
 -- ---- the result of continuing
 

@@ -5,6 +5,7 @@ ghost use Rattle.ed_page.specs.Answers.{IsTextWritten, text_buffers};
 ghost use Rattle.ed_page.specs.Private.ItemTables.{first_word, table_on1};
 ghost use Rattle.ed_page.specs.Private.Stages.{AreItemsOf1, IsAnswered};
 ghost use Rattle.ed_page.specs.TapeItems.{items1_answer};
+ghost use Rattle.ed_answers.specs.declared.input.TheConstants.{INPUT_BYTES};
 
 use crate::items::{OpenItem, push_numbers};
 use crate::texts::tell;
@@ -59,7 +60,7 @@ fn tape_items1(alloc: Global, text: &[u8]) -> Result<Told, NoMemory>
 
 /// What is answered about the items of rows.
 fn row_items1(alloc: Global, rows: &[Code]) -> Result<Told, NoMemory>
-    requires { length rows.now ≤ 262144 }
+    requires { length rows.now ≤ INPUT_BYTES }
     ensures { AreItemsOf1 rows.now result }
 {
     match check1(alloc, rows) {
@@ -74,7 +75,7 @@ fn row_items1(alloc: Global, rows: &[Code]) -> Result<Told, NoMemory>
 
 /// The table of the items that rows spell.
 fn item_table1(alloc: Global, rows: &[Code]) -> Result<Vec<u8>, NoMemory>
-    requires { length rows.now ≤ 262144 }
+    requires { length rows.now ≤ INPUT_BYTES }
     ensures { IfOk result (λ table. table.items ≡ table_on1 0 31 None rows.now) }
 {
     let mut location = FIRST_LOCATION;

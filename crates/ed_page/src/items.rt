@@ -12,6 +12,7 @@ ghost use Rattle.ed_page.specs.Private.ItemTables.{note_over};
 ghost use Rattle.ed_page.specs.Private.ItemTables.{placing_over, table_on, whole_item, opened_with};
 ghost use Rattle.ed_page.specs.Private.Stages.{AreItemsOf, IsAnswered};
 ghost use Rattle.ed_page.specs.TapeItems.{PlacingLaw, four_bytes, four_numbers, item_line, items_answer};
+ghost use Rattle.ed_answers.specs.declared.input.TheConstants.{INPUT_BYTES};
 
 use crate::running::size_of;
 use crate::texts::tell;
@@ -94,7 +95,7 @@ fn tape_items(alloc: Global, size: Size, text: &[u8]) -> Result<Told, NoMemory>
 
 /// What is answered about the items of rows.
 fn row_items(alloc: Global, size: Size, rows: &[Code]) -> Result<Told, NoMemory>
-    requires { length rows.now ≤ 262144 }
+    requires { length rows.now ≤ INPUT_BYTES }
     ensures { AreItemsOf size rows.now result }
 {
     let store = Store::cleared(alloc)?;
@@ -110,7 +111,7 @@ fn row_items(alloc: Global, size: Size, rows: &[Code]) -> Result<Told, NoMemory>
 
 /// The table of the items that rows spell.
 fn item_table(alloc: Global, rows: &[Code]) -> Result<Vec<u8>, NoMemory>
-    requires { length rows.now ≤ 262144 }
+    requires { length rows.now ≤ INPUT_BYTES }
     ensures { IfOk result (λ table. table.items
         ≡ table_on 0 (record { directive = 20568; theta = 0; contents = cleared_cells }) None rows.now) }
 {

@@ -5,15 +5,9 @@ ghost use Rattle.ed_page.specs.Private.Stages.{HoldsAnswer, HoldsOutcome, HoldsR
 ghost use Rattle.ed_answers.specs.Replies.{Gives};
 
 use crate::writing::{Lengths, write_text};
-use ed_answers::{Rejection, Reply};
+use ed_answers::{INPUT_BYTES, Rejection, Reply, TOO_LONG};
 use ed_words::NoMemory;
 use std::alloc::Global;
-
-/// The most bytes that a text may have.
-const TEXT_ROOM: usize = 262_144;
-
-/// The note for a longer one.
-const TOO_LONG: &[u8] = b"input too long\n";
 
 /// The answer if no memory was found.
 pub const NO_MEMORY: u32 = 10;
@@ -129,7 +123,7 @@ pub fn lacks_line(text: &[u8], note: &[u8]) -> bool
 
 /// Whether a text has more bytes than the program takes.
 pub fn is_too_long(text: &[u8]) -> bool
-    ensures { result ≡ nat_lt 262144 (length text.now) }
+    ensures { result ≡ nat_lt INPUT_BYTES (length text.now) }
 {
-    TEXT_ROOM < text.len()
+    INPUT_BYTES < text.len()
 }

@@ -20,6 +20,7 @@ use Rattle.ed_report.specs.Notes.{at_after}
 use Rattle.ed_routines.proofs.Journeys.{ComesToStop}
 use Rattle.ed_sources.proofs.Stops.{LeadsToStop, ran_to_stop}
 use Rattle.ed_command.specs.declared.command.Settings.{Settings}
+use Rattle.ed_answers.specs.declared.input.TheConstants.{INPUT_BYTES}
 use Rattle.ed_answers.specs.Answer.{OfReading, exactly}
 use Rattle.ed_answers.specs.FirstEntry.{cost1}
 use Rattle.ed_answers.specs.FirstOrders.{first_state1, tape1_outcome}
@@ -69,7 +70,7 @@ fresh tape_rows = refl
 
 -- a text that spells rows that give a program, which reaches its stop from its entry
 pub first_tape_runs : (s : Settings) (tape : Text) (tape_rows : List ℕ) (t : Tape) {k at : ℕ} {printed : List ℕ}
-    → reading tape ≡ rows tape_rows → length tape ≤ 262144 → Comes1 tape_rows t
+    → reading tape ≡ rows tape_rows → length tape ≤ INPUT_BYTES → Comes1 tape_rows t
     → ComesToStop k (at_entry1 (first_state1 tape_rows) t) printed at → length printed ≤ paper_room
     → FirstTapeRuns s tape (cost1 t) (k + 1) at (paper printed)
 first_tape_runs s tape tape_rows t {k} {at} {printed} reads short o stops few =

@@ -16,6 +16,7 @@ use Rattle.ed_syntax.proofs.SourceLaws.{lines_are_read, say_is_read}
 use Rattle.ed_sources.specs.Calls.{text_of_lines}
 use Rattle.ed_programs.specs.Guests.{EntersChecker, checked_text, use_check}
 use Rattle.ed_programs.proofs.SourceLines.{Says, ends, said_lines, says}
+use Rattle.ed_answers.specs.declared.input.TheConstants.{INPUT_BYTES}
 use Rattle.ed_programs.proofs.Answered.{are_short}
 
 -- ---- how long it is
@@ -52,7 +53,7 @@ text_short _ _ (ended line text lines plain more) h =
     omega (arith, few, end, rest, all)
 
 -- a source that says some lines has at most 262,144 bytes
-pub source_short : (text : Text) (two : Bool) (said : List Line) → IsProgram text two said → length text ≤ 262144
+pub source_short : (text : Text) (two : Bool) (said : List Line) → IsProgram text two said → length text ≤ INPUT_BYTES
 source_short text two said p =
     let few = p.few in
     let short = text_short text p.lines p.has_lines (say_short two 1 p.lines said p.says) in

@@ -27,6 +27,7 @@ use Rattle.ed_programs.proofs.Capitals.{are_rows, letter}
 use Rattle.ed_programs.proofs.TextLines.{all_plain}
 use Rattle.ed_programs.proofs.MirrorEnds.{mirror_arrives, mirror_ends, mirror_entry, mirror_rows}
 use Rattle.ed_programs.proofs.MirrorProgram.{AreCodes}
+use Rattle.ed_answers.specs.declared.input.TheConstants.{INPUT_BYTES}
 use Rattle.ed_programs.proofs.TapeRuns.{tape_runs}
 
 -- ---- the rows of the text
@@ -148,7 +149,7 @@ each_word s (b ∷ q) o =
     let all = length-append front (mirror_line letters ++ 10 ∷ []) in
     let whole = ap (λ (t : Text). length t) (text_is letters) in
     let before : length front ≤ 3000 = le_of (length front) 3000 refl in
-    let short : length (mirror_text letters) ≤ 262144 =
+    let short : length (mirror_text letters) ≤ INPUT_BYTES =
     omega (arith, bytes, number, together, few, line, all, whole, before) in
     let runs = tape_runs s (mirror_text letters) (mirror_rows (length codes ∷ codes))
     (mirror_entry (length codes ∷ codes)) reads short (mirror_arrives s.size (length codes ∷ codes))

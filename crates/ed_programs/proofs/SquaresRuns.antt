@@ -10,6 +10,7 @@ use Rattle.ed_paths.proofs.Frames.{Moment, state}
 use Rattle.ed_paths.proofs.Window.{patched}
 use Rattle.ed_routines.proofs.Journeys.{ComesToStop}
 use Rattle.ed_command.specs.declared.command.Settings.{Settings}
+use Rattle.ed_answers.specs.declared.input.TheConstants.{INPUT_BYTES}
 use Rattle.ed_answers.specs.FirstOrders.{first_state1}
 use Rattle.ed_answers.specs.Runs.{paper_room}
 use Rattle.ed_programs.specs.FirstTapes.{FirstTapeRuns}
@@ -76,5 +77,5 @@ stops = subst (λ (x : State). ComesToStop 383 x (all_codes around) 61) begins (
 
 pub squares_run : (s : Settings) → FirstTapeRuns s squares_text squares_cost squares_orders 61 squares_prints
 squares_run s =
-    first_tape_runs s squares_text tape_rows program spells (le_of (length squares_text) 262144 refl) comes stops
+    first_tape_runs s squares_text tape_rows program spells (le_of (length squares_text) INPUT_BYTES refl) comes stops
     (le_of (length (all_codes around)) paper_room refl)

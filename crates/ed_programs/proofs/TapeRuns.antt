@@ -7,6 +7,7 @@ use Rattle.std.specs.List.{list_all}
 use Rattle.ed_words.proofs.Numbers.{eq_of}
 use Rattle.ed_words.specs.Texts.{Text}
 use Rattle.ed_report.specs.Notes.{at_after}
+use Rattle.ed_answers.specs.declared.input.TheConstants.{INPUT_BYTES}
 use Rattle.ed_answers.specs.Outcome.{Outcome}
 use Rattle.ed_words.specs.declared.size.Size.{Size}
 use Rattle.ed_codes.specs.Reading.{reading, rows}
@@ -83,7 +84,7 @@ module _ {z : Size} {tape_rows : List ℕ} {e : TapeEntry} (o : Arrives z tape_r
 
 -- a text that spells these rows, which reach this entry, and whose program reaches its stop from there
 pub tape_runs : (s : Settings) (tape : Text) (tape_rows : List ℕ) (e : TapeEntry) {k at : ℕ} {printed : List ℕ}
-    → reading tape ≡ rows tape_rows → length tape ≤ 262144 → Arrives s.size tape_rows e
+    → reading tape ≡ rows tape_rows → length tape ≤ INPUT_BYTES → Arrives s.size tape_rows e
     → ComesToStop k (tape_state s tape_rows e) printed at → length printed ≤ paper_room
     → TapeRuns s tape e.cost (k + 1) at (paper printed)
 tape_runs s tape tape_rows e {k} {at} {printed} reads short arrives stops few =

@@ -45,6 +45,7 @@ use Rattle.ed_parts.specs.Parts.{part_entry_state}
 use Rattle.ed_parts.specs.Parts.{program_end, part_report}
 use Rattle.ed_parts.specs.declared.tape.PartsEnd.TheVariants.{Ended}
 use Rattle.ed_command.specs.declared.command.Settings.{Settings}
+use Rattle.ed_answers.specs.declared.input.TheConstants.{INPUT_BYTES}
 use Rattle.ed_answers.specs.Answer.{OfReading, exactly}
 use Rattle.ed_answers.specs.Outcome.{Outcome}
 use Rattle.ed_answers.specs.Tapes.{tape_outcome}
@@ -319,7 +320,7 @@ module _ {z : Size} {tape_rows : List ℕ} {at : ℕ} {printed : List ℕ} (c : 
 
 -- a text that spells the rows of such a tape
 pub two_parts_run : (s : Settings) (tape : Text) (tape_rows : List ℕ) {at : ℕ} {printed : List ℕ}
-    → reading tape ≡ rows tape_rows → length tape ≤ 262144 → (c : Course s.size tape_rows at printed)
+    → reading tape ≡ rows tape_rows → length tape ≤ INPUT_BYTES → (c : Course s.size tape_rows at printed)
     → length printed ≤ paper_room → TwoPartsRun s tape (numbers_of c) (paper printed)
 two_parts_run s tape tape_rows {at} {printed} reads short c few =
     let t : TwoParts = numbers_of c in

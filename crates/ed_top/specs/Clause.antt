@@ -4,6 +4,7 @@ use Rattle.std.specs.Prelude.{◌≡◌, ◌≢◌, ◌⊎◌, ℕ, true, [], dr
 use Rattle.ed_io.specs.Bytes.{Gains, GainsPart}
 use Rattle.ed_io.specs.Causes.{next_count}
 use Rattle.ed_words.specs.Texts.{Text}
+use Rattle.ed_answers.specs.declared.input.TheConstants.{INPUT_BYTES}
 use Rattle.ed_answers.specs.Outcome.{Outcome, read_fault, no_memory}
 use Rattle.ed_answers.specs.Answer.{Answer, known, of_made, of_input, reads_input, WithinLimit}
 
@@ -52,7 +53,7 @@ Lost d n = (bytes : Text) → d.before ≡ Some bytes → d.after ≡ Some (drop
 abbrev pub most_read : Answer → ℕ
 most_read (known o) = 0
 most_read (of_made answers) = 0
-most_read (of_input answers) = 262145
+most_read (of_input answers) = INPUT_BYTES + 1
 
 -- this may be the input of a source that reports these bytes; any text may, if it reports none
 abbrev pub MayBe : Option Text → Text → Type 0

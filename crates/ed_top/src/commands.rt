@@ -1,5 +1,6 @@
 ghost use Rattle.std.specs.Prelude.{◌≡◌, ◌≤◌, length};
 ghost use Rattle.ed_command.specs.Ranges.{IsInRange};
+ghost use Rattle.ed_answers.specs.declared.input.TheConstants.{INPUT_BYTES};
 ghost use Rattle.ed_answers.specs.Answer.{reads_input};
 ghost use Rattle.ed_top.specs.Clause.{device};
 ghost use Rattle.ed_top.specs.Private.Stages.{Carried};
@@ -35,7 +36,7 @@ pub fn carry_out<K: Sink>(
     input: &[u8],
     out: &mut K,
 ) -> Result<Rest, Stop>
-    requires few { length input.now ≤ 262144 }
+    requires few { length input.now ≤ INPUT_BYTES }
     requires ranges { IsInRange command }
     ensures { Carried (answer command.action command.settings) input.now
         (device K.held K.faults out.old out.new) result }

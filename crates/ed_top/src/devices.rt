@@ -3,15 +3,12 @@ ghost use Rattle.ed_io.specs.Bytes.{IsAtEnd, Loses};
 ghost use Rattle.ed_top.specs.Clause.{WritesLastLine, device};
 ghost use Rattle.ed_top.specs.Private.Stages.{HasInput, WritesReply, WritesText, input_faults};
 
-use ed_answers::{Rejection, Reply};
+use ed_answers::{INPUT_BYTES, Rejection, Reply};
 use ed_io::{Failed, Sink, Source, write_all};
 use ed_parts::PartsFault;
 use ed_trace::TraceFault;
 use ed_words::NoMemory;
 use std::alloc::{AllocError, Global};
-
-/// The most bytes of input.
-const LIMIT: usize = 262_144;
 
 /// The most bytes that are read at once.
 const PIECE: usize = 4096;
@@ -128,10 +125,10 @@ pub fn input_of<S: Source>(alloc: Global, reads: bool, source: &mut S) -> Result
 /// The input, if it has no more bytes than the limit.
 fn within_limit(input: Vec<u8>) -> Result<Vec<u8>, InputStop>
     ensures { MatchResult result
-        (λ v. (v ≡ input) × (length input.items ≤ 262144))
-        (λ e. (e ≡ InputStop.TooLong) × (262144 < length input.items)) }
+        (λ v. (v ≡ input) × (length input.items ≤ INPUT_BYTES))
+        (λ e. (e ≡ InputStop.TooLong) × (INPUT_BYTES < length input.items)) }
 {
-    if input.len() > LIMIT {
+    if input.len() > INPUT_BYTES {
         return Err(InputStop::TooLong);
     }
     Ok(input)
@@ -141,14 +138,14 @@ fn within_limit(input: Vec<u8>) -> Result<Vec<u8>, InputStop>
 fn read_all<S: Source>(alloc: Global, source: &mut S) -> Result<Vec<u8>, InputStop>
     ensures bytes { IfOk result (λ v. Loses (S.left source.old) (S.left source.new) v.items) }
     ensures end { IfOk result
-        (λ v. (length v.items ≡ 262145) ⊎ ((length v.items < 262145) × IsAtEnd (S.left source.new))) }
+        (λ v. (length v.items ≡ INPUT_BYTES + 1) ⊎ ((length v.items < INPUT_BYTES + 1) × IsAtEnd (S.left source.new))) }
     ensures short { IfErr result (λ e. e ≢ InputStop.TooLong) }
     ensures faults { S.faults source.new ≡ input_faults result (S.faults source.old) }
 {
     let mut input = Vec::new(alloc);
     let mut piece = [0u8; PIECE];
-    while input.len() <= LIMIT {
-        let room = piece.len().min(LIMIT + 1 - input.len());
+    while input.len() <= INPUT_BYTES {
+        let room = piece.len().min(INPUT_BYTES + 1 - input.len());
         let count = source.read(&mut piece[..room])?;
         if count == 0 {
             break;

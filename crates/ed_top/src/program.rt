@@ -20,6 +20,7 @@ ghost use Rattle.ed_top.specs.TapeEntries.{EachTapeRunsFromEntry};
 
 use crate::commands::{carry_out, reads_input};
 use crate::devices::{InputStop, Stop, input_of, tell};
+use ed_answers::TOO_LONG;
 use ed_command::{Command, CommandFault, read_words};
 use ed_io::{Sink, Source};
 use std::alloc::Global;
@@ -30,8 +31,6 @@ const USAGE: &[u8] =
 const READ_FAULT: &[u8] = b"read fault\n";
 
 const NO_MEMORY: &[u8] = b"no memory\n";
-
-const TOO_LONG: &[u8] = b"input too long\n";
 
 /// Runs the program with the words after its name: reads the input if the command needs it, writes `out` and then
 /// `note`, and answers the status.

@@ -3,6 +3,7 @@ ghost use Rattle.ed_syntax.specs.declared.program.Line.{Line};
 ghost use Rattle.ed_link.specs.Answers.{IsLinked};
 ghost use Rattle.ed_link.specs.Tapes.{tape};
 ghost use Rattle.ed_stepper.specs.ScriptLines.{CommandList, HasBadLine, IsScript};
+ghost use Rattle.ed_answers.specs.declared.input.TheConstants.{INPUT_BYTES};
 ghost use Rattle.ed_answers.specs.Answer.{of_input, of_made};
 ghost use Rattle.ed_answers.specs.Replies.{Gives, Replies};
 ghost use Rattle.ed_top.specs.Scripts.{OfStep, OnInput, OnText, on_rows};
@@ -21,7 +22,7 @@ use std::alloc::Global;
 
 /// `step`: what the script before the dividing line writes, on a machine started on the text after it.
 pub fn step(alloc: Global, settings: Settings, input: &[u8]) -> Result<Reply, Rejection>
-    requires { length input.now ≤ 262144 }
+    requires { length input.now ≤ INPUT_BYTES }
     ensures { Replies (of_input (OfStep settings)) input.now result }
 {
     match divide(input) {

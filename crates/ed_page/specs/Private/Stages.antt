@@ -4,6 +4,7 @@ use Rattle.ed_words.specs.declared.memory.NoMemory.{NoMemory}
 use Rattle.ed_words.specs.declared.size.Size.{Size}
 use Rattle.ed_machine.specs.State.{State}
 use Rattle.ed_run.specs.Run.{RunEnd}
+use Rattle.ed_answers.specs.declared.input.TheConstants.{INPUT_BYTES}
 use Rattle.ed_answers.specs.Answer.{Answer, IsDue}
 use Rattle.ed_words.specs.Texts.{Text}
 use Rattle.ed_answers.specs.Outcome.{Outcome}
@@ -56,8 +57,8 @@ pub record IsRunOf (o : Outcome) (r : RunEnd) (shown : Shown) : Type 0 where
 
 -- a machine is in the state in which the run of a text ends, if there is such a state; otherwise there is no machine
 pub record IsMachineOf (Ends : Text → State → Type 0) (text : Text) (machine : Option State) : Type 0 where
-  pub some : length text ≤ 262144 → (m : State) → Ends text m → machine ≡ Some m
-  pub none : ((m : State) → length text ≤ 262144 → Ends text m → ⊥) → machine ≡ None
+  pub some : length text ≤ INPUT_BYTES → (m : State) → Ends text m → machine ≡ Some m
+  pub none : ((m : State) → length text ≤ INPUT_BYTES → Ends text m → ⊥) → machine ≡ None
 
 -- what is shown of a text is what the program answers, and the machine in which its run ends
 abbrev pub Draws : Answer → (Text → State → Type 0) → Text → Result Shown NoMemory → Type 0

@@ -5,6 +5,7 @@ use Rattle.std.specs.declared.alloc.Global.{Global}
 use Rattle.ed_io.specs.Bytes.{IsAtEnd, Loses}
 use Rattle.ed_io.specs.Causes.{next_count}
 use Rattle.ed_words.specs.Texts.{Text}
+use Rattle.ed_answers.specs.declared.input.TheConstants.{INPUT_BYTES}
 use Rattle.ed_answers.specs.Outcome.{Outcome}
 use Rattle.ed_answers.specs.Answer.{Answer}
 use Rattle.ed_top.specs.Clause.{Device, FailedOnce, NeverFailed, Wrote, WrotePart}
@@ -26,13 +27,13 @@ use Rattle.ed_parts.specs.declared.tape.PartsFault.TheVariants as parts
 
 -- no input, if none is read, and the source is unchanged; or the whole input, if it is not too long
 abbrev pub HasInput : Bool → Device → Result (Vec ℕ Global) InputStop → Type 0
-HasInput false source (Ok v) = (length v.items ≤ 262144) × (source.after ≡ source.before) × NeverFailed source
-HasInput true source (Ok v) = (length v.items ≤ 262144) × Loses source.before source.after v.items
+HasInput false source (Ok v) = (length v.items ≤ INPUT_BYTES) × (source.after ≡ source.before) × NeverFailed source
+HasInput true source (Ok v) = (length v.items ≤ INPUT_BYTES) × Loses source.before source.after v.items
     × IsAtEnd source.after × NeverFailed source
 HasInput reads source (Err input.Failed) = (reads ≡ true) × FailedOnce source
 HasInput reads source (Err input.Memory) = NeverFailed source
 HasInput reads source (Err input.TooLong) =
-    (reads ≡ true) × ((bytes : Text) × (length bytes ≡ 262145) × Loses source.before source.after bytes)
+    (reads ≡ true) × ((bytes : Text) × (length bytes ≡ INPUT_BYTES + 1) × Loses source.before source.after bytes)
     × NeverFailed source
 
 -- the source's count of faults after it was read: one more if a read failed, else unchanged
