@@ -213,7 +213,7 @@ class Machine {
         return Object.assign(shown, { note: '', way, printed: from.printed + shown.printed });
     }
 
-    // What a post-mortem of so many locations prints of a picture, after what was printed before.
+    // What a post-mortem of `count` locations prints of a picture, after what was printed before.
     postMortem(way, shown, first, count) {
         this.mount(way);
         this.putPicture(shown);

@@ -405,7 +405,7 @@ function punch() {
     }
 }
 
-// Prints the words at some places as the post-mortem does, of the machine as it stands.
+// Prints the words at some locations of the machine that is shown, as the post-mortem does.
 function printPostMortem() {
     const [first, count] = ['pmFirst', 'pmCount'].map((id) => Math.max(0, Math.floor(Number(by(id).value)) || 0));
     const told = page.machine.postMortem(page.way, page.shown, first, count);

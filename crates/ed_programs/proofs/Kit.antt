@@ -55,7 +55,7 @@ calling place = G_F + 2 * place
 abbrev pub link : ℕ → ℕ
 link j = to 3 (j + 2)
 
--- a path, and where it comes to a stop, by another count of its orders
+-- a path, and where it stops, by another count of its orders
 pub counted : {n a b : ℕ} {f : Frame n 0} {r t : Moment} {codes : List ℕ} → Path f a r codes t → a ≡ b
     → Path f b r codes t
 counted {f = f} {r} {t} {codes} path e = subst (λ k. Path f k r codes t) e path

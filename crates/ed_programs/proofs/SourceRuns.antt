@@ -72,7 +72,7 @@ read_of two pieces ds marks =
 abbrev pub wanted : (two : Bool) → List (Marked two) → Read
 wanted two marks = ([], (two, (true, marked_texts marks)))
 
--- such a source that has no fault and comes to its stop, by what it prints and in how many orders
+-- such a source that has no fault and reaches its stop, by what it prints and in how many orders
 pub read_runs : (s : Settings) (two : Bool) (pieces ds : List Text) (marks : List (Marked two)) {k orders at : ℕ}
     {printed : List ℕ} {text : Text} → read_of two pieces ds marks ≡ wanted two marks
     → fault s.size (lines_of_pieces two pieces ds marks) ≡ None

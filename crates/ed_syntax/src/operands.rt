@@ -75,7 +75,7 @@ fn joined(version: Version, run: &[u8], sign: u8, more: &[u8]) -> Result<Option<
     }))
 }
 
-/// An operand at the front, and the parts behind it. A number out of its range is no fault as long as these parts may
+/// An operand at the front, and the parts after it. A number out of its range is no fault as long as these parts may
 /// have no form.
 pub(crate) fn operand<'a, 'p>(
     version: Version,
