@@ -12,7 +12,7 @@ use ed_machine::Machine;
 /// Hands back the list of the old tape as `Machine::start` does.
 pub fn begin(machine: &mut Machine, rows: Vec<Code>) -> Vec<Code>
     ensures state { machine.new ≡ start_state initial_orders rows.items machine.old }
-    ensures start_state { IsStarted machine.new }
+    ensures started { IsStarted machine.new }
     ensures old_rows { EndsWith result.items machine.old.tape }
 {
     machine.start(&orders(), rows)
