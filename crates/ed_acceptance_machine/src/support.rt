@@ -3,7 +3,7 @@
 use crate::numbers::word;
 use ed_codes::row_of_byte;
 use ed_machine::{Machine, Turn};
-use ed_words::{Order, Size, Word};
+use ed_words::{Order, Size, Word, number_within};
 use std::alloc::Global;
 use std::process::Abort;
 use std::test::Fail;
@@ -11,18 +11,13 @@ use std::test::Fail;
 /// The word of an order that is written as its letter, its number in decimal, and F or D. A number of 1024 or more has
 /// the spare digit, as in the text of an order.
 fn word_of_order(text: &str) -> Option<Word> {
-    let [letter, digits @ .., length] = text.as_bytes() else {
-        return None;
-    };
-    let mut number: u16 = 0;
-    for digit in digits {
-        let value = digit.checked_sub(b'0')?;
-        number = number.checked_mul(10)?.checked_add(u16::from(value))?;
-    }
+    let (letter, rest) = text.as_bytes().split_first()?;
+    let (length, digits) = rest.split_last()?;
+    let number = number_within(digits, 0, 2047)?;
     Some(Word::of_order(Order {
         function: row_of_byte(*letter)?.value(),
-        spare: number / 1024 % 2 == 1,
-        address: number % 1024,
+        spare: number >= 1024,
+        address: (number % 1024) as u16,
         length: *length == b'D',
     }))
 }

@@ -1,6 +1,6 @@
 //! The lines of a source: their forms, and the first fault of form.
 
-use ed_syntax::{Operand, SourceCause, SourceFault, Statement, parse};
+use ed_syntax::{SourceCause, SourceFault, parse};
 
 /// Two lines as one text.
 fn joined(rt: &HostRuntime, first: &[u8], second: &[u8]) -> Option<Vec<u8>> {
@@ -298,97 +298,4 @@ fn the_most_lines_and_bytes(rt: HostRuntime) {
         "121"
     );
     assert_eq!(rt; outcome(&rt, &blanks[..120]), (1, None), "120");
-}
-
-#[test]
-fn each_form_is_read(rt: HostRuntime) {
-    let text =
-        b"version 2\nl: O letter-3 D\nword -5\ntext \"A0#\"\nuse print as p with X=12,H=_c+b\nlong -1\nsegment m at 77\n;\n* F\ndata \"9A\"";
-    let program = match parse(rt.alloc(), text) {
-        Ok(program) => program,
-        Err(_) => {
-            assert!(rt; false, "a fault");
-            return;
-        }
-    };
-    assert_eq!(rt; program.version, 2, "version");
-    let mut seen = 0u32;
-    for line in &program.lines {
-        match &line.statement {
-            Some(
-                Statement::Order {
-                    function,
-                    operand,
-                    length,
-                },
-            ) => {
-                if line.number == 2 {
-                    assert_eq!(rt; (function.value(), *length), (9, true), "order");
-                    assert!(rt; line.label.is_some());
-                    match operand {
-                        Operand::Label { name, plus } => {
-                            assert_eq!(rt; name.text(), "letter", "label");
-                            assert_eq!(rt; *plus, -3, "plus");
-                        }
-                        _ => assert!(rt; false),
-                    }
-                } else {
-                    assert_eq!(rt;
-                        (line.number, function.value(), *length),
-                        (9, 15, false),
-                        "star"
-                    );
-                    assert!(rt; *operand == Operand::Number(0));
-                }
-                seen = u32::saturating_add(seen, 1);
-            }
-            Some(Statement::Number { value }) => {
-                assert_eq!(rt; (line.number, value.value()), (3, 131067), "word");
-                seen = u32::saturating_add(seen, 1);
-            }
-            Some(Statement::Text { codes }) => {
-                assert_eq!(rt; codes.len(), 3, "codes");
-                assert_eq!(rt;
-                    (codes[0].value(), codes[1].value(), codes[2].value()),
-                    (28, 0, 11),
-                    "codes"
-                );
-                seen = u32::saturating_add(seen, 1);
-            }
-            Some(
-                Statement::Fetch {
-                    routine,
-                    name,
-                    settings,
-                },
-            ) => {
-                assert_eq!(rt; routine.text(), "print", "routine");
-                assert_eq!(rt; name.text(), "p", "name");
-                assert_eq!(rt; settings.len(), 2, "settings");
-                assert_eq!(rt;
-                    (settings[0].letter.value(), settings[1].letter.value()),
-                    (26, 21),
-                    "letters"
-                );
-                seen = u32::saturating_add(seen, 1);
-            }
-            Some(Statement::Long { value }) => {
-                assert_eq!(rt; value.value(), (1 << 35) - 1, "long");
-                seen = u32::saturating_add(seen, 1);
-            }
-            Some(Statement::Segment { name, base }) => {
-                assert_eq!(rt; name.text(), "m", "segment");
-                assert!(rt; *base == Some(77));
-                seen = u32::saturating_add(seen, 1);
-            }
-            Some(Statement::Rows { codes }) => {
-                assert_eq!(rt; codes.len(), 2, "rows");
-                assert_eq!(rt; (codes[0].value(), codes[1].value()), (9, 28), "rows");
-                seen = u32::saturating_add(seen, 1);
-            }
-            Some(Statement::Enter { .. }) => {}
-            None => assert!(rt; line.number == 1 || line.number == 8),
-        }
-    }
-    assert_eq!(rt; (seen, program.lines.len()), (8, 10), "seen");
 }

@@ -20,7 +20,7 @@ use std::alloc::Global;
 
 /// The beginning of a part: the most orders of the run, the number of rows of the whole tape, the part's number,
 /// counted from 1, and the number of orders before it.
-#[derive(Clone, Copy, Debug, PartialEq, Eq)]
+#[derive(Clone, Copy)]
 pub(crate) struct Stage {
     pub limit: u64,
     pub rows: usize,
@@ -29,7 +29,7 @@ pub(crate) struct Stage {
 }
 
 /// How a part was passed.
-#[derive(Clone, Copy, Debug, PartialEq, Eq)]
+#[derive(Clone, Copy)]
 pub(crate) enum Passed {
     /// It is the last one, and the run is over.
     Over(PartsEnd),
@@ -39,7 +39,7 @@ pub(crate) enum Passed {
 
 /// The entry of a part: its location, the number of orders from the part's beginning to it, and the rows read up to it,
 /// counted from the tape's first.
-#[derive(Clone, Copy, Debug, PartialEq, Eq)]
+#[derive(Clone, Copy)]
 pub(crate) struct Arrival {
     pub at: u16,
     pub orders: u64,

@@ -7,7 +7,7 @@ use ed_interlude::is_returned;
 use ed_machine::{Ending, Machine, Turn};
 
 /// What a program did.
-#[derive(Clone, Copy, Debug, PartialEq, Eq)]
+#[derive(Clone, Copy)]
 pub(crate) enum Met {
     /// It ended with this ending.
     Finished(Ending),

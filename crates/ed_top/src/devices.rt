@@ -14,7 +14,7 @@ use std::alloc::{AllocError, Global};
 const PIECE: usize = 4096;
 
 /// Why there is no input.
-#[derive(Clone, Copy, Debug, PartialEq, Eq)]
+#[derive(Clone, Copy)]
 pub enum InputStop {
     /// A read failed.
     Failed,
@@ -54,7 +54,7 @@ pub struct Rest {
 }
 
 /// Why a command was not carried out.
-#[derive(Clone, Copy, Debug, PartialEq, Eq)]
+#[derive(Clone, Copy)]
 pub enum Stop {
     /// A write on `out` failed.
     Failed,
