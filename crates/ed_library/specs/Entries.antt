@@ -6,7 +6,8 @@ use Rattle.ed_library.specs.declared.tables.TableRow.{TableRow}
 use Rattle.ed_library.specs.declared.tables.TheConstants.{CHECK, DIVIDE, NEWLINE, PRINT, READ, ROOT}
 
 -- what the catalogue says of a routine: its name, the letters of its preset parameters, the offsets of the words of its
--- own that it changes, and its items, each a row of its table
+-- own that it changes, and its items, each a row with a function, a number, whether a π follows the number, and an
+-- ending row
 pub record Routine : Type 0 where
   pub name : List ℕ
   pub parameters : List ℕ
