@@ -119,15 +119,18 @@ def without_generics(text):
 
 
 def exported(name):
-    """The names that the root file of a library declares or passes on. No module is passed on whole."""
+    """The names that the root file of a library declares or passes on, apart from those of its public modules."""
     root = CRATES / name / "src" / "lib.rt"
     text = root.read_text()
     names = {item.group(2) for item in map(ITEM.match, lines_above_tests(root)) if item}
     for group in re.findall(r"^pub use [\w:]+::(\{[^}]*\}|\w+);", text, re.M):
         names |= {name.strip() for name in group.strip("{}").split(",") if name.strip()}
-    for module in re.findall(r"^pub mod (\w+);", text, re.M):
-        sys.exit(f"surface: {root} has the public module {module}; pass its items on by name")
     return names
+
+
+def public_modules(name):
+    """The modules that the root file of a library declares as public. All their public items are the library's too."""
+    return re.findall(r"^pub mod (\w+);", (CRATES / name / "src" / "lib.rt").read_text(), re.M)
 
 
 # ---- the pages

@@ -1,6 +1,7 @@
 ghost use Rattle.std.specs.Prelude.{◌≡◌, ◌↔◌, ◌≤◌, ◌<◌, ◌==◌, IsNone, IfSome, Some, position};
 ghost use Rattle.ed_codes.specs.Spelling.{byte_of, letters, row_of};
 
+use crate::letters;
 use std::marker::Model;
 
 /// The code of a tape row or of a printed character, 0 to 31.
@@ -28,6 +29,27 @@ impl Default for Code {
     fn default() -> Code {
         Code { number: 0 }
     }
+}
+
+/// The codes that the program uses as such, each by the name of its number.
+impl Code {
+    pub const P: Code = Code { number: letters::P };
+
+    pub const PI: Code = Code {
+        number: letters::PI,
+    };
+
+    pub const K: Code = Code { number: letters::K };
+
+    pub const F: Code = Code { number: letters::F };
+
+    pub const THETA: Code = Code {
+        number: letters::THETA,
+    };
+
+    pub const D: Code = Code { number: letters::D };
+
+    pub const H: Code = Code { number: letters::H };
 }
 
 /// The letters and signs of the codes 0 to 31.

@@ -5,6 +5,7 @@
 #![tactic(auto)]
 
 mod code;
+pub mod letters;
 mod tape;
 
 pub use code::{Code, byte_of, row_of_byte};

@@ -1,33 +1,8 @@
 ghost use Rattle.std.specs.Prelude.{◌≡◌, ◌<◌};
 ghost use Rattle.ed_initial.specs.Listing.{initial_orders, listed_order};
 
+use ed_codes::letters::{A, E, G, H, I, L, P, R, S, T, U, V};
 use ed_words::{Order, Word};
-
-// The codes of the functions in the listing.
-
-const P: u8 = 0;
-
-const E: u8 = 3;
-
-const R: u8 = 4;
-
-const T: u8 = 5;
-
-const U: u8 = 7;
-
-const I: u8 = 8;
-
-const S: u8 = 12;
-
-const H: u8 = 21;
-
-const L: u8 = 25;
-
-const G: u8 = 27;
-
-const A: u8 = 28;
-
-const V: u8 = 31;
 
 // The length of an order: F is short, and D is long.
 

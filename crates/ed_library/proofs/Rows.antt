@@ -1,20 +1,21 @@
 -- Each row of a table has codes.
-use Rattle.std.proofs.Common.{◌≡◌, ◌<◌, ℕ, Bool, true, List, length}
+use Rattle.std.proofs.Common.{◌≡◌, ◌<◌, ℕ, true, List, length}
 use Rattle.std.specs.Prelude.{slice_index_or}
 use Rattle.std.specs.List.{list_all}
 use Rattle.std.proofs.lemmas.Bool.{and_parts}
 use Rattle.std.proofs.lemmas.List.Sums.{AllPass-from_list_all}
 use Rattle.ed_words.proofs.Numbers.{lt_of}
 use Rattle.ed_library.specs.Routines.{is_row}
+use Rattle.ed_library.specs.declared.tables.TableRow.{TableRow}
 
 -- the function of a row is a code
-pub row_function : (rows : List (ℕ × ℕ × Bool × ℕ)) (k : ℕ) (d : ℕ × ℕ × Bool × ℕ) → list_all is_row rows ≡ true
+pub row_function : (rows : List TableRow) (k : ℕ) (d : TableRow) → list_all is_row rows ≡ true
     → k < length rows
-    → (slice_index_or rows k d).0 < 32
+    → (slice_index_or rows k d).function < 32
 row_function rows k d h below = lt_of _ _ (and_parts _ _ (AllPass-from_list_all is_row rows h k d below)).0
 
 -- the ending of a row is a code
-pub row_end : (rows : List (ℕ × ℕ × Bool × ℕ)) (k : ℕ) (d : ℕ × ℕ × Bool × ℕ) → list_all is_row rows ≡ true
+pub row_end : (rows : List TableRow) (k : ℕ) (d : TableRow) → list_all is_row rows ≡ true
     → k < length rows
-    → (slice_index_or rows k d).3 < 32
+    → (slice_index_or rows k d).end < 32
 row_end rows k d h below = lt_of _ _ (and_parts _ _ (AllPass-from_list_all is_row rows h k d below)).1

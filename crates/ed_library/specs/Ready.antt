@@ -1,13 +1,15 @@
 -- What holds of the whole catalogue: its routines can be linked, and are in order of name (this project's own rule).
 use Rattle.std.specs.Prelude.{ℕ, ◌==◌, Bool, true, false, ◌&&◌, nat_le, nat_lt, List, [], ◌∷◌, length, if◌then◌else◌}
 use Rattle.std.specs.List.{list_all, list_any}
+use Rattle.ed_codes.specs.declared.letters.TheConstants.{D, F, H, THETA, X}
 use Rattle.ed_notation.specs.Spellings.{is_spellable}
 use Rattle.ed_library.specs.Entries.{Routine}
 use Rattle.ed_library.specs.Routines.{table_item}
+use Rattle.ed_library.specs.declared.tables.TableRow.{TableRow}
 
 -- whether a code is the letter of a preset parameter: H, N, M, &, L or X
 abbrev pub is_parameter : ℕ → Bool
-is_parameter c = nat_le 21 c && nat_le c 26
+is_parameter c = nat_le H c && nat_le c X
 
 -- whether each number is greater than the one before it
 abbrev pub are_rising : List ℕ → Bool
@@ -16,8 +18,8 @@ are_rising (a ∷ []) = true
 are_rising (a ∷ b ∷ cs) = nat_lt a b && are_rising (b ∷ cs)
 
 -- whether an item can be spelled and ends with F, θ, D or one of these letters
-abbrev pub is_ready_row : List ℕ → (ℕ × ℕ × Bool × ℕ) → Bool
-is_ready_row letters row = is_spellable (table_item row) && list_any (λ c. c == row.3) (17 ∷ 18 ∷ 19 ∷ letters)
+abbrev pub is_ready_row : List ℕ → TableRow → Bool
+is_ready_row letters row = is_spellable (table_item row) && list_any (λ c. c == row.end) (F ∷ THETA ∷ D ∷ letters)
 
 -- whether the letters of a routine are those of parameters, in ascending order
 abbrev pub are_letters : List ℕ → Bool

@@ -13,4 +13,4 @@ mod tables;
 pub use catalogue::{catalogue_size, find, routine};
 pub use images::{Parameters, image_word};
 pub use library::Routine;
-pub use tables::{CHECK, DIVIDE, NEWLINE, PRINT, READ, ROOT};
+pub use tables::{CHECK, DIVIDE, NEWLINE, PRINT, READ, ROOT, TableRow};

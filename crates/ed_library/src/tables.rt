@@ -1,288 +1,278 @@
-//! The routines as plain numbers. To add a routine takes a table, an entry of the catalogue in `specs/`, and an arm
-//! here.
+//! The routines as tables. To add a routine takes a table, an entry of the catalogue in `specs/`, and an arm here.
 ghost use Rattle.std.specs.Prelude.{◌≡◌, ◌<◌, true};
 ghost use Rattle.std.specs.List.{list_all};
 ghost use Rattle.ed_library.specs.Entries.{entry, how_many};
 ghost use Rattle.ed_library.specs.Routines.{is_row};
 
-// The codes of the functions and of the ending rows.
+use ed_codes::letters;
 
-const P: u8 = 0;
+/// An item of a routine as plain numbers.
+#[derive(Clone, Copy, Debug, PartialEq, Eq)]
+pub struct TableRow {
+    /// The code of the function row.
+    pub function: u8,
+    /// The number of the digit rows.
+    pub number: u16,
+    /// Whether a π follows the number.
+    pub mark: bool,
+    /// The code of the ending row.
+    pub end: u8,
+}
 
-const Q: u8 = 1;
-
-const E: u8 = 3;
-
-const R: u8 = 4;
-
-const T: u8 = 5;
-
-const U: u8 = 7;
-
-const I: u8 = 8;
-
-const O: u8 = 9;
-
-const FIGURES: u8 = 11;
-
-const S: u8 = 12;
-
-const F: u8 = 17;
-
-const THETA: u8 = 18;
-
-const D: u8 = 19;
-
-const H: u8 = 21;
-
-const N: u8 = 22;
-
-const M: u8 = 23;
-
-const LINE_FEED: u8 = 24;
-
-const L: u8 = 25;
-
-const G: u8 = 27;
-
-const A: u8 = 28;
-
-const B: u8 = 29;
+/// A row of a table: the function, the number, `PI` if a π follows it, and the ending row.
+macro_rules! row {
+    ($function:ident $number:literal $end:ident) => {
+        TableRow {
+            function: letters::$function,
+            number: $number,
+            mark: false,
+            end: letters::$end,
+        }
+    };
+    ($function:ident $number:literal PI $end:ident) => {
+        TableRow {
+            function: letters::$function,
+            number: $number,
+            mark: true,
+            end: letters::$end,
+        }
+    };
+}
 
 /// The routine `check`, which obeys another program order by order and prints the function of each order.
-pub const CHECK: [(u8, u16, bool, u8); 66] = [
-    (A, 0, false, H),
-    (U, 40, false, THETA),
-    (O, 40, false, THETA),
-    (E, 13, false, THETA),
-    (S, 53, false, THETA),
-    (G, 30, false, THETA),
-    (S, 55, false, THETA),
-    (E, 30, false, THETA),
-    (A, 56, false, THETA),
-    (T, 58, false, THETA),
-    (A, 60, true, THETA),
-    (G, 26, false, THETA),
-    (E, 21, false, THETA),
-    (S, 54, false, THETA),
-    (G, 30, false, THETA),
-    (S, 55, false, THETA),
-    (E, 30, false, THETA),
-    (A, 56, false, THETA),
-    (T, 58, false, THETA),
-    (A, 60, true, THETA),
-    (E, 26, false, THETA),
-    (T, 59, false, THETA),
-    (A, 0, false, THETA),
-    (A, 57, false, THETA),
-    (T, 0, false, THETA),
-    (E, 0, false, THETA),
-    (T, 59, false, THETA),
-    (A, 58, false, THETA),
-    (T, 0, false, THETA),
-    (E, 0, false, THETA),
-    (T, 59, false, THETA),
-    (A, 64, true, THETA),
-    (R, 0, false, F),
-    (R, 0, false, F),
-    (R, 4, false, F),
-    (A, 62, true, THETA),
-    (R, 0, false, F),
-    (R, 0, false, F),
-    (R, 4, false, F),
-    (A, 60, true, THETA),
-    (P, 0, false, F),
-    (U, 60, true, THETA),
-    (S, 60, true, THETA),
-    (L, 0, false, F),
-    (L, 0, false, F),
-    (L, 64, false, F),
-    (U, 62, true, THETA),
-    (S, 62, true, THETA),
-    (L, 0, false, F),
-    (L, 0, false, F),
-    (L, 64, false, F),
-    (T, 64, true, THETA),
-    (E, 22, false, THETA),
-    (G, 0, false, F),
-    (E, 0, false, F),
-    (Q, 0, false, F),
-    (B, 0, false, F),
-    (P, 1, false, F),
-    (P, 0, false, F),
-    (P, 0, false, F),
-    (P, 0, false, F),
-    (P, 0, false, F),
-    (P, 0, false, F),
-    (P, 0, false, F),
-    (P, 0, false, F),
-    (P, 0, false, F),
+pub const CHECK: [TableRow; 66] = [
+    row!(A 0 H),
+    row!(U 40 THETA),
+    row!(O 40 THETA),
+    row!(E 13 THETA),
+    row!(S 53 THETA),
+    row!(G 30 THETA),
+    row!(S 55 THETA),
+    row!(E 30 THETA),
+    row!(A 56 THETA),
+    row!(T 58 THETA),
+    row!(A 60 PI THETA),
+    row!(G 26 THETA),
+    row!(E 21 THETA),
+    row!(S 54 THETA),
+    row!(G 30 THETA),
+    row!(S 55 THETA),
+    row!(E 30 THETA),
+    row!(A 56 THETA),
+    row!(T 58 THETA),
+    row!(A 60 PI THETA),
+    row!(E 26 THETA),
+    row!(T 59 THETA),
+    row!(A 0 THETA),
+    row!(A 57 THETA),
+    row!(T 0 THETA),
+    row!(E 0 THETA),
+    row!(T 59 THETA),
+    row!(A 58 THETA),
+    row!(T 0 THETA),
+    row!(E 0 THETA),
+    row!(T 59 THETA),
+    row!(A 64 PI THETA),
+    row!(R 0 F),
+    row!(R 0 F),
+    row!(R 4 F),
+    row!(A 62 PI THETA),
+    row!(R 0 F),
+    row!(R 0 F),
+    row!(R 4 F),
+    row!(A 60 PI THETA),
+    row!(P 0 F),
+    row!(U 60 PI THETA),
+    row!(S 60 PI THETA),
+    row!(L 0 F),
+    row!(L 0 F),
+    row!(L 64 F),
+    row!(U 62 PI THETA),
+    row!(S 62 PI THETA),
+    row!(L 0 F),
+    row!(L 0 F),
+    row!(L 64 F),
+    row!(T 64 PI THETA),
+    row!(E 22 THETA),
+    row!(G 0 F),
+    row!(E 0 F),
+    row!(Q 0 F),
+    row!(B 0 F),
+    row!(P 1 F),
+    row!(P 0 F),
+    row!(P 0 F),
+    row!(P 0 F),
+    row!(P 0 F),
+    row!(P 0 F),
+    row!(P 0 F),
+    row!(P 0 F),
+    row!(P 0 F),
 ];
 
 /// The routine `divide`, which divides a number of 32 digits by one of 15.
-pub const DIVIDE: [(u8, u16, bool, u8); 41] = [
-    (A, 3, false, F),
-    (T, 32, false, THETA),
-    (A, 33, false, THETA),
-    (R, 0, false, F),
-    (R, 0, false, D),
-    (T, 36, true, THETA),
-    (A, 0, false, N),
-    (R, 0, false, F),
-    (R, 0, false, D),
-    (A, 0, false, H),
-    (T, 38, true, THETA),
-    (S, 34, false, THETA),
-    (U, 35, false, THETA),
-    (T, 40, false, THETA),
-    (A, 38, true, THETA),
-    (L, 0, false, D),
-    (S, 0, false, M),
-    (E, 20, false, THETA),
-    (A, 0, false, M),
-    (E, 21, false, THETA),
-    (A, 36, true, THETA),
-    (T, 38, true, THETA),
-    (A, 35, false, THETA),
-    (A, 33, false, THETA),
-    (U, 35, false, THETA),
-    (G, 13, false, THETA),
-    (A, 38, true, THETA),
-    (U, 0, false, H),
-    (S, 0, false, H),
-    (L, 0, false, F),
-    (L, 2, false, F),
-    (T, 0, false, N),
-    (P, 0, false, F),
-    (P, 0, false, D),
-    (P, 8, false, F),
-    (P, 0, false, F),
-    (P, 0, false, F),
-    (P, 0, false, F),
-    (P, 0, false, F),
-    (P, 0, false, F),
-    (P, 0, false, F),
+pub const DIVIDE: [TableRow; 41] = [
+    row!(A 3 F),
+    row!(T 32 THETA),
+    row!(A 33 THETA),
+    row!(R 0 F),
+    row!(R 0 D),
+    row!(T 36 PI THETA),
+    row!(A 0 N),
+    row!(R 0 F),
+    row!(R 0 D),
+    row!(A 0 H),
+    row!(T 38 PI THETA),
+    row!(S 34 THETA),
+    row!(U 35 THETA),
+    row!(T 40 THETA),
+    row!(A 38 PI THETA),
+    row!(L 0 D),
+    row!(S 0 M),
+    row!(E 20 THETA),
+    row!(A 0 M),
+    row!(E 21 THETA),
+    row!(A 36 PI THETA),
+    row!(T 38 PI THETA),
+    row!(A 35 THETA),
+    row!(A 33 THETA),
+    row!(U 35 THETA),
+    row!(G 13 THETA),
+    row!(A 38 PI THETA),
+    row!(U 0 H),
+    row!(S 0 H),
+    row!(L 0 F),
+    row!(L 2 F),
+    row!(T 0 N),
+    row!(P 0 F),
+    row!(P 0 D),
+    row!(P 8 F),
+    row!(P 0 F),
+    row!(P 0 F),
+    row!(P 0 F),
+    row!(P 0 F),
+    row!(P 0 F),
+    row!(P 0 F),
 ];
 
 /// The routine `newline`, which prints a carriage return and a line feed.
-pub const NEWLINE: [(u8, u16, bool, u8); 7] = [
-    (A, 3, false, F),
-    (T, 4, false, THETA),
-    (O, 5, false, THETA),
-    (O, 6, false, THETA),
-    (P, 0, false, F),
-    (THETA, 0, false, F),
-    (LINE_FEED, 0, false, F),
+pub const NEWLINE: [TableRow; 7] = [
+    row!(A 3 F),
+    row!(T 4 THETA),
+    row!(O 5 THETA),
+    row!(O 6 THETA),
+    row!(P 0 F),
+    row!(CARRIAGE_RETURN 0 F),
+    row!(LINE_FEED 0 F),
 ];
 
 /// The routine `print`, which prints the integer at a location.
-pub const PRINT: [(u8, u16, bool, u8); 51] = [
-    (A, 3, false, F),
-    (T, 38, false, THETA),
-    (O, 39, false, THETA),
-    (A, 0, false, H),
-    (T, 47, false, THETA),
-    (T, 48, false, THETA),
-    (A, 41, false, THETA),
-    (T, 11, false, THETA),
-    (T, 50, false, THETA),
-    (T, 49, false, THETA),
-    (A, 47, false, THETA),
-    (S, 43, false, THETA),
-    (G, 18, false, THETA),
-    (T, 47, false, THETA),
-    (A, 49, false, THETA),
-    (A, 40, false, THETA),
-    (T, 49, false, THETA),
-    (E, 10, false, THETA),
-    (T, 50, false, THETA),
-    (A, 49, false, THETA),
-    (A, 48, false, THETA),
-    (S, 40, false, THETA),
-    (G, 27, false, THETA),
-    (O, 49, false, THETA),
-    (T, 50, false, THETA),
-    (A, 40, false, THETA),
-    (T, 48, false, THETA),
-    (T, 50, false, THETA),
-    (A, 11, false, THETA),
-    (A, 2, false, F),
-    (U, 11, false, THETA),
-    (S, 42, false, THETA),
-    (G, 8, false, THETA),
-    (A, 47, false, THETA),
-    (L, 512, false, F),
-    (L, 0, false, D),
-    (T, 49, false, THETA),
-    (O, 49, false, THETA),
-    (P, 0, false, F),
-    (FIGURES, 0, false, F),
-    (Q, 0, false, F),
-    (S, 43, false, THETA),
-    (S, 47, false, THETA),
-    (P, 5000, false, F),
-    (P, 500, false, F),
-    (P, 50, false, F),
-    (P, 5, false, F),
-    (P, 0, false, F),
-    (P, 0, false, F),
-    (P, 0, false, F),
-    (P, 0, false, F),
+pub const PRINT: [TableRow; 51] = [
+    row!(A 3 F),
+    row!(T 38 THETA),
+    row!(O 39 THETA),
+    row!(A 0 H),
+    row!(T 47 THETA),
+    row!(T 48 THETA),
+    row!(A 41 THETA),
+    row!(T 11 THETA),
+    row!(T 50 THETA),
+    row!(T 49 THETA),
+    row!(A 47 THETA),
+    row!(S 43 THETA),
+    row!(G 18 THETA),
+    row!(T 47 THETA),
+    row!(A 49 THETA),
+    row!(A 40 THETA),
+    row!(T 49 THETA),
+    row!(E 10 THETA),
+    row!(T 50 THETA),
+    row!(A 49 THETA),
+    row!(A 48 THETA),
+    row!(S 40 THETA),
+    row!(G 27 THETA),
+    row!(O 49 THETA),
+    row!(T 50 THETA),
+    row!(A 40 THETA),
+    row!(T 48 THETA),
+    row!(T 50 THETA),
+    row!(A 11 THETA),
+    row!(A 2 F),
+    row!(U 11 THETA),
+    row!(S 42 THETA),
+    row!(G 8 THETA),
+    row!(A 47 THETA),
+    row!(L 512 F),
+    row!(L 0 D),
+    row!(T 49 THETA),
+    row!(O 49 THETA),
+    row!(P 0 F),
+    row!(FIGURE_SHIFT 0 F),
+    row!(Q 0 F),
+    row!(S 43 THETA),
+    row!(S 47 THETA),
+    row!(P 5000 F),
+    row!(P 500 F),
+    row!(P 50 F),
+    row!(P 5 F),
+    row!(P 0 F),
+    row!(P 0 F),
+    row!(P 0 F),
+    row!(P 0 F),
 ];
 
 /// The routine `read`, which reads an integer of digit rows into a location.
-pub const READ: [(u8, u16, bool, u8); 24] = [
-    (A, 3, false, F),
-    (T, 19, false, THETA),
-    (T, 21, false, THETA),
-    (I, 22, false, THETA),
-    (A, 22, false, THETA),
-    (S, 20, false, THETA),
-    (E, 16, false, THETA),
-    (T, 23, false, THETA),
-    (A, 21, false, THETA),
-    (L, 0, false, D),
-    (U, 23, false, THETA),
-    (L, 1, false, F),
-    (A, 23, false, THETA),
-    (A, 22, false, THETA),
-    (T, 21, false, THETA),
-    (E, 3, false, THETA),
-    (T, 23, false, THETA),
-    (A, 21, false, THETA),
-    (T, 0, false, H),
-    (P, 0, false, F),
-    (P, 5, false, F),
-    (P, 0, false, F),
-    (P, 0, false, F),
-    (P, 0, false, F),
+pub const READ: [TableRow; 24] = [
+    row!(A 3 F),
+    row!(T 19 THETA),
+    row!(T 21 THETA),
+    row!(I 22 THETA),
+    row!(A 22 THETA),
+    row!(S 20 THETA),
+    row!(E 16 THETA),
+    row!(T 23 THETA),
+    row!(A 21 THETA),
+    row!(L 0 D),
+    row!(U 23 THETA),
+    row!(L 1 F),
+    row!(A 23 THETA),
+    row!(A 22 THETA),
+    row!(T 21 THETA),
+    row!(E 3 THETA),
+    row!(T 23 THETA),
+    row!(A 21 THETA),
+    row!(T 0 H),
+    row!(P 0 F),
+    row!(P 5 F),
+    row!(P 0 F),
+    row!(P 0 F),
+    row!(P 0 F),
 ];
 
 /// The routine `root`, which takes the square root of an integer.
-pub const ROOT: [(u8, u16, bool, u8); 23] = [
-    (A, 3, false, F),
-    (T, 18, false, THETA),
-    (A, 0, false, H),
-    (T, 21, false, THETA),
-    (A, 19, false, THETA),
-    (T, 22, false, THETA),
-    (A, 21, false, THETA),
-    (S, 22, false, THETA),
-    (G, 14, false, THETA),
-    (T, 21, false, THETA),
-    (A, 22, false, THETA),
-    (A, 20, false, THETA),
-    (T, 22, false, THETA),
-    (E, 6, false, THETA),
-    (T, 21, false, THETA),
-    (A, 22, false, THETA),
-    (R, 0, false, D),
-    (T, 0, false, N),
-    (P, 0, false, F),
-    (P, 0, false, D),
-    (P, 1, false, F),
-    (P, 0, false, F),
-    (P, 0, false, F),
+pub const ROOT: [TableRow; 23] = [
+    row!(A 3 F),
+    row!(T 18 THETA),
+    row!(A 0 H),
+    row!(T 21 THETA),
+    row!(A 19 THETA),
+    row!(T 22 THETA),
+    row!(A 21 THETA),
+    row!(S 22 THETA),
+    row!(G 14 THETA),
+    row!(T 21 THETA),
+    row!(A 22 THETA),
+    row!(A 20 THETA),
+    row!(T 22 THETA),
+    row!(E 6 THETA),
+    row!(T 21 THETA),
+    row!(A 22 THETA),
+    row!(R 0 D),
+    row!(T 0 N),
+    row!(P 0 F),
+    row!(P 0 D),
+    row!(P 1 F),
+    row!(P 0 F),
+    row!(P 0 F),
 ];
 
 /// The number of routines.
@@ -298,7 +288,7 @@ pub(crate) struct Entry {
     /// The offsets of the routine's own words that it changes.
     pub(crate) working: &'static [u16],
     /// The items, one for each word.
-    pub(crate) items: &'static [(u8, u16, bool, u8)],
+    pub(crate) items: &'static [TableRow],
 }
 
 /// The routine with this index in the order of names.
@@ -313,13 +303,13 @@ pub(crate) fn table(index: u16) -> Entry
     match index {
         0 => Entry {
             name: "check",
-            parameters: &[21],
+            parameters: &[letters::H],
             working: &[0, 40, 58, 59, 60, 61, 62, 63, 64, 65],
             items: &CHECK,
         },
         1 => Entry {
             name: "divide",
-            parameters: &[21, 22, 23],
+            parameters: &[letters::H, letters::N, letters::M],
             working: &[32, 35, 36, 37, 38, 39, 40],
             items: &DIVIDE,
         },
@@ -331,19 +321,19 @@ pub(crate) fn table(index: u16) -> Entry
         },
         3 => Entry {
             name: "print",
-            parameters: &[21],
+            parameters: &[letters::H],
             working: &[11, 38, 47, 48, 49, 50],
             items: &PRINT,
         },
         4 => Entry {
             name: "read",
-            parameters: &[21],
+            parameters: &[letters::H],
             working: &[19, 21, 22, 23],
             items: &READ,
         },
         5 => Entry {
             name: "root",
-            parameters: &[21, 22],
+            parameters: &[letters::H, letters::N],
             working: &[18, 21, 22],
             items: &ROOT,
         },

@@ -12,7 +12,8 @@ use Rattle.ed_words.proofs.Numbers.{eq_of, le_of, lt_of, or_of}
 use Rattle.ed_notation.specs.Spellings.{is_spellable}
 use Rattle.ed_library.specs.Entries.{Routine, catalogue, entry, no_entry}
 use Rattle.ed_library.specs.Ready.{is_ready, is_ready_row, is_parameter, are_letters, are_rising}
-use Rattle.ed_library.specs.Routines.{find, find_from, table_item, routine_item, place_count}
+use Rattle.ed_library.specs.Routines.{find, find_from, missing_row, table_item, routine_item, place_count}
+use Rattle.ed_library.specs.declared.tables.TableRow.{TableRow}
 use Rattle.ed_syntax.specs.declared.program.Operand.{Operand}
 use Rattle.ed_syntax.specs.declared.program.Setting.{Setting}
 use Rattle.ed_link.specs.Linked.{set_to}
@@ -72,7 +73,7 @@ module _ (tables : list_all is_ready catalogue ≡ true) (text : List ℕ) (r : 
   pub spelled_item : (place : ℕ) → place < place_count r → is_spellable (routine_item r place) ≡ true
   spelled_item place h =
       let row = AllPass-from_list_all (is_ready_row (entry r).parameters) (entry r).items closed.rows place
-      (0, 0, false, 0) h in
+      missing_row h in
       (and_parts (is_spellable (routine_item r place)) _ row).0
 
   pub rows_are_ready : list_all (is_ready_row (entry r).parameters) (entry r).items ≡ true
@@ -101,7 +102,7 @@ module _ (ts : List Setting) where
         ]
       ]
 
-  all_known : (letters : List ℕ) (rows : List (ℕ × ℕ × Bool × ℕ))
+  all_known : (letters : List ℕ) (rows : List TableRow)
       → list_all (λ p. is_some (set_to ts p)) letters ≡ true
       → list_all is_parameter letters ≡ true → list_all (is_ready_row letters) rows ≡ true
       → AreKnown ts rows
@@ -109,7 +110,7 @@ module _ (ts : List Setting) where
   all_known letters (row ∷ rows) set range h =
       let p = and_parts (is_ready_row letters row) (list_all (is_ready_row letters) rows) h in
       let q = and_parts (is_spellable (table_item row)) _ p.0 in
-      (known letters row.3 set range q.1, all_known letters rows set range p.1)
+      (known letters row.end set range q.1, all_known letters rows set range p.1)
 
   -- the code letters of a routine whose parameters are set
   pub are_known : list_all is_ready catalogue ≡ true → (text : List ℕ) (r : ℕ) → find text ≡ Some r

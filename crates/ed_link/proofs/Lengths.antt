@@ -1,8 +1,10 @@
 -- A table keeps its length; how words are put into it.
-use Rattle.std.proofs.Common.{◌≡◌, ℕ, ◌+◌, ◌<◌, refl, sym, ap, ◌∙◌, arith, Bool, false, Option, Some}
+use Rattle.std.proofs.Common.{◌≡◌, ℕ, ◌+◌, ◌<◌, refl, sym, ap, ◌∙◌, arith, Option, Some}
 use Rattle.std.proofs.Common.{None, List, [], ◌∷◌, ◌++◌, length, map, drop, set, get_or}
 use Rattle.std.specs.Prelude.{replicate}
 use Rattle.std.proofs.lemmas.List.{length-set, length-replicate, drop_more}
+use Rattle.ed_library.specs.Routines.{missing_row}
+use Rattle.ed_library.specs.declared.tables.TableRow.{TableRow}
 use Rattle.ed_link.specs.Linked.{placed_words}
 use Rattle.ed_link.specs.Tables.{empty_table, put_all}
 
@@ -28,16 +30,16 @@ put_all_append table [] qs = refl
 put_all_append table (p ∷ ps) qs = put_all_append (set table p.0 (Some p.1)) ps qs
 
 -- one more row's word, of those one after the other
-pub put_more : {more whole : List (Option ℕ)} (word : ℕ × ℕ × Bool × ℕ → ℕ) (rows : List (ℕ × ℕ × Bool × ℕ))
+pub put_more : {more whole : List (Option ℕ)} (word : TableRow → ℕ) (rows : List TableRow)
     (k base : ℕ) (table : List (Option ℕ))
-    → k < length rows → more ≡ set table (base + k) (Some (word (get_or rows k (0, 0, false, 0))))
+    → k < length rows → more ≡ set table (base + k) (Some (word (get_or rows k missing_row)))
     → put_all table (placed_words (base + k) (map word (drop k rows))) ≡ whole
     → put_all more (placed_words (base + (k + 1)) (map word (drop (k + 1) rows))) ≡ whole
 put_more word rows k base table below same before =
     let next : base + k + 1 ≡ base + (k + 1) = omega arith in
     let rest = map word (drop (k + 1) rows) in
     let first : put_all table (placed_words (base + k) (map word (drop k rows)))
-    ≡ put_all (set table (base + k) (Some (word (get_or rows k (0, 0, false, 0))))) (placed_words (base + k + 1) rest) =
+    ≡ put_all (set table (base + k) (Some (word (get_or rows k missing_row)))) (placed_words (base + k + 1) rest) =
     ap (λ (xs : List _). put_all table (placed_words (base + k) (map word xs)))
-    (drop_more rows k (0, 0, false, 0) below) in
+    (drop_more rows k missing_row below) in
     (λ i. put_all (same i) (placed_words (sym next i) rest)) ∙ sym first ∙ before

@@ -16,6 +16,7 @@ use Rattle.ed_notation.specs.Spellings.{AreSpellable, canonical, is_spellable}
 use Rattle.ed_library.specs.Entries.{catalogue, entry}
 use Rattle.ed_library.specs.Ready.{is_ready, is_ready_row}
 use Rattle.ed_library.specs.Routines.{find, table_item}
+use Rattle.ed_library.specs.declared.tables.TableRow.{TableRow}
 use Rattle.ed_syntax.proofs.Meaning.{IsStatement}
 use Rattle.ed_syntax.specs.declared.program.Operand.{Operand}
 use Rattle.ed_syntax.specs.declared.program.Setting.{Setting}
@@ -120,7 +121,7 @@ presets_spelled symbols ts (c ∷ cs) h =
 
 -- ---- routines
 
-rows_spelled : (own : List ℕ) (rows : List (ℕ × ℕ × Bool × ℕ)) → list_all (is_ready_row own) rows ≡ true
+rows_spelled : (own : List ℕ) (rows : List TableRow) → list_all (is_ready_row own) rows ≡ true
     → AreSpellable (map table_item rows)
 rows_spelled own [] h = tt
 rows_spelled own (row ∷ rows) h =

@@ -19,6 +19,7 @@ use Rattle.ed_notation.specs.Spellings.{is_spellable, AreSpellable}
 use Rattle.ed_notation.proofs.Contents.{length-over}
 use Rattle.ed_library.specs.Routines.{table_item}
 use Rattle.ed_library.specs.Images.{routine_word, parameter_store}
+use Rattle.ed_library.specs.declared.tables.TableRow.{TableRow}
 use Rattle.ed_library.proofs.Letters.{value_of_parameter}
 use Rattle.ed_syntax.specs.declared.program.Operand.{Operand}
 use Rattle.ed_syntax.specs.declared.program.Setting.{Setting}
@@ -201,9 +202,9 @@ pub record IsPreset (ts : List Setting) (c : ℕ) : Type 0 where
 abbrev pub IsKnown : List Setting → ℕ → Type 0
 IsKnown ts c = (c ≡ 17) ⊎ ((c ≡ 18) ⊎ ((c ≡ 19) ⊎ IsPreset ts c))
 
-abbrev pub AreKnown : List Setting → List (ℕ × ℕ × Bool × ℕ) → Type 0
+abbrev pub AreKnown : List Setting → List TableRow → Type 0
 AreKnown ts [] = Unit {0}
-AreKnown ts (row ∷ rows) = IsKnown ts row.3 × AreKnown ts rows
+AreKnown ts (row ∷ rows) = IsKnown ts row.end × AreKnown ts rows
 
 kind_of : (ts : List Setting) (c : ℕ) → IsKnown ts c → (row_kind c ≡ Letter) × (nat_eq c 13 ≡ false)
 kind_of ts c (inl e) = rw e (refl, refl)
@@ -241,7 +242,7 @@ value_is {words} {symbols} {ts} {placed} base c (inr (inr (inr k))) h =
 
 -- a routine's items
 pub image_pass : {z : Size} {words : List ℕ} {symbols : List Definition} {ts : List Setting} {placed : List (ℕ × ℕ)}
-    (rows : List (ℕ × ℕ × Bool × ℕ)) (place base : ℕ) → AreKnown ts rows → 56 ≤ place
+    (rows : List TableRow) (place base : ℕ) → AreKnown ts rows → 56 ≤ place
     → place + length rows ≤ locations z → HoldsAll words symbols ts placed
     → Passes z words (at place base placed) (map table_item rows)
     (at (place + length rows) base
@@ -253,8 +254,8 @@ image_pass {z} {words} {symbols} {ts} {placed} (row ∷ rows) place base are low
     let ws = map (λ row. routine_word (parameters symbols ts) base (table_item row)) rows in
     let e : place + suc (length rows) ≡ place + 1 + length rows = omega arith in
     let v : word_in_fold words (at place base placed) (table_item row) ≡ w =
-    ap (λ v. word_with row.0 row.1 row.2 v) (value_is base row.3 are.0 h) in
-    let kind = kind_of ts row.3 are.0 in
+    ap (λ v. word_with row.function row.number row.mark v) (value_is base row.end are.0 h) in
+    let kind = kind_of ts row.end are.0 in
     let r = image_pass {z = z} {placed = (place, w) ∷ placed} rows (place + 1) base are.1 (omega arith) (omega arith)
     (still words symbols ts placed place w low h) in
     goes (placing z words place kind.0 refl (omega arith) (omega arith) v)

@@ -14,8 +14,8 @@ ghost use Rattle.ed_link.specs.Linked.{operand_number, long_words, set_to, param
 ghost use Rattle.ed_link.specs.Punch.{ending, head, with_heading, heads, item_with, items_of, order_item, goes_by_theta};
 ghost use Rattle.ed_link.specs.Punch.{preset_items, routine_items, use_items, word_item, word_items};
 
-use crate::operands::{goes_by_theta, number, setting};
-use ed_codes::Code;
+use crate::operands::{PARAMETER_LETTERS, goes_by_theta, number, setting};
+use ed_codes::{Code, letters};
 use ed_library::{Routine, catalogue_size, find};
 use ed_notation::Item;
 use ed_symbols::{Definition, LocationCounter, even, find_place};
@@ -37,11 +37,7 @@ fn push(items: &mut Vec<Item>, item: Item) -> Result<(), NoMemory>
 fn ending(length: bool) -> Code
     ensures { result ≡ ending length }
 {
-    if length {
-        Code::new(19).unwrap()
-    } else {
-        Code::new(17).unwrap()
-    }
+    if length { Code::D } else { Code::F }
 }
 
 /// Adds an item that ends with K.
@@ -58,7 +54,7 @@ fn push_control(items: &mut Vec<Item>, function: u8, number: u16) -> Result<(), 
             function: Code::new(function).unwrap(),
             number,
             mark: false,
-            end: Code::new(14).unwrap(),
+            end: Code::K,
         },
     )
 }
@@ -95,8 +91,8 @@ fn push_head(items: &mut Vec<Item>, base: u16) -> Result<(), NoMemory>
     ensures items { OnOk result (items.new.items ≡ items.old.items ++ head base) }
     ensures spellable { AreSpellable items.new.items }
 {
-    push_control(items, 5, base)?;
-    push_control(items, 27, 0)
+    push_control(items, letters::T, base)?;
+    push_control(items, letters::G, 0)
 }
 
 /// Adds the item of a word.
@@ -139,7 +135,7 @@ fn push_order(
                 function,
                 number: number.saturating_sub(counter.base as u16),
                 mark: length,
-                end: Code::new(18).unwrap(),
+                end: Code::THETA,
             },
         )
     } else {
@@ -201,13 +197,8 @@ fn push_preset(
 {
     match setting(settings, letter) {
         Some(operand) => {
-            push_control(items, 5, 24 + u16::from(letter))?;
-            push_number(
-                items,
-                Code::new(0).unwrap(),
-                number(symbols, None, &operand),
-                false,
-            )
+            push_control(items, letters::T, 24 + u16::from(letter))?;
+            push_number(items, Code::P, number(symbols, None, &operand), false)
         }
         None => Ok(()),
     }
@@ -259,7 +250,7 @@ fn push_use(
         (items.new.items ≡ items.old.items ++ use_items symbols.now settings.now base (find routine.now)) }
     ensures spellable { AreSpellable items.new.items }
 {
-    push_presets(items, symbols, settings, &[21, 22, 23, 24, 25, 26])?;
+    push_presets(items, symbols, settings, &PARAMETER_LETTERS)?;
     match find(routine.text()) {
         Some(routine) => {
             let _ready = catalogue_size();
@@ -320,8 +311,8 @@ pub(crate) fn push_line(
             },
         ) => push_use(items, symbols, settings, even(counter.place), routine),
         Some(Statement::Enter { name }) => {
-            push_control(items, 3, entry_of(symbols, name))?;
-            push_number(items, Code::new(0).unwrap(), 0, false)
+            push_control(items, letters::E, entry_of(symbols, name))?;
+            push_number(items, Code::P, 0, false)
         }
         None | Some(Statement::Segment { .. } | Statement::Rows { .. }) => Ok(()),
     }

@@ -16,7 +16,7 @@ ghost use Rattle.ed_link.specs.Private.FaultTests.{reach};
 ghost use Rattle.ed_link.specs.Tables.{put_all, place_word, words_from};
 
 use crate::linked::Placed;
-use crate::operands::{number, parameters, setting};
+use crate::operands::{PARAMETER_LETTERS, number, parameters, setting};
 use ed_codes::Code;
 use ed_library::{Parameters, Routine, find, image_word};
 use ed_symbols::{Definition, LocationCounter, even};
@@ -144,7 +144,7 @@ fn put_use(
         ≡ put_all table.old.items (presets symbols.now settings.now ++ image symbols.now settings.now base
         (find routine.now)) }
 {
-    put_presets(table, symbols, settings, &[21, 22, 23, 24, 25, 26]);
+    put_presets(table, symbols, settings, &PARAMETER_LETTERS);
     if let Some(routine) = find(routine.text()) {
         let _ = routine.length();
         put_routine(table, &parameters(symbols, settings), base as u16, routine);

@@ -7,15 +7,12 @@ use crate::cause::{TapeCause, TapeFault};
 use crate::checked::Checked;
 use crate::reader::{DirectiveState, PartialItem, Reached, RowEffect, take};
 use ed_codes::Code;
-use ed_store::Store;
+use ed_store::{LOCATIONS, Store};
 use ed_words::{Size, Word};
 use std::alloc::Global;
 
-/// The number of locations of a store.
-const LOCATIONS: usize = 1024;
-
 /// The word of T 44 F, the directive that the Initial Orders begin with.
-const FIRST_DIRECTIVE: u32 = 20568;
+pub const FIRST_DIRECTIVE: u32 = 20568;
 
 /// The location of θ in a store.
 const THETA: u16 = 42;

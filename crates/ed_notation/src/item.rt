@@ -2,7 +2,7 @@ ghost use Rattle.std.specs.Prelude.{◌≡◌};
 ghost use Rattle.ed_notation.specs.Spellings.{is_spellable, SpellableIsSpelled};
 
 use crate::kind::RowKind;
-use ed_codes::Code;
+use ed_codes::{Code, letters};
 
 /// An item of the tape. A blank pair is the item with function 16, number 0, no mark and end 16.
 #[derive(Clone, Copy, Debug, PartialEq, Eq)]
@@ -29,7 +29,7 @@ pub fn spellable(item: &Item) -> bool
     }
     match RowKind::of(item.end) {
         RowKind::Zed | RowKind::Kay | RowKind::Letter => true,
-        RowKind::Blank => function == 16 && item.number == 0 && !item.mark,
+        RowKind::Blank => function == letters::BLANK && item.number == 0 && !item.mark,
         RowKind::Digit | RowKind::Mark | RowKind::Other => false,
     }
 }

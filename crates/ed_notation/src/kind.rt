@@ -2,7 +2,7 @@ ghost use Rattle.std.specs.Prelude.{◌≡◌};
 ghost use Rattle.ed_notation.specs.Items.{row_kind};
 ghost use Rattle.ed_notation.specs.Fold.{control_of, letter_action_of};
 
-use ed_codes::Code;
+use ed_codes::{Code, letters};
 use ed_words::Word;
 
 /// The kind of a row inside an item.
@@ -58,15 +58,15 @@ impl RowKind {
         let code = row.value();
         if code < 10 {
             RowKind::Digit
-        } else if code == 11 {
+        } else if code == letters::PI {
             RowKind::Mark
-        } else if code == 13 {
+        } else if code == letters::Z {
             RowKind::Zed
-        } else if code == 14 {
+        } else if code == letters::K {
             RowKind::Kay
-        } else if code == 16 {
+        } else if code == letters::BLANK {
             RowKind::Blank
-        } else if 17 <= code {
+        } else if letters::F <= code {
             RowKind::Letter
         } else {
             RowKind::Other
@@ -80,11 +80,11 @@ impl Control {
         ensures { result ≡ control_of function }
     {
         let code = function.value();
-        if code == 0 || code == 3 || code == 5 {
+        if code == letters::P || code == letters::E || code == letters::T {
             Control::Directive
-        } else if code == 16 {
+        } else if code == letters::BLANK {
             Control::ThetaByBlank
-        } else if code == 27 {
+        } else if code == letters::G {
             Control::ThetaByG
         } else {
             Control::Neither

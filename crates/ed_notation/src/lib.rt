@@ -15,6 +15,6 @@ mod spelling;
 
 pub use cause::{TapeCause, TapeFault};
 pub use checked::Checked;
-pub use checking::{check, check_from};
+pub use checking::{FIRST_DIRECTIVE, check, check_from};
 pub use item::{Item, spellable};
 pub use spelling::{rows_of_items, text_of_items};

@@ -8,7 +8,7 @@ ghost use Rattle.ed_notation.specs.Reading.{part_word, part_of, row_effect, IsEf
 
 use crate::cause::TapeCause;
 use crate::kind::{Control, LetterAction, RowKind};
-use ed_codes::Code;
+use ed_codes::{Code, letters};
 use ed_store::Store;
 use ed_words::{Size, Word};
 
@@ -86,7 +86,7 @@ impl PartialItem {
             function,
             number: 0,
             mark: false,
-            blank: function.value() == 16,
+            blank: function.value() == letters::BLANK,
         }
     }
 
@@ -222,9 +222,9 @@ impl PartialItem {
         ensures { result ≡ part_word contents.now.words setting.now self.now letter }
     {
         let value = match letter.value() {
-            17 => 0,
-            18 => setting.theta.value(),
-            19 => 1,
+            letters::F => 0,
+            letters::THETA => setting.theta.value(),
+            letters::D => 1,
             code => contents.short(24 + u16::from(code)).value(),
         };
         word((self.sum() + u32::from(self.mark) + value) % (1 << 17))

@@ -81,7 +81,7 @@ fn push_mark(rows: &mut Vec<Code>, mark: bool) -> Result<(), NoMemory>
     ensures { IfOk result (λ v. rows.new.items ≡ rows.old.items ++ mark_rows mark) }
 {
     if mark {
-        push_row(rows, Code::new(11).unwrap())?;
+        push_row(rows, Code::PI)?;
     }
     Ok(())
 }

@@ -41,10 +41,10 @@ fn parameter(number: u16) -> Item
     ensures { result ≡ count_item number }
 {
     Item {
-        function: Code::new(0).unwrap(),
+        function: Code::P,
         number,
         mark: false,
-        end: Code::new(17).unwrap(),
+        end: Code::F,
     }
 }
 

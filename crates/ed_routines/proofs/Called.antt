@@ -9,7 +9,7 @@ use Rattle.ed_words.proofs.SizeLemmas.{most}
 use Rattle.ed_words.specs.declared.order_words.TheConstants.{A_F}
 use Rattle.ed_machine.specs.State.{State}
 use Rattle.ed_library.specs.Entries.{entry}
-use Rattle.ed_library.specs.Routines.{place_count}
+use Rattle.ed_library.specs.Routines.{missing_row, place_count}
 use Rattle.ed_paths.proofs.Frames.{Beside, Frame, Moment, short, state}
 use Rattle.ed_paths.proofs.Standing.{Holds, IsWorking, filled, merged, opens, unchanged}
 use Rattle.ed_paths.proofs.Window.{patched}
@@ -69,7 +69,7 @@ pub holds_words : (r : ℕ) {parameters hs : List ℕ} {b : ℕ} {s : State} →
     → all_plain (length hs) (entry r).items ≡ true → ((i : ℕ) → i < place_count r → HasWord r parameters b s i)
     → Holds (image r b hs) s.store.words b
 holds_words r {s = s} low makes plain words =
-    holds_rows low makes (entry r).working (0, 0, false, 0) (entry r).items s.store.words plain
+    holds_rows low makes (entry r).working missing_row (entry r).items s.store.words plain
     (λ i l. (words i l).has)
 
 -- a routine at a base has its image in the store

@@ -11,39 +11,36 @@ use Rattle.ed_words.proofs.Numbers.{eq_of, eq_false, le_of, le_true, lt_of}
 use Rattle.ed_notation.specs.Fold.{value_of, word_with}
 use Rattle.ed_library.specs.Routines.{table_item}
 use Rattle.ed_library.specs.Images.{parameter_store, routine_word}
+use Rattle.ed_library.specs.declared.tables.TableRow.{TableRow}
 use Rattle.ed_library.proofs.Letters.{value_of_parameter}
 use Rattle.ed_paths.proofs.Standing.{Holds, Meets}
 
--- a row of a table: a function, a number, a mark and an ending
-abbrev pub Row : Type 0
-Row = ℕ × ℕ × Bool × ℕ
-
 -- the word of a row at a base, with H, N, M and so on the locations hs
-abbrev pub row_word : ℕ → List ℕ → Row → ℕ
+abbrev pub row_word : ℕ → List ℕ → TableRow → ℕ
 row_word b hs row =
-    if nat_eq row.3 18 then 4096 * row.0 + digit row.2 + 2 * (b + row.1)
-    else if nat_eq row.3 19 then 4096 * row.0 + 2 * row.1 + digit row.2 + 1
-    else if nat_le 21 row.3 then 4096 * row.0 + 2 * row.1 + digit row.2 + 2 * get_or hs (row.3 - 21) 0
-    else 4096 * row.0 + 2 * row.1 + digit row.2
+    if nat_eq row.end 18 then 4096 * row.function + digit row.mark + 2 * (b + row.number)
+    else if nat_eq row.end 19 then 4096 * row.function + 2 * row.number + digit row.mark + 1
+    else if nat_le 21 row.end then 4096 * row.function + 2 * row.number + digit row.mark + 2 * get_or hs (row.end - 21) 0
+    else 4096 * row.function + 2 * row.number + digit row.mark
 
 -- a row that ends with F, θ or D, or with one of the parameters that the routine takes, and whose word is not
 -- reduced
-abbrev pub is_plain : ℕ → Row → Bool
+abbrev pub is_plain : ℕ → TableRow → Bool
 is_plain takes row =
-    nat_le (4096 * row.0 + 2 * row.1) 124928
-    && (nat_eq row.3 17 || (nat_eq row.3 18 || (nat_eq row.3 19 || (nat_le 21 row.3 && nat_lt row.3 (21 + takes)))))
+    nat_le (4096 * row.function + 2 * row.number) 124928
+    && (nat_eq row.end 17 || (nat_eq row.end 18 || (nat_eq row.end 19 || (nat_le 21 row.end && nat_lt row.end (21 + takes)))))
 
-abbrev pub all_plain : ℕ → List Row → Bool
+abbrev pub all_plain : ℕ → List TableRow → Bool
 all_plain takes [] = true
 all_plain takes (row ∷ rows) = is_plain takes row && all_plain takes rows
 
 -- the words of the rows from row i onwards, except at the working locations
-abbrev pub image_from : List Row → List ℕ → ℕ → List ℕ → ℕ → List (Option ℕ)
+abbrev pub image_from : List TableRow → List ℕ → ℕ → List ℕ → ℕ → List (Option ℕ)
 image_from [] working b hs i = []
 image_from (row ∷ rows) working b hs i =
     (if list_any (λ p. p == i) working then None else Some (row_word b hs row)) ∷ image_from rows working b hs (i + 1)
 
-pub length_image : (rows : List Row) (working : List ℕ) (b : ℕ) (hs : List ℕ) (i : ℕ)
+pub length_image : (rows : List TableRow) (working : List ℕ) (b : ℕ) (hs : List ℕ) (i : ℕ)
     → length (image_from rows working b hs i) ≡ length rows
 length_image [] working b hs i = refl
 length_image (row ∷ rows) working b hs i = ap suc (length_image rows working b hs (i + 1))
@@ -92,7 +89,8 @@ module _ {parameters hs : List ℕ} {b : ℕ} (low : b ≤ 1024) (makes : Makes 
   takes = length hs
 
   by_letter : (f n c : ℕ) (d : Bool) → 4096 * f + 2 * n ≤ 124928 → IsLetter takes c
-      → word_with f n d (value_of (parameter_store parameters) (2 * b) c) ≡ row_word b hs (f, n, d, c)
+      → word_with f n d (value_of (parameter_store parameters) (2 * b) c)
+      ≡ row_word b hs (record { function = f; number = n; mark = d; end = c })
   by_letter f n c d small (F e) = let l = digit_low d in rw e (omega arith)
   by_letter f n c d small (theta e) = let l = digit_low d in rw e (omega arith)
   by_letter f n c d small (D e) = let l = digit_low d in rw e (omega arith)
@@ -105,21 +103,21 @@ module _ {parameters hs : List ℕ} {b : ℕ} (low : b ≤ 1024) (makes : Makes 
       (omega arith)
 
   -- the word that the library gives a row
-  pub row_word_is : (row : Row) → is_plain takes row ≡ true
+  pub row_word_is : (row : TableRow) → is_plain takes row ≡ true
       → routine_word parameters b (table_item row) ≡ row_word b hs row
   row_word_is row plain =
-      let p = and_parts (nat_le (4096 * row.0 + 2 * row.1) 124928) _ plain in
-      by_letter row.0 row.1 row.3 row.2 (le_of _ _ p.0) (letter_of takes row.3 p.1)
+      let p = and_parts (nat_le (4096 * row.function + 2 * row.number) 124928) _ plain in
+      by_letter row.function row.number row.end row.mark (le_of _ _ p.0) (letter_of takes row.end p.1)
 
-  module _ (working : List ℕ) (no_row : Row) where
-    here_meets : (t : Bool) (row : Row) (x : ℕ) → is_plain takes row ≡ true
+  module _ (working : List ℕ) (no_row : TableRow) where
+    here_meets : (t : Bool) (row : TableRow) (x : ℕ) → is_plain takes row ≡ true
         → (t ≡ false → x ≡ routine_word parameters b (table_item row))
         → Meets (if t then None else Some (row_word b hs row)) x
     here_meets true row x plain e = tt
     here_meets false row x plain e = e refl ∙ row_word_is row plain
 
     -- a word that is the library's, except at a working location, agrees with the image
-    meets : (rows : List Row) (i j x : ℕ) → all_plain takes rows ≡ true → j < length rows
+    meets : (rows : List TableRow) (i j x : ℕ) → all_plain takes rows ≡ true → j < length rows
         → (list_any (λ p. p == (i + j)) working ≡ false
         → x ≡ routine_word parameters b (table_item (get_or rows j no_row)))
         → Meets (get_or (image_from rows working b hs i) j None) x
@@ -134,7 +132,7 @@ module _ {parameters hs : List ℕ} {b : ℕ} (low : b ≤ 1024) (makes : Makes 
         meets rows (i + 1) j x p.1 (omega arith) (λ w. e (ap (λ y. list_any (λ p. p == y) working) z ∙ w))
 
     -- a store with the library's words at a base, except at the working locations, holds the image
-    pub holds_rows : (rows : List Row) (ws : List ℕ) → all_plain takes rows ≡ true
+    pub holds_rows : (rows : List TableRow) (ws : List ℕ) → all_plain takes rows ≡ true
         → ((j : ℕ) → j < length rows → list_any (λ p. p == j) working ≡ false
         → get_or ws (b + j) 0 ≡ routine_word parameters b (table_item (get_or rows j no_row)))
         → Holds (image_from rows working b hs 0) ws b
@@ -149,7 +147,7 @@ here_working true w e = refl
 here_working false w e = cc
 
 -- the image leaves out words at working locations only
-pub working_at : (rows : List Row) (working : List ℕ) (b : ℕ) (hs : List ℕ) (i j : ℕ) → j < length rows
+pub working_at : (rows : List TableRow) (working : List ℕ) (b : ℕ) (hs : List ℕ) (i j : ℕ) → j < length rows
     → get_or (image_from rows working b hs i) j None ≡ None
     → list_any (λ p. p == (i + j)) working ≡ true
 working_at [] working b hs i j l e = absurd (omega arith)

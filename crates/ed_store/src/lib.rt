@@ -10,4 +10,4 @@ mod store;
 #[cfg(test)]
 mod tests;
 
-pub use store::Store;
+pub use store::{LOCATIONS, Store};

@@ -6,8 +6,11 @@ use ed_words::{Long, NoMemory, Word};
 use std::alloc::Global;
 use std::marker::Model;
 
-/// The number of pairs of locations of a store. A machine may reach only the lower half of them.
-const PAIRS: usize = 512;
+/// The number of locations of a store. A machine may reach only the lower half of them.
+pub const LOCATIONS: usize = 1024;
+
+/// The number of pairs of locations.
+const PAIRS: usize = LOCATIONS / 2;
 
 /// 1,024 words and the sandwich digits of their 512 pairs.
 #[derive(Drop)]

@@ -41,7 +41,7 @@ impl Default for Setting {
     /// H set to the number 0.
     fn default() -> Setting {
         Setting {
-            letter: Code::new(21).unwrap(),
+            letter: Code::H,
             operand: Operand::Number(0),
         }
     }
