@@ -3,8 +3,8 @@ use Rattle.ed_run.proofs.Later.{ran_later}
 use Rattle.ed_run.proofs.Places.{at_limit, at_block, at_stop}
 use Rattle.ed_run.proofs.run.Goals as goal
 
-pub returns-clause-ran : goal.returns-clause-ran
-returns-clause-ran c = run_left c.run_orders.ensures
+pub returns-clause-run_end : goal.returns-clause-run_end
+returns-clause-run_end c = run_left c.run_orders.ensures
 
 pub returns-clause-law : goal.returns-clause-law
 returns-clause-law c = record {

@@ -11,4 +11,4 @@ returns-clause-gone c =
     record { ending = c.run-ending.result; machine = c.run-ending.new.machine; codes = c.in_ok-codes.codes } in
     subst (λ (n : ℕ). IsGone (run_end n c.args.resumes c.args.room c.args.machine) gone) c.from.ensures
     (gone_of c.from.result c.args.resumes c.args.room c.args.machine c.in_ok-paper.paper c.run-ending.new.paper gone
-    c.in_ok-paper.ensures c.run-ending.ensures.ran (c.in_ok-codes.ensures ∙ c.codes.ensures.is))
+    c.in_ok-paper.ensures c.run-ending.ensures.run_end (c.in_ok-codes.ensures ∙ c.codes.ensures.is))
