@@ -14,7 +14,7 @@ use Rattle.ed_stepper.specs.Commands.{begins_part, has_space, is_space, HasComma
 use Rattle.ed_stepper.specs.Commands.{IsNumberWithin, LineSaysCommand, SaysCommand, SaysNoCommand, nothing}
 use Rattle.ed_stepper.specs.Commands.{back, entry, go, show_acc, show_from, show_last, show_mult, show_one, to, trace}
 use Rattle.ed_stepper.specs.Private.CommandReading.{of_one, of_parts, of_three, of_two, parts_between_spaces}
-use Rattle.ed_stepper.specs.Private.CommandReading.{session_command, show_command, shown}
+use Rattle.ed_stepper.specs.Private.CommandReading.{session_command, show_command, shown_command}
 use Rattle.ed_stepper.specs.declared.moves.MoveTarget.TheVariants as aims
 use Rattle.ed_stepper.specs.declared.commands.SessionCommand.{SessionCommand}
 use Rattle.ed_stepper.specs.declared.commands.SessionCommand.TheVariants.{Nothing, Move, Back, Trace, Show}
@@ -153,7 +153,7 @@ not_word a word none i = by_test (bytes_eq a word) refl
     by_test false e = refl
 
 shown_is : (a : Text) → IsNumberWithin 0 1023 a
-    → shown a ≡ show_command (number_within 0 1023 a) (number_within 0 1023 a)
+    → shown_command a ≡ show_command (number_within 0 1023 a) (number_within 0 1023 a)
 shown_is a i =
     let acc = not_word a (codes "acc") refl i in
     let mult = not_word a (codes "mult") refl i in
@@ -248,7 +248,7 @@ one_said w c e = by_test (bytes_eq w (codes "entry")) refl e
     by_test false f e = absurd (cc)
 
 -- after `show`
-shown_said : (a : Text) (c : SessionCommand) → shown a ≡ Some c → SaysCommand (codes "show" ∷ a ∷ []) c
+shown_said : (a : Text) (c : SessionCommand) → shown_command a ≡ Some c → SaysCommand (codes "show" ∷ a ∷ []) c
 shown_said a c e =
     by_tests (bytes_eq a (codes "acc")) (bytes_eq a (codes "mult")) (bytes_eq a (codes "last")) refl refl refl e
   where
@@ -285,7 +285,7 @@ two_said w a c e =
         → (if s then option_map (λ n. Move (aims.Orders n)) (number_within 1 100000000 a)
         else if t then option_map (λ n. Move (aims.Address n)) (number_within 0 1023 a)
         else if u then option_map Back (number_within 0 100000000 a)
-        else if v then option_map Trace (number_within 1 10000 a) else if x then shown a else None) ≡ Some c
+        else if v then option_map Trace (number_within 1 10000 a) else if x then shown_command a else None) ≡ Some c
         → SaysCommand (w ∷ a ∷ []) c
     by_tests true t u v x f g h i j e =
         let n = with_number 1 100000000 a (λ n. Move (aims.Orders n)) c e in

@@ -8,21 +8,21 @@ use Rattle.ed_words.specs.Texts.{Text}
 use Rattle.ed_syntax.specs.Lines.{lines_of}
 use Rattle.ed_stepper.specs.Inputs.{Input, text_kind_of, at_line, after_line, input_of, input_at, first_line}
 use Rattle.ed_stepper.specs.Inputs.{with_byte_before}
-use Rattle.ed_stepper.specs.Private.Fronts.{unended}
+use Rattle.ed_stepper.specs.Private.Fronts.{line_feed_place}
 use Rattle.ed_stepper.specs.declared.inputs.TextKind.{TextKind}
 use Rattle.ed_stepper.proofs.Heads.{found, none_found}
 
 -- ---- the bytes of a first line
 
 -- what follows the first line, by the offset of its line feed
-behind_is : (text : Text) → after_line text ≡ drop (unended text + 1) text
+behind_is : (text : Text) → after_line text ≡ drop (line_feed_place text + 1) text
 behind_is [] = refl
 behind_is (b ∷ bs) = by_test (b == 10) (behind_is bs)
   where
-    by_test : (t : Bool) → after_line bs ≡ drop (unended bs + 1) bs
-        → (if t then bs else after_line bs) ≡ drop ((if not t then 1 + unended bs else 0) + 1) (b ∷ bs)
+    by_test : (t : Bool) → after_line bs ≡ drop (line_feed_place bs + 1) bs
+        → (if t then bs else after_line bs) ≡ drop ((if not t then 1 + line_feed_place bs else 0) + 1) (b ∷ bs)
     by_test true h = refl
-    by_test false h = let s : 1 + unended bs + 1 ≡ suc (unended bs + 1) = omega arith in rw s h
+    by_test false h = let s : 1 + line_feed_place bs + 1 ≡ suc (line_feed_place bs + 1) = omega arith in rw s h
 
 pub behind_ended : (text : Text) (end : ℕ) → position (λ b. b == 10) text ≡ Some end
     → after_line text ≡ drop (end + 1) text
@@ -32,7 +32,7 @@ behind_ended text end at =
 pub behind_unended : (text : Text) → position (λ b. b == 10) text ≡ None → after_line text ≡ []
 behind_unended text none =
     let all = none_found (λ b. b == 10) text none in
-    behind_is text ∙ drop_all (unended text + 1) text (omega (arith, all))
+    behind_is text ∙ drop_all (line_feed_place text + 1) text (omega (arith, all))
 
 -- a first line with its end
 abbrev pub line_front : Text → Text

@@ -13,7 +13,7 @@ use Rattle.ed_syntax.specs.Lines.{has_end, without_return}
 use Rattle.ed_syntax.proofs.Lines.{keeps_end, no_return, takes_ended, takes_last}
 use Rattle.ed_stepper.specs.Commands.{begins_part, is_space}
 use Rattle.ed_stepper.specs.Private.CommandReading.{parts_between_spaces}
-use Rattle.ed_stepper.specs.Private.Fronts.{blanks, solid, stop_of, unended}
+use Rattle.ed_stepper.specs.Private.Fronts.{blanks, solid, stop_of, line_feed_place}
 
 pub one_more : (n : ℕ) → 1 + n ≡ suc n
 one_more n = omega arith
@@ -21,25 +21,25 @@ one_more n = omega arith
 -- ---- lines
 
 -- there is no line feed before the first
-no_end_before : (text : Text) → has_end (take (unended text) text) ≡ false
+no_end_before : (text : Text) → has_end (take (line_feed_place text) text) ≡ false
 no_end_before [] = refl
 no_end_before (b ∷ bs) = by_test (b == 10) refl (no_end_before bs)
   where
-    by_test : (t : Bool) → (b == 10) ≡ t → has_end (take (unended bs) bs) ≡ false
-        → has_end (take (if not t then 1 + unended bs else 0) (b ∷ bs)) ≡ false
+    by_test : (t : Bool) → (b == 10) ≡ t → has_end (take (line_feed_place bs) bs) ≡ false
+        → has_end (take (if not t then 1 + line_feed_place bs else 0) (b ∷ bs)) ≡ false
     by_test true e h = refl
-    by_test false e h = let s = one_more (unended bs) in rw (s, e) h
+    by_test false e h = let s = one_more (line_feed_place bs) in rw (s, e) h
 
 -- it is there, or nowhere
-end_there : (text : Text) → unended text < length text → get_or text (unended text) 0 ≡ 10
+end_there : (text : Text) → line_feed_place text < length text → get_or text (line_feed_place text) 0 ≡ 10
 end_there [] low = absurd (omega arith)
 end_there (b ∷ bs) low = by_test (b == 10) refl low (end_there bs)
   where
-    by_test : (t : Bool) → (b == 10) ≡ t → (if not t then 1 + unended bs else 0) < length (b ∷ bs)
-        → (unended bs < length bs → get_or bs (unended bs) 0 ≡ 10)
-        → get_or (b ∷ bs) (if not t then 1 + unended bs else 0) 0 ≡ 10
+    by_test : (t : Bool) → (b == 10) ≡ t → (if not t then 1 + line_feed_place bs else 0) < length (b ∷ bs)
+        → (line_feed_place bs < length bs → get_or bs (line_feed_place bs) 0 ≡ 10)
+        → get_or (b ∷ bs) (if not t then 1 + line_feed_place bs else 0) 0 ≡ 10
     by_test true e l h = eq_of _ _ e
-    by_test false e l h = let s = one_more (unended bs) in rw s (h (omega arith))
+    by_test false e l h = let s = one_more (line_feed_place bs) in rw s (h (omega arith))
 
 -- without a carriage return just before it
 stop_is : (text : Text) (end : ℕ) → end ≤ length text → take (stop_of text end) text ≡ without_return (take end text)
@@ -60,14 +60,14 @@ stop_is text (suc k) within =
     by_test false e = pushed ∙ sym (keeps_end (take k text) (get_or text k 0) e) ∙ ap without_return (sym pushed)
 
 -- a first line that ends
-first_ended : (text : Text) (stop : ℕ) → unended text < length text → stop ≡ stop_of text (unended text)
-    → lines_of text ≡ take stop text ∷ lines_of (drop (unended text + 1) text)
+first_ended : (text : Text) (stop : ℕ) → line_feed_place text < length text → stop ≡ stop_of text (line_feed_place text)
+    → lines_of text ≡ take stop text ∷ lines_of (drop (line_feed_place text + 1) text)
 first_ended text stop low is =
-    (takes_ended text (take stop text) (unended text) low (no_end_before text) (end_there text low)
-    (ap (λ n. take n text) is ∙ stop_is text (unended text) (omega arith))).lines
+    (takes_ended text (take stop text) (line_feed_place text) low (no_end_before text) (end_there text low)
+    (ap (λ n. take n text) is ∙ stop_is text (line_feed_place text) (omega arith))).lines
 
 -- a first line that is the whole text
-first_last : (text : Text) → 0 < length text → unended text ≡ length text → lines_of text ≡ text ∷ lines_of []
+first_last : (text : Text) → 0 < length text → line_feed_place text ≡ length text → lines_of text ≡ text ∷ lines_of []
 first_last text some all =
     (takes_last text some (let e : take (length text) text ≡ text = take_all (length text) text (omega arith) in rw
     (all, e) at (no_end_before text))).lines

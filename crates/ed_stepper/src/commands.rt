@@ -2,7 +2,7 @@
 ghost use Rattle.std.specs.Prelude.{◌≡◌, ◌≤◌, IfSome, option_map};
 ghost use Rattle.ed_words.specs.Decimals.{number_within};
 ghost use Rattle.ed_stepper.specs.Private.CommandReading.{session_command, of_one, of_three, of_two};
-ghost use Rattle.ed_stepper.specs.Private.CommandReading.{shown, show_command};
+ghost use Rattle.ed_stepper.specs.Private.CommandReading.{shown_command, show_command};
 ghost use Rattle.ed_stepper.specs.Private.Commands.{IsCommandInRange};
 
 use crate::fronts::first_part;
@@ -96,7 +96,7 @@ fn to(argument: &[u8]) -> Option<SessionCommand>
 
 /// The command `show` with one part.
 fn shown(argument: &[u8]) -> Option<SessionCommand>
-    ensures is { result ≡ shown argument.now }
+    ensures is { result ≡ shown_command argument.now }
     ensures in_range { IfSome result IsCommandInRange }
 {
     match argument {

@@ -4,8 +4,8 @@ use Rattle.std.specs.Prelude.{Option, Some, None, Ok, Err}
 use Rattle.ed_words.specs.Texts.{Text}
 use Rattle.ed_syntax.specs.Parts.{is_place_name}
 use Rattle.ed_syntax.specs.Private.Answers.{LineIs, form_fault}
-use Rattle.ed_syntax.specs.Private.Found.{answered}
-use Rattle.ed_syntax.specs.Private.Grammar.{Ranged, labelled, made, placed}
+use Rattle.ed_syntax.specs.Private.Found.{form_result}
+use Rattle.ed_syntax.specs.Private.Grammar.{Ranged, labelled_line, ranged_map, placed_statement}
 use Rattle.ed_syntax.specs.Private.Seen.{part}
 use Rattle.ed_syntax.specs.Private.SourceReading.{or_cause}
 use Rattle.ed_syntax.specs.declared.fault.FormFault.{FormFault}
@@ -14,28 +14,28 @@ use Rattle.ed_syntax.specs.declared.parts.Part.{Part}
 use Rattle.ed_syntax.specs.declared.program.Form.{Form}
 
 -- what is made of what is not read is not read, with the same fault
-pub made_fault : {A B : Type 0} (f : A → B) (o : Option (Ranged A)) (e : FormFault) → Err e ≡ answered o
-    → Err e ≡ answered (made f o)
+pub made_fault : {A B : Type 0} (f : A → B) (o : Option (Ranged A)) (e : FormFault) → Err e ≡ form_result o
+    → Err e ≡ form_result (ranged_map f o)
 made_fault f None e h = let same : e ≡ NotThisForm = cc in ap (λ (x : FormFault). Err x) same
 made_fault f (Some None) e h = let same : e ≡ OutOfRange = cc in ap (λ (x : FormFault). Err x) same
 made_fault f (Some (Some a)) e h = absurd (cc)
 
 -- a line that has no form has the fault
-pub line_fault : (o : Option (Ranged Form)) (e : FormFault) → Err e ≡ answered o
+pub line_fault : (o : Option (Ranged Form)) (e : FormFault) → Err e ≡ form_result o
     → LineIs (or_cause o) (Err (form_fault e))
 line_fault None e h = let same : NotThisForm ≡ e = cc in rw (← same) refl
 line_fault (Some None) e h = let same : OutOfRange ≡ e = cc in rw (← same) refl
 line_fault (Some (Some f)) e h = absurd (cc)
 
 -- and a line that has one says it
-pub line_form : (o : Option (Ranged Form)) (f : Form) → Ok f ≡ answered o → or_cause o ≡ Ok f
+pub line_form : (o : Option (Ranged Form)) (f : Form) → Ok f ≡ form_result o → or_cause o ≡ Ok f
 line_form None f h = absurd (cc)
 line_form (Some None) f h = absurd (cc)
 line_form (Some (Some g)) f h = let same : f ≡ g = cc in ap (λ (x : Form). Ok x) (sym same)
 
 -- what follows a label is a statement that may have one
 pub after_a_label : (two : Bool) (r : Text) (ps : List Part) → is_place_name two r ≡ true → 0 < length ps
-    → labelled two r (map part ps)
-    ≡ made (λ s. record { label = Some r; statement = Some s }) (placed two (map part ps))
+    → labelled_line two r (map part ps)
+    ≡ ranged_map (λ s. record { label = Some r; statement = Some s }) (placed_statement two (map part ps))
 after_a_label two r [] e h = absurd (omega arith)
 after_a_label two r (p ∷ ps) e h = rw e refl

@@ -45,7 +45,7 @@ no_version two k ps e =
 
 -- a statement begins with no label, and is not `version 2`
 record IsUnlabelled (two : Bool) (ps : List LinePart) : Type 0 where
-  first : Grammar.form two ps ≡ Grammar.unlabelled two ps
+  first : Grammar.form two ps ≡ Grammar.unlabelled_line two ps
   other : is_version_two ps ≡ false
 
 word_unlabelled : (two : Bool) (least most : ℕ) (ps : List LinePart) (z : _) (fits : Bool)
@@ -76,7 +76,7 @@ statement_unlabelled two _ _ _ (data_rows q rows h) = record { first = refl; oth
 
 -- what may have a label is not an empty list of parts
 after_label : (two : Bool) (a : Text) (ps : List LinePart) (s : Statement) (fits : Bool) → SpellsPlaced two ps s fits
-    → Grammar.after_label two a ps ≡ Grammar.made (with_label a) (Grammar.placed two ps)
+    → Grammar.after_label two a ps ≡ Grammar.ranged_map (with_label a) (Grammar.placed_statement two ps)
 after_label two a _ _ _ (order b f e ps o l fits hf ho hl) = refl
 after_label two a _ _ _ (bare_order b f e l hf hl) = refl
 after_label two a _ _ _ (word ps z fits h) = refl
@@ -101,13 +101,13 @@ form_is_read two _ _ _ _ (statement k ps s fits h) short =
     ∙ made_ranged just (Grammar.statement two ps) fits s (statement_is_read two ps s fits h short)
 form_is_read two _ _ _ _ (labelled k a ps s fits e h) short =
     label_first two k a ps e ∙ after_label two a ps s fits h
-    ∙ made_ranged (with_label a) (Grammar.placed two ps) fits s (placed_is_read two ps s fits h short)
+    ∙ made_ranged (with_label a) (Grammar.placed_statement two ps) fits s (placed_is_read two ps s fits h short)
 form_is_read two _ _ _ _ (version n e f) short = version_is_read two n e f
 
 -- ---- what is read is spelled
 
 unlabelled_spelled : (two : Bool) (k : ℕ) (ps : List LinePart) (x : Option Form)
-    → Grammar.unlabelled two ps ≡ Some x → IsSpelled (SpellsForm two k) ps x
+    → Grammar.unlabelled_line two ps ≡ Some x → IsSpelled (SpellsForm two k) ps x
 unlabelled_spelled two k ps x h =
     made_spelled (SpellsStatement two) (SpellsForm two k) just ps ps (Grammar.statement two ps) x
     (statement_is_spelled two ps) (λ s fits e. statement k ps s fits e) h
@@ -122,7 +122,7 @@ labelled_spelled two k a [] x e h = record {
 }
 labelled_spelled two k a (p ∷ ps) x e h =
     made_spelled (SpellsPlaced two) (SpellsForm two k) (with_label a) (p ∷ ps) (run a ∷ sign 58 ∷ p ∷ ps)
-    (Grammar.placed two (p ∷ ps)) x (placed_is_spelled two (p ∷ ps))
+    (Grammar.placed_statement two (p ∷ ps)) x (placed_is_spelled two (p ∷ ps))
     (λ s fits g. labelled k a (p ∷ ps) s fits e g) h
 
 form_spelled : (two : Bool) (k : ℕ) (ps : List LinePart) (x : Option Form) → Grammar.form two ps ≡ Some x
@@ -136,7 +136,7 @@ form_spelled two k (run r ∷ quoted q ∷ ps) x h = unlabelled_spelled two k (r
 form_spelled two k (run r ∷ sign s ∷ ps) x h = by_colon (s == 58) refl h
   where
     by_colon : (c : Bool) → (s == 58) ≡ c
-        → (if c then Grammar.labelled two r ps else Grammar.unlabelled two (run r ∷ sign s ∷ ps)) ≡ Some x
+        → (if c then Grammar.labelled_line two r ps else Grammar.unlabelled_line two (run r ∷ sign s ∷ ps)) ≡ Some x
         → IsSpelled (SpellsForm two k) (run r ∷ sign s ∷ ps) x
     by_colon false e g = unlabelled_spelled two k (run r ∷ sign s ∷ ps) x g
     by_colon true e g =

@@ -5,7 +5,7 @@ use Rattle.std.specs.Cmp.Lexicographic.{pointwise}
 use Rattle.std.proofs.lemmas.Bool.{and_parts}
 use Rattle.std.proofs.lemmas.Bool.Decides.{Decides-eqb}
 use Rattle.std.proofs.lemmas.Slice.Eq.{slice_eq-Decides}
-use Rattle.ed_syntax.specs.Private.Names.{padded, IsPadded}
+use Rattle.ed_syntax.specs.Private.Names.{padded_name, IsPadded}
 
 -- the test of two lists decides whether they are equal
 list_test : (xs ys : List ℕ) → Decides (pointwise nat_eq xs ys) (xs ≡ ys)
@@ -35,5 +35,5 @@ same_bytes b d n m p q =
     back h =
         let t : take n b ≡ take m d = (list_test (take n b) (take m d)).0 h in
         let e : n ≡ m = sym p.size ∙ ap (λ (x : List ℕ). length x) t ∙ q.size in
-        let f : b ≡ d = sym p.zeros ∙ ap padded t ∙ q.zeros in
+        let f : b ≡ d = sym p.zeros ∙ ap padded_name t ∙ q.zeros in
         and_true (nat_eq n m) (pointwise nat_eq b d) ((Decides-eqb n m).1 e) ((list_test b d).1 f)

@@ -112,7 +112,7 @@ string_is_read q rows h few =
     simp (some, few, each) (ap (λ (t : List ℕ). Some t) all.1)
 
 pub placed_is_read : (two : Bool) (ps : List LinePart) (s : Statement) (fits : Bool) → SpellsPlaced two ps s fits
-    → list_all is_short ps ≡ true → Grammar.placed two ps ≡ Some (ranged fits s)
+    → list_all is_short ps ≡ true → Grammar.placed_statement two ps ≡ Some (ranged fits s)
 placed_is_read two _ _ _ (order b f e ps o l fits hf ho hl) few =
     order_is_read two b f (ps ++ sign e ∷ []) o l fits hf (order_end_is_read two ps o fits e l ho hl)
 placed_is_read two _ _ _ (bare_order b f e l hf hl) few =
@@ -222,7 +222,7 @@ integer_spelled least most (sign s ∷ sign b ∷ ps) x h = absurd (cc)
 integer_spelled least most (sign s ∷ quoted q ∷ ps) x h = absurd (cc)
 integer_spelled least most (sign s ∷ run n ∷ p ∷ ps) x h = absurd (cc)
 integer_spelled least most (sign s ∷ run n ∷ []) x h =
-    let p = passed (s == 45) (Grammar.made (with_sign true) (Grammar.number_up_to least n)) x h in
+    let p = passed (s == 45) (Grammar.ranged_map (with_sign true) (Grammar.number_up_to least n)) x h in
     let is : s ≡ 45 = (Decides-eqb s 45).0 p.0 in
     rw is (made_spelled (SpellsNumber least) (SpellsInteger least most) (with_sign true) (run n ∷ [])
     (sign 45 ∷ run n ∷ []) (Grammar.number_up_to least n) x (number_spelled least n) (as_negative least most n) p.1)
@@ -284,7 +284,7 @@ text_spelled two ps x h =
       is = sym m.2;
     }
 
-pub placed_is_spelled : (two : Bool) (ps : List LinePart) (x : Option Statement) → Grammar.placed two ps ≡ Some x
+pub placed_is_spelled : (two : Bool) (ps : List LinePart) (x : Option Statement) → Grammar.placed_statement two ps ≡ Some x
     → IsSpelled (SpellsPlaced two) ps x
 placed_is_spelled two [] x h = absurd (cc)
 placed_is_spelled two (quoted q ∷ ps) x h = absurd (cc)

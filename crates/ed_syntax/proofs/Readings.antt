@@ -49,16 +49,16 @@ pub some_is : {A : Type 0} (y x : A) → Some y ≡ Some x → x ≡ y
 some_is y x e = cc
 
 pub made_ranged : {A B : Type 0} (f : A → B) (o : Option (Option A)) (fits : Bool) (a : A) → o ≡ Some (ranged fits a)
-    → Grammar.made f o ≡ Some (ranged fits (f a))
+    → Grammar.ranged_map f o ≡ Some (ranged fits (f a))
 made_ranged f o fits a e =
-    ap (Grammar.made f) e ∙ ap (λ (x : Option _). Some x) (map_ranged f fits a)
+    ap (Grammar.ranged_map f) e ∙ ap (λ (x : Option _). Some x) (map_ranged f fits a)
 
 -- what is made of something that is spelled
 pub made_spelled : {A B : Type 0} (S : List LinePart → A → Bool → Type 0) (T : List LinePart → B → Bool → Type 0)
     (f : A → B) (ps qs : List LinePart) (o : Option (Option A)) (x : Option B)
     → ((y : Option A) → o ≡ Some y → IsSpelled S ps y)
     → ((a : A) (fits : Bool) → S ps a fits → T qs (f a) fits)
-    → Grammar.made f o ≡ Some x → IsSpelled T qs x
+    → Grammar.ranged_map f o ≡ Some x → IsSpelled T qs x
 made_spelled S T f ps qs o x spelled step h =
     let m = mapped (option_map f) o x h in
     let s = spelled m.0 m.1 in

@@ -17,8 +17,8 @@ use Rattle.ed_syntax.proofs.OperandLaws.{ends, operand_is_read, operand_is_spell
 setting_is_read : (two : Bool) (ps rest : List LinePart) (s : Setting) (fits : Bool) → SpellsSetting two ps s fits
     → ends rest ≡ true → Grammar.setting two (ps ++ rest) ≡ Some (ranged fits s, rest)
 setting_is_read two _ rest _ _ (setting b l ps o fits hl ho) h =
-    ap (option_and_then (λ l. option_map (λ p. (Grammar.lettered l p.0, p.1)) (Grammar.operand two (ps ++ rest)))) hl
-    ∙ ap (option_map (λ p. (Grammar.lettered l p.0, p.1))) (operand_is_read two ps o fits rest ho h)
+    ap (option_and_then (λ l. option_map (λ p. (Grammar.letter_setting l p.0, p.1)) (Grammar.operand two (ps ++ rest)))) hl
+    ∙ ap (option_map (λ p. (Grammar.letter_setting l p.0, p.1))) (operand_is_read two ps o fits rest ho h)
     ∙ ap (λ (x : Option Setting). Some (x, rest)) (map_ranged (λ a. record { letter = l; operand = a }) fits o)
 
 both_ranged : (f g : Bool) (s : Setting) (ss : List Setting)
@@ -61,12 +61,12 @@ setting_is_spelled two (sign b ∷ run r ∷ parts) rest x h = absurd (cc)
 setting_is_spelled two (sign b ∷ quoted q ∷ parts) rest x h = absurd (cc)
 setting_is_spelled two (sign b ∷ sign e ∷ parts) rest x h =
     let p = passed (e == 61) _ (x, rest) h in
-    let c = chained (λ l. option_map (λ p. (Grammar.lettered l p.0, p.1)) (Grammar.operand two parts))
+    let c = chained (λ l. option_map (λ p. (Grammar.letter_setting l p.0, p.1)) (Grammar.operand two parts))
     (setting_letter b) (x, rest) p.1 in
-    let m = mapped (λ p. (Grammar.lettered c.0 p.0, p.1)) (Grammar.operand two parts) (x, rest) c.2 in
+    let m = mapped (λ p. (Grammar.letter_setting c.0 p.0, p.1)) (Grammar.operand two parts) (x, rest) c.2 in
     let s = operand_is_spelled two parts m.0.1 m.0.0 m.1 in
     let is : e ≡ 61 = (Decides-eqb e 61).0 p.0 in
-    let read : Grammar.lettered c.0 m.0.0 ≡ x = ap (λ (q : Option Setting × List LinePart). q.0) m.2 in
+    let read : Grammar.letter_setting c.0 m.0.0 ≡ x = ap (λ (q : Option Setting × List LinePart). q.0) m.2 in
     let left : m.0.1 ≡ rest = ap (λ (q : Option Setting × List LinePart). q.1) m.2 in
     record {
       ps = sign b ∷ sign 61 ∷ s.ps;
@@ -76,7 +76,7 @@ setting_is_spelled two (sign b ∷ sign e ∷ parts) rest x h =
         what = record { letter = c.0; operand = s.spelled.what };
         fits = s.spelled.fits;
         spelled = setting b c.0 s.ps s.spelled.what s.spelled.fits c.1 s.spelled.spelled;
-        is = sym read ∙ ap (Grammar.lettered c.0) s.spelled.is
+        is = sym read ∙ ap (Grammar.letter_setting c.0) s.spelled.is
             ∙ map_ranged (λ a. record { letter = c.0; operand = a }) s.spelled.fits s.spelled.what;
       };
     }

@@ -27,7 +27,7 @@ use Rattle.ed_syntax.proofs.SettingLaws.{settings_are_read, settings_are_spelled
 
 -- a statement that may have a label begins with no keyword of the others
 placed_first : (two : Bool) (ps : List LinePart) (s : Statement) (fits : Bool) → SpellsPlaced two ps s fits
-    → Grammar.statement two ps ≡ Grammar.placed two ps
+    → Grammar.statement two ps ≡ Grammar.placed_statement two ps
 placed_first two _ _ _ (order b f e ps o l fits hf ho hl) = refl
 placed_first two _ _ _ (bare_order b f e l hf hl) = refl
 placed_first two _ _ _ (word ps z fits h) = refl
@@ -35,12 +35,12 @@ placed_first two _ _ _ (long ps z fits h v) = refl
 placed_first two _ _ _ (text q rows h) = refl
 
 segment_is_read : (a : Text) (parts : List LinePart) → is_name a ≡ true
-    → Grammar.segment (run a ∷ parts) ≡ Grammar.made (statements.Segment a) (Grammar.base parts)
+    → Grammar.segment (run a ∷ parts) ≡ Grammar.ranged_map (statements.Segment a) (Grammar.base parts)
 segment_is_read a parts e = rw e refl
 
 fetch_is_read : (two : Bool) (a b : Text) (parts : List LinePart) → is_name a ≡ true → is_name b ≡ true
     → Grammar.fetch two (run a ∷ run (codes "as") ∷ run b ∷ parts)
-    ≡ Grammar.made (λ ss. statements.Fetch a b (array ss)) (Grammar.with_settings two parts)
+    ≡ Grammar.ranged_map (λ ss. statements.Fetch a b (array ss)) (Grammar.with_settings two parts)
 fetch_is_read two a b parts e f = rw (e, f) refl
 
 pub statement_is_read : (two : Bool) (ps : List LinePart) (s : Statement) (fits : Bool)
@@ -72,7 +72,7 @@ segment_spelled two (quoted q ∷ parts) x h = absurd (cc)
 segment_spelled two (run a ∷ parts) x h = let p = passed (is_name a) _ x h in by_base parts p.0 p.1
   where
     by_base : (parts : List LinePart) → is_name a ≡ true
-        → Grammar.made (statements.Segment a) (Grammar.base parts) ≡ Some x
+        → Grammar.ranged_map (statements.Segment a) (Grammar.base parts) ≡ Some x
         → IsSpelled (SpellsStatement two) (run (codes "segment") ∷ run a ∷ parts) x
     by_base [] e g = record {
       what = statements.Segment a None;
@@ -99,9 +99,9 @@ segment_spelled two (run a ∷ parts) x h = let p = passed (is_name a) _ x h in 
             (statements.Segment a (Some k)) fits
         with_base _ _ _ (digits n f) = segment_at a n e f
 
-        joined : (o : Option (Option ℕ)) (y : Option (Option ℕ)) → Grammar.made (λ k. Some k) o ≡ Some y
+        joined : (o : Option (Option ℕ)) (y : Option (Option ℕ)) → Grammar.ranged_map (λ k. Some k) o ≡ Some y
             → option_map (statements.Segment a) y ≡ x
-            → Grammar.made (λ k. statements.Segment a (Some k)) o ≡ Some x
+            → Grammar.ranged_map (λ k. statements.Segment a (Some k)) o ≡ Some x
         joined None y f g = absurd (cc)
         joined (Some None) y f g = ap (λ (z : Option Statement). Some z)
             (ap (option_map (statements.Segment a)) (sym (some_is _ y f)) ∙ g)
@@ -127,7 +127,7 @@ fetch_spelled two (run a ∷ run w ∷ run b ∷ parts) x h =
     rw as_is (by_rest parts d.0 d.1 p.1)
   where
     by_rest : (parts : List LinePart) → is_name a ≡ true → is_name b ≡ true
-        → Grammar.made (λ ss. statements.Fetch a b (array ss)) (Grammar.with_settings two parts) ≡ Some x
+        → Grammar.ranged_map (λ ss. statements.Fetch a b (array ss)) (Grammar.with_settings two parts) ≡ Some x
         → IsSpelled (SpellsStatement two) (run (codes "use") ∷ run a ∷ run (codes "as") ∷ run b ∷ parts) x
     by_rest [] e f g = record {
       what = statements.Fetch a b (array []);
@@ -196,7 +196,7 @@ statement_is_spelled two (run w ∷ ps) x h =
     go : (c d e f : Bool) → bytes_eq w (codes "segment") ≡ c → bytes_eq w (codes "use") ≡ d
         → bytes_eq w (codes "enter") ≡ e → bytes_eq w (codes "data") ≡ f
         → (if c then Grammar.segment ps else if d then Grammar.fetch two ps else if e then Grammar.enter ps
-        else if f then Grammar.data_statement ps else Grammar.placed two (run w ∷ ps)) ≡ Some x
+        else if f then Grammar.data_statement ps else Grammar.placed_statement two (run w ∷ ps)) ≡ Some x
         → IsSpelled (SpellsStatement two) (run w ∷ ps) x
     go true d e f i j k l h = rw ((bytes_eq-Decides w (codes "segment")).0 i) (segment_spelled two ps x h)
     go false true e f i j k l h = rw ((bytes_eq-Decides w (codes "use")).0 j) (fetch_spelled two ps x h)

@@ -14,7 +14,7 @@ pub struct Name {
 
 impl Model for Name {
     ghost use Rattle.std.specs.Prelude.{ℕ, List, take, length};
-    ghost use Rattle.ed_syntax.specs.Private.Names.{padded, IsPadded};
+    ghost use Rattle.ed_syntax.specs.Private.Names.{padded_name, IsPadded};
 
     ghost Value = { List ℕ };
 
@@ -22,7 +22,7 @@ impl Model for Name {
 
     ghost invariant = { λ n. IsPadded n.bytes n.size };
 
-    ghost inverse = { λ text. record { bytes = padded text; size = length text } };
+    ghost inverse = { λ text. record { bytes = padded_name text; size = length text } };
 
     ghost inverse_ok = { λ n h i. record { bytes = h.zeros i; size = h.size i } };
 }

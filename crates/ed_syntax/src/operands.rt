@@ -4,9 +4,9 @@ ghost use Rattle.std.specs.Option.{ok_or};
 ghost use Rattle.std.specs.Result.{result_ok};
 ghost use Rattle.std.specs.Borrow.{Bor};
 ghost use Rattle.std.specs.List.{list_any};
-ghost use Rattle.ed_syntax.specs.Private.Grammar.{and_more, both, joined_operand, made, operand, with_settings};
+ghost use Rattle.ed_syntax.specs.Private.Grammar.{and_more, both, joined_operand, ranged_map, operand, with_settings};
 ghost use Rattle.ed_syntax.specs.Private.Grammar.{setting};
-ghost use Rattle.ed_syntax.specs.Private.Found.{answered, front};
+ghost use Rattle.ed_syntax.specs.Private.Found.{form_result, front};
 ghost use Rattle.ed_syntax.specs.Programs.{is_second};
 ghost use Rattle.ed_syntax.specs.Parts.{array};
 ghost use Rattle.ed_syntax.specs.Parts.{setting_letter, with_sign};
@@ -159,7 +159,7 @@ fn with_letter(letter: Code, operand: Option<Operand>) -> Option<Setting>
 #[cycle(settings)]
 fn settings(version: Version, most: u8, parts: &[Part]) -> Result<ArrayVec<Setting, 6>, FormFault>
     requires { most ≤ 6 }
-    ensures is { result ≡ answered (made array (settings (is_second version) most (map part parts.now))) }
+    ensures is { result ≡ form_result (ranged_map array (settings (is_second version) most (map part parts.now))) }
     ensures few { IfOk result (λ ss. length ss.items ≤ most) }
 {
     if most == 0 {
@@ -180,8 +180,8 @@ fn and_more(
     parts: &[Part],
 ) -> Result<ArrayVec<Setting, 6>, FormFault>
     requires { most ≤ 5 }
-    ensures is { result ≡ answered
-        (made array (and_more setting (map part parts.now) (settings (is_second version) most))) }
+    ensures is { result ≡ form_result
+        (ranged_map array (and_more setting (map part parts.now) (settings (is_second version) most))) }
     ensures few { IfOk result (λ ss. length ss.items ≤ most + 1) }
 {
     match parts.split_first() {
@@ -211,7 +211,7 @@ fn both(
 
 /// Nothing, or `with` and one to six settings.
 pub(crate) fn preset(version: Version, parts: &[Part]) -> Result<ArrayVec<Setting, 6>, FormFault>
-    ensures { result ≡ answered (made array (with_settings (is_second version) (map part parts.now))) }
+    ensures { result ≡ form_result (ranged_map array (with_settings (is_second version) (map part parts.now))) }
 {
     match parts.split_first() {
         None => Ok(ArrayVec::new()),

@@ -2,13 +2,13 @@
 ghost use Rattle.std.specs.Prelude.{◌≡◌, ◌∷◌, ◌==◌, map};
 ghost use Rattle.std.specs.Option.{ok_or};
 ghost use Rattle.ed_syntax.specs.Programs.{is_second};
-ghost use Rattle.ed_syntax.specs.Private.Found.{answered};
+ghost use Rattle.ed_syntax.specs.Private.Found.{form_result};
 ghost use Rattle.ed_syntax.specs.Private.Grammar.{base, enter, fetch, form, form_at};
 ghost use Rattle.ed_syntax.specs.Parts.{function};
-ghost use Rattle.ed_syntax.specs.Private.Grammar.{is_version_two, labelled, length_end};
-ghost use Rattle.ed_syntax.specs.Private.Grammar.{long, order, order_end, placed, segment};
+ghost use Rattle.ed_syntax.specs.Private.Grammar.{is_version_two, labelled_line, length_end};
+ghost use Rattle.ed_syntax.specs.Private.Grammar.{long, order, order_end, placed_statement, segment};
 ghost use Rattle.ed_words.specs.Decimals.{value};
-ghost use Rattle.ed_syntax.specs.Private.Grammar.{statement, data_statement, unlabelled, word};
+ghost use Rattle.ed_syntax.specs.Private.Grammar.{statement, data_statement, unlabelled_line, word};
 ghost use Rattle.ed_syntax.specs.Private.Grammar as grammar;
 ghost use Rattle.ed_syntax.specs.Parts.{run, sign};
 ghost use Rattle.ed_syntax.specs.Private.Seen.{part};
@@ -61,7 +61,7 @@ fn order_end(version: Version, parts: &[Part]) -> Result<(Option<Operand>, bool)
 
 /// An order with this function.
 fn order(version: Version, byte: u8, parts: &[Part]) -> Result<Statement, FormFault>
-    ensures { result ≡ answered (order (is_second version) byte (map part parts.now)) }
+    ensures { result ≡ form_result (order (is_second version) byte (map part parts.now)) }
 {
     let function = function(byte)?;
     let (operand, length) = order_end(version, parts)?;
@@ -75,7 +75,7 @@ fn order(version: Version, byte: u8, parts: &[Part]) -> Result<Statement, FormFa
 
 /// What follows `word`.
 fn word(parts: &[Part]) -> Result<Statement, FormFault>
-    ensures { result ≡ answered (word (map part parts.now)) }
+    ensures { result ≡ form_result (word (map part parts.now)) }
 {
     let number = integer(65536, 131_071, parts)?;
     let value = number.rem_euclid(1 << 17);
@@ -86,7 +86,7 @@ fn word(parts: &[Part]) -> Result<Statement, FormFault>
 
 /// What follows `long`.
 fn long(parts: &[Part]) -> Result<Statement, FormFault>
-    ensures { result ≡ answered (long (map part parts.now)) }
+    ensures { result ≡ form_result (long (map part parts.now)) }
 {
     let number = integer(17_179_869_184, 34_359_738_367, parts)?;
     let value = number.rem_euclid(1 << 35);
@@ -97,7 +97,7 @@ fn long(parts: &[Part]) -> Result<Statement, FormFault>
 
 /// What follows `text`.
 fn text(parts: &[Part]) -> Result<Statement, FormFault>
-    ensures { result ≡ answered (grammar.text (map part parts.now)) }
+    ensures { result ≡ form_result (grammar.text (map part parts.now)) }
 {
     let codes = string(parts)?;
     Ok(Statement::Text { codes })
@@ -105,7 +105,7 @@ fn text(parts: &[Part]) -> Result<Statement, FormFault>
 
 /// What follows `data`.
 fn tape_rows(parts: &[Part]) -> Result<Statement, FormFault>
-    ensures { result ≡ answered (data_statement (map part parts.now)) }
+    ensures { result ≡ form_result (data_statement (map part parts.now)) }
 {
     let codes = string(parts)?;
     Ok(Statement::Rows { codes })
@@ -113,7 +113,7 @@ fn tape_rows(parts: &[Part]) -> Result<Statement, FormFault>
 
 /// What follows `enter`.
 fn enter(parts: &[Part]) -> Result<Statement, FormFault>
-    ensures { result ≡ answered (enter (map part parts.now)) }
+    ensures { result ≡ form_result (enter (map part parts.now)) }
 {
     match parts {
         [Part::Run(run)] => {
@@ -126,7 +126,7 @@ fn enter(parts: &[Part]) -> Result<Statement, FormFault>
 
 /// What follows the name of a segment.
 fn base(parts: &[Part]) -> Result<Option<u16>, FormFault>
-    ensures { result ≡ answered (base (map part parts.now)) }
+    ensures { result ≡ form_result (base (map part parts.now)) }
 {
     match parts {
         [] => Ok(None),
@@ -140,7 +140,7 @@ fn base(parts: &[Part]) -> Result<Option<u16>, FormFault>
 
 /// What follows `segment`.
 fn segment(parts: &[Part]) -> Result<Statement, FormFault>
-    ensures { result ≡ answered (segment (map part parts.now)) }
+    ensures { result ≡ form_result (segment (map part parts.now)) }
 {
     match parts.split_first() {
         Some((Part::Run(run), rest)) => {
@@ -154,7 +154,7 @@ fn segment(parts: &[Part]) -> Result<Statement, FormFault>
 
 /// What follows `use`.
 fn fetch(version: Version, parts: &[Part]) -> Result<Statement, FormFault>
-    ensures { result ≡ answered (fetch (is_second version) (map part parts.now)) }
+    ensures { result ≡ form_result (fetch (is_second version) (map part parts.now)) }
 {
     match parts {
         [
@@ -178,7 +178,7 @@ fn fetch(version: Version, parts: &[Part]) -> Result<Statement, FormFault>
 
 /// A statement that may have a label.
 fn placed(version: Version, parts: &[Part]) -> Result<Statement, FormFault>
-    ensures { result ≡ answered (placed (is_second version) (map part parts.now)) }
+    ensures { result ≡ form_result (placed_statement (is_second version) (map part parts.now)) }
 {
     match parts.split_first() {
         Some((Part::Sign(byte), rest)) => order(version, *byte, rest),
@@ -189,7 +189,7 @@ fn placed(version: Version, parts: &[Part]) -> Result<Statement, FormFault>
 
 /// A statement that may have a label, by its keyword.
 fn placed_word(version: Version, keyword: &[u8], parts: &[Part]) -> Result<Statement, FormFault>
-    ensures { result ≡ answered (placed (is_second version) (run keyword.now ∷ map part parts.now)) }
+    ensures { result ≡ form_result (placed_statement (is_second version) (run keyword.now ∷ map part parts.now)) }
 {
     if is(keyword, b"word") {
         word(parts)
@@ -204,7 +204,7 @@ fn placed_word(version: Version, keyword: &[u8], parts: &[Part]) -> Result<State
 
 /// A statement.
 fn statement(version: Version, parts: &[Part]) -> Result<Statement, FormFault>
-    ensures { result ≡ answered (statement (is_second version) (map part parts.now)) }
+    ensures { result ≡ form_result (statement (is_second version) (map part parts.now)) }
 {
     match parts.split_first() {
         Some((Part::Run(run), rest)) => statement_word(version, run, rest),
@@ -214,7 +214,7 @@ fn statement(version: Version, parts: &[Part]) -> Result<Statement, FormFault>
 
 /// A statement, by its keyword.
 fn statement_word(version: Version, keyword: &[u8], parts: &[Part]) -> Result<Statement, FormFault>
-    ensures { result ≡ answered (statement (is_second version) (run keyword.now ∷ map part parts.now)) }
+    ensures { result ≡ form_result (statement (is_second version) (run keyword.now ∷ map part parts.now)) }
 {
     if is(keyword, b"segment") {
         segment(parts)
@@ -231,7 +231,7 @@ fn statement_word(version: Version, keyword: &[u8], parts: &[Part]) -> Result<St
 
 /// A line with a statement alone.
 fn unlabelled(version: Version, parts: &[Part]) -> Result<Form, FormFault>
-    ensures { result ≡ answered (unlabelled (is_second version) (map part parts.now)) }
+    ensures { result ≡ form_result (unlabelled_line (is_second version) (map part parts.now)) }
 {
     let statement = statement(version, parts)?;
     Ok(Form {
@@ -242,7 +242,7 @@ fn unlabelled(version: Version, parts: &[Part]) -> Result<Form, FormFault>
 
 /// A line that begins with a label.
 fn labelled(version: Version, run: &[u8], parts: &[Part]) -> Result<Form, FormFault>
-    ensures { result ≡ answered (labelled (is_second version) run.now (map part parts.now)) }
+    ensures { result ≡ form_result (labelled_line (is_second version) run.now (map part parts.now)) }
 {
     let label = place_name(version, run)?;
     if parts.is_empty() {
@@ -266,7 +266,7 @@ fn form_of_run(
     whole: &[Part],
 ) -> Result<Form, FormFault>
     requires { map part whole.now ≡ run first.now ∷ map part parts.now }
-    ensures { result ≡ answered (form (is_second version) (run first.now ∷ map part parts.now)) }
+    ensures { result ≡ form_result (form (is_second version) (run first.now ∷ map part parts.now)) }
 {
     match parts.split_first() {
         Some((Part::Sign(b':'), rest)) => labelled(version, first, rest),
@@ -276,7 +276,7 @@ fn form_of_run(
 
 /// A line.
 fn form(version: Version, parts: &[Part]) -> Result<Form, FormFault>
-    ensures { result ≡ answered (form (is_second version) (map part parts.now)) }
+    ensures { result ≡ form_result (form (is_second version) (map part parts.now)) }
 {
     match parts.split_first() {
         None => Ok(Form {
@@ -312,7 +312,7 @@ fn is_value_two(digits: &[u8]) -> bool
 
 /// The line with this number.
 pub(crate) fn form_at(version: Version, number: u32, parts: &[Part]) -> Result<Form, FormFault>
-    ensures { result ≡ answered (form_at (is_second version) number (map part parts.now)) }
+    ensures { result ≡ form_result (form_at (is_second version) number (map part parts.now)) }
 {
     if number == 1 && is_version_two(parts) {
         return Ok(Form {

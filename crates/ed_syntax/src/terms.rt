@@ -3,7 +3,7 @@ ghost use Rattle.std.specs.Prelude.{◌≡◌, ◌∷◌, ◌≤◌, ◌<◌, �
 ghost use Rattle.std.specs.Prelude.{map, length, IfSome, IfOk, IfErr, option_map};
 ghost use Rattle.std.specs.Option.{ok_or};
 ghost use Rattle.ed_syntax.specs.Programs.{is_second};
-ghost use Rattle.ed_syntax.specs.Private.Found.{answered};
+ghost use Rattle.ed_syntax.specs.Private.Found.{form_result};
 ghost use Rattle.std.specs.List.{list_all};
 ghost use Rattle.std.specs.Str.{bytes_eq};
 ghost use Rattle.ed_codes.specs.Spelling.{row_of};
@@ -134,7 +134,7 @@ pub(crate) fn up_to(most: u64, digits: &[u8]) -> Option<u64>
 /// A number from 0 to `most`.
 pub(crate) fn number(most: u64, run: &[u8]) -> Result<u64, FormFault>
     requires { most < 2 ^ 36 }
-    ensures is { result ≡ answered (number_up_to most run.now) }
+    ensures is { result ≡ form_result (number_up_to most run.now) }
     ensures within { IfOk result (λ n. n < 2 ^ 36) }
 {
     if !is_number(run) {
@@ -148,7 +148,7 @@ pub(crate) fn number(most: u64, run: &[u8]) -> Result<u64, FormFault>
 pub(crate) fn integer(least: u64, most: u64, parts: &[Part]) -> Result<i64, FormFault>
     requires least { least < 2 ^ 36 }
     requires most { most < 2 ^ 36 }
-    ensures { result ≡ answered (integer least most (map part parts.now)) }
+    ensures { result ≡ form_result (integer least most (map part parts.now)) }
 {
     match parts {
         [Part::Run(run)] => {

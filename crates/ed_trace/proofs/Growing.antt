@@ -11,7 +11,7 @@ use Rattle.ed_io.specs.declared.device.Failed.{Failed}
 use Rattle.ed_io.proofs.Calls.{gains_more, gains_none}
 use Rattle.ed_report.specs.Traces.{functions_after, is_full, letters_from, line_end}
 use Rattle.ed_report.proofs.Letters.{functions_count, letters_more, next_functions, no_functions}
-use Rattle.ed_trace.specs.Private.Growth.{BreaksTrace, Lines, Puts, letter, lined, traced_letters}
+use Rattle.ed_trace.specs.Private.Growth.{BreaksTrace, Lines, Puts, letter, orders_in_full_lines, traced_letters}
 
 -- the first bytes of a text are the first bytes of a longer one
 pub part_of_longer : (before after : Option (List ℕ)) (text longer more : List ℕ) → longer ≡ text ++ more
@@ -60,11 +60,11 @@ more_traced j (suc i) s =
     )
 
 -- whether the line is full
-lined_full : (k : ℕ) → is_full (k + 1) ≡ true → (lined (k + 1) ≡ k + 1) × ((k + 1) % 50 ≡ 0) × (lined k ≡ k + 1 - 50)
+lined_full : (k : ℕ) → is_full (k + 1) ≡ true → (orders_in_full_lines (k + 1) ≡ k + 1) × ((k + 1) % 50 ≡ 0) × (orders_in_full_lines k ≡ k + 1 - 50)
 lined_full k e =
     let h : (k + 1) % 50 ≡ 0 = grind (arith, nat_tests) in (grind arith, h, grind arith)
 
-lined_open : (k : ℕ) → is_full (k + 1) ≡ false → (lined (k + 1) ≡ lined k) × ((k + 1) % 50 ≡ k % 50 + 1)
+lined_open : (k : ℕ) → is_full (k + 1) ≡ false → (orders_in_full_lines (k + 1) ≡ orders_in_full_lines k) × ((k + 1) % 50 ≡ k % 50 + 1)
 lined_open k e =
     let h : (k + 1) % 50 ≢ 0 = grind (arith, nat_tests) in
     let n : (k + 1) % 50 ≡ k % 50 + 1 = grind arith in (grind arith, n)
@@ -74,10 +74,10 @@ module _ {k : ℕ} {s m : State} {before now : Option (List ℕ)} {held : List �
     (lines : Lines k s before now held)
     (is : m ≡ state_after k s) (at : l ≡ letter m) where
   more : (full : Bool) → full ≡ is_full (k + 1)
-      → traced_letters (k + 1) s ≡ traced_letters (lined k) s ++ (held ++ l ∷ line_end full)
+      → traced_letters (k + 1) s ≡ traced_letters (orders_in_full_lines k) s ++ (held ++ l ∷ line_end full)
   more full ends =
       sym (grows k s m l full is at ends) ∙ ap (λ t. t ++ l ∷ line_end full) lines.whole
-      ∙ append_assoc (traced_letters (lined k) s) held (l ∷ line_end full)
+      ∙ append_assoc (traced_letters (orders_in_full_lines k) s) held (l ∷ line_end full)
 
   -- it was put on the line
   pub next_lines : {after : Option (List ℕ)} {left : List ℕ} (u : Unit {0})
@@ -88,22 +88,22 @@ module _ {k : ℕ} {s m : State} {before now : Option (List ℕ)} {held : List �
           → Lines (k + 1) s before after left
       by_test true e p =
           let n = lined_full k (sym e) in
-          let all : traced_letters (lined (k + 1)) s ≡ traced_letters (k + 1) s = ap (λ x. traced_letters x s) n.0 in
+          let all : traced_letters (orders_in_full_lines (k + 1)) s ≡ traced_letters (k + 1) s = ap (λ x. traced_letters x s) n.0 in
           record {
             gains = subst (λ t. Gains before after t) (sym (all ∙ more true e))
-                (gains_more before now after (traced_letters (lined k) s) (held ++ l ∷ 10 ∷ []) lines.gains p.0);
-            whole = sym all ∙ sym (append-nil (traced_letters (lined (k + 1)) s))
-                ∙ ap (λ t. traced_letters (lined (k + 1)) s ++ t) (sym p.1);
+                (gains_more before now after (traced_letters (orders_in_full_lines k) s) (held ++ l ∷ 10 ∷ []) lines.gains p.0);
+            whole = sym all ∙ sym (append-nil (traced_letters (orders_in_full_lines (k + 1)) s))
+                ∙ ap (λ t. traced_letters (orders_in_full_lines (k + 1)) s ++ t) (sym p.1);
             few = ap length p.1 ∙ sym n.1;
           }
       by_test false e p =
           let n = lined_open k (sym e) in
-          let same : traced_letters (lined (k + 1)) s ≡ traced_letters (lined k) s = ap (λ x. traced_letters x s) n.0 in
+          let same : traced_letters (orders_in_full_lines (k + 1)) s ≡ traced_letters (orders_in_full_lines k) s = ap (λ x. traced_letters x s) n.0 in
           let count : length left ≡ length held + 1 = ap length p.1 ∙ length-append held (l ∷ []) in
           record {
             gains = subst (λ t. Gains before after t) (sym same)
-                (subst (λ (b : Option (List ℕ)). Gains before b (traced_letters (lined k) s)) (sym p.0) lines.gains);
-            whole = more false e ∙ ap (λ t. traced_letters (lined k) s ++ t) (sym p.1) ∙ ap (λ t. t ++ left) (sym same);
+                (subst (λ (b : Option (List ℕ)). Gains before b (traced_letters (orders_in_full_lines k) s)) (sym p.0) lines.gains);
+            whole = more false e ∙ ap (λ t. traced_letters (orders_in_full_lines k) s ++ t) (sym p.1) ∙ ap (λ t. t ++ left) (sym same);
             few = omega (arith, count, n.1, lines.few);
           }
 
@@ -119,7 +119,7 @@ module _ {k : ℕ} {s m : State} {before now : Option (List ℕ)} {held : List �
       by_test false same p = absurd p
       by_test true same p =
           let n = lined_full k (sym same) in
-          let front : traced_letters (lined k) s ≡ traced_letters (k + 1 - 50) s = ap (λ x. traced_letters x s) n.2 in
+          let front : traced_letters (orders_in_full_lines k) s ≡ traced_letters (k + 1 - 50) s = ap (λ x. traced_letters x s) n.2 in
           record {
             orders = k + 1;
             some = omega arith;
@@ -131,5 +131,5 @@ module _ {k : ℕ} {s m : State} {before now : Option (List ℕ)} {held : List �
             line = more true same ∙ ap (λ t. t ++ (held ++ l ∷ 10 ∷ [])) front
                 ∙ ap (λ t. traced_letters (k + 1 - 50) s ++ t) p.whole;
             gains = subst (λ t. Gains before after (t ++ p.part)) front
-                (gains_more before now after (traced_letters (lined k) s) p.part lines.gains p.gains);
+                (gains_more before now after (traced_letters (orders_in_full_lines k) s) p.part lines.gains p.gains);
           }

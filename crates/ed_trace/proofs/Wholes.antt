@@ -14,7 +14,7 @@ use Rattle.ed_io.proofs.Calls.{gains_more}
 use Rattle.ed_report.specs.Traces.{is_full, last_end}
 use Rattle.ed_report.proofs.Letters.{functions_count}
 use Rattle.ed_trace.specs.Traces.{TraceBroke, trace_of, trace_to}
-use Rattle.ed_trace.specs.Private.Growth.{BreaksTrace, EndsLine, Lines, lined, traced_letters}
+use Rattle.ed_trace.specs.Private.Growth.{BreaksTrace, EndsLine, Lines, orders_in_full_lines, traced_letters}
 use Rattle.ed_trace.proofs.Growing.{more_traced, part_of_longer}
 
 -- the whole trace is that of the orders of the run
@@ -118,24 +118,24 @@ module _ {limit resumes : ℕ} {s last : State} {before after : Option (List ℕ
 module _ {k : ℕ} {s : State} {before now : Option (List ℕ)} where
   -- its text, after the full lines
   last_line : {held : List ℕ} → Lines k s before now held → k % 50 ≢ 0
-      → trace_to k s ≡ traced_letters (lined k) s ++ (held ++ 10 ∷ [])
+      → trace_to k s ≡ traced_letters (orders_in_full_lines k) s ++ (held ++ 10 ∷ [])
   last_line {held} lines h =
       trace_open k s h ∙ ap (λ t. t ++ 10 ∷ []) lines.whole
-      ∙ append_assoc (traced_letters (lined k) s) held (10 ∷ [])
+      ∙ append_assoc (traced_letters (orders_in_full_lines k) s) held (10 ∷ [])
 
   -- all is written
   pub all_written : (after : Option (List ℕ)) (u : Unit {0}) (held : List ℕ) → Lines k s before now held
       → EndsLine held (Ok u) now after → Gains before after (trace_to k s)
   all_written after u [] lines p =
       let none : k % 50 ≡ 0 = sym lines.few in
-      let whole : trace_to k s ≡ traced_letters (lined k) s =
-      trace_full k s none ∙ lines.whole ∙ append-nil (traced_letters (lined k) s) in
+      let whole : trace_to k s ≡ traced_letters (orders_in_full_lines k) s =
+      trace_full k s none ∙ lines.whole ∙ append-nil (traced_letters (orders_in_full_lines k) s) in
       subst (λ t. Gains before after t) (sym whole)
-      (subst (λ (a : Option (List ℕ)). Gains before a (traced_letters (lined k) s)) (sym p) lines.gains)
+      (subst (λ (a : Option (List ℕ)). Gains before a (traced_letters (orders_in_full_lines k) s)) (sym p) lines.gains)
   all_written after u (l ∷ held) lines p =
       let some : k % 50 ≢ 0 = omega (arith, lines.few) in
       subst (λ t. Gains before after t) (sym (last_line lines some))
-      (gains_more before now after (traced_letters (lined k) s) ((l ∷ held) ++ 10 ∷ []) lines.gains p)
+      (gains_more before now after (traced_letters (orders_in_full_lines k) s) ((l ∷ held) ++ 10 ∷ []) lines.gains p)
 
   -- its write failed
   last_broke : {limit resumes : ℕ} {last : State} (after : Option (List ℕ)) (e : Failed) (held : List ℕ)
@@ -145,9 +145,9 @@ module _ {k : ℕ} {s : State} {before now : Option (List ℕ)} where
   last_broke after e [] lines is state p = absurd p
   last_broke after e (l ∷ held) lines is state p =
       let some : k % 50 ≢ 0 = omega (arith, lines.few) in
-      let front : lined k % 50 ≡ 0 = grind arith in (
+      let front : orders_in_full_lines k % 50 ≡ 0 = grind arith in (
         record {
-          written = lined k;
+          written = orders_in_full_lines k;
           orders = k;
           full = front;
           some = grind arith;
@@ -157,10 +157,10 @@ module _ {k : ℕ} {s : State} {before now : Option (List ℕ)} where
           state_is = state;
           part = p.part;
           rest = p.rest;
-          line = last_line lines some ∙ ap (λ t. traced_letters (lined k) s ++ t) p.whole
-              ∙ ap (λ t. t ++ (p.part ++ p.rest)) (sym (trace_full (lined k) s front));
-          gains = subst (λ t. Gains before after (t ++ p.part)) (sym (trace_full (lined k) s front))
-              (gains_more before now after (traced_letters (lined k) s) p.part lines.gains p.gains);
+          line = last_line lines some ∙ ap (λ t. traced_letters (orders_in_full_lines k) s ++ t) p.whole
+              ∙ ap (λ t. t ++ (p.part ++ p.rest)) (sym (trace_full (orders_in_full_lines k) s front));
+          gains = subst (λ t. Gains before after (t ++ p.part)) (sym (trace_full (orders_in_full_lines k) s front))
+              (gains_more before now after (traced_letters (orders_in_full_lines k) s) p.part lines.gains p.gains);
         },
         refl,
       )

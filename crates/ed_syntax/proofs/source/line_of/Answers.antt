@@ -2,7 +2,7 @@ use Rattle.std.proofs.Common.{rules, ◌≡◌, ◌∙◌, map, sym}
 use Rattle.std.specs.Prelude.{Ok, Err}
 use Rattle.std.proofs.lemmas.Result.{err_from_is_err_and}
 use Rattle.ed_syntax.specs.Private.Answers.{LineIs, form_fault}
-use Rattle.ed_syntax.specs.Private.Found.{answered}
+use Rattle.ed_syntax.specs.Private.Found.{form_result}
 use Rattle.ed_syntax.specs.Private.Grammar.{form_at}
 use Rattle.ed_syntax.specs.Private.Seen.{part}
 use Rattle.ed_syntax.specs.Private.SourceReading.{line_of, or_cause}
@@ -17,7 +17,7 @@ returns-in_err-form_at c =
     let o = form_at (is_second c.args.version) c.args.number (map part c.in_ok-parts.parts.items) in
     let whole : line_of (is_second c.args.version) c.args.number c.args.line.now ≡ or_cause o = search rules in
     let fault = c.in_err-form_at.field-0.0 in
-    let told : Err fault ≡ answered o = search rules in
+    let told : Err fault ≡ form_result o = search rules in
     let is : LineIs (line_of (is_second c.args.version) c.args.number c.args.line.now) (Err (form_fault fault)) =
     rw whole (line_fault o fault told) in
     rw (p.1, p.2) is
@@ -26,5 +26,5 @@ pub returns : goal.returns
 returns c =
     let o = form_at (is_second c.args.version) c.args.number (map part c.in_ok-parts.parts.items) in
     let whole : line_of (is_second c.args.version) c.args.number c.args.line.now ≡ or_cause o = search rules in
-    let told : Ok c.in_ok-form_at.field-0 ≡ answered o = search rules in
+    let told : Ok c.in_ok-form_at.field-0 ≡ form_result o = search rules in
     whole ∙ line_form o c.in_ok-form_at.field-0 told

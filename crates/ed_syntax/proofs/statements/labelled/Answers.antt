@@ -1,7 +1,7 @@
 use Rattle.std.proofs.Common.{rules, ◌≡◌, ◌<◌, length, map}
 use Rattle.std.specs.Prelude.{Some, None}
 use Rattle.std.proofs.lemmas.Result.{err_from_is_err_and}
-use Rattle.ed_syntax.specs.Private.Grammar.{made, placed, statement, labelled}
+use Rattle.ed_syntax.specs.Private.Grammar.{ranged_map, placed_statement, statement, labelled_line}
 use Rattle.ed_syntax.specs.Private.Seen.{part}
 use Rattle.ed_syntax.specs.Programs.{is_second}
 use Rattle.ed_syntax.specs.declared.program.Form.{Form}
@@ -14,8 +14,8 @@ returns-in_err-statement c =
     let r = c.from_residual-in_err-statement in
     let p = err_from_is_err_and r.result r.ensures.1 in
     let form : Statement → Form = λ (s : Statement). record { label = Some c.args.run.now; statement = Some s } in
-    let o = placed (is_second c.args.version) (map part c.args.parts.now) in
+    let o = placed_statement (is_second c.args.version) (map part c.args.parts.now) in
     let some : 0 < length c.args.parts.now = search rules in
-    let whole : labelled (is_second c.args.version) c.args.run.now (map part c.args.parts.now) ≡ made form o =
+    let whole : labelled_line (is_second c.args.version) c.args.run.now (map part c.args.parts.now) ≡ ranged_map form o =
     after_a_label (is_second c.args.version) c.args.run.now c.args.parts.now (search rules) some in
     rw (p.1, p.2, whole) (made_fault form o _ c.in_err-statement.ensures)
