@@ -25,7 +25,7 @@ use Rattle.ed_programs.specs.Hello.{EachTextIsPrinted, IsRows, hello_data, hello
 use Rattle.ed_programs.specs.Hello.{hello_rows}
 use Rattle.ed_programs.specs.Hello.{hello_text, is_capital, of_letters}
 use Rattle.ed_programs.proofs.Capitals.{are_rows, letters_shown}
-use Rattle.ed_programs.proofs.Faults.{past, counter}
+use Rattle.ed_link.proofs.Extents.{past, counter}
 use Rattle.ed_programs.proofs.ProgramEntry.{stops_by}
 use Rattle.ed_programs.proofs.SourceRuns.{read_runs}
 use Rattle.ed_programs.proofs.TextLines.{IsAround, all_plain, number_says, text_mark}
@@ -35,13 +35,9 @@ use Rattle.ed_programs.proofs.Kit.{false, List, [], ◌∷◌, ◌++◌, Ok, Som
 use Rattle.ed_programs.proofs.Kit.{decimal, least, Text, Size, Line, entry_state, paper, Settings, Frame, Moment, short}
 use Rattle.ed_programs.proofs.Kit.{state, early, out, own, A, S, T, U, O, G_jumps, G_stays, Z, Path, followed, on}
 use Rattle.ed_programs.proofs.Kit.{prints, stay, newline, ComesToStop, HasRoutine, IsIn, along, then, to_stop}
-use Rattle.ed_programs.proofs.Kit.{all_words, frame_at, moment_at, SourceRuns, Marked, to, counted}
+use Rattle.ed_programs.proofs.Kit.{all_words, frame_at, moment_at, SourceRuns, Marked, printing, to, counted}
 
 -- ---- its path
-
--- the order that prints what stands at q
-abbrev printing : ℕ → ℕ
-printing q = O_F + 2 * q
 
 -- its words: the jump to `newline`, the order after the last one that prints, the one that does, and a spare cell
 abbrev cells : ℕ → ℕ → ℕ → ℕ → List ℕ

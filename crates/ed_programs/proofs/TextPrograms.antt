@@ -31,8 +31,8 @@ use Rattle.ed_sources.proofs.Blocks.{beside_block, block_places, in_block, last_
 use Rattle.ed_sources.proofs.Blocks.{word_of}
 use Rattle.ed_sources.proofs.Entries.{frame_at}
 use Rattle.ed_sources.proofs.Said.{said}
-use Rattle.ed_programs.proofs.Faults.{are_below, block_sound, enter_sound, none_later, one_more, past, counter}
-use Rattle.ed_programs.proofs.Faults.{use_sound}
+use Rattle.ed_link.proofs.Extents.{are_below, counter, none_later, one_more, past}
+use Rattle.ed_programs.proofs.Faults.{block_sound, enter_sound, use_sound}
 
 -- ---- faults
 

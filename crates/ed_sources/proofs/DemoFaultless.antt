@@ -23,6 +23,7 @@ use Rattle.ed_symbols.specs.Places.{first_counter}
 use Rattle.ed_link.specs.Private.FaultTests.{LinesBefore, any_enter, cause_of, fault, fault_from, overlaps, missing}
 use Rattle.ed_link.specs.Private.FaultTests.{sooner}
 use Rattle.ed_link.specs.Linked.{symbols_of}
+use Rattle.ed_link.proofs.Extents.{apart, are_below, counter, fits_store, none_later, one_more, past}
 use Rattle.ed_sources.specs.Demo.{number_after, next, number_word}
 use Rattle.ed_sources.proofs.Decimals.{decimal_is}
 use Rattle.ed_sources.proofs.DemoNames.{enter_named, first_free, first_homes, program_named, segments_named}
@@ -32,50 +33,6 @@ use Rattle.ed_sources.proofs.SaidDemo.{word_forms}
 use Rattle.ed_sources.proofs.Said.{said}
 
 -- ---- locations
-
--- the extents of lines, from the first location to the one after the last, are below a location
-abbrev are_below : ℕ → List (ℕ × ℕ) → Bool
-are_below p runs = list_all (λ r. nat_le r.1 p) runs
-
-below_more : (p q : ℕ) (runs : List (ℕ × ℕ)) → p ≤ q → are_below p runs ≡ true → are_below q runs ≡ true
-below_more p q [] l h = refl
-below_more p q (r ∷ runs) l h =
-    let s = and_parts (nat_le r.1 p) (are_below p runs) h in
-    let under = le_of r.1 p s.0 in
-    let first : nat_le r.1 q ≡ true = le_true r.1 q (omega arith) in
-    let rest = below_more p q runs l s.1 in
-    rw (first, rest) refl
-
--- and so are those of one more line
-one_more : (p a q : ℕ) (runs : List (ℕ × ℕ)) → p ≤ q → are_below p runs ≡ true
-    → are_below q (runs ++ (a, q) ∷ []) ≡ true
-one_more p a q runs l h =
-    let before = below_more p q runs l h in
-    let last : nat_le q q ≡ true = le_true q q (omega arith) in
-    list_all-append (λ r. nat_le r.1 q) runs ((a, q) ∷ []) ∙ rw (before, last) refl
-
--- extents from there upwards don't overlap them
-apart : (p b : ℕ) (runs : List (ℕ × ℕ)) → are_below p runs ≡ true → list_any (λ run. overlaps (p, b) run) runs ≡ false
-apart p b [] h = refl
-apart p b (r ∷ runs) h =
-    let s = and_parts (nat_le r.1 p) (are_below p runs) h in
-    let under = le_of r.1 p s.0 in
-    let none : nat_lt (max p r.0) (min b r.1) ≡ false = lt_false (max p r.0) (min b r.1) (omega arith) in
-    let rest = apart p b runs s.1 in
-    rw (none, rest) refl
-
--- a line, and those after it
-none_later : (l : ℕ) (cause : Option SourceCause) (later : Option SourceFault) → cause ≡ None → later ≡ None
-    → or_later l cause later ≡ None
-none_later l cause later here there = ap (λ (c : Option SourceCause). or_later l c later) here ∙ there
-
--- a location counter inside a segment
-abbrev pub counter : ℕ → ℕ → ℕ → LocationCounter
-counter place base segments = record { place = place; base = base; segments = segments; inside = true }
-
--- lines before any `enter`
-abbrev past : List (ℕ × ℕ) → LinesBefore
-past runs = record { runs = runs; entered = false }
 
 -- the extents of n lines of one word
 abbrev one_by_one : ℕ → ℕ → List (ℕ × ℕ)
@@ -104,14 +61,9 @@ module _ (z : Size) (rest_homes : List Definition) where
   word_sound : (l w p b g : ℕ) (runs : List (ℕ × ℕ)) → (56 ≤ p) × (p + 1 ≤ locations z) → are_below p runs ≡ true
       → cause_of z symbols true (past runs) (said l None (statements.Number w)) (counter p b g) ≡ None
   word_sound l w p b g runs inside below =
-      let low = inside.0 in
-      let fits = inside.1 in
-      let loader : nat_lt (max p 0) (min (p + 1) 44) ≡ false = lt_false (max p 0) (min (p + 1) 44) (omega arith) in
-      let parameters : nat_lt (max p 44) (min (p + 1) 56) ≡ false =
-      lt_false (max p 44) (min (p + 1) 56) (omega arith) in
-      let store : nat_lt (max p (locations z)) (min (p + 1) (p + 1)) ≡ false =
-      lt_false (max p (locations z)) (min (p + 1) (p + 1)) (omega arith) in
-      let others = apart p (p + 1) runs below in
+      let s = fits_store (locations z) p (p + 1) inside.0 inside.1 in
+      let loader = s.loader in let parameters = s.parameters in let store = s.store in
+      let others = apart p p (p + 1) runs (omega arith) below in
       rw (loader, parameters, store, others) refl
 
   segment_sound : (l p b g : ℕ) (n : Text) (runs : List (ℕ × ℕ)) → are_below p runs ≡ true
@@ -121,7 +73,7 @@ module _ (z : Size) (rest_homes : List Definition) where
       let parameters : nat_lt (max p 44) (min p 56) ≡ false = lt_false (max p 44) (min p 56) (omega arith) in
       let store : nat_lt (max p (locations z)) (min p p) ≡ false =
       lt_false (max p (locations z)) (min p p) (omega arith) in
-      let others = apart p p runs below in
+      let others = apart p p p runs (omega arith) below in
       rw (loader, parameters, store, others) refl
 
   words_sound : (n l x : ℕ) {p b g : ℕ} {runs : List (ℕ × ℕ)} {rest : List Line} → 56 ≤ p → p + n ≤ locations z
@@ -159,7 +111,7 @@ module _ (z : Size) (rest_homes : List Definition) where
       → AreSound z symbols runs (counter q b g) (enter_line l ∷ [])
   enter_sound l q b g runs below =
       let store : nat_lt (max 56 (locations z)) (min 57 57) ≡ false = within z in
-      let others = apart q q runs below in
+      let others = apart q q q runs (omega arith) below in
       record { none = rw (store, others) refl }
     where
       within : (z : Size) → nat_lt (max 56 (locations z)) (min 57 57) ≡ false
