@@ -1,5 +1,5 @@
 -- Extents of lines that are below a location: what is from there upwards doesn't overlap them.
-use Rattle.std.proofs.Common.{◌≡◌, ◌∙◌, ℕ, ◌≤◌, Bool, true, false, List, [], ◌∷◌, ◌++◌, refl, ap, arith}
+use Rattle.std.proofs.Common.{◌≡◌, ◌∙◌, ℕ, zero, suc, ◌+◌, ◌≤◌, Bool, true, false, List, [], ◌∷◌, ◌++◌, refl, ap, arith}
 use Rattle.std.proofs.Common.{nat_le, nat_lt}
 use Rattle.std.specs.Prelude.{max, min, Option, None}
 use Rattle.std.specs.List.{list_all, list_any}
@@ -10,38 +10,39 @@ use Rattle.ed_syntax.specs.declared.fault.SourceCause.{SourceCause}
 use Rattle.ed_syntax.specs.declared.fault.SourceFault.{SourceFault}
 use Rattle.ed_symbols.specs.declared.location_counter.LocationCounter.{LocationCounter}
 use Rattle.ed_symbols.specs.Faults.{or_later}
-use Rattle.ed_link.specs.Private.FaultTests.{LinesBefore, overlaps}
+use Rattle.ed_link.specs.Private.FaultTests.{LinesBefore, extent, overlaps}
+use Rattle.ed_link.specs.declared.faults.Extent.{Extent}
 
--- the extents of lines, from the first location to the one after the last, are below a location
-abbrev pub are_below : ℕ → List (ℕ × ℕ) → Bool
-are_below p runs = list_all (λ r. nat_le r.1 p) runs
+-- the extents of lines are below a location
+abbrev pub are_below : ℕ → List Extent → Bool
+are_below p extents = list_all (λ e. nat_le e.after p) extents
 
-pub below_more : (p q : ℕ) (runs : List (ℕ × ℕ)) → p ≤ q → are_below p runs ≡ true → are_below q runs ≡ true
+pub below_more : (p q : ℕ) (extents : List Extent) → p ≤ q → are_below p extents ≡ true → are_below q extents ≡ true
 below_more p q [] l h = refl
-below_more p q (r ∷ runs) l h =
-    let s = and_parts (nat_le r.1 p) (are_below p runs) h in
-    let under = le_of r.1 p s.0 in
-    let first : nat_le r.1 q ≡ true = le_true r.1 q (omega arith) in
-    let rest = below_more p q runs l s.1 in
+below_more p q (e ∷ extents) l h =
+    let s = and_parts (nat_le e.after p) (are_below p extents) h in
+    let under = le_of e.after p s.0 in
+    let first : nat_le e.after q ≡ true = le_true e.after q (omega arith) in
+    let rest = below_more p q extents l s.1 in
     rw (first, rest) refl
 
 -- and so are those of one more line
-pub one_more : (p a q : ℕ) (runs : List (ℕ × ℕ)) → p ≤ q → are_below p runs ≡ true
-    → are_below q (runs ++ (a, q) ∷ []) ≡ true
-one_more p a q runs l h =
-    let before = below_more p q runs l h in
+pub one_more : (p a q : ℕ) (extents : List Extent) → p ≤ q → are_below p extents ≡ true
+    → are_below q (extents ++ extent a q ∷ []) ≡ true
+one_more p a q extents l h =
+    let before = below_more p q extents l h in
     let last : nat_le q q ≡ true = le_true q q (omega arith) in
-    list_all-append (λ r. nat_le r.1 q) runs ((a, q) ∷ []) ∙ rw (before, last) refl
+    list_all-append (λ e. nat_le e.after q) extents (extent a q ∷ []) ∙ rw (before, last) refl
 
 -- extents from there upwards don't overlap them
-pub apart : (p a b : ℕ) (runs : List (ℕ × ℕ)) → p ≤ a → are_below p runs ≡ true
-    → list_any (λ run. overlaps (a, b) run) runs ≡ false
+pub apart : (p a b : ℕ) (extents : List Extent) → p ≤ a → are_below p extents ≡ true
+    → list_any (λ other. overlaps (extent a b) other) extents ≡ false
 apart p a b [] l h = refl
-apart p a b (r ∷ runs) l h =
-    let s = and_parts (nat_le r.1 p) (are_below p runs) h in
-    let under = le_of r.1 p s.0 in
-    let none : nat_lt (max a r.0) (min b r.1) ≡ false = lt_false (max a r.0) (min b r.1) (omega arith) in
-    let rest = apart p a b runs l s.1 in
+apart p a b (e ∷ extents) l h =
+    let s = and_parts (nat_le e.after p) (are_below p extents) h in
+    let under = le_of e.after p s.0 in
+    let none : nat_lt (max a e.from) (min b e.after) ≡ false = lt_false (max a e.from) (min b e.after) (omega arith) in
+    let rest = apart p a b extents l s.1 in
     rw (none, rest) refl
 
 -- a line, and those after it
@@ -66,5 +67,10 @@ fits_store top a b low fits = record {
 abbrev pub counter : ℕ → ℕ → ℕ → LocationCounter
 counter place base segments = record { place = place; base = base; segments = segments; inside = true }
 
-abbrev pub past : List (ℕ × ℕ) → LinesBefore
-past runs = record { runs = runs; entered = false }
+abbrev pub past : List Extent → LinesBefore
+past extents = record { extents = extents; entered = false }
+
+-- the extents of n lines of one word
+abbrev pub one_by_one : ℕ → ℕ → List Extent
+one_by_one zero p = []
+one_by_one (suc n) p = extent p (p + 1) ∷ one_by_one n (p + 1)

@@ -22,42 +22,43 @@ use Rattle.ed_syntax.specs.declared.fault.SourceCause.{SourceCause}
 use Rattle.ed_syntax.specs.declared.fault.SourceFault.{SourceFault}
 use Rattle.ed_symbols.specs.Faults.{or_later}
 use Rattle.ed_link.specs.Private.FaultTests.{cause_of, sets}
+use Rattle.ed_link.specs.declared.faults.Extent.{Extent}
 use Rattle.ed_link.proofs.Extents.{apart, are_below, counter, fits_store, past}
 
 -- ---- lines after a program: a block of words, a routine of the library, and the entry
 
-module _ (z : Size) (symbols : List Definition) (runs : List (ℕ × ℕ)) where
+module _ (z : Size) (symbols : List Definition) (extents : List Extent) where
   pub block_sound : (l p b g : ℕ) (label : Option Text) (rows : List ℕ) → 56 ≤ p → p + length rows ≤ locations z
-      → are_below p runs ≡ true
-      → cause_of z symbols true (past runs) (said l label (statements.Text (array rows))) (counter p b g) ≡ None
+      → are_below p extents ≡ true
+      → cause_of z symbols true (past extents) (said l label (statements.Text (array rows))) (counter p b g) ≡ None
   block_sound l p b g label rows low fits below =
       let s = fits_store (locations z) p (p + length rows) low fits in
       let loader = s.loader in let parameters = s.parameters in let store = s.store in
-      let others = apart p p (p + length rows) runs (omega arith) below in
+      let others = apart p p (p + length rows) extents (omega arith) below in
       rw (loader, parameters, store, others) refl
 
   pub use_sound : (l p b g : ℕ) (inside : Bool) (routine name : Text) (settings : List Setting) → 56 ≤ p
       → even_from p + routine_places (find routine) ≤ locations z
-      → are_below p runs ≡ true → is_none (find routine) ≡ false → sets settings (find routine) ≡ true
-      → cause_of z symbols true (past runs) (said l None (statements.Fetch routine name (array settings)))
+      → are_below p extents ≡ true → is_none (find routine) ≡ false → sets settings (find routine) ≡ true
+      → cause_of z symbols true (past extents) (said l None (statements.Fetch routine name (array settings)))
       (record { place = p; base = b; segments = g; inside = inside }) ≡ None
   use_sound l p b g true routine name settings low fits below known set =
       let s = fits_store (locations z) (even_from p) (even_from p + routine_places (find routine)) (omega arith) fits in
       let loader = s.loader in let parameters = s.parameters in let store = s.store in
-      let others = apart p (even_from p) (even_from p + routine_places (find routine)) runs (omega arith) below in
+      let others = apart p (even_from p) (even_from p + routine_places (find routine)) extents (omega arith) below in
       rw (loader, parameters, store, others, known, set) refl
   use_sound l p b g false routine name settings low fits below known set =
       let s = fits_store (locations z) (even_from p) (even_from p + routine_places (find routine)) (omega arith) fits in
       let loader = s.loader in let parameters = s.parameters in let store = s.store in
-      let others = apart p (even_from p) (even_from p + routine_places (find routine)) runs (omega arith) below in
+      let others = apart p (even_from p) (even_from p + routine_places (find routine)) extents (omega arith) below in
       rw (loader, parameters, store, others, known, set) refl
 
   pub enter_sound : (l q b g e : ℕ) (name : Text) → place_on symbols None name ≡ Some e → 56 ≤ e → e + 1 ≤ locations z
-      → are_below q runs ≡ true
-      → cause_of z symbols true (past runs) (said l None (statements.Enter name))
+      → are_below q extents ≡ true
+      → cause_of z symbols true (past extents) (said l None (statements.Enter name))
       (record { place = q; base = b; segments = g; inside = false }) ≡ None
   enter_sound l q b g e name place low fits below =
       let s = fits_store (locations z) e (e + 1) low fits in
       let loader = s.loader in let parameters = s.parameters in let store = s.store in
-      let others = apart q q q runs (omega arith) below in
+      let others = apart q q q extents (omega arith) below in
       rw (place, loader, parameters, store, others) refl
