@@ -5,6 +5,7 @@ use Rattle.std.proofs.Common.{List, [], ◌∷◌, ◌++◌, length, append_asso
 use Rattle.std.specs.Prelude.{if◌then◌else◌}
 use Rattle.std.proofs.lemmas.Bool.{cases_lt}
 use Rattle.std.proofs.lemmas.Bool.Decides.{nat_tests}
+use Rattle.std.proofs.lemmas.Option.{none-some, same_Some}
 use Rattle.ed_words.specs.Texts.{Text}
 use Rattle.ed_words.proofs.Numbers.{eq_false}
 use Rattle.ed_machine.specs.State.{State}
@@ -35,12 +36,6 @@ use Rattle.ed_answers.specs.Limits.{EachLimit, KeepsLimits, StartsWith}
 
 -- ---- ends
 
-some_is : (d e : Ending) → Some d ≡ Some e → d ≡ e
-some_is d e h = cc
-
-none_some : (e : Ending) → None ≡ Some e → ⊥
-none_some e h = cc
-
 -- at a number below both limits they make no difference
 no_limit : (low high k : ℕ) → low ≤ high → k ≤ low → nat_eq k low ≡ false → nat_eq k high ≡ false
 no_limit low high k l below other = eq_false k high (grind (arith, nat_tests))
@@ -58,7 +53,7 @@ end_stands low high resumes room k p e l below other =
         → (if b then Some Stopped else if c then Some Limit else by) ≡ Some e
         → (if b then Some Stopped else if d then Some Limit else by) ≡ Some e
     by_tests true c d later h = h
-    by_tests false true d later h = absurd (other (sym (some_is Limit e h)))
+    by_tests false true d later h = absurd (other (sym (same_Some Limit e h)))
     by_tests false false true later h = absurd (true≢false (later refl))
     by_tests false false false later h = h
 
@@ -74,8 +69,8 @@ none_stands low high resumes room k p l below =
     by_tests : (b c d : Bool) → (c ≡ false → d ≡ false)
         → (if b then Some Stopped else if c then Some Limit else by) ≡ None
         → (if b then Some Stopped else if d then Some Limit else by) ≡ None
-    by_tests true c d later h = absurd (none_some Stopped (sym h))
-    by_tests false true d later h = absurd (none_some Limit (sym h))
+    by_tests true c d later h = absurd (none-some Stopped (sym h))
+    by_tests false true d later h = absurd (none-some Limit (sym h))
     by_tests false false true later h = absurd (true≢false (later refl))
     by_tests false false false later h = h
 
@@ -101,9 +96,9 @@ not_limit : (t : Turn) (full : Bool) → end_by t full ≡ Some Limit → ⊥
 not_limit (IsNoOrder function) full h = cc
 not_limit HasNoTape full h = cc
 not_limit (Printed code) true h = cc
-not_limit (Printed code) false h = none_some Limit h
-not_limit Went full h = none_some Limit h
-not_limit Stops full h = none_some Limit h
+not_limit (Printed code) false h = none-some Limit h
+not_limit Went full h = none-some Limit h
+not_limit Stops full h = none-some Limit h
 
 -- so that end comes after as many orders as the limit allows
 at_limit : (low resumes room k : ℕ) (p : Progress) → end_at low resumes room k p ≡ Some Limit → k ≡ low
@@ -128,7 +123,7 @@ no_sooner low high resumes room s l is =
     let at : run_orders low resumes room s ≡ low = at_limit low resumes room _ _ (ends.now ∙ ap Some is) in
     let late : low ≤ m = elim (cases_lt m low) [
       | inl h ↦
-          absurd (none_some _
+          absurd (none-some _
           (sym (none_stands low high resumes room m (progress m s) l (omega (arith, h))
           (ends.first m (omega (arith, h, at)))) ∙ high_ends.now))
       | inr h ↦ h

@@ -66,7 +66,7 @@ module _ (tables : list_all is_ready catalogue ≡ true) (z : Size) (two : Bool)
       let a = none_of _ _ accepted in
       let b = none_of _ _ a.1 in
       let has_enter = there_is (any_enter lines) (length lines) b.1 in
-      let are : AreFaultless z (symbols_of lines) (any_enter lines) two (record { runs = []; entered = false }) []
+      let are : AreFaultless z (symbols_of lines) (any_enter lines) two (record { extents = []; entered = false }) []
       first_counter lines = record { formed = formed; sound = b.0; named = a.0; before = refl; enter = has_enter } in
       ends tables whole two lines are (record { base = omega arith; follows = λ h. cc; theta_is = refl })
 

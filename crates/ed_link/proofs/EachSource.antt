@@ -114,7 +114,7 @@ accepted_is_read z text lines a =
 
 -- ---- the tape
 
-tables : list_all is_ready catalogue ≡ true
+pub tables : list_all is_ready catalogue ≡ true
 tables = refl
 
 pub each_source : EachSourceComes

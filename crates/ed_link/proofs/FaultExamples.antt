@@ -15,11 +15,12 @@ use Rattle.ed_syntax.specs.declared.program.Statement.TheVariants.{Segment, Orde
 use Rattle.ed_link.specs.Faults.{IsMeaningFault, HasNoFault, LineHasCause}
 use Rattle.ed_link.proofs.FaultLaw.{read_law}
 
+-- the lines of a text that is read
 abbrev lines_in : Result (List Line) Fault → List Line
 lines_in (Ok lines) = lines
 lines_in (Err e) = []
 
-abbrev source : List ℕ → List Line
+abbrev pub source : List ℕ → List Line
 source text = lines_in (program_of text)
 
 refused : (z : Size) (text : List ℕ) {k : ℕ} {c : SourceCause} → program_of text ≡ Ok (source text)

@@ -22,12 +22,12 @@ use Rattle.ed_symbols.specs.Faults.{or_later, resolution}
 use Rattle.ed_link.specs.Linked.{symbols_of}
 use Rattle.ed_link.specs.Private.FaultTests.{IsFirstFault, any_enter, cause_of, fault, fault_from, is_enter, missing}
 use Rattle.ed_link.specs.Private.FaultTests.{past_of}
-use Rattle.ed_link.specs.Private.FaultTests.{sooner, word_run, LinesBefore}
+use Rattle.ed_link.specs.Private.FaultTests.{sooner, word_extent, LinesBefore}
 use Rattle.ed_symbols.specs.NameFaults.{counter_from, counter_after}
 use Rattle.ed_link.specs.Faults.{HasEnter, SourceHasFault, on_line, no_enter}
 use Rattle.ed_symbols.specs.NameFaults.{number_of}
 use Rattle.ed_link.specs.Faults.{IsMeaningFault, HasNoFault}
-use Rattle.ed_link.proofs.FaultSentences.{runs_from, any_says, any_tests}
+use Rattle.ed_link.proofs.FaultSentences.{extents_from, any_says, any_tests}
 use Rattle.ed_symbols.specs.NameFaults.{HasNameFault}
 use Rattle.ed_symbols.proofs.LeastFaults.{same_cause}
 use Rattle.ed_symbols.proofs.FaultPasses.{first, finds, Finds, Numbered}
@@ -36,10 +36,10 @@ use Rattle.ed_link.proofs.LineFaults.{OfMeaning, of_meaning, name_has_cause, few
 
 -- ---- the passes of the code, by what comes before a line
 
-runs_snoc : (s : LocationCounter) (b : List Line) (l : Line)
-    → runs_from s (b ++ l ∷ []) ≡ runs_from s b ++ word_run l.statement (counter_from s b) ∷ []
-runs_snoc s [] l = refl
-runs_snoc s (e ∷ b) l = ap (λ x. word_run e.statement s ∷ x) (runs_snoc (after_statement e.statement s) b l)
+extents_snoc : (s : LocationCounter) (b : List Line) (l : Line)
+    → extents_from s (b ++ l ∷ []) ≡ extents_from s b ++ word_extent l.statement (counter_from s b) ∷ []
+extents_snoc s [] l = refl
+extents_snoc s (e ∷ b) l = ap (λ x. word_extent e.statement s ∷ x) (extents_snoc (after_statement e.statement s) b l)
 
 or_last : (x : Bool) → (x || false) ≡ x
 or_last true = refl
@@ -56,13 +56,13 @@ any_snoc (e ∷ b) l = ap (λ x. is_enter e.statement || x) (any_snoc b l)
 
 module _ (z : Size) (lines : List Line) where
   abbrev past_after : List Line → LinesBefore
-  past_after b = record { runs = runs_from first_counter b; entered = any_enter b }
+  past_after b = record { extents = extents_from first_counter b; entered = any_enter b }
 
   abbrev ask_meaning : List Line → Line → Option SourceCause
   ask_meaning b l = cause_of z (symbols_of lines) (any_enter lines) (past_after b) l (counter_after b)
 
   past_snoc : (b : List Line) (l : Line) → past_of (past_after b) l (counter_after b) ≡ past_after (b ++ l ∷ [])
-  past_snoc b l = λ i. record { runs = sym (runs_snoc first_counter b l) i; entered = sym (any_snoc b l) i }
+  past_snoc b l = λ i. record { extents = sym (extents_snoc first_counter b l) i; entered = sym (any_snoc b l) i }
 
   meaning_pass : (b rest : List Line)
       → fault_from z (symbols_of lines) (any_enter lines) (past_after b) (counter_after b) rest
@@ -145,7 +145,7 @@ module _ (z : Size) (lines : List Line) (numbered : Numbered lines) where
   Lacking k c = (HasEnter lines → ⊥) × (k ≡ length lines + 1) × (c ≡ causes.Enter)
 
   abbrev second : Option SourceFault
-  second = fault_from z (symbols_of lines) (any_enter lines) (record { runs = []; entered = false }) first_counter lines
+  second = fault_from z (symbols_of lines) (any_enter lines) (record { extents = []; entered = false }) first_counter lines
 
   say_meaning : SaysLeast Meanings second
   say_meaning = found_says (λ b l c. OfMeaning z lines b l c) lines second

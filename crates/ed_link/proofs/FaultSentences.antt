@@ -21,7 +21,8 @@ use Rattle.ed_link.specs.Linked.{first_place, end_place, symbols_of}
 use Rattle.ed_symbols.proofs.Sentences.{Ties, or_left, or_right, and_of, and_true, not_true, true_not}
 use Rattle.ed_link.specs.Private.FaultTests.{any_enter, has_no_routine, has_sandwich, is_enter, is_in_segment}
 use Rattle.ed_link.specs.Private.FaultTests.{is_misplaced}
-use Rattle.ed_link.specs.Private.FaultTests.{is_outside, is_rows, overlaps, reach, run_at, word_run}
+use Rattle.ed_link.specs.Private.FaultTests.{extent, extent_at, is_outside, is_rows, overlaps, reach, word_extent}
+use Rattle.ed_link.specs.declared.faults.Extent.{Extent}
 use Rattle.ed_symbols.specs.NameFaults.{StandsAfter, counter_from, counter_after}
 use Rattle.ed_link.specs.Faults.{HasEnter}
 use Rattle.ed_link.specs.Faults.{PlacesWords, IsData, IsOutsideSegments, NeedsWithin, NeedsPast, Overlaps}
@@ -229,17 +230,17 @@ s9 before l = record {
 -- ---- S10 to S12
 
 -- a location is in an extent
-abbrev IsIn : ℕ × ℕ → ℕ → Type 0
-IsIn run p = (run.0 ≤ p) × (p < run.1)
+abbrev IsIn : Extent → ℕ → Type 0
+IsIn e p = (e.from ≤ p) × (p < e.after)
 
-meets_says : (a b c d : ℕ) → overlaps (a, b) (c, d) ≡ true → (p : ℕ) × IsIn (a, b) p × IsIn (c, d) p
+meets_says : (a b c d : ℕ) → overlaps (extent a b) (extent c d) ≡ true → (p : ℕ) × IsIn (extent a b) p × IsIn (extent c d) p
 meets_says a b c d h = let e : max a c < min b d = lt_of (max a c) (min b d) h in (
   max a c,
   (omega arith, omega (arith, e)),
   (omega arith, omega (arith, e)),
 )
 
-meets_tests : (a b c d p : ℕ) → IsIn (a, b) p → IsIn (c, d) p → overlaps (a, b) (c, d) ≡ true
+meets_tests : (a b c d p : ℕ) → IsIn (extent a b) p → IsIn (extent c d) p → overlaps (extent a b) (extent c d) ≡ true
 meets_tests a b c d p h g =
     lt_true (max a c) (min b d) (omega (arith, h.0, h.1, g.0, g.1))
 
@@ -251,7 +252,7 @@ NeedsAt symbols st s p = ((first_place st s ≤ p) × (p < end_place st s))
 need_in : (symbols : List Definition) (st : Option Statement) (s : LocationCounter) (p : ℕ) → NeedsAt symbols st s p
     → IsIn (reach symbols st s) p
 need_in symbols st s p (inr h) = subst (λ x. IsIn (reach symbols x s) p) (sym h.1)
-    (subst (λ o. IsIn (run_at o) p) (sym h.2) (omega arith, omega arith))
+    (subst (λ o. IsIn (extent_at o) p) (sym h.2) (omega arith, omega arith))
 need_in symbols None s p (inl h) = h
 need_in symbols (Some (Segment n b)) s p (inl h) = h
 need_in symbols (Some (Order f o d)) s p (inl h) = h
@@ -275,30 +276,30 @@ in_need symbols (Some (Fetch r n ts)) s p h = inl h
 in_need symbols (Some (Rows codes)) s p h = inl h
 in_need symbols (Some (Enter n)) s p h = entered (place_on symbols None n) refl h
   where
-    entered : (o : Option ℕ) → place_on symbols None n ≡ o → IsIn (run_at o) p → NeedsAt symbols (Some (Enter n)) s p
+    entered : (o : Option ℕ) → place_on symbols None n ≡ o → IsIn (extent_at o) p → NeedsAt symbols (Some (Enter n)) s p
     entered None e g = absurd (omega (arith, g.0, g.1))
     entered (Some q) e g =
         let same : q ≡ p = omega (arith, g.0, g.1) in inr (n, refl, e ∙ ap (λ x. Some x) same)
 
 within : (symbols : List Definition) (st : Option Statement) (s : LocationCounter) (c d : ℕ)
-    → Ties (overlaps (reach symbols st s) (c, d)) ((p : ℕ) × NeedsAt symbols st s p × (c ≤ p) × (p < d))
+    → Ties (overlaps (reach symbols st s) (extent c d)) ((p : ℕ) × NeedsAt symbols st s p × (c ≤ p) × (p < d))
 within symbols st s c d = record {
-  says = λ h. let m = meets_says (reach symbols st s).0 (reach symbols st s).1 c d h in
+  says = λ h. let m = meets_says (reach symbols st s).from (reach symbols st s).after c d h in
       (m.0, in_need symbols st s m.0 m.1, m.2.0, m.2.1);
-  tests = λ h. meets_tests (reach symbols st s).0 (reach symbols st s).1 c d h.0 (need_in symbols st s h.0 h.1)
+  tests = λ h. meets_tests (reach symbols st s).from (reach symbols st s).after c d h.0 (need_in symbols st s h.0 h.1)
       (h.2, h.3);
 }
 
 -- S10 at 0 and 44, S11 at 44 and 56
 pub s10_s11 : (lines before : List Line) (l : Line) (c d : ℕ)
-    → Ties (overlaps (reach (symbols_of lines) l.statement (counter_after before)) (c, d)) (NeedsWithin
+    → Ties (overlaps (reach (symbols_of lines) l.statement (counter_after before)) (extent c d)) (NeedsWithin
     lines before l c d)
 s10_s11 lines before l c d = within (symbols_of lines) l.statement (counter_after before) c d
 
 past : (symbols : List Definition) (st : Option Statement) (s : LocationCounter) (c : ℕ)
-    → Ties (overlaps (reach symbols st s) (c, (reach symbols st s).1)) ((p : ℕ) × NeedsAt symbols st s p × (c ≤ p))
+    → Ties (overlaps (reach symbols st s) (extent c (reach symbols st s).after)) ((p : ℕ) × NeedsAt symbols st s p × (c ≤ p))
 past symbols st s c =
-    let t = within symbols st s c (reach symbols st s).1 in
+    let t = within symbols st s c (reach symbols st s).after in
     record {
       says = λ h. let m = t.says h in (m.0, m.1, m.2);
       tests = λ h. t.tests (h.0, h.1, h.2, (need_in symbols st s h.0 h.1).1);
@@ -307,59 +308,59 @@ past symbols st s c =
 pub s12 : (z : Size) (lines before : List Line) (l : Line)
     → Ties
     (overlaps (reach (symbols_of lines) l.statement (counter_after before))
-    (locations z, (reach (symbols_of lines) l.statement (counter_after before)).1))
+    (extent (locations z) (reach (symbols_of lines) l.statement (counter_after before)).after))
     (NeedsPast lines before l (locations z))
 s12 z lines before l = past (symbols_of lines) l.statement (counter_after before) (locations z)
 
 -- ---- S13
 
 -- the extents of the words of the lines from a location counter onwards
-abbrev pub runs_from : LocationCounter → List Line → List (ℕ × ℕ)
-runs_from s [] = []
-runs_from s (l ∷ lines) = word_run l.statement s ∷ runs_from (after_statement l.statement s) lines
+abbrev pub extents_from : LocationCounter → List Line → List Extent
+extents_from s [] = []
+extents_from s (l ∷ lines) = word_extent l.statement s ∷ extents_from (after_statement l.statement s) lines
 
 -- one of these lines, from a location counter onwards, has a word at a location of the extent
-abbrev Shares : ℕ × ℕ → LocationCounter → List Line → Type 0
-Shares run s lines = (p : ℕ) × IsIn run p × (earlier : List Line) × (e : Line) × StandsAfter lines earlier e
-    × IsIn (word_run e.statement (counter_from s earlier)) p
+abbrev Shares : Extent → LocationCounter → List Line → Type 0
+Shares shared s lines = (p : ℕ) × IsIn shared p × (earlier : List Line) × (e : Line) × StandsAfter lines earlier e
+    × IsIn (word_extent e.statement (counter_from s earlier)) p
 
 shares_says : (a b : ℕ) (s : LocationCounter) (lines : List Line)
-    → list_any (λ o. overlaps (a, b) o) (runs_from s lines) ≡ true
-    → Shares (a, b) s lines
+    → list_any (λ o. overlaps (extent a b) o) (extents_from s lines) ≡ true
+    → Shares (extent a b) s lines
 shares_says a b s [] h = cc
 shares_says a b s (l ∷ lines) h =
     by_case (λ g. shares_says a b (after_statement l.statement s) lines g)
-    (or_cases (overlaps (a, b) (word_run l.statement s))
-    (list_any (λ o. overlaps (a, b) o) (runs_from (after_statement l.statement s) lines)) h)
+    (or_cases (overlaps (extent a b) (word_extent l.statement s))
+    (list_any (λ o. overlaps (extent a b) o) (extents_from (after_statement l.statement s) lines)) h)
   where
-    by_case : (list_any (λ o. overlaps (a, b) o) (runs_from (after_statement l.statement s) lines) ≡ true
-        → Shares (a, b) (after_statement l.statement s) lines)
-        → (overlaps (a, b) (word_run l.statement s) ≡ true)
-        ⊎ (list_any (λ o. overlaps (a, b) o) (runs_from (after_statement l.statement s) lines) ≡ true)
-        → Shares (a, b) s (l ∷ lines)
+    by_case : (list_any (λ o. overlaps (extent a b) o) (extents_from (after_statement l.statement s) lines) ≡ true
+        → Shares (extent a b) (after_statement l.statement s) lines)
+        → (overlaps (extent a b) (word_extent l.statement s) ≡ true)
+        ⊎ (list_any (λ o. overlaps (extent a b) o) (extents_from (after_statement l.statement s) lines) ≡ true)
+        → Shares (extent a b) s (l ∷ lines)
     by_case more (inl g) =
-        let m = meets_says a b (word_run l.statement s).0 (word_run l.statement s).1 g in
+        let m = meets_says a b (word_extent l.statement s).from (word_extent l.statement s).after g in
         (m.0, m.1, [], l, record { after = lines; lines_are = refl }, m.2)
     by_case more (inr g) =
         let r = more g in
         (r.0, r.1, l ∷ r.2, r.3, record { after = r.4.after; lines_are = ap (λ x. l ∷ x) r.4.lines_are }, r.5)
 
-shared : (a b : ℕ) (s : LocationCounter) (earlier : List Line) (e : Line) (after : List Line) (p : ℕ) → IsIn (a, b) p
-    → IsIn (word_run e.statement (counter_from s earlier)) p
-    → list_any (λ o. overlaps (a, b) o) (runs_from s (earlier ++ e ∷ after)) ≡ true
+shared : (a b : ℕ) (s : LocationCounter) (earlier : List Line) (e : Line) (after : List Line) (p : ℕ) → IsIn (extent a b) p
+    → IsIn (word_extent e.statement (counter_from s earlier)) p
+    → list_any (λ o. overlaps (extent a b) o) (extents_from s (earlier ++ e ∷ after)) ≡ true
 shared a b s [] e after p h g = or_left _ _
-    (meets_tests a b (word_run e.statement s).0 (word_run e.statement s).1 p h g)
+    (meets_tests a b (word_extent e.statement s).from (word_extent e.statement s).after p h g)
 shared a b s (l ∷ earlier) e after p h g =
     or_right _ _ (shared a b (after_statement l.statement s) earlier e after p h g)
 
 pub s13 : (before : List Line) (l : Line)
-    → Ties (list_any (λ o. overlaps (word_run l.statement (counter_after before)) o) (runs_from first_counter before))
+    → Ties (list_any (λ o. overlaps (word_extent l.statement (counter_after before)) o) (extents_from first_counter before))
     (Overlaps before l)
 s13 before l = record {
   says = shares_says (first_place l.statement (counter_after before)) (end_place l.statement (counter_after before))
       first_counter before;
   tests = λ h. subst
-      (λ x. list_any (λ o. overlaps (word_run l.statement (counter_after before)) o) (runs_from first_counter x) ≡ true)
+      (λ x. list_any (λ o. overlaps (word_extent l.statement (counter_after before)) o) (extents_from first_counter x) ≡ true)
       (sym h.4.lines_are)
       (shared (first_place l.statement (counter_after before)) (end_place l.statement (counter_after before))
       first_counter

@@ -31,7 +31,8 @@ use Rattle.ed_symbols.specs.Faults.{or_later, any_operand, enters_unknown, is_un
 use Rattle.ed_symbols.specs.Faults.{naming_cause as names_cause, naming_fault_from as names_from}
 use Rattle.ed_link.specs.Linked.{placed_by_line, placed_from, theta_from, entry_from, entered_place}
 use Rattle.ed_link.specs.Punch.{item_with, items_of, punched_from}
-use Rattle.ed_link.specs.Private.FaultTests.{run_at, reach, overlaps, has_no_routine, sets}
+use Rattle.ed_link.specs.Private.FaultTests.{extent, extent_at, reach, overlaps, has_no_routine, sets}
+use Rattle.ed_link.specs.declared.faults.Extent.{Extent}
 use Rattle.ed_link.specs.Private.FaultTests.{sets_otherwise, is_enter, any_enter, is_misplaced}
 use Rattle.ed_link.specs.Private.FaultTests.{LinesBefore, past_of, cause_of, fault_from}
 use Rattle.ed_words.proofs.Numbers.{le_of}
@@ -58,9 +59,9 @@ later_of n None rest h = (refl, h)
 later_of n (Some cause) rest h = cc
 
 -- locations that a line may take: those of the store after the parameters
-abbrev pub IsClear : Size → ℕ × ℕ → Type 0
-IsClear z run = (overlaps run (0, 44) ≡ false) × (overlaps run (44, 56) ≡ false)
-    × (overlaps run (locations z, run.1) ≡ false)
+abbrev pub IsClear : Size → Extent → Type 0
+IsClear z e = (overlaps e (extent 0 44) ≡ false) × (overlaps e (extent 44 56) ≡ false)
+    × (overlaps e (extent (locations z) e.after) ≡ false)
 
 pub record IsFaultless (z : Size) (symbols : List Definition) (has_enter : Bool) (past : LinesBefore) (l : SourceLine)
     (s : LocationCounter) :
@@ -83,7 +84,7 @@ faultless z symbols has_enter past l s h =
     record { clear = (a10.0, a11.0, a12.0); routine = a14.0; settings = a15.0; misplaced = a16.0 }
 
 -- locations without a fault
-fits : (z : Size) (a b : ℕ) → a < b → IsClear z (a, b) → (56 ≤ a) × (b ≤ locations z)
+fits : (z : Size) (a b : ℕ) → a < b → IsClear z (extent a b) → (56 ≤ a) × (b ≤ locations z)
 fits z a b some clear =
     let below = clear.0 in
     let beside = clear.1 in
@@ -113,7 +114,7 @@ formed_statement two n (Some name) (Some y) h x e =
 module _ (tables : list_all is_ready catalogue ≡ true) (z : Size) where
   -- a `use` without a fault has what its items need
   is_use : (text : List ℕ) (ts : List Setting) (base : ℕ) (found : Option ℕ) → find text ≡ found
-      → is_none found ≡ false → not (sets ts found) ≡ false → IsClear z (base, base + places_of found)
+      → is_none found ≡ false → not (sets ts found) ≡ false → IsClear z (extent base (base + places_of found))
       → IsUse z ts base found
   is_use text ts base None e n s clear = cc
   is_use text ts base (Some r) e n s clear =
@@ -199,7 +200,7 @@ entry_later symbols (Some (Enter name)) later h = cc
 entry_later symbols st later h = refl
 
 -- the location of an `enter` without a fault
-placed_entry : (z : Size) (found : Option ℕ) → is_none found ≡ false → IsClear z (run_at found)
+placed_entry : (z : Size) (found : Option ℕ) → is_none found ≡ false → IsClear z (extent_at found)
     → (56 ≤ unwrap_or found 0) × (unwrap_or found 0 + 1 ≤ locations z)
 placed_entry z None e clear = cc
 placed_entry z (Some q) e clear = fits z q (q + 1) (omega arith) clear

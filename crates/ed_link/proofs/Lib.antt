@@ -17,6 +17,7 @@ pub mod LineLoop
 pub mod Maps
 pub mod Finished
 pub mod EachSource
+pub mod Extents
 pub mod FaultExamples
 pub mod OneAnswers
 pub mod FaultSentences

@@ -10,14 +10,14 @@ use Rattle.ed_syntax.specs.declared.fault.SourceCause.TheVariants as causes
 use Rattle.ed_symbols.specs.Places.{first_counter}
 use Rattle.ed_link.specs.Linked.{symbols_of}
 use Rattle.ed_link.specs.Private.FaultTests.{any_enter, cause_of, has_no_routine, has_sandwich, is_misplaced}
-use Rattle.ed_link.specs.Private.FaultTests.{is_outside, overlaps}
-use Rattle.ed_link.specs.Private.FaultTests.{reach, sets_otherwise, word_run}
+use Rattle.ed_link.specs.Private.FaultTests.{extent, is_outside, overlaps}
+use Rattle.ed_link.specs.Private.FaultTests.{reach, sets_otherwise, word_extent}
 use Rattle.ed_symbols.specs.NameFaults.{counter_after, number_of}
 use Rattle.ed_link.specs.Faults.{LineHasCause}
 use Rattle.ed_symbols.specs.NameFaults.{LineHasNameFault}
 use Rattle.ed_symbols.proofs.Sentences.{Ties}
 use Rattle.ed_symbols.proofs.LeastFaults.{Least, most, picks}
-use Rattle.ed_link.proofs.FaultSentences.{runs_from, s9, s10_s11, s12, s13, s14, s16, s17}
+use Rattle.ed_link.proofs.FaultSentences.{extents_from, s9, s10_s11, s12, s13, s14, s16, s17}
 use Rattle.ed_link.proofs.SettingSentences.{s15}
 
 -- a fault of names is one of the faults of a line
@@ -92,16 +92,16 @@ module _ (z : Size) (lines before : List Line) (l : Line) where
 
   pub of_meaning : Least OfMeaning
       (cause_of z (symbols_of lines) (any_enter lines)
-      (record { runs = runs_from first_counter before; entered = any_enter before }) l (counter_after before))
+      (record { extents = extents_from first_counter before; entered = any_enter before }) l (counter_after before))
   of_meaning =
       let needs = reach (symbols_of lines) l.statement (counter_after before) in
       picks OfMeaning 9
       ((is_outside l (counter_after before), causes.OutsideSegment)
-      ∷ (overlaps needs (0, 44), causes.LoaderStore)
-      ∷ (overlaps needs (44, 56), causes.ParameterStore)
-      ∷ (overlaps needs (locations z, needs.1), causes.StoreEnd)
+      ∷ (overlaps needs (extent 0 44), causes.LoaderStore)
+      ∷ (overlaps needs (extent 44 56), causes.ParameterStore)
+      ∷ (overlaps needs (extent (locations z) needs.after), causes.StoreEnd)
       ∷ (
-        list_any (λ run. overlaps (word_run l.statement (counter_after before)) run) (runs_from first_counter before),
+        list_any (λ other. overlaps (word_extent l.statement (counter_after before)) other) (extents_from first_counter before),
         causes.Overlap,
       )
       ∷ (has_no_routine l.statement, causes.NoSuchRoutine)

@@ -20,7 +20,7 @@ use Rattle.ed_link.specs.Private.Building.{first_past}
 use Rattle.ed_link.specs.Linked.{data_after, data_rows, entered_place, entry_from, placed_by_line, placed_from}
 use Rattle.ed_link.specs.Punch.{items_of, punched_from}
 use Rattle.ed_link.specs.Tables.{empty_table, put_all, table_of}
-use Rattle.ed_link.specs.Private.FaultTests.{LinesBefore, past_of, word_run, is_enter, reach, overlaps, cause_of}
+use Rattle.ed_link.specs.Private.FaultTests.{LinesBefore, cause_of, extent, is_enter, overlaps, past_of, reach, word_extent}
 use Rattle.ed_link.specs.Private.FaultTests.{fault_from}
 use Rattle.ed_link.specs.Private.Building.{IsFew}
 use Rattle.ed_link.proofs.Bounds.{items_few, data_few}
@@ -44,13 +44,13 @@ base_under (Some (Long v)) s h = omega arith
 pub reach_fits : (z : Size) (symbols : List Definition) (has_enter : Bool) (past : LinesBefore) (l : Line)
     (s : LocationCounter)
     → cause_of z symbols has_enter past l s ≡ None
-    → (reach symbols l.statement s).0 < (reach symbols l.statement s).1 → (reach symbols l.statement s).1 ≤ 1024
+    → (reach symbols l.statement s).from < (reach symbols l.statement s).after → (reach symbols l.statement s).after ≤ 1024
 reach_fits z symbols has_enter past l s h some =
     let m = most z in
-    of (reach symbols l.statement s).0 (reach symbols l.statement s).1 (locations z) m some
+    of (reach symbols l.statement s).from (reach symbols l.statement s).after (locations z) m some
     (faultless z symbols has_enter past l s h).clear.2
   where
-    of : (a b n : ℕ) → n ≤ 1024 → a < b → overlaps (a, b) (n, b) ≡ false → b ≤ 1024
+    of : (a b n : ℕ) → n ≤ 1024 → a < b → overlaps (extent a b) (extent n b) ≡ false → b ≤ 1024
     of a b n i j k = grind (arith, nat_tests)
 
 -- a line without a fault leaves the fault to the later lines
@@ -100,7 +100,7 @@ pub record Does (z : Size) (symbols : List Definition) (has_enter : Bool) (l : L
   pub spot_is : m'.counter ≡ after_statement l.statement m.counter
   pub place : m'.counter.place ≤ m.counter.place + 65536
   pub segments : m'.counter.segments ≤ m.counter.segments + 1
-  pub runs : m'.past.runs ≡ m.past.runs ++ word_run l.statement m.counter ∷ []
+  pub extents : m'.past.extents ≡ m.past.extents ++ word_extent l.statement m.counter ∷ []
   pub entered : m'.past.entered ≡ (m.past.entered || is_enter l.statement)
 
 -- what is made of the lines with one more of them
@@ -113,7 +113,7 @@ step {z} {symbols} {has_enter} {lines} {n} {l} {m} {m'} d below is e =
     let s = after_statement l.statement m.counter in
     let b = base_under l.statement m.counter d.base in
     let sp = e.spot_is in
-    let past : m'.past ≡ past_of m.past l m.counter = λ i. record { runs = e.runs i; entered = e.entered i } in
+    let past : m'.past ≡ past_of m.past l m.counter = λ i. record { extents = e.extents i; entered = e.entered i } in
     let q : drop n lines ≡ l ∷ rest = drop_more lines n l below ∙ ap (λ (x : Line). x ∷ rest) (sym is) in
     record {
       fault = rw (past, sp) (sym (goes_on z symbols has_enter m.past m.counter l rest e.cause)

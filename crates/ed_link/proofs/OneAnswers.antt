@@ -23,6 +23,7 @@ use Rattle.ed_link.specs.Answers.{HasMeaningFault, IsLinked}
 use Rattle.ed_link.specs.Faults.{IsMeaningFault}
 use Rattle.ed_link.specs.declared.linked.Linked.{Linked}
 use Rattle.ed_link.specs.Private.FaultTests.{fault}
+use Rattle.ed_link.proofs.FaultExamples.{source}
 use Rattle.ed_link.proofs.FaultLaw.{read_law}
 
 -- ---- what `parse` may answer
@@ -128,13 +129,6 @@ unlinked_alone z lines k c f (Err (At n d)) m =
     by_order (inr x) (inl y) = absurd (omega (arith, x.0, y))
     by_order (inr x) (inr y) =
         let e : d ≡ c = same_cause d c (omega (arith, x.1, y.1)) in inr (λ i. Err (At (y.0 i) (e i)))
-
-abbrev lines_in : Result (List Line) Fault → List Line
-lines_in (Ok lines) = lines
-lines_in (Err e) = []
-
-abbrev source : Text → List Line
-source text = lines_in (program_of text)
 
 -- a text in whose lines a fault of meaning is found
 only_link : (text : Text) (k : ℕ) (c : SourceCause) → program_of text ≡ Ok (source text)

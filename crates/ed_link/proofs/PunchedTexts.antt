@@ -15,7 +15,7 @@ use Rattle.ed_codes.specs.Text.{Spells, none, row, spacing}
 use Rattle.ed_codes.proofs.Below.{from_below}
 use Rattle.ed_notation.specs.Spellings.{canonicals, line_from, text_of}
 use Rattle.ed_notation.proofs.Canonical.{are_written}
-use Rattle.ed_notation.proofs.Texts.{text_reads}
+use Rattle.ed_notation.proofs.Texts.{are_codes, line_spells, text_reads}
 use Rattle.ed_library.specs.Entries.{catalogue}
 use Rattle.ed_library.specs.Ready.{is_ready}
 use Rattle.ed_syntax.specs.Lines.{lines_of}
@@ -32,31 +32,15 @@ use Rattle.ed_link.specs.Punch.{punched_items}
 use Rattle.ed_link.specs.Refusals.{IsAcceptedAs}
 use Rattle.ed_link.specs.Tapes.{after_text, punched_rows, tape}
 use Rattle.ed_link.proofs.Accepted.{can_be_spelled}
-use Rattle.ed_link.proofs.EachSource.{accepted_is_read}
+use Rattle.ed_link.proofs.EachSource.{accepted_is_read, tables}
 use Rattle.ed_link.proofs.Inductions.{formed_statement}
 use Rattle.ed_link.proofs.Texts.{both_read}
 
 -- ---- the rows after the items
 
--- a code that is read back; 32 if there is none
-back_of : (r : Option ℕ) (c : ℕ) → c < 32 → (unwrap_or r 32 == c) ≡ true → r ≡ Some c
-back_of None c below same = let e = (Decides-eqb 32 c).0 same in absurd (omega (arith, below, e))
-back_of (Some r) c below same = ap Some ((Decides-eqb r c).0 same)
-
-byte_back : (c : ℕ) → c < 32 → row_of (byte_of c true) ≡ Some c
-byte_back c below =
-    back_of (row_of (byte_of c true)) c below
-    (from_below (λ k. unwrap_or (row_of (byte_of k true)) 32 == k) 32 c refl below)
-
-line_spells : (cs : List ℕ) → list_all (λ c. nat_lt c 32) cs ≡ true → Spells (line_from true cs) cs
-line_spells [] h = spacing 10 [] [] refl none
-line_spells (c ∷ cs) h =
-    let p = and_parts _ _ h in
-    row (byte_of c true) c (line_from true cs) cs (byte_back c (lt_of c 32 p.0)) (line_spells cs p.1)
-
 after_spells : (cs : List ℕ) → list_all (λ c. nat_lt c 32) cs ≡ true → Spells (after_text cs) cs
 after_spells [] h = none
-after_spells (c ∷ cs) h = line_spells (c ∷ cs) h
+after_spells (c ∷ cs) h = line_spells true (c ∷ cs) (are_codes (c ∷ cs) h)
 
 -- they are codes of rows
 statement_codes : (two : Bool) (st : Option Statement)
@@ -74,9 +58,6 @@ data_codes two (l ∷ lines) h =
     (statement_codes two l.statement (formed_statement two l.number l.label l.statement p.0)) (data_codes two lines p.1)
 
 -- ---- the whole text
-
-tables : list_all is_ready catalogue ≡ true
-tables = refl
 
 pub text_is_tape : (z : Size) (source : Text) (lines : List Line) → IsAcceptedAs z source lines
     → reading (text_of (canonicals (punched_items lines)) ++ after_text (data_after lines)) ≡ rows (tape lines)

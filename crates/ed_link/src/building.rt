@@ -4,12 +4,12 @@ ghost use Rattle.std.specs.Prelude.{length, unwrap_or, ℕ};
 ghost use Rattle.ed_notation.specs.Spellings.{AreSpellable};
 ghost use Rattle.ed_library.specs.Routines.{find};
 ghost use Rattle.ed_link.specs.Private.Building.{BuildIs, IsFew};
-ghost use Rattle.ed_link.specs.Private.FaultTests.{is_enter, reach, word_run};
+ghost use Rattle.ed_link.specs.Private.FaultTests.{is_enter, reach, word_extent};
 ghost use Rattle.ed_link.specs.Linked.{entered_place, placed_by_line, data_rows};
 ghost use Rattle.ed_link.specs.Punch.{items_of, routine_items};
 ghost use Rattle.ed_link.specs.Tables.{empty_table, put_all};
 
-use crate::faults::{Past, cause_of, is_enter, run_of};
+use crate::faults::{Past, cause_of, extent_of, is_enter};
 use crate::punching::{entry_of, push_line};
 use crate::words::put_line;
 use ed_codes::Code;
@@ -57,8 +57,8 @@ fn with_entry(
     counter: LocationCounter,
     statement: &Option<Statement>,
 ) -> Option<u16>
-    requires fits { (reach symbols.now statement.now counter).0 < (reach symbols.now statement.now counter).1
-        → (reach symbols.now statement.now counter).1 ≤ 1024 }
+    requires fits { (reach symbols.now statement.now counter).from < (reach symbols.now statement.now counter).after
+        → (reach symbols.now statement.now counter).after ≤ 1024 }
     ensures { (later : ℕ) → unwrap_or result later ≡ unwrap_or entry (entered_place symbols.now statement.now later) }
 {
     if entry.is_some() {
@@ -81,8 +81,8 @@ fn add_line(
     requires table { length built.old.table.items ≡ 1024 }
     requires place { counter.place ≤ 2 ^ 30 }
     requires base { counter.base ≤ counter.place }
-    requires fits { (reach symbols.now statement.now counter).0 < (reach symbols.now statement.now counter).1
-        → (reach symbols.now statement.now counter).1 ≤ 1024 }
+    requires fits { (reach symbols.now statement.now counter).from < (reach symbols.now statement.now counter).after
+        → (reach symbols.now statement.now counter).after ≤ 1024 }
     ensures items { OnOk result
         (built.new.items.items ≡ built.old.items.items ++ items_of symbols.now counter statement.now) }
     ensures spellable { AreSpellable built.new.items.items }
@@ -108,10 +108,11 @@ fn pass_line(
 ) -> Result<(), NoMemory>
     requires place { counter.place ≤ 2 ^ 30 }
     requires segments { counter.segments ≤ 2000 }
-    ensures runs { OnOk result (past.new.runs.items ≡ past.old.runs.items ++ word_run statement.now counter ∷ []) }
+    ensures extents { OnOk result
+        (past.new.extents.items ≡ past.old.extents.items ++ word_extent statement.now counter ∷ []) }
     ensures entered { OnOk result (past.new.entered ≡ (past.old.entered || is_enter statement.now)) }
 {
-    past.runs.push(run_of(statement, counter))?;
+    past.extents.push(extent_of(statement, counter))?;
     past.entered = past.entered || is_enter(statement);
     Ok(())
 }
@@ -188,7 +189,7 @@ pub(crate) fn build(
 {
     let mut built = start(alloc)?;
     let mut past = Past {
-        runs: Vec::new(alloc),
+        extents: Vec::new(alloc),
         entered: false,
     };
     let mut counter = LocationCounter::first();

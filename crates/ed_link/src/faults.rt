@@ -7,7 +7,7 @@ ghost use Rattle.ed_link.specs.Linked.{first_place, end_place, set_to};
 ghost use Rattle.ed_link.specs.Private.FaultTests.{any_enter, cause_of, has_no_routine, has_sandwich, is_enter};
 ghost use Rattle.ed_link.specs.Private.FaultTests.{is_in_segment};
 ghost use Rattle.ed_link.specs.Private.FaultTests.{is_misplaced, is_outside};
-ghost use Rattle.ed_link.specs.Private.FaultTests.{is_rows, overlaps, reach, run_at, word_run, sets, sets_otherwise};
+ghost use Rattle.ed_link.specs.Private.FaultTests.{extent_at, is_rows, overlaps, reach, sets, sets_otherwise, word_extent};
 ghost use Rattle.ed_link.specs.Private.FaultTests.{fault_line, missing, sooner};
 
 use crate::operands::setting;
@@ -30,16 +30,55 @@ pub(crate) fn first_place(statement: &Option<Statement>, counter: LocationCounte
     }
 }
 
+/// An extent of locations, which may be empty.
+#[derive(Clone, Copy)]
+pub(crate) struct Extent {
+    /// The first location.
+    from: u64,
+    /// The location after the last one.
+    after: u64,
+}
+
+impl Extent {
+    /// Whether two extents overlap.
+    fn overlaps(self, other: Extent) -> bool
+        ensures { result ≡ overlaps self other }
+    {
+        self.from.max(other.from) < self.after.min(other.after)
+    }
+
+    /// Whether it overlaps one of others.
+    fn overlaps_any(self, others: &[Extent]) -> bool
+        ensures { result ≡ list_any (λ other. overlaps self other) others.now }
+    {
+        for other in others {
+            if self.overlaps(*other) {
+                return true;
+            }
+        }
+        false
+    }
+}
+
+/// The locations of the Initial Orders.
+const LOADER: Extent = Extent { from: 0, after: 44 };
+
+/// The locations of the parameters.
+const PARAMETERS: Extent = Extent {
+    from: 44,
+    after: 56,
+};
+
 /// The extent of a line's words.
-pub(crate) fn run_of(statement: &Option<Statement>, counter: LocationCounter) -> (u64, u64)
+pub(crate) fn extent_of(statement: &Option<Statement>, counter: LocationCounter) -> Extent
     requires place { counter.place ≤ 2 ^ 30 }
     requires segments { counter.segments ≤ 2000 }
-    ensures { result ≡ word_run statement.now counter }
+    ensures { result ≡ word_extent statement.now counter }
 {
-    (
-        u64::from(first_place(statement, counter)),
-        u64::from(counter.after_statement(statement).place),
-    )
+    Extent {
+        from: u64::from(first_place(statement, counter)),
+        after: u64::from(counter.after_statement(statement).place),
+    }
 }
 
 /// The extent that a line needs.
@@ -47,37 +86,21 @@ fn reach(
     symbols: &[Definition],
     statement: &Option<Statement>,
     counter: LocationCounter,
-) -> (u64, u64)
+) -> Extent
     requires place { counter.place ≤ 2 ^ 30 }
     requires segments { counter.segments ≤ 2000 }
     ensures { result ≡ reach symbols.now statement.now counter }
 {
     match statement {
         Some(Statement::Enter { name }) => match find_place(symbols, None, name) {
-            Some(place) => (u64::from(place), u64::from(place) + 1),
-            None => (0, 0),
+            Some(place) => Extent {
+                from: u64::from(place),
+                after: u64::from(place) + 1,
+            },
+            None => Extent { from: 0, after: 0 },
         },
-        _ => run_of(statement, counter),
+        _ => extent_of(statement, counter),
     }
-}
-
-/// Whether two extents overlap.
-fn overlaps(run: (u64, u64), other: (u64, u64)) -> bool
-    ensures { result ≡ overlaps run other }
-{
-    run.0.max(other.0) < run.1.min(other.1)
-}
-
-/// Whether an extent overlaps one of others.
-fn overlaps_any(run: (u64, u64), others: &[(u64, u64)]) -> bool
-    ensures { result ≡ list_any (λ other. overlaps run other) others.now }
-{
-    for other in others {
-        if overlaps(run, *other) {
-            return true;
-        }
-    }
-    false
 }
 
 /// Whether a line must be in a segment, and isn't.
@@ -179,7 +202,7 @@ fn has_sandwich(statement: &Option<Statement>) -> bool
 #[derive(Drop)]
 pub(crate) struct Past {
     /// The extents of their words.
-    pub(crate) runs: Vec<(u64, u64)>,
+    pub(crate) extents: Vec<Extent>,
     /// Whether one of them is an `enter`.
     pub(crate) entered: bool,
 }
@@ -195,19 +218,23 @@ pub(crate) fn cause_of(
 ) -> Option<SourceCause>
     requires place { counter.place ≤ 2 ^ 30 }
     requires segments { counter.segments ≤ 2000 }
-    ensures { result ≡ cause_of size symbols.now has_enter (record { runs = past.now.runs.items; entered = past.now.entered })
-        line.now counter }
+    ensures { result ≡ cause_of size symbols.now has_enter 
+        (record { extents = past.now.extents.items; entered = past.now.entered }) line.now counter }
 {
     let reach = reach(symbols, &line.statement, counter);
+    let past_store = Extent {
+        from: u64::from(size.value()),
+        after: reach.after,
+    };
     if is_outside(line, counter) {
         Some(SourceCause::OutsideSegment)
-    } else if overlaps(reach, (0, 44)) {
+    } else if reach.overlaps(LOADER) {
         Some(SourceCause::LoaderStore)
-    } else if overlaps(reach, (44, 56)) {
+    } else if reach.overlaps(PARAMETERS) {
         Some(SourceCause::ParameterStore)
-    } else if overlaps(reach, (u64::from(size.value()), reach.1)) {
+    } else if reach.overlaps(past_store) {
         Some(SourceCause::StoreEnd)
-    } else if overlaps_any(run_of(&line.statement, counter), &past.runs) {
+    } else if extent_of(&line.statement, counter).overlaps_any(&past.extents) {
         Some(SourceCause::Overlap)
     } else if has_no_routine(&line.statement) {
         Some(SourceCause::NoSuchRoutine)

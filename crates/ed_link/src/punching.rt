@@ -272,8 +272,8 @@ pub(crate) fn push_line(
     requires spellable { AreSpellable items.old.items }
     requires place { counter.place ≤ 2 ^ 30 }
     requires base { counter.base ≤ counter.place }
-    requires fits { (reach symbols.now statement.now counter).0 < (reach symbols.now statement.now counter).1
-        → (reach symbols.now statement.now counter).1 ≤ 1024 }
+    requires fits { (reach symbols.now statement.now counter).from < (reach symbols.now statement.now counter).after
+        → (reach symbols.now statement.now counter).after ≤ 1024 }
     ensures items { OnOk result (items.new.items ≡ items.old.items ++ items_of symbols.now counter statement.now) }
     ensures spellable { AreSpellable items.new.items }
 {

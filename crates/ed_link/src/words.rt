@@ -161,8 +161,8 @@ pub(crate) fn put_line(
 )
     requires table { length table.old.items ≡ 1024 }
     requires place { counter.place ≤ 2 ^ 30 }
-    requires fits { (reach symbols.now statement.now counter).0 < (reach symbols.now statement.now counter).1
-        → (reach symbols.now statement.now counter).1 ≤ 1024 }
+    requires fits { (reach symbols.now statement.now counter).from < (reach symbols.now statement.now counter).after
+        → (reach symbols.now statement.now counter).after ≤ 1024 }
     ensures is { table.new.items ≡ put_all table.old.items (placed_by_line symbols.now counter statement.now) }
     ensures length { length table.new.items ≡ 1024 }
 {

@@ -3,6 +3,8 @@ use Rattle.std.proofs.Common.{◌≡◌, ℕ, ◌+◌, ◌-◌, ◌<◌, ◌≤�
 use Rattle.std.proofs.Common.{arith, lit<, Bool, true, false}
 use Rattle.std.proofs.Common.{nat_lt, nat_le, List, [], ◌∷◌, ◌++◌, length, drop}
 use Rattle.std.specs.Prelude.{Some}
+use Rattle.std.specs.List.{list_all}
+use Rattle.std.proofs.lemmas.Bool.{and_parts}
 use Rattle.std.proofs.lemmas.Bool.Decides.{nat_tests}
 use Rattle.std.proofs.lemmas.List.{append-nil, drop_all}
 use Rattle.ed_codes.specs.Spelling.{byte_of, row_of}
@@ -40,9 +42,15 @@ byte_back code false h = letter_back code h
 
 -- ---- rows are codes
 
-abbrev AreCodes : List ℕ → Type 0
+abbrev pub AreCodes : List ℕ → Type 0
 AreCodes [] = Unit {0}
 AreCodes (c ∷ cs) = (c < 32) × AreCodes cs
+
+-- the same, by a test
+pub are_codes : (cs : List ℕ) → list_all (λ c. nat_lt c 32) cs ≡ true → AreCodes cs
+are_codes [] h = tt
+are_codes (c ∷ cs) h = let p = and_parts (nat_lt c 32) (list_all (λ c. nat_lt c 32) cs) h in
+    (lt_of c 32 p.0, are_codes cs p.1)
 
 codes_append : (xs ys : List ℕ) → AreCodes xs → AreCodes ys → AreCodes (xs ++ ys)
 codes_append [] ys h k = k
@@ -74,7 +82,7 @@ row_codes w good =
 
 -- ---- the text
 
-line_spells : (as_digit : Bool) (cs : List ℕ) → AreCodes cs → Spells (line_from as_digit cs) cs
+pub line_spells : (as_digit : Bool) (cs : List ℕ) → AreCodes cs → Spells (line_from as_digit cs) cs
 line_spells as_digit [] h = spacing 10 [] [] refl none
 line_spells as_digit (c ∷ cs) h =
     row (byte_of c as_digit) c (line_from true cs) cs (byte_back c as_digit h.0) (line_spells true cs h.1)

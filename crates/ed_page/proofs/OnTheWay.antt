@@ -20,7 +20,8 @@ use Rattle.ed_machine.proofs.Keeping.{steps_follow}
 use Rattle.ed_machine.proofs.SoundSteps.{sound_after}
 use Rattle.ed_initial.specs.Listing.{initial_orders}
 use Rattle.ed_loads.specs.EntryState.{first_state}
-use Rattle.ed_loads.proofs.Entries.{all_fit, first_store}
+use Rattle.ed_loads.proofs.Entries.{all_fit}
+use Rattle.ed_loads.proofs.Starts.{first_sound}
 use Rattle.ed_initial1.specs.Listing.{first_orders}
 use Rattle.ed_answers.specs.FirstOrders.{first_state1}
 use Rattle.ed_page.specs.Going.{AreCodes, CanGoOn, IsAfterStart}
@@ -28,21 +29,6 @@ use Rattle.ed_page.specs.Pictures.{Pictures, PicturesStore, last_shown, size_sho
 use Rattle.ed_page.specs.declared.writing.Registers.{Registers}
 use Rattle.ed_page.proofs.Stores.{words_fit}
 use Rattle.ed_page.proofs.TapeRows.{by_steps}
-
-some_place : (z : Size) → 0 < locations z
-some_place Small = lit< tt
-some_place Full = lit< tt
-
-first_sound : (z : Size) (rows : List ℕ) → AreCodes rows → IsSound (first_state z rows)
-unfolding first_state
-first_sound z rows are = record {
-  store = first_store z rows;
-  acc = lit< tt;
-  multiplier = lit< tt;
-  counter = some_place z;
-  tape = are;
-  last = lit< tt;
-}
 
 -- the words of the Initial Orders of May 1949 that Start places, and 0
 abbrev first_words1 : List ℕ

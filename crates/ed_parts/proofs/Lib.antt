@@ -5,5 +5,4 @@ mod Parting
 pub mod Tales
 mod Passing
 mod Reached
-mod Starts
 pub mod Runs

@@ -22,6 +22,7 @@ use Rattle.ed_notation.specs.Faults.{TapeEntry}
 use Rattle.ed_notation.specs.declared.cause.TapeCause.{TapeCause}
 use Rattle.ed_loads.specs.EntryState.{first_state}
 use Rattle.ed_loads.proofs.Entries.{starts}
+use Rattle.ed_loads.proofs.Starts.{sound_start}
 use Rattle.ed_parts.specs.declared.tape.PartsEnd.TheVariants.{Ended, Faulty}
 use Rattle.ed_parts.specs.Laws.{Begins, EachEndIsTheRuns, EndsAsParts, EndsAsRun}
 use Rattle.ed_parts.specs.Parts.{Concludes, Finishes, GoesBack, ReportsParts, LeadsTo}
@@ -29,7 +30,6 @@ use Rattle.ed_parts.specs.Parts.{TapePart, RunsOn, PartsReport, cut, entry_done,
 use Rattle.ed_parts.specs.Parts.{faulty, finished, first_part, last_printed, part_after, printed_from}
 use Rattle.ed_parts.proofs.Programs.{home_within, limit_ends, next_ends, runs_within, some_end, stop_ends, way_stops}
 use Rattle.ed_parts.proofs.Reached.{leads_in}
-use Rattle.ed_parts.proofs.Starts.{sound_start}
 
 -- ---- orders one after the other
 

@@ -1,9 +1,11 @@
 -- Where orders lead that neither stop the machine nor are blocked: what a path says of the machine.
-use Rattle.std.proofs.Common.{◌≡◌, ◌∙◌, inl, inr, ℕ, zero, suc, ◌+◌, ◌-◌, ◌<◌, refl, sym, ap, arith}
+use Rattle.std.proofs.Common.{◌≡◌, ◌∙◌, inl, inr, ℕ, zero, suc, ◌+◌, ◌-◌, ◌<◌, refl, sym, ap, subst, arith}
 use Rattle.std.proofs.Common.{Bool, true, false, true≢false, List, ◌++◌}
 use Rattle.std.proofs.lemmas.Bool.{cases_lt}
+use Rattle.ed_words.specs.Words.{function_of}
+use Rattle.ed_orders.specs.Kinds.{kind_of_function}
 use Rattle.ed_machine.specs.State.{State}
-use Rattle.ed_machine.specs.OrderTable.{step}
+use Rattle.ed_machine.specs.OrderTable.{next_word, obey_word, step}
 use Rattle.ed_machine.specs.Steps.{AreObeyed, Progress, progress, state_after, stops_of, is_obeyed}
 use Rattle.ed_machine.proofs.Steps.{past_sum, after_sum}
 use Rattle.ed_machine.specs.declared.turn.Turn.{Turn}
@@ -49,6 +51,33 @@ no_stops (suc k) s goes =
     let before = no_stops k s (λ j l. goes j (omega arith)) in
     let here = no_stop (step (state_after k s)).turn (goes k (omega arith)) in
     omega (arith, before, here)
+
+-- and orders that are obeyed, none of which stops the machine, go on
+goes_of : (turn : Turn) → is_obeyed turn ≡ true → stops_of turn ≡ 0 → goes_on turn ≡ true
+goes_of Went o e = refl
+goes_of (Printed code) o e = refl
+goes_of Stopped o e = absurd (omega (arith, e))
+goes_of (NoOrder function) o e = absurd (true≢false (sym o))
+goes_of NoTape o e = absurd (true≢false (sym o))
+
+pub all_go : (k : ℕ) (s : State) → AreObeyed k s → (progress k s).stops ≡ 0 → (j : ℕ) → j < k
+    → goes_on (step (state_after j s)).turn ≡ true
+unfolding progress
+all_go zero s free none j l = absurd (omega arith)
+all_go (suc k) s free none j l =
+    elim (cases_lt j k) [
+      | inl below ↦ all_go k s (λ i m. free i (omega arith)) (omega (arith, none)) j below
+      | inr here ↦
+          let e : k ≡ j = omega arith in
+          subst (λ i. goes_on (step (state_after i s)).turn ≡ true) e
+          (goes_of (step (state_after k s)).turn (free k (omega arith)) (omega (arith, none)))
+    ]
+
+-- the first of them is the order that the next word is
+pub first_order : (s : State) (word : ℕ) → next_word s ≡ word
+    → state_after 1 s ≡ (obey_word (kind_of_function (function_of word)) word s).state
+unfolding progress step
+first_order s word is = ap (λ w. (obey_word (kind_of_function (function_of w)) w s).state) is
 
 -- such orders after others
 pub joined : {a b : ℕ} {s t u : State} {cs ds : List ℕ} → Leads a s cs t → Leads b t ds u → Leads (a + b) s (cs ++ ds) u

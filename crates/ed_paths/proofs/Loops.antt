@@ -13,11 +13,6 @@ abbrev pub spent : (ℕ → ℕ) → ℕ → ℕ
 spent orders zero = 0
 spent orders (suc n) = spent orders n + orders n
 
--- what the codes of a list print, if each prints a list
-abbrev pub all_printed : (ℕ → List ℕ) → List ℕ → List ℕ
-all_printed shown [] = []
-all_printed shown (x ∷ xs) = shown x ++ all_printed shown xs
-
 -- a loop with a counter whose turns are of different lengths
 pub varying : {n h : ℕ} {f : Frame n h} (orders : ℕ → ℕ) (at : ℕ → Moment) (code : ℕ → List ℕ) (turns : ℕ)
     → ((i : ℕ) → i < turns → Path f (orders i) (at i) (code i) (at (suc i)))
@@ -44,27 +39,9 @@ module _ {n h : ℕ} {f : Frame n h} {k : ℕ} where
       let e : suc t * k ≡ t * k + k = omega arith in
       rw e (followed (quiet_rounds at t (λ i l. turn i (omega arith))) (turn t (omega arith)))
 
-  -- a loop that walks a list: the moments have, besides the items that are left, an x; Fine says of it what the
-  -- turn needs. The moment when no item is left is the one after the loop
-  pub walks : {X : Type 0} (at : X → List ℕ → Moment) (shown : ℕ → List ℕ) (next : X → ℕ → List ℕ → X)
-      (Fine : X → List ℕ → Type 0)
-      → ((x : X) (c : ℕ) (cs : List ℕ) → Fine x (c ∷ cs)
-      → Fine (next x c cs) cs × Path f k (at x (c ∷ cs)) (shown c) (at (next x c cs) cs))
-      → (x : X) (cs : List ℕ) → Fine x cs
-      → (y : X) × Path f (length cs * k) (at x cs) (all_printed shown cs) (at y [])
-  walks at shown next Fine turn x [] fine = let e : 0 * k ≡ 0 = omega arith in (x, rw e stay)
-  walks at shown next Fine turn x (c ∷ cs) fine =
-      let here = turn x c cs fine in
-      let e : suc (length cs) * k ≡ k + length cs * k = omega arith in
-      let rest = walks at shown next Fine turn (next x c cs) cs here.0 in
-      (rest.0, rw e (followed here.1 rest.1))
-
--- codes that are printed as they are
-pub itself : (cs : List ℕ) → all_printed (λ c. c ∷ []) cs ≡ cs
-itself [] = refl
-itself (c ∷ cs) = ap (λ x. c ∷ x) (itself cs)
-
--- ---- a loop that walks a list and prints nothing, whose turns are of different lengths
+-- ---- a loop that walks a list and prints nothing, whose turns are of different lengths: the moments have, besides the
+-- items that are left, an x; Fine says of it what the turn needs. The moment when no item is left is the one after the
+-- loop
 
 -- the orders of all turns, and what the moments have after the last
 abbrev pub all_spent : {X : Type 0} (orders : X → ℕ → ℕ) (next : X → ℕ → List ℕ → X) → X → List ℕ → ℕ

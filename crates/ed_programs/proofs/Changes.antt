@@ -26,6 +26,30 @@ use Rattle.ed_routines.proofs.Called.{IsCalled, called as routine_called}
 use Rattle.ed_routines.proofs.ReadCall as read_call
 use Rattle.ed_routines.proofs.Journeys.{HasRoutine, IsIn, Journey, all_long, beside_word, called, caller_is, stands}
 
+-- a routine in the store is there after a change of words of the piece and of working locations of a routine at w
+pub still_has : {n h routine w : ℕ} {f : Frame n h} {before after : List ℕ} → 56 ≤ f.base → 56 ≤ w
+    → ((q : ℕ) → (q < f.base) ⊎ (f.base + n ≤ q) → IsOther routine w q → get_or after q 0 ≡ get_or before q 0)
+    → {r1 w1 : ℕ} {others : List ℕ} → HasRoutine f before r1 w1 others
+    → ((m : ℕ) → m < place_count r1 → is_working r1 m ≡ false → IsOther routine w (w1 + m))
+    → HasRoutine f after r1 w1 others
+still_has {n} {f = f} {before} {after} above low keeps {r1} {w1} there other = record {
+  low = there.low;
+  fits = there.fits;
+  reached = there.reached;
+  apart = there.apart;
+  at2 = early 2 (lit< tt) ∙ there.at2;
+  at3 = early 3 (lit< tt) ∙ there.at3;
+  image = λ m l free. keeps (w1 + m) (away m l there.apart) (other m l free) ∙ there.image m l free;
+}
+  where
+    early : (q : ℕ) → q < 56 → get_or after q 0 ≡ get_or before q 0
+    early q l = keeps q (inl (omega arith)) (record { other = inl (omega arith) })
+
+    away : (m : ℕ) → m < place_count r1 → (w1 + place_count r1 ≤ f.base) ⊎ (f.base + n ≤ w1)
+        → (w1 + m < f.base) ⊎ (f.base + n ≤ w1 + m)
+    away m l (inl b) = inl (omega arith)
+    away m l (inr b) = inr (omega arith)
+
 module _ {n h : ℕ} {f : Frame n h} {r : Moment} (o : IsIn f r) where
   -- the moment after such a call: the words of the store and its digits, the piece's own words, the rows left and the
   -- last code
@@ -190,33 +214,7 @@ module _ {n h : ℕ} {f : Frame n h} {r : Moment} (o : IsIn f r) where
     pub has_read : {r1 w1 : ℕ} {others : List ℕ} → HasRoutine f r.words r1 w1 others
         → ((m : ℕ) → m < place_count r1 → is_working r1 m ≡ false → IsOther read w (w1 + m))
         → HasRoutine f words_read r1 w1 others
-    has_read {r1} {w1} there other = record {
-      low = there.low;
-      fits = there.fits;
-      reached = there.reached;
-      apart = there.apart;
-      at2 = early 2 (lit< tt) ∙ there.at2;
-      at3 = early 3 (lit< tt) ∙ there.at3;
-      image = λ m l free.
-          let place = away m l there.apart in
-          keeps (w1 + m) (differs (w1 + m) place) (other m l free) ∙ beside_word o (w1 + m) place
-          ∙ there.image m l free;
-    }
-      where
-        differs : (q : ℕ) → (q < f.base) ⊎ (f.base + n ≤ q) → q ≢ f.base + j
-        differs q (inl b) e = absurd (omega arith)
-        differs q (inr b) e = absurd (omega arith)
-
-        early : (q : ℕ) → q < 56 → get_or words_read q 0 ≡ get_or r.words q 0
-        early q l =
-            let b = o.above in let low = has.low in
-            keeps q (differs q (inl (omega arith))) (record { other = inl (omega arith) })
-            ∙ beside_word o q (inl (omega arith))
-
-        away : (m : ℕ) → m < place_count r1 → (w1 + place_count r1 ≤ f.base) ⊎ (f.base + n ≤ w1)
-            → (w1 + m < f.base) ⊎ (f.base + n ≤ w1 + m)
-        away m l (inl b) = inl (omega arith)
-        away m l (inr b) = inr (omega arith)
+    has_read = still_has {f = f} o.above has.low keeps_beside
 
   -- ---- `read` of a number whose digits are on the tape
 

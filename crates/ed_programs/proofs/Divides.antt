@@ -19,7 +19,7 @@ use Rattle.ed_routines.specs.Standing.{IsOutside, Stands}
 use Rattle.ed_routines.proofs.Called.{within_size}
 use Rattle.ed_maths.specs.Quotients.{divide, divide_orders, dividend, with_hnm}
 use Rattle.ed_maths.proofs.DivideCall as divide_call
-use Rattle.ed_programs.proofs.Changes.{after_change, changes}
+use Rattle.ed_programs.proofs.Changes.{after_change, changes, still_has}
 use Rattle.ed_routines.proofs.Journeys.{HasRoutine, IsIn, Journey, all_long, beside_word, called, stands}
 
 -- the words of the division: cells jh, jl and jy of a piece of n, with the numbers in them; and the store's digits
@@ -185,24 +185,7 @@ module _ {n h : ℕ} {f : Frame n h} (r : Moment) (o : IsIn f (flat r)) where
     has_divided : {r1 w1 : ℕ} {others : List ℕ} → HasRoutine f r.words r1 w1 others
         → ((m : ℕ) → m < place_count r1 → is_working r1 m ≡ false → IsOther divide w (w1 + m))
         → HasRoutine f last.store.words r1 w1 others
-    has_divided {r1} {w1} stood other = record {
-      low = stood.low;
-      fits = stood.fits;
-      reached = stood.reached;
-      apart = stood.apart;
-      at2 = early 2 (lit< tt) ∙ stood.at2;
-      at3 = early 3 (lit< tt) ∙ stood.at3;
-      image = λ m l free. beside (w1 + m) (away m l stood.apart) (other m l free) ∙ stood.image m l free;
-    }
-      where
-        early : (q : ℕ) → q < 56 → get_or last.store.words q 0 ≡ get_or r.words q 0
-        early q l =
-            let b = o.above in let low = has.low in beside q (inl (omega arith)) (record { other = inl (omega arith) })
-
-        away : (m : ℕ) → m < place_count r1 → (w1 + place_count r1 ≤ f.base) ⊎ (f.base + n ≤ w1)
-            → (w1 + m < f.base) ⊎ (f.base + n ≤ w1 + m)
-        away m l (inl b) = inl (omega arith)
-        away m l (inr b) = inr (omega arith)
+    has_divided = still_has {f = f} o.above has.low beside
 
     pub divide_line : r.acc ≡ 0 → Reads {f = f} {r = flat r} i 28 (own i)
         → Jumps {f = f} {r = record (flat r) { acc = short (A_F + 2 * (f.base + i)); counter = f.base + (i + 1) }}

@@ -18,7 +18,7 @@ use Rattle.ed_run.specs.Run.{run_end}
 use Rattle.ed_printer.specs.Paper.{paper}
 use Rattle.ed_report.specs.Notes.{at_after}
 use Rattle.ed_routines.proofs.Journeys.{ComesToStop}
-use Rattle.ed_sources.proofs.Stops.{LeadsToStop, ran_to_stop}
+use Rattle.ed_sources.proofs.Stops.{ran_to_stop}
 use Rattle.ed_command.specs.declared.command.Settings.{Settings}
 use Rattle.ed_answers.specs.declared.input.TheConstants.{INPUT_BYTES}
 use Rattle.ed_answers.specs.Answer.{OfReading, exactly}
@@ -77,8 +77,6 @@ first_tape_runs s tape tape_rows t {k} {at} {printed} reads short o stops few =
     let first : State = first_state1 tape_rows in
     let entry : State = at_entry1 first t in
     let left : ℕ = s.limit - cost1 t in
-    let to_stop : LeadsToStop k entry printed =
-    record { last = stops.last; leads = stops.leads; stops = stops.stops } in
     let none = fresh tape_rows in
     let count : (step stops.last).state.orders ≡ cost1 t + (k + 1) = omega (arith, stops.orders, none) in
     record {
@@ -88,7 +86,7 @@ first_tape_runs s tape tape_rows t {k} {at} {printed} reads short o stops few =
       comes = o;
       cost_is = refl;
       outcome = λ no_resumes fits.
-          let ended = ran_to_stop left paper_room k entry printed to_stop few (omega (arith, fits)) in
+          let ended = ran_to_stop left paper_room k entry printed stops few (omega (arith, fits)) in
           let due : Outcome = record {
             out = paper printed;
             note = at_after (codes "stopped") at (cost1 t + (k + 1)) ++ 10 ∷ [];

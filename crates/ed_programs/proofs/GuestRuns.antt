@@ -13,7 +13,6 @@ use Rattle.ed_machine.specs.Steps.{AreObeyed, Progress, is_obeyed, progress, sta
 use Rattle.ed_machine.specs.declared.turn.Turn.{Turn}
 use Rattle.ed_machine.specs.declared.turn.Turn.TheVariants.{Went, Printed, Stopped, NoOrder, NoTape}
 use Rattle.ed_machine.proofs.Steps.{no_step}
-use Rattle.ed_paths.proofs.Leads.{goes_on}
 use Rattle.ed_routines.proofs.Journeys.{ComesToStop}
 use Rattle.ed_syntax.specs.Sources.{IsProgram}
 use Rattle.ed_syntax.specs.declared.program.Line.{Line}
@@ -24,7 +23,8 @@ use Rattle.ed_printer.specs.Paper.{paper}
 use Rattle.ed_checker.specs.Checker.{checked_codes, checked_orders, guest, planting_place}
 use Rattle.ed_checker.specs.Laws.{ChecksToStop, HasGuest}
 use Rattle.ed_checker.proofs.Follow.{checker_law}
-use Rattle.ed_sources.proofs.Stops.{StopsAt, halted}
+use Rattle.ed_sources.proofs.CheckedPaper.{checks_to_stop}
+use Rattle.ed_sources.proofs.Stops.{comes_to_stop}
 use Rattle.ed_command.specs.declared.command.Settings.{Settings}
 use Rattle.ed_answers.specs.Headline.{RunsFromEntry}
 use Rattle.ed_answers.specs.Sources.{OfSource, run_outcome}
@@ -41,42 +41,6 @@ use Rattle.ed_programs.proofs.GuestTexts.{enters_from_main, source_short}
 
 -- ---- the machine stops at the guest's Z
 
--- orders that are obeyed, none of them a stop, go on
-goes_of : (turn : Turn) → is_obeyed turn ≡ true → stops_of turn ≡ 0 → goes_on turn ≡ true
-goes_of Went o e = refl
-goes_of (Printed code) o e = refl
-goes_of Stopped o e = absurd (omega (arith, e))
-goes_of (NoOrder function) o e = absurd (true≢false (sym o))
-goes_of NoTape o e = absurd (true≢false (sym o))
-
-all_go : (k : ℕ) (s : State) → AreObeyed k s → (progress k s).stops ≡ 0 → (j : ℕ) → j < k
-    → goes_on (step (state_after j s)).turn ≡ true
-unfolding progress
-all_go zero s free none j l = absurd (omega arith)
-all_go (suc k) s free none j l =
-    elim (cases_lt j k) [
-      | inl below ↦ all_go k s (λ i m. free i (omega arith)) (omega (arith, none)) j below
-      | inr here ↦
-          let e : k ≡ j = omega arith in
-          subst (λ i. goes_on (step (state_after i s)).turn ≡ true) e
-          (goes_of (step (state_after k s)).turn (free k (omega arith)) (omega (arith, none)))
-    ]
-
-stops_at : (base q : ℕ) (m : State) (c : ChecksToStop base q m)
-    → StopsAt c.count m (checked_codes (guest base m) q) (base + planting_place)
-stops_at base q m c = record {
-  to_stop = record {
-    last = c.last;
-    leads = record {
-      state_is = ap (λ (p : Progress). p.state) c.ran.is;
-      codes_are = ap (λ (p : Progress). p.codes) c.ran.is;
-      goes = all_go c.count m c.ran.free (ap (λ (p : Progress). p.stops) c.ran.is);
-    };
-    stops = c.stops;
-  };
-  counter = c.counter;
-}
-
 -- the machine stops there after the turns of its guest
 record HasChecked (base q : ℕ) (m g : State) : Type 0 where
   count : ℕ
@@ -87,20 +51,12 @@ checked_to_stop : (base q : ℕ) (m : State) → HasGuest base m → StopsAtZ ba
     → HasChecked base q m (guest base m)
 checked_to_stop base q m has z =
     let c = checker_law.to_stop base q m has z.followed z.stops z.allowed in
-    let there = stops_at base (suc q) m c in
     let room = has.room in
-    let end = halted there (omega (arith, room)) in
     let exact = c.exact in
     record {
       count = c.count;
       exact = omega (arith, exact);
-      comes = record {
-        last = there.to_stop.last;
-        leads = there.to_stop.leads;
-        stops = there.to_stop.stops;
-        counter = end.counter;
-        orders = end.orders;
-      };
+      comes = comes_to_stop (checks_to_stop base (suc q) m c) (omega (arith, room));
     }
 
 -- the guest's first order is in the store

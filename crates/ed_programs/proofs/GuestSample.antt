@@ -14,6 +14,7 @@ use Rattle.ed_orders.specs.Kinds.{kind_of_function}
 use Rattle.ed_orders.specs.declared.kind.Kind.TheVariants.{O}
 use Rattle.ed_machine.specs.State.{State}
 use Rattle.ed_machine.specs.OrderTable.{next_word, obey_word, step}
+use Rattle.ed_paths.proofs.Leads.{first_order}
 use Rattle.ed_machine.specs.Steps.{codes_of, is_obeyed, progress, state_after, stops_of}
 use Rattle.ed_machine.specs.declared.turn.Turn.TheVariants.{Printed, Stopped}
 use Rattle.ed_machine.proofs.Steps.{no_step}
@@ -124,8 +125,7 @@ module _ (z : Size) where
   second = (obey_word (Some O) 36980 g).state
 
   second_is : state_after 1 g ≡ second
-  unfolding progress step
-  second_is = ap (λ w. (obey_word (kind_of_function (function_of w)) w g).state) first_word
+  second_is = first_order g 36980 first_word
 
   -- Z F
   second_word : next_word second ≡ Z_F

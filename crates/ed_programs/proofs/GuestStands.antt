@@ -39,8 +39,9 @@ use Rattle.ed_link.specs.Words.{LinePlaces, words_of_line}
 use Rattle.ed_link.proofs.PunchedTexts.{text_is_tape}
 use Rattle.ed_link.proofs.WordLaws.{each_word_stands}
 use Rattle.ed_loads.specs.EntryState.{entry_state, first_state}
-use Rattle.ed_loads.proofs.Entries.{each_source, first_store}
+use Rattle.ed_loads.proofs.Entries.{each_source}
 use Rattle.ed_loads.proofs.EntryWords.{each_entry_has_words}
+use Rattle.ed_loads.proofs.Starts.{sound_start}
 use Rattle.ed_routines.specs.Catalogue.{with_h}
 use Rattle.ed_checker.specs.Checker.{HasImage, check, guest}
 use Rattle.ed_checker.specs.Laws.{HasGuest}
@@ -49,47 +50,13 @@ use Rattle.ed_programs.proofs.GuestNames.{entry_is}
 
 -- ---- the machine that is started on the tape of a source
 
-some_is : (a b : ℕ) → Some a ≡ Some b → a ≡ b
-some_is a b e = cc
-
-spelled_code : (byte code : ℕ) → row_of byte ≡ Some code → code < 32
-spelled_code byte code = by_digit (nat_le 48 byte && nat_le byte 57) refl
-  where
-    by_digit : (b : Bool) → (nat_le 48 byte && nat_le byte 57) ≡ b
-        → (if b then Some (byte - 48) else position (λ l. l == byte) letters) ≡ Some code → code < 32
-    by_digit true is e =
-        let few : byte ≤ 57 = let p = (and_parts (nat_le 48 byte) (nat_le byte 57) is).1 in grind (arith, nat_tests) in
-        omega (arith, some_is (byte - 48) code e)
-    by_digit false is e = (position-Some (λ l. l == byte) letters code 0 e).0
-
-rows_fit : {text all : List ℕ} → Spells text all → (i : ℕ) → slice_index all i < 32
-rows_fit none i = lit< tt
-rows_fit (row byte code text all is rest) zero = spelled_code byte code is
-rows_fit (row byte code text all is rest) (suc i) = rows_fit rest i
-rows_fit (spacing byte text all is rest) i = rows_fit rest i
-rows_fit (comment inside text all is rest) i = rows_fit rest i
-
-read_fit : (text all : List ℕ) → reading text ≡ rows all → (i : ℕ) → slice_index all i < 32
-read_fit text all read = rows_fit {text = text} (subst (IsReadingOf text) read (every_text text))
-
-sound_start : (z : Size) (source : Text) (lines : List Line) → IsAcceptedAs z source lines
-    → IsSound (first_state z (tape lines))
-unfolding first_state
-sound_start z source lines a = record {
-  store = first_store z (tape lines);
-  acc = lit< tt;
-  multiplier = lit< tt;
-  counter = let size = least z in omega arith;
-  tape = read_fit (text_of (canonicals (punched_items lines)) ++ after_text (data_after lines)) (tape lines)
-      (text_is_tape z source lines a);
-  last = lit< tt;
-}
-
 sound_entry : (z : Size) (source : Text) (lines : List Line) → IsAcceptedAs z source lines
     → IsSound (entry_state z lines)
 sound_entry z source lines a =
     subst IsSound (each_source z source lines a).state_is
-    (sound_after (cost lines) (first_state z (tape lines)) (sound_start z source lines a))
+    (sound_after (cost lines) (first_state z (tape lines))
+    (sound_start z (text_of (canonicals (punched_items lines)) ++ after_text (data_after lines)) (tape lines)
+    (text_is_tape z source lines a)))
 
 -- ---- the words of the routine
 

@@ -15,7 +15,8 @@ use Rattle.ed_words.specs.declared.size.Size.TheVariants.{Small, Full}
 use Rattle.ed_words.specs.declared.order_words.TheConstants.{G_F, O_F, Z_F}
 use Rattle.ed_symbols.specs.Faults.{resolution}
 use Rattle.ed_symbols.specs.Places.{even_from, first_counter}
-use Rattle.ed_link.specs.Private.FaultTests.{fault, fault_from, missing, sooner}
+use Rattle.ed_link.specs.Private.FaultTests.{extent, fault, fault_from, missing, sooner}
+use Rattle.ed_link.specs.declared.faults.Extent.{Extent}
 use Rattle.ed_link.specs.Linked.{symbols_of, linked_words}
 use Rattle.ed_paths.proofs.Places.{IsOutside}
 use Rattle.ed_routines.proofs.Lines.{newline_line}
@@ -25,7 +26,7 @@ use Rattle.ed_programs.specs.Hello.{EachTextIsPrinted, IsRows, hello_data, hello
 use Rattle.ed_programs.specs.Hello.{hello_rows}
 use Rattle.ed_programs.specs.Hello.{hello_text, is_capital, of_letters}
 use Rattle.ed_programs.proofs.Capitals.{are_rows, letters_shown}
-use Rattle.ed_programs.proofs.Faults.{past, counter}
+use Rattle.ed_link.proofs.Extents.{counter, one_by_one, past}
 use Rattle.ed_programs.proofs.ProgramEntry.{stops_by}
 use Rattle.ed_programs.proofs.SourceRuns.{read_runs}
 use Rattle.ed_programs.proofs.TextLines.{IsAround, all_plain, number_says, text_mark}
@@ -35,13 +36,9 @@ use Rattle.ed_programs.proofs.Kit.{false, List, [], ◌∷◌, ◌++◌, Ok, Som
 use Rattle.ed_programs.proofs.Kit.{decimal, least, Text, Size, Line, entry_state, paper, Settings, Frame, Moment, short}
 use Rattle.ed_programs.proofs.Kit.{state, early, out, own, A, S, T, U, O, G_jumps, G_stays, Z, Path, followed, on}
 use Rattle.ed_programs.proofs.Kit.{prints, stay, newline, ComesToStop, HasRoutine, IsIn, along, then, to_stop}
-use Rattle.ed_programs.proofs.Kit.{all_words, frame_at, moment_at, SourceRuns, Marked, to, counted}
+use Rattle.ed_programs.proofs.Kit.{all_words, frame_at, moment_at, SourceRuns, Marked, printing, to, counted}
 
 -- ---- its path
-
--- the order that prints what stands at q
-abbrev printing : ℕ → ℕ
-printing q = O_F + 2 * q
 
 -- its words: the jump to `newline`, the order after the last one that prints, the one that does, and a spare cell
 abbrev cells : ℕ → ℕ → ℕ → ℕ → List ℕ
@@ -166,13 +163,11 @@ module _ (rows : List ℕ) (few : length rows ≤ 41) where
       let d : nat_lt 1023 (w + 0) ≡ false = lt_false 1023 (w + 0) (omega arith) in
       rw (c, d, a, b) refl
 
-  -- the places of the lines before the text
-  abbrev runs : List (ℕ × ℕ)
-  runs =
-      (56, 56) ∷ (56, 56) ∷ (56, 56) ∷ (56, 56) ∷ (56, 57) ∷ (57, 58) ∷ (58, 59) ∷ (59, 60) ∷ (60, 61) ∷ (61, 62)
-      ∷ (62, 63) ∷ (63, 64) ∷ (64, 65) ∷ (65, 66) ∷ (66, 67) ∷ (67, 68) ∷ (68, 69) ∷ (69, 69) ∷ []
+  -- the extents of the lines before the text
+  abbrev extents : List Extent
+  extents = extent 56 56 ∷ extent 56 56 ∷ extent 56 56 ∷ extent 56 56 ∷ one_by_one 13 56 ++ extent 69 69 ∷ []
 
-  placed_well : (z : Size) → fault_from z (symbols_of lines) true (past runs) (counter 69 69 2)
+  placed_well : (z : Size) → fault_from z (symbols_of lines) true (past extents) (counter 69 69 2)
       (last_lines 19 (codes "letters") rows (codes "n") (codes "main")) ≡ None
       → fault_from z (symbols_of lines) true (past []) first_counter lines ≡ None
   placed_well Small h = h
@@ -183,7 +178,7 @@ module _ (rows : List ℕ) (few : length rows ≤ 41) where
       (λ i. sooner (named i) (sooner (fault_from z (symbols_of lines) true (past []) first_counter lines)
       (missing true (length lines))))
       ∙ ap (λ f. sooner None (sooner f None)) (placed_well z
-      (text_sound z (symbols_of lines) runs 69 69 2 19 (codes "letters") (codes "n") (codes "main") rows (lit≤ tt)
+      (text_sound z (symbols_of lines) extents 69 69 2 19 (codes "letters") (codes "n") (codes "main") rows (lit≤ tt)
       (omega arith) refl refl))
 
 ends : (c : ℕ) (cs : List ℕ) → length (c ∷ cs) ≤ 41 → list_all (λ c. nat_lt c 32) (c ∷ cs) ≡ true → (z : Size)

@@ -29,7 +29,7 @@ pub use Rattle.ed_routines.proofs.Journeys.{to_stop}
 pub use Rattle.ed_routines.proofs.Lines.{print_line}
 use Rattle.std.specs.Prelude.{◌&&◌}
 use Rattle.std.proofs.lemmas.Bool.{and_parts}
-use Rattle.ed_words.specs.declared.order_words.TheConstants.{A_F, G_F}
+use Rattle.ed_words.specs.declared.order_words.TheConstants.{A_F, G_F, O_F}
 use Rattle.ed_sources.proofs.AtEntry.{has_image, have_places, placed}
 pub use Rattle.ed_sources.proofs.AtEntry.{all_words}
 pub use Rattle.ed_sources.proofs.Entries.{frame_at, moment_at}
@@ -50,6 +50,10 @@ to function j = 4096 * function + 2 * (56 + j)
 -- the jump to a routine at a place: G
 abbrev pub calling : ℕ → ℕ
 calling place = G_F + 2 * place
+
+-- the order that prints the code at a place: O
+abbrev pub printing : ℕ → ℕ
+printing place = O_F + 2 * place
 
 -- the order that returns after a call from cell j: E
 abbrev pub link : ℕ → ℕ

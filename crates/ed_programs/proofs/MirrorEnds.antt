@@ -11,6 +11,7 @@ use Rattle.ed_words.specs.declared.order_words.TheConstants.{L_D, R_F, Z_F}
 use Rattle.ed_machine.specs.State.{State}
 use Rattle.ed_notation.specs.Faults.{TapeEntry}
 use Rattle.ed_notation.specs.Reading.{reading_on}
+use Rattle.ed_notation.proofs.Texts.{AreCodes}
 use Rattle.ed_loads.specs.EntryState.{first_state}
 use Rattle.ed_paths.proofs.Frames.{state}
 use Rattle.ed_paths.proofs.Standing.{opens}
@@ -20,7 +21,7 @@ use Rattle.ed_sources.proofs.Decimals.{numbers}
 use Rattle.ed_sources.proofs.Entries.{is_met, moment_at}
 use Rattle.ed_command.specs.declared.command.Settings.{Settings}
 use Rattle.ed_top.specs.TapeEntries.{tape_state}
-use Rattle.ed_programs.proofs.MirrorProgram.{AreCodes, Given, Work, cells, entering, mirror_stops}
+use Rattle.ed_programs.proofs.MirrorProgram.{Given, Work, cells, entering, mirror_stops}
 use Rattle.ed_programs.proofs.TapeRuns.{Arrives, holds_in}
 
 -- the rows up to the entry, and the rest

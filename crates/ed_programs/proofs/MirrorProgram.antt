@@ -8,6 +8,7 @@ use Rattle.std.specs.Prelude.{reverse}
 use Rattle.std.proofs.lemmas.List.{length-reverse, reverse-append, get_or-set_same, get_or-set_other, length-set}
 use Rattle.ed_words.proofs.SizeLemmas.{most}
 use Rattle.ed_words.specs.declared.order_words.TheConstants.{A_F, E_F, G_F, I_F, L_D, O_F, R_F, S_F, T_F, U_F, Z_F}
+use Rattle.ed_notation.proofs.Texts.{AreCodes}
 use Rattle.ed_paths.proofs.Frames.{Frame, Moment, short, state}
 use Rattle.ed_paths.proofs.Places.{IsOutside, early, own, out}
 use Rattle.ed_paths.proofs.Moves.{A, S, T, U, I, O, L, Z, E_jumps, E_stays, G_jumps, G_stays}
@@ -16,6 +17,7 @@ use Rattle.ed_paths.proofs.Shifts.{L512F, LD}
 use Rattle.ed_paths.proofs.Paths.{Path, stay, on, prints, followed}
 use Rattle.ed_paths.proofs.Loops.{all_spent, quiet_walks, walked}
 use Rattle.ed_routines.proofs.Journeys.{ComesToStop, along, to_stop}
+use Rattle.ed_programs.proofs.Kit.{printing}
 
 -- the cells that change
 pub record Work : Type 0 where
@@ -37,22 +39,14 @@ cells b k =
     ∷ (G_F + 2 * (b + 26)) ∷ (A_F + 2 * (b + 32)) ∷ (E_F + 2 * (b + 18)) ∷ Z_F ∷ Z_F ∷ 1 ∷ k.count ∷ k.scrap
     ∷ k.row ∷ R_F ∷ (O_F + 2 * (b + 41)) ∷ []
 
--- the order that stores a letter at q, and the one that prints it
+-- the order that stores a letter at q
 abbrev pub storing : ℕ → ℕ
 storing q = T_F + 2 * q
-
-abbrev pub printing : ℕ → ℕ
-printing q = O_F + 2 * q
 
 -- codes are in words from q upwards, each in the first digits of its word; the last one comes first in the list
 abbrev pub Stored : List ℕ → ℕ → List ℕ → Type 0
 Stored ws q [] = Unit {0}
 Stored ws q (c ∷ cs) = (get_or ws (q + length cs) 0 ≡ 4096 * c) × (c < 32) × Stored ws q cs
-
--- codes of the tape
-abbrev pub AreCodes : List ℕ → Type 0
-AreCodes [] = Unit {0}
-AreCodes (c ∷ cs) = (c < 32) × AreCodes cs
 
 -- a word that is written above them leaves them
 stored_set : (ws : List ℕ) (q a v : ℕ) (cs : List ℕ) → q + length cs ≤ a → Stored ws q cs → Stored (set ws a v) q cs

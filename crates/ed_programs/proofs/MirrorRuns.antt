@@ -14,6 +14,7 @@ use Rattle.ed_codes.specs.Spelling.{row_of}
 use Rattle.ed_codes.specs.Text.{Spells, none, row, spacing}
 use Rattle.ed_codes.proofs.Pieces.{spells_append}
 use Rattle.ed_codes.proofs.Readings.{has_one_reading}
+use Rattle.ed_notation.proofs.Texts.{AreCodes, are_codes}
 use Rattle.ed_printer.specs.Paper.{paper, paper_from}
 use Rattle.ed_printer.specs.declared.printer.Shift.TheVariants.{Letters}
 use Rattle.ed_syntax.specs.Private.Grammar.{row as code_of, spells}
@@ -26,7 +27,6 @@ use Rattle.ed_programs.specs.Tapes.{TapeRuns}
 use Rattle.ed_programs.proofs.Capitals.{are_rows, letter}
 use Rattle.ed_programs.proofs.TextLines.{all_plain}
 use Rattle.ed_programs.proofs.MirrorEnds.{mirror_arrives, mirror_ends, mirror_entry, mirror_rows}
-use Rattle.ed_programs.proofs.MirrorProgram.{AreCodes}
 use Rattle.ed_answers.specs.declared.input.TheConstants.{INPUT_BYTES}
 use Rattle.ed_programs.proofs.TapeRuns.{tape_runs}
 
@@ -68,12 +68,6 @@ letters_spell [] h = none
 letters_spell (b ∷ q) h =
     let p = and_parts (spells (row_of b)) (list_all (λ b. spells (row_of b)) q) h in
     row b (code_of (row_of b)) q (hello_rows q) (some_row (row_of b) p.0) (letters_spell q p.1)
-
-are_codes : (cs : List ℕ) → list_all (λ c. nat_lt c 32) cs ≡ true → AreCodes cs
-are_codes [] h = tt
-are_codes (c ∷ cs) h =
-    let p = and_parts (nat_lt c 32) (list_all (λ c. nat_lt c 32) cs) h in
-    (lt_of c 32 p.0, are_codes cs p.1)
 
 -- the last line: the number of letters, and the letters
 abbrev mirror_line : Text → Text

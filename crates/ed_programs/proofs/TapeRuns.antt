@@ -27,9 +27,9 @@ use Rattle.ed_run.proofs.Later.{ran_later}
 use Rattle.ed_printer.specs.Paper.{paper}
 use Rattle.ed_paths.proofs.Standing.{Holds, Meets}
 use Rattle.ed_routines.proofs.Journeys.{ComesToStop}
-use Rattle.ed_sources.proofs.Stops.{LeadsToStop, ran_to_stop}
+use Rattle.ed_sources.proofs.Stops.{ran_to_stop}
 use Rattle.ed_sources.proofs.Decimals.{among, numbers}
-use Rattle.ed_sources.proofs.Entries.{is_met}
+use Rattle.ed_sources.proofs.Entries.{is_met, meets_of}
 use Rattle.ed_command.specs.declared.command.Settings.{Settings}
 use Rattle.ed_answers.specs.Answer.{OfReading, exactly}
 use Rattle.ed_answers.specs.Tapes.{first_note, tape_outcome}
@@ -39,10 +39,6 @@ use Rattle.ed_top.proofs.Stopped.{answered, nothing_after}
 use Rattle.ed_programs.specs.Programs.{GivesProgram}
 use Rattle.ed_programs.specs.Tapes.{TapePrints, TapeRuns}
 use Rattle.ed_programs.specs.declared.refusal.Refusal.{Refusal}
-
-meets_of : (o : Option ℕ) (w : ℕ) → is_met o w ≡ true → Meets o w
-meets_of None w h = tt
-meets_of (Some x) w h = eq_of w x h
 
 -- an image is in words, by one test
 pub holds_in : (words : List ℕ) (image : List (Option ℕ)) (base : ℕ)
@@ -92,8 +88,6 @@ tape_runs s tape tape_rows e {k} {at} {printed} reads short arrives stops few =
     let in_order = leads_on arrives in
     let first : State = tape_state s tape_rows e in
     let left : ℕ = s.limit - e.cost in
-    let to_stop : LeadsToStop k first printed =
-    record { last = stops.last; leads = stops.leads; stops = stops.stops } in
     let none = (fresh arrives).2 in
     let count : (step stops.last).state.orders ≡ e.cost + (k + 1) = omega (arith, stops.orders, none) in
     record {
@@ -104,7 +98,7 @@ tape_runs s tape tape_rows e {k} {at} {printed} reads short arrives stops few =
       comes = rules.comes e arrives.cleared;
       cost_is = refl;
       outcome = λ no_resumes plain fits.
-          let ended = ran_to_stop left paper_room k first printed to_stop few (omega (arith, fits)) in
+          let ended = ran_to_stop left paper_room k first printed stops few (omega (arith, fits)) in
           let whole : run_of s tape_rows ≡ run_end left 0 paper_room first =
           ran_later s.limit s.resumes paper_room e.cost (first_state s.size tape_rows) in_order.went
           (omega (arith, fits))

@@ -22,7 +22,8 @@ use Rattle.ed_symbols.specs.declared.symbols.Definition.{Definition}
 use Rattle.ed_symbols.specs.Names.{place_on}
 use Rattle.ed_symbols.specs.Places.{even_from}
 use Rattle.ed_link.specs.Linked.{placed_words, linked_words}
-use Rattle.ed_link.specs.Private.FaultTests.{fault_from}
+use Rattle.ed_link.specs.Private.FaultTests.{extent, fault_from}
+use Rattle.ed_link.specs.declared.faults.Extent.{Extent}
 use Rattle.ed_loads.specs.EntryState.{entry_state}
 use Rattle.ed_routines.specs.Catalogue.{newline}
 use Rattle.ed_routines.proofs.Journeys.{HasRoutine}
@@ -31,8 +32,8 @@ use Rattle.ed_sources.proofs.Blocks.{beside_block, block_places, in_block, last_
 use Rattle.ed_sources.proofs.Blocks.{word_of}
 use Rattle.ed_sources.proofs.Entries.{frame_at}
 use Rattle.ed_sources.proofs.Said.{said}
-use Rattle.ed_programs.proofs.Faults.{are_below, block_sound, enter_sound, none_later, one_more, past, counter}
-use Rattle.ed_programs.proofs.Faults.{use_sound}
+use Rattle.ed_link.proofs.Extents.{are_below, counter, none_later, one_more, past}
+use Rattle.ed_programs.proofs.Faults.{block_sound, enter_sound, use_sound}
 
 -- ---- faults
 
@@ -44,22 +45,22 @@ last_lines k label rows name main =
     ∷ said (k + 1 + 1) None (statements.Enter main)
     ∷ []
 
--- they have none, where the lines before them have the places of these runs, which end at p
-pub text_sound : (z : Size) (symbols : List Definition) (runs : List (ℕ × ℕ)) (p b g k : ℕ) (label name main : Text)
-    (rows : List ℕ) → 56 ≤ p → p + length rows ≤ 500 → are_below p runs ≡ true → place_on symbols None main ≡ Some 56
-    → fault_from z symbols true (past runs) (counter p b g) (last_lines k label rows name main) ≡ None
-text_sound z symbols runs p b g k label name main rows low high first place =
+-- they have none, where the lines before them have these extents, which end at p
+pub text_sound : (z : Size) (symbols : List Definition) (extents : List Extent) (p b g k : ℕ) (label name main : Text)
+    (rows : List ℕ) → 56 ≤ p → p + length rows ≤ 500 → are_below p extents ≡ true → place_on symbols None main ≡ Some 56
+    → fault_from z symbols true (past extents) (counter p b g) (last_lines k label rows name main) ≡ None
+text_sound z symbols extents p b g k label name main rows low high first place =
     let size = least z in
     let n : ℕ = length rows in
     let w : ℕ = even_from (p + n) in
-    let second = one_more p p (p + n) runs (omega arith) first in
-    let third = one_more (p + n) w (w + 7) (runs ++ (p, p + n) ∷ []) (omega arith) second in
-    none_later k _ _ (block_sound z symbols runs k p b g (Some label) rows (omega arith) (omega arith) first)
+    let second = one_more p p (p + n) extents (omega arith) first in
+    let third = one_more (p + n) w (w + 7) (extents ++ extent p (p + n) ∷ []) (omega arith) second in
+    none_later k _ _ (block_sound z symbols extents k p b g (Some label) rows (omega arith) (omega arith) first)
     (none_later (k + 1) _ _
-    (use_sound z symbols (runs ++ (p, p + n) ∷ []) (k + 1) (p + n) b g true (codes "newline") name []
+    (use_sound z symbols (extents ++ extent p (p + n) ∷ []) (k + 1) (p + n) b g true (codes "newline") name []
     (omega arith) (omega arith) second refl refl)
     (none_later (k + 1 + 1) _ _
-    (enter_sound z symbols ((runs ++ (p, p + n) ∷ []) ++ (w, w + 7) ∷ []) (k + 1 + 1) (w + 7) w (g + 1) 56 main place
+    (enter_sound z symbols ((extents ++ extent p (p + n) ∷ []) ++ extent w (w + 7) ∷ []) (k + 1 + 1) (w + 7) w (g + 1) 56 main place
     (omega arith) (omega arith) third)
     refl))
 

@@ -37,7 +37,7 @@ use Rattle.ed_paths.proofs.Paths as paths
 use Rattle.ed_routines.proofs.Journeys.{ComesToStop, stop_after}
 use Rattle.ed_report.specs.Entries.{entry_line, returned_line}
 use Rattle.ed_report.specs.Notes.{at_after}
-use Rattle.ed_sources.proofs.Stops.{LeadsToStop, ran_to_stop}
+use Rattle.ed_sources.proofs.Stops.{ran_to_stop}
 use Rattle.ed_parts.specs.Parts.{ComesHome, Concludes, Finishes, GoesBack, IsUnderWay, LeadsTo, RunsOn, TapePart}
 use Rattle.ed_parts.specs.Parts.{IsReportOfTape}
 use Rattle.ed_parts.specs.Parts.{PartsReport, entry_done, entry_report, finished, first_part, part_after}
@@ -339,11 +339,9 @@ two_parts_run s tape tape_rows {at} {printed} reads short c few =
           let due : Outcome = record { out = paper printed; note = two_parts_note t; status = 0 } in
           let first : State = first_state s.size tape_rows in
           let o = to_stop c in
-          let end : LeadsToStop (orders_to_program t + c.orders_on) first printed =
-          record { last = o.last; leads = o.leads; stops = o.stops } in
           let none = (fresh c).1 in
           let count : (step o.last).state.orders ≡ orders_to_stop t = omega (arith, o.orders, none) in
-          let ended = ran_to_stop s.limit paper_room (orders_to_program t + c.orders_on) first printed end few
+          let ended = ran_to_stop s.limit paper_room (orders_to_program t + c.orders_on) first printed o few
           (omega (arith, fits)) in
           let answer : tape_outcome s tape_rows ≡ due =
           (λ i. ran_outcome [] (with_post_mortem (plain i) (run_end s.limit (no_resumes i) paper_room first)))

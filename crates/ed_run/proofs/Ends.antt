@@ -3,6 +3,7 @@ use Rattle.std.proofs.Common.{◌≡◌, inl, inr, ℕ, ◌-◌, refl, sym, ap, 
 use Rattle.std.proofs.Common.{true≢false, nat_eq, nat_lt, Option, Some, None, is_some, unwrap_or, length}
 use Rattle.std.proofs.lemmas.Bool.{cases_lt}
 use Rattle.std.proofs.lemmas.Bool.Decides.{nat_tests}
+use Rattle.std.proofs.lemmas.Option.{none-some, same_Some}
 use Rattle.ed_machine.specs.State.{State}
 use Rattle.ed_machine.specs.Steps.{Progress, progress}
 use Rattle.ed_machine.specs.Sheet.{Sheet}
@@ -49,22 +50,15 @@ pub ends_once : {limit resumes room : ℕ} {s : State} {j k : ℕ} {d e : Ending
     → EndsAfter limit resumes room s j d → EndsAfter limit resumes room s k e → (j ≡ k) × (d ≡ e)
 ends_once {limit} {resumes} {room} {s} {j} {k} {d} {e} g h =
     elim (cases_lt j k) [
-      | inl l ↦ absurd (none_some d (sym (h.first j l) ∙ g.now))
+      | inl l ↦ absurd (none-some d (sym (h.first j l) ∙ g.now))
       | inr m ↦
           elim (cases_lt k j) [
-            | inl l ↦ absurd (none_some e (sym (g.first k l) ∙ h.now))
+            | inl l ↦ absurd (none-some e (sym (g.first k l) ∙ h.now))
             | inr n ↦
                 let same : j ≡ k = omega arith in
-                (same, some_is d e (sym g.now ∙ ap (λ i. end_at limit resumes room i (progress i s)) same ∙ h.now))
+                (same, same_Some d e (sym g.now ∙ ap (λ i. end_at limit resumes room i (progress i s)) same ∙ h.now))
           ]
     ]
-  where
-    none_some : (e : Ending) → None ≡ Some e → ⊥
-    none_some e h = cc
-
-    some_is : (d e : Ending) → Some d ≡ Some e → d ≡ e
-    some_is d e h = cc
-
 -- what a run leaves is what the function gives
 pub run_left : {limit resumes : ℕ} {s : State} {sheet : Sheet} {ending : Ending} {last : State} {full : Sheet}
     → IsRun limit resumes s sheet ending last full

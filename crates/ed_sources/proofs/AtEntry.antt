@@ -17,6 +17,7 @@ use Rattle.ed_library.specs.Routines.{place_count}
 use Rattle.ed_syntax.specs.declared.program.Line.{Line}
 use Rattle.ed_link.specs.Linked.{linked_words}
 use Rattle.ed_loads.specs.EntryState.{entry_state, own_words}
+use Rattle.ed_loads.proofs.EntryWords.{entry_word}
 use Rattle.ed_routines.specs.Standing.{HasWord}
 use Rattle.ed_sources.proofs.Decimals.{among, numbers}
 
@@ -43,9 +44,6 @@ module _ (z : Size) (lines : List Line) where
   abbrev zeros : List ℕ
   zeros = replicate 1024 0
 
-  first_words : length (initial_words (own_words lines)) ≡ 44
-  first_words = refl
-
   pub all_words : length (entry_state z lines).store.words ≡ 1024
   all_words =
       let e = length-append (initial_words (own_words lines)) (drop 44 (over (placed lines) zeros)) in
@@ -58,14 +56,7 @@ module _ (z : Size) (lines : List Line) where
     -- a word above those of the Initial Orders
     pub word_at : (a : ℕ) → 44 ≤ a → a < 1024
         → short_at (entry_state z lines).store a ≡ unwrap_or (placed_at (placed lines) a) 0
-    word_at a low high =
-        let there : 44 + (a - 44) ≡ a = omega arith in
-        get_or-append_right (initial_words (own_words lines)) (drop 44 (over (placed lines) zeros)) 44 a 0
-        first_words low
-        ∙ get_or-drop 44 (over (placed lines) zeros) (a - 44) 0
-        ∙ ap (λ x. get_or (over (placed lines) zeros) x 0) there
-        ∙ content_is zeros (length-replicate {A = ℕ} 1024 0) (placed lines) a (are_places (placed lines) fit)
-        ∙ ap (λ x. unwrap_or (placed_at (placed lines) a) x) (get_or-replicate 1024 a 0 0 high)
+    word_at = entry_word lines (are_places (placed lines) fit)
 
     pub image_at : {r base i : ℕ} {parameters : List ℕ} → has_image (placed lines) r base parameters ≡ true → 44 ≤ base
         → base + place_count r ≤ 512 → i < place_count r → HasWord r parameters base (entry_state z lines) i

@@ -18,7 +18,7 @@ use Rattle.ed_routines.proofs.NewLine as new_line
 use Rattle.ed_routines.proofs.PrintCall as print_call
 use Rattle.ed_routines.proofs.ReadCall as read_call
 use Rattle.ed_sources.proofs.Calling.{HasRoutine, IsBefore, back, called, caller_is, calls, outside, stands}
-use Rattle.ed_sources.proofs.Stops.{LeadsToStop, StopsAt}
+use Rattle.ed_sources.proofs.Stops.{StopsAt}
 
 -- the order Z F at the counter
 pub stop_at : (s : State) → get_or s.store.words s.counter 0 ≡ Z_F → (step s).turn ≡ Stopped
@@ -49,11 +49,9 @@ pub record ReadsNumber (s : State) (m h to : ℕ) : Type 0 where
 pub stopped : {k m from to : ℕ} {s : State} {codes : List ℕ} → Passes k s codes m from to → IsBeside from to (m + 2)
     → short_at s.store (m + 2) ≡ Z_F → StopsAt k s codes (m + 2)
 stopped {m = m} p other stop = record {
-  to_stop = record {
-    last = p.last;
-    leads = p.leads;
-    stops = stop_at p.last (ap (λ x. get_or p.last.store.words x 0) p.counter ∙ p.words (m + 2) other ∙ stop);
-  };
+  last = p.last;
+  leads = p.leads;
+  stops = stop_at p.last (ap (λ x. get_or p.last.store.words x 0) p.counter ∙ p.words (m + 2) other ∙ stop);
   counter = p.counter;
 }
 

@@ -11,35 +11,14 @@ use Rattle.ed_machine.specs.Steps.{AreObeyed, Progress, codes_of, is_obeyed, pro
 use Rattle.ed_machine.specs.declared.turn.Turn.{Turn}
 use Rattle.ed_machine.specs.declared.turn.Turn.TheVariants.{Went, Printed, Stopped, NoOrder, NoTape}
 use Rattle.ed_loads.specs.EntryState.{entry_state}
-use Rattle.ed_paths.proofs.Leads.{goes_on}
+use Rattle.ed_paths.proofs.Leads.{all_go}
 use Rattle.ed_routines.specs.Digits.{before_units, print_orders, sum, without_zeros}
-use Rattle.ed_checker.specs.Checker.{checked_codes, guest}
+use Rattle.ed_checker.specs.Checker.{checked_codes, guest, planting_place}
 use Rattle.ed_checker.specs.Laws.{ChecksToStop}
 use Rattle.ed_checker.proofs.Whole.{few_codes}
 use Rattle.ed_sources.proofs.CheckedPrint.{checks_print, count_is}
 use Rattle.ed_sources.proofs.Said.{check_lines}
 use Rattle.ed_sources.proofs.Stops.{StopsAt}
-
--- orders that are obeyed and are not stops go on
-goes_of : (turn : Turn) → is_obeyed turn ≡ true → stops_of turn ≡ 0 → goes_on turn ≡ true
-goes_of Went o e = refl
-goes_of (Printed code) o e = refl
-goes_of Stopped o e = absurd (omega (arith, e))
-goes_of (NoOrder function) o e = absurd (true≢false (sym o))
-goes_of NoTape o e = absurd (true≢false (sym o))
-
-all_go : (k : ℕ) (s : State) → AreObeyed k s → (progress k s).stops ≡ 0 → (j : ℕ) → j < k
-    → goes_on (step (state_after j s)).turn ≡ true
-unfolding progress
-all_go zero s free none j l = absurd (omega arith)
-all_go (suc k) s free none j l =
-    elim (cases_lt j k) [
-      | inl below ↦ all_go k s (λ i m. free i (omega arith)) (omega (arith, none)) j below
-      | inr here ↦
-          let e : k ≡ j = omega arith in
-          subst (λ i. goes_on (step (state_after i s)).turn ≡ true) e
-          (goes_of (step (state_after k s)).turn (free k (omega arith)) (omega (arith, none)))
-    ]
 
 -- each order of a guest prints at most two codes
 two_each : (q : ℕ) (g : State) → length (checked_codes g q) ≤ 2 * q
@@ -73,6 +52,20 @@ few_orders n small =
 pub room_for_codes : (n : ℕ) (g : State) → n < 65536 → length (checked_codes g (3 + print_orders n)) ≤ 1000000
 room_for_codes n g small = let two = two_each (3 + print_orders n) g in let few = few_orders n small in omega arith
 
+-- the machine stops at the end of the guest
+pub checks_to_stop : (base q : ℕ) (m : State) (c : ChecksToStop base q m)
+    → StopsAt c.count m (checked_codes (guest base m) q) (base + planting_place)
+checks_to_stop base q m c = record {
+  last = c.last;
+  leads = record {
+    state_is = ap (λ (p : Progress). p.state) c.ran.is;
+    codes_are = ap (λ (p : Progress). p.codes) c.ran.is;
+    goes = all_go c.count m c.ran.free (ap (λ (p : Progress). p.stops) c.ran.is);
+  };
+  stops = c.stops;
+  counter = c.counter;
+}
+
 module _ (z : Size) (n : ℕ) (small : n < 65536) where
   abbrev c : ChecksToStop 112 (3 + print_orders n) (entry_state z (check_lines n))
   c = checks_print z n small
@@ -83,15 +76,4 @@ module _ (z : Size) (n : ℕ) (small : n < 65536) where
   check_ends =
       subst (λ k. StopsAt k (entry_state z (check_lines n))
       (checked_codes (guest 112 (entry_state z (check_lines n))) (3 + print_orders n)) 152) (count_is z n small)
-      (record {
-        to_stop = record {
-          last = c.last;
-          leads = record {
-            state_is = ap (λ (p : Progress). p.state) c.ran.is;
-            codes_are = ap (λ (p : Progress). p.codes) c.ran.is;
-            goes = all_go c.count (entry_state z (check_lines n)) c.ran.free (ap (λ (p : Progress). p.stops) c.ran.is);
-          };
-          stops = c.stops;
-        };
-        counter = c.counter;
-      })
+      (checks_to_stop 112 (3 + print_orders n) (entry_state z (check_lines n)) c)

@@ -30,7 +30,7 @@ use Rattle.ed_loads.specs.EntryState.{entry_state, own_words}
 use Rattle.ed_loads.proofs.Entries.{all_fit}
 use Rattle.ed_machine.proofs.Steps.{after_sum}
 use Rattle.ed_paths.proofs.Frames.{short}
-use Rattle.ed_paths.proofs.Leads.{Leads, free, joined, no_stops}
+use Rattle.ed_paths.proofs.Leads.{Leads, first_order, free, joined, no_stops}
 use Rattle.ed_paths.proofs.Zeros.{begun, shown}
 use Rattle.ed_routines.specs.Catalogue.{print, with_h}
 use Rattle.ed_routines.specs.Digits.{before_units, digits, print_orders, sum}
@@ -293,8 +293,7 @@ module _ (z : Size) (n : ℕ) (small : n < 65536) where
   second = (obey_word (Some A) 114800 g).state
 
   second_is : state_after 1 g ≡ second
-  unfolding progress step
-  second_is = ap (λ w. (obey_word (kind_of_function (function_of w)) w g).state) first_word
+  second_is = first_order g 114800 first_word
 
   second_counter : second.counter ≡ 57
   second_counter = let size = least z in ap (λ c. within z (c + 1)) counter_is ∙ within_below z 57 (omega arith)

@@ -9,7 +9,8 @@ use Rattle.ed_link.specs.Punch.{heads, punched_items, punched_from, word_item}
 use Rattle.ed_link.specs.Tapes.{punched_rows}
 use Rattle.ed_link.proofs.Bounds.{rows_few}
 use Rattle.ed_sources.specs.Demo.{next, number_after, number_word}
-use Rattle.ed_sources.proofs.DemoFaultless.{lines_behind, lines_with, counter}
+use Rattle.ed_link.proofs.Extents.{counter}
+use Rattle.ed_sources.proofs.DemoFaultless.{lines_behind, lines_with}
 use Rattle.ed_sources.proofs.SaidDemo.{enter_line, segment_forms, word_forms}
 
 -- a word has an item of its own, and two before it if it is the first of its segment

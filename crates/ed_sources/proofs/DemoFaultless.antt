@@ -20,9 +20,11 @@ use Rattle.ed_symbols.specs.declared.symbols.Definition.{Definition}
 use Rattle.ed_symbols.specs.Faults.{or_later, resolution}
 use Rattle.ed_symbols.specs.Names.{symbols_from}
 use Rattle.ed_symbols.specs.Places.{first_counter}
-use Rattle.ed_link.specs.Private.FaultTests.{LinesBefore, any_enter, cause_of, fault, fault_from, overlaps, missing}
+use Rattle.ed_link.specs.Private.FaultTests.{any_enter, cause_of, extent, fault, fault_from, missing}
 use Rattle.ed_link.specs.Private.FaultTests.{sooner}
 use Rattle.ed_link.specs.Linked.{symbols_of}
+use Rattle.ed_link.specs.declared.faults.Extent.{Extent}
+use Rattle.ed_link.proofs.Extents.{apart, are_below, counter, fits_store, none_later, one_by_one, one_more, past}
 use Rattle.ed_sources.specs.Demo.{number_after, next, number_word}
 use Rattle.ed_sources.proofs.Decimals.{decimal_is}
 use Rattle.ed_sources.proofs.DemoNames.{enter_named, first_free, first_homes, program_named, segments_named}
@@ -33,58 +35,9 @@ use Rattle.ed_sources.proofs.Said.{said}
 
 -- ---- locations
 
--- the extents of lines, from the first location to the one after the last, are below a location
-abbrev are_below : ℕ → List (ℕ × ℕ) → Bool
-are_below p runs = list_all (λ r. nat_le r.1 p) runs
-
-below_more : (p q : ℕ) (runs : List (ℕ × ℕ)) → p ≤ q → are_below p runs ≡ true → are_below q runs ≡ true
-below_more p q [] l h = refl
-below_more p q (r ∷ runs) l h =
-    let s = and_parts (nat_le r.1 p) (are_below p runs) h in
-    let under = le_of r.1 p s.0 in
-    let first : nat_le r.1 q ≡ true = le_true r.1 q (omega arith) in
-    let rest = below_more p q runs l s.1 in
-    rw (first, rest) refl
-
--- and so are those of one more line
-one_more : (p a q : ℕ) (runs : List (ℕ × ℕ)) → p ≤ q → are_below p runs ≡ true
-    → are_below q (runs ++ (a, q) ∷ []) ≡ true
-one_more p a q runs l h =
-    let before = below_more p q runs l h in
-    let last : nat_le q q ≡ true = le_true q q (omega arith) in
-    list_all-append (λ r. nat_le r.1 q) runs ((a, q) ∷ []) ∙ rw (before, last) refl
-
--- extents from there upwards don't overlap them
-apart : (p b : ℕ) (runs : List (ℕ × ℕ)) → are_below p runs ≡ true → list_any (λ run. overlaps (p, b) run) runs ≡ false
-apart p b [] h = refl
-apart p b (r ∷ runs) h =
-    let s = and_parts (nat_le r.1 p) (are_below p runs) h in
-    let under = le_of r.1 p s.0 in
-    let none : nat_lt (max p r.0) (min b r.1) ≡ false = lt_false (max p r.0) (min b r.1) (omega arith) in
-    let rest = apart p b runs s.1 in
-    rw (none, rest) refl
-
--- a line, and those after it
-none_later : (l : ℕ) (cause : Option SourceCause) (later : Option SourceFault) → cause ≡ None → later ≡ None
-    → or_later l cause later ≡ None
-none_later l cause later here there = ap (λ (c : Option SourceCause). or_later l c later) here ∙ there
-
--- a location counter inside a segment
-abbrev pub counter : ℕ → ℕ → ℕ → LocationCounter
-counter place base segments = record { place = place; base = base; segments = segments; inside = true }
-
--- lines before any `enter`
-abbrev past : List (ℕ × ℕ) → LinesBefore
-past runs = record { runs = runs; entered = false }
-
--- the extents of n lines of one word
-abbrev one_by_one : ℕ → ℕ → List (ℕ × ℕ)
-one_by_one zero p = []
-one_by_one (suc n) p = (p, p + 1) ∷ one_by_one n (p + 1)
-
--- those of the program and of the line of the first segment
-abbrev first_runs : List (ℕ × ℕ)
-first_runs = (56, 56) ∷ one_by_one 16 56 ++ (72, 123) ∷ (123, 123) ∷ []
+-- the extents of the program and of the line of the first segment
+abbrev first_extents : List Extent
+first_extents = extent 56 56 ∷ one_by_one 16 56 ++ extent 72 123 ∷ extent 123 123 ∷ []
 
 -- ---- no line has one of the faults S9 to S17
 
@@ -93,73 +46,68 @@ abbrev pub lines_behind : ℕ → ℕ → ℕ → List Line
 lines_behind n x l = word_forms 8 20 x ++ segment_forms n 2 28 (number_after 8 x) ++ enter_line l ∷ []
 
 -- no line from a location counter onwards has one, if the lines before them have these extents
-record AreSound (z : Size) (symbols : List Definition) (runs : List (ℕ × ℕ)) (s : LocationCounter) (lines : List Line)
+record AreSound (z : Size) (symbols : List Definition) (extents : List Extent) (s : LocationCounter) (lines : List Line)
     : Type 0 where
-  none : fault_from z symbols true (past runs) s lines ≡ None
+  none : fault_from z symbols true (past extents) s lines ≡ None
 
 module _ (z : Size) (rest_homes : List Definition) where
   abbrev symbols : List Definition
   symbols = first_homes ++ rest_homes
 
-  word_sound : (l w p b g : ℕ) (runs : List (ℕ × ℕ)) → (56 ≤ p) × (p + 1 ≤ locations z) → are_below p runs ≡ true
-      → cause_of z symbols true (past runs) (said l None (statements.Number w)) (counter p b g) ≡ None
-  word_sound l w p b g runs inside below =
-      let low = inside.0 in
-      let fits = inside.1 in
-      let loader : nat_lt (max p 0) (min (p + 1) 44) ≡ false = lt_false (max p 0) (min (p + 1) 44) (omega arith) in
-      let parameters : nat_lt (max p 44) (min (p + 1) 56) ≡ false =
-      lt_false (max p 44) (min (p + 1) 56) (omega arith) in
-      let store : nat_lt (max p (locations z)) (min (p + 1) (p + 1)) ≡ false =
-      lt_false (max p (locations z)) (min (p + 1) (p + 1)) (omega arith) in
-      let others = apart p (p + 1) runs below in
+  word_sound : (l w p b g : ℕ) (extents : List Extent) → (56 ≤ p) × (p + 1 ≤ locations z) → are_below p extents ≡ true
+      → cause_of z symbols true (past extents) (said l None (statements.Number w)) (counter p b g) ≡ None
+  word_sound l w p b g extents inside below =
+      let s = fits_store (locations z) p (p + 1) inside.0 inside.1 in
+      let loader = s.loader in let parameters = s.parameters in let store = s.store in
+      let others = apart p p (p + 1) extents (omega arith) below in
       rw (loader, parameters, store, others) refl
 
-  segment_sound : (l p b g : ℕ) (n : Text) (runs : List (ℕ × ℕ)) → are_below p runs ≡ true
-      → cause_of z symbols true (past runs) (segment_line l n) (counter p b g) ≡ None
-  segment_sound l p b g n runs below =
+  segment_sound : (l p b g : ℕ) (n : Text) (extents : List Extent) → are_below p extents ≡ true
+      → cause_of z symbols true (past extents) (segment_line l n) (counter p b g) ≡ None
+  segment_sound l p b g n extents below =
       let loader : nat_lt (max p 0) (min p 44) ≡ false = lt_false (max p 0) (min p 44) (omega arith) in
       let parameters : nat_lt (max p 44) (min p 56) ≡ false = lt_false (max p 44) (min p 56) (omega arith) in
       let store : nat_lt (max p (locations z)) (min p p) ≡ false =
       lt_false (max p (locations z)) (min p p) (omega arith) in
-      let others = apart p p runs below in
+      let others = apart p p p extents (omega arith) below in
       rw (loader, parameters, store, others) refl
 
-  words_sound : (n l x : ℕ) {p b g : ℕ} {runs : List (ℕ × ℕ)} {rest : List Line} → 56 ≤ p → p + n ≤ locations z
-      → are_below p runs ≡ true
-      → ((more : List (ℕ × ℕ)) → are_below (p + n) more ≡ true → AreSound z symbols more (counter (p + n) b g) rest)
-      → AreSound z symbols runs (counter p b g) (word_forms n l x ++ rest)
-  words_sound zero l x {p} {b} {g} {runs} {rest} low fits below behind =
+  words_sound : (n l x : ℕ) {p b g : ℕ} {extents : List Extent} {rest : List Line} → 56 ≤ p → p + n ≤ locations z
+      → are_below p extents ≡ true
+      → ((more : List Extent) → are_below (p + n) more ≡ true → AreSound z symbols more (counter (p + n) b g) rest)
+      → AreSound z symbols extents (counter p b g) (word_forms n l x ++ rest)
+  words_sound zero l x {p} {b} {g} {extents} {rest} low fits below behind =
       let e : p + 0 ≡ p = omega arith in
-      subst (λ q. AreSound z symbols runs (counter q b g) rest) e
-      (behind runs (subst (λ q. are_below q runs ≡ true) (sym e) below))
-  words_sound (suc n) l x {p} {b} {g} {runs} {rest} low fits below behind =
+      subst (λ q. AreSound z symbols extents (counter q b g) rest) e
+      (behind extents (subst (λ q. are_below q extents ≡ true) (sym e) below))
+  words_sound (suc n) l x {p} {b} {g} {extents} {rest} low fits below behind =
       let e : p + suc n ≡ p + 1 + n = omega arith in
-      let more : AreSound z symbols (runs ++ (p, p + 1)
+      let more : AreSound z symbols (extents ++ extent p (p + 1)
       ∷ []) (counter (p + 1) b g) (word_forms n (l + 1) (next x) ++ rest) =
-      words_sound n (l + 1) (next x) (omega arith) (omega arith) (one_more p p (p + 1) runs (omega arith) below)
+      words_sound n (l + 1) (next x) (omega arith) (omega arith) (one_more p p (p + 1) extents (omega arith) below)
       (λ more under. subst (λ q. AreSound z symbols more (counter q b g) rest) e
       (behind more (subst (λ q. are_below q more ≡ true) (sym e) under))) in
       record {
-        none = none_later l _ _ (word_sound l (number_word (next x)) p b g runs (low, omega arith) below) more.none;
+        none = none_later l _ _ (word_sound l (number_word (next x)) p b g extents (low, omega arith) below) more.none;
       }
 
-  segments_sound : (n k l x : ℕ) {p b g : ℕ} {runs : List (ℕ × ℕ)} {rest : List Line} → 56 ≤ p
-      → p + 8 * n ≤ locations z → are_below p runs ≡ true
-      → ((more : List (ℕ × ℕ)) (q c h : ℕ) → are_below q more ≡ true → AreSound z symbols more (counter q c h) rest)
-      → AreSound z symbols runs (counter p b g) (segment_forms n k l x ++ rest)
-  segments_sound zero k l x {p} {b} {g} {runs} low fits below behind = behind runs p b g below
-  segments_sound (suc n) k l x {p} {b} {g} {runs} {rest} low fits below behind =
-      let more : AreSound z symbols (runs ++ (p, p) ∷ []) (counter p p (g + 1))
+  segments_sound : (n k l x : ℕ) {p b g : ℕ} {extents : List Extent} {rest : List Line} → 56 ≤ p
+      → p + 8 * n ≤ locations z → are_below p extents ≡ true
+      → ((more : List Extent) (q c h : ℕ) → are_below q more ≡ true → AreSound z symbols more (counter q c h) rest)
+      → AreSound z symbols extents (counter p b g) (segment_forms n k l x ++ rest)
+  segments_sound zero k l x {p} {b} {g} {extents} low fits below behind = behind extents p b g below
+  segments_sound (suc n) k l x {p} {b} {g} {extents} {rest} low fits below behind =
+      let more : AreSound z symbols (extents ++ extent p p ∷ []) (counter p p (g + 1))
       (word_forms 8 (l + 1) x ++ segment_forms n (k + 1) (l + 9) (number_after 8 x) ++ rest) =
-      words_sound 8 (l + 1) x low (omega arith) (one_more p p p runs (omega arith) below)
+      words_sound 8 (l + 1) x low (omega arith) (one_more p p p extents (omega arith) below)
       (λ more under. segments_sound n (k + 1) (l + 9) (number_after 8 x) (omega arith) (omega arith) under behind) in
-      record { none = none_later l _ _ (segment_sound l p b g (name k) runs below) more.none }
+      record { none = none_later l _ _ (segment_sound l p b g (name k) extents below) more.none }
 
-  enter_sound : (l q b g : ℕ) (runs : List (ℕ × ℕ)) → are_below q runs ≡ true
-      → AreSound z symbols runs (counter q b g) (enter_line l ∷ [])
-  enter_sound l q b g runs below =
+  enter_sound : (l q b g : ℕ) (extents : List Extent) → are_below q extents ≡ true
+      → AreSound z symbols extents (counter q b g) (enter_line l ∷ [])
+  enter_sound l q b g extents below =
       let store : nat_lt (max 56 (locations z)) (min 57 57) ≡ false = within z in
-      let others = apart q q runs below in
+      let others = apart q q q extents (omega arith) below in
       record { none = rw (store, others) refl }
     where
       within : (z : Size) → nat_lt (max 56 (locations z)) (min 57 57) ≡ false
@@ -167,14 +115,14 @@ module _ (z : Size) (rest_homes : List Definition) where
       within Full = refl
 
   behind_sound : (n x l : ℕ) → 131 + 8 * n ≤ locations z
-      → AreSound z symbols first_runs (counter 123 123 3) (lines_behind n x l)
+      → AreSound z symbols first_extents (counter 123 123 3) (lines_behind n x l)
   behind_sound n x l fits =
       words_sound 8 20 x (omega arith) (omega (arith, fits)) refl
       (λ more under. segments_sound n 2 28 (number_after 8 x) (omega arith) fits under
-      (λ runs q c h below. enter_sound l q c h runs below))
+      (λ extents q c h below. enter_sound l q c h extents below))
 
 program_sound : (z : Size) (rest_homes : List Definition) (words : ℕ) (rest : List Line)
-    → fault_from z (first_homes ++ rest_homes) true (past first_runs) (counter 123 123 3) rest ≡ None
+    → fault_from z (first_homes ++ rest_homes) true (past first_extents) (counter 123 123 3) rest ≡ None
     → fault_from z (first_homes ++ rest_homes) true (past []) first_counter
     (adding_lines words ++ segment_line 19 (codes "s1") ∷ rest) ≡ None
 program_sound Small rest_homes words rest behind_it = behind_it

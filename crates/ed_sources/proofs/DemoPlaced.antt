@@ -19,7 +19,8 @@ use Rattle.ed_sources.specs.Demo.{next, number_after, number_word, words_after}
 use Rattle.ed_sources.proofs.AtEntry.{have_places}
 use Rattle.ed_sources.proofs.Blocks.{beside_block, block_places, front_word, in_block, last_at, order_at, rest_word}
 use Rattle.ed_sources.proofs.Decimals.{numbers}
-use Rattle.ed_sources.proofs.DemoFaultless.{lines_behind, lines_with, counter}
+use Rattle.ed_link.proofs.Extents.{counter}
+use Rattle.ed_sources.proofs.DemoFaultless.{lines_behind, lines_with}
 use Rattle.ed_sources.proofs.DemoLoop.{StandFrom}
 use Rattle.ed_sources.proofs.SaidDemo.{enter_line, segment_forms, word_forms}
 

@@ -25,7 +25,7 @@ abbrev pub is_met : Option ℕ → ℕ → Bool
 is_met None w = true
 is_met (Some x) w = nat_eq w x
 
-meets_of : (o : Option ℕ) (w : ℕ) → is_met o w ≡ true → Meets o w
+pub meets_of : (o : Option ℕ) (w : ℕ) → is_met o w ≡ true → Meets o w
 meets_of None w h = tt
 meets_of (Some x) w h = eq_of w x h
 

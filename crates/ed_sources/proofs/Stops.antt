@@ -21,28 +21,23 @@ use Rattle.ed_run.proofs.Ends.{ends_once, ran_ends}
 use Rattle.ed_run.proofs.Places.{at_stop}
 use Rattle.ed_machine.proofs.Counts.{counted_after}
 use Rattle.ed_paths.proofs.Leads.{Leads, free, joined, no_stops}
+use Rattle.ed_routines.proofs.Journeys.{ComesToStop}
 use Rattle.ed_checker.proofs.Guests.{size_after}
 
--- k orders print the codes and lead to an order that stops the machine
-pub record LeadsToStop (k : ℕ) (s : State) (codes : List ℕ) : Type 0 where
+-- k orders print the codes and lead to an order at a location that stops the machine
+pub record StopsAt (k : ℕ) (s : State) (codes : List ℕ) (place : ℕ) : Type 0 where
   pub last : State
   pub leads : Leads k s codes last
   pub stops : (step last).turn ≡ Stops
-
--- the same, with the location of that order
-pub record StopsAt (k : ℕ) (s : State) (codes : List ℕ) (place : ℕ) : Type 0 where
-  pub to_stop : LeadsToStop k s codes
-  pub counter : to_stop.last.counter ≡ place
+  pub counter : last.counter ≡ place
 
 -- and after other orders
 pub behind : {a b place : ℕ} {s t : State} {cs ds : List ℕ} → Leads a s cs t → StopsAt b t ds place
     → StopsAt (a + b) s (cs ++ ds) place
 behind first o = record {
-  to_stop = record {
-    last = o.to_stop.last;
-    leads = joined first o.to_stop.leads;
-    stops = o.to_stop.stops;
-  };
+  last = o.last;
+  leads = joined first o.leads;
+  stops = o.stops;
   counter = o.counter;
 }
 
@@ -75,20 +70,19 @@ unfolding step
 step_stopped x h = stopped_state (kind_of_function (function_of (next_word x))) (next_word x) x h
 
 -- so the counter is at the next location, and it is one order more
-pub record Halted {k place : ℕ} {s : State} {codes : List ℕ} (o : StopsAt k s codes place) : Type 0 where
-  pub counter : (step o.to_stop.last).state.counter ≡ place + 1
-  pub orders : (step o.to_stop.last).state.orders ≡ s.orders + k + 1
-
-pub halted : {k place : ℕ} {s : State} {codes : List ℕ} (o : StopsAt k s codes place) → place + 1 < locations s.size
-    → Halted o
-halted {k} {place} {s} o below =
-    let last = o.to_stop.last in
-    let leads = o.to_stop.leads in
-    let left : (step last).state ≡ done_at (after last) last = step_stopped last o.to_stop.stops in
+pub comes_to_stop : {k place : ℕ} {s : State} {codes : List ℕ} → StopsAt k s codes place
+    → place + 1 < locations s.size → ComesToStop k s codes (place + 1)
+comes_to_stop {k} {place} {s} o below =
+    let last = o.last in
+    let leads = o.leads in
+    let left : (step last).state ≡ done_at (after last) last = step_stopped last o.stops in
     let size : last.size ≡ s.size = ap (λ (x : State). x.size) (sym leads.state_is) ∙ size_after k s in
     let orders : last.orders ≡ s.orders + k = ap (λ (x : State). x.orders) (sym leads.state_is)
     ∙ counted_after k s (free leads) in
     record {
+      last = last;
+      leads = leads;
+      stops = o.stops;
       counter = ap (λ (x : State). x.counter) left ∙ (λ i. within (size i) (o.counter i + 1))
           ∙ within_below s.size (place + 1) below;
       orders = ap (λ (x : State). x.orders) left ∙ ap (λ n. n + 1) orders;
@@ -101,8 +95,8 @@ pub record RanToStop (r : RunEnd) (codes : List ℕ) (last : State) : Type 0 whe
   pub state_is : r.state ≡ (step last).state
 
 -- a run without resumes whose limit they keep, and whose paper has room for the codes, ends there
-pub ran_to_stop : (limit room k : ℕ) (s : State) (codes : List ℕ) (o : LeadsToStop k s codes) → length codes ≤ room
-    → suc k ≤ limit → RanToStop (run_end limit 0 room s) codes o.last
+pub ran_to_stop : (limit room k : ℕ) (s : State) (codes : List ℕ) {at : ℕ} (o : ComesToStop k s codes at)
+    → length codes ≤ room → suc k ≤ limit → RanToStop (run_end limit 0 room s) codes o.last
 unfolding progress run_end
 ran_to_stop limit room k s codes o fits less =
     let turn : (step (state_after k s)).turn ≡ Stops = ap (λ (x : State). (step x).turn) o.leads.state_is ∙ o.stops in
@@ -117,8 +111,8 @@ ran_to_stop limit room k s codes o fits less =
     let few : length (progress (suc k) s).codes ≤ room = let n = ap (λ (x : List ℕ). length x) all in
     omega (arith, n, fits) in
     let has : HasRoom room (suc k) s = record { obeyed = obeyed; printed = few } in
-    let at = at_stop limit 0 has (no_stops k s o.leads.goes) less turn in
-    let once = ends_once (ran_ends limit 0 room s) at in
+    let ends = at_stop limit 0 has (no_stops k s o.leads.goes) less turn in
+    let once = ends_once (ran_ends limit 0 room s) ends in
     record {
       codes_are = ap (λ j. (progress j s).codes) once.0 ∙ all;
       ending = once.1;

@@ -25,7 +25,7 @@ use Rattle.ed_sources.proofs.CheckedPaper.{check_ends, few_orders, room_for_code
 use Rattle.ed_sources.proofs.CheckedPrint.{guest_stops}
 use Rattle.ed_sources.proofs.PrintAndNewline.{newline_ends, print_ends}
 use Rattle.ed_sources.proofs.ReadAndPrint.{read_ends}
-use Rattle.ed_sources.proofs.Stops.{StopsAt, halted, ran_to_stop}
+use Rattle.ed_sources.proofs.Stops.{StopsAt, comes_to_stop}
 use Rattle.ed_maths.specs.Roots.{root_of}
 use Rattle.ed_maths.proofs.Greatest.{root_is}
 use Rattle.ed_maths.proofs.RootCall.{few as below_256}
@@ -51,7 +51,7 @@ use Rattle.ed_answers.specs.declared.reply.Rejection.{Rejection}
 use Rattle.ed_answers.specs.declared.reply.Rejection.TheVariants as rejection
 use Rattle.ed_answers.specs.declared.reply.Reply.{Reply}
 use Rattle.ed_answers.proofs.Sources.{accepted_is, headline}
-use Rattle.ed_top.proofs.Stopped.{answered, nothing_after}
+use Rattle.ed_top.proofs.Stopped.{stopped_outcome}
 
 -- a reply to a source that was made is its answer
 pub made_replied : (s : Settings) (text input : Text) (r : Result Reply Rejection) → input ≡ text
@@ -100,22 +100,12 @@ runs s call {lines} {k} {place} {codes} reads faultless stops few are low text g
           omega (arith, entry.enters.cheap, rows_few (punched_items lines), items, orders);
       guest_stops = guest;
       ends = λ none plain fits.
-          let left : ℕ = s.limit - cost lines in
-          let first : State = entry_state s.size lines in
-          let before : Text = entry_note (entry_of lines) (cost lines) in
           let size = least s.size in
-          let left_behind = halted stops (omega arith) in
-          let orders : (step stops.to_stop.last).state.orders ≡ cost lines + call_orders call =
-          omega (arith, left_behind.orders, count) in
-          let ended = ran_to_stop left paper_room k first codes stops.to_stop few (omega (arith, fits, count)) in
-          entry.runs (omega (arith, fits))
-          ∙ (λ i. ran_outcome before (with_post_mortem (plain i) (run_end left (none i) paper_room first)))
-          ∙ ap (ran_outcome before) (nothing_after (run_end left 0 paper_room first))
-          ∙ answered before (run_end left 0 paper_room first) ended (left_behind.counter ∙ are.2) orders
+          stopped_outcome s entry (comes_to_stop stops (omega arith)) few none plain (omega (arith, fits, count))
           ∙ (λ i. record {
             out = text i;
             note = entry_note (are.0 i) (cost lines)
-                ++ (at_after (codes_of_text "stopped") (call_stop call) (cost lines + call_orders call) ++ 10 ∷ []);
+                ++ (at_after (codes_of_text "stopped") (are.2 i) (cost lines + are.1 i) ++ 10 ∷ []);
             status = 0;
           });
     }

@@ -12,7 +12,7 @@ use Rattle.ed_link.specs.Tapes.{cost}
 use Rattle.ed_loads.specs.EntryState.{entry_state}
 use Rattle.ed_report.specs.Notes.{at_after, entry_note}
 use Rattle.ed_routines.proofs.Journeys.{ComesToStop}
-use Rattle.ed_sources.proofs.Stops.{LeadsToStop, RanToStop, ran_to_stop}
+use Rattle.ed_sources.proofs.Stops.{RanToStop, ran_to_stop}
 use Rattle.ed_command.specs.declared.command.Settings.{Settings}
 use Rattle.ed_answers.specs.Headline.{RunsFromEntry}
 use Rattle.ed_answers.specs.Runs.{paper_room, ran_outcome, with_post_mortem}
@@ -49,9 +49,7 @@ stopped_outcome s {lines} {k} {at} {printed} entry stops few none plain fits =
     let first : State = entry_state s.size lines in
     let r : RunEnd = run_end left 0 paper_room first in
     let before : Text = entry_note (entry_of lines) (cost lines) in
-    let to_stop : LeadsToStop k first printed = record
-    { last = stops.last; leads = stops.leads; stops = stops.stops } in
-    let ended = ran_to_stop left paper_room k first printed to_stop few (omega (arith, fits)) in
+    let ended = ran_to_stop left paper_room k first printed stops few (omega (arith, fits)) in
     let count : (step stops.last).state.orders ≡ cost lines + (k + 1) = omega (arith, stops.orders) in
     entry.runs (omega (arith, fits))
     ∙ (λ i. ran_outcome before (with_post_mortem (plain i) (run_end left (none i) paper_room first)))

@@ -26,7 +26,7 @@ IsFew st = Unit {0}
 
 -- before the first line
 abbrev pub first_past : LinesBefore
-first_past = record { runs = []; entered = false }
+first_past = record { extents = []; entered = false }
 
 -- what is built from lines that have none of the faults S9 to S17
 pub record IsBuilt (z : Size) (symbols : List Definition) (has_enter : Bool) (lines : List Line) (b : Built) :

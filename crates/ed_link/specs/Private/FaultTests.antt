@@ -22,24 +22,29 @@ use Rattle.ed_symbols.specs.Places.{after_statement, first_counter}
 use Rattle.ed_symbols.specs.Names.{place_on}
 use Rattle.ed_symbols.specs.Faults.{or_later, resolution}
 use Rattle.ed_link.specs.Linked.{first_place, end_place, set_to, symbols_of}
+use Rattle.ed_link.specs.declared.faults.Extent.{Extent}
 
--- the extent of a line's words: the first location, and the one after the last
-abbrev pub word_run : Option Statement → LocationCounter → ℕ × ℕ
-word_run st s = (first_place st s, end_place st s)
+-- the extent from a location up to the one before another
+abbrev pub extent : ℕ → ℕ → Extent
+extent from after = record { from = from; after = after }
+
+-- the extent of a line's words
+abbrev pub word_extent : Option Statement → LocationCounter → Extent
+word_extent st s = extent (first_place st s) (end_place st s)
 
 -- the extent of one location, or an empty one
-abbrev pub run_at : Option ℕ → ℕ × ℕ
-run_at None = (0, 0)
-run_at (Some p) = (p, p + 1)
+abbrev pub extent_at : Option ℕ → Extent
+extent_at None = extent 0 0
+extent_at (Some p) = extent p (p + 1)
 
 -- the extent that a line needs: that of its words, and for `enter` the location of its name
-abbrev pub reach : List Definition → Option Statement → LocationCounter → ℕ × ℕ
-reach symbols (Some (Enter name)) s = run_at (place_on symbols None name)
-reach symbols st s = word_run st s
+abbrev pub reach : List Definition → Option Statement → LocationCounter → Extent
+reach symbols (Some (Enter name)) s = extent_at (place_on symbols None name)
+reach symbols st s = word_extent st s
 
 -- whether two extents overlap
-abbrev pub overlaps : ℕ × ℕ → ℕ × ℕ → Bool
-overlaps run other = nat_lt (max run.0 other.0) (min run.1 other.1)
+abbrev pub overlaps : Extent → Extent → Bool
+overlaps a b = nat_lt (max a.from b.from) (min a.after b.after)
 
 -- an order, `word`, `text` or `long`
 abbrev pub is_in_segment : Option Statement → Bool
@@ -97,13 +102,13 @@ has_sandwich st = false
 
 -- what the lines before a line leave: the extents of their words, and whether one is an `enter`
 pub record LinesBefore : Type 0 where
-  pub runs : List (ℕ × ℕ)
+  pub extents : List Extent
   pub entered : Bool
 
 -- the same after one more line
 abbrev pub past_of : LinesBefore → Line → LocationCounter → LinesBefore
 past_of past l s = record {
-  runs = past.runs ++ word_run l.statement s ∷ [];
+  extents = past.extents ++ word_extent l.statement s ∷ [];
   entered = past.entered || is_enter l.statement;
 }
 
@@ -111,11 +116,11 @@ past_of past l s = record {
 abbrev pub cause_of : Size → List Definition → Bool → LinesBefore → Line → LocationCounter → Option SourceCause
 cause_of z symbols has_enter past l s =
     if is_outside l s then Some causes.OutsideSegment
-    else if overlaps (reach symbols l.statement s) (0, 44) then Some causes.LoaderStore
-    else if overlaps (reach symbols l.statement s) (44, 56) then Some causes.ParameterStore
-    else if overlaps (reach symbols l.statement s) (locations z, (reach symbols l.statement s).1)
+    else if overlaps (reach symbols l.statement s) (extent 0 44) then Some causes.LoaderStore
+    else if overlaps (reach symbols l.statement s) (extent 44 56) then Some causes.ParameterStore
+    else if overlaps (reach symbols l.statement s) (extent (locations z) (reach symbols l.statement s).after)
     then Some causes.StoreEnd
-    else if list_any (λ run. overlaps (word_run l.statement s) run) past.runs then Some causes.Overlap
+    else if list_any (λ other. overlaps (word_extent l.statement s) other) past.extents then Some causes.Overlap
     else if has_no_routine l.statement then Some causes.NoSuchRoutine
     else if sets_otherwise l.statement then Some causes.Parameters
     else if is_misplaced past.entered has_enter l then Some causes.Enter
@@ -148,7 +153,7 @@ sooner (Some a) (Some b) = if nat_le (fault_line a) (fault_line b) then Some a e
 abbrev pub fault : Size → List Line → Option SourceFault
 fault z lines =
     sooner (resolution lines).fault
-    (sooner (fault_from z (symbols_of lines) (any_enter lines) (record { runs = []; entered = false })
+    (sooner (fault_from z (symbols_of lines) (any_enter lines) (record { extents = []; entered = false })
     first_counter lines)
     (missing (any_enter lines) (length lines)))
 

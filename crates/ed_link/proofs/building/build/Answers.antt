@@ -5,7 +5,7 @@ use Rattle.ed_link.proofs.building.build.Goals as goal
 pub loop-line-init : goal.loop-line-init
 loop-line-init c =
     let s = c.in_ok-built.ensures in
-    start (λ i. record { runs = c.new.ensures.items i; entered = false }) c.first-counter.ensures s.0 s.1 s.2 s.3
+    start (λ i. record { extents = c.new.ensures.items i; entered = false }) c.first-counter.ensures s.0 s.1 s.2 s.3
 
 pub loop-line-preserved : goal.loop-line-preserved
 loop-line-preserved c =
@@ -24,13 +24,13 @@ loop-line-preserved c =
       spot_is = counter.is;
       place = counter.place;
       segments = counter.segments;
-      runs = after_statement.runs;
+      extents = after_statement.extents;
       entered = after_statement.entered;
     })
 
 pub add_line-requires-clause-fits : goal.add_line-requires-clause-fits
 add_line-requires-clause-fits c =
     reach_fits c.args.size c.args.symbols.now c.args.has_enter
-    (record { runs = c.loop-line.past.runs.items; entered = c.loop-line.past.entered }) c.line-item.result
+    (record { extents = c.loop-line.past.extents.items; entered = c.loop-line.past.entered }) c.line-item.result
     c.loop-line.counter
     (sym c.in-None.ensures)

@@ -5,9 +5,9 @@ use Rattle.std.specs.Prelude.{◌==◌, ◌&&◌, if◌then◌else◌, position,
 use Rattle.std.proofs.lemmas.Bool.{and_parts}
 use Rattle.std.proofs.lemmas.Bool.Decides.{nat_tests}
 use Rattle.std.proofs.lemmas.List.Quantifiers.{position-Some}
+use Rattle.std.proofs.lemmas.Option.{same_Some}
 use Rattle.ed_words.specs.declared.size.Size.{Size}
-use Rattle.ed_words.specs.declared.size.Size.TheVariants.{Small, Full}
-use Rattle.ed_words.specs.Sizes.{locations}
+use Rattle.ed_words.proofs.SizeLemmas.{least}
 use Rattle.ed_codes.specs.Spelling.{letters, row_of}
 use Rattle.ed_codes.specs.Text.{Spells, none, row, spacing, comment}
 use Rattle.ed_codes.specs.Reading.{IsReadingOf, reading, rows}
@@ -20,14 +20,11 @@ use Rattle.ed_loads.proofs.Entries.{first_store}
 spelled_code : (byte code : ℕ) → row_of byte ≡ Some code → code < 32
 spelled_code byte code = by_digit (nat_le 48 byte && nat_le byte 57) refl
   where
-    some_is : (a b : ℕ) → Some a ≡ Some b → a ≡ b
-    some_is a b e = cc
-
     by_digit : (b : Bool) → (nat_le 48 byte && nat_le byte 57) ≡ b
         → (if b then Some (byte - 48) else position (λ l. l == byte) letters) ≡ Some code → code < 32
     by_digit true is e =
         let most : byte ≤ 57 = let p = (and_parts (nat_le 48 byte) (nat_le byte 57) is).1 in grind (arith, nat_tests) in
-        omega (arith, some_is (byte - 48) code e)
+        omega (arith, same_Some (byte - 48) code e)
     by_digit false is e = (position-Some (λ l. l == byte) letters code 0 e).0
 
 -- so each row of a text is one of them
@@ -38,19 +35,19 @@ rows_fit (row byte code text codes is rest) (suc i) = rows_fit rest i
 rows_fit (spacing byte text codes is rest) i = rows_fit rest i
 rows_fit (comment inside text codes is rest) i = rows_fit rest i
 
-no_counter : (z : Size) → 0 < locations z
-no_counter Small = lit< tt
-no_counter Full = lit< tt
+pub read_fit : (text codes : List ℕ) → reading text ≡ rows codes → (i : ℕ) → slice_index codes i < 32
+read_fit text codes read = rows_fit {text = text} (subst (IsReadingOf text) read (every_text text))
+
+pub first_sound : (z : Size) (codes : List ℕ) → ((i : ℕ) → slice_index codes i < 32) → IsSound (first_state z codes)
+unfolding first_state
+first_sound z codes fit = record {
+  store = first_store z codes;
+  acc = lit< tt;
+  multiplier = lit< tt;
+  counter = let size = least z in omega arith;
+  tape = fit;
+  last = lit< tt;
+}
 
 pub sound_start : (z : Size) (text codes : List ℕ) → reading text ≡ rows codes → IsSound (first_state z codes)
-unfolding first_state
-sound_start z text codes read =
-    let spells : Spells text codes = subst (IsReadingOf text) read (every_text text) in
-    record {
-      store = first_store z codes;
-      acc = lit< tt;
-      multiplier = lit< tt;
-      counter = no_counter z;
-      tape = rows_fit spells;
-      last = lit< tt;
-    }
+sound_start z text codes read = first_sound z codes (read_fit text codes read)

@@ -1,9 +1,9 @@
 use Rattle.std.proofs.Common.{◌≡◌, drop}
 use Rattle.std.specs.List.{list_any}
 use Rattle.ed_link.specs.Private.FaultTests.{overlaps}
-use Rattle.ed_link.proofs.faults.overlaps_any.Given as goal
+use Rattle.ed_link.proofs.faults.Extent.overlaps_any.Given as goal
 
 -- the same for the extents that are left
 abbrev pub invariant-loop-other : goal.invariant-loop-other
-invariant-loop-other l = list_any (λ other. overlaps l.run other) (drop l.other-index l.others)
-    ≡ list_any (λ other. overlaps l.run other) l.others
+invariant-loop-other l = list_any (λ other. overlaps l.self other) (drop l.other-index l.others)
+    ≡ list_any (λ other. overlaps l.self other) l.others
