@@ -1,7 +1,7 @@
 //! Single orders of the machine, on worked values.
 
 use crate::support::{image_of, machine_with, obey, word_at};
-use ed_codes::tape_of_text;
+use ed_codes::{Code, tape_of_text};
 use ed_machine::Machine;
 use ed_words::Size;
 use std::process::Abort;
@@ -69,11 +69,7 @@ fn an_order_o_prints_the_top_of_a_short_or_a_long_word(rt: HostRuntime) -> Resul
             [114_688, 20_485, 0, 0],
         )?;
         obey(&rt, &mut machine, orders);
-        assert_eq!(rt;
-            machine.last_printed().map(|code| code.value()),
-            Some(printed),
-            "{orders}"
-        );
+        assert_eq!(rt; machine.last_printed(), Code::new(printed), "{orders}");
     }
     Ok(())
 }
@@ -151,7 +147,7 @@ fn a_second_start_leaves_the_registers(rt: HostRuntime) -> Result<(), Fail> {
     assert_eq!(rt; machine.acc(), 3 << 54);
     assert_eq!(rt; machine.multiplier().value(), 114_688 << 18);
     assert_eq!(rt; machine.orders_done(), 3);
-    assert_eq!(rt; machine.last_printed().map(|code| code.value()), Some(28));
+    assert_eq!(rt; machine.last_printed(), Code::new(28));
     assert_eq!(rt; word_at(&rt, &machine, 31), 2);
     Ok(())
 }

@@ -1,6 +1,7 @@
 //! The Initial Orders, obeyed one by one on a tape.
 
 use crate::support::{LETTER, loaded, start_on, started, stops};
+use ed_codes::Code;
 use ed_initial::{Loaded, Rested, is_started, to_rest};
 use ed_machine::Machine;
 use ed_words::Size;
@@ -58,7 +59,7 @@ fn a_tape_is_loaded_twice_without_clearing(rt: HostRuntime) -> Result<(), Fail> 
         assert!(rt; !stops(&rt, &mut machine), "after {done}");
         assert!(rt; stops(&rt, &mut machine), "after {done}");
     }
-    assert_eq!(rt; machine.last_printed().map(|code| code.value()), Some(28));
+    assert_eq!(rt; machine.last_printed(), Code::new(28));
     Ok(())
 }
 
