@@ -16,14 +16,15 @@ const FIRST: &str =
 fn sources_to_the_byte(rt: HostRuntime) -> Result<(), Fail> {
     let alloc = rt.alloc();
     let source = demo_source(alloc, 1)?;
-    assert_eq!(rt; source.as_slice(), FIRST.as_bytes());
+    assert!(rt; source.as_slice() == FIRST.as_bytes());
     let source = demo_source(alloc, 112)?;
     assert!(rt; source.ends_with(b"\nenter main\n"));
-    assert_eq!(rt; source.iter().filter(|byte| **byte == b'\n').count(), 1027);
+    let lines = source.iter().filter(|byte| **byte == b'\n').count();
+    assert!(rt; lines == 1027);
     let source = call_source(alloc, &Call::Print(4096))?;
     let wanted =
         "segment main\nhere: A here F\nG p F\nZ F\nvalue: word 4096\nuse print as p with H=value\nenter main\n";
-    assert_eq!(rt; source.as_slice(), wanted.as_bytes());
+    assert!(rt; source.as_slice() == wanted.as_bytes());
     Ok(())
 }
 
@@ -31,18 +32,15 @@ fn sources_to_the_byte(rt: HostRuntime) -> Result<(), Fail> {
 fn the_source_is_one_that_run_takes(rt: HostRuntime) -> Result<(), Fail> {
     let alloc = rt.alloc();
     let answer = answer_of(alloc, "run", FIRST.as_bytes())?;
-    assert_eq!(rt; answer.status, 0);
-    assert_eq!(rt; answer.out.as_slice(), b"339".as_slice());
+    assert!(rt; answer.status == 0);
+    assert!(rt; answer.out.as_slice() == b"339".as_slice());
     let last = demo_source(alloc, 48)?;
     let answer = answer_of(alloc, "run --store 512", &last)?;
-    assert_eq!(rt; answer.status, 0);
+    assert!(rt; answer.status == 0);
     let longer = demo_source(alloc, 49)?;
     let answer = answer_of(alloc, "run --store 512", &longer)?;
-    assert_eq!(rt; answer.status, 3);
-    assert_eq!(rt;
-        answer.note.as_slice(),
-        b"line 457: S12 store end\n".as_slice()
-    );
+    assert!(rt; answer.status == 3);
+    assert!(rt; answer.note.as_slice() == b"line 457: S12 store end\n".as_slice());
     Ok(())
 }
 
@@ -60,7 +58,7 @@ fn the_least_and_the_greatest_sum(rt: HostRuntime) -> Result<(), Fail> {
 #[test]
 fn a_demo_ends_at_its_limit(rt: HostRuntime) -> Result<(), Fail> {
     let answer = answer_of(rt.alloc(), "demo 1 --limit 100", b"")?;
-    assert_eq!(rt; answer.status, 4);
+    assert!(rt; answer.status == 4);
     assert!(rt; answer.out.is_empty());
     assert!(rt; answer.note.starts_with(b"limit at "));
     Ok(())

@@ -24,15 +24,15 @@ fn sources(rt: HostRuntime) -> Result<(), Fail> {
     let alloc = rt.alloc();
     let mut source = MemorySource::new(b"ABC".to_vec(alloc)?, [1].to_vec(alloc)?);
     reads(&rt, &mut source, &[Ok(2), Err(Failed), Ok(1), Ok(0)]);
-    assert_eq!(rt; source.faults(), 1);
+    assert!(rt; source.faults() == 1);
     assert!(rt; source.bytes().is_empty());
     let mut source = MemorySource::in_pieces(b"ABC".to_vec(alloc)?, Vec::new(alloc), 1);
     reads(&rt, &mut source, &[Ok(1), Ok(1), Ok(1), Ok(0)]);
     let mut source = SureSource::new(b"ABC".to_vec(alloc)?);
     reads(&rt, &mut source, &[Ok(2)]);
-    assert_eq!(rt; source.bytes(), b"C".as_slice());
+    assert!(rt; source.bytes() == b"C".as_slice());
     reads(&rt, &mut source, &[Ok(1), Ok(0)]);
-    assert_eq!(rt; source.faults(), 0);
+    assert!(rt; source.faults() == 0);
     let mut source = StdSource::new(&b"ABC"[..]);
     reads(&rt, &mut source, &[Ok(2), Ok(1), Ok(0)]);
     Ok(())
@@ -46,8 +46,8 @@ fn sinks(rt: HostRuntime) -> Result<(), Fail> {
     writes(&rt, &mut sink, "CD", Ok(1));
     writes(&rt, &mut sink, "E", Err(Failed));
     writes(&rt, &mut sink, "", Ok(0));
-    assert_eq!(rt; sink.bytes(), b"ABC".as_slice());
-    assert_eq!(rt; sink.faults(), 1);
+    assert!(rt; sink.bytes() == b"ABC".as_slice());
+    assert!(rt; sink.faults() == 1);
     let mut sink = MemorySink::with_faults(alloc, 3, [0].to_vec(alloc)?)?;
     writes(&rt, &mut sink, "A", Err(Failed));
     writes(&rt, &mut sink, "A", Ok(1));
@@ -55,8 +55,8 @@ fn sinks(rt: HostRuntime) -> Result<(), Fail> {
     writes(&rt, &mut sink, "ABC", Ok(2));
     let mut sink = SureSink::new(alloc, 2)?;
     writes(&rt, &mut sink, "ABC", Ok(3));
-    assert_eq!(rt; sink.bytes(), b"AB".as_slice());
-    assert_eq!(rt; sink.faults(), 0);
+    assert!(rt; sink.bytes() == b"AB".as_slice());
+    assert!(rt; sink.faults() == 0);
     let mut room = [0; 3];
     let mut sink = StdSink::new(&mut room[..]);
     writes(&rt, &mut sink, "ABCD", Ok(3));

@@ -100,9 +100,9 @@ fn reads_fail(rt: &impl Abort, alloc: Global, run: &Run) -> Result<(), Fail> {
         let outcome = outcome_of(alloc, run, &[call], &[], &[])?;
         if outcome.faults == 0 {
             assert!(rt; (run.input.len().div_ceil(7) as u64) < call);
-            assert_eq!(rt; outcome.status, 0);
-            assert_eq!(rt; outcome.out.as_slice(), run.out.as_bytes());
-            assert_eq!(rt; outcome.note.as_slice(), run.note.as_bytes());
+            assert!(rt; outcome.status == 0);
+            assert!(rt; outcome.out.as_slice() == run.out.as_bytes());
+            assert!(rt; outcome.note.as_slice() == run.note.as_bytes());
             return Ok(());
         }
         assert_eq!(rt; outcome.status, 8, "read {call}");
@@ -127,9 +127,9 @@ fn writes_fail(rt: &impl Abort, alloc: Global, run: &Run) -> Result<(), Fail> {
             "write {call}"
         );
         if outcome.faults == 0 {
-            assert_eq!(rt; call, writes_of(run.out));
-            assert_eq!(rt; outcome.status, 0);
-            assert_eq!(rt; outcome.out.len(), run.out.len());
+            assert!(rt; call == writes_of(run.out));
+            assert!(rt; outcome.status == 0);
+            assert!(rt; outcome.out.len() == run.out.len());
             return Ok(());
         }
         assert_eq!(rt; outcome.status, 9, "write {call}");
@@ -170,8 +170,8 @@ pub fn writes_of_lines_fail(
         );
         if outcome.faults == 0 {
             assert_eq!(rt; outcome.status, status, "write {call}");
-            assert_eq!(rt; outcome.note.as_slice(), run.note.as_bytes());
-            assert_eq!(rt; outcome.out.len(), run.out.len());
+            assert!(rt; outcome.note.as_slice() == run.note.as_bytes());
+            assert!(rt; outcome.out.len() == run.out.len());
             return Ok(());
         }
         assert_eq!(rt; outcome.status, 9, "write {call}");
@@ -191,9 +191,9 @@ fn notes_fail(rt: &impl Abort, alloc: Global, run: &Run) -> Result<(), Fail> {
             "write {call}"
         );
         if outcome.faults == 0 {
-            assert_eq!(rt; call, writes_of(run.note));
-            assert_eq!(rt; outcome.status, 0);
-            assert_eq!(rt; outcome.note.len(), run.note.len());
+            assert!(rt; call == writes_of(run.note));
+            assert!(rt; outcome.status == 0);
+            assert!(rt; outcome.note.len() == run.note.len());
             return Ok(());
         }
         assert_eq!(rt; outcome.status, 9, "write {call}");

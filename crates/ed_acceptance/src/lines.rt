@@ -29,12 +29,12 @@ fn command_lines_and_lines_of_faults(rt: HostRuntime) -> Result<(), Fail> {
             byte: b'%',
         },
     )?;
-    assert_eq!(rt; line.as_slice(), b"byte 4: T1 no row\n".as_slice());
+    assert!(rt; line.as_slice() == b"byte 4: T1 no row\n".as_slice());
     let fault = TapeFault::At {
         row: 3,
         cause: TapeCause::EntryInLoader,
     };
     let line = tape_fault(alloc, &fault)?;
-    assert_eq!(rt; line.as_slice(), b"row 3: N10 entry in loader\n".as_slice());
+    assert!(rt; line.as_slice() == b"row 3: N10 entry in loader\n".as_slice());
     Ok(())
 }

@@ -77,13 +77,10 @@ fn after_each_ending_of_a_run(rt: HostRuntime) -> Result<(), Fail> {
 fn behind_a_paper_that_is_full(rt: HostRuntime) -> Result<(), Fail> {
     let line = "tape --post-mortem 144,1";
     let answer = answer_of(rt.alloc(), line, ENDLESS.as_bytes())?;
-    assert_eq!(rt; answer.status, 7);
-    assert_eq!(rt; answer.out.len(), 1_000_006);
+    assert!(rt; answer.status == 7);
+    assert!(rt; answer.out.len() == 1_000_006);
     assert!(rt; answer.out.ends_with(b"OO66F\r\n"));
-    assert_eq!(rt;
-        answer.note.as_slice(),
-        b"paper full at 64 after 2000249\n".as_slice()
-    );
+    assert!(rt; answer.note.as_slice() == b"paper full at 64 after 2000249\n".as_slice());
     Ok(())
 }
 

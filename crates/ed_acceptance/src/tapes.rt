@@ -38,13 +38,10 @@ fn the_limit_goes_before_what_blocks_an_order(rt: HostRuntime) -> Result<(), Fai
 #[test]
 fn a_program_that_prints_for_ever_fills_the_paper(rt: HostRuntime) -> Result<(), Fail> {
     let answer = answer_of(rt.alloc(), "tape", b"T64KGKO@E@EZPF")?;
-    assert_eq!(rt; answer.status, 7);
-    assert_eq!(rt; answer.out.len(), 1_000_000);
+    assert!(rt; answer.status == 7);
+    assert!(rt; answer.out.len() == 1_000_000);
     assert!(rt; answer.out.iter().all(|byte| *byte == b'O'));
-    assert_eq!(rt;
-        answer.note.as_slice(),
-        b"paper full at 64 after 2000159\n".as_slice()
-    );
+    assert!(rt; answer.note.as_slice() == b"paper full at 64 after 2000159\n".as_slice());
     Ok(())
 }
 

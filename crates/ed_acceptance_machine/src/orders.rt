@@ -143,12 +143,12 @@ fn a_second_start_leaves_the_registers(rt: HostRuntime) -> Result<(), Fail> {
     let image = image_of(alloc, orders, [1, 2, 3, 4])?;
     assert!(rt; image.len() <= 41);
     let _no_rows = machine.start(&image, Vec::new(alloc));
-    assert_eq!(rt; machine.counter(), 0);
-    assert_eq!(rt; machine.acc(), 3 << 54);
-    assert_eq!(rt; machine.multiplier().value(), 114_688 << 18);
-    assert_eq!(rt; machine.orders_done(), 3);
-    assert_eq!(rt; machine.last_printed(), Code::new(28));
-    assert_eq!(rt; word_at(&rt, &machine, 31), 2);
+    assert!(rt; machine.counter() == 0);
+    assert!(rt; machine.acc() == 3 << 54);
+    assert!(rt; machine.multiplier().value() == 114_688 << 18);
+    assert!(rt; machine.orders_done() == 3);
+    assert!(rt; machine.last_printed() == Code::new(28));
+    assert!(rt; word_at(&rt, &machine, 31) == 2);
     Ok(())
 }
 

@@ -18,20 +18,20 @@ fn words_and_their_fields(rt: HostRuntime) -> Result<(), Fail> {
         address: 66,
         length: true,
     };
-    assert_eq!(rt; Word::of_order(order).value(), 114_821);
-    assert_eq!(rt; word(114_821)?.order(), order);
+    assert!(rt; Word::of_order(order).value() == 114_821);
+    assert!(rt; word(114_821)?.order() == order);
     assert!(rt; Word::new(131_072).is_none());
     let halves = Halves {
         odd: word(1)?,
         sandwich: true,
         even: word(2)?,
     };
-    assert_eq!(rt; Long::join(halves).value(), 262_144 + 131_072 + 2);
-    assert_eq!(rt; long(393_218)?.halves(), halves);
-    assert_eq!(rt; Long::of_short(word(3)?).value(), 786_432);
+    assert!(rt; Long::join(halves).value() == 262_144 + 131_072 + 2);
+    assert!(rt; long(393_218)?.halves() == halves);
+    assert!(rt; Long::of_short(word(3)?).value() == 786_432);
     assert!(rt; Long::new(1 << 35).is_none());
-    assert_eq!(rt; Size::Small.value(), 512);
-    assert_eq!(rt; Size::Full.value(), 1024);
+    assert!(rt; Size::Small.value() == 512);
+    assert!(rt; Size::Full.value() == 1024);
     assert!(rt; fits(1023) && !fits(1024));
     Ok(())
 }
@@ -39,24 +39,24 @@ fn words_and_their_fields(rt: HostRuntime) -> Result<(), Fail> {
 #[test]
 fn codes_and_the_rows_of_a_text(rt: HostRuntime) -> Result<(), Fail> {
     let alloc = rt.alloc();
-    assert_eq!(rt; code(31)?.value(), 31);
+    assert!(rt; code(31)?.value() == 31);
     assert!(rt; Code::new(32).is_none());
-    assert_eq!(rt; Code::default().value(), 0);
-    assert_eq!(rt; byte_of(code(3)?, false), b'E');
-    assert_eq!(rt; byte_of(code(3)?, true), b'3');
-    assert_eq!(rt; row_of_byte(b'V'), Some(code(31)?));
+    assert!(rt; Code::default().value() == 0);
+    assert!(rt; byte_of(code(3)?, false) == b'E');
+    assert!(rt; byte_of(code(3)?, true) == b'3');
+    assert!(rt; row_of_byte(b'V') == Some(code(31)?));
     assert!(rt; row_of_byte(b'v').is_none());
     let rows = tape_of_text(alloc, b"T 64 [the place]\r\n#\tK")?;
     let wanted = codes(alloc, &[5, 6, 4, 11, 14])?;
     assert!(rt; rows.as_slice() == wanted.as_slice());
     match tape_of_text(alloc, b"T6]") {
         Ok(_) => assert!(rt; false, "a bracket is taken"),
-        Err(fault) => assert_eq!(rt;
-            fault,
-            TextFault::NoRow {
-                place: 2,
-                byte: b']'
-            }
+        Err(fault) => assert!(rt;
+            fault
+                == TextFault::NoRow {
+                    place: 2,
+                    byte: b']'
+                }
         ),
     }
     Ok(())
@@ -103,26 +103,26 @@ fn every_byte_of_a_tape_text(rt: HostRuntime) -> Result<(), Fail> {
 #[test]
 fn the_accumulator(rt: HostRuntime) -> Result<(), Fail> {
     let mut acc = Acc::cleared();
-    assert_eq!(rt; acc.value(), 0);
+    assert!(rt; acc.value() == 0);
     acc.add_short(word(3)?);
     acc.add_long(long(5)?);
-    assert_eq!(rt; acc.value(), (3 << 54) + (5 << 36));
-    assert_eq!(rt; acc.top_short().value(), 3);
-    assert_eq!(rt; acc.top_long().value(), 786_437);
+    assert!(rt; acc.value() == (3 << 54) + (5 << 36));
+    assert!(rt; acc.top_short().value() == 3);
+    assert!(rt; acc.top_long().value() == 786_437);
     acc.sub_long(long(5)?);
     acc.sub_short(word(1)?);
-    assert_eq!(rt; acc.value(), 1 << 55);
+    assert!(rt; acc.value() == 1 << 55);
     acc.left(2);
-    assert_eq!(rt; acc.value(), 1 << 57);
+    assert!(rt; acc.value() == 1 << 57);
     acc.right(3);
-    assert_eq!(rt; acc.value(), 1 << 54);
+    assert!(rt; acc.value() == 1 << 54);
     acc.round();
-    assert_eq!(rt; acc.value(), (1 << 54) + (1 << 35));
+    assert!(rt; acc.value() == (1 << 54) + (1 << 35));
     acc.clear();
     assert!(rt; !acc.is_negative());
     acc.sub_short(word(1)?);
     assert!(rt; acc.is_negative());
-    assert_eq!(rt; acc.value(), (1 << 71) - (1 << 54));
+    assert!(rt; acc.value() == (1 << 71) - (1 << 54));
     Ok(())
 }
 
@@ -131,11 +131,11 @@ fn products_and_common_digits(rt: HostRuntime) -> Result<(), Fail> {
     let half = long(1 << 33)?;
     let mut acc = Acc::cleared();
     acc.add_product(half, half);
-    assert_eq!(rt; acc.value(), 1 << 68);
+    assert!(rt; acc.value() == 1 << 68);
     acc.sub_product(half, half);
-    assert_eq!(rt; acc.value(), 0);
+    assert!(rt; acc.value() == 0);
     acc.collate(Long::of_short(word(3)?), Long::of_short(word(6)?));
-    assert_eq!(rt; acc.value(), 1 << 55);
+    assert!(rt; acc.value() == 1 << 55);
     Ok(())
 }
 
@@ -144,9 +144,9 @@ fn the_store(rt: HostRuntime) -> Result<(), Fail> {
     let mut store = Store::cleared(rt.alloc())?;
     store.put_short(5, word(7)?);
     store.put_long(8, long(131_073)?);
-    assert_eq!(rt; store.short(5).value(), 7);
-    assert_eq!(rt; store.long(4).value(), 7 * 262_144);
-    assert_eq!(rt; store.short(8).value(), 1);
+    assert!(rt; store.short(5).value() == 7);
+    assert!(rt; store.long(4).value() == 7 * 262_144);
+    assert!(rt; store.short(8).value() == 1);
     assert!(rt; store.sandwich(9) && !store.sandwich(5));
     let mut other = store.copy()?;
     assert!(rt; other.equals(&store));
@@ -157,15 +157,15 @@ fn the_store(rt: HostRuntime) -> Result<(), Fail> {
 
 #[test]
 fn orders_and_their_texts(rt: HostRuntime) -> Result<(), Fail> {
-    assert_eq!(rt; kind_of(28), Some(Kind::A));
+    assert!(rt; kind_of(28) == Some(Kind::A));
     assert!(rt; kind_of(0).is_none() && kind_of(32).is_none());
     for (number, shift) in [(16_384, 15), (16_385, 1), (102_400, 13)] {
         let word = word(number)?;
         assert!(rt; 0 < word.value());
-        assert_eq!(rt; places(word), shift);
+        assert!(rt; places(word) == shift);
     }
     for (number, text) in [(114_821, "A66D"), (53_248, "ZF")] {
-        assert_eq!(rt; order_text(word(number)?).as_str(), text);
+        assert!(rt; order_text(word(number)?).as_str() == text);
     }
     Ok(())
 }
@@ -173,9 +173,9 @@ fn orders_and_their_texts(rt: HostRuntime) -> Result<(), Fail> {
 #[test]
 fn the_paper(rt: HostRuntime) -> Result<(), Fail> {
     let mut paper = Paper::new(rt.alloc(), 1)?;
-    assert_eq!(rt; paper.room_left(), 1);
+    assert!(rt; paper.room_left() == 1);
     assert!(rt; paper.push(code(28)?));
     assert!(rt; !paper.push(code(29)?));
-    assert_eq!(rt; paper.codes(), codes(rt.alloc(), &[28])?.as_slice());
+    assert!(rt; paper.codes() == codes(rt.alloc(), &[28])?.as_slice());
     Ok(())
 }

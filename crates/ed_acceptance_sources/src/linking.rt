@@ -39,10 +39,10 @@ fn what_is_punched(rt: HostRuntime) -> Result<(), Fail> {
     for (text, punched) in cases {
         let linked = linked(rt.alloc(), Size::Full, text).expect(&rt, punched);
         let tape = linked.text()?;
-        assert_eq!(rt; tape.as_slice(), punched.as_bytes());
+        assert!(rt; tape.as_slice() == punched.as_bytes());
         let spelled = tape_of_text(rt.alloc(), &tape).ok().expect(&rt, punched);
         let rows = linked.rows()?;
-        assert_eq!(rt; spelled.as_slice(), rows.as_slice());
+        assert!(rt; spelled.as_slice() == rows.as_slice());
     }
     Ok(())
 }
@@ -57,18 +57,18 @@ fn the_linked_program(rt: HostRuntime) {
         (59, 61440),
         (60, 114688),
     ];
-    assert_eq!(rt; linked.words.len(), words.len());
+    assert!(rt; linked.words.len() == words.len());
     for (placed, (place, word)) in linked.words.iter().zip(words) {
-        assert_eq!(rt; placed.place, place);
-        assert_eq!(rt; placed.word.value(), word);
+        assert!(rt; placed.place == place);
+        assert!(rt; placed.word.value() == word);
     }
-    assert_eq!(rt; linked.entry, 56);
+    assert!(rt; linked.entry == 56);
     assert!(rt; linked.after.is_empty());
     let labels = [("main", 56), ("mark", 59), ("letter", 60)];
-    assert_eq!(rt; linked.labels.len(), labels.len());
+    assert!(rt; linked.labels.len() == labels.len());
     for (label, (name, place)) in linked.labels.iter().zip(labels) {
-        assert_eq!(rt; label.name.text(), name);
-        assert_eq!(rt; label.place, place);
+        assert!(rt; label.name.text() == name);
+        assert!(rt; label.place == place);
     }
 }
 

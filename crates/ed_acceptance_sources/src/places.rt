@@ -251,9 +251,9 @@ fn what_a_source_defines(rt: HostRuntime) -> Result<(), Fail> {
     ];
     let program = parse(rt.alloc(), ODD).expect(&rt, "a program");
     let places = resolve(rt.alloc(), &program).expect(&rt, "places");
-    assert_eq!(rt; places.symbols().len(), wanted.len());
+    assert!(rt; places.symbols().len() == wanted.len());
     for (definition, (name, place, segment)) in places.symbols().iter().zip(wanted) {
-        assert_eq!(rt; definition.name.text(), name);
+        assert!(rt; definition.name.text() == name);
         assert_eq!(rt;
             (definition.place, definition.segment),
             (place, segment),

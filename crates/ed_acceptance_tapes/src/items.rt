@@ -42,7 +42,7 @@ fn items_are_spelled(rt: HostRuntime) -> Result<(), Fail> {
     let wanted = codes(alloc, &[5, 6, 4, 14, 28, 2, 11, 18])?;
     assert!(rt; rows.as_slice() == wanted.as_slice());
     let text = text_of_items(alloc, &items)?;
-    assert_eq!(rt; text.as_slice(), b"T64K\nA2#@\n".as_slice());
+    assert!(rt; text.as_slice() == b"T64K\nA2#@\n".as_slice());
     Ok(())
 }
 
@@ -60,7 +60,7 @@ fn the_initial_orders(rt: HostRuntime) -> Result<(), Fail> {
         12_338, 114_732, 20_564, 32_849, 114_769, 16_416, 20_561, 12_304, 11, 1,
     ];
     for (order, number) in listing().iter().zip(words.iter()) {
-        assert_eq!(rt; order.value(), *number);
+        assert!(rt; order.value() == *number);
     }
     Ok(())
 }
