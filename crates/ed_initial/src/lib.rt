@@ -15,3 +15,4 @@ pub use listing::{order, orders};
 pub use loading::{Loaded, load, obey_orders};
 pub use resting::{Rested, to_rest};
 pub use starting::{begin, is_started};
+pub use turns::is_entering;

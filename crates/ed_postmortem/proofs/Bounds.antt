@@ -37,7 +37,7 @@ few_codes (suc count) words p =
 
 pub enough : PaperIsEnough
 enough s first count range =
-    let behind = range.behind in
+    let behind = range.above in
     let within = range.within in
     omega (arith, few_codes count s.store.words first, most s.size)
 

@@ -204,22 +204,22 @@ module _ {s : State} {first count : ℕ} (store : IsStore s.store) (range : InRa
   -- a word that is left, in the store around the post-mortem
   kept : (i : ℕ) → IsUntouched i → get_or around i 0 ≡ get_or s.store.words i 0
   kept i l =
-      headed_same head placed i (omega (arith, l.behind))
+      headed_same head placed i (omega (arith, l.above))
       ∙ get_or-set_other (set ws 45 (2 * first)) 46 i (2 * count) 0 l.no_46
       ∙ get_or-set_other ws 45 i (2 * first) 0 l.no_45
-      ∙ headed_same initial_orders s.store.words i (omega (arith, l.behind))
+      ∙ headed_same initial_orders s.store.words i (omega (arith, l.above))
 
   -- no location above the post-mortem's is changed
   far : (i : ℕ) → 140 ≤ i → IsUntouched i
   far i h = record {
-    behind = omega arith;
+    above = omega arith;
     no_45 = λ e. absurd (omega arith);
     no_46 = λ e. absurd (omega arith);
     apart = inr (omega arith);
   }
 
   kept_far : (i : ℕ) → first ≤ i → get_or around i 0 ≡ get_or s.store.words i 0
-  kept_far i h = let low = range.behind in kept i (far i (omega arith))
+  kept_far i h = let low = range.above in kept i (far i (omega arith))
 
   left_words : (i : ℕ) → IsUntouched i → (w : Work)
       → get_or (patched 0 around 56 (cells w)) i 0 ≡ get_or s.store.words i 0
@@ -231,7 +231,7 @@ module _ {s : State} {first count : ℕ} (store : IsStore s.store) (range : InRa
   -- all words, and then the stop
   all : PrintsAll given first count unit placed_work s.last
   all =
-      prints_all given first count (omega (arith, range.behind)) range.within
+      prints_all given first count (omega (arith, range.above)) range.within
       (λ i h. let e = kept i (far i h) in omega (arith, e, store.fits i))
 
   abbrev k : ℕ
@@ -262,7 +262,7 @@ module _ {s : State} {first count : ℕ} (store : IsStore s.store) (range : InRa
   orders_are = orders_same count around s.store.words first kept_far
 
   few : suc k ≤ 230000
-  few = omega (arith, all_few count around first, range.within, range.behind, most s.size)
+  few = omega (arith, all_few count around first, range.within, range.above, most s.size)
 
   -- the load and the run print the words
   pub printed : {limit : ℕ} {loaded t : State} {sheet full : Sheet} {r : Loaded} {ending : Ending} → LoadsTape loaded r

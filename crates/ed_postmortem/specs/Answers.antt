@@ -22,14 +22,14 @@ begun_on s first count = start_state initial_orders (tape_rows first count) s
 
 -- a location that a post-mortem does not change: any but 0 to 43, 45, 46 and 56 to 139
 pub record IsUntouched (i : ℕ) : Type 0 where
-  pub behind : 43 < i
+  pub above : 43 < i
   pub no_45 : i ≢ 45
   pub no_46 : i ≢ 46
   pub apart : (i < 56) ⊎ (139 < i)
 
 -- the words can be printed: they are after the post-mortem's own, and within the store
 pub record InRange (s : State) (first count : ℕ) : Type 0 where
-  pub behind : 144 ≤ first
+  pub above : 144 ≤ first
   pub within : first + count ≤ locations s.size
 
 -- the words were printed, in n orders

@@ -9,7 +9,7 @@ ghost use Rattle.ed_stepper.specs.Private.Fronts.{TakesPart, stop_of};
 pub(crate) fn first_line<'a>(text: &'a [u8]) -> (&'a [u8], &'a [u8])
     requires { 0 < length text.now }
     ensures lines { lines_of text.entry.now ≡ result.0.now ∷ lines_of result.1.now }
-    ensures behind { result.1.now ≡ after_line text.entry.now }
+    ensures after { result.1.now ≡ after_line text.entry.now }
     ensures shorter { length result.1.now < length text.entry.now }
 {
     match first_end(text) {

@@ -8,8 +8,8 @@ ghost use Rattle.ed_stepper.specs.Private.Kept.{AreMarks};
 
 use crate::marks::{Mark, keep};
 use crate::moves::{MoveEnd, MoveTarget};
+use ed_initial::is_entering;
 use ed_machine::{Machine, Turn};
-use ed_orders::{Kind, kind_of};
 
 /// The number of orders that a walk obeyed, and how it ended.
 #[derive(Clone, Copy)]
@@ -109,17 +109,4 @@ fn when(test: bool, end: MoveEnd) -> Option<MoveEnd>
     ensures { result ≡ (if test then Some end else None) }
 {
     if test { Some(end) } else { None }
-}
-
-/// Whether the order at 22 is the next one, is an E order and jumps.
-fn is_entering(machine: &Machine) -> bool
-    ensures { result ≡ enters machine.now }
-{
-    if machine.counter() != 22 {
-        return false;
-    }
-    match kind_of(machine.word(22).order().function) {
-        Some(Kind::E) => machine.acc() < 1 << 70,
-        _ => false,
-    }
 }

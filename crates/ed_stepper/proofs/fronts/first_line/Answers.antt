@@ -11,10 +11,10 @@ returns-in-Some-clause-lines c =
 pub returns-in-None-clause-lines : goal.returns-in-None-clause-lines
 returns-in-None-clause-lines c = line_unended c.args.text.now c.requires (sym c.first_end.ensures.is ∙ c.in-None.is)
 
-pub returns-in-Some-clause-behind : goal.returns-in-Some-clause-behind
-returns-in-Some-clause-behind c =
+pub returns-in-Some-clause-after : goal.returns-in-Some-clause-after
+returns-in-Some-clause-after c =
     take_rest c.args.text.now (c.in-Some.end + 1)
     ∙ sym (behind_ended c.args.text.now c.in-Some.end (sym c.first_end.ensures.is ∙ c.in-Some.is))
 
-pub returns-in-None-clause-behind : goal.returns-in-None-clause-behind
-returns-in-None-clause-behind c = sym (behind_unended c.args.text.now (sym c.first_end.ensures.is ∙ c.in-None.is))
+pub returns-in-None-clause-after : goal.returns-in-None-clause-after
+returns-in-None-clause-after c = sym (behind_unended c.args.text.now (sym c.first_end.ensures.is ∙ c.in-None.is))
