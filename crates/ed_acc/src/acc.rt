@@ -74,10 +74,11 @@ impl Acc {
     }
 
     /// Adds a short word to the most significant digits.
+    #[tactic(auto, unfolding(crate::specs::Arithmetic::plus71))]
     pub fn add_short(&mut self, word: Word)
         ensures { self.new ≡ plus71 self.old (word * 2 ^ 18 * 2 ^ 36) }
     {
-        self.add_long(Long::of_short(word));
+        self.add(u128::from(word.value()) << 54);
     }
 
     /// Adds a long word to the most significant digits.
@@ -89,10 +90,11 @@ impl Acc {
     }
 
     /// Subtracts a short word from the most significant digits.
+    #[tactic(auto, unfolding(crate::specs::Arithmetic::minus71))]
     pub fn sub_short(&mut self, word: Word)
         ensures { self.new ≡ minus71 self.old (word * 2 ^ 18 * 2 ^ 36) }
     {
-        self.sub_long(Long::of_short(word));
+        self.subtract(u128::from(word.value()) << 54);
     }
 
     /// Subtracts a long word from the most significant digits.

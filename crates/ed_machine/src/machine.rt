@@ -26,10 +26,13 @@ use std::mem;
 pub struct Machine {
     alloc: Global,
     size: Size,
+    /// The last location that the orders reach. All its digits are 1, so it reduces a number modulo the size.
+    last_place: usize,
     store: Store,
     acc: Acc,
     multiplier: Long,
-    counter: u16,
+    /// The location of the next order.
+    counter: usize,
     tape: Vec<Code>,
     /// The index in `tape` of the next row.
     row: usize,
@@ -55,7 +58,7 @@ pub struct Parts {
 }
 
 impl Model for Machine {
-    ghost use Rattle.std.specs.Prelude.{◌<◌, ◌≤◌, length, drop};
+    ghost use Rattle.std.specs.Prelude.{◌≡◌, ◌+◌, ◌<◌, ◌≤◌, length, drop};
     ghost use Rattle.ed_machine.specs.State.{State};
     ghost use Rattle.ed_words.specs.Sizes.{locations};
 
@@ -72,7 +75,8 @@ impl Model for Machine {
       orders = m.orders;
     } };
 
-    ghost invariant = { λ m. (m.counter < 1024) × (m.counter < locations m.size) × (m.row ≤ length m.tape.items) };
+    ghost invariant = { λ m. (m.counter < 1024) × (m.counter < locations m.size)
+        × (m.last_place + 1 ≡ locations m.size) × (m.row ≤ length m.tape.items) };
 }
 
 impl Machine {
@@ -91,6 +95,7 @@ impl Machine {
         Ok(Machine {
             alloc,
             size,
+            last_place: last_place(size),
             store,
             acc: Acc::cleared(),
             multiplier: Long::of_short(Word::of_number(0)),
@@ -112,10 +117,11 @@ impl Machine {
         Machine {
             alloc,
             size: parts.size,
+            last_place: last_place(parts.size),
             store: parts.store,
             acc: parts.acc,
             multiplier: parts.multiplier,
-            counter: parts.counter,
+            counter: usize::from(parts.counter),
             tape: parts.tape,
             row: 0,
             last: parts.last,
@@ -132,6 +138,7 @@ impl Machine {
         Ok(Machine {
             alloc: self.alloc,
             size: self.size,
+            last_place: self.last_place,
             store,
             acc: self.acc,
             multiplier: self.multiplier,
@@ -173,7 +180,7 @@ impl Machine {
         ensures counted { CountsOrders }
         ensures count { self.new.orders ≤ self.old.orders + 1 }
     {
-        let word = self.store.short(self.counter);
+        let word = self.store.short(self.counter as u16);
         let function = word.order().function;
         match kind_of(function) {
             Some(kind) => self.obey(kind, word),
@@ -242,7 +249,7 @@ impl Machine {
         ensures is { result ≡ self.now.counter }
         ensures fits { result < locations self.now.size }
     {
-        self.counter
+        self.counter as u16
     }
 
     /// The number of orders obeyed since the machine was cleared.
@@ -265,6 +272,13 @@ impl Machine {
     {
         self.last
     }
+}
+
+/// The last location that the orders of a machine of a given size reach.
+fn last_place(size: Size) -> usize
+    ensures { result + 1 ≡ locations size }
+{
+    usize::from(size.value() - 1)
 }
 
 /// Writes the words of an image from location 0 upwards.

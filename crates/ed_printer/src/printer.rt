@@ -1,4 +1,4 @@
-ghost use Rattle.std.specs.Prelude.{◌≡◌, ◌++◌, IfOk};
+ghost use Rattle.std.specs.Prelude.{◌≡◌, ◌+◌, ◌≤◌, ◌++◌, IfOk, vec_capacity, vec_len};
 ghost use Rattle.ed_printer.specs.Paper.{IsInLatestShift, bytes_of, shift_after, struck_bytes};
 
 use arrayvec::ArrayVec;
@@ -120,6 +120,25 @@ impl Printer {
             character => text.push(character)?,
         }
         Ok(())
+    }
+
+    /// Prints a code onto a text that has room for two bytes, the most that a code prints.
+    #[inline(always)]
+    pub fn print_reserved(&mut self, code: Code, text: &mut Vec<u8>)
+        requires { vec_len text.old + 2 ≤ vec_capacity text.old }
+        ensures text { text.new.items ≡ text.old.items ++ struck_bytes self.old code }
+        ensures shift { self.new ≡ shift_after self.old code }
+        ensures len { vec_len text.new ≤ vec_len text.old + 2 }
+        ensures capacity { vec_capacity text.new ≡ vec_capacity text.old }
+    {
+        match self.character(code) {
+            NOTHING => {}
+            POUND => {
+                text.push_reserved(BEFORE_POUND);
+                text.push_reserved(POUND);
+            }
+            character => text.push_reserved(character),
+        }
     }
 
     /// The character of a code in the printer's shift; the printer is then in the shift that the code sets.

@@ -1,7 +1,7 @@
 -- One more order of a run.
 use Rattle.std.proofs.Common.{◌≡◌, ℕ, ◌+◌, ◌-◌, ◌<◌, ◌≤◌, ◌++◌, refl, sym, ap, ◌∙◌, arith}
 use Rattle.std.proofs.Common.{below_more, Bool, true, false, nat_le, Option, None, []}
-use Rattle.std.proofs.Common.{◌∷◌, length, append_assoc, append-nil, length-append, ◌⊎◌, inl, inr}
+use Rattle.std.proofs.Common.{◌∷◌, length, append_assoc, append-nil, length-append, ◌⊎◌, inl, inr, subst}
 use Rattle.std.proofs.lemmas.Bool.Decides.{nat_tests}
 use Rattle.ed_words.proofs.Numbers.{lt_true, lt_false, eq_false}
 use Rattle.ed_machine.specs.State.{State}
@@ -130,6 +130,10 @@ module _ {limit resumes : ℕ} {s : State} {sheet : Sheet} {k : ℕ} {m : State}
   goes_on below t free within =
       let now = taken t in
       record { state = now.0; codes = now.1; stops_are = now.2; within = within; first = first_after below free }
+
+  -- the number of orders obeyed, in another form
+  pub later : {n : ℕ} → k ≡ n → Running limit resumes s sheet n m paper stops
+  later is = subst (λ j. Running limit resumes s sheet j m paper stops) is r
 
   -- the run ends with a stop for which no resume is left
   pub ends_with_stop : {m' : State} {paper' : Sheet} {stops' : ℕ} → k < limit

@@ -3,7 +3,7 @@
 //! Contract: `run` is the definition's run, by `step` alone; a run has one ending. Depends on `ed_machine`.
 #![tactic(auto)]
 
-ghost use Rattle.std.specs.Prelude.{◌≡◌, ℕ, ◌+◌, ◌-◌, ◌^◌, ◌≤◌, length, nat_le};
+ghost use Rattle.std.specs.Prelude.{◌≡◌, ℕ, ◌+◌, ◌-◌, ◌^◌, ◌<◌, ◌≤◌, ◌⊎◌, false, length, nat_le, true};
 ghost use Rattle.ed_machine.specs.OrderTable.{obey, step};
 ghost use Rattle.ed_machine.specs.State.{State};
 ghost use Rattle.ed_run.specs.Laws.{RunLaw};
@@ -28,35 +28,56 @@ pub fn run(machine: &mut Machine, limit: u64, resumes: u32, paper: &mut Paper) -
     run_orders(machine, limit, resumes, paper)
 }
 
-/// Obeys orders until the run ends.
+/// Obeys orders until the run ends, in batches that the paper has room for: only if the paper is full is an order looked
+/// at before it is obeyed.
 #[inline(always)]
 fn run_orders(machine: &mut Machine, limit: u64, resumes: u32, paper: &mut Paper) -> Ending
     requires { machine.old.orders + limit ≤ 2 ^ 63 }
     ensures { IsRun limit resumes machine.old paper.old result machine.new paper.new }
 {
     let mut stops = 0u32;
-    let mut full = is_full(paper);
-    for done in 0..limit {
-        if full && prints_next(machine) {
+    let end = machine.orders_done() + limit;
+    while machine.orders_done() < end {
+        let batch = batch(machine, end - machine.orders_done(), paper);
+        if batch == 0 {
             return Ending::PaperFull;
         }
-        match machine.step() {
-            Turn::Went => {}
-            Turn::Printed(code) => {
-                paper.push(code);
-                full = is_full(paper);
-            }
-            Turn::Stopped => {
-                if stops == resumes {
-                    return Ending::Stopped;
+        let batch_end = machine.orders_done() + batch;
+        while machine.orders_done() < batch_end {
+            match machine.step() {
+                Turn::Went => {}
+                Turn::Printed(code) => {
+                    paper.push(code);
                 }
-                stops += 1;
+                Turn::Stopped => {
+                    if stops == resumes {
+                        return Ending::Stopped;
+                    }
+                    stops += 1;
+                }
+                Turn::NoOrder(_) => return Ending::NoOrder,
+                Turn::NoTape => return Ending::NoTape,
             }
-            Turn::NoOrder(_) => return Ending::NoOrder,
-            Turn::NoTape => return Ending::NoTape,
         }
     }
     Ending::Limit
+}
+
+/// A number of orders, at most `most`, whose codes the paper has room for; 0 if the next order prints and the paper has
+/// no room left.
+#[inline(always)]
+fn batch(machine: &Machine, most: u64, paper: &Paper) -> u64
+    requires { 0 < most }
+    ensures most { result ≤ most }
+    ensures none { result ≡ 0 → (nat_le paper.now.room (length paper.now.codes) ≡ true)
+        × (prints (step machine.now).turn ≡ true) }
+    ensures room { (result ≤ paper.now.room - length paper.now.codes)
+        ⊎ ((result ≡ 1) × (prints (step machine.now).turn ≡ false)) }
+{
+    if !is_full(paper) {
+        return most.min(paper.room_left() as u64);
+    }
+    if prints_next(machine) { 0 } else { 1 }
 }
 
 /// Whether the paper has no room left.

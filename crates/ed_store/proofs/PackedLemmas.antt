@@ -82,6 +82,10 @@ pub short_high : (cs : List ℕ) (a : ℕ) → a % 2 ≢ 0 → short_at (unpacke
 short_high cs a h = let e : a ≡ suc (2 * (a / 2)) = omega arith in ap (λ i. get_or (cell_words cs) i 0) e
     ∙ get_high cs (a / 2)
 
+-- the upper word of a cell has 17 digits
+pub high_fits : (x : ℕ) → x < 2 ^ 35 → x / 2 ^ 18 % 2 ^ 17 ≡ x / 2 ^ 18
+high_fits x h = omega arith
+
 -- the sandwich digit of a location's pair from its cell
 pub digit_is : (cs : List ℕ) (a : ℕ) → sandwich_at (unpacked_cells cs) a ≡ nat_eq (get_or cs (a / 2) 0 / 2 ^ 17 % 2) 1
 digit_is cs a = get_digit cs (a / 2)

@@ -67,12 +67,8 @@ impl Store {
         ensures store { IsStore self.now }
     {
         let cell = self.cells[usize::from(a / 2)];
-        let number = if a % 2 == 0 {
-            cell % (1 << 17)
-        } else {
-            cell >> 18
-        };
-        Word::of_number(number as u32)
+        let half = if a % 2 == 0 { cell } else { cell >> 18 };
+        Word::of_number((half % (1 << 17)) as u32)
     }
 
     /// The long word of a location's pair.

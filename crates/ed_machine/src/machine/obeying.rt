@@ -6,7 +6,8 @@ ghost use Rattle.std.specs.Prelude.{◌≡◌, ◌<◌, ◌≤◌, ◌+◌, ◌*
 ghost use Rattle.ed_words.specs.Sizes.{locations, within};
 ghost use Rattle.ed_words.specs.Words.{function_of};
 ghost use Rattle.ed_orders.specs.Kinds.{kind_of_function};
-ghost use Rattle.ed_machine.specs.OrderTable.{after, done_at, jump_order, last_code, obey, operand35};
+ghost use Rattle.ed_acc.specs.Arithmetic.{minus71, plus71};
+ghost use Rattle.ed_machine.specs.OrderTable.{after, done_at, jump_order, last_code, obey, operand35, operand71};
 ghost use Rattle.ed_machine.specs.OrderTable.{place_of, print_order, stop_order, row_order, written_store};
 
 use super::Machine;
@@ -27,14 +28,8 @@ impl Machine {
         ensures count { self.new.orders ≤ self.old.orders + 1 }
     {
         match kind {
-            Kind::A => {
-                let x = self.operand(word);
-                self.acc.add_long(x);
-            }
-            Kind::S => {
-                let x = self.operand(word);
-                self.acc.sub_long(x);
-            }
+            Kind::A => self.add(word),
+            Kind::S => self.subtract(word),
             Kind::H => self.multiplier = self.operand(word),
             Kind::V => {
                 let x = self.operand(word);
@@ -74,24 +69,24 @@ impl Machine {
         Turn::Went
     }
 
-    /// The location that an order word names.
+    /// The location that an order word names. The digits to the left of its address are lost modulo the size.
     #[inline(always)]
     fn place(&self, word: Word) -> u16
         ensures is { result ≡ place_of self.now word }
         ensures below { result < locations self.now.size }
         ensures fits { result < 1024 }
     {
-        self.within(word.order().address)
+        self.within((word.value() / 2) as usize) as u16
     }
 
     /// A number modulo the number of locations, which is a power of two.
     #[inline(always)]
-    fn within(&self, number: u16) -> u16
+    fn within(&self, number: usize) -> usize
         ensures is { result ≡ within self.now.size number }
         ensures below { result < locations self.now.size }
         ensures fits { result < 1024 }
     {
-        number & (self.size.value() - 1)
+        number & self.last_place
     }
 
     /// The 35 digits that an order reads.
@@ -104,6 +99,32 @@ impl Machine {
             self.store.long(place)
         } else {
             Long::of_short(self.store.short(place))
+        }
+    }
+
+    /// Adds what an order reads: the short number or the long one, by the order's length.
+    #[inline(always)]
+    fn add(&mut self, word: Word)
+        ensures { self.new ≡ record self.old { acc = plus71 self.old.acc (operand71 word self.old) } }
+    {
+        let place = self.place(word);
+        if word.order().length {
+            self.acc.add_long(self.store.long(place));
+        } else {
+            self.acc.add_short(self.store.short(place));
+        }
+    }
+
+    /// Subtracts what an order reads.
+    #[inline(always)]
+    fn subtract(&mut self, word: Word)
+        ensures { self.new ≡ record self.old { acc = minus71 self.old.acc (operand71 word self.old) } }
+    {
+        let place = self.place(word);
+        if word.order().length {
+            self.acc.sub_long(self.store.long(place));
+        } else {
+            self.acc.sub_short(self.store.short(place));
         }
     }
 
@@ -169,7 +190,7 @@ impl Machine {
         ensures turn { result ≡ (jump_order jumps (place_of self.old word) self.old).turn }
     {
         if jumps {
-            self.counter = self.place(word);
+            self.counter = usize::from(self.place(word));
             self.orders += 1;
         } else {
             self.advance();

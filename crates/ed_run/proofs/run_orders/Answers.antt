@@ -1,81 +1,108 @@
-use Rattle.std.proofs.Common.{◌≡◌, ◌⊎◌, inl, inr, Bool, true, false, None, refl, sym, ◌∙◌, ap, arith}
+use Rattle.std.proofs.Common.{◌≡◌, ◌⊎◌, inl, inr, ℕ, ◌+◌, ◌-◌, ◌<◌, ◌≤◌, Bool, true, false, refl, sym, ◌∙◌, ap, arith}
+use Rattle.std.proofs.Common.{length-append, nat_le}
+use Rattle.std.proofs.lemmas.Bool.Decides.{nat_tests}
 use Rattle.ed_machine.specs.OrderTable.{step}
 use Rattle.ed_machine.specs.Steps.{is_obeyed}
+use Rattle.ed_machine.specs.State.{State}
 use Rattle.ed_machine.specs.declared.turn.Turn.{Turn}
-use Rattle.ed_machine.specs.declared.turn.Turn.TheVariants.{Went, Printed, Stopped}
-use Rattle.ed_run.specs.Run.{end_by, prints}
-use Rattle.ed_run.proofs.Pasts.{is_full, at_first, goes_on, ends_with_stop, none_ends, pushed, silent}
+use Rattle.ed_machine.proofs.Keeping.{step_leaves}
+use Rattle.ed_run.specs.Run.{prints}
+use Rattle.ed_run.proofs.Pasts.{at_first, goes_on, later, ends_with_stop, none_ends, pushed, silent}
 use Rattle.ed_run.proofs.run_orders.Goals as goal
-use Rattle.ed_run.proofs.run_orders.Goals.{in-Went, in-Printed, in-Stopped+else-stops-resumes}
-use Rattle.ed_run.proofs.run_orders.Goals.{else-full-via-then-full+else-prints_next}
-use Rattle.ed_run.proofs.run_orders.Goals.{else-full-via-else-full}
 
-pub loop-done-init : goal.loop-done-init
-loop-done-init c = record { running = at_first _ _ _ _; paper = c.is_full-full.ensures; count = omega arith }
+pub loop-machine-init : goal.loop-machine-init
+loop-machine-init c =
+    let none : 0 ≡ c.args.machine.now.orders - c.args.machine.now.orders = omega arith in
+    record { running = later (at_first _ _ _ _) none; later = omega arith; below = omega arith }
 
 pub returns-then-stops-resumes : goal.returns-then-stops-resumes
 returns-then-stops-resumes c =
-    ends_with_stop c.loop-done.invariant.running c.loop-done-test.true
+    ends_with_stop c.loop-batch.invariant.running (omega arith)
     (silent (sym c.step.ensures.turn ∙ c.in-Stopped.is) c.step.ensures.state refl refl refl)
     (omega arith)
 
--- the paper has room, or the order does not print
-either_way : (c : goal.Joined-step)
-    → (is_full c.loop-done.paper ≡ false) ⊎ (prints (step c.loop-done.machine).turn ≡ false)
-either_way c = elim c.else-full.branch [
-  | else-full-via-then-full+else-prints_next v ↦ inr (sym v.prints_next.ensures ∙ v.if-prints_next.false)
-  | else-full-via-else-full v ↦ inl (sym c.loop-done.invariant.paper ∙ v.if-full.false)
-]
+-- a batch has room for the code of its next order, or that order does not print
+free : {P : Type 0} (end orders room codes : ℕ) → orders < end
+    → (end - orders ≤ room - codes) ⊎ ((end ≡ orders + 1) × P) → (nat_le room codes ≡ false) ⊎ P
+free end orders room codes below (inl left) = inl (not_full room codes (end - orders) (omega arith) left)
+  where
+    not_full : (room codes n : ℕ) → 0 < n → n ≤ room - codes → nat_le room codes ≡ false
+    not_full room codes n some h = grind (arith, nat_tests)
+free end orders room codes below (inr last) = inr last.1
 
--- so an order that is obeyed does not end the run
-goes : (c : goal.Joined-step) (turn : Turn) → (step c.loop-done.machine).turn ≡ turn → is_obeyed turn ≡ true
-    → end_by (step c.loop-done.machine).turn (is_full c.loop-done.paper) ≡ None
-goes c turn is obeyed = none_ends _ _ (ap is_obeyed is ∙ obeyed) (either_way c)
+-- after the order there is room for the orders that are left
+left : {P : Type 0} (end orders after room next : ℕ) → (end - orders ≤ room) ⊎ ((end ≡ orders + 1) × P)
+    → after ≡ orders + 1 → room ≤ next + 1 → end - after ≤ next
+left end orders after room next (inl free) is most = omega arith
+left end orders after room next (inr last) is most = let e = last.0 in omega arith
 
 -- the paper has room if the order prints
-room : (c : goal.Joined-step) {code : _} → (step c.loop-done.machine).turn ≡ Printed code
-    → is_full c.loop-done.paper ≡ false
-room c is = by_branch (either_way c) (ap prints is)
-  where
-    by_branch : {a b : Bool} → (a ≡ false) ⊎ (b ≡ false) → b ≡ true → a ≡ false
-    by_branch (inl free) printing = free
-    by_branch (inr silent) printing = absurd (cc)
+has_room : {a b : Bool} → (a ≡ false) ⊎ (b ≡ false) → b ≡ true → a ≡ false
+has_room (inl free) printing = free
+has_room (inr silent) printing = absurd (cc)
 
-pub loop-done-preserved : goal.loop-done-preserved
-loop-done-preserved c =
-    let r = c.loop-done.invariant.running in
-    elim c.match-step.branch [
-      | in-Went w ↦
-          let is = sym c.step.ensures.turn ∙ w.in-Went.is in
-          record {
-            running = goes_on r c.loop-done-test.true
-                (silent is c.step.ensures.state w.paper-is refl (omega (arith, w.stops-is)))
-                (goes c Went is refl) (omega (arith, w.stops-is, r.within));
-            paper = w.full-is ∙ c.loop-done.invariant.paper ∙ ap is_full (sym w.paper-is);
-            count = omega (arith, c.step.ensures.count, c.loop-done.invariant.count);
-          }
-      | in-Printed w ↦
-          let is = sym c.step.ensures.turn ∙ w.in-Printed.is in
-          record {
-            running = goes_on r c.loop-done-test.true
-                (record {
-                  turn_is = is;
-                  state_is = c.step.ensures.state;
-                  paper_is = w.paper-is ∙ pushed w.push.result _ _ _ w.push.ensures.full.0 w.push.ensures.added
-                      (room c is);
-                  stops_are = omega (arith, w.stops-is);
-                })
-                (goes c _ is refl) (omega (arith, w.stops-is, r.within));
-            paper = w.full-is ∙ w.is_full-full-in-Printed.ensures ∙ ap is_full (sym w.paper-is);
-            count = omega (arith, c.step.ensures.count, c.loop-done.invariant.count);
-          }
-      | in-Stopped+else-stops-resumes w ↦
-          let is = sym c.step.ensures.turn ∙ w.in-Stopped.is in
-          record {
-            running = goes_on r c.loop-done-test.true
-                (silent is c.step.ensures.state w.paper-is refl (omega (arith, w.stops-is)))
-                (goes c Stopped is refl) (omega (arith, w.stops-is, r.within, w.if-stops-resumes.false));
-            paper = w.full-is ∙ c.loop-done.invariant.paper ∙ ap is_full (sym w.paper-is);
-            count = omega (arith, c.step.ensures.count, c.loop-done.invariant.count);
-          }
-    ]
+-- an order that is obeyed is counted
+one_more : (m : State) {next : State} {turn : Turn} → next ≡ (step m).state → (step m).turn ≡ turn → is_obeyed turn ≡ true
+    → next.orders ≡ m.orders + 1
+one_more m state is obeyed = ap (λ (s : State). s.orders) state ∙ (step_leaves m).count (ap is_obeyed is ∙ obeyed)
+
+pub loop-batch-preserved-in-Went : goal.loop-batch-preserved-in-Went
+loop-batch-preserved-in-Went c =
+    let r = c.loop-batch.invariant.running in
+    let is = sym c.step.ensures.turn ∙ c.in-Went.is in
+    let one = one_more c.loop-batch.machine c.step.ensures.state is refl in
+    let here : c.loop-batch.machine.orders - c.args.machine.now.orders < c.args.limit = omega arith in
+    let either = free _ _ _ _ (omega arith) c.loop-batch.invariant.room in
+    record {
+      running = later (goes_on r here
+          (silent is c.step.ensures.state refl refl (omega arith))
+          (none_ends _ _ (ap is_obeyed is) either) (omega (arith, r.within))) (omega arith);
+      later = omega arith;
+      below = omega arith;
+      room = inl (left _ _ _ _ _ c.loop-batch.invariant.room one (omega arith));
+    }
+
+pub loop-batch-preserved-in-Printed : goal.loop-batch-preserved-in-Printed
+loop-batch-preserved-in-Printed c =
+    let r = c.loop-batch.invariant.running in
+    let is = sym c.step.ensures.turn ∙ c.in-Printed.is in
+    let one = one_more c.loop-batch.machine c.step.ensures.state is refl in
+    let here : c.loop-batch.machine.orders - c.args.machine.now.orders < c.args.limit = omega arith in
+    let either = free _ _ _ _ (omega arith) c.loop-batch.invariant.room in
+    let paper = pushed c.push.result _ _ _ c.push.ensures.full.0 c.push.ensures.added (has_room either (ap prints is)) in
+    record {
+      running = later (goes_on r here
+          (record { turn_is = is; state_is = c.step.ensures.state; paper_is = paper; stops_are = omega arith })
+          (none_ends _ _ (ap is_obeyed is) either) (omega (arith, r.within))) (omega arith);
+      later = omega arith;
+      below = omega arith;
+      room = inl (rw (paper, length-append) (left _ _ _ _ _ c.loop-batch.invariant.room one (omega arith)));
+    }
+
+pub loop-batch-preserved : goal.loop-batch-preserved
+loop-batch-preserved c =
+    let r = c.loop-batch.invariant.running in
+    let is = sym c.step.ensures.turn ∙ c.in-Stopped.is in
+    let one = one_more c.loop-batch.machine c.step.ensures.state is refl in
+    let here : c.loop-batch.machine.orders - c.args.machine.now.orders < c.args.limit = omega arith in
+    let either = free _ _ _ _ (omega arith) c.loop-batch.invariant.room in
+    record {
+      running = later (goes_on r here
+          (silent is c.step.ensures.state refl refl (omega arith))
+          (none_ends _ _ (ap is_obeyed is) either) (omega (arith, r.within, c.if-stops-resumes.false))) (omega arith);
+      later = omega arith;
+      below = omega arith;
+      room = inl (left _ _ _ _ _ c.loop-batch.invariant.room one (omega arith));
+    }
+
+pub loop-batch-smaller-in-Went : goal.loop-batch-smaller-in-Went
+loop-batch-smaller-in-Went c =
+    let one = one_more c.loop-batch.machine c.step.ensures.state (sym c.step.ensures.turn ∙ c.in-Went.is) refl in omega arith
+
+pub loop-batch-smaller-in-Printed : goal.loop-batch-smaller-in-Printed
+loop-batch-smaller-in-Printed c =
+    let one = one_more c.loop-batch.machine c.step.ensures.state (sym c.step.ensures.turn ∙ c.in-Printed.is) refl in omega arith
+
+pub loop-batch-smaller : goal.loop-batch-smaller
+loop-batch-smaller c =
+    let one = one_more c.loop-batch.machine c.step.ensures.state (sym c.step.ensures.turn ∙ c.in-Stopped.is) refl in omega arith
