@@ -6,7 +6,7 @@ use ed_codes::letters::{A, E, G, H, I, P, R, T, U, V};
 use ed_initial::order;
 use ed_words::Word;
 
-// The length of an order: S is short, and L is long.
+// The length of an order: S is short, and L is long. The functions of these letters are `letters::S` and `letters::L`.
 
 const S: bool = false;
 

@@ -2,7 +2,7 @@ ghost use Rattle.std.specs.Prelude.{◌≡◌, ◌+◌, ◌≤◌, ◌++◌, IfO
 ghost use Rattle.ed_printer.specs.Paper.{IsInLatestShift, bytes_of, shift_after, struck_bytes};
 
 use arrayvec::ArrayVec;
-use ed_codes::Code;
+use ed_codes::{Code, letters};
 use std::alloc::AllocError;
 use std::marker::Model;
 
@@ -63,8 +63,8 @@ impl Shift {
         ensures { result ≡ shift_after self code }
     {
         match code.value() {
-            11 => Shift::Figures,
-            15 => Shift::Letters,
+            letters::FIGURE_SHIFT => Shift::Figures,
+            letters::LETTER_SHIFT => Shift::Letters,
             _ => self,
         }
     }
