@@ -24,7 +24,8 @@ use Rattle.ed_syntax.specs.declared.program.Operand.TheVariants as operands
 use Rattle.ed_syntax.specs.declared.program.Statement.{Statement}
 use Rattle.ed_syntax.specs.declared.program.Statement.TheVariants as statements
 use Rattle.ed_syntax.proofs.PartLemmas.{run_parts}
-use Rattle.ed_sources.specs.Calls.{check_source, newline_source, number_line, print_source, read_source}
+use Rattle.ed_call.specs.declared.Call.TheVariants.{Check, NewLine, Print, Read}
+use Rattle.ed_sources.proofs.CallTexts.{call_lines}
 use Rattle.ed_sources.proofs.TextLines.{Says, ends, says, by_parts}
 use Rattle.ed_sources.proofs.Decimals.{are, are_digits, decimal_is, digit_bytes}
 use Rattle.ed_sources.proofs.Decimals.{few_bytes, line_bytes, no_quotes, row_bytes}
@@ -180,6 +181,12 @@ module _ {k : ℕ} {front : Text} {label : Option Text} {before : List LinePart}
       (number_parts (written ds) some (run_bytes ds (are n small)))
       (a_number (written ds) some (digit_bytes ds (are n small))) (value_is n small) small)
 
+  -- the same in a woven text
+  pub woven_says : (n : ℕ) → n < 65536
+      → line_of false k (front ++ (decimal n ++ []))
+      ≡ Ok (record { label = label; statement = Some (statements.Number n) })
+  woven_says n small = ap (λ (t : Text). line_of false k (front ++ t)) (append-nil (decimal n)) ∙ word_says n small
+
 value_front : IsWordFront 5 (codes "value: word ") (Some (codes "value")) (label_parts (codes "value"))
 value_front = record {
   plain = λ bytes h. h;
@@ -188,16 +195,16 @@ value_front = record {
   form = λ bytes number in_range. rw (number, in_range) refl;
 }
 
-pub print_says : (n : ℕ) → n < 65536 → Says 1 (print_source n) (print_lines n)
+pub print_says : (n : ℕ) → n < 65536 → Says 1 (call_lines (Print n)) (print_lines n)
 print_says n small = says refl
-    (says refl (says refl (says refl (says (word_says value_front n small) (says print_used (says refl ends))))))
+    (says refl (says refl (says refl (says (woven_says value_front n small) (says print_used (says refl ends))))))
 
-pub check_says : (n : ℕ) → n < 65536 → Says 1 (check_source n) (check_lines n)
+pub check_says : (n : ℕ) → n < 65536 → Says 1 (call_lines (Check n)) (check_lines n)
 check_says n small =
     says refl (says refl (says refl
-    (says refl (says (word_says value_front n small) (says print_used (says check_used (says refl ends)))))))
+    (says refl (says (woven_says value_front n small) (says print_used (says check_used (says refl ends)))))))
 
-pub newline_says : Says 1 newline_source newline_lines
+pub newline_says : Says 1 (call_lines NewLine) newline_lines
 newline_says = says refl (says refl (says refl (says refl (says refl (says refl ends)))))
 
 -- ---- the line with the rows of a number
@@ -248,17 +255,14 @@ rows_line ds are few =
     (ap (λ (x : List ℕ). Some (Some (record { label = None; statement = Some (statements.Rows (array x)) }))) rows))
 
 read_number : (n : ℕ) → n < 65536
-    → line_of false 11 (number_line n) ≡ Ok (record {
-      label = None;
-      statement = Some (statements.Rows (array (digits n ++ 17 ∷ [])));
-    })
+    → line_of false 11 (codes "data " ++ 34 ∷ decimal n ++ 70 ∷ 34 ∷ [])
+    ≡ Ok (record { label = None; statement = Some (statements.Rows (array (digits n ++ 17 ∷ []))) })
 read_number n small =
-    ap (λ (t : Text). line_of false 11 (codes "data " ++ 34 ∷ t)) (append_assoc (decimal n) (70 ∷ []) (34 ∷ []))
-    ∙ subst (λ (bytes : Text). line_of false 11 (codes "data " ++ 34 ∷ bytes ++ 70 ∷ 34 ∷ [])
+    subst (λ (bytes : Text). line_of false 11 (codes "data " ++ 34 ∷ bytes ++ 70 ∷ 34 ∷ [])
     ≡ Ok (record { label = None; statement = Some (statements.Rows (array (digits n ++ 17 ∷ []))) }))
     (decimal_is n small) (rows_line (digits n) (are n small) (few_bytes n small))
 
-pub read_says : (n : ℕ) → n < 65536 → Says 1 (read_source n) (read_lines n)
+pub read_says : (n : ℕ) → n < 65536 → Says 1 (call_lines (Read n)) (read_lines n)
 read_says n small =
     says refl (says refl (says refl
     (says refl (says refl (says refl (says refl (says read_used (says print_used_too (says refl

@@ -1,5 +1,5 @@
 -- What the lines of the sources of `call divide` and `call root` say.
-use Rattle.std.proofs.Common.{◌≡◌, ℕ, ◌<◌, false, List, [], ◌∷◌, ◌++◌, refl, lit≤, codes, pos}
+use Rattle.std.proofs.Common.{◌≡◌, ℕ, ◌/◌, ◌%◌, ◌<◌, false, List, [], ◌∷◌, ◌++◌, refl, lit≤, codes, pos}
 use Rattle.std.specs.Prelude.{Some, None, Ok}
 use Rattle.ed_words.specs.Texts.{Text}
 use Rattle.ed_syntax.specs.Parts.{array}
@@ -10,8 +10,9 @@ use Rattle.ed_syntax.specs.declared.program.Operand.TheVariants as operands
 use Rattle.ed_syntax.specs.declared.program.Setting.{Setting}
 use Rattle.ed_syntax.specs.declared.program.Statement.{Statement}
 use Rattle.ed_syntax.specs.declared.program.Statement.TheVariants as statements
-use Rattle.ed_sources.specs.Calls.{divide_source, root_source}
-use Rattle.ed_sources.proofs.Said.{IsWordFront, calling, label_parts, said, stop, word_says}
+use Rattle.ed_call.specs.declared.Call.TheVariants.{Divide, Root}
+use Rattle.ed_sources.proofs.CallTexts.{call_lines}
+use Rattle.ed_sources.proofs.Said.{IsWordFront, calling, label_parts, said, stop, woven_says}
 use Rattle.ed_sources.proofs.TextLines.{Says, ends, says}
 
 -- a parameter set to a name
@@ -124,17 +125,17 @@ of_front = record {
   form = λ bytes number in_range. rw (number, in_range) refl;
 }
 
-pub divide_says : (high low by : ℕ) → high < 65536 → low < 65536 → by < 65536
-    → Says 1 (divide_source high low by) (divide_lines high low by)
-divide_says high low by h l b =
+pub divide_says : (n by : ℕ) → n / 65536 < 65536 → n % 65536 < 65536 → by < 65536
+    → Says 1 (call_lines (Divide n by)) (divide_lines (n / 65536) (n % 65536) by)
+divide_says n by h l b =
     says refl (says refl (says refl (says refl (says refl (says refl (says refl (says refl (says refl (says refl
-    (says (word_says hi_front high h)
-    (says (word_says lo_front low l)
-    (says (word_says by_front by b)
+    (says (woven_says hi_front (n / 65536) h)
+    (says (woven_says lo_front (n % 65536) l)
+    (says (woven_says by_front by b)
     (says divide_used (says print_low_used (says refl (says print_high_used (says refl ends)))))))))))))))))
 
-pub root_says : (n : ℕ) → n < 65536 → Says 1 (root_source n) (root_lines n)
+pub root_says : (n : ℕ) → n < 65536 → Says 1 (call_lines (Root n)) (root_lines n)
 root_says n small =
     says refl (says refl (says refl (says refl (says refl (says refl
-    (says (word_says of_front n small)
+    (says (woven_says of_front n small)
     (says refl (says root_used (says print_root_used (says refl ends))))))))))
