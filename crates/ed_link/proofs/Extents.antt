@@ -13,11 +13,15 @@ use Rattle.ed_symbols.specs.Faults.{or_later}
 use Rattle.ed_link.specs.Private.FaultTests.{LinesBefore, extent, overlaps}
 use Rattle.ed_link.specs.declared.faults.Extent.{Extent}
 
--- the extents of lines are below a location
-abbrev pub are_below : ℕ → List Extent → Bool
+-- the extents of lines
+abbrev pub ExtentList : Type 0
+ExtentList = List Extent
+
+-- they are below a location
+abbrev pub are_below : ℕ → ExtentList → Bool
 are_below p extents = list_all (λ e. nat_le e.after p) extents
 
-pub below_more : (p q : ℕ) (extents : List Extent) → p ≤ q → are_below p extents ≡ true → are_below q extents ≡ true
+pub below_more : (p q : ℕ) (extents : ExtentList) → p ≤ q → are_below p extents ≡ true → are_below q extents ≡ true
 below_more p q [] l h = refl
 below_more p q (e ∷ extents) l h =
     let s = and_parts (nat_le e.after p) (are_below p extents) h in
@@ -27,7 +31,7 @@ below_more p q (e ∷ extents) l h =
     rw (first, rest) refl
 
 -- and so are those of one more line
-pub one_more : (p a q : ℕ) (extents : List Extent) → p ≤ q → are_below p extents ≡ true
+pub one_more : (p a q : ℕ) (extents : ExtentList) → p ≤ q → are_below p extents ≡ true
     → are_below q (extents ++ extent a q ∷ []) ≡ true
 one_more p a q extents l h =
     let before = below_more p q extents l h in
@@ -35,7 +39,7 @@ one_more p a q extents l h =
     list_all-append (λ e. nat_le e.after q) extents (extent a q ∷ []) ∙ rw (before, last) refl
 
 -- extents from there upwards don't overlap them
-pub apart : (p a b : ℕ) (extents : List Extent) → p ≤ a → are_below p extents ≡ true
+pub apart : (p a b : ℕ) (extents : ExtentList) → p ≤ a → are_below p extents ≡ true
     → list_any (λ other. overlaps (extent a b) other) extents ≡ false
 apart p a b [] l h = refl
 apart p a b (e ∷ extents) l h =
@@ -67,10 +71,10 @@ fits_store top a b low fits = record {
 abbrev pub counter : ℕ → ℕ → ℕ → LocationCounter
 counter place base segments = record { place = place; base = base; segments = segments; inside = true }
 
-abbrev pub past : List Extent → LinesBefore
+abbrev pub past : ExtentList → LinesBefore
 past extents = record { extents = extents; entered = false }
 
 -- the extents of n lines of one word
-abbrev pub one_by_one : ℕ → ℕ → List Extent
+abbrev pub one_by_one : ℕ → ℕ → ExtentList
 one_by_one zero p = []
 one_by_one (suc n) p = extent p (p + 1) ∷ one_by_one n (p + 1)

@@ -6,7 +6,7 @@ use Rattle.ed_words.specs.declared.size.Size.{Size}
 use Rattle.ed_words.specs.declared.size.Size.TheVariants.{Full}
 use Rattle.ed_words.specs.Texts.{Text}
 use Rattle.ed_syntax.specs.Private.Grammar.{settings}
-use Rattle.ed_syntax.specs.Private.SourceReading.{program_of, Fault}
+use Rattle.ed_syntax.specs.Private.SourceReading.{program_of}
 use Rattle.ed_syntax.specs.Sources.{HasFormFault, IsFormFault, IsProgram}
 use Rattle.ed_syntax.specs.declared.program.Line.{Line}
 use Rattle.ed_syntax.specs.declared.program.Operand.TheVariants.{Number}

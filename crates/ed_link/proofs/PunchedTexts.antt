@@ -1,23 +1,17 @@
 -- The text of an accepted source's tape is read as its tape.
-use Rattle.std.proofs.Common.{◌≡◌, ℕ, ◌<◌, refl, ap, arith, Bool, true, nat_lt}
-use Rattle.std.proofs.Common.{Option, Some, None, List, [], ◌∷◌, ◌++◌}
-use Rattle.std.specs.Prelude.{◌==◌, replicate, unwrap_or}
+use Rattle.std.proofs.Common.{◌≡◌, ℕ, refl, Bool, true, nat_lt}
+use Rattle.std.proofs.Common.{Option, Some, List, [], ◌∷◌, ◌++◌}
+use Rattle.std.specs.Prelude.{replicate}
 use Rattle.std.specs.List.{list_all}
 use Rattle.std.proofs.lemmas.Bool.{and_parts}
-use Rattle.std.proofs.lemmas.Bool.Decides.{Decides-eqb}
 use Rattle.std.proofs.lemmas.List.{length-replicate}
 use Rattle.ed_words.specs.declared.size.Size.{Size}
 use Rattle.ed_words.specs.Texts.{Text}
-use Rattle.ed_words.proofs.Numbers.{lt_of}
 use Rattle.ed_codes.specs.Reading.{reading, rows}
-use Rattle.ed_codes.specs.Spelling.{byte_of, row_of}
-use Rattle.ed_codes.specs.Text.{Spells, none, row, spacing}
-use Rattle.ed_codes.proofs.Below.{from_below}
-use Rattle.ed_notation.specs.Spellings.{canonicals, line_from, text_of}
+use Rattle.ed_codes.specs.Text.{Spells, none}
+use Rattle.ed_notation.specs.Spellings.{canonicals, text_of}
 use Rattle.ed_notation.proofs.Canonical.{are_written}
 use Rattle.ed_notation.proofs.Texts.{are_codes, line_spells, text_reads}
-use Rattle.ed_library.specs.Entries.{catalogue}
-use Rattle.ed_library.specs.Ready.{is_ready}
 use Rattle.ed_syntax.specs.Lines.{lines_of}
 use Rattle.ed_syntax.specs.Private.SourceReading.{is_two}
 use Rattle.ed_syntax.specs.Programs.{is_line, is_statement}

@@ -82,11 +82,7 @@ pub(crate) fn extent_of(statement: &Option<Statement>, counter: LocationCounter)
 }
 
 /// The extent that a line needs.
-fn reach(
-    symbols: &[Definition],
-    statement: &Option<Statement>,
-    counter: LocationCounter,
-) -> Extent
+fn reach(symbols: &[Definition], statement: &Option<Statement>, counter: LocationCounter) -> Extent
     requires place { counter.place ≤ 2 ^ 30 }
     requires segments { counter.segments ≤ 2000 }
     ensures { result ≡ reach symbols.now statement.now counter }
@@ -218,7 +214,7 @@ pub(crate) fn cause_of(
 ) -> Option<SourceCause>
     requires place { counter.place ≤ 2 ^ 30 }
     requires segments { counter.segments ≤ 2000 }
-    ensures { result ≡ cause_of size symbols.now has_enter 
+    ensures { result ≡ cause_of size symbols.now has_enter
         (record { extents = past.now.extents.items; entered = past.now.entered }) line.now counter }
 {
     let reach = reach(symbols, &line.statement, counter);

@@ -1,16 +1,9 @@
 -- The rows that a text spells, and those of the tape of a source, are codes.
-use Rattle.std.proofs.Common.{◌≡◌, ℕ, zero, suc, ◌-◌, ◌<◌, refl, subst, arith, lit<, Bool, true, false}
-use Rattle.std.proofs.Common.{List, ◌++◌, Some, nat_le}
-use Rattle.std.specs.Prelude.{◌&&◌, ◌==◌, position, if◌then◌else◌}
-use Rattle.std.proofs.lemmas.Bool.Decides.{nat_tests}
-use Rattle.std.proofs.lemmas.List.Quantifiers.{position-Some}
+use Rattle.std.proofs.Common.{◌≡◌, ℕ}
+use Rattle.std.proofs.Common.{List, ◌++◌}
 use Rattle.ed_words.specs.Texts.{Text}
 use Rattle.ed_words.specs.declared.size.Size.{Size}
-use Rattle.ed_codes.specs.Reading.{IsReadingOf, Reading, reading, rows}
-use Rattle.ed_codes.specs.Spelling.{letters, row_of}
-use Rattle.ed_codes.specs.Text.{Spells}
-use Rattle.ed_codes.specs.Text.Spells.{none, row, spacing, comment}
-use Rattle.ed_codes.proofs.Readings.{has_one_reading}
+use Rattle.ed_codes.specs.Reading.{reading, rows}
 use Rattle.ed_notation.specs.Spellings.{canonicals, text_of}
 use Rattle.ed_syntax.specs.declared.program.Line.{Line}
 use Rattle.ed_link.specs.Refusals.{IsAcceptedAs}

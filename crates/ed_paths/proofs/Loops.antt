@@ -1,5 +1,5 @@
 -- Loops of a path: its turn is a path, and so is the whole.
-use Rattle.std.proofs.Common.{◌≡◌, ℕ, zero, suc, ◌+◌, ◌*◌, ◌<◌, refl, ap, arith, List, [], ◌∷◌, ◌++◌, length}
+use Rattle.std.proofs.Common.{◌≡◌, ℕ, zero, suc, ◌+◌, ◌*◌, ◌<◌, arith, List, [], ◌∷◌, ◌++◌}
 use Rattle.ed_paths.proofs.Frames.{Frame, Moment}
 use Rattle.ed_paths.proofs.Paths.{Path, stay, followed}
 

@@ -1,11 +1,6 @@
 -- Lines whose locations are after those of all earlier lines have no fault.
-use Rattle.std.proofs.Common.{◌≡◌, ◌∙◌, ℕ, ◌+◌, ◌≤◌, Bool, true, false, List, [], ◌∷◌, ◌++◌, refl, ap, arith, length}
-use Rattle.std.proofs.Common.{nat_le, nat_lt}
-use Rattle.std.specs.Prelude.{max, min, Option, Some, None, is_none}
-use Rattle.std.specs.List.{list_all, list_any}
-use Rattle.std.proofs.lemmas.Bool.{and_parts}
-use Rattle.std.proofs.lemmas.List.Folds.{list_all-append}
-use Rattle.ed_words.proofs.Numbers.{le_of, le_true, lt_false}
+use Rattle.std.proofs.Common.{◌≡◌, ℕ, ◌+◌, ◌≤◌, Bool, true, false, List, refl, arith, length}
+use Rattle.std.specs.Prelude.{Option, Some, None, is_none}
 use Rattle.ed_words.specs.Sizes.{locations}
 use Rattle.ed_words.specs.Texts.{Text}
 use Rattle.ed_words.specs.declared.size.Size.{Size}
@@ -13,21 +8,16 @@ use Rattle.ed_library.specs.Routines.{find}
 use Rattle.ed_syntax.specs.Parts.{array}
 use Rattle.ed_syntax.specs.declared.program.Setting.{Setting}
 use Rattle.ed_syntax.specs.declared.program.Statement.TheVariants as statements
-use Rattle.ed_symbols.specs.declared.location_counter.LocationCounter.{LocationCounter}
 use Rattle.ed_symbols.specs.declared.symbols.Definition.{Definition}
 use Rattle.ed_symbols.specs.Names.{place_on}
 use Rattle.ed_symbols.specs.Places.{even_from, routine_places}
 use Rattle.ed_sources.proofs.Said.{said}
-use Rattle.ed_syntax.specs.declared.fault.SourceCause.{SourceCause}
-use Rattle.ed_syntax.specs.declared.fault.SourceFault.{SourceFault}
-use Rattle.ed_symbols.specs.Faults.{or_later}
 use Rattle.ed_link.specs.Private.FaultTests.{cause_of, sets}
-use Rattle.ed_link.specs.declared.faults.Extent.{Extent}
-use Rattle.ed_link.proofs.Extents.{apart, are_below, counter, fits_store, past}
+use Rattle.ed_link.proofs.Extents.{ExtentList, apart, are_below, counter, fits_store, past}
 
 -- ---- lines after a program: a block of words, a routine of the library, and the entry
 
-module _ (z : Size) (symbols : List Definition) (extents : List Extent) where
+module _ (z : Size) (symbols : List Definition) (extents : ExtentList) where
   pub block_sound : (l p b g : ℕ) (label : Option Text) (rows : List ℕ) → 56 ≤ p → p + length rows ≤ locations z
       → are_below p extents ≡ true
       → cause_of z symbols true (past extents) (said l label (statements.Text (array rows))) (counter p b g) ≡ None

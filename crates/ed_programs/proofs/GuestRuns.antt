@@ -1,17 +1,12 @@
 -- What the command `run` answers to a source that enters the checking routine.
-use Rattle.std.proofs.Common.{◌≡◌, inl, inr, ℕ, zero, suc, ◌+◌, ◌<◌, ◌≤◌, refl, sym, ap, subst, arith}
-use Rattle.std.proofs.Common.{true, true≢false, List, length}
+use Rattle.std.proofs.Common.{◌≡◌, inl, ℕ, zero, suc, ◌+◌, ◌<◌, ◌≤◌, sym, subst, arith}
+use Rattle.std.proofs.Common.{List, length}
 use Rattle.std.specs.Prelude.{None, Result, Ok, Err, String, string_bytes}
 use Rattle.std.specs.declared.alloc.Global.{Global}
-use Rattle.std.proofs.lemmas.Bool.{cases_lt}
 use Rattle.ed_words.specs.Sizes.{locations}
 use Rattle.ed_words.proofs.SizeLemmas.{most}
 use Rattle.ed_words.specs.Texts.{Text}
 use Rattle.ed_machine.specs.State.{State}
-use Rattle.ed_machine.specs.OrderTable.{step}
-use Rattle.ed_machine.specs.Steps.{AreObeyed, Progress, is_obeyed, progress, state_after, stops_of}
-use Rattle.ed_machine.specs.declared.turn.Turn.{Turn}
-use Rattle.ed_machine.specs.declared.turn.Turn.TheVariants.{Went, Printed, Stopped, NoOrder, NoTape}
 use Rattle.ed_machine.proofs.Steps.{no_step}
 use Rattle.ed_routines.proofs.Journeys.{ComesToStop}
 use Rattle.ed_syntax.specs.Sources.{IsProgram}
@@ -21,7 +16,7 @@ use Rattle.ed_link.specs.Refusals.{IsAcceptedAs}
 use Rattle.ed_loads.specs.EntryState.{entry_state}
 use Rattle.ed_printer.specs.Paper.{paper}
 use Rattle.ed_checker.specs.Checker.{checked_codes, checked_orders, guest, planting_place}
-use Rattle.ed_checker.specs.Laws.{ChecksToStop, HasGuest}
+use Rattle.ed_checker.specs.Laws.{HasGuest}
 use Rattle.ed_checker.proofs.Follow.{checker_law}
 use Rattle.ed_sources.proofs.CheckedPaper.{checks_to_stop}
 use Rattle.ed_sources.proofs.Stops.{comes_to_stop}

@@ -1,25 +1,19 @@
 -- At the entry of a source that enters the checking routine the routine is at the start of a turn, with the guest at H.
-use Rattle.std.proofs.Common.{◌≡◌, ◌∙◌, ℕ, zero, suc, ◌+◌, ◌-◌, ◌*◌, ◌/◌, ◌%◌, ◌^◌, ◌<◌, ◌≤◌}
+use Rattle.std.proofs.Common.{◌≡◌, ◌∙◌, ℕ, ◌+◌, ◌-◌, ◌*◌, ◌/◌, ◌%◌, ◌^◌, ◌<◌, ◌≤◌}
 use Rattle.std.proofs.Common.{refl, sym, ap, subst, arith, lit<}
-use Rattle.std.proofs.Common.{Bool, true, false, true≢false, ◌&&◌, ◌||◌, nat_eq, nat_le, List}
-use Rattle.std.proofs.Common.{◌++◌, get_or, length, map, Some}
-use Rattle.std.specs.Prelude.{◌==◌, None, if◌then◌else◌, position, slice_index}
-use Rattle.std.proofs.lemmas.Bool.{and_parts}
-use Rattle.std.proofs.lemmas.Bool.Decides.{nat_tests}
+use Rattle.std.proofs.Common.{Bool, true, false, true≢false, ◌||◌, nat_eq, List}
+use Rattle.std.proofs.Common.{◌++◌, get_or, length, map}
+use Rattle.std.specs.Prelude.{None}
 use Rattle.std.proofs.lemmas.List.{get_or-replicate}
-use Rattle.std.proofs.lemmas.List.Quantifiers.{position-Some}
 use Rattle.std.proofs.Math.ListN.{get_or-map}
 use Rattle.ed_words.specs.declared.size.Size.{Size}
 use Rattle.ed_words.specs.Sizes.{locations}
 use Rattle.ed_words.specs.Words.{address_of, long_of_halves}
-use Rattle.ed_words.proofs.SizeLemmas.{least, most}
+use Rattle.ed_words.proofs.SizeLemmas.{most}
 use Rattle.ed_words.specs.Texts.{Text}
 use Rattle.ed_words.specs.declared.order_words.TheConstants.{A_F}
-use Rattle.ed_codes.specs.Spelling.{letters, row_of}
-use Rattle.ed_codes.specs.Text.{Spells, none, row, spacing, comment}
-use Rattle.ed_codes.specs.Reading.{IsReadingOf, reading, rows}
+use Rattle.ed_codes.specs.Text.{row}
 use Rattle.ed_codes.proofs.Below.{from_below}
-use Rattle.ed_codes.proofs.Every.{every_text}
 use Rattle.ed_store.specs.Cells.{even, long_at, odd, sandwich_at, short_at}
 use Rattle.ed_machine.specs.State.{State}
 use Rattle.ed_machine.specs.Sound.{IsSound}

@@ -12,11 +12,10 @@ use Rattle.ed_syntax.specs.declared.program.Operand.TheVariants as operands
 use Rattle.ed_syntax.specs.declared.program.Statement.{Statement}
 use Rattle.ed_syntax.specs.declared.program.Statement.TheVariants as statements
 use Rattle.ed_words.specs.declared.size.Size.TheVariants.{Small, Full}
-use Rattle.ed_words.specs.declared.order_words.TheConstants.{G_F, O_F, Z_F}
+use Rattle.ed_words.specs.declared.order_words.TheConstants.{G_F, Z_F}
 use Rattle.ed_symbols.specs.Faults.{resolution}
 use Rattle.ed_symbols.specs.Places.{even_from, first_counter}
 use Rattle.ed_link.specs.Private.FaultTests.{extent, fault, fault_from, missing, sooner}
-use Rattle.ed_link.specs.declared.faults.Extent.{Extent}
 use Rattle.ed_link.specs.Linked.{symbols_of, linked_words}
 use Rattle.ed_paths.proofs.Places.{IsOutside}
 use Rattle.ed_routines.proofs.Lines.{newline_line}
@@ -26,7 +25,7 @@ use Rattle.ed_programs.specs.Hello.{EachTextIsPrinted, IsRows, hello_data, hello
 use Rattle.ed_programs.specs.Hello.{hello_rows}
 use Rattle.ed_programs.specs.Hello.{hello_text, is_capital, of_letters}
 use Rattle.ed_programs.proofs.Capitals.{are_rows, letters_shown}
-use Rattle.ed_link.proofs.Extents.{counter, one_by_one, past}
+use Rattle.ed_link.proofs.Extents.{ExtentList, counter, one_by_one, past}
 use Rattle.ed_programs.proofs.ProgramEntry.{stops_by}
 use Rattle.ed_programs.proofs.SourceRuns.{read_runs}
 use Rattle.ed_programs.proofs.TextLines.{IsAround, all_plain, number_says, text_mark}
@@ -164,7 +163,7 @@ module _ (rows : List ℕ) (few : length rows ≤ 41) where
       rw (c, d, a, b) refl
 
   -- the extents of the lines before the text
-  abbrev extents : List Extent
+  abbrev extents : ExtentList
   extents = extent 56 56 ∷ extent 56 56 ∷ extent 56 56 ∷ extent 56 56 ∷ one_by_one 13 56 ++ extent 69 69 ∷ []
 
   placed_well : (z : Size) → fault_from z (symbols_of lines) true (past extents) (counter 69 69 2)

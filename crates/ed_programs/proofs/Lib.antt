@@ -1,4 +1,3 @@
-pub mod WovenLines
 pub mod SourceLines
 pub mod Faults
 pub mod SourceRuns

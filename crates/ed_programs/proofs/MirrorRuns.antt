@@ -1,13 +1,13 @@
 -- What `examples/mirror.tape` prints, for any word.
 use Rattle.std.proofs.Common.{◌≡◌, ◌∙◌, ℕ, zero, suc, ◌+◌, ◌*◌, ◌≤◌, true, List, [], ◌∷◌, ◌++◌}
 use Rattle.std.proofs.Common.{refl, sym, ap, subst, arith}
-use Rattle.std.proofs.Common.{append_assoc, append-nil, get_or, length, length-append, nat_lt}
+use Rattle.std.proofs.Common.{append_assoc, append-nil, get_or, length, length-append}
 use Rattle.std.specs.Prelude.{Option, Some, None, reverse}
 use Rattle.std.specs.Fmt.{decimal}
 use Rattle.std.specs.List.{list_all}
 use Rattle.std.proofs.lemmas.Bool.{and_parts}
 use Rattle.std.proofs.lemmas.List.{length-map, length-reverse, reverse-append}
-use Rattle.ed_words.proofs.Numbers.{le_of, lt_of}
+use Rattle.ed_words.proofs.Numbers.{le_of}
 use Rattle.ed_words.specs.Texts.{Text}
 use Rattle.ed_codes.specs.Reading.{IsReadingOf, reading, rows}
 use Rattle.ed_codes.specs.Spelling.{row_of}

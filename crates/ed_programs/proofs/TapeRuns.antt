@@ -1,10 +1,9 @@
 -- The outcome of a tape whose program reaches its stop, as the answer of the command `tape`.
 use Rattle.std.proofs.Common.{◌≡◌, ◌∙◌, inl, ℕ, ◌+◌, ◌-◌, ◌≤◌, refl, sym, ap, subst, arith, lit≤, true, List, []}
 use Rattle.std.proofs.Common.{◌∷◌, ◌++◌, codes, length, get_or}
-use Rattle.std.specs.Prelude.{None, Some, Option, Result, Ok, Err, String}
+use Rattle.std.specs.Prelude.{None, Option, Result, Ok, Err, String}
 use Rattle.std.specs.declared.alloc.Global.{Global}
 use Rattle.std.specs.List.{list_all}
-use Rattle.ed_words.proofs.Numbers.{eq_of}
 use Rattle.ed_words.specs.Texts.{Text}
 use Rattle.ed_report.specs.Notes.{at_after}
 use Rattle.ed_answers.specs.declared.input.TheConstants.{INPUT_BYTES}
@@ -25,7 +24,7 @@ use Rattle.ed_initial.proofs.Quiet.{LeadsIn, comes_in}
 use Rattle.ed_run.specs.Run.{RunEnd, run_end}
 use Rattle.ed_run.proofs.Later.{ran_later}
 use Rattle.ed_printer.specs.Paper.{paper}
-use Rattle.ed_paths.proofs.Standing.{Holds, Meets}
+use Rattle.ed_paths.proofs.Standing.{Holds}
 use Rattle.ed_routines.proofs.Journeys.{ComesToStop}
 use Rattle.ed_sources.proofs.Stops.{ran_to_stop}
 use Rattle.ed_sources.proofs.Decimals.{among, numbers}

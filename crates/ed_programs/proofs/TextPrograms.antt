@@ -23,7 +23,6 @@ use Rattle.ed_symbols.specs.Names.{place_on}
 use Rattle.ed_symbols.specs.Places.{even_from}
 use Rattle.ed_link.specs.Linked.{placed_words, linked_words}
 use Rattle.ed_link.specs.Private.FaultTests.{extent, fault_from}
-use Rattle.ed_link.specs.declared.faults.Extent.{Extent}
 use Rattle.ed_loads.specs.EntryState.{entry_state}
 use Rattle.ed_routines.specs.Catalogue.{newline}
 use Rattle.ed_routines.proofs.Journeys.{HasRoutine}
@@ -32,7 +31,7 @@ use Rattle.ed_sources.proofs.Blocks.{beside_block, block_places, in_block, last_
 use Rattle.ed_sources.proofs.Blocks.{word_of}
 use Rattle.ed_sources.proofs.Entries.{frame_at}
 use Rattle.ed_sources.proofs.Said.{said}
-use Rattle.ed_link.proofs.Extents.{are_below, counter, none_later, one_more, past}
+use Rattle.ed_link.proofs.Extents.{ExtentList, are_below, counter, none_later, one_more, past}
 use Rattle.ed_programs.proofs.Faults.{block_sound, enter_sound, use_sound}
 
 -- ---- faults
@@ -46,7 +45,7 @@ last_lines k label rows name main =
     ∷ []
 
 -- they have none, where the lines before them have these extents, which end at p
-pub text_sound : (z : Size) (symbols : List Definition) (extents : List Extent) (p b g k : ℕ) (label name main : Text)
+pub text_sound : (z : Size) (symbols : List Definition) (extents : ExtentList) (p b g k : ℕ) (label name main : Text)
     (rows : List ℕ) → 56 ≤ p → p + length rows ≤ 500 → are_below p extents ≡ true → place_on symbols None main ≡ Some 56
     → fault_from z symbols true (past extents) (counter p b g) (last_lines k label rows name main) ≡ None
 text_sound z symbols extents p b g k label name main rows low high first place =

@@ -4,8 +4,9 @@ use Rattle.std.specs.Prelude.{if◌then◌else◌, Option, Some, None}
 use Rattle.std.specs.Fmt.{decimal}
 use Rattle.std.specs.List.{list_all}
 use Rattle.ed_words.specs.Texts.{Text}
+use Rattle.ed_sources.specs.Calls.{woven_text}
 use Rattle.ed_programs.specs.Hello.{is_capital}
-use Rattle.ed_programs.specs.Programs.{spread_pieces, woven_text}
+use Rattle.ed_programs.specs.Programs.{spread_pieces}
 use Rattle.ed_programs.specs.declared.mirror.TheConstants.{MIRROR}
 use Rattle.ed_programs.specs.declared.refusal.Refusal.{Refusal}
 use Rattle.ed_programs.specs.declared.refusal.Refusal.TheVariants.{Length, Letter}

@@ -33,12 +33,6 @@ pub record SourceRuns (s : Settings) (source : Text) (orders at : ℕ) (text : T
         status = 0;
       })
 
--- the pieces of a program's text, with the data between them
-abbrev pub woven_text : List Text → List Text → Text
-woven_text [] ds = []
-woven_text (piece ∷ pieces) [] = piece ++ woven_text pieces []
-woven_text (piece ∷ pieces) (d ∷ ds) = piece ++ (d ++ woven_text pieces ds)
-
 -- the two pieces around k + 1 data, and a text between each two of these
 abbrev pub spread_pieces : ℕ → Text → List Text → List Text
 spread_pieces k next [] = []

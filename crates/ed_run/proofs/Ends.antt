@@ -59,6 +59,7 @@ ends_once {limit} {resumes} {room} {s} {j} {k} {d} {e} g h =
                 (same, same_Some d e (sym g.now ∙ ap (λ i. end_at limit resumes room i (progress i s)) same ∙ h.now))
           ]
     ]
+
 -- what a run leaves is what the function gives
 pub run_left : {limit resumes : ℕ} {s : State} {sheet : Sheet} {ending : Ending} {last : State} {full : Sheet}
     → IsRun limit resumes s sheet ending last full

@@ -1,16 +1,16 @@
 -- The words in the store at the entry of a source's program.
-use Rattle.std.proofs.Common.{◌≡◌, ℕ, ◌+◌, ◌-◌, ◌<◌, ◌≤◌, refl, ap, ◌∙◌, arith, Bool, true, List, [], ◌∷◌}
-use Rattle.std.proofs.Common.{length, length-append, drop, get_or, nat_eq, nat_lt}
+use Rattle.std.proofs.Common.{◌≡◌, ℕ, ◌+◌, ◌-◌, ◌<◌, ◌≤◌, ◌∙◌, arith, Bool, true, List, [], ◌∷◌}
+use Rattle.std.proofs.Common.{length, length-append, drop, nat_eq, nat_lt}
 use Rattle.std.specs.Prelude.{replicate, reverse, unwrap_or}
 use Rattle.std.specs.List.{list_all}
 use Rattle.std.proofs.lemmas.Bool.{and_parts}
-use Rattle.std.proofs.lemmas.List.{get_or-append_right, get_or-drop, get_or-replicate, length-drop, length-replicate}
+use Rattle.std.proofs.lemmas.List.{length-drop, length-replicate}
 use Rattle.ed_words.specs.declared.size.Size.{Size}
 use Rattle.ed_words.proofs.Numbers.{eq_of, lt_of}
 use Rattle.ed_store.specs.Cells.{short_at}
 use Rattle.ed_notation.specs.Checks.{ArePlaces}
 use Rattle.ed_notation.specs.Fold.{over, placed_at}
-use Rattle.ed_notation.proofs.Contents.{content_is, length-over}
+use Rattle.ed_notation.proofs.Contents.{length-over}
 use Rattle.ed_initial.specs.Rests.{initial_words}
 use Rattle.ed_library.specs.Images.{image_word}
 use Rattle.ed_library.specs.Routines.{place_count}

@@ -1,15 +1,12 @@
 -- What the guest of `call check N` prints has room on the paper, and the machine's orders lead to its stop.
-use Rattle.std.proofs.Common.{◌≡◌, inl, inr, ℕ, zero, suc, ◌+◌, ◌*◌, ◌/◌, ◌%◌}
-use Rattle.std.proofs.Common.{◌<◌, ◌≤◌, refl, sym, ap, subst, arith, true, true≢false}
+use Rattle.std.proofs.Common.{ℕ, zero, suc, ◌+◌, ◌*◌, ◌/◌, ◌%◌}
+use Rattle.std.proofs.Common.{◌<◌, ◌≤◌, ap, subst, arith}
 use Rattle.std.proofs.Common.{List, [], ◌∷◌, length, length-append}
-use Rattle.std.proofs.lemmas.Bool.{cases_lt}
 use Rattle.ed_words.specs.declared.size.Size.{Size}
 use Rattle.ed_words.specs.Words.{function_of}
 use Rattle.ed_machine.specs.State.{State}
 use Rattle.ed_machine.specs.OrderTable.{next_word, step}
-use Rattle.ed_machine.specs.Steps.{AreObeyed, Progress, codes_of, is_obeyed, progress, state_after, stops_of}
-use Rattle.ed_machine.specs.declared.turn.Turn.{Turn}
-use Rattle.ed_machine.specs.declared.turn.Turn.TheVariants.{Went, Printed, Stopped, NoOrder, NoTape}
+use Rattle.ed_machine.specs.Steps.{Progress, codes_of, state_after}
 use Rattle.ed_loads.specs.EntryState.{entry_state}
 use Rattle.ed_paths.proofs.Leads.{all_go}
 use Rattle.ed_routines.specs.Digits.{before_units, print_orders, sum, without_zeros}

@@ -1,20 +1,23 @@
 -- The source of `demo` is accepted.
 use Rattle.std.proofs.Common.{◌≡◌, ◌∙◌, ℕ, zero, suc, ◌+◌, ◌*◌, ◌<◌, ◌≤◌, codes, true, [], ◌∷◌, ◌++◌, refl}
-use Rattle.std.proofs.Common.{arith, length, length-append}
+use Rattle.std.proofs.Common.{List, ap, sym, arith, length, length-append}
 use Rattle.std.specs.Prelude.{Ok}
 use Rattle.std.specs.Fmt.{decimal}
 use Rattle.std.specs.List.{list_all}
+use Rattle.std.proofs.lemmas.Grind.{flat_map-append}
 use Rattle.std.proofs.lemmas.List.Folds.{list_all-append}
+use Rattle.ed_words.specs.Texts.{Text}
 use Rattle.ed_sources.proofs.Decimals.{both}
 use Rattle.ed_syntax.specs.Parts.{is_line_byte}
 use Rattle.ed_syntax.specs.Private.SourceReading.{program_of}
 use Rattle.ed_sources.specs.Accepted.{EachDemoIsAccepted}
-use Rattle.ed_sources.specs.Demo.{adding, number_after, demo_source, demo_text, next, segments, word_lines}
-use Rattle.ed_sources.specs.Demo.{number_word}
+use Rattle.ed_sources.specs.Calls.{text_of_lines}
+use Rattle.ed_sources.specs.Demo.{adding_pieces, demo_text, next, number_after, number_word, segments, word_lines}
 use Rattle.ed_sources.proofs.CallsAccepted.{accepted_as, decimal_plain}
 use Rattle.ed_sources.proofs.DemoFaultless.{demo_faultless}
-use Rattle.ed_sources.proofs.SaidDemo.{demo_lines, demo_says}
+use Rattle.ed_sources.proofs.SaidDemo.{adding, demo_lines, demo_says, demo_source}
 use Rattle.ed_sources.proofs.TextLines.{program_is, said_lines}
+use Rattle.ed_sources.proofs.WovenLines.{woven_is}
 
 -- ---- bytes of lines
 
@@ -62,12 +65,19 @@ segments_count (suc n) k x =
 
 -- ---- what the source is read as
 
-pub demo_read : (n : ℕ) → n ≤ 112 → program_of (demo_text n) ≡ Ok (demo_lines n)
+demo_text_is : (n : ℕ) → demo_text n ≡ text_of_lines (demo_source n)
 unfolding demo_text
+demo_text_is n =
+    let rest : List Text = segments n 1 n ++ codes "enter main" ∷ [] in
+    ap (λ (t : Text). t ++ text_of_lines rest) (sym (woven_is adding_pieces (decimal (8 * n) ∷ []) refl))
+    ∙ sym (flat_map-append (λ line. line ++ 10 ∷ []) (adding (8 * n)) rest)
+
+pub demo_read : (n : ℕ) → n ≤ 112 → program_of (demo_text n) ≡ Ok (demo_lines n)
 demo_read n few =
     let count = segments_count n 1 n in
     let long = length-append (segments n 1 n) (codes "enter main" ∷ []) in
-    program_is (demo_source n) (demo_lines n) (demo_plain n few) refl
+    ap program_of (demo_text_is n)
+    ∙ program_is (demo_source n) (demo_lines n) (demo_plain n few) refl
     (said_lines (demo_says n few) (omega (arith, count, long)))
 
 pub demos_accepted : EachDemoIsAccepted

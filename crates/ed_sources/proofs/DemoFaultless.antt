@@ -1,30 +1,26 @@
 -- The source of `demo` has no fault of meaning, as long as its words are within the store.
-use Rattle.std.proofs.Common.{◌≡◌, ◌∙◌, ℕ, zero, suc, ◌+◌, ◌*◌, ◌≤◌, Bool, true, false, List, [], ◌∷◌, ◌++◌}
+use Rattle.std.proofs.Common.{◌≡◌, ◌∙◌, ℕ, zero, suc, ◌+◌, ◌*◌, ◌≤◌, true, false, List, [], ◌∷◌, ◌++◌}
 use Rattle.std.proofs.Common.{refl, sym, ap, subst, arith}
-use Rattle.std.proofs.Common.{codes, length, nat_le, nat_lt}
+use Rattle.std.proofs.Common.{codes, length, nat_lt}
 use Rattle.std.specs.Prelude.{max, min, Option, None}
-use Rattle.std.specs.List.{list_all, list_any}
-use Rattle.std.proofs.lemmas.Bool.{and_parts}
-use Rattle.std.proofs.lemmas.List.Folds.{list_all-append}
-use Rattle.ed_words.proofs.Numbers.{le_of, le_true, lt_false}
+use Rattle.ed_words.proofs.Numbers.{lt_false}
 use Rattle.ed_words.specs.Sizes.{locations}
 use Rattle.ed_words.specs.declared.size.Size.{Size}
 use Rattle.ed_words.specs.declared.size.Size.TheVariants.{Small, Full}
 use Rattle.ed_words.specs.Texts.{Text}
-use Rattle.ed_syntax.specs.declared.fault.SourceCause.{SourceCause}
 use Rattle.ed_syntax.specs.declared.fault.SourceFault.{SourceFault}
 use Rattle.ed_syntax.specs.declared.program.Line.{Line}
 use Rattle.ed_syntax.specs.declared.program.Statement.TheVariants as statements
 use Rattle.ed_symbols.specs.declared.location_counter.LocationCounter.{LocationCounter}
 use Rattle.ed_symbols.specs.declared.symbols.Definition.{Definition}
-use Rattle.ed_symbols.specs.Faults.{or_later, resolution}
+use Rattle.ed_symbols.specs.Faults.{resolution}
 use Rattle.ed_symbols.specs.Names.{symbols_from}
 use Rattle.ed_symbols.specs.Places.{first_counter}
 use Rattle.ed_link.specs.Private.FaultTests.{any_enter, cause_of, extent, fault, fault_from, missing}
 use Rattle.ed_link.specs.Private.FaultTests.{sooner}
 use Rattle.ed_link.specs.Linked.{symbols_of}
-use Rattle.ed_link.specs.declared.faults.Extent.{Extent}
-use Rattle.ed_link.proofs.Extents.{apart, are_below, counter, fits_store, none_later, one_by_one, one_more, past}
+use Rattle.ed_link.proofs.Extents.{ExtentList, apart, are_below, counter, fits_store, none_later, one_by_one}
+use Rattle.ed_link.proofs.Extents.{one_more, past}
 use Rattle.ed_sources.specs.Demo.{number_after, next, number_word}
 use Rattle.ed_sources.proofs.Decimals.{decimal_is}
 use Rattle.ed_sources.proofs.DemoNames.{enter_named, first_free, first_homes, program_named, segments_named}
@@ -36,7 +32,7 @@ use Rattle.ed_sources.proofs.Said.{said}
 -- ---- locations
 
 -- the extents of the program and of the line of the first segment
-abbrev first_extents : List Extent
+abbrev first_extents : ExtentList
 first_extents = extent 56 56 ∷ one_by_one 16 56 ++ extent 72 123 ∷ extent 123 123 ∷ []
 
 -- ---- no line has one of the faults S9 to S17
@@ -46,7 +42,7 @@ abbrev pub lines_behind : ℕ → ℕ → ℕ → List Line
 lines_behind n x l = word_forms 8 20 x ++ segment_forms n 2 28 (number_after 8 x) ++ enter_line l ∷ []
 
 -- no line from a location counter onwards has one, if the lines before them have these extents
-record AreSound (z : Size) (symbols : List Definition) (extents : List Extent) (s : LocationCounter) (lines : List Line)
+record AreSound (z : Size) (symbols : List Definition) (extents : ExtentList) (s : LocationCounter) (lines : List Line)
     : Type 0 where
   none : fault_from z symbols true (past extents) s lines ≡ None
 
@@ -54,7 +50,7 @@ module _ (z : Size) (rest_homes : List Definition) where
   abbrev symbols : List Definition
   symbols = first_homes ++ rest_homes
 
-  word_sound : (l w p b g : ℕ) (extents : List Extent) → (56 ≤ p) × (p + 1 ≤ locations z) → are_below p extents ≡ true
+  word_sound : (l w p b g : ℕ) (extents : ExtentList) → (56 ≤ p) × (p + 1 ≤ locations z) → are_below p extents ≡ true
       → cause_of z symbols true (past extents) (said l None (statements.Number w)) (counter p b g) ≡ None
   word_sound l w p b g extents inside below =
       let s = fits_store (locations z) p (p + 1) inside.0 inside.1 in
@@ -62,7 +58,7 @@ module _ (z : Size) (rest_homes : List Definition) where
       let others = apart p p (p + 1) extents (omega arith) below in
       rw (loader, parameters, store, others) refl
 
-  segment_sound : (l p b g : ℕ) (n : Text) (extents : List Extent) → are_below p extents ≡ true
+  segment_sound : (l p b g : ℕ) (n : Text) (extents : ExtentList) → are_below p extents ≡ true
       → cause_of z symbols true (past extents) (segment_line l n) (counter p b g) ≡ None
   segment_sound l p b g n extents below =
       let loader : nat_lt (max p 0) (min p 44) ≡ false = lt_false (max p 0) (min p 44) (omega arith) in
@@ -72,9 +68,9 @@ module _ (z : Size) (rest_homes : List Definition) where
       let others = apart p p p extents (omega arith) below in
       rw (loader, parameters, store, others) refl
 
-  words_sound : (n l x : ℕ) {p b g : ℕ} {extents : List Extent} {rest : List Line} → 56 ≤ p → p + n ≤ locations z
+  words_sound : (n l x : ℕ) {p b g : ℕ} {extents : ExtentList} {rest : List Line} → 56 ≤ p → p + n ≤ locations z
       → are_below p extents ≡ true
-      → ((more : List Extent) → are_below (p + n) more ≡ true → AreSound z symbols more (counter (p + n) b g) rest)
+      → ((more : ExtentList) → are_below (p + n) more ≡ true → AreSound z symbols more (counter (p + n) b g) rest)
       → AreSound z symbols extents (counter p b g) (word_forms n l x ++ rest)
   words_sound zero l x {p} {b} {g} {extents} {rest} low fits below behind =
       let e : p + 0 ≡ p = omega arith in
@@ -91,9 +87,9 @@ module _ (z : Size) (rest_homes : List Definition) where
         none = none_later l _ _ (word_sound l (number_word (next x)) p b g extents (low, omega arith) below) more.none;
       }
 
-  segments_sound : (n k l x : ℕ) {p b g : ℕ} {extents : List Extent} {rest : List Line} → 56 ≤ p
+  segments_sound : (n k l x : ℕ) {p b g : ℕ} {extents : ExtentList} {rest : List Line} → 56 ≤ p
       → p + 8 * n ≤ locations z → are_below p extents ≡ true
-      → ((more : List Extent) (q c h : ℕ) → are_below q more ≡ true → AreSound z symbols more (counter q c h) rest)
+      → ((more : ExtentList) (q c h : ℕ) → are_below q more ≡ true → AreSound z symbols more (counter q c h) rest)
       → AreSound z symbols extents (counter p b g) (segment_forms n k l x ++ rest)
   segments_sound zero k l x {p} {b} {g} {extents} low fits below behind = behind extents p b g below
   segments_sound (suc n) k l x {p} {b} {g} {extents} {rest} low fits below behind =
@@ -103,7 +99,7 @@ module _ (z : Size) (rest_homes : List Definition) where
       (λ more under. segments_sound n (k + 1) (l + 9) (number_after 8 x) (omega arith) (omega arith) under behind) in
       record { none = none_later l _ _ (segment_sound l p b g (name k) extents below) more.none }
 
-  enter_sound : (l q b g : ℕ) (extents : List Extent) → are_below q extents ≡ true
+  enter_sound : (l q b g : ℕ) (extents : ExtentList) → are_below q extents ≡ true
       → AreSound z symbols extents (counter q b g) (enter_line l ∷ [])
   enter_sound l q b g extents below =
       let store : nat_lt (max 56 (locations z)) (min 57 57) ≡ false = within z in

@@ -5,7 +5,7 @@ use Rattle.std.specs.Fmt.{decimal}
 use Rattle.std.proofs.lemmas.Grind.{flat_map-append}
 use Rattle.ed_words.specs.Texts.{Text}
 use Rattle.ed_sources.specs.Calls.{text_of_lines}
-use Rattle.ed_sources.specs.Demo.{adding, number_after, demo_text, next, segments, word_lines, number_word}
+use Rattle.ed_sources.specs.Demo.{adding_text, number_after, demo_text, next, segments, word_lines, number_word}
 
 -- a line, of those that are left
 pub one_line : (before line digits rest whole : Text) → line ≡ digits ++ codes "\n"
@@ -68,14 +68,13 @@ behind_low zero x small = small
 behind_low (suc n) x small = behind_low n (next x) (omega arith)
 
 -- the program, the segments and the entry are the whole source
-pub whole_source : {program with_segments with_entry : Text} (n : ℕ) → program ≡ text_of_lines (adding (8 * n))
+pub whole_source : {program with_segments with_entry : Text} (n : ℕ) → program ≡ adding_text (8 * n)
     → with_segments ≡ program ++ text_of_lines (segments n 1 n) → with_entry ≡ with_segments ++ codes "enter main\n"
     → with_entry ≡ demo_text n
 unfolding demo_text
 whole_source n first second third =
     let entry : Text = codes "enter main\n" in
     third ∙ ap (λ (t : Text). t ++ entry) (second ∙ ap (λ (t : Text). t ++ text_of_lines (segments n 1 n)) first)
-    ∙ append_assoc (text_of_lines (adding (8 * n))) (text_of_lines (segments n 1 n)) entry
-    ∙ ap (λ (t : Text). text_of_lines (adding (8 * n)) ++ t)
+    ∙ append_assoc (adding_text (8 * n)) (text_of_lines (segments n 1 n)) entry
+    ∙ ap (λ (t : Text). adding_text (8 * n) ++ t)
     (sym (flat_map-append (λ line. line ++ 10 ∷ []) (segments n 1 n) (codes "enter main" ∷ [])))
-    ∙ sym (flat_map-append (λ line. line ++ 10 ∷ []) (adding (8 * n)) (segments n 1 n ++ codes "enter main" ∷ []))

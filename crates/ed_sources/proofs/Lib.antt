@@ -1,4 +1,6 @@
+pub mod WovenLines
 pub mod TextLines
+pub mod CallTexts
 pub mod Decimals
 pub mod Said
 pub mod SaidMaths

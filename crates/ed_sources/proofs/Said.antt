@@ -8,6 +8,7 @@ use Rattle.std.specs.Fmt.{decimal}
 use Rattle.std.specs.List.{list_all}
 use Rattle.std.proofs.lemmas.Bool.{and_parts, not-true}
 use Rattle.std.proofs.lemmas.List.{length-map, map-append}
+use Rattle.std.proofs.lemmas.List.Folds.{list_all-append}
 use Rattle.ed_words.proofs.Numbers.{le_true, lt_false}
 use Rattle.ed_codes.specs.Spelling.{row_of}
 use Rattle.ed_words.specs.Texts.{Text}
@@ -15,16 +16,18 @@ use Rattle.ed_words.specs.Decimals.{is_digit}
 use Rattle.ed_syntax.specs.Parts.{LinePart, run, sign, quoted, is_run_byte}
 use Rattle.ed_syntax.specs.Private.PartReading.{parts_from, parts_of}
 use Rattle.ed_words.specs.Decimals.{value}
-use Rattle.ed_syntax.specs.Parts.{array, is_number, modulo}
+use Rattle.ed_syntax.specs.Parts.{array, is_name, is_number, modulo}
 use Rattle.ed_syntax.specs.Private.Grammar.{form_at, row, settings, spells}
 use Rattle.ed_syntax.specs.Parts.{is_line_byte}
 use Rattle.ed_syntax.specs.Private.SourceReading.{line_of}
 use Rattle.ed_syntax.specs.declared.program.Line.{Line}
 use Rattle.ed_syntax.specs.declared.program.Operand.TheVariants as operands
+use Rattle.ed_syntax.specs.declared.program.Setting.{Setting}
 use Rattle.ed_syntax.specs.declared.program.Statement.{Statement}
 use Rattle.ed_syntax.specs.declared.program.Statement.TheVariants as statements
 use Rattle.ed_syntax.proofs.PartLemmas.{run_parts}
-use Rattle.ed_sources.specs.Calls.{check_source, newline_source, number_line, print_source, read_source}
+use Rattle.ed_call.specs.declared.Call.TheVariants.{Check, NewLine, Print, Read}
+use Rattle.ed_sources.proofs.CallTexts.{call_lines}
 use Rattle.ed_sources.proofs.TextLines.{Says, ends, says, by_parts}
 use Rattle.ed_sources.proofs.Decimals.{are, are_digits, decimal_is, digit_bytes}
 use Rattle.ed_sources.proofs.Decimals.{few_bytes, line_bytes, no_quotes, row_bytes}
@@ -41,85 +44,85 @@ abbrev pub order : ℕ → Text → Statement
 order function name = statements.Order function (operands.Label name (pos 0)) false
 
 -- the two orders of a call of a routine
-abbrev pub calling : ℕ → Text → Text → List Line
+abbrev calling : ℕ → Text → Text → List Line
 calling k label routine = said k (Some label) (order 28 label) ∷ said (k + 1) None (order 27 routine) ∷ []
 
 -- the order Z F
 abbrev pub stop : Statement
 stop = statements.Order 13 (operands.Number 0) false
 
--- `use` with H set to the place `value`
-abbrev pub use_on_value : Text → Text → Statement
-use_on_value routine name =
-    statements.Fetch routine name
-    (array (record { letter = 21; operand = operands.Label (codes "value") (pos 0) } ∷ []))
+-- calls of routines one after the other, by their labels and names, the stop after them, and more lines
+abbrev calls_from : ℕ → List (Text × Text) → List Line → List Line
+calls_from k [] more = said k None stop ∷ more
+calls_from k (c ∷ calls) more = calling k c.0 c.1 ++ calls_from (k + 2) calls more
+
+-- a source whose segment `main` begins with such calls
+abbrev pub main_calls : List (Text × Text) → List Line → List Line
+main_calls calls more = said 1 None (statements.Segment (codes "main") None) ∷ calls_from 2 calls more
+
+-- a parameter set to a name
+abbrev pub at_place : ℕ → Text → Setting
+at_place letter name = record { letter = letter; operand = operands.Label name (pos 0) }
+
+-- `use` with parameters, and with H set to a place
+abbrev pub use_with : Text → Text → List Setting → Statement
+use_with routine name parameters = statements.Fetch routine name (array parameters)
+
+abbrev pub use_on : Text → Text → Text → Statement
+use_on routine name place = use_with routine name (at_place 21 place ∷ [])
 
 abbrev pub print_lines : ℕ → List Line
 print_lines n =
-    said 1 None (statements.Segment (codes "main") None)
-    ∷ calling 2 (codes "here") (codes "p")
-    ++ said 4 None stop
-    ∷ said 5 (Some (codes "value")) (statements.Number n)
-    ∷ said 6 None (use_on_value (codes "print") (codes "p"))
+    main_calls ((codes "here", codes "p") ∷ [])
+    (said 5 (Some (codes "value")) (statements.Number n)
+    ∷ said 6 None (use_on (codes "print") (codes "p") (codes "value"))
     ∷ said 7 None (statements.Enter (codes "main"))
-    ∷ []
+    ∷ [])
 
 abbrev pub read_lines : ℕ → List Line
 read_lines n =
-    said 1 None (statements.Segment (codes "main") None)
-    ∷ calling 2 (codes "here") (codes "r")
-    ++ calling 4 (codes "then") (codes "p")
-    ++ said 6 None stop
-    ∷ said 7 (Some (codes "value")) (statements.Order 0 (operands.Number 0) false)
-    ∷ said 8 None (use_on_value (codes "read") (codes "r"))
-    ∷ said 9 None (use_on_value (codes "print") (codes "p"))
+    main_calls ((codes "here", codes "r") ∷ (codes "then", codes "p") ∷ [])
+    (said 7 (Some (codes "value")) (statements.Order 0 (operands.Number 0) false)
+    ∷ said 8 None (use_on (codes "read") (codes "r") (codes "value"))
+    ∷ said 9 None (use_on (codes "print") (codes "p") (codes "value"))
     ∷ said 10 None (statements.Enter (codes "main"))
     ∷ said 11 None (statements.Rows (array (digits n ++ 17 ∷ [])))
-    ∷ []
+    ∷ [])
 
 abbrev pub newline_lines : List Line
 newline_lines =
-    said 1 None (statements.Segment (codes "main") None)
-    ∷ calling 2 (codes "here") (codes "n")
-    ++ said 4 None stop
-    ∷ said 5 None (statements.Fetch (codes "newline") (codes "n") (array []))
+    main_calls ((codes "here", codes "n") ∷ [])
+    (said 5 None (use_with (codes "newline") (codes "n") [])
     ∷ said 6 None (statements.Enter (codes "main"))
-    ∷ []
+    ∷ [])
 
 abbrev pub check_lines : ℕ → List Line
 check_lines n =
-    said 1 None (statements.Segment (codes "main") None)
-    ∷ calling 2 (codes "here") (codes "p")
-    ++ said 4 None stop
-    ∷ said 5 (Some (codes "value")) (statements.Number n)
-    ∷ said 6 None (use_on_value (codes "print") (codes "p"))
-    ∷ said 7 None (statements.Fetch (codes "check") (codes "c")
-    (array (record { letter = 21; operand = operands.Label (codes "main") (pos 0) } ∷ [])))
+    main_calls ((codes "here", codes "p") ∷ [])
+    (said 5 (Some (codes "value")) (statements.Number n)
+    ∷ said 6 None (use_on (codes "print") (codes "p") (codes "value"))
+    ∷ said 7 None (use_on (codes "check") (codes "c") (codes "main"))
     ∷ said 8 None (statements.Enter (codes "c"))
-    ∷ []
+    ∷ [])
 
 -- a `use` line with H
 print_used : line_of false 6 (codes "use print as p with H=value")
-    ≡ Ok (record { label = None; statement = Some (use_on_value (codes "print") (codes "p")) })
+    ≡ Ok (record { label = None; statement = Some (use_on (codes "print") (codes "p") (codes "value")) })
 unfolding settings
 print_used = refl
 
 read_used : line_of false 8 (codes "use read as r with H=value")
-    ≡ Ok (record { label = None; statement = Some (use_on_value (codes "read") (codes "r")) })
+    ≡ Ok (record { label = None; statement = Some (use_on (codes "read") (codes "r") (codes "value")) })
 unfolding settings
 read_used = refl
 
 print_used_too : line_of false 9 (codes "use print as p with H=value")
-    ≡ Ok (record { label = None; statement = Some (use_on_value (codes "print") (codes "p")) })
+    ≡ Ok (record { label = None; statement = Some (use_on (codes "print") (codes "p") (codes "value")) })
 unfolding settings
 print_used_too = refl
 
 check_used : line_of false 7 (codes "use check as c with H=main")
-    ≡ Ok (record {
-      label = None;
-      statement = Some (statements.Fetch (codes "check") (codes "c")
-          (array (record { letter = 21; operand = operands.Label (codes "main") (pos 0) } ∷ [])));
-    })
+    ≡ Ok (record { label = None; statement = Some (use_on (codes "check") (codes "c") (codes "main")) })
 unfolding settings
 check_used = refl
 
@@ -180,24 +183,43 @@ module _ {k : ℕ} {front : Text} {label : Option Text} {before : List LinePart}
       (number_parts (written ds) some (run_bytes ds (are n small)))
       (a_number (written ds) some (digit_bytes ds (are n small))) (value_is n small) small)
 
+  -- the same in a woven text
+  pub woven_says : (n : ℕ) → n < 65536
+      → line_of false k (front ++ (decimal n ++ []))
+      ≡ Ok (record { label = label; statement = Some (statements.Number n) })
+  woven_says n small = ap (λ (t : Text). line_of false k (front ++ t)) (append-nil (decimal n)) ∙ word_says n small
+
+-- a label that is a name, and `word`
+pub named_front : (k : ℕ) (label : Text) → (k == 1) ≡ false → is_name label ≡ true → length label ≤ 8
+    → list_all is_run_byte label ≡ true → list_all is_line_byte label ≡ true
+    → IsWordFront k (label ++ codes ": word ") (Some label) (label_parts label)
+named_front k [] later named few runs plain = cc
+named_front k (b ∷ bs) later named few runs plain =
+    let label : Text = b ∷ bs in
+    let mark : Text = codes ": word " in
+    record {
+      plain = λ bytes h.
+          list_all-append is_line_byte (label ++ mark) bytes
+          ∙ rw (list_all-append is_line_byte label mark, plain, h) refl;
+      short = let long = length-append label mark in omega (arith, long, few);
+      parts = λ bytes h.
+          ap parts_of (append_assoc label mark bytes) ∙ run_parts b bs (mark ++ bytes) runs refl ∙ rw h refl;
+      form = λ bytes number in_range. rw (later, named, number, in_range) refl;
+    }
+
 value_front : IsWordFront 5 (codes "value: word ") (Some (codes "value")) (label_parts (codes "value"))
-value_front = record {
-  plain = λ bytes h. h;
-  short = lit≤ tt;
-  parts = λ bytes h. rw h refl;
-  form = λ bytes number in_range. rw (number, in_range) refl;
-}
+value_front = named_front 5 (codes "value") refl refl (lit≤ tt) refl refl
 
-pub print_says : (n : ℕ) → n < 65536 → Says 1 (print_source n) (print_lines n)
+pub print_says : (n : ℕ) → n < 65536 → Says 1 (call_lines (Print n)) (print_lines n)
 print_says n small = says refl
-    (says refl (says refl (says refl (says (word_says value_front n small) (says print_used (says refl ends))))))
+    (says refl (says refl (says refl (says (woven_says value_front n small) (says print_used (says refl ends))))))
 
-pub check_says : (n : ℕ) → n < 65536 → Says 1 (check_source n) (check_lines n)
+pub check_says : (n : ℕ) → n < 65536 → Says 1 (call_lines (Check n)) (check_lines n)
 check_says n small =
     says refl (says refl (says refl
-    (says refl (says (word_says value_front n small) (says print_used (says check_used (says refl ends)))))))
+    (says refl (says (woven_says value_front n small) (says print_used (says check_used (says refl ends)))))))
 
-pub newline_says : Says 1 newline_source newline_lines
+pub newline_says : Says 1 (call_lines NewLine) newline_lines
 newline_says = says refl (says refl (says refl (says refl (says refl (says refl ends)))))
 
 -- ---- the line with the rows of a number
@@ -248,17 +270,14 @@ rows_line ds are few =
     (ap (λ (x : List ℕ). Some (Some (record { label = None; statement = Some (statements.Rows (array x)) }))) rows))
 
 read_number : (n : ℕ) → n < 65536
-    → line_of false 11 (number_line n) ≡ Ok (record {
-      label = None;
-      statement = Some (statements.Rows (array (digits n ++ 17 ∷ [])));
-    })
+    → line_of false 11 (codes "data " ++ 34 ∷ decimal n ++ 70 ∷ 34 ∷ [])
+    ≡ Ok (record { label = None; statement = Some (statements.Rows (array (digits n ++ 17 ∷ []))) })
 read_number n small =
-    ap (λ (t : Text). line_of false 11 (codes "data " ++ 34 ∷ t)) (append_assoc (decimal n) (70 ∷ []) (34 ∷ []))
-    ∙ subst (λ (bytes : Text). line_of false 11 (codes "data " ++ 34 ∷ bytes ++ 70 ∷ 34 ∷ [])
+    subst (λ (bytes : Text). line_of false 11 (codes "data " ++ 34 ∷ bytes ++ 70 ∷ 34 ∷ [])
     ≡ Ok (record { label = None; statement = Some (statements.Rows (array (digits n ++ 17 ∷ []))) }))
     (decimal_is n small) (rows_line (digits n) (are n small) (few_bytes n small))
 
-pub read_says : (n : ℕ) → n < 65536 → Says 1 (read_source n) (read_lines n)
+pub read_says : (n : ℕ) → n < 65536 → Says 1 (call_lines (Read n)) (read_lines n)
 read_says n small =
     says refl (says refl (says refl
     (says refl (says refl (says refl (says refl (says read_used (says print_used_too (says refl

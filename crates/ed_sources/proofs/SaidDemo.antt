@@ -22,7 +22,8 @@ use Rattle.ed_syntax.specs.declared.program.Statement.{Statement}
 use Rattle.ed_syntax.specs.declared.program.Statement.TheVariants as statements
 use Rattle.ed_syntax.proofs.PartLemmas.{run_parts}
 use Rattle.ed_routines.specs.Digits.{digits}
-use Rattle.ed_sources.specs.Demo.{adding, number_after, demo_source, next, segments, word_lines, number_word}
+use Rattle.ed_sources.specs.Demo.{adding_pieces, number_after, next, segments, word_lines, number_word}
+use Rattle.ed_sources.proofs.WovenLines.{woven_lines}
 use Rattle.ed_sources.proofs.Decimals.{are, decimal_is, digit_bytes, few_bytes, line_bytes, run_bytes, some_digit}
 use Rattle.ed_sources.proofs.Decimals.{value_is, written}
 use Rattle.ed_sources.proofs.Said.{IsWordFront, a_number, number_parts, order, said, stop, word_says}
@@ -190,6 +191,13 @@ stop_says words few =
     (decimal_is words small)
     (stop_line (written ds) some (line_bytes ds (are words small)) (few_bytes words small) runs
     (a_number (written ds) some (digit_bytes ds (are words small))) (value_is words small) few)
+
+-- the text lines of the program, and of the source
+abbrev pub adding : ℕ → List Text
+adding words = woven_lines adding_pieces (decimal words ∷ [])
+
+abbrev pub demo_source : ℕ → List Text
+demo_source n = adding (8 * n) ++ segments n 1 n ++ codes "enter main" ∷ []
 
 adding_says : (words : ℕ) {rest : List Text} {program : List Line} → words ≤ 1023 → Says 19 rest program
     → Says 1 (adding words ++ rest) (adding_lines words ++ program)

@@ -3,8 +3,7 @@ use Rattle.std.proofs.Common.{◌≡◌, ◌∙◌, List, [], ◌∷◌, ◌++�
 use Rattle.std.specs.Prelude.{◌==◌, Bool, true, false, if◌then◌else◌}
 use Rattle.ed_words.proofs.Numbers.{eq_of}
 use Rattle.ed_words.specs.Texts.{Text}
-use Rattle.ed_sources.specs.Calls.{text_of_lines}
-use Rattle.ed_programs.specs.Programs.{woven_text}
+use Rattle.ed_sources.specs.Calls.{text_of_lines, woven_text}
 
 -- texts with line ends between them
 abbrev ended : List Text → Text

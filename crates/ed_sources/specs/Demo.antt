@@ -1,9 +1,10 @@
--- The source that `demo` runs, line by line (this project's own): it adds up the words of some segments, which come
--- from a sequence of numbers, and prints the sum.
+-- The source that `demo` runs (this project's own): it adds up the words of some segments, which come from a sequence
+-- of numbers, and prints the sum.
 use Rattle.std.specs.Prelude.{ℕ, zero, suc, ◌+◌, ◌*◌, ◌/◌, ◌%◌, List, [], ◌∷◌, ◌++◌, codes, map, sum}
 use Rattle.std.specs.Fmt.{decimal}
 use Rattle.ed_words.specs.Texts.{Text}
-use Rattle.ed_sources.specs.Calls.{text_of_lines}
+use Rattle.ed_sources.specs.Calls.{text_of_lines, woven_text}
+use Rattle.ed_sources.specs.declared.demo.TheConstants.{ADDING}
 
 -- the number after a given one in the sequence
 abbrev pub next : ℕ → ℕ
@@ -40,34 +41,13 @@ abbrev pub segments : ℕ → ℕ → ℕ → List Text
 segments zero k x = []
 segments (suc n) k x = (codes "segment s" ++ decimal k) ∷ word_lines 8 x ++ segments n (k + 1) (number_after 8 x)
 
--- the program for a number of words: the order at `add` adds them one after the other, until it equals the order at
--- `stop`, which would add the word after the last
-abbrev pub adding : ℕ → List Text
-adding words =
-    codes "segment main"
-    ∷ codes "loop: T junk F"
-    ∷ codes "A total F"
-    ∷ codes "add: A s1 F"
-    ∷ codes "T total F"
-    ∷ codes "A add F"
-    ∷ codes "A 2 F"
-    ∷ codes "U add F"
-    ∷ codes "S stop F"
-    ∷ codes "G loop F"
-    ∷ codes "T junk F"
-    ∷ codes "here: A here F"
-    ∷ codes "G p F"
-    ∷ codes "Z F"
-    ∷ (codes "stop: A s1+" ++ decimal words ++ codes " F")
-    ∷ codes "junk: P F"
-    ∷ codes "total: P F"
-    ∷ codes "use print as p with H=total"
-    ∷ []
+-- the pieces of the program, and the program for a number of words
+abbrev pub adding_pieces : List Text
+adding_pieces = map (λ piece. piece.now) ADDING
 
--- the lines of the source of `demo N`: the program, N segments with the words of the numbers after N, and the entry
-abbrev pub demo_source : ℕ → List Text
-demo_source n = adding (8 * n) ++ segments n 1 n ++ codes "enter main" ∷ []
+abbrev pub adding_text : ℕ → Text
+adding_text words = woven_text adding_pieces (decimal words ∷ [])
 
--- the source of `demo N`
+-- the source of `demo N`: the program, N segments with the words of the numbers after N, and the entry
 unfoldable pub demo_text : ℕ → Text
-demo_text n = text_of_lines (demo_source n)
+demo_text n = adding_text (8 * n) ++ text_of_lines (segments n 1 n ++ codes "enter main" ∷ [])

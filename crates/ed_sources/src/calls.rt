@@ -1,12 +1,101 @@
-ghost use Rattle.std.specs.Prelude.{◌≡◌, ◌/◌, ◌%◌, ℕ, IfOk};
-ghost use Rattle.ed_sources.specs.Calls.{call_text, check_source, divide_source, newline_source};
-ghost use Rattle.ed_sources.specs.Calls.{print_source, read_source, root_source, text_of_lines};
+ghost use Rattle.std.specs.Prelude.{◌≡◌, IfOk};
+ghost use Rattle.ed_call.specs.declared.Call.TheVariants.{Check, Divide, NewLine, Print, Read, Root};
+ghost use Rattle.ed_sources.specs.Calls.{call_text};
 ghost use Rattle.ed_sources.specs.Accepted.{EachCallIsAccepted};
 
 use ed_call::Call;
 use ed_report::bytes_of_text;
 use ed_words::NoMemory;
 use std::alloc::Global;
+
+/// `call print N`: the number is a word, and `print` prints it. There is a gap for the number, and so in those below.
+pub const PRINT: [&str; 2] = [
+    "segment main\n\
+    here: A here F\n\
+    G p F\n\
+    Z F\n\
+    value: word ",
+    "\nuse print as p with H=value\n\
+    enter main\n",
+];
+
+/// `call read N`: the number is on the tape after the program, with the F that ends it. `read` reads it, and `print`
+/// prints it.
+pub const READ: [&str; 2] = [
+    "segment main\n\
+    here: A here F\n\
+    G r F\n\
+    then: A then F\n\
+    G p F\n\
+    Z F\n\
+    value: P F\n\
+    use read as r with H=value\n\
+    use print as p with H=value\n\
+    enter main\n\
+    data \"",
+    "F\"\n",
+];
+
+/// `call newline`.
+pub const NEW_LINE: [&str; 1] = [
+    "segment main\n\
+    here: A here F\n\
+    G n F\n\
+    Z F\n\
+    use newline as n\n\
+    enter main\n",
+];
+
+/// `call divide N D`, with the two halves of N and with D: `divide` leaves the quotient at `lo`, which is printed, and
+/// the remainder at `hi`, which is printed on a line of its own.
+pub const DIVIDE: [&str; 4] = [
+    "segment main\n\
+    here: A here F\n\
+    G v F\n\
+    then: A then F\n\
+    G p F\n\
+    next: A next F\n\
+    G n F\n\
+    last: A last F\n\
+    G r F\n\
+    Z F\n\
+    hi: word ",
+    "\nlo: word ",
+    "\nby: word ",
+    "\nuse divide as v with H=hi, N=lo, M=by\n\
+    use print as p with H=lo\n\
+    use newline as n\n\
+    use print as r with H=hi\n\
+    enter main\n",
+];
+
+/// `call root N`: `root` leaves the root at `is`, which is printed.
+pub const ROOT: [&str; 2] = [
+    "segment main\n\
+    here: A here F\n\
+    G v F\n\
+    then: A then F\n\
+    G p F\n\
+    Z F\n\
+    of: word ",
+    "\nis: P F\n\
+    use root as v with H=of, N=is\n\
+    use print as p with H=is\n\
+    enter main\n",
+];
+
+/// `call check N`: the checking routine obeys a guest that prints the number, and prints the function of each order of
+/// the guest.
+pub const CHECK: [&str; 2] = [
+    "segment main\n\
+    here: A here F\n\
+    G p F\n\
+    Z F\n\
+    value: word ",
+    "\nuse print as p with H=value\n\
+    use check as c with H=main\n\
+    enter c\n",
+];
 
 /// The source of a call of a library routine.
 pub fn call_source(alloc: Global, call: &Call) -> Result<Vec<u8>, NoMemory>
@@ -25,61 +114,50 @@ pub fn call_source(alloc: Global, call: &Call) -> Result<Vec<u8>, NoMemory>
 
 /// The source that prints a number.
 fn print_source(alloc: Global, number: u16) -> Result<Vec<u8>, NoMemory>
-    ensures { IfOk result (λ bytes. bytes.items ≡ text_of_lines (print_source number)) }
+    ensures { IfOk result (λ bytes. bytes.items ≡ call_text (Print number)) }
 {
-    bytes_of_text(format!(in alloc;
-        "segment main\nhere: A here F\nG p F\nZ F\nvalue: word {number}\nuse print as p with H=value\nenter main\n"
-    ))
+    let [head, tail] = PRINT;
+    bytes_of_text(format!(in alloc; "{head}{number}{tail}"))
 }
 
 /// The source that reads a number from its tape and prints it.
 fn read_source(alloc: Global, number: u16) -> Result<Vec<u8>, NoMemory>
-    ensures { IfOk result (λ bytes. bytes.items ≡ text_of_lines (read_source number)) }
+    ensures { IfOk result (λ bytes. bytes.items ≡ call_text (Read number)) }
 {
-    bytes_of_text(format!(in alloc;
-        "segment main\nhere: A here F\nG r F\nthen: A then F\nG p F\nZ F\nvalue: P F\n\
-        use read as r with H=value\nuse print as p with H=value\nenter main\ndata \"{number}F\"\n"
-    ))
+    let [head, tail] = READ;
+    bytes_of_text(format!(in alloc; "{head}{number}{tail}"))
 }
 
 /// The source that prints a new line.
 fn newline_source(alloc: Global) -> Result<Vec<u8>, NoMemory>
-    ensures { IfOk result (λ bytes. bytes.items ≡ text_of_lines newline_source) }
+    ensures { IfOk result (λ bytes. bytes.items ≡ call_text NewLine) }
 {
-    bytes_of_text(format!(in alloc;
-        "segment main\nhere: A here F\nG n F\nZ F\nuse newline as n\nenter main\n"
-    ))
+    let [text] = NEW_LINE;
+    bytes_of_text(format!(in alloc; "{text}"))
 }
 
 /// The source that divides a number and prints the quotient and the remainder.
 fn divide_source(alloc: Global, number: u32, by: u16) -> Result<Vec<u8>, NoMemory>
-    ensures { IfOk result (λ bytes. bytes.items ≡ text_of_lines (divide_source (number / 65536) (number % 65536) by)) }
+    ensures { IfOk result (λ bytes. bytes.items ≡ call_text (Divide number by)) }
 {
     let high = number / 65536;
     let low = number % 65536;
-    bytes_of_text(format!(in alloc;
-        "segment main\nhere: A here F\nG v F\nthen: A then F\nG p F\nnext: A next F\nG n F\nlast: A last F\nG r F\nZ F\n\
-        hi: word {high}\nlo: word {low}\nby: word {by}\nuse divide as v with H=hi, N=lo, M=by\n\
-        use print as p with H=lo\nuse newline as n\nuse print as r with H=hi\nenter main\n"
-    ))
+    let [head, before_low, before_by, tail] = DIVIDE;
+    bytes_of_text(format!(in alloc; "{head}{high}{before_low}{low}{before_by}{by}{tail}"))
 }
 
 /// The source that takes a square root and prints it.
 fn root_source(alloc: Global, number: u16) -> Result<Vec<u8>, NoMemory>
-    ensures { IfOk result (λ bytes. bytes.items ≡ text_of_lines (root_source number)) }
+    ensures { IfOk result (λ bytes. bytes.items ≡ call_text (Root number)) }
 {
-    bytes_of_text(format!(in alloc;
-        "segment main\nhere: A here F\nG v F\nthen: A then F\nG p F\nZ F\nof: word {number}\nis: P F\n\
-        use root as v with H=of, N=is\nuse print as p with H=is\nenter main\n"
-    ))
+    let [head, tail] = ROOT;
+    bytes_of_text(format!(in alloc; "{head}{number}{tail}"))
 }
 
 /// The source of a guest that prints a number, and that the checking routine obeys.
 fn check_source(alloc: Global, number: u16) -> Result<Vec<u8>, NoMemory>
-    ensures { IfOk result (λ bytes. bytes.items ≡ text_of_lines (check_source number)) }
+    ensures { IfOk result (λ bytes. bytes.items ≡ call_text (Check number)) }
 {
-    bytes_of_text(format!(in alloc;
-        "segment main\nhere: A here F\nG p F\nZ F\nvalue: word {number}\n\
-        use print as p with H=value\nuse check as c with H=main\nenter c\n"
-    ))
+    let [head, tail] = CHECK;
+    bytes_of_text(format!(in alloc; "{head}{number}{tail}"))
 }

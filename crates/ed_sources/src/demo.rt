@@ -2,11 +2,35 @@ ghost use Rattle.std.specs.Prelude.{◌≡◌, ◌++◌, ◌<◌, ◌≤◌, cod
 ghost use Rattle.std.specs.Fmt.{decimal};
 ghost use Rattle.ed_sources.specs.Accepted.{EachDemoIsAccepted};
 ghost use Rattle.ed_sources.specs.Calls.{text_of_lines};
-ghost use Rattle.ed_sources.specs.Demo.{adding, number_after, demo_text, next, segments, word_lines, number_word};
+ghost use Rattle.ed_sources.specs.Demo.{adding_text, number_after, demo_text, next, segments, word_lines, number_word};
 
 use ed_report::bytes_of_text;
 use ed_words::NoMemory;
 use std::alloc::Global;
+
+/// The program that adds up words and prints the sum, with a gap for their number: the order at `add` adds them one
+/// after the other, until it equals the order at `stop`, which would add the word after the last.
+pub const ADDING: [&str; 2] = [
+    "segment main\n\
+    loop: T junk F\n\
+    A total F\n\
+    add: A s1 F\n\
+    T total F\n\
+    A add F\n\
+    A 2 F\n\
+    U add F\n\
+    S stop F\n\
+    G loop F\n\
+    T junk F\n\
+    here: A here F\n\
+    G p F\n\
+    Z F\n\
+    stop: A s1+",
+    " F\n\
+    junk: P F\n\
+    total: P F\n\
+    use print as p with H=total\n",
+];
 
 /// The source of a program that adds up the words of `n` segments and prints the sum. Each segment has 8 words, and all
 /// come from one sequence of numbers, which begins after `n`.
@@ -24,13 +48,10 @@ pub fn demo_source(alloc: Global, n: u32) -> Result<Vec<u8>, NoMemory>
 
 /// The program that adds up a number of words and prints the sum.
 fn adding(alloc: Global, words: u32) -> Result<Vec<u8>, NoMemory>
-    ensures { IfOk result (λ bytes. bytes.items ≡ text_of_lines (adding words)) }
+    ensures { IfOk result (λ bytes. bytes.items ≡ adding_text words) }
 {
-    bytes_of_text(format!(in alloc;
-        "segment main\nloop: T junk F\nA total F\nadd: A s1 F\nT total F\nA add F\nA 2 F\nU add F\nS stop F\nG loop F\n\
-        T junk F\nhere: A here F\nG p F\nZ F\nstop: A s1+{words} F\njunk: P F\ntotal: P F\n\
-        use print as p with H=total\n"
-    ))
+    let [head, tail] = ADDING;
+    bytes_of_text(format!(in alloc; "{head}{words}{tail}"))
 }
 
 /// Adds `n` segments to a source.

@@ -1,12 +1,10 @@
 -- A call is the run of its source, from the state at its entry.
 use Rattle.std.proofs.Common.{◌≡◌, ◌∙◌, ℕ, ◌+◌, ◌-◌, ◌/◌, ◌%◌, ◌<◌, ◌≤◌, refl}
-use Rattle.std.proofs.Common.{ap, subst, arith, lit<, lit≤, List, [], ◌∷◌, ◌++◌}
+use Rattle.std.proofs.Common.{subst, arith, lit<, lit≤, List, [], ◌∷◌, ◌++◌}
 use Rattle.std.proofs.Common.{length, length-append}
 use Rattle.std.specs.Prelude.{None, Result, Ok, Err, codes as codes_of_text}
 use Rattle.ed_words.specs.declared.size.Size.TheVariants.{Full}
 use Rattle.ed_words.proofs.SizeLemmas.{least}
-use Rattle.ed_machine.specs.State.{State}
-use Rattle.ed_machine.specs.OrderTable.{step}
 use Rattle.ed_call.specs.Ranges.{IsCallInRange}
 use Rattle.ed_call.specs.declared.Call.{Call}
 use Rattle.ed_call.specs.declared.Call.TheVariants.{Print, Read, NewLine, Divide, Root, Check}
@@ -32,7 +30,6 @@ use Rattle.ed_maths.proofs.RootCall.{few as below_256}
 use Rattle.ed_routines.specs.Digits.{digits}
 use Rattle.ed_routines.proofs.Digits.{few_digits}
 use Rattle.ed_printer.specs.Paper.{paper}
-use Rattle.ed_run.specs.Run.{run_end}
 use Rattle.ed_link.specs.Linked.{entry_of}
 use Rattle.ed_link.specs.Punch.{punched_items}
 use Rattle.ed_link.specs.Tapes.{cost}
@@ -44,7 +41,6 @@ use Rattle.ed_words.specs.Texts.{Text}
 use Rattle.ed_top.specs.Calls.{CallRuns, EachCallRuns, GuestStops, call_entry, call_orders, call_prints, call_stop}
 use Rattle.ed_top.specs.Calls.{CallsByDefault, of_made_source, usual_settings}
 use Rattle.ed_answers.specs.Headline.{RunsFromEntry}
-use Rattle.ed_answers.specs.Runs.{paper_room, ran_outcome, with_post_mortem}
 use Rattle.ed_answers.specs.Sources.{OfSource, of_source, run_outcome}
 use Rattle.ed_answers.specs.Replies.{Replies}
 use Rattle.ed_answers.specs.declared.reply.Rejection.{Rejection}

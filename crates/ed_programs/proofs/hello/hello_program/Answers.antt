@@ -2,8 +2,8 @@ use Rattle.std.proofs.Common.{◌≡◌, ◌∙◌, ◌+◌, suc, true, [], ◌�
 use Rattle.std.specs.Fmt.{decimal}
 use Rattle.std.specs.List.{list_all}
 use Rattle.ed_words.specs.Texts.{Text}
+use Rattle.ed_sources.specs.Calls.{woven_text}
 use Rattle.ed_programs.specs.Hello.{hello_pieces, is_capital, of_letters}
-use Rattle.ed_programs.specs.Programs.{woven_text}
 use Rattle.ed_programs.proofs.HelloRuns.{each_name, each_text}
 use Rattle.ed_programs.proofs.Texts.{runs_as}
 use Rattle.ed_programs.proofs.hello.hello_program.Goals as goal
