@@ -5,7 +5,7 @@ use Rattle.ed_machine.specs.State.{State}
 use Rattle.ed_machine.specs.OrderTable.{Obeyed, step}
 use Rattle.ed_machine.specs.Steps.{state_after, progress}
 use Rattle.ed_machine.specs.declared.turn.Turn.TheVariants.{Went}
-use Rattle.ed_notation.specs.Items.{rows_of, spelled}
+use Rattle.ed_notation.specs.Items.{rows_of, spelled_rows}
 use Rattle.ed_notation.specs.Fold.{NotationState}
 use Rattle.ed_notation.specs.Openings.{opening}
 use Rattle.ed_notation.specs.Faults.{TapeEntry, WellFormed, ComesTo}
@@ -23,8 +23,8 @@ pub cost_fits : (words : List ℕ) (start : NotationState) (base : ℕ) (rows : 
     → ComesTo words start base rows e
     → e.cost ≤ 17 * length rows + base
 cost_fits words start base rows e c =
-    let all : length rows ≡ length (spelled c.before) + length (rows_of c.last ++ e.rest) =
-    ap length c.rows_are ∙ length-append (spelled c.before) (rows_of c.last ++ e.rest) in
+    let all : length rows ≡ length (spelled_rows c.before) + length (rows_of c.last ++ e.rest) =
+    ap length c.rows_are ∙ length-append (spelled_rows c.before) (rows_of c.last ++ e.rest) in
     omega (arith, most words start base rows e c, c.read_is, all, length-append (rows_of c.last) e.rest)
 
 -- a load that leads to an entry within its bound

@@ -16,7 +16,7 @@ use Rattle.ed_initial1.specs.Checks.{Accepts1}
 use Rattle.ed_notation.specs.Items.{digits_number}
 use Rattle.ed_notation.proofs.Rows.{number_more, digits_more}
 use Rattle.ed_notation.proofs.Loop.{next_row}
-use Rattle.ed_initial1.specs.Items.{Begun1, Item1, ending_row, spelled1, AreItems, word1, words, costs1, cost_of1}
+use Rattle.ed_initial1.specs.Items.{Begun1, Item1, ending_row, spelled_rows1, AreItems, word1, words, costs1, cost_of1}
 use Rattle.ed_initial1.specs.Faults.{Tape, Comes1, is_none, IsFault1, BeginsWith}
 use Rattle.ed_initial1.proofs.Reading.{Here, part_of, longer, began, ended, end_of, faulty, TakenMeans, taken_means}
 use Rattle.ed_initial1.proofs.Reading.{item_more, begins_more, goes_on_more, items_more, length_spelled}
@@ -182,7 +182,7 @@ module _ {rows : List ℕ} {row : ℕ} {ws : List ℕ} {orders end : ℕ} {p : P
             fits = rw sum m.2;
           };
           rows_are = here.rows_are
-              ∙ ap (λ x. spelled1 i.before ++ (b.function ∷ x))
+              ∙ ap (λ x. spelled_rows1 i.before ++ (b.function ∷ x))
               (sym (append_assoc b.digits (c ∷ []) (drop (row + 1) rows)));
           row_is = omega (arith, here.row_is, length-append b.digits (c ∷ []));
         };
@@ -223,13 +223,13 @@ module _ {rows : List ℕ} {row : ℕ} {ws : List ℕ} {orders end : ℕ} {p : P
     m : TakenMeans i.before i.begun c (Ended long)
     m = meant (Ended long) e
 
-    rows_are : rows ≡ spelled1 (all long) ++ drop (row + 1) rows
+    rows_are : rows ≡ spelled_rows1 (all long) ++ drop (row + 1) rows
     rows_are = item_more long here m.0
 
     good : AreItems (all long)
     good = items_more i.before x here.good here.is_part
 
-    row_is : row + 1 ≡ length (spelled1 (all long))
+    row_is : row + 1 ≡ length (spelled_rows1 (all long))
     row_is = omega (arith, here.row_is, length_spelled i.before x, length-append i.begun.digits (ending_row long ∷ []))
 
     begin : BeginsWith (end_of (all long)) (all long) × (31 + length (all long) ≤ end_of (all long))

@@ -13,7 +13,7 @@ use Rattle.ed_initial1.specs.declared.reader.PartialItem1.{PartialItem1}
 use Rattle.ed_initial1.specs.declared.reader.RowEffect1.{RowEffect1}
 use Rattle.ed_initial1.specs.declared.reader.RowEffect1.TheVariants.{Refused, Longer, Ended}
 use Rattle.ed_initial1.specs.Reading.{row_effect1, end_effect1}
-use Rattle.ed_initial1.specs.Items.{Begun1, Item1, item_number, ending_row, begun_rows1, rows_of1, spelled1, IsBegun1}
+use Rattle.ed_initial1.specs.Items.{Begun1, Item1, item_number, ending_row, begun_rows1, rows_of1, spelled_rows1, IsBegun1}
 use Rattle.ed_initial1.specs.Items.{AreItems}
 use Rattle.ed_initial1.specs.Items.{IsFirst}
 use Rattle.ed_initial1.specs.Faults.{Tape, Comes1, BeginsWith, IsLoading, part_rows1, IsPart1, is_first, is_none, ends1}
@@ -63,22 +63,22 @@ items_more [] i good h = (h, tt)
 items_more (x ∷ xs) i good h = (good.0, items_more xs i good.1 h)
 
 spelled_more : (is : List Item1) (i : Item1) (rest : List ℕ)
-    → spelled1 (is ++ (i ∷ [])) ++ rest ≡ spelled1 is ++ (rows_of1 i ++ rest)
+    → spelled_rows1 (is ++ (i ∷ [])) ++ rest ≡ spelled_rows1 is ++ (rows_of1 i ++ rest)
 spelled_more [] i rest = ap (λ x. x ++ rest) (append-nil (rows_of1 i))
 spelled_more (x ∷ xs) i rest =
-    append_assoc (rows_of1 x) (spelled1 (xs ++ (i ∷ []))) rest
+    append_assoc (rows_of1 x) (spelled_rows1 (xs ++ (i ∷ []))) rest
     ∙ ap (λ y. rows_of1 x ++ y) (spelled_more xs i rest)
-    ∙ sym (append_assoc (rows_of1 x) (spelled1 xs) (rows_of1 i ++ rest))
+    ∙ sym (append_assoc (rows_of1 x) (spelled_rows1 xs) (rows_of1 i ++ rest))
 
 pub length_spelled : (is : List Item1) (i : Item1)
-    → length (spelled1 (is ++ (i ∷ []))) ≡ length (spelled1 is) + length (rows_of1 i)
+    → length (spelled_rows1 (is ++ (i ∷ []))) ≡ length (spelled_rows1 is) + length (rows_of1 i)
 length_spelled [] i = omega (arith, ap length (append-nil (rows_of1 i)))
 length_spelled (x ∷ xs) i =
     omega (
       arith,
       length_spelled xs i,
-      length-append (rows_of1 x) (spelled1 (xs ++ (i ∷ []))),
-      length-append (rows_of1 x) (spelled1 xs),
+      length-append (rows_of1 x) (spelled_rows1 (xs ++ (i ∷ []))),
+      length-append (rows_of1 x) (spelled_rows1 xs),
     )
 
 -- what a row of each kind is
@@ -138,8 +138,8 @@ pub record Here (rows : List ℕ) (row : ℕ) (before : List Item1) (part : Opti
   pub good : AreItems before
   pub goes_on : IsLoading before
   pub is_part : IsPart1 part
-  pub rows_are : rows ≡ spelled1 before ++ (part_rows1 part ++ rest)
-  pub row_is : row ≡ length (spelled1 before) + length (part_rows1 part)
+  pub rows_are : rows ≡ spelled_rows1 before ++ (part_rows1 part ++ rest)
+  pub row_is : row ≡ length (spelled_rows1 before) + length (part_rows1 part)
 
 abbrev pub Holds : List ℕ → Verdict → Type 0
 Holds rows (Faulty row cause) = Breaks1 rows row cause
@@ -164,11 +164,11 @@ faulty rows row before part rest cause h is = record {
 
 -- after one more item
 pub item_more : {rows : List ℕ} {row : ℕ} {before : List Item1} {b : Begun1} {c : ℕ} (long : Bool) {rest : List ℕ}
-    → Here rows row before (Some b) (c ∷ rest) → c ≡ ending_row long → rows ≡ spelled1 (ended before b long) ++ rest
+    → Here rows row before (Some b) (c ∷ rest) → c ≡ ending_row long → rows ≡ spelled_rows1 (ended before b long) ++ rest
 item_more {before = before} {b} long {rest} h is =
     h.rows_are
-    ∙ ap (λ x. spelled1 before ++ (begun_rows1 b ++ (x ∷ rest))) is
-    ∙ ap (λ x. spelled1 before ++ x) (sym (append_assoc (begun_rows1 b) (ending_row long ∷ []) rest))
+    ∙ ap (λ x. spelled_rows1 before ++ (begun_rows1 b ++ (x ∷ rest))) is
+    ∙ ap (λ x. spelled_rows1 before ++ x) (sym (append_assoc (begun_rows1 b) (ending_row long ∷ []) rest))
     ∙ sym (spelled_more before (record { begun = b; long = long }) rest)
 
 pub begins_more : (before : List Item1) (b : Begun1) (long : Bool) → IsLoading before → FirstFits before b long
@@ -210,7 +210,7 @@ by_taken {rest = rest} ih {row} {before} {b} {c} h (Longer next) m = ih (row + 1
     digits = digits_more b.digits c h.is_part.digits m.1;
     fits = rw (number_more b.digits 0 c) m.2;
   };
-  rows_are = h.rows_are ∙ ap (λ x. spelled1 before ++ (b.function ∷ x)) (sym (append_assoc b.digits (c ∷ []) rest));
+  rows_are = h.rows_are ∙ ap (λ x. spelled_rows1 before ++ (b.function ∷ x)) (sym (append_assoc b.digits (c ∷ []) rest));
   row_is = omega (arith, h.row_is, length-append b.digits (c ∷ []));
 })
 by_taken {rows} ih {row} {before} {b} h (Ended long) m =

@@ -8,7 +8,7 @@ use Rattle.ed_words.specs.declared.order_words.TheConstants.{T_F}
 use Rattle.ed_notation.specs.Items.{digits_number, AreDigits}
 use Rattle.ed_notation.proofs.Follow.{number_le}
 use Rattle.ed_paths.proofs.Frames.{short}
-use Rattle.ed_initial1.specs.Items.{Item1, item_number, ending_row, rows_of1, spelled1, IsBegun1, AreItems, word1}
+use Rattle.ed_initial1.specs.Items.{Item1, item_number, ending_row, rows_of1, spelled_rows1, IsBegun1, AreItems, word1}
 use Rattle.ed_initial1.specs.Items.{words, costs1}
 use Rattle.ed_initial1.specs.Items.{last_of, IsFirst}
 use Rattle.ed_initial1.proofs.Paths.{Walk, followed, stay, ToProgram, then, Working, Kept, moment, with_word}
@@ -20,12 +20,12 @@ abbrev pub tape_of : List Item1 → List ℕ → List ℕ
 tape_of [] rest = rest
 tape_of (i ∷ is) rest = i.begun.function ∷ (i.begun.digits ++ (ending_row i.long ∷ tape_of is rest))
 
-pub tape_is : (is : List Item1) (rest : List ℕ) → spelled1 is ++ rest ≡ tape_of is rest
+pub tape_is : (is : List Item1) (rest : List ℕ) → spelled_rows1 is ++ rest ≡ tape_of is rest
 tape_is [] rest = refl
 tape_is (i ∷ is) rest =
     let b = i.begun in
-    append_assoc (rows_of1 i) (spelled1 is) rest
-    ∙ ap (λ x. b.function ∷ x) (append_assoc b.digits (ending_row i.long ∷ []) (spelled1 is ++ rest))
+    append_assoc (rows_of1 i) (spelled_rows1 is) rest
+    ∙ ap (λ x. b.function ∷ x) (append_assoc b.digits (ending_row i.long ∷ []) (spelled_rows1 is ++ rest))
     ∙ ap (λ x. b.function ∷ (b.digits ++ (ending_row i.long ∷ x))) (tape_is is rest)
 
 -- what digit rows leave at 3

@@ -11,7 +11,7 @@ use Rattle.ed_initial1.specs.declared.cause.Tape1Cause.{Tape1Cause}
 use Rattle.ed_initial1.specs.declared.cause.Tape1Cause.TheVariants.{EndOfTape, BadRow, NumberTooLarge, FirstWord}
 use Rattle.ed_initial1.specs.declared.reader.RowEffect1.TheVariants.{Refused, Longer, Ended}
 use Rattle.ed_initial1.specs.Reading.{row_effect1}
-use Rattle.ed_initial1.specs.Items.{Begun1, Item1, item_number, ending_row, begun_rows1, rows_of1, spelled1, IsBegun1}
+use Rattle.ed_initial1.specs.Items.{Begun1, Item1, item_number, ending_row, begun_rows1, rows_of1, spelled_rows1, IsBegun1}
 use Rattle.ed_initial1.specs.Items.{AreItems}
 use Rattle.ed_initial1.specs.Items.{IsFirst}
 use Rattle.ed_initial1.specs.Faults.{Tape, Comes1, BeginsWith, IsLoading, part_rows1, IsPart1, is_first, is_none, ends1}
@@ -118,7 +118,7 @@ less_of (x ∷ xs) i js h = h
 
 -- items after which loading goes on
 reads_all : (is before : List Item1) (row : ℕ) (rest : List ℕ) → AreItems is → IsLoading (before ++ is)
-    → read row before None (spelled1 is ++ rest) ≡ read (row + length (spelled1 is)) (before ++ is) None rest
+    → read row before None (spelled_rows1 is ++ rest) ≡ read (row + length (spelled_rows1 is)) (before ++ is) None rest
 reads_all [] before row rest good goes =
     let e : row ≡ row + 0 = omega arith in (λ i. read (e i) (sym (append-nil before) i) None rest)
 reads_all (i ∷ is) before row rest good goes =
@@ -126,10 +126,10 @@ reads_all (i ∷ is) before row rest good goes =
     let short : length (before ++ (i ∷ [])) ≤ length (before ++ (i ∷ is)) =
     omega (arith, length-append before (i ∷ []), length-append before (i ∷ is)) in
     let on = goes_on_by before i is (omega (arith, l.1)) in
-    let e : row + length (rows_of1 i) + length (spelled1 is) ≡ row + length (rows_of1 i ++ spelled1 is) =
-    omega (arith, length-append (rows_of1 i) (spelled1 is)) in
-    ap (λ x. read row before None x) (append_assoc (rows_of1 i) (spelled1 is) rest)
-    ∙ reads_item before row i (spelled1 is ++ rest) good.0 (first_fits before i is l.0)
+    let e : row + length (rows_of1 i) + length (spelled_rows1 is) ≡ row + length (rows_of1 i ++ spelled_rows1 is) =
+    omega (arith, length-append (rows_of1 i) (spelled_rows1 is)) in
+    ap (λ x. read row before None x) (append_assoc (rows_of1 i) (spelled_rows1 is) rest)
+    ∙ reads_item before row i (spelled_rows1 is ++ rest) good.0 (first_fits before i is l.0)
     ∙ rw on (reads_all is (before ++ (i ∷ [])) (row + length (rows_of1 i)) rest good.1 (rw (snoc before i is) goes)
     ∙ (λ k. read (e k) (snoc before i is k) None rest))
 
@@ -137,7 +137,7 @@ reads_all (i ∷ is) before row rest good goes =
 reads_whole : (i : Item1) (is before : List Item1) (row : ℕ) (rest : List ℕ) → AreItems (i ∷ is)
     → BeginsWith (end_of (before ++ (i ∷ is))) (before ++ (i ∷ is))
     → 31 + length (before ++ (i ∷ is)) ≡ end_of (before ++ (i ∷ is))
-    → read row before None (spelled1 (i ∷ is) ++ rest)
+    → read row before None (spelled_rows1 (i ∷ is) ++ rest)
     ≡ Whole (record { end = end_of (before ++ (i ∷ is)); items = before ++ (i ∷ is); rest = rest })
 reads_whole i [] before row rest good first count =
     ap (λ x. read row before None (x ++ rest)) (append-nil (rows_of1 i))
@@ -147,8 +147,8 @@ reads_whole i (j ∷ js) before row rest good first count =
     let same = snoc before i (j ∷ js) in
     let on = goes_on_by before i (j ∷ js)
     (omega (arith, length-append before (i ∷ []), length-append before (i ∷ (j ∷ js)))) in
-    ap (λ x. read row before None x) (append_assoc (rows_of1 i) (spelled1 (j ∷ js)) rest)
-    ∙ reads_item before row i (spelled1 (j ∷ js) ++ rest) good.0 (first_fits before i (j ∷ js) first)
+    ap (λ x. read row before None x) (append_assoc (rows_of1 i) (spelled_rows1 (j ∷ js)) rest)
+    ∙ reads_item before row i (spelled_rows1 (j ∷ js) ++ rest) good.0 (first_fits before i (j ∷ js) first)
     ∙ rw on (reads_whole j js (before ++ (i ∷ [])) (row + length (rows_of1 i)) rest good.1 (rw same first)
     (rw same count)
     ∙ (λ k. Whole (record { end = end_of (same k); items = same k; rest = rest })))
@@ -199,15 +199,15 @@ reads_part before row (Some b) rest good = begin_reads before row b rest good
 finds_fault : (rows : List ℕ) (row : ℕ) (cause : Tape1Cause) → Breaks1 rows row cause → verdict rows ≡ Faulty row cause
 finds_fault rows row cause f =
     let s = f.stands in
-    let e : 0 + length (spelled1 s.before) + length (part_rows1 s.part) ≡ row = omega (arith, s.row_is) in
+    let e : 0 + length (spelled_rows1 s.before) + length (part_rows1 s.part) ≡ row = omega (arith, s.row_is) in
     ap (λ x. read 0 [] None x) s.rows_are
     ∙ reads_all s.before [] 0 (part_rows1 s.part ++ s.rest) s.good s.goes_on
-    ∙ reads_part s.before (0 + length (spelled1 s.before)) s.part s.rest s.is_part
+    ∙ reads_part s.before (0 + length (spelled_rows1 s.before)) s.part s.rest s.is_part
     ∙ ap (λ x. read x s.before s.part s.rest) e
     ∙ reads_fault row s.before s.part s.rest cause f.breaks
 
 finds_items : (is : List Item1) (e : ℕ) (rest : List ℕ) → AreItems is → BeginsWith e is → 31 + length is ≡ e
-    → read 0 [] None (spelled1 is ++ rest) ≡ Whole (record { end = e; items = is; rest = rest })
+    → read 0 [] None (spelled_rows1 is ++ rest) ≡ Whole (record { end = e; items = is; rest = rest })
 finds_items [] e rest good first count = absurd first
 finds_items (i ∷ is) e rest good first count =
     let n : item_number i ≡ e = first.number in

@@ -8,7 +8,7 @@ use Rattle.ed_machine.specs.State.{State}
 use Rattle.ed_machine.specs.OrderTable.{step}
 use Rattle.ed_machine.specs.Steps.{state_after}
 use Rattle.ed_initial1.specs.declared.loading.Loaded1.{Loaded1}
-use Rattle.ed_initial1.specs.Items.{Item1, AreItems, spelled1, rows_of1, ending_row, word1, words, costs1}
+use Rattle.ed_initial1.specs.Items.{Item1, AreItems, spelled_rows1, rows_of1, ending_row, word1, words, costs1}
 use Rattle.ed_initial1.proofs.Paths.{ToProgram, moment}
 use Rattle.ed_initial1.specs.Faults.{Tape, Comes1, BeginsWith, WellFormed1}
 use Rattle.ed_initial1.specs.Entry.{IsStarted1, IsLoaded1, at_entry1}
@@ -20,13 +20,13 @@ use Rattle.ed_initial1.proofs.Settled.{settled, comes}
 use Rattle.ed_initial1.proofs.Reading.{programmed}
 
 -- no tape costs more than 14 orders a row
-pub costs_fit : (is : List Item1) → costs1 is ≤ 14 * length (spelled1 is)
+pub costs_fit : (is : List Item1) → costs1 is ≤ 14 * length (spelled_rows1 is)
 costs_fit [] = omega arith
 costs_fit (i ∷ is) =
     omega (
       arith,
       costs_fit is,
-      length-append (rows_of1 i) (spelled1 is),
+      length-append (rows_of1 i) (spelled_rows1 is),
       length-append i.begun.digits (ending_row i.long ∷ []),
     )
 
@@ -35,7 +35,7 @@ abbrev entry_of : State → ℕ → List Item1 → List ℕ → State
 entry_of s e is rest = at_entry1 s (record { end = e; items = is; rest = rest })
 
 reached : {s : State} → HasItsLengths s.store → IsStarted1 s → {e : ℕ} (is : List Item1) (rest : List ℕ)
-    → s.tape ≡ spelled1 is ++ rest → AreItems is → BeginsWith e is → 31 + length is ≡ e
+    → s.tape ≡ spelled_rows1 is ++ rest → AreItems is → BeginsWith e is → 31 + length is ≡ e
     → Reaches (4 + costs1 is) s (entry_of s e is rest)
 reached store started [] rest rows good first count = absurd first
 reached {s} store started {e} (i ∷ is) rest rows good first count =
@@ -71,8 +71,8 @@ module _ (s u : State) (r : Loaded1) (store : IsStore s.store) (started : IsStar
       let k = 4 + costs1 t.items in
       let bound = 14 * length s.tape + 4 in
       let g = leads_in s (record { words = store.words_are; sandwich = store.digits_are }) started t c in
-      let rows : length s.tape ≡ length (spelled1 t.items) + length t.rest = ap length c.rows_are
-      ∙ length-append (spelled1 t.items) t.rest in
+      let rows : length s.tape ≡ length (spelled_rows1 t.items) + length t.rest = ap length c.rows_are
+      ∙ length-append (spelled_rows1 t.items) t.rest in
       let fits : k ≤ bound = omega (arith, costs_fit t.items) in
       let result = settled s (at_entry1 s t) k g bound fits r ends in
       let there : u ≡ at_entry1 s t =

@@ -5,7 +5,7 @@ use Rattle.std.specs.Prelude.{length, slice_index, if◌then◌else◌}
 use Rattle.ed_initial1.specs.declared.cause.Tape1Cause.{Tape1Cause}
 use Rattle.ed_initial1.specs.declared.cause.Tape1Fault.{Tape1Fault}
 use Rattle.ed_initial1.specs.declared.cause.Tape1Fault.TheVariants.{At, Memory}
-use Rattle.ed_initial1.specs.Items.{spelled1, words, costs1}
+use Rattle.ed_initial1.specs.Items.{spelled_rows1, words, costs1}
 use Rattle.ed_initial1.specs.Faults.{Tape, Comes1, IsFault1, WellFormed1}
 
 -- the cost in orders, the rows read up to the end of the last item, the location e, and the words of 31 to e - 1
@@ -23,7 +23,7 @@ placed_word r a = if nat_le 31 a && nat_lt a r.end then Some (slice_index r.word
 abbrev pub report1 : Tape → Report1
 report1 t = record {
   orders = 4 + costs1 t.items;
-  rows = length (spelled1 t.items);
+  rows = length (spelled_rows1 t.items);
   end = t.end;
   words = words t.items;
 }

@@ -6,7 +6,7 @@ use Rattle.std.specs.Prelude.{Option, Some, None, List, [], ◌∷◌, ◌++◌,
 use Rattle.ed_notation.specs.Items.{digits_number}
 use Rattle.ed_initial1.specs.declared.cause.Tape1Cause.{Tape1Cause}
 use Rattle.ed_initial1.specs.declared.cause.Tape1Cause.TheVariants.{EndOfTape, BadRow, NumberTooLarge, FirstWord}
-use Rattle.ed_initial1.specs.Items.{Begun1, Item1, item_number, begun_rows1, spelled1, IsBegun1, AreItems, IsFirst}
+use Rattle.ed_initial1.specs.Items.{Begun1, Item1, item_number, begun_rows1, spelled_rows1, IsBegun1, AreItems, IsFirst}
 
 -- the numbers of the rules; if two rules are broken at one row, the one with the lesser number is the fault
 abbrev pub rule : Tape1Cause → ℕ
@@ -28,7 +28,7 @@ BeginsWith e (i ∷ is) = IsFirst e i
 
 -- the rows begin with a whole program: T e S, and in all one item for each of the locations 31 to e - 1
 pub record Comes1 (rows : List ℕ) (t : Tape) : Type 0 where
-  pub rows_are : rows ≡ spelled1 t.items ++ t.rest
+  pub rows_are : rows ≡ spelled_rows1 t.items ++ t.rest
   pub good : AreItems t.items
   pub first : BeginsWith t.end t.items
   pub count : 31 + length t.items ≡ t.end
@@ -56,8 +56,8 @@ pub record IsRead1 (rows : List ℕ) (row : ℕ) : Type 0 where
   pub good : AreItems before
   pub goes_on : IsLoading before
   pub is_part : IsPart1 part
-  pub rows_are : rows ≡ spelled1 before ++ (part_rows1 part ++ rest)
-  pub row_is : row ≡ length (spelled1 before) + length (part_rows1 part)
+  pub rows_are : rows ≡ spelled_rows1 before ++ (part_rows1 part ++ rest)
+  pub row_is : row ≡ length (spelled_rows1 before) + length (part_rows1 part)
 
 -- whether an item is a first word: T e S with e from 32 to 1023
 abbrev pub is_first : Begun1 → ℕ → Bool

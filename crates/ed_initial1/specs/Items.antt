@@ -33,9 +33,9 @@ abbrev pub rows_of1 : Item1 → List ℕ
 rows_of1 i = begun_rows1 i.begun ++ (ending_row i.long ∷ [])
 
 -- the rows of items one after the other
-abbrev pub spelled1 : List Item1 → List ℕ
-spelled1 [] = []
-spelled1 (i ∷ is) = rows_of1 i ++ spelled1 is
+abbrev pub spelled_rows1 : List Item1 → List ℕ
+spelled_rows1 [] = []
+spelled_rows1 (i ∷ is) = rows_of1 i ++ spelled_rows1 is
 
 -- a function row and digit rows whose number is small enough
 pub record IsBegun1 (b : Begun1) : Type 0 where

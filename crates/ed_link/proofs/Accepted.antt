@@ -8,7 +8,7 @@ use Rattle.std.proofs.lemmas.List.{append-nil}
 use Rattle.ed_words.specs.declared.size.Size.{Size}
 use Rattle.ed_words.specs.declared.order_words.TheConstants.{E_F}
 use Rattle.ed_notation.specs.declared.item.Item.{Item}
-use Rattle.ed_notation.specs.Items.{rows_of, spelled, item as item_in, items, IsWritten}
+use Rattle.ed_notation.specs.Items.{rows_of, spelled_rows, item as item_in, items, IsWritten}
 use Rattle.ed_notation.specs.Fold.{NotationState, is_entry, item_word, fold, cost_of, costs, address}
 use Rattle.ed_notation.specs.Openings.{IsDirective, opening}
 use Rattle.ed_notation.specs.Faults.{EndsSound, WellFormed, ComesTo}
@@ -80,10 +80,10 @@ module _ (tables : list_all is_ready catalogue ≡ true) (z : Size) (two : Bool)
       let good : IsWritten w = is_written last_item refl in
       let cut : canonicals (punched_items lines) ≡ ws ++ (w ∷ []) = ap (λ is. canonicals is) e.items
       ∙ canonicals-append e.before (last_item ∷ []) in
-      let rows : punched_rows lines ≡ spelled ws ++ rows_of w =
-      ap (λ x. spelled x) cut ∙ spelled-append ws (w ∷ []) ∙ ap (λ x. spelled ws ++ x) (append-nil (rows_of w)) in
-      let all : tape lines ≡ spelled ws ++ (rows_of w ++ data_after lines) =
-      ap (λ x. x ++ data_after lines) rows ∙ append_assoc (spelled ws) (rows_of w) (data_after lines) in
+      let rows : punched_rows lines ≡ spelled_rows ws ++ rows_of w =
+      ap (λ x. spelled_rows x) cut ∙ spelled-append ws (w ∷ []) ∙ ap (λ x. spelled_rows ws ++ x) (append-nil (rows_of w)) in
+      let all : tape lines ≡ spelled_rows ws ++ (rows_of w ++ data_after lines) =
+      ap (λ x. x ++ data_after lines) rows ∙ append_assoc (spelled_rows ws) (rows_of w) (data_after lines) in
       let notation : NotationState = record {
         directive = E_F + 2 * entry_of lines;
         theta = theta_from (slice_index words 42)
@@ -121,7 +121,7 @@ module _ (tables : list_all is_ready catalogue ≡ true) (z : Size) (two : Bool)
           at_is = sym (subst (λ (n : NotationState). address n.directive ≡ entry_of lines) last_is e.enters.place);
           word_is = sym (subst (λ (n : NotationState). item_word words n (item_in w) ≡ 0) last_is e.enters.word);
           cost_is = omega (arith, k, c, d);
-          read_is = ap (λ (x : List ℕ). length x) rows ∙ length-append (spelled ws) (rows_of w);
+          read_is = ap (λ (x : List ℕ). length x) rows ∙ length-append (spelled_rows ws) (rows_of w);
         },
       )
 

@@ -5,7 +5,7 @@ use Rattle.std.proofs.Common.{List, [], ◌∷◌, ◌++◌, length, map, length
 use Rattle.std.specs.List.{flat_map}
 use Rattle.std.proofs.lemmas.List.{length-map}
 use Rattle.ed_notation.specs.declared.item.Item.{Item}
-use Rattle.ed_notation.specs.Items.{mark_rows, rows_of, begun_rows, spelled}
+use Rattle.ed_notation.specs.Items.{mark_rows, rows_of, begun_rows, spelled_rows}
 use Rattle.ed_notation.specs.Spellings.{canonical, canonicals, digit_at, digits_of}
 use Rattle.ed_library.specs.Entries.{entry}
 use Rattle.ed_library.specs.Routines.{find, table_item, place_count}
@@ -54,14 +54,14 @@ digits_few n =
     )
 
 -- an item has at most 8 rows
-pub rows_few : (is : List Item) → length (spelled (canonicals is)) ≤ 8 * length is
+pub rows_few : (is : List Item) → length (spelled_rows (canonicals is)) ≤ 8 * length is
 rows_few [] = lit≤ tt
 rows_few (i ∷ is) =
     let w = canonical i in
     omega (
       arith,
       rows_few is,
-      length-append (rows_of w) (spelled (canonicals is)),
+      length-append (rows_of w) (spelled_rows (canonicals is)),
       length-append (begun_rows w.begun) (i.end ∷ []),
       length-append (digits_of i.number) (mark_rows i.mark),
       digits_few i.number,
@@ -70,7 +70,7 @@ rows_few (i ∷ is) =
 
 -- a whole tape
 pub tape_few : (is : List Item) (rows : List ℕ) → length is ≤ 480000 → length rows ≤ 240000
-    → length (spelled (canonicals is)) + length rows ≤ 2 ^ 22
+    → length (spelled_rows (canonicals is)) + length rows ≤ 2 ^ 22
 tape_few is rows h k = omega (arith, h, k, rows_few is)
 
 heads_few : (first : Bool) (base : ℕ) → length (heads first base) ≤ 2

@@ -4,7 +4,7 @@ use Rattle.ed_words.specs.declared.size.Size.{Size}
 use Rattle.ed_words.specs.declared.order_words.TheConstants.{E_F}
 use Rattle.ed_syntax.specs.declared.program.Line.{Line}
 use Rattle.ed_symbols.specs.Places.{first_counter}
-use Rattle.ed_notation.specs.Items.{spelled}
+use Rattle.ed_notation.specs.Items.{spelled_rows}
 use Rattle.ed_notation.specs.Fold.{costs}
 use Rattle.ed_notation.specs.Openings.{opening}
 use Rattle.ed_notation.specs.Faults.{TapeEntry, WellFormed, ComesTo}
@@ -14,7 +14,7 @@ use Rattle.ed_link.specs.Punch.{item_with, punched_items}
 
 -- the rows of the punched items
 abbrev pub punched_rows : List Line → List ℕ
-punched_rows lines = spelled (canonicals (punched_items lines))
+punched_rows lines = spelled_rows (canonicals (punched_items lines))
 
 -- the rows of the whole tape
 abbrev pub tape : List Line → List ℕ

@@ -13,7 +13,7 @@ use Rattle.ed_store.specs.Cells.{IsStore}
 use Rattle.ed_machine.specs.State.{State, cleared_state}
 use Rattle.ed_notation.specs.Fold.{over}
 use Rattle.ed_notation.specs.Faults.{TapeEntry}
-use Rattle.ed_notation.specs.Items.{spelled}
+use Rattle.ed_notation.specs.Items.{spelled_rows}
 use Rattle.ed_notation.specs.Spellings.{canonicals}
 use Rattle.ed_notation.proofs.Costs.{most}
 use Rattle.ed_initial.specs.Listing.{initial_orders}
@@ -126,10 +126,10 @@ each_source z source lines a = enters z lines (comes_to z source lines a)
 -- what `load` leaves of the machine that is started on the tape of a linked program
 pub loaded : {z : Size} {lines : List Line} {program : Linked} {rows : List ℕ} {s t : State} {r : Loaded}
     → IsLinked z lines program
-    → s ≡ first_state z rows → rows ≡ spelled (canonicals program.items.items) ++ program.after.items
+    → s ≡ first_state z rows → rows ≡ spelled_rows (canonicals program.items.items) ++ program.after.items
     → ((e : TapeEntry) → Comes s e → IsLoaded s e r t) → t ≡ entry_state z lines
 loaded {z} {lines} {rows = rows} {s} is begun written load =
-    let tape_is : rows ≡ tape lines = written ∙ (λ i. spelled (canonicals (is.items i)) ++ is.after i) in
+    let tape_is : rows ≡ tape lines = written ∙ (λ i. spelled_rows (canonicals (is.items i)) ++ is.after i) in
     let first : s ≡ first_state z (tape lines) = begun ∙ ap (first_state z) tape_is in
     let e = arrival (first_state z (tape lines)).store.words lines in
     let there = load e (subst (λ (x : State). Comes x e) (sym first) (comes z lines is.loads)) in

@@ -7,7 +7,7 @@ use Rattle.ed_notation.specs.declared.item.Item.{Item}
 use Rattle.ed_notation.specs.declared.kind.RowKind.{RowKind}
 use Rattle.ed_notation.specs.declared.kind.RowKind.TheVariants.{Digit, Mark, Zed, Kay, Blank, Letter, Other}
 use Rattle.ed_notation.specs.Items.{row_kind, ends, digits_number, Written, AreDigits}
-use Rattle.ed_notation.specs.Items.{IsWritten, rows_of, spelled, item, items}
+use Rattle.ed_notation.specs.Items.{IsWritten, rows_of, spelled_rows, item, items}
 use Rattle.ed_notation.specs.Spellings.{AreWritten, SpellsAll, NoLeadingZero}
 use Rattle.ed_notation.specs.Spellings.{AreCanonical, digits_of, canonical, canonicals}
 use Rattle.ed_notation.specs.Spellings.{is_spellable, AreSpellable, IsSpelling, SpellableIsSpelled}
@@ -109,12 +109,12 @@ pub are_written : (is : List Item) → AreSpellable is → AreWritten (canonical
 are_written is h = (all_spelled is h).good
 
 -- the rows that the items' canonical spellings make
-pub spelling : (is : List Item) → AreSpellable is → IsSpelling is (spelled (canonicals is))
+pub spelling : (is : List Item) → AreSpellable is → IsSpelling is (spelled_rows (canonicals is))
 spelling is h =
     let r = all_spelled is h in
-    let s : SpellsAll is (spelled (canonicals is)) =
+    let s : SpellsAll is (spelled_rows (canonicals is)) =
     record { written = canonicals is; good = r.good; items_are = r.same; rows_are = refl } in
-    record { spells = s; canonical = r.no_zeros; only = λ js p. no_other js is (spelled (canonicals is)) p s }
+    record { spells = s; canonical = r.no_zeros; only = λ js p. no_other js is (spelled_rows (canonicals is)) p s }
 
 ends_canonical : (r : RowKind) (f : ℕ) (ds : List ℕ) (m : Bool)
     → ends r (record { function = f; digits = ds; mark = m }) ≡ true
@@ -146,6 +146,6 @@ spellable_law i = record {
 
 -- after the last item
 pub rest_none : (is : List Item) (rows : List ℕ) (k : ℕ) → length is ≤ k
-    → rows ++ spelled (canonicals (drop k is)) ≡ spelled (canonicals is) → rows ≡ spelled (canonicals is)
+    → rows ++ spelled_rows (canonicals (drop k is)) ≡ spelled_rows (canonicals is) → rows ≡ spelled_rows (canonicals is)
 rest_none is rows k l h =
-    sym (append-nil rows) ∙ ap (λ x. rows ++ spelled (canonicals x)) (sym (drop_all k is l)) ∙ h
+    sym (append-nil rows) ∙ ap (λ x. rows ++ spelled_rows (canonicals x)) (sym (drop_all k is l)) ∙ h

@@ -4,7 +4,7 @@ use Rattle.std.proofs.Common.{length-append}
 use Rattle.ed_words.specs.Words.{digit}
 use Rattle.ed_notation.specs.declared.kind.RowKind.{RowKind}
 use Rattle.ed_notation.specs.declared.kind.RowKind.TheVariants.{Letter}
-use Rattle.ed_notation.specs.Items.{row_kind, Written, mark_rows, begun_rows, rows_of, spelled, item}
+use Rattle.ed_notation.specs.Items.{row_kind, Written, mark_rows, begun_rows, rows_of, spelled_rows, item}
 use Rattle.ed_notation.specs.Fold.{NotationState, act, letter_action_of, enters_at, end_cost, cost_of, costs}
 use Rattle.ed_notation.specs.Faults.{TapeEntry, ComesTo}
 
@@ -27,14 +27,14 @@ one_most notation w =
     omega (arith, end_most (row_kind w.end) notation, mark_most b.mark, last, length-append b.digits (mark_rows b.mark))
 
 all_most : (words : List ℕ) (notation : NotationState) (ws : List Written)
-    → costs words notation ws ≤ 17 * length (spelled ws)
+    → costs words notation ws ≤ 17 * length (spelled_rows ws)
 all_most words notation [] = lit≤ tt
 all_most words notation (w ∷ ws) =
     omega (
       arith,
       one_most notation w,
       all_most words (act words notation (item w)) ws,
-      length-append (rows_of w) (spelled ws),
+      length-append (rows_of w) (spelled_rows ws),
     )
 
 pub most : (words : List ℕ) (start : NotationState) (base : ℕ) (rows : List ℕ) (e : TapeEntry)

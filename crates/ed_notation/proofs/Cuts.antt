@@ -1,7 +1,7 @@
 -- A tape cut at an item's end: rows, states and costs of the two sides.
 use Rattle.std.proofs.Common.{◌≡◌, ℕ, ◌+◌, refl, sym, ap, ◌∙◌, arith, List, [], ◌∷◌, ◌++◌, append_assoc}
 use Rattle.ed_notation.specs.declared.item.Item.{Item}
-use Rattle.ed_notation.specs.Items.{Written, rows_of, spelled, item, items}
+use Rattle.ed_notation.specs.Items.{Written, rows_of, spelled_rows, item, items}
 use Rattle.ed_notation.specs.Fold.{NotationState, act, fold, costs}
 use Rattle.ed_words.specs.declared.size.Size.{Size}
 use Rattle.ed_notation.specs.Faults.{AreRead, AreSound}
@@ -11,10 +11,10 @@ pub items-append : (vs ws : List Written) → items (vs ++ ws) ≡ items vs ++ i
 items-append [] ws = refl
 items-append (v ∷ vs) ws = ap (λ is. item v ∷ is) (items-append vs ws)
 
-pub spelled-append : (vs ws : List Written) → spelled (vs ++ ws) ≡ spelled vs ++ spelled ws
+pub spelled-append : (vs ws : List Written) → spelled_rows (vs ++ ws) ≡ spelled_rows vs ++ spelled_rows ws
 spelled-append [] ws = refl
 spelled-append (v ∷ vs) ws =
-    ap (λ rows. rows_of v ++ rows) (spelled-append vs ws) ∙ sym (append_assoc (rows_of v) (spelled vs) (spelled ws))
+    ap (λ rows. rows_of v ++ rows) (spelled-append vs ws) ∙ sym (append_assoc (rows_of v) (spelled_rows vs) (spelled_rows ws))
 
 pub fold-append : (words : List ℕ) (notation : NotationState) (is js : List Item)
     → fold words notation (is ++ js) ≡ fold words (fold words notation is) js

@@ -6,7 +6,7 @@ use Rattle.std.proofs.Common.{◌∷◌, ◌++◌, length, length-append, append
 use Rattle.ed_words.specs.declared.size.Size.{Size}
 use Rattle.ed_notation.specs.declared.cause.TapeCause.{TapeCause}
 use Rattle.ed_notation.specs.declared.cause.TapeCause.TheVariants.{EndOfTape, BadRow}
-use Rattle.ed_notation.specs.Items.{row_kind, Begun, Written, begun_rows, rows_of, spelled, IsWritten, item, items}
+use Rattle.ed_notation.specs.Items.{row_kind, Begun, Written, begun_rows, rows_of, spelled_rows, IsWritten, item, items}
 use Rattle.ed_notation.specs.Openings.{IsDirective}
 use Rattle.ed_notation.specs.Fold.{NotationState, is_entry, fold, end_cost, cost_of, costs}
 use Rattle.ed_notation.specs.Faults.{cause_number, breaks, is_broken, is_bad_row, part_rows, AreRead, IsPart, Breaks}
@@ -48,11 +48,11 @@ chained l (inr e) h = inr (early_later refl l e)
 
 -- whole items before a row
 abbrev pub behind_all : Reader → List Written → Reader
-behind_all p ws = passed p (length (spelled ws)) (costs p.words p.notation ws) (fold p.words p.notation (items ws))
+behind_all p ws = passed p (length (spelled_rows ws)) (costs p.words p.notation ws) (fold p.words p.notation (items ws))
 
 pub many : (before : List Written) (p : Reader) (rest : List ℕ) → IsDirective p.notation.directive
     → AreRead p.words p.notation before
-    → Goes (reads p None (spelled before ++ rest)) (reads (behind_all p before) None rest) (behind_all p before).row
+    → Goes (reads p None (spelled_rows before ++ rest)) (reads (behind_all p before) None rest) (behind_all p before).row
     (behind_all p before).notation.directive
 many [] p rest set are =
     let r : p.row + 0 ≡ p.row = omega arith in
@@ -60,12 +60,12 @@ many [] p rest set are =
     rw (r, k) (inl (refl, set))
 many (w ∷ ws) p rest set are =
     let q : Reader = behind p w in
-    let l : q.row + length (spelled ws) ≡ p.row + length (spelled (w ∷ ws)) =
-    omega (arith, length-append (rows_of w) (spelled ws)) in
+    let l : q.row + length (spelled_rows ws) ≡ p.row + length (spelled_rows (w ∷ ws)) =
+    omega (arith, length-append (rows_of w) (spelled_rows ws)) in
     let k : q.cost + costs p.words q.notation ws ≡ p.cost + costs p.words p.notation (w ∷ ws) = omega arith in
-    let a = one p w (spelled ws ++ rest) set are.0 are.1 in
+    let a = one p w (spelled_rows ws ++ rest) set are.0 are.1 in
     let ih = λ (s : IsDirective q.notation.directive). many ws q rest s are.2 in
-    let e = ap (λ x. reads p None x) (append_assoc (rows_of w) (spelled ws) rest) in
+    let e = ap (λ x. reads p None x) (append_assoc (rows_of w) (spelled_rows ws) rest) in
     rw (sym l, sym k) (carried e (chained (omega arith) a ih))
 
 -- and the part of an item after them

@@ -5,7 +5,7 @@ use Rattle.std.proofs.Common.{length, length-append, append_assoc}
 use Rattle.std.proofs.lemmas.List.{append-nil}
 use Rattle.ed_words.specs.declared.size.Size.{Size}
 use Rattle.ed_notation.specs.declared.cause.TapeCause.{TapeCause}
-use Rattle.ed_notation.specs.Items.{row_kind, Written, begun_rows, rows_of, spelled, IsWritten, item, items}
+use Rattle.ed_notation.specs.Items.{row_kind, Written, begun_rows, rows_of, spelled_rows, IsWritten, item, items}
 use Rattle.ed_notation.specs.Openings.{IsDirective}
 use Rattle.ed_notation.specs.Fold.{NotationState, address, act, is_entry, fold, end_cost, cost_of, costs}
 use Rattle.ed_notation.specs.Faults.{breaks, AreRead, WellFormed, ComesTo, TapeEntry, EndsSound, AreSound}
@@ -38,7 +38,7 @@ one p w rest set good goes sound =
 -- the reader goes over items that break no rule as the fold says
 pub many : (before : List Written) (p : Reader) (rest : List ℕ) → IsDirective p.notation.directive
     → AreRead p.words p.notation before → AreSound p.size p.words p.notation before
-    → (reads p None (spelled before ++ rest) ≡ reads (behind_all p before) None rest)
+    → (reads p None (spelled_rows before ++ rest) ≡ reads (behind_all p before) None rest)
     × IsDirective (behind_all p before).notation.directive
 many [] p rest set are sound =
     let r : p.row + 0 ≡ p.row = omega arith in
@@ -46,12 +46,12 @@ many [] p rest set are sound =
     rw (r, k) (refl, set)
 many (w ∷ ws) p rest set are sound =
     let q : Reader = behind p w in
-    let l : q.row + length (spelled ws) ≡ p.row + length (spelled (w ∷ ws)) =
-    omega (arith, length-append (rows_of w) (spelled ws)) in
+    let l : q.row + length (spelled_rows ws) ≡ p.row + length (spelled_rows (w ∷ ws)) =
+    omega (arith, length-append (rows_of w) (spelled_rows ws)) in
     let k : q.cost + costs p.words q.notation ws ≡ p.cost + costs p.words p.notation (w ∷ ws) = omega arith in
-    let a = one p w (spelled ws ++ rest) set are.0 are.1 sound.0 in
+    let a = one p w (spelled_rows ws ++ rest) set are.0 are.1 sound.0 in
     let ih = many ws q rest a.1 are.2 sound.1 in
-    let e = ap (λ x. reads p None x) (append_assoc (rows_of w) (spelled ws) rest) in
+    let e = ap (λ x. reads p None x) (append_assoc (rows_of w) (spelled_rows ws) rest) in
     rw (sym l, sym k) (e ∙ a.0 ∙ ih.0, ih.1)
 
 -- it reaches the entry item
@@ -71,54 +71,54 @@ pub sound_well : {z : Size} {words : List ℕ} {start : NotationState} (before :
     → IsDirective start.directive → AreRead words start before → AreSound z words start before → IsWritten last
     → is_entry (fold words start (items before)) (item last) ≡ true
     → EndsSound z words (fold words start (items before)) last
-    → WellFormed z words start (spelled before ++ (rows_of last ++ rest))
+    → WellFormed z words start (spelled_rows before ++ (rows_of last ++ rest))
 sound_well {z} {words} {start} before {last} rest set are sound good enters s =
     let p : Reader = record { size = z; words = words; row = 0; cost = 0; notation = start } in
     let a = many before p (rows_of last ++ rest) set are sound in
     let e = last_read (behind_all p before) last rest a.1 good enters s in
-    arrived_well z words start 0 (spelled before ++ (rows_of last ++ rest)) set (a.0 ∙ e)
+    arrived_well z words start 0 (spelled_rows before ++ (rows_of last ++ rest)) set (a.0 ∙ e)
 
 module _ {z : Size} {words : List ℕ} {start : NotationState} {rows : List ℕ}
     (well : WellFormed z words start rows) where
   -- an item of a well-formed tape breaks no rule
   item_sound : (before : List Written) (w : Written) (rest : List ℕ) → AreRead words start before → IsWritten w
-      → rows ≡ spelled before ++ (rows_of w ++ rest) → EndsSound z words (fold words start (items before)) w
+      → rows ≡ spelled_rows before ++ (rows_of w ++ rest) → EndsSound z words (fold words start (items before)) w
   item_sound before w rest are good e cause = by_test _ refl
     where
       by_test : (t : Bool) → breaks cause (row_kind w.end) z words (fold words start (items before)) w.begun w.end ≡ t
           → breaks cause (row_kind w.end) z words (fold words start (items before)) w.begun w.end ≡ false
       by_test false h = h
-      by_test true h = absurd (well (length (spelled before) + length (begun_rows w.begun)) cause (record {
+      by_test true h = absurd (well (length (spelled_rows before) + length (begun_rows w.begun)) cause (record {
         stands = record {
           before = before;
           part = Some w.begun;
           rest = w.end ∷ rest;
           are_read = are;
           is_part = good.begun;
-          rows_are = e ∙ ap (λ x. spelled before ++ x) (append_assoc (begun_rows w.begun) (w.end ∷ []) rest);
+          rows_are = e ∙ ap (λ x. spelled_rows before ++ x) (append_assoc (begun_rows w.begun) (w.end ∷ []) rest);
           row_is = refl;
         };
         breaks = h;
       }))
 
   all_sound : (ws before : List Written) (rest : List ℕ) → AreRead words start before
-      → AreRead words (fold words start (items before)) ws → rows ≡ spelled before ++ (spelled ws ++ rest)
+      → AreRead words (fold words start (items before)) ws → rows ≡ spelled_rows before ++ (spelled_rows ws ++ rest)
       → AreSound z words (fold words start (items before)) ws
   all_sound [] before rest are more e = tt
   all_sound (w ∷ ws) before rest are more e =
       let after = before ++ (w ∷ []) in
-      let f = e ∙ ap (λ x. spelled before ++ x) (append_assoc (rows_of w) (spelled ws) rest) in
-      let s = item_sound before w (spelled ws ++ rest) are more.0 f in
+      let f = e ∙ ap (λ x. spelled_rows before ++ x) (append_assoc (rows_of w) (spelled_rows ws) rest) in
+      let s = item_sound before w (spelled_rows ws ++ rest) are more.0 f in
       let n : fold words start (items after) ≡ act words (fold words start (items before)) (item w) =
       ap (λ is. fold words start is) (items-append before (w ∷ []))
       ∙ fold-append words start (items before) (item w ∷ []) in
       let a = AreRead-append words start before (w ∷ []) are (more.0, more.1, tt) in
       let m = subst (λ (x : NotationState). AreRead words x ws) (sym n) more.2 in
-      let t : spelled after ≡ spelled before ++ rows_of w =
-      spelled-append before (w ∷ []) ∙ ap (λ x. spelled before ++ x) (append-nil (rows_of w)) in
+      let t : spelled_rows after ≡ spelled_rows before ++ rows_of w =
+      spelled-append before (w ∷ []) ∙ ap (λ x. spelled_rows before ++ x) (append-nil (rows_of w)) in
       let g =
-      f ∙ sym (append_assoc (spelled before) (rows_of w) (spelled ws ++ rest))
-      ∙ ap (λ x. x ++ (spelled ws ++ rest)) (sym t) in
+      f ∙ sym (append_assoc (spelled_rows before) (rows_of w) (spelled_rows ws ++ rest))
+      ∙ ap (λ x. x ++ (spelled_rows ws ++ rest)) (sym t) in
       let r = all_sound ws after rest a m g in
       (s, subst (λ (x : NotationState). AreSound z words x ws) n r)
 

@@ -5,7 +5,7 @@ use Rattle.ed_notation.specs.declared.cause.TapeCause.{TapeCause}
 use Rattle.ed_notation.specs.declared.cause.TapeCause.TheVariants.{EndOfTape, BadRow}
 use Rattle.ed_notation.specs.declared.reader.RowEffect.{RowEffect}
 use Rattle.ed_notation.specs.declared.reader.RowEffect.TheVariants.{Refused, Longer, Ended, Placed, Entered}
-use Rattle.ed_notation.specs.Items.{row_kind, Begun, Written, begun_rows, rows_of, spelled, IsBegun, IsWritten, item}
+use Rattle.ed_notation.specs.Items.{row_kind, Begun, Written, begun_rows, rows_of, spelled_rows, IsBegun, IsWritten, item}
 use Rattle.ed_notation.specs.Openings.{IsDirective}
 use Rattle.ed_notation.specs.Fold.{NotationState, act, is_entry, begun_cost, cost_of}
 use Rattle.ed_notation.specs.Faults.{breaks, is_broken, part_rows, IsPart, TapeEntry, Breaks, ComesTo}
@@ -49,8 +49,8 @@ before p w rows (Faulty row cause) good goes t =
           is_part = s.is_part;
           rows_are =
               ap (λ x. rows_of w ++ x) s.rows_are
-              ∙ sym (append_assoc (rows_of w) (spelled s.before) (part_rows s.part ++ s.rest));
-          row_is = omega (arith, s.row_is, length-append (rows_of w) (spelled s.before));
+              ∙ sym (append_assoc (rows_of w) (spelled_rows s.before) (part_rows s.part ++ s.rest));
+          row_is = omega (arith, s.row_is, length-append (rows_of w) (spelled_rows s.before));
         };
         breaks = t.breaks.breaks;
       };
@@ -69,12 +69,12 @@ before p w rows (Arrived e) good goes t =
         is_entry = c.is_entry;
         rows_are =
             ap (λ x. rows_of w ++ x) c.rows_are
-            ∙ sym (append_assoc (rows_of w) (spelled c.before) (rows_of c.last ++ e.rest));
+            ∙ sym (append_assoc (rows_of w) (spelled_rows c.before) (rows_of c.last ++ e.rest));
         last_is = c.last_is;
         at_is = c.at_is;
         word_is = c.word_is;
         cost_is = omega (arith, c.cost_is);
-        read_is = omega (arith, c.read_is, length-append (rows_of w) (spelled c.before));
+        read_is = omega (arith, c.read_is, length-append (rows_of w) (spelled_rows c.before));
       };
     }
 

@@ -17,7 +17,7 @@ use Rattle.ed_notation.specs.declared.item.Item.{Item}
 use Rattle.ed_notation.specs.declared.kind.RowKind.{RowKind}
 use Rattle.ed_notation.specs.declared.kind.RowKind.TheVariants.{Digit, Mark, Other}
 use Rattle.ed_notation.specs.Items.{row_kind, Begun, Written, mark_rows, begun_rows}
-use Rattle.ed_notation.specs.Items.{rows_of, spelled, AreDigits, IsWritten, ends}
+use Rattle.ed_notation.specs.Items.{rows_of, spelled_rows, AreDigits, IsWritten, ends}
 use Rattle.ed_notation.specs.Spellings.{AreWritten, canonicals, line_from, text_of}
 use Rattle.ed_words.proofs.Numbers.{lt_of}
 use Rattle.ed_notation.proofs.Tests.{RowMeans, row_means}
@@ -87,14 +87,14 @@ line_spells as_digit [] h = spacing 10 [] [] refl none
 line_spells as_digit (c ∷ cs) h =
     row (byte_of c as_digit) c (line_from true cs) cs (byte_back c as_digit h.0) (line_spells true cs h.1)
 
-text_spells : (ws : List Written) → AreWritten ws → Spells (text_of ws) (spelled ws)
+text_spells : (ws : List Written) → AreWritten ws → Spells (text_of ws) (spelled_rows ws)
 text_spells [] h = none
 text_spells (w ∷ ws) h =
-    spells_append (line_from false (rows_of w)) (rows_of w) (text_of ws) (spelled ws)
+    spells_append (line_from false (rows_of w)) (rows_of w) (text_of ws) (spelled_rows ws)
     (line_spells false (rows_of w) (row_codes w h.0)) (text_spells ws h.1)
 
-pub text_reads : (ws : List Written) → AreWritten ws → reading (text_of ws) ≡ rows (spelled ws)
-text_reads ws h = has_one_reading.only (text_of ws) (rows (spelled ws)) (text_spells ws h)
+pub text_reads : (ws : List Written) → AreWritten ws → reading (text_of ws) ≡ rows (spelled_rows ws)
+text_reads ws h = has_one_reading.only (text_of ws) (rows (spelled_rows ws)) (text_spells ws h)
 
 -- after the last line
 pub text_end : (is : List Item) (text : List ℕ) (k : ℕ) → length is ≤ k

@@ -6,7 +6,7 @@ use Rattle.ed_notation.specs.declared.item.Item.{Item}
 use Rattle.ed_notation.specs.declared.kind.RowKind.{RowKind}
 use Rattle.ed_notation.specs.declared.kind.RowKind.TheVariants.{Digit, Mark, Other}
 use Rattle.ed_notation.specs.Items.{row_kind, Begun, Written, mark_rows, begun_rows}
-use Rattle.ed_notation.specs.Items.{rows_of, spelled, AreDigits, IsWritten}
+use Rattle.ed_notation.specs.Items.{rows_of, spelled_rows, AreDigits, IsWritten}
 use Rattle.ed_notation.specs.Items.{ends, item, items}
 use Rattle.ed_notation.specs.Spellings.{AreWritten, SpellsAll, NoSpellingBeginsAnother}
 use Rattle.ed_notation.proofs.Tests.{RowMeans, row_means}
@@ -86,12 +86,12 @@ none_begins i j rows more p q =
 none_empty : (w : Written) (xs : List ℕ) → (let x : List ℕ = [] in x) ≡ rows_of w ++ xs → ⊥
 none_empty w xs e = cc
 
-one_list : (vs ws : List Written) → AreWritten vs → AreWritten ws → spelled vs ≡ spelled ws → vs ≡ ws
+one_list : (vs ws : List Written) → AreWritten vs → AreWritten ws → spelled_rows vs ≡ spelled_rows ws → vs ≡ ws
 one_list [] [] p q e = refl
-one_list [] (w ∷ ws) p q e = absurd (none_empty w (spelled ws) e)
-one_list (v ∷ vs) [] p q e = absurd (none_empty v (spelled vs) (sym e))
+one_list [] (w ∷ ws) p q e = absurd (none_empty w (spelled_rows ws) e)
+one_list (v ∷ vs) [] p q e = absurd (none_empty v (spelled_rows vs) (sym e))
 one_list (v ∷ vs) (w ∷ ws) p q e =
-    let r = one_item v w (spelled vs) (spelled ws) p.0 q.0 e in
+    let r = one_item v w (spelled_rows vs) (spelled_rows ws) p.0 q.0 e in
     let x = r.item in
     let y = one_list vs ws p.1 q.1 r.rest in
     cc

@@ -18,7 +18,7 @@ use Rattle.ed_notation.specs.declared.kind.Control.{Control}
 use Rattle.ed_notation.specs.declared.kind.Control.TheVariants.{Directive, ThetaByBlank, ThetaByG, Neither}
 use Rattle.ed_notation.specs.declared.kind.LetterAction.{LetterAction}
 use Rattle.ed_notation.specs.declared.kind.LetterAction.TheVariants.{Places, Nowhere}
-use Rattle.ed_notation.specs.Items.{row_kind, Begun, Written, digits_number, begun_rows, rows_of, spelled, IsBegun}
+use Rattle.ed_notation.specs.Items.{row_kind, Begun, Written, digits_number, begun_rows, rows_of, spelled_rows, IsBegun}
 use Rattle.ed_notation.specs.Items.{IsWritten}
 use Rattle.ed_notation.specs.Items.{is_blank_row, item, item_of, items}
 use Rattle.ed_notation.specs.Fold.{NotationState, item_word, address, control_of, letter_action_of}
@@ -131,8 +131,8 @@ pub record IsRead (words : List ℕ) (start : NotationState) (rows : List ℕ) (
   pub rest : List ℕ
   pub are_read : AreRead words start before
   pub is_part : IsPart part
-  pub rows_are : rows ≡ spelled before ++ (part_rows part ++ rest)
-  pub row_is : row ≡ length (spelled before) + length (part_rows part)
+  pub rows_are : rows ≡ spelled_rows before ++ (part_rows part ++ rest)
+  pub row_is : row ≡ length (spelled_rows before) + length (part_rows part)
 
 -- the tape breaks the rule at the row
 pub record Breaks (z : Size) (words : List ℕ) (start : NotationState) (rows : List ℕ) (row : ℕ) (cause : TapeCause) :
@@ -171,12 +171,12 @@ pub record ComesTo (words : List ℕ) (start : NotationState) (base : ℕ) (rows
   pub is_written : IsWritten last
   pub notation_is : e.notation ≡ fold words start (items before)
   pub is_entry : is_entry e.notation (item last) ≡ true
-  pub rows_are : rows ≡ spelled before ++ (rows_of last ++ e.rest)
+  pub rows_are : rows ≡ spelled_rows before ++ (rows_of last ++ e.rest)
   pub last_is : e.last ≡ item last
   pub at_is : e.at ≡ address e.notation.directive
   pub word_is : e.word ≡ item_word words e.notation (item last)
   pub cost_is : e.cost ≡ base + costs words start before + cost_of e.notation last
-  pub read_is : e.rows ≡ length (spelled before) + length (rows_of last)
+  pub read_is : e.rows ≡ length (spelled_rows before) + length (rows_of last)
 
 -- an item breaks no rule at its ending row
 abbrev pub EndsSound : Size → List ℕ → NotationState → Written → Type 0

@@ -55,9 +55,9 @@ abbrev pub rows_of : Written → List ℕ
 rows_of w = begun_rows w.begun ++ (w.end ∷ [])
 
 -- the rows of items one after the other
-abbrev pub spelled : List Written → List ℕ
-spelled [] = []
-spelled (w ∷ ws) = rows_of w ++ spelled ws
+abbrev pub spelled_rows : List Written → List ℕ
+spelled_rows [] = []
+spelled_rows (w ∷ ws) = rows_of w ++ spelled_rows ws
 
 -- all of them are digits
 abbrev pub AreDigits : List ℕ → Type 0

@@ -4,7 +4,7 @@ use Rattle.std.specs.Prelude.{ℕ, ◌≡◌, ◌≢◌, ◌/◌, ◌%◌, Bool,
 use Rattle.std.specs.Prelude.{nat_le, nat_lt, if◌then◌else◌, List, [], ◌∷◌, ◌++◌}
 use Rattle.ed_codes.specs.Spelling.{byte_of}
 use Rattle.ed_notation.specs.declared.item.Item.{Item}
-use Rattle.ed_notation.specs.Items.{row_kind, ends, Written, IsWritten, rows_of, spelled, items, SpellsItem}
+use Rattle.ed_notation.specs.Items.{row_kind, ends, Written, IsWritten, rows_of, spelled_rows, items, SpellsItem}
 
 -- all of them are rows of items
 abbrev pub AreWritten : List Written → Type 0
@@ -16,7 +16,7 @@ pub record SpellsAll (is : List Item) (rows : List ℕ) : Type 0 where
   pub written : List Written
   pub good : AreWritten written
   pub items_are : items written ≡ is
-  pub rows_are : spelled written ≡ rows
+  pub rows_are : spelled_rows written ≡ rows
 
 -- the digit of a number at a power of ten, or no digit if the number is less than the power
 abbrev pub digit_at : ℕ → ℕ → List ℕ

@@ -1,6 +1,6 @@
 ghost use Rattle.std.specs.Prelude.{◌≡◌, ◌++◌, ◌<◌, IfOk, [], ◌∷◌, false};
 ghost use Rattle.ed_codes.specs.Reading.{reading, rows};
-ghost use Rattle.ed_notation.specs.Items.{mark_rows, rows_of, spelled};
+ghost use Rattle.ed_notation.specs.Items.{mark_rows, rows_of, spelled_rows};
 ghost use Rattle.ed_notation.specs.Spellings.{AreSpellable, IsSpelling, NoSpellingBeginsAnother, canonical, canonicals};
 ghost use Rattle.ed_notation.specs.Spellings.{digit_at, line_from, text_of};
 
@@ -12,7 +12,7 @@ use std::alloc::Global;
 /// The rows that spell these items one after the other, without leading zeros and without a digit row for 0.
 pub fn rows_of_items(alloc: Global, items: &[Item]) -> Result<Vec<Code>, NoMemory>
     requires { AreSpellable items.now }
-    ensures rows { IfOk result (λ v. v.items ≡ spelled (canonicals items.now)) }
+    ensures rows { IfOk result (λ v. v.items ≡ spelled_rows (canonicals items.now)) }
     ensures spelling { IfOk result (λ v. IsSpelling items.now v.items) }
     ensures law { NoSpellingBeginsAnother }
 {
@@ -28,8 +28,8 @@ pub fn rows_of_items(alloc: Global, items: &[Item]) -> Result<Vec<Code>, NoMemor
 pub fn text_of_items(alloc: Global, items: &[Item]) -> Result<Vec<u8>, NoMemory>
     requires { AreSpellable items.now }
     ensures text { IfOk result (λ v. v.items ≡ text_of (canonicals items.now)) }
-    ensures reads { IfOk result (λ v. reading v.items ≡ rows (spelled (canonicals items.now))) }
-    ensures spelling { IsSpelling items.now (spelled (canonicals items.now)) }
+    ensures reads { IfOk result (λ v. reading v.items ≡ rows (spelled_rows (canonicals items.now))) }
+    ensures spelling { IsSpelling items.now (spelled_rows (canonicals items.now)) }
 {
     let mut text = Vec::new(alloc);
     for item in items {

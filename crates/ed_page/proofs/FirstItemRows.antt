@@ -14,7 +14,7 @@ use Rattle.ed_notation.proofs.Loop.{next_row}
 use Rattle.ed_initial1.specs.declared.cause.Tape1Cause.{Tape1Cause}
 use Rattle.ed_initial1.specs.Checks.{Accepts1, Report1}
 use Rattle.ed_initial1.specs.Faults.{IsFault1, IsPart1, part_rows1}
-use Rattle.ed_initial1.specs.Items.{AreItems, Begun1, IsBegun1, Item1, ending_row, rows_of1, spelled1, word1}
+use Rattle.ed_initial1.specs.Items.{AreItems, Begun1, IsBegun1, Item1, ending_row, rows_of1, spelled_rows1, word1}
 use Rattle.ed_report.specs.FirstNotes.{rule1_line}
 use Rattle.ed_answers.specs.Outcome.{Outcome, done}
 use Rattle.ed_page.specs.TapeItems.{item_line, item_table1}
@@ -101,13 +101,13 @@ part_table1 row location (Some b) is =
 -- ---- the rows of items
 
 table_is1 : (row location : ℕ) (is : List Item1) (p : Option Begun1) → AreItems is → IsPart1 p
-    → table_on1 row location None (spelled1 is ++ part_rows1 p) ≡ item_table1 row location is
+    → table_on1 row location None (spelled_rows1 is ++ part_rows1 p) ≡ item_table1 row location is
 unfolding item_table1
 table_is1 row location [] p are part = part_table1 row location p part
 table_is1 row location (i ∷ is) p are part =
     let next = row + length (rows_of1 i) in
-    ap (table_on1 row location None) (append_assoc (rows_of1 i) (spelled1 is) (part_rows1 p))
-    ∙ item_rows1 row location i.begun i.long (spelled1 is ++ part_rows1 p) are.0
+    ap (table_on1 row location None) (append_assoc (rows_of1 i) (spelled_rows1 is) (part_rows1 p))
+    ∙ item_rows1 row location i.begun i.long (spelled_rows1 is ++ part_rows1 p) are.0
     ∙ ap (λ rest. item_line row next (Some (location, word1 i)) ++ rest) (table_is1 next (location + 1) is p are.1 part)
 
 -- what is answered to a tape without a fault
@@ -115,11 +115,11 @@ pub program_told1 : {codes : List ℕ} {r : Report1} {count : ℕ} {told : Told}
     → HoldsOutcome told (done (table_on1 0 31 None (take count codes))) → AreItemsOf1 codes (Ok told)
 program_told1 {codes} {r} {count} {told} accepts many tells =
     let is = accepts.tape.items in
-    let n : count ≡ length (spelled1 is) = many ∙ ap (λ (x : Report1). x.rows) accepts.report_is in
-    let head : take count codes ≡ spelled1 is =
-    (λ i. take (n i) (accepts.comes.rows_are i)) ∙ take-append_seam (spelled1 is) accepts.tape.rest in
+    let n : count ≡ length (spelled_rows1 is) = many ∙ ap (λ (x : Report1). x.rows) accepts.report_is in
+    let head : take count codes ≡ spelled_rows1 is =
+    (λ i. take (n i) (accepts.comes.rows_are i)) ∙ take-append_seam (spelled_rows1 is) accepts.tape.rest in
     let same : table_on1 0 31 None (take count codes) ≡ item_table1 0 31 is =
-    ap (table_on1 0 31 None) (head ∙ sym (append-nil (spelled1 is))) ∙ table_is1 0 31 is None accepts.comes.good tt in (
+    ap (table_on1 0 31 None) (head ∙ sym (append-nil (spelled_rows1 is))) ∙ table_is1 0 31 is None accepts.comes.good tt in (
       done (item_table1 0 31 is),
       inl (record { tape = accepts.tape; comes = accepts.comes; outcome = refl }),
       subst (λ (out : List ℕ). HoldsOutcome told (done out)) same tells,
@@ -135,10 +135,10 @@ pub fault_told1 : {codes : List ℕ} {row : ℕ} {cause : Tape1Cause} {told : To
     → AreItemsOf1 codes (Ok told)
 fault_told1 {codes} {row} {cause} {told} f tells =
     let s = f.is.stands in
-    let read = spelled1 s.before ++ part_rows1 s.part in
-    let n : row ≡ length read = s.row_is ∙ sym (length-append (spelled1 s.before) (part_rows1 s.part)) in
+    let read = spelled_rows1 s.before ++ part_rows1 s.part in
+    let n : row ≡ length read = s.row_is ∙ sym (length-append (spelled_rows1 s.before) (part_rows1 s.part)) in
     let whole : codes ≡ read ++ s.rest = s.rows_are
-    ∙ sym (append_assoc (spelled1 s.before) (part_rows1 s.part) s.rest) in
+    ∙ sym (append_assoc (spelled_rows1 s.before) (part_rows1 s.part) s.rest) in
     let head : take row codes ≡ read = (λ i. take (n i) (whole i)) ∙ take-append_seam read s.rest in
     let same : table_on1 0 31 None (take row codes) ≡ item_table1 0 31 s.before =
     ap (table_on1 0 31 None) head ∙ table_is1 0 31 s.before s.part s.good s.is_part in

@@ -31,7 +31,7 @@ use Rattle.ed_notation.specs.Fold.{NotationState, act, ending_effect, address, l
 use Rattle.ed_notation.specs.Fold.{item_word, over, value_of}
 use Rattle.ed_notation.specs.Fold.{with_kay, with_letter, with_zed, word_with}
 use Rattle.ed_notation.specs.Items.{AreDigits, Begun, IsBegun, IsWritten, Written, digits_number, ends, item, mark_rows}
-use Rattle.ed_notation.specs.Items.{row_kind, rows_of, spelled}
+use Rattle.ed_notation.specs.Items.{row_kind, rows_of, spelled_rows}
 use Rattle.ed_notation.specs.Spellings.{AreWritten}
 use Rattle.ed_page.specs.TapeItems.{PlacingLaw, item_line, item_table, placing, placing_by, tape_table, with_placing}
 use Rattle.ed_page.specs.Private.ItemTables.{IsSetBelow, cells_with, is_last_row, item_at, notation_after, note_over}
@@ -271,13 +271,13 @@ part_table row n (Some b) is =
 
 pub table_is : (words : List ℕ) (row : ℕ) (note : NotationState) (n : Notation) (ws : List Written) (p : Option Begun)
     → IsNoteOver words note n → AreWritten ws → IsPart p
-    → table_on row n None (spelled ws ++ part_rows p) ≡ item_table words note row ws
+    → table_on row n None (spelled_rows ws ++ part_rows p) ≡ item_table words note row ws
 unfolding item_table
 table_is words row note n [] p o are part = part_table row n p part
 table_is words row note n (w ∷ ws) p o are part =
     let next = row + length (rows_of w) in
-    ap (table_on row n None) (append_assoc (rows_of w) (spelled ws) (part_rows p))
-    ∙ written_table row n w (spelled ws ++ part_rows p) are.0
+    ap (table_on row n None) (append_assoc (rows_of w) (spelled_rows ws) (part_rows p))
+    ∙ written_table row n w (spelled_rows ws ++ part_rows p) are.0
     ∙ ap (λ rest. item_line row next (placing_over n (item w)) ++ rest)
     (table_is words next (act words note (item w)) (notation_after n (item w)) ws p (over_after o (item w)) are.1 part)
     ∙ ap (λ q. item_line row next q ++ item_table words (act words note (item w)) next ws) (same_placing o (item w))
@@ -333,14 +333,14 @@ entered_told z {codes} {r = r} {count} {told} is accepts many tells =
     let ws = f.comes.before in
     let last = f.comes.last in
     let all = ws ++ (last ∷ []) in
-    let n : count ≡ length (spelled ws) + length (rows_of last) = many ∙ f.rows_are ∙ f.comes.read_is in
-    let head : take count codes ≡ spelled ws ++ rows_of last =
+    let n : count ≡ length (spelled_rows ws) + length (rows_of last) = many ∙ f.rows_are ∙ f.comes.read_is in
+    let head : take count codes ≡ spelled_rows ws ++ rows_of last =
     (λ i. take (n i) (f.comes.rows_are i))
-    ∙ take-append-add (spelled ws) (rows_of last ++ f.entry.rest) (length (rows_of last))
-    ∙ ap (λ xs. spelled ws ++ xs) (take-append_seam (rows_of last) f.entry.rest) in
-    let rows_are : spelled all ++ [] ≡ spelled ws ++ rows_of last =
-    append-nil (spelled all) ∙ spelled-append ws (last ∷ [])
-    ∙ ap (λ xs. spelled ws ++ xs) (append-nil (rows_of last)) in
+    ∙ take-append-add (spelled_rows ws) (rows_of last ++ f.entry.rest) (length (rows_of last))
+    ∙ ap (λ xs. spelled_rows ws ++ xs) (take-append_seam (rows_of last) f.entry.rest) in
+    let rows_are : spelled_rows all ++ [] ≡ spelled_rows ws ++ rows_of last =
+    append-nil (spelled_rows all) ∙ spelled-append ws (last ∷ [])
+    ∙ ap (λ xs. spelled_rows ws ++ xs) (append-nil (rows_of last)) in
     let same : table_on 0 first_notation None (take count codes) ≡ tape_table all =
     ap (table_on 0 first_notation None) (head ∙ sym rows_are)
     ∙ table_is cleared_cells.words 0 first_note first_notation all None first_over
@@ -366,9 +366,9 @@ fault_told z {codes} {row = row} {cause} {told} is answers tells =
     subst (λ (c : Cells). IsFault z c.words (opening c.words) codes row cause) is answers in
     let s = f.is.stands in
     let ws = s.before in
-    let read = spelled ws ++ part_rows s.part in
-    let n : row ≡ length read = s.row_is ∙ sym (length-append (spelled ws) (part_rows s.part)) in
-    let whole : codes ≡ read ++ s.rest = s.rows_are ∙ sym (append_assoc (spelled ws) (part_rows s.part) s.rest) in
+    let read = spelled_rows ws ++ part_rows s.part in
+    let n : row ≡ length read = s.row_is ∙ sym (length-append (spelled_rows ws) (part_rows s.part)) in
+    let whole : codes ≡ read ++ s.rest = s.rows_are ∙ sym (append_assoc (spelled_rows ws) (part_rows s.part) s.rest) in
     let head : take row codes ≡ read = (λ i. take (n i) (whole i)) ∙ take-append_seam read s.rest in
     let same : table_on 0 first_notation None (take row codes) ≡ tape_table ws =
     ap (table_on 0 first_notation None) head

@@ -8,7 +8,7 @@ use Rattle.ed_words.proofs.Numbers.{le_true}
 use Rattle.ed_words.proofs.SizeLemmas.{least}
 use Rattle.ed_words.specs.declared.order_words.TheConstants.{E_F, T_F}
 use Rattle.ed_notation.specs.declared.item.Item.{Item}
-use Rattle.ed_notation.specs.Items.{rows_of, spelled}
+use Rattle.ed_notation.specs.Items.{rows_of, spelled_rows}
 use Rattle.ed_notation.specs.Fold.{NotationState, over, is_entry}
 use Rattle.ed_notation.specs.Openings.{opening, IsDirective}
 use Rattle.ed_notation.specs.Faults.{TapeEntry, WellFormed, ComesTo, EndsSound}
@@ -47,21 +47,21 @@ abbrev last : Item
 last = plain 0 0 17
 
 behind_are : rows_of_text (codes "T56KGK" ++ (orders ++ codes "E56KPF"))
-    ≡ spelled (canonicals (aims ++ (listing ++ (enters ++ (last ∷ [])))))
+    ≡ spelled_rows (canonicals (aims ++ (listing ++ (enters ++ (last ∷ [])))))
 behind_are = refl
 
 -- the rows are those of the items
 pub rows_are : (first count : ℕ)
-    → tape_rows first count ≡ spelled (canonicals (before first count)) ++ (rows_of (canonical last) ++ [])
+    → tape_rows first count ≡ spelled_rows (canonicals (before first count)) ++ (rows_of (canonical last) ++ [])
 rows_are first count =
     let f : List ℕ = rows_of (canonical (count_item first)) in
     let c : List ℕ = rows_of (canonical (count_item count)) in
-    let rest : List ℕ = spelled (canonicals (aims ++ (listing ++ (enters ++ (last ∷ []))))) in
+    let rest : List ℕ = spelled_rows (canonicals (aims ++ (listing ++ (enters ++ (last ∷ []))))) in
     let split : (f ++ (c ++ [])) ++ rest ≡ f ++ (c ++ rest) = append_assoc f (c ++ []) rest
     ∙ ap (λ x. f ++ x) (append_assoc c [] rest) in
     let bs : List Item = before first count in
-    let whole : spelled (canonicals (bs ++ (last ∷ []))) ≡ spelled (canonicals bs) ++ (rows_of (canonical last) ++ []) =
-    ap spelled (canonicals-append bs (last ∷ [])) ∙ spelled-append (canonicals bs) (canonicals (last ∷ [])) in
+    let whole : spelled_rows (canonicals (bs ++ (last ∷ []))) ≡ spelled_rows (canonicals bs) ++ (rows_of (canonical last) ++ []) =
+    ap spelled_rows (canonicals-append bs (last ∷ [])) ∙ spelled-append (canonicals bs) (canonicals (last ∷ [])) in
     ap (λ x. rows_of_text (codes "T45K") ++ ((f ++ (c ++ [])) ++ x)) behind_are
     ∙ ap (λ x. rows_of_text (codes "T45K") ++ x) split
     ∙ whole
@@ -143,7 +143,7 @@ module _ (z : Size) (words : List ℕ) (first count : ℕ) (f_fits : first ≤ 1
     at = 56;
     word = 0;
     cost = 9 + items_cost + 19;
-    rows = length (spelled (canonicals (before first count))) + length (rows_of (canonical last));
+    rows = length (spelled_rows (canonicals (before first count))) + length (rows_of (canonical last));
     notation = at_last;
     last = last;
     rest = [];

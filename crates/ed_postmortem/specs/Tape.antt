@@ -3,7 +3,7 @@
 use Rattle.std.specs.Prelude.{ℕ, false, List, [], ◌∷◌, ◌++◌, codes, unwrap_or}
 use Rattle.ed_codes.specs.Spelling.{row_of}
 use Rattle.ed_notation.specs.declared.item.Item.{Item}
-use Rattle.ed_notation.specs.Items.{spelled}
+use Rattle.ed_notation.specs.Items.{spelled_rows}
 use Rattle.ed_notation.specs.Spellings.{canonicals}
 
 -- the rows of a text of letters, signs and digits
@@ -33,5 +33,5 @@ orders =
 abbrev pub tape_rows : ℕ → ℕ → List ℕ
 tape_rows first count =
     rows_of_text (codes "T45K")
-    ++ (spelled (canonicals (count_item first ∷ count_item count ∷ []))
+    ++ (spelled_rows (canonicals (count_item first ∷ count_item count ∷ []))
     ++ rows_of_text (codes "T56KGK" ++ (orders ++ codes "E56KPF")))

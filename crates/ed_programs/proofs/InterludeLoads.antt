@@ -8,7 +8,7 @@ use Rattle.ed_words.specs.Sizes.{locations}
 use Rattle.ed_words.specs.declared.size.Size.{Size}
 use Rattle.ed_words.specs.declared.order_words.TheConstants.{E_F, H_F, T_F}
 use Rattle.ed_notation.specs.declared.item.Item.{Item}
-use Rattle.ed_notation.specs.Items.{rows_of, spelled}
+use Rattle.ed_notation.specs.Items.{rows_of, spelled_rows}
 use Rattle.ed_notation.specs.Fold.{NotationState, cost_of, is_entry, over}
 use Rattle.ed_notation.specs.Openings.{IsDirective, opening}
 use Rattle.ed_notation.specs.Faults.{ComesTo, EndsSound, WellFormed}
@@ -23,13 +23,13 @@ use Rattle.ed_notation.proofs.Steps.{reads_one, setting_theta}
 pub record Entered (z : Size) (words : List ℕ) (start : NotationState) (base at : ℕ) (is : List Item)
     (last : NotationState) (cost : ℕ)
     (rest : List ℕ) : Type 0 where
-  pub well : WellFormed z words start (spelled (canonicals is) ++ (rows_of (canonical (plain 0 0 17)) ++ rest))
-  pub comes : ComesTo words start base (spelled (canonicals is) ++ (rows_of (canonical (plain 0 0 17)) ++ rest))
+  pub well : WellFormed z words start (spelled_rows (canonicals is) ++ (rows_of (canonical (plain 0 0 17)) ++ rest))
+  pub comes : ComesTo words start base (spelled_rows (canonicals is) ++ (rows_of (canonical (plain 0 0 17)) ++ rest))
       (record {
         at = at;
         word = 0;
         cost = base + cost + 19;
-        rows = length (spelled (canonicals is)) + 2;
+        rows = length (spelled_rows (canonicals is)) + 2;
         notation = last;
         last = plain 0 0 17;
         rest = rest;

@@ -19,7 +19,7 @@ use Rattle.ed_codes.specs.Text.{Spells, none, row}
 use Rattle.ed_codes.specs.Reading.{IsReadingOf, reading, rows}
 use Rattle.ed_codes.proofs.Pieces.{spells_append}
 use Rattle.ed_codes.proofs.Readings.{has_one_reading}
-use Rattle.ed_notation.specs.Items.{AreDigits, rows_of, spelled}
+use Rattle.ed_notation.specs.Items.{AreDigits, rows_of, spelled_rows}
 use Rattle.ed_notation.proofs.Canonical.{digits_are}
 use Rattle.ed_notation.specs.Faults.{ComesTo, TapeEntry, WellFormed}
 use Rattle.ed_notation.specs.Fold.{NotationState, address}
@@ -122,21 +122,21 @@ abbrev last_rows : List ℕ
 last_rows = rows_of (canonical (plain 0 0 17))
 
 abbrev pub program_rows : List ℕ
-program_rows = spelled (canonicals program_items) ++ (last_rows ++ [])
+program_rows = spelled_rows (canonicals program_items) ++ (last_rows ++ [])
 
 abbrev front_rows : List ℕ
 front_rows =
-    spelled (canonicals (plain 5 100 14 ∷ plain 27 0 14 ∷ plain 28 6 18 ∷ plain 28 6 18 ∷ plain 7 45 17 ∷ plain 28 5 18
+    spelled_rows (canonicals (plain 5 100 14 ∷ plain 27 0 14 ∷ plain 28 6 18 ∷ plain 28 6 18 ∷ plain 7 45 17 ∷ plain 28 5 18
     ∷ plain 3 25 17 ∷ plain 5 0 17 ∷ [])) ++ 0 ∷ []
 
 abbrev entering_rows : List ℕ
-entering_rows = spelled (canonicals (plain 3 100 14 ∷ []))
+entering_rows = spelled_rows (canonicals (plain 3 100 14 ∷ []))
 
 abbrev rows_behind : List ℕ
 rows_behind = 17 ∷ (entering_rows ++ (last_rows ++ program_rows))
 
 abbrev pub tape_rows : ℕ → List ℕ
-tape_rows n = spelled (canonicals (interlude_items n)) ++ (last_rows ++ program_rows)
+tape_rows n = spelled_rows (canonicals (interlude_items n)) ++ (last_rows ++ program_rows)
 
 rows_are : (n : ℕ) → front_rows ++ (digits_of n ++ rows_behind) ≡ tape_rows n
 rows_are n =
@@ -172,7 +172,7 @@ module _ (z : Size) (n : ℕ) (low : 34 ≤ n) (small : n ≤ 510) (fits : 2 * n
   loaded = 9 + (344 + 9 * length (digits_of n)) + 19
 
   abbrev read : ℕ
-  read = length (spelled (canonicals (interlude_items n))) + 2
+  read = length (spelled_rows (canonicals (interlude_items n))) + 2
 
   abbrev first : TapeEntry
   first = entry z (tape_rows n) program_rows n loaded read small

@@ -5,7 +5,7 @@ use Rattle.ed_codes.specs.Reading.{reading, rows}
 use Rattle.ed_machine.specs.State.{State}
 use Rattle.ed_initial1.specs.Entry.{at_entry1}
 use Rattle.ed_initial1.specs.Faults.{Comes1, Tape}
-use Rattle.ed_initial1.specs.Items.{Item1, spelled1}
+use Rattle.ed_initial1.specs.Items.{Item1, spelled_rows1}
 use Rattle.ed_paths.proofs.Frames.{Moment, state}
 use Rattle.ed_paths.proofs.Window.{patched}
 use Rattle.ed_routines.proofs.Journeys.{ComesToStop}
@@ -37,7 +37,7 @@ abbrev program : Tape
 program = record { end = 74; items = items; rest = [] }
 
 abbrev tape_rows : List ℕ
-tape_rows = spelled1 items
+tape_rows = spelled_rows1 items
 
 spells : reading squares_text ≡ rows tape_rows
 spells = refl

@@ -23,7 +23,7 @@ use Rattle.ed_run.specs.Run.{end_by, run_end}
 use Rattle.ed_printer.specs.Paper.{paper}
 use Rattle.ed_notation.specs.Fold.{address}
 use Rattle.ed_notation.specs.Faults.{TapeEntry}
-use Rattle.ed_notation.specs.Items.{rows_of, spelled}
+use Rattle.ed_notation.specs.Items.{rows_of, spelled_rows}
 use Rattle.ed_initial.specs.Entry.{Comes, at_entry}
 use Rattle.ed_initial.proofs.Quiet.{LeadsIn, comes_in}
 use Rattle.ed_interlude.specs.Returned.{ComesBack, IsReturned, directive}
@@ -221,7 +221,7 @@ module _ {z : Size} {tape_rows : List ℕ} {at : ℕ} {printed : List ℕ} (c : 
   read =
       let o = c.reads.comes in
       let all = ap length o.rows_are in
-      let both = length-append (spelled o.before) (rows_of o.last ++ c.interlude.rest) in
+      let both = length-append (spelled_rows o.before) (rows_of o.last ++ c.interlude.rest) in
       let last = length-append (rows_of o.last) c.interlude.rest in
       let rest = ap length c.left in
       omega (arith, all, both, last, rest, o.read_is)

@@ -13,7 +13,7 @@ use Rattle.ed_stepper.specs.Sessions.{Stand}
 use Rattle.ed_stepper.proofs.ScriptLaws.{never_both, one_script}
 use Rattle.ed_report.specs.Notes.{too_far_line}
 use Rattle.ed_answers.specs.Outcome.{done, refusal}
-use Rattle.ed_notation.specs.Items.{spelled}
+use Rattle.ed_notation.specs.Items.{spelled_rows}
 use Rattle.ed_notation.specs.Spellings.{canonicals}
 use Rattle.ed_stepper.specs.declared.inputs.TextKind.{TextKind}
 use Rattle.ed_syntax.specs.declared.program.Line.{Line}
@@ -103,11 +103,11 @@ tape_replied s commands r codes reply is gives = (on_rows s commands codes, ap (
 -- a tape that is punched
 pub punched_given : (s : Settings) (commands : CommandList) (k : Linked) (codes : List ℕ)
     (reply : Result Reply NoMemory)
-    → codes ≡ spelled (canonicals k.items.items) ++ k.after.items
+    → codes ≡ spelled_rows (canonicals k.items.items) ++ k.after.items
     → IfOk reply (λ reply. Gives reply (on_rows s commands codes))
     → IfOk reply (λ reply. (lines : List Line) → IsLinked s.size lines k
     → Gives reply (on_rows s commands (tape lines)))
 punched_given s commands k codes (Err e) is gives = gives
 punched_given s commands k codes (Ok reply) is gives =
     λ lines linked. subst (λ x. Gives reply (on_rows s commands x))
-    (is ∙ (λ i. spelled (canonicals (linked.items i)) ++ linked.after i)) gives
+    (is ∙ (λ i. spelled_rows (canonicals (linked.items i)) ++ linked.after i)) gives
