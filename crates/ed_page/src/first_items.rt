@@ -12,7 +12,7 @@ use crate::texts::tell;
 use crate::told::{NO_MEMORY, NO_ROOM, Told, is_too_long, lacks_line, rejected};
 use crate::writing::Lengths;
 use ed_answers::rows_of;
-use ed_codes::Code;
+use ed_codes::{Code, letters};
 use ed_initial1::{Tape1Fault, check1};
 use ed_report::tape1_fault;
 use ed_words::{NoMemory, Word};
@@ -20,9 +20,6 @@ use std::alloc::Global;
 
 /// The location of the first word of a tape.
 const FIRST_LOCATION: u32 = 31;
-
-/// The code of L, which ends a long item.
-const LONG: u8 = 25;
 
 /// Writes the table of the items of a tape's text for the Initial Orders of May 1949, as `page_items` does for the others.
 #[unsafe(no_mangle)]
@@ -106,12 +103,12 @@ fn item_table1(alloc: Global, rows: &[Code]) -> Result<Vec<u8>, NoMemory>
 }
 
 impl OpenItem {
-    /// The word of the item that a row ends.
+    /// The word of the item that a row ends, a long one if the row is L.
     fn first_word(&self, end: Code) -> Word
         requires { self.now.number ≤ 327679 }
         ensures { result ≡ first_word self.now end }
     {
-        let sum = self.sum() + u64::from(end.value() == LONG);
+        let sum = self.sum() + u64::from(end.value() == letters::L);
         Word::of_number((sum % (1 << 17)) as u32)
     }
 }

@@ -19,21 +19,15 @@ use crate::texts::tell;
 use crate::told::{NO_MEMORY, NO_ROOM, Told, is_too_long, lacks_line, rejected};
 use crate::writing::Lengths;
 use ed_answers::rows_of;
-use ed_codes::Code;
-use ed_notation::{TapeFault, check};
+use ed_codes::{Code, letters};
+use ed_notation::{FIRST_DIRECTIVE, TapeFault, check};
 use ed_report::tape_fault;
-use ed_store::Store;
+use ed_store::{LOCATIONS, Store};
 use ed_words::{NoMemory, Size, Word};
 use std::alloc::Global;
 
-/// The word of T 44 F, the directive that the Initial Orders begin with.
-const FIRST_DIRECTIVE: u64 = 20568;
-
 /// What stands for the location of an item that places no word.
 const NO_LOCATION: u32 = 1024;
-
-/// How many locations a store has.
-const LOCATIONS: u16 = 1024;
 
 /// An item whose function row, and perhaps more rows, have been read.
 #[derive(Clone, Copy)]
@@ -116,7 +110,7 @@ fn item_table(alloc: Global, rows: &[Code]) -> Result<Vec<u8>, NoMemory>
         ≡ table_on 0 (record { directive = 20568; theta = 0; contents = cleared_cells }) None rows.now) }
 {
     let mut notation = Notation {
-        directive: FIRST_DIRECTIVE,
+        directive: u64::from(FIRST_DIRECTIVE),
         theta: 0,
         contents: Store::cleared(alloc)?,
     };
@@ -145,7 +139,7 @@ fn is_last_row(row: Code) -> bool
     ensures { result ≡ is_last_row (row_kind row) }
 {
     let code = row.value();
-    code == 13 || code == 14 || 16 <= code
+    code == letters::Z || code == letters::K || letters::BLANK <= code
 }
 
 /// Adds the line of an item to a table.
@@ -264,7 +258,7 @@ impl Notation {
         requires theta { self.now.theta ≤ 2 ^ 42 }
         ensures { result ≡ placing_over self.now (whole_item item.now end) }
     {
-        if end.value() < 17 || self.directive / 4096 == 3 {
+        if end.value() < letters::F || self.directive / 4096 == u64::from(letters::E) {
             None
         } else {
             Some((self.address(), self.word(item, end)))
@@ -285,9 +279,9 @@ impl Notation {
         ensures { result ≡ item_word self.now.contents.words (note_over self.now) (whole_item item.now letter) }
     {
         let value = match letter.value() {
-            17 => 0,
-            18 => self.theta,
-            19 => 1,
+            letters::F => 0,
+            letters::THETA => self.theta,
+            letters::D => 1,
             code => u64::from(self.contents.short(24 + u16::from(code)).value()),
         };
         let sum = item.sum() + u64::from(item.mark) + value;
@@ -318,7 +312,7 @@ impl Notation {
     {
         // This call is there for its contract alone: that this is a store.
         let _ = self.contents.short(0);
-        if location < LOCATIONS {
+        if usize::from(location) < LOCATIONS {
             self.contents.put_short(location, word);
         }
         self.directive += 2;
@@ -333,9 +327,9 @@ impl Notation {
         ensures bound { IsSetBelow self.old self.new }
     {
         match end.value() {
-            13 => self.take_zed(item),
-            14 => self.take_kay(item),
-            16 => self.theta = self.directive,
+            letters::Z => self.take_zed(item),
+            letters::K => self.take_kay(item),
+            letters::BLANK => self.theta = self.directive,
             _ => {}
         }
     }
@@ -350,7 +344,7 @@ impl Notation {
     {
         let sum = item.sum();
         match item.function.value() {
-            16 | 27 => self.theta = (sum + self.directive) % (1 << 17),
+            letters::BLANK | letters::G => self.theta = (sum + self.directive) % (1 << 17),
             _ => self.directive = sum,
         }
     }
@@ -365,7 +359,7 @@ impl Notation {
     {
         let sum = item.sum() + self.theta;
         match item.function.value() {
-            16 => self.theta = (sum + self.directive) % (1 << 17),
+            letters::BLANK => self.theta = (sum + self.directive) % (1 << 17),
             _ => self.directive = sum,
         }
     }

@@ -8,18 +8,13 @@ ghost use Rattle.ed_page.specs.Going.{AreCodes, IsPaperWritten, PaperLaw, added_
 use crate::pictured::code_of;
 use crate::told::{NO_MEMORY, NO_ROOM};
 use crate::writing::write_text;
+use ed_codes::letters::{FIGURE_SHIFT, LETTER_SHIFT};
 use ed_printer::Printer;
 use ed_words::NoMemory;
 use std::alloc::Global;
 
 /// The answer if a text was written.
 const WRITTEN: u32 = 0;
-
-/// The code that sets figure shift.
-const FIGURE_SHIFT: u8 = 11;
-
-/// The code that sets letter shift.
-const LETTER_SHIFT: u8 = 15;
 
 /// Writes the text that codes add to the paper after the codes `before` them, and its length, and answers 0. It answers
 /// 12 if the buffer has no room, and 10 if no memory was found; nothing is written then.

@@ -21,7 +21,7 @@ use Rattle.ed_machine.proofs.SoundSteps.{sound_after}
 use Rattle.ed_notation.specs.declared.item.Item.{Item}
 use Rattle.ed_library.specs.Entries.{entry}
 use Rattle.ed_library.specs.Images.{image_word, parameter_store, routine_word}
-use Rattle.ed_library.specs.Routines.{is_working, routine_item, table_item}
+use Rattle.ed_library.specs.Routines.{is_working, missing_row, routine_item, table_item}
 use Rattle.ed_syntax.specs.declared.program.Line.{Line}
 use Rattle.ed_symbols.specs.NameFaults.{counter_after}
 use Rattle.ed_notation.specs.Spellings.{canonicals, text_of}
@@ -82,7 +82,7 @@ table_words h base = map (λ row. routine_word (with_h h) base (table_item row))
 table_word : (h base i : ℕ) → get_or (table_words h base) i 0 ≡ image_word check i base (with_h h)
 unfolding parameter_store
 table_word h base i =
-    get_or-map (λ row. routine_word (with_h h) base (table_item row)) (entry check).items i (0, 0, false, 0)
+    get_or-map (λ row. routine_word (with_h h) base (table_item row)) (entry check).items i missing_row
 
 -- the first word fetches the order at H
 fetches : (h base : ℕ) → h < 1024 → image_word check 0 base (with_h h) ≡ A_F + 2 * h
