@@ -20,7 +20,7 @@ returns-in-Ok-clause-shown c =
     let text = c.args.text.now in
     drawn_shown (tape1_answer s) (Tape1Ends s) text c.in-Ok.shown
     (refuted c.lacks_room.result c.if-lacks_room.false c.lacks_room.ensures)
-    (subst (λ (x : Settings). Draws (tape1_answer x) (Tape1Ends x) text (Ok c.in-Ok.shown)) c.asked.ensures
+    (subst (λ (x : Settings). Draws (tape1_answer x) (Tape1Ends x) text (Ok c.in-Ok.shown)) c.run_settings.ensures
     c.in-Ok.ensures) c.show.ensures
 
 pub returns-in-Ok-clause-rows : goal.returns-in-Ok-clause-rows

@@ -13,7 +13,7 @@ returns-in-Ok c =
     let s = run_settings c.args.small 0 0 in
     text_told (punch_answer s) c.args.text.now c.in-Ok.told
     (refuted c.lacks_line.result c.if-lacks_line.false c.lacks_line.ensures)
-    (subst (λ (x : Settings). IsAnswered (punch_answer x) c.args.text.now (Ok c.in-Ok.told)) c.asked.ensures
+    (subst (λ (x : Settings). IsAnswered (punch_answer x) c.args.text.now (Ok c.in-Ok.told)) c.run_settings.ensures
     c.in-Ok.ensures) c.tell.ensures
 
 pub returns-then-lacks_line : goal.returns-then-lacks_line
