@@ -8,4 +8,4 @@ loop-rest-preserved c =
     let rest = c.loop-rest.rest.now in
     let line = first_is rest c.first_line.result.0.now _ c.first_line.ensures.lines in
     goes_on c.args.input.now rest c.first_line.result.1.now c.loop-rest.invariant (search rules)
-    (ap text_kind_of line ∙ sym c.announced.ensures ∙ c.in_default.is) c.first_line.ensures.after
+    (ap text_kind_of line ∙ sym c.text_kind_of.ensures ∙ c.in_default.is) c.first_line.ensures.after
