@@ -1,2 +1,3 @@
 pub mod Tables
 pub mod Latest
+pub mod Silent

@@ -122,8 +122,10 @@ impl Printer {
         Ok(())
     }
 
-    /// Prints a code onto a text that has room for two bytes, the most that a code prints.
+    /// Prints a code onto a text that has room for two bytes, the most that a code prints. Only a code that prints
+    /// nothing can set a shift.
     #[inline(always)]
+    #[tactic(auto, using(crate::proofs::Silent::keeps_shift))]
     pub fn print_reserved(&mut self, code: Code, text: &mut Vec<u8>)
         requires { vec_len text.old + 2 ≤ vec_capacity text.old }
         ensures text { text.new.items ≡ text.old.items ++ struck_bytes self.old code }
@@ -131,8 +133,8 @@ impl Printer {
         ensures len { vec_len text.new ≤ vec_len text.old + 2 }
         ensures capacity { vec_capacity text.new ≡ vec_capacity text.old }
     {
-        match self.character(code) {
-            NOTHING => {}
+        match self.shift.character(code) {
+            NOTHING => self.shift = self.shift.after(code),
             POUND => {
                 text.push_reserved(BEFORE_POUND);
                 text.push_reserved(POUND);

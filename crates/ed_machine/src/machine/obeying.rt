@@ -128,6 +128,20 @@ impl Machine {
         }
     }
 
+    /// The five most significant digits of what an order reads.
+    #[inline(always)]
+    fn top_digits(&self, word: Word) -> u8
+        ensures is { result ≡ operand35 word self.now / 2 ^ 30 }
+        ensures fits { result < 32 }
+    {
+        let place = self.place(word);
+        if word.order().length {
+            (self.store.long(place).value() >> 30) as u8
+        } else {
+            self.store.short(place).order().function
+        }
+    }
+
     /// Writes at the location that an order names: the short number or the long one, by the order's length.
     #[inline(always)]
     fn write(&mut self, word: Word, short: Word, long: Long)
@@ -222,7 +236,7 @@ impl Machine {
         ensures state { self.new ≡ (print_order (operand35 word self.old / 2 ^ 30) self.old).state }
         ensures turn { result ≡ (print_order (operand35 word self.old / 2 ^ 30) self.old).turn }
     {
-        let code = Code::new((self.operand(word).value() >> 30) as u8).unwrap();
+        let code = Code::new(self.top_digits(word)).unwrap();
         self.last = Some(code);
         self.advance();
         Turn::Printed(code)

@@ -1,0 +1,44 @@
+-- The codes that set a shift print nothing.
+use Rattle.std.proofs.Common.{◌≡◌, ◌≢◌, ◌∙◌, ℕ, Bool, true, false, List, [], ◌∷◌, refl, ap, arith, nat_eq}
+use Rattle.std.proofs.lemmas.Bool.Decides.{nat_tests}
+use Rattle.ed_printer.specs.Paper.{bytes_of, shift_after, struck}
+use Rattle.ed_printer.specs.declared.printer.Shift.{Shift}
+use Rattle.ed_printer.specs.declared.printer.Shift.TheVariants.{Letters, Figures}
+
+eleven_silent : (shift : Shift) → struck shift 11 ≡ []
+eleven_silent Letters = refl
+eleven_silent Figures = refl
+
+fifteen_silent : (shift : Shift) → struck shift 15 ≡ []
+fifteen_silent Letters = refl
+fifteen_silent Figures = refl
+
+-- the bytes of the pound sign
+abbrev pound : List ℕ
+pound = 194 ∷ 163 ∷ []
+
+-- a character that isn't 0 has a byte
+has_bytes : (character : ℕ) → character ≢ 0 → bytes_of character ≢ []
+has_bytes character some none = by_tests (nat_eq character 163) zero refl none
+  where
+    zero : nat_eq character 0 ≡ false
+    zero = grind (arith, nat_tests)
+
+    by_tests : (p : Bool) → nat_eq character 0 ≡ false → nat_eq character 163 ≡ p → bytes_of character ≡ [] → ⊥
+    by_tests true e f h = let g : pound ≡ [] = rw (e, f) at h in absurd (cc)
+    by_tests false e f h = let g : character ∷ [] ≡ [] = rw (e, f) at h in absurd (cc)
+
+-- so a code whose character isn't 0 keeps the shift
+pub keeps_shift : (shift : Shift) (code character : ℕ) → bytes_of character ≡ struck shift code → character ≢ 0
+    → shift_after shift code ≡ shift
+keeps_shift shift code character is some = by_tests (nat_eq code 11) (nat_eq code 15) refl refl
+  where
+    other : (n : ℕ) → struck shift n ≡ [] → nat_eq code n ≡ true → ⊥
+    other n silent same =
+        let e : code ≡ n = grind (arith, nat_tests) in
+        has_bytes character some (is ∙ ap (λ (k : ℕ). struck shift k) e ∙ silent)
+
+    by_tests : (a b : Bool) → nat_eq code 11 ≡ a → nat_eq code 15 ≡ b → shift_after shift code ≡ shift
+    by_tests true b e f = absurd (other 11 (eleven_silent shift) e)
+    by_tests false true e f = absurd (other 15 (fifteen_silent shift) f)
+    by_tests false false e f = rw (e, f) refl
