@@ -1,15 +1,15 @@
 -- The codes that set a shift print nothing.
 use Rattle.std.proofs.Common.{◌≡◌, ◌≢◌, ◌∙◌, ℕ, Bool, true, false, List, [], ◌∷◌, refl, ap, arith, nat_eq}
 use Rattle.std.proofs.lemmas.Bool.Decides.{nat_tests}
-use Rattle.ed_printer.specs.Paper.{bytes_of, shift_after, struck}
+use Rattle.ed_printer.specs.Paper.{bytes_of, shift_after, struck_bytes}
 use Rattle.ed_printer.specs.declared.printer.Shift.{Shift}
 use Rattle.ed_printer.specs.declared.printer.Shift.TheVariants.{Letters, Figures}
 
-eleven_silent : (shift : Shift) → struck shift 11 ≡ []
+eleven_silent : (shift : Shift) → struck_bytes shift 11 ≡ []
 eleven_silent Letters = refl
 eleven_silent Figures = refl
 
-fifteen_silent : (shift : Shift) → struck shift 15 ≡ []
+fifteen_silent : (shift : Shift) → struck_bytes shift 15 ≡ []
 fifteen_silent Letters = refl
 fifteen_silent Figures = refl
 
@@ -29,14 +29,14 @@ has_bytes character some none = by_tests (nat_eq character 163) zero refl none
     by_tests false e f h = let g : character ∷ [] ≡ [] = rw (e, f) at h in absurd (cc)
 
 -- so a code whose character isn't 0 keeps the shift
-pub keeps_shift : (shift : Shift) (code character : ℕ) → bytes_of character ≡ struck shift code → character ≢ 0
+pub keeps_shift : (shift : Shift) (code character : ℕ) → bytes_of character ≡ struck_bytes shift code → character ≢ 0
     → shift_after shift code ≡ shift
 keeps_shift shift code character is some = by_tests (nat_eq code 11) (nat_eq code 15) refl refl
   where
-    other : (n : ℕ) → struck shift n ≡ [] → nat_eq code n ≡ true → ⊥
+    other : (n : ℕ) → struck_bytes shift n ≡ [] → nat_eq code n ≡ true → ⊥
     other n silent same =
         let e : code ≡ n = grind (arith, nat_tests) in
-        has_bytes character some (is ∙ ap (λ (k : ℕ). struck shift k) e ∙ silent)
+        has_bytes character some (is ∙ ap (λ (k : ℕ). struck_bytes shift k) e ∙ silent)
 
     by_tests : (a b : Bool) → nat_eq code 11 ≡ a → nat_eq code 15 ≡ b → shift_after shift code ≡ shift
     by_tests true b e f = absurd (other 11 (eleven_silent shift) e)
