@@ -90,7 +90,8 @@ const RUNS: [Row; 23] = [
     // Sessions on a source, and within a limit.
     (
         "step",
-        "entry\nshow 56 57\ngo 9\nsource\r\nsegment main\nO mark F\nO letter F\nZ F\nmark: * F\nletter: A F\nenter main\n",
+        "entry\nshow 56 57\ngo 9\nsource\r\n\
+            segment main\nO mark F\nO letter F\nZ F\nmark: * F\nletter: A F\nenter main\n",
         0,
         "at 56 after 263: entered\n  56  36982 O59F\n  57  36984 O60F\nat 59 after 266: stopped\n",
         "",

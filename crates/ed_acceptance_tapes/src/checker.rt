@@ -26,7 +26,7 @@ fn directive(rt: &impl Abort, number: u32) -> Result<Word, Fail>
     Ok(directive)
 }
 
-/// The word at the location of θ before the check, a tape, the θ that it leaves, a location, the word that the tape places
+/// The word at the location of θ before the check, a tape, the θ that it leaves, a location, the word that it places
 /// there, and its cost.
 type Row = (u32, &'static str, u32, u16, Option<u32>, u64);
 
@@ -38,8 +38,8 @@ const TAPES: [Row; 17] = [
     (0, "T64KGKA2#@EZPF", 128, 63, None, 160),
     (0, "T45KP100FT64KA1HE64KPF", 0, 45, Some(200), 230),
     (0, "T45KP100FT64KA1HE64KPF", 0, 64, Some(114_890), 230),
-    // One tape for each way of setting the directive and θ, and for each kind of ending. T 64 K is the directive 20,608,
-    // which is 4096 · 5 + 2 · 64.
+    // One tape for each way of setting the directive and θ, and for each kind of ending. T 64 K is the directive
+    // 20,608, which is 4096 · 5 + 2 · 64.
     // Blank with K sets θ to 4096 · 16 + 2n and the directive; G with K to 4096 · 27 + 2n and the directive, less 2^17.
     (0, "T64K.3KP@E64KPF", 86_150, 64, Some(86_150), 162),
     (0, "T64KG5KP@E64KPF", 138, 64, Some(138), 162),
