@@ -107,7 +107,7 @@ fn is_whole(outcome: &Outcome, run: &Run) -> bool {
         && outcome.note.as_slice() == run.note.as_bytes()
 }
 
-/// Whether what was written is the beginning of a text, of so many bytes.
+/// Whether what was written is the first `bytes` bytes of a text.
 fn is_beginning(written: &[u8], text: &str, bytes: u64) -> bool {
     written.len() as u64 == bytes && text.as_bytes().starts_with(written)
 }
@@ -121,9 +121,9 @@ fn reads_fail(rt: &impl Abort, alloc: Global, run: &Run) -> Result<(), Fail> {
             assert!(rt; is_whole(&outcome, run));
             return Ok(());
         }
-        let told = outcome.note.as_slice() == b"read fault\n".as_slice();
+        let reported = outcome.note.as_slice() == b"read fault\n".as_slice();
         assert!(rt;
-            outcome.status == 8 && outcome.out.is_empty() && told,
+            outcome.status == 8 && outcome.out.is_empty() && reported,
             "read {call}"
         );
     }
