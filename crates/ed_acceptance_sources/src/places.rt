@@ -4,6 +4,7 @@ use ed_symbols::{Places, resolve};
 use ed_syntax::SourceCause::{AddressRange, LabelTwice, LabelUnknown};
 use ed_syntax::{Name, SourceCause, SourceFault, parse};
 use std::alloc::Global;
+use std::process::Abort;
 use std::test::Fail;
 
 /// The program of seven lines that prints A.
@@ -32,67 +33,72 @@ use Question::{Place, PlaceOf, PlaceSeen, Segment, SegmentSeen};
 /// No segment's number.
 const WHOLE: u32 = 0;
 
-/// Sources, lines, questions and their answers.
-const ANSWERS: [(&[u8], u32, Question, Option<u32>); 54] = [
+/// A line, a question about it, and the answer.
+type Row = (u32, Question, Option<u32>);
+
+const IN_FIRST: [Row; 12] = [
     // The location before a line.
-    (FIRST, 1, Place, Some(56)),
-    (FIRST, 2, Place, Some(56)),
-    (FIRST, 3, Place, Some(57)),
-    (FIRST, 4, Place, Some(58)),
-    (FIRST, 5, Place, Some(59)),
-    (FIRST, 6, Place, Some(60)),
-    (FIRST, 7, Place, Some(61)),
-    (FIRST, 8, Place, None),
-    (ODD, 2, Place, Some(56)),
-    (ODD, 3, Place, Some(56)),
-    (ODD, 4, Place, Some(57)),
-    (ODD, 5, Place, Some(65)),
-    (ODD, 6, Place, Some(65)),
-    (ODD, 7, Place, Some(68)),
-    (ODD, 8, Place, Some(71)),
-    (b"segment a at 1023\nZ F\nZ F", 3, Place, Some(1024)),
+    (1, Place, Some(56)),
+    (2, Place, Some(56)),
+    (3, Place, Some(57)),
+    (4, Place, Some(58)),
+    (5, Place, Some(59)),
+    (6, Place, Some(60)),
+    (7, Place, Some(61)),
+    (8, Place, None),
     // The location of a name.
-    (FIRST, 1, PlaceOf("mark"), Some(59)),
-    (FIRST, 1, PlaceOf("letter"), Some(60)),
-    (FIRST, 1, PlaceOf("main"), Some(56)),
-    (FIRST, 1, PlaceOf("other"), None),
-    (ODD, 1, PlaceOf("m"), Some(56)),
-    (ODD, 1, PlaceOf("n"), Some(58)),
-    (ODD, 1, PlaceOf("s"), Some(65)),
-    (ODD, 1, PlaceOf("q"), Some(68)),
-    (ODD, 1, PlaceOf("r"), Some(71)),
-    (b"a: Z F\na: Z F", 1, PlaceOf("a"), Some(56)),
+    (1, PlaceOf("mark"), Some(59)),
+    (1, PlaceOf("letter"), Some(60)),
+    (1, PlaceOf("main"), Some(56)),
+    (1, PlaceOf("other"), None),
+];
+
+const IN_ODD: [Row; 40] = [
+    // The location before a line.
+    (2, Place, Some(56)),
+    (3, Place, Some(56)),
+    (4, Place, Some(57)),
+    (5, Place, Some(65)),
+    (6, Place, Some(65)),
+    (7, Place, Some(68)),
+    (8, Place, Some(71)),
+    // The location of a name.
+    (1, PlaceOf("m"), Some(56)),
+    (1, PlaceOf("n"), Some(58)),
+    (1, PlaceOf("s"), Some(65)),
+    (1, PlaceOf("q"), Some(68)),
+    (1, PlaceOf("r"), Some(71)),
     // The location of a name that a line sees.
-    (ODD, 1, PlaceSeen("_x"), None),
-    (ODD, 2, PlaceSeen("_x"), Some(56)),
-    (ODD, 3, PlaceSeen("_x"), Some(56)),
-    (ODD, 4, PlaceSeen("_x"), None),
-    (ODD, 5, PlaceSeen("_x"), Some(66)),
-    (ODD, 8, PlaceSeen("_x"), Some(66)),
-    (ODD, 8, PlaceSeen("q"), Some(68)),
-    (ODD, 1, PlaceSeen("q"), Some(68)),
-    (ODD, 9, PlaceSeen("q"), None),
+    (1, PlaceSeen("_x"), None),
+    (2, PlaceSeen("_x"), Some(56)),
+    (3, PlaceSeen("_x"), Some(56)),
+    (4, PlaceSeen("_x"), None),
+    (5, PlaceSeen("_x"), Some(66)),
+    (8, PlaceSeen("_x"), Some(66)),
+    (8, PlaceSeen("q"), Some(68)),
+    (1, PlaceSeen("q"), Some(68)),
+    (9, PlaceSeen("q"), None),
     // The segment of a line, by its number.
-    (ODD, 1, Segment, None),
-    (ODD, 2, Segment, Some(1)),
-    (ODD, 3, Segment, Some(1)),
-    (ODD, 4, Segment, None),
-    (ODD, 5, Segment, Some(3)),
-    (ODD, 6, Segment, Some(3)),
-    (ODD, 7, Segment, Some(3)),
-    (ODD, 8, Segment, Some(3)),
-    (ODD, 9, Segment, None),
+    (1, Segment, None),
+    (2, Segment, Some(1)),
+    (3, Segment, Some(1)),
+    (4, Segment, None),
+    (5, Segment, Some(3)),
+    (6, Segment, Some(3)),
+    (7, Segment, Some(3)),
+    (8, Segment, Some(3)),
+    (9, Segment, None),
     // The segment of a name that a line sees.
-    (ODD, 1, SegmentSeen("m"), Some(1)),
-    (ODD, 2, SegmentSeen("m"), Some(1)),
-    (ODD, 1, SegmentSeen("n"), Some(WHOLE)),
-    (ODD, 1, SegmentSeen("s"), Some(3)),
-    (ODD, 3, SegmentSeen("q"), Some(3)),
-    (ODD, 1, SegmentSeen("_x"), None),
-    (ODD, 2, SegmentSeen("_x"), Some(1)),
-    (ODD, 8, SegmentSeen("_x"), Some(3)),
-    (ODD, 4, SegmentSeen("_x"), None),
-    (ODD, 8, SegmentSeen("other"), None),
+    (1, SegmentSeen("m"), Some(1)),
+    (2, SegmentSeen("m"), Some(1)),
+    (1, SegmentSeen("n"), Some(WHOLE)),
+    (1, SegmentSeen("s"), Some(3)),
+    (3, SegmentSeen("q"), Some(3)),
+    (1, SegmentSeen("_x"), None),
+    (2, SegmentSeen("_x"), Some(1)),
+    (8, SegmentSeen("_x"), Some(3)),
+    (4, SegmentSeen("_x"), None),
+    (8, SegmentSeen("other"), None),
 ];
 
 /// Sources, and the first faults of their names with their lines; line 0 if there is none.
@@ -182,15 +188,24 @@ fn answer(alloc: Global, text: &[u8], line: u32, question: &Question) -> Option<
     }
 }
 
-#[test]
-fn where_lines_and_names_stand(rt: HostRuntime) {
-    for (text, line, question, wanted) in &ANSWERS {
-        let found = answer(rt.alloc(), text, *line, question);
+/// Checks the answers to questions about a source.
+fn expect_each(rt: &impl Abort, alloc: Global, text: &[u8], rows: &[Row]) {
+    for (row, (line, question, wanted)) in rows.iter().enumerate() {
         assert!(rt;
-            found == *wanted,
-            "{found:?} for {wanted:?} on line {line} of {text:?}"
+            answer(alloc, text, *line, question) == *wanted,
+            "row {row} of {text:?}"
         );
     }
+}
+
+#[test]
+fn where_lines_and_names_stand(rt: HostRuntime) {
+    expect_each(&rt, rt.alloc(), FIRST, &IN_FIRST);
+    expect_each(&rt, rt.alloc(), ODD, &IN_ODD);
+    let last = b"segment a at 1023\nZ F\nZ F";
+    expect_each(&rt, rt.alloc(), last, &[(3, Place, Some(1024))]);
+    let twice = b"a: Z F\na: Z F";
+    expect_each(&rt, rt.alloc(), twice, &[(1, PlaceOf("a"), Some(56))]);
 }
 
 #[test]
