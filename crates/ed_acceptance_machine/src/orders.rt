@@ -5,7 +5,6 @@ use ed_codes::{Code, tape_of_text};
 use ed_machine::Machine;
 use ed_words::Size;
 use ed_words::Size::{Full, Small};
-use std::alloc::Global;
 use std::process::Abort;
 use std::test::Fail;
 
