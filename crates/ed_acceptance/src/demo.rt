@@ -12,6 +12,17 @@ const FIRST: &str =
     use print as p with H=total\nsegment s1\nword 13\nword 61\nword 10\nword 63\nword 61\nword 55\nword 54\nword 22\n\
     enter main\n";
 
+/// The number of lines of a text.
+fn lines_of(text: &[u8]) -> u32 {
+    let mut lines = 0u32;
+    for byte in text {
+        if *byte == b'\n' {
+            lines = lines.saturating_add(1);
+        }
+    }
+    lines
+}
+
 #[test]
 fn sources_to_the_byte(rt: HostRuntime) -> Result<(), Fail> {
     let alloc = rt.alloc();
@@ -19,8 +30,7 @@ fn sources_to_the_byte(rt: HostRuntime) -> Result<(), Fail> {
     assert!(rt; source.as_slice() == FIRST.as_bytes());
     let source = demo_source(alloc, 112)?;
     assert!(rt; source.ends_with(b"\nenter main\n"));
-    let lines = source.iter().filter(|byte| **byte == b'\n').count();
-    assert!(rt; lines == 1027);
+    assert!(rt; lines_of(&source) == 1027);
     let source = call_source(alloc, &Call::Print(4096))?;
     let wanted =
         "segment main\nhere: A here F\nG p F\nZ F\nvalue: word 4096\nuse print as p with H=value\nenter main\n";
@@ -48,9 +58,8 @@ fn the_source_is_one_that_run_takes(rt: HostRuntime) -> Result<(), Fail> {
 fn the_least_and_the_greatest_sum(rt: HostRuntime) -> Result<(), Fail> {
     for (line, sum) in [("demo 1", "339"), ("demo 112", "28190")] {
         let answer = answer_of(rt.alloc(), line, b"no source")?;
-        assert_eq!(rt; answer.status, 0, "{line}");
-        assert_eq!(rt; answer.out.as_slice(), sum.as_bytes(), "{line}");
-        assert_eq!(rt; answer.unread, 9, "{line}");
+        assert!(rt; answer.status == 0 && answer.unread == 9, "{line}");
+        assert!(rt; answer.out.as_slice() == sum.as_bytes(), "{line}");
     }
     Ok(())
 }

@@ -8,11 +8,12 @@ use std::alloc::Global;
 use std::process::Abort;
 use std::test::Fail;
 
-/// A run: its command, its input, and the two texts that it writes if no call fails.
+/// A run: its command, its input, and the status and the two texts of its answer if no call fails.
 #[derive(Clone, Copy)]
 pub struct Run {
     pub command: &'static str,
     pub input: &'static str,
+    pub status: u8,
     pub out: &'static str,
     pub note: &'static str,
 }
@@ -20,6 +21,7 @@ pub struct Run {
 const TAPE: Run = Run {
     command: "tape",
     input: "T64KGKO2@ZFAFEZPF",
+    status: 0,
     out: "A",
     note: "stopped at 66 after 193\n",
 };
@@ -27,6 +29,7 @@ const TAPE: Run = Run {
 const CHECK_TAPE: Run = Run {
     command: "check-tape",
     input: "T64KGKO2@ZFAFEZPF",
+    status: 0,
     out: "entry 64 after 191 orders, 17 rows\n",
     note: "",
 };
@@ -34,6 +37,7 @@ const CHECK_TAPE: Run = Run {
 const SOURCE: Run = Run {
     command: "run",
     input: LETTER,
+    status: 0,
     out: "A",
     note: "entered 56 after 263 orders, stopped at 59 after 266\n",
 };
@@ -41,6 +45,7 @@ const SOURCE: Run = Run {
 const PUNCH: Run = Run {
     command: "punch",
     input: LETTER,
+    status: 0,
     out: "T56K\nGK\nO3@\nO4@\nZF\n*F\nAF\nE56K\nPF\n",
     note: "",
 };
@@ -48,6 +53,7 @@ const PUNCH: Run = Run {
 const TRACE: Run = Run {
     command: "trace --limit 9",
     input: "T64KGKO2@ZFAFEZPF",
+    status: 4,
     out: "TEHATAATE\n",
     note: "limit at 34 after 9\n",
 };
@@ -94,49 +100,55 @@ fn writes_of(text: &str) -> u64 {
     text.len().div_ceil(3) as u64
 }
 
+/// Whether a run answered what it does if no call fails.
+fn is_whole(outcome: &Outcome, run: &Run) -> bool {
+    outcome.status == run.status
+        && outcome.out.as_slice() == run.out.as_bytes()
+        && outcome.note.as_slice() == run.note.as_bytes()
+}
+
+/// Whether what was written is the first `bytes` bytes of a text.
+fn is_beginning(written: &[u8], text: &str, bytes: u64) -> bool {
+    written.len() as u64 == bytes && text.as_bytes().starts_with(written)
+}
+
 /// Each read of a run fails in turn.
 fn reads_fail(rt: &impl Abort, alloc: Global, run: &Run) -> Result<(), Fail> {
     for call in 0..CALLS {
         let outcome = outcome_of(alloc, run, &[call], &[], &[])?;
         if outcome.faults == 0 {
             assert!(rt; (run.input.len().div_ceil(7) as u64) < call);
-            assert!(rt; outcome.status == 0);
-            assert!(rt; outcome.out.as_slice() == run.out.as_bytes());
-            assert!(rt; outcome.note.as_slice() == run.note.as_bytes());
+            assert!(rt; is_whole(&outcome, run));
             return Ok(());
         }
-        assert_eq!(rt; outcome.status, 8, "read {call}");
-        assert!(rt; outcome.out.is_empty(), "read {call}");
-        assert_eq!(rt;
-            outcome.note.as_slice(),
-            b"read fault\n".as_slice(),
+        let reported = outcome.note.as_slice() == b"read fault\n".as_slice();
+        assert!(rt;
+            outcome.status == 8 && outcome.out.is_empty() && reported,
             "read {call}"
         );
     }
-    assert!(rt; false, "each read fails");
-    Ok(())
+    Err("each read fails".into())
 }
 
 /// Each write of a run on out fails in turn. No byte is written after the failed write.
 fn writes_fail(rt: &impl Abort, alloc: Global, run: &Run) -> Result<(), Fail> {
     for call in 0..CALLS {
         let outcome = outcome_of(alloc, run, &[], &[call], &[])?;
-        assert!(rt; outcome.note.is_empty(), "write {call}");
-        assert!(rt;
-            run.out.as_bytes().starts_with(&outcome.out),
-            "write {call}"
-        );
         if outcome.faults == 0 {
             assert!(rt; call == writes_of(run.out));
-            assert!(rt; outcome.status == 0);
-            assert!(rt; outcome.out.len() == run.out.len());
+            assert!(rt; is_whole(&outcome, run));
             return Ok(());
         }
-        assert_eq!(rt; outcome.status, 9, "write {call}");
-        assert_eq!(rt; outcome.out.len() as u64, 3 * call, "write {call}");
+        assert!(rt;
+            outcome.status == 9 && outcome.note.is_empty(),
+            "write {call}"
+        );
+        assert!(rt;
+            is_beginning(&outcome.out, run.out, 3 * call),
+            "write {call}"
+        );
     }
-    assert!(rt; false, "each write fails");
-    Ok(())
+    Err("each write fails".into())
 }
 
 /// The number of bytes that the first calls write, if each line is written in pieces of 3.
@@ -154,53 +166,40 @@ fn bytes_of_calls(text: &str, calls: u64) -> u64 {
 
 /// Each write of a run that writes its lines one by one on out fails in turn. No byte is written after the failed
 /// write.
-pub fn writes_of_lines_fail(
-    rt: &impl Abort,
-    alloc: Global,
-    run: &Run,
-    status: u8,
-) -> Result<(), Fail> {
-    for call in 0..100 {
+pub fn writes_of_lines_fail(rt: &impl Abort, alloc: Global, run: &Run) -> Result<(), Fail> {
+    for call in 0..CALLS {
         let outcome = outcome_of(alloc, run, &[], &[call], &[])?;
         let bytes = bytes_of_calls(run.out, call);
-        assert_eq!(rt; outcome.out.len() as u64, bytes, "write {call}");
-        assert!(rt;
-            run.out.as_bytes().starts_with(&outcome.out),
-            "write {call}"
-        );
+        assert!(rt; is_beginning(&outcome.out, run.out, bytes), "write {call}");
         if outcome.faults == 0 {
-            assert_eq!(rt; outcome.status, status, "write {call}");
-            assert!(rt; outcome.note.as_slice() == run.note.as_bytes());
-            assert!(rt; outcome.out.len() == run.out.len());
+            assert!(rt; is_whole(&outcome, run));
             return Ok(());
         }
-        assert_eq!(rt; outcome.status, 9, "write {call}");
-        assert!(rt; outcome.note.is_empty(), "write {call}");
+        assert!(rt;
+            outcome.status == 9 && outcome.note.is_empty(),
+            "write {call}"
+        );
     }
-    assert!(rt; false, "each write fails");
-    Ok(())
+    Err("each write fails".into())
 }
 
 /// Each write of a run on note fails in turn.
 fn notes_fail(rt: &impl Abort, alloc: Global, run: &Run) -> Result<(), Fail> {
     for call in 0..CALLS {
         let outcome = outcome_of(alloc, run, &[], &[], &[call])?;
-        assert_eq!(rt; outcome.out.as_slice(), run.out.as_bytes(), "write {call}");
-        assert!(rt;
-            run.note.as_bytes().starts_with(&outcome.note),
-            "write {call}"
-        );
         if outcome.faults == 0 {
             assert!(rt; call == writes_of(run.note));
-            assert!(rt; outcome.status == 0);
-            assert!(rt; outcome.note.len() == run.note.len());
+            assert!(rt; is_whole(&outcome, run));
             return Ok(());
         }
-        assert_eq!(rt; outcome.status, 9, "write {call}");
-        assert_eq!(rt; outcome.note.len() as u64, 3 * call, "write {call}");
+        let printed = outcome.out.as_slice() == run.out.as_bytes();
+        assert!(rt; outcome.status == 9 && printed, "write {call}");
+        assert!(rt;
+            is_beginning(&outcome.note, run.note, 3 * call),
+            "write {call}"
+        );
     }
-    assert!(rt; false, "each write fails");
-    Ok(())
+    Err("each write fails".into())
 }
 
 #[test]
@@ -215,7 +214,7 @@ fn a_write_that_fails_leaves_a_part_on_out_and_nothing_on_note(
 ) -> Result<(), Fail> {
     writes_fail(&rt, rt.alloc(), &CHECK_TAPE)?;
     writes_fail(&rt, rt.alloc(), &PUNCH)?;
-    writes_of_lines_fail(&rt, rt.alloc(), &TRACE, 4)
+    writes_of_lines_fail(&rt, rt.alloc(), &TRACE)
 }
 
 #[test]

@@ -1,6 +1,6 @@
 //! The option `--post-mortem`: what is printed after a run.
 
-use crate::support::{answer_of, expect};
+use crate::support::{Row, answer_of, expect, expect_each};
 use std::test::Fail;
 
 /// Prints A, and leaves the words O 66 F and P 2047 D with function 15 at 144 and 145.
@@ -16,110 +16,116 @@ const ENDLESS: &str = "T144KO66FT64KGKO@E@EZPF";
 /// A tape that leaves O 66 F at 144 and ends in figure shift.
 const FIGURES: &str = "T144KO66FT64KGKO4@O5@O6@ZF#FHFAFEZPF";
 
+const RUNS: [Row; 13] = [
+    // Words that a source and a tape leave.
+    (
+        "run --post-mortem 144,2",
+        SOURCE,
+        0,
+        "AO66F\r\n2047D\r\n",
+        "entered 56 after 434 orders, stopped at 59 after 437\n",
+    ),
+    (
+        "run",
+        SOURCE,
+        0,
+        "A",
+        "entered 56 after 434 orders, stopped at 59 after 437\n",
+    ),
+    (
+        "tape --limit 150 --post-mortem 144,2",
+        TAPE,
+        4,
+        "O66F\r\nP0F\r\n",
+        "limit at 19 after 150\n",
+    ),
+    // After each ending of a run.
+    (
+        "tape --post-mortem 144,2",
+        TAPE,
+        0,
+        "AO66F\r\n2047D\r\n",
+        "stopped at 66 after 342\n",
+    ),
+    (
+        "tape --post-mortem=144,1 --limit 342",
+        TAPE,
+        0,
+        "AO66F\r\n",
+        "stopped at 66 after 342\n",
+    ),
+    (
+        "--limit 120 tape --post-mortem 144,1",
+        TAPE,
+        4,
+        "O66F\r\n",
+        "limit at 6 after 120\n",
+    ),
+    (
+        "tape --post-mortem 144,1",
+        "T144KO66FEZPF",
+        5,
+        "O66F\r\n",
+        "no order at 0 after 141: PF\n",
+    ),
+    (
+        "--post-mortem 144,1 tape",
+        "T144KO66F",
+        6,
+        "O66F\r\n",
+        "no tape at 34 after 99\n",
+    ),
+    // In both sizes and both shifts.
+    (
+        "tape --post-mortem 144,1",
+        FIGURES,
+        0,
+        "\u{a3}-O66F\r\n",
+        "stopped at 68 after 395\n",
+    ),
+    (
+        "tape --store 512 --post-mortem 511,1",
+        "T511KO66FT64KGKO2@ZFAFEZPF",
+        0,
+        "AO66F\r\n",
+        "stopped at 66 after 283\n",
+    ),
+    (
+        "tape --post-mortem 512,0 --store=512",
+        TAPE,
+        0,
+        "A",
+        "stopped at 66 after 342\n",
+    ),
+    (
+        "tape --post-mortem 1024,0",
+        TAPE,
+        0,
+        "A",
+        "stopped at 66 after 342\n",
+    ),
+    (
+        "tape --post-mortem 144,0",
+        TAPE,
+        0,
+        "A",
+        "stopped at 66 after 342\n",
+    ),
+];
+
 #[test]
-fn words_that_a_source_leaves(rt: HostRuntime) -> Result<(), Fail> {
-    let alloc = rt.alloc();
-    let note = "entered 56 after 434 orders, stopped at 59 after 437\n";
-    let printed = (0, "AO66F\r\n2047D\r\n", note);
-    expect(&rt, alloc, "run --post-mortem 144,2", SOURCE, printed)?;
-    let alone = (0, "A", note);
-    expect(&rt, alloc, "run", SOURCE, alone)?;
-    let short = (4, "O66F\r\nP0F\r\n", "limit at 19 after 150\n");
-    let line = "tape --limit 150 --post-mortem 144,2";
-    expect(&rt, alloc, line, TAPE, short)
+fn words_are_printed_after_a_run(rt: HostRuntime) -> Result<(), Fail> {
+    expect_each(&rt, rt.alloc(), &RUNS)
 }
 
 #[test]
-fn after_each_ending_of_a_run(rt: HostRuntime) -> Result<(), Fail> {
-    for (line, tape, status, out, note) in [
-        (
-            "tape --post-mortem 144,2",
-            TAPE,
-            0,
-            "AO66F\r\n2047D\r\n",
-            "stopped at 66 after 342\n",
-        ),
-        (
-            "tape --post-mortem=144,1 --limit 342",
-            TAPE,
-            0,
-            "AO66F\r\n",
-            "stopped at 66 after 342\n",
-        ),
-        (
-            "--limit 120 tape --post-mortem 144,1",
-            TAPE,
-            4,
-            "O66F\r\n",
-            "limit at 6 after 120\n",
-        ),
-        (
-            "tape --post-mortem 144,1",
-            "T144KO66FEZPF",
-            5,
-            "O66F\r\n",
-            "no order at 0 after 141: PF\n",
-        ),
-        (
-            "--post-mortem 144,1 tape",
-            "T144KO66F",
-            6,
-            "O66F\r\n",
-            "no tape at 34 after 99\n",
-        ),
-    ] {
-        expect(&rt, rt.alloc(), line, tape, (status, out, note))?;
-    }
-    Ok(())
-}
-
-#[test]
-fn behind_a_paper_that_is_full(rt: HostRuntime) -> Result<(), Fail> {
+fn after_a_paper_that_is_full(rt: HostRuntime) -> Result<(), Fail> {
     let line = "tape --post-mortem 144,1";
     let answer = answer_of(rt.alloc(), line, ENDLESS.as_bytes())?;
     assert!(rt; answer.status == 7);
     assert!(rt; answer.out.len() == 1_000_006);
     assert!(rt; answer.out.ends_with(b"OO66F\r\n"));
     assert!(rt; answer.note.as_slice() == b"paper full at 64 after 2000249\n".as_slice());
-    Ok(())
-}
-
-#[test]
-fn in_both_sizes_and_both_shifts(rt: HostRuntime) -> Result<(), Fail> {
-    for (line, tape, out, note) in [
-        (
-            "tape --post-mortem 144,1",
-            FIGURES,
-            "\u{a3}-O66F\r\n",
-            "stopped at 68 after 395\n",
-        ),
-        (
-            "tape --store 512 --post-mortem 511,1",
-            "T511KO66FT64KGKO2@ZFAFEZPF",
-            "AO66F\r\n",
-            "stopped at 66 after 283\n",
-        ),
-        (
-            "tape --post-mortem 512,0 --store=512",
-            TAPE,
-            "A",
-            "stopped at 66 after 342\n",
-        ),
-        (
-            "tape --post-mortem 1024,0",
-            TAPE,
-            "A",
-            "stopped at 66 after 342\n",
-        ),
-        (
-            "tape --post-mortem 144,0",
-            TAPE,
-            "A",
-            "stopped at 66 after 342\n",
-        ),
-    ] {
-        expect(&rt, rt.alloc(), line, tape, (0, out, note))?;
-    }
     Ok(())
 }
 

@@ -43,6 +43,9 @@ pub fn answer_of(alloc: Global, line: &str, input: &[u8]) -> Result<Answer, Fail
     })
 }
 
+/// A command line, its input, and the status and the two texts that are due.
+pub type Row = (&'static str, &'static str, u8, &'static str, &'static str);
+
 /// Checks that the program answers a status and two texts.
 pub fn expect(
     rt: &impl Abort,
@@ -53,12 +56,41 @@ pub fn expect(
 ) -> Result<(), Fail> {
     let answer = answer_of(alloc, line, input.as_bytes())?;
     let (status, out, note) = wanted;
-    assert_eq!(rt; answer.status, status, "{line} of {input}");
-    assert_eq!(rt; answer.out.as_slice(), out.as_bytes(), "{line} of {input}");
-    assert_eq!(rt;
-        answer.note.as_slice(),
-        note.as_bytes(),
-        "{line} of {input}"
+    assert!(rt; answer.status == status, "the status of {line} on {input}");
+    assert!(rt;
+        answer.out.as_slice() == out.as_bytes(),
+        "the output of {line} on {input}"
     );
+    assert!(rt;
+        answer.note.as_slice() == note.as_bytes(),
+        "the note of {line} on {input}"
+    );
+    Ok(())
+}
+
+/// Checks the answers to the rows of a table.
+pub fn expect_each(rt: &impl Abort, alloc: Global, rows: &[Row]) -> Result<(), Fail> {
+    for (line, input, status, out, note) in rows {
+        expect(rt, alloc, line, input, (*status, out, note))?;
+    }
+    Ok(())
+}
+
+const USAGE: &str =
+    "usage: edsac COMMAND [--limit N] [--resume N] [--post-mortem FROM,COUNT] [--store SIZE]\n";
+
+/// Checks that command lines are refused and that no byte of the input is read.
+pub fn expect_usage(
+    rt: &impl Abort,
+    alloc: Global,
+    lines: &[&str],
+    input: &str,
+) -> Result<(), Fail> {
+    for line in lines {
+        let answer = answer_of(alloc, line, input.as_bytes())?;
+        assert!(rt; answer.status == 2 && answer.out.is_empty(), "{line}");
+        assert!(rt; answer.note.as_slice() == USAGE.as_bytes(), "{line}");
+        assert!(rt; answer.unread == input.len(), "{line}");
+    }
     Ok(())
 }

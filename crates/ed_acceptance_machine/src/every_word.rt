@@ -1,7 +1,7 @@
 //! Each of the 131,072 words as an order.
 
 use crate::numbers::word;
-use crate::support::{image_of, machine_with, next_turn, obey};
+use crate::support::{image_of, machine_after, next_turn, obey};
 use ed_codes::{Code, byte_of, tape_of_text};
 use ed_machine::{Machine, Turn};
 use ed_words::{Size, Word};
@@ -17,8 +17,7 @@ const DATA: [u32; 4] = [74_565, 43_981, 0, 0];
 
 /// A machine that has obeyed these orders.
 fn used_machine(rt: &impl Abort, alloc: Global, size: Size) -> Result<Machine, Fail> {
-    let mut machine = machine_with(rt, alloc, size, USE, DATA)?;
-    obey(rt, &mut machine, USE);
+    let machine = machine_after(rt, alloc, size, USE, DATA)?;
     assert!(rt; machine.sandwich(100) && machine.acc() != 0 && machine.multiplier().value() != 0);
     assert!(rt; machine.last_printed().is_some() && machine.orders_done() == 7);
     Ok(machine)

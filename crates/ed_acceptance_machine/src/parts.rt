@@ -21,6 +21,11 @@ fn words_and_their_fields(rt: HostRuntime) -> Result<(), Fail> {
     assert!(rt; Word::of_order(order).value() == 114_821);
     assert!(rt; word(114_821)?.order() == order);
     assert!(rt; Word::new(131_072).is_none());
+    Ok(())
+}
+
+#[test]
+fn long_words_and_their_halves(rt: HostRuntime) -> Result<(), Fail> {
     let halves = Halves {
         odd: word(1)?,
         sandwich: true,
@@ -30,15 +35,18 @@ fn words_and_their_fields(rt: HostRuntime) -> Result<(), Fail> {
     assert!(rt; long(393_218)?.halves() == halves);
     assert!(rt; Long::of_short(word(3)?).value() == 786_432);
     assert!(rt; Long::new(1 << 35).is_none());
-    assert!(rt; Size::Small.value() == 512);
-    assert!(rt; Size::Full.value() == 1024);
-    assert!(rt; fits(1023) && !fits(1024));
     Ok(())
 }
 
 #[test]
-fn codes_and_the_rows_of_a_text(rt: HostRuntime) -> Result<(), Fail> {
-    let alloc = rt.alloc();
+fn the_sizes_of_a_store(rt: HostRuntime) {
+    assert!(rt; Size::Small.value() == 512);
+    assert!(rt; Size::Full.value() == 1024);
+    assert!(rt; fits(1023) && !fits(1024));
+}
+
+#[test]
+fn codes_and_their_signs(rt: HostRuntime) -> Result<(), Fail> {
     assert!(rt; code(31)?.value() == 31);
     assert!(rt; Code::new(32).is_none());
     assert!(rt; Code::default().value() == 0);
@@ -46,19 +54,20 @@ fn codes_and_the_rows_of_a_text(rt: HostRuntime) -> Result<(), Fail> {
     assert!(rt; byte_of(code(3)?, true) == b'3');
     assert!(rt; row_of_byte(b'V') == Some(code(31)?));
     assert!(rt; row_of_byte(b'v').is_none());
+    Ok(())
+}
+
+#[test]
+fn the_rows_of_a_text(rt: HostRuntime) -> Result<(), Fail> {
+    let alloc = rt.alloc();
     let rows = tape_of_text(alloc, b"T 64 [the place]\r\n#\tK")?;
     let wanted = codes(alloc, &[5, 6, 4, 11, 14])?;
     assert!(rt; rows.as_slice() == wanted.as_slice());
-    match tape_of_text(alloc, b"T6]") {
-        Ok(_) => assert!(rt; false, "a bracket is taken"),
-        Err(fault) => assert!(rt;
-            fault
-                == TextFault::NoRow {
-                    place: 2,
-                    byte: b']'
-                }
-        ),
-    }
+    let fault = TextFault::NoRow {
+        place: 2,
+        byte: b']',
+    };
+    assert!(rt; tape_of_text(alloc, b"T6]").err() == Some(fault));
     Ok(())
 }
 
@@ -72,14 +81,28 @@ fn of_byte(byte: u8) -> Option<usize> {
         b'0'..=b'9' => Some(usize::from(byte - b'0')),
         b' ' | b'\t' | b'\r' | b'\n' => None,
         b'[' => Some(33),
-        _ => Some(SIGNS.iter().position(|sign| *sign == byte).unwrap_or(32)),
+        _ => Some(code_of_sign(byte)),
     }
+}
+
+/// The code of a sign; 32 if no code has it.
+fn code_of_sign(byte: u8) -> usize {
+    for (code, sign) in SIGNS.iter().enumerate() {
+        if *sign == byte {
+            return code;
+        }
+    }
+    32
 }
 
 /// The same for what `tape_of_text` answers to that byte.
 fn answered(alloc: Global, byte: u8) -> Result<Option<usize>, Fail> {
     match tape_of_text(alloc, &[byte]) {
-        Ok(rows) => Ok(rows.first().map(|row| usize::from(row.value()))),
+        Ok(rows) => match rows.as_slice() {
+            [] => Ok(None),
+            [row] => Ok(Some(usize::from(row.value()))),
+            _ => Err("several rows".into()),
+        },
         Err(
             TextFault::NoRow {
                 place: 0,
@@ -94,8 +117,7 @@ fn answered(alloc: Global, byte: u8) -> Result<Option<usize>, Fail> {
 #[test]
 fn every_byte_of_a_tape_text(rt: HostRuntime) -> Result<(), Fail> {
     for byte in 0..=255u8 {
-        let found = answered(rt.alloc(), byte)?;
-        assert_eq!(rt; found, of_byte(byte), "byte {byte}");
+        assert!(rt; answered(rt.alloc(), byte)? == of_byte(byte), "byte {byte}");
     }
     Ok(())
 }
@@ -112,6 +134,13 @@ fn the_accumulator(rt: HostRuntime) -> Result<(), Fail> {
     acc.sub_long(long(5)?);
     acc.sub_short(word(1)?);
     assert!(rt; acc.value() == 1 << 55);
+    Ok(())
+}
+
+#[test]
+fn shifts_and_the_sign(rt: HostRuntime) -> Result<(), Fail> {
+    let mut acc = Acc::cleared();
+    acc.add_short(word(2)?);
     acc.left(2);
     assert!(rt; acc.value() == 1 << 57);
     acc.right(3);
@@ -159,13 +188,18 @@ fn the_store(rt: HostRuntime) -> Result<(), Fail> {
 fn orders_and_their_texts(rt: HostRuntime) -> Result<(), Fail> {
     assert!(rt; kind_of(28) == Some(Kind::A));
     assert!(rt; kind_of(0).is_none() && kind_of(32).is_none());
+    for (number, text) in [(114_821, "A66D"), (53_248, "ZF")] {
+        assert!(rt; order_text(word(number)?).as_str() == text);
+    }
+    Ok(())
+}
+
+#[test]
+fn the_places_of_a_shift(rt: HostRuntime) -> Result<(), Fail> {
     for (number, shift) in [(16_384, 15), (16_385, 1), (102_400, 13)] {
         let word = word(number)?;
         assert!(rt; 0 < word.value());
         assert!(rt; places(word) == shift);
-    }
-    for (number, text) in [(114_821, "A66D"), (53_248, "ZF")] {
-        assert!(rt; order_text(word(number)?).as_str() == text);
     }
     Ok(())
 }

@@ -14,6 +14,11 @@ fn the_printer(rt: HostRuntime) -> Result<(), Fail> {
     assert!(rt; printer.strike(code(11)?).as_slice().is_empty());
     assert!(rt; printer.shift() == Shift::Figures);
     assert!(rt; printer.strike(code(21)?).as_slice() == "\u{a3}".as_bytes());
+    Ok(())
+}
+
+#[test]
+fn the_text_of_a_paper(rt: HostRuntime) -> Result<(), Fail> {
     let text = paper_text(rt.alloc(), &codes(rt.alloc(), &[11, 21, 24, 1, 15, 1])?)?;
     assert!(rt; text.as_slice() == [0xc2, 0xa3, 0x0a, 0x31, 0x51].as_slice());
     let first = codes(rt.alloc(), &[1, 11, 1])?;
@@ -58,7 +63,7 @@ fn printed_in(alloc: Global, shift: u8) -> Result<Vec<u8>, Fail> {
 fn every_code_in_both_shifts(rt: HostRuntime) -> Result<(), Fail> {
     for (shift, text) in [(LETTER_SHIFT, LETTERS), (FIGURE_SHIFT, FIGURES)] {
         let printed = printed_in(rt.alloc(), shift)?;
-        assert_eq!(rt; printed.as_slice(), text.as_bytes(), "shift {shift}");
+        assert!(rt; printed.as_slice() == text.as_bytes(), "shift {shift}");
     }
     Ok(())
 }

@@ -11,8 +11,9 @@ use std::test::Fail;
 /// The word of an order that is written as its letter, its number in decimal, and F or D. A number of 1024 or more has
 /// the spare digit, as in the text of an order.
 fn word_of_order(text: &str) -> Option<Word> {
-    let (letter, rest) = text.as_bytes().split_first()?;
-    let (length, digits) = rest.split_last()?;
+    let [letter, digits @ .., length] = text.as_bytes() else {
+        return None;
+    };
     let number = number_within(digits, 0, 2047)?;
     Some(Word::of_order(Order {
         function: row_of_byte(*letter)?.value(),
@@ -36,7 +37,7 @@ pub fn image_of(alloc: Global, orders: &str, data: [u32; 4]) -> Result<Vec<Word>
 }
 
 /// A cleared machine with these orders from location 0 and these four words at 30 to 33.
-pub fn machine_with(
+fn machine_with(
     rt: &impl Abort,
     alloc: Global,
     size: Size,
@@ -73,4 +74,17 @@ pub fn obey(rt: &impl Abort, machine: &mut Machine, orders: &str) {
             ),
         }
     }
+}
+
+/// A machine with these orders and words, after it has obeyed the orders.
+pub fn machine_after(
+    rt: &impl Abort,
+    alloc: Global,
+    size: Size,
+    orders: &str,
+    data: [u32; 4],
+) -> Result<Machine, Fail> {
+    let mut machine = machine_with(rt, alloc, size, orders, data)?;
+    obey(rt, &mut machine, orders);
+    Ok(machine)
 }

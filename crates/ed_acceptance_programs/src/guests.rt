@@ -29,6 +29,28 @@ const EXAMPLE: &str = "version 2\n\
     _space: ! F\n\
     _scrap: P F";
 
+/// Letters that a guest prints.
+const LETTERS: [&str; 6] = [
+    "A",
+    "Z",
+    "HELLO",
+    "EDSAC",
+    "CHECKED",
+    "ABCDEFGHIJKLMNOPQRSTUVWXYZ",
+];
+
+/// Functions of the orders of a guest.
+const FUNCTIONS: [&str; 8] = [
+    "",
+    "A",
+    "AS",
+    "HVN",
+    "TUC",
+    "HVYXRLT",
+    "AAAAAAAAAA",
+    "CASHRUNTVLXY",
+];
+
 /// Checks that the run of the guest's source prints a text and stops.
 fn checks(rt: &impl Abort, alloc: Global, guest: &str, wanted: &str) -> Result<(), Fail> {
     prints(rt, alloc, checked_program(alloc, guest), wanted)
@@ -58,14 +80,7 @@ fn obeying(alloc: Global, functions: &str) -> Result<String, AllocError> {
 #[test]
 fn each_letter_follows_its_order(rt: HostRuntime) -> Result<(), Fail> {
     let alloc = rt.alloc();
-    for letters in [
-        "A",
-        "Z",
-        "HELLO",
-        "EDSAC",
-        "CHECKED",
-        "ABCDEFGHIJKLMNOPQRSTUVWXYZ",
-    ] {
+    for letters in LETTERS {
         let mut wanted = String::from_str(alloc, "O")?;
         for letter in letters.chars() {
             wanted.push_str(format!(in alloc; "O{letter}")?.as_str())?;
@@ -80,16 +95,7 @@ fn each_letter_follows_its_order(rt: HostRuntime) -> Result<(), Fail> {
 #[test]
 fn each_order_is_its_letter(rt: HostRuntime) -> Result<(), Fail> {
     let alloc = rt.alloc();
-    for functions in [
-        "",
-        "A",
-        "AS",
-        "HVN",
-        "TUC",
-        "HVYXRLT",
-        "AAAAAAAAAA",
-        "CASHRUNTVLXY",
-    ] {
+    for functions in FUNCTIONS {
         let wanted = format!(in alloc; "{functions}Z")?;
         let guest = obeying(alloc, functions)?;
         checks(&rt, alloc, guest.as_str(), wanted.as_str())?;

@@ -1,47 +1,348 @@
 //! Each program compared with a plain computation.
 
-use crate::support::{first_tape_prints, is_refused, parts_are, prints, tape_prints};
+use crate::support::{first_tape_prints, parts_are, prints, tape_prints};
+use Program::{Add, Fraction, Greatest, Hello, Interlude, Mirror, Multiply, Sort};
 use ed_programs::{
     Refusal, add_program, difference_program, fraction_program, greatest_program, hello_program,
     interlude_program, mirror_program, multiply_program, sort_program, squares_program,
 };
+use std::alloc::Global;
 use std::test::Fail;
+
+/// Letters that are printed.
+const HELLO: [&str; 20] = [
+    "A",
+    "Z",
+    "HELLO",
+    "EDSAC",
+    "AB",
+    "ZA",
+    "MAURICE",
+    "WILKES",
+    "DAVID",
+    "WHEELER",
+    "STANLEY",
+    "GILL",
+    "BEATRICE",
+    "WORSLEY",
+    "CAMBRIDGE",
+    "MATHEMATICALLABORATORY",
+    "QWERTYUIOPJASDFGHZXCVBNMKL",
+    "AAAAAAAAAAAAAAAAAAAA",
+    "THEQUICKBROWNFOXJUMPSOVERTHELAZYDOGSXYZ",
+    "THEQUICKBROWNFOXJUMPSOVERTHELAZYDOGSWXYZ",
+];
+
+/// Two factors, and a number to be squared.
+const MULTIPLIED: [(u16, u16, u16); 20] = [
+    (7, 8, 12),
+    (0, 0, 0),
+    (1, 1, 1),
+    (0, 65535, 255),
+    (65535, 1, 255),
+    (65535, 0, 0),
+    (1, 65535, 254),
+    (255, 257, 2),
+    (257, 255, 3),
+    (2, 32767, 10),
+    (256, 255, 16),
+    (3, 21845, 100),
+    (100, 655, 99),
+    (10, 6553, 31),
+    (41, 31, 17),
+    (1000, 65, 128),
+    (12, 12, 200),
+    (5, 5, 250),
+    (9999, 6, 77),
+    (4, 16383, 181),
+];
+
+const ADDED: [(u16, u16); 20] = [
+    (1949, 32),
+    (0, 0),
+    (0, 1),
+    (1, 0),
+    (9, 1),
+    (99, 1),
+    (999, 1),
+    (9999, 1),
+    (0, 65535),
+    (65535, 0),
+    (65534, 1),
+    (1, 65534),
+    (32767, 32768),
+    (32768, 32767),
+    (32768, 0),
+    (40000, 25535),
+    (12345, 6789),
+    (10, 10),
+    (1024, 512),
+    (60000, 5000),
+];
+
+const COMPARED: [(u16, u16); 20] = [
+    (1949, 2024),
+    (0, 0),
+    (0, 1),
+    (1, 0),
+    (65535, 65535),
+    (0, 65535),
+    (65535, 0),
+    (65534, 65535),
+    (65535, 65534),
+    (32767, 32768),
+    (32768, 32767),
+    (32768, 0),
+    (0, 32768),
+    (9, 10),
+    (10, 9),
+    (99, 100),
+    (1000, 1),
+    (1, 10000),
+    (12345, 54321),
+    (54321, 12345),
+];
+
+const EIGHTS: [[u16; 8]; 20] = [
+    [310, 42, 7, 1949, 512, 99, 650, 1024],
+    [0, 0, 0, 0, 0, 0, 0, 0],
+    [65535, 65535, 65535, 65535, 65535, 65535, 65535, 65535],
+    [65535, 0, 0, 0, 0, 0, 0, 0],
+    [0, 0, 0, 0, 0, 0, 0, 65535],
+    [0, 65535, 0, 65535, 0, 65535, 0, 65535],
+    [1, 2, 3, 4, 5, 6, 7, 8],
+    [8, 7, 6, 5, 4, 3, 2, 1],
+    [32767, 32768, 32767, 32768, 0, 1, 2, 3],
+    [32768, 32767, 1, 1, 1, 1, 1, 1],
+    [0, 1, 0, 1, 0, 1, 0, 1],
+    [9, 10, 9, 10, 9, 10, 9, 10],
+    [99, 100, 101, 100, 99, 98, 97, 96],
+    [999, 1000, 10000, 9999, 1, 2, 3, 4],
+    [5, 4, 5, 4, 5, 4, 5, 4],
+    [65534, 65535, 65534, 65533, 1, 1, 1, 1],
+    [1, 10, 100, 1000, 10000, 1000, 100, 10],
+    [40000, 30000, 20000, 10000, 0, 10000, 20000, 30000],
+    [7, 7, 7, 7, 7, 7, 7, 8],
+    [8, 7, 7, 7, 7, 7, 7, 7],
+];
+
+/// Ten numbers, and the same in ascending order.
+const TENS: [([u16; 10], &str); 20] = [
+    (
+        [310, 42, 7, 1949, 0, 512, 99, 7, 650, 1024],
+        "0 7 7 42 99 310 512 650 1024 1949",
+    ),
+    ([0, 0, 0, 0, 0, 0, 0, 0, 0, 0], "0 0 0 0 0 0 0 0 0 0"),
+    (
+        [
+            65535, 65535, 65535, 65535, 65535, 65535, 65535, 65535, 65535, 65535,
+        ],
+        "65535 65535 65535 65535 65535 65535 65535 65535 65535 65535",
+    ),
+    ([0, 1, 2, 3, 4, 5, 6, 7, 8, 9], "0 1 2 3 4 5 6 7 8 9"),
+    ([9, 8, 7, 6, 5, 4, 3, 2, 1, 0], "0 1 2 3 4 5 6 7 8 9"),
+    (
+        [65535, 0, 0, 0, 0, 0, 0, 0, 0, 0],
+        "0 0 0 0 0 0 0 0 0 65535",
+    ),
+    (
+        [0, 0, 0, 0, 0, 0, 0, 0, 0, 65535],
+        "0 0 0 0 0 0 0 0 0 65535",
+    ),
+    (
+        [65535, 0, 65535, 0, 65535, 0, 65535, 0, 65535, 0],
+        "0 0 0 0 0 65535 65535 65535 65535 65535",
+    ),
+    ([1, 1, 2, 2, 3, 3, 4, 4, 5, 5], "1 1 2 2 3 3 4 4 5 5"),
+    ([5, 5, 4, 4, 3, 3, 2, 2, 1, 1], "1 1 2 2 3 3 4 4 5 5"),
+    (
+        [32768, 32767, 32766, 32769, 32770, 1, 2, 3, 4, 5],
+        "1 2 3 4 5 32766 32767 32768 32769 32770",
+    ),
+    (
+        [
+            65534, 65535, 65533, 65535, 65532, 65535, 65531, 65535, 65530, 65535,
+        ],
+        "65530 65531 65532 65533 65534 65535 65535 65535 65535 65535",
+    ),
+    (
+        [10, 9, 100, 99, 1000, 999, 10000, 9999, 1, 0],
+        "0 1 9 10 99 100 999 1000 9999 10000",
+    ),
+    ([7, 3, 7, 3, 7, 3, 7, 3, 7, 3], "3 3 3 3 3 7 7 7 7 7"),
+    (
+        [30939, 51912, 11809, 70, 28, 36265, 13917, 82, 35618, 37],
+        "28 37 70 82 11809 13917 30939 35618 36265 51912",
+    ),
+    (
+        [77, 50847, 31, 11, 37, 52, 55, 29, 34033, 59],
+        "11 29 31 37 52 55 59 77 34033 50847",
+    ),
+    (
+        [89, 19013, 8708, 57822, 55, 26045, 8075, 36369, 16009, 38132],
+        "55 89 8075 8708 16009 19013 26045 36369 38132 57822",
+    ),
+    (
+        [5611, 94, 41, 19, 10191, 58214, 32774, 43425, 5, 46],
+        "5 19 41 46 94 5611 10191 32774 43425 58214",
+    ),
+    (
+        [38054, 26, 27252, 8153, 19613, 64312, 42130, 99, 26248, 56],
+        "26 56 99 8153 19613 26248 27252 38054 42130 64312",
+    ),
+    (
+        [64479, 55210, 27, 24603, 33343, 27271, 54674, 6, 72, 63],
+        "6 27 63 72 24603 27271 33343 54674 55210 64479",
+    ),
+];
+
+/// A dividend, a divisor, a number of places, and what is printed.
+const FRACTIONS: [(u16, u16, u16, &str); 20] = [
+    (
+        1,
+        97,
+        96,
+        "0.010309278350515463917525773195876288659793814432989690721649484536082474226804123711340206185567",
+    ),
+    (1, 3, 20, "0.33333333333333333333"),
+    (2, 3, 20, "0.66666666666666666666"),
+    (1, 7, 30, "0.142857142857142857142857142857"),
+    (0, 1, 5, "0.00000"),
+    (0, 6553, 5, "0.00000"),
+    (65535, 1, 3, "65535.000"),
+    (
+        65535,
+        6553,
+        40,
+        "10.0007630093087135663055089272089119487257",
+    ),
+    (
+        1,
+        6553,
+        60,
+        "0.000152601861742713261101785441782389745154890889668853960018",
+    ),
+    (
+        6552,
+        6553,
+        60,
+        "0.999847398138257286738898214558217610254845109110331146039981",
+    ),
+    (22, 7, 20, "3.14285714285714285714"),
+    (355, 113, 30, "3.141592920353982300884955752212"),
+    (1, 2, 1, "0.5"),
+    (1, 2, 0, "0."),
+    (9, 9, 4, "1.0000"),
+    (10, 9, 10, "1.1111111111"),
+    (1000, 999, 12, "1.001001001001"),
+    (1, 1024, 12, "0.000976562500"),
+    (65535, 2, 2, "32767.50"),
+    (5000, 6000, 8, "0.83333333"),
+];
+
+/// Letters, and the same backwards.
+const MIRRORED: [(&str, &str); 20] = [
+    ("A", "A"),
+    ("Z", "Z"),
+    ("AB", "BA"),
+    ("BA", "AB"),
+    ("EDSAC", "CASDE"),
+    ("CASDE", "EDSAC"),
+    ("LEVEL", "LEVEL"),
+    ("OTTO", "OTTO"),
+    ("ABC", "CBA"),
+    ("XYZ", "ZYX"),
+    ("WILKES", "SEKLIW"),
+    ("GILL", "LLIG"),
+    ("WHEELER", "RELEEHW"),
+    ("WORSLEY", "YELSROW"),
+    ("RENWICK", "KCIWNER"),
+    ("MAURICE", "ECIRUAM"),
+    ("HARTREE", "EERTRAH"),
+    ("CAMBRIDGE", "EGDIRBMAC"),
+    ("ABCDEFGHI", "IHGFEDCBA"),
+    ("ZZZZZZZZZ", "ZZZZZZZZZ"),
+];
+
+/// Numbers that the interlude doubles.
+const DOUBLED: [u16; 20] = [
+    34, 35, 49, 50, 51, 52, 53, 54, 64, 98, 99, 100, 101, 127, 128, 254, 255, 256, 509, 510,
+];
+
+/// A program with its data.
+enum Program {
+    Hello(&'static str),
+    Multiply(u16, u16, u16),
+    Add(u16, u16),
+    Greatest(&'static [u16]),
+    Sort(&'static [u16]),
+    Fraction(u16, u16, u16),
+    Mirror(&'static str),
+    Interlude(u16),
+}
+
+/// Data out of range, and why they are refused.
+const REFUSED: [(Program, Refusal); 28] = [
+    (Hello(""), Refusal::Length),
+    (
+        Hello("THEQUICKBROWNFOXJUMPSOVERTHELAZYDOGSVWXYZ"),
+        Refusal::Length,
+    ),
+    (Hello("Hello"), Refusal::Letter),
+    (Hello("ONE MORE"), Refusal::Letter),
+    (Multiply(256, 256, 1), Refusal::Number),
+    (Multiply(1, 1, 256), Refusal::Number),
+    (Multiply(65535, 65535, 0), Refusal::Number),
+    (Multiply(0, 0, 65535), Refusal::Number),
+    (Add(65535, 1), Refusal::Number),
+    (Add(1, 65535), Refusal::Number),
+    (Add(32768, 32768), Refusal::Number),
+    (Add(65535, 65535), Refusal::Number),
+    (Greatest(&[]), Refusal::Count),
+    (Greatest(&[1, 2, 3, 4, 5, 6, 7]), Refusal::Count),
+    (Greatest(&[1, 2, 3, 4, 5, 6, 7, 8, 9]), Refusal::Count),
+    (Sort(&[1, 2, 3, 4, 5, 6, 7, 8, 9]), Refusal::Count),
+    (Sort(&[1, 2, 3, 4, 5, 6, 7, 8, 9, 10, 11]), Refusal::Count),
+    (Fraction(1, 0, 5), Refusal::Divisor),
+    (Fraction(1, 6554, 5), Refusal::Divisor),
+    (Fraction(1, 65535, 5), Refusal::Divisor),
+    (Mirror(""), Refusal::Length),
+    (Mirror("ABCDEFGHIJ"), Refusal::Length),
+    (Mirror("Edsac"), Refusal::Letter),
+    (Mirror("AB#CD"), Refusal::Letter),
+    (Interlude(0), Refusal::Place),
+    (Interlude(33), Refusal::Place),
+    (Interlude(511), Refusal::Place),
+    (Interlude(65535), Refusal::Place),
+];
+
+/// The text of a program.
+fn text_of(alloc: Global, program: &Program) -> Result<String, Refusal> {
+    match program {
+        Hello(letters) => hello_program(alloc, letters),
+        Multiply(left, right, root) => multiply_program(alloc, *left, *right, *root),
+        Add(first, second) => add_program(alloc, *first, *second),
+        Greatest(numbers) => greatest_program(alloc, numbers),
+        Sort(numbers) => sort_program(alloc, numbers),
+        Fraction(upper, lower, places) => fraction_program(alloc, *upper, *lower, *places),
+        Mirror(letters) => mirror_program(alloc, letters),
+        Interlude(number) => interlude_program(alloc, *number),
+    }
+}
+
+#[test]
+fn data_out_of_range_are_refused(rt: HostRuntime) {
+    for (row, (program, cause)) in REFUSED.iter().enumerate() {
+        assert!(rt; text_of(rt.alloc(), program) == Err(*cause), "row {row}");
+    }
+}
 
 #[test]
 fn hello_prints_its_letters(rt: HostRuntime) -> Result<(), Fail> {
     let alloc = rt.alloc();
-    for letters in [
-        "A",
-        "Z",
-        "HELLO",
-        "EDSAC",
-        "AB",
-        "ZA",
-        "MAURICE",
-        "WILKES",
-        "DAVID",
-        "WHEELER",
-        "STANLEY",
-        "GILL",
-        "BEATRICE",
-        "WORSLEY",
-        "CAMBRIDGE",
-        "MATHEMATICALLABORATORY",
-        "QWERTYUIOPJASDFGHZXCVBNMKL",
-        "AAAAAAAAAAAAAAAAAAAA",
-        "THEQUICKBROWNFOXJUMPSOVERTHELAZYDOGSXYZ",
-        "THEQUICKBROWNFOXJUMPSOVERTHELAZYDOGSWXYZ",
-    ] {
+    for letters in HELLO {
         let wanted = format!(in alloc; "{letters}\r\n")?;
-        prints(&rt, alloc, hello_program(alloc, letters), wanted.as_str())?;
-    }
-    for (letters, cause) in [
-        ("", Refusal::Length),
-        ("THEQUICKBROWNFOXJUMPSOVERTHELAZYDOGSVWXYZ", Refusal::Length),
-        ("Hello", Refusal::Letter),
-        ("ONE MORE", Refusal::Letter),
-    ] {
-        is_refused(&rt, hello_program(alloc, letters), cause, letters)?;
+        prints(&rt, alloc, hello_program(alloc, letters), &wanted)?;
     }
     Ok(())
 }
@@ -49,43 +350,14 @@ fn hello_prints_its_letters(rt: HostRuntime) -> Result<(), Fail> {
 #[test]
 fn multiply_prints_its_products(rt: HostRuntime) -> Result<(), Fail> {
     let alloc = rt.alloc();
-    for (left, right, root) in [
-        (7, 8, 12),
-        (0, 0, 0),
-        (1, 1, 1),
-        (0, 65535, 255),
-        (65535, 1, 255),
-        (65535, 0, 0),
-        (1, 65535, 254),
-        (255, 257, 2),
-        (257, 255, 3),
-        (2, 32767, 10),
-        (256, 255, 16),
-        (3, 21845, 100),
-        (100, 655, 99),
-        (10, 6553, 31),
-        (41, 31, 17),
-        (1000, 65, 128),
-        (12, 12, 200),
-        (5, 5, 250),
-        (9999, 6, 77),
-        (4, 16383, 181),
-    ] {
+    for (left, right, root) in MULTIPLIED {
         let (product, square) = (left as u32 * right as u32, root as u32 * root as u32);
         let wanted = format!(in alloc; "{product}\r\n{square}\r\n")?;
         prints(
             &rt,
             alloc,
             multiply_program(alloc, left, right, root),
-            wanted.as_str(),
-        )?;
-    }
-    for (left, right, root) in [(256, 256, 1), (1, 1, 256), (65535, 65535, 0), (0, 0, 65535)] {
-        is_refused(
-            &rt,
-            multiply_program(alloc, left, right, root),
-            Refusal::Number,
-            "too large products",
+            &wanted,
         )?;
     }
     Ok(())
@@ -94,43 +366,9 @@ fn multiply_prints_its_products(rt: HostRuntime) -> Result<(), Fail> {
 #[test]
 fn add_prints_its_sum(rt: HostRuntime) -> Result<(), Fail> {
     let alloc = rt.alloc();
-    for (first, second) in [
-        (1949, 32),
-        (0, 0),
-        (0, 1),
-        (1, 0),
-        (9, 1),
-        (99, 1),
-        (999, 1),
-        (9999, 1),
-        (0, 65535),
-        (65535, 0),
-        (65534, 1),
-        (1, 65534),
-        (32767, 32768),
-        (32768, 32767),
-        (32768, 0),
-        (40000, 25535),
-        (12345, 6789),
-        (10, 10),
-        (1024, 512),
-        (60000, 5000),
-    ] {
+    for (first, second) in ADDED {
         let wanted = format!(in alloc; "{}", first as u32 + second as u32)?;
-        prints(
-            &rt,
-            alloc,
-            add_program(alloc, first, second),
-            wanted.as_str(),
-        )?;
-    }
-    for (first, second) in [(65535, 1), (1, 65535), (32768, 32768), (65535, 65535)] {
-        is_refused(
-            &rt,
-            add_program(alloc, first, second),
-            Refusal::Number,
-            "too large a sum",
-        )?;
+        prints(&rt, alloc, add_program(alloc, first, second), &wanted)?;
     }
     Ok(())
 }
@@ -138,28 +376,7 @@ fn add_prints_its_sum(rt: HostRuntime) -> Result<(), Fail> {
 #[test]
 fn difference_prints_the_distance(rt: HostRuntime) -> Result<(), Fail> {
     let alloc = rt.alloc();
-    for (first, second) in [
-        (1949, 2024),
-        (0, 0),
-        (0, 1),
-        (1, 0),
-        (65535, 65535),
-        (0, 65535),
-        (65535, 0),
-        (65534, 65535),
-        (65535, 65534),
-        (32767, 32768),
-        (32768, 32767),
-        (32768, 0),
-        (0, 32768),
-        (9, 10),
-        (10, 9),
-        (99, 100),
-        (1000, 1),
-        (1, 10000),
-        (12345, 54321),
-        (54321, 12345),
-    ] {
+    for (first, second) in COMPARED {
         let distance = if first < second {
             second - first
         } else {
@@ -170,7 +387,7 @@ fn difference_prints_the_distance(rt: HostRuntime) -> Result<(), Fail> {
             &rt,
             alloc,
             difference_program(alloc, first, second),
-            wanted.as_str(),
+            &wanted,
         )?;
     }
     Ok(())
@@ -179,215 +396,40 @@ fn difference_prints_the_distance(rt: HostRuntime) -> Result<(), Fail> {
 #[test]
 fn greatest_prints_the_greatest(rt: HostRuntime) -> Result<(), Fail> {
     let alloc = rt.alloc();
-    for numbers in [
-        [310, 42, 7, 1949, 512, 99, 650, 1024],
-        [0, 0, 0, 0, 0, 0, 0, 0],
-        [65535, 65535, 65535, 65535, 65535, 65535, 65535, 65535],
-        [65535, 0, 0, 0, 0, 0, 0, 0],
-        [0, 0, 0, 0, 0, 0, 0, 65535],
-        [0, 65535, 0, 65535, 0, 65535, 0, 65535],
-        [1, 2, 3, 4, 5, 6, 7, 8],
-        [8, 7, 6, 5, 4, 3, 2, 1],
-        [32767, 32768, 32767, 32768, 0, 1, 2, 3],
-        [32768, 32767, 1, 1, 1, 1, 1, 1],
-        [0, 1, 0, 1, 0, 1, 0, 1],
-        [9, 10, 9, 10, 9, 10, 9, 10],
-        [99, 100, 101, 100, 99, 98, 97, 96],
-        [999, 1000, 10000, 9999, 1, 2, 3, 4],
-        [5, 4, 5, 4, 5, 4, 5, 4],
-        [65534, 65535, 65534, 65533, 1, 1, 1, 1],
-        [1, 10, 100, 1000, 10000, 1000, 100, 10],
-        [40000, 30000, 20000, 10000, 0, 10000, 20000, 30000],
-        [7, 7, 7, 7, 7, 7, 7, 8],
-        [8, 7, 7, 7, 7, 7, 7, 7],
-    ] {
+    for numbers in &EIGHTS {
         let mut greatest = 0;
         for number in numbers {
-            greatest = greatest.max(number);
+            greatest = greatest.max(*number);
         }
         let wanted = format!(in alloc; "{greatest}")?;
-        prints(
-            &rt,
-            alloc,
-            greatest_program(alloc, numbers.as_slice()),
-            wanted.as_str(),
-        )?;
+        prints(&rt, alloc, greatest_program(alloc, numbers), &wanted)?;
     }
-    is_refused(
-        &rt,
-        greatest_program(alloc, &[]),
-        Refusal::Count,
-        "no number",
-    )?;
-    is_refused(
-        &rt,
-        greatest_program(alloc, &[1, 2, 3, 4, 5, 6, 7]),
-        Refusal::Count,
-        "seven numbers",
-    )?;
-    is_refused(
-        &rt,
-        greatest_program(alloc, &[1, 2, 3, 4, 5, 6, 7, 8, 9]),
-        Refusal::Count,
-        "nine numbers",
-    )
+    Ok(())
 }
 
 #[test]
 fn sort_prints_in_order(rt: HostRuntime) -> Result<(), Fail> {
     let alloc = rt.alloc();
-    for (numbers, sorted) in [
-        (
-            [310, 42, 7, 1949, 0, 512, 99, 7, 650, 1024],
-            "0 7 7 42 99 310 512 650 1024 1949",
-        ),
-        ([0, 0, 0, 0, 0, 0, 0, 0, 0, 0], "0 0 0 0 0 0 0 0 0 0"),
-        (
-            [
-                65535, 65535, 65535, 65535, 65535, 65535, 65535, 65535, 65535, 65535,
-            ],
-            "65535 65535 65535 65535 65535 65535 65535 65535 65535 65535",
-        ),
-        ([0, 1, 2, 3, 4, 5, 6, 7, 8, 9], "0 1 2 3 4 5 6 7 8 9"),
-        ([9, 8, 7, 6, 5, 4, 3, 2, 1, 0], "0 1 2 3 4 5 6 7 8 9"),
-        (
-            [65535, 0, 0, 0, 0, 0, 0, 0, 0, 0],
-            "0 0 0 0 0 0 0 0 0 65535",
-        ),
-        (
-            [0, 0, 0, 0, 0, 0, 0, 0, 0, 65535],
-            "0 0 0 0 0 0 0 0 0 65535",
-        ),
-        (
-            [65535, 0, 65535, 0, 65535, 0, 65535, 0, 65535, 0],
-            "0 0 0 0 0 65535 65535 65535 65535 65535",
-        ),
-        ([1, 1, 2, 2, 3, 3, 4, 4, 5, 5], "1 1 2 2 3 3 4 4 5 5"),
-        ([5, 5, 4, 4, 3, 3, 2, 2, 1, 1], "1 1 2 2 3 3 4 4 5 5"),
-        (
-            [32768, 32767, 32766, 32769, 32770, 1, 2, 3, 4, 5],
-            "1 2 3 4 5 32766 32767 32768 32769 32770",
-        ),
-        (
-            [
-                65534, 65535, 65533, 65535, 65532, 65535, 65531, 65535, 65530, 65535,
-            ],
-            "65530 65531 65532 65533 65534 65535 65535 65535 65535 65535",
-        ),
-        (
-            [10, 9, 100, 99, 1000, 999, 10000, 9999, 1, 0],
-            "0 1 9 10 99 100 999 1000 9999 10000",
-        ),
-        ([7, 3, 7, 3, 7, 3, 7, 3, 7, 3], "3 3 3 3 3 7 7 7 7 7"),
-        (
-            [30939, 51912, 11809, 70, 28, 36265, 13917, 82, 35618, 37],
-            "28 37 70 82 11809 13917 30939 35618 36265 51912",
-        ),
-        (
-            [77, 50847, 31, 11, 37, 52, 55, 29, 34033, 59],
-            "11 29 31 37 52 55 59 77 34033 50847",
-        ),
-        (
-            [89, 19013, 8708, 57822, 55, 26045, 8075, 36369, 16009, 38132],
-            "55 89 8075 8708 16009 19013 26045 36369 38132 57822",
-        ),
-        (
-            [5611, 94, 41, 19, 10191, 58214, 32774, 43425, 5, 46],
-            "5 19 41 46 94 5611 10191 32774 43425 58214",
-        ),
-        (
-            [38054, 26, 27252, 8153, 19613, 64312, 42130, 99, 26248, 56],
-            "26 56 99 8153 19613 26248 27252 38054 42130 64312",
-        ),
-        (
-            [64479, 55210, 27, 24603, 33343, 27271, 54674, 6, 72, 63],
-            "6 27 63 72 24603 27271 33343 54674 55210 64479",
-        ),
-    ] {
+    for (numbers, sorted) in &TENS {
         let mut wanted = String::new(alloc);
         for number in sorted.split_whitespace() {
             wanted.push_str(number)?;
             wanted.push_str("\r\n")?;
         }
-        prints(
-            &rt,
-            alloc,
-            sort_program(alloc, numbers.as_slice()),
-            wanted.as_str(),
-        )?;
+        prints(&rt, alloc, sort_program(alloc, numbers), &wanted)?;
     }
-    is_refused(
-        &rt,
-        sort_program(alloc, &[1, 2, 3, 4, 5, 6, 7, 8, 9]),
-        Refusal::Count,
-        "nine numbers",
-    )?;
-    is_refused(
-        &rt,
-        sort_program(alloc, &[1, 2, 3, 4, 5, 6, 7, 8, 9, 10, 11]),
-        Refusal::Count,
-        "eleven numbers",
-    )
+    Ok(())
 }
 
 #[test]
 fn fraction_prints_its_figures(rt: HostRuntime) -> Result<(), Fail> {
     let alloc = rt.alloc();
-    for (upper, lower, places, wanted) in [
-        (
-            1,
-            97,
-            96,
-            "0.010309278350515463917525773195876288659793814432989690721649484536082474226804123711340206185567",
-        ),
-        (1, 3, 20, "0.33333333333333333333"),
-        (2, 3, 20, "0.66666666666666666666"),
-        (1, 7, 30, "0.142857142857142857142857142857"),
-        (0, 1, 5, "0.00000"),
-        (0, 6553, 5, "0.00000"),
-        (65535, 1, 3, "65535.000"),
-        (
-            65535,
-            6553,
-            40,
-            "10.0007630093087135663055089272089119487257",
-        ),
-        (
-            1,
-            6553,
-            60,
-            "0.000152601861742713261101785441782389745154890889668853960018",
-        ),
-        (
-            6552,
-            6553,
-            60,
-            "0.999847398138257286738898214558217610254845109110331146039981",
-        ),
-        (22, 7, 20, "3.14285714285714285714"),
-        (355, 113, 30, "3.141592920353982300884955752212"),
-        (1, 2, 1, "0.5"),
-        (1, 2, 0, "0."),
-        (9, 9, 4, "1.0000"),
-        (10, 9, 10, "1.1111111111"),
-        (1000, 999, 12, "1.001001001001"),
-        (1, 1024, 12, "0.000976562500"),
-        (65535, 2, 2, "32767.50"),
-        (5000, 6000, 8, "0.83333333"),
-    ] {
+    for (upper, lower, places, wanted) in FRACTIONS {
         prints(
             &rt,
             alloc,
             fraction_program(alloc, upper, lower, places),
             wanted,
-        )?;
-    }
-    for lower in [0, 6554, 65535] {
-        is_refused(
-            &rt,
-            fraction_program(alloc, 1, lower, 5),
-            Refusal::Divisor,
-            "a divisor out of range",
         )?;
     }
     Ok(())
@@ -396,37 +438,8 @@ fn fraction_prints_its_figures(rt: HostRuntime) -> Result<(), Fail> {
 #[test]
 fn mirror_prints_backwards(rt: HostRuntime) -> Result<(), Fail> {
     let alloc = rt.alloc();
-    for (letters, wanted) in [
-        ("A", "A"),
-        ("Z", "Z"),
-        ("AB", "BA"),
-        ("BA", "AB"),
-        ("EDSAC", "CASDE"),
-        ("CASDE", "EDSAC"),
-        ("LEVEL", "LEVEL"),
-        ("OTTO", "OTTO"),
-        ("ABC", "CBA"),
-        ("XYZ", "ZYX"),
-        ("WILKES", "SEKLIW"),
-        ("GILL", "LLIG"),
-        ("WHEELER", "RELEEHW"),
-        ("WORSLEY", "YELSROW"),
-        ("RENWICK", "KCIWNER"),
-        ("MAURICE", "ECIRUAM"),
-        ("HARTREE", "EERTRAH"),
-        ("CAMBRIDGE", "EGDIRBMAC"),
-        ("ABCDEFGHI", "IHGFEDCBA"),
-        ("ZZZZZZZZZ", "ZZZZZZZZZ"),
-    ] {
+    for (letters, wanted) in MIRRORED {
         tape_prints(&rt, alloc, mirror_program(alloc, letters), wanted)?;
-    }
-    for (letters, cause) in [
-        ("", Refusal::Length),
-        ("ABCDEFGHIJ", Refusal::Length),
-        ("Edsac", Refusal::Letter),
-        ("AB#CD", Refusal::Letter),
-    ] {
-        is_refused(&rt, mirror_program(alloc, letters), cause, letters)?;
     }
     Ok(())
 }
@@ -443,38 +456,29 @@ fn squares_prints_nine_squares(rt: HostRuntime) -> Result<(), Fail> {
     first_tape_prints(&rt, alloc, squares_program(alloc), wanted.as_str())
 }
 
+/// What the parts of the interlude on a number report.
+fn lines_of_parts(alloc: Global, number: u16) -> Result<String, Fail> {
+    let figures = if number < 100 { 2 } else { 3 };
+    let double = 2 * u32::from(number);
+    let rows = 35 + figures;
+    let entered = 372 + 9 * figures;
+    Ok(format!(in alloc;
+        "entry 100 after {entered} orders, {rows} rows\n\
+        returned for {double} after {} orders\n\
+        entry 64 after {} orders, {} rows\n",
+        entered + 5,
+        entered + 285,
+        rows + 26
+    )?)
+}
+
 #[test]
 fn interlude_doubles_its_number(rt: HostRuntime) -> Result<(), Fail> {
     let alloc = rt.alloc();
-    for number in [
-        34, 35, 49, 50, 51, 52, 53, 54, 64, 98, 99, 100, 101, 127, 128, 254, 255, 256, 509, 510,
-    ] {
-        let figures = if number < 100 { 2u16 } else { 3 };
-        let (double, rows) = (2 * number, 35 + figures);
-        let entered = 372 + 9 * figures;
-        let wanted = format!(in alloc;
-            "entry 100 after {entered} orders, {rows} rows\n\
-            returned for {double} after {} orders\n\
-            entry 64 after {} orders, {} rows\n",
-            entered + 5,
-            entered + 285,
-            rows + 26
-        )?;
-        parts_are(
-            &rt,
-            alloc,
-            interlude_program(alloc, number),
-            wanted.as_str(),
-        )?;
+    for number in DOUBLED {
+        let wanted = lines_of_parts(alloc, number)?;
+        parts_are(&rt, alloc, interlude_program(alloc, number), &wanted)?;
         tape_prints(&rt, alloc, interlude_program(alloc, number), "HI")?;
-    }
-    for number in [0, 33, 511, 65535] {
-        is_refused(
-            &rt,
-            interlude_program(alloc, number),
-            Refusal::Place,
-            "words that have no place",
-        )?;
     }
     Ok(())
 }

@@ -58,30 +58,19 @@ fn answers(
     program: Result<String, Refusal>,
     wanted: &str,
 ) -> Result<(), Fail> {
-    assert!(rt; program.is_ok(), "no program that prints {wanted}");
-    if let Ok(program) = program {
-        let words = vec![in alloc; String::from_str(alloc, command)?]?;
-        let mut source = SureSource::new(program.as_bytes().to_vec(alloc)?);
-        let mut out = SureSink::new(alloc, ROOM)?;
-        let mut note = SureSink::new(alloc, ROOM)?;
-        let status = edsac(alloc, words.as_slice(), &mut source, &mut out, &mut note);
-        assert_eq!(rt; status, 0, "the status of the program that prints {wanted}");
-        assert_eq!(rt;
-            out.bytes(),
-            wanted.as_bytes(),
-            "what is printed in place of {wanted}"
-        );
-    }
-    Ok(())
-}
-
-/// Checks that there is no program, for this cause.
-pub fn is_refused(
-    rt: &impl Abort,
-    program: Result<String, Refusal>,
-    cause: Refusal,
-    data: &str,
-) -> Result<(), Fail> {
-    assert!(rt; program == Err(cause), "the program for {data}");
+    let program = program.ok().ok_or("no program")?;
+    let words = vec![in alloc; String::from_str(alloc, command)?]?;
+    let mut source = SureSource::new(program.as_bytes().to_vec(alloc)?);
+    let mut out = SureSink::new(alloc, ROOM)?;
+    let mut note = SureSink::new(alloc, ROOM)?;
+    let status = edsac(alloc, words.as_slice(), &mut source, &mut out, &mut note);
+    assert!(rt;
+        status == 0,
+        "the status of the program that prints {wanted}"
+    );
+    assert!(rt;
+        out.bytes() == wanted.as_bytes(),
+        "what is printed in place of {wanted}"
+    );
     Ok(())
 }

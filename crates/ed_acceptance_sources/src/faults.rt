@@ -4,6 +4,7 @@ use crate::support::fault_of;
 use ed_syntax::SourceCause;
 use ed_words::Size;
 use std::alloc::Global;
+use std::process::Abort;
 use std::test::Fail;
 
 /// The faults of meaning, by their numbers from 6.
@@ -25,20 +26,20 @@ const CAUSES: [SourceCause; 12] = [
 /// A number greater than that of any fault.
 const NONE: usize = 18;
 
-/// Two lines for each fault, in ascending order of its number. The second has the fault and no other.
-const FAULTY: [&str; 12] = [
-    "segment c at 100\na: Z F\n",
-    "segment d at 110\nA nowhere F\n",
-    "segment e at 120\nA a-1000 F\n",
-    "use newline as f\nZ F\n",
-    "segment g at 43\nZ F\n",
-    "segment h at 55\nZ F\n",
-    "segment i at 1023\ntext \"AB\"\n",
-    "segment j at 56\nZ F\n",
-    "segment k at 130\nuse sine as l\n",
-    "segment n at 140\nuse print as o\n",
-    "segment p at 200\ndata \"A\"\n",
-    "segment q at 210\nlong -1\n",
+/// Each fault's number, and two lines of which the second has that fault and no other.
+const FAULTY: [(usize, &str); 12] = [
+    (6, "segment c at 100\na: Z F\n"),
+    (7, "segment d at 110\nA nowhere F\n"),
+    (8, "segment e at 120\nA a-1000 F\n"),
+    (9, "use newline as f\nZ F\n"),
+    (10, "segment g at 43\nZ F\n"),
+    (11, "segment h at 55\nZ F\n"),
+    (12, "segment i at 1023\ntext \"AB\"\n"),
+    (13, "segment j at 56\nZ F\n"),
+    (14, "segment k at 130\nuse sine as l\n"),
+    (15, "segment n at 140\nuse print as o\n"),
+    (16, "segment p at 200\ndata \"A\"\n"),
+    (17, "segment q at 210\nlong -1\n"),
 ];
 
 /// Lines before a line, that line's number, and the fault that a word of the line has there.
@@ -102,43 +103,60 @@ fn cause(number: usize) -> Option<SourceCause> {
     CAUSES.get(number.wrapping_sub(6)).copied()
 }
 
+/// Checks that a program of some lines has a fault, by its number, on a line.
+fn expect(
+    rt: &impl Abort,
+    alloc: Global,
+    lines: &str,
+    line: u32,
+    number: usize,
+) -> Result<(), Fail> {
+    let text = source(alloc, lines)?;
+    let wanted = Some((line, cause(number)));
+    assert!(rt;
+        fault_of(alloc, Size::Full, text.as_bytes()) == wanted,
+        "{text}"
+    );
+    Ok(())
+}
+
 #[test]
 fn each_fault_alone_and_two_on_two_lines(rt: HostRuntime) -> Result<(), Fail> {
     let alloc = rt.alloc();
-    for (first, cause) in FAULTY.iter().zip(CAUSES) {
-        let wanted = Some((5, Some(cause)));
-        let text = source(alloc, first)?;
-        assert!(rt;
-            fault_of(alloc, Size::Full, text.as_bytes()) == wanted,
-            "{first}"
-        );
-        for second in FAULTY {
-            let text = source(alloc, &format!(in alloc; "{first}{second}")?)?;
-            assert!(rt;
-                fault_of(alloc, Size::Full, text.as_bytes()) == wanted,
-                "{first}{second}"
-            );
+    for (number, first) in FAULTY {
+        expect(&rt, alloc, first, 5, number)?;
+        for (_, second) in FAULTY {
+            let both = format!(in alloc; "{first}{second}")?;
+            expect(&rt, alloc, &both, 5, number)?;
         }
+    }
+    Ok(())
+}
+
+/// Checks a line of `LINES` after other lines, with a name of its own, b, and with one that is defined before, a.
+fn expect_on_one_line(
+    rt: &impl Abort,
+    alloc: Global,
+    setting: (&str, u32, usize),
+    form: (&str, &str, usize, usize),
+) -> Result<(), Fail> {
+    let (before, line, given) = setting;
+    let (head, tail, own, least) = form;
+    let given = if given < least { NONE } else { given };
+    for (name, twice) in [("b", NONE), ("a", 6)] {
+        let lines = format!(in alloc; "{before}{head}{name}{tail}")?;
+        let number = own.min(twice).min(given);
+        let line = if number == NONE { 0 } else { line };
+        expect(rt, alloc, &lines, line, number)?;
     }
     Ok(())
 }
 
 #[test]
 fn two_faults_on_one_line(rt: HostRuntime) -> Result<(), Fail> {
-    let alloc = rt.alloc();
-    for (before, line, given) in SETTINGS {
-        for (head, tail, own, least) in LINES {
-            for (name, twice) in [("b", NONE), ("a", 6)] {
-                let text = source(alloc, &format!(in alloc; "{before}{head}{name}{tail}")?)?;
-                let given = if given < least { NONE } else { given };
-                let cause = cause(own.min(twice).min(given));
-                let line = if cause.is_some() { line } else { 0 };
-                assert_eq!(rt;
-                    fault_of(alloc, Size::Full, text.as_bytes()),
-                    Some((line, cause)),
-                    "{text}"
-                );
-            }
+    for setting in SETTINGS {
+        for form in LINES {
+            expect_on_one_line(&rt, rt.alloc(), setting, form)?;
         }
     }
     Ok(())
@@ -146,14 +164,8 @@ fn two_faults_on_one_line(rt: HostRuntime) -> Result<(), Fail> {
 
 #[test]
 fn other_faults_on_one_line(rt: HostRuntime) -> Result<(), Fail> {
-    let alloc = rt.alloc();
     for (lines, line, number) in OTHERS {
-        let text = source(alloc, lines)?;
-        assert_eq!(rt;
-            fault_of(alloc, Size::Full, text.as_bytes()),
-            Some((line, cause(number))),
-            "{text}"
-        );
+        expect(&rt, rt.alloc(), lines, line, number)?;
     }
     Ok(())
 }

@@ -1,9 +1,14 @@
 //! Linking: the punched tape and the words of a source, where it begins, and the first fault of meaning.
 
-use crate::support::{fault_of, linked};
+use crate::support::{Row, expect_faults, linked};
 use ed_codes::tape_of_text;
-use ed_syntax::SourceCause;
+use ed_syntax::SourceCause::{
+    AddressRange, Enter, LabelTwice, LabelUnknown, LoaderStore, NoSuchRoutine, OutsideSegment,
+    Overlap, ParameterStore, Parameters, SandwichDigit, StoreEnd,
+};
 use ed_words::Size;
+use std::alloc::Global;
+use std::process::Abort;
 use std::test::Fail;
 
 /// The program of seven lines that prints A.
@@ -19,145 +24,141 @@ const THIRD: &[u8] =
     b"version 2\nsegment m\na: A _l F\n_l: A _l D\nP _l-a F\nv: long 17179869185\nsegment t\n_l: A _l F\nS v D\n\
     use newline as n\nenter t\ndata \"4F2\"";
 
+/// Sources, and the tapes that are punched for them.
+const PUNCHED: [(&[u8], &str); 4] = [
+    (FIRST, "T56K\nGK\nO3@\nO4@\nZF\n*F\nAF\nE56K\nPF\n"),
+    (
+        THIRD,
+        "T56K\nGK\nA1@\nA1#@\nP1F\nPF\nPD\n.F\nT62K\nGK\nA@\nS60D\nT64K\nGK\nA3F\nT4@\nO5@\nO6@\nPF\n@F\n&F\nE62K\nPF\n4F2\n",
+    ),
+    (
+        b"segment m at 100\ntext \"AB\"\nword -1\nsegment n\nA m F\nA n+1 D\nA m+2 D\nA n-1 F\nenter n",
+        "T100K\nGK\nAF\nBF\nV2047D\nT103K\nGK\nA100F\nA1#@\nA102D\nA102F\nE103K\nPF\n",
+    ),
+    (
+        b"segment m\nsegment n at 512\nZ F\nenter n",
+        "T512K\nGK\nZF\nE512K\nPF\n",
+    ),
+];
+
+/// The words of the first program, with their locations.
+const WORDS: [(u16, u32); 5] = [
+    (56, 36982),
+    (57, 36984),
+    (58, 53248),
+    (59, 61440),
+    (60, 114688),
+];
+
+/// Its names, with their locations.
+const LABELS: [(&str, u16); 3] = [("main", 56), ("mark", 59), ("letter", 60)];
+
+/// The first faults of sources in a store of 1024 locations.
+const FAULTS: [Row; 28] = [
+    (FIRST, 0, None),
+    (SECOND, 11, Some(OutsideSegment)),
+    (THIRD, 0, None),
+    (b"", 1, Some(Enter)),
+    (
+        b"segment m\nA nowhere F\nsegment s at 20\nZ F\nenter m",
+        2,
+        Some(LabelUnknown),
+    ),
+    (
+        b"segment m\nsegment s at 20\nZ F\nenter m",
+        3,
+        Some(LoaderStore),
+    ),
+    (b"segment m at 43\nm: Z F\nenter m", 2, Some(LabelTwice)),
+    (b"segment m\nA m+1000 F\nenter m", 2, Some(AddressRange)),
+    (b"Z F\nsegment m\nZ F\nenter m", 1, Some(OutsideSegment)),
+    (b"segment m at 43\nZ F\nenter m", 2, Some(LoaderStore)),
+    (b"segment m at 44\nZ F\nenter m", 2, Some(ParameterStore)),
+    (b"segment m at 55\nZ F\nenter m", 2, Some(ParameterStore)),
+    (b"segment m at 55\nenter m", 2, Some(ParameterStore)),
+    (b"segment m at 1023\nZ F\nenter m", 0, None),
+    (b"segment m at 1023\nZ F\nZ F\nenter m", 3, Some(StoreEnd)),
+    (
+        b"segment m at 60\nZ F\nsegment n at 58\ntext \"ABC\"\nenter m",
+        4,
+        Some(Overlap),
+    ),
+    (
+        b"segment m at 60\nZ F\nsegment n at 58\ntext \"AB\"\nenter m",
+        0,
+        None,
+    ),
+    (b"use newlin as n\nenter n", 1, Some(NoSuchRoutine)),
+    (b"use newline as n with H=1\nenter n", 1, Some(Parameters)),
+    (b"segment m\nZ F\nenter m\nenter m", 4, Some(Enter)),
+    (b"segment m\nZ F\nenter m\nZ F", 4, Some(Enter)),
+    (b"data \"A\"\nsegment m\nZ F\nenter m", 1, Some(Enter)),
+    (b"data \"A\"\nsegment m\nZ F\n", 4, Some(Enter)),
+    (b"segment m\nZ F\nenter m\n\ndata \"A\"", 0, None),
+    (b"segment m\nZ F\nenter m\na:", 4, Some(Enter)),
+    (
+        b"version 2\nsegment m\nlong 131072\nenter m",
+        3,
+        Some(SandwichDigit),
+    ),
+    (
+        b"version 2\nsegment m at 55\nlong 5\nenter m",
+        3,
+        Some(ParameterStore),
+    ),
+    (
+        b"version 2\nsegment m at 1023\nlong 5\nenter m",
+        3,
+        Some(StoreEnd),
+    ),
+];
+
+/// The first faults of sources in a store of 512 locations.
+const FAULTS_IN_512: [Row; 3] = [
+    (b"segment m at 511\nZ F\nenter m", 0, None),
+    (b"segment m at 512\nZ F\nenter m", 2, Some(StoreEnd)),
+    (b"segment m at 512\nenter m", 2, Some(StoreEnd)),
+];
+
+/// Checks that a tape is punched for a source, and that its text spells its rows.
+fn is_punched(rt: &impl Abort, alloc: Global, text: &[u8], punched: &str) -> Result<(), Fail> {
+    let linked = linked(alloc, Size::Full, text).ok_or("a fault")?;
+    let tape = linked.text()?;
+    assert!(rt; tape.as_slice() == punched.as_bytes(), "{punched}");
+    let spelled = tape_of_text(alloc, &tape)?;
+    assert!(rt;
+        spelled.as_slice() == linked.rows()?.as_slice(),
+        "{punched}"
+    );
+    Ok(())
+}
+
 #[test]
 fn what_is_punched(rt: HostRuntime) -> Result<(), Fail> {
-    let cases: [(&[u8], &str); 4] = [
-        (FIRST, "T56K\nGK\nO3@\nO4@\nZF\n*F\nAF\nE56K\nPF\n"),
-        (
-            THIRD,
-            "T56K\nGK\nA1@\nA1#@\nP1F\nPF\nPD\n.F\nT62K\nGK\nA@\nS60D\nT64K\nGK\nA3F\nT4@\nO5@\nO6@\nPF\n@F\n&F\nE62K\nPF\n4F2\n",
-        ),
-        (
-            b"segment m at 100\ntext \"AB\"\nword -1\nsegment n\nA m F\nA n+1 D\nA m+2 D\nA n-1 F\nenter n",
-            "T100K\nGK\nAF\nBF\nV2047D\nT103K\nGK\nA100F\nA1#@\nA102D\nA102F\nE103K\nPF\n",
-        ),
-        (
-            b"segment m\nsegment n at 512\nZ F\nenter n",
-            "T512K\nGK\nZF\nE512K\nPF\n",
-        ),
-    ];
-    for (text, punched) in cases {
-        let linked = linked(rt.alloc(), Size::Full, text).expect(&rt, punched);
-        let tape = linked.text()?;
-        assert!(rt; tape.as_slice() == punched.as_bytes());
-        let spelled = tape_of_text(rt.alloc(), &tape).ok().expect(&rt, punched);
-        let rows = linked.rows()?;
-        assert!(rt; spelled.as_slice() == rows.as_slice());
+    for (text, punched) in PUNCHED {
+        is_punched(&rt, rt.alloc(), text, punched)?;
     }
     Ok(())
 }
 
 #[test]
-fn the_linked_program(rt: HostRuntime) {
-    let linked = linked(rt.alloc(), Size::Small, FIRST).expect(&rt, "linked");
-    let words = [
-        (56, 36982),
-        (57, 36984),
-        (58, 53248),
-        (59, 61440),
-        (60, 114688),
-    ];
-    assert!(rt; linked.words.len() == words.len());
-    for (placed, (place, word)) in linked.words.iter().zip(words) {
-        assert!(rt; placed.place == place);
-        assert!(rt; placed.word.value() == word);
+fn the_linked_program(rt: HostRuntime) -> Result<(), Fail> {
+    let linked = linked(rt.alloc(), Size::Small, FIRST).ok_or("a fault")?;
+    assert!(rt; linked.words.len() == WORDS.len());
+    for (index, placed) in linked.words.iter().enumerate() {
+        assert!(rt; WORDS.get(index).copied() == Some((placed.place, placed.word.value())));
     }
     assert!(rt; linked.entry == 56);
     assert!(rt; linked.after.is_empty());
-    let labels = [("main", 56), ("mark", 59), ("letter", 60)];
-    assert!(rt; linked.labels.len() == labels.len());
-    for (label, (name, place)) in linked.labels.iter().zip(labels) {
-        assert!(rt; label.name.text() == name);
-        assert!(rt; label.place == place);
+    assert!(rt; linked.labels.len() == LABELS.len());
+    for (index, label) in linked.labels.iter().enumerate() {
+        assert!(rt; LABELS.get(index).copied() == Some((label.name.text(), label.place)));
     }
+    Ok(())
 }
 
 #[test]
 fn the_fault_of_meaning(rt: HostRuntime) {
-    use SourceCause::{
-        AddressRange, Enter, LabelTwice, LabelUnknown, LoaderStore, NoSuchRoutine, OutsideSegment,
-        Overlap, ParameterStore, Parameters, SandwichDigit, StoreEnd,
-    };
-    let cases: [(&[u8], u32, Option<SourceCause>); 28] = [
-        (FIRST, 0, None),
-        (SECOND, 11, Some(OutsideSegment)),
-        (THIRD, 0, None),
-        (b"", 1, Some(Enter)),
-        (
-            b"segment m\nA nowhere F\nsegment s at 20\nZ F\nenter m",
-            2,
-            Some(LabelUnknown),
-        ),
-        (
-            b"segment m\nsegment s at 20\nZ F\nenter m",
-            3,
-            Some(LoaderStore),
-        ),
-        (b"segment m at 43\nm: Z F\nenter m", 2, Some(LabelTwice)),
-        (b"segment m\nA m+1000 F\nenter m", 2, Some(AddressRange)),
-        (b"Z F\nsegment m\nZ F\nenter m", 1, Some(OutsideSegment)),
-        (b"segment m at 43\nZ F\nenter m", 2, Some(LoaderStore)),
-        (b"segment m at 44\nZ F\nenter m", 2, Some(ParameterStore)),
-        (b"segment m at 55\nZ F\nenter m", 2, Some(ParameterStore)),
-        (b"segment m at 55\nenter m", 2, Some(ParameterStore)),
-        (b"segment m at 1023\nZ F\nenter m", 0, None),
-        (b"segment m at 1023\nZ F\nZ F\nenter m", 3, Some(StoreEnd)),
-        (
-            b"segment m at 60\nZ F\nsegment n at 58\ntext \"ABC\"\nenter m",
-            4,
-            Some(Overlap),
-        ),
-        (
-            b"segment m at 60\nZ F\nsegment n at 58\ntext \"AB\"\nenter m",
-            0,
-            None,
-        ),
-        (b"use newlin as n\nenter n", 1, Some(NoSuchRoutine)),
-        (b"use newline as n with H=1\nenter n", 1, Some(Parameters)),
-        (b"segment m\nZ F\nenter m\nenter m", 4, Some(Enter)),
-        (b"segment m\nZ F\nenter m\nZ F", 4, Some(Enter)),
-        (b"data \"A\"\nsegment m\nZ F\nenter m", 1, Some(Enter)),
-        (b"data \"A\"\nsegment m\nZ F\n", 4, Some(Enter)),
-        (b"segment m\nZ F\nenter m\n\ndata \"A\"", 0, None),
-        (b"segment m\nZ F\nenter m\na:", 4, Some(Enter)),
-        (
-            b"version 2\nsegment m\nlong 131072\nenter m",
-            3,
-            Some(SandwichDigit),
-        ),
-        (
-            b"version 2\nsegment m at 55\nlong 5\nenter m",
-            3,
-            Some(ParameterStore),
-        ),
-        (
-            b"version 2\nsegment m at 1023\nlong 5\nenter m",
-            3,
-            Some(StoreEnd),
-        ),
-    ];
-    for (text, line, cause) in cases {
-        assert_eq!(rt;
-            fault_of(rt.alloc(), Size::Full, text),
-            Some((line, cause)),
-            "{text:?}"
-        );
-    }
-}
-
-#[test]
-fn the_end_of_a_small_store(rt: HostRuntime) {
-    use SourceCause::StoreEnd;
-    let cases: [(&[u8], u32, Option<SourceCause>); 3] = [
-        (b"segment m at 511\nZ F\nenter m", 0, None),
-        (b"segment m at 512\nZ F\nenter m", 2, Some(StoreEnd)),
-        (b"segment m at 512\nenter m", 2, Some(StoreEnd)),
-    ];
-    for (text, line, cause) in cases {
-        assert_eq!(rt;
-            fault_of(rt.alloc(), Size::Small, text),
-            Some((line, cause)),
-            "{text:?}"
-        );
-    }
+    expect_faults(&rt, rt.alloc(), Size::Full, &FAULTS);
+    expect_faults(&rt, rt.alloc(), Size::Small, &FAULTS_IN_512);
 }

@@ -41,6 +41,107 @@ const IN_A_USE: Frame = Frame {
     punched_tail: "\nT56K\nGK\n",
 };
 
+/// Operands, and their items on the tape.
+const ITEMS_OF_FIRST: [(&str, &str); 20] = [
+    ("", "F"),
+    ("0", "F"),
+    ("1023", "1023F"),
+    ("32767", "32767F"),
+    ("m", "@"),
+    ("m+0", "@"),
+    ("m+967", "967@"),
+    ("m-1", "55F"),
+    ("m-56", "F"),
+    ("t", "1023F"),
+    ("t-1023", "F"),
+    ("s", "F"),
+    ("s+1023", "1023F"),
+    ("_l", "1@"),
+    ("_l+966", "967@"),
+    ("_l-57", "F"),
+    ("t-s", "1023F"),
+    ("t+s", "1023F"),
+    ("m-m", "F"),
+    ("_l+m", "113F"),
+];
+
+const ITEMS_AT_100: [(&str, &str); 16] = [
+    ("", "F"),
+    ("32767", "32767F"),
+    ("m", "@"),
+    ("m+923", "923@"),
+    ("m-1", "99F"),
+    ("m-100", "F"),
+    ("t", "1023F"),
+    ("s+1023", "1023F"),
+    ("_l", "1@"),
+    ("_l+922", "923@"),
+    ("_l-1", "@"),
+    ("_l-2", "99F"),
+    ("_l-101", "F"),
+    ("t-_l", "922F"),
+    ("_l+_l", "202F"),
+    ("_l-m", "1F"),
+];
+
+const ITEMS_IN_A_USE: [(&str, &str); 14] = [
+    ("0", "F"),
+    ("1023", "1023F"),
+    ("32767", "32767F"),
+    ("p", "56F"),
+    ("p+967", "1023F"),
+    ("p-56", "F"),
+    ("m", "107F"),
+    ("m+916", "1023F"),
+    ("m-107", "F"),
+    ("t", "1023F"),
+    ("s", "F"),
+    ("t-s", "1023F"),
+    ("s+t", "1023F"),
+    ("m-p", "51F"),
+];
+
+/// Operands that are refused, and their faults.
+const FAULTS_OF_FIRST: [(&str, SourceCause); 14] = [
+    ("32768", NumberRange),
+    ("m+968", AddressRange),
+    ("m-57", AddressRange),
+    ("t+1", AddressRange),
+    ("t-1024", NumberRange),
+    ("s-1", AddressRange),
+    ("s+1024", NumberRange),
+    ("_l+967", AddressRange),
+    ("_l-58", AddressRange),
+    ("_k", LabelUnknown),
+    ("s-t", AddressRange),
+    ("t+m", AddressRange),
+    ("m-_l", AddressRange),
+    ("m-_k", LabelUnknown),
+];
+
+const FAULTS_AT_100: [(&str, SourceCause); 5] = [
+    ("m+924", AddressRange),
+    ("m-101", AddressRange),
+    ("_l+923", AddressRange),
+    ("_l-102", AddressRange),
+    ("m-t", AddressRange),
+];
+
+const FAULTS_IN_A_USE: [(&str, SourceCause); 12] = [
+    ("", NotAStatement),
+    ("32768", NumberRange),
+    ("p+968", AddressRange),
+    ("p-57", AddressRange),
+    ("m+917", AddressRange),
+    ("m-108", AddressRange),
+    ("t+1", AddressRange),
+    ("s-1", AddressRange),
+    ("_l", LabelUnknown),
+    ("m-_l", LabelUnknown),
+    ("s-t", AddressRange),
+    ("t+p", AddressRange),
+];
+
 /// Checks what is punched for operands.
 fn punched(
     rt: &impl Abort,
@@ -50,11 +151,12 @@ fn punched(
 ) -> Result<(), Fail> {
     for (operand, item) in cases {
         let text = format!(in alloc; "{}{operand}{}", frame.head, frame.tail)?;
-        let tape = linked(alloc, Size::Full, text.as_bytes())
-            .expect(rt, operand)
-            .text()?;
+        let linked = linked(alloc, Size::Full, text.as_bytes()).ok_or("a fault")?;
         let wanted = format!(in alloc; "{}{item}{}", frame.punched_head, frame.punched_tail)?;
-        assert!(rt; tape.starts_with(wanted.as_bytes()), "{text}{wanted}");
+        assert!(rt;
+            linked.text()?.starts_with(wanted.as_bytes()),
+            "{text}{wanted}"
+        );
     }
     Ok(())
 }
@@ -68,8 +170,9 @@ fn refused(
 ) -> Result<(), Fail> {
     for (operand, cause) in cases {
         let text = format!(in alloc; "{}{operand}{}", frame.head, frame.tail)?;
+        let wanted = Some((3, Some(*cause)));
         assert!(rt;
-            fault_of(alloc, Size::Full, text.as_bytes()) == Some((3, Some(*cause))),
+            fault_of(alloc, Size::Full, text.as_bytes()) == wanted,
             "{text}"
         );
     }
@@ -78,119 +181,22 @@ fn refused(
 
 #[test]
 fn operands_in_the_first_segment(rt: HostRuntime) -> Result<(), Fail> {
-    let cases = [
-        ("", "F"),
-        ("0", "F"),
-        ("1023", "1023F"),
-        ("32767", "32767F"),
-        ("m", "@"),
-        ("m+0", "@"),
-        ("m+967", "967@"),
-        ("m-1", "55F"),
-        ("m-56", "F"),
-        ("t", "1023F"),
-        ("t-1023", "F"),
-        ("s", "F"),
-        ("s+1023", "1023F"),
-        ("_l", "1@"),
-        ("_l+966", "967@"),
-        ("_l-57", "F"),
-        ("t-s", "1023F"),
-        ("t+s", "1023F"),
-        ("m-m", "F"),
-        ("_l+m", "113F"),
-    ];
-    punched(&rt, rt.alloc(), &FIRST, &cases)
+    punched(&rt, rt.alloc(), &FIRST, &ITEMS_OF_FIRST)
 }
 
 #[test]
 fn operands_in_a_segment_at_a_place(rt: HostRuntime) -> Result<(), Fail> {
-    let cases = [
-        ("", "F"),
-        ("32767", "32767F"),
-        ("m", "@"),
-        ("m+923", "923@"),
-        ("m-1", "99F"),
-        ("m-100", "F"),
-        ("t", "1023F"),
-        ("s+1023", "1023F"),
-        ("_l", "1@"),
-        ("_l+922", "923@"),
-        ("_l-1", "@"),
-        ("_l-2", "99F"),
-        ("_l-101", "F"),
-        ("t-_l", "922F"),
-        ("_l+_l", "202F"),
-        ("_l-m", "1F"),
-    ];
-    punched(&rt, rt.alloc(), &AT_100, &cases)
+    punched(&rt, rt.alloc(), &AT_100, &ITEMS_AT_100)
 }
 
 #[test]
 fn operands_in_the_settings_of_a_use(rt: HostRuntime) -> Result<(), Fail> {
-    let cases = [
-        ("0", "F"),
-        ("1023", "1023F"),
-        ("32767", "32767F"),
-        ("p", "56F"),
-        ("p+967", "1023F"),
-        ("p-56", "F"),
-        ("m", "107F"),
-        ("m+916", "1023F"),
-        ("m-107", "F"),
-        ("t", "1023F"),
-        ("s", "F"),
-        ("t-s", "1023F"),
-        ("s+t", "1023F"),
-        ("m-p", "51F"),
-    ];
-    punched(&rt, rt.alloc(), &IN_A_USE, &cases)
+    punched(&rt, rt.alloc(), &IN_A_USE, &ITEMS_IN_A_USE)
 }
 
 #[test]
 fn operands_beyond_their_edges(rt: HostRuntime) -> Result<(), Fail> {
-    let cases = [
-        ("32768", NumberRange),
-        ("m+968", AddressRange),
-        ("m-57", AddressRange),
-        ("t+1", AddressRange),
-        ("t-1024", NumberRange),
-        ("s-1", AddressRange),
-        ("s+1024", NumberRange),
-        ("_l+967", AddressRange),
-        ("_l-58", AddressRange),
-        ("_k", LabelUnknown),
-        ("s-t", AddressRange),
-        ("t+m", AddressRange),
-        ("m-_l", AddressRange),
-        ("m-_k", LabelUnknown),
-    ];
-    refused(&rt, rt.alloc(), &FIRST, &cases)?;
-    let cases = [
-        ("m+924", AddressRange),
-        ("m-101", AddressRange),
-        ("_l+923", AddressRange),
-        ("_l-102", AddressRange),
-        ("m-t", AddressRange),
-    ];
-    refused(&rt, rt.alloc(), &AT_100, &cases)
-}
-
-#[test]
-fn settings_beyond_their_edges(rt: HostRuntime) -> Result<(), Fail> {
-    let cases = [
-        ("", NotAStatement),
-        ("32768", NumberRange),
-        ("p+968", AddressRange),
-        ("p-57", AddressRange),
-        ("m+917", AddressRange),
-        ("m-108", AddressRange),
-        ("t+1", AddressRange),
-        ("s-1", AddressRange),
-        ("_l", LabelUnknown),
-        ("m-_l", LabelUnknown),
-        ("s-t", AddressRange),
-        ("t+p", AddressRange),
-    ];
-    refused(&rt, rt.alloc(), &IN_A_USE, &cases)
+    refused(&rt, rt.alloc(), &FIRST, &FAULTS_OF_FIRST)?;
+    refused(&rt, rt.alloc(), &AT_100, &FAULTS_AT_100)?;
+    refused(&rt, rt.alloc(), &IN_A_USE, &FAULTS_IN_A_USE)
 }

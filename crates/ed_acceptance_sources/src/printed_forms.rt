@@ -374,9 +374,8 @@ fn first_difference(alloc: Global, source: u32) -> Option<u32> {
 #[test]
 fn printed_forms_are_read_back(rt: HostRuntime) {
     for source in 0..SOURCES {
-        assert_eq!(rt;
-            first_difference(rt.alloc(), source),
-            Some(0),
+        assert!(rt;
+            first_difference(rt.alloc(), source) == Some(0),
             "source {source}"
         );
     }

@@ -4,6 +4,7 @@ use ed_link::{Linked, link};
 use ed_syntax::{SourceCause, SourceFault, parse};
 use ed_words::Size;
 use std::alloc::Global;
+use std::process::Abort;
 
 /// A source, linked for a machine of a size.
 pub fn linked(alloc: Global, size: Size, text: &[u8]) -> Option<Linked> {
@@ -21,5 +22,18 @@ pub fn fault_of(alloc: Global, size: Size, text: &[u8]) -> Option<(u32, Option<S
         None => Some((0, None)),
         Some(SourceFault::At { line, cause }) => Some((line, Some(cause))),
         Some(SourceFault::Memory) => None,
+    }
+}
+
+/// A source, and its first fault with its line; line 0 if it has none.
+pub type Row = (&'static [u8], u32, Option<SourceCause>);
+
+/// Checks the first faults of sources.
+pub fn expect_faults(rt: &impl Abort, alloc: Global, size: Size, rows: &[Row]) {
+    for (text, line, cause) in rows {
+        assert!(rt;
+            fault_of(alloc, size, text) == Some((*line, *cause)),
+            "{text:?}"
+        );
     }
 }

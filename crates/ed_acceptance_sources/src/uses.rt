@@ -1,7 +1,8 @@
 //! Uses of the library's routines in a source: their words with preset parameters, and the faults of a use.
 
-use ed_link::link;
-use ed_syntax::{SourceCause, SourceFault, parse};
+use crate::support::{Row, expect_faults, linked};
+use ed_link::Linked;
+use ed_syntax::SourceCause::{NoSuchRoutine, Parameters};
 use ed_words::Size;
 use std::test::Fail;
 
@@ -10,53 +11,58 @@ const TWO_PRINTS: &[u8] =
     b"segment main\na: A a F\nG p F\nb: A b F\nG q F\nZ F\nx: word 7\ny: word 12\n\
     use print as p with H=x\nuse print as q with H=y\nenter main\n";
 
+/// The words at locations of its program.
+const WORDS: [(u16, Option<u32>); 5] = [
+    (45, Some(124)),
+    (64, Some(114_694)),
+    (67, Some(114_810)),
+    (115, None),
+    (119, Some(114_812)),
+];
+
+const FAULTS: [Row; 4] = [
+    (
+        b"segment m\nZ F\nx: P F\nuse print as p\nenter m",
+        4,
+        Some(Parameters),
+    ),
+    (
+        b"segment m\nZ F\nx: P F\nuse sine as p\nenter m",
+        4,
+        Some(NoSuchRoutine),
+    ),
+    (
+        b"segment m\nZ F\nx: P F\nuse read as p with N=x\nenter m",
+        4,
+        Some(Parameters),
+    ),
+    (
+        b"segment m\nZ F\nx: P F\nuse newline as p with H=x\nenter m",
+        4,
+        Some(Parameters),
+    ),
+];
+
+/// The word at a location of a linked program.
+fn word_at(linked: &Linked, place: u16) -> Option<u32> {
+    for placed in &linked.words {
+        if placed.place == place {
+            return Some(placed.word.value());
+        }
+    }
+    None
+}
+
 #[test]
 fn each_use_has_its_own_parameters(rt: HostRuntime) -> Result<(), Fail> {
-    let program = parse(rt.alloc(), TWO_PRINTS).ok().expect(&rt, "a program");
-    let linked = link(rt.alloc(), Size::Full, &program)
-        .ok()
-        .expect(&rt, "a linked program");
-    for (place, word) in [
-        (45, Some(124)),
-        (64, Some(114_694)),
-        (67, Some(114_810)),
-        (115, None),
-        (119, Some(114_812)),
-    ] {
-        let mut found = linked.words.iter().filter(|placed| placed.place == place);
-        let value = found.next().map(|placed| placed.word.value());
-        assert_eq!(rt; value, word, "{place}");
+    let linked = linked(rt.alloc(), Size::Full, TWO_PRINTS).ok_or("a fault")?;
+    for (place, word) in WORDS {
+        assert!(rt; word_at(&linked, place) == word, "{place}");
     }
     Ok(())
 }
 
 #[test]
-fn faults_of_a_use(rt: HostRuntime) -> Result<(), Fail> {
-    let cases: [(&[u8], SourceCause); 4] = [
-        (
-            b"segment m\nZ F\nx: P F\nuse print as p\nenter m",
-            SourceCause::Parameters,
-        ),
-        (
-            b"segment m\nZ F\nx: P F\nuse sine as p\nenter m",
-            SourceCause::NoSuchRoutine,
-        ),
-        (
-            b"segment m\nZ F\nx: P F\nuse read as p with N=x\nenter m",
-            SourceCause::Parameters,
-        ),
-        (
-            b"segment m\nZ F\nx: P F\nuse newline as p with H=x\nenter m",
-            SourceCause::Parameters,
-        ),
-    ];
-    for (text, cause) in cases {
-        let program = parse(rt.alloc(), text).ok().expect(&rt, "a program");
-        let fault = link(rt.alloc(), Size::Full, &program).err();
-        assert!(rt;
-            fault == Some(SourceFault::At { line: 4, cause }),
-            "{text:?}"
-        );
-    }
-    Ok(())
+fn faults_of_a_use(rt: HostRuntime) {
+    expect_faults(&rt, rt.alloc(), Size::Full, &FAULTS);
 }

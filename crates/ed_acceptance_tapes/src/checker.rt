@@ -26,20 +26,61 @@ fn directive(rt: &impl Abort, number: u32) -> Result<Word, Fail>
     Ok(directive)
 }
 
+/// The word at the location of θ before the check, a tape, the θ that it leaves, a location, the word that it places
+/// there, and its cost.
+type Row = (u32, &'static str, u32, u16, Option<u32>, u64);
+
+const TAPES: [Row; 17] = [
+    // The words that a tape places.
+    (0, "T64KP32767DE64KPF", 0, 64, Some(65535), 176),
+    (0, "T64KP32767DE64KPF", 0, 65, None, 176),
+    (0, "T64KGKA2#@EZPF", 128, 64, Some(114_821), 160),
+    (0, "T64KGKA2#@EZPF", 128, 63, None, 160),
+    (0, "T45KP100FT64KA1HE64KPF", 0, 45, Some(200), 230),
+    (0, "T45KP100FT64KA1HE64KPF", 0, 64, Some(114_890), 230),
+    // One tape for each way of setting the directive and θ, and for each kind of ending. T 64 K is the directive
+    // 20,608, which is 4096 · 5 + 2 · 64.
+    // Blank with K sets θ to 4096 · 16 + 2n and the directive; G with K to 4096 · 27 + 2n and the directive, less 2^17.
+    (0, "T64K.3KP@E64KPF", 86_150, 64, Some(86_150), 162),
+    (0, "T64KG5KP@E64KPF", 138, 64, Some(138), 162),
+    // A blank pair sets θ to the directive.
+    (0, "T64K..P@E64KPF", 20_608, 64, Some(20_608), 151),
+    // Blank with Z sets θ to 65536 + 2n, θ and the directive, here 138 and 20,608.
+    (0, "T64KG5K.2ZP@E64KPF", 86_286, 64, Some(86_286), 194),
+    // T with Z adds θ to the directive: θ is 120, and T 4 Z aims at 64.
+    (0, "T60KGKT4ZP7FE64KPF", 120, 64, Some(14), 194),
+    // E with Z adds θ, 128, to the entry's address.
+    (0, "T64KGKP7FEZPF", 128, 64, Some(14), 145),
+    // A code letter adds the content of 24 and its code: V is 31, and 100 F at 55 is the number 200.
+    (0, "T55KP100FT64KA1VE64KPF", 0, 64, Some(114_890), 230),
+    // D is 1, and π is 1 more.
+    (0, "T64KP2#FE64KPF", 0, 64, Some(5), 155),
+    (0, "T64KP2DE64KPF", 0, 64, Some(5), 140),
+    // The checker begins with the word at the location of θ.
+    (5, "T64KA@E64KPF", 5, 64, Some(114_693), 131),
+    (5, ".ZT64KA@E64KPF", 86_109, 64, Some(69_725), 154),
+];
+
+/// A store with a word at the location of θ.
+fn store_with_theta(alloc: Global, theta: u32) -> Result<Store, Fail> {
+    let mut store = Store::cleared(alloc)?;
+    store.put_short(42, Word::new(theta).ok_or("no word")?);
+    Ok(store)
+}
+
 #[test]
-fn the_checker_tells_the_words_that_a_tape_places(rt: HostRuntime) -> Result<(), Fail> {
+fn each_tape_is_checked_to_its_entry(rt: HostRuntime) -> Result<(), Fail> {
     let alloc = rt.alloc();
-    for (tape, theta, address, word) in [
-        ("T64KP32767DE64KPF", 0, 64, Some(65535)),
-        ("T64KP32767DE64KPF", 0, 65, None),
-        ("T64KGKA2#@EZPF", 128, 64, Some(114_821)),
-        ("T64KGKA2#@EZPF", 128, 63, None),
-        ("T45KP100FT64KA1HE64KPF", 0, 45, Some(200)),
-        ("T45KP100FT64KA1HE64KPF", 0, 64, Some(114_890)),
-    ] {
+    for (before, tape, theta, address, word, orders) in TAPES {
         let rows = rows_of(&rt, alloc, tape)?;
-        let checked = check(alloc, Size::Full, &Store::cleared(alloc)?, &rows)?;
-        assert_eq!(rt; checked.theta().value(), theta, "{tape}");
+        let checked = check(alloc, Size::Full, &store_with_theta(alloc, before)?, &rows)?;
+        let told = (
+            checked.entry(),
+            checked.rows(),
+            checked.orders(),
+            checked.theta().value(),
+        );
+        assert!(rt; told == (64, rows.len(), orders, theta), "{tape}: {told:?}");
         assert!(rt;
             placed(&rt, &checked, address) == word,
             "{address} of {tape}"
@@ -48,77 +89,11 @@ fn the_checker_tells_the_words_that_a_tape_places(rt: HostRuntime) -> Result<(),
     Ok(())
 }
 
-/// One tape for each way of setting the directive and θ, and for each kind of ending: the θ that it leaves, the word
-/// that it places at 64, and its cost. T 64 K is the directive 20,608, which is 4096 · 5 + 2 · 64.
-const LINES: [(&str, u32, u32, u64); 9] = [
-    // Blank with K sets θ to 4096 · 16 + 2n and the directive; G with K to 4096 · 27 + 2n and the directive, less 2^17.
-    ("T64K.3KP@E64KPF", 86_150, 86_150, 162),
-    ("T64KG5KP@E64KPF", 138, 138, 162),
-    // A blank pair sets θ to the directive.
-    ("T64K..P@E64KPF", 20_608, 20_608, 151),
-    // Blank with Z sets θ to 65536 + 2n, θ and the directive, here 138 and 20,608.
-    ("T64KG5K.2ZP@E64KPF", 86_286, 86_286, 194),
-    // T with Z adds θ to the directive: θ is 120, and T 4 Z aims at 64.
-    ("T60KGKT4ZP7FE64KPF", 120, 14, 194),
-    // E with Z adds θ, 128, to the entry's address.
-    ("T64KGKP7FEZPF", 128, 14, 145),
-    // A code letter adds the content of 24 and its code: V is 31, and 100 F at 55 is the number 200.
-    ("T55KP100FT64KA1VE64KPF", 0, 114_890, 230),
-    // D is 1, and π is 1 more.
-    ("T64KP2#FE64KPF", 0, 5, 155),
-    ("T64KP2DE64KPF", 0, 5, 140),
-];
-
-#[test]
-fn each_line_of_the_notation(rt: HostRuntime) -> Result<(), Fail> {
-    let alloc = rt.alloc();
-    for (tape, theta, word, orders) in LINES {
-        let rows = rows_of(&rt, alloc, tape)?;
-        let checked = check(alloc, Size::Full, &Store::cleared(alloc)?, &rows)?;
-        let told = (
-            checked.theta().value(),
-            placed(&rt, &checked, 64),
-            checked.orders(),
-        );
-        assert!(rt; told == (theta, Some(word), orders), "{tape}: {told:?}");
-    }
-    Ok(())
-}
-
-/// A store with 5 at the location of θ.
-fn store_with_theta(alloc: Global) -> Result<Store, Fail> {
-    let mut store = Store::cleared(alloc)?;
-    store.put_short(42, Word::new(5).ok_or("no word")?);
-    Ok(store)
-}
-
-#[test]
-fn the_checker_begins_with_the_word_at_42(rt: HostRuntime) -> Result<(), Fail> {
-    let alloc = rt.alloc();
-    let store = store_with_theta(alloc)?;
-    for (tape, theta, word, orders, rows_read) in [
-        ("T64KA@E64KPF", 5, 114_693, 131, 12),
-        (".ZT64KA@E64KPF", 86_109, 69_725, 154, 14),
-    ] {
-        let rows = rows_of(&rt, alloc, tape)?;
-        let checked = check(alloc, Size::Full, &store, &rows)?;
-        let told = (
-            checked.entry(),
-            checked.orders(),
-            checked.rows(),
-            checked.theta().value(),
-        );
-        assert!(rt; told == (64, orders, rows_read, theta), "{tape}");
-        assert!(rt; placed(&rt, &checked, 64) == Some(word), "{tape}");
-    }
-    Ok(())
-}
-
 #[test]
 fn an_odd_directive_is_refused(rt: HostRuntime) -> Result<(), Fail> {
     let alloc = rt.alloc();
     let rows = rows_of(&rt, alloc, "T59Z")?;
-    let fault = check(alloc, Size::Full, &store_with_theta(alloc)?, &rows).err();
+    let fault = check(alloc, Size::Full, &store_with_theta(alloc, 5)?, &rows).err();
     let (row, cause) = (3, TapeCause::StoreEnd);
     assert!(rt; fault == Some(TapeFault::At { row, cause }));
     Ok(())

@@ -42,22 +42,48 @@ fn first_difference(paper: &Paper, wanted: &[u8]) -> Option<usize> {
     None
 }
 
+/// Post-mortems that are refused on a paper with room for six codes: the size of the store, the first location, the
+/// number of words, and the fault.
+const REFUSED: [(Size, u16, u16, PmFault); 6] = [
+    (Size::Full, 143, 1, PmFault::InItsOwnStore),
+    (Size::Full, 143, 1000, PmFault::InItsOwnStore),
+    (Size::Full, 1000, 25, PmFault::StoreEnd),
+    (Size::Full, 65_535, 65_535, PmFault::StoreEnd),
+    (Size::Small, 144, 369, PmFault::StoreEnd),
+    (
+        Size::Full,
+        144,
+        1,
+        PmFault::PaperFull { needed: 8, room: 6 },
+    ),
+];
+
+/// Tapes, the first location, the number of words, the codes that are printed, and the orders.
+const PRINTED: [(&str, u16, u16, &[u8], u64); 3] = [
+    ("E144KPF", 144, 1, &[15, 0, 11, 0, 15, 17, 18, 24], 3443),
+    (
+        "T144KO66F*2047DE144KPF",
+        144,
+        2,
+        &[
+            15, 9, 11, 6, 6, 15, 17, 18, 24, 15, 15, 11, 2, 0, 4, 7, 15, 19, 18, 24,
+        ],
+        3639,
+    ),
+    ("E144KPF", 1024, 0, &[], 3358),
+];
+
+/// The first location, the number of words, and the lines that a machine of 512 locations prints.
+const PRINTED_OF_512: [(u16, u16, usize); 3] = [(144, 368, 368), (511, 1, 1), (512, 0, 0)];
+
 #[test]
 fn refusals_come_in_their_order_and_change_nothing(rt: HostRuntime) -> Result<(), Fail> {
     let alloc = rt.alloc();
-    let (needed, room) = (8, 6);
-    for (size, first, count, fault) in [
-        (Size::Full, 143, 1, PmFault::InItsOwnStore),
-        (Size::Full, 143, 1000, PmFault::InItsOwnStore),
-        (Size::Full, 1000, 25, PmFault::StoreEnd),
-        (Size::Full, 65_535, 65_535, PmFault::StoreEnd),
-        (Size::Small, 144, 369, PmFault::StoreEnd),
-        (Size::Full, 144, 1, PmFault::PaperFull { needed, room }),
-    ] {
-        let mut machine = Machine::cleared_of(alloc, size)?;
-        let mut paper = Paper::new(alloc, room)?;
-        let answer = printed(&rt, alloc, &mut machine, first, count, &mut paper);
-        assert!(rt; answer == Err(fault), "{first} and {count}");
+    for (size, first, count, fault) in &REFUSED {
+        let mut machine = Machine::cleared_of(alloc, *size)?;
+        let mut paper = Paper::new(alloc, 6)?;
+        let answer = printed(&rt, alloc, &mut machine, *first, *count, &mut paper);
+        assert!(rt; answer == Err(*fault), "{first} and {count}");
         assert!(rt; machine.orders_done() == 0 && machine.word(0).value() == 0);
         assert!(rt; paper.codes().is_empty());
     }
@@ -67,27 +93,16 @@ fn refusals_come_in_their_order_and_change_nothing(rt: HostRuntime) -> Result<()
 #[test]
 fn words_are_printed_at_their_cost(rt: HostRuntime) -> Result<(), Fail> {
     let alloc = rt.alloc();
-    let words: [u8; 20] = [
-        15, 9, 11, 6, 6, 15, 17, 18, 24, 15, 15, 11, 2, 0, 4, 7, 15, 19, 18, 24,
-    ];
-    for (tape, first, count, codes, orders) in [
-        ("E144KPF", 144, 1, &[15, 0, 11, 0, 15, 17, 18, 24][..], 3443),
-        ("T144KO66F*2047DE144KPF", 144, 2, &words[..], 3639),
-        ("E144KPF", 1024, 0, &[][..], 3358),
-    ] {
+    for (tape, first, count, codes, orders) in PRINTED {
         let mut machine = Machine::cleared(alloc)?;
         start_on(alloc, &mut machine, tape)?;
         loaded(&rt, &mut machine);
         let before = machine.orders_done();
         let mut paper = Paper::new(alloc, codes.len())?;
         let answer = printed(&rt, alloc, &mut machine, first, count, &mut paper);
-        assert!(rt; answer == Ok(orders), "{tape}");
-        assert!(rt;
-            machine.orders_done().checked_sub(before) == Some(orders),
-            "{tape}"
-        );
-        let differs = first_difference(&paper, codes);
-        assert!(rt; differs.is_none(), "{differs:?} of {tape}");
+        let obeyed = machine.orders_done().checked_sub(before);
+        assert!(rt; answer == Ok(orders) && obeyed == Some(orders), "{tape}");
+        assert!(rt; first_difference(&paper, codes).is_none(), "{tape}");
     }
     Ok(())
 }
@@ -95,7 +110,7 @@ fn words_are_printed_at_their_cost(rt: HostRuntime) -> Result<(), Fail> {
 #[test]
 fn a_machine_of_512_locations_prints_up_to_its_end(rt: HostRuntime) -> Result<(), Fail> {
     let alloc = rt.alloc();
-    for (first, count, lines) in [(144, 368, 368), (511, 1, 1), (512, 0, 0)] {
+    for (first, count, lines) in PRINTED_OF_512 {
         let mut machine = Machine::cleared_of(alloc, Size::Small)?;
         let mut paper = Paper::new(alloc, ROOM)?;
         assert!(rt; printed(&rt, alloc, &mut machine, first, count, &mut paper).is_ok());

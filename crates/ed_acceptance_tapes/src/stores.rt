@@ -56,17 +56,19 @@ fn is_as_checked(rt: &impl Abort, alloc: Global, size: Size, tape: &str) -> Resu
     Ok(())
 }
 
+const TAPES: [(Size, &str); 7] = [
+    (Size::Small, LETTER),
+    (Size::Full, LETTER),
+    (Size::Full, "..PKT64KGKO2@ZFAFEZPF"),
+    (Size::Small, "T45KP100FT64KA1HT100KA1!E64KPF"),
+    (Size::Full, "T45KP100FT64KA1HT100KA1!E64KPF"),
+    (Size::Small, "T44K#FT500KP1DA2#DP3@E500KPD"),
+    (Size::Full, "T44K#FT500KP1DA2#DP3@E500KPD"),
+];
+
 #[test]
 fn the_store_at_the_entry_is_what_the_checker_tells(rt: HostRuntime) -> Result<(), Fail> {
-    for (size, tape) in [
-        (Size::Small, LETTER),
-        (Size::Full, LETTER),
-        (Size::Full, "..PKT64KGKO2@ZFAFEZPF"),
-        (Size::Small, "T45KP100FT64KA1HT100KA1!E64KPF"),
-        (Size::Full, "T45KP100FT64KA1HT100KA1!E64KPF"),
-        (Size::Small, "T44K#FT500KP1DA2#DP3@E500KPD"),
-        (Size::Full, "T44K#FT500KP1DA2#DP3@E500KPD"),
-    ] {
+    for (size, tape) in TAPES {
         is_as_checked(&rt, rt.alloc(), size, tape)?;
     }
     Ok(())
