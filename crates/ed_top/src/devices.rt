@@ -1,4 +1,4 @@
-ghost use Rattle.std.specs.Prelude.{◌≡◌, ◌≢◌, ◌⊎◌, ◌≤◌, ◌<◌, length, IfOk, IfErr, MatchResult};
+ghost use Rattle.std.specs.Prelude.{◌≡◌, ◌≢◌, ◌⊎◌, ◌+◌, ◌≤◌, ◌<◌, length, IfOk, IfErr, MatchResult};
 ghost use Rattle.ed_io.specs.Bytes.{IsAtEnd, Loses};
 ghost use Rattle.ed_top.specs.Clause.{WritesLastLine, device};
 ghost use Rattle.ed_top.specs.Private.Stages.{HasInput, WritesReply, WritesText, input_faults};

@@ -1,6 +1,6 @@
 -- How the stages of the program relate to the outcome that is due: the input, what a command replies or writes, and the
 -- last line.
-use Rattle.std.specs.Prelude.{◌≡◌, ℕ, ◌<◌, ◌≤◌, Bool, true, false, [], length, Result, Ok, Err, Vec}
+use Rattle.std.specs.Prelude.{◌≡◌, ℕ, ◌+◌, ◌<◌, ◌≤◌, Bool, true, false, [], length, Result, Ok, Err, Vec}
 use Rattle.std.specs.declared.alloc.Global.{Global}
 use Rattle.ed_io.specs.Bytes.{IsAtEnd, Loses}
 use Rattle.ed_io.specs.Causes.{next_count}
