@@ -1,7 +1,6 @@
 //! Each program compared with a plain computation.
 
 use crate::support::{first_tape_prints, parts_are, prints, tape_prints};
-use Program::{Add, Fraction, Greatest, Hello, Interlude, Mirror, Multiply, Sort};
 use ed_programs::{
     Refusal, add_program, difference_program, fraction_program, greatest_program, hello_program,
     interlude_program, mirror_program, multiply_program, sort_program, squares_program,
@@ -269,71 +268,93 @@ const DOUBLED: [u16; 20] = [
     34, 35, 49, 50, 51, 52, 53, 54, 64, 98, 99, 100, 101, 127, 128, 254, 255, 256, 509, 510,
 ];
 
-/// A program with its data.
-enum Program {
-    Hello(&'static str),
-    Multiply(u16, u16, u16),
-    Add(u16, u16),
-    Greatest(&'static [u16]),
-    Sort(&'static [u16]),
-    Fraction(u16, u16, u16),
-    Mirror(&'static str),
-    Interlude(u16),
-}
-
-/// Data out of range, and why they are refused.
-const REFUSED: [(Program, Refusal); 28] = [
-    (Hello(""), Refusal::Length),
-    (
-        Hello("THEQUICKBROWNFOXJUMPSOVERTHELAZYDOGSVWXYZ"),
-        Refusal::Length,
-    ),
-    (Hello("Hello"), Refusal::Letter),
-    (Hello("ONE MORE"), Refusal::Letter),
-    (Multiply(256, 256, 1), Refusal::Number),
-    (Multiply(1, 1, 256), Refusal::Number),
-    (Multiply(65535, 65535, 0), Refusal::Number),
-    (Multiply(0, 0, 65535), Refusal::Number),
-    (Add(65535, 1), Refusal::Number),
-    (Add(1, 65535), Refusal::Number),
-    (Add(32768, 32768), Refusal::Number),
-    (Add(65535, 65535), Refusal::Number),
-    (Greatest(&[]), Refusal::Count),
-    (Greatest(&[1, 2, 3, 4, 5, 6, 7]), Refusal::Count),
-    (Greatest(&[1, 2, 3, 4, 5, 6, 7, 8, 9]), Refusal::Count),
-    (Sort(&[1, 2, 3, 4, 5, 6, 7, 8, 9]), Refusal::Count),
-    (Sort(&[1, 2, 3, 4, 5, 6, 7, 8, 9, 10, 11]), Refusal::Count),
-    (Fraction(1, 0, 5), Refusal::Divisor),
-    (Fraction(1, 6554, 5), Refusal::Divisor),
-    (Fraction(1, 65535, 5), Refusal::Divisor),
-    (Mirror(""), Refusal::Length),
-    (Mirror("ABCDEFGHIJ"), Refusal::Length),
-    (Mirror("Edsac"), Refusal::Letter),
-    (Mirror("AB#CD"), Refusal::Letter),
-    (Interlude(0), Refusal::Place),
-    (Interlude(33), Refusal::Place),
-    (Interlude(511), Refusal::Place),
-    (Interlude(65535), Refusal::Place),
+/// Letters that `hello` refuses, and why.
+const NO_HELLO: [(&str, Refusal); 4] = [
+    ("", Refusal::Length),
+    ("THEQUICKBROWNFOXJUMPSOVERTHELAZYDOGSVWXYZ", Refusal::Length),
+    ("Hello", Refusal::Letter),
+    ("ONE MORE", Refusal::Letter),
 ];
 
-/// The text of a program.
-fn text_of(alloc: Global, program: &Program) -> Result<String, Refusal> {
-    match program {
-        Hello(letters) => hello_program(alloc, letters),
-        Multiply(left, right, root) => multiply_program(alloc, *left, *right, *root),
-        Add(first, second) => add_program(alloc, *first, *second),
-        Greatest(numbers) => greatest_program(alloc, numbers),
-        Sort(numbers) => sort_program(alloc, numbers),
-        Fraction(upper, lower, places) => fraction_program(alloc, *upper, *lower, *places),
-        Mirror(letters) => mirror_program(alloc, letters),
-        Interlude(number) => interlude_program(alloc, *number),
+/// Letters that `mirror` refuses, and why.
+const NO_MIRROR: [(&str, Refusal); 4] = [
+    ("", Refusal::Length),
+    ("ABCDEFGHIJ", Refusal::Length),
+    ("Edsac", Refusal::Letter),
+    ("AB#CD", Refusal::Letter),
+];
+
+/// Factors of too large a product, and numbers of too large a square.
+const NO_PRODUCTS: [(u16, u16, u16); 4] = [
+    (256, 256, 1),
+    (1, 1, 256),
+    (65535, 65535, 0),
+    (0, 0, 65535),
+];
+
+/// Numbers of too large a sum.
+const NO_SUMS: [(u16, u16); 4] = [(65535, 1), (1, 65535), (32768, 32768), (65535, 65535)];
+
+/// Numbers that are not eight.
+const NO_EIGHTS: [&[u16]; 3] = [&[], &[1, 2, 3, 4, 5, 6, 7], &[1, 2, 3, 4, 5, 6, 7, 8, 9]];
+
+/// Numbers that are not ten.
+const NO_TENS: [&[u16]; 2] = [
+    &[1, 2, 3, 4, 5, 6, 7, 8, 9],
+    &[1, 2, 3, 4, 5, 6, 7, 8, 9, 10, 11],
+];
+
+#[test]
+fn other_letters_are_refused(rt: HostRuntime) {
+    for (letters, cause) in NO_HELLO {
+        assert!(rt;
+            hello_program(rt.alloc(), letters) == Err(cause),
+            "{letters}"
+        );
+    }
+    for (letters, cause) in NO_MIRROR {
+        assert!(rt;
+            mirror_program(rt.alloc(), letters) == Err(cause),
+            "{letters}"
+        );
     }
 }
 
 #[test]
-fn data_out_of_range_are_refused(rt: HostRuntime) {
-    for (row, (program, cause)) in REFUSED.iter().enumerate() {
-        assert!(rt; text_of(rt.alloc(), program) == Err(*cause), "row {row}");
+fn numbers_out_of_range_are_refused(rt: HostRuntime) {
+    let alloc = rt.alloc();
+    for (left, right, root) in NO_PRODUCTS {
+        let program = multiply_program(alloc, left, right, root);
+        assert!(rt;
+            program == Err(Refusal::Number),
+            "{left}, {right} and {root}"
+        );
+    }
+    for (first, second) in NO_SUMS {
+        let program = add_program(alloc, first, second);
+        assert!(rt; program == Err(Refusal::Number), "{first} and {second}");
+    }
+    for lower in [0, 6554, 65535] {
+        let program = fraction_program(alloc, 1, lower, 5);
+        assert!(rt; program == Err(Refusal::Divisor), "{lower}");
+    }
+    for number in [0, 33, 511, 65535] {
+        assert!(rt;
+            interlude_program(alloc, number) == Err(Refusal::Place),
+            "{number}"
+        );
+    }
+}
+
+#[test]
+fn too_few_and_too_many_numbers_are_refused(rt: HostRuntime) {
+    for numbers in NO_EIGHTS {
+        let program = greatest_program(rt.alloc(), numbers);
+        assert!(rt; program == Err(Refusal::Count), "{numbers:?}");
+    }
+    for numbers in NO_TENS {
+        let program = sort_program(rt.alloc(), numbers);
+        assert!(rt; program == Err(Refusal::Count), "{numbers:?}");
     }
 }
 

@@ -14,18 +14,18 @@ const FIRST: &[u8] = b"segment main\nO mark F\nO letter F\nZ F\nmark: * F\nlette
 const ODD: &[u8] =
     b"version 2\nsegment m\n_x: Z F\nuse newline as n\nsegment s\n_x: long 1\nq: text \"ABC\"\nr: word 1";
 
-/// What is asked about a line of a source.
+/// What is asked about a line of a source, and about a name.
 enum Question {
     /// The location before the line.
     Place,
-    /// The location of a name in the source.
-    PlaceOf(&'static str),
-    /// The location of a name that the line sees.
-    PlaceSeen(&'static str),
+    /// The location of the name in the source.
+    PlaceOf,
+    /// The location of the name that the line sees.
+    PlaceSeen,
     /// The segment to which the line belongs, by its number.
     Segment,
-    /// The segment of a name that the line sees; WHOLE if the name is known in the whole source.
-    SegmentSeen(&'static str),
+    /// The segment of the name that the line sees; WHOLE if the name is known in the whole source.
+    SegmentSeen,
 }
 
 use Question::{Place, PlaceOf, PlaceSeen, Segment, SegmentSeen};
@@ -33,72 +33,72 @@ use Question::{Place, PlaceOf, PlaceSeen, Segment, SegmentSeen};
 /// No segment's number.
 const WHOLE: u32 = 0;
 
-/// A line, a question about it, and the answer.
-type Row = (u32, Question, Option<u32>);
+/// A line, a question, the name that it is about, if any, and the answer.
+type Row = (u32, Question, &'static str, Option<u32>);
 
 const IN_FIRST: [Row; 12] = [
     // The location before a line.
-    (1, Place, Some(56)),
-    (2, Place, Some(56)),
-    (3, Place, Some(57)),
-    (4, Place, Some(58)),
-    (5, Place, Some(59)),
-    (6, Place, Some(60)),
-    (7, Place, Some(61)),
-    (8, Place, None),
+    (1, Place, "", Some(56)),
+    (2, Place, "", Some(56)),
+    (3, Place, "", Some(57)),
+    (4, Place, "", Some(58)),
+    (5, Place, "", Some(59)),
+    (6, Place, "", Some(60)),
+    (7, Place, "", Some(61)),
+    (8, Place, "", None),
     // The location of a name.
-    (1, PlaceOf("mark"), Some(59)),
-    (1, PlaceOf("letter"), Some(60)),
-    (1, PlaceOf("main"), Some(56)),
-    (1, PlaceOf("other"), None),
+    (1, PlaceOf, "mark", Some(59)),
+    (1, PlaceOf, "letter", Some(60)),
+    (1, PlaceOf, "main", Some(56)),
+    (1, PlaceOf, "other", None),
 ];
 
 const IN_ODD: [Row; 40] = [
     // The location before a line.
-    (2, Place, Some(56)),
-    (3, Place, Some(56)),
-    (4, Place, Some(57)),
-    (5, Place, Some(65)),
-    (6, Place, Some(65)),
-    (7, Place, Some(68)),
-    (8, Place, Some(71)),
+    (2, Place, "", Some(56)),
+    (3, Place, "", Some(56)),
+    (4, Place, "", Some(57)),
+    (5, Place, "", Some(65)),
+    (6, Place, "", Some(65)),
+    (7, Place, "", Some(68)),
+    (8, Place, "", Some(71)),
     // The location of a name.
-    (1, PlaceOf("m"), Some(56)),
-    (1, PlaceOf("n"), Some(58)),
-    (1, PlaceOf("s"), Some(65)),
-    (1, PlaceOf("q"), Some(68)),
-    (1, PlaceOf("r"), Some(71)),
+    (1, PlaceOf, "m", Some(56)),
+    (1, PlaceOf, "n", Some(58)),
+    (1, PlaceOf, "s", Some(65)),
+    (1, PlaceOf, "q", Some(68)),
+    (1, PlaceOf, "r", Some(71)),
     // The location of a name that a line sees.
-    (1, PlaceSeen("_x"), None),
-    (2, PlaceSeen("_x"), Some(56)),
-    (3, PlaceSeen("_x"), Some(56)),
-    (4, PlaceSeen("_x"), None),
-    (5, PlaceSeen("_x"), Some(66)),
-    (8, PlaceSeen("_x"), Some(66)),
-    (8, PlaceSeen("q"), Some(68)),
-    (1, PlaceSeen("q"), Some(68)),
-    (9, PlaceSeen("q"), None),
+    (1, PlaceSeen, "_x", None),
+    (2, PlaceSeen, "_x", Some(56)),
+    (3, PlaceSeen, "_x", Some(56)),
+    (4, PlaceSeen, "_x", None),
+    (5, PlaceSeen, "_x", Some(66)),
+    (8, PlaceSeen, "_x", Some(66)),
+    (8, PlaceSeen, "q", Some(68)),
+    (1, PlaceSeen, "q", Some(68)),
+    (9, PlaceSeen, "q", None),
     // The segment of a line, by its number.
-    (1, Segment, None),
-    (2, Segment, Some(1)),
-    (3, Segment, Some(1)),
-    (4, Segment, None),
-    (5, Segment, Some(3)),
-    (6, Segment, Some(3)),
-    (7, Segment, Some(3)),
-    (8, Segment, Some(3)),
-    (9, Segment, None),
+    (1, Segment, "", None),
+    (2, Segment, "", Some(1)),
+    (3, Segment, "", Some(1)),
+    (4, Segment, "", None),
+    (5, Segment, "", Some(3)),
+    (6, Segment, "", Some(3)),
+    (7, Segment, "", Some(3)),
+    (8, Segment, "", Some(3)),
+    (9, Segment, "", None),
     // The segment of a name that a line sees.
-    (1, SegmentSeen("m"), Some(1)),
-    (2, SegmentSeen("m"), Some(1)),
-    (1, SegmentSeen("n"), Some(WHOLE)),
-    (1, SegmentSeen("s"), Some(3)),
-    (3, SegmentSeen("q"), Some(3)),
-    (1, SegmentSeen("_x"), None),
-    (2, SegmentSeen("_x"), Some(1)),
-    (8, SegmentSeen("_x"), Some(3)),
-    (4, SegmentSeen("_x"), None),
-    (8, SegmentSeen("other"), None),
+    (1, SegmentSeen, "m", Some(1)),
+    (2, SegmentSeen, "m", Some(1)),
+    (1, SegmentSeen, "n", Some(WHOLE)),
+    (1, SegmentSeen, "s", Some(3)),
+    (3, SegmentSeen, "q", Some(3)),
+    (1, SegmentSeen, "_x", None),
+    (2, SegmentSeen, "_x", Some(1)),
+    (8, SegmentSeen, "_x", Some(3)),
+    (4, SegmentSeen, "_x", None),
+    (8, SegmentSeen, "other", None),
 ];
 
 /// Sources, and the first faults of their names with their lines; line 0 if there is none.
@@ -170,7 +170,7 @@ fn resolved(alloc: Global, text: &[u8]) -> Option<Places> {
 }
 
 /// The answer to a question about a line of a source.
-fn answer(alloc: Global, text: &[u8], line: u32, question: &Question) -> Option<u32> {
+fn answer(alloc: Global, text: &[u8], line: u32, question: &Question, name: &str) -> Option<u32> {
     let program = parse(alloc, text).ok()?;
     let places = resolve(alloc, &program).ok()?;
     if line == 0 || program.lines.len() < line as usize {
@@ -178,10 +178,10 @@ fn answer(alloc: Global, text: &[u8], line: u32, question: &Question) -> Option<
     }
     match question {
         Place => Some(places.line_place(line)),
-        PlaceOf(name) => places.label(&Name::new(name)?),
-        PlaceSeen(name) => places.label_at(line, &Name::new(name)?),
+        PlaceOf => places.label(&Name::new(name)?),
+        PlaceSeen => places.label_at(line, &Name::new(name)?),
         Segment => places.line_segment(line),
-        SegmentSeen(name) => {
+        SegmentSeen => {
             let definition = places.home_at(line, &Name::new(name)?)?;
             Some(definition.segment.unwrap_or(WHOLE))
         }
@@ -190,11 +190,9 @@ fn answer(alloc: Global, text: &[u8], line: u32, question: &Question) -> Option<
 
 /// Checks the answers to questions about a source.
 fn expect_each(rt: &impl Abort, alloc: Global, text: &[u8], rows: &[Row]) {
-    for (row, (line, question, wanted)) in rows.iter().enumerate() {
-        assert!(rt;
-            answer(alloc, text, *line, question) == *wanted,
-            "row {row} of {text:?}"
-        );
+    for (row, (line, question, name, wanted)) in rows.iter().enumerate() {
+        let found = answer(alloc, text, *line, question, name);
+        assert!(rt; found == *wanted, "row {row} of {text:?}");
     }
 }
 
@@ -203,9 +201,9 @@ fn where_lines_and_names_stand(rt: HostRuntime) {
     expect_each(&rt, rt.alloc(), FIRST, &IN_FIRST);
     expect_each(&rt, rt.alloc(), ODD, &IN_ODD);
     let last = b"segment a at 1023\nZ F\nZ F";
-    expect_each(&rt, rt.alloc(), last, &[(3, Place, Some(1024))]);
+    expect_each(&rt, rt.alloc(), last, &[(3, Place, "", Some(1024))]);
     let twice = b"a: Z F\na: Z F";
-    expect_each(&rt, rt.alloc(), twice, &[(1, PlaceOf("a"), Some(56))]);
+    expect_each(&rt, rt.alloc(), twice, &[(1, PlaceOf, "a", Some(56))]);
 }
 
 #[test]
