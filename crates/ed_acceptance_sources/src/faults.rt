@@ -120,14 +120,24 @@ fn expect(
     Ok(())
 }
 
+/// Checks that a program of two pairs of lines has the fault of the first pair.
+fn expect_first(
+    rt: &impl Abort,
+    alloc: Global,
+    first: &str,
+    second: &str,
+    number: usize,
+) -> Result<(), Fail> {
+    let both = format!(in alloc; "{first}{second}")?;
+    expect(rt, alloc, &both, 5, number)
+}
+
 #[test]
 fn each_fault_alone_and_two_on_two_lines(rt: HostRuntime) -> Result<(), Fail> {
-    let alloc = rt.alloc();
-    for (number, first) in FAULTY {
-        expect(&rt, alloc, first, 5, number)?;
-        for (_, second) in FAULTY {
-            let both = format!(in alloc; "{first}{second}")?;
-            expect(&rt, alloc, &both, 5, number)?;
+    for (number, first) in &FAULTY {
+        expect(&rt, rt.alloc(), first, 5, *number)?;
+        for (_, second) in &FAULTY {
+            expect_first(&rt, rt.alloc(), first, second, *number)?;
         }
     }
     Ok(())
@@ -137,16 +147,16 @@ fn each_fault_alone_and_two_on_two_lines(rt: HostRuntime) -> Result<(), Fail> {
 fn expect_on_one_line(
     rt: &impl Abort,
     alloc: Global,
-    setting: (&str, u32, usize),
-    form: (&str, &str, usize, usize),
+    setting: &(&str, u32, usize),
+    form: &(&str, &str, usize, usize),
 ) -> Result<(), Fail> {
     let (before, line, given) = setting;
     let (head, tail, own, least) = form;
-    let given = if given < least { NONE } else { given };
-    for (name, twice) in [("b", NONE), ("a", 6)] {
+    let given = if given < least { NONE } else { *given };
+    for (name, twice) in &[("b", NONE), ("a", 6)] {
+        let number = (*own).min(*twice).min(given);
+        let line = if number == NONE { 0 } else { *line };
         let lines = format!(in alloc; "{before}{head}{name}{tail}")?;
-        let number = own.min(twice).min(given);
-        let line = if number == NONE { 0 } else { line };
         expect(rt, alloc, &lines, line, number)?;
     }
     Ok(())
@@ -154,8 +164,8 @@ fn expect_on_one_line(
 
 #[test]
 fn two_faults_on_one_line(rt: HostRuntime) -> Result<(), Fail> {
-    for setting in SETTINGS {
-        for form in LINES {
+    for setting in &SETTINGS {
+        for form in &LINES {
             expect_on_one_line(&rt, rt.alloc(), setting, form)?;
         }
     }
@@ -164,8 +174,8 @@ fn two_faults_on_one_line(rt: HostRuntime) -> Result<(), Fail> {
 
 #[test]
 fn other_faults_on_one_line(rt: HostRuntime) -> Result<(), Fail> {
-    for (lines, line, number) in OTHERS {
-        expect(&rt, rt.alloc(), lines, line, number)?;
+    for (lines, line, number) in &OTHERS {
+        expect(&rt, rt.alloc(), lines, *line, *number)?;
     }
     Ok(())
 }

@@ -1,7 +1,8 @@
 //! Linking: the punched tape and the words of a source, where it begins, and the first fault of meaning.
 
-use crate::support::{Row, expect_faults, linked};
+use crate::support::{Row, expect_faults, linked, rows_of, tape_of};
 use ed_codes::tape_of_text;
+use ed_link::Linked;
 use ed_syntax::SourceCause::{
     AddressRange, Enter, LabelTwice, LabelUnknown, LoaderStore, NoSuchRoutine, OutsideSegment,
     Overlap, ParameterStore, Parameters, SandwichDigit, StoreEnd,
@@ -120,23 +121,46 @@ const FAULTS_IN_512: [Row; 3] = [
     (b"segment m at 512\nenter m", 2, Some(StoreEnd)),
 ];
 
-/// Checks that a tape is punched for a source, and that its text spells its rows.
+/// Checks that a tape is punched for a source.
 fn is_punched(rt: &impl Abort, alloc: Global, text: &[u8], punched: &str) -> Result<(), Fail> {
-    let linked = linked(alloc, Size::Full, text).ok_or("a fault")?;
-    let tape = linked.text()?;
+    let tape = tape_of(alloc, text)?;
     assert!(rt; tape.as_slice() == punched.as_bytes(), "{punched}");
-    let spelled = tape_of_text(alloc, &tape)?;
-    assert!(rt;
-        spelled.as_slice() == linked.rows()?.as_slice(),
-        "{punched}"
-    );
     Ok(())
+}
+
+/// Checks that the text of a tape spells the rows of a source's tape.
+fn spells_rows(rt: &impl Abort, alloc: Global, text: &[u8], punched: &str) -> Result<(), Fail> {
+    let rows = rows_of(alloc, text)?;
+    let spelled = tape_of_text(alloc, punched.as_bytes())?;
+    assert!(rt; spelled.as_slice() == rows.as_slice(), "{punched}");
+    Ok(())
+}
+
+/// Whether a linked program consists of these words with their locations.
+fn has_words(linked: &Linked, words: &[(u16, u32)]) -> bool {
+    for (placed, wanted) in linked.words.iter().zip(words) {
+        if (placed.place, placed.word.value()) != *wanted {
+            return false;
+        }
+    }
+    linked.words.len() == words.len()
+}
+
+/// Whether a linked program has these names with their locations.
+fn has_labels(linked: &Linked, labels: &[(&str, u16)]) -> bool {
+    for (label, wanted) in linked.labels.iter().zip(labels) {
+        if (label.name.text(), label.place) != *wanted {
+            return false;
+        }
+    }
+    linked.labels.len() == labels.len()
 }
 
 #[test]
 fn what_is_punched(rt: HostRuntime) -> Result<(), Fail> {
-    for (text, punched) in PUNCHED {
+    for (text, punched) in &PUNCHED {
         is_punched(&rt, rt.alloc(), text, punched)?;
+        spells_rows(&rt, rt.alloc(), text, punched)?;
     }
     Ok(())
 }
@@ -144,16 +168,9 @@ fn what_is_punched(rt: HostRuntime) -> Result<(), Fail> {
 #[test]
 fn the_linked_program(rt: HostRuntime) -> Result<(), Fail> {
     let linked = linked(rt.alloc(), Size::Small, FIRST).ok_or("a fault")?;
-    assert!(rt; linked.words.len() == WORDS.len());
-    for (index, placed) in linked.words.iter().enumerate() {
-        assert!(rt; WORDS.get(index).copied() == Some((placed.place, placed.word.value())));
-    }
-    assert!(rt; linked.entry == 56);
-    assert!(rt; linked.after.is_empty());
-    assert!(rt; linked.labels.len() == LABELS.len());
-    for (index, label) in linked.labels.iter().enumerate() {
-        assert!(rt; LABELS.get(index).copied() == Some((label.name.text(), label.place)));
-    }
+    assert!(rt; has_words(&linked, &WORDS));
+    assert!(rt; has_labels(&linked, &LABELS));
+    assert!(rt; linked.entry == 56 && linked.after.is_empty());
     Ok(())
 }
 

@@ -1,6 +1,6 @@
 //! Each kind of operand at its edges, in a first segment, in one at a base, and in the settings of a use.
 
-use crate::support::{fault_of, linked};
+use crate::support::{fault_of, tape_of};
 use ed_syntax::SourceCause;
 use ed_syntax::SourceCause::{AddressRange, LabelUnknown, NotAStatement, NumberRange};
 use ed_words::Size;
@@ -101,46 +101,12 @@ const ITEMS_IN_A_USE: [(&str, &str); 14] = [
     ("m-p", "51F"),
 ];
 
-/// Operands that are refused, and their faults.
-const FAULTS_OF_FIRST: [(&str, SourceCause); 14] = [
-    ("32768", NumberRange),
-    ("m+968", AddressRange),
-    ("m-57", AddressRange),
-    ("t+1", AddressRange),
-    ("t-1024", NumberRange),
-    ("s-1", AddressRange),
-    ("s+1024", NumberRange),
-    ("_l+967", AddressRange),
-    ("_l-58", AddressRange),
-    ("_k", LabelUnknown),
-    ("s-t", AddressRange),
-    ("t+m", AddressRange),
-    ("m-_l", AddressRange),
-    ("m-_k", LabelUnknown),
-];
-
-const FAULTS_AT_100: [(&str, SourceCause); 5] = [
-    ("m+924", AddressRange),
-    ("m-101", AddressRange),
-    ("_l+923", AddressRange),
-    ("_l-102", AddressRange),
-    ("m-t", AddressRange),
-];
-
-const FAULTS_IN_A_USE: [(&str, SourceCause); 12] = [
-    ("", NotAStatement),
-    ("32768", NumberRange),
-    ("p+968", AddressRange),
-    ("p-57", AddressRange),
-    ("m+917", AddressRange),
-    ("m-108", AddressRange),
-    ("t+1", AddressRange),
-    ("s-1", AddressRange),
-    ("_l", LabelUnknown),
-    ("m-_l", LabelUnknown),
-    ("s-t", AddressRange),
-    ("t+p", AddressRange),
-];
+/// Checks how a source's tape begins.
+fn begins_with(rt: &impl Abort, alloc: Global, text: &str, wanted: &str) -> Result<(), Fail> {
+    let tape = tape_of(alloc, text.as_bytes())?;
+    assert!(rt; tape.starts_with(wanted.as_bytes()), "{text}{wanted}");
+    Ok(())
+}
 
 /// Checks what is punched for operands.
 fn punched(
@@ -151,30 +117,24 @@ fn punched(
 ) -> Result<(), Fail> {
     for (operand, item) in cases {
         let text = format!(in alloc; "{}{operand}{}", frame.head, frame.tail)?;
-        let linked = linked(alloc, Size::Full, text.as_bytes()).ok_or("a fault")?;
         let wanted = format!(in alloc; "{}{item}{}", frame.punched_head, frame.punched_tail)?;
-        assert!(rt;
-            linked.text()?.starts_with(wanted.as_bytes()),
-            "{text}{wanted}"
-        );
+        begins_with(rt, alloc, &text, &wanted)?;
     }
     Ok(())
 }
 
-/// Checks that operands are refused.
+/// Checks that operands are refused for a cause.
 fn refused(
     rt: &impl Abort,
     alloc: Global,
     frame: &Frame,
-    cases: &[(&str, SourceCause)],
+    cause: SourceCause,
+    operands: &[&str],
 ) -> Result<(), Fail> {
-    for (operand, cause) in cases {
+    for operand in operands {
         let text = format!(in alloc; "{}{operand}{}", frame.head, frame.tail)?;
-        let wanted = Some((3, Some(*cause)));
-        assert!(rt;
-            fault_of(alloc, Size::Full, text.as_bytes()) == wanted,
-            "{text}"
-        );
+        let fault = fault_of(alloc, Size::Full, text.as_bytes());
+        assert!(rt; fault == Some((3, Some(cause))), "{text}");
     }
     Ok(())
 }
@@ -195,8 +155,36 @@ fn operands_in_the_settings_of_a_use(rt: HostRuntime) -> Result<(), Fail> {
 }
 
 #[test]
-fn operands_beyond_their_edges(rt: HostRuntime) -> Result<(), Fail> {
-    refused(&rt, rt.alloc(), &FIRST, &FAULTS_OF_FIRST)?;
-    refused(&rt, rt.alloc(), &AT_100, &FAULTS_AT_100)?;
-    refused(&rt, rt.alloc(), &IN_A_USE, &FAULTS_IN_A_USE)
+fn operands_beyond_their_edges_in_the_first_segment(rt: HostRuntime) -> Result<(), Fail> {
+    let alloc = rt.alloc();
+    let addresses = [
+        "m+968", "m-57", "t+1", "s-1", "_l+967", "_l-58", "s-t", "t+m", "m-_l",
+    ];
+    refused(
+        &rt,
+        alloc,
+        &FIRST,
+        NumberRange,
+        &["32768", "t-1024", "s+1024"],
+    )?;
+    refused(&rt, alloc, &FIRST, AddressRange, &addresses)?;
+    refused(&rt, alloc, &FIRST, LabelUnknown, &["_k", "m-_k"])
+}
+
+#[test]
+fn operands_beyond_their_edges_in_a_segment_at_a_place(rt: HostRuntime) -> Result<(), Fail> {
+    let addresses = ["m+924", "m-101", "_l+923", "_l-102", "m-t"];
+    refused(&rt, rt.alloc(), &AT_100, AddressRange, &addresses)
+}
+
+#[test]
+fn operands_beyond_their_edges_in_the_settings_of_a_use(rt: HostRuntime) -> Result<(), Fail> {
+    let alloc = rt.alloc();
+    let addresses = [
+        "p+968", "p-57", "m+917", "m-108", "t+1", "s-1", "s-t", "t+p",
+    ];
+    refused(&rt, alloc, &IN_A_USE, NotAStatement, &[""])?;
+    refused(&rt, alloc, &IN_A_USE, NumberRange, &["32768"])?;
+    refused(&rt, alloc, &IN_A_USE, AddressRange, &addresses)?;
+    refused(&rt, alloc, &IN_A_USE, LabelUnknown, &["_l", "m-_l"])
 }

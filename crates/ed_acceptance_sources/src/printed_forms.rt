@@ -52,6 +52,9 @@ const SETTINGS: [(&str, u8); 6] = [
     ("X", 26),
 ];
 
+/// What may end a line.
+const LINE_ENDS: [&str; 2] = ["\n", "\r\n"];
+
 /// What may follow a form.
 const COMMENTS: [&str; 4] = ["", " \t", ";", " ; A 5 F; \" none"];
 
@@ -313,70 +316,87 @@ impl Writer {
             _ => Some((None, Some(self.placed(alloc)?))),
         }
     }
+
+    /// Writes what a line says: in the first line of version 2 this is the version.
+    fn content(&mut self, alloc: Global, number: u32) -> Option<(Option<Name>, Option<Statement>)> {
+        if number == 1 && self.version.is_two() {
+            self.text.push_str(" version\t02").ok()?;
+            return Some((None, None));
+        }
+        self.form(alloc)
+    }
+
+    /// Writes a line.
+    fn line(&mut self, alloc: Global, number: u32) -> Option<Line> {
+        let (label, statement) = self.content(alloc, number)?;
+        self.end()?;
+        Some(Line {
+            number,
+            label,
+            statement,
+        })
+    }
+
+    /// Writes the end of a line.
+    fn end(&mut self) -> Option<()> {
+        let comment = COMMENTS[self.sequence.below(4) as usize];
+        self.text.push_str(comment).ok()?;
+        let end = LINE_ENDS[self.sequence.below(2) as usize];
+        self.text.push_str(end).ok()
+    }
 }
 
 /// A source by its number, and the lines from which it was printed.
 fn printed(alloc: Global, source: u32) -> Option<(String, Vec<Line>)> {
+    let version = if source % 2 == 1 {
+        Version::Two
+    } else {
+        Version::One
+    };
     let mut writer = Writer {
         text: String::new(alloc),
         sequence: Sequence { last: source },
-        version: if source % 2 == 1 {
-            Version::Two
-        } else {
-            Version::One
-        },
+        version,
     };
     let mut lines = Vec::new(alloc);
     for number in 1..LINES + 1 {
-        let (label, statement) = if number == 1 && writer.version.is_two() {
-            writer.text.push_str(" version\t02").ok()?;
-            (None, None)
-        } else {
-            writer.form(alloc)?
-        };
-        let line = Line {
-            number,
-            label,
-            statement,
-        };
-        lines.push(line).ok()?;
-        let comment = COMMENTS[writer.sequence.below(4) as usize];
-        writer.text.push_str(comment).ok()?;
-        writer
-            .text
-            .push_str(if writer.sequence.below(2) == 0 {
-                "\n"
-            } else {
-                "\r\n"
-            })
-            .ok()?;
+        lines.push(writer.line(alloc, number)?).ok()?;
     }
     Some((writer.text, lines))
+}
+
+/// Whether two lines have the same debug text.
+fn are_alike(alloc: Global, one: &Line, other: &Line) -> Option<bool> {
+    let one = format!(in alloc; "{one:?}").ok()?;
+    let other = format!(in alloc; "{other:?}").ok()?;
+    Some(one.as_str() == other.as_str())
+}
+
+/// The number of the first of these lines that is not as it was read; 0 if there is none.
+fn first_unlike(alloc: Global, read: &[Line], lines: &[Line]) -> Option<u32> {
+    for (read, line) in read.iter().zip(lines) {
+        if !are_alike(alloc, read, line)? {
+            return Some(line.number);
+        }
+    }
+    Some(if read.len() == lines.len() {
+        0
+    } else {
+        LINES + 1
+    })
 }
 
 /// The first line of a source that is read differently from what it was printed from; 0 if there is none.
 fn first_difference(alloc: Global, source: u32) -> Option<u32> {
     let (text, lines) = printed(alloc, source)?;
     let program = parse(alloc, text.as_bytes()).ok()?;
-    if program.lines.len() != lines.len() {
-        return Some(LINES + 1);
-    }
-    for (read, line) in program.lines.iter().zip(&lines) {
-        let read = format!(in alloc; "{read:?}").ok()?;
-        let wanted = format!(in alloc; "{line:?}").ok()?;
-        if read.as_str() != wanted.as_str() {
-            return Some(line.number);
-        }
-    }
-    Some(0)
+    first_unlike(alloc, &program.lines, &lines)
 }
 
 #[test]
 fn printed_forms_are_read_back(rt: HostRuntime) {
     for source in 0..SOURCES {
-        assert!(rt;
-            first_difference(rt.alloc(), source) == Some(0),
-            "source {source}"
-        );
+        let line = first_difference(rt.alloc(), source);
+        assert!(rt; line == Some(0), "source {source}: {line:?}");
     }
 }

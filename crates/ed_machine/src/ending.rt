@@ -1,5 +1,5 @@
 /// How a run ended.
-#[derive(Clone, Copy, Debug, PartialEq, Eq)]
+#[derive(Clone, Copy, PartialEq, Eq)]
 pub enum Ending {
     /// A Z order was obeyed, and no resume was left.
     Stopped,

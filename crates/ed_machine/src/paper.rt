@@ -1,4 +1,4 @@
-ghost use Rattle.std.specs.Prelude.{◌≡◌, ◌↔◌, ◌+◌, ◌-◌, ◌≤◌, ◌++◌, ◌∷◌, []};
+ghost use Rattle.std.specs.Prelude.{◌≡◌, ◌↔◌, ◌+◌, ◌-◌, ◌<◌, ◌≤◌, ◌++◌, ◌∷◌, []};
 ghost use Rattle.std.specs.Prelude.{IsFalse, IfOk, length, vec_len, vec_capacity};
 ghost use Rattle.std.specs.Bool.{OnTrue, OnFalse};
 ghost use Rattle.ed_machine.specs.Sheet.{Sheet};
@@ -41,8 +41,16 @@ impl Paper {
         if self.codes.len() == self.room {
             return false;
         }
-        self.codes.push_reserved(code);
+        self.push_reserved(code);
         true
+    }
+
+    /// Adds a code at the end of a paper that has room for it.
+    pub fn push_reserved(&mut self, code: Code)
+        requires { length self.old.codes < self.old.room }
+        ensures { self.new ≡ record self.old { codes = self.old.codes ++ code ∷ [] } }
+    {
+        self.codes.push_reserved(code);
     }
 
     /// The codes, the first printed first.

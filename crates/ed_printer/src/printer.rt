@@ -7,7 +7,7 @@ use std::alloc::AllocError;
 use std::marker::Model;
 
 /// Which of the two characters of a code prints.
-#[derive(Clone, Copy, Debug, PartialEq, Eq)]
+#[derive(Clone, Copy, PartialEq, Eq)]
 pub enum Shift {
     /// Letter shift, set by code 15.
     Letters,
@@ -16,7 +16,7 @@ pub enum Shift {
 }
 
 /// A teleprinter, which is in one of the two shifts.
-#[derive(Clone, Copy, Debug, PartialEq, Eq)]
+#[derive(Clone, Copy, PartialEq, Eq)]
 pub struct Printer {
     shift: Shift,
 }

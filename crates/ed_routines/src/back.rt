@@ -1,5 +1,5 @@
 /// Where a routine returned.
-#[derive(Clone, Copy, Debug, PartialEq, Eq)]
+#[derive(Clone, Copy, PartialEq, Eq)]
 pub struct Back {
     /// The location after its call.
     pub at: u16,

@@ -158,11 +158,3 @@ none_ends (Printed code) full obeyed (inl room) = rw room refl
 none_ends (Printed code) full obeyed (inr silent) = absurd (cc)
 none_ends (NoOrder function) full obeyed either = absurd (cc)
 none_ends NoTape full obeyed either = absurd (cc)
-
--- a code pushed where there was room
-pub pushed : (done : Bool) (old new : Sheet) (code : ℕ)
-    → (done ≡ false → old.room ≤ length old.codes) → OnTrue done (new ≡ record old { codes = old.codes ++ code ∷ [] })
-    → nat_le old.room (length old.codes) ≡ false → new ≡ record { codes = old.codes ++ code ∷ []; room = old.room }
-pushed true old new code full added room = added
-pushed false old new code full added room = let h : old.room ≤ length old.codes =
-    full refl in absurd (grind (arith, nat_tests))

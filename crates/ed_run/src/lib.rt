@@ -46,9 +46,7 @@ fn run_orders(machine: &mut Machine, limit: u64, resumes: u32, paper: &mut Paper
         while machine.orders_done() < batch_end {
             match machine.step() {
                 Turn::Went => {}
-                Turn::Printed(code) => {
-                    paper.push(code);
-                }
+                Turn::Printed(code) => paper.push_reserved(code),
                 Turn::Stopped => {
                     if stops == resumes {
                         return Ending::Stopped;

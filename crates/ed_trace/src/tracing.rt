@@ -15,7 +15,7 @@ use std::alloc::{AllocError, Global};
 const LETTERS: u64 = 50;
 
 /// Why a trace was not written whole.
-#[derive(Clone, Copy, Debug, PartialEq, Eq)]
+#[derive(Clone, Copy, PartialEq, Eq)]
 pub enum TraceFault {
     /// A write failed.
     Failed,

@@ -7,7 +7,7 @@ use Rattle.ed_machine.specs.State.{State}
 use Rattle.ed_machine.specs.declared.turn.Turn.{Turn}
 use Rattle.ed_machine.proofs.Keeping.{step_leaves}
 use Rattle.ed_run.specs.Run.{prints}
-use Rattle.ed_run.proofs.Pasts.{at_first, goes_on, later, ends_with_stop, none_ends, pushed, silent}
+use Rattle.ed_run.proofs.Pasts.{at_first, goes_on, later, ends_with_stop, none_ends, silent}
 use Rattle.ed_run.proofs.run_orders.Goals as goal
 
 pub loop-machine-init : goal.loop-machine-init
@@ -41,6 +41,10 @@ has_room : {a b : Bool} → (a ≡ false) ⊎ (b ≡ false) → b ≡ true → a
 has_room (inl free) printing = free
 has_room (inr silent) printing = absurd (cc)
 
+-- and then its codes are fewer than its room
+has_place : (room codes : ℕ) → nat_le room codes ≡ false → codes < room
+has_place room codes free = grind (arith, nat_tests)
+
 -- an order that is obeyed is counted
 one_more : (m : State) {next : State} {turn : Turn} → next ≡ (step m).state → (step m).turn ≡ turn → is_obeyed turn ≡ true
     → next.orders ≡ m.orders + 1
@@ -69,15 +73,26 @@ loop-batch-preserved-in-Printed c =
     let one = one_more c.loop-batch.machine c.step.ensures.state is refl in
     let here : c.loop-batch.machine.orders - c.args.machine.now.orders < c.args.limit = omega arith in
     let either = free _ _ _ _ (omega arith) c.loop-batch.invariant.room in
-    let paper = pushed c.push.result _ _ _ c.push.ensures.full.0 c.push.ensures.added (has_room either (ap prints is)) in
     record {
       running = later (goes_on r here
-          (record { turn_is = is; state_is = c.step.ensures.state; paper_is = paper; stops_are = omega arith })
+          (record {
+            turn_is = is;
+            state_is = c.step.ensures.state;
+            paper_is = c.push_reserved.ensures;
+            stops_are = omega arith;
+          })
           (none_ends _ _ (ap is_obeyed is) either) (omega (arith, r.within))) (omega arith);
       later = omega arith;
       below = omega arith;
-      room = inl (rw (paper, length-append) (left _ _ _ _ _ c.loop-batch.invariant.room one (omega arith)));
+      room = inl (rw (c.push_reserved.ensures, length-append)
+          (left _ _ _ _ _ c.loop-batch.invariant.room one (omega arith)));
     }
+
+pub push_reserved-requires : goal.push_reserved-requires
+push_reserved-requires c =
+    let is = sym c.step.ensures.turn ∙ c.in-Printed.is in
+    let either = free _ _ _ _ (omega arith) c.loop-batch.invariant.room in
+    has_place _ _ (has_room either (ap prints is))
 
 pub loop-batch-preserved : goal.loop-batch-preserved
 loop-batch-preserved c =
