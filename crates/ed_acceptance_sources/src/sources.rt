@@ -10,7 +10,7 @@ use std::test::Fail;
 type Row<'a> = (&'a [u8], u32);
 
 /// Texts that are read: the forms of both versions, and blanks between any two parts.
-const READ: [Row; 63] = [
+const READ: &[Row] = &[
     (b"", 0),
     (b"\n", 1),
     (b"\n\n", 2),
@@ -77,7 +77,7 @@ const READ: [Row; 63] = [
 ];
 
 /// Texts whose first fault is a byte that no source has.
-const BAD_BYTES: [Row; 6] = [
+const BAD_BYTES: &[Row] = &[
     (b"A 5 F\r\r\n", 1),
     (b"A 5 F\r", 1),
     (b"A 5F ; \x7f", 1),
@@ -87,7 +87,7 @@ const BAD_BYTES: [Row; 6] = [
 ];
 
 /// Texts whose first fault is a line that is not a statement.
-const NO_STATEMENTS: [Row; 42] = [
+const NO_STATEMENTS: &[Row] = &[
     (b"%", 1),
     (b"word5", 1),
     (b"word 5x", 1),
@@ -136,7 +136,7 @@ const NO_STATEMENTS: [Row; 42] = [
 ];
 
 /// Texts whose first fault is a number out of its range.
-const NUMBERS_OUT_OF_RANGE: [Row; 19] = [
+const NUMBERS_OUT_OF_RANGE: &[Row] = &[
     (b"word 131072", 1),
     (b"word - 65537", 1),
     (b"segment m at 1024", 1),
@@ -209,10 +209,10 @@ fn expect_fault(
 #[test]
 fn lines_have_a_form_or_their_first_fault(rt: HostRuntime) {
     let alloc = rt.alloc();
-    expect_each(&rt, alloc, None, &READ);
-    expect_each(&rt, alloc, Some(BadByte), &BAD_BYTES);
-    expect_each(&rt, alloc, Some(NotAStatement), &NO_STATEMENTS);
-    expect_each(&rt, alloc, Some(NumberRange), &NUMBERS_OUT_OF_RANGE);
+    expect_each(&rt, alloc, None, READ);
+    expect_each(&rt, alloc, Some(BadByte), BAD_BYTES);
+    expect_each(&rt, alloc, Some(NotAStatement), NO_STATEMENTS);
+    expect_each(&rt, alloc, Some(NumberRange), NUMBERS_OUT_OF_RANGE);
 }
 
 #[test]
