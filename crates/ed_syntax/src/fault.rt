@@ -2,7 +2,7 @@ use ed_words::NoMemory;
 use std::alloc::AllocFailed;
 
 /// Why a source is refused. S1 to S5 are faults of form; the others are faults of meaning, found by the crates above.
-#[derive(Clone, Copy, Debug, PartialEq, Eq)]
+#[derive(Clone, Copy, PartialEq, Eq)]
 pub enum SourceCause {
     /// S1: a byte of the line is neither a tab nor 32 to 126.
     BadByte,
@@ -41,7 +41,7 @@ pub enum SourceCause {
 }
 
 /// What is wrong with a source.
-#[derive(Clone, Copy, Debug, PartialEq, Eq)]
+#[derive(Clone, Copy, PartialEq, Eq)]
 pub enum SourceFault {
     /// A fault at a line, counted from 1.
     At { line: u32, cause: SourceCause },

@@ -5,13 +5,13 @@ ghost use Rattle.std.specs.Result.{result_ok};
 ghost use Rattle.std.specs.Borrow.{Bor};
 ghost use Rattle.std.specs.List.{list_any};
 ghost use Rattle.ed_syntax.specs.Private.Grammar.{and_more, both, joined_operand, ranged_map, operand, with_settings};
-ghost use Rattle.ed_syntax.specs.Private.Grammar.{setting};
+ghost use Rattle.ed_syntax.specs.Private.Grammar.{joined_front, setting, with_rest};
 ghost use Rattle.ed_syntax.specs.Private.Found.{form_result, front};
 ghost use Rattle.ed_syntax.specs.Programs.{is_second};
 ghost use Rattle.ed_syntax.specs.Parts.{array};
 ghost use Rattle.ed_syntax.specs.Parts.{setting_letter, with_sign};
 ghost use Rattle.ed_syntax.specs.Private.Grammar.{settings, single};
-ghost use Rattle.ed_syntax.specs.Parts.{sign};
+ghost use Rattle.ed_syntax.specs.Parts.{run, sign};
 ghost use Rattle.ed_syntax.specs.Private.Seen.{part};
 
 use crate::fault::FormFault;
@@ -84,15 +84,52 @@ pub(crate) fn operand<'a, 'p>(
     ensures is { front result ≡ operand (is_second version) (map part parts.entry.now) }
     ensures fault { IfErr result (λ e. e ≡ FormFault.NotThisForm) }
 {
-    match parts {
-        [
-            Part::Run(run),
-            Part::Sign(sign @ (b'+' | b'-')),
-            Part::Run(more),
-            rest @ ..,
-        ] => Ok((joined(version, run, *sign, more)?, rest)),
-        [Part::Run(_), Part::Sign(b'+' | b'-'), ..] => Err(FormFault::NotThisForm),
-        [Part::Run(run), rest @ ..] => Ok((single(version, run)?, rest)),
+    match parts.split_first() {
+        Some((Part::Run(run), rest)) => operand_of_run(version, run, rest),
+        _ => Err(FormFault::NotThisForm),
+    }
+}
+
+/// An operand that begins with this run, and the parts after it.
+fn operand_of_run<'a, 'p>(
+    version: Version,
+    first: &[u8],
+    parts: &'p [Part<'a>],
+) -> Result<(Option<Operand>, &'p [Part<'a>]), FormFault>
+    ensures is { front result ≡ operand (is_second version) (run first.now ∷ map part parts.entry.now) }
+    ensures fault { IfErr result (λ e. e ≡ FormFault.NotThisForm) }
+{
+    match parts.split_first() {
+        Some((Part::Sign(sign @ (b'+' | b'-')), rest)) => joined_front(version, first, *sign, rest),
+        _ => single_front(version, first, parts),
+    }
+}
+
+/// An operand that is this run alone, and the parts after it.
+fn single_front<'a, 'p>(
+    version: Version,
+    run: &[u8],
+    parts: &'p [Part<'a>],
+) -> Result<(Option<Operand>, &'p [Part<'a>]), FormFault>
+    ensures is { front result ≡ with_rest (map part parts.entry.now) (single (is_second version) run.now) }
+    ensures fault { IfErr result (λ e. e ≡ FormFault.NotThisForm) }
+{
+    let operand = single(version, run)?;
+    Ok((operand, parts))
+}
+
+/// An operand that begins with this run and this sign, and the parts after it.
+fn joined_front<'a, 'p>(
+    version: Version,
+    run: &[u8],
+    sign: u8,
+    parts: &'p [Part<'a>],
+) -> Result<(Option<Operand>, &'p [Part<'a>]), FormFault>
+    ensures is { front result ≡ joined_front (is_second version) run.now sign (map part parts.entry.now) }
+    ensures fault { IfErr result (λ e. e ≡ FormFault.NotThisForm) }
+{
+    match parts.split_first() {
+        Some((Part::Run(more), rest)) => Ok((joined(version, run, sign, more)?, rest)),
         _ => Err(FormFault::NotThisForm),
     }
 }

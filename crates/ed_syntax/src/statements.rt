@@ -1,5 +1,5 @@
 //! Statements, and lines with their labels.
-ghost use Rattle.std.specs.Prelude.{◌≡◌, ◌∷◌, ◌==◌, map};
+ghost use Rattle.std.specs.Prelude.{◌≡◌, ◌∷◌, ◌==◌, codes, map, option_map};
 ghost use Rattle.std.specs.Option.{ok_or};
 ghost use Rattle.ed_syntax.specs.Programs.{is_second};
 ghost use Rattle.ed_syntax.specs.Private.Found.{form_result};
@@ -51,12 +51,20 @@ fn order_end(version: Version, parts: &[Part]) -> Result<(Option<Operand>, bool)
     ensures { result ≡ ok_or (order_end (is_second version) (map part parts.now)) FormFault.NotThisForm }
 {
     match parts.split_first() {
-        Some((Part::Sign(_), _)) => Ok((Some(Operand::Number(0)), length_end(parts)?)),
+        Some((Part::Sign(_), _)) => with_length(Some(Operand::Number(0)), parts),
         _ => match operand(version, parts) {
-            Ok((operand, rest)) => Ok((operand, length_end(rest)?)),
+            Ok((operand, rest)) => with_length(operand, rest),
             Err(_) => Err(FormFault::NotThisForm),
         },
     }
+}
+
+/// An operand with the length after it.
+fn with_length(operand: Option<Operand>, parts: &[Part]) -> Result<(Option<Operand>, bool), FormFault>
+    ensures { result ≡ ok_or (option_map (λ l. (operand, l)) (length_end (map part parts.now))) FormFault.NotThisForm }
+{
+    let length = length_end(parts)?;
+    Ok((operand, length))
 }
 
 /// An order with this function.
@@ -64,13 +72,15 @@ fn order(version: Version, byte: u8, parts: &[Part]) -> Result<Statement, FormFa
     ensures { result ≡ form_result (order (is_second version) byte (map part parts.now)) }
 {
     let function = function(byte)?;
-    let (operand, length) = order_end(version, parts)?;
-    let operand = operand.ok_or(FormFault::OutOfRange)?;
-    Ok(Statement::Order {
-        function,
-        operand,
-        length,
-    })
+    match order_end(version, parts) {
+        Ok((Some(operand), length)) => Ok(Statement::Order {
+            function,
+            operand,
+            length,
+        }),
+        Ok((None, _)) => Err(FormFault::OutOfRange),
+        Err(_) => Err(FormFault::NotThisForm),
+    }
 }
 
 /// What follows `word`.
@@ -162,18 +172,24 @@ fn fetch(version: Version, parts: &[Part]) -> Result<Statement, FormFault>
             Part::Run(word),
             Part::Run(run),
             rest @ ..,
-        ] if is(word, b"as") => {
-            let routine = name(routine)?;
-            let name = name(run)?;
-            let settings = preset(version, rest)?;
-            Ok(Statement::Fetch {
-                routine,
-                name,
-                settings,
-            })
-        }
+        ] if is(word, b"as") => fetch_as(version, routine, run, rest),
         _ => Err(FormFault::NotThisForm),
     }
+}
+
+/// What follows the two names of a `use`.
+fn fetch_as(version: Version, routine: &[u8], word: &[u8], parts: &[Part]) -> Result<Statement, FormFault>
+    ensures { result ≡ form_result
+        (fetch (is_second version) (run routine.now ∷ run (codes "as") ∷ run word.now ∷ map part parts.now)) }
+{
+    let routine = name(routine)?;
+    let name = name(word)?;
+    let settings = preset(version, parts)?;
+    Ok(Statement::Fetch {
+        routine,
+        name,
+        settings,
+    })
 }
 
 /// A statement that may have a label.
