@@ -1,12 +1,12 @@
 //! Statements, and lines with their labels.
-ghost use Rattle.std.specs.Prelude.{◌≡◌, ◌∷◌, ◌==◌, codes, map, option_map};
+ghost use Rattle.std.specs.Prelude.{◌≡◌, ◌∷◌, ◌==◌, codes, map, option_map, Some};
 ghost use Rattle.std.specs.Option.{ok_or};
 ghost use Rattle.ed_syntax.specs.Programs.{is_second};
 ghost use Rattle.ed_syntax.specs.Private.Found.{form_result};
 ghost use Rattle.ed_syntax.specs.Private.Grammar.{base, enter, fetch, form, form_at};
 ghost use Rattle.ed_syntax.specs.Parts.{function};
 ghost use Rattle.ed_syntax.specs.Private.Grammar.{is_version_two, labelled_line, length_end};
-ghost use Rattle.ed_syntax.specs.Private.Grammar.{long, order, order_end, placed_statement, segment};
+ghost use Rattle.ed_syntax.specs.Private.Grammar.{long, number_up_to, ranged_map, order, order_end, placed_statement, segment};
 ghost use Rattle.ed_words.specs.Decimals.{value};
 ghost use Rattle.ed_syntax.specs.Private.Grammar.{statement, data_statement, unlabelled_line, word};
 ghost use Rattle.ed_syntax.specs.Private.Grammar as grammar;
@@ -140,12 +140,17 @@ fn base(parts: &[Part]) -> Result<Option<u16>, FormFault>
 {
     match parts {
         [] => Ok(None),
-        [Part::Run(at), Part::Run(digits)] if is(at, b"at") => {
-            let base = number(1023, digits)?;
-            Ok(Some(base as u16))
-        }
+        [Part::Run(at), Part::Run(digits)] if is(at, b"at") => base_at(digits),
         _ => Err(FormFault::NotThisForm),
     }
+}
+
+/// The base that follows `at`.
+fn base_at(digits: &[u8]) -> Result<Option<u16>, FormFault>
+    ensures { result ≡ form_result (ranged_map Some (number_up_to 1023 digits.now)) }
+{
+    let base = number(1023, digits)?;
+    Ok(Some(base as u16))
 }
 
 /// What follows `segment`.

@@ -9,8 +9,8 @@ ghost use Rattle.std.specs.Str.{bytes_eq};
 ghost use Rattle.ed_codes.specs.Spelling.{row_of};
 ghost use Rattle.ed_syntax.specs.Parts.{array, is_local_name, is_name};
 ghost use Rattle.ed_syntax.specs.Private.Grammar.{integer};
-ghost use Rattle.ed_syntax.specs.Parts.{is_number, is_place_name};
-ghost use Rattle.ed_syntax.specs.Private.Grammar.{number_up_to, row};
+ghost use Rattle.ed_syntax.specs.Parts.{is_number, is_place_name, with_sign};
+ghost use Rattle.ed_syntax.specs.Private.Grammar.{number_up_to, ranged_map, row};
 ghost use Rattle.ed_syntax.specs.Private.Grammar.{spells, string, string_rows, up_to};
 ghost use Rattle.ed_syntax.specs.Private.Names.{IsNameText};
 ghost use Rattle.ed_words.specs.Decimals.{is_digit};
@@ -151,16 +151,28 @@ pub(crate) fn integer(least: u64, most: u64, parts: &[Part]) -> Result<i64, Form
     ensures { result ≡ form_result (integer least most (map part parts.now)) }
 {
     match parts {
-        [Part::Run(run)] => {
-            let number = number(most, run)?;
-            Ok(number as i64)
-        }
-        [Part::Sign(b'-'), Part::Run(run)] => {
-            let number = number(least, run)?;
-            Ok(-(number as i64))
-        }
+        [Part::Run(run)] => positive(most, run),
+        [Part::Sign(b'-'), Part::Run(run)] => negative(least, run),
         _ => Err(FormFault::NotThisForm),
     }
+}
+
+/// A number from 0 to `most`, as an integer.
+fn positive(most: u64, run: &[u8]) -> Result<i64, FormFault>
+    requires { most < 2 ^ 36 }
+    ensures { result ≡ form_result (ranged_map (with_sign false) (number_up_to most run.now)) }
+{
+    let number = number(most, run)?;
+    Ok(number as i64)
+}
+
+/// The negative of a number from 0 to `least`.
+fn negative(least: u64, run: &[u8]) -> Result<i64, FormFault>
+    requires { least < 2 ^ 36 }
+    ensures { result ≡ form_result (ranged_map (with_sign true) (number_up_to least run.now)) }
+{
+    let number = number(least, run)?;
+    Ok(-(number as i64))
 }
 
 /// A string of one or more bytes that spell rows.
