@@ -73,7 +73,6 @@ fn find_fault(
 }
 
 /// The locations of a program's lines and names.
-#[tactic(auto, using(crate::proofs::NameLaw::found_is, crate::proofs::NameLaw::each_has_one))]
 pub fn resolve(alloc: Global, program: &Program) -> Result<Places, NoMemory>
     ensures fault { IfOk result (λ p. NameFaultIs program.now.lines.items p.fault) }
     ensures one { EachHasOneNameFault }

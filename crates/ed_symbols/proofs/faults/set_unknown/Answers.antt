@@ -1,0 +1,12 @@
+use Rattle.std.proofs.Common.{arith}
+use Rattle.std.proofs.lemmas.Grind.{common_steps}
+use Rattle.ed_symbols.proofs.faults.set_unknown.Goals as goal
+
+pub returns-then-is_unknown : goal.returns-then-is_unknown
+returns-then-is_unknown c = grind (arith, common_steps)
+
+pub loop-setting-preserved : goal.loop-setting-preserved
+loop-setting-preserved c = grind (arith, common_steps)
+
+pub returns : goal.returns
+returns c = grind (arith, common_steps)
