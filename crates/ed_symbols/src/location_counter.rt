@@ -8,7 +8,7 @@ use ed_library::find;
 use ed_syntax::{Line, Name, Statement};
 
 /// The location counter and the segment before a line.
-#[derive(Clone, Copy, Debug, PartialEq, Eq)]
+#[derive(Clone, Copy)]
 pub struct LocationCounter {
     /// The location before the line.
     pub place: u32,

@@ -41,7 +41,7 @@ pub enum SourceCause {
 }
 
 /// What is wrong with a source.
-#[derive(Clone, Copy, PartialEq, Eq)]
+#[derive(Clone, Copy)]
 pub enum SourceFault {
     /// A fault at a line, counted from 1.
     At { line: u32, cause: SourceCause },

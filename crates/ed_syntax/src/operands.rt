@@ -240,10 +240,14 @@ fn both(
     ensures is { result ≡ ok_or (option_map array (both setting (Some more.items))) FormFault.OutOfRange }
     ensures few { IfOk result (λ r. length r.items ≡ length more.items + 1) }
 {
-    let setting = setting.ok_or(FormFault::OutOfRange)?;
-    let mut settings = more;
-    settings.insert(0, setting);
-    Ok(settings)
+    match setting {
+        Some(setting) => {
+            let mut settings = more;
+            settings.insert(0, setting);
+            Ok(settings)
+        }
+        None => Err(FormFault::OutOfRange),
+    }
 }
 
 /// Nothing, or `with` and one to six settings.

@@ -8,7 +8,7 @@ use ed_codes::Code;
 use ed_words::{Long, Word};
 
 /// The operand of an order, or of a setting.
-#[derive(Clone, Copy, Debug, PartialEq, Eq)]
+#[derive(Clone, Copy, Debug)]
 pub enum Operand {
     /// A number, 0 to 32767.
     Number(u16),
@@ -26,7 +26,7 @@ pub enum Operand {
 }
 
 /// A preset parameter of a routine: its letter is one of `H N M & L X`.
-#[derive(Clone, Copy, Debug, PartialEq, Eq)]
+#[derive(Clone, Copy, Debug)]
 pub struct Setting {
     pub letter: Code,
     pub operand: Operand,

@@ -60,7 +60,10 @@ fn order_end(version: Version, parts: &[Part]) -> Result<(Option<Operand>, bool)
 }
 
 /// An operand with the length after it.
-fn with_length(operand: Option<Operand>, parts: &[Part]) -> Result<(Option<Operand>, bool), FormFault>
+fn with_length(
+    operand: Option<Operand>,
+    parts: &[Part],
+) -> Result<(Option<Operand>, bool), FormFault>
     ensures { result ≡ ok_or (option_map (λ l. (operand, l)) (length_end (map part parts.now))) FormFault.NotThisForm }
 {
     let length = length_end(parts)?;
@@ -183,7 +186,12 @@ fn fetch(version: Version, parts: &[Part]) -> Result<Statement, FormFault>
 }
 
 /// What follows the two names of a `use`.
-fn fetch_as(version: Version, routine: &[u8], word: &[u8], parts: &[Part]) -> Result<Statement, FormFault>
+fn fetch_as(
+    version: Version,
+    routine: &[u8],
+    word: &[u8],
+    parts: &[Part],
+) -> Result<Statement, FormFault>
     ensures { result ≡ form_result
         (fetch (is_second version) (run routine.now ∷ run (codes "as") ∷ run word.now ∷ map part parts.now)) }
 {

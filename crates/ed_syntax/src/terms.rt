@@ -140,8 +140,7 @@ pub(crate) fn number(most: u64, run: &[u8]) -> Result<u64, FormFault>
     if !is_number(run) {
         return Err(FormFault::NotThisForm);
     }
-    let number = up_to(most, run).ok_or(FormFault::OutOfRange)?;
-    Ok(number)
+    up_to(most, run).ok_or(FormFault::OutOfRange)
 }
 
 /// A number or, after a minus sign, its negative.

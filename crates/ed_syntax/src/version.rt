@@ -4,7 +4,7 @@ ghost use Rattle.ed_syntax.specs.Programs.{is_second};
 use crate::Program;
 
 /// A version of the source language.
-#[derive(Clone, Copy, Debug, PartialEq, Eq)]
+#[derive(Clone, Copy)]
 pub enum Version {
     One,
     Two,
