@@ -1,5 +1,5 @@
 use Rattle.std.proofs.Common.{rules, arith, sym, ap, ◌∙◌, ◌≡◌, List, map}
-use Rattle.std.specs.Prelude.{Some, None, Option, Ok, Err}
+use Rattle.std.specs.Prelude.{Some, None, Option}
 use Rattle.ed_syntax.specs.Parts.{array}
 use Rattle.ed_syntax.specs.Private.Found.{form_result}
 use Rattle.ed_syntax.specs.Private.Grammar.{Ranged, ranged_map, setting}

@@ -1,7 +1,7 @@
 use Rattle.std.proofs.Common.{rules, ◌≡◌, ◌<◌, length, map}
-use Rattle.std.specs.Prelude.{Some, None}
+use Rattle.std.specs.Prelude.{Some}
 use Rattle.std.proofs.lemmas.Result.{err_from_is_err_and}
-use Rattle.ed_syntax.specs.Private.Grammar.{ranged_map, placed_statement, statement, labelled_line}
+use Rattle.ed_syntax.specs.Private.Grammar.{ranged_map, placed_statement, labelled_line}
 use Rattle.ed_syntax.specs.Private.Seen.{part}
 use Rattle.ed_syntax.specs.Programs.{is_second}
 use Rattle.ed_syntax.specs.declared.program.Form.{Form}
