@@ -1,7 +1,8 @@
 //! Statements.
 ghost use Rattle.std.specs.Prelude.{◌≡◌, ◌++◌, ◌∷◌, [], IfOk, codes, Some, true};
 ghost use Rattle.ed_writer.specs.Written.{base_text, length_letter, order_operand, row_letter, settings_after};
-ghost use Rattle.ed_writer.specs.Written.{statement_text};
+ghost use Rattle.ed_writer.specs.Written.{statement_text, string_text};
+ghost use Rattle.std.specs.Fmt.{decimal};
 ghost use Rattle.ed_syntax.specs.Forms.{has_few_settings};
 
 use crate::operands::{push_order_operand, push_settings};
@@ -53,11 +54,51 @@ fn push_fetch(
         ≡ text.old.items ++ (codes "use " ++ (routine.now ++ (codes " as " ++ (name.now
         ++ settings_after (codes " with ") settings.now))))) }
 {
-    push(text, b"use ")?;
-    push(text, routine.text().as_bytes())?;
-    push(text, b" as ")?;
-    push(text, name.text().as_bytes())?;
+    push_named(text, b"use ", routine)?;
+    push_named(text, b" as ", name)?;
     push_settings(alloc, text, settings)
+}
+
+/// Adds a keyword, which ends with a blank, and a name.
+fn push_named(text: &mut Vec<u8>, keyword: &[u8], name: &Name) -> Result<(), NoMemory>
+    ensures { IfOk result (λ _. text.new.items ≡ text.old.items ++ (keyword.now ++ name.now)) }
+{
+    push(text, keyword)?;
+    push(text, name.text().as_bytes())
+}
+
+/// Adds a keyword, which ends with a blank, and a number.
+fn push_numbered(
+    alloc: Global,
+    text: &mut Vec<u8>,
+    keyword: &[u8],
+    number: u64,
+) -> Result<(), NoMemory>
+    ensures { IfOk result (λ _. text.new.items ≡ text.old.items ++ (keyword.now ++ decimal number)) }
+{
+    push(text, keyword)?;
+    push_number(alloc, text, number)
+}
+
+/// Adds a keyword, which ends with a blank, and a string.
+fn push_rows(text: &mut Vec<u8>, keyword: &[u8], rows: &ArrayVec<Code, 120>) -> Result<(), NoMemory>
+    ensures { IfOk result (λ _. text.new.items ≡ text.old.items ++ (keyword.now ++ string_text rows.now.items)) }
+{
+    push(text, keyword)?;
+    push_string(text, rows)
+}
+
+/// Adds the beginning of a segment.
+fn push_segment(
+    alloc: Global,
+    text: &mut Vec<u8>,
+    name: &Name,
+    base: Option<u16>,
+) -> Result<(), NoMemory>
+    ensures { IfOk result (λ _. text.new.items ≡ text.old.items ++ (codes "segment " ++ (name.now ++ base_text base))) }
+{
+    push_named(text, b"segment ", name)?;
+    push_base(alloc, text, base)
 }
 
 /// Adds a statement.
@@ -70,40 +111,23 @@ pub(crate) fn push_statement(
     ensures few { IfOk result (λ _. has_few_settings (Some statement.now) ≡ true) }
 {
     match statement {
-        Statement::Segment { name, base } => {
-            push(text, b"segment ")?;
-            push(text, name.text().as_bytes())?;
-            push_base(alloc, text, *base)
-        }
+        Statement::Segment { name, base } => push_segment(alloc, text, name, *base),
         Statement::Order {
             function,
             operand,
             length,
         } => push_order(alloc, text, *function, operand, *length),
         Statement::Number { value } => {
-            push(text, b"word ")?;
-            push_number(alloc, text, u64::from(value.value()))
+            push_numbered(alloc, text, b"word ", u64::from(value.value()))
         }
-        Statement::Text { codes } => {
-            push(text, b"text ")?;
-            push_string(text, codes)
-        }
+        Statement::Text { codes } => push_rows(text, b"text ", codes),
         Statement::Fetch {
             routine,
             name,
             settings,
         } => push_fetch(alloc, text, routine, name, settings.as_slice()),
-        Statement::Enter { name } => {
-            push(text, b"enter ")?;
-            push(text, name.text().as_bytes())
-        }
-        Statement::Rows { codes } => {
-            push(text, b"data ")?;
-            push_string(text, codes)
-        }
-        Statement::Long { value } => {
-            push(text, b"long ")?;
-            push_number(alloc, text, value.value())
-        }
+        Statement::Enter { name } => push_named(text, b"enter ", name),
+        Statement::Rows { codes } => push_rows(text, b"data ", codes),
+        Statement::Long { value } => push_numbered(alloc, text, b"long ", value.value()),
     }
 }
