@@ -1,6 +1,7 @@
-ghost use Rattle.std.specs.Prelude.{◌≡◌, ◌≢◌, IfOk};
+ghost use Rattle.std.specs.Prelude.{◌≡◌, ◌≢◌, ◌++◌, ◌∷◌, [], IfOk, codes};
+ghost use Rattle.std.specs.Fmt.{decimal};
 ghost use Rattle.ed_codes.specs.declared.tape.TextFault.TheVariants.{Memory};
-ghost use Rattle.ed_report.specs.Notes.{cause_text, part_line, rule_line, source_cause_text};
+ghost use Rattle.ed_report.specs.Notes.{cause_text, of_line, part_line, source_cause_text};
 ghost use Rattle.ed_report.specs.Notes.{source_fault_line, tape_fault_line, text_fault_line};
 
 use crate::text::bytes_of_text;
@@ -32,7 +33,7 @@ pub fn tape_fault(alloc: Global, fault: &TapeFault) -> Result<Vec<u8>, NoMemory>
     ensures { IfOk result (λ bytes. bytes.items ≡ tape_fault_line fault.now) }
 {
     match fault {
-        TapeFault::At { row, cause } => rule_line(alloc, *row, *cause),
+        TapeFault::At { row, cause } => row_note(alloc, *row, cause_text(*cause)),
         TapeFault::Memory => unreachable!(),
     }
 }
@@ -51,12 +52,19 @@ pub fn part_fault(
     bytes_of_text(format!(in alloc; "part {part}, row {row}: {rule}\n"))
 }
 
-/// The line that reports a rule broken at a row.
-fn rule_line(alloc: Global, row: usize, cause: TapeCause) -> Result<Vec<u8>, NoMemory>
-    ensures { IfOk result (λ bytes. bytes.items ≡ rule_line row cause) }
+/// The line of a note on a row.
+pub(crate) fn row_note(alloc: Global, row: usize, note: &str) -> Result<Vec<u8>, NoMemory>
+    ensures { IfOk result (λ bytes. bytes.items
+        ≡ codes "row " ++ decimal row ++ codes ": " ++ note.now ++ 10 ∷ []) }
 {
-    let rule = cause_text(cause);
-    bytes_of_text(format!(in alloc; "row {row}: {rule}\n"))
+    bytes_of_text(format!(in alloc; "row {row}: {note}\n"))
+}
+
+/// The line of a note on a line of a text.
+pub(crate) fn line_note(alloc: Global, line: u32, note: &str) -> Result<Vec<u8>, NoMemory>
+    ensures { IfOk result (λ bytes. bytes.items ≡ of_line line note.now) }
+{
+    bytes_of_text(format!(in alloc; "line {line}: {note}\n"))
 }
 
 /// The number and the text of a rule of the tape notation.
@@ -83,10 +91,7 @@ pub fn source_fault(alloc: Global, fault: &SourceFault) -> Result<Vec<u8>, NoMem
     ensures { IfOk result (λ bytes. bytes.items ≡ source_fault_line fault.now) }
 {
     match fault {
-        SourceFault::At { line, cause } => {
-            let rule = source_cause_text(*cause);
-            bytes_of_text(format!(in alloc; "line {line}: {rule}\n"))
-        }
+        SourceFault::At { line, cause } => line_note(alloc, *line, source_cause_text(*cause)),
         SourceFault::Memory => unreachable!(),
     }
 }
