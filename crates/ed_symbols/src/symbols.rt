@@ -10,7 +10,7 @@ use ed_syntax::{Line, Name, Statement};
 use ed_words::NoMemory;
 
 /// The definition of a name.
-#[derive(Clone, Copy, Debug, PartialEq, Eq)]
+#[derive(Clone, Copy)]
 pub struct Definition {
     pub name: Name,
     /// The location of the name.
