@@ -1,3 +1,4 @@
+pub mod Steps
 pub mod Spellable
 pub mod Texts
 pub mod Passes

@@ -1,8 +1,8 @@
 -- What the loop over the lines needs.
 use Rattle.std.proofs.Common.{◌≡◌, ℕ, ◌+◌, ◌*◌, ◌<◌, ◌≤◌, refl, sym, ap, ◌∙◌, arith, Bool, false, Option, Some, None}
-use Rattle.std.proofs.Common.{List, [], ◌∷◌, ◌++◌, length, drop, get_or, append_assoc, length-append}
+use Rattle.std.proofs.Common.{List, [], ◌∷◌, ◌++◌, length, drop, get_or, append_assoc, append-nil, length-append}
 use Rattle.std.specs.Prelude.{◌||◌, unwrap_or}
-use Rattle.std.proofs.lemmas.List.{length-replicate, drop_more}
+use Rattle.std.proofs.lemmas.List.{at_drop_all, drop_more, length-replicate}
 use Rattle.std.proofs.lemmas.Bool.Decides.{nat_tests}
 use Rattle.ed_words.specs.declared.size.Size.{Size}
 use Rattle.ed_words.specs.Sizes.{locations}
@@ -10,13 +10,16 @@ use Rattle.ed_syntax.specs.declared.program.Statement.{Statement}
 use Rattle.ed_syntax.specs.declared.program.Statement.TheVariants.{Segment, Order, Number, Text}
 use Rattle.ed_syntax.specs.declared.program.Statement.TheVariants.{Long, Fetch, Enter, Rows}
 use Rattle.ed_syntax.specs.declared.program.Line.{Line}
+use Rattle.ed_syntax.specs.declared.fault.SourceCause.{SourceCause}
+use Rattle.ed_syntax.specs.declared.fault.SourceFault.TheVariants.{At}
 use Rattle.ed_symbols.specs.declared.symbols.Definition.{Definition}
 use Rattle.ed_symbols.specs.declared.location_counter.LocationCounter.{LocationCounter}
+use Rattle.ed_symbols.specs.Faults.{or_later}
 use Rattle.ed_symbols.specs.Places.{after_statement, first_counter}
 use Rattle.ed_notation.specs.Spellings.{AreSpellable}
 use Rattle.ed_link.proofs.Lengths.{put_all_append}
 use Rattle.ed_link.specs.declared.building.Built.{Built}
-use Rattle.ed_link.specs.Private.Building.{first_past}
+use Rattle.ed_link.specs.Private.Building.{IsBuilt, first_past}
 use Rattle.ed_link.specs.Linked.{data_after, data_rows, entered_place, entry_from, placed_by_line, placed_from}
 use Rattle.ed_link.specs.Punch.{items_of, punched_from}
 use Rattle.ed_link.specs.Tables.{empty_table, put_all, table_of}
@@ -167,3 +170,36 @@ start past counter items table entry rows = record {
   few_items = rw items (omega arith);
   few_rows = rw rows (omega arith);
 }
+
+-- all lines are built after the last one
+pub all_built : {z : Size} {symbols : List Definition} {has_enter : Bool} {lines : List Line} {n : ℕ} {m : Made}
+    → Doing z symbols has_enter lines n m → length lines ≤ n → n ≤ length lines → length lines ≤ 2000
+    → IsBuilt z symbols has_enter lines m.built
+all_built {z} {symbols} {has_enter} {lines} {n} {m} d past within limit =
+    let none : [] ≡ drop n lines = sym (at_drop_all (λ (xs : List Line). xs) lines n past) in
+    record {
+      accepted = sym d.fault ∙ ap (λ (x : List Line). fault_from z symbols has_enter m.past m.counter x) (sym none);
+      items = sym (append-nil m.built.items.items)
+          ∙ ap (λ (x : List Line). m.built.items.items ++ punched_from symbols m.counter x) none ∙ d.items_are;
+      spellable = d.spellable;
+      table = ap (λ (x : List Line). put_all m.built.table.items (placed_from symbols m.counter x)) none ∙ d.table_is;
+      size = d.size;
+      entry = ap (λ (x : List Line). unwrap_or m.built.entry (entry_from symbols x)) none ∙ d.entry_is;
+      after = sym (append-nil m.built.after.items)
+          ∙ ap (λ (x : List Line). m.built.after.items ++ data_after x) none ∙ d.rows_are;
+      few_items = omega (arith, d.few_items);
+      few_rows = omega (arith, d.few_rows);
+    }
+
+-- the fault of a line is the first one
+pub stopped : {z : Size} {symbols : List Definition} {has_enter : Bool} {lines : List Line} {n : ℕ} {l : Line}
+    {m : Made} {cause : SourceCause}
+    → Doing z symbols has_enter lines n m → n < length lines → l ≡ get_or lines n l
+    → cause_of z symbols has_enter m.past l m.counter ≡ Some cause
+    → fault_from z symbols has_enter first_past first_counter lines ≡ Some (At l.number cause)
+stopped {z} {symbols} {has_enter} {lines} {n} {l} {m} d below is has =
+    let rest = drop (n + 1) lines in
+    let q : drop n lines ≡ l ∷ rest = drop_more lines n l below ∙ ap (λ (x : Line). x ∷ rest) (sym is) in
+    sym d.fault ∙ ap (λ (x : List Line). fault_from z symbols has_enter m.past m.counter x) q
+    ∙ ap (λ (x : Option SourceCause). or_later l.number x
+    (fault_from z symbols has_enter (past_of m.past l m.counter) (after_statement l.statement m.counter) rest)) has

@@ -1,6 +1,6 @@
 //! The items of a line.
 ghost use Rattle.std.specs.Prelude.{ℕ, ◌≡◌, ◌≤◌, ◌<◌, ◌^◌, ◌+◌, ◌*◌, ◌++◌, ◌∷◌, [], OnOk, map, nat_eq, nat_le, IsTrue};
-ghost use Rattle.std.specs.Prelude.{unwrap_or, length, false, true, None};
+ghost use Rattle.std.specs.Prelude.{unwrap_or, length, false, true, None, ◌&&◌};
 ghost use Rattle.std.specs.List.{flat_map, list_all};
 ghost use Rattle.ed_notation.specs.Spellings.{AreSpellable, is_spellable};
 ghost use Rattle.ed_library.specs.Entries.{entry};
@@ -9,7 +9,7 @@ ghost use Rattle.ed_symbols.specs.Names.{place_on};
 ghost use Rattle.ed_symbols.specs.Places.{segment_at};
 ghost use Rattle.ed_library.specs.Routines.{find, routine_item as item_at};
 ghost use Rattle.ed_symbols.specs.Places.{after_statement, routine_places};
-ghost use Rattle.ed_link.specs.Private.FaultTests.{reach};
+ghost use Rattle.ed_link.specs.Private.FaultTests.{has_words, reach};
 ghost use Rattle.ed_link.specs.Linked.{operand_number, long_words, set_to, parameter_letters, line_words};
 ghost use Rattle.ed_link.specs.Punch.{ending, head, with_heading, heads, item_with, items_of, order_item, goes_by_theta};
 ghost use Rattle.ed_link.specs.Punch.{preset_items, routine_items, use_items, word_item, word_items};
@@ -143,17 +143,34 @@ fn push_order(
     }
 }
 
+/// Whether a line has a word of its own.
+fn has_words(statement: &Option<Statement>) -> bool
+    ensures { result ≡ has_words statement.now }
+{
+    match statement {
+        Some(Statement::Order { .. } | Statement::Number { .. } | Statement::Long { .. }) => true,
+        Some(Statement::Text { codes }) => !codes.is_empty(),
+        _ => false,
+    }
+}
+
 /// Adds the head of a segment, if a line is its first with a word.
-fn push_heads(items: &mut Vec<Item>, counter: LocationCounter) -> Result<(), NoMemory>
+fn push_heads(
+    items: &mut Vec<Item>,
+    counter: LocationCounter,
+    statement: &Option<Statement>,
+) -> Result<(), NoMemory>
     requires spellable { AreSpellable items.old.items }
-    requires base { counter.base ≤ 32767 }
-    ensures items { OnOk result (items.new.items ≡ items.old.items ++ heads (nat_eq counter.place counter.base) counter.base) }
+    requires base { has_words statement.now ≡ true → counter.base ≤ 32767 }
+    ensures items { OnOk result (items.new.items
+        ≡ items.old.items ++ heads (has_words statement.now && nat_eq counter.place counter.base) counter.base) }
     ensures spellable { AreSpellable items.new.items }
 {
-    if counter.place == counter.base {
-        push_head(items, counter.base as u16)?;
+    if has_words(statement) && counter.place == counter.base {
+        push_head(items, counter.base as u16)
+    } else {
+        Ok(())
     }
-    Ok(())
 }
 
 /// Adds the items of a `text`.
@@ -262,6 +279,62 @@ fn push_use(
     }
 }
 
+/// Adds the items of the words of a line of a segment.
+fn push_words(
+    items: &mut Vec<Item>,
+    symbols: &[Definition],
+    counter: LocationCounter,
+    statement: &Option<Statement>,
+) -> Result<(), NoMemory>
+    requires spellable { AreSpellable items.old.items }
+    requires base { has_words statement.now ≡ true → counter.base ≤ 32767 }
+    ensures items { OnOk result (items.new.items ≡ items.old.items ++ word_items symbols.now counter statement.now) }
+    ensures spellable { AreSpellable items.new.items }
+{
+    match statement {
+        Some(
+            Statement::Order {
+                function,
+                operand,
+                length,
+            },
+        ) => push_order(items, symbols, counter, *function, operand, *length),
+        Some(Statement::Number { value }) => push_word(items, *value),
+        Some(Statement::Text { codes }) => push_text(items, codes),
+        Some(Statement::Long { value }) => push_long(items, counter.place, *value),
+        _ => Ok(()),
+    }
+}
+
+/// Adds the items of a line of a segment, after the head if the line is the first with a word.
+fn push_headed(
+    items: &mut Vec<Item>,
+    symbols: &[Definition],
+    counter: LocationCounter,
+    statement: &Option<Statement>,
+) -> Result<(), NoMemory>
+    requires spellable { AreSpellable items.old.items }
+    requires base { has_words statement.now ≡ true → counter.base ≤ 32767 }
+    ensures items { OnOk result (items.new.items ≡ items.old.items
+        ++ with_heading (word_items symbols.now counter statement.now) (nat_eq counter.place counter.base) counter.base) }
+    ensures spellable { AreSpellable items.new.items }
+{
+    push_heads(items, counter, statement)?;
+    push_words(items, symbols, counter, statement)
+}
+
+/// Adds the items of an `enter`.
+fn push_enter(items: &mut Vec<Item>, entry: u16) -> Result<(), NoMemory>
+    requires spellable { AreSpellable items.old.items }
+    requires entry { entry ≤ 32767 }
+    ensures items { OnOk result (items.new.items
+        ≡ items.old.items ++ item_with 3 entry false 14 ∷ item_with 0 0 false 17 ∷ []) }
+    ensures spellable { AreSpellable items.new.items }
+{
+    push_control(items, letters::E, entry)?;
+    push_number(items, Code::P, 0, false)
+}
+
 /// Adds the items of a line.
 pub(crate) fn push_line(
     items: &mut Vec<Item>,
@@ -279,42 +352,14 @@ pub(crate) fn push_line(
 {
     match statement {
         Some(
-            Statement::Order {
-                function,
-                operand,
-                length,
-            },
-        ) => {
-            push_heads(items, counter)?;
-            push_order(items, symbols, counter, *function, operand, *length)
-        }
-        Some(Statement::Number { value }) => {
-            push_heads(items, counter)?;
-            push_word(items, *value)
-        }
-        Some(Statement::Text { codes }) => {
-            if codes.is_empty() {
-                return Ok(());
-            }
-            push_heads(items, counter)?;
-            push_text(items, codes)
-        }
-        Some(Statement::Long { value }) => {
-            push_heads(items, counter)?;
-            push_long(items, counter.place, *value)
-        }
-        Some(
             Statement::Fetch {
                 routine,
                 settings,
                 ..
             },
         ) => push_use(items, symbols, settings, even(counter.place), routine),
-        Some(Statement::Enter { name }) => {
-            push_control(items, letters::E, entry_of(symbols, name))?;
-            push_number(items, Code::P, 0, false)
-        }
-        None | Some(Statement::Segment { .. } | Statement::Rows { .. }) => Ok(()),
+        Some(Statement::Enter { name }) => push_enter(items, entry_of(symbols, name)),
+        _ => push_headed(items, symbols, counter, statement),
     }
 }
 

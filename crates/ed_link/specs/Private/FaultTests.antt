@@ -54,6 +54,11 @@ is_in_segment (Some (Text codes)) = true
 is_in_segment (Some (Long v)) = true
 is_in_segment st = false
 
+-- whether a line has a word of its own
+abbrev pub has_words : Option Statement → Bool
+has_words (Some (Text codes)) = not (nat_eq (length codes.items) 0)
+has_words st = is_in_segment st
+
 -- S9
 abbrev pub is_outside : Line → LocationCounter → Bool
 is_outside l s = not s.inside && (is_some l.label || is_in_segment l.statement)

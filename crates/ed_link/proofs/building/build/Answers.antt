@@ -1,5 +1,5 @@
 use Rattle.std.proofs.Common.{sym, false}
-use Rattle.ed_link.proofs.LineLoop.{reach_fits, start, step}
+use Rattle.ed_link.proofs.LineLoop.{all_built, reach_fits, start, step, stopped}
 use Rattle.ed_link.proofs.building.build.Goals as goal
 
 pub loop-line-init : goal.loop-line-init
@@ -34,3 +34,11 @@ add_line-requires-clause-fits c =
     (record { extents = c.loop-line.past.extents.items; entered = c.loop-line.past.entered }) c.line-item.result
     c.loop-line.counter
     (sym c.in-None.ensures)
+
+pub returns : goal.returns
+returns c =
+    all_built c.loop-line.invariant c.loop-line-test.false c.loop-line.auto.line-index-end c.requires
+
+pub returns-in-Some : goal.returns-in-Some
+returns-in-Some c =
+    stopped c.loop-line.invariant c.loop-line-test.true c.line-item.is (sym c.in-Some.ensures)

@@ -1,0 +1,179 @@
+-- The steps of loops that make, of each element of a list, a part of what they give; what stands after the head of a segment.
+use Rattle.std.proofs.Common.{◌≡◌, ℕ, ◌+◌, ◌*◌, ◌/◌, ◌%◌, ◌^◌, ◌<◌, ◌≤◌, nat_eq, map, if◌then◌else◌, Some, None, refl, sym, ap, ◌∙◌, arith, Bool, true, false, nat_le, nat_lt}
+use Rattle.std.proofs.Common.{List, [], ◌∷◌, ◌++◌, length, drop, get_or, append_assoc, append-nil, Option}
+use Rattle.std.specs.List.{flat_map, list_all}
+use Rattle.std.specs.Prelude.{◌&&◌, not}
+use Rattle.std.proofs.lemmas.Bool.{and_parts}
+use Rattle.std.proofs.lemmas.Bool.Decides.{nat_tests}
+use Rattle.std.proofs.lemmas.List.{at_drop_more, at_drop_all}
+use Rattle.ed_notation.specs.declared.item.Item.{Item}
+use Rattle.ed_library.specs.Entries.{entry}
+use Rattle.ed_library.specs.Routines.{table_item}
+use Rattle.ed_library.specs.declared.tables.TableRow.{TableRow}
+use Rattle.ed_syntax.specs.declared.program.Setting.{Setting}
+use Rattle.ed_syntax.specs.declared.program.Statement.{Statement}
+use Rattle.ed_syntax.specs.declared.program.Statement.TheVariants.{Segment, Order, Number, Text}
+use Rattle.ed_syntax.specs.declared.program.Statement.TheVariants.{Long, Fetch, Enter, Rows}
+use Rattle.ed_symbols.specs.declared.symbols.Definition.{Definition}
+use Rattle.ed_symbols.specs.declared.location_counter.LocationCounter.{LocationCounter}
+use Rattle.ed_symbols.specs.Names.{is_local}
+use Rattle.ed_link.specs.Labels.{label_of}
+use Rattle.ed_link.specs.Private.FaultTests.{has_words, reach}
+use Rattle.ed_link.specs.Linked.{parameter_letters, set_to}
+use Rattle.ed_link.specs.Punch.{head, heads, preset_items, use_items, with_heading, word_item, word_items}
+use Rattle.ed_link.specs.Tables.{put_all}
+use Rattle.ed_link.proofs.Lengths.{put_all_append, put_all_length}
+
+-- what was given, with the part of one more element, and then what the elements after it give
+pub one_more : {A B : Type 0} {x : A} {next whole : List B} (give : List A → List B) (xs : List A) (i : ℕ) (d : A)
+    (done part later : List B)
+    → i < length xs → x ≡ get_or xs i d → give (x ∷ drop (i + 1) xs) ≡ part ++ later → next ≡ done ++ part
+    → done ++ give (drop i xs) ≡ whole → next ++ later ≡ whole
+one_more {A} {B} {x} give xs i d done part later below is first same before =
+    ap (λ (ys : List B). ys ++ later) same ∙ append_assoc done part later
+    ∙ ap (λ (ys : List B). done ++ ys)
+    (sym first ∙ ap (λ (y : A). give (y ∷ drop (i + 1) xs)) is ∙ sym (at_drop_more give xs i d below)) ∙ before
+
+-- all is given after the last element
+pub all_given : {A B : Type 0} {whole : List B} (give : List A → List B) (xs : List A) (i : ℕ) (done : List B)
+    → length xs ≤ i → give [] ≡ [] → done ++ give (drop i xs) ≡ whole → done ≡ whole
+all_given {A} {B} give xs i done past none before =
+    sym (append-nil done) ∙ ap (λ (ys : List B). done ++ ys) (sym (at_drop_all give xs i past ∙ none)) ∙ before
+
+-- a test of all elements that are left holds for the next one and for those after it
+pub next_passes : {A : Type 0} (p : A → Bool) (xs : List A) (i : ℕ) (d : A)
+    → i < length xs → list_all p (drop i xs) ≡ true
+    → (p (get_or xs i d) ≡ true) × (list_all p (drop (i + 1) xs) ≡ true)
+next_passes p xs i d below all = and_parts _ _ (sym (at_drop_more (list_all p) xs i d below) ∙ all)
+
+-- a letter of those that are left
+pub next_letter : (xs : List ℕ) (i : ℕ) → i < length xs → list_all (λ c. nat_le c 26) (drop i xs) ≡ true
+    → get_or xs i 0 ≤ 26
+next_letter xs i below all = small (get_or xs i 0) (next_passes (λ c. nat_le c 26) xs i 0 below all).0
+  where
+    small : (x : ℕ) → nat_le x 26 ≡ true → x ≤ 26
+    small x h = grind (arith, nat_tests)
+
+-- words are put with those of one more element
+pub more_put : {A : Type 0} {next whole : List (Option ℕ)} (f : A → List (ℕ × ℕ)) (xs : List A) (i : ℕ) (d : A)
+    (table : List (Option ℕ))
+    → i < length xs → next ≡ put_all table (f (get_or xs i d)) → put_all table (flat_map f (drop i xs)) ≡ whole
+    → put_all next (flat_map f (drop (i + 1) xs)) ≡ whole
+more_put f xs i d table below same before =
+    ap (λ (t : List (Option ℕ)). put_all t (flat_map f (drop (i + 1) xs))) same
+    ∙ put_all_append table (f (get_or xs i d)) (flat_map f (drop (i + 1) xs))
+    ∙ ap (λ (ps : List (ℕ × ℕ)). put_all table ps) (sym (at_drop_more (flat_map f) xs i d below)) ∙ before
+
+-- all words are put after the last element
+pub all_put : {A : Type 0} {whole : List (Option ℕ)} (f : A → List (ℕ × ℕ)) (xs : List A) (i : ℕ)
+    (table : List (Option ℕ)) → length xs ≤ i → put_all table (flat_map f (drop i xs)) ≡ whole → table ≡ whole
+all_put f xs i table past before =
+    ap (λ (ps : List (ℕ × ℕ)). put_all table ps) (sym (at_drop_all (flat_map f) xs i past)) ∙ before
+
+-- putting words leaves the length
+pub same_length : {next : List (Option ℕ)} {n : ℕ} (table : List (Option ℕ)) (ps : List (ℕ × ℕ))
+    → next ≡ put_all table ps → length table ≡ n → length next ≡ n
+same_length table ps same known =
+    ap (λ (t : List (Option ℕ)). length t) same ∙ put_all_length table ps ∙ known
+
+-- a name that is reported
+pub shown : (h : Definition) → is_local h.name ≡ false → h.place ≤ 1023
+    → label_of h ≡ record { name = h.name; place = h.place } ∷ []
+shown h own near = rw (own, under h.place near) refl
+  where
+    under : (x : ℕ) → x ≤ 1023 → nat_lt 1023 x ≡ false
+    under x near = grind (arith, nat_tests)
+
+-- a name that isn't, since it is local
+pub hidden : (h : Definition) → is_local h.name ≡ true → label_of h ≡ []
+hidden h own = rw own refl
+
+-- a name that isn't, since it is too far
+pub hidden_far : (h : Definition) → is_local h.name ≡ false → 1023 < h.place → label_of h ≡ []
+hidden_far h own far = rw (own, over h.place far) refl
+  where
+    over : (x : ℕ) → 1023 < x → nat_lt 1023 x ≡ true
+    over x far = grind (arith, nat_tests)
+
+-- the length of a list with an element isn't 0
+some : (c : ℕ) (codes : List ℕ) → not (nat_eq (length (c ∷ codes)) 0) ≡ true
+some c codes = of (length (c ∷ codes)) (omega arith)
+  where
+    of : (n : ℕ) → 0 < n → not (nat_eq n 0) ≡ true
+    of n positive = grind (arith, nat_tests)
+
+-- items after the head of their segment: there is a head where there is a word
+pub headed : (symbols : List Definition) (s : LocationCounter) (st : Option Statement) (first : Bool) (base : ℕ)
+    → heads (has_words st && first) base ++ word_items symbols s st ≡ with_heading (word_items symbols s st) first base
+headed symbols s None first base = refl
+headed symbols s (Some (Segment name at)) first base = refl
+headed symbols s (Some (Order f o long)) first base = refl
+headed symbols s (Some (Number w)) first base = refl
+headed symbols s (Some (Text codes)) first base = of codes.items
+  where
+    of : (codes : List ℕ)
+        → heads (not (nat_eq (length codes) 0) && first) base ++ map word_item (map (λ c. 4096 * c) codes)
+        ≡ with_heading (map word_item (map (λ c. 4096 * c) codes)) first base
+    of [] = refl
+    of (c ∷ codes) =
+        ap (λ (some : Bool). heads (some && first) base ++ word_item (4096 * c) ∷ map word_item (map (λ c. 4096 * c) codes))
+        (some c codes)
+headed symbols s (Some (Long v)) first base = of (nat_eq (s.place % 2) 1) (v % 2 ^ 17) (v / 2 ^ 18)
+  where
+    of : (skips : Bool) (even odd : ℕ)
+        → heads first base ++ map word_item ((if skips then 0 ∷ [] else []) ++ even ∷ odd ∷ [])
+        ≡ with_heading (map word_item ((if skips then 0 ∷ [] else []) ++ even ∷ odd ∷ [])) first base
+    of true even odd = refl
+    of false even odd = refl
+headed symbols s (Some (Fetch routine name ts)) first base = refl
+headed symbols s (Some (Enter name)) first base = refl
+headed symbols s (Some (Rows codes)) first base = refl
+
+-- the base of a line with a word is within the store
+pub base_fits : (symbols : List Definition) (s : LocationCounter) (st : Option Statement)
+    → ((reach symbols st s).from < (reach symbols st s).after → (reach symbols st s).after ≤ 1024)
+    → s.base ≤ s.place → has_words st ≡ true → s.base ≤ 32767
+base_fits symbols s None fits base has = absurd (cc)
+base_fits symbols s (Some (Segment name at)) fits base has = absurd (cc)
+base_fits symbols s (Some (Order f o long)) fits base has = omega arith
+base_fits symbols s (Some (Number w)) fits base has = omega arith
+base_fits symbols s (Some (Text codes)) fits base has = of codes.items fits has
+  where
+    of : (codes : List ℕ) → (s.place < s.place + length codes → s.place + length codes ≤ 1024)
+        → not (nat_eq (length codes) 0) ≡ true → s.base ≤ 32767
+    of [] fits has = absurd (cc)
+    of (c ∷ codes) fits has = omega arith
+base_fits symbols s (Some (Long v)) fits base has = omega arith
+base_fits symbols s (Some (Fetch routine name ts)) fits base has = absurd (cc)
+base_fits symbols s (Some (Enter name)) fits base has = absurd (cc)
+base_fits symbols s (Some (Rows codes)) fits base has = absurd (cc)
+
+-- the items of a `use`
+pub used : {presets headed given : List Item} (symbols : List Definition) (ts : List Setting) (base : ℕ) (found : Option ℕ)
+    (r : ℕ) (done : List Item)
+    → found ≡ Some r → 0 < length (entry r).items
+    → presets ≡ done ++ flat_map (λ c. preset_items symbols (set_to ts c) c) parameter_letters
+    → headed ≡ presets ++ head base → given ≡ headed ++ map table_item (entry r).items
+    → given ≡ done ++ use_items symbols ts base found
+used symbols ts base found r done is some first second third =
+    let p = flat_map (λ c. preset_items symbols (set_to ts c) c) parameter_letters in
+    let m = map table_item (entry r).items in
+    third ∙ ap (λ (xs : List Item). xs ++ m) (second ∙ ap (λ (xs : List Item). xs ++ head base) first)
+    ∙ append_assoc (done ++ p) (head base) m ∙ append_assoc done p (head base ++ m)
+    ∙ ap (λ (xs : List Item). done ++ (p ++ xs)) (of (entry r).items some)
+    ∙ ap (λ (x : Option ℕ). done ++ use_items symbols ts base x) (sym is)
+  where
+    of : (rows : List TableRow) → 0 < length rows
+        → head base ++ map table_item rows ≡ with_heading (map table_item rows) true base
+    of [] some = absurd (omega arith)
+    of (row ∷ rows) some = refl
+
+-- the items of a `use` of a name that isn't in the catalogue
+pub unused : {presets : List Item} (symbols : List Definition) (ts : List Setting) (base : ℕ) (found : Option ℕ)
+    (done : List Item)
+    → found ≡ None → presets ≡ done ++ flat_map (λ c. preset_items symbols (set_to ts c) c) parameter_letters
+    → presets ≡ done ++ use_items symbols ts base found
+unused symbols ts base found done is first =
+    let p = flat_map (λ c. preset_items symbols (set_to ts c) c) parameter_letters in
+    first ∙ ap (λ (xs : List Item). done ++ xs) (sym (append-nil p))
+    ∙ ap (λ (x : Option ℕ). done ++ use_items symbols ts base x) (sym is)
