@@ -13,14 +13,14 @@ use ed_syntax::Name;
 use ed_words::{NoMemory, Word};
 
 /// A word of the linked program and its location.
-#[derive(Clone, Copy, Debug, PartialEq, Eq)]
+#[derive(Clone, Copy)]
 pub struct Placed {
     pub place: u16,
     pub word: Word,
 }
 
 /// A name and its location.
-#[derive(Clone, Copy, Debug, PartialEq, Eq)]
+#[derive(Clone, Copy)]
 pub struct LabelPlace {
     pub name: Name,
     pub place: u16,
