@@ -5,7 +5,7 @@ use crate::kind::RowKind;
 use ed_codes::{Code, letters};
 
 /// An item of the tape. A blank pair is the item with function 16, number 0, no mark and end 16.
-#[derive(Clone, Copy, Debug, PartialEq, Eq)]
+#[derive(Clone, Copy)]
 pub struct Item {
     /// The function row.
     pub function: Code,

@@ -2,7 +2,7 @@ ghost use Rattle.std.specs.Prelude.{◌≡◌, ◌++◌, ◌<◌, IfOk, [], ◌�
 ghost use Rattle.ed_codes.specs.Reading.{reading, rows};
 ghost use Rattle.ed_notation.specs.Items.{mark_rows, rows_of, spelled_rows};
 ghost use Rattle.ed_notation.specs.Spellings.{AreSpellable, IsSpelling, NoSpellingBeginsAnother, canonical, canonicals};
-ghost use Rattle.ed_notation.specs.Spellings.{digit_at, line_from, text_of};
+ghost use Rattle.ed_notation.specs.Spellings.{digit_at, digits_of, line_from, text_of};
 
 use crate::item::Item;
 use ed_codes::{Code, byte_of};
@@ -33,11 +33,18 @@ pub fn text_of_items(alloc: Global, items: &[Item]) -> Result<Vec<u8>, NoMemory>
 {
     let mut text = Vec::new(alloc);
     for item in items {
-        let mut rows = Vec::new(alloc);
-        push_item(&mut rows, item)?;
-        push_line(&mut text, &rows)?;
+        push_item_line(alloc, &mut text, item)?;
     }
     Ok(text)
+}
+
+/// The line of an item.
+fn push_item_line(alloc: Global, text: &mut Vec<u8>, item: &Item) -> Result<(), NoMemory>
+    ensures { IfOk result (λ v. text.new.items ≡ text.old.items ++ line_from false (rows_of (canonical item.now))) }
+{
+    let mut rows = Vec::new(alloc);
+    push_item(&mut rows, item)?;
+    push_line(text, &rows)
 }
 
 /// The line of an item's rows.
@@ -55,14 +62,20 @@ fn push_item(rows: &mut Vec<Code>, item: &Item) -> Result<(), NoMemory>
     ensures { IfOk result (λ v. rows.new.items ≡ rows.old.items ++ rows_of (canonical item.now)) }
 {
     push_row(rows, item.function)?;
-    push_digit(rows, item.number, 10000)?;
-    push_digit(rows, item.number, 1000)?;
-    push_digit(rows, item.number, 100)?;
-    push_digit(rows, item.number, 10)?;
-    push_digit(rows, item.number, 1)?;
+    push_digits(rows, item.number)?;
     push_mark(rows, item.mark)?;
-    push_row(rows, item.end)?;
-    Ok(())
+    push_row(rows, item.end)
+}
+
+/// The digit rows of a number below 100000.
+fn push_digits(rows: &mut Vec<Code>, number: u16) -> Result<(), NoMemory>
+    ensures { IfOk result (λ v. rows.new.items ≡ rows.old.items ++ digits_of number) }
+{
+    push_digit(rows, number, 10000)?;
+    push_digit(rows, number, 1000)?;
+    push_digit(rows, number, 100)?;
+    push_digit(rows, number, 10)?;
+    push_digit(rows, number, 1)
 }
 
 /// The digit row at a power of ten, unless the number is less than the power.

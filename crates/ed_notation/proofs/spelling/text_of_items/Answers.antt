@@ -1,3 +1,8 @@
+use Rattle.std.proofs.Common.{refl, false, List}
+use Rattle.ed_notation.specs.declared.item.Item.{Item}
+use Rattle.ed_notation.specs.Items.{rows_of}
+use Rattle.ed_notation.specs.Spellings.{canonical, canonicals, line_from, text_of}
+use Rattle.ed_notation.proofs.Parts.{one_more}
 use Rattle.ed_notation.proofs.Canonical.{are_written, spelling}
 use Rattle.ed_notation.proofs.Texts.{text_end, text_reads}
 use Rattle.ed_notation.proofs.spelling.text_of_items.Goals as goal
@@ -9,8 +14,16 @@ returns-clause-reads c =
 pub returns-clause-spelling : goal.returns-clause-spelling
 returns-clause-spelling c = spelling _ c.requires
 
-pub returns-in_err-push_item-clause-spelling : goal.returns-in_err-push_item-clause-spelling
-returns-in_err-push_item-clause-spelling c = spelling _ c.requires
+pub returns-in_err-push_item_line-clause-spelling : goal.returns-in_err-push_item_line-clause-spelling
+returns-in_err-push_item_line-clause-spelling c = spelling _ c.requires
 
-pub returns-in_err-push_line-clause-spelling : goal.returns-in_err-push_line-clause-spelling
-returns-in_err-push_line-clause-spelling c = spelling _ c.requires
+pub loop-item-preserved : goal.loop-item-preserved
+loop-item-preserved c =
+    let i = c.item-item.result in
+    one_more (λ (is : List Item). text_of (canonicals is)) c.args.items.now c.loop-item.item-index i
+    c.loop-item.text.items (line_from false (rows_of (canonical i))) _ c.loop-item-test.true c.item-item.is refl
+    c.in_ok-push_item_line.ensures c.loop-item.invariant
+
+pub returns-clause-text : goal.returns-clause-text
+returns-clause-text c =
+    text_end c.args.items.now c.loop-item.text.items c.loop-item.item-index c.loop-item-test.false c.loop-item.invariant

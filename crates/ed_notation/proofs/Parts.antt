@@ -1,0 +1,36 @@
+-- Lists that are made part after part.
+use Rattle.std.proofs.Common.{◌≡◌, ℕ, ◌+◌, ◌<◌, sym, ap, ◌∙◌, arith, true, nat_lt}
+use Rattle.std.proofs.Common.{List, [], ◌∷◌, ◌++◌, length, drop, get_or, append_assoc}
+use Rattle.std.proofs.lemmas.Bool.Decides.{nat_tests}
+use Rattle.std.proofs.lemmas.List.{at_drop_more}
+use Rattle.ed_codes.specs.Spelling.{byte_of}
+use Rattle.ed_notation.specs.Spellings.{line_from}
+
+-- a part, and then another
+pub joined : {A : Type 0} {next last : List A} (done part more : List A)
+    → next ≡ done ++ part → last ≡ next ++ more → last ≡ done ++ (part ++ more)
+joined {A} done part more first second =
+    second ∙ ap (λ (xs : List A). xs ++ more) first ∙ append_assoc done part more
+
+-- what was given, with the part of one more element, and then what the elements after it give
+pub one_more : {A B : Type 0} {x : A} {next whole : List B} (give : List A → List B) (xs : List A) (i : ℕ) (d : A)
+    (done part later : List B)
+    → i < length xs → x ≡ get_or xs i d → give (x ∷ drop (i + 1) xs) ≡ part ++ later → next ≡ done ++ part
+    → done ++ give (drop i xs) ≡ whole → next ++ later ≡ whole
+one_more {A} {B} {x} give xs i d done part later below is first same before =
+    ap (λ (ys : List B). ys ++ later) same ∙ append_assoc done part later
+    ∙ ap (λ (ys : List B). done ++ ys)
+    (sym first ∙ ap (λ (y : A). give (y ∷ drop (i + 1) xs)) is ∙ sym (at_drop_more give xs i d below)) ∙ before
+
+-- the byte of one more row of an item
+pub more_line : {next whole : List ℕ} (rows : List ℕ) (i c : ℕ) (done : List ℕ)
+    → i < length rows → c ≡ get_or rows i c → next ≡ done ++ byte_of c (nat_lt 0 i) ∷ []
+    → done ++ line_from (nat_lt 0 i) (drop i rows) ≡ whole
+    → next ++ line_from (nat_lt 0 (i + 1)) (drop (i + 1) rows) ≡ whole
+more_line rows i c done below is same before =
+    one_more (line_from (nat_lt 0 i)) rows i c done (byte_of c (nat_lt 0 i) ∷ [])
+    (line_from (nat_lt 0 (i + 1)) (drop (i + 1) rows)) below is
+    (ap (λ b. byte_of c (nat_lt 0 i) ∷ line_from b (drop (i + 1) rows)) (sym (after i))) same before
+  where
+    after : (i : ℕ) → nat_lt 0 (i + 1) ≡ true
+    after i = grind (arith, nat_tests)
