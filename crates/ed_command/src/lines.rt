@@ -1,7 +1,8 @@
-ghost use Rattle.std.specs.Prelude.{◌≡◌, ◌≤◌, IfSome, map, option_map};
+ghost use Rattle.std.specs.Prelude.{◌≡◌, ◌≤◌, IfSome, drop, map, option_and_then, option_map};
 ghost use Rattle.ed_command.specs.Held.{options_in};
 ghost use Rattle.ed_command.specs.Lines.{alone, call_of, command_named, command_of};
-ghost use Rattle.ed_command.specs.Lines.{division, one_number, with_division, with_only};
+ghost use Rattle.ed_command.specs.Calls.{call_with};
+ghost use Rattle.ed_command.specs.Lines.{division, line_named, lines, one_number, with_division, with_only};
 
 use crate::command::{Action, Command};
 use crate::options::Options;
@@ -21,37 +22,60 @@ fn command_named(word: &str, arguments: &[&str], options: &Options<'_>) -> Optio
     ensures { result ≡ command_named word.now (map (λ a. a.now) arguments.now) (options_in options.now) }
 {
     match word {
-        "tape" => with_only(
+        "tape" => plain(
             &["limit", "resume", "post-mortem", "store"],
             options,
-            alone(Action::Tape, arguments),
+            Action::Tape,
+            arguments,
         ),
-        "check-tape" => with_only(&["store"], options, alone(Action::CheckTape, arguments)),
-        "run" => with_only(
+        "check-tape" => plain(&["store"], options, Action::CheckTape, arguments),
+        "run" => plain(
             &["limit", "resume", "post-mortem", "store"],
             options,
-            alone(Action::Run, arguments),
+            Action::Run,
+            arguments,
         ),
-        "punch" => with_only(&["store"], options, alone(Action::Punch, arguments)),
-        "listing" => with_only(&["store"], options, alone(Action::Listing, arguments)),
-        "step" => with_only(&["limit"], options, alone(Action::Step, arguments)),
-        "trace" => with_only(
+        "punch" => plain(&["store"], options, Action::Punch, arguments),
+        "listing" => plain(&["store"], options, Action::Listing, arguments),
+        "step" => plain(&["limit"], options, Action::Step, arguments),
+        _ => later_command(word, arguments, options),
+    }
+}
+
+/// The same for the words after `step` in the table of lines.
+fn later_command(word: &str, arguments: &[&str], options: &Options<'_>) -> Option<Command>
+    ensures { result ≡ option_and_then
+        (λ l. with_only l.options (options_in options.now) (l.action (map (λ a. a.now) arguments.now)))
+        (line_named (drop 6 lines) word.now) }
+{
+    match word {
+        "trace" => plain(
             &["limit", "resume", "store"],
             options,
-            alone(Action::Trace, arguments),
+            Action::Trace,
+            arguments,
         ),
         "call" => with_only(&["limit"], options, call(arguments)),
-        "library" => with_only(&[], options, alone(Action::Library, arguments)),
+        "library" => plain(&[], options, Action::Library, arguments),
         "demo" => with_only(&["limit"], options, demo(arguments)),
-        "parts" => with_only(&["limit"], options, alone(Action::Parts, arguments)),
-        "tape1" => with_only(
-            &["limit", "resume"],
-            options,
-            alone(Action::Tape1, arguments),
-        ),
-        "check-tape1" => with_only(&[], options, alone(Action::CheckTape1, arguments)),
+        "parts" => plain(&["limit"], options, Action::Parts, arguments),
+        "tape1" => plain(&["limit", "resume"], options, Action::Tape1, arguments),
+        "check-tape1" => plain(&[], options, Action::CheckTape1, arguments),
         _ => None,
     }
+}
+
+/// The command of an action that takes no argument, if only these options are given.
+fn plain(
+    names: &[&str],
+    options: &Options<'_>,
+    action: Action,
+    arguments: &[&str],
+) -> Option<Command>
+    ensures { result ≡ with_only (map (λ n. n.now) names.now) (options_in options.now)
+        (alone action (map (λ a. a.now) arguments.now)) }
+{
+    with_only(names, options, alone(action, arguments))
 }
 
 /// The command of an action, if only these options are given.
@@ -101,14 +125,40 @@ fn call_of(arguments: &[&str]) -> Option<Call>
 {
     let (name, numbers) = arguments.split_first()?;
     match *name {
-        "print" => short(numbers).map(Call::Print),
-        "read" => short(numbers).map(Call::Read),
+        "print" => short_call(ShortCall::Print, numbers),
+        "read" => short_call(ShortCall::Read, numbers),
         "newline" => new_line(numbers),
         "divide" => with_division(numbers),
-        "root" => short(numbers).map(Call::Root),
-        "check" => short(numbers).map(Call::Check),
+        "root" => short_call(ShortCall::Root, numbers),
+        "check" => short_call(ShortCall::Check, numbers),
         _ => None,
     }
+}
+
+/// A call of one number.
+#[derive(Clone, Copy)]
+enum ShortCall {
+    /// `print`.
+    Print,
+    /// `read`.
+    Read,
+    /// `root`.
+    Root,
+    /// `check`.
+    Check,
+}
+
+/// The call of one number, 0 to 65,535.
+fn short_call(call: ShortCall, numbers: &[&str]) -> Option<Call>
+    ensures { result ≡ option_map (call_with call) (one_number 0 65535 (map (λ a. a.now) numbers.now)) }
+{
+    let number = short(numbers)?;
+    Some(match call {
+        ShortCall::Print => Call::Print(number),
+        ShortCall::Read => Call::Read(number),
+        ShortCall::Root => Call::Root(number),
+        ShortCall::Check => Call::Check(number),
+    })
 }
 
 /// The call `newline`, which takes no number.
