@@ -7,7 +7,7 @@ ghost use Rattle.ed_library.specs.Routines.{is_row};
 use ed_codes::letters;
 
 /// An item of a routine as plain numbers.
-#[derive(Clone, Copy, Debug, PartialEq, Eq)]
+#[derive(Clone, Copy)]
 pub struct TableRow {
     /// The code of the function row.
     pub function: u8,
