@@ -55,9 +55,10 @@ fn of_one(word: &[u8]) -> Option<SessionCommand>
     ensures is { result ≡ of_one word.now }
     ensures in_range { IfSome result IsCommandInRange }
 {
-    match word {
-        b"entry" => Some(SessionCommand::Move(MoveTarget::Entry)),
-        _ => None,
+    if word == b"entry".as_slice() {
+        Some(SessionCommand::Move(MoveTarget::Entry))
+    } else {
+        None
     }
 }
 
@@ -66,13 +67,18 @@ fn of_two(word: &[u8], argument: &[u8]) -> Option<SessionCommand>
     ensures is { result ≡ of_two word.now argument.now }
     ensures in_range { IfSome result IsCommandInRange }
 {
-    match word {
-        b"go" => go(argument),
-        b"to" => to(argument),
-        b"back" => number_within(argument, 0, 100_000_000).map(SessionCommand::Back),
-        b"trace" => number_within(argument, 1, 10_000).map(SessionCommand::Trace),
-        b"show" => shown(argument),
-        _ => None,
+    if word == b"go".as_slice() {
+        go(argument)
+    } else if word == b"to".as_slice() {
+        to(argument)
+    } else if word == b"back".as_slice() {
+        back(argument)
+    } else if word == b"trace".as_slice() {
+        trace(argument)
+    } else if word == b"show".as_slice() {
+        shown(argument)
+    } else {
+        None
     }
 }
 
@@ -94,16 +100,37 @@ fn to(argument: &[u8]) -> Option<SessionCommand>
     Some(SessionCommand::Move(MoveTarget::Address(address)))
 }
 
+/// The command `back`.
+fn back(argument: &[u8]) -> Option<SessionCommand>
+    ensures is { result ≡ option_map (λ n. SessionCommand.Back n) (number_within 0 100000000 argument.now) }
+    ensures in_range { IfSome result IsCommandInRange }
+{
+    let orders = number_within(argument, 0, 100_000_000)?;
+    Some(SessionCommand::Back(orders))
+}
+
+/// The command `trace`.
+fn trace(argument: &[u8]) -> Option<SessionCommand>
+    ensures is { result ≡ option_map (λ n. SessionCommand.Trace n) (number_within 1 10000 argument.now) }
+    ensures in_range { IfSome result IsCommandInRange }
+{
+    let orders = number_within(argument, 1, 10_000)?;
+    Some(SessionCommand::Trace(orders))
+}
+
 /// The command `show` with one part.
 fn shown(argument: &[u8]) -> Option<SessionCommand>
     ensures is { result ≡ shown_command argument.now }
     ensures in_range { IfSome result IsCommandInRange }
 {
-    match argument {
-        b"acc" => Some(SessionCommand::Accumulator),
-        b"mult" => Some(SessionCommand::Multiplier),
-        b"last" => Some(SessionCommand::LastPrinted),
-        _ => window(address(argument), address(argument)),
+    if argument == b"acc".as_slice() {
+        Some(SessionCommand::Accumulator)
+    } else if argument == b"mult".as_slice() {
+        Some(SessionCommand::Multiplier)
+    } else if argument == b"last".as_slice() {
+        Some(SessionCommand::LastPrinted)
+    } else {
+        window(address(argument), address(argument))
     }
 }
 
@@ -112,9 +139,10 @@ fn of_three(word: &[u8], first: &[u8], last: &[u8]) -> Option<SessionCommand>
     ensures is { result ≡ of_three word.now first.now last.now }
     ensures in_range { IfSome result IsCommandInRange }
 {
-    match word {
-        b"show" => window(address(first), address(last)),
-        _ => None,
+    if word == b"show".as_slice() {
+        window(address(first), address(last))
+    } else {
+        None
     }
 }
 
