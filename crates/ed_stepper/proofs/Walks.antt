@@ -1,5 +1,5 @@
 -- One more order of a move.
-use Rattle.std.proofs.Common.{◌≡◌, ℕ, ◌+◌, ◌<◌, refl, sym, ap, ◌∙◌, arith, add-one}
+use Rattle.std.proofs.Common.{◌≡◌, ℕ, ◌+◌, ◌<◌, ◌≤◌, refl, sym, ap, ◌∙◌, arith, add-one}
 use Rattle.std.proofs.Common.{below_more, true, false, Some, None, ◌⊎◌, inl, inr}
 use Rattle.ed_words.proofs.Numbers.{eq_true, eq_false}
 use Rattle.ed_machine.specs.State.{State}
@@ -113,3 +113,28 @@ pub after_from : (from k : ℕ) (s start m : State) → m ≡ state_after (k + 1
 after_from from k s start m is at =
     let e : from + (k + 1) ≡ from + k + 1 = omega arith in
     is ∙ ap (state_after (k + 1)) at ∙ sym (after_sum from (k + 1) start) ∙ ap (λ j. state_after j start) e
+
+-- as many orders as the limit allows
+pub at_limit : {aim : MoveTarget} {left : ℕ} {s : State} {k : ℕ} {m : State} → k ≡ left → Walking aim left s k m
+    → Walking aim left s left m
+at_limit e w = rw e at w
+
+-- ---- the numbers of a walk
+
+pub up_to : (k left : ℕ) → k < left → k ≤ left
+up_to k left below = omega arith
+
+pub one_more : (k left : ℕ) → k < left → k + 1 ≤ left
+one_more k left below = omega arith
+
+-- the orders counted from a start on: after one more order
+pub orders_more : (s m n k : ℕ) → n ≤ m + 1 → m ≤ s + k → n ≤ s + (k + 1)
+orders_more s m n k one all = omega arith
+
+-- after an order that was not obeyed
+pub orders_kept : (s m n k : ℕ) → n ≡ m → m ≤ s + k → n ≤ s + k
+orders_kept s m n k same all = omega arith
+
+-- counted from an earlier start on
+pub reached : (start s n from k : ℕ) → n ≤ s + (k + 1) → s ≤ start + from → n ≤ start + (from + k + 1)
+reached start s n from k all few = omega arith

@@ -6,7 +6,7 @@ ghost use Rattle.ed_stepper.specs.Inputs.{Divides, text_kind_of};
 use crate::fronts::first_line;
 
 /// The text after the line that divides an input.
-#[derive(Clone, Copy, Debug, PartialEq, Eq)]
+#[derive(Clone, Copy)]
 pub enum TextKind {
     /// The text of a tape, after the line `tape`.
     Tape,

@@ -3,11 +3,20 @@ use Rattle.ed_machine.specs.State.{State}
 use Rattle.ed_machine.specs.Steps.{is_obeyed, is_stop}
 use Rattle.ed_machine.proofs.Steps.{no_step}
 use Rattle.ed_initial.specs.Load.{enters}
-use Rattle.ed_stepper.proofs.Walks.{at_first, next, taken, after_from, goes_on, stops, owns, limits}
+use Rattle.ed_stepper.specs.MoveEnds.{blocked_end}
+use Rattle.ed_stepper.proofs.Walks.{after_from, at_first, at_limit, blocks, ends_at_once, goes_on, limits, next}
+use Rattle.ed_stepper.proofs.Walks.{one_more, orders_kept, orders_more, owns, reached, stops, taken, up_to}
 use Rattle.ed_stepper.proofs.walk.walk.Goals as goal
 
-pub returns-then-is_at_once-clause-state : goal.returns-then-is_at_once-clause-state
-returns-then-is_at_once-clause-state c = no_step _
+pub returns-then-is_at_once : goal.returns-then-is_at_once
+returns-then-is_at_once c = record {
+  ends = ends_at_once _ _ _ _ (c.is_at_once.ensures.yes c.if-is_at_once.true _);
+  state = no_step _;
+  free = λ j h. absurd (omega arith);
+  most = omega arith;
+  count = omega arith;
+  marks = λ start is few are. are;
+}
 
 pub loop-orders-init : goal.loop-orders-init
 loop-orders-init c = record {
@@ -16,46 +25,62 @@ loop-orders-init c = record {
   marks = λ start is few are. are;
 }
 
-pub returns-in-Stopped-clause-ends : goal.returns-in-Stopped-clause-ends
-returns-in-Stopped-clause-ends c =
-    stops (next c.loop-orders.invariant.walking c.loop-orders-test.true c.step.ensures.turn
-    c.step.ensures.state (ap is_obeyed c.in-Stopped.is)) (ap is_stop c.in-Stopped.is)
+pub returns-in-Stopped : goal.returns-in-Stopped
+returns-in-Stopped c =
+    let n = next c.loop-orders.invariant.walking c.loop-orders-test.true c.step.ensures.turn c.step.ensures.state
+    (ap is_obeyed c.in-Stopped.is) in
+    record {
+      ends = stops n (ap is_stop c.in-Stopped.is);
+      state = n.state;
+      free = n.free;
+      most = one_more _ _ c.loop-orders-test.true;
+      count = orders_more _ _ _ _ c.step.ensures.count c.loop-orders.invariant.count;
+      marks = c.loop-orders.invariant.marks;
+    }
 
-pub returns-in-Stopped-clause-state : goal.returns-in-Stopped-clause-state
-returns-in-Stopped-clause-state c =
-    (next c.loop-orders.invariant.walking c.loop-orders-test.true c.step.ensures.turn c.step.ensures.state
-    (ap is_obeyed c.in-Stopped.is)).state
+pub returns-in-NoOrder : goal.returns-in-NoOrder
+returns-in-NoOrder c =
+    let w = c.loop-orders.invariant.walking in
+    let same = c.step.ensures.blocked (ap is_obeyed c.in-NoOrder.is) in
+    record {
+      ends = blocks w c.loop-orders-test.true (ap blocked_end (sym c.step.ensures.turn ∙ c.in-NoOrder.is));
+      state = same ∙ w.state;
+      free = w.free;
+      most = up_to _ _ c.loop-orders-test.true;
+      count = orders_kept _ _ _ _ (ap (λ (x : State). x.orders) same) c.loop-orders.invariant.count;
+      marks = c.loop-orders.invariant.marks;
+    }
 
-pub returns-in-Stopped-clause-free : goal.returns-in-Stopped-clause-free
-returns-in-Stopped-clause-free c =
-    (next c.loop-orders.invariant.walking c.loop-orders-test.true c.step.ensures.turn c.step.ensures.state
-    (ap is_obeyed c.in-Stopped.is)).free
+pub returns-in-NoTape : goal.returns-in-NoTape
+returns-in-NoTape c =
+    let w = c.loop-orders.invariant.walking in
+    let same = c.step.ensures.blocked (ap is_obeyed c.in-NoTape.is) in
+    record {
+      ends = blocks w c.loop-orders-test.true (ap blocked_end (sym c.step.ensures.turn ∙ c.in-NoTape.is));
+      state = same ∙ w.state;
+      free = w.free;
+      most = up_to _ _ c.loop-orders-test.true;
+      count = orders_kept _ _ _ _ (ap (λ (x : State). x.orders) same) c.loop-orders.invariant.count;
+      marks = c.loop-orders.invariant.marks;
+    }
 
-pub returns-in-Some-clause-ends : goal.returns-in-Some-clause-ends
-returns-in-Some-clause-ends c =
+pub returns-in-Some : goal.returns-in-Some
+returns-in-Some c =
     let w = c.loop-orders.invariant.walking in
     let t = taken w c.loop-orders-test.true c.step.ensures.turn c.step.ensures.state c.in-Went.is in
     let own = c.own_end.ensures c.args.machine.now c.loop-orders.orders (add-one c.loop-orders.orders)
     (c.counter.ensures.is ∙ ap (λ (x : State). x.counter) t.0.state)
     (c.is_entering-entered.ensures ∙ ap enters w.state) in
-    owns t.0 t.1 (sym own ∙ c.in-Some.is)
-
-pub returns-in-Some-clause-state : goal.returns-in-Some-clause-state
-returns-in-Some-clause-state c =
-    (taken c.loop-orders.invariant.walking c.loop-orders-test.true c.step.ensures.turn
-    c.step.ensures.state c.in-Went.is).0.state
-
-pub returns-in-Some-clause-free : goal.returns-in-Some-clause-free
-returns-in-Some-clause-free c =
-    (taken c.loop-orders.invariant.walking c.loop-orders-test.true c.step.ensures.turn
-    c.step.ensures.state c.in-Went.is).0.free
-
-pub returns-in-Some-clause-marks : goal.returns-in-Some-clause-marks
-returns-in-Some-clause-marks c = λ start is few are.
-    let t = taken c.loop-orders.invariant.walking c.loop-orders-test.true c.step.ensures.turn
-    c.step.ensures.state c.in-Went.is in
-    c.keep.ensures start (after_from _ _ _ _ _ t.0.state is) (omega
-    (arith, c.step.ensures.count, c.loop-orders.invariant.count, few)) (c.loop-orders.invariant.marks start is few are)
+    let count = orders_more _ _ _ _ c.step.ensures.count c.loop-orders.invariant.count in
+    record {
+      ends = owns t.0 t.1 (sym own ∙ c.in-Some.is);
+      state = t.0.state;
+      free = t.0.free;
+      most = one_more _ _ c.loop-orders-test.true;
+      count = count;
+      marks = λ start is few are. c.keep.ensures start (after_from _ _ _ _ _ t.0.state is)
+          (reached _ _ _ _ _ count few) (c.loop-orders.invariant.marks start is few are);
+    }
 
 pub loop-orders-preserved : goal.loop-orders-preserved
 loop-orders-preserved c =
@@ -64,16 +89,24 @@ loop-orders-preserved c =
     let own = c.own_end.ensures c.args.machine.now c.loop-orders.orders (add-one c.loop-orders.orders)
     (c.counter.ensures.is ∙ ap (λ (x : State). x.counter) t.0.state)
     (c.is_entering-entered.ensures ∙ ap enters w.state) in
+    let count = orders_more _ _ _ _ c.step.ensures.count c.loop-orders.invariant.count in
     record {
       walking = goes_on t.0 t.1 (sym own ∙ c.in_default.is);
-      count = omega (arith, c.step.ensures.count, c.loop-orders.invariant.count);
+      count = count;
       marks = λ start is few are. c.keep.ensures start (after_from _ _ _ _ _ t.0.state is)
-          (omega (arith, c.step.ensures.count, c.loop-orders.invariant.count, few))
-          (c.loop-orders.invariant.marks start is few are);
+          (reached _ _ _ _ _ count few) (c.loop-orders.invariant.marks start is few are);
     }
 
-pub returns-clause-ends : goal.returns-clause-ends
-returns-clause-ends c =
+pub returns : goal.returns
+returns c =
     let e : c.loop-orders.orders ≡ c.args.left =
     omega (arith, c.loop-orders-test.false, c.loop-orders.auto.orders-end) in
-    limits (rw e at c.loop-orders.invariant.walking)
+    let w = at_limit e c.loop-orders.invariant.walking in
+    record {
+      ends = limits w;
+      state = w.state;
+      free = w.free;
+      most = omega arith;
+      count = omega (arith, c.loop-orders.invariant.count, e);
+      marks = c.loop-orders.invariant.marks;
+    }
