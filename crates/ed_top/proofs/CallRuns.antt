@@ -1,5 +1,5 @@
 -- A call is the run of its source, from the state at its entry.
-use Rattle.std.proofs.Common.{◌≡◌, ◌∙◌, ℕ, ◌+◌, ◌-◌, ◌/◌, ◌%◌, ◌<◌, ◌≤◌, refl}
+use Rattle.std.proofs.Common.{◌≡◌, ◌∙◌, ℕ, ◌+◌, ◌/◌, ◌%◌, ◌<◌, ◌≤◌, refl}
 use Rattle.std.proofs.Common.{subst, arith, lit<, lit≤, List, [], ◌∷◌, ◌++◌}
 use Rattle.std.proofs.Common.{length, length-append}
 use Rattle.std.specs.Prelude.{None, Result, Ok, Err, codes as codes_of_text}

@@ -24,7 +24,7 @@ use Rattle.ed_command.specs.declared.command.Settings.{Settings}
 use Rattle.ed_words.specs.Texts.{Text}
 use Rattle.ed_answers.specs.Answer.{of_input, of_made}
 use Rattle.ed_top.specs.Scripts.{OfDivided, OfStep, OnInput, OnText, on_reading, on_rows, played_outcome}
-use Rattle.ed_top.specs.Scripts.{script_outcome, stand_on}
+use Rattle.ed_top.specs.Scripts.{script_outcome}
 use Rattle.ed_answers.specs.Replies.{Gives, RefusesText, Replies}
 use Rattle.ed_answers.specs.declared.reply.Rejection.{Rejection}
 use Rattle.ed_answers.specs.declared.reply.Rejection.TheVariants as rejection
@@ -65,27 +65,25 @@ text_replied s script text kind known r is good replies =
     replied (Err rejection.Memory) replies =
         let x = replies good.0 good.1 in (x.0, inr (good.0, good.1, x.1), x.2)
 
--- what a script gives on rows, by what was played of it
-pub rows_given : (s : Settings) (codes : List ℕ) (script : Text) (commands : CommandList) (from t : Stand)
-    (text : Vec ℕ Global) (reply : Reply) → IsScript script commands → from ≡ stand_on s codes
-    → ScriptEnds script from (Ok text) t
-    → Gives reply (done text.items) → Gives reply (on_rows s commands codes)
-rows_given s codes script commands from t text reply is stands ends gives =
+-- what a script gives, by what was played of it
+pub played_given : (script : Text) (commands : CommandList) (from t : Stand) (text : Vec ℕ Global) (reply : Reply)
+    → IsScript script commands → ScriptEnds script from (Ok text) t → Gives reply (done text.items)
+    → Gives reply (played_outcome (play 1 commands from))
+played_given script commands from t text reply is ends gives =
     let same = one_script script ends.0 commands ends.1 is in
-    subst (Gives reply) (ap played_outcome (sym ends.2) ∙ (λ i. played_outcome (play 1 (same i) (stands i)))) gives
+    subst (Gives reply) (ap played_outcome (sym ends.2) ∙ ap (λ cs. played_outcome (play 1 cs from)) same) gives
 
 -- by the line that went back too far
-pub far_given : (s : Settings) (codes : List ℕ) (script : Text) (commands : CommandList) (from t : Stand)
-    (fault : ScriptFault) (line done : ℕ) (reply : Reply) → IsScript script commands → from ≡ stand_on s codes
-    → ScriptEnds script from (Err fault) t → fault ≡ BackTooFar line done
-    → Gives reply (refusal (too_far_line line done)) → Gives reply (on_rows s commands codes)
-far_given s codes script commands from t fault line done reply is stands ends fault_is gives =
+pub far_given : (script : Text) (commands : CommandList) (from t : Stand) (fault : ScriptFault) (line done : ℕ)
+    (reply : Reply) → IsScript script commands → ScriptEnds script from (Err fault) t → fault ≡ BackTooFar line done
+    → Gives reply (refusal (too_far_line line done)) → Gives reply (played_outcome (play 1 commands from))
+far_given script commands from t fault line done reply is ends fault_is gives =
     let far : OfScript script (λ cs. GoesTooFar cs from t line done) =
     subst (λ f. ScriptEnds script from (Err f) t) fault_is ends in
     let same = one_script script far.0 commands far.1 is in
     subst (Gives reply)
     (ap (λ r. script_outcome r (play 1 far.0 from).text) (sym far.2.refused)
-    ∙ (λ i. played_outcome (play 1 (same i) (stands i)))) gives
+    ∙ ap (λ cs. played_outcome (play 1 cs from)) same) gives
 
 -- a script that has been tested has no bad line
 pub never_refused : (script : Text) (from t : Stand) (fault : ScriptFault) (line : ℕ) → HasBadLine script None

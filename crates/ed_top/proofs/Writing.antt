@@ -55,6 +55,13 @@ reply_carried answer input (Err rejection.Memory) out (Err Failed) replies w = a
 reply_carried answer input (Err rejection.Memory) out (Err Memory) replies w =
     (w.1, for_more answer input _ _ (λ o u. none_written out o.out w.0) replies)
 
+-- of a command with this answer
+pub written : {answer due : Answer} (input : Text) (reply : Result Reply Rejection) (out : Device)
+    (r : Result Rest Stop) → answer ≡ due → Replies due input reply → WritesReply reply out r
+    → Carried answer input out r
+written {due} input reply out r is replies w =
+    subst (λ (a : Answer). Carried a input out r) (sym is) (reply_carried due input reply out r replies w)
+
 -- a reply with an outcome that the input doesn't change
 replied_anew : (answers : Outcome → Type 0) (input : Text) (reply : Result Reply Rejection)
     → Replies (of_made answers) [] reply → Replies (of_made answers) input reply

@@ -6,7 +6,8 @@ ghost use Rattle.ed_stepper.specs.ScriptLines.{CommandList, HasBadLine, IsScript
 ghost use Rattle.ed_answers.specs.declared.input.TheConstants.{INPUT_BYTES};
 ghost use Rattle.ed_answers.specs.Answer.{of_input, of_made};
 ghost use Rattle.ed_answers.specs.Replies.{Gives, Replies};
-ghost use Rattle.ed_top.specs.Scripts.{OfStep, OnInput, OnText, on_rows};
+ghost use Rattle.ed_stepper.specs.Scripts.{play};
+ghost use Rattle.ed_top.specs.Scripts.{OfStep, OnInput, OnText, on_rows, played_outcome};
 
 use ed_answers::{Rejection, Reply, linked_of, rows_of};
 use ed_codes::Code;
@@ -106,7 +107,16 @@ fn step_rows(
 {
     let machine = started(alloc, settings.size, rows)?;
     let mut session = Session::new(alloc, machine, u64::from(settings.limit))?;
-    match run_script(alloc, &mut session, script) {
+    script_reply(alloc, &mut session, script)
+}
+
+/// Runs a script on a session.
+fn script_reply(alloc: Global, session: &mut Session, script: &[u8]) -> Result<Reply, NoMemory>
+    requires { HasBadLine script.now None }
+    ensures { (commands : CommandList) → IsScript script.now commands
+        → IfOk result (λ reply. Gives reply (played_outcome (play 1 commands session.old))) }
+{
+    match run_script(alloc, session, script) {
         Ok(text) => Ok(Reply::done(alloc, text)),
         Err(ScriptFault::BackTooFar { line, done: obeyed }) => {
             Ok(Reply::refusal(alloc, back_too_far(alloc, line, obeyed)?))
