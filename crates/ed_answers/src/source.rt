@@ -1,9 +1,10 @@
-ghost use Rattle.std.specs.Prelude.{◌≡◌, ◌≤◌, ◌++◌, [], IfOk, List, map, nat_le, if◌then◌else◌};
+ghost use Rattle.std.specs.Prelude.{◌≡◌, ◌<◌, ◌≤◌, ◌++◌, [], All, IfOk, List, map, nat_le, if◌then◌else◌};
 ghost use Rattle.ed_notation.specs.Spellings.{canonicals, text_of};
 ghost use Rattle.ed_syntax.specs.declared.program.Line.{Line};
 ghost use Rattle.ed_link.specs.Answers.{IsLinked};
 ghost use Rattle.ed_link.specs.Tapes.{after_text, cost, tape};
 ghost use Rattle.ed_loads.specs.EntryState.{entry_state};
+ghost use Rattle.ed_report.specs.Listings.{listing};
 ghost use Rattle.ed_report.specs.Notes.{ending_line, entry_note, source_fault_line};
 ghost use Rattle.ed_command.specs.Ranges.{AreSettingsInRange};
 ghost use Rattle.ed_answers.specs.Outcome.{done};
@@ -152,8 +153,16 @@ pub fn list_linked(alloc: Global, size: Size, linked: &Linked) -> Result<Reply, 
         → Gives reply (listing_outcome lines)) }
 {
     let machine = enter(alloc, size, linked)?;
-    let places = places_of(alloc, &linked.words)?;
-    Ok(Reply::done(alloc, listing(alloc, machine.store(), &places)?))
+    Ok(Reply::done(alloc, words_text(alloc, &machine, &linked.words)?))
+}
+
+/// The locations of words, with the words of a machine's store.
+fn words_text(alloc: Global, machine: &Machine, words: &[Placed]) -> Result<Vec<u8>, NoMemory>
+    requires { All (λ a. a < 1024) (map (λ p. p.place) words.now) }
+    ensures { IfOk result (λ text. text.items ≡ listing machine.now.store (map (λ p. p.place) words.now)) }
+{
+    let places = places_of(alloc, words)?;
+    listing(alloc, machine.store(), &places)
 }
 
 /// The locations of words.

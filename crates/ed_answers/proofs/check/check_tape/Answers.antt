@@ -1,6 +1,7 @@
+use Rattle.std.proofs.Common.{arith}
 use Rattle.ed_answers.specs.Tapes.{IsChecked}
 use Rattle.ed_answers.proofs.Checks.{checked_one}
-use Rattle.ed_answers.proofs.Replies.{none_replied, refusal_replied}
+use Rattle.ed_answers.proofs.Replies.{none_replied, refusal_replied, rows_replied}
 use Rattle.ed_answers.proofs.check.check_tape.Goals as goal
 
 pub returns-in_err-rows : goal.returns-in_err-rows
@@ -12,3 +13,11 @@ pub returns-in_err-check_rows : goal.returns-in_err-check_rows
 returns-in_err-check_rows c =
     let s = c.args.settings in
     none_replied (IsChecked s) c.args.input.now _ (checked_one s) c.from_residual-in_err-check_rows.ensures
+
+pub check_rows-requires : goal.check_rows-requires
+check_rows-requires c = omega (arith, c.in_ok-rows.ensures.few, c.deref.ensures.len, c.requires)
+
+pub returns : goal.returns
+returns c =
+    rows_replied (IsChecked c.args.settings) c.args.input.now _ c.in_ok-rows.ensures.is c.deref.ensures.value
+    c.in_ok-check_rows.ensures

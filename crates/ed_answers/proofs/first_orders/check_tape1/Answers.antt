@@ -1,6 +1,7 @@
+use Rattle.std.proofs.Common.{arith}
 use Rattle.ed_answers.specs.FirstOrders.{IsChecked1}
 use Rattle.ed_answers.proofs.FirstChecks.{checked1_one}
-use Rattle.ed_answers.proofs.Replies.{none_replied, refusal_replied}
+use Rattle.ed_answers.proofs.Replies.{none_replied, refusal_replied, rows_replied}
 use Rattle.ed_answers.proofs.first_orders.check_tape1.Goals as goal
 
 pub returns-in_err-rows : goal.returns-in_err-rows
@@ -10,3 +11,11 @@ returns-in_err-rows c =
 pub returns-in_err-check_rows1 : goal.returns-in_err-check_rows1
 returns-in_err-check_rows1 c =
     none_replied IsChecked1 c.args.input.now _ checked1_one c.from_residual-in_err-check_rows1.ensures
+
+pub check_rows1-requires : goal.check_rows1-requires
+check_rows1-requires c = omega (arith, c.in_ok-rows.ensures.few, c.deref.ensures.len, c.requires)
+
+pub returns : goal.returns
+returns c =
+    rows_replied IsChecked1 c.args.input.now _ c.in_ok-rows.ensures.is c.deref.ensures.value
+    c.in_ok-check_rows1.ensures
