@@ -1,4 +1,5 @@
 mod Replies
+mod Copied
 mod Endings
 mod Written
 mod TapeRows

@@ -1,6 +1,6 @@
 -- From the texts and the picture for a text to what the program answers.
 use Rattle.std.proofs.Common.{◌≡◌, ◌∙◌, ◌<◌, ◌≤◌, ℕ, inl, inr, refl, sym, ap}
-use Rattle.std.proofs.Common.{subst, arith, Some, None, List, [], length}
+use Rattle.std.proofs.Common.{subst, arith, rules, tests, nat_lt, Bool, true, false, Some, None, List, [], length}
 use Rattle.std.specs.Prelude.{Result, Ok, Err, IfOk}
 use Rattle.ed_words.specs.declared.size.Size.{Size}
 use Rattle.ed_words.specs.declared.memory.NoMemory.{NoMemory}
@@ -23,8 +23,8 @@ use Rattle.ed_answers.specs.Sources.{of_source, run_outcome}
 use Rattle.ed_answers.proofs.Sources.{accepted_is}
 use Rattle.ed_run.specs.Run.{RunEnd}
 use Rattle.ed_page.specs.Answers.{RowsEnd, SourceEnds}
-use Rattle.ed_page.specs.TapeItems.{IsItemsOutcome, items_answer}
-use Rattle.ed_page.specs.Private.Stages.{AreItemsOf, Draws, HoldsOutcome, IsRunOf, IsAnswered, KeepsText}
+use Rattle.ed_page.specs.TapeItems.{IsItemsOutcome, IsItemsOutcome1, items1_answer, items_answer}
+use Rattle.ed_page.specs.Private.Stages.{AreItemsOf, AreItemsOf1, Draws, HoldsOutcome, IsRunOf, IsAnswered, KeepsText}
 use Rattle.ed_page.specs.Private.Stages.{HoldsAnswer, HoldsRejection}
 use Rattle.ed_answers.specs.Replies.{LinksSource, RefusesText, Replies}
 use Rattle.ed_answers.specs.declared.reply.Rejection.{Rejection}
@@ -34,6 +34,15 @@ use Rattle.ed_page.specs.declared.running.Shown.{Shown}
 use Rattle.ed_page.specs.declared.told.Told.{Told}
 
 -- ---- a text that is too long
+
+-- what the test of a text's length says
+pub is_long : (text : Text) (long : Bool) → long ≡ nat_lt INPUT_BYTES (length text) → long ≡ true
+    → INPUT_BYTES < length text
+is_long text long is longer = search (tests, rules)
+
+pub not_long : (text : Text) (long : Bool) → long ≡ nat_lt INPUT_BYTES (length text) → long ≡ false
+    → length text ≤ INPUT_BYTES
+not_long text long is shorter = search (tests, rules)
 
 pub long_replied : (answers : Text → Outcome → Type 0) (text : Text) (r : Result Told NoMemory) → INPUT_BYTES < length text
     → IfOk r (λ told. HoldsOutcome told too_long_outcome) → IsAnswered (of_input answers) text r
@@ -62,6 +71,12 @@ pub rows_replied : (f : List ℕ → Outcome) (text : Text) (codes : List ℕ) (
 rows_replied f text codes (Ok told) few is gives = (f codes, inl (few, at_reading f (reading text) codes is), gives)
 rows_replied f text codes (Err e) few is gives = tt
 
+-- a text that is too long to be read
+pub tape_long : (answers : List ℕ → Outcome → Type 0) (text : Text) (r : Result Told NoMemory)
+    → INPUT_BYTES < length text → IfOk r (λ told. HoldsOutcome told too_long_outcome)
+    → IsAnswered (of_rows answers) text r
+tape_long answers text r long gives = long_replied (λ x. OfReading answers (reading x)) text r long gives
+
 -- a text that is refused
 refused_told : (answers : List ℕ → Outcome → Type 0) (q : Reading) (reply : Reply) (told : Told)
     → RefusesText q (Refused reply)
@@ -87,6 +102,16 @@ items_told z text codes (Ok told) few is t = (
   t.2,
 )
 items_told z text codes (Err e) few is t = tt
+
+-- and those of May 1949
+pub items1_told : (text : Text) (codes : List ℕ) (r : Result Told NoMemory) → length text ≤ INPUT_BYTES
+    → reading text ≡ rows codes → AreItemsOf1 codes r → IsAnswered items1_answer text r
+items1_told text codes (Ok told) few is t = (
+  t.0,
+  inl (few, subst (λ (q : Reading). OfReading IsItemsOutcome1 q t.0) (sym is) t.1),
+  t.2,
+)
+items1_told text codes (Err e) few is t = tt
 
 codes_of : Reading → List ℕ
 codes_of (rows codes) = codes

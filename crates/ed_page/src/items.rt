@@ -164,7 +164,6 @@ fn push_line(
 }
 
 /// Adds four numbers to a table.
-#[tactic(auto, using(std::proofs::Common::append_assoc))]
 pub fn push_numbers(
     table: &mut Vec<u8>,
     first: u32,

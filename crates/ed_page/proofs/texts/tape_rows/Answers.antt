@@ -1,8 +1,14 @@
-use Rattle.std.proofs.Common.{rules}
 use Rattle.ed_answers.specs.Answer.{exactly}
 use Rattle.ed_answers.specs.Outcome.{done}
-use Rattle.ed_page.proofs.Replies.{tape_refused}
+use Rattle.ed_page.proofs.Replies.{is_long, not_long, tape_long, tape_refused}
 use Rattle.ed_page.proofs.texts.tape_rows.Goals as goal
 
+pub returns-then-is_too_long : goal.returns-then-is_too_long
+returns-then-is_too_long c =
+    tape_long (exactly done) c.args.text.now _ (is_long _ _ c.is_too_long.ensures c.if-is_too_long.true)
+    c.too_long.ensures
+
 pub returns-in-Err : goal.returns-in-Err
-returns-in-Err c = tape_refused (exactly done) c.args.text.now _ _ (search rules) c.in-Err.ensures.is c.rejected.ensures
+returns-in-Err c =
+    tape_refused (exactly done) c.args.text.now _ _ (not_long _ _ c.is_too_long.ensures c.if-is_too_long.false)
+    c.in-Err.ensures.is c.rejected.ensures
