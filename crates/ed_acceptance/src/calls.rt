@@ -1,6 +1,6 @@
 //! Calls of the library's routines, and the list of the library.
 
-use crate::support::{answer_of, expect};
+use crate::support::{Row, expect_beginning, expect_each};
 use std::test::Fail;
 
 /// Calls, and what they print.
@@ -25,33 +25,38 @@ const PRINTED: [(&str, &str); 16] = [
 
 #[test]
 fn calls_print_digits(rt: HostRuntime) -> Result<(), Fail> {
-    for (line, printed) in PRINTED {
-        let answer = answer_of(rt.alloc(), line, b"no source")?;
-        assert!(rt; answer.status == 0 && answer.unread == 9, "{line}");
-        assert!(rt; answer.out.as_slice() == printed.as_bytes(), "{line}");
-        assert!(rt; answer.note.starts_with(b"entered 56 after "), "{line}");
+    for (line, printed) in &PRINTED {
+        let wanted = (0, *printed, "entered 56 after ");
+        let unread = expect_beginning(&rt, rt.alloc(), line, "no source", wanted)?;
+        assert!(rt; unread == 9, "{line}");
     }
     Ok(())
 }
 
-#[test]
-fn a_call_ends_at_its_limit(rt: HostRuntime) -> Result<(), Fail> {
-    let note = "limit at 34 after 9\n";
-    expect(&rt, rt.alloc(), "call print 5 --limit 9", "", (4, "", note))
-}
-
-#[test]
-fn the_lines_of_the_library(rt: HostRuntime) -> Result<(), Fail> {
-    let lines = "check 66 H\ndivide 41 H N M\nnewline 7\nprint 51 H\nread 24 H\nroot 23 H N\n";
-    expect(&rt, rt.alloc(), "library", "", (0, lines, ""))
-}
+/// A program that uses `print` twice.
+const PRINTS_TWICE: &str =
+    "segment main\na: A a F\nG p F\nb: A b F\nG q F\nZ F\nx: word 7\ny: word 12\n\
+        use print as p with H=x\nuse print as q with H=y\nenter main\n";
 
 #[test]
 fn two_prints_with_parameters_of_their_own(rt: HostRuntime) -> Result<(), Fail> {
-    let source = "segment main\na: A a F\nG p F\nb: A b F\nG q F\nZ F\nx: word 7\ny: word 12\n\
-        use print as p with H=x\nuse print as q with H=y\nenter main\n";
-    let answer = answer_of(rt.alloc(), "run", source.as_bytes())?;
-    assert!(rt; answer.status == 0);
-    assert!(rt; answer.out.as_slice() == b"712".as_slice());
+    expect_beginning(&rt, rt.alloc(), "run", PRINTS_TWICE, (0, "712", ""))?;
     Ok(())
+}
+
+/// A call that ends at its limit, and the lines of the library.
+const RUNS: [Row; 2] = [
+    ("call print 5 --limit 9", "", 4, "", "limit at 34 after 9\n"),
+    (
+        "library",
+        "",
+        0,
+        "check 66 H\ndivide 41 H N M\nnewline 7\nprint 51 H\nread 24 H\nroot 23 H N\n",
+        "",
+    ),
+];
+
+#[test]
+fn a_call_at_its_limit_and_the_lines_of_the_library(rt: HostRuntime) -> Result<(), Fail> {
+    expect_each(&rt, rt.alloc(), &RUNS)
 }

@@ -121,20 +121,26 @@ const VERDICTS: [(&str, &str, &str); 64] = [
 /// Checks that a command line gives this line for a tape: on `out` if the tape is well formed, otherwise on `note`.
 fn says(rt: &impl Abort, alloc: Global, line: &str, tape: &str, verdict: &str) -> Result<(), Fail> {
     let text = format!(in alloc; "{verdict}\n")?;
-    let wanted = if verdict.starts_with("entry ") {
-        (0, text.as_str(), "")
+    if verdict.starts_with("entry ") {
+        expect(rt, alloc, line, tape, (0, &text, ""))?;
     } else {
-        (3, "", text.as_str())
-    };
-    expect(rt, alloc, line, tape, wanted)
+        expect(rt, alloc, line, tape, (3, "", &text))?;
+    }
+    Ok(())
 }
 
 #[test]
 fn the_entry_or_the_first_rule_at_its_row(rt: HostRuntime) -> Result<(), Fail> {
-    for (line, tape, verdict) in VERDICTS {
+    for (line, tape, verdict) in &VERDICTS {
         says(&rt, rt.alloc(), line, tape, verdict)?;
     }
     Ok(())
+}
+
+/// Checks that a tape of so many rows, which is cut, has no entry.
+fn expect_cut(rt: &impl Abort, alloc: Global, tape: &str, rows: usize) -> Result<(), Fail> {
+    let verdict = format!(in alloc; "row {rows}: N1 end of tape")?;
+    says(rt, alloc, "check-tape", tape, &verdict)
 }
 
 #[test]
@@ -142,8 +148,7 @@ fn a_tape_that_is_cut_has_no_entry(rt: HostRuntime) -> Result<(), Fail> {
     let alloc = rt.alloc();
     let mut cut = String::new(alloc);
     for (rows, row) in "T64KGKO2@ZFAFEZPF".chars().enumerate() {
-        let verdict = format!(in alloc; "row {rows}: N1 end of tape")?;
-        says(&rt, alloc, "check-tape", &cut, &verdict)?;
+        expect_cut(&rt, alloc, &cut, rows)?;
         cut.push(row)?;
     }
     Ok(())
@@ -151,28 +156,34 @@ fn a_tape_that_is_cut_has_no_entry(rt: HostRuntime) -> Result<(), Fail> {
 
 /// The line for the tape of a function row and a row after it.
 fn verdict_of_two(function: u8, row: u8) -> &'static str {
-    match (function, row) {
-        (b'.', b'.') => "row 2: N1 end of tape",
-        (_, b'J' | b'S' | b'*' | b'.') => "row 1: N2 bad row",
-        (b'A', b'K' | b'Z') | (b'G', b'Z') => "row 1: N5 bad control",
-        _ => "row 2: N1 end of tape",
+    let blanks = function == b'.' && row == b'.';
+    if !blanks && b"JS*.".contains(&row) {
+        "row 1: N2 bad row"
+    } else if row == b'Z' && b"AG".contains(&function) || row == b'K' && function == b'A' {
+        "row 1: N5 bad control"
+    } else {
+        "row 2: N1 end of tape"
     }
+}
+
+/// Checks the line for the tape of a function row and a row after it.
+fn expect_two(rt: &impl Abort, alloc: Global, function: u8, row: u8) -> Result<(), Fail> {
+    let tape = format!(in alloc; "{}{}", char::from(function), char::from(row))?;
+    says(
+        rt,
+        alloc,
+        "check-tape",
+        &tape,
+        verdict_of_two(function, row),
+    )
 }
 
 #[test]
 fn every_code_after_a_function_row(rt: HostRuntime) -> Result<(), Fail> {
-    let alloc = rt.alloc();
     for function in [b'P', b'.', b'A', b'G'] {
         for number in 0..32 {
             let row = byte_of(Code::new(number).ok_or("no code")?, false);
-            let tape = format!(in alloc; "{}{}", char::from(function), char::from(row))?;
-            says(
-                &rt,
-                alloc,
-                "check-tape",
-                &tape,
-                verdict_of_two(function, row),
-            )?;
+            expect_two(&rt, rt.alloc(), function, row)?;
         }
     }
     Ok(())

@@ -1,6 +1,6 @@
 //! `call check` compared with plain steps of its guest.
 
-use crate::support::answer_of;
+use crate::support::{Answer, answer_of};
 use ed_codes::Code;
 use ed_link::link;
 use ed_loads::enter;
@@ -47,16 +47,31 @@ fn codes_to_stop(alloc: Global, machine: &mut Machine) -> Result<Vec<Code>, Fail
     Ok(codes)
 }
 
+/// What the guest of a number prints when it is checked, as its plain steps tell.
+fn wanted_of(rt: &impl Abort, alloc: Global, number: u16) -> Result<Vec<u8>, Fail> {
+    let mut machine = guest_of(rt, alloc, number)?;
+    let codes = codes_to_stop(alloc, &mut machine)?;
+    Ok(paper_text(alloc, &codes)?)
+}
+
+/// The answer of `call check` to a number.
+fn checked(alloc: Global, number: u16) -> Result<Answer, Fail> {
+    let line = format!(in alloc; "call check {number}")?;
+    answer_of(alloc, &line, b"")
+}
+
+/// Checks that an answer for a number has the wanted output.
+fn expect_out(rt: &impl Abort, answer: &Answer, wanted: &[u8], number: u16) {
+    assert!(rt; answer.status == 0, "{number}");
+    assert!(rt; answer.out.as_slice() == wanted, "{number}");
+}
+
 #[test]
 fn a_checked_guest_is_seen_order_by_order(rt: HostRuntime) -> Result<(), Fail> {
-    let alloc = rt.alloc();
     for number in [0, 7, 42, 123, 1949, 65535] {
-        let mut machine = guest_of(&rt, alloc, number)?;
-        let wanted = paper_text(alloc, &codes_to_stop(alloc, &mut machine)?)?;
-        let line = format!(in alloc; "call check {number}")?;
-        let answer = answer_of(alloc, line.as_str(), b"")?;
-        assert!(rt; answer.status == 0, "{number}");
-        assert!(rt; answer.out.as_slice() == wanted.as_slice(), "{number}");
+        let wanted = wanted_of(&rt, rt.alloc(), number)?;
+        let answer = checked(rt.alloc(), number)?;
+        expect_out(&rt, &answer, &wanted, number);
     }
     Ok(())
 }

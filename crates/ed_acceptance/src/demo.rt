@@ -1,8 +1,10 @@
 //! The large source from a number, and the sources of calls, to the byte.
 
-use crate::support::answer_of;
+use crate::support::{Answer, answer_of, expect_beginning};
 use ed_call::Call;
 use ed_top::{call_source, demo_source};
+use std::alloc::Global;
+use std::process::Abort;
 use std::test::Fail;
 
 /// The source of `demo 1`.
@@ -23,52 +25,67 @@ fn lines_of(text: &[u8]) -> u32 {
     lines
 }
 
-#[test]
-fn sources_to_the_byte(rt: HostRuntime) -> Result<(), Fail> {
-    let alloc = rt.alloc();
-    let source = demo_source(alloc, 1)?;
-    assert!(rt; source.as_slice() == FIRST.as_bytes());
-    let source = demo_source(alloc, 112)?;
+/// Checks the end and the lines of the largest source.
+fn expect_largest(rt: &impl Abort, source: &[u8]) {
     assert!(rt; source.ends_with(b"\nenter main\n"));
-    assert!(rt; lines_of(&source) == 1027);
-    let source = call_source(alloc, &Call::Print(4096))?;
-    let wanted =
-        "segment main\nhere: A here F\nG p F\nZ F\nvalue: word 4096\nuse print as p with H=value\nenter main\n";
-    assert!(rt; source.as_slice() == wanted.as_bytes());
+    assert!(rt; lines_of(source) == 1027);
+}
+
+#[test]
+fn sources_of_demos_to_the_byte(rt: HostRuntime) -> Result<(), Fail> {
+    let first = demo_source(rt.alloc(), 1)?;
+    assert!(rt; first.as_slice() == FIRST.as_bytes());
+    let largest = demo_source(rt.alloc(), 112)?;
+    expect_largest(&rt, &largest);
     Ok(())
+}
+
+/// The source of `call print 4096`.
+const PRINTS_4096: &str =
+    "segment main\nhere: A here F\nG p F\nZ F\nvalue: word 4096\nuse print as p with H=value\nenter main\n";
+
+#[test]
+fn the_source_of_a_call_to_the_byte(rt: HostRuntime) -> Result<(), Fail> {
+    let source = call_source(rt.alloc(), &Call::Print(4096))?;
+    assert!(rt; source.as_slice() == PRINTS_4096.as_bytes());
+    Ok(())
+}
+
+/// The answer of `run` to the source of a demo, on a store of 512 locations.
+fn answer_in_512(rt: &impl Abort, alloc: Global, number: u32) -> Result<Answer, Fail> {
+    assert!(rt; 1 <= number && number <= 112);
+    let source = demo_source(alloc, number)?;
+    answer_of(alloc, "run --store 512", &source)
+}
+
+/// Checks that a source is refused at its end.
+fn expect_refused(rt: &impl Abort, answer: &Answer) {
+    assert!(rt; answer.status == 3);
+    assert!(rt; answer.note.as_slice() == b"line 457: S12 store end\n".as_slice());
 }
 
 #[test]
 fn the_source_is_one_that_run_takes(rt: HostRuntime) -> Result<(), Fail> {
-    let alloc = rt.alloc();
-    let answer = answer_of(alloc, "run", FIRST.as_bytes())?;
-    assert!(rt; answer.status == 0);
-    assert!(rt; answer.out.as_slice() == b"339".as_slice());
-    let last = demo_source(alloc, 48)?;
-    let answer = answer_of(alloc, "run --store 512", &last)?;
-    assert!(rt; answer.status == 0);
-    let longer = demo_source(alloc, 49)?;
-    let answer = answer_of(alloc, "run --store 512", &longer)?;
-    assert!(rt; answer.status == 3);
-    assert!(rt; answer.note.as_slice() == b"line 457: S12 store end\n".as_slice());
+    expect_beginning(&rt, rt.alloc(), "run", FIRST, (0, "339", ""))?;
+    let last = answer_in_512(&rt, rt.alloc(), 48)?;
+    assert!(rt; last.status == 0);
+    let longer = answer_in_512(&rt, rt.alloc(), 49)?;
+    expect_refused(&rt, &longer);
     Ok(())
 }
 
 #[test]
 fn the_least_and_the_greatest_sum(rt: HostRuntime) -> Result<(), Fail> {
     for (line, sum) in [("demo 1", "339"), ("demo 112", "28190")] {
-        let answer = answer_of(rt.alloc(), line, b"no source")?;
-        assert!(rt; answer.status == 0 && answer.unread == 9, "{line}");
-        assert!(rt; answer.out.as_slice() == sum.as_bytes(), "{line}");
+        let unread = expect_beginning(&rt, rt.alloc(), line, "no source", (0, sum, ""))?;
+        assert!(rt; unread == 9, "{line}");
     }
-    Ok(())
-}
-
-#[test]
-fn a_demo_ends_at_its_limit(rt: HostRuntime) -> Result<(), Fail> {
-    let answer = answer_of(rt.alloc(), "demo 1 --limit 100", b"")?;
-    assert!(rt; answer.status == 4);
-    assert!(rt; answer.out.is_empty());
-    assert!(rt; answer.note.starts_with(b"limit at "));
+    expect_beginning(
+        &rt,
+        rt.alloc(),
+        "demo 1 --limit 100",
+        "",
+        (4, "", "limit at "),
+    )?;
     Ok(())
 }

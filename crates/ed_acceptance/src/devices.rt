@@ -3,6 +3,7 @@
 use ed_io::{
     Failed, MemorySink, MemorySource, Sink, Source, StdSink, StdSource, SureSink, SureSource,
 };
+use std::alloc::Global;
 use std::process::Abort;
 use std::test::Fail;
 
@@ -19,44 +20,85 @@ fn writes(rt: &impl Abort, sink: &mut impl Sink, piece: &str, answer: Result<usi
     assert!(rt; sink.write(piece.as_bytes()) == answer, "write of {piece}");
 }
 
-#[test]
-fn sources(rt: HostRuntime) -> Result<(), Fail> {
-    let alloc = rt.alloc();
-    let mut source = MemorySource::new(b"ABC".to_vec(alloc)?, [1].to_vec(alloc)?);
-    reads(&rt, &mut source, &[Ok(2), Err(Failed), Ok(1), Ok(0)]);
+/// A source whose second call fails.
+fn memory_source(rt: &impl Abort, alloc: Global) -> Result<(), Fail> {
+    let faults = [1].to_vec(alloc)?;
+    let mut source = MemorySource::new(b"ABC".to_vec(alloc)?, faults);
+    reads(rt, &mut source, &[Ok(2), Err(Failed), Ok(1), Ok(0)]);
     assert!(rt; source.faults() == 1);
     assert!(rt; source.bytes().is_empty());
+    Ok(())
+}
+
+/// A source that gives one byte a call.
+fn source_in_pieces(rt: &impl Abort, alloc: Global) -> Result<(), Fail> {
     let mut source = MemorySource::in_pieces(b"ABC".to_vec(alloc)?, Vec::new(alloc), 1);
-    reads(&rt, &mut source, &[Ok(1), Ok(1), Ok(1), Ok(0)]);
+    reads(rt, &mut source, &[Ok(1), Ok(1), Ok(1), Ok(0)]);
+    Ok(())
+}
+
+/// A source that never fails.
+fn sure_source(rt: &impl Abort, alloc: Global) -> Result<(), Fail> {
     let mut source = SureSource::new(b"ABC".to_vec(alloc)?);
-    reads(&rt, &mut source, &[Ok(2)]);
+    reads(rt, &mut source, &[Ok(2)]);
     assert!(rt; source.bytes() == b"C".as_slice());
-    reads(&rt, &mut source, &[Ok(1), Ok(0)]);
+    reads(rt, &mut source, &[Ok(1), Ok(0)]);
     assert!(rt; source.faults() == 0);
+    Ok(())
+}
+
+#[test]
+fn sources(rt: HostRuntime) -> Result<(), Fail> {
+    memory_source(&rt, rt.alloc())?;
+    source_in_pieces(&rt, rt.alloc())?;
+    sure_source(&rt, rt.alloc())?;
     let mut source = StdSource::new(&b"ABC"[..]);
     reads(&rt, &mut source, &[Ok(2), Ok(1), Ok(0)]);
     Ok(())
 }
 
-#[test]
-fn sinks(rt: HostRuntime) -> Result<(), Fail> {
-    let alloc = rt.alloc();
+/// A sink with room for three bytes.
+fn memory_sink(rt: &impl Abort, alloc: Global) -> Result<(), Fail> {
     let mut sink = MemorySink::new(alloc, 3)?;
-    writes(&rt, &mut sink, "AB", Ok(2));
-    writes(&rt, &mut sink, "CD", Ok(1));
-    writes(&rt, &mut sink, "E", Err(Failed));
-    writes(&rt, &mut sink, "", Ok(0));
+    writes(rt, &mut sink, "AB", Ok(2));
+    writes(rt, &mut sink, "CD", Ok(1));
+    writes(rt, &mut sink, "E", Err(Failed));
+    writes(rt, &mut sink, "", Ok(0));
     assert!(rt; sink.bytes() == b"ABC".as_slice());
     assert!(rt; sink.faults() == 1);
+    Ok(())
+}
+
+/// A sink whose first call fails.
+fn sink_with_faults(rt: &impl Abort, alloc: Global) -> Result<(), Fail> {
     let mut sink = MemorySink::with_faults(alloc, 3, [0].to_vec(alloc)?)?;
-    writes(&rt, &mut sink, "A", Err(Failed));
-    writes(&rt, &mut sink, "A", Ok(1));
+    writes(rt, &mut sink, "A", Err(Failed));
+    writes(rt, &mut sink, "A", Ok(1));
+    Ok(())
+}
+
+/// A sink that takes at most two bytes a call.
+fn sink_in_pieces(rt: &impl Abort, alloc: Global) -> Result<(), Fail> {
     let mut sink = MemorySink::in_pieces(alloc, 3, Vec::new(alloc), 2)?;
-    writes(&rt, &mut sink, "ABC", Ok(2));
+    writes(rt, &mut sink, "ABC", Ok(2));
+    Ok(())
+}
+
+/// A sink that never fails, and keeps two bytes.
+fn sure_sink(rt: &impl Abort, alloc: Global) -> Result<(), Fail> {
     let mut sink = SureSink::new(alloc, 2)?;
-    writes(&rt, &mut sink, "ABC", Ok(3));
+    writes(rt, &mut sink, "ABC", Ok(3));
     assert!(rt; sink.bytes() == b"AB".as_slice());
     assert!(rt; sink.faults() == 0);
+    Ok(())
+}
+
+#[test]
+fn sinks(rt: HostRuntime) -> Result<(), Fail> {
+    memory_sink(&rt, rt.alloc())?;
+    sink_with_faults(&rt, rt.alloc())?;
+    sink_in_pieces(&rt, rt.alloc())?;
+    sure_sink(&rt, rt.alloc())?;
     let mut room = [0; 3];
     let mut sink = StdSink::new(&mut room[..]);
     writes(&rt, &mut sink, "ABCD", Ok(3));

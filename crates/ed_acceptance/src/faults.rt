@@ -71,6 +71,35 @@ struct Outcome {
     faults: u64,
 }
 
+/// The result of a run on its three devices.
+fn outcome_on(
+    alloc: Global,
+    words: &[String],
+    source: &mut MemorySource,
+    out: &mut MemorySink,
+    note: &mut MemorySink,
+) -> Result<Outcome, Fail> {
+    let status = edsac(alloc, words, source, out, note);
+    let faults = source.faults().saturating_add(out.faults());
+    Ok(Outcome {
+        status,
+        out: out.bytes().to_vec(alloc)?,
+        note: note.bytes().to_vec(alloc)?,
+        faults: faults.saturating_add(note.faults()),
+    })
+}
+
+/// The input of a run in pieces of 7 bytes, of whose calls these fail.
+fn source_of(alloc: Global, run: &Run, failing: &[u64]) -> Result<MemorySource, Fail> {
+    let input = run.input.as_bytes().to_vec(alloc)?;
+    Ok(MemorySource::in_pieces(input, failing.to_vec(alloc)?, 7))
+}
+
+/// A sink that takes pieces of 3 bytes, of whose calls these fail.
+fn sink(alloc: Global, failing: &[u64]) -> Result<MemorySink, Fail> {
+    Ok(MemorySink::in_pieces(alloc, 200, failing.to_vec(alloc)?, 3)?)
+}
+
 /// Runs the program with its input in pieces of 7 bytes and its texts in pieces of 3; these calls of the input, of out
 /// and of note fail.
 fn outcome_of(
@@ -81,18 +110,10 @@ fn outcome_of(
     notes: &[u64],
 ) -> Result<Outcome, Fail> {
     let words = words_of(alloc, run.command)?;
-    let input = run.input.as_bytes().to_vec(alloc)?;
-    let mut source = MemorySource::in_pieces(input, reads.to_vec(alloc)?, 7);
-    let mut out = MemorySink::in_pieces(alloc, 200, writes.to_vec(alloc)?, 3)?;
-    let mut note = MemorySink::in_pieces(alloc, 200, notes.to_vec(alloc)?, 3)?;
-    let status = edsac(alloc, &words, &mut source, &mut out, &mut note);
-    let faults = source.faults().saturating_add(out.faults());
-    Ok(Outcome {
-        status,
-        out: out.bytes().to_vec(alloc)?,
-        note: note.bytes().to_vec(alloc)?,
-        faults: faults.saturating_add(note.faults()),
-    })
+    let mut source = source_of(alloc, run, reads)?;
+    let mut out = sink(alloc, writes)?;
+    let mut note = sink(alloc, notes)?;
+    outcome_on(alloc, &words, &mut source, &mut out, &mut note)
 }
 
 /// The number of writes of 3 bytes that a text takes.
@@ -100,55 +121,9 @@ fn writes_of(text: &str) -> u64 {
     text.len().div_ceil(3) as u64
 }
 
-/// Whether a run answered what it does if no call fails.
-fn is_whole(outcome: &Outcome, run: &Run) -> bool {
-    outcome.status == run.status
-        && outcome.out.as_slice() == run.out.as_bytes()
-        && outcome.note.as_slice() == run.note.as_bytes()
-}
-
 /// Whether what was written is the first `bytes` bytes of a text.
 fn is_beginning(written: &[u8], text: &str, bytes: u64) -> bool {
     written.len() as u64 == bytes && text.as_bytes().starts_with(written)
-}
-
-/// Each read of a run fails in turn.
-fn reads_fail(rt: &impl Abort, alloc: Global, run: &Run) -> Result<(), Fail> {
-    for call in 0..CALLS {
-        let outcome = outcome_of(alloc, run, &[call], &[], &[])?;
-        if outcome.faults == 0 {
-            assert!(rt; (run.input.len().div_ceil(7) as u64) < call);
-            assert!(rt; is_whole(&outcome, run));
-            return Ok(());
-        }
-        let reported = outcome.note.as_slice() == b"read fault\n".as_slice();
-        assert!(rt;
-            outcome.status == 8 && outcome.out.is_empty() && reported,
-            "read {call}"
-        );
-    }
-    Err("each read fails".into())
-}
-
-/// Each write of a run on out fails in turn. No byte is written after the failed write.
-fn writes_fail(rt: &impl Abort, alloc: Global, run: &Run) -> Result<(), Fail> {
-    for call in 0..CALLS {
-        let outcome = outcome_of(alloc, run, &[], &[call], &[])?;
-        if outcome.faults == 0 {
-            assert!(rt; call == writes_of(run.out));
-            assert!(rt; is_whole(&outcome, run));
-            return Ok(());
-        }
-        assert!(rt;
-            outcome.status == 9 && outcome.note.is_empty(),
-            "write {call}"
-        );
-        assert!(rt;
-            is_beginning(&outcome.out, run.out, 3 * call),
-            "write {call}"
-        );
-    }
-    Err("each write fails".into())
 }
 
 /// The number of bytes that the first calls write, if each line is written in pieces of 3.
@@ -164,61 +139,114 @@ fn bytes_of_calls(text: &str, calls: u64) -> u64 {
     bytes
 }
 
-/// Each write of a run that writes its lines one by one on out fails in turn. No byte is written after the failed
-/// write.
-pub fn writes_of_lines_fail(rt: &impl Abort, alloc: Global, run: &Run) -> Result<(), Fail> {
-    for call in 0..CALLS {
-        let outcome = outcome_of(alloc, run, &[], &[call], &[])?;
-        let bytes = bytes_of_calls(run.out, call);
-        assert!(rt; is_beginning(&outcome.out, run.out, bytes), "write {call}");
-        if outcome.faults == 0 {
-            assert!(rt; is_whole(&outcome, run));
-            return Ok(());
-        }
-        assert!(rt;
-            outcome.status == 9 && outcome.note.is_empty(),
-            "write {call}"
-        );
-    }
-    Err("each write fails".into())
+/// A device of a run, of whose calls one fails. `Lines` is the output of a run that writes its lines one by one.
+#[derive(Clone, Copy)]
+pub enum Device {
+    Input,
+    Out,
+    Lines,
+    Note,
 }
 
-/// Each write of a run on note fails in turn.
-fn notes_fail(rt: &impl Abort, alloc: Global, run: &Run) -> Result<(), Fail> {
+/// The result of a run in which this call of a device fails.
+fn outcome_with(alloc: Global, run: &Run, device: Device, call: u64) -> Result<Outcome, Fail> {
+    match device {
+        Device::Input => outcome_of(alloc, run, &[call], &[], &[]),
+        Device::Out | Device::Lines => outcome_of(alloc, run, &[], &[call], &[]),
+        Device::Note => outcome_of(alloc, run, &[], &[], &[call]),
+    }
+}
+
+/// Whether the calls of a device in a run are fewer than this one.
+fn is_beyond(run: &Run, device: Device, call: u64) -> bool {
+    match device {
+        Device::Input => (run.input.len().div_ceil(7) as u64) < call,
+        Device::Out => call == writes_of(run.out),
+        Device::Lines => bytes_of_calls(run.out, call) == run.out.len() as u64,
+        Device::Note => call == writes_of(run.note),
+    }
+}
+
+/// The first thing that is wrong in a run in which no call failed, or nothing.
+fn wrong_whole(outcome: &Outcome, run: &Run, device: Device, call: u64) -> &'static str {
+    if !is_beyond(run, device, call) {
+        "no fault"
+    } else if outcome.status != run.status {
+        "another status"
+    } else if outcome.out.as_slice() != run.out.as_bytes() {
+        "another output"
+    } else if outcome.note.as_slice() != run.note.as_bytes() {
+        "another note"
+    } else {
+        ""
+    }
+}
+
+/// What a run gives in which this call fails: its status, the number of bytes of its output, a text, and the number of
+/// bytes of that text that are the note. No byte is written after a write that fails.
+fn due(run: &Run, device: Device, call: u64) -> (u8, u64, &'static str, u64) {
+    let written = call.saturating_mul(3);
+    match device {
+        Device::Input => (8, 0, "read fault\n", 11),
+        Device::Out => (9, written, "", 0),
+        Device::Lines => (9, bytes_of_calls(run.out, call), "", 0),
+        Device::Note => (9, run.out.len() as u64, run.note, written),
+    }
+}
+
+/// The first thing that is wrong in a run in which a call failed, or nothing.
+fn wrong_part(outcome: &Outcome, run: &Run, device: Device, call: u64) -> &'static str {
+    let (status, written, note, noted) = due(run, device, call);
+    if outcome.status != status {
+        "another status"
+    } else if !is_beginning(&outcome.out, run.out, written) {
+        "another output"
+    } else if !is_beginning(&outcome.note, note, noted) {
+        "another note"
+    } else {
+        ""
+    }
+}
+
+/// Checks the result of a run in which this call of a device fails if the run makes it.
+fn expect_outcome(rt: &impl Abort, outcome: &Outcome, run: &Run, device: Device, call: u64) {
+    let wrong = if outcome.faults == 0 {
+        wrong_whole(outcome, run, device, call)
+    } else {
+        wrong_part(outcome, run, device, call)
+    };
+    assert!(rt; wrong.is_empty(), "call {call}: {wrong}");
+}
+
+/// Each call of a device fails in turn in a run.
+pub fn calls_fail(rt: &impl Abort, alloc: Global, run: &Run, device: Device) -> Result<(), Fail> {
     for call in 0..CALLS {
-        let outcome = outcome_of(alloc, run, &[], &[], &[call])?;
+        let outcome = outcome_with(alloc, run, device, call)?;
+        expect_outcome(rt, &outcome, run, device, call);
         if outcome.faults == 0 {
-            assert!(rt; call == writes_of(run.note));
-            assert!(rt; is_whole(&outcome, run));
             return Ok(());
         }
-        let printed = outcome.out.as_slice() == run.out.as_bytes();
-        assert!(rt; outcome.status == 9 && printed, "write {call}");
-        assert!(rt;
-            is_beginning(&outcome.note, run.note, 3 * call),
-            "write {call}"
-        );
     }
-    Err("each write fails".into())
+    Err("each call fails".into())
 }
 
 #[test]
 fn a_read_that_fails_is_told_and_nothing_is_run(rt: HostRuntime) -> Result<(), Fail> {
-    reads_fail(&rt, rt.alloc(), &TAPE)?;
-    reads_fail(&rt, rt.alloc(), &SOURCE)
+    calls_fail(&rt, rt.alloc(), &TAPE, Device::Input)?;
+    calls_fail(&rt, rt.alloc(), &SOURCE, Device::Input)
 }
 
 #[test]
 fn a_write_that_fails_leaves_a_part_on_out_and_nothing_on_note(
     rt: HostRuntime,
 ) -> Result<(), Fail> {
-    writes_fail(&rt, rt.alloc(), &CHECK_TAPE)?;
-    writes_fail(&rt, rt.alloc(), &PUNCH)?;
-    writes_of_lines_fail(&rt, rt.alloc(), &TRACE)
+    calls_fail(&rt, rt.alloc(), &CHECK_TAPE, Device::Out)?;
+    calls_fail(&rt, rt.alloc(), &PUNCH, Device::Out)?;
+    calls_fail(&rt, rt.alloc(), &TRACE, Device::Lines)
 }
 
 #[test]
 fn a_note_that_fails_leaves_all_of_out_and_a_part_of_the_note(rt: HostRuntime) -> Result<(), Fail> {
-    notes_fail(&rt, rt.alloc(), &TAPE)?;
-    notes_fail(&rt, rt.alloc(), &SOURCE)
+    calls_fail(&rt, rt.alloc(), &TAPE, Device::Note)?;
+    calls_fail(&rt, rt.alloc(), &SOURCE, Device::Note)
 }

@@ -6,11 +6,12 @@ use ed_command::{Action, Command, Settings, read_words};
 use ed_notation::{TapeCause, TapeFault};
 use ed_report::{tape_fault, text_fault};
 use ed_words::Size;
+use std::alloc::Global;
+use std::process::Abort;
 use std::test::Fail;
 
-#[test]
-fn command_lines_and_lines_of_faults(rt: HostRuntime) -> Result<(), Fail> {
-    let alloc = rt.alloc();
+/// Checks the command of a line of words.
+fn expect_command(rt: &impl Abort, alloc: Global) -> Result<(), Fail> {
     let words = words_of(alloc, "--store 512 check-tape")?;
     let command = Command {
         action: Action::CheckTape,
@@ -22,14 +23,22 @@ fn command_lines_and_lines_of_faults(rt: HostRuntime) -> Result<(), Fail> {
         },
     };
     assert!(rt; read_words(alloc, &words) == Ok(command));
-    let line = text_fault(
-        alloc,
-        &TextFault::NoRow {
-            place: 4,
-            byte: b'%',
-        },
-    )?;
+    Ok(())
+}
+
+/// Checks the line of a fault of a text.
+fn expect_text_fault(rt: &impl Abort, alloc: Global) -> Result<(), Fail> {
+    let fault = TextFault::NoRow {
+        place: 4,
+        byte: b'%',
+    };
+    let line = text_fault(alloc, &fault)?;
     assert!(rt; line.as_slice() == b"byte 4: T1 no row\n".as_slice());
+    Ok(())
+}
+
+/// Checks the line of a fault of a tape.
+fn expect_tape_fault(rt: &impl Abort, alloc: Global) -> Result<(), Fail> {
     let fault = TapeFault::At {
         row: 3,
         cause: TapeCause::EntryInLoader,
@@ -37,4 +46,11 @@ fn command_lines_and_lines_of_faults(rt: HostRuntime) -> Result<(), Fail> {
     let line = tape_fault(alloc, &fault)?;
     assert!(rt; line.as_slice() == b"row 3: N10 entry in loader\n".as_slice());
     Ok(())
+}
+
+#[test]
+fn command_lines_and_lines_of_faults(rt: HostRuntime) -> Result<(), Fail> {
+    expect_command(&rt, rt.alloc())?;
+    expect_text_fault(&rt, rt.alloc())?;
+    expect_tape_fault(&rt, rt.alloc())
 }

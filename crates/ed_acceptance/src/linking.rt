@@ -1,38 +1,59 @@
 //! A source of the greatest number of lines.
 
-use crate::support::expect;
+use crate::support::{expect, repeated};
 use std::alloc::Global;
+use std::process::Abort;
 use std::test::Fail;
 
-/// A source of 2,000 lines: 900 orders of a segment, and lines with nothing but a comment.
-fn longest(alloc: Global) -> Result<String, Fail> {
-    let orders = "A m+9 F\n".repeat(alloc, 900)?;
-    let comments = "; nothing\n".repeat(alloc, 1098)?;
-    Ok(format!(in alloc;
-        "segment m\n{}{}enter m\n",
-        orders.as_str(),
-        comments.as_str()
-    )?)
+/// A source of 2,000 lines, and more text: 900 orders of a segment, and lines with nothing but a comment.
+fn longest(alloc: Global, more: &str) -> Result<String, Fail> {
+    repeated(
+        alloc,
+        &[
+            ("segment m\n", 1),
+            ("A m+9 F\n", 900),
+            ("; nothing\n", 1098),
+            ("enter m\n", 1),
+            (more, 1),
+        ],
+    )
+}
+
+/// Checks the tape of that source.
+fn expect_tape(rt: &impl Abort, alloc: Global, source: &str) -> Result<(), Fail> {
+    let parts = [("T56K\nGK\n", 1), ("A9@\n", 900), ("E56K\nPF\n", 1)];
+    let tape = repeated(alloc, &parts)?;
+    expect(rt, alloc, "punch", source, (0, &tape, ""))?;
+    Ok(())
+}
+
+/// Adds the line of a location to a listing.
+fn add_line(alloc: Global, listing: &mut String, place: u16) -> Result<(), Fail> {
+    let line = format!(in alloc; "{place:4} 114818 A65F\n")?;
+    Ok(listing.push_str(&line)?)
+}
+
+/// Checks the listing of that source.
+fn expect_listing(rt: &impl Abort, alloc: Global, source: &str) -> Result<(), Fail> {
+    let mut listing = String::new(alloc);
+    for place in 56..956 {
+        add_line(alloc, &mut listing, place)?;
+    }
+    expect(rt, alloc, "listing", source, (0, &listing, ""))?;
+    Ok(())
 }
 
 #[test]
 fn a_source_of_the_most_lines(rt: HostRuntime) -> Result<(), Fail> {
-    let alloc = rt.alloc();
-    let source = longest(alloc)?;
-    let items = "A9@\n".repeat(alloc, 900)?;
-    let tape = format!(in alloc; "T56K\nGK\n{}E56K\nPF\n", items.as_str())?;
-    expect(&rt, alloc, "punch", &source, (0, tape.as_str(), ""))?;
-    let mut listing = String::new(alloc);
-    for place in 56..956 {
-        listing.push_str(&format!(in alloc; "{place:4} 114818 A65F\n")?)?;
-    }
-    expect(&rt, alloc, "listing", &source, (0, listing.as_str(), ""))
+    let source = longest(rt.alloc(), "")?;
+    expect_tape(&rt, rt.alloc(), &source)?;
+    expect_listing(&rt, rt.alloc(), &source)
 }
 
 #[test]
 fn a_source_of_a_line_too_many(rt: HostRuntime) -> Result<(), Fail> {
-    let alloc = rt.alloc();
-    let source = format!(in alloc; "{};", longest(alloc)?.as_str())?;
+    let source = longest(rt.alloc(), ";")?;
     let fault = "line 2001: S5 too many lines\n";
-    expect(&rt, alloc, "punch", &source, (3, "", fault))
+    expect(&rt, rt.alloc(), "punch", &source, (3, "", fault))?;
+    Ok(())
 }

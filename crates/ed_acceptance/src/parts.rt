@@ -1,12 +1,13 @@
 //! `parts`: tapes whose programs return to the Initial Orders.
 
-use crate::faults::{Run, writes_of_lines_fail};
+use crate::faults::{Device, Run, calls_fail};
 use crate::support::{Row, expect, expect_each, expect_usage};
 use ed_codes::tape_of_text;
 use ed_loads::started;
 use ed_machine::Machine;
 use ed_words::Size;
 use std::alloc::Global;
+use std::process::Abort;
 use std::test::Fail;
 
 /// The program of the first part prints A and returns with the order T 200 F; that of the second one stops.
@@ -212,32 +213,37 @@ fn lines_within(alloc: Global, limit: u64) -> Result<String, Fail> {
     Ok(text)
 }
 
+/// The note of the run if at most `limit` orders are allowed, the last of which leaves the counter at `at`.
+fn note_within(alloc: Global, limit: u64, at: u16) -> Result<String, Fail> {
+    let name = if limit < 445 { "limit" } else { "stopped" };
+    Ok(format!(in alloc; "{name} at {at} after {limit}\n")?)
+}
+
+/// Checks the run with a limit, at which the counter is at `at`.
+fn expect_within(rt: &impl Abort, alloc: Global, limit: u64, at: u16) -> Result<(), Fail> {
+    let line = format!(in alloc; "parts --limit {limit}")?;
+    let note = note_within(alloc, limit, at)?;
+    let out = lines_within(alloc, limit)?;
+    let status = if limit < 445 { 4 } else { 0 };
+    expect(rt, alloc, &line, TWO_PARTS, (status, &out, &note))?;
+    Ok(())
+}
+
 #[test]
 fn every_limit_cuts_the_lines_where_it_falls(rt: HostRuntime) -> Result<(), Fail> {
-    let alloc = rt.alloc();
-    let mut machine = machine_on(alloc, TWO_PARTS)?;
+    let mut machine = machine_on(rt.alloc(), TWO_PARTS)?;
     for limit in 1..446 {
         assert!(rt; machine.orders_done() < limit);
         machine.step();
-        let at = machine.counter();
-        let (status, name) = if limit < 445 {
-            (4, "limit")
-        } else {
-            (0, "stopped")
-        };
-        let line = format!(in alloc; "parts --limit {limit}")?;
-        let note = format!(in alloc; "{name} at {at} after {limit}\n")?;
-        let out = lines_within(alloc, limit)?;
-        let wanted = (status, out.as_str(), note.as_str());
-        expect(&rt, alloc, line.as_str(), TWO_PARTS, wanted)?;
+        expect_within(&rt, rt.alloc(), limit, machine.counter())?;
     }
     Ok(())
 }
 
 #[test]
 fn a_write_that_fails_leaves_a_part_of_the_lines(rt: HostRuntime) -> Result<(), Fail> {
-    writes_of_lines_fail(&rt, rt.alloc(), &STOPS)?;
-    writes_of_lines_fail(&rt, rt.alloc(), &FAILS)
+    calls_fail(&rt, rt.alloc(), &STOPS, Device::Lines)?;
+    calls_fail(&rt, rt.alloc(), &FAILS, Device::Lines)
 }
 
 #[test]

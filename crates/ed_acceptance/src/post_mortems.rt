@@ -1,6 +1,7 @@
 //! The option `--post-mortem`: what is printed after a run.
 
-use crate::support::{Row, answer_of, expect, expect_each};
+use crate::support::{Answer, Row, answer_of, expect, expect_each, repeated};
+use std::process::Abort;
 use std::test::Fail;
 
 /// Prints A, and leaves the words O 66 F and P 2047 D with function 15 at 144 and 145.
@@ -118,23 +119,27 @@ fn words_are_printed_after_a_run(rt: HostRuntime) -> Result<(), Fail> {
     expect_each(&rt, rt.alloc(), &RUNS)
 }
 
-#[test]
-fn after_a_paper_that_is_full(rt: HostRuntime) -> Result<(), Fail> {
-    let line = "tape --post-mortem 144,1";
-    let answer = answer_of(rt.alloc(), line, ENDLESS.as_bytes())?;
+/// Checks the answer with a paper that is full.
+fn expect_full(rt: &impl Abort, answer: &Answer) {
     assert!(rt; answer.status == 7);
     assert!(rt; answer.out.len() == 1_000_006);
     assert!(rt; answer.out.ends_with(b"OO66F\r\n"));
     assert!(rt; answer.note.as_slice() == b"paper full at 64 after 2000249\n".as_slice());
+}
+
+#[test]
+fn after_a_paper_that_is_full(rt: HostRuntime) -> Result<(), Fail> {
+    let line = "tape --post-mortem 144,1";
+    let answer = answer_of(rt.alloc(), line, ENDLESS.as_bytes())?;
+    expect_full(&rt, &answer);
     Ok(())
 }
 
 /// A post-mortem of 880 words, the most possible: the words from 146 upwards are 0.
 #[test]
 fn of_the_whole_store(rt: HostRuntime) -> Result<(), Fail> {
-    let alloc = rt.alloc();
-    let zeros = "P0F\r\n".repeat(alloc, 878)?;
-    let out = format!(in alloc; "AO66F\r\n2047D\r\n{zeros}")?;
+    let out = repeated(rt.alloc(), &[("AO66F\r\n2047D\r\n", 1), ("P0F\r\n", 878)])?;
     let printed = (0, out.as_str(), "stopped at 66 after 342\n");
-    expect(&rt, alloc, "tape --post-mortem 144,880", TAPE, printed)
+    expect(&rt, rt.alloc(), "tape --post-mortem 144,880", TAPE, printed)?;
+    Ok(())
 }

@@ -1,6 +1,6 @@
 //! Sources: `run`, `punch` and `listing`.
 
-use crate::support::{Row, answer_of, expect, expect_each};
+use crate::support::{Row, expect, expect_beginning, expect_each};
 use std::test::Fail;
 
 /// Prints A, from two orders and two words of its one segment.
@@ -142,19 +142,15 @@ fn runs_tapes_and_listings_of_sources(rt: HostRuntime) -> Result<(), Fail> {
 
 #[test]
 fn a_run_is_resumed_after_a_stop(rt: HostRuntime) -> Result<(), Fail> {
-    let answer = answer_of(rt.alloc(), "run", STOPS_FIRST.as_bytes())?;
-    assert!(rt; answer.status == 0 && answer.out.is_empty());
-    let answer = answer_of(rt.alloc(), "run --resume 1", STOPS_FIRST.as_bytes())?;
-    assert!(rt; answer.status == 0 && answer.out.as_slice() == b"A".as_slice());
+    expect_beginning(&rt, rt.alloc(), "run", STOPS_FIRST, (0, "", ""))?;
+    expect_beginning(&rt, rt.alloc(), "run --resume 1", STOPS_FIRST, (0, "A", ""))?;
     Ok(())
 }
 
 #[test]
 fn a_limit_before_the_entry_ends_the_load(rt: HostRuntime) -> Result<(), Fail> {
-    for limit in ["run --limit 100", "run --limit 262"] {
-        let answer = answer_of(rt.alloc(), limit, LETTER.as_bytes())?;
-        assert!(rt; answer.status == 4 && answer.out.is_empty(), "{limit}");
-        assert!(rt; answer.note.starts_with(b"limit at "), "{limit}");
+    for line in ["run --limit 100", "run --limit 262"] {
+        expect_beginning(&rt, rt.alloc(), line, LETTER, (4, "", "limit at "))?;
     }
     Ok(())
 }

@@ -28,13 +28,15 @@ pub fn words_of(alloc: Global, line: &str) -> Result<Vec<String>, Fail> {
     Ok(words)
 }
 
-/// The answer of the program to a command line and an input, over devices that never fail.
-pub fn answer_of(alloc: Global, line: &str, input: &[u8]) -> Result<Answer, Fail> {
-    let words = words_of(alloc, line)?;
-    let mut source = SureSource::new(input.to_vec(alloc)?);
-    let mut out = SureSink::new(alloc, ROOM)?;
-    let mut note = SureSink::new(alloc, ROOM)?;
-    let status = edsac(alloc, words.as_slice(), &mut source, &mut out, &mut note);
+/// The answer of the program to words, on its three devices.
+fn answer_on(
+    alloc: Global,
+    words: &[String],
+    source: &mut SureSource,
+    out: &mut SureSink,
+    note: &mut SureSink,
+) -> Result<Answer, Fail> {
+    let status = edsac(alloc, words, source, out, note);
     Ok(Answer {
         status,
         out: out.bytes().to_vec(alloc)?,
@@ -43,29 +45,95 @@ pub fn answer_of(alloc: Global, line: &str, input: &[u8]) -> Result<Answer, Fail
     })
 }
 
+/// The answer of the program to a command line and an input, over devices that never fail.
+pub fn answer_of(alloc: Global, line: &str, input: &[u8]) -> Result<Answer, Fail> {
+    let words = words_of(alloc, line)?;
+    let mut source = SureSource::new(input.to_vec(alloc)?);
+    let mut out = SureSink::new(alloc, ROOM)?;
+    let mut note = SureSink::new(alloc, ROOM)?;
+    answer_on(alloc, &words, &mut source, &mut out, &mut note)
+}
+
 /// A command line, its input, and the status and the two texts that are due.
 pub type Row = (&'static str, &'static str, u8, &'static str, &'static str);
 
-/// Checks that the program answers a status and two texts.
+/// The first part of an answer that is not the wanted one, or nothing. The note may go on after the wanted text.
+fn first_difference(answer: &Answer, wanted: (u8, &str, &str)) -> &'static str {
+    let (status, out, note) = wanted;
+    if answer.status != status {
+        "status"
+    } else if answer.out.as_slice() != out.as_bytes() {
+        "output"
+    } else if !answer.note.starts_with(note.as_bytes()) {
+        "note"
+    } else {
+        ""
+    }
+}
+
+/// The same, where the note ends after the wanted text.
+fn first_difference_of_all(answer: &Answer, wanted: (u8, &str, &str)) -> &'static str {
+    let differs = first_difference(answer, wanted);
+    let (_, _, note) = wanted;
+    if differs.is_empty() && answer.note.len() != note.len() {
+        "length of the note"
+    } else {
+        differs
+    }
+}
+
+/// Checks that no part of the answer to a command line and an input differs.
+fn expect_none(rt: &impl Abort, differs: &str, line: &str, input: &str) {
+    assert!(rt; differs.is_empty(), "the {differs} of {line} on {input}");
+}
+
+/// Checks that the program answers a status and two texts. Answers the number of bytes of the input that were not read.
 pub fn expect(
     rt: &impl Abort,
     alloc: Global,
     line: &str,
     input: &str,
     wanted: (u8, &str, &str),
-) -> Result<(), Fail> {
+) -> Result<usize, Fail> {
     let answer = answer_of(alloc, line, input.as_bytes())?;
-    let (status, out, note) = wanted;
-    assert!(rt; answer.status == status, "the status of {line} on {input}");
-    assert!(rt;
-        answer.out.as_slice() == out.as_bytes(),
-        "the output of {line} on {input}"
-    );
-    assert!(rt;
-        answer.note.as_slice() == note.as_bytes(),
-        "the note of {line} on {input}"
-    );
+    expect_none(rt, first_difference_of_all(&answer, wanted), line, input);
+    Ok(answer.unread)
+}
+
+/// The same, where the note may go on after the wanted text.
+pub fn expect_beginning(
+    rt: &impl Abort,
+    alloc: Global,
+    line: &str,
+    input: &str,
+    wanted: (u8, &str, &str),
+) -> Result<usize, Fail> {
+    let answer = answer_of(alloc, line, input.as_bytes())?;
+    expect_none(rt, first_difference(&answer, wanted), line, input);
+    Ok(answer.unread)
+}
+
+/// Adds a text a number of times.
+fn add(text: &mut String, part: &str, times: u32) -> Result<(), Fail> {
+    for _ in 0..times {
+        text.push_str(part)?;
+    }
     Ok(())
+}
+
+/// Adds each of these texts a number of times.
+fn add_each(text: &mut String, parts: &[(&str, u32)]) -> Result<(), Fail> {
+    for (part, times) in parts {
+        add(text, part, *times)?;
+    }
+    Ok(())
+}
+
+/// A text of texts, each a number of times.
+pub fn repeated(alloc: Global, parts: &[(&str, u32)]) -> Result<String, Fail> {
+    let mut text = String::new(alloc);
+    add_each(&mut text, parts)?;
+    Ok(text)
 }
 
 /// Checks the answers to the rows of a table.
@@ -87,10 +155,8 @@ pub fn expect_usage(
     input: &str,
 ) -> Result<(), Fail> {
     for line in lines {
-        let answer = answer_of(alloc, line, input.as_bytes())?;
-        assert!(rt; answer.status == 2 && answer.out.is_empty(), "{line}");
-        assert!(rt; answer.note.as_slice() == USAGE.as_bytes(), "{line}");
-        assert!(rt; answer.unread == input.len(), "{line}");
+        let unread = expect(rt, alloc, line, input, (2, "", USAGE))?;
+        assert!(rt; unread == input.len(), "{line}");
     }
     Ok(())
 }

@@ -1,6 +1,7 @@
 //! Whole runs of the command `tape`.
 
-use crate::support::{Row, answer_of, expect, expect_each};
+use crate::support::{Row, expect, expect_beginning, expect_each, repeated};
+use std::alloc::Global;
 use std::test::Fail;
 
 const RUNS: [Row; 12] = [
@@ -40,53 +41,74 @@ fn runs_of_a_tape(rt: HostRuntime) -> Result<(), Fail> {
 
 #[test]
 fn a_program_that_prints_for_ever_fills_the_paper(rt: HostRuntime) -> Result<(), Fail> {
-    let alloc = rt.alloc();
-    let answer = answer_of(alloc, "tape", b"T64KGKO@E@EZPF")?;
-    assert!(rt; answer.status == 7);
-    assert!(rt; answer.out.as_slice() == vec![in alloc; b'O'; 1_000_000]?.as_slice());
-    assert!(rt; answer.note.as_slice() == b"paper full at 64 after 2000159\n".as_slice());
+    let letters = repeated(rt.alloc(), &[("O", 1_000_000)])?;
+    let wanted = (7, letters.as_str(), "paper full at 64 after 2000159\n");
+    expect(&rt, rt.alloc(), "tape", "T64KGKO@E@EZPF", wanted)?;
     Ok(())
 }
 
+/// The numbers of blanks that are the longest input and one too long, the status, and the note.
+const BLANKS: [(u32, u8, &str); 2] = [
+    (262_144, 6, "no tape at 34 after 9\n"),
+    (262_145, 11, "input too long\n"),
+];
+
 #[test]
 fn an_input_of_too_many_bytes_is_refused(rt: HostRuntime) -> Result<(), Fail> {
-    let alloc = rt.alloc();
-    let most = " ".repeat(alloc, 262_144)?;
-    expect(
-        &rt,
-        alloc,
-        "tape",
-        &most,
-        (6, "", "no tape at 34 after 9\n"),
-    )?;
-    let more = " ".repeat(alloc, 262_145)?;
-    expect(&rt, alloc, "tape", &more, (11, "", "input too long\n"))
+    for (blanks, status, note) in &BLANKS {
+        let input = repeated(rt.alloc(), &[(" ", *blanks)])?;
+        expect(&rt, rt.alloc(), "tape", &input, (*status, "", note))?;
+    }
+    Ok(())
 }
+
+/// The notes of a tape that is cut, between two items and within one.
+const BETWEEN: &str = "no tape at 34 after ";
+
+const WITHIN: &str = "no tape at 9 after ";
+
+/// The first rows of the tape that prints A, and how the note begins if there is no more.
+const CUT: [(&str, &str); 17] = [
+    ("", BETWEEN),
+    ("T", WITHIN),
+    ("T6", WITHIN),
+    ("T64", WITHIN),
+    ("T64K", BETWEEN),
+    ("T64KG", WITHIN),
+    ("T64KGK", BETWEEN),
+    ("T64KGKO", WITHIN),
+    ("T64KGKO2", WITHIN),
+    ("T64KGKO2@", BETWEEN),
+    ("T64KGKO2@Z", WITHIN),
+    ("T64KGKO2@ZF", BETWEEN),
+    ("T64KGKO2@ZFA", WITHIN),
+    ("T64KGKO2@ZFAF", BETWEEN),
+    ("T64KGKO2@ZFAFE", WITHIN),
+    ("T64KGKO2@ZFAFEZ", BETWEEN),
+    ("T64KGKO2@ZFAFEZP", WITHIN),
+];
 
 #[test]
 fn a_tape_that_is_cut_ends_the_run_where_it_is_read(rt: HostRuntime) -> Result<(), Fail> {
-    let tape = b"T64KGKO2@ZFAFEZPF";
-    for rows in 0..17 {
-        let answer = answer_of(rt.alloc(), "tape", &tape[..rows])?;
-        let place = match rows {
-            0 | 4 | 6 | 9 | 11 | 13 | 15 => b"no tape at 34 after ".as_slice(),
-            _ => b"no tape at 9 after ".as_slice(),
-        };
-        assert!(rt; answer.status == 6 && answer.out.is_empty(), "{rows} rows");
-        assert!(rt; answer.note.starts_with(place), "{rows} rows");
+    for (tape, note) in &CUT {
+        expect_beginning(&rt, rt.alloc(), "tape", tape, (6, "", note))?;
     }
     Ok(())
 }
 
 /// A tape of 36,097 rows: 900 words placed 20 times over, and then the tape that prints A. `T 64 K` costs 40 orders and
 /// each `P F` 23; the rest costs 9 less than alone.
+fn tape_of_many_rows(alloc: Global) -> Result<String, Fail> {
+    let block = repeated(alloc, &[("T64K", 1), ("PF", 900)])?;
+    repeated(alloc, &[(&block, 20), ("T64KGKO2@ZFAFEZPF", 1)])
+}
+
 #[test]
 fn a_tape_of_many_thousand_rows(rt: HostRuntime) -> Result<(), Fail> {
-    let alloc = rt.alloc();
-    let block = format!(in alloc; "T64K{}", "PF".repeat(alloc, 900)?)?;
-    let tape = format!(in alloc; "{}T64KGKO2@ZFAFEZPF", block.as_str().repeat(alloc, 20)?)?;
+    let tape = tape_of_many_rows(rt.alloc())?;
     let checked = (0, "entry 64 after 414991 orders, 36097 rows\n", "");
-    expect(&rt, alloc, "check-tape", tape.as_str(), checked)?;
+    expect(&rt, rt.alloc(), "check-tape", &tape, checked)?;
     let stopped = (0, "A", "stopped at 66 after 414993\n");
-    expect(&rt, alloc, "tape", tape.as_str(), stopped)
+    expect(&rt, rt.alloc(), "tape", &tape, stopped)?;
+    Ok(())
 }
