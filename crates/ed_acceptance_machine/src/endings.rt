@@ -30,13 +30,18 @@ fn started_machine(alloc: Global) -> Result<Machine, Fail> {
     Ok(machine)
 }
 
-/// Such a machine after its run.
-fn machine_after_a_run(rt: &impl Abort, alloc: Global) -> Result<Machine, Fail> {
-    let mut machine = started_machine(alloc)?;
-    let mut paper = Paper::new(alloc, 10)?;
-    let ending = ending_of_run(rt, &mut machine, &mut paper);
+/// Runs such a machine, and checks that it prints A and stops.
+fn run_to_stop(rt: &impl Abort, machine: &mut Machine, paper: &mut Paper) {
+    let ending = ending_of_run(rt, machine, paper);
     assert!(rt; ending == Ending::Stopped);
     assert!(rt; number_of_the_only(paper.codes()) == Some(28));
+}
+
+/// Such a machine after its run.
+fn machine_after_a_run(rt: &impl Abort, alloc: Global) -> Result<Machine, Fail> {
+    let mut paper = Paper::new(alloc, 10)?;
+    let mut machine = started_machine(alloc)?;
+    run_to_stop(rt, &mut machine, &mut paper);
     Ok(machine)
 }
 
@@ -48,26 +53,42 @@ fn number_of_the_only(codes: &[Code]) -> Option<u8> {
     }
 }
 
-#[test]
-fn a_run_leaves_its_registers(rt: HostRuntime) -> Result<(), Fail> {
-    let machine = machine_after_a_run(&rt, rt.alloc())?;
+/// Checks the registers after the run.
+fn expect_registers(rt: &impl Abort, machine: &Machine) {
     assert!(rt; machine.counter() == 66);
     assert!(rt; machine.orders_done() == 193);
     assert!(rt; machine.acc() == 0);
     assert!(rt; machine.multiplier().value() == 20_480 * 262_144);
-    Ok(())
 }
 
-#[test]
-fn a_run_leaves_its_tape_and_its_words(rt: HostRuntime) -> Result<(), Fail> {
-    let machine = machine_after_a_run(&rt, rt.alloc())?;
+/// Checks the rows that are left after the run, the program's words and what was printed last.
+fn expect_tape_and_words(rt: &impl Abort, machine: &Machine) {
     assert!(rt; machine.rows_left().len() == 2);
-    assert!(rt; word_at(&rt, &machine, 64) == 36_996);
-    assert!(rt; word_at(&rt, &machine, 65) == 53_248);
+    assert!(rt; word_at(rt, machine, 64) == 36_996);
+    assert!(rt; word_at(rt, machine, 65) == 53_248);
     match machine.last_printed() {
         Some(code) => assert!(rt; code.value() == 28),
         None => assert!(rt; false, "nothing is printed"),
     }
+}
+
+/// Checks the text of the ending of the run.
+fn expect_ending(rt: &impl Abort, alloc: Global, machine: &Machine) -> Result<(), Fail> {
+    let line = ending_text(alloc, Ending::Stopped, machine)?;
+    assert!(rt; line.as_slice() == b"stopped at 66 after 193\n".as_slice());
+    Ok(())
+}
+
+/// Checks that two machines have the same store.
+fn expect_same_store(rt: &impl Abort, one: &Machine, other: &Machine) {
+    assert!(rt; other.store().equals(one.store()));
+}
+
+#[test]
+fn a_run_leaves_its_registers_its_tape_and_its_words(rt: HostRuntime) -> Result<(), Fail> {
+    let machine = machine_after_a_run(&rt, rt.alloc())?;
+    expect_registers(&rt, &machine);
+    expect_tape_and_words(&rt, &machine);
     Ok(())
 }
 
@@ -75,8 +96,6 @@ fn a_run_leaves_its_tape_and_its_words(rt: HostRuntime) -> Result<(), Fail> {
 fn the_ending_of_a_run_is_told(rt: HostRuntime) -> Result<(), Fail> {
     let machine = machine_after_a_run(&rt, rt.alloc())?;
     let other = machine.copy()?;
-    assert!(rt; other.store().equals(machine.store()));
-    let line = ending_text(rt.alloc(), Ending::Stopped, &other)?;
-    assert!(rt; line.as_slice() == b"stopped at 66 after 193\n".as_slice());
-    Ok(())
+    expect_same_store(&rt, &machine, &other);
+    expect_ending(&rt, rt.alloc(), &other)
 }

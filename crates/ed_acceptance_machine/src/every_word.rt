@@ -1,7 +1,7 @@
 //! Each of the 131,072 words as an order.
 
 use crate::numbers::word;
-use crate::support::{image_of, machine_after, next_turn, obey};
+use crate::support::{image_of, machine_after, next_turn, obey, start_with};
 use ed_codes::{Code, byte_of, tape_of_text};
 use ed_machine::{Machine, Turn};
 use ed_words::{Size, Word};
@@ -15,11 +15,16 @@ const USE: &str = "T100D H30F A31F R0D T101D A30F O31F";
 /// The words at 30 to 33 for these orders.
 const DATA: [u32; 4] = [74_565, 43_981, 0, 0];
 
+/// Checks that these orders have left something in each of them.
+fn expect_used(rt: &impl Abort, machine: &Machine) {
+    assert!(rt; machine.sandwich(100) && machine.acc() != 0 && machine.multiplier().value() != 0);
+    assert!(rt; machine.last_printed().is_some() && machine.orders_done() == 7);
+}
+
 /// A machine that has obeyed these orders.
 fn used_machine(rt: &impl Abort, alloc: Global, size: Size) -> Result<Machine, Fail> {
     let machine = machine_after(rt, alloc, size, USE, DATA)?;
-    assert!(rt; machine.sandwich(100) && machine.acc() != 0 && machine.multiplier().value() != 0);
-    assert!(rt; machine.last_printed().is_some() && machine.orders_done() == 7);
+    expect_used(rt, &machine);
     Ok(machine)
 }
 
@@ -50,21 +55,43 @@ fn blocked(order: Word) -> Result<Option<Turn>, Fail> {
     Ok(Some(turn))
 }
 
-/// The first word that is not an order, or reads with no row left, and yet answers otherwise or changes the machine.
-fn first_that_is_obeyed(rt: &impl Abort, alloc: Global, size: Size) -> Result<Option<u32>, Fail> {
-    let mut machine = used_machine(rt, alloc, size)?;
-    let mut before = machine.copy()?;
+/// Whether a word answers this and changes nothing on a machine, which is started on it as its equal is.
+fn is_blocked(
+    rt: &impl Abort,
+    alloc: Global,
+    machine: &mut Machine,
+    equal: &mut Machine,
+    order: Word,
+    wanted: Turn,
+) -> bool {
+    start_with(rt, machine, &[order], Vec::new(alloc));
+    start_with(rt, equal, &[order], Vec::new(alloc));
+    next_turn(rt, machine) == wanted && are_equal(machine, equal)
+}
+
+/// The first word that should change nothing on two equal machines, and yet answers otherwise or changes the first.
+fn first_not_blocked(
+    rt: &impl Abort,
+    alloc: Global,
+    machine: &mut Machine,
+    equal: &mut Machine,
+) -> Result<Option<u32>, Fail> {
     for number in 0..131_072 {
         let order = word(number)?;
         if let Some(wanted) = blocked(order)? {
-            let _no_rows = machine.start(&[order], Vec::new(alloc));
-            let _no_rows = before.start(&[order], Vec::new(alloc));
-            if next_turn(rt, &mut machine) != wanted || !are_equal(&machine, &before) {
+            if !is_blocked(rt, alloc, machine, equal, order, wanted) {
                 return Ok(Some(number));
             }
         }
     }
     Ok(None)
+}
+
+/// The first word that is not an order, or reads with no row left, and yet answers otherwise or changes the machine.
+fn first_that_is_obeyed(rt: &impl Abort, alloc: Global, size: Size) -> Result<Option<u32>, Fail> {
+    let mut machine = used_machine(rt, alloc, size)?;
+    let mut before = machine.copy()?;
+    first_not_blocked(rt, alloc, &mut machine, &mut before)
 }
 
 #[test]
@@ -89,32 +116,52 @@ fn is_turn_of(letter: u8, turn: Turn, rows_left: usize) -> bool {
     letters.contains(&letter) && (rows_left == 0) == (letter == b'I')
 }
 
-/// The first word that is an order and yet is not obeyed as one, with one row left on the tape.
-fn first_that_is_not_obeyed(
+/// Whether an order is obeyed by a machine that has obeyed the orders of an image, with one row left on the tape.
+fn is_obeyed(
+    rt: &impl Abort,
+    machine: &mut Machine,
+    order: Word,
+    letter: u8,
+    row: Vec<Code>,
+) -> bool {
+    start_with(rt, machine, &[order], row);
+    let orders = machine.orders_done();
+    let turn = next_turn(rt, machine);
+    machine.orders_done() == orders.wrapping_add(1)
+        && is_turn_of(letter, turn, machine.rows_left().len())
+}
+
+/// The first word that is an order and yet is not obeyed as one, with one row left on the tape of a machine that has
+/// obeyed the orders of an image before.
+fn first_not_obeyed(
     rt: &impl Abort,
     alloc: Global,
-    size: Size,
+    machine: &mut Machine,
+    image: &[Word],
 ) -> Result<Option<u32>, Fail> {
-    let row = tape_of_text(alloc, b"A")?;
-    let image = image_of(alloc, USE, DATA)?;
-    assert!(rt; image.len() <= 41);
-    let mut machine = used_machine(rt, alloc, size)?;
     for number in 0..131_072 {
         let order = word(number)?;
         let letter = letter_of(order)?;
         if b"ASHVNTUCRLEGIOFXYZ".contains(&letter) {
-            let _old_rows = machine.start(&image, Vec::new(alloc));
-            obey(rt, &mut machine, USE);
-            let _no_rows = machine.start(&[order], row.as_slice().to_vec(alloc)?);
-            let orders = machine.orders_done();
-            let turn = next_turn(rt, &mut machine);
-            let counted = machine.orders_done() == orders.wrapping_add(1);
-            if !counted || !is_turn_of(letter, turn, machine.rows_left().len()) {
+            start_with(rt, machine, image, Vec::new(alloc));
+            obey(rt, machine, USE);
+            if !is_obeyed(rt, machine, order, letter, tape_of_text(alloc, b"A")?) {
                 return Ok(Some(number));
             }
         }
     }
     Ok(None)
+}
+
+/// The first word that is an order and yet is not obeyed as one, on a used machine of a size.
+fn first_that_is_not_obeyed(
+    rt: &impl Abort,
+    alloc: Global,
+    size: Size,
+) -> Result<Option<u32>, Fail> {
+    let image = image_of(alloc, USE, DATA)?;
+    let mut machine = used_machine(rt, alloc, size)?;
+    first_not_obeyed(rt, alloc, &mut machine, &image)
 }
 
 #[test]

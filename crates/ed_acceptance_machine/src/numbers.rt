@@ -17,11 +17,17 @@ pub fn code(number: u8) -> Result<Code, Fail> {
     Ok(Code::new(number).ok_or("no code")?)
 }
 
-/// The codes of these numbers.
-pub fn codes(alloc: Global, numbers: &[u8]) -> Result<Vec<Code>, Fail> {
-    let mut codes = Vec::new(alloc);
+/// Puts the codes of these numbers into a list.
+fn put(codes: &mut Vec<Code>, numbers: &[u8]) -> Result<(), Fail> {
     for number in numbers {
         codes.push(code(*number)?)?;
     }
+    Ok(())
+}
+
+/// The codes of these numbers.
+pub fn codes(alloc: Global, numbers: &[u8]) -> Result<Vec<Code>, Fail> {
+    let mut codes = Vec::new(alloc);
+    put(&mut codes, numbers)?;
     Ok(codes)
 }

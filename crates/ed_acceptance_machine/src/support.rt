@@ -1,7 +1,7 @@
 //! What the tests share: machines with a few orders and words in their store.
 
 use crate::numbers::word;
-use ed_codes::row_of_byte;
+use ed_codes::{Code, row_of_byte};
 use ed_machine::{Machine, Turn};
 use ed_words::{Order, Size, Word, number_within};
 use std::alloc::Global;
@@ -23,9 +23,8 @@ fn word_of_order(text: &str) -> Option<Word> {
     }))
 }
 
-/// The image of orders from location 0 upwards, and of four words at 30 to 33.
-pub fn image_of(alloc: Global, orders: &str, data: [u32; 4]) -> Result<Vec<Word>, Fail> {
-    let mut image = Vec::new(alloc);
+/// Puts orders into an empty image from location 0 upwards, and four words at 30 to 33.
+fn fill(image: &mut Vec<Word>, orders: &str, data: [u32; 4]) -> Result<(), Fail> {
     for order in orders.split_whitespace() {
         image.push(word_of_order(order).ok_or("no order")?)?;
     }
@@ -33,22 +32,20 @@ pub fn image_of(alloc: Global, orders: &str, data: [u32; 4]) -> Result<Vec<Word>
     for number in data {
         image.push(word(number)?)?;
     }
+    Ok(())
+}
+
+/// The image of orders from location 0 upwards, and of four words at 30 to 33.
+pub fn image_of(alloc: Global, orders: &str, data: [u32; 4]) -> Result<Vec<Word>, Fail> {
+    let mut image = Vec::new(alloc);
+    fill(&mut image, orders, data)?;
     Ok(image)
 }
 
-/// A cleared machine with these orders from location 0 and these four words at 30 to 33.
-fn machine_with(
-    rt: &impl Abort,
-    alloc: Global,
-    size: Size,
-    orders: &str,
-    data: [u32; 4],
-) -> Result<Machine, Fail> {
-    let mut machine = Machine::cleared_of(alloc, size)?;
-    let image = image_of(alloc, orders, data)?;
+/// Starts a machine with an image and the rows of a tape.
+pub fn start_with(rt: &impl Abort, machine: &mut Machine, image: &[Word], rows: Vec<Code>) {
     assert!(rt; image.len() <= 41);
-    let _no_rows = machine.start(&image, Vec::new(alloc));
-    Ok(machine)
+    let _old_rows = machine.start(image, rows);
 }
 
 /// What the next order does.
@@ -66,17 +63,16 @@ pub fn word_at(rt: &impl Abort, machine: &Machine, address: u16) -> u32 {
 /// Obeys the next orders, as many as the text has.
 pub fn obey(rt: &impl Abort, machine: &mut Machine, orders: &str) {
     for order in orders.split_whitespace() {
-        match next_turn(rt, machine) {
-            Turn::Went | Turn::Printed(_) => {}
-            Turn::Stopped | Turn::NoOrder(_) | Turn::NoTape => assert!(rt;
-                false,
-                "{order} of {orders}"
-            ),
-        }
+        let turn = next_turn(rt, machine);
+        assert!(rt;
+            matches!(turn, Turn::Went | Turn::Printed(_)),
+            "{order} of {orders}"
+        );
     }
 }
 
-/// A machine with these orders and words, after it has obeyed the orders.
+/// A cleared machine with these orders from location 0 and these four words at 30 to 33, after it has obeyed the
+/// orders.
 pub fn machine_after(
     rt: &impl Abort,
     alloc: Global,
@@ -84,7 +80,9 @@ pub fn machine_after(
     orders: &str,
     data: [u32; 4],
 ) -> Result<Machine, Fail> {
-    let mut machine = machine_with(rt, alloc, size, orders, data)?;
+    let image = image_of(alloc, orders, data)?;
+    let mut machine = Machine::cleared_of(alloc, size)?;
+    start_with(rt, &mut machine, &image, Vec::new(alloc));
     obey(rt, &mut machine, orders);
     Ok(machine)
 }
