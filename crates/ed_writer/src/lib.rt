@@ -9,8 +9,6 @@ mod fault;
 mod operands;
 mod program;
 mod statements;
-#[cfg(test)]
-mod tests;
 mod text;
 
 pub use fault::WriteFault;
