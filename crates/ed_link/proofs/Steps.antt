@@ -1,5 +1,7 @@
--- The steps of loops that make, of each element of a list, a part of what they give; what stands after the head of a segment.
-use Rattle.std.proofs.Common.{◌≡◌, ℕ, ◌+◌, ◌*◌, ◌/◌, ◌%◌, ◌^◌, ◌<◌, ◌≤◌, nat_eq, map, if◌then◌else◌, Some, None, refl, sym, ap, ◌∙◌, arith, Bool, true, false, nat_le, nat_lt}
+-- The steps of loops that make, of each element of a list, a part of what they give; what stands after the head of a
+-- segment.
+use Rattle.std.proofs.Common.{◌≡◌, ℕ, ◌+◌, ◌*◌, ◌/◌, ◌%◌, ◌^◌, ◌<◌, ◌≤◌, nat_eq, map, if◌then◌else◌}
+use Rattle.std.proofs.Common.{Some, None, refl, sym, ap, ◌∙◌, arith, Bool, true, false, nat_le, nat_lt}
 use Rattle.std.proofs.Common.{List, [], ◌∷◌, ◌++◌, length, drop, get_or, append_assoc, append-nil, Option}
 use Rattle.std.specs.List.{flat_map, list_all}
 use Rattle.std.specs.Prelude.{◌&&◌, not}
@@ -116,8 +118,8 @@ headed symbols s (Some (Text codes)) first base = of codes.items
         ≡ with_heading (map word_item (map (λ c. 4096 * c) codes)) first base
     of [] = refl
     of (c ∷ codes) =
-        ap (λ (some : Bool). heads (some && first) base ++ word_item (4096 * c) ∷ map word_item (map (λ c. 4096 * c) codes))
-        (some c codes)
+        let rest = map word_item (map (λ c. 4096 * c) codes) in
+        ap (λ (b : Bool). heads (b && first) base ++ word_item (4096 * c) ∷ rest) (some c codes)
 headed symbols s (Some (Long v)) first base = of (nat_eq (s.place % 2) 1) (v % 2 ^ 17) (v / 2 ^ 18)
   where
     of : (skips : Bool) (even odd : ℕ)
@@ -149,8 +151,8 @@ base_fits symbols s (Some (Enter name)) fits base has = absurd (cc)
 base_fits symbols s (Some (Rows codes)) fits base has = absurd (cc)
 
 -- the items of a `use`
-pub used : {presets headed given : List Item} (symbols : List Definition) (ts : List Setting) (base : ℕ) (found : Option ℕ)
-    (r : ℕ) (done : List Item)
+pub used : {presets headed given : List Item} (symbols : List Definition) (ts : List Setting) (base : ℕ)
+    (found : Option ℕ) (r : ℕ) (done : List Item)
     → found ≡ Some r → 0 < length (entry r).items
     → presets ≡ done ++ flat_map (λ c. preset_items symbols (set_to ts c) c) parameter_letters
     → headed ≡ presets ++ head base → given ≡ headed ++ map table_item (entry r).items

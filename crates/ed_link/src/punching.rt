@@ -316,7 +316,8 @@ fn push_headed(
     requires spellable { AreSpellable items.old.items }
     requires base { has_words statement.now ≡ true → counter.base ≤ 32767 }
     ensures items { OnOk result (items.new.items ≡ items.old.items
-        ++ with_heading (word_items symbols.now counter statement.now) (nat_eq counter.place counter.base) counter.base) }
+        ++ with_heading (word_items symbols.now counter statement.now) (nat_eq counter.place counter.base)
+        counter.base) }
     ensures spellable { AreSpellable items.new.items }
 {
     push_heads(items, counter, statement)?;

@@ -1,4 +1,5 @@
-use Rattle.std.proofs.Common.{◌≡◌, ◌∙◌, ◌≤◌, ◌<◌, ap, sym, refl, arith, List, [], ◌∷◌, length, get_or, map, Option, Some, None}
+use Rattle.std.proofs.Common.{◌≡◌, ◌∙◌, ◌≤◌, ◌<◌, ap, sym, refl, arith}
+use Rattle.std.proofs.Common.{List, [], ◌∷◌, length, get_or, map, Option, Some, None}
 use Rattle.std.specs.Prelude.{option_map}
 use denote.Bor.{Bor}
 use Rattle.ed_words.specs.Texts.{Text}
