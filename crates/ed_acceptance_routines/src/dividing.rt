@@ -3,10 +3,11 @@ ghost use Rattle.std.specs.Prelude.{◌≡◌, ℕ, IsTrue};
 ghost use Rattle.ed_maths.specs.Quotients.{IsDivision, divide, with_hnm};
 ghost use Rattle.ed_routines.specs.Standing.{IsOutside};
 
-use crate::support::{DIVIDE, entered, stands_with, text_of};
+use crate::support::{DIVIDE, add_caller, add_number, add_routine, entered, stands_with};
 use ed_library::{Parameters, routine};
 use ed_machine::Machine;
 use ed_maths::divide_integers;
+use ed_routines::Back;
 use ed_words::{Size, Word};
 use std::alloc::Global;
 use std::process::Abort;
@@ -53,7 +54,9 @@ const SITES: [Site; 3] = [
 
 /// A number, its divisor, the quotient and the remainder, and the number of orders: 212 less the digits 1 of the
 /// quotient.
-const DIVISIONS: [(u32, u32, u32, u32, u64); 12] = [
+type Division = (u32, u32, u32, u32, u64);
+
+const DIVISIONS: [Division; 12] = [
     (0, 1, 0, 0, 212),
     (6, 7, 0, 6, 212),
     (7, 7, 1, 0, 211),
@@ -106,9 +109,34 @@ fn is_outside(machine: &Machine, base: u16, place: u16) -> bool
     place < machine.size().value() && (place < base || 41 <= place && base <= place - 41)
 }
 
-/// A number as an item of a tape.
-fn item(number: u32) -> (u32, &'static str) {
-    (number / 2, if number % 2 == 1 { "D" } else { "F" })
+/// Adds the items that set H, N and M to three locations and place what follows from a base upwards.
+fn add_base(alloc: Global, tape: &mut String, site: &Site) -> Result<(), Fail> {
+    let Site {
+        base,
+        high,
+        low,
+        by,
+        ..
+    } = *site;
+    let items = format!(in alloc; "T45KP{high}FP{low}FP{by}FT{base}KGK")?;
+    Ok(tape.push_str(&items)?)
+}
+
+/// Adds the items of the routine, of its numbers and of a caller.
+fn add_call(
+    rt: &impl Abort,
+    alloc: Global,
+    tape: &mut String,
+    site: &Site,
+    number: u32,
+    divisor: u32,
+) -> Result<(), Fail> {
+    add_base(alloc, tape, site)?;
+    add_routine(rt, alloc, tape, routine(DIVIDE))?;
+    add_number(alloc, tape, site.high, number / 65536)?;
+    add_number(alloc, tape, site.low, number % 65536)?;
+    add_number(alloc, tape, site.by, divisor)?;
+    add_caller(alloc, tape, site.caller, site.base)
 }
 
 /// A machine that has the routine and has just called it with these numbers.
@@ -119,70 +147,76 @@ fn called(
     number: u32,
     divisor: u32,
 ) -> Result<Machine, Fail> {
-    let Site {
-        size,
-        base,
-        caller,
-        high,
-        low,
-        by,
-    } = *site;
-    let items = text_of(rt, alloc, routine(DIVIDE))?;
-    let (h, h_end) = item(number / 65536);
-    let (l, l_end) = item(number % 65536);
-    let (d, d_end) = item(divisor);
-    let tape = format!(in alloc;
-        "T45KP{high}FP{low}FP{by}FT{base}KGK{items}T{high}KP{h}{h_end}T{low}KP{l}{l_end}T{by}KP{d}{d_end}\
-        T{caller}KA{caller}FG{base}FE{caller}KPF"
-    )?;
-    entered(rt, alloc, size, &tape)
+    let mut tape = String::new(alloc);
+    add_call(rt, alloc, &mut tape, site, number, divisor)?;
+    entered(rt, alloc, site.size, &tape)
 }
 
-/// Divides at a site, and answers what is wrong, if anything.
-fn divided(
-    rt: &impl Abort,
-    machine: &mut Machine,
-    site: &Site,
-    quotient: u32,
-    remainder: u32,
-    orders: u64,
-) -> &'static str {
+/// Divides at a site.
+fn divide(rt: &impl Abort, machine: &mut Machine, site: &Site) -> Back {
     let Site {
         base,
-        caller,
         high,
         low,
         by,
         ..
     } = *site;
-    assert!(rt; base % 2 == 0 && caller < 2000);
+    assert!(rt; base % 2 == 0);
     assert!(rt; stands_with(machine, DIVIDE, base, &with_hnm(high, low, by)));
     assert!(rt; is_division(machine, base, high, low, by));
     assert!(rt; machine.orders_done() < 1 << 40);
-    let back = divide_integers(machine, base, high, low, by);
+    divide_integers(machine, base, high, low, by)
+}
+
+/// What is wrong after a division, if anything.
+fn wrong_in(
+    rt: &impl Abort,
+    machine: &Machine,
+    site: &Site,
+    back: Back,
+    division: &Division,
+) -> &'static str {
+    let (_, _, quotient, remainder, orders) = *division;
+    let Site {
+        caller,
+        high,
+        low,
+        ..
+    } = *site;
+    assert!(rt; caller < 2000 && high < 1024 && low < 1024);
     if back.orders != orders {
-        return "another count";
-    }
-    if back.at != caller + 2 || machine.counter() != caller + 2 || machine.acc() != 0 {
-        return "not returned";
-    }
-    if machine.word(low).value() != quotient {
-        return "another quotient";
-    }
-    if machine.word(high).value() != remainder {
+        "another count"
+    } else if back.at != caller + 2 || machine.counter() != caller + 2 || machine.acc() != 0 {
+        "not returned"
+    } else if machine.word(low).value() != quotient {
+        "another quotient"
+    } else if machine.word(high).value() != remainder {
         "another remainder"
     } else {
         ""
     }
 }
 
+/// Checks a division at a site.
+fn expect_division(
+    rt: &impl Abort,
+    alloc: Global,
+    site: &Site,
+    division: &Division,
+) -> Result<(), Fail> {
+    let (number, divisor, ..) = *division;
+    let mut machine = called(rt, alloc, site, number, divisor)?;
+    let back = divide(rt, &mut machine, site);
+    let wrong = wrong_in(rt, &machine, site, back, division);
+    assert!(rt; wrong.is_empty(), "{number} by {divisor}: {wrong}");
+    Ok(())
+}
+
 #[test]
 fn numbers_are_divided(rt: HostRuntime) -> Result<(), Fail> {
     for site in &SITES {
-        for (number, divisor, quotient, remainder, orders) in DIVISIONS {
-            let mut machine = called(&rt, rt.alloc(), site, number, divisor)?;
-            let wrong = divided(&rt, &mut machine, site, quotient, remainder, orders);
-            assert!(rt; wrong.is_empty(), "{number} by {divisor}: {wrong}");
+        for division in &DIVISIONS {
+            expect_division(&rt, rt.alloc(), site, division)?;
         }
     }
     Ok(())

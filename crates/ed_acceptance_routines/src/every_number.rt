@@ -1,8 +1,10 @@
 //! `print` for every number that it prints.
 
-use crate::support::{PRINT, counting, stands_at};
+use crate::support::{PRINT, count, counting, stands_at};
+use ed_codes::Code;
 use ed_machine::{Machine, Paper};
 use ed_routines::print_integer;
+use std::alloc::Global;
 use std::process::Abort;
 use std::test::Fail;
 
@@ -11,56 +13,71 @@ const BASE: u16 = 60;
 
 const H: u16 = 200;
 
-/// Prints the number of a machine that counts, and answers what was printed wrong, if anything.
-fn printed(rt: &impl Abort, machine: &mut Machine, number: u32, paper: &mut Paper) -> &'static str {
+/// Prints the number of a machine that counts, and answers the orders.
+fn print(rt: &impl Abort, machine: &mut Machine, number: u32, paper: &mut Paper) -> u64 {
     assert!(rt; stands_at(machine, PRINT, BASE, H));
     assert!(rt;
         machine.size().value() == 1024 && machine.word(H).value() == number && number < 65536
     );
     assert!(rt; machine.orders_done() < 1 << 40 && 6 <= paper.room_left());
-    let orders = print_integer(machine, BASE, H, paper).orders;
-    let Some((shift, digits)) = paper.codes().split_first() else {
+    print_integer(machine, BASE, H, paper).orders
+}
+
+/// The number with these digits, and the orders that it takes to print them before another digit.
+fn number_and_orders(digits: &[Code]) -> (u64, u64) {
+    let mut number = 0u64;
+    let mut orders = 78u64;
+    for code in digits {
+        let digit = u64::from(code.value());
+        number = number.wrapping_mul(10).wrapping_add(digit);
+        orders = orders.wrapping_add(4 + 8 * digit);
+    }
+    (number, orders)
+}
+
+/// What is wrong in the codes that are printed for a number or in the orders that they took, if anything.
+fn wrong_in(codes: &[Code], number: u32, orders: u64) -> &'static str {
+    let Some((shift, digits)) = codes.split_first() else {
         return "nothing";
     };
     let Some((units, tens)) = digits.split_last() else {
         return "no digit";
     };
-    let mut value = 0u64;
-    let mut wanted = 78u64;
-    for digit in tens {
-        value = value
-            .wrapping_mul(10)
-            .wrapping_add(u64::from(digit.value()));
-        wanted = wanted.wrapping_add(4 + 8 * u64::from(digit.value()));
-    }
-    if shift.value() != 11 {
-        return "another shift";
-    }
-    if tens.first().is_some_and(|first| first.value() == 0) {
-        return "a leading zero";
-    }
+    let (value, wanted) = number_and_orders(tens);
     let units = u64::from(units.value());
-    if value.wrapping_mul(10).wrapping_add(units) != u64::from(number) {
-        return "another number";
-    }
-    if orders != wanted {
+    if shift.value() != 11 {
+        "another shift"
+    } else if !tens.is_empty() && tens[0].value() == 0 {
+        "a leading zero"
+    } else if value.wrapping_mul(10).wrapping_add(units) != u64::from(number) {
+        "another number"
+    } else if orders != wanted {
         "another count"
     } else {
         ""
     }
 }
 
+/// Prints the number of a machine that counts, checks what is printed, and goes on to the next call.
+fn expect_printed(
+    rt: &impl Abort,
+    alloc: Global,
+    machine: &mut Machine,
+    number: u32,
+) -> Result<(), Fail> {
+    let mut paper = Paper::new(alloc, 6)?;
+    let orders = print(rt, machine, number, &mut paper);
+    let wrong = wrong_in(paper.codes(), number, orders);
+    assert!(rt; wrong.is_empty(), "{number}: {wrong}");
+    count(rt, machine);
+    Ok(())
+}
+
 #[test]
 fn each_number_is_printed(rt: HostRuntime) -> Result<(), Fail> {
     let mut machine = counting(&rt, rt.alloc(), PRINT, BASE, H)?;
     for number in 0..65536 {
-        let mut paper = Paper::new(rt.alloc(), 6)?;
-        let wrong = printed(&rt, &mut machine, number, &mut paper);
-        assert!(rt; wrong.is_empty(), "{number}: {wrong}");
-        for _ in 0..6 {
-            assert!(rt; machine.orders_done() < 1 << 40);
-            machine.step();
-        }
+        expect_printed(&rt, rt.alloc(), &mut machine, number)?;
     }
     Ok(())
 }

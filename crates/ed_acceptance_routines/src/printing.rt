@@ -1,15 +1,19 @@
 //! What `print` and `newline` print.
 
 use crate::support::{NEWLINE, PLACES, PRINT, Places, called, stands_at};
+use ed_codes::Code;
 use ed_library::routine;
 use ed_machine::{Machine, Paper};
 use ed_routines::{Back, new_line, print_integer};
+use std::alloc::Global;
 use std::process::Abort;
 use std::test::Fail;
 
 /// Numbers, their decimal digits, and the number of orders that they take: 78, 8 times the sum of the digits before the
 /// last one, and 4 for each of these digits.
-const NUMBERS: [(u32, &str, u64); 11] = [
+type Row = (u32, &'static str, u64);
+
+const NUMBERS: [Row; 11] = [
     (0, "0", 78),
     (7, "7", 78),
     (10, "10", 90),
@@ -33,43 +37,90 @@ fn print(rt: &impl Abort, machine: &mut Machine, places: &Places, paper: &mut Pa
     print_integer(machine, base, h, paper)
 }
 
+/// Whether codes are those of figure shift and of digits.
+fn are_digits(codes: &[Code], digits: &str) -> bool {
+    let Some((shift, printed)) = codes.split_first() else {
+        return false;
+    };
+    if shift.value() != 11 || printed.len() != digits.len() {
+        return false;
+    }
+    for (code, digit) in printed.iter().zip(digits.bytes()) {
+        if code.value() + 48 != digit {
+            return false;
+        }
+    }
+    true
+}
+
+/// Prints a number, and answers what is wrong, if anything.
+fn wrong_in(
+    rt: &impl Abort,
+    machine: &mut Machine,
+    places: &Places,
+    paper: &mut Paper,
+    row: &Row,
+) -> &'static str {
+    let (_, digits, orders) = *row;
+    let at = places.back;
+    let done = machine.orders_done();
+    if print(rt, machine, places, paper) != (Back { at, orders }) {
+        "another end"
+    } else if machine.counter() != at || machine.acc() != 0 {
+        "not returned"
+    } else if machine.orders_done().checked_sub(done) != Some(orders) {
+        "another count"
+    } else if !are_digits(paper.codes(), digits) {
+        "other codes"
+    } else {
+        ""
+    }
+}
+
+/// Checks what `print` does with a number.
+fn expect_printed(rt: &impl Abort, alloc: Global, places: &Places, row: &Row) -> Result<(), Fail> {
+    let (number, ..) = *row;
+    let mut paper = Paper::new(alloc, 6)?;
+    let mut machine = called(rt, alloc, routine(PRINT), places, number, "")?;
+    let wrong = wrong_in(rt, &mut machine, places, &mut paper, row);
+    assert!(rt; wrong.is_empty(), "{number}: {wrong}");
+    Ok(())
+}
+
 #[test]
 fn numbers_are_printed_in_decimal(rt: HostRuntime) -> Result<(), Fail> {
     for places in &PLACES {
-        for (number, digits, orders) in NUMBERS {
-            let mut machine = called(&rt, rt.alloc(), routine(PRINT), places, number, "")?;
-            let done = machine.orders_done();
-            let mut paper = Paper::new(rt.alloc(), 6)?;
-            let back = print(&rt, &mut machine, places, &mut paper);
-            let at = places.back;
-            assert!(rt; back == Back { at, orders }, "{number}");
-            assert!(rt; machine.counter() == at && machine.acc() == 0, "{number}");
-            assert!(rt;
-                machine.orders_done().checked_sub(done) == Some(orders),
-                "{number}"
-            );
-            let printed = paper.codes();
-            assert!(rt; printed.len() == 1 + digits.len(), "{number}");
-            assert!(rt; printed[0].value() == 11, "{number}");
-            for (code, digit) in printed[1..].iter().zip(digits.bytes()) {
-                assert!(rt; code.value() + 48 == digit, "{number}");
-            }
+        for row in &NUMBERS {
+            expect_printed(&rt, rt.alloc(), places, row)?;
         }
     }
     Ok(())
 }
 
+/// Whether codes are those of a carriage return and a line feed.
+fn are_new_line(codes: &[Code]) -> bool {
+    match codes {
+        [first, second] => first.value() == 18 && second.value() == 24,
+        _ => false,
+    }
+}
+
+/// Checks what `newline` does.
+fn expect_new_line(rt: &impl Abort, machine: &mut Machine, places: &Places, paper: &mut Paper) {
+    assert!(rt; stands_at(machine, NEWLINE, places.base, places.h));
+    assert!(rt; machine.orders_done() < 1 << 40 && 2 <= paper.room_left());
+    let back = new_line(machine, places.base, paper);
+    let at = places.back;
+    assert!(rt; back == Back { at, orders: 5 });
+    assert!(rt; are_new_line(paper.codes()));
+}
+
 #[test]
 fn a_new_line_is_two_codes(rt: HostRuntime) -> Result<(), Fail> {
     for places in &PLACES {
-        let mut machine = called(&rt, rt.alloc(), routine(NEWLINE), places, 0, "")?;
         let mut paper = Paper::new(rt.alloc(), 2)?;
-        assert!(rt; stands_at(&machine, NEWLINE, places.base, places.h));
-        assert!(rt; machine.orders_done() < 1 << 40);
-        let back = new_line(&mut machine, places.base, &mut paper);
-        let at = places.back;
-        assert!(rt; back == Back { at, orders: 5 });
-        assert!(rt; paper.codes().iter().map(|code| code.value()).eq([18, 24]));
+        let mut machine = called(&rt, rt.alloc(), routine(NEWLINE), places, 0, "")?;
+        expect_new_line(&rt, &mut machine, places, &mut paper);
     }
     Ok(())
 }

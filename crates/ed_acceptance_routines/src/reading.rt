@@ -5,11 +5,14 @@ use ed_codes::{Code, byte_of};
 use ed_library::routine;
 use ed_machine::Machine;
 use ed_routines::{ReadBack, read_integer};
+use std::alloc::Global;
 use std::process::Abort;
 use std::test::Fail;
 
 /// Rows, the number that they give, and the number of orders: 11, and 13 for each digit row.
-const ROWS: [(&str, u32, u64); 8] = [
+type Row = (&'static str, u32, u64);
+
+const ROWS: [Row; 8] = [
     ("F", 0, 11),
     ("7F", 7, 24),
     ("42F", 42, 37),
@@ -38,65 +41,108 @@ fn word(rt: &impl Abort, machine: &Machine, place: u16) -> u32 {
     machine.word(place).value()
 }
 
+/// Reads a number, and answers what is wrong, if anything.
+fn wrong_in(rt: &impl Abort, machine: &mut Machine, places: &Places, row: &Row) -> &'static str {
+    let (_, number, orders) = *row;
+    let at = places.back;
+    if read(rt, machine, places) != (ReadBack::Back { at, orders }) {
+        "another end"
+    } else if machine.counter() != at || machine.acc() != 0 {
+        "not returned"
+    } else if !machine.rows_left().is_empty() {
+        "rows left"
+    } else if word(rt, machine, places.h) != number {
+        "another number"
+    } else {
+        ""
+    }
+}
+
+/// Checks what `read` does with rows.
+fn expect_number(rt: &impl Abort, alloc: Global, places: &Places, row: &Row) -> Result<(), Fail> {
+    let (rows, ..) = *row;
+    let mut machine = called(rt, alloc, routine(READ), places, 99, rows)?;
+    let wrong = wrong_in(rt, &mut machine, places, row);
+    assert!(rt; wrong.is_empty(), "{rows}: {wrong}");
+    Ok(())
+}
+
 #[test]
 fn digit_rows_are_a_number(rt: HostRuntime) -> Result<(), Fail> {
     for places in &PLACES {
-        for (rows, number, orders) in ROWS {
-            let mut machine = called(&rt, rt.alloc(), routine(READ), places, 99, rows)?;
-            let at = places.back;
-            let back = read(&rt, &mut machine, places);
-            assert!(rt; back == ReadBack::Back { at, orders }, "{rows}");
-            assert!(rt; machine.counter() == at && machine.acc() == 0, "{rows}");
-            assert!(rt; machine.rows_left().is_empty(), "{rows}");
-            assert!(rt; word(&rt, &machine, places.h) == number, "{rows}");
+        for row in &ROWS {
+            expect_number(&rt, rt.alloc(), places, row)?;
         }
     }
     Ok(())
 }
 
+/// A machine that has called `read` with a digit row, the row of a code, and a digit row.
+fn called_on(rt: &impl Abort, alloc: Global, code: u8) -> Result<Machine, Fail> {
+    let row = char::from(byte_of(Code::new(code).ok_or("no code")?, false));
+    let rows = format!(in alloc; "5{row}6")?;
+    called(rt, alloc, routine(READ), &PLACES[0], 99, &rows)
+}
+
+/// Checks that the row of a code ends the number on such a machine.
+fn expect_end(rt: &impl Abort, machine: &mut Machine, code: u8) {
+    let places = &PLACES[0];
+    let at = places.back;
+    let back = read(rt, machine, places);
+    assert!(rt; back == ReadBack::Back { at, orders: 24 }, "{code}");
+    assert!(rt; word(rt, machine, places.h) == 5, "{code}");
+    assert!(rt; machine.rows_left().len() == 1, "{code}");
+}
+
 #[test]
 fn each_other_row_ends_a_number(rt: HostRuntime) -> Result<(), Fail> {
-    let places = &PLACES[0];
     for code in 10..32 {
-        let row = char::from(byte_of(Code::new(code).expect(&rt, "a code"), false));
-        let rows = format!(in rt.alloc(); "5{row}6")?;
-        let mut machine = called(&rt, rt.alloc(), routine(READ), places, 99, &rows)?;
-        let at = places.back;
-        let back = read(&rt, &mut machine, places);
-        assert!(rt; back == ReadBack::Back { at, orders: 24 }, "{code}");
-        assert!(rt; word(&rt, &machine, places.h) == 5, "{code}");
-        assert!(rt; machine.rows_left().len() == 1, "{code}");
+        let mut machine = called_on(&rt, rt.alloc(), code)?;
+        expect_end(&rt, &mut machine, code);
     }
     Ok(())
+}
+
+/// Checks that the tape ends on a machine after these orders.
+fn expect_no_tape(
+    rt: &impl Abort,
+    machine: &mut Machine,
+    places: &Places,
+    rows: &str,
+    orders: u64,
+) {
+    let back = read(rt, machine, places);
+    assert!(rt; back == ReadBack::NoTape { orders }, "{rows}");
+    let offset = machine.counter().checked_sub(places.base);
+    assert!(rt; offset == Some(3), "{rows}");
+    assert!(rt; word(rt, machine, places.h) == 99, "{rows}");
 }
 
 #[test]
 fn a_tape_that_ends_leaves_the_number_as_it_was(rt: HostRuntime) -> Result<(), Fail> {
     for places in &PLACES {
-        for (rows, orders) in ENDS {
+        for (rows, orders) in &ENDS {
             let mut machine = called(&rt, rt.alloc(), routine(READ), places, 99, rows)?;
-            let back = read(&rt, &mut machine, places);
-            assert!(rt; back == ReadBack::NoTape { orders }, "{rows}");
-            assert!(rt;
-                machine.counter().checked_sub(places.base) == Some(3),
-                "{rows}"
-            );
-            assert!(rt; word(&rt, &machine, places.h) == 99, "{rows}");
+            expect_no_tape(&rt, &mut machine, places, rows, *orders);
         }
     }
     Ok(())
 }
 
-#[test]
-fn a_routine_stands_where_it_was_put_and_nowhere_else(rt: HostRuntime) -> Result<(), Fail> {
-    let places = &PLACES[0];
-    let mut machine = called(&rt, rt.alloc(), routine(READ), places, 0, "F")?;
-    assert!(rt; stands_at(&machine, READ, 56, 300));
-    assert!(rt; !stands_at(&machine, READ, 57, 300));
-    assert!(rt; !stands_at(&machine, READ, 56, 301));
-    assert!(rt; !stands_at(&machine, 0, 56, 300));
+/// Checks that `read` stands at 56 on a machine that has called it, and nowhere else.
+fn expect_place(rt: &impl Abort, machine: &mut Machine) {
+    assert!(rt; stands_at(machine, READ, 56, 300));
+    assert!(rt; !stands_at(machine, READ, 57, 300));
+    assert!(rt; !stands_at(machine, READ, 56, 301));
+    assert!(rt; !stands_at(machine, 0, 56, 300));
     assert!(rt; machine.orders_done() < 1 << 40);
     machine.step();
-    assert!(rt; !stands_at(&machine, READ, 57, 300));
+    assert!(rt; !stands_at(machine, READ, 57, 300));
+}
+
+#[test]
+fn a_routine_stands_where_it_was_put_and_nowhere_else(rt: HostRuntime) -> Result<(), Fail> {
+    let mut machine = called(&rt, rt.alloc(), routine(READ), &PLACES[0], 0, "F")?;
+    expect_place(&rt, &mut machine);
     Ok(())
 }

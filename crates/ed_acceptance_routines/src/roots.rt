@@ -2,10 +2,11 @@
 ghost use Rattle.std.specs.Prelude.{◌≡◌};
 ghost use Rattle.ed_maths.specs.Roots.{with_hn};
 
-use crate::support::{ROOT, entered, stands_with, text_of};
+use crate::support::{ROOT, add_routine, count, entered, stands_with};
 use ed_library::{Parameters, routine};
 use ed_machine::Machine;
 use ed_maths::square_root;
+use ed_routines::Back;
 use ed_words::{Size, Word};
 use std::alloc::Global;
 use std::process::Abort;
@@ -61,36 +62,68 @@ fn with_hn(source: u16, target: u16) -> Parameters
     ]
 }
 
-/// A machine that has the routine and has just called it with the number 0, by a program that adds 1 to the number and
-/// calls it again, in six orders.
-fn counting(rt: &impl Abort, alloc: Global, site: &Site) -> Result<Machine, Fail> {
-    let Site {
-        size,
-        base,
-        caller,
-        source,
-        target,
-    } = *site;
-    assert!(rt; caller < 2000);
-    let items = text_of(rt, alloc, routine(ROOT))?;
-    let one = caller + 6;
-    let tape = format!(in alloc;
-        "T45KP{source}FP{target}FT{base}KGK{items}T{source}KPFT{caller}KA{caller}FG{base}FA{source}FA{one}FT{source}FE{caller}F\
-        PDE{caller}KPF"
-    )?;
-    entered(rt, alloc, size, &tape)
-}
-
-/// Takes the root of a machine that counts, and answers what is wrong, if anything.
-fn rooted(rt: &impl Abort, machine: &mut Machine, site: &Site, number: u32) -> &'static str {
+/// Adds the items that set H and N to two locations and place what follows from a base upwards.
+fn add_base(alloc: Global, tape: &mut String, site: &Site) -> Result<(), Fail> {
     let Site {
         base,
-        caller,
         source,
         target,
         ..
     } = *site;
-    assert!(rt; caller < 2000 && source != target);
+    let items = format!(in alloc; "T45KP{source}FP{target}FT{base}KGK")?;
+    Ok(tape.push_str(&items)?)
+}
+
+/// Adds the items of the number 0 and of a caller that adds 1 to the number after each call.
+fn add_counting_caller(
+    rt: &impl Abort,
+    alloc: Global,
+    tape: &mut String,
+    site: &Site,
+) -> Result<(), Fail> {
+    let Site {
+        base,
+        caller,
+        source,
+        ..
+    } = *site;
+    assert!(rt; caller < 2000);
+    let one = caller + 6;
+    let items = format!(in alloc;
+        "T{source}KPFT{caller}KA{caller}FG{base}FA{source}FA{one}FT{source}FE{caller}FPDE{caller}KPF"
+    )?;
+    Ok(tape.push_str(&items)?)
+}
+
+/// Adds the items of the routine and of that caller.
+fn add_counting(
+    rt: &impl Abort,
+    alloc: Global,
+    tape: &mut String,
+    site: &Site,
+) -> Result<(), Fail> {
+    add_base(alloc, tape, site)?;
+    add_routine(rt, alloc, tape, routine(ROOT))?;
+    add_counting_caller(rt, alloc, tape, site)
+}
+
+/// A machine that has the routine and has just called it with the number 0, by a program that adds 1 to the number and
+/// calls it again, in six orders.
+fn counting(rt: &impl Abort, alloc: Global, site: &Site) -> Result<Machine, Fail> {
+    let mut tape = String::new(alloc);
+    add_counting(rt, alloc, &mut tape, site)?;
+    entered(rt, alloc, site.size, &tape)
+}
+
+/// Takes the root of a machine that counts.
+fn root(rt: &impl Abort, machine: &mut Machine, site: &Site, number: u32) -> Back {
+    let Site {
+        base,
+        source,
+        target,
+        ..
+    } = *site;
+    assert!(rt; source != target);
     assert!(rt; stands_with(machine, ROOT, base, &with_hn(source, target)));
     assert!(rt;
         source < machine.size().value() && (source < base || 23 <= source && base <= source - 23)
@@ -100,32 +133,45 @@ fn rooted(rt: &impl Abort, machine: &mut Machine, site: &Site, number: u32) -> &
     );
     assert!(rt; machine.word(source).value() == number && number < 65536);
     assert!(rt; machine.orders_done() < 1 << 40);
-    let back = square_root(machine, base, source, target);
+    square_root(machine, base, source, target)
+}
+
+/// What is wrong after the root of a number was taken, if anything.
+fn wrong_in(
+    rt: &impl Abort,
+    machine: &Machine,
+    site: &Site,
+    number: u32,
+    back: Back,
+) -> &'static str {
+    let Site { caller, target, .. } = *site;
+    assert!(rt; caller < 2000 && target < 1024);
     let root = machine.word(target).value();
     if root > 255 || root * root > number || (root + 1) * (root + 1) <= number {
-        return "no root";
-    }
-    if back.orders != 14 + 8 * u64::from(root) {
-        return "another count";
-    }
-    if back.at != caller + 2 || machine.counter() != caller + 2 || machine.acc() != 0 {
+        "no root"
+    } else if back.orders != 14 + 8 * u64::from(root) {
+        "another count"
+    } else if back.at != caller + 2 || machine.counter() != caller + 2 || machine.acc() != 0 {
         "not returned"
     } else {
         ""
     }
 }
 
+/// Takes the roots of the numbers from 0 to the last one on a machine that counts.
+fn expect_roots(rt: &impl Abort, machine: &mut Machine, site: &Site, last: u32) {
+    for number in 0..=last {
+        let back = root(rt, machine, site, number);
+        let wrong = wrong_in(rt, machine, site, number, back);
+        assert!(rt; wrong.is_empty(), "{number}: {wrong}");
+        count(rt, machine);
+    }
+}
+
 /// Takes the roots of the numbers from 0 to the last one at a site.
 fn take_roots(rt: &impl Abort, alloc: Global, site: &Site, last: u32) -> Result<(), Fail> {
     let mut machine = counting(rt, alloc, site)?;
-    for number in 0..=last {
-        let wrong = rooted(rt, &mut machine, site, number);
-        assert!(rt; wrong.is_empty(), "{number}: {wrong}");
-        for _ in 0..6 {
-            assert!(rt; machine.orders_done() < 1 << 40);
-            machine.step();
-        }
-    }
+    expect_roots(rt, &mut machine, site, last);
     Ok(())
 }
 

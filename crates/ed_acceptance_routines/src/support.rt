@@ -4,11 +4,11 @@ ghost use Rattle.ed_library.specs.Entries.{how_many};
 ghost use Rattle.ed_routines.specs.Catalogue.{with_h};
 ghost use Rattle.ed_routines.specs.Standing.{Stands};
 
-use ed_codes::tape_of_text;
+use ed_codes::{Code, tape_of_text};
 use ed_initial::{Loaded, begin, is_started, load};
 use ed_library::{Parameters, Routine, routine};
 use ed_machine::Machine;
-use ed_notation::{spellable, text_of_items};
+use ed_notation::{Item, spellable, text_of_items};
 use ed_routines::stands;
 use ed_words::{Size, Word};
 use std::alloc::Global;
@@ -104,17 +104,76 @@ pub fn stands_with(machine: &Machine, index: u16, base: u16, parameters: &Parame
     stands(machine, &routine, base, parameters)
 }
 
-/// The text of a routine's items.
-pub fn text_of(rt: &impl Abort, alloc: Global, routine: Routine) -> Result<String, Fail> {
-    let mut text = String::new(alloc);
-    for place in 0..routine.length() {
-        let item = routine.item(place);
-        assert!(rt; spellable(&item));
-        for byte in text_of_items(alloc, &[item])? {
-            text.push(char::from(byte))?;
-        }
+/// Adds the text of an item.
+fn add_item(rt: &impl Abort, alloc: Global, tape: &mut String, item: Item) -> Result<(), Fail> {
+    assert!(rt; spellable(&item));
+    let bytes = text_of_items(alloc, &[item])?;
+    for byte in bytes.as_slice() {
+        tape.push(char::from(*byte))?;
     }
-    Ok(text)
+    Ok(())
+}
+
+/// Adds the text of a routine's items.
+pub fn add_routine(
+    rt: &impl Abort,
+    alloc: Global,
+    tape: &mut String,
+    routine: Routine,
+) -> Result<(), Fail> {
+    for place in 0..routine.length() {
+        add_item(rt, alloc, tape, routine.item(place))?;
+    }
+    Ok(())
+}
+
+/// Adds the items that set H to a location and place what follows from a base upwards.
+pub fn add_base(alloc: Global, tape: &mut String, base: u16, h: u16) -> Result<(), Fail> {
+    let items = format!(in alloc; "T45KP{h}FT{base}KGK")?;
+    Ok(tape.push_str(&items)?)
+}
+
+/// Adds the items that place a number at a location.
+pub fn add_number(alloc: Global, tape: &mut String, place: u16, number: u32) -> Result<(), Fail> {
+    let half = number / 2;
+    let length = if number % 2 == 1 { 'D' } else { 'F' };
+    let items = format!(in alloc; "T{place}KP{half}{length}")?;
+    Ok(tape.push_str(&items)?)
+}
+
+/// Adds the items of a caller of the routine at a base, and of the entry to it.
+pub fn add_caller(alloc: Global, tape: &mut String, caller: u16, base: u16) -> Result<(), Fail> {
+    let items = format!(in alloc; "T{caller}KA{caller}FG{base}FE{caller}KPF")?;
+    Ok(tape.push_str(&items)?)
+}
+
+/// Adds the items of a caller at 300 that adds 1 to the number at h after each call.
+fn add_counting_caller(
+    rt: &impl Abort,
+    alloc: Global,
+    tape: &mut String,
+    base: u16,
+    h: u16,
+) -> Result<(), Fail> {
+    assert!(rt; h < 300);
+    let one = h + 1;
+    let items = format!(in alloc; "T{h}KPFPDT300KA300FG{base}FA{h}FA{one}FT{h}FE300FE300KPF")?;
+    Ok(tape.push_str(&items)?)
+}
+
+/// Adds the items of a routine and of that caller.
+fn add_counting(
+    rt: &impl Abort,
+    alloc: Global,
+    tape: &mut String,
+    index: u16,
+    base: u16,
+    h: u16,
+) -> Result<(), Fail> {
+    assert!(rt; index < 6);
+    add_base(alloc, tape, base, h)?;
+    add_routine(rt, alloc, tape, routine(index))?;
+    add_counting_caller(rt, alloc, tape, base, h)
 }
 
 /// A machine that has a routine and has just called it with the number 0 at h, by a program that adds 1 to the number
@@ -126,13 +185,34 @@ pub fn counting(
     base: u16,
     h: u16,
 ) -> Result<Machine, Fail> {
-    assert!(rt; index < 6 && h < 300);
-    let items = text_of(rt, alloc, routine(index))?;
-    let one = h + 1;
-    let tape = format!(in alloc;
-        "T45KP{h}FT{base}KGK{items}T{h}KPFPDT300KA300FG{base}FA{h}FA{one}FT{h}FE300FE300KPF"
-    )?;
+    let mut tape = String::new(alloc);
+    add_counting(rt, alloc, &mut tape, index, base, h)?;
     entered(rt, alloc, Size::Full, &tape)
+}
+
+/// Obeys the six orders after a call of such a program.
+pub fn count(rt: &impl Abort, machine: &mut Machine) {
+    for _ in 0..6 {
+        assert!(rt; machine.orders_done() < 1 << 40);
+        machine.step();
+    }
+}
+
+/// Adds the items of a routine, of a number at h and of a caller, and rows.
+fn add_call(
+    rt: &impl Abort,
+    alloc: Global,
+    tape: &mut String,
+    routine: Routine,
+    places: &Places,
+    number: u32,
+    rows: &str,
+) -> Result<(), Fail> {
+    add_base(alloc, tape, places.base, places.h)?;
+    add_routine(rt, alloc, tape, routine)?;
+    add_number(alloc, tape, places.h, number)?;
+    add_caller(alloc, tape, places.caller, places.base)?;
+    Ok(tape.push_str(rows)?)
 }
 
 /// A machine that has the routine and has just called it, with a number at h, and rows left on the tape.
@@ -144,34 +224,29 @@ pub fn called(
     number: u32,
     rows: &str,
 ) -> Result<Machine, Fail> {
-    let Places {
-        size,
-        base,
-        caller,
-        h,
-        ..
-    } = *places;
-    let items = text_of(rt, alloc, routine)?;
-    let half = number / 2;
-    let odd = if number % 2 == 1 { "D" } else { "F" };
-    let tape = format!(in alloc;
-        "T45KP{h}FT{base}KGK{items}T{h}KP{half}{odd}T{caller}KA{caller}FG{base}FE{caller}KPF{rows}"
-    )?;
-    let machine = entered(rt, alloc, size, &tape)?;
-    assert!(rt; machine.counter() == base);
+    let mut tape = String::new(alloc);
+    add_call(rt, alloc, &mut tape, routine, places, number, rows)?;
+    let machine = entered(rt, alloc, places.size, &tape)?;
+    assert!(rt; machine.counter() == places.base);
     Ok(machine)
 }
 
-/// A machine that has obeyed the first two orders of a tape's program, which are those of a call.
-pub fn entered(rt: &impl Abort, alloc: Global, size: Size, tape: &str) -> Result<Machine, Fail> {
-    let mut machine = Machine::cleared_of(alloc, size)?;
-    begin(&mut machine, tape_of_text(alloc, tape.as_bytes())?);
-    assert!(rt; is_started(&machine));
+/// Starts a machine on the rows of a tape, loads it, and obeys the first two orders of its program.
+fn enter(rt: &impl Abort, machine: &mut Machine, rows: Vec<Code>) {
+    begin(machine, rows);
+    assert!(rt; is_started(machine));
     assert!(rt; machine.orders_done() < 1 << 20 && machine.rows_left().len() < 1 << 20);
-    assert!(rt; matches!(load(&mut machine), Loaded::Entered { .. }));
+    assert!(rt; matches!(load(machine), Loaded::Entered { .. }));
     for _ in 0..2 {
         assert!(rt; machine.orders_done() < 1 << 40);
         machine.step();
     }
+}
+
+/// A machine that has obeyed the first two orders of a tape's program, which are those of a call.
+pub fn entered(rt: &impl Abort, alloc: Global, size: Size, tape: &str) -> Result<Machine, Fail> {
+    let rows = tape_of_text(alloc, tape.as_bytes())?;
+    let mut machine = Machine::cleared_of(alloc, size)?;
+    enter(rt, &mut machine, rows);
     Ok(machine)
 }
