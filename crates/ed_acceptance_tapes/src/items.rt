@@ -1,49 +1,58 @@
 //! Items, the rows and the text that spell them, and the words of the Initial Orders.
 
+use crate::support::first_difference;
 use ed_codes::Code;
 use ed_initial::orders;
 use ed_notation::{Item, rows_of_items, spellable, text_of_items};
 use ed_words::Word;
 use std::alloc::Global;
+use std::process::Abort;
 use std::test::Fail;
 
-fn code(number: u8) -> Result<Code, Fail> {
-    Ok(Code::new(number).ok_or("no code")?)
+fn code(rt: &impl Abort, number: u8) -> Code {
+    Code::new(number).expect(rt, "a code")
 }
 
-/// The codes of these numbers.
-fn codes(alloc: Global, numbers: &[u8]) -> Result<Vec<Code>, Fail> {
-    let mut codes = Vec::new(alloc);
-    for number in numbers {
-        codes.push(code(*number)?)?;
-    }
-    Ok(codes)
+/// The items T 64 K and A 2 π @.
+fn items(rt: &impl Abort) -> (Item, Item) {
+    let first = Item {
+        function: code(rt, 5),
+        number: 64,
+        mark: false,
+        end: code(rt, 14),
+    };
+    let second = Item {
+        function: code(rt, 28),
+        number: 2,
+        mark: true,
+        end: code(rt, 18),
+    };
+    (first, second)
+}
+
+/// Checks that the items are spelled in rows.
+fn expect_rows(rt: &impl Abort, alloc: Global) -> Result<(), Fail> {
+    let (first, second) = items(rt);
+    assert!(rt; spellable(&first) && spellable(&second));
+    let rows = rows_of_items(alloc, &[first, second])?;
+    let differs = first_difference(&rows, &[5, 6, 4, 14, 28, 2, 11, 18]);
+    assert!(rt; differs.is_none(), "row {differs:?}");
+    Ok(())
+}
+
+/// Checks that the items are spelled in text.
+fn expect_text(rt: &impl Abort, alloc: Global) -> Result<(), Fail> {
+    let (first, second) = items(rt);
+    assert!(rt; spellable(&first) && spellable(&second));
+    let text = text_of_items(alloc, &[first, second])?;
+    assert!(rt; text.as_slice() == b"T64K\nA2#@\n".as_slice());
+    Ok(())
 }
 
 #[test]
 fn items_are_spelled(rt: HostRuntime) -> Result<(), Fail> {
-    let alloc = rt.alloc();
-    let first = Item {
-        function: code(5)?,
-        number: 64,
-        mark: false,
-        end: code(14)?,
-    };
-    let second = Item {
-        function: code(28)?,
-        number: 2,
-        mark: true,
-        end: code(18)?,
-    };
-    assert!(rt; spellable(&first));
-    assert!(rt; spellable(&second));
-    let items = [first, second];
-    let rows = rows_of_items(alloc, &items)?;
-    let wanted = codes(alloc, &[5, 6, 4, 14, 28, 2, 11, 18])?;
-    assert!(rt; rows.as_slice() == wanted.as_slice());
-    let text = text_of_items(alloc, &items)?;
-    assert!(rt; text.as_slice() == b"T64K\nA2#@\n".as_slice());
-    Ok(())
+    expect_rows(&rt, rt.alloc())?;
+    expect_text(&rt, rt.alloc())
 }
 
 /// The Initial Orders. No clause says which they are, so that the proof of the test doesn't compare them.

@@ -1,6 +1,6 @@
 //! Post-mortems: what is printed of words that a tape left in the store, and the refusals.
 
-use crate::support::{loaded, start_on};
+use crate::support::{first_difference, loaded, started};
 use ed_codes::{Code, byte_of};
 use ed_initial::Loaded;
 use ed_machine::{Machine, Paper};
@@ -29,37 +29,34 @@ fn printed(
     post_mortem(alloc, machine, first, count, paper)
 }
 
-/// The index of the first code on a paper that isn't the wanted one; a paper that ends too early differs there.
-fn first_difference(paper: &Paper, wanted: &[u8]) -> Option<usize> {
-    for (place, code) in paper.codes().iter().enumerate() {
-        if wanted.get(place) != Some(&code.value()) {
-            return Some(place);
-        }
-    }
-    if paper.codes().len() < wanted.len() {
-        return Some(paper.codes().len());
-    }
-    None
+/// A cleared machine of a size, and a paper with this room.
+fn cleared(alloc: Global, size: Size, room: usize) -> Result<(Machine, Paper), Fail> {
+    let paper = Paper::new(alloc, room)?;
+    let machine = Machine::cleared_of(alloc, size)?;
+    Ok((machine, paper))
+}
+
+/// A machine on which a tape was loaded, and how the load ended.
+fn loaded_on(rt: &impl Abort, alloc: Global, tape: &str) -> Result<(Machine, Loaded), Fail> {
+    let mut machine = started(alloc, Size::Full, tape)?;
+    let load = loaded(rt, &mut machine);
+    Ok((machine, load))
 }
 
 /// Post-mortems that are refused on a paper with room for six codes: the size of the store, the first location, the
 /// number of words, and the fault.
-const REFUSED: [(Size, u16, u16, PmFault); 6] = [
+const REFUSED: [(Size, u16, u16, PmFault); 5] = [
     (Size::Full, 143, 1, PmFault::InItsOwnStore),
     (Size::Full, 143, 1000, PmFault::InItsOwnStore),
     (Size::Full, 1000, 25, PmFault::StoreEnd),
     (Size::Full, 65_535, 65_535, PmFault::StoreEnd),
     (Size::Small, 144, 369, PmFault::StoreEnd),
-    (
-        Size::Full,
-        144,
-        1,
-        PmFault::PaperFull { needed: 8, room: 6 },
-    ),
 ];
 
 /// Tapes, the first location, the number of words, the codes that are printed, and the orders.
-const PRINTED: [(&str, u16, u16, &[u8], u64); 3] = [
+type Printed = (&'static str, u16, u16, &'static [u8], u64);
+
+const PRINTED: [Printed; 3] = [
     ("E144KPF", 144, 1, &[15, 0, 11, 0, 15, 17, 18, 24], 3443),
     (
         "T144KO66F*2047DE144KPF",
@@ -73,50 +70,102 @@ const PRINTED: [(&str, u16, u16, &[u8], u64); 3] = [
     ("E144KPF", 1024, 0, &[], 3358),
 ];
 
-/// The first location, the number of words, and the lines that a machine of 512 locations prints.
-const PRINTED_OF_512: [(u16, u16, usize); 3] = [(144, 368, 368), (511, 1, 1), (512, 0, 0)];
-
-#[test]
-fn refusals_come_in_their_order_and_change_nothing(rt: HostRuntime) -> Result<(), Fail> {
-    let alloc = rt.alloc();
-    for (size, first, count, fault) in &REFUSED {
-        let mut machine = Machine::cleared_of(alloc, *size)?;
-        let mut paper = Paper::new(alloc, 6)?;
-        let answer = printed(&rt, alloc, &mut machine, *first, *count, &mut paper);
-        assert!(rt; answer == Err(*fault), "{first} and {count}");
-        assert!(rt; machine.orders_done() == 0 && machine.word(0).value() == 0);
-        assert!(rt; paper.codes().is_empty());
-    }
+/// Checks that a post-mortem is refused and that it changes nothing.
+fn expect_refused(
+    rt: &impl Abort,
+    alloc: Global,
+    size: Size,
+    first: u16,
+    count: u16,
+    fault: PmFault,
+) -> Result<(), Fail> {
+    let (mut machine, mut paper) = cleared(alloc, size, 6)?;
+    let answer = printed(rt, alloc, &mut machine, first, count, &mut paper);
+    assert!(rt; answer == Err(fault), "{first} and {count}");
+    assert!(rt; machine.orders_done() == 0 && machine.word(0).value() == 0);
+    assert!(rt; paper.codes().is_empty());
     Ok(())
 }
 
 #[test]
-fn words_are_printed_at_their_cost(rt: HostRuntime) -> Result<(), Fail> {
-    let alloc = rt.alloc();
-    for (tape, first, count, codes, orders) in PRINTED {
-        let mut machine = Machine::cleared(alloc)?;
-        start_on(alloc, &mut machine, tape)?;
-        loaded(&rt, &mut machine);
-        let before = machine.orders_done();
-        let mut paper = Paper::new(alloc, codes.len())?;
-        let answer = printed(&rt, alloc, &mut machine, first, count, &mut paper);
-        let obeyed = machine.orders_done().checked_sub(before);
-        assert!(rt; answer == Ok(orders) && obeyed == Some(orders), "{tape}");
-        assert!(rt; first_difference(&paper, codes).is_none(), "{tape}");
+fn refusals_come_in_their_order_and_change_nothing(rt: HostRuntime) -> Result<(), Fail> {
+    for row in &REFUSED {
+        let (size, first, count, fault) = *row;
+        expect_refused(&rt, rt.alloc(), size, first, count, fault)?;
     }
+    let (needed, room) = (8, 6);
+    let full = PmFault::PaperFull { needed, room };
+    expect_refused(&rt, rt.alloc(), Size::Full, 144, 1, full)
+}
+
+/// Checks what a post-mortem prints on a machine, and its cost.
+fn expect_printed(
+    rt: &impl Abort,
+    alloc: Global,
+    machine: &mut Machine,
+    paper: &mut Paper,
+    row: &Printed,
+) {
+    let (tape, first, count, codes, orders) = *row;
+    let before = machine.orders_done();
+    let answer = printed(rt, alloc, machine, first, count, paper);
+    let obeyed = machine.orders_done().checked_sub(before);
+    assert!(rt; answer == Ok(orders) && obeyed == Some(orders), "{tape}");
+    let differs = first_difference(paper.codes(), codes);
+    assert!(rt; differs.is_none(), "{differs:?} of {tape}");
+}
+
+#[test]
+fn words_are_printed_at_their_cost(rt: HostRuntime) -> Result<(), Fail> {
+    for row in &PRINTED {
+        let (tape, _, _, codes, _) = *row;
+        let (mut machine, _) = loaded_on(&rt, rt.alloc(), tape)?;
+        let mut paper = Paper::new(rt.alloc(), codes.len())?;
+        expect_printed(&rt, rt.alloc(), &mut machine, &mut paper, row);
+    }
+    Ok(())
+}
+
+/// Checks the number of lines that a machine of 512 locations prints.
+fn expect_lines(
+    rt: &impl Abort,
+    alloc: Global,
+    first: u16,
+    count: u16,
+    lines: usize,
+) -> Result<(), Fail> {
+    let (mut machine, mut paper) = cleared(alloc, Size::Small, ROOM)?;
+    let answer = printed(rt, alloc, &mut machine, first, count, &mut paper);
+    assert!(rt; answer.is_ok(), "{first} and {count}");
+    assert!(rt;
+        paper.codes().len() / 8 == lines && paper.codes().len() % 8 == 0,
+        "{first} and {count}"
+    );
     Ok(())
 }
 
 #[test]
 fn a_machine_of_512_locations_prints_up_to_its_end(rt: HostRuntime) -> Result<(), Fail> {
-    let alloc = rt.alloc();
-    for (first, count, lines) in PRINTED_OF_512 {
-        let mut machine = Machine::cleared_of(alloc, Size::Small)?;
-        let mut paper = Paper::new(alloc, ROOM)?;
-        assert!(rt; printed(&rt, alloc, &mut machine, first, count, &mut paper).is_ok());
-        assert!(rt; paper.codes().len() == 8 * lines, "{first} and {count}");
-    }
+    expect_lines(&rt, rt.alloc(), 144, 368, 368)?;
+    expect_lines(&rt, rt.alloc(), 511, 1, 1)?;
+    expect_lines(&rt, rt.alloc(), 512, 0, 0)
+}
+
+/// Checks the message of a fault.
+fn expect_message(rt: &impl Abort, alloc: Global, fault: PmFault, name: &str) -> Result<(), Fail> {
+    let message = fault.to_string(alloc)?;
+    assert!(rt; message.as_str() == name, "{name}");
     Ok(())
+}
+
+#[test]
+fn messages_are_names(rt: HostRuntime) -> Result<(), Fail> {
+    let (needed, room) = (8, 6);
+    let full = PmFault::PaperFull { needed, room };
+    expect_message(&rt, rt.alloc(), PmFault::InItsOwnStore, "InItsOwnStore")?;
+    expect_message(&rt, rt.alloc(), PmFault::StoreEnd, "StoreEnd")?;
+    expect_message(&rt, rt.alloc(), full, "PaperFull")?;
+    expect_message(&rt, rt.alloc(), PmFault::Memory, "Memory")
 }
 
 /// The function, the number and the length of a word.
@@ -124,47 +173,71 @@ fn parts(word: u32) -> (u8, u32, bool) {
     ((word / 4096 % 32) as u8, word % 4096 / 2, word % 2 == 1)
 }
 
+/// Adds the item of a word to a tape.
+fn add_item(alloc: Global, tape: &mut String, word: u32) -> Result<(), Fail> {
+    let (function, number, long) = parts(word);
+    let letter = char::from(byte_of(Code::new(function).ok_or("no code")?, false));
+    let end = if long { 'D' } else { 'F' };
+    let item = format!(in alloc; "{letter}{number}{end}")?;
+    Ok(tape.push_str(&item)?)
+}
+
 /// The tape that places `count` words, the number `from` and those after it, from location 144 upwards.
 fn tape_of_words(alloc: Global, from: u32, count: u32) -> Result<String, Fail> {
     let mut tape = String::from_str(alloc, "T144K")?;
     for word in from..from.saturating_add(count) {
-        let (function, number, long) = parts(word);
-        let letter = char::from(byte_of(Code::new(function).ok_or("no code")?, false));
-        let end = if long { 'D' } else { 'F' };
-        tape.push_str(&format!(in alloc; "{letter}{number}{end}")?)?;
+        add_item(alloc, &mut tape, word)?;
     }
     tape.push_str("E144KPF")?;
     Ok(tape)
+}
+
+/// Adds the codes of a number's digits.
+fn add_digits(alloc: Global, codes: &mut Vec<u8>, number: u32) -> Result<(), Fail> {
+    let digits = format!(in alloc; "{number}")?;
+    for digit in digits.bytes() {
+        codes.push(digit.wrapping_sub(b'0'))?;
+    }
+    Ok(())
+}
+
+/// Adds the codes that print a word.
+fn add_codes(alloc: Global, codes: &mut Vec<u8>, word: u32) -> Result<(), Fail> {
+    let (function, number, long) = parts(word);
+    codes.extend_from_slice(&[15, function, 11])?;
+    add_digits(alloc, codes, number)?;
+    codes.extend_from_slice(&[15, if long { 19 } else { 17 }, 18, 24])?;
+    Ok(())
 }
 
 /// The codes that print these words.
 fn codes_of_words(alloc: Global, from: u32, count: u32) -> Result<Vec<u8>, Fail> {
     let mut codes = Vec::new(alloc);
     for word in from..from.saturating_add(count) {
-        let (function, number, long) = parts(word);
-        codes.extend_from_slice(&[15, function, 11])?;
-        for digit in format!(in alloc; "{number}")?.bytes() {
-            codes.push(digit.wrapping_sub(b'0'))?;
-        }
-        codes.extend_from_slice(&[15, if long { 19 } else { 17 }, 18, 24])?;
+        add_codes(alloc, &mut codes, word)?;
     }
     Ok(codes)
 }
 
+/// What a post-mortem prints of these words.
+fn paper_of_words(rt: &impl Abort, alloc: Global, from: u32, count: u16) -> Result<Paper, Fail> {
+    let tape = tape_of_words(alloc, from, u32::from(count))?;
+    let (mut machine, load) = loaded_on(rt, alloc, &tape)?;
+    assert!(rt; matches!(load, Loaded::Entered { at: 144, .. }), "{from}");
+    let mut paper = Paper::new(alloc, ROOM)?;
+    let answer = printed(rt, alloc, &mut machine, 144, count, &mut paper);
+    assert!(rt; answer.is_ok(), "{from}");
+    Ok(paper)
+}
+
 #[test]
 fn every_word_is_printed(rt: HostRuntime) -> Result<(), Fail> {
-    let alloc = rt.alloc();
     for block in 0..149u32 {
-        let mut machine = Machine::cleared(alloc)?;
         let from = block * MOST;
         let count = MOST.min(131_072 - from);
-        start_on(alloc, &mut machine, &tape_of_words(alloc, from, count)?)?;
-        let load = loaded(&rt, &mut machine);
-        assert!(rt; matches!(load, Loaded::Entered { at: 144, .. }), "{from}");
-        let mut paper = Paper::new(alloc, ROOM)?;
-        let answer = printed(&rt, alloc, &mut machine, 144, count as u16, &mut paper);
-        assert!(rt; answer.is_ok(), "{from}");
-        let differs = first_difference(&paper, &codes_of_words(alloc, from, count)?);
+        let codes = codes_of_words(rt.alloc(), from, count)?;
+        let paper = paper_of_words(&rt, rt.alloc(), from, count as u16)?;
+        let differs = first_difference(paper.codes(), &codes);
         assert!(rt; differs.is_none(), "{differs:?} from {from} on");
     }
     Ok(())

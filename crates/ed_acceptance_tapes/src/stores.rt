@@ -1,9 +1,9 @@
 //! The store at the entry of a tape, compared with the checker's report.
 
-use crate::support::{LETTER, loaded, rows_of, start_on, started, stops};
+use crate::support::{LETTER, checked, loaded, start_on, started, stops};
 use ed_initial::Loaded;
 use ed_machine::Machine;
-use ed_notation::{Checked, check};
+use ed_notation::Checked;
 use ed_words::Size;
 use std::alloc::Global;
 use std::process::Abort;
@@ -36,23 +36,35 @@ fn first_difference(machine: &Machine, before: &Machine, checked: &Checked) -> O
     None
 }
 
-/// Loads a tape on a used machine, and compares with the checker's report.
-fn is_as_checked(rt: &impl Abort, alloc: Global, size: Size, tape: &str) -> Result<(), Fail> {
-    let mut machine = used_machine(rt, alloc, size)?;
-    let before = machine.copy()?;
-    let rows = rows_of(rt, alloc, tape)?;
-    let checked = check(alloc, size, before.store(), &rows)?;
-    start_on(alloc, &mut machine, tape)?;
-    let (at, orders) = (checked.entry(), checked.orders());
-    assert!(rt;
-        loaded(rt, &mut machine) == Loaded::Entered { at, orders },
-        "{tape}"
-    );
-    let differs = first_difference(&machine, &before, &checked);
+/// Checks a machine on which a tape was loaded by the checker's report on the machine before.
+fn expect_as_checked(
+    rt: &impl Abort,
+    machine: &mut Machine,
+    before: &Machine,
+    report: &Checked,
+    tape: &str,
+) {
+    let (at, orders) = (report.entry(), report.orders());
+    let load = loaded(rt, machine);
+    assert!(rt; load == Loaded::Entered { at, orders }, "{tape}");
+    let differs = first_difference(machine, before, report);
     assert!(rt; differs.is_none(), "{differs:?} of {tape}");
-    assert!(rt; machine.word(42) == checked.theta(), "{tape}");
-    let read = rows.len().checked_sub(machine.rows_left().len());
-    assert!(rt; read == Some(checked.rows()), "{tape}");
+    assert!(rt; machine.word(42) == report.theta(), "{tape}");
+    let read = tape.len().checked_sub(machine.rows_left().len());
+    assert!(rt; read == Some(report.rows()), "{tape}");
+}
+
+/// Loads a tape of rows of one byte on a machine, and compares with the checker's report on the machine before.
+fn is_as_checked(
+    rt: &impl Abort,
+    alloc: Global,
+    machine: &mut Machine,
+    before: &Machine,
+    tape: &str,
+) -> Result<(), Fail> {
+    start_on(alloc, machine, tape)?;
+    let report = checked(rt, alloc, before.size(), before.store(), tape)??;
+    expect_as_checked(rt, machine, before, &report, tape);
     Ok(())
 }
 
@@ -68,8 +80,11 @@ const TAPES: [(Size, &str); 7] = [
 
 #[test]
 fn the_store_at_the_entry_is_what_the_checker_tells(rt: HostRuntime) -> Result<(), Fail> {
-    for (size, tape) in TAPES {
-        is_as_checked(&rt, rt.alloc(), size, tape)?;
+    for row in &TAPES {
+        let (size, tape) = *row;
+        let mut machine = used_machine(&rt, rt.alloc(), size)?;
+        let before = machine.copy()?;
+        is_as_checked(&rt, rt.alloc(), &mut machine, &before, tape)?;
     }
     Ok(())
 }

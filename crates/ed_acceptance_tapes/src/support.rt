@@ -1,10 +1,10 @@
 //! What the tests share: machines started on a tape, and loads.
 
-ghost use Rattle.std.specs.Prelude.{◌<◌, IfOk, length};
-
 use ed_codes::{Code, tape_of_text};
 use ed_initial::{Loaded, begin, is_started, load};
 use ed_machine::Machine;
+use ed_notation::{Checked, TapeFault, check};
+use ed_store::Store;
 use ed_words::Size;
 use std::alloc::Global;
 use std::process::Abort;
@@ -13,13 +13,30 @@ use std::test::Fail;
 /// The tape that prints A.
 pub const LETTER: &str = "T64KGKO2@ZFAFEZPF";
 
-/// The rows of a tape's text, which has few.
-pub fn rows_of(rt: &impl Abort, alloc: Global, tape: &str) -> Result<Vec<Code>, Fail>
-    ensures { IfOk result (λ rows. length rows.items < 1000) }
-{
+/// The report on a tape before whose check the store is this one, or the tape's fault.
+pub fn checked(
+    rt: &impl Abort,
+    alloc: Global,
+    size: Size,
+    store: &Store,
+    tape: &str,
+) -> Result<Result<Checked, TapeFault>, Fail> {
     let rows = tape_of_text(alloc, tape.as_bytes())?;
     assert!(rt; rows.len() < 1000);
-    Ok(rows)
+    Ok(check(alloc, size, store, &rows))
+}
+
+/// The index of the first of some codes that isn't the wanted one; codes that end too early differ there.
+pub fn first_difference(codes: &[Code], wanted: &[u8]) -> Option<usize> {
+    for (place, code) in codes.iter().enumerate() {
+        if wanted.get(place) != Some(&code.value()) {
+            return Some(place);
+        }
+    }
+    if codes.len() < wanted.len() {
+        return Some(codes.len());
+    }
+    None
 }
 
 /// Starts a machine on a tape with the Initial Orders.
