@@ -28,24 +28,3 @@ impl From<NoMemory> for PmFault {
         PmFault::Memory
     }
 }
-
-#[cfg(test)]
-mod tests {
-    use super::*;
-    use std::test::Fail;
-
-    #[test]
-    fn messages_are_names(rt: HostRuntime) -> Result<(), Fail> {
-        let alloc = rt.alloc();
-        let (needed, room) = (8, 6);
-        for (fault, name) in [
-            (PmFault::InItsOwnStore, "InItsOwnStore"),
-            (PmFault::StoreEnd, "StoreEnd"),
-            (PmFault::PaperFull { needed, room }, "PaperFull"),
-            (PmFault::Memory, "Memory"),
-        ] {
-            assert!(rt; fault.to_string(alloc)?.as_str() == name, "{name}");
-        }
-        Ok(())
-    }
-}
