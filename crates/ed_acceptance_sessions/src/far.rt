@@ -1,15 +1,12 @@
 //! A session on an endless loop, far forward and often back.
 
 use crate::support::{LOOP, session_on};
-use ed_stepper::{BackFault, MoveEnd, Moved};
+use ed_stepper::{BackFault, MoveEnd, Moved, Session};
+use std::process::Abort;
 use std::test::Fail;
 
-/// The latest copy is that after 9,961,472 orders, 152 times 65,536, so each move back obeys at most 2,000 orders. From
-/// the start, or from the earliest copy, they would be 20,000,000,000 in all, which no test has the time for.
-#[test]
-fn far_on_and_often_back(rt: HostRuntime) -> Result<(), Fail> {
-    let alloc = rt.alloc();
-    let mut session = session_on(&rt, alloc, LOOP, 10_000_000)?;
+/// Goes far on and often back, and then on to the limit.
+fn goes_on_and_back(rt: &impl Abort, session: &mut Session) {
     assert!(rt; session.go(9_963_472).end == MoveEnd::Went);
     for _ in 0..2_000 {
         assert!(rt; session.back(1).is_ok());
@@ -17,18 +14,30 @@ fn far_on_and_often_back(rt: HostRuntime) -> Result<(), Fail> {
     let moved = session.go(100_000);
     let (at, done, end) = (64, 10_000_000, MoveEnd::Limit);
     assert!(rt; moved == Moved { at, done, end });
+}
+
+/// The latest copy is that after 9,961,472 orders, 152 times 65,536, so each move back obeys at most 2,000 orders. From
+/// the start, or from the earliest copy, they would be 20,000,000,000 in all, which no test has the time for.
+#[test]
+fn far_on_and_often_back(rt: HostRuntime) -> Result<(), Fail> {
+    let mut session = session_on(&rt, rt.alloc(), LOOP, 10_000_000)?;
+    goes_on_and_back(&rt, &mut session);
     Ok(())
 }
 
-#[test]
-fn a_session_goes_back_to_its_start_and_no_further(rt: HostRuntime) -> Result<(), Fail> {
-    let alloc = rt.alloc();
-    let mut session = session_on(&rt, alloc, LOOP, 1_000)?;
+/// Goes back to the start and no further, and then on to the entry.
+fn goes_back_to_the_start(rt: &impl Abort, session: &mut Session) {
     assert!(rt; session.go(90).end == MoveEnd::Went);
     assert!(rt; session.back(91) == Err(BackFault::TooFar { done: 90 }));
     let (at, done, end) = (0, 0, MoveEnd::Back);
     assert!(rt; session.back(90) == Ok(Moved { at, done, end }));
     assert!(rt; session.back(1) == Err(BackFault::TooFar { done: 0 }));
     assert!(rt; session.until_entry().end == MoveEnd::Entered);
+}
+
+#[test]
+fn a_session_goes_back_to_its_start_and_no_further(rt: HostRuntime) -> Result<(), Fail> {
+    let mut session = session_on(&rt, rt.alloc(), LOOP, 1_000)?;
+    goes_back_to_the_start(&rt, &mut session);
     Ok(())
 }

@@ -1,6 +1,7 @@
 //! Which lines are commands of a script.
 
 use ed_stepper::bad_line;
+use std::alloc::Global;
 use std::test::Fail;
 
 /// Lines of a script, at both ends of their ranges, and with spaces between all parts.
@@ -90,7 +91,7 @@ const OTHERS: [&str; 47] = [
 
 #[test]
 fn lines_of_a_script(rt: HostRuntime) -> Result<(), Fail> {
-    for line in LINES {
+    for line in &LINES {
         assert!(rt; bad_line(line.as_bytes()).is_none(), "{line}");
     }
     Ok(())
@@ -98,34 +99,44 @@ fn lines_of_a_script(rt: HostRuntime) -> Result<(), Fail> {
 
 #[test]
 fn lines_that_are_none(rt: HostRuntime) -> Result<(), Fail> {
-    for line in OTHERS {
+    for line in &OTHERS {
         assert!(rt; bad_line(line.as_bytes()) == Some(1), "{line}");
     }
     Ok(())
 }
 
+/// Scripts, and their least lines that are none.
+const SCRIPTS: [(&str, u32); 3] = [
+    ("go 1\r\nto 5\r\r\nx\n", 2),
+    ("\n\nx\nx\n", 3),
+    ("go 1\nentry\r", 2),
+];
+
 #[test]
 fn the_least_line_that_is_none_is_told(rt: HostRuntime) -> Result<(), Fail> {
-    for (script, line) in [
-        ("go 1\r\nto 5\r\n\r\nentry", None),
-        ("go 1\r\nto 5\r\r\nx\n", Some(2)),
-        ("\n\nx\nx\n", Some(3)),
-        ("go 1\nentry\r", Some(2)),
-    ] {
-        assert!(rt; bad_line(script.as_bytes()) == line, "{script}");
+    assert!(rt; bad_line(b"go 1\r\nto 5\r\n\r\nentry").is_none());
+    for row in &SCRIPTS {
+        let (script, line) = *row;
+        assert!(rt; bad_line(script.as_bytes()) == Some(line), "{script}");
     }
     Ok(())
 }
 
+/// What is told of a script of so many empty lines.
+fn told_of_empty_lines(alloc: Global, lines: u32) -> Result<Option<u32>, Fail> {
+    let mut script = Vec::new(alloc);
+    for _ in 0..lines {
+        script.push(b'\n')?;
+    }
+    Ok(bad_line(&script))
+}
+
 #[test]
 fn a_script_has_a_thousand_lines(rt: HostRuntime) -> Result<(), Fail> {
-    let alloc = rt.alloc();
-    for (lines, bad) in [(1000, None), (1001, Some(1001)), (1002, Some(1001))] {
-        let mut script = Vec::new(alloc);
-        for _ in 0..lines {
-            script.push(b'\n')?;
-        }
-        assert!(rt; bad_line(&script) == bad, "{lines}");
+    assert!(rt; told_of_empty_lines(rt.alloc(), 1000)?.is_none());
+    for lines in [1001, 1002] {
+        let bad = told_of_empty_lines(rt.alloc(), lines)?;
+        assert!(rt; bad == Some(1001), "{lines}");
     }
     Ok(())
 }

@@ -1,13 +1,13 @@
 //! Scripts on worked tapes, and what they write.
 
-use crate::support::{LETTER, LOOP, session_on};
+use crate::support::{LETTER, LOOP, lines_of, session_on};
 use ed_stepper::{ScriptFault, run_script};
 use std::alloc::Global;
 use std::process::Abort;
 use std::test::Fail;
 
 /// Scripts, the limits of their sessions, their tapes, and the texts that they write.
-const SCRIPTS: [(&str, u64, &str, &str); 11] = [
+const SCRIPTS: [(&str, u64, &str, &str); 12] = [
     (
         "go 9\nshow 22\nshow 43\n",
         1_000,
@@ -59,7 +59,19 @@ const SCRIPTS: [(&str, u64, &str, &str); 11] = [
         "at 0 after 51: entered\nat 0 after 51: no order\n",
     ),
     ("go 10", 1_000, "", "at 34 after 9: no tape\n"),
+    // Copies of the machine lie on the way back.
+    (
+        "go 65537\nback 1\nback 1\nback 65535\n",
+        100_000,
+        LOOP,
+        "at 64 after 65537: went\nat 64 after 65536: back\nat 64 after 65535: back\nat 0 after 0: back\n",
+    ),
 ];
+
+/// Checks the text that a script writes.
+fn expect_text(rt: &impl Abort, written: &[u8], text: &str, script: &str) {
+    assert!(rt; written == text.as_bytes(), "{script}: {written:?}");
+}
 
 /// What a script writes.
 fn written(
@@ -73,76 +85,72 @@ fn written(
     Ok(run_script(alloc, &mut session, script.as_bytes())?)
 }
 
-/// The number of lines of a text, and its first and last line.
-fn ends_of(text: &[u8]) -> (usize, &[u8], &[u8]) {
-    let lines = text.split(|byte| *byte == b'\n').count();
-    let first = text.split(|byte| *byte == b'\n').next().unwrap_or(text);
-    let last = text.rsplit(|byte| *byte == b'\n').nth(1).unwrap_or(text);
-    (lines, first, last)
+/// Checks the number of lines of a text that a script writes, and its first and last line.
+fn expect_ends(rt: &impl Abort, text: &[u8], wanted: (&str, usize, &str, &str)) {
+    let (script, lines, first, last) = wanted;
+    let found = lines_of(text);
+    assert!(rt; found == lines, "{script}: {found} lines");
+    assert!(rt; text.starts_with(first.as_bytes()), "{script}");
+    assert!(rt; text.ends_with(last.as_bytes()), "{script}");
 }
 
-/// 1,024 words; 10,000 letters in 200 lines, between the lines of two moves.
+/// Scripts, the number of lines of their texts, and their first and last line. There are 1,024 words, and 10,000 letters
+/// in 200 lines, between the lines of two moves.
+const LONG: [(&str, usize, &str, &str); 2] = [
+    (
+        "show 0 1023",
+        1_024,
+        "   0  20480 TF\n",
+        "\n1023      0 PF\n",
+    ),
+    (
+        "entry\ntrace 10000",
+        202,
+        "at 64 after 136: entered\n",
+        "\nat 64 after 10136: went\n",
+    ),
+];
+
 #[test]
 fn the_longest_lists_and_traces(rt: HostRuntime) -> Result<(), Fail> {
-    let alloc = rt.alloc();
-    for (script, lines, first, last) in [
-        ("show 0 1023", 1_025, "   0  20480 TF", "1023      0 PF"),
-        (
-            "entry\ntrace 10000",
-            203,
-            "at 64 after 136: entered",
-            "at 64 after 10136: went",
-        ),
-    ] {
-        let text = written(&rt, alloc, script, 20_000, LOOP)?;
-        let (found, front, end) = ends_of(&text);
-        assert!(rt; found == lines, "{script}: {found} lines");
-        assert!(rt; front == first.as_bytes(), "{script}");
-        assert!(rt; end == last.as_bytes(), "{script}");
+    for wanted in LONG {
+        let (script, ..) = wanted;
+        let text = written(&rt, rt.alloc(), script, 20_000, LOOP)?;
+        expect_ends(&rt, &text, wanted);
     }
     Ok(())
 }
 
 #[test]
 fn scripts_write_their_texts(rt: HostRuntime) -> Result<(), Fail> {
-    let alloc = rt.alloc();
-    for (script, limit, tape, text) in SCRIPTS {
-        let written = written(&rt, alloc, script, limit, tape)?;
-        assert_eq!(rt; written.as_slice(), text.as_bytes(), "{script}");
+    for row in &SCRIPTS {
+        let (script, limit, tape, text) = *row;
+        let written = written(&rt, rt.alloc(), script, limit, tape)?;
+        expect_text(&rt, &written, text, script);
     }
     Ok(())
 }
 
-#[test]
-fn copies_of_the_machine_lie_on_the_way_back(rt: HostRuntime) -> Result<(), Fail> {
-    let alloc = rt.alloc();
-    let script = "go 65537\nback 1\nback 1\nback 65535\n";
-    let written = written(&rt, alloc, script, 100_000, LOOP)?;
-    let text =
-        "at 64 after 65537: went\nat 64 after 65536: back\nat 64 after 65535: back\nat 0 after 0: back\n";
-    assert!(rt; written.as_slice() == text.as_bytes());
-    Ok(())
-}
-
+/// Two scripts that are refused, the faults and the counters of their sessions.
 #[test]
 fn a_script_that_is_refused(rt: HostRuntime) -> Result<(), Fail> {
-    let alloc = rt.alloc();
-    for (script, fault, at) in [
-        (
-            "go 3\nback 4\n",
-            ScriptFault::BackTooFar { line: 2, done: 3 },
-            21,
-        ),
-        (
-            "go 3\nback 4\ngo 0\n",
-            ScriptFault::BadCommand { line: 3 },
-            0,
-        ),
-    ] {
-        let mut session = session_on(&rt, alloc, LETTER, 1_000)?;
-        let answer = run_script(alloc, &mut session, script.as_bytes());
-        assert!(rt; answer.err() == Some(fault), "{script}");
-        assert!(rt; session.machine().counter() == at, "{script}");
-    }
+    let fault = ScriptFault::BackTooFar { line: 2, done: 3 };
+    expect_refused(&rt, rt.alloc(), "go 3\nback 4\n", fault, 21)?;
+    let fault = ScriptFault::BadCommand { line: 3 };
+    expect_refused(&rt, rt.alloc(), "go 3\nback 4\ngo 0\n", fault, 0)
+}
+
+/// Checks that a script is refused, and where its session is then.
+fn expect_refused(
+    rt: &impl Abort,
+    alloc: Global,
+    script: &str,
+    fault: ScriptFault,
+    at: u16,
+) -> Result<(), Fail> {
+    let mut session = session_on(rt, alloc, LETTER, 1_000)?;
+    let answer = run_script(alloc, &mut session, script.as_bytes());
+    assert!(rt; answer.err() == Some(fault), "{script}");
+    assert!(rt; session.machine().counter() == at, "{script}");
     Ok(())
 }

@@ -30,3 +30,14 @@ pub fn session_on(rt: &impl Abort, alloc: Global, tape: &str, limit: u64) -> Res
         Err(NewFault::Memory(_)) => Err("no memory".into()),
     }
 }
+
+/// The number of lines of a text.
+pub fn lines_of(text: &[u8]) -> usize {
+    let mut lines = 0usize;
+    for byte in text {
+        if *byte == b'\n' {
+            lines = lines.saturating_add(1);
+        }
+    }
+    lines
+}

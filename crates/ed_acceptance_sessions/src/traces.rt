@@ -1,6 +1,6 @@
 //! Traces of runs, on sinks that take pieces and fail.
 
-use crate::support::{LETTER, LOOP, started};
+use crate::support::{LETTER, LOOP, lines_of, started};
 use ed_io::MemorySink;
 use ed_machine::Ending;
 use ed_trace::{TraceFault, trace_run};
@@ -26,43 +26,75 @@ fn sink(alloc: Global, failing: Vec<u64>) -> Result<MemorySink, Fail> {
     Ok(MemorySink::in_pieces(alloc, 100_000, failing, 7)?)
 }
 
+/// A tape, the limit of its run, the ending, and the bytes and the lines of the trace.
+type Row = (&'static str, u64, Ending, usize, usize);
+
+const TRACES: [Row; 8] = [
+    (LETTER, 9, Ending::Limit, 10, 1),
+    (LETTER, 1_000, Ending::Stopped, 197, 4),
+    (LETTER, 49, Ending::Limit, 50, 1),
+    (LETTER, 50, Ending::Limit, 51, 1),
+    (LETTER, 51, Ending::Limit, 53, 2),
+    (LOOP, 5_000, Ending::Limit, 5_100, 100),
+    ("", 1_000, Ending::NoTape, 10, 1),
+    ("EZPF", 1_000, Ending::NoOrder, 53, 2),
+];
+
+/// Checks a trace on a sink that takes pieces.
+fn expect_trace(
+    rt: &impl Abort,
+    alloc: Global,
+    out: &mut MemorySink,
+    row: &Row,
+) -> Result<(), Fail> {
+    let (tape, limit, ending, bytes, lines) = *row;
+    let answer = traced(rt, alloc, tape, limit, out)?;
+    assert!(rt; answer == Ok(ending), "{tape} {limit}");
+    let text = out.bytes();
+    assert!(rt; text.len() == bytes, "{tape} {limit}");
+    assert!(rt; lines_of(text) == lines, "{tape} {limit}");
+    assert!(rt; text.starts_with(b"TEHATAATE"), "{tape} {limit}");
+    Ok(())
+}
+
 #[test]
 fn lines_of_fifty_letters(rt: HostRuntime) -> Result<(), Fail> {
-    let alloc = rt.alloc();
-    for (tape, limit, ending, bytes, lines) in [
-        (LETTER, 9, Ending::Limit, 10, 1),
-        (LETTER, 1_000, Ending::Stopped, 197, 4),
-        (LETTER, 49, Ending::Limit, 50, 1),
-        (LETTER, 50, Ending::Limit, 51, 1),
-        (LETTER, 51, Ending::Limit, 53, 2),
-        (LOOP, 5_000, Ending::Limit, 5_100, 100),
-        ("", 1_000, Ending::NoTape, 10, 1),
-        ("EZPF", 1_000, Ending::NoOrder, 53, 2),
-    ] {
-        let mut out = sink(alloc, Vec::new(alloc))?;
-        let answer = traced(&rt, alloc, tape, limit, &mut out)?;
-        assert!(rt; answer == Ok(ending), "{tape} {limit}");
-        let text = out.bytes();
-        assert!(rt; text.len() == bytes, "{tape} {limit}");
-        let ends = text.iter().filter(|byte| **byte == b'\n').count();
-        assert!(rt; ends == lines, "{tape} {limit}");
-        assert!(rt; text.starts_with(b"TEHATAATE"), "{tape} {limit}");
+    for row in &TRACES {
+        let mut out = sink(rt.alloc(), Vec::new(rt.alloc()))?;
+        expect_trace(&rt, rt.alloc(), &mut out, row)?;
     }
+    Ok(())
+}
+
+/// A sink on which a whole trace was written.
+fn whole_trace(rt: &impl Abort, alloc: Global) -> Result<MemorySink, Fail> {
+    let mut out = sink(alloc, Vec::new(alloc))?;
+    let answer = traced(rt, alloc, LETTER, 1_000, &mut out)?;
+    assert!(rt; answer == Ok(Ending::Stopped));
+    Ok(out)
+}
+
+/// Checks a trace on a sink of whose calls this one fails.
+fn expect_failed(
+    rt: &impl Abort,
+    alloc: Global,
+    out: &mut MemorySink,
+    whole: &MemorySink,
+    call: u64,
+) -> Result<(), Fail> {
+    let answer = traced(rt, alloc, LETTER, 1_000, out)?;
+    assert!(rt; answer == Err(TraceFault::Failed), "{call}");
+    assert!(rt; out.faults() == 1, "{call}");
+    assert!(rt; whole.bytes().starts_with(out.bytes()), "{call}");
     Ok(())
 }
 
 #[test]
 fn a_failed_write_ends_a_trace_at_once(rt: HostRuntime) -> Result<(), Fail> {
-    let alloc = rt.alloc();
-    let mut whole = sink(alloc, Vec::new(alloc))?;
-    let answer = traced(&rt, alloc, LETTER, 1_000, &mut whole)?;
-    assert!(rt; answer == Ok(Ending::Stopped));
+    let whole = whole_trace(&rt, rt.alloc())?;
     for call in 0..31 {
-        let mut out = sink(alloc, [call].to_vec(alloc)?)?;
-        let answer = traced(&rt, alloc, LETTER, 1_000, &mut out)?;
-        assert!(rt; answer == Err(TraceFault::Failed), "{call}");
-        assert!(rt; out.faults() == 1, "{call}");
-        assert!(rt; whole.bytes().starts_with(out.bytes()), "{call}");
+        let mut out = sink(rt.alloc(), [call].to_vec(rt.alloc())?)?;
+        expect_failed(&rt, rt.alloc(), &mut out, &whole, call)?;
     }
     Ok(())
 }
