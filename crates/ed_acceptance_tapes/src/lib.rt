@@ -11,6 +11,8 @@ mod items;
 #[cfg(test)]
 mod loading;
 #[cfg(test)]
+mod messages;
+#[cfg(test)]
 mod post_mortems;
 #[cfg(test)]
 mod stores;

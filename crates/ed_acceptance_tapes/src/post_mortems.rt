@@ -151,23 +151,6 @@ fn a_machine_of_512_locations_prints_up_to_its_end(rt: HostRuntime) -> Result<()
     expect_lines(&rt, rt.alloc(), 512, 0, 0)
 }
 
-/// Checks the message of a fault.
-fn expect_message(rt: &impl Abort, alloc: Global, fault: PmFault, name: &str) -> Result<(), Fail> {
-    let message = fault.to_string(alloc)?;
-    assert!(rt; message.as_str() == name, "{name}");
-    Ok(())
-}
-
-#[test]
-fn messages_are_names(rt: HostRuntime) -> Result<(), Fail> {
-    let (needed, room) = (8, 6);
-    let full = PmFault::PaperFull { needed, room };
-    expect_message(&rt, rt.alloc(), PmFault::InItsOwnStore, "InItsOwnStore")?;
-    expect_message(&rt, rt.alloc(), PmFault::StoreEnd, "StoreEnd")?;
-    expect_message(&rt, rt.alloc(), full, "PaperFull")?;
-    expect_message(&rt, rt.alloc(), PmFault::Memory, "Memory")
-}
-
 /// The function, the number and the length of a word.
 fn parts(word: u32) -> (u8, u32, bool) {
     ((word / 4096 % 32) as u8, word % 4096 / 2, word % 2 == 1)

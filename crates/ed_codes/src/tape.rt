@@ -84,21 +84,3 @@ fn rows_of_pieces(alloc: Global, text: &[u8]) -> Result<Vec<Code>, TextFault>
     }
     Ok(rows)
 }
-
-#[cfg(test)]
-mod tests {
-    use super::*;
-    use std::test::Fail;
-
-    #[test]
-    fn messages_are_names(rt: HostRuntime) -> Result<(), Fail> {
-        let alloc = rt.alloc();
-        let no_row = TextFault::NoRow { place: 3, byte: 37 }.to_string(alloc)?;
-        let open_comment = TextFault::OpenComment { place: 3 }.to_string(alloc)?;
-        let memory = TextFault::Memory.to_string(alloc)?;
-        assert!(rt; no_row.as_str() == "NoRow");
-        assert!(rt; open_comment.as_str() == "OpenComment");
-        assert!(rt; memory.as_str() == "Memory");
-        Ok(())
-    }
-}
