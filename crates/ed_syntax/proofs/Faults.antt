@@ -20,6 +20,13 @@ made_fault f None e h = let same : e ≡ NotThisForm = cc in ap (λ (x : FormFau
 made_fault f (Some None) e h = let same : e ≡ OutOfRange = cc in ap (λ (x : FormFault). Err x) same
 made_fault f (Some (Some a)) e h = absurd (cc)
 
+-- and what is made of what is read is read
+pub made_form : {A B : Type 0} (f : A → B) (o : Option (Ranged A)) (a : A) → Ok a ≡ form_result o
+    → Ok (f a) ≡ form_result (ranged_map f o)
+made_form f None a h = absurd (cc)
+made_form f (Some None) a h = absurd (cc)
+made_form f (Some (Some b)) a h = let same : a ≡ b = cc in rw same refl
+
 -- a line that has no form has the fault
 pub line_fault : (o : Option (Ranged Form)) (e : FormFault) → Err e ≡ form_result o
     → LineIs (or_cause o) (Err (form_fault e))

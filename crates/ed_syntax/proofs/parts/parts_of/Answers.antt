@@ -1,4 +1,5 @@
-use Rattle.std.proofs.Common.{rules, ◌≡◌, ◌++◌, ◌∷◌, []}
+use Rattle.std.proofs.Common.{rules, arith, ◌≡◌, ◌++◌, ◌∷◌, []}
+use Rattle.std.proofs.lemmas.Grind.{common_steps}
 use Rattle.ed_syntax.proofs.PartLemmas.{more_parts}
 use Rattle.ed_syntax.proofs.parts.parts_of.Goals as goal
 
@@ -9,3 +10,9 @@ loop-parts-preserved c =
     let after = c.in-Some.after.now in
     rw grown (more_parts c.args.line.now c.loop-parts.rest.now after c.loop-parts.parts.items c.in-Some.part
     c.loop-parts.invariant takes.0)
+
+pub returns-in_err-part-clause-none : goal.returns-in_err-part-clause-none
+returns-in_err-part-clause-none c = grind (arith, common_steps)
+
+pub returns-in_err-push-clause-none : goal.returns-in_err-push-clause-none
+returns-in_err-push-clause-none c = grind (arith, common_steps)
