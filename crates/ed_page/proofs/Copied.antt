@@ -31,7 +31,8 @@ pub printed_more : (done more whole : Text) (shift next : Shift) (codes : List �
     → code ≡ get_or codes i 0 → done ++ paper_from shift (drop i codes) ≡ whole
     → more ++ paper_from next (drop (i + 1) codes) ≡ whole
 printed_more done more whole shift next codes i code grown to below is so_far =
-    rw (grown, to) (append_assoc done (struck_bytes shift code) (paper_from (shift_after shift code) (drop (i + 1) codes))
+    rw (grown, to) (append_assoc done (struck_bytes shift code)
+    (paper_from (shift_after shift code) (drop (i + 1) codes))
     ∙ ap (λ (t : List ℕ). done ++ paper_from shift t) (sym (left_by codes i code below is)) ∙ so_far)
 
 -- all are printed

@@ -1,6 +1,7 @@
 -- From the texts and the picture for a text to what the program answers.
 use Rattle.std.proofs.Common.{◌≡◌, ◌∙◌, ◌<◌, ◌≤◌, ℕ, inl, inr, refl, sym, ap}
-use Rattle.std.proofs.Common.{subst, arith, rules, tests, nat_lt, Bool, true, false, Some, None, List, [], length}
+use Rattle.std.proofs.Common.{subst, arith, rules, tests, nat_lt, Bool, true, false, Some, None, List, []}
+use Rattle.std.proofs.Common.{length}
 use Rattle.std.specs.Prelude.{Result, Ok, Err, IfOk}
 use Rattle.ed_words.specs.declared.size.Size.{Size}
 use Rattle.ed_words.specs.declared.memory.NoMemory.{NoMemory}

@@ -1,5 +1,5 @@
 -- The rows that a text spells, and those of the tape of a source, are codes.
-use Rattle.std.proofs.Common.{◌≡◌, ℕ, ◌+◌, ◌-◌, ◌<◌, arith, List, ◌++◌, take, drop, length, get_or}
+use Rattle.std.proofs.Common.{◌≡◌, ℕ, ◌+◌, ◌-◌, ◌<◌, ◌≤◌, arith, List, ◌++◌, take, drop, length, get_or}
 use Rattle.std.proofs.lemmas.List.{get_or-drop, get_or-take, length-drop, length-take, take_all}
 use Rattle.ed_words.specs.Texts.{Text}
 use Rattle.ed_words.specs.declared.size.Size.{Size}
@@ -32,3 +32,7 @@ part_fits codes n from i are below =
 -- what is left from a row on is the end of the rows
 pub whole_part : (codes : List ℕ) (from : ℕ) → take (length codes - from) (drop from codes) ≡ drop from codes
 whole_part codes from = take_all (length codes - from) (drop from codes) (omega (arith, length-drop from codes))
+
+-- the first rows are no more than all
+pub first_within : (n most : ℕ) (codes : List ℕ) → length codes ≤ most → length (take n codes) ≤ most
+first_within n most codes few = omega (arith, few, length-take n codes)

@@ -7,6 +7,7 @@ use Rattle.ed_report.specs.FirstNotes.{rule1_line}
 use Rattle.ed_answers.specs.Outcome.{done}
 use Rattle.ed_page.specs.Private.Stages.{HoldsOutcome}
 use Rattle.ed_page.proofs.FirstItemRows.{fault_told1, program_told1}
+use Rattle.ed_page.proofs.RowCodes.{first_within}
 use Rattle.ed_page.proofs.first_items.row_items1.Goals as goal
 
 pub returns-in_ok-item_table1-in-Ok : goal.returns-in_ok-item_table1-in-Ok
@@ -32,3 +33,9 @@ returns-in_ok-tape1_fault-in-Err-At c =
       status = 3;
     }))
     c.in_ok-items-in-Err-At.ensures noted)
+
+pub item_table1-requires : goal.item_table1-requires
+item_table1-requires c = first_within _ _ c.args.rows.now c.requires
+
+pub item_table1-requires-in-Err-At : goal.item_table1-requires-in-Err-At
+item_table1-requires-in-Err-At c = first_within _ _ c.args.rows.now c.requires

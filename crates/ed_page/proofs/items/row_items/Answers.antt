@@ -8,6 +8,7 @@ use Rattle.ed_report.specs.Notes.{rule_line}
 use Rattle.ed_answers.specs.Outcome.{done}
 use Rattle.ed_page.specs.Private.Stages.{HoldsOutcome}
 use Rattle.ed_page.proofs.ItemRows.{entered_told, fault_told}
+use Rattle.ed_page.proofs.RowCodes.{first_within}
 use Rattle.ed_page.proofs.items.row_items.Goals as goal
 
 pub returns-in-Ok : goal.returns-in-Ok
@@ -35,3 +36,9 @@ returns-in-Err-At c =
       status = 3;
     }))
     c.in_ok-items-in-Err-At.ensures noted)
+
+pub item_table-requires : goal.item_table-requires
+item_table-requires c = first_within _ _ c.args.rows.now c.requires
+
+pub item_table-requires-in-Err-At : goal.item_table-requires-in-Err-At
+item_table-requires-in-Err-At c = first_within _ _ c.args.rows.now c.requires

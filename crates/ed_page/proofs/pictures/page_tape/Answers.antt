@@ -1,4 +1,4 @@
-use Rattle.std.proofs.Common.{refl, rules, subst}
+use Rattle.std.proofs.Common.{ap, refl, rules, subst}
 use Rattle.std.specs.Prelude.{Ok}
 use Rattle.ed_command.specs.declared.command.Settings.{Settings}
 use Rattle.ed_answers.specs.Runs.{run_of}
@@ -59,3 +59,6 @@ returns-then-lacks_room-clause-next c codes is few not10 not12 = absurd (not12 r
 
 pub returns-in-Err-clause-next : goal.returns-in-Err-clause-next
 returns-in-Err-clause-next c codes is few not10 not12 = absurd (not10 refl)
+
+pub tape_shown-requires : goal.tape_shown-requires
+tape_shown-requires c = ap (λ (s : Settings). s.post_mortem) c.run_settings.ensures
