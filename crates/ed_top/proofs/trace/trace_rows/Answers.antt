@@ -1,5 +1,8 @@
+use Rattle.std.proofs.Common.{refl}
 use Rattle.std.proofs.lemmas.Result.{err_from_is_err_and}
+use Rattle.ed_io.proofs.Calls.{gains_none}
 use Rattle.ed_top.specs.Clause.{device}
+use Rattle.ed_top.proofs.FirstParts.{none_written}
 use Rattle.ed_top.proofs.Traced.{trace_stopped, trace_untold}
 use Rattle.ed_top.proofs.trace.trace_rows.Goals as goal
 
@@ -22,3 +25,9 @@ returns-in_err-ending_text g c =
     c.from.ensures
     c.in_ok-ending.ending c.trace_run.new.machine c.in_ok-ending.ensures.trace in
     rw (p.1, p.2) (c.in_ok-ending.ensures.faults, told)
+
+pub returns-in_err-machine : goal.returns-in_err-machine
+returns-in_err-machine g c =
+    let p = err_from_is_err_and c.from_residual.result c.from_residual.ensures.1 in
+    let out = device g.K.Sink.held g.K.Sink.faults c.args.out.now c.args.out.now in
+    rw (p.1, p.2) (refl, none_written out _ (gains_none out.before))
