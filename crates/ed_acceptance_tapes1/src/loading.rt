@@ -1,10 +1,8 @@
 //! Initial Orders 1, obeyed one by one on a tape.
 
-ghost use Rattle.std.specs.Prelude.{◌<◌, IfOk, length};
-
-use crate::support::{LETTER, loaded, misplaced, rows_of, started};
+use crate::support::{LETTER, checked, loaded, misplaced, rows_of, started};
 use ed_codes::Code;
-use ed_initial1::{Loaded1, check1, is_started1, orders1};
+use ed_initial1::{Checked1, Loaded1, is_started1, orders1};
 use ed_machine::{Machine, Turn};
 use ed_words::{Size, Word};
 use std::alloc::Global;
@@ -40,7 +38,8 @@ const AT_THE_ENTRY: [(u16, u32); 9] = [
 
 /// The word that a location holds at the entry, which the tape of a letter leaves.
 fn wanted(place: u16) -> Option<u32> {
-    for (changed, word) in AT_THE_ENTRY {
+    for row in &AT_THE_ENTRY {
+        let (changed, word) = *row;
         if changed == place {
             return Some(word);
         }
@@ -71,24 +70,38 @@ fn has_entered(machine: &Machine) -> bool {
         && !machine.sandwich(0)
 }
 
+/// Adds T 1023 S and 991 more items, each of this text.
+fn add_largest(tape: &mut String, item: &str) -> Result<(), Fail> {
+    tape.push_str("T1023S")?;
+    for _ in 0..991 {
+        tape.push_str(item)?;
+    }
+    Ok(())
+}
+
 /// The largest tape: T 1023 S and 991 more items, each of this text.
-fn largest(rt: &impl Abort, alloc: Global, item: &str) -> Result<Vec<Code>, Fail>
-    ensures { IfOk result (λ rows. length rows.items < 10000) }
-{
-    let tape = format!(in alloc; "T1023S{}", item.repeat(alloc, 991)?.as_str())?;
-    rows_of(rt, alloc, tape.as_str())
+fn largest(alloc: Global, item: &str) -> Result<Vec<Code>, Fail> {
+    let mut tape = String::new(alloc);
+    add_largest(&mut tape, item)?;
+    rows_of(alloc, &tape)
 }
 
 /// A short program that leaves 1 in the sandwich digit of the pair 0, 1: A 4 F, R D, T 0 D and Z F, and the word 1,
 /// which is halved.
 const HALVES_A_WORD: [u32; 5] = [114_696, 16_385, 20_481, 53_248, 1];
 
+/// Puts that program into an image.
+fn put_program(image: &mut Vec<Word>) -> Result<(), Fail> {
+    for number in &HALVES_A_WORD {
+        image.push(Word::new(*number).ok_or("no word")?)?;
+    }
+    Ok(())
+}
+
 /// Runs that program.
 fn set_sandwich(rt: &impl Abort, alloc: Global, machine: &mut Machine) -> Result<(), Fail> {
     let mut image = Vec::new(alloc);
-    for number in HALVES_A_WORD {
-        image.push(Word::new(number).ok_or("no word")?)?;
-    }
+    put_program(&mut image)?;
     assert!(rt; image.len() < 41);
     machine.start(&image, Vec::new(alloc));
     for _ in 0..3 {
@@ -100,108 +113,150 @@ fn set_sandwich(rt: &impl Abort, alloc: Global, machine: &mut Machine) -> Result
 
 /// A machine whose locations 31 to 1022 hold the word of Q 7 L, and whose pair 0, 1 has the sandwich digit 1.
 fn used(rt: &impl Abort, alloc: Global) -> Result<Machine, Fail> {
-    let mut machine = started(alloc, largest(rt, alloc, "Q7L")?)?;
+    let mut machine = started(alloc, largest(alloc, "Q7L")?)?;
     assert!(rt; matches!(loaded(rt, &mut machine), Loaded1::Entered { .. }));
     set_sandwich(rt, alloc, &mut machine)?;
     assert!(rt; machine.sandwich(0) && machine.word(35).value() == 4111);
     Ok(machine)
 }
 
-#[test]
-fn a_used_machine_is_loaded_cell_by_cell(rt: HostRuntime) -> Result<(), Fail> {
-    let alloc = rt.alloc();
-    let mut machine = used(&rt, alloc)?;
-    let before = machine.copy()?;
-    machine.start(&orders1(), rows_of(&rt, alloc, LETTER)?);
-    assert!(rt; loaded(&rt, &mut machine) == Loaded1::Entered { orders: 120 });
-    let differs = first_difference(&machine, &before);
+/// Starts a machine on the tape of a letter, and checks what is left at the entry.
+fn expect_letter(
+    rt: &impl Abort,
+    alloc: Global,
+    machine: &mut Machine,
+    before: &Machine,
+) -> Result<(), Fail> {
+    machine.start(&orders1(), rows_of(alloc, LETTER)?);
+    assert!(rt; loaded(rt, machine) == Loaded1::Entered { orders: 120 });
+    let differs = first_difference(machine, before);
     assert!(rt; differs.is_none(), "{differs:?}");
-    assert!(rt; has_entered(&machine) && machine.rows_left().is_empty());
+    assert!(rt; has_entered(machine) && machine.rows_left().is_empty());
     assert!(rt; machine.last_printed().is_none());
     Ok(())
 }
 
 #[test]
+fn a_used_machine_is_loaded_cell_by_cell(rt: HostRuntime) -> Result<(), Fail> {
+    let mut machine = used(&rt, rt.alloc())?;
+    let before = machine.copy()?;
+    expect_letter(&rt, rt.alloc(), &mut machine, &before)
+}
+
+/// What the next order does, if it leaves the counter there and 0 at 35.
+fn next_turn(rt: &impl Abort, machine: &mut Machine, counter: u16) -> Turn {
+    assert!(rt; machine.orders_done() < 1 << 20);
+    let turn = machine.step();
+    assert!(rt;
+        machine.counter() == counter && machine.word(35).value() == 0,
+        "{counter}"
+    );
+    turn
+}
+
+/// Checks the orders of the program that prints a letter.
+fn expect_turns(rt: &impl Abort, machine: &mut Machine) {
+    assert!(rt; next_turn(rt, machine, 32) == Turn::Went);
+    let printed = Code::new(28).map(Turn::Printed);
+    assert!(rt; Some(next_turn(rt, machine, 33)) == printed);
+    assert!(rt; next_turn(rt, machine, 34) == Turn::Stopped);
+}
+
+#[test]
 fn the_first_order_clears_the_place_that_it_names(rt: HostRuntime) -> Result<(), Fail> {
     let mut machine = used(&rt, rt.alloc())?;
-    machine.start(&orders1(), rows_of(&rt, rt.alloc(), LETTER)?);
+    machine.start(&orders1(), rows_of(rt.alloc(), LETTER)?);
     assert!(rt; matches!(loaded(&rt, &mut machine), Loaded1::Entered { .. }));
-    for (turn, counter) in [
-        (Some(Turn::Went), 32),
-        (Code::new(28).map(Turn::Printed), 33),
-        (Some(Turn::Stopped), 34),
-    ] {
-        assert!(rt; machine.orders_done() < 1 << 20);
-        assert!(rt; Some(machine.step()) == turn, "{counter}");
-        assert!(rt;
-            machine.counter() == counter && machine.word(35).value() == 0,
-            "{counter}"
-        );
+    expect_turns(&rt, &mut machine);
+    Ok(())
+}
+
+/// How the load of a tape ends.
+fn load_of(rt: &impl Abort, alloc: Global, tape: &str) -> Result<Loaded1, Fail> {
+    let mut machine = started(alloc, rows_of(alloc, tape)?)?;
+    Ok(loaded(rt, &mut machine))
+}
+
+/// Tapes, and the orders until the entry.
+const ENTERED: [(&str, u64); 6] = [
+    (LETTER, 120),
+    ("T35SO34SZSAS*", 120),
+    ("T32S", 43),
+    ("T33SPS", 62),
+    ("T34S50L*32767S", 141),
+    // Not in the notation, and yet the orders obey it: the word of the first item is that of T 35 S.
+    ("R2083SO34SZSAS", 140),
+];
+
+#[test]
+fn tapes_are_loaded_at_their_cost(rt: HostRuntime) -> Result<(), Fail> {
+    for row in &ENTERED {
+        let (tape, orders) = *row;
+        let load = load_of(&rt, rt.alloc(), tape)?;
+        assert!(rt; load == Loaded1::Entered { orders }, "{tape}");
     }
     Ok(())
 }
 
+/// Tapes that end too early, and the orders until then.
+const LOST: [(&str, u64); 5] = [("", 4), ("T", 9), ("T35", 29), ("T35S", 44), ("T35SO", 48)];
+
 #[test]
-fn tapes_are_loaded_at_their_cost(rt: HostRuntime) -> Result<(), Fail> {
-    for (tape, orders) in [
-        (LETTER, 120),
-        ("T35SO34SZSAS*", 120),
-        ("T32S", 43),
-        ("T33SPS", 62),
-        ("T34S50L*32767S", 141),
-        // Not in the notation, and yet the orders obey it: the word of the first item is that of T 35 S.
-        ("R2083SO34SZSAS", 140),
-    ] {
-        let mut machine = started(rt.alloc(), rows_of(&rt, rt.alloc(), tape)?)?;
-        let loaded = loaded(&rt, &mut machine);
-        assert!(rt; loaded == Loaded1::Entered { orders }, "{tape}");
+fn a_tape_that_ends_too_early_is_lost(rt: HostRuntime) -> Result<(), Fail> {
+    for row in &LOST {
+        let (tape, orders) = *row;
+        let load = load_of(&rt, rt.alloc(), tape)?;
+        assert!(rt; load == Loaded1::Lost { orders }, "{tape}");
     }
     Ok(())
+}
+
+/// Checks the report on the largest tape, and its load on a machine that was started on it.
+fn expect_largest(
+    rt: &impl Abort,
+    report: &Checked1,
+    machine: &mut Machine,
+    row: (&str, u64, usize),
+) {
+    let (item, orders, rows) = row;
+    let told = (report.orders(), report.rows(), report.end());
+    assert!(rt; told == (orders, rows, 1023), "{item}");
+    let load = loaded(rt, machine);
+    assert!(rt; load == Loaded1::Entered { orders }, "{item}");
+    assert!(rt; misplaced(machine, report).is_none(), "{item}");
 }
 
 #[test]
 fn the_largest_tape(rt: HostRuntime) -> Result<(), Fail> {
-    let alloc = rt.alloc();
     for (item, orders, rows) in [("PS", 18_892, 1988), ("Q7L", 28_802, 2979)] {
-        let read = largest(&rt, alloc, item)?;
-        let checked = check1(alloc, &read)?;
-        let told = (checked.orders(), checked.rows(), checked.end());
-        assert!(rt; told == (orders, rows, 1023), "{item}");
-        let mut machine = started(alloc, read)?;
-        assert!(rt;
-            loaded(&rt, &mut machine) == Loaded1::Entered { orders },
-            "{item}"
-        );
-        assert!(rt; misplaced(&machine, &checked).is_none(), "{item}");
+        let read = largest(rt.alloc(), item)?;
+        let report = checked(&rt, rt.alloc(), &read)?;
+        let mut machine = started(rt.alloc(), read)?;
+        expect_largest(&rt, &report, &mut machine, (item, orders, rows));
     }
     Ok(())
 }
 
-#[test]
-fn a_tape_that_ends_too_early_is_lost(rt: HostRuntime) -> Result<(), Fail> {
-    for (tape, orders) in [("", 4), ("T", 9), ("T35", 29), ("T35S", 44), ("T35SO", 48)] {
-        let mut machine = started(rt.alloc(), rows_of(&rt, rt.alloc(), tape)?)?;
-        let loaded = loaded(&rt, &mut machine);
-        assert!(rt; loaded == Loaded1::Lost { orders }, "{tape}");
+/// Whether a cleared machine of a size counts as started after this many orders of the listing.
+fn is_started_after(rt: &impl Abort, alloc: Global, size: Size, orders: u32) -> Result<bool, Fail> {
+    let mut machine = Machine::cleared_of(alloc, size)?;
+    machine.start(&orders1(), Vec::new(alloc));
+    for _ in 0..orders {
+        assert!(rt; machine.orders_done() < 1 << 20);
+        machine.step();
     }
-    Ok(())
+    Ok(is_started1(&machine))
 }
 
 #[test]
 fn a_machine_is_started_at_full_size_and_at_0(rt: HostRuntime) -> Result<(), Fail> {
-    let alloc = rt.alloc();
     for (size, orders, wanted) in [
         (Size::Full, 0, true),
         (Size::Full, 1, false),
         (Size::Small, 0, false),
     ] {
-        let mut machine = Machine::cleared_of(alloc, size)?;
-        machine.start(&orders1(), Vec::new(alloc));
-        for _ in 0..orders {
-            assert!(rt; machine.orders_done() < 1 << 20);
-            machine.step();
-        }
-        assert!(rt; is_started1(&machine) == wanted, "{orders}");
+        let started = is_started_after(&rt, rt.alloc(), size, orders)?;
+        assert!(rt; started == wanted, "{orders}");
     }
     Ok(())
 }

@@ -1,11 +1,10 @@
 //! Every row of a short tape replaced by every code: the check's answer, and what the orders do.
 
-ghost use Rattle.std.specs.Prelude.{◌<◌, IfOk, length};
-
-use crate::support::{fault_of, loaded, misplaced, rows_of, started};
+use crate::support::{checked, fault_of, loaded, misplaced, rows_of, started};
 use ed_codes::Code;
 use ed_initial1::Tape1Cause::{BadRow, EndOfTape, FirstWord};
-use ed_initial1::{Loaded1, Tape1Cause, check1};
+use ed_initial1::{Checked1, Loaded1, Tape1Cause, Tape1Fault};
+use ed_machine::Machine;
 use std::alloc::Global;
 use std::process::Abort;
 use std::test::Fail;
@@ -39,15 +38,19 @@ fn wanted(place: usize, code: u8) -> Option<(usize, Tape1Cause)> {
     }
 }
 
-/// The tape with another code as one of its rows.
-fn replaced(rt: &impl Abort, alloc: Global, place: usize, code: Code) -> Result<Vec<Code>, Fail>
-    ensures { IfOk result (λ rows. length rows.items < 10000) }
-{
-    let mut rows = Vec::new(alloc);
-    for (at, row) in rows_of(rt, alloc, TAPE)?.iter().enumerate() {
+/// Puts the rows of the tape into a list, with another code as one of them.
+fn put_replaced(rows: &mut Vec<Code>, tape: &[Code], place: usize, code: Code) -> Result<(), Fail> {
+    for (at, row) in tape.iter().enumerate() {
         rows.push(if at == place { code } else { *row })?;
     }
-    assert!(rt; rows.len() < 10000);
+    Ok(())
+}
+
+/// The tape with another code as one of its rows.
+fn replaced(alloc: Global, place: usize, code: Code) -> Result<Vec<Code>, Fail> {
+    let tape = rows_of(alloc, TAPE)?;
+    let mut rows = Vec::new(alloc);
+    put_replaced(&mut rows, &tape, place, code)?;
     Ok(rows)
 }
 
@@ -70,38 +73,71 @@ fn orders_to_the_end(rt: &impl Abort, rows: &[Code]) -> u64 {
     if inside { orders } else { orders + 1 }
 }
 
-/// Whether rows are loaded as the check reports. If they have a fault other than their end, the orders may do anything.
-fn are_loaded_as_told(rt: &impl Abort, alloc: Global, rows: Vec<Code>) -> Result<bool, Fail>
-    requires { length rows.items < 10000 }
-{
-    let told = check1(alloc, &rows);
-    let (count, to_the_end) = (rows.len(), orders_to_the_end(rt, &rows));
+/// How the load of rows ends, and the machine after it.
+fn loaded_on(rt: &impl Abort, alloc: Global, rows: Vec<Code>) -> Result<(Machine, Loaded1), Fail> {
     let mut machine = started(alloc, rows)?;
     let loaded = loaded(rt, &mut machine);
-    let left = machine.rows_left().len();
-    match (&told, fault_of(&told)?) {
-        (Ok(checked), _) => Ok(
-            loaded
-                == Loaded1::Entered {
-                    orders: checked.orders(),
-                }
-                && count.checked_sub(left) == Some(checked.rows())
-                && misplaced(&machine, checked).is_none(),
-        ),
-        (_, Some((_, EndOfTape))) => Ok(
-            loaded == Loaded1::Lost { orders: to_the_end } && left == 0,
-        ),
-        _ => Ok(true),
+    Ok((machine, loaded))
+}
+
+/// Whether as many of `count` rows were loaded, and to the places, as a report tells.
+fn is_as_reported(machine: &Machine, loaded: Loaded1, count: usize, report: &Checked1) -> bool {
+    let orders = report.orders();
+    loaded == Loaded1::Entered { orders }
+        && count.checked_sub(machine.rows_left().len()) == Some(report.rows())
+        && misplaced(machine, report).is_none()
+}
+
+/// Whether the rows of a list are loaded as the check reports. If they have a fault other than their end, the orders may
+/// do anything.
+fn are_loaded_as_told(
+    rt: &impl Abort,
+    alloc: Global,
+    rows: &[Code],
+    told: &Result<Checked1, Tape1Fault>,
+) -> Result<bool, Fail> {
+    let orders = orders_to_the_end(rt, rows);
+    let (machine, loaded) = loaded_on(rt, alloc, rows.to_vec(alloc)?)?;
+    Ok(match told {
+        Ok(report) => is_as_reported(&machine, loaded, rows.len(), report),
+        Err(fault) => {
+            !is_end(fault) || loaded == Loaded1::Lost { orders } && machine.rows_left().is_empty()
+        }
+    })
+}
+
+/// Whether a fault is the end of the tape.
+fn is_end(fault: &Tape1Fault) -> bool {
+    matches!(
+        fault,
+        Tape1Fault::At {
+            cause: EndOfTape,
+            ..
+        }
+    )
+}
+
+/// Whether the check of rows answers what is wanted for a code at a place, and the rows are loaded as it reports.
+fn is_as_wanted(
+    rt: &impl Abort,
+    alloc: Global,
+    rows: &[Code],
+    place: usize,
+    code: u8,
+) -> Result<bool, Fail> {
+    let told = checked(rt, alloc, rows);
+    if fault_of(&told)? != wanted(place, code) {
+        return Ok(false);
     }
+    are_loaded_as_told(rt, alloc, rows, &told)
 }
 
 /// The first code that makes a difference as this row: the check doesn't answer what is wanted, or the rows are not
 /// loaded as it reports.
 fn first_difference(rt: &impl Abort, alloc: Global, place: usize) -> Result<Option<u8>, Fail> {
     for number in 0..32 {
-        let rows = replaced(rt, alloc, place, Code::new(number).ok_or("no code")?)?;
-        let fault = fault_of(&check1(alloc, &rows))?;
-        if fault != wanted(place, number) || !are_loaded_as_told(rt, alloc, rows)? {
+        let rows = replaced(alloc, place, Code::new(number).ok_or("no code")?)?;
+        if !is_as_wanted(rt, alloc, &rows, place, number)? {
             return Ok(Some(number));
         }
     }

@@ -1,9 +1,7 @@
 //! What the tests share: rows of a text, machines started on them, checks and loads.
 
-ghost use Rattle.std.specs.Prelude.{◌<◌, IfOk, length};
-
 use ed_codes::{Code, tape_of_text};
-use ed_initial1::{Checked1, Loaded1, Tape1Cause, Tape1Fault, is_started1, load1, orders1};
+use ed_initial1::{Checked1, Loaded1, Tape1Cause, Tape1Fault, check1, is_started1, load1, orders1};
 use ed_machine::Machine;
 use std::alloc::Global;
 use std::process::Abort;
@@ -12,13 +10,25 @@ use std::test::Fail;
 /// The tape that prints A: it clears 35, prints the letter at 34 and stops.
 pub const LETTER: &str = "T35SO34SZSAS";
 
-/// The rows of a tape's text, which has few.
-pub fn rows_of(rt: &impl Abort, alloc: Global, tape: &str) -> Result<Vec<Code>, Fail>
-    ensures { IfOk result (λ rows. length rows.items < 10000) }
-{
-    let rows = tape_of_text(alloc, tape.as_bytes())?;
+/// The rows of a tape's text.
+pub fn rows_of(alloc: Global, tape: &str) -> Result<Vec<Code>, Fail> {
+    Ok(tape_of_text(alloc, tape.as_bytes())?)
+}
+
+/// What the check of few rows answers.
+pub fn checked(rt: &impl Abort, alloc: Global, rows: &[Code]) -> Result<Checked1, Tape1Fault> {
     assert!(rt; rows.len() < 10000);
-    Ok(rows)
+    check1(alloc, rows)
+}
+
+/// What the check of a tape's text answers.
+pub fn checked_text(
+    rt: &impl Abort,
+    alloc: Global,
+    tape: &str,
+) -> Result<Result<Checked1, Tape1Fault>, Fail> {
+    let rows = rows_of(alloc, tape)?;
+    Ok(checked(rt, alloc, &rows))
 }
 
 /// A cleared machine, started on rows with Initial Orders 1.
