@@ -21,7 +21,7 @@ impl Model for Long {
 
 /// The parts of a long word in the store: the words at the odd and at the even location of a pair, and the sandwich
 /// digit between them.
-#[derive(Clone, Copy, Debug, PartialEq, Eq)]
+#[derive(Clone, Copy, PartialEq, Eq)]
 pub struct Halves {
     /// The word at the odd location, the most significant half of the long word.
     pub odd: Word,
