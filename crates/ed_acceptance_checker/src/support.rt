@@ -4,7 +4,7 @@ use ed_codes::{Code, tape_of_text};
 use ed_initial::{Loaded, begin, is_started, load};
 use ed_library::routine;
 use ed_machine::{Machine, Paper, Turn};
-use ed_notation::{spellable, text_of_items};
+use ed_notation::{Item, spellable, text_of_items};
 use ed_words::Size;
 use std::alloc::Global;
 use std::process::Abort;
@@ -13,27 +13,49 @@ use std::test::Fail;
 /// The base of the routine. The guest begins at 60, its last order is at 89 and its data begin at 90.
 pub const BASE: u16 = 100;
 
-/// How a guest ended, and the number of its orders that were checked.
-#[derive(Clone, Copy, Debug, PartialEq, Eq)]
-pub enum End {
-    Stopped(u32),
-    Blocked(u32),
-    Refused(u32),
-    Differs(u32),
+/// How a guest ended: stopped, blocked, refused, or differs; and the number of its orders that were checked.
+pub type End = (&'static str, u32);
+
+/// Adds the text of an item.
+fn add_item(rt: &impl Abort, alloc: Global, text: &mut String, item: Item) -> Result<(), Fail> {
+    assert!(rt; spellable(&item));
+    let bytes = text_of_items(alloc, &[item])?;
+    for byte in bytes.as_slice() {
+        text.push(char::from(*byte))?;
+    }
+    Ok(())
 }
 
-/// The text of the routine's items.
-fn text_of_check(rt: &impl Abort, alloc: Global) -> Result<String, Fail> {
-    let mut text = String::new(alloc);
+/// Adds the text of the routine's items.
+fn add_check(rt: &impl Abort, alloc: Global, text: &mut String) -> Result<(), Fail> {
     let routine = routine(0);
     for place in 0..routine.length() {
-        let item = routine.item(place);
-        assert!(rt; spellable(&item));
-        for byte in text_of_items(alloc, &[item])? {
-            text.push(char::from(byte))?;
-        }
+        add_item(rt, alloc, text, routine.item(place))?;
     }
-    Ok(text)
+    Ok(())
+}
+
+/// The tape of a program that has the routine and the guest, with more rows at its end.
+fn tape_of(
+    rt: &impl Abort,
+    alloc: Global,
+    guest: &str,
+    rows: &str,
+    entry: u16,
+) -> Result<String, Fail> {
+    let mut check = String::new(alloc);
+    add_check(rt, alloc, &mut check)?;
+    Ok(format!(in alloc;
+        "T45KP60FT{BASE}KGK{check}T60K{guest}T89KZFP1DZ5FGFC9DPFPFP50FPDE{entry}KPF{rows}"
+    )?)
+}
+
+/// Starts a machine on a tape, and loads it to its entry.
+fn enter(rt: &impl Abort, machine: &mut Machine, tape: Vec<Code>) {
+    begin(machine, tape);
+    assert!(rt; is_started(machine));
+    assert!(rt; machine.orders_done() < 1 << 20 && machine.rows_left().len() < 1 << 20);
+    assert!(rt; matches!(load(machine), Loaded::Entered { .. }));
 }
 
 /// A machine at the entry to a program that has the routine and the guest, with rows left on the tape.
@@ -44,15 +66,10 @@ pub fn entered(
     rows: &str,
     entry: u16,
 ) -> Result<Machine, Fail> {
-    let check = text_of_check(rt, alloc)?;
-    let tape = format!(in alloc;
-        "T45KP60FT{BASE}KGK{check}T60K{guest}T89KZFP1DZ5FGFC9DPFPFP50FPDE{entry}KPF{rows}"
-    )?;
+    let tape = tape_of(rt, alloc, guest, rows, entry)?;
+    let codes = tape_of_text(alloc, tape.as_bytes())?;
     let mut machine = Machine::cleared_of(alloc, Size::Full)?;
-    begin(&mut machine, tape_of_text(alloc, tape.as_bytes())?);
-    assert!(rt; is_started(&machine));
-    assert!(rt; machine.orders_done() < 1 << 20 && machine.rows_left().len() < 1 << 20);
-    assert!(rt; matches!(load(&mut machine), Loaded::Entered { .. }));
+    enter(rt, &mut machine, codes);
     Ok(machine)
 }
 
@@ -128,26 +145,57 @@ fn is_answer(answer: Checking, turn: Turn) -> bool {
     }
 }
 
+/// What the routine's answer to an order says of the guest, if it has ended.
+fn end_of(answer: Checking, done: u32) -> Option<End> {
+    match answer {
+        Checking::Went { .. } => None,
+        Checking::Stopped { .. } => Some(("stopped", done.saturating_add(1))),
+        Checking::Blocked { .. } => Some(("blocked", done)),
+    }
+}
+
+/// How a guest that is checked ends, if it ends with its next order, which is compared with the same order alone.
+fn next_end(
+    rt: &impl Abort,
+    checked: &mut Machine,
+    paper: &mut Paper,
+    plain: &mut Machine,
+    wanted: &mut Paper,
+    done: u32,
+) -> Option<End> {
+    let Some(answer) = turn(checked, paper) else {
+        return Some(("refused", done));
+    };
+    let turn = alone(rt, plain, wanted);
+    if is_answer(answer, turn) && agree(checked, plain) && same_codes(paper, wanted) {
+        end_of(answer, done)
+    } else {
+        Some(("differs", done))
+    }
+}
+
+/// A machine at an entry to the program of a guest, and an empty paper.
+fn guest_on(
+    rt: &impl Abort,
+    alloc: Global,
+    guest: &str,
+    rows: &str,
+    entry: u16,
+) -> Result<(Machine, Paper), Fail> {
+    let paper = Paper::new(alloc, 1200)?;
+    let machine = entered(rt, alloc, guest, rows, entry)?;
+    Ok((machine, paper))
+}
+
 /// Compares a guest order by order, with rows left on its tape, with the same program alone.
 pub fn follow(rt: &impl Abort, alloc: Global, guest: &str, rows: &str) -> Result<End, Fail> {
-    let mut checked = entered(rt, alloc, guest, rows, BASE)?;
-    let mut plain = entered(rt, alloc, guest, rows, 60)?;
-    let mut paper = Paper::new(alloc, 1200)?;
-    let mut wanted = Paper::new(alloc, 1200)?;
+    let (mut checked, mut paper) = guest_on(rt, alloc, guest, rows, BASE)?;
+    let (mut plain, mut wanted) = guest_on(rt, alloc, guest, rows, 60)?;
     for done in 0..600 {
-        let Some(answer) = turn(&mut checked, &mut paper) else {
-            return Ok(End::Refused(done));
-        };
-        let turn = alone(rt, &mut plain, &mut wanted);
-        let same = agree(&checked, &plain) && same_codes(&paper, &wanted);
-        if !same || !is_answer(answer, turn) {
-            return Ok(End::Differs(done));
-        }
-        match answer {
-            Checking::Went { .. } => {}
-            Checking::Stopped { .. } => return Ok(End::Stopped(done + 1)),
-            Checking::Blocked { .. } => return Ok(End::Blocked(done)),
+        let end = next_end(rt, &mut checked, &mut paper, &mut plain, &mut wanted, done);
+        if let Some(end) = end {
+            return Ok(end);
         }
     }
-    Ok(End::Differs(600))
+    Ok(("differs", 600))
 }
