@@ -1,8 +1,8 @@
 //! Guests of the checking routine compared with a plain computation: the letters of their orders, and what they print.
 
-use crate::support::prints;
+use crate::support::answers;
 use ed_programs::checked_program;
-use std::alloc::{AllocError, Global};
+use std::alloc::Global;
 use std::process::Abort;
 use std::test::Fail;
 
@@ -53,62 +53,75 @@ const FUNCTIONS: [&str; 8] = [
 
 /// Checks that the run of the guest's source prints a text and stops.
 fn checks(rt: &impl Abort, alloc: Global, guest: &str, wanted: &str) -> Result<(), Fail> {
-    prints(rt, alloc, checked_program(alloc, guest), wanted)
+    answers(rt, alloc, "run", checked_program(alloc, guest), wanted)
 }
 
-/// A guest that prints these letters one by one.
-fn printing(alloc: Global, letters: &str) -> Result<String, AllocError> {
-    let mut guest = String::from_str(alloc, "segment main\nO shift F\n")?;
+/// Adds the order that prints the letter at a place.
+fn add_order(alloc: Global, guest: &mut String, place: usize) -> Result<(), Fail> {
+    let order = format!(in alloc; "O letters+{place} F\n")?;
+    Ok(guest.push_str(&order)?)
+}
+
+/// Adds the lines of a guest that prints these letters one by one.
+fn add_printing(alloc: Global, guest: &mut String, letters: &str) -> Result<(), Fail> {
+    guest.push_str("segment main\nO shift F\n")?;
     for place in 0..letters.len() {
-        guest.push_str(format!(in alloc; "O letters+{place} F\n")?.as_str())?;
+        add_order(alloc, guest, place)?;
     }
-    guest.push_str("Z F\nshift: * F\n")?;
-    guest.push_str(format!(in alloc; "letters: text \"{letters}\"")?.as_str())?;
-    Ok(guest)
+    guest.push_str("Z F\nshift: * F\nletters: text \"")?;
+    guest.push_str(letters)?;
+    Ok(guest.push_str("\"")?)
 }
 
-/// A guest that obeys one order for each of these functions.
-fn obeying(alloc: Global, functions: &str) -> Result<String, AllocError> {
-    let mut guest = String::from_str(alloc, "segment main\n")?;
+/// Adds what the checking routine prints of such a guest.
+fn add_printed(text: &mut String, letters: &str) -> Result<(), Fail> {
+    text.push('O')?;
+    for letter in letters.chars() {
+        text.push('O')?;
+        text.push(letter)?;
+    }
+    Ok(text.push('Z')?)
+}
+
+/// Checks a guest that prints these letters.
+fn expect_letters(rt: &impl Abort, alloc: Global, letters: &str) -> Result<(), Fail> {
+    let mut guest = String::new(alloc);
+    add_printing(alloc, &mut guest, letters)?;
+    let mut wanted = String::new(alloc);
+    add_printed(&mut wanted, letters)?;
+    checks(rt, alloc, &guest, &wanted)
+}
+
+/// Adds the lines of a guest that obeys one order for each of these functions.
+fn add_obeying(guest: &mut String, functions: &str) -> Result<(), Fail> {
+    guest.push_str("segment main\n")?;
     for function in functions.chars() {
-        guest.push_str(format!(in alloc; "{function} place F\n")?.as_str())?;
+        guest.push(function)?;
+        guest.push_str(" place F\n")?;
     }
-    guest.push_str("Z F\nplace: P 1 F\n")?;
-    Ok(guest)
+    Ok(guest.push_str("Z F\nplace: P 1 F\n")?)
 }
 
-#[test]
-fn each_letter_follows_its_order(rt: HostRuntime) -> Result<(), Fail> {
-    let alloc = rt.alloc();
-    for letters in LETTERS {
-        let mut wanted = String::from_str(alloc, "O")?;
-        for letter in letters.chars() {
-            wanted.push_str(format!(in alloc; "O{letter}")?.as_str())?;
-        }
-        wanted.push_str("Z")?;
-        let guest = printing(alloc, letters)?;
-        checks(&rt, alloc, guest.as_str(), wanted.as_str())?;
-    }
-    Ok(())
+/// Checks a guest that obeys these functions.
+fn expect_functions(rt: &impl Abort, alloc: Global, functions: &str) -> Result<(), Fail> {
+    let mut guest = String::new(alloc);
+    add_obeying(&mut guest, functions)?;
+    let wanted = format!(in alloc; "{functions}Z")?;
+    checks(rt, alloc, &guest, &wanted)
 }
 
-#[test]
-fn each_order_is_its_letter(rt: HostRuntime) -> Result<(), Fail> {
-    let alloc = rt.alloc();
-    for functions in FUNCTIONS {
-        let wanted = format!(in alloc; "{functions}Z")?;
-        let guest = obeying(alloc, functions)?;
-        checks(&rt, alloc, guest.as_str(), wanted.as_str())?;
+/// Adds what the checking routine prints of a loop of so many turns.
+fn add_turns(text: &mut String, turns: u32) -> Result<(), Fail> {
+    for _ in 0..turns {
+        text.push_str("TAAUG")?;
     }
-    Ok(())
+    Ok(text.push_str("EZ")?)
 }
 
-#[test]
-fn each_turn_of_a_loop_is_printed(rt: HostRuntime) -> Result<(), Fail> {
-    let alloc = rt.alloc();
-    for turns in 1..12 {
-        let guest = format!(in alloc;
-            "segment main\n\
+/// Checks a guest that goes through a loop so many times.
+fn expect_turns(rt: &impl Abort, alloc: Global, turns: u32) -> Result<(), Fail> {
+    let guest = format!(in alloc;
+        "segment main\n\
             T scrap F\n\
             A count F\n\
             A one F\n\
@@ -119,24 +132,38 @@ fn each_turn_of_a_loop_is_printed(rt: HostRuntime) -> Result<(), Fail> {
             last: Z F\n\
             count: word -{turns}\n\
             one: word 1"
-        )?;
-        let mut wanted = String::new(alloc);
-        for _ in 0..turns {
-            wanted.push_str("TAAUG")?;
-        }
-        wanted.push_str("EZ")?;
-        checks(&rt, alloc, guest.as_str(), wanted.as_str())?;
+    )?;
+    let mut wanted = String::new(alloc);
+    add_turns(&mut wanted, turns)?;
+    checks(rt, alloc, &guest, &wanted)
+}
+
+#[test]
+fn each_letter_follows_its_order(rt: HostRuntime) -> Result<(), Fail> {
+    for letters in &LETTERS {
+        expect_letters(&rt, rt.alloc(), letters)?;
+    }
+    Ok(())
+}
+
+#[test]
+fn each_order_is_its_letter(rt: HostRuntime) -> Result<(), Fail> {
+    for functions in &FUNCTIONS {
+        expect_functions(&rt, rt.alloc(), functions)?;
+    }
+    Ok(())
+}
+
+#[test]
+fn each_turn_of_a_loop_is_printed(rt: HostRuntime) -> Result<(), Fail> {
+    for turns in 1..12 {
+        expect_turns(&rt, rt.alloc(), turns)?;
     }
     Ok(())
 }
 
 #[test]
 fn the_example_is_printed(rt: HostRuntime) -> Result<(), Fail> {
-    let alloc = rt.alloc();
-    checks(
-        &rt,
-        alloc,
-        EXAMPLE,
-        "OO TOAAATAAUGO TOBAATAAUGO TOCAATAAUGZ",
-    )
+    let wanted = "OO TOAAATAAUGO TOBAATAAUGO TOCAATAAUGZ";
+    checks(&rt, rt.alloc(), EXAMPLE, wanted)
 }

@@ -1,11 +1,12 @@
 //! Each program compared with a plain computation.
 
-use crate::support::{first_tape_prints, parts_are, prints, tape_prints};
+use crate::support::answers;
 use ed_programs::{
     Refusal, add_program, difference_program, fraction_program, greatest_program, hello_program,
     interlude_program, mirror_program, multiply_program, sort_program, squares_program,
 };
 use std::alloc::Global;
+use std::process::Abort;
 use std::test::Fail;
 
 /// Letters that are printed.
@@ -306,175 +307,200 @@ const NO_TENS: [&[u16]; 2] = [
 
 #[test]
 fn other_letters_are_refused(rt: HostRuntime) {
-    for (letters, cause) in NO_HELLO {
-        assert!(rt;
-            hello_program(rt.alloc(), letters) == Err(cause),
-            "{letters}"
-        );
+    for (letters, cause) in &NO_HELLO {
+        let told = hello_program(rt.alloc(), letters);
+        assert!(rt; told == Err(*cause), "{letters}");
     }
-    for (letters, cause) in NO_MIRROR {
-        assert!(rt;
-            mirror_program(rt.alloc(), letters) == Err(cause),
-            "{letters}"
-        );
+    for (letters, cause) in &NO_MIRROR {
+        let told = mirror_program(rt.alloc(), letters);
+        assert!(rt; told == Err(*cause), "{letters}");
     }
 }
 
 #[test]
-fn numbers_out_of_range_are_refused(rt: HostRuntime) {
-    let alloc = rt.alloc();
-    for (left, right, root) in NO_PRODUCTS {
-        let program = multiply_program(alloc, left, right, root);
+fn products_and_sums_out_of_range_are_refused(rt: HostRuntime) {
+    for row in &NO_PRODUCTS {
+        let (left, right, root) = *row;
+        let program = multiply_program(rt.alloc(), left, right, root);
         assert!(rt;
             program == Err(Refusal::Number),
             "{left}, {right} and {root}"
         );
     }
-    for (first, second) in NO_SUMS {
-        let program = add_program(alloc, first, second);
+    for row in &NO_SUMS {
+        let (first, second) = *row;
+        let program = add_program(rt.alloc(), first, second);
         assert!(rt; program == Err(Refusal::Number), "{first} and {second}");
     }
+}
+
+#[test]
+fn divisors_and_places_out_of_range_are_refused(rt: HostRuntime) {
     for lower in [0, 6554, 65535] {
-        let program = fraction_program(alloc, 1, lower, 5);
+        let program = fraction_program(rt.alloc(), 1, lower, 5);
         assert!(rt; program == Err(Refusal::Divisor), "{lower}");
     }
     for number in [0, 33, 511, 65535] {
-        assert!(rt;
-            interlude_program(alloc, number) == Err(Refusal::Place),
-            "{number}"
-        );
+        let program = interlude_program(rt.alloc(), number);
+        assert!(rt; program == Err(Refusal::Place), "{number}");
     }
 }
 
 #[test]
 fn too_few_and_too_many_numbers_are_refused(rt: HostRuntime) {
-    for numbers in NO_EIGHTS {
+    for numbers in &NO_EIGHTS {
         let program = greatest_program(rt.alloc(), numbers);
         assert!(rt; program == Err(Refusal::Count), "{numbers:?}");
     }
-    for numbers in NO_TENS {
+    for numbers in &NO_TENS {
         let program = sort_program(rt.alloc(), numbers);
         assert!(rt; program == Err(Refusal::Count), "{numbers:?}");
     }
 }
 
+/// Checks that these letters are printed.
+fn expect_hello(rt: &impl Abort, alloc: Global, letters: &str) -> Result<(), Fail> {
+    let wanted = format!(in alloc; "{letters}\r\n")?;
+    answers(rt, alloc, "run", hello_program(alloc, letters), &wanted)
+}
+
 #[test]
 fn hello_prints_its_letters(rt: HostRuntime) -> Result<(), Fail> {
-    let alloc = rt.alloc();
-    for letters in HELLO {
-        let wanted = format!(in alloc; "{letters}\r\n")?;
-        prints(&rt, alloc, hello_program(alloc, letters), &wanted)?;
+    for letters in &HELLO {
+        expect_hello(&rt, rt.alloc(), letters)?;
     }
     Ok(())
+}
+
+/// Checks that a product and a square are printed.
+fn expect_product(rt: &impl Abort, alloc: Global, row: (u16, u16, u16)) -> Result<(), Fail> {
+    let (left, right, root) = row;
+    let (product, square) = (left as u32 * right as u32, root as u32 * root as u32);
+    let wanted = format!(in alloc; "{product}\r\n{square}\r\n")?;
+    let program = multiply_program(alloc, left, right, root);
+    answers(rt, alloc, "run", program, &wanted)
 }
 
 #[test]
 fn multiply_prints_its_products(rt: HostRuntime) -> Result<(), Fail> {
-    let alloc = rt.alloc();
-    for (left, right, root) in MULTIPLIED {
-        let (product, square) = (left as u32 * right as u32, root as u32 * root as u32);
-        let wanted = format!(in alloc; "{product}\r\n{square}\r\n")?;
-        prints(
-            &rt,
-            alloc,
-            multiply_program(alloc, left, right, root),
-            &wanted,
-        )?;
+    for row in &MULTIPLIED {
+        expect_product(&rt, rt.alloc(), *row)?;
     }
     Ok(())
 }
 
+/// Checks that a program prints a number.
+fn expect_number(
+    rt: &impl Abort,
+    alloc: Global,
+    program: Result<String, Refusal>,
+    number: u32,
+) -> Result<(), Fail> {
+    let wanted = format!(in alloc; "{number}")?;
+    answers(rt, alloc, "run", program, &wanted)
+}
+
 #[test]
 fn add_prints_its_sum(rt: HostRuntime) -> Result<(), Fail> {
-    let alloc = rt.alloc();
-    for (first, second) in ADDED {
-        let wanted = format!(in alloc; "{}", first as u32 + second as u32)?;
-        prints(&rt, alloc, add_program(alloc, first, second), &wanted)?;
+    for row in &ADDED {
+        let (first, second) = *row;
+        let program = add_program(rt.alloc(), first, second);
+        expect_number(&rt, rt.alloc(), program, first as u32 + second as u32)?;
     }
     Ok(())
 }
 
 #[test]
 fn difference_prints_the_distance(rt: HostRuntime) -> Result<(), Fail> {
-    let alloc = rt.alloc();
-    for (first, second) in COMPARED {
+    for row in &COMPARED {
+        let (first, second) = *row;
         let distance = if first < second {
             second - first
         } else {
             first - second
         };
-        let wanted = format!(in alloc; "{distance}")?;
-        prints(
-            &rt,
-            alloc,
-            difference_program(alloc, first, second),
-            &wanted,
-        )?;
+        let program = difference_program(rt.alloc(), first, second);
+        expect_number(&rt, rt.alloc(), program, u32::from(distance))?;
     }
     Ok(())
+}
+
+/// The greatest of some numbers.
+fn greatest_of(numbers: &[u16]) -> u16 {
+    let mut greatest = 0;
+    for number in numbers {
+        greatest = greatest.max(*number);
+    }
+    greatest
 }
 
 #[test]
 fn greatest_prints_the_greatest(rt: HostRuntime) -> Result<(), Fail> {
-    let alloc = rt.alloc();
     for numbers in &EIGHTS {
-        let mut greatest = 0;
-        for number in numbers {
-            greatest = greatest.max(*number);
-        }
-        let wanted = format!(in alloc; "{greatest}")?;
-        prints(&rt, alloc, greatest_program(alloc, numbers), &wanted)?;
+        let program = greatest_program(rt.alloc(), numbers);
+        expect_number(&rt, rt.alloc(), program, u32::from(greatest_of(numbers)))?;
     }
     Ok(())
 }
 
+/// Adds a line for each of some numbers.
+fn add_lines(text: &mut String, numbers: &str) -> Result<(), Fail> {
+    for number in numbers.split_whitespace() {
+        text.push_str(number)?;
+        text.push_str("\r\n")?;
+    }
+    Ok(())
+}
+
+/// Checks that numbers are printed in order.
+fn expect_sorted(
+    rt: &impl Abort,
+    alloc: Global,
+    numbers: &[u16],
+    sorted: &str,
+) -> Result<(), Fail> {
+    let mut wanted = String::new(alloc);
+    add_lines(&mut wanted, sorted)?;
+    answers(rt, alloc, "run", sort_program(alloc, numbers), &wanted)
+}
+
 #[test]
 fn sort_prints_in_order(rt: HostRuntime) -> Result<(), Fail> {
-    let alloc = rt.alloc();
     for (numbers, sorted) in &TENS {
-        let mut wanted = String::new(alloc);
-        for number in sorted.split_whitespace() {
-            wanted.push_str(number)?;
-            wanted.push_str("\r\n")?;
-        }
-        prints(&rt, alloc, sort_program(alloc, numbers), &wanted)?;
+        expect_sorted(&rt, rt.alloc(), numbers, sorted)?;
     }
     Ok(())
 }
 
 #[test]
 fn fraction_prints_its_figures(rt: HostRuntime) -> Result<(), Fail> {
-    let alloc = rt.alloc();
-    for (upper, lower, places, wanted) in FRACTIONS {
-        prints(
-            &rt,
-            alloc,
-            fraction_program(alloc, upper, lower, places),
-            wanted,
-        )?;
+    for row in &FRACTIONS {
+        let (upper, lower, places, wanted) = *row;
+        let program = fraction_program(rt.alloc(), upper, lower, places);
+        answers(&rt, rt.alloc(), "run", program, wanted)?;
     }
     Ok(())
 }
 
 #[test]
 fn mirror_prints_backwards(rt: HostRuntime) -> Result<(), Fail> {
-    let alloc = rt.alloc();
-    for (letters, wanted) in MIRRORED {
-        tape_prints(&rt, alloc, mirror_program(alloc, letters), wanted)?;
+    for (letters, wanted) in &MIRRORED {
+        let tape = mirror_program(rt.alloc(), letters);
+        answers(&rt, rt.alloc(), "tape", tape, wanted)?;
     }
     Ok(())
 }
 
 #[test]
 fn squares_prints_nine_squares(rt: HostRuntime) -> Result<(), Fail> {
-    let alloc = rt.alloc();
-    let mut wanted = String::new(alloc);
-    for number in 1u32..=9 {
-        let square = number * number;
-        let line = format!(in alloc; "{}{}\r\n", square / 10, square % 10)?;
-        wanted.push_str(line.as_str())?;
-    }
-    first_tape_prints(&rt, alloc, squares_program(alloc), wanted.as_str())
+    let wanted = "01\r\n04\r\n09\r\n16\r\n25\r\n36\r\n49\r\n64\r\n81\r\n";
+    answers(
+        &rt,
+        rt.alloc(),
+        "tape1",
+        squares_program(rt.alloc()),
+        wanted,
+    )
 }
 
 /// What the parts of the interlude on a number report.
@@ -493,13 +519,24 @@ fn lines_of_parts(alloc: Global, number: u16) -> Result<String, Fail> {
     )?)
 }
 
+/// Checks the parts of the interlude on a number.
+fn expect_parts(rt: &impl Abort, alloc: Global, number: u16) -> Result<(), Fail> {
+    let wanted = lines_of_parts(alloc, number)?;
+    answers(
+        rt,
+        alloc,
+        "parts",
+        interlude_program(alloc, number),
+        &wanted,
+    )
+}
+
 #[test]
 fn interlude_doubles_its_number(rt: HostRuntime) -> Result<(), Fail> {
-    let alloc = rt.alloc();
-    for number in DOUBLED {
-        let wanted = lines_of_parts(alloc, number)?;
-        parts_are(&rt, alloc, interlude_program(alloc, number), &wanted)?;
-        tape_prints(&rt, alloc, interlude_program(alloc, number), "HI")?;
+    for number in &DOUBLED {
+        expect_parts(&rt, rt.alloc(), *number)?;
+        let tape = interlude_program(rt.alloc(), *number);
+        answers(&rt, rt.alloc(), "tape", tape, "HI")?;
     }
     Ok(())
 }

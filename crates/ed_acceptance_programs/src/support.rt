@@ -10,60 +10,32 @@ use std::test::Fail;
 /// The most bytes that an output keeps.
 const ROOM: usize = 1 << 16;
 
-/// Checks that the source was given, and that its run prints a text and stops.
-pub fn prints(
-    rt: &impl Abort,
-    alloc: Global,
-    program: Result<String, Refusal>,
-    wanted: &str,
-) -> Result<(), Fail> {
-    answers(rt, alloc, "run", program, wanted)
+/// The devices of a run.
+#[derive(Drop)]
+struct Devices {
+    source: SureSource,
+    out: SureSink,
+    note: SureSink,
 }
 
-/// Checks that the tape was given, and that its run prints a text and stops.
-pub fn tape_prints(
-    rt: &impl Abort,
-    alloc: Global,
-    tape: Result<String, Refusal>,
-    wanted: &str,
-) -> Result<(), Fail> {
-    answers(rt, alloc, "tape", tape, wanted)
+/// Devices with an input.
+fn devices_with(alloc: Global, input: &str) -> Result<Devices, Fail> {
+    let source = SureSource::new(input.as_bytes().to_vec(alloc)?);
+    let out = SureSink::new(alloc, ROOM)?;
+    let note = SureSink::new(alloc, ROOM)?;
+    Ok(Devices { source, out, note })
 }
 
-/// Checks that the tape of May 1949 was given, and that its run prints a text and stops.
-pub fn first_tape_prints(
+/// Checks that the program answers its words with a text and status 0.
+fn expect_answer(
     rt: &impl Abort,
     alloc: Global,
-    tape: Result<String, Refusal>,
+    words: &[String],
+    devices: &mut Devices,
     wanted: &str,
-) -> Result<(), Fail> {
-    answers(rt, alloc, "tape1", tape, wanted)
-}
-
-/// Checks that the tape was given, and that its parts are reported by these lines, up to a stop.
-pub fn parts_are(
-    rt: &impl Abort,
-    alloc: Global,
-    tape: Result<String, Refusal>,
-    wanted: &str,
-) -> Result<(), Fail> {
-    answers(rt, alloc, "parts", tape, wanted)
-}
-
-/// Checks that there is a program, and that the command answers it with a text and status 0.
-fn answers(
-    rt: &impl Abort,
-    alloc: Global,
-    command: &str,
-    program: Result<String, Refusal>,
-    wanted: &str,
-) -> Result<(), Fail> {
-    let program = program.ok().ok_or("no program")?;
-    let words = vec![in alloc; String::from_str(alloc, command)?]?;
-    let mut source = SureSource::new(program.as_bytes().to_vec(alloc)?);
-    let mut out = SureSink::new(alloc, ROOM)?;
-    let mut note = SureSink::new(alloc, ROOM)?;
-    let status = edsac(alloc, words.as_slice(), &mut source, &mut out, &mut note);
+) {
+    let Devices { source, out, note } = devices;
+    let status = edsac(alloc, words, source, out, note);
     assert!(rt;
         status == 0,
         "the status of the program that prints {wanted}"
@@ -72,5 +44,19 @@ fn answers(
         out.bytes() == wanted.as_bytes(),
         "what is printed in place of {wanted}"
     );
+}
+
+/// Checks that there is a program, and that the command answers it with a text and status 0.
+pub fn answers(
+    rt: &impl Abort,
+    alloc: Global,
+    command: &str,
+    program: Result<String, Refusal>,
+    wanted: &str,
+) -> Result<(), Fail> {
+    let program = program.ok().ok_or("no program")?;
+    let words = vec![in alloc; String::from_str(alloc, command)?]?;
+    let mut devices = devices_with(alloc, &program)?;
+    expect_answer(rt, alloc, &words, &mut devices, wanted);
     Ok(())
 }
