@@ -1,7 +1,8 @@
 //! A run of the machine on a tape, by the calls of the crates below.
 
+use crate::numbers::number_of_the_only;
 use crate::support::word_at;
-use ed_codes::{Code, tape_of_text};
+use ed_codes::tape_of_text;
 use ed_initial::orders;
 use ed_machine::{Ending, Machine, Paper};
 use ed_report::ending_text;
@@ -43,14 +44,6 @@ fn machine_after_a_run(rt: &impl Abort, alloc: Global) -> Result<Machine, Fail> 
     let mut machine = started_machine(alloc)?;
     run_to_stop(rt, &mut machine, &mut paper);
     Ok(machine)
-}
-
-/// The number of the code of a list of one.
-fn number_of_the_only(codes: &[Code]) -> Option<u8> {
-    match codes {
-        [code] => Some(code.value()),
-        _ => None,
-    }
 }
 
 /// Checks the registers after the run.

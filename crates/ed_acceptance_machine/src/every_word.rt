@@ -1,6 +1,6 @@
 //! Each of the 131,072 words as an order.
 
-use crate::numbers::word;
+use crate::numbers::{code, word};
 use crate::support::{image_of, machine_after, next_turn, obey, start_with};
 use ed_codes::{Code, byte_of, tape_of_text};
 use ed_machine::{Machine, Turn};
@@ -41,18 +41,20 @@ fn are_equal(one: &Machine, other: &Machine) -> bool {
 }
 
 /// The letter or sign of a word's function.
-fn letter_of(word: Word) -> Result<u8, Fail> {
-    Ok(byte_of(Code::new(word.order().function).ok_or("no code")?, false))
+fn letter_of(rt: &impl Abort, word: Word) -> u8 {
+    byte_of(code(rt, word.order().function), false)
 }
 
 /// What a word that changes nothing answers, with no row left on the tape; None for an order that is obeyed.
-fn blocked(order: Word) -> Result<Option<Turn>, Fail> {
-    let turn = match letter_of(order)? {
-        b'I' => Turn::NoTape,
-        letter if b"PQWJ#K*.@D!M&B".contains(&letter) => Turn::NoOrder(order.order().function),
-        _ => return Ok(None),
-    };
-    Ok(Some(turn))
+fn blocked(rt: &impl Abort, order: Word) -> Option<Turn> {
+    let letter = letter_of(rt, order);
+    if letter == b'I' {
+        Some(Turn::NoTape)
+    } else if b"PQWJ#K*.@D!M&B".contains(&letter) {
+        Some(Turn::NoOrder(order.order().function))
+    } else {
+        None
+    }
 }
 
 /// Whether a word answers this and changes nothing on a machine, which is started on it as its equal is.
@@ -75,23 +77,23 @@ fn first_not_blocked(
     alloc: Global,
     machine: &mut Machine,
     equal: &mut Machine,
-) -> Result<Option<u32>, Fail> {
+) -> Option<u32> {
     for number in 0..131_072 {
-        let order = word(number)?;
-        if let Some(wanted) = blocked(order)? {
+        let order = word(rt, number);
+        if let Some(wanted) = blocked(rt, order) {
             if !is_blocked(rt, alloc, machine, equal, order, wanted) {
-                return Ok(Some(number));
+                return Some(number);
             }
         }
     }
-    Ok(None)
+    None
 }
 
 /// The first word that is not an order, or reads with no row left, and yet answers otherwise or changes the machine.
 fn first_that_is_obeyed(rt: &impl Abort, alloc: Global, size: Size) -> Result<Option<u32>, Fail> {
     let mut machine = used_machine(rt, alloc, size)?;
     let mut before = machine.copy()?;
-    first_not_blocked(rt, alloc, &mut machine, &mut before)
+    Ok(first_not_blocked(rt, alloc, &mut machine, &mut before))
 }
 
 #[test]
@@ -140,8 +142,8 @@ fn first_not_obeyed(
     image: &[Word],
 ) -> Result<Option<u32>, Fail> {
     for number in 0..131_072 {
-        let order = word(number)?;
-        let letter = letter_of(order)?;
+        let order = word(rt, number);
+        let letter = letter_of(rt, order);
         if b"ASHVNTUCRLEGIOFXYZ".contains(&letter) {
             start_with(rt, machine, image, Vec::new(alloc));
             obey(rt, machine, USE);
@@ -159,7 +161,7 @@ fn first_that_is_not_obeyed(
     alloc: Global,
     size: Size,
 ) -> Result<Option<u32>, Fail> {
-    let image = image_of(alloc, USE, DATA)?;
+    let image = image_of(rt, alloc, USE, DATA)?;
     let mut machine = used_machine(rt, alloc, size)?;
     first_not_obeyed(rt, alloc, &mut machine, &image)
 }

@@ -3,31 +3,40 @@
 use ed_codes::Code;
 use ed_words::{Long, Word};
 use std::alloc::Global;
+use std::process::Abort;
 use std::test::Fail;
 
-pub fn word(number: u32) -> Result<Word, Fail> {
-    Ok(Word::new(number).ok_or("no word")?)
+pub fn word(rt: &impl Abort, number: u32) -> Word {
+    Word::new(number).expect(rt, "a word")
 }
 
-pub fn long(number: u64) -> Result<Long, Fail> {
-    Ok(Long::new(number).ok_or("no long word")?)
+pub fn long(rt: &impl Abort, number: u64) -> Long {
+    Long::new(number).expect(rt, "a long word")
 }
 
-pub fn code(number: u8) -> Result<Code, Fail> {
-    Ok(Code::new(number).ok_or("no code")?)
+pub fn code(rt: &impl Abort, number: u8) -> Code {
+    Code::new(number).expect(rt, "a code")
 }
 
 /// Puts the codes of these numbers into a list.
-fn put(codes: &mut Vec<Code>, numbers: &[u8]) -> Result<(), Fail> {
+fn put(rt: &impl Abort, codes: &mut Vec<Code>, numbers: &[u8]) -> Result<(), Fail> {
     for number in numbers {
-        codes.push(code(*number)?)?;
+        codes.push(code(rt, *number))?;
     }
     Ok(())
 }
 
 /// The codes of these numbers.
-pub fn codes(alloc: Global, numbers: &[u8]) -> Result<Vec<Code>, Fail> {
+pub fn codes(rt: &impl Abort, alloc: Global, numbers: &[u8]) -> Result<Vec<Code>, Fail> {
     let mut codes = Vec::new(alloc);
-    put(&mut codes, numbers)?;
+    put(rt, &mut codes, numbers)?;
     Ok(codes)
+}
+
+/// The number of the code of a list of one.
+pub fn number_of_the_only(codes: &[Code]) -> Option<u8> {
+    match codes {
+        [code] => Some(code.value()),
+        _ => None,
+    }
 }

@@ -249,7 +249,7 @@ fn expect_read(
     order: &str,
     wanted: &[(u16, u32); 2],
 ) -> Result<(), Fail> {
-    let image = image_of(alloc, order, [7, 7, 7, 7])?;
+    let image = image_of(rt, alloc, order, [7, 7, 7, 7])?;
     start_with(rt, machine, &image, tape_of_text(alloc, b"VA")?);
     obey(rt, machine, order);
     assert!(rt; has_words(rt, machine, wanted), "{order}");
@@ -275,7 +275,7 @@ fn expect_registers_left(
     alloc: Global,
     machine: &mut Machine,
 ) -> Result<(), Fail> {
-    let image = image_of(alloc, REGISTERS, [1, 2, 3, 4])?;
+    let image = image_of(rt, alloc, REGISTERS, [1, 2, 3, 4])?;
     start_with(rt, machine, &image, Vec::new(alloc));
     assert!(rt; machine.counter() == 0);
     assert!(rt; machine.acc() == 3 << 54);

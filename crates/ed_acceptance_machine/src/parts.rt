@@ -1,6 +1,6 @@
 //! Each public call of the machine's parts once on its happy path.
 
-use crate::numbers::{code, codes, long, word};
+use crate::numbers::{code, codes, long, number_of_the_only, word};
 use ed_acc::Acc;
 use ed_codes::{Code, TextFault, byte_of, row_of_byte, tape_of_text};
 use ed_machine::Paper;
@@ -8,10 +8,11 @@ use ed_orders::{Kind, kind_of, order_text, places};
 use ed_store::Store;
 use ed_words::{Halves, Long, Order, Size, Word, fits};
 use std::alloc::Global;
+use std::process::Abort;
 use std::test::Fail;
 
 #[test]
-fn words_and_their_fields(rt: HostRuntime) -> Result<(), Fail> {
+fn words_and_their_fields(rt: HostRuntime) {
     let order = Order {
         function: 28,
         spare: false,
@@ -19,23 +20,21 @@ fn words_and_their_fields(rt: HostRuntime) -> Result<(), Fail> {
         length: true,
     };
     assert!(rt; Word::of_order(order).value() == 114_821);
-    assert!(rt; word(114_821)?.order() == order);
+    assert!(rt; word(&rt, 114_821).order() == order);
     assert!(rt; Word::new(131_072).is_none());
-    Ok(())
 }
 
 #[test]
-fn long_words_and_their_halves(rt: HostRuntime) -> Result<(), Fail> {
+fn long_words_and_their_halves(rt: HostRuntime) {
     let halves = Halves {
-        odd: word(1)?,
+        odd: word(&rt, 1),
         sandwich: true,
-        even: word(2)?,
+        even: word(&rt, 2),
     };
     assert!(rt; Long::join(halves).value() == 262_144 + 131_072 + 2);
-    assert!(rt; long(393_218)?.halves() == halves);
-    assert!(rt; Long::of_short(word(3)?).value() == 786_432);
+    assert!(rt; long(&rt, 393_218).halves() == halves);
+    assert!(rt; Long::of_short(word(&rt, 3)).value() == 786_432);
     assert!(rt; Long::new(1 << 35).is_none());
-    Ok(())
 }
 
 #[test]
@@ -46,29 +45,33 @@ fn the_sizes_of_a_store(rt: HostRuntime) {
 }
 
 #[test]
-fn codes_and_their_signs(rt: HostRuntime) -> Result<(), Fail> {
-    assert!(rt; code(31)?.value() == 31);
+fn codes_and_their_signs(rt: HostRuntime) {
+    assert!(rt; code(&rt, 31).value() == 31);
     assert!(rt; Code::new(32).is_none());
     assert!(rt; Code::default().value() == 0);
-    assert!(rt; byte_of(code(3)?, false) == b'E');
-    assert!(rt; byte_of(code(3)?, true) == b'3');
-    assert!(rt; row_of_byte(b'V') == Some(code(31)?));
+    assert!(rt; byte_of(code(&rt, 3), false) == b'E');
+    assert!(rt; byte_of(code(&rt, 3), true) == b'3');
+    assert!(rt; row_of_byte(b'V') == Some(code(&rt, 31)));
     assert!(rt; row_of_byte(b'v').is_none());
+}
+
+/// Checks that the rows of a text are these.
+fn expect_rows(rt: &impl Abort, alloc: Global, text: &[u8], numbers: &[u8]) -> Result<(), Fail> {
+    let wanted = codes(rt, alloc, numbers)?;
+    let rows = tape_of_text(alloc, text)?;
+    assert!(rt; rows.as_slice() == wanted.as_slice());
     Ok(())
 }
 
 #[test]
 fn the_rows_of_a_text(rt: HostRuntime) -> Result<(), Fail> {
-    let alloc = rt.alloc();
-    let rows = tape_of_text(alloc, b"T 64 [the place]\r\n#\tK")?;
-    let wanted = codes(alloc, &[5, 6, 4, 11, 14])?;
-    assert!(rt; rows.as_slice() == wanted.as_slice());
     let fault = TextFault::NoRow {
         place: 2,
         byte: b']',
     };
-    assert!(rt; tape_of_text(alloc, b"T6]").err() == Some(fault));
-    Ok(())
+    assert!(rt; tape_of_text(rt.alloc(), b"T6]").err() == Some(fault));
+    let text = b"T 64 [the place]\r\n#\tK";
+    expect_rows(&rt, rt.alloc(), text, &[5, 6, 4, 11, 14])
 }
 
 /// The signs of the codes 0 to 31 in a tape's text.
@@ -123,24 +126,23 @@ fn every_byte_of_a_tape_text(rt: HostRuntime) -> Result<(), Fail> {
 }
 
 #[test]
-fn the_accumulator(rt: HostRuntime) -> Result<(), Fail> {
+fn the_accumulator(rt: HostRuntime) {
     let mut acc = Acc::cleared();
     assert!(rt; acc.value() == 0);
-    acc.add_short(word(3)?);
-    acc.add_long(long(5)?);
+    acc.add_short(word(&rt, 3));
+    acc.add_long(long(&rt, 5));
     assert!(rt; acc.value() == (3 << 54) + (5 << 36));
     assert!(rt; acc.top_short().value() == 3);
     assert!(rt; acc.top_long().value() == 786_437);
-    acc.sub_long(long(5)?);
-    acc.sub_short(word(1)?);
+    acc.sub_long(long(&rt, 5));
+    acc.sub_short(word(&rt, 1));
     assert!(rt; acc.value() == 1 << 55);
-    Ok(())
 }
 
 #[test]
-fn shifts_and_the_sign(rt: HostRuntime) -> Result<(), Fail> {
+fn shifts_and_the_sign(rt: HostRuntime) {
     let mut acc = Acc::cleared();
-    acc.add_short(word(2)?);
+    acc.add_short(word(&rt, 2));
     acc.left(2);
     assert!(rt; acc.value() == 1 << 57);
     acc.right(3);
@@ -149,67 +151,82 @@ fn shifts_and_the_sign(rt: HostRuntime) -> Result<(), Fail> {
     assert!(rt; acc.value() == (1 << 54) + (1 << 35));
     acc.clear();
     assert!(rt; !acc.is_negative());
-    acc.sub_short(word(1)?);
+    acc.sub_short(word(&rt, 1));
     assert!(rt; acc.is_negative());
     assert!(rt; acc.value() == (1 << 71) - (1 << 54));
-    Ok(())
 }
 
 #[test]
-fn products_and_common_digits(rt: HostRuntime) -> Result<(), Fail> {
-    let half = long(1 << 33)?;
+fn products_and_common_digits(rt: HostRuntime) {
+    let half = long(&rt, 1 << 33);
     let mut acc = Acc::cleared();
     acc.add_product(half, half);
     assert!(rt; acc.value() == 1 << 68);
     acc.sub_product(half, half);
     assert!(rt; acc.value() == 0);
-    acc.collate(Long::of_short(word(3)?), Long::of_short(word(6)?));
+    acc.collate(Long::of_short(word(&rt, 3)), Long::of_short(word(&rt, 6)));
     assert!(rt; acc.value() == 1 << 55);
-    Ok(())
+}
+
+/// Checks what words and long words leave in a cleared store.
+fn expect_words(rt: &impl Abort, store: &mut Store) {
+    store.put_short(5, word(rt, 7));
+    store.put_long(8, long(rt, 131_073));
+    assert!(rt; store.short(5).value() == 7);
+    assert!(rt; store.long(4).value() == 7 * 262_144);
+    assert!(rt; store.short(8).value() == 1);
+    assert!(rt; store.sandwich(9) && !store.sandwich(5));
+}
+
+/// Checks that two stores are equal, until a word is put into one of them.
+fn expect_equal(rt: &impl Abort, store: &Store, other: &mut Store) {
+    assert!(rt; other.equals(store));
+    other.put_short(0, word(rt, 1));
+    assert!(rt; !other.equals(store));
 }
 
 #[test]
 fn the_store(rt: HostRuntime) -> Result<(), Fail> {
     let mut store = Store::cleared(rt.alloc())?;
-    store.put_short(5, word(7)?);
-    store.put_long(8, long(131_073)?);
-    assert!(rt; store.short(5).value() == 7);
-    assert!(rt; store.long(4).value() == 7 * 262_144);
-    assert!(rt; store.short(8).value() == 1);
-    assert!(rt; store.sandwich(9) && !store.sandwich(5));
+    expect_words(&rt, &mut store);
     let mut other = store.copy()?;
-    assert!(rt; other.equals(&store));
-    other.put_short(0, word(1)?);
-    assert!(rt; !other.equals(&store));
+    expect_equal(&rt, &store, &mut other);
     Ok(())
 }
 
 #[test]
-fn orders_and_their_texts(rt: HostRuntime) -> Result<(), Fail> {
+fn orders_and_their_texts(rt: HostRuntime) {
     assert!(rt; kind_of(28) == Some(Kind::A));
     assert!(rt; kind_of(0).is_none() && kind_of(32).is_none());
-    for (number, text) in [(114_821, "A66D"), (53_248, "ZF")] {
-        assert!(rt; order_text(word(number)?).as_str() == text);
-    }
-    Ok(())
+    assert!(rt; order_text(word(&rt, 114_821)).as_str() == "A66D");
+    assert!(rt; order_text(word(&rt, 53_248)).as_str() == "ZF");
+}
+
+/// Checks the places of a shift.
+fn expect_places(rt: &impl Abort, number: u32, shift: u8) {
+    let word = word(rt, number);
+    assert!(rt; 0 < word.value());
+    assert!(rt; places(word) == shift);
 }
 
 #[test]
-fn the_places_of_a_shift(rt: HostRuntime) -> Result<(), Fail> {
-    for (number, shift) in [(16_384, 15), (16_385, 1), (102_400, 13)] {
-        let word = word(number)?;
-        assert!(rt; 0 < word.value());
-        assert!(rt; places(word) == shift);
-    }
-    Ok(())
+fn the_places_of_a_shift(rt: HostRuntime) {
+    expect_places(&rt, 16_384, 15);
+    expect_places(&rt, 16_385, 1);
+    expect_places(&rt, 102_400, 13);
+}
+
+/// Checks a paper with room for one code.
+fn expect_one_code(rt: &impl Abort, paper: &mut Paper) {
+    assert!(rt; paper.room_left() == 1);
+    assert!(rt; paper.push(code(rt, 28)));
+    assert!(rt; !paper.push(code(rt, 29)));
+    assert!(rt; number_of_the_only(paper.codes()) == Some(28));
 }
 
 #[test]
 fn the_paper(rt: HostRuntime) -> Result<(), Fail> {
     let mut paper = Paper::new(rt.alloc(), 1)?;
-    assert!(rt; paper.room_left() == 1);
-    assert!(rt; paper.push(code(28)?));
-    assert!(rt; !paper.push(code(29)?));
-    assert!(rt; paper.codes() == codes(rt.alloc(), &[28])?.as_slice());
+    expect_one_code(&rt, &mut paper);
     Ok(())
 }

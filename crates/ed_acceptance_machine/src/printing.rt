@@ -1,29 +1,51 @@
 //! What the teleprinter prints.
 
 use crate::numbers::{code, codes};
+use ed_codes::Code;
 use ed_printer::{Printer, Shift};
 use ed_report::{paper_text, papers_text};
 use std::alloc::Global;
+use std::process::Abort;
 use std::test::Fail;
 
 #[test]
-fn the_printer(rt: HostRuntime) -> Result<(), Fail> {
+fn the_printer(rt: HostRuntime) {
     let mut printer = Printer::new();
     assert!(rt; printer.shift() == Shift::Letters);
-    assert!(rt; printer.strike(code(1)?).as_slice() == b"Q".as_slice());
-    assert!(rt; printer.strike(code(11)?).as_slice().is_empty());
+    assert!(rt; printer.strike(code(&rt, 1)).as_slice() == b"Q".as_slice());
+    assert!(rt; printer.strike(code(&rt, 11)).as_slice().is_empty());
     assert!(rt; printer.shift() == Shift::Figures);
-    assert!(rt; printer.strike(code(21)?).as_slice() == "\u{a3}".as_bytes());
-    Ok(())
+    assert!(rt; printer.strike(code(&rt, 21)).as_slice() == "\u{a3}".as_bytes());
+}
+
+/// What the codes of these numbers print.
+fn printed(rt: &impl Abort, alloc: Global, numbers: &[u8]) -> Result<Vec<u8>, Fail> {
+    let codes = codes(rt, alloc, numbers)?;
+    Ok(paper_text(alloc, &codes)?)
+}
+
+/// What the codes of these numbers print on two papers.
+fn printed_on_two(
+    rt: &impl Abort,
+    alloc: Global,
+    first: &[u8],
+    second: &[u8],
+) -> Result<Vec<u8>, Fail> {
+    let first = codes(rt, alloc, first)?;
+    let second = codes(rt, alloc, second)?;
+    Ok(papers_text(alloc, &first, &second)?)
 }
 
 #[test]
 fn the_text_of_a_paper(rt: HostRuntime) -> Result<(), Fail> {
-    let text = paper_text(rt.alloc(), &codes(rt.alloc(), &[11, 21, 24, 1, 15, 1])?)?;
+    let text = printed(&rt, rt.alloc(), &[11, 21, 24, 1, 15, 1])?;
     assert!(rt; text.as_slice() == [0xc2, 0xa3, 0x0a, 0x31, 0x51].as_slice());
-    let first = codes(rt.alloc(), &[1, 11, 1])?;
-    let second = codes(rt.alloc(), &[2, 15, 2])?;
-    let text = papers_text(rt.alloc(), &first, &second)?;
+    Ok(())
+}
+
+#[test]
+fn the_text_of_two_papers(rt: HostRuntime) -> Result<(), Fail> {
+    let text = printed_on_two(&rt, rt.alloc(), &[1, 11, 1], &[2, 15, 2])?;
     assert!(rt; text.as_slice() == b"Q12W".as_slice());
     Ok(())
 }
@@ -31,8 +53,7 @@ fn the_text_of_a_paper(rt: HostRuntime) -> Result<(), Fail> {
 /// Blank, carriage return, space and line feed keep the shift: after each of them the code of Q prints 1.
 #[test]
 fn the_codes_that_print_no_sign_leave_figure_shift(rt: HostRuntime) -> Result<(), Fail> {
-    let struck = codes(rt.alloc(), &[11, 16, 1, 18, 1, 20, 1, 24, 1])?;
-    let text = paper_text(rt.alloc(), &struck)?;
+    let text = printed(&rt, rt.alloc(), &[11, 16, 1, 18, 1, 20, 1, 24, 1])?;
     assert!(rt; text.as_slice() == b"1\r1 1\n1".as_slice());
     Ok(())
 }
@@ -49,21 +70,31 @@ const FIGURE_SHIFT: u8 = 11;
 /// The code of letter shift.
 const LETTER_SHIFT: u8 = 15;
 
-/// What the codes 0 to 31 print in a shift, which its own code sets before each of them.
-fn printed_in(alloc: Global, shift: u8) -> Result<Vec<u8>, Fail> {
-    let mut struck = Vec::new(alloc);
+/// Puts the codes 0 to 31 into a list, each after the code of a shift.
+fn put_each(rt: &impl Abort, struck: &mut Vec<Code>, shift: u8) -> Result<(), Fail> {
     for number in 0..32 {
-        struck.push(code(shift)?)?;
-        struck.push(code(number)?)?;
+        struck.push(code(rt, shift))?;
+        struck.push(code(rt, number))?;
     }
+    Ok(())
+}
+
+/// What the codes 0 to 31 print in a shift, which its own code sets before each of them.
+fn printed_in(rt: &impl Abort, alloc: Global, shift: u8) -> Result<Vec<u8>, Fail> {
+    let mut struck = Vec::new(alloc);
+    put_each(rt, &mut struck, shift)?;
     Ok(paper_text(alloc, &struck)?)
+}
+
+/// Checks what these codes print in a shift.
+fn expect_each(rt: &impl Abort, alloc: Global, shift: u8, text: &str) -> Result<(), Fail> {
+    let printed = printed_in(rt, alloc, shift)?;
+    assert!(rt; printed.as_slice() == text.as_bytes(), "shift {shift}");
+    Ok(())
 }
 
 #[test]
 fn every_code_in_both_shifts(rt: HostRuntime) -> Result<(), Fail> {
-    for (shift, text) in [(LETTER_SHIFT, LETTERS), (FIGURE_SHIFT, FIGURES)] {
-        let printed = printed_in(rt.alloc(), shift)?;
-        assert!(rt; printed.as_slice() == text.as_bytes(), "shift {shift}");
-    }
-    Ok(())
+    expect_each(&rt, rt.alloc(), LETTER_SHIFT, LETTERS)?;
+    expect_each(&rt, rt.alloc(), FIGURE_SHIFT, FIGURES)
 }

@@ -24,21 +24,26 @@ fn word_of_order(text: &str) -> Option<Word> {
 }
 
 /// Puts orders into an empty image from location 0 upwards, and four words at 30 to 33.
-fn fill(image: &mut Vec<Word>, orders: &str, data: [u32; 4]) -> Result<(), Fail> {
+fn fill(rt: &impl Abort, image: &mut Vec<Word>, orders: &str, data: [u32; 4]) -> Result<(), Fail> {
     for order in orders.split_whitespace() {
-        image.push(word_of_order(order).ok_or("no order")?)?;
+        image.push(word_of_order(order).expect(rt, "an order"))?;
     }
-    image.resize(30, word(0)?)?;
-    for number in data {
-        image.push(word(number)?)?;
+    image.resize(30, word(rt, 0))?;
+    for number in &data {
+        image.push(word(rt, *number))?;
     }
     Ok(())
 }
 
 /// The image of orders from location 0 upwards, and of four words at 30 to 33.
-pub fn image_of(alloc: Global, orders: &str, data: [u32; 4]) -> Result<Vec<Word>, Fail> {
+pub fn image_of(
+    rt: &impl Abort,
+    alloc: Global,
+    orders: &str,
+    data: [u32; 4],
+) -> Result<Vec<Word>, Fail> {
     let mut image = Vec::new(alloc);
-    fill(&mut image, orders, data)?;
+    fill(rt, &mut image, orders, data)?;
     Ok(image)
 }
 
@@ -80,7 +85,7 @@ pub fn machine_after(
     orders: &str,
     data: [u32; 4],
 ) -> Result<Machine, Fail> {
-    let image = image_of(alloc, orders, data)?;
+    let image = image_of(rt, alloc, orders, data)?;
     let mut machine = Machine::cleared_of(alloc, size)?;
     start_with(rt, &mut machine, &image, Vec::new(alloc));
     obey(rt, &mut machine, orders);
