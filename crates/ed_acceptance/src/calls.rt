@@ -1,6 +1,8 @@
 //! Calls of the library's routines, and the list of the library.
 
 use crate::support::{Row, expect_beginning, expect_each};
+use std::alloc::Global;
+use std::process::Abort;
 use std::test::Fail;
 
 /// Calls, and what they print.
@@ -23,14 +25,19 @@ const PRINTED: [(&str, &str); 16] = [
     ("call root 0", "0"),
 ];
 
-#[test]
-fn calls_print_digits(rt: HostRuntime) -> Result<(), Fail> {
-    for (line, printed) in &PRINTED {
+/// Checks that each call prints its text, and reads no input.
+fn expect_printed(rt: &impl Abort, alloc: Global, rows: &[(&str, &str)]) -> Result<(), Fail> {
+    for (line, printed) in rows {
         let wanted = (0, *printed, "entered 56 after ");
-        let unread = expect_beginning(&rt, rt.alloc(), line, "no source", wanted)?;
+        let unread = expect_beginning(rt, alloc, line, "no source", wanted)?;
         assert!(rt; unread == 9, "{line}");
     }
     Ok(())
+}
+
+#[test]
+fn calls_print_digits(rt: HostRuntime) -> Result<(), Fail> {
+    expect_printed(&rt, rt.alloc(), &PRINTED)
 }
 
 /// A program that uses `print` twice.

@@ -129,12 +129,17 @@ fn says(rt: &impl Abort, alloc: Global, line: &str, tape: &str, verdict: &str) -
     Ok(())
 }
 
-#[test]
-fn the_entry_or_the_first_rule_at_its_row(rt: HostRuntime) -> Result<(), Fail> {
-    for (line, tape, verdict) in &VERDICTS {
-        says(&rt, rt.alloc(), line, tape, verdict)?;
+/// Checks the lines for each row of a table.
+fn say_each(rt: &impl Abort, alloc: Global, rows: &[(&str, &str, &str)]) -> Result<(), Fail> {
+    for (line, tape, verdict) in rows {
+        says(rt, alloc, line, tape, verdict)?;
     }
     Ok(())
+}
+
+#[test]
+fn the_entry_or_the_first_rule_at_its_row(rt: HostRuntime) -> Result<(), Fail> {
+    say_each(&rt, rt.alloc(), &VERDICTS)
 }
 
 /// Checks that a tape of so many rows, which is cut, has no entry.
