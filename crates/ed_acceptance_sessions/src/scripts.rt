@@ -94,8 +94,8 @@ fn expect_ends(rt: &impl Abort, text: &[u8], wanted: (&str, usize, &str, &str)) 
     assert!(rt; text.ends_with(last.as_bytes()), "{script}");
 }
 
-/// Scripts, the number of lines of their texts, and their first and last line. There are 1,024 words, and 10,000 letters
-/// in 200 lines, between the lines of two moves.
+/// Scripts, the number of lines of their texts, and their first and last line. There are 1,024 words, and 10,000
+/// letters in 200 lines, between the lines of two moves.
 const LONG: [(&str, usize, &str, &str); 2] = [
     (
         "show 0 1023",

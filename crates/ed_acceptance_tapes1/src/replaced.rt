@@ -88,8 +88,8 @@ fn is_as_reported(machine: &Machine, loaded: Loaded1, count: usize, report: &Che
         && misplaced(machine, report).is_none()
 }
 
-/// Whether the rows of a list are loaded as the check reports. If they have a fault other than their end, the orders may
-/// do anything.
+/// Whether the rows of a list are loaded as the check reports. If they have a fault other than their end, the orders
+/// may do anything.
 fn are_loaded_as_told(
     rt: &impl Abort,
     alloc: Global,
