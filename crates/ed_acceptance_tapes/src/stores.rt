@@ -63,7 +63,7 @@ fn is_as_checked(
     tape: &str,
 ) -> Result<(), Fail> {
     start_on(alloc, machine, tape)?;
-    let report = checked(rt, alloc, before.size(), before.store(), tape)??;
+    let report = checked(rt, alloc, before.size(), before.store(), tape)?.or(Err("a fault"))?;
     expect_as_checked(rt, machine, before, &report, tape);
     Ok(())
 }

@@ -21,7 +21,7 @@ const TAPES: [(&str, u64, usize, u16); 6] = [
 fn the_check_tells_what_a_tape_comes_to(rt: HostRuntime) -> Result<(), Fail> {
     for row in &TAPES {
         let (tape, orders, rows, end) = *row;
-        let report = checked_text(&rt, rt.alloc(), tape)??;
+        let report = checked_text(&rt, rt.alloc(), tape)?.or(Err("a fault"))?;
         let told = (report.orders(), report.rows(), report.end());
         assert!(rt; told == (orders, rows, end), "{tape}");
     }
@@ -58,7 +58,7 @@ fn expect_words(rt: &impl Abort, report: &Checked1) {
 
 #[test]
 fn the_check_tells_the_words_of_a_tape(rt: HostRuntime) -> Result<(), Fail> {
-    let report = checked_text(&rt, rt.alloc(), "T35S50L*32767LV32767S")??;
+    let report = checked_text(&rt, rt.alloc(), "T35S50L*32767LV32767S")?.or(Err("a fault"))?;
     expect_words(&rt, &report);
     Ok(())
 }

@@ -230,7 +230,7 @@ fn expect_largest(
 fn the_largest_tape(rt: HostRuntime) -> Result<(), Fail> {
     for (item, orders, rows) in [("PS", 18_892, 1988), ("Q7L", 28_802, 2979)] {
         let read = largest(rt.alloc(), item)?;
-        let report = checked(&rt, rt.alloc(), &read)?;
+        let report = checked(&rt, rt.alloc(), &read).or(Err("a fault"))?;
         let mut machine = started(rt.alloc(), read)?;
         expect_largest(&rt, &report, &mut machine, (item, orders, rows));
     }
