@@ -29,6 +29,8 @@ mod post_mortems;
 #[cfg(test)]
 mod sources;
 #[cfg(test)]
+mod standard;
+#[cfg(test)]
 mod steps;
 #[cfg(test)]
 mod support;
