@@ -1,8 +1,7 @@
-ghost use Rattle.std.specs.Prelude.{◌≡◌, ◌≤◌, IfSome, drop, map, option_and_then, option_map};
+ghost use Rattle.std.specs.Prelude.{◌≡◌, ◌≤◌, IfSome, map, option_map};
 ghost use Rattle.ed_command.specs.Held.{options_in};
 ghost use Rattle.ed_command.specs.Lines.{alone, call_of, command_named, command_of};
-ghost use Rattle.ed_command.specs.Calls.{call_with};
-ghost use Rattle.ed_command.specs.Lines.{division, line_named, lines, one_number, with_division, with_only};
+ghost use Rattle.ed_command.specs.Lines.{division, one_number, with_division, with_only};
 
 use crate::command::{Action, Command};
 use crate::options::Options;
@@ -38,17 +37,6 @@ fn command_named(word: &str, arguments: &[&str], options: &Options<'_>) -> Optio
         "punch" => plain(&["store"], options, Action::Punch, arguments),
         "listing" => plain(&["store"], options, Action::Listing, arguments),
         "step" => plain(&["limit"], options, Action::Step, arguments),
-        _ => later_command(word, arguments, options),
-    }
-}
-
-/// The same for the words after `step` in the table of lines.
-fn later_command(word: &str, arguments: &[&str], options: &Options<'_>) -> Option<Command>
-    ensures { result ≡ option_and_then
-        (λ l. with_only l.options (options_in options.now) (l.action (map (λ a. a.now) arguments.now)))
-        (line_named (drop 6 lines) word.now) }
-{
-    match word {
         "trace" => plain(
             &["limit", "resume", "store"],
             options,
@@ -125,40 +113,14 @@ fn call_of(arguments: &[&str]) -> Option<Call>
 {
     let (name, numbers) = arguments.split_first()?;
     match *name {
-        "print" => short_call(ShortCall::Print, numbers),
-        "read" => short_call(ShortCall::Read, numbers),
+        "print" => short(numbers).map(Call::Print),
+        "read" => short(numbers).map(Call::Read),
         "newline" => new_line(numbers),
         "divide" => with_division(numbers),
-        "root" => short_call(ShortCall::Root, numbers),
-        "check" => short_call(ShortCall::Check, numbers),
+        "root" => short(numbers).map(Call::Root),
+        "check" => short(numbers).map(Call::Check),
         _ => None,
     }
-}
-
-/// A call of one number.
-#[derive(Clone, Copy)]
-enum ShortCall {
-    /// `print`.
-    Print,
-    /// `read`.
-    Read,
-    /// `root`.
-    Root,
-    /// `check`.
-    Check,
-}
-
-/// The call of one number, 0 to 65,535.
-fn short_call(call: ShortCall, numbers: &[&str]) -> Option<Call>
-    ensures { result ≡ option_map (call_with call) (one_number 0 65535 (map (λ a. a.now) numbers.now)) }
-{
-    let number = short(numbers)?;
-    Some(match call {
-        ShortCall::Print => Call::Print(number),
-        ShortCall::Read => Call::Read(number),
-        ShortCall::Root => Call::Root(number),
-        ShortCall::Check => Call::Check(number),
-    })
 }
 
 /// The call `newline`, which takes no number.

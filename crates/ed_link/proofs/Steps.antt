@@ -26,16 +26,6 @@ use Rattle.ed_link.specs.Punch.{head, heads, preset_items, use_items, with_headi
 use Rattle.ed_link.specs.Tables.{put_all}
 use Rattle.ed_link.proofs.Lengths.{put_all_append, put_all_length}
 
--- what was given, with the part of one more element, and then what the elements after it give
-pub one_more : {A B : Type 0} {x : A} {next whole : List B} (give : List A → List B) (xs : List A) (i : ℕ) (d : A)
-    (done part later : List B)
-    → i < length xs → x ≡ get_or xs i d → give (x ∷ drop (i + 1) xs) ≡ part ++ later → next ≡ done ++ part
-    → done ++ give (drop i xs) ≡ whole → next ++ later ≡ whole
-one_more {A} {B} {x} give xs i d done part later below is first same before =
-    ap (λ (ys : List B). ys ++ later) same ∙ append_assoc done part later
-    ∙ ap (λ (ys : List B). done ++ ys)
-    (sym first ∙ ap (λ (y : A). give (y ∷ drop (i + 1) xs)) is ∙ sym (at_drop_more give xs i d below)) ∙ before
-
 -- all is given after the last element
 pub all_given : {A B : Type 0} {whole : List B} (give : List A → List B) (xs : List A) (i : ℕ) (done : List B)
     → length xs ≤ i → give [] ≡ [] → done ++ give (drop i xs) ≡ whole → done ≡ whole

@@ -1,6 +1,7 @@
 use Rattle.std.proofs.Common.{List, refl, [], ◌∷◌}
 use Rattle.ed_codes.specs.declared.code.Code.{Code}
-use Rattle.ed_link.proofs.Steps.{one_more, all_given}
+use Rattle.ed_notation.proofs.Parts.{one_more}
+use Rattle.ed_link.proofs.Steps.{all_given}
 use Rattle.ed_link.proofs.building.push_codes.Goals as goal
 
 pub loop-code-preserved : goal.loop-code-preserved

@@ -2,7 +2,7 @@ use Rattle.std.proofs.Common.{ℕ, ◌∙◌, ap, sym, refl, true, List, [], ◌
 use Rattle.std.proofs.lemmas.List.{at_drop_all}
 use Rattle.ed_codes.specs.Spelling.{byte_of}
 use Rattle.ed_notation.specs.Spellings.{line_from}
-use Rattle.ed_link.proofs.Steps.{one_more}
+use Rattle.ed_notation.proofs.Parts.{one_more}
 use Rattle.ed_link.proofs.Texts.{one_spells, last_spells}
 use Rattle.ed_link.proofs.linked.push_rows.Goals as goal
 

@@ -1,7 +1,8 @@
 use Rattle.std.proofs.Common.{◌≡◌, ◌+◌, ◌∙◌, ap, drop, sym, refl, List, [], ◌∷◌, ◌++◌, append-nil, Vec, Global}
 use Rattle.ed_link.specs.declared.linked.LabelPlace.{LabelPlace}
 use Rattle.ed_link.specs.Labels.{label_of, labels}
-use Rattle.ed_link.proofs.Steps.{one_more, all_given, shown, hidden, hidden_far}
+use Rattle.ed_notation.proofs.Parts.{one_more}
+use Rattle.ed_link.proofs.Steps.{all_given, shown, hidden, hidden_far}
 use Rattle.ed_link.proofs.linking.labels_of.Goals as goal
 use Rattle.ed_link.proofs.linking.labels_of.Goals.{then-not-is_local+then-definition-le1023+in_ok-push}
 use Rattle.ed_link.proofs.linking.labels_of.Goals.{else-not-is_local}

@@ -2,7 +2,8 @@ use Rattle.std.proofs.Common.{ℕ, refl, get_or}
 use Rattle.std.specs.List.{flat_map}
 use Rattle.ed_link.specs.Linked.{set_to}
 use Rattle.ed_link.specs.Punch.{preset_items}
-use Rattle.ed_link.proofs.Steps.{one_more, all_given, next_letter, next_passes}
+use Rattle.ed_notation.proofs.Parts.{one_more}
+use Rattle.ed_link.proofs.Steps.{all_given, next_letter, next_passes}
 use Rattle.ed_link.proofs.punching.push_presets.Goals as goal
 use Rattle.std.proofs.Common.{nat_le}
 

@@ -3,7 +3,8 @@ use Rattle.ed_notation.specs.declared.item.Item.{Item}
 use Rattle.ed_notation.specs.Spellings.{is_spellable}
 use Rattle.ed_library.specs.Entries.{entry}
 use Rattle.ed_library.specs.Routines.{missing_row, routine_item, table_item}
-use Rattle.ed_link.proofs.Steps.{one_more, all_given}
+use Rattle.ed_notation.proofs.Parts.{one_more}
+use Rattle.ed_link.proofs.Steps.{all_given}
 use Rattle.ed_link.proofs.punching.push_routine.Goals as goal
 
 pub item-requires : goal.item-requires
