@@ -142,7 +142,7 @@ fn the_entry_or_the_first_rule_at_its_row(rt: HostRuntime) -> Result<(), Fail> {
     say_each(&rt, rt.alloc(), &VERDICTS)
 }
 
-/// Checks that a tape of so many rows, which is cut, has no entry.
+/// Checks that a tape with this number of rows, which is cut, has no entry.
 fn expect_cut(rt: &impl Abort, alloc: Global, tape: &str, rows: usize) -> Result<(), Fail> {
     let verdict = format!(in alloc; "row {rows}: N1 end of tape")?;
     says(rt, alloc, "check-tape", tape, &verdict)

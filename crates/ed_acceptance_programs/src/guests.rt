@@ -110,7 +110,7 @@ fn expect_functions(rt: &impl Abort, alloc: Global, functions: &str) -> Result<(
     checks(rt, alloc, &guest, &wanted)
 }
 
-/// Adds what the checking routine prints of a loop of so many turns.
+/// Adds what the checking routine prints of a loop with this number of turns.
 fn add_turns(text: &mut String, turns: u32) -> Result<(), Fail> {
     for _ in 0..turns {
         text.push_str("TAAUG")?;
@@ -118,7 +118,7 @@ fn add_turns(text: &mut String, turns: u32) -> Result<(), Fail> {
     Ok(text.push_str("EZ")?)
 }
 
-/// Checks a guest that goes through a loop so many times.
+/// Checks a guest that goes through a loop this number of times.
 fn expect_turns(rt: &impl Abort, alloc: Global, turns: u32) -> Result<(), Fail> {
     let guest = format!(in alloc;
         "segment main\n\

@@ -105,7 +105,7 @@ fn lines_that_are_none(rt: HostRuntime) -> Result<(), Fail> {
     Ok(())
 }
 
-/// Scripts, and their least lines that are none.
+/// Scripts, and their first lines that are no commands.
 const SCRIPTS: [(&str, u32); 3] = [
     ("go 1\r\nto 5\r\r\nx\n", 2),
     ("\n\nx\nx\n", 3),
@@ -113,7 +113,7 @@ const SCRIPTS: [(&str, u32); 3] = [
 ];
 
 #[test]
-fn the_least_line_that_is_none_is_told(rt: HostRuntime) -> Result<(), Fail> {
+fn the_first_bad_line_is_reported(rt: HostRuntime) -> Result<(), Fail> {
     assert!(rt; bad_line(b"go 1\r\nto 5\r\n\r\nentry").is_none());
     for row in &SCRIPTS {
         let (script, line) = *row;
@@ -122,8 +122,8 @@ fn the_least_line_that_is_none_is_told(rt: HostRuntime) -> Result<(), Fail> {
     Ok(())
 }
 
-/// What is told of a script of so many empty lines.
-fn told_of_empty_lines(alloc: Global, lines: u32) -> Result<Option<u32>, Fail> {
+/// The first bad line of a script with this number of empty lines.
+fn bad_line_of_empty(alloc: Global, lines: u32) -> Result<Option<u32>, Fail> {
     let mut script = Vec::new(alloc);
     for _ in 0..lines {
         script.push(b'\n')?;
@@ -133,9 +133,9 @@ fn told_of_empty_lines(alloc: Global, lines: u32) -> Result<Option<u32>, Fail> {
 
 #[test]
 fn a_script_has_a_thousand_lines(rt: HostRuntime) -> Result<(), Fail> {
-    assert!(rt; told_of_empty_lines(rt.alloc(), 1000)?.is_none());
+    assert!(rt; bad_line_of_empty(rt.alloc(), 1000)?.is_none());
     for lines in [1001, 1002] {
-        let bad = told_of_empty_lines(rt.alloc(), lines)?;
+        let bad = bad_line_of_empty(rt.alloc(), lines)?;
         assert!(rt; bad == Some(1001), "{lines}");
     }
     Ok(())

@@ -120,7 +120,7 @@ const ENTERED: [(&str, u16, u64); 5] = [
     ("EZPF", 0, 51),
 ];
 
-/// Tapes that come to no entry, and the orders until then.
+/// Tapes that have no entry, and the orders until they end.
 const LOST: [(&str, u64); 2] = [("", 9), ("T64K", 49)];
 
 /// How the load of a tape ends.
