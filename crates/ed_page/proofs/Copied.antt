@@ -1,13 +1,13 @@
--- Lists that grow at their ends: a loop that takes the items of a list one after the other, and what is made of those
--- taken and of those left.
+-- Lists that grow at their ends: a loop that takes the items of a list one after the other, and texts that are added.
 use Rattle.std.proofs.Common.{◌≡◌, ◌∙◌, ℕ, ◌+◌, ◌<◌, ◌≤◌, sym, ap, add-one, List, [], ◌∷◌, ◌++◌}
 use Rattle.std.proofs.Common.{append_assoc, append-nil, length, get_or, drop, drop-cons}
-use Rattle.std.specs.Prelude.{Result, Ok, Err, IfOk}
+use Rattle.std.specs.Prelude.{Result, Ok, Err, IfOk, reverse}
 use Rattle.std.proofs.lemmas.List.{drop_all}
 use Rattle.ed_words.specs.declared.memory.NoMemory.{NoMemory}
-use Rattle.ed_words.specs.Texts.{Text}
-use Rattle.ed_printer.specs.Paper.{paper_from, shift_after, struck_bytes}
+use Rattle.ed_printer.specs.Paper.{latest_shift, paper_from}
 use Rattle.ed_printer.specs.declared.printer.Shift.{Shift}
+use Rattle.ed_printer.proofs.Texts.{Strikes, struck_alone}
+use Rattle.ed_page.specs.Going.{added_text}
 
 -- the item taken, and those left after it
 left_by : (s : List ℕ) (i x : ℕ) → i < length s → x ≡ get_or s i 0 → drop i s ≡ x ∷ drop (i + 1) s
@@ -25,21 +25,12 @@ pub copied_all : (done s : List ℕ) (i : ℕ) → length s ≤ i → done ++ dr
 copied_all done s i past whole =
     sym (append-nil done) ∙ ap (λ (t : List ℕ). done ++ t) (sym (drop_all i s past)) ∙ whole
 
--- one more code is printed
-pub printed_more : (done more whole : Text) (shift next : Shift) (codes : List ℕ) (i code : ℕ)
-    → more ≡ done ++ struck_bytes shift code → next ≡ shift_after shift code → i < length codes
-    → code ≡ get_or codes i 0 → done ++ paper_from shift (drop i codes) ≡ whole
-    → more ++ paper_from next (drop (i + 1) codes) ≡ whole
-printed_more done more whole shift next codes i code grown to below is so_far =
-    rw (grown, to) (append_assoc done (struck_bytes shift code)
-    (paper_from (shift_after shift code) (drop (i + 1) codes))
-    ∙ ap (λ (t : List ℕ). done ++ paper_from shift t) (sym (left_by codes i code below is)) ∙ so_far)
-
--- all are printed
-pub printed_all : (done whole : Text) (shift : Shift) (codes : List ℕ) (i : ℕ) → length codes ≤ i
-    → done ++ paper_from shift (drop i codes) ≡ whole → done ≡ whole
-printed_all done whole shift codes i past so_far =
-    sym (append-nil done) ∙ ap (λ (t : List ℕ). done ++ paper_from shift t) (sym (drop_all i codes past)) ∙ so_far
+-- the text of codes on a printer in the shift that others leave is what they add
+pub text_added : (start left : Shift) (before given codes text : List ℕ) → Strikes start given text left
+    → start ≡ latest_shift (reverse before) → given ≡ codes → text ≡ added_text before codes
+text_added start left before given codes text strikes begins same =
+    struck_alone start given text left strikes ∙ ap (λ (s : Shift). paper_from s given) begins
+    ∙ ap (paper_from (latest_shift (reverse before))) same
 
 -- four texts, pushed one after the other
 pub four_pushed : (none one two three four a b c d : List ℕ) (r : Result (Unit {0}) NoMemory) → one ≡ none ++ a

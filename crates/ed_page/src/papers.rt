@@ -5,7 +5,7 @@ ghost use Rattle.std.specs.List.{find};
 ghost use Rattle.ed_printer.specs.Paper.{latest_shift};
 ghost use Rattle.ed_page.specs.Going.{AreCodes, IsPaperWritten, PaperLaw, added_text};
 
-use crate::pictured::code_of;
+use crate::pictured::{code_of, codes_of};
 use crate::told::{NO_MEMORY, NO_ROOM};
 use crate::writing::write_text;
 use ed_codes::letters::{FIGURE_SHIFT, LETTER_SHIFT};
@@ -44,11 +44,8 @@ fn added_text(alloc: Global, before: &[u8], codes: &[u8]) -> Result<Vec<u8>, NoM
     ensures { IfOk result (λ text. text.items ≡ added_text before.now codes.now) }
 {
     let mut printer = printer_after(before);
-    let mut text = Vec::new(alloc);
-    for code in codes {
-        printer.print(code_of(*code), &mut text)?;
-    }
-    Ok(text)
+    let codes = codes_of(alloc, codes)?;
+    Ok(printer.text_of(alloc, &codes)?)
 }
 
 /// A printer in the shift that codes leave.

@@ -79,9 +79,17 @@ fn rows_left(alloc: Global, rows: &[u8], left: usize) -> Result<Vec<Code>, NoMem
     requires left { left ≤ length rows.now }
     ensures { IfOk result (λ v. v.items ≡ drop (length rows.now - left) rows.now) }
 {
+    codes_of(alloc, &rows[rows.len() - left..])
+}
+
+/// The codes of numbers below 32.
+pub fn codes_of(alloc: Global, numbers: &[u8]) -> Result<Vec<Code>, NoMemory>
+    requires { AreCodes numbers.now }
+    ensures { IfOk result (λ v. v.items ≡ numbers.now) }
+{
     let mut codes = Vec::new(alloc);
-    for row in &rows[rows.len() - left..] {
-        codes.push(code_of(*row))?;
+    for number in numbers {
+        codes.push(code_of(*number))?;
     }
     Ok(codes)
 }

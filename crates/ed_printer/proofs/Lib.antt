@@ -1,3 +1,4 @@
 pub mod Tables
 pub mod Latest
 pub mod Silent
+pub mod Texts

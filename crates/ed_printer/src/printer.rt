@@ -1,9 +1,11 @@
-ghost use Rattle.std.specs.Prelude.{◌≡◌, ◌+◌, ◌≤◌, ◌++◌, IfOk, vec_capacity, vec_len};
-ghost use Rattle.ed_printer.specs.Paper.{IsInLatestShift, bytes_of, shift_after, struck_bytes};
+ghost use Rattle.std.specs.Prelude.{◌≡◌, ◌<◌, ◌+◌, ◌≤◌, ◌++◌, ◌∷◌, [], IfErr, IfOk, List, ℕ};
+ghost use Rattle.std.specs.Prelude.{slice_index, vec_capacity, vec_len};
+ghost use Rattle.std.specs.Bool.{OnTrue};
+ghost use Rattle.ed_printer.specs.Paper.{IsInLatestShift, bytes_of, paper_from, shift_after, struck_bytes};
 
 use arrayvec::ArrayVec;
 use ed_codes::{Code, letters};
-use std::alloc::AllocError;
+use std::alloc::{AllocError, Global};
 use std::marker::Model;
 
 /// Which of the two characters of a code prints.
@@ -16,7 +18,7 @@ pub enum Shift {
 }
 
 /// A teleprinter, which is in one of the two shifts.
-#[derive(Clone, Copy, PartialEq, Eq)]
+#[derive(Clone, Copy)]
 pub struct Printer {
     shift: Shift,
 }
@@ -46,16 +48,28 @@ const POUND: u8 = 0xA3;
 /// The first byte of the pound sign; the second is the character itself.
 const BEFORE_POUND: u8 = 0xC2;
 
+/// The first number that is no character of ASCII.
+const BEYOND_ASCII: u8 = 0x80;
+
+/// The most bytes that a code prints.
+const MOST_BYTES: usize = 2;
+
 impl Shift {
+    /// The characters of the codes 0 to 31.
+    fn characters(self) -> &'static [u8; 32]
+        ensures { (code : ℕ) → code < 32 → bytes_of (slice_index result.now code) ≡ struck_bytes self code }
+    {
+        match self {
+            Shift::Letters => LETTERS,
+            Shift::Figures => FIGURES,
+        }
+    }
+
     /// The character of a code.
     fn character(self, code: Code) -> u8
         ensures { bytes_of result ≡ struck_bytes self code }
     {
-        let place = usize::from(code.value());
-        match self {
-            Shift::Letters => LETTERS[place],
-            Shift::Figures => FIGURES[place],
-        }
+        self.characters()[usize::from(code.value())]
     }
 
     /// The shift after a code.
@@ -86,6 +100,30 @@ fn bytes_of(character: u8) -> ArrayVec<u8, 2>
     bytes
 }
 
+/// Whether a character is one byte of ASCII. The others in the tables are the one that prints nothing and the pound sign.
+fn is_plain(character: u8) -> bool
+    ensures { OnTrue result (bytes_of character ≡ character ∷ []) }
+{
+    NOTHING < character && character < BEYOND_ASCII
+}
+
+/// Adds the bytes of a character to a text that has room for two.
+fn push_character(text: &mut Vec<u8>, character: u8)
+    requires { vec_len text.old + 2 ≤ vec_capacity text.old }
+    ensures text { text.new.items ≡ text.old.items ++ bytes_of character }
+    ensures len { vec_len text.new ≤ vec_len text.old + 2 }
+    ensures capacity { vec_capacity text.new ≡ vec_capacity text.old }
+{
+    match character {
+        NOTHING => {}
+        POUND => {
+            text.push_reserved(BEFORE_POUND);
+            text.push_reserved(POUND);
+        }
+        _ => text.push_reserved(character),
+    }
+}
+
 impl Printer {
     /// A printer at its start, in letter shift.
     pub fn new() -> Printer
@@ -105,42 +143,30 @@ impl Printer {
         bytes_of(self.character(code))
     }
 
-    /// Prints a code onto a text: adds the bytes that [`strike`](Printer::strike) gives. It is much faster.
-    #[inline(always)]
-    pub fn print(&mut self, code: Code, text: &mut Vec<u8>) -> Result<(), AllocError>
-        ensures text { IfOk result (λ _. text.new.items ≡ text.old.items ++ struck_bytes self.old code) }
-        ensures shift { self.new ≡ shift_after self.old code }
-    {
-        match self.character(code) {
-            NOTHING => {}
-            POUND => {
-                text.push(BEFORE_POUND)?;
-                text.push(POUND)?;
-            }
-            character => text.push(character)?,
-        }
-        Ok(())
-    }
-
-    /// Prints a code onto a text that has room for two bytes, the most that a code prints. Only a code that prints
-    /// nothing can set a shift.
-    #[inline(always)]
+    /// The text that codes print. It is much faster than to strike them one by one: the text has room for all of them
+    /// at once, and only a code that prints nothing can set a shift.
+    #[inline(never)]
     #[tactic(auto, using(crate::proofs::Silent::keeps_shift))]
-    pub fn print_reserved(&mut self, code: Code, text: &mut Vec<u8>)
-        requires { vec_len text.old + 2 ≤ vec_capacity text.old }
-        ensures text { text.new.items ≡ text.old.items ++ struck_bytes self.old code }
-        ensures shift { self.new ≡ shift_after self.old code }
-        ensures len { vec_len text.new ≤ vec_len text.old + 2 }
-        ensures capacity { vec_capacity text.new ≡ vec_capacity text.old }
+    pub fn text_of(&mut self, alloc: Global, codes: &[Code]) -> Result<Vec<u8>, AllocError>
+        ensures text { IfOk result (λ text. (rest : List ℕ) →
+            paper_from self.old (codes.now ++ rest) ≡ text.items ++ paper_from self.new rest) }
+        ensures kept { IfErr result (λ _. self.new ≡ self.old) }
     {
-        match self.shift.character(code) {
-            NOTHING => self.shift = self.shift.after(code),
-            POUND => {
-                text.push_reserved(BEFORE_POUND);
-                text.push_reserved(POUND);
+        let mut text = Vec::with_capacity(alloc, MOST_BYTES * codes.len())?;
+        let mut shift = self.shift;
+        let mut characters = shift.characters();
+        for code in codes {
+            let character = characters[usize::from(code.value())];
+            if is_plain(character) {
+                text.push_reserved(character);
+            } else {
+                push_character(&mut text, character);
+                shift = shift.after(*code);
+                characters = shift.characters();
             }
-            character => text.push_reserved(character),
         }
+        self.shift = shift;
+        Ok(text)
     }
 
     /// The character of a code in the printer's shift; the printer is then in the shift that the code sets.

@@ -1,19 +1,15 @@
 -- Codes struck on a new printer give the bytes of a paper.
-use Rattle.std.proofs.Common.{◌≡◌, ◌∙◌, ◌++◌, List, ℕ, [], sym, ap, append_assoc, append-nil}
+use Rattle.std.proofs.Common.{◌≡◌, ◌∙◌, ◌++◌, List, ℕ, sym, ap, append_assoc}
 use Rattle.ed_printer.specs.Paper.{paper, paper_from}
 use Rattle.ed_printer.specs.declared.printer.Shift.{Shift}
 use Rattle.ed_printer.specs.declared.printer.Shift.TheVariants.{Letters}
-
--- codes gave bytes; whatever codes come next are printed in the shift that is left
-abbrev pub Strikes : Shift → List ℕ → List ℕ → Shift → Type 0
-Strikes start codes bytes left = (rest : List ℕ) → paper_from start (codes ++ rest) ≡ bytes ++ paper_from left rest
+use Rattle.ed_printer.proofs.Texts.{Strikes, struck_alone}
 
 pub one_paper : {bytes : List ℕ} {start : Shift} (codes : List ℕ) (left : Shift)
     → start ≡ Letters → Strikes start codes bytes left
     → bytes ≡ paper codes
-one_paper {bytes = bytes} codes left begins strikes =
-    let whole = strikes [] in
-    sym ((λ i. paper_from (sym begins i) (sym (append-nil codes) i)) ∙ whole ∙ append-nil bytes)
+one_paper {bytes = bytes} {start} codes left begins strikes =
+    struck_alone start codes bytes left strikes ∙ ap (λ (s : Shift). paper_from s codes) begins
 
 pub two_papers : (bytes more : List ℕ) {start : Shift} (first second : List ℕ) (middle left : Shift)
     → start ≡ Letters

@@ -6,5 +6,5 @@ returns c =
     let added = c.in_ok-extend_from_slice.ensures.items in
     let more = c.deref.ensures.value in
     let whole = two_papers c.in_ok-bytes.bytes.items c.in_ok-more.more.items c.args.first.now c.args.second.now _ _
-    c.new-printer.ensures c.in_ok-bytes.ensures c.in_ok-more.ensures in
+    c.new-printer.ensures c.in_ok-bytes.ensures.text c.in_ok-more.ensures.text in
     cc
