@@ -365,32 +365,122 @@ fn printed(alloc: Global, source: u32) -> Option<(String, Vec<Line>)> {
     Some((writer.text, lines))
 }
 
-/// Whether two lines have the same debug text.
-fn are_alike(alloc: Global, one: &Line, other: &Line) -> Option<bool> {
-    let one = format!(in alloc; "{one:?}").ok()?;
-    let other = format!(in alloc; "{other:?}").ok()?;
-    Some(one.as_str() == other.as_str())
+/// Whether two operands are alike.
+fn are_operands_alike(one: &Operand, other: &Operand) -> bool {
+    match (one, other) {
+        (Operand::Number(number), Operand::Number(other)) => number == other,
+        (
+            Operand::Label { name, plus },
+            Operand::Label {
+                name: other,
+                plus: more,
+            },
+        ) => { name == other && plus == more }
+        (
+            Operand::Two {
+                first,
+                second,
+                minus,
+            },
+            Operand::Two {
+                first: one,
+                second: two,
+                minus: sign,
+            },
+        ) => { first == one && second == two && minus == sign }
+        _ => false,
+    }
+}
+
+/// Whether two lists of settings are alike.
+fn are_settings_alike(some: &[Setting], others: &[Setting]) -> bool {
+    for (one, other) in some.iter().zip(others) {
+        if one.letter != other.letter || !are_operands_alike(&one.operand, &other.operand) {
+            return false;
+        }
+    }
+    some.len() == others.len()
+}
+
+/// Whether two statements of the kinds without words are alike.
+fn are_names_alike(one: &Statement, other: &Statement) -> bool {
+    match (one, other) {
+        (
+            Statement::Segment { name, base },
+            Statement::Segment {
+                name: other,
+                base: place,
+            },
+        ) => { name == other && base == place }
+        (Statement::Enter { name }, Statement::Enter { name: other }) => name == other,
+        (
+            Statement::Fetch {
+                routine,
+                name,
+                settings,
+            },
+            Statement::Fetch {
+                routine: library,
+                name: other,
+                settings: more,
+            },
+        ) => { routine == library && name == other && are_settings_alike(settings, more) }
+        _ => false,
+    }
+}
+
+/// Whether two statements of the kinds with words are alike.
+fn are_words_alike(one: &Statement, other: &Statement) -> bool {
+    match (one, other) {
+        (
+            Statement::Order {
+                function,
+                operand,
+                length,
+            },
+            Statement::Order {
+                function: letter,
+                operand: place,
+                length: end,
+            },
+        ) => { function == letter && length == end && are_operands_alike(operand, place) }
+        (Statement::Number { value }, Statement::Number { value: other }) => value == other,
+        (Statement::Long { value }, Statement::Long { value: other }) => value == other,
+        (Statement::Text { codes }, Statement::Text { codes: other }) => codes == other,
+        (Statement::Rows { codes }, Statement::Rows { codes: other }) => codes == other,
+        _ => false,
+    }
+}
+
+/// Whether two lines are alike.
+fn are_alike(one: &Line, other: &Line) -> bool {
+    let says_alike = match (&one.statement, &other.statement) {
+        (None, None) => true,
+        (Some(one), Some(other)) => are_names_alike(one, other) || are_words_alike(one, other),
+        _ => false,
+    };
+    one.number == other.number && one.label == other.label && says_alike
 }
 
 /// The number of the first of these lines that is not as it was read; 0 if there is none.
-fn first_unlike(alloc: Global, read: &[Line], lines: &[Line]) -> Option<u32> {
+fn first_unlike(read: &[Line], lines: &[Line]) -> u32 {
     for (read, line) in read.iter().zip(lines) {
-        if !are_alike(alloc, read, line)? {
-            return Some(line.number);
+        if !are_alike(read, line) {
+            return line.number;
         }
     }
-    Some(if read.len() == lines.len() {
+    if read.len() == lines.len() {
         0
     } else {
         LINES + 1
-    })
+    }
 }
 
 /// The first line of a source that is read differently from what it was printed from; 0 if there is none.
 fn first_difference(alloc: Global, source: u32) -> Option<u32> {
     let (text, lines) = printed(alloc, source)?;
     let program = parse(alloc, text.as_bytes()).ok()?;
-    first_unlike(alloc, &program.lines, &lines)
+    Some(first_unlike(&program.lines, &lines))
 }
 
 #[test]

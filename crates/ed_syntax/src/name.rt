@@ -6,7 +6,7 @@ use std::marker::Model;
 use std::str;
 
 /// A text of 1 to 16 bytes: the name of a label, a segment or a routine in a source.
-#[derive(Clone, Copy, Debug)]
+#[derive(Clone, Copy)]
 pub struct Name {
     bytes: [u8; 16],
     size: usize,

@@ -8,7 +8,7 @@ use ed_codes::Code;
 use ed_words::{Long, Word};
 
 /// The operand of an order, or of a setting.
-#[derive(Clone, Copy, Debug)]
+#[derive(Clone, Copy)]
 pub enum Operand {
     /// A number, 0 to 32767.
     Number(u16),
@@ -26,7 +26,7 @@ pub enum Operand {
 }
 
 /// A preset parameter of a routine: its letter is one of `H N M & L X`.
-#[derive(Clone, Copy, Debug)]
+#[derive(Clone, Copy)]
 pub struct Setting {
     pub letter: Code,
     pub operand: Operand,
@@ -48,7 +48,7 @@ impl Default for Setting {
 }
 
 /// What a line says.
-#[derive(Debug, Drop)]
+#[derive(Drop)]
 pub enum Statement {
     /// A segment begins, at a base of 0 to 1023 or at the next location.
     Segment {
@@ -90,7 +90,7 @@ pub enum Statement {
 }
 
 /// A line of a source.
-#[derive(Debug, Drop)]
+#[derive(Drop)]
 pub struct Line {
     /// Counted from 1.
     pub number: u32,
