@@ -16,6 +16,10 @@ mod orders;
 #[cfg(test)]
 mod parts;
 #[cfg(test)]
+mod plain;
+#[cfg(test)]
 mod printing;
+#[cfg(test)]
+mod stores;
 #[cfg(test)]
 mod support;

@@ -15,7 +15,10 @@ use std::alloc::Global;
 use std::process::Abort;
 use std::test::Fail;
 
-/// The index of `divide` in the catalogue.
+/// The index of `check` in the catalogue.
+pub const CHECK: u16 = 0;
+
+/// The index of `divide`.
 pub const DIVIDE: u16 = 1;
 
 /// The index of `newline`.
@@ -231,12 +234,17 @@ pub fn called(
     Ok(machine)
 }
 
-/// Starts a machine on the rows of a tape, loads it, and obeys the first two orders of its program.
-fn enter(rt: &impl Abort, machine: &mut Machine, rows: Vec<Code>) {
+/// Starts a machine on the rows of a tape, and loads it to its entry.
+pub fn start(rt: &impl Abort, machine: &mut Machine, rows: Vec<Code>) {
     begin(machine, rows);
     assert!(rt; is_started(machine));
     assert!(rt; machine.orders_done() < 1 << 20 && machine.rows_left().len() < 1 << 20);
     assert!(rt; matches!(load(machine), Loaded::Entered { .. }));
+}
+
+/// Starts a machine on the rows of a tape, loads it, and obeys the first two orders of its program.
+fn enter(rt: &impl Abort, machine: &mut Machine, rows: Vec<Code>) {
+    start(rt, machine, rows);
     for _ in 0..2 {
         assert!(rt; machine.orders_done() < 1 << 40);
         machine.step();

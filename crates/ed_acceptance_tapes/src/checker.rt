@@ -1,7 +1,6 @@
 //! The reports of the checker on tapes.
 
-use crate::support::checked;
-use ed_codes::tape_of_text;
+use crate::support::{checked, rows_of};
 use ed_notation::{Checked, TapeCause, TapeFault, check_from};
 use ed_store::Store;
 use ed_words::{Size, Word};
@@ -126,7 +125,7 @@ fn checked_from(
     let value = directive.value();
     assert!(rt; value % 2 == 0 && 20_480 <= value && value <= 22_526);
     let store = Store::cleared(alloc)?;
-    let rows = tape_of_text(alloc, tape.as_bytes())?;
+    let rows = rows_of(alloc, tape)?;
     assert!(rt; rows.len() < 1000);
     Ok(check_from(alloc, Size::Full, &store, directive, &rows))
 }

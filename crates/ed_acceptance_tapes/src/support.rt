@@ -1,4 +1,4 @@
-//! What the tests share: machines started on a tape, and loads.
+//! What the tests share: rows of a text, machines started on a tape, and loads.
 
 use ed_codes::{Code, tape_of_text};
 use ed_initial::{Loaded, begin, is_started, load};
@@ -13,6 +13,11 @@ use std::test::Fail;
 /// The tape that prints A.
 pub const LETTER: &str = "T64KGKO2@ZFAFEZPF";
 
+/// The rows of a tape's text.
+pub fn rows_of(alloc: Global, tape: &str) -> Result<Vec<Code>, Fail> {
+    Ok(tape_of_text(alloc, tape.as_bytes())?)
+}
+
 /// The report on a tape before whose check the store is this one, or the tape's fault.
 pub fn checked(
     rt: &impl Abort,
@@ -21,7 +26,7 @@ pub fn checked(
     store: &Store,
     tape: &str,
 ) -> Result<Result<Checked, TapeFault>, Fail> {
-    let rows = tape_of_text(alloc, tape.as_bytes())?;
+    let rows = rows_of(alloc, tape)?;
     assert!(rt; rows.len() < 1000);
     Ok(check(alloc, size, store, &rows))
 }
@@ -41,8 +46,7 @@ pub fn first_difference(codes: &[Code], wanted: &[u8]) -> Option<usize> {
 
 /// Starts a machine on a tape with the Initial Orders.
 pub fn start_on(alloc: Global, machine: &mut Machine, tape: &str) -> Result<(), Fail> {
-    let rows = tape_of_text(alloc, tape.as_bytes())?;
-    begin(machine, rows);
+    begin(machine, rows_of(alloc, tape)?);
     Ok(())
 }
 

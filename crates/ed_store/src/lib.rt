@@ -4,10 +4,6 @@
 //! a list of 512 sandwich digits; the code keeps 512 cells of 35 digits. Depends on `ed_words`.
 #![tactic(auto)]
 
-#[cfg(test)]
-mod plain;
 mod store;
-#[cfg(test)]
-mod tests;
 
 pub use store::{LOCATIONS, Store};

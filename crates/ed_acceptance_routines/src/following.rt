@@ -1,10 +1,10 @@
-//! What the tests share: a guest that is checked, and the same program alone.
+//! A guest of the checking routine that is checked, compared with the same program alone.
+
+use crate::support::{CHECK, add_routine, start};
 use ed_checker::{Checking, FETCH, HIGH, LOW, MIDDLE, check_one, checker_stands, guest_allowed};
 use ed_codes::{Code, tape_of_text};
-use ed_initial::{Loaded, begin, is_started, load};
 use ed_library::routine;
 use ed_machine::{Machine, Paper, Turn};
-use ed_notation::{Item, spellable, text_of_items};
 use ed_words::Size;
 use std::alloc::Global;
 use std::process::Abort;
@@ -16,25 +16,6 @@ pub const BASE: u16 = 100;
 /// How a guest ended: stopped, blocked, refused, or differs; and the number of its orders that were checked.
 pub type End = (&'static str, u32);
 
-/// Adds the text of an item.
-fn add_item(rt: &impl Abort, alloc: Global, text: &mut String, item: Item) -> Result<(), Fail> {
-    assert!(rt; spellable(&item));
-    let bytes = text_of_items(alloc, &[item])?;
-    for byte in bytes.as_slice() {
-        text.push(char::from(*byte))?;
-    }
-    Ok(())
-}
-
-/// Adds the text of the routine's items.
-fn add_check(rt: &impl Abort, alloc: Global, text: &mut String) -> Result<(), Fail> {
-    let routine = routine(0);
-    for place in 0..routine.length() {
-        add_item(rt, alloc, text, routine.item(place))?;
-    }
-    Ok(())
-}
-
 /// The tape of a program that has the routine and the guest, with more rows at its end.
 fn tape_of(
     rt: &impl Abort,
@@ -44,18 +25,10 @@ fn tape_of(
     entry: u16,
 ) -> Result<String, Fail> {
     let mut check = String::new(alloc);
-    add_check(rt, alloc, &mut check)?;
+    add_routine(rt, alloc, &mut check, routine(CHECK))?;
     Ok(format!(in alloc;
         "T45KP60FT{BASE}KGK{check}T60K{guest}T89KZFP1DZ5FGFC9DPFPFP50FPDE{entry}KPF{rows}"
     )?)
-}
-
-/// Starts a machine on a tape, and loads it to its entry.
-fn enter(rt: &impl Abort, machine: &mut Machine, tape: Vec<Code>) {
-    begin(machine, tape);
-    assert!(rt; is_started(machine));
-    assert!(rt; machine.orders_done() < 1 << 20 && machine.rows_left().len() < 1 << 20);
-    assert!(rt; matches!(load(machine), Loaded::Entered { .. }));
 }
 
 /// A machine at the entry to a program that has the routine and the guest, with rows left on the tape.
@@ -69,7 +42,7 @@ pub fn entered(
     let tape = tape_of(rt, alloc, guest, rows, entry)?;
     let codes = tape_of_text(alloc, tape.as_bytes())?;
     let mut machine = Machine::cleared_of(alloc, Size::Full)?;
-    enter(rt, &mut machine, codes);
+    start(rt, &mut machine, codes);
     Ok(machine)
 }
 

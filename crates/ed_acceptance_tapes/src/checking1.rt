@@ -1,6 +1,6 @@
-//! The reports of the check on tapes.
+//! The reports of the check on tapes for Initial Orders 1.
 
-use crate::support::{LETTER, checked_text, fault_of};
+use crate::support1::{LETTER, checked_text, fault_of};
 use ed_initial1::Checked1;
 use ed_initial1::Tape1Cause::{self, BadRow, EndOfTape, FirstWord, NumberTooLarge};
 use std::process::Abort;

@@ -1,6 +1,7 @@
-//! Every row of a short tape replaced by every code: the check's answer, and what the orders do.
+//! Every row of a short tape for Initial Orders 1 replaced by every code: the check's answer, and what the orders do.
 
-use crate::support::{checked, fault_of, loaded, misplaced, rows_of, started};
+use crate::support::rows_of;
+use crate::support1::{checked, fault_of, loaded, misplaced, started};
 use ed_codes::Code;
 use ed_initial1::Tape1Cause::{BadRow, EndOfTape, FirstWord};
 use ed_initial1::{Checked1, Loaded1, Tape1Cause, Tape1Fault};

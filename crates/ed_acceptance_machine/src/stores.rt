@@ -2,8 +2,8 @@
 
 ghost use Rattle.std.specs.Prelude.{◌<◌};
 
-use crate::Store;
 use crate::plain::Plain;
+use ed_store::Store;
 use ed_words::{Long, Word};
 use std::test::Fail;
 

@@ -1,6 +1,6 @@
 //! How guests of the checking routine end.
 
-use crate::support::{BASE, entered, follow};
+use crate::following::{BASE, entered, follow};
 use std::alloc::Global;
 use std::process::Abort;
 use std::test::Fail;

@@ -1,6 +1,7 @@
-//! What the tests share: rows of a text, machines started on them, checks and loads.
+//! What the tests of Initial Orders 1 share: machines started on rows, checks and loads.
 
-use ed_codes::{Code, tape_of_text};
+use crate::support::rows_of;
+use ed_codes::Code;
 use ed_initial1::{Checked1, Loaded1, Tape1Cause, Tape1Fault, check1, is_started1, load1, orders1};
 use ed_machine::Machine;
 use std::alloc::Global;
@@ -9,11 +10,6 @@ use std::test::Fail;
 
 /// The tape that prints A: it clears 35, prints the letter at 34 and stops.
 pub const LETTER: &str = "T35SO34SZSAS";
-
-/// The rows of a tape's text.
-pub fn rows_of(alloc: Global, tape: &str) -> Result<Vec<Code>, Fail> {
-    Ok(tape_of_text(alloc, tape.as_bytes())?)
-}
 
 /// What the check of few rows answers.
 pub fn checked(rt: &impl Abort, alloc: Global, rows: &[Code]) -> Result<Checked1, Tape1Fault> {

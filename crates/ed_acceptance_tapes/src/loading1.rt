@@ -1,6 +1,7 @@
 //! Initial Orders 1, obeyed one by one on a tape.
 
-use crate::support::{LETTER, checked, loaded, misplaced, rows_of, started};
+use crate::support::rows_of;
+use crate::support1::{LETTER, checked, loaded, misplaced, started};
 use ed_codes::Code;
 use ed_initial1::{Checked1, Loaded1, is_started1, orders1};
 use ed_machine::{Machine, Turn};
