@@ -12,7 +12,7 @@ const MODULUS: u128 = 1 << 71;
 
 /// The accumulator: 71 binary digits, read as the number 0 to 2^71 - 1, in units of 2^-70. As a fraction it is negative
 /// from 2^70 upwards.
-#[derive(Clone, Copy, PartialEq, Eq)]
+#[derive(Clone, Copy)]
 pub struct Acc {
     /// The number times 2^57: its most significant digit is that of the 128, so digits shifted out at the top are lost.
     digits: u128,

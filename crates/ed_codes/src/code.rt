@@ -5,7 +5,7 @@ use crate::letters;
 use std::marker::Model;
 
 /// The code of a tape row or of a printed character, 0 to 31.
-#[derive(Clone, Copy, Debug, PartialEq, Eq)]
+#[derive(Clone, Copy, PartialEq, Eq)]
 pub struct Code {
     number: u8,
 }

@@ -4,7 +4,7 @@ use crate::Word;
 use std::marker::Model;
 
 /// A long word of 35 binary digits, read as the number 0 to 2^35 - 1.
-#[derive(Clone, Copy, Debug, PartialEq, Eq)]
+#[derive(Clone, Copy, PartialEq, Eq)]
 pub struct Long {
     number: u64,
 }

@@ -1,7 +1,7 @@
 use std::alloc::{AllocError, AllocFailed};
 
 /// The answer of a call that found no memory.
-#[derive(Clone, Copy, Debug, PartialEq, Eq)]
+#[derive(Clone, Copy, Debug)]
 pub struct NoMemory;
 
 impl From<AllocError> for NoMemory {

@@ -4,7 +4,7 @@ use crate::Order;
 use std::marker::Model;
 
 /// A short word of 17 binary digits, read as the number 0 to 131071.
-#[derive(Clone, Copy, Debug, PartialEq, Eq)]
+#[derive(Clone, Copy, PartialEq, Eq)]
 pub struct Word {
     number: u32,
 }
