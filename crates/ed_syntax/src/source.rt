@@ -141,8 +141,10 @@ fn lines(alloc: Global, version: Version, text: &[u8]) -> Result<Vec<Line>, Sour
                 cause: SourceCause::TooManyLines,
             });
         }
-        let form = line_of(alloc, version, number, line).map_err(|fault| fault.at(number))?;
-        found.push(form.line(number))?;
+        match line_of(alloc, version, number, line) {
+            Ok(form) => found.push(form.line(number))?,
+            Err(fault) => return Err(fault.at(number)),
+        }
         number += 1;
         rest = after;
     }

@@ -3,7 +3,6 @@ use Rattle.std.specs.Prelude.{◌==◌, Ok}
 use Rattle.ed_syntax.specs.Lines.{lines_of}
 use Rattle.ed_syntax.specs.Programs.{is_second}
 use Rattle.ed_syntax.specs.Private.SourceReading.{line_of}
-use Rattle.ed_words.proofs.Mapped.{mapped_ok}
 use Rattle.ed_syntax.proofs.Programs.{numbered, program_step}
 use Rattle.ed_syntax.proofs.source.lines.Goals as goal
 
@@ -12,11 +11,10 @@ loop-rest-preserved c =
     let here = c.loop-rest in
     let line = c.split_line.result in
     let two = is_second c.args.version in
-    let form = c.in_ok-form.form in
+    let form = c.in-Ok.form in
     let more : (here.number == 2001) ≡ false = search rules in
     let grown : c.push.new.self.items ≡ here.found.items ++ numbered here.number form ∷ [] = search rules in
-    let read = mapped_ok c.line_of.result c.map_err.result _ form c.map_err.ensures.cases c.in_ok-form.was in
-    let says : line_of two here.number line.0.now ≡ Ok form = rw read at c.line_of.ensures in
+    let says : line_of two here.number line.0.now ≡ Ok form = rw c.in-Ok.is at c.line_of.ensures in
     record {
       same = rw grown (here.invariant.same ∙ program_step two here.number (lines_of here.rest.now)
           here.found.items c.split_line.ensures.lines more says);
