@@ -196,16 +196,7 @@ pub fn push_numbers(
 fn push_number(table: &mut Vec<u8>, number: u32) -> Result<(), NoMemory>
     ensures { IfOk result (λ _. table.new.items ≡ table.old.items ++ four_bytes number) }
 {
-    push_byte(table, (number % 256) as u8)?;
-    push_byte(table, (number / 256 % 256) as u8)?;
-    push_byte(table, (number / 65536 % 256) as u8)?;
-    push_byte(table, (number / 16777216 % 256) as u8)
-}
-
-fn push_byte(table: &mut Vec<u8>, byte: u8) -> Result<(), NoMemory>
-    ensures { IfOk result (λ _. table.new.items ≡ table.old.items ++ byte ∷ []) }
-{
-    table.push(byte)?;
+    table.extend_from_slice(&number.to_le_bytes())?;
     Ok(())
 }
 
