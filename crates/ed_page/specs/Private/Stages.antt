@@ -105,7 +105,7 @@ WritesBuffers o machine before after answer = (answer ≢ 10)
 pub record IsGone (r : RunEnd) (gone : Gone) : Type 0 where
   pub ending_is : gone.ending ≡ r.ending
   pub state_is : gone.machine ≡ r.state
-  pub codes_are : gone.codes.items ≡ r.codes
+  pub codes_are : gone.paper.codes ≡ r.codes
 
 -- what a check of rows on a cleared store answers, with the number of rows up to the entry
 abbrev pub IsEntered : Size → List ℕ → Result ℕ TapeFault → Type 0
