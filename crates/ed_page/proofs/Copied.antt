@@ -1,8 +1,9 @@
 -- Lists that grow at their ends: a loop that takes the items of a list one after the other, and texts that are added.
-use Rattle.std.proofs.Common.{◌≡◌, ◌∙◌, ℕ, ◌+◌, ◌<◌, ◌≤◌, sym, ap, add-one, List, [], ◌∷◌, ◌++◌}
-use Rattle.std.proofs.Common.{append_assoc, append-nil, length, get_or, drop, drop-cons}
+use Rattle.std.proofs.Common.{◌≡◌, ◌∙◌, ℕ, ◌+◌, ◌<◌, ◌≤◌, refl, sym, ap, add-one, arith, List, [], ◌∷◌, ◌++◌}
+use Rattle.std.proofs.Common.{append_assoc, append-nil, length, get_or, set, take, drop, drop-cons}
 use Rattle.std.specs.Prelude.{Result, Ok, Err, IfOk, reverse}
-use Rattle.std.proofs.lemmas.List.{drop_all}
+use Rattle.std.proofs.lemmas.List.{drop_all, length-take-le}
+use Rattle.std.proofs.Math.Seq.{set-append_seam, take-suc}
 use Rattle.ed_words.specs.declared.memory.NoMemory.{NoMemory}
 use Rattle.ed_printer.specs.Paper.{latest_shift, paper_from}
 use Rattle.ed_printer.specs.declared.printer.Shift.{Shift}
@@ -24,6 +25,19 @@ copied_more done more s i x grown below is whole =
 pub copied_all : (done s : List ℕ) (i : ℕ) → length s ≤ i → done ++ drop i s ≡ s → done ≡ s
 copied_all done s i past whole =
     sym (append-nil done) ∙ ap (λ (t : List ℕ). done ++ t) (sym (drop_all i s past)) ∙ whole
+
+-- one more is written over the first items of a list
+pub written_more : (codes old now : List ℕ) (k x : ℕ) → k < length codes → length codes ≤ length old
+    → x ≡ get_or codes k 0 → now ≡ take k codes ++ drop k old → set now k x ≡ take (k + 1) codes ++ drop (k + 1) old
+written_more codes old now k x below room is so_far =
+    let front = take k codes in
+    let rest = drop (k + 1) old in
+    let many : length front ≡ k = length-take-le k codes (omega (arith, below)) in
+    let seam : now ≡ front ++ get_or old k 0 ∷ rest =
+    so_far ∙ ap (λ (t : List ℕ). front ++ t) (left_by old k (get_or old k 0) (omega (arith, below, room)) refl) in
+    let one : take (k + 1) codes ≡ front ++ x ∷ [] = rw (is, add-one) (take-suc codes k 0 below) in
+    (λ i. set (seam i) (sym many i) x) ∙ set-append_seam front (get_or old k 0) rest x
+    ∙ sym (append_assoc front (x ∷ []) rest) ∙ ap (λ (t : List ℕ). t ++ rest) (sym one)
 
 -- the text of codes on a printer in the shift that others leave is what they add
 pub text_added : (start left : Shift) (before given codes text : List ℕ) → Strikes start given text left

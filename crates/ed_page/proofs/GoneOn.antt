@@ -86,7 +86,7 @@ begins_on wanted Ends text before after answer first limit resumes rows run show
 pub gone_of : (limit resumes room : ℕ) (m : State) (sheet full : Sheet) (gone : Gone)
     → sheet ≡ record { codes = []; room = room }
     → IsLeft (run_end limit resumes (sheet.room - length sheet.codes) m) sheet gone.ending gone.machine full
-    → gone.codes.items ≡ full.codes → IsGone (run_end limit resumes room m) gone
+    → gone.paper.codes ≡ full.codes → IsGone (run_end limit resumes room m) gone
 gone_of limit resumes room m sheet full gone fresh left codes =
     let whole : room - 0 ≡ room = omega arith in
     let same : run_end limit resumes (room - 0) m ≡ run_end limit resumes room m = ap (λ n. run_end limit resumes n m) whole in

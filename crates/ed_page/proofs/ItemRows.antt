@@ -5,7 +5,7 @@ use Rattle.std.proofs.Common.{Option, Some, None, List, [], ◌∷◌, ◌++◌,
 use Rattle.std.proofs.Common.{if◌then◌else◌, subst, take, inl, inr, lit<, lit≤, get_or}
 use Rattle.std.proofs.lemmas.List.{append-nil, drop_all, get_or-replicate}
 use Rattle.std.proofs.Math.Seq.{set_out, take-append-add, take-append_seam}
-use Rattle.std.specs.Prelude.{Err, Ok, slice_set}
+use Rattle.std.specs.Prelude.{Ok, Result, slice_set}
 use Rattle.ed_words.specs.declared.size.Size.{Size}
 use Rattle.ed_words.proofs.Numbers.{lt_false, lt_true}
 use Rattle.ed_store.specs.Cells.{Cells, IsStore, cleared_cells, with_short}
@@ -17,8 +17,8 @@ use Rattle.ed_notation.specs.declared.kind.Control.TheVariants.{ThetaByBlank, Th
 use Rattle.ed_notation.specs.declared.kind.RowKind.{RowKind}
 use Rattle.ed_notation.specs.declared.kind.RowKind.TheVariants.{Blank, Digit, Kay, Letter, Mark, Other, Zed}
 use Rattle.ed_notation.specs.declared.cause.TapeCause.{TapeCause}
-use Rattle.ed_notation.specs.declared.cause.TapeFault.TheVariants.{At}
-use Rattle.ed_notation.specs.Checks.{Accepts, AnswersCheck}
+use Rattle.ed_notation.specs.declared.cause.TapeFault.{TapeFault}
+use Rattle.ed_notation.specs.Checks.{AnswersCheck}
 use Rattle.ed_notation.specs.Faults.{AreRead, IsFault, IsPart, part_rows}
 use Rattle.ed_notation.specs.Openings.{opening}
 use Rattle.ed_notation.specs.Reports.{Report}
@@ -34,13 +34,13 @@ use Rattle.ed_notation.specs.Items.{AreDigits, Begun, IsBegun, IsWritten, Writte
 use Rattle.ed_notation.specs.Items.{row_kind, rows_of, spelled_rows}
 use Rattle.ed_notation.specs.Spellings.{AreWritten}
 use Rattle.ed_page.specs.TapeItems.{PlacingLaw, item_line, item_table, placing, placing_by, tape_table, with_placing}
-use Rattle.ed_page.specs.Private.ItemTables.{IsSetBelow, cells_with, is_last_row, item_at, notation_after, note_over}
+use Rattle.ed_page.specs.Private.ItemTables.{IsSetBelow, cells_with, first_notation, is_last_row, item_at, notation_after, note_over}
 use Rattle.ed_page.specs.Private.ItemTables.{placing_over}
 use Rattle.ed_page.specs.Private.ItemTables.{table_on, whole_item, opened_with}
 use Rattle.ed_page.specs.declared.items.Notation.{Notation}
 use Rattle.ed_page.specs.declared.items.OpenItem.{OpenItem}
 use Rattle.ed_page.specs.declared.told.Told.{Told}
-use Rattle.ed_page.specs.Private.Stages.{AreItemsOf, HoldsOutcome}
+use Rattle.ed_page.specs.Private.Stages.{AreItemsOf, HoldsOutcome, IsEntered}
 
 -- ---- what the fold places
 
@@ -293,10 +293,6 @@ abbrev pub IsOpen : Option OpenItem → Type 0
 IsOpen None = Unit {0}
 IsOpen (Some p) = p.number ≤ 327679
 
--- the state of the notation on a cleared store
-abbrev pub first_notation : Notation
-first_notation = record { directive = 20568; theta = 0; contents = cleared_cells }
-
 -- the table so far, and that of the rows that are left, are the whole
 pub record IsTabled (row : ℕ) (n : Notation) (part : Option OpenItem) (table rows : List ℕ) : Type 0 where
   pub whole : table ++ table_on row n part (drop row rows) ≡ table_on 0 first_notation None rows
@@ -312,6 +308,12 @@ beyond cells a v is past =
 
 -- ---- the items of a tape
 
+-- what a check answers on a cleared store
+pub entered : (z : Size) (codes : List ℕ) {store : Cells} → store ≡ cleared_cells → (r : Result Report TapeFault)
+    → AnswersCheck z store.words (opening store.words) 9 codes r
+    → AnswersCheck z cleared_cells.words first_note 9 codes r
+entered z codes is r answers = subst (λ (c : Cells). AnswersCheck z c.words (opening c.words) 9 codes r) is answers
+
 first_over : IsNoteOver cleared_cells.words first_note first_notation
 first_over = record {
   directive = refl;
@@ -324,12 +326,9 @@ AreWritten-append [] ws a b = b
 AreWritten-append (v ∷ vs) ws a b = (a.0, AreWritten-append vs ws a.1 b)
 
 -- what is answered to a well-formed tape
-pub entered_told : (z : Size) {codes : List ℕ} {store : Cells} {r : Report} {count : ℕ} {told : Told}
-    → store ≡ cleared_cells → Accepts z store.words (opening store.words) 9 codes r → count ≡ r.rows
+pub entered_told : (z : Size) {codes : List ℕ} {count : ℕ} {told : Told} → IsEntered z codes (Ok count)
     → HoldsOutcome told (done (table_on 0 first_notation None (take count codes))) → AreItemsOf z codes (Ok told)
-entered_told z {codes} {r = r} {count} {told} is accepts many tells =
-    let f : Accepts z cleared_cells.words (opening cleared_cells.words) 9 codes r =
-    subst (λ (c : Cells). Accepts z c.words (opening c.words) 9 codes r) is accepts in
+entered_told z {codes} {count} {told} (r, f, many) tells =
     let ws = f.comes.before in
     let last = f.comes.last in
     let all = ws ++ (last ∷ []) in
@@ -353,17 +352,15 @@ entered_told z {codes} {r = r} {count} {told} is accepts many tells =
     )
 
 -- what is answered to a tape with a fault
-pub fault_told : (z : Size) {codes : List ℕ} {store : Cells} {row : ℕ} {cause : TapeCause} {told : Told}
-    → store ≡ cleared_cells → AnswersCheck z store.words (opening store.words) 9 codes (Err (At row cause))
+pub fault_told : (z : Size) {codes : List ℕ} {row : ℕ} {cause : TapeCause} {told : Told}
+    → IsFault z cleared_cells.words first_note codes row cause
     → HoldsOutcome told (record {
       out = table_on 0 first_notation None (take row codes);
       note = rule_line row cause;
       status = 3;
     })
     → AreItemsOf z codes (Ok told)
-fault_told z {codes} {row = row} {cause} {told} is answers tells =
-    let f : IsFault z cleared_cells.words first_note codes row cause =
-    subst (λ (c : Cells). IsFault z c.words (opening c.words) codes row cause) is answers in
+fault_told z {codes} {row} {cause} {told} f tells =
     let s = f.is.stands in
     let ws = s.before in
     let read = spelled_rows ws ++ part_rows s.part in
@@ -382,14 +379,14 @@ fault_told z {codes} {row = row} {cause} {told} is answers tells =
 
 -- ---- the turns of the loop
 
-pub tabled_first : {table : List ℕ} {cells : Cells} (rows : List ℕ) → table ≡ [] → cells ≡ cleared_cells
-    → IsTabled 0 (record { directive = 20568; theta = 0; contents = cells }) None table rows
-tabled_first rows none cleared = record {
-  whole = λ i. none i ++ table_on 0 (record { directive = 20568; theta = 0; contents = cleared i }) None rows;
+pub tabled_first : {table : List ℕ} {n : Notation} (rows : List ℕ) → table ≡ [] → n ≡ first_notation
+    → IsTabled 0 n None table rows
+tabled_first rows none first = rw first (record {
+  whole = λ i. none i ++ table_on 0 first_notation None rows;
   in_range = tt;
   directive = lit≤ tt;
   theta = lit≤ tt;
-}
+})
 
 -- a row that does not end its item
 other_row : (row : ℕ) (n : Notation) (p : OpenItem) (c : ℕ) (more : List ℕ) → is_last_row (row_kind c) ≡ false

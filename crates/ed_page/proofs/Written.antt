@@ -1,7 +1,8 @@
 -- From what was written into buffers to the cause of an answer.
 use Rattle.std.proofs.Common.{◌≡◌, ◌≢◌, ◌∙◌, ◌≤◌, ℕ, true≢false, inl, inr, refl, subst, sym, arith}
 use Rattle.std.proofs.Common.{Option, None, List, length}
-use Rattle.std.specs.Prelude.{◌↔◌, IfSome, IsTrue, Ok, Bool, false}
+use Rattle.std.specs.Prelude.{◌↔◌, IfSome, IsTrue, Result, Ok, Err, Bool, false}
+use Rattle.ed_words.specs.declared.memory.NoMemory.{NoMemory}
 use Rattle.ed_machine.specs.State.{State}
 use Rattle.ed_words.specs.Texts.{Text}
 use Rattle.ed_answers.specs.Outcome.{Outcome, too_long, too_long_outcome}
@@ -9,7 +10,8 @@ use Rattle.ed_answers.specs.Answer.{Answer, HasOneOutcome, IsDue, of_input}
 use Rattle.ed_page.specs.Answers.{Buffers, HasBufferRoom, HasPictureRoom, IsShown, IsTextWritten, LacksLine, LacksRoom}
 use Rattle.ed_page.specs.Answers.{ShowsNone, HoldsText, TextBuffers}
 use Rattle.ed_page.specs.Pictures.{Pictures}
-use Rattle.ed_page.specs.Private.Stages.{Draws, IsAnswered, HoldsOutcome, WritesBuffers, IsWrittenOut}
+use Rattle.ed_page.specs.Private.Stages.{Draws, HoldsOutcome, IsAnswered, IsToldWritten, IsWrittenOut}
+use Rattle.ed_page.specs.Private.Stages.{WritesBuffers}
 use Rattle.ed_page.specs.declared.running.Shown.{Shown}
 use Rattle.ed_page.specs.declared.told.Told.{Told}
 
@@ -103,28 +105,6 @@ picture_nowhere o told machine before g none = (
   },
 )
 
--- the texts for an input were written
-pub text_told : (wanted : Answer) (text : Text) (told : Told) {before after : TextBuffers} {answer : ℕ}
-    → (LacksLine text before.note → ⊥)
-    → IsAnswered wanted text (Ok told) → ((o : Outcome) → HoldsOutcome told o → IsWrittenOut o before after answer)
-    → IsTextWritten wanted text before after answer
-text_told wanted text told room answered written =
-    let is = written answered.0 answered.2 in
-    record {
-      memory = λ e. absurd (is.0 e);
-      told = λ not10. (answered.0, answered.1, is.1);
-      early = λ lacks. absurd (room lacks);
-    }
-
--- no memory was found
-pub text_unmade : (wanted : Answer) (text : Text) (before : TextBuffers) → (LacksLine text before.note → ⊥)
-    → IsTextWritten wanted text before before 10
-text_unmade wanted text before room = record {
-  memory = λ e. refl;
-  told = λ not10. absurd (not10 refl);
-  early = λ lacks. absurd (room lacks);
-}
-
 pub picture_unmade : (wanted : Answer) (Ends : Text → State → Type 0) (text : Text) (before : Buffers)
     → (LacksRoom text before → ⊥)
     → IsShown wanted Ends text before before 10
@@ -143,7 +123,7 @@ line_lacks answers text out note lacks o (inr due) room =
     subst (λ (x : Outcome). length x.note ≤ length note) (sym due.1) room.note_fits in
     absurd (omega (arith, fits, lacks.1))
 
-pub text_early : (answers : Text → Outcome → Type 0) (text : Text) (before : TextBuffers) → LacksLine text before.note
+text_early : (answers : Text → Outcome → Type 0) (text : Text) (before : TextBuffers) → LacksLine text before.note
     → IsTextWritten (of_input answers) text before before 12
 text_early answers text before lacks = record {
   memory = λ e. absurd (twelve e);
@@ -158,6 +138,25 @@ text_early answers text before lacks = record {
     },
   );
   early = λ l. refl;
+}
+
+-- what is answered to a text was written
+pub text_written : (answers : Text → Outcome → Type 0) (text : Text) (made : Result Told NoMemory)
+    {before after : TextBuffers} {answer : ℕ} → IsAnswered (of_input answers) text made
+    → IsToldWritten made text before after answer → IsTextWritten (of_input answers) text before after answer
+text_written answers text made {before} answered (inl (lacks, is, kept)) =
+    rw (is, kept) (text_early answers text before lacks)
+text_written answers text (Ok told) answered (inr (room, written)) =
+    let is = written answered.0 answered.2 in
+    record {
+      memory = λ e. absurd (is.0 e);
+      told = λ not10. (answered.0, answered.1, is.1);
+      early = λ lacks. absurd (room lacks);
+    }
+text_written answers text (Err e) answered (inr (room, (is, kept))) = record {
+  memory = λ e. kept;
+  told = λ not10. absurd (not10 is);
+  early = λ lacks. absurd (room lacks);
 }
 
 room_lacks : (answers : Text → Outcome → Type 0) (text : Text) (before : Buffers) → LacksRoom text before

@@ -8,8 +8,8 @@ ghost use Rattle.ed_page.specs.TapeItems.{items1_answer};
 ghost use Rattle.ed_answers.specs.declared.input.TheConstants.{INPUT_BYTES};
 
 use crate::items::{OpenItem, push_numbers};
-use crate::texts::tell;
-use crate::told::{NO_MEMORY, NO_ROOM, Told, is_too_long, lacks_line, rejected};
+use crate::texts::write_told;
+use crate::told::{Told, is_too_long, rejected};
 use crate::writing::Lengths;
 use ed_answers::rows_of;
 use ed_codes::{Code, letters};
@@ -33,13 +33,8 @@ pub extern "C" fn page_items1(
     ensures { IsTextWritten items1_answer text.now (text_buffers items.old note.old lengths.old)
         (text_buffers items.new note.new lengths.new) result }
 {
-    if lacks_line(text, note) {
-        return NO_ROOM;
-    }
-    match tape_items1(alloc, text) {
-        Ok(told) => tell(&told, items, note, lengths),
-        Err(NoMemory) => NO_MEMORY,
-    }
+    let told = tape_items1(alloc, text);
+    write_told(told, text, items, note, lengths)
 }
 
 /// What is answered about the items of a tape's text.

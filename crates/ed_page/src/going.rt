@@ -9,21 +9,20 @@ ghost use Rattle.ed_page.specs.Pictures.{Pictures};
 ghost use Rattle.ed_page.specs.Private.Stages.{IsGone};
 
 use crate::pictured::pictured;
-use crate::texts::bytes_of_rows;
 use crate::told::{NO_MEMORY, NO_ROOM};
-use crate::writing::{Lengths, Registers, registers_of, write_store, write_text};
+use crate::writing::{Lengths, Registers, registers_of, write_codes, write_store};
 use ed_answers::status_of;
 use ed_machine::{Ending, Machine, Paper};
 use ed_run::run;
 use ed_words::NoMemory;
 use std::alloc::Global;
 
-/// A run that continued: the machine at its end, and the codes that it printed.
+/// A run that continued: the machine at its end, and the paper with the codes that it printed.
 #[derive(Drop)]
 pub struct Gone {
     pub ending: Ending,
     pub machine: Machine,
-    pub codes: Vec<u8>,
+    pub paper: Paper,
 }
 
 /// Continues from a picture: obeys `orders` more orders, or fewer if the run ends first. Each of the first
@@ -97,7 +96,7 @@ fn went_on(
     ensures gone { IfOk result (λ gone. (first : State) → IsAfterStart small rows.now first → (k : ℕ)
         → Pictures (state_after k first) words.now digits.now registers.now
         → IsGone (run_end orders resumes room (state_after k first)) gone) }
-    ensures fits { IfOk result (λ gone. length gone.codes.items ≤ room) }
+    ensures fits { IfOk result (λ gone. gone.paper.room ≡ room) }
 {
     let machine = pictured(alloc, small, rows, words, digits, registers)?;
     go_on(alloc, machine, orders, resumes, room)
@@ -113,15 +112,14 @@ fn go_on(
 ) -> Result<Gone, NoMemory>
     requires { machine.orders + orders ≤ 2 ^ 63 }
     ensures gone { IfOk result (IsGone (run_end orders resumes room machine)) }
-    ensures fits { IfOk result (λ gone. length gone.codes.items ≤ room) }
+    ensures fits { IfOk result (λ gone. gone.paper.room ≡ room) }
 {
     let mut paper = Paper::new(alloc, room)?;
     let ending = run(&mut machine, u64::from(orders), resumes, &mut paper);
-    let codes = bytes_of_rows(alloc, paper.codes())?;
     Ok(Gone {
         ending,
         machine,
-        codes,
+        paper,
     })
 }
 
@@ -135,15 +133,16 @@ fn show(
 ) -> u32
     requires words { length words.old ≡ 1024 }
     requires digits { length digits.old ≡ 512 }
-    requires codes { length gone.now.codes.items ≤ length codes.old }
+    requires codes { gone.now.paper.room ≤ length codes.old }
     ensures { (r : RunEnd) → IsGone r gone.now → ShowsRun r
         (going_buffers words.old digits.old codes.old registers.old)
         (going_buffers words.new digits.new codes.new registers.new) result }
 {
-    write_text(&gone.codes, codes);
+    let printed = gone.paper.codes();
+    write_codes(printed, codes);
     write_store(&gone.machine, words, digits);
     let lengths = Lengths {
-        out: gone.codes.len() as u64,
+        out: printed.len() as u64,
         note: 0,
     };
     *registers = registers_of(&gone.machine, lengths);

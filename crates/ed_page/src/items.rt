@@ -1,22 +1,22 @@
 //! The items of a tape: the rows that spell each, and the word that it places.
 
 ghost use Rattle.std.specs.Prelude.{◌≡◌, ◌+◌, ◌*◌, ◌≤◌, ◌<◌, ◌^◌, [], ◌∷◌, ◌++◌, IfOk, None, length, ℕ};
-ghost use Rattle.ed_store.specs.Cells.{cleared_cells, with_short};
+ghost use Rattle.ed_store.specs.Cells.{with_short};
 ghost use Rattle.ed_notation.specs.Fold.{address, control_of, item_word, with_kay, with_zed};
 ghost use Rattle.ed_notation.specs.Items.{row_kind};
 ghost use Rattle.ed_notation.specs.declared.kind.RowKind.TheVariants.{Digit};
 ghost use Rattle.ed_page.specs.Answers.{IsTextWritten, text_buffers};
 ghost use Rattle.ed_page.specs.Pictures.{size_shown};
-ghost use Rattle.ed_page.specs.Private.ItemTables.{IsSetAs, IsSetBelow, is_last_row, item_at, notation_after};
-ghost use Rattle.ed_page.specs.Private.ItemTables.{note_over};
+ghost use Rattle.ed_page.specs.Private.ItemTables.{IsSetAs, IsSetBelow, first_notation, is_last_row, item_at};
+ghost use Rattle.ed_page.specs.Private.ItemTables.{notation_after, note_over};
 ghost use Rattle.ed_page.specs.Private.ItemTables.{placing_over, table_on, whole_item, opened_with};
-ghost use Rattle.ed_page.specs.Private.Stages.{AreItemsOf, IsAnswered};
+ghost use Rattle.ed_page.specs.Private.Stages.{AreItemsOf, IsAnswered, IsEntered};
 ghost use Rattle.ed_page.specs.TapeItems.{PlacingLaw, four_bytes, four_numbers, item_line, items_answer};
 ghost use Rattle.ed_answers.specs.declared.input.TheConstants.{INPUT_BYTES};
 
 use crate::running::size_of;
-use crate::texts::tell;
-use crate::told::{NO_MEMORY, NO_ROOM, Told, is_too_long, lacks_line, rejected};
+use crate::texts::write_told;
+use crate::told::{Told, is_too_long, rejected};
 use crate::writing::Lengths;
 use ed_answers::rows_of;
 use ed_codes::{Code, letters};
@@ -65,13 +65,8 @@ pub extern "C" fn page_items(
         (text_buffers items.new note.new lengths.new) result }
     ensures law { PlacingLaw }
 {
-    if lacks_line(text, note) {
-        return NO_ROOM;
-    }
-    match tape_items(alloc, size_of(small), text) {
-        Ok(told) => tell(&told, items, note, lengths),
-        Err(NoMemory) => NO_MEMORY,
-    }
+    let told = tape_items(alloc, size_of(small), text);
+    write_told(told, text, items, note, lengths)
 }
 
 /// What is answered about the items of a tape's text.
@@ -92,9 +87,8 @@ fn row_items(alloc: Global, size: Size, rows: &[Code]) -> Result<Told, NoMemory>
     requires { length rows.now ≤ INPUT_BYTES }
     ensures { AreItemsOf size rows.now result }
 {
-    let store = Store::cleared(alloc)?;
-    match check(alloc, size, &store, rows) {
-        Ok(checked) => Ok(Told::done(alloc, item_table(alloc, &rows[..checked.rows()])?)),
+    match entered_rows(alloc, size, rows) {
+        Ok(entered) => Ok(Told::done(alloc, item_table(alloc, &rows[..entered])?)),
         Err(TapeFault::At { row, cause }) => {
             let items = item_table(alloc, &rows[..row])?;
             Ok(Told::refused(items, tape_fault(alloc, &TapeFault::At { row, cause })?))
@@ -103,26 +97,45 @@ fn row_items(alloc: Global, size: Size, rows: &[Code]) -> Result<Told, NoMemory>
     }
 }
 
+/// The number of rows up to the entry of a tape on a cleared store, or its fault.
+fn entered_rows(alloc: Global, size: Size, rows: &[Code]) -> Result<usize, TapeFault>
+    requires { length rows.now ≤ INPUT_BYTES }
+    ensures { IsEntered size rows.now result }
+{
+    let store = Store::cleared(alloc)?;
+    Ok(check(alloc, size, &store, rows)?.rows())
+}
+
 /// The table of the items that rows spell.
 fn item_table(alloc: Global, rows: &[Code]) -> Result<Vec<u8>, NoMemory>
     requires { length rows.now ≤ INPUT_BYTES }
-    ensures { IfOk result (λ table. table.items
-        ≡ table_on 0 (record { directive = 20568; theta = 0; contents = cleared_cells }) None rows.now) }
+    ensures { IfOk result (λ table. table.items ≡ table_on 0 first_notation None rows.now) }
 {
     let mut notation = Notation {
         directive: u64::from(FIRST_DIRECTIVE),
         theta: 0,
         contents: Store::cleared(alloc)?,
     };
-    let mut part: Option<OpenItem> = None;
     let mut table = Vec::new(alloc);
+    push_items(&mut notation, &mut table, rows)?;
+    Ok(table)
+}
+
+/// Adds the lines of the items that rows spell to a table.
+fn push_items(notation: &mut Notation, table: &mut Vec<u8>, rows: &[Code]) -> Result<(), NoMemory>
+    requires few { length rows.now ≤ INPUT_BYTES }
+    requires first { notation.old ≡ first_notation }
+    requires empty { table.old.items ≡ [] }
+    ensures { IfOk result (λ _. table.new.items ≡ table_on 0 first_notation None rows.now) }
+{
+    let mut part: Option<OpenItem> = None;
     for (row, code) in rows.iter().enumerate() {
         part = match part {
             None => Some(OpenItem::at(row as u32, *code)),
             Some(item) => {
                 if is_last_row(*code) {
                     let placing = notation.placing(&item, *code);
-                    push_line(&mut table, &item, row as u32 + 1, placing)?;
+                    push_line(table, &item, row as u32 + 1, placing)?;
                     notation.take(&item, *code);
                     None
                 } else {
@@ -131,7 +144,7 @@ fn item_table(alloc: Global, rows: &[Code]) -> Result<Vec<u8>, NoMemory>
             }
         };
     }
-    Ok(table)
+    Ok(())
 }
 
 /// Whether a row inside an item ends it: Z, K, blank or a code letter.
@@ -183,16 +196,7 @@ pub fn push_numbers(
 fn push_number(table: &mut Vec<u8>, number: u32) -> Result<(), NoMemory>
     ensures { IfOk result (λ _. table.new.items ≡ table.old.items ++ four_bytes number) }
 {
-    push_byte(table, (number % 256) as u8)?;
-    push_byte(table, (number / 256 % 256) as u8)?;
-    push_byte(table, (number / 65536 % 256) as u8)?;
-    push_byte(table, (number / 16777216 % 256) as u8)
-}
-
-fn push_byte(table: &mut Vec<u8>, byte: u8) -> Result<(), NoMemory>
-    ensures { IfOk result (λ _. table.new.items ≡ table.old.items ++ byte ∷ []) }
-{
-    table.push(byte)?;
+    table.extend_from_slice(&number.to_le_bytes())?;
     Ok(())
 }
 

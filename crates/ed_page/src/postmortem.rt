@@ -12,11 +12,12 @@ ghost use Rattle.ed_page.specs.PostMortems.{IsPostMortemWritten, IsWindowWritten
 
 use crate::pictured::pictured;
 use crate::running::size_of;
-use crate::texts::bytes_of_rows;
 use crate::told::{NO_MEMORY, NO_ROOM};
-use crate::writing::{Registers, write_text};
+use crate::writing::{Registers, write_codes};
 use ed_answers::window_printed;
+use ed_codes::Code;
 use ed_command::Window;
+use ed_machine::Paper;
 use ed_words::{NoMemory, Size};
 use std::alloc::Global;
 
@@ -62,8 +63,8 @@ pub extern "C" fn page_post_mortem(
     if !is_window(size_of(small), window) {
         return REFUSED;
     }
-    match pictured_codes(alloc, rows, small, window, words, digits, registers) {
-        Ok(found) => tell(&found, codes, printed),
+    match printed_paper(alloc, rows, small, window, words, digits, registers) {
+        Ok(paper) => tell(paper.codes(), codes, printed),
         Err(NoMemory) => NO_MEMORY,
     }
 }
@@ -76,8 +77,8 @@ fn is_window(size: Size, window: Window) -> bool
         && u32::from(window.first) + u32::from(window.count) <= u32::from(size.value())
 }
 
-/// The codes of a post-mortem of the state that a picture shows.
-fn pictured_codes(
+/// The paper of a post-mortem of the state that a picture shows.
+fn printed_paper(
     alloc: Global,
     rows: &[u8],
     small: bool,
@@ -85,30 +86,29 @@ fn pictured_codes(
     words: &[u32],
     digits: &[u8],
     registers: &Registers,
-) -> Result<Vec<u8>, NoMemory>
+) -> Result<Paper, NoMemory>
     requires words { length words.now ≡ 1024 }
     requires digits { length digits.now ≡ 512 }
     requires picture { CanGoOn small rows.now words.now digits.now registers.now }
     requires orders { registers.now.orders + 300000 ≤ 2 ^ 63 }
     requires window { IsWindowOf (size_shown small) window }
-    ensures { IfOk result (λ found. (s : State) → IsAfterStart small rows.now s → (k : ℕ)
+    ensures { IfOk result (λ paper. (s : State) → IsAfterStart small rows.now s → (k : ℕ)
         → Pictures (state_after k s) words.now digits.now registers.now
-        → found.items ≡ post_mortem_codes (Some window) (state_after k s)) }
+        → paper.codes ≡ post_mortem_codes (Some window) (state_after k s)) }
 {
     let mut machine = pictured(alloc, small, rows, words, digits, registers)?;
-    let paper = window_printed(alloc, window, &mut machine)?;
-    bytes_of_rows(alloc, paper.codes())
+    window_printed(alloc, window, &mut machine)
 }
 
 /// Writes codes and their number, if the buffer has room.
-fn tell(found: &[u8], codes: &mut [u8], printed: &mut u64) -> u32
+fn tell(found: &[Code], codes: &mut [u8], printed: &mut u64) -> u32
     ensures { (w : Window) (s : State) → found.now ≡ post_mortem_codes (Some w) s
         → IsWindowWritten w s (code_buffer codes.old printed.old) (code_buffer codes.new printed.new) result }
 {
     if codes.len() < found.len() {
         return NO_ROOM;
     }
-    write_text(found, codes);
+    write_codes(found, codes);
     *printed = found.len() as u64;
     WRITTEN
 }

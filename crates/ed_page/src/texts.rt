@@ -4,7 +4,7 @@ ghost use Rattle.ed_answers.specs.Outcome.{Outcome, done};
 ghost use Rattle.ed_answers.specs.Sources.{listing_answer, of_source, punch_answer};
 ghost use Rattle.ed_page.specs.Answers.{IsTextWritten, source_rows, text_buffers};
 ghost use Rattle.ed_page.specs.Pictures.{run_settings, size_shown};
-ghost use Rattle.ed_page.specs.Private.Stages.{HoldsOutcome, IsWrittenOut, IsAnswered};
+ghost use Rattle.ed_page.specs.Private.Stages.{HoldsOutcome, IsAnswered, IsToldWritten, IsWrittenOut};
 
 use crate::running::{run_settings, size_of};
 use crate::told::{NO_MEMORY, NO_ROOM, Told, is_too_long, lacks_line, rejected, told_of};
@@ -29,13 +29,8 @@ pub extern "C" fn page_tape_rows(
     ensures { IsTextWritten (of_rows (exactly done)) text.now (text_buffers rows.old note.old lengths.old)
         (text_buffers rows.new note.new lengths.new) result }
 {
-    if lacks_line(text, note) {
-        return NO_ROOM;
-    }
-    match tape_rows(alloc, text) {
-        Ok(told) => tell(&told, rows, note, lengths),
-        Err(NoMemory) => NO_MEMORY,
-    }
+    let told = tape_rows(alloc, text);
+    write_told(told, text, rows, note, lengths)
 }
 
 /// Writes the codes of the rows of a source's tape, as `page_tape_rows` does.
@@ -52,13 +47,8 @@ pub extern "C" fn page_source_rows(
         (text_buffers rows.old note.old lengths.old)
         (text_buffers rows.new note.new lengths.new) result }
 {
-    if lacks_line(text, note) {
-        return NO_ROOM;
-    }
-    match source_rows(alloc, size_of(small), text) {
-        Ok(told) => tell(&told, rows, note, lengths),
-        Err(NoMemory) => NO_MEMORY,
-    }
+    let told = source_rows(alloc, size_of(small), text);
+    write_told(told, text, rows, note, lengths)
 }
 
 /// Writes the text of a source's tape as `edsac punch` does, as `page_tape_rows` writes rows.
@@ -74,13 +64,8 @@ pub extern "C" fn page_punch(
     ensures { IsTextWritten (punch_answer (run_settings small 0 0)) text.now (text_buffers tape.old note.old lengths.old)
         (text_buffers tape.new note.new lengths.new) result }
 {
-    if lacks_line(text, note) {
-        return NO_ROOM;
-    }
-    match source_tape(alloc, run_settings(small, 0, 0), text) {
-        Ok(told) => tell(&told, tape, note, lengths),
-        Err(NoMemory) => NO_MEMORY,
-    }
+    let told = source_tape(alloc, run_settings(small, 0, 0), text);
+    write_told(told, text, tape, note, lengths)
 }
 
 /// Writes the listing of a source, as `page_tape_rows` writes rows.
@@ -96,17 +81,32 @@ pub extern "C" fn page_listing(
     ensures { IsTextWritten (listing_answer (run_settings small 0 0)) text.now (text_buffers listing.old note.old lengths.old)
         (text_buffers listing.new note.new lengths.new) result }
 {
+    let told = source_listing(alloc, run_settings(small, 0, 0), text);
+    write_told(told, text, listing, note, lengths)
+}
+
+/// Writes what is answered to a text into two buffers, if they have room.
+pub fn write_told(
+    told: Result<Told, NoMemory>,
+    text: &[u8],
+    out: &mut [u8],
+    note: &mut [u8],
+    lengths: &mut Lengths,
+) -> u32
+    ensures { IsToldWritten told text.now (text_buffers out.old note.old lengths.old)
+        (text_buffers out.new note.new lengths.new) result }
+{
     if lacks_line(text, note) {
         return NO_ROOM;
     }
-    match source_listing(alloc, run_settings(small, 0, 0), text) {
-        Ok(told) => tell(&told, listing, note, lengths),
+    match told {
+        Ok(told) => tell(&told, out, note, lengths),
         Err(NoMemory) => NO_MEMORY,
     }
 }
 
 /// Writes the texts into two buffers, if they have room.
-pub fn tell(told: &Told, out: &mut [u8], note: &mut [u8], lengths: &mut Lengths) -> u32
+fn tell(told: &Told, out: &mut [u8], note: &mut [u8], lengths: &mut Lengths) -> u32
     ensures { (o : Outcome) → HoldsOutcome told.now o → IsWrittenOut o (text_buffers out.old note.old lengths.old)
         (text_buffers out.new note.new lengths.new) result }
 {

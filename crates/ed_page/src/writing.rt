@@ -80,6 +80,16 @@ pub fn write_text(text: &[u8], buffer: &mut [u8])
     buffer[..text.len()].copy_from_slice(text);
 }
 
+/// Writes codes at the beginning of a buffer, and keeps its other bytes.
+pub fn write_codes(codes: &[Code], buffer: &mut [u8])
+    requires { length codes.now ≤ length buffer.old }
+    ensures { buffer.new ≡ codes.now ++ drop (length codes.now) buffer.old }
+{
+    for (place, code) in codes.iter().enumerate() {
+        buffer[place] = code.value();
+    }
+}
+
 /// The registers of a machine, with the lengths of two texts.
 pub fn registers_of(machine: &Machine, lengths: Lengths) -> Registers
     ensures registers { PicturesRegisters machine.now result }

@@ -5,7 +5,7 @@ ghost use Rattle.ed_stepper.specs.Private.CommandReading.{session_command, of_on
 ghost use Rattle.ed_stepper.specs.Private.CommandReading.{shown_command, show_command};
 ghost use Rattle.ed_stepper.specs.Private.Commands.{IsCommandInRange};
 
-use crate::fronts::first_part;
+use crate::fronts::{first_part, spells};
 use crate::moves::MoveTarget;
 use ed_words::number_within;
 
@@ -55,7 +55,7 @@ fn of_one(word: &[u8]) -> Option<SessionCommand>
     ensures is { result ≡ of_one word.now }
     ensures in_range { IfSome result IsCommandInRange }
 {
-    if word == b"entry".as_slice() {
+    if spells(word, "entry") {
         Some(SessionCommand::Move(MoveTarget::Entry))
     } else {
         None
@@ -67,15 +67,15 @@ fn of_two(word: &[u8], argument: &[u8]) -> Option<SessionCommand>
     ensures is { result ≡ of_two word.now argument.now }
     ensures in_range { IfSome result IsCommandInRange }
 {
-    if word == b"go".as_slice() {
+    if spells(word, "go") {
         go(argument)
-    } else if word == b"to".as_slice() {
+    } else if spells(word, "to") {
         to(argument)
-    } else if word == b"back".as_slice() {
+    } else if spells(word, "back") {
         back(argument)
-    } else if word == b"trace".as_slice() {
+    } else if spells(word, "trace") {
         trace(argument)
-    } else if word == b"show".as_slice() {
+    } else if spells(word, "show") {
         shown(argument)
     } else {
         None
@@ -123,11 +123,11 @@ fn shown(argument: &[u8]) -> Option<SessionCommand>
     ensures is { result ≡ shown_command argument.now }
     ensures in_range { IfSome result IsCommandInRange }
 {
-    if argument == b"acc".as_slice() {
+    if spells(argument, "acc") {
         Some(SessionCommand::Accumulator)
-    } else if argument == b"mult".as_slice() {
+    } else if spells(argument, "mult") {
         Some(SessionCommand::Multiplier)
-    } else if argument == b"last".as_slice() {
+    } else if spells(argument, "last") {
         Some(SessionCommand::LastPrinted)
     } else {
         window(address(argument), address(argument))
@@ -139,7 +139,7 @@ fn of_three(word: &[u8], first: &[u8], last: &[u8]) -> Option<SessionCommand>
     ensures is { result ≡ of_three word.now first.now last.now }
     ensures in_range { IfSome result IsCommandInRange }
 {
-    if word == b"show".as_slice() {
+    if spells(word, "show") {
         window(address(first), address(last))
     } else {
         None

@@ -1,5 +1,6 @@
 //! The front of a text: its first line, and the first part of a line.
 ghost use Rattle.std.specs.Prelude.{◌≡◌, ◌==◌, ◌∷◌, ◌≤◌, ◌<◌, not, IfSome, length, position};
+ghost use Rattle.std.specs.Str.{bytes_eq};
 ghost use Rattle.ed_syntax.specs.Lines.{lines_of};
 ghost use Rattle.ed_stepper.specs.Commands.{is_space};
 ghost use Rattle.ed_stepper.specs.Inputs.{after_line};
@@ -12,7 +13,7 @@ pub(crate) fn first_line<'a>(text: &'a [u8]) -> (&'a [u8], &'a [u8])
     ensures after { result.1.now ≡ after_line text.entry.now }
     ensures shorter { length result.1.now < length text.entry.now }
 {
-    match first_end(text) {
+    match first_byte(text, b'\n') {
         Some(end) => (&text[..stop_of(text, end)], &text[end + 1..]),
         None => (text, &[]),
     }
@@ -38,27 +39,19 @@ pub(crate) fn first_part<'a>(line: &'a [u8]) -> Option<(&'a [u8], &'a [u8])>
     match first_solid(line) {
         Some(start) => {
             let rest = &line[start..];
-            let end = first_space(rest).unwrap_or(rest.len());
+            let end = first_byte(rest, b' ').unwrap_or(rest.len());
             Some(rest.split_at(end))
         }
         None => None,
     }
 }
 
-/// The index of the first line feed.
-fn first_end(text: &[u8]) -> Option<usize>
-    ensures is { result ≡ position (λ b. b == 10) text.now }
+/// The index of the first byte that is this one.
+fn first_byte(text: &[u8], wanted: u8) -> Option<usize>
+    ensures is { result ≡ position (λ b. b == wanted) text.now }
     ensures within { IfSome result (λ i. i < length text.now) }
 {
-    text.iter().position(|byte| *byte == b'\n')
-}
-
-/// The index of the first space.
-fn first_space(text: &[u8]) -> Option<usize>
-    ensures is { result ≡ position is_space text.now }
-    ensures within { IfSome result (λ i. i < length text.now) }
-{
-    text.iter().position(|byte| is_space(*byte))
+    text.iter().position(|byte| *byte == wanted)
 }
 
 /// The index of the first byte that is not a space.
@@ -66,12 +59,12 @@ fn first_solid(text: &[u8]) -> Option<usize>
     ensures is { result ≡ position (λ b. not (is_space b)) text.now }
     ensures within { IfSome result (λ i. i < length text.now) }
 {
-    text.iter().position(|byte| !is_space(*byte))
+    text.iter().position(|byte| *byte != b' ')
 }
 
-/// Whether a byte is a space. A tab is not.
-fn is_space(byte: u8) -> bool
-    ensures { result ≡ is_space byte }
+/// Whether a text is this word.
+pub(crate) fn spells(text: &[u8], word: &str) -> bool
+    ensures { result ≡ bytes_eq text.now word.now }
 {
-    byte == b' '
+    text == word.as_bytes()
 }

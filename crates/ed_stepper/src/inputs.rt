@@ -3,7 +3,7 @@ ghost use Rattle.std.specs.Prelude.{◌≡◌, ◌≤◌, ◌<◌, length};
 ghost use Rattle.ed_syntax.specs.Lines.{lines_of};
 ghost use Rattle.ed_stepper.specs.Inputs.{Divides, text_kind_of};
 
-use crate::fronts::first_line;
+use crate::fronts::{first_line, spells};
 
 /// The text after the line that divides an input.
 #[derive(Clone, Copy)]
@@ -48,9 +48,9 @@ pub fn divide<'a>(input: &'a [u8]) -> Option<Divided<'a>>
 fn text_kind_of(line: &[u8]) -> Option<TextKind>
     ensures { result ≡ text_kind_of line.now }
 {
-    if line == b"tape".as_slice() {
+    if spells(line, "tape") {
         Some(TextKind::Tape)
-    } else if line == b"source".as_slice() {
+    } else if spells(line, "source") {
         Some(TextKind::Source)
     } else {
         None

@@ -2,7 +2,7 @@
 use Rattle.std.specs.Prelude.{◌≡◌, ℕ, ◌+◌, ◌*◌, ◌^◌, ◌%◌, ◌≤◌, Bool, true, false, Option, Some, None, List, [], ◌∷◌}
 use Rattle.std.specs.Prelude.{◌++◌, if◌then◌else◌, nat_eq, nat_lt}
 use Rattle.ed_words.specs.Words.{digit}
-use Rattle.ed_store.specs.Cells.{Cells, with_short}
+use Rattle.ed_store.specs.Cells.{Cells, cleared_cells, with_short}
 use Rattle.ed_notation.specs.declared.item.Item.{Item}
 use Rattle.ed_notation.specs.declared.kind.RowKind.{RowKind}
 use Rattle.ed_notation.specs.declared.kind.RowKind.TheVariants.{Digit, Zed, Kay, Blank, Letter}
@@ -32,6 +32,10 @@ is_last_row kind = false
 -- the item that a row ends
 abbrev pub whole_item : OpenItem → ℕ → Item
 whole_item p c = record { function = p.function; number = p.number; mark = p.mark; end = c }
+
+-- the state of the notation on a cleared store
+abbrev pub first_notation : Notation
+first_notation = record { directive = 20568; theta = 0; contents = cleared_cells }
 
 -- the state of the notation in which nothing was placed: the store has what was
 abbrev pub note_over : Notation → NotationState

@@ -1,19 +1,26 @@
 -- How the texts and pictures that are written relate to what the program answers.
-use Rattle.std.specs.Prelude.{◌≡◌, ◌≢◌, ℕ, ◌<◌, ◌≤◌, length, List, Option, None, Some, IfSome, Result, Ok, Err}
+use Rattle.std.specs.Prelude.{◌≡◌, ◌≢◌, ◌⊎◌, ℕ, ◌<◌, ◌≤◌, length, List, Option, None, Some, IfSome, Result, Ok, Err}
 use Rattle.ed_words.specs.declared.memory.NoMemory.{NoMemory}
 use Rattle.ed_words.specs.declared.size.Size.{Size}
+use Rattle.ed_store.specs.Cells.{cleared_cells}
 use Rattle.ed_machine.specs.State.{State}
+use Rattle.ed_notation.specs.Checks.{Accepts}
+use Rattle.ed_notation.specs.Faults.{IsFault}
+use Rattle.ed_notation.specs.Reports.{Report}
+use Rattle.ed_notation.specs.declared.cause.TapeFault.{TapeFault}
+use Rattle.ed_notation.specs.declared.cause.TapeFault.TheVariants.{At, Memory as NoStore}
 use Rattle.ed_run.specs.Run.{RunEnd}
 use Rattle.ed_answers.specs.declared.input.TheConstants.{INPUT_BYTES}
 use Rattle.ed_answers.specs.Answer.{Answer, IsDue}
 use Rattle.ed_words.specs.Texts.{Text}
 use Rattle.ed_answers.specs.Outcome.{Outcome}
 use Rattle.ed_answers.specs.Replies.{Gives}
+use Rattle.ed_answers.specs.Tapes.{first_note}
 use Rattle.ed_answers.specs.declared.reply.Rejection.{Rejection}
 use Rattle.ed_answers.specs.declared.reply.Rejection.TheVariants.{Memory, Refused}
 use Rattle.ed_answers.specs.declared.reply.Reply.{Reply}
 use Rattle.ed_page.specs.Answers.{Buffers, HasItsCause, HasPictureRoom, HasBufferRoom, ShowsNone, HoldsText}
-use Rattle.ed_page.specs.Answers.{TextBuffers}
+use Rattle.ed_page.specs.Answers.{LacksLine, TextBuffers}
 use Rattle.ed_page.specs.Pictures.{Pictures}
 use Rattle.ed_page.specs.TapeItems.{IsItemsOutcome, IsItemsOutcome1}
 use Rattle.ed_page.specs.declared.going.Gone.{Gone}
@@ -72,6 +79,16 @@ IsWrittenOut o before after answer = (answer ≢ 10)
     × HasItsCause (HasBufferRoom o before.out before.note) (after ≡ before)
     (HoldsText o before.out before.note after.out after.note after.lengths.out after.lengths.note answer) answer
 
+-- the texts were written into two buffers, or there was no room; or no memory was found
+abbrev pub IsMadeWritten : Result Told NoMemory → (before after : TextBuffers) → ℕ → Type 0
+IsMadeWritten (Ok told) before after answer = (o : Outcome) → HoldsOutcome told o → IsWrittenOut o before after answer
+IsMadeWritten (Err e) before after answer = (answer ≡ 10) × (after ≡ before)
+
+-- what is answered to a text was written into two buffers; with 12 first if the line on its length has no room
+abbrev pub IsToldWritten : Result Told NoMemory → Text → (before after : TextBuffers) → ℕ → Type 0
+IsToldWritten made text before after answer = (LacksLine text before.note × (answer ≡ 12) × (after ≡ before))
+    ⊎ ((LacksLine text before.note → ⊥) × IsMadeWritten made before after answer)
+
 -- buffers show an outcome, and a machine if there is one
 pub record ShowsMachine (o : Outcome) (machine : Option State) (before after : Buffers) (answer : ℕ) : Type 0 where
   pub told : HoldsText o before.paper before.note after.paper after.note after.registers.printed after.registers.noted
@@ -88,7 +105,13 @@ WritesBuffers o machine before after answer = (answer ≢ 10)
 pub record IsGone (r : RunEnd) (gone : Gone) : Type 0 where
   pub ending_is : gone.ending ≡ r.ending
   pub state_is : gone.machine ≡ r.state
-  pub codes_are : gone.codes.items ≡ r.codes
+  pub codes_are : gone.paper.codes ≡ r.codes
+
+-- what a check of rows on a cleared store answers, with the number of rows up to the entry
+abbrev pub IsEntered : Size → List ℕ → Result ℕ TapeFault → Type 0
+IsEntered z codes (Ok n) = (r : Report) × Accepts z cleared_cells.words first_note 9 codes r × (n ≡ r.rows)
+IsEntered z codes (Err (At row cause)) = IsFault z cleared_cells.words first_note codes row cause
+IsEntered z codes (Err NoStore) = Unit {0}
 
 -- what is answered about the items of rows
 abbrev pub AreItemsOf : Size → List ℕ → Result Told NoMemory → Type 0

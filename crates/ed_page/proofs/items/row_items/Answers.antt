@@ -1,34 +1,31 @@
 use Rattle.std.proofs.Common.{List, ℕ, subst}
 use Rattle.std.specs.Prelude.{Err}
-use Rattle.ed_notation.specs.Checks.{AnswersCheck}
-use Rattle.ed_notation.specs.Openings.{opening}
 use Rattle.ed_notation.specs.declared.cause.TapeFault.{TapeFault}
 use Rattle.ed_notation.specs.declared.cause.TapeFault.TheVariants.{At}
 use Rattle.ed_report.specs.Notes.{rule_line}
 use Rattle.ed_answers.specs.Outcome.{done}
-use Rattle.ed_page.specs.Private.Stages.{HoldsOutcome}
+use Rattle.ed_page.specs.Private.Stages.{HoldsOutcome, IsEntered}
 use Rattle.ed_page.proofs.ItemRows.{entered_told, fault_told}
 use Rattle.ed_page.proofs.RowCodes.{first_within}
 use Rattle.ed_page.proofs.items.row_items.Goals as goal
 
-pub returns-in-Ok : goal.returns-in-Ok
-returns-in-Ok c =
-    entered_told c.args.size c.in_ok-store.ensures c.in-Ok.ensures.answers c.rows.ensures
+pub returns-in_ok-item_table-in-Ok : goal.returns-in_ok-item_table-in-Ok
+returns-in_ok-item_table-in-Ok c =
+    entered_told c.args.size c.in-Ok.ensures
     (subst (λ (out : List ℕ). HoldsOutcome c.done.result (done out)) c.in_ok-item_table-in-Ok.ensures c.done.ensures)
 
-pub returns-in-Err-At : goal.returns-in-Err-At
-returns-in-Err-At c =
-    let words = c.in_ok-store.store.words in
+pub returns-in_ok-tape_fault-in-Err-At : goal.returns-in_ok-tape_fault-in-Err-At
+returns-in_ok-tape_fault-in-Err-At c =
     let row = c.in-Err-At.row in
     let cause = c.in-Err-At.cause in
     let items = c.in_ok-items-in-Err-At.items.items in
-    let answers : AnswersCheck c.args.size words (opening words) 9 c.args.rows.now (Err (At row cause)) =
-    subst (λ (f : TapeFault). AnswersCheck c.args.size words (opening words) 9 c.args.rows.now (Err f))
-    c.in-Err-At.field-0-is c.in-Err-At.ensures.answers in
+    let fault : IsEntered c.args.size c.args.rows.now (Err (At row cause)) =
+    subst (λ (f : TapeFault). IsEntered c.args.size c.args.rows.now (Err f)) c.in-Err-At.field-0-is
+    c.in-Err-At.ensures in
     let noted : HoldsOutcome c.refused.result (record { out = items; note = rule_line row cause; status = 3 }) =
     subst (λ (note : List ℕ). HoldsOutcome c.refused.result (record { out = items; note = note; status = 3 }))
     c.in_ok-tape_fault-in-Err-At.ensures c.refused.ensures in
-    fault_told c.args.size c.in_ok-store.ensures answers
+    fault_told c.args.size fault
     (subst (λ (out : List ℕ). HoldsOutcome c.refused.result (record {
       out = out;
       note =

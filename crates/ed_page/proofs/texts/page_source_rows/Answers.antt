@@ -1,27 +1,15 @@
-use Rattle.std.proofs.Common.{rules, subst}
-use Rattle.std.specs.Prelude.{Ok}
+use Rattle.std.proofs.Common.{subst}
 use Rattle.ed_words.specs.declared.size.Size.{Size}
 use Rattle.ed_answers.specs.Sources.{of_source}
-use Rattle.ed_page.specs.Answers.{source_rows, text_buffers}
-use Rattle.ed_page.specs.Pictures.{size_shown}
+use Rattle.ed_page.specs.Answers.{source_rows}
 use Rattle.ed_page.specs.Private.Stages.{IsAnswered}
-use Rattle.ed_page.proofs.Written.{refuted, text_early, text_told, text_unmade}
+use Rattle.ed_page.proofs.Written.{text_written}
 use Rattle.ed_page.proofs.texts.page_source_rows.Goals as goal
 
-pub returns-in-Ok : goal.returns-in-Ok
-returns-in-Ok c =
-    text_told (of_source (size_shown c.args.small) source_rows) c.args.text.now c.in-Ok.told
-    (refuted c.lacks_line.result c.if-lacks_line.false c.lacks_line.ensures)
-    (subst (λ (z : Size). IsAnswered (of_source z source_rows) c.args.text.now (Ok c.in-Ok.told)) c.size_of.ensures
-    c.in-Ok.ensures) c.tell.ensures
-
-pub returns-then-lacks_line : goal.returns-then-lacks_line
-returns-then-lacks_line c =
-    text_early _ c.args.text.now (text_buffers c.args.rows.now c.args.note.now c.args.lengths.now)
-    (c.lacks_line.ensures.0 (search rules))
-
-pub returns-in-Err : goal.returns-in-Err
-returns-in-Err c =
-    text_unmade (of_source (size_shown c.args.small) source_rows) c.args.text.now
-    (text_buffers c.args.rows.now c.args.note.now c.args.lengths.now)
-    (refuted c.lacks_line.result c.if-lacks_line.false c.lacks_line.ensures)
+pub returns : goal.returns
+returns c =
+    let text = c.args.text.now in
+    let told = c.source_rows-told.result in
+    text_written _ text told
+    (subst (λ (z : Size). IsAnswered (of_source z source_rows) text told) c.size_of.ensures c.source_rows-told.ensures)
+    c.write_told.ensures

@@ -13,7 +13,7 @@ returns-in-Some c =
     let rest : Text = take (length line - start) (drop start line) in
     let all : rest ≡ drop start line = take_rest line start in
     let end : c.unwrap_or-end.result ≡ unwrap_or (position is_space rest) (length rest) =
-    c.unwrap_or-end.ensures ∙ ap (λ o. unwrap_or o (length rest)) c.first_space.ensures.is in
+    c.unwrap_or-end.ensures ∙ ap (λ o. unwrap_or o (length rest)) c.first_byte.ensures.is in
     rw (c.split_at.ensures.front, c.split_at.ensures.back, all)
     (part_taken line start _ (sym c.first_solid.ensures.is ∙ c.in-Some.is) (rw all at end))
 

@@ -1,13 +1,11 @@
-use Rattle.std.proofs.Common.{◌≡◌, ◌∙◌, arith, sym}
+use Rattle.std.proofs.Common.{◌∙◌, sym}
 use Rattle.ed_page.proofs.ItemRows.{tabled_end, tabled_first, tabled_function, tabled_last, tabled_longer}
-use Rattle.ed_page.proofs.items.item_table.Goals.{in-None, in-Some+else-is_last_row}
-use Rattle.ed_page.proofs.items.item_table.Goals.{in-Some+then-is_last_row+in_ok-push_line-in-Some}
-use Rattle.ed_page.proofs.items.item_table.Goals as goal
+use Rattle.ed_page.proofs.items.push_items.Goals.{in-None, in-Some+else-is_last_row}
+use Rattle.ed_page.proofs.items.push_items.Goals.{in-Some+then-is_last_row+in_ok-push_line-in-Some}
+use Rattle.ed_page.proofs.items.push_items.Goals as goal
 
 pub loop-row-init : goal.loop-row-init
-loop-row-init c =
-    let first : c.from.result ≡ 20568 = omega arith in
-    rw first (tabled_first c.args.rows.now c.new-table.ensures.items c.in_ok-cleared.ensures)
+loop-row-init c = tabled_first c.args.rows.now c.requires.empty c.requires.first
 
 pub loop-row-preserved : goal.loop-row-preserved
 loop-row-preserved c = elim c.match-part.branch [

@@ -1,5 +1,5 @@
 use Rattle.ed_page.proofs.ItemRows.{IsTabled}
-use Rattle.ed_page.proofs.items.item_table.Given as goal
+use Rattle.ed_page.proofs.items.push_items.Given as goal
 
 abbrev pub invariant-loop-row : goal.invariant-loop-row
 invariant-loop-row l = IsTabled l.row l.notation l.part l.table.items l.rows

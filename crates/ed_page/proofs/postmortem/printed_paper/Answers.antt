@@ -4,7 +4,7 @@ use Rattle.ed_machine.specs.State.{State}
 use Rattle.ed_command.specs.Ranges.{IsWindowOf}
 use Rattle.ed_page.specs.Pictures.{size_shown}
 use Rattle.ed_page.proofs.OnTheWay.{begun, way_size}
-use Rattle.ed_page.proofs.postmortem.pictured_codes.Goals as goal
+use Rattle.ed_page.proofs.postmortem.printed_paper.Goals as goal
 
 pub window_printed-requires-clause-window : goal.window_printed-requires-clause-window
 window_printed-requires-clause-window c =
