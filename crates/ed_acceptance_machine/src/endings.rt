@@ -1,8 +1,8 @@
 //! A run of the machine on a tape, by the calls of the crates below.
 
 use crate::numbers::number_of_the_only;
-use crate::support::word_at;
-use ed_codes::tape_of_text;
+use crate::support::{expect, word_at};
+use ed_codes::{Code, tape_of_text};
 use ed_initial::orders;
 use ed_machine::{Ending, Machine, Paper};
 use ed_report::ending_text;
@@ -34,8 +34,12 @@ fn started_machine(alloc: Global) -> Result<Machine, Fail> {
 /// Runs such a machine, and checks that it prints A and stops.
 fn run_to_stop(rt: &impl Abort, machine: &mut Machine, paper: &mut Paper) {
     let ending = ending_of_run(rt, machine, paper);
-    assert!(rt; ending == Ending::Stopped);
-    assert!(rt; number_of_the_only(paper.codes()) == Some(28));
+    expect(rt, ending == Ending::Stopped, "the ending");
+    expect(
+        rt,
+        number_of_the_only(paper.codes()) == Some(28),
+        "the codes",
+    );
 }
 
 /// Such a machine after its run.
@@ -48,21 +52,19 @@ fn machine_after_a_run(rt: &impl Abort, alloc: Global) -> Result<Machine, Fail> 
 
 /// Checks the registers after the run.
 fn expect_registers(rt: &impl Abort, machine: &Machine) {
-    assert!(rt; machine.counter() == 66);
-    assert!(rt; machine.orders_done() == 193);
-    assert!(rt; machine.acc() == 0);
-    assert!(rt; machine.multiplier().value() == 20_480 * 262_144);
+    expect(rt, machine.counter() == 66, "the counter");
+    expect(rt, machine.orders_done() == 193, "the orders");
+    expect(rt, machine.acc() == 0, "the accumulator");
+    let multiplier = machine.multiplier().value();
+    expect(rt, multiplier == 20_480 * 262_144, "the multiplier");
 }
 
 /// Checks the rows that are left after the run, the program's words and what was printed last.
 fn expect_tape_and_words(rt: &impl Abort, machine: &Machine) {
-    assert!(rt; machine.rows_left().len() == 2);
-    assert!(rt; word_at(rt, machine, 64) == 36_996);
-    assert!(rt; word_at(rt, machine, 65) == 53_248);
-    match machine.last_printed() {
-        Some(code) => assert!(rt; code.value() == 28),
-        None => assert!(rt; false, "nothing is printed"),
-    }
+    expect(rt, machine.rows_left().len() == 2, "the rows");
+    expect(rt, word_at(rt, machine, 64) == 36_996, "the word at 64");
+    expect(rt, word_at(rt, machine, 65) == 53_248, "the word at 65");
+    expect(rt, machine.last_printed() == Code::new(28), "the last code");
 }
 
 /// Checks the text of the ending of the run.

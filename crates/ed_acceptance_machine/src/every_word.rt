@@ -1,7 +1,7 @@
 //! Each of the 131,072 words as an order.
 
 use crate::numbers::{code, word};
-use crate::support::{image_of, machine_after, next_turn, obey, start_with};
+use crate::support::{expect, image_of, machine_after, next_turn, obey, start_with};
 use ed_codes::{Code, byte_of, tape_of_text};
 use ed_machine::{Machine, Turn};
 use ed_words::{Size, Word};
@@ -17,8 +17,14 @@ const DATA: [u32; 4] = [74_565, 43_981, 0, 0];
 
 /// Checks that these orders have left something in each of them.
 fn expect_used(rt: &impl Abort, machine: &Machine) {
-    assert!(rt; machine.sandwich(100) && machine.acc() != 0 && machine.multiplier().value() != 0);
-    assert!(rt; machine.last_printed().is_some() && machine.orders_done() == 7);
+    expect(
+        rt,
+        machine.sandwich(100) && machine.acc() != 0,
+        "the accumulator",
+    );
+    expect(rt, machine.multiplier().value() != 0, "the multiplier");
+    expect(rt, machine.last_printed().is_some(), "the last code");
+    expect(rt, machine.orders_done() == 7, "the orders");
 }
 
 /// A machine that has obeyed these orders.

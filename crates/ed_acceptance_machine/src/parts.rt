@@ -1,6 +1,7 @@
 //! Each public call of the machine's parts once on its happy path.
 
 use crate::numbers::{code, codes, long, number_of_the_only, word};
+use crate::support::expect;
 use ed_acc::Acc;
 use ed_codes::{Code, TextFault, byte_of, row_of_byte, tape_of_text};
 use ed_machine::Paper;
@@ -19,9 +20,17 @@ fn words_and_their_fields(rt: HostRuntime) {
         address: 66,
         length: true,
     };
-    assert!(rt; Word::of_order(order).value() == 114_821);
-    assert!(rt; word(&rt, 114_821).order() == order);
-    assert!(rt; Word::new(131_072).is_none());
+    expect(
+        &rt,
+        Word::of_order(order).value() == 114_821,
+        "the word of an order",
+    );
+    expect(
+        &rt,
+        word(&rt, 114_821).order() == order,
+        "the order of a word",
+    );
+    expect(&rt, Word::new(131_072).is_none(), "no word");
 }
 
 #[test]
@@ -31,10 +40,22 @@ fn long_words_and_their_halves(rt: HostRuntime) {
         sandwich: true,
         even: word(&rt, 2),
     };
-    assert!(rt; Long::join(halves).value() == 262_144 + 131_072 + 2);
-    assert!(rt; long(&rt, 393_218).halves() == halves);
-    assert!(rt; Long::of_short(word(&rt, 3)).value() == 786_432);
-    assert!(rt; Long::new(1 << 35).is_none());
+    expect(
+        &rt,
+        Long::join(halves).value() == 262_144 + 131_072 + 2,
+        "the long word of halves",
+    );
+    expect(
+        &rt,
+        long(&rt, 393_218).halves() == halves,
+        "the halves of a long word",
+    );
+    expect(
+        &rt,
+        Long::of_short(word(&rt, 3)).value() == 786_432,
+        "the long word of a word",
+    );
+    expect(&rt, Long::new(1 << 35).is_none(), "no long word");
 }
 
 #[test]
@@ -46,13 +67,25 @@ fn the_sizes_of_a_store(rt: HostRuntime) {
 
 #[test]
 fn codes_and_their_signs(rt: HostRuntime) {
-    assert!(rt; code(&rt, 31).value() == 31);
-    assert!(rt; Code::new(32).is_none());
-    assert!(rt; Code::default().value() == 0);
-    assert!(rt; byte_of(code(&rt, 3), false) == b'E');
-    assert!(rt; byte_of(code(&rt, 3), true) == b'3');
-    assert!(rt; row_of_byte(b'V') == Some(code(&rt, 31)));
-    assert!(rt; row_of_byte(b'v').is_none());
+    expect(&rt, code(&rt, 31).value() == 31, "the number of a code");
+    expect(&rt, Code::new(32).is_none(), "no code");
+    expect(&rt, Code::default().value() == 0, "the code 0");
+    expect(
+        &rt,
+        byte_of(code(&rt, 3), false) == b'E',
+        "the letter of a code",
+    );
+    expect(
+        &rt,
+        byte_of(code(&rt, 3), true) == b'3',
+        "the figure of a code",
+    );
+    expect(
+        &rt,
+        row_of_byte(b'V') == Some(code(&rt, 31)),
+        "the row of a letter",
+    );
+    expect(&rt, row_of_byte(b'v').is_none(), "no row");
 }
 
 /// Checks that the rows of a text are these.
@@ -125,18 +158,23 @@ fn every_byte_of_a_tape_text(rt: HostRuntime) -> Result<(), Fail> {
     Ok(())
 }
 
+/// Checks the number in an accumulator.
+fn expect_value(rt: &impl Abort, acc: &Acc, value: u128) {
+    assert!(rt; acc.value() == value, "{value}");
+}
+
 #[test]
 fn the_accumulator(rt: HostRuntime) {
     let mut acc = Acc::cleared();
-    assert!(rt; acc.value() == 0);
+    expect_value(&rt, &acc, 0);
     acc.add_short(word(&rt, 3));
     acc.add_long(long(&rt, 5));
-    assert!(rt; acc.value() == (3 << 54) + (5 << 36));
-    assert!(rt; acc.top_short().value() == 3);
-    assert!(rt; acc.top_long().value() == 786_437);
+    expect_value(&rt, &acc, (3 << 54) + (5 << 36));
+    expect(&rt, acc.top_short().value() == 3, "the top word");
+    expect(&rt, acc.top_long().value() == 786_437, "the top long word");
     acc.sub_long(long(&rt, 5));
     acc.sub_short(word(&rt, 1));
-    assert!(rt; acc.value() == 1 << 55);
+    expect_value(&rt, &acc, 1 << 55);
 }
 
 #[test]
@@ -144,16 +182,16 @@ fn shifts_and_the_sign(rt: HostRuntime) {
     let mut acc = Acc::cleared();
     acc.add_short(word(&rt, 2));
     acc.left(2);
-    assert!(rt; acc.value() == 1 << 57);
+    expect_value(&rt, &acc, 1 << 57);
     acc.right(3);
-    assert!(rt; acc.value() == 1 << 54);
+    expect_value(&rt, &acc, 1 << 54);
     acc.round();
-    assert!(rt; acc.value() == (1 << 54) + (1 << 35));
+    expect_value(&rt, &acc, (1 << 54) + (1 << 35));
     acc.clear();
-    assert!(rt; !acc.is_negative());
+    expect(&rt, !acc.is_negative(), "not negative");
     acc.sub_short(word(&rt, 1));
-    assert!(rt; acc.is_negative());
-    assert!(rt; acc.value() == (1 << 71) - (1 << 54));
+    expect(&rt, acc.is_negative(), "negative");
+    expect_value(&rt, &acc, (1 << 71) - (1 << 54));
 }
 
 #[test]
@@ -161,21 +199,29 @@ fn products_and_common_digits(rt: HostRuntime) {
     let half = long(&rt, 1 << 33);
     let mut acc = Acc::cleared();
     acc.add_product(half, half);
-    assert!(rt; acc.value() == 1 << 68);
+    expect_value(&rt, &acc, 1 << 68);
     acc.sub_product(half, half);
-    assert!(rt; acc.value() == 0);
+    expect_value(&rt, &acc, 0);
     acc.collate(Long::of_short(word(&rt, 3)), Long::of_short(word(&rt, 6)));
-    assert!(rt; acc.value() == 1 << 55);
+    expect_value(&rt, &acc, 1 << 55);
 }
 
 /// Checks what words and long words leave in a cleared store.
 fn expect_words(rt: &impl Abort, store: &mut Store) {
     store.put_short(5, word(rt, 7));
     store.put_long(8, long(rt, 131_073));
-    assert!(rt; store.short(5).value() == 7);
-    assert!(rt; store.long(4).value() == 7 * 262_144);
-    assert!(rt; store.short(8).value() == 1);
-    assert!(rt; store.sandwich(9) && !store.sandwich(5));
+    expect(rt, store.short(5).value() == 7, "a word");
+    expect(
+        rt,
+        store.long(4).value() == 7 * 262_144,
+        "the long word of a word",
+    );
+    expect(rt, store.short(8).value() == 1, "the word of a long word");
+    expect(
+        rt,
+        store.sandwich(9) && !store.sandwich(5),
+        "the sandwich digits",
+    );
 }
 
 /// Checks that two stores are equal, until a word is put into one of them.
@@ -196,10 +242,22 @@ fn the_store(rt: HostRuntime) -> Result<(), Fail> {
 
 #[test]
 fn orders_and_their_texts(rt: HostRuntime) {
-    assert!(rt; kind_of(28) == Some(Kind::A));
-    assert!(rt; kind_of(0).is_none() && kind_of(32).is_none());
-    assert!(rt; order_text(word(&rt, 114_821)).as_str() == "A66D");
-    assert!(rt; order_text(word(&rt, 53_248)).as_str() == "ZF");
+    expect(&rt, kind_of(28) == Some(Kind::A), "the kind of A");
+    expect(
+        &rt,
+        kind_of(0).is_none() && kind_of(32).is_none(),
+        "no kind",
+    );
+    expect(
+        &rt,
+        order_text(word(&rt, 114_821)).as_str() == "A66D",
+        "the text of a long order",
+    );
+    expect(
+        &rt,
+        order_text(word(&rt, 53_248)).as_str() == "ZF",
+        "the text of an order",
+    );
 }
 
 /// Checks the places of a shift.
@@ -218,10 +276,14 @@ fn the_places_of_a_shift(rt: HostRuntime) {
 
 /// Checks a paper with room for one code.
 fn expect_one_code(rt: &impl Abort, paper: &mut Paper) {
-    assert!(rt; paper.room_left() == 1);
-    assert!(rt; paper.push(code(rt, 28)));
-    assert!(rt; !paper.push(code(rt, 29)));
-    assert!(rt; number_of_the_only(paper.codes()) == Some(28));
+    expect(rt, paper.room_left() == 1, "the room");
+    expect(rt, paper.push(code(rt, 28)), "the code that has room");
+    expect(rt, !paper.push(code(rt, 29)), "the code that has none");
+    expect(
+        rt,
+        number_of_the_only(paper.codes()) == Some(28),
+        "the codes",
+    );
 }
 
 #[test]

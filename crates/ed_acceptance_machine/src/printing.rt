@@ -1,6 +1,7 @@
 //! What the teleprinter prints.
 
 use crate::numbers::{code, codes};
+use crate::support::expect;
 use ed_codes::Code;
 use ed_printer::{Printer, Shift};
 use ed_report::{paper_text, papers_text};
@@ -8,14 +9,24 @@ use std::alloc::Global;
 use std::process::Abort;
 use std::test::Fail;
 
+/// Checks the bytes of a code.
+fn expect_strike(rt: &impl Abort, printer: &mut Printer, number: u8, text: &str) {
+    let bytes = printer.strike(code(rt, number));
+    assert!(rt; bytes.as_slice() == text.as_bytes(), "code {number}");
+}
+
 #[test]
 fn the_printer(rt: HostRuntime) {
     let mut printer = Printer::new();
-    assert!(rt; printer.shift() == Shift::Letters);
-    assert!(rt; printer.strike(code(&rt, 1)).as_slice() == b"Q".as_slice());
-    assert!(rt; printer.strike(code(&rt, 11)).as_slice().is_empty());
-    assert!(rt; printer.shift() == Shift::Figures);
-    assert!(rt; printer.strike(code(&rt, 21)).as_slice() == "\u{a3}".as_bytes());
+    expect(&rt, printer.shift() == Shift::Letters, "the first shift");
+    expect_strike(&rt, &mut printer, 1, "Q");
+    expect_strike(&rt, &mut printer, 11, "");
+    expect(
+        &rt,
+        printer.shift() == Shift::Figures,
+        "the shift of a code",
+    );
+    expect_strike(&rt, &mut printer, 21, "\u{a3}");
 }
 
 /// What the codes of these numbers print.

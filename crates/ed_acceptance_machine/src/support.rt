@@ -8,6 +8,11 @@ use std::alloc::Global;
 use std::process::Abort;
 use std::test::Fail;
 
+/// Checks what is told of the thing with a name.
+pub fn expect(rt: &impl Abort, told: bool, name: &str) {
+    assert!(rt; told, "{name}");
+}
+
 /// The word of an order that is written as its letter, its number in decimal, and F or D. A number of 1024 or more has
 /// the spare digit, as in the text of an order.
 fn word_of_order(text: &str) -> Option<Word> {

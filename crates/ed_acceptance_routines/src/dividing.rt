@@ -1,9 +1,10 @@
 //! The results of `divide`.
 ghost use Rattle.std.specs.Prelude.{◌≡◌, ℕ, IsTrue};
-ghost use Rattle.ed_maths.specs.Quotients.{IsDivision, divide, with_hnm};
-ghost use Rattle.ed_routines.specs.Standing.{IsOutside};
+ghost use Rattle.ed_maths.specs.Quotients.{IsDivision, with_hnm};
 
-use crate::support::{DIVIDE, add_caller, add_number, add_routine, entered, stands_with};
+use crate::support::{
+    DIVIDE, add_caller, add_number, add_routine, entered, expect_right, is_outside, stands_with,
+};
 use ed_library::{Parameters, routine};
 use ed_machine::Machine;
 use ed_maths::divide_integers;
@@ -90,9 +91,9 @@ fn with_hnm(high: u16, low: u16, by: u16) -> Parameters
 fn is_division(machine: &Machine, base: u16, high: u16, low: u16, by: u16) -> bool
     ensures { IsTrue result → IsDivision base high low by machine.now }
 {
-    is_outside(machine, base, high)
-        && is_outside(machine, base, low)
-        && is_outside(machine, base, by)
+    is_outside(machine, DIVIDE, base, high)
+        && is_outside(machine, DIVIDE, base, low)
+        && is_outside(machine, DIVIDE, base, by)
         && high != low
         && high != by
         && low != by
@@ -102,15 +103,8 @@ fn is_division(machine: &Machine, base: u16, high: u16, low: u16, by: u16) -> bo
         && machine.word(low).value() < 65536
 }
 
-/// Whether a location is outside the routine at a base.
-fn is_outside(machine: &Machine, base: u16, place: u16) -> bool
-    ensures { IsTrue result → IsOutside divide base place machine.now }
-{
-    place < machine.size().value() && (place < base || 41 <= place && base <= place - 41)
-}
-
 /// Adds the items that set H, N and M to three locations and place what follows from a base upwards.
-fn add_base(alloc: Global, tape: &mut String, site: &Site) -> Result<(), Fail> {
+fn add_base(tape: &mut String, site: &Site) -> Result<(), Fail> {
     let Site {
         base,
         high,
@@ -118,8 +112,7 @@ fn add_base(alloc: Global, tape: &mut String, site: &Site) -> Result<(), Fail> {
         by,
         ..
     } = *site;
-    let items = format!(in alloc; "T45KP{high}FP{low}FP{by}FT{base}KGK")?;
-    Ok(tape.push_str(&items)?)
+    Ok(write!(tape, "T45KP{high}FP{low}FP{by}FT{base}KGK")?)
 }
 
 /// Adds the items of the routine, of its numbers and of a caller.
@@ -131,12 +124,12 @@ fn add_call(
     number: u32,
     divisor: u32,
 ) -> Result<(), Fail> {
-    add_base(alloc, tape, site)?;
+    add_base(tape, site)?;
     add_routine(rt, alloc, tape, routine(DIVIDE))?;
-    add_number(alloc, tape, site.high, number / 65536)?;
-    add_number(alloc, tape, site.low, number % 65536)?;
-    add_number(alloc, tape, site.by, divisor)?;
-    add_caller(alloc, tape, site.caller, site.base)
+    add_number(tape, site.high, number / 65536)?;
+    add_number(tape, site.low, number % 65536)?;
+    add_number(tape, site.by, divisor)?;
+    add_caller(tape, site.caller, site.base)
 }
 
 /// A machine that has the routine and has just called it with these numbers.
@@ -208,7 +201,7 @@ fn expect_division(
     let mut machine = called(rt, alloc, site, number, divisor)?;
     let back = divide(rt, &mut machine, site);
     let wrong = wrong_in(rt, &machine, site, back, division);
-    assert!(rt; wrong.is_empty(), "{number} by {divisor}: {wrong}");
+    expect_right(rt, wrong, number);
     Ok(())
 }
 

@@ -1,6 +1,6 @@
 //! `print` for every number that it prints.
 
-use crate::support::{PRINT, count, counting, stands_at};
+use crate::support::{PRINT, count, counting, expect_right, is_outside, stands_at};
 use ed_codes::Code;
 use ed_machine::{Machine, Paper};
 use ed_routines::print_integer;
@@ -16,9 +16,8 @@ const H: u16 = 200;
 /// Prints the number of a machine that counts, and answers the orders.
 fn print(rt: &impl Abort, machine: &mut Machine, number: u32, paper: &mut Paper) -> u64 {
     assert!(rt; stands_at(machine, PRINT, BASE, H));
-    assert!(rt;
-        machine.size().value() == 1024 && machine.word(H).value() == number && number < 65536
-    );
+    assert!(rt; is_outside(machine, PRINT, BASE, H));
+    assert!(rt; machine.word(H).value() == number && number < 65536);
     assert!(rt; machine.orders_done() < 1 << 40 && 6 <= paper.room_left());
     print_integer(machine, BASE, H, paper).orders
 }
@@ -68,7 +67,7 @@ fn expect_printed(
     let mut paper = Paper::new(alloc, 6)?;
     let orders = print(rt, machine, number, &mut paper);
     let wrong = wrong_in(paper.codes(), number, orders);
-    assert!(rt; wrong.is_empty(), "{number}: {wrong}");
+    expect_right(rt, wrong, number);
     count(rt, machine);
     Ok(())
 }

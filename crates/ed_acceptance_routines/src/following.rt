@@ -16,19 +16,22 @@ pub const BASE: u16 = 100;
 /// How a guest ended: stopped, blocked, refused, or differs; and the number of its orders that were checked.
 pub type End = (&'static str, u32);
 
-/// The tape of a program that has the routine and the guest, with more rows at its end.
-fn tape_of(
+/// Adds the items of a program that has the routine and the guest, and more rows after them.
+fn add_program(
     rt: &impl Abort,
     alloc: Global,
+    tape: &mut String,
     guest: &str,
     rows: &str,
     entry: u16,
-) -> Result<String, Fail> {
-    let mut check = String::new(alloc);
-    add_routine(rt, alloc, &mut check, routine(CHECK))?;
-    Ok(format!(in alloc;
-        "T45KP60FT{BASE}KGK{check}T60K{guest}T89KZFP1DZ5FGFC9DPFPFP50FPDE{entry}KPF{rows}"
-    )?)
+) -> Result<(), Fail> {
+    write!(tape, "T45KP60FT{BASE}KGK")?;
+    add_routine(rt, alloc, tape, routine(CHECK))?;
+    write!(
+        tape,
+        "T60K{guest}T89KZFP1DZ5FGFC9DPFPFP50FPDE{entry}KPF{rows}"
+    )?;
+    Ok(())
 }
 
 /// A machine at the entry to a program that has the routine and the guest, with rows left on the tape.
@@ -39,7 +42,8 @@ pub fn entered(
     rows: &str,
     entry: u16,
 ) -> Result<Machine, Fail> {
-    let tape = tape_of(rt, alloc, guest, rows, entry)?;
+    let mut tape = String::new(alloc);
+    add_program(rt, alloc, &mut tape, guest, rows, entry)?;
     let codes = tape_of_text(alloc, tape.as_bytes())?;
     let mut machine = Machine::cleared_of(alloc, Size::Full)?;
     start(rt, &mut machine, codes);
@@ -100,12 +104,7 @@ fn agree(checked: &Machine, alone: &Machine) -> bool {
 
 /// Whether two papers have the same codes.
 fn same_codes(one: &Paper, other: &Paper) -> bool {
-    for (code, wanted) in one.codes().iter().zip(other.codes()) {
-        if code.value() != wanted.value() {
-            return false;
-        }
-    }
-    one.codes().len() == other.codes().len()
+    one.codes() == other.codes()
 }
 
 /// Whether the routine's answer is what the order alone did.
@@ -160,15 +159,25 @@ fn guest_on(
     Ok((machine, paper))
 }
 
+/// How a guest that is checked ends, compared order by order with the same program alone.
+fn end_beside(
+    rt: &impl Abort,
+    checked: &mut Machine,
+    paper: &mut Paper,
+    plain: &mut Machine,
+    wanted: &mut Paper,
+) -> End {
+    for done in 0..600 {
+        if let Some(end) = next_end(rt, checked, paper, plain, wanted, done) {
+            return end;
+        }
+    }
+    ("differs", 600)
+}
+
 /// Compares a guest order by order, with rows left on its tape, with the same program alone.
 pub fn follow(rt: &impl Abort, alloc: Global, guest: &str, rows: &str) -> Result<End, Fail> {
     let (mut checked, mut paper) = guest_on(rt, alloc, guest, rows, BASE)?;
     let (mut plain, mut wanted) = guest_on(rt, alloc, guest, rows, 60)?;
-    for done in 0..600 {
-        let end = next_end(rt, &mut checked, &mut paper, &mut plain, &mut wanted, done);
-        if let Some(end) = end {
-            return Ok(end);
-        }
-    }
-    Ok(("differs", 600))
+    Ok(end_beside(rt, &mut checked, &mut paper, &mut plain, &mut wanted))
 }

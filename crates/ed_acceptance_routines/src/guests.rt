@@ -1,6 +1,7 @@
 //! How guests of the checking routine end.
 
 use crate::following::{BASE, entered, follow};
+use crate::support::expect;
 use std::alloc::Global;
 use std::process::Abort;
 use std::test::Fail;
@@ -66,10 +67,8 @@ fn expect_end(
 ) -> Result<(), Fail> {
     let (how, orders) = follow(rt, alloc, guest, rows)?;
     let (wanted, count) = end;
-    assert!(rt;
-        how == wanted && orders == count,
-        "{guest}: {how} after {orders}"
-    );
+    expect(rt, how == wanted, guest);
+    expect(rt, orders == count, guest);
     Ok(())
 }
 

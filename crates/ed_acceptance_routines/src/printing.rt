@@ -1,6 +1,6 @@
 //! What `print` and `newline` print.
 
-use crate::support::{NEWLINE, PLACES, PRINT, Places, called, stands_at};
+use crate::support::{NEWLINE, PLACES, PRINT, Places, called, expect_right, is_outside, stands_at};
 use ed_codes::Code;
 use ed_library::routine;
 use ed_machine::{Machine, Paper};
@@ -31,7 +31,7 @@ const NUMBERS: [Row; 11] = [
 fn print(rt: &impl Abort, machine: &mut Machine, places: &Places, paper: &mut Paper) -> Back {
     let Places { base, h, .. } = *places;
     assert!(rt; stands_at(machine, PRINT, base, h));
-    assert!(rt; h < machine.size().value() && (h < base || 51 <= h && base <= h - 51));
+    assert!(rt; is_outside(machine, PRINT, base, h));
     assert!(rt; machine.word(h).value() < 65536);
     assert!(rt; machine.orders_done() < 1 << 40 && 6 <= paper.room_left());
     print_integer(machine, base, h, paper)
@@ -83,7 +83,7 @@ fn expect_printed(rt: &impl Abort, alloc: Global, places: &Places, row: &Row) ->
     let mut paper = Paper::new(alloc, 6)?;
     let mut machine = called(rt, alloc, routine(PRINT), places, number, "")?;
     let wrong = wrong_in(rt, &mut machine, places, &mut paper, row);
-    assert!(rt; wrong.is_empty(), "{number}: {wrong}");
+    expect_right(rt, wrong, number);
     Ok(())
 }
 
@@ -115,12 +115,18 @@ fn expect_new_line(rt: &impl Abort, machine: &mut Machine, places: &Places, pape
     assert!(rt; are_new_line(paper.codes()));
 }
 
+/// Checks what `newline` does at the bases of a routine and its caller.
+fn expect_new_line_at(rt: &impl Abort, alloc: Global, places: &Places) -> Result<(), Fail> {
+    let mut paper = Paper::new(alloc, 2)?;
+    let mut machine = called(rt, alloc, routine(NEWLINE), places, 0, "")?;
+    expect_new_line(rt, &mut machine, places, &mut paper);
+    Ok(())
+}
+
 #[test]
 fn a_new_line_is_two_codes(rt: HostRuntime) -> Result<(), Fail> {
     for places in &PLACES {
-        let mut paper = Paper::new(rt.alloc(), 2)?;
-        let mut machine = called(&rt, rt.alloc(), routine(NEWLINE), places, 0, "")?;
-        expect_new_line(&rt, &mut machine, places, &mut paper);
+        expect_new_line_at(&rt, rt.alloc(), places)?;
     }
     Ok(())
 }

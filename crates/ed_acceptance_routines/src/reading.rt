@@ -1,6 +1,6 @@
 //! What `read` reads, and when a routine is at a base.
 
-use crate::support::{PLACES, Places, READ, called, stands_at};
+use crate::support::{PLACES, Places, READ, called, expect, expect_right, is_outside, stands_at};
 use ed_codes::{Code, byte_of};
 use ed_library::routine;
 use ed_machine::Machine;
@@ -30,7 +30,7 @@ const ENDS: [(&str, u64); 3] = [("", 3), ("42", 29), ("000000", 81)];
 fn read(rt: &impl Abort, machine: &mut Machine, places: &Places) -> ReadBack {
     let Places { base, h, .. } = *places;
     assert!(rt; stands_at(machine, READ, base, h));
-    assert!(rt; h < machine.size().value() && (h < base || 24 <= h && base <= h - 24));
+    assert!(rt; is_outside(machine, READ, base, h));
     assert!(rt; machine.orders_done() < 1 << 40 && machine.rows_left().len() < 1 << 40);
     read_integer(machine, base, h)
 }
@@ -60,10 +60,10 @@ fn wrong_in(rt: &impl Abort, machine: &mut Machine, places: &Places, row: &Row) 
 
 /// Checks what `read` does with rows.
 fn expect_number(rt: &impl Abort, alloc: Global, places: &Places, row: &Row) -> Result<(), Fail> {
-    let (rows, ..) = *row;
+    let (rows, number, _) = *row;
     let mut machine = called(rt, alloc, routine(READ), places, 99, rows)?;
     let wrong = wrong_in(rt, &mut machine, places, row);
-    assert!(rt; wrong.is_empty(), "{rows}: {wrong}");
+    expect_right(rt, wrong, number);
     Ok(())
 }
 
@@ -89,9 +89,11 @@ fn expect_end(rt: &impl Abort, machine: &mut Machine, code: u8) {
     let places = &PLACES[0];
     let at = places.back;
     let back = read(rt, machine, places);
-    assert!(rt; back == ReadBack::Back { at, orders: 24 }, "{code}");
-    assert!(rt; word(rt, machine, places.h) == 5, "{code}");
-    assert!(rt; machine.rows_left().len() == 1, "{code}");
+    let is_five = word(rt, machine, places.h) == 5 && machine.rows_left().len() == 1;
+    assert!(rt;
+        is_five && back == ReadBack::Back { at, orders: 24 },
+        "{code}"
+    );
 }
 
 #[test]
@@ -112,18 +114,33 @@ fn expect_no_tape(
     orders: u64,
 ) {
     let back = read(rt, machine, places);
-    assert!(rt; back == ReadBack::NoTape { orders }, "{rows}");
-    let offset = machine.counter().checked_sub(places.base);
-    assert!(rt; offset == Some(3), "{rows}");
-    assert!(rt; word(rt, machine, places.h) == 99, "{rows}");
+    expect(rt, back == ReadBack::NoTape { orders }, rows);
+    expect(
+        rt,
+        machine.counter().checked_sub(places.base) == Some(3),
+        rows,
+    );
+    expect(rt, word(rt, machine, places.h) == 99, rows);
+}
+
+/// Checks that a tape of such rows ends after these orders.
+fn expect_end_of_tape(
+    rt: &impl Abort,
+    alloc: Global,
+    places: &Places,
+    rows: &str,
+    orders: u64,
+) -> Result<(), Fail> {
+    let mut machine = called(rt, alloc, routine(READ), places, 99, rows)?;
+    expect_no_tape(rt, &mut machine, places, rows, orders);
+    Ok(())
 }
 
 #[test]
 fn a_tape_that_ends_leaves_the_number_as_it_was(rt: HostRuntime) -> Result<(), Fail> {
     for places in &PLACES {
         for (rows, orders) in &ENDS {
-            let mut machine = called(&rt, rt.alloc(), routine(READ), places, 99, rows)?;
-            expect_no_tape(&rt, &mut machine, places, rows, *orders);
+            expect_end_of_tape(&rt, rt.alloc(), places, rows, *orders)?;
         }
     }
     Ok(())

@@ -2,7 +2,7 @@
 ghost use Rattle.std.specs.Prelude.{◌≡◌};
 ghost use Rattle.ed_maths.specs.Roots.{with_hn};
 
-use crate::support::{ROOT, add_routine, count, entered, stands_with};
+use crate::support::{ROOT, add_routine, count, entered, expect_right, is_outside, stands_with};
 use ed_library::{Parameters, routine};
 use ed_machine::Machine;
 use ed_maths::square_root;
@@ -63,24 +63,18 @@ fn with_hn(source: u16, target: u16) -> Parameters
 }
 
 /// Adds the items that set H and N to two locations and place what follows from a base upwards.
-fn add_base(alloc: Global, tape: &mut String, site: &Site) -> Result<(), Fail> {
+fn add_base(tape: &mut String, site: &Site) -> Result<(), Fail> {
     let Site {
         base,
         source,
         target,
         ..
     } = *site;
-    let items = format!(in alloc; "T45KP{source}FP{target}FT{base}KGK")?;
-    Ok(tape.push_str(&items)?)
+    Ok(write!(tape, "T45KP{source}FP{target}FT{base}KGK")?)
 }
 
 /// Adds the items of the number 0 and of a caller that adds 1 to the number after each call.
-fn add_counting_caller(
-    rt: &impl Abort,
-    alloc: Global,
-    tape: &mut String,
-    site: &Site,
-) -> Result<(), Fail> {
+fn add_counting_caller(rt: &impl Abort, tape: &mut String, site: &Site) -> Result<(), Fail> {
     let Site {
         base,
         caller,
@@ -89,10 +83,9 @@ fn add_counting_caller(
     } = *site;
     assert!(rt; caller < 2000);
     let one = caller + 6;
-    let items = format!(in alloc;
-        "T{source}KPFT{caller}KA{caller}FG{base}FA{source}FA{one}FT{source}FE{caller}FPDE{caller}KPF"
-    )?;
-    Ok(tape.push_str(&items)?)
+    write!(tape, "T{source}KPFT{caller}KA{caller}FG{base}F")?;
+    write!(tape, "A{source}FA{one}FT{source}FE{caller}FPDE{caller}KPF")?;
+    Ok(())
 }
 
 /// Adds the items of the routine and of that caller.
@@ -102,9 +95,9 @@ fn add_counting(
     tape: &mut String,
     site: &Site,
 ) -> Result<(), Fail> {
-    add_base(alloc, tape, site)?;
+    add_base(tape, site)?;
     add_routine(rt, alloc, tape, routine(ROOT))?;
-    add_counting_caller(rt, alloc, tape, site)
+    add_counting_caller(rt, tape, site)
 }
 
 /// A machine that has the routine and has just called it with the number 0, by a program that adds 1 to the number and
@@ -125,12 +118,8 @@ fn root(rt: &impl Abort, machine: &mut Machine, site: &Site, number: u32) -> Bac
     } = *site;
     assert!(rt; source != target);
     assert!(rt; stands_with(machine, ROOT, base, &with_hn(source, target)));
-    assert!(rt;
-        source < machine.size().value() && (source < base || 23 <= source && base <= source - 23)
-    );
-    assert!(rt;
-        target < machine.size().value() && (target < base || 23 <= target && base <= target - 23)
-    );
+    assert!(rt; is_outside(machine, ROOT, base, source));
+    assert!(rt; is_outside(machine, ROOT, base, target));
     assert!(rt; machine.word(source).value() == number && number < 65536);
     assert!(rt; machine.orders_done() < 1 << 40);
     square_root(machine, base, source, target)
@@ -163,7 +152,7 @@ fn expect_roots(rt: &impl Abort, machine: &mut Machine, site: &Site, last: u32) 
     for number in 0..=last {
         let back = root(rt, machine, site, number);
         let wrong = wrong_in(rt, machine, site, number, back);
-        assert!(rt; wrong.is_empty(), "{number}: {wrong}");
+        expect_right(rt, wrong, number);
         count(rt, machine);
     }
 }

@@ -2,7 +2,7 @@
 ghost use Rattle.std.specs.Prelude.{◌≡◌, ◌<◌, ◌≤◌, IsTrue};
 ghost use Rattle.ed_library.specs.Entries.{how_many};
 ghost use Rattle.ed_routines.specs.Catalogue.{with_h};
-ghost use Rattle.ed_routines.specs.Standing.{Stands};
+ghost use Rattle.ed_routines.specs.Standing.{IsOutside, Stands};
 
 use ed_codes::{Code, tape_of_text};
 use ed_initial::{Loaded, begin, is_started, load};
@@ -69,6 +69,16 @@ pub const PLACES: [Places; 3] = [
     },
 ];
 
+/// Checks what is told of the thing with a name.
+pub fn expect(rt: &impl Abort, told: bool, name: &str) {
+    assert!(rt; told, "{name}");
+}
+
+/// Checks that nothing is wrong after a routine was called with a number.
+pub fn expect_right(rt: &impl Abort, wrong: &str, number: u32) {
+    assert!(rt; wrong.is_empty(), "{number}: {wrong}");
+}
+
 /// The parameters with H = 2h.
 fn with_h(h: u16) -> Parameters
     ensures { result ≡ with_h h }
@@ -107,14 +117,28 @@ pub fn stands_with(machine: &Machine, index: u16, base: u16, parameters: &Parame
     stands(machine, &routine, base, parameters)
 }
 
-/// Adds the text of an item.
-fn add_item(rt: &impl Abort, alloc: Global, tape: &mut String, item: Item) -> Result<(), Fail> {
-    assert!(rt; spellable(&item));
-    let bytes = text_of_items(alloc, &[item])?;
-    for byte in bytes.as_slice() {
+/// Whether a location is outside the routine with an index at a base.
+pub fn is_outside(machine: &Machine, index: u16, base: u16, place: u16) -> bool
+    requires { index < how_many }
+    ensures { IsTrue result → IsOutside index base place machine.now }
+{
+    let length = routine(index).length();
+    place < machine.size().value() && (place < base || length <= place && base <= place - length)
+}
+
+/// Adds the characters of a text.
+fn add_text(tape: &mut String, text: &[u8]) -> Result<(), Fail> {
+    for byte in text {
         tape.push(char::from(*byte))?;
     }
     Ok(())
+}
+
+/// Adds the text of an item.
+fn add_item(rt: &impl Abort, alloc: Global, tape: &mut String, item: Item) -> Result<(), Fail> {
+    assert!(rt; spellable(&item));
+    let text = text_of_items(alloc, &[item])?;
+    add_text(tape, &text)
 }
 
 /// Adds the text of a routine's items.
@@ -131,37 +155,30 @@ pub fn add_routine(
 }
 
 /// Adds the items that set H to a location and place what follows from a base upwards.
-pub fn add_base(alloc: Global, tape: &mut String, base: u16, h: u16) -> Result<(), Fail> {
-    let items = format!(in alloc; "T45KP{h}FT{base}KGK")?;
-    Ok(tape.push_str(&items)?)
+pub fn add_base(tape: &mut String, base: u16, h: u16) -> Result<(), Fail> {
+    Ok(write!(tape, "T45KP{h}FT{base}KGK")?)
 }
 
 /// Adds the items that place a number at a location.
-pub fn add_number(alloc: Global, tape: &mut String, place: u16, number: u32) -> Result<(), Fail> {
+pub fn add_number(tape: &mut String, place: u16, number: u32) -> Result<(), Fail> {
     let half = number / 2;
     let length = if number % 2 == 1 { 'D' } else { 'F' };
-    let items = format!(in alloc; "T{place}KP{half}{length}")?;
-    Ok(tape.push_str(&items)?)
+    Ok(write!(tape, "T{place}KP{half}{length}")?)
 }
 
 /// Adds the items of a caller of the routine at a base, and of the entry to it.
-pub fn add_caller(alloc: Global, tape: &mut String, caller: u16, base: u16) -> Result<(), Fail> {
-    let items = format!(in alloc; "T{caller}KA{caller}FG{base}FE{caller}KPF")?;
-    Ok(tape.push_str(&items)?)
+pub fn add_caller(tape: &mut String, caller: u16, base: u16) -> Result<(), Fail> {
+    Ok(write!(tape, "T{caller}KA{caller}FG{base}FE{caller}KPF")?)
 }
 
 /// Adds the items of a caller at 300 that adds 1 to the number at h after each call.
-fn add_counting_caller(
-    rt: &impl Abort,
-    alloc: Global,
-    tape: &mut String,
-    base: u16,
-    h: u16,
-) -> Result<(), Fail> {
+fn add_counting_caller(rt: &impl Abort, tape: &mut String, base: u16, h: u16) -> Result<(), Fail> {
     assert!(rt; h < 300);
     let one = h + 1;
-    let items = format!(in alloc; "T{h}KPFPDT300KA300FG{base}FA{h}FA{one}FT{h}FE300FE300KPF")?;
-    Ok(tape.push_str(&items)?)
+    Ok(write!(
+        tape,
+        "T{h}KPFPDT300KA300FG{base}FA{h}FA{one}FT{h}FE300FE300KPF"
+    )?)
 }
 
 /// Adds the items of a routine and of that caller.
@@ -174,9 +191,9 @@ fn add_counting(
     h: u16,
 ) -> Result<(), Fail> {
     assert!(rt; index < 6);
-    add_base(alloc, tape, base, h)?;
+    add_base(tape, base, h)?;
     add_routine(rt, alloc, tape, routine(index))?;
-    add_counting_caller(rt, alloc, tape, base, h)
+    add_counting_caller(rt, tape, base, h)
 }
 
 /// A machine that has a routine and has just called it with the number 0 at h, by a program that adds 1 to the number
@@ -211,10 +228,10 @@ fn add_call(
     number: u32,
     rows: &str,
 ) -> Result<(), Fail> {
-    add_base(alloc, tape, places.base, places.h)?;
+    add_base(tape, places.base, places.h)?;
     add_routine(rt, alloc, tape, routine)?;
-    add_number(alloc, tape, places.h, number)?;
-    add_caller(alloc, tape, places.caller, places.base)?;
+    add_number(tape, places.h, number)?;
+    add_caller(tape, places.caller, places.base)?;
     Ok(tape.push_str(rows)?)
 }
 

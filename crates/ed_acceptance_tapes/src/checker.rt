@@ -1,6 +1,7 @@
 //! The reports of the checker on tapes.
 
-use crate::support::{checked, rows_of};
+use crate::support::{checked, expect, rows_of};
+use ed_codes::Code;
 use ed_notation::{Checked, TapeCause, TapeFault, check_from};
 use ed_store::Store;
 use ed_words::{Size, Word};
@@ -72,14 +73,17 @@ fn report_on(rt: &impl Abort, alloc: Global, theta: u32, tape: &str) -> Result<C
 /// Checks a report on a tape of rows of one byte.
 fn expect_report(rt: &impl Abort, report: &Checked, row: &Row) {
     let (_, tape, theta, address, word, orders) = *row;
-    let told = (
-        report.entry(),
-        report.rows(),
-        report.orders(),
-        report.theta().value(),
+    expect(
+        rt,
+        report.entry() == 64 && report.rows() == tape.len(),
+        tape,
     );
-    assert!(rt; told == (64, tape.len(), orders, theta), "{tape}: {told:?}");
-    assert!(rt; placed(rt, report, address) == word, "{address} of {tape}");
+    expect(
+        rt,
+        report.orders() == orders && report.theta().value() == theta,
+        tape,
+    );
+    expect(rt, placed(rt, report, address) == word, tape);
 }
 
 #[test]
@@ -114,6 +118,20 @@ fn an_odd_directive_is_refused(rt: HostRuntime) -> Result<(), Fail> {
     Ok(())
 }
 
+/// The report on the rows of the rest of a tape, or their fault, by a directive that aims at a location of the store.
+fn checked_rows(
+    rt: &impl Abort,
+    alloc: Global,
+    directive: Word,
+    store: &Store,
+    rows: &[Code],
+) -> Result<Checked, TapeFault> {
+    let value = directive.value();
+    assert!(rt; value % 2 == 0 && 20_480 <= value && value <= 22_526);
+    assert!(rt; rows.len() < 1000);
+    check_from(alloc, Size::Full, store, directive, rows)
+}
+
 /// The report on the rest of a tape, or its fault, if a directive that aims at a location of the store is left.
 fn checked_from(
     rt: &impl Abort,
@@ -122,12 +140,9 @@ fn checked_from(
     tape: &str,
 ) -> Result<Result<Checked, TapeFault>, Fail> {
     let directive = Word::new(number).ok_or("no word")?;
-    let value = directive.value();
-    assert!(rt; value % 2 == 0 && 20_480 <= value && value <= 22_526);
     let store = Store::cleared(alloc)?;
     let rows = rows_of(alloc, tape)?;
-    assert!(rt; rows.len() < 1000);
-    Ok(check_from(alloc, Size::Full, &store, directive, &rows))
+    Ok(checked_rows(rt, alloc, directive, &store, &rows))
 }
 
 /// Checks a report on the rest of a tape of rows of one byte: the word that it places at a location, and the orders.
@@ -139,25 +154,38 @@ fn expect_rest(
     word: u32,
     orders: u64,
 ) {
-    let told = (report.entry(), report.orders(), report.rows());
-    assert!(rt; told == (64, orders, tape.len()), "{tape}: {told:?}");
-    assert!(rt; placed(rt, report, address) == word, "{tape}");
+    expect(
+        rt,
+        report.entry() == 64 && report.rows() == tape.len(),
+        tape,
+    );
+    expect(rt, report.orders() == orders, tape);
+    expect(rt, placed(rt, report, address) == word, tape);
+}
+
+/// Checks such a report by the directive that is left.
+fn expect_rest_from(
+    rt: &impl Abort,
+    alloc: Global,
+    number: u32,
+    tape: &str,
+    placed: (u16, u32),
+    orders: u64,
+) -> Result<(), Fail> {
+    let (address, word) = placed;
+    let report = checked_from(rt, alloc, number, tape)?.or(Err("a fault"))?;
+    expect_rest(rt, &report, tape, address, word, orders);
+    Ok(())
 }
 
 #[test]
 fn the_rest_of_a_tape_goes_by_the_directive_that_is_left(rt: HostRuntime) -> Result<(), Fail> {
-    let tape = "PFE64KPF";
-    let report = checked_from(&rt, rt.alloc(), 20_680, tape)?.or(Err("a fault"))?;
-    expect_rest(&rt, &report, tape, 100, 0, 84);
-    Ok(())
+    expect_rest_from(&rt, rt.alloc(), 20_680, "PFE64KPF", (100, 0), 84)
 }
 
 #[test]
 fn the_rest_of_a_tape_goes_on_at_the_last_location(rt: HostRuntime) -> Result<(), Fail> {
-    let tape = "P5FE64KPF";
-    let report = checked_from(&rt, rt.alloc(), 22_526, tape)?.or(Err("a fault"))?;
-    expect_rest(&rt, &report, tape, 1023, 10, 93);
-    Ok(())
+    expect_rest_from(&rt, rt.alloc(), 22_526, "P5FE64KPF", (1023, 10), 93)
 }
 
 /// Checks that the rest of a tape is refused at a row, by the directive that is left.

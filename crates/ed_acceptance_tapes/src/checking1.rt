@@ -1,13 +1,17 @@
 //! The reports of the check on tapes for Initial Orders 1.
 
+use crate::support::expect;
 use crate::support1::{LETTER, checked_text, fault_of};
 use ed_initial1::Checked1;
 use ed_initial1::Tape1Cause::{self, BadRow, EndOfTape, FirstWord, NumberTooLarge};
+use std::alloc::Global;
 use std::process::Abort;
 use std::test::Fail;
 
-/// Tapes, and the orders, the rows and the end that the check tells.
-const TAPES: [(&str, u64, usize, u16); 6] = [
+/// A tape, and the orders, the rows and the end that the check tells.
+type Row = (&'static str, u64, usize, u16);
+
+const TAPES: [Row; 6] = [
     (LETTER, 120, 12, 35),
     // The rows after the last item are not read, whatever they are.
     ("T35SO34SZSAS*", 120, 12, 35),
@@ -17,13 +21,25 @@ const TAPES: [(&str, u64, usize, u16); 6] = [
     ("T34S50L*32767S", 141, 14, 34),
 ];
 
+/// Checks what a report tells.
+fn expect_report(rt: &impl Abort, report: &Checked1, row: &Row) {
+    let (tape, orders, rows, end) = *row;
+    expect(rt, report.orders() == orders, tape);
+    expect(rt, report.rows() == rows && report.end() == end, tape);
+}
+
+/// Checks what the check of a tape tells.
+fn expect_checked(rt: &impl Abort, alloc: Global, row: &Row) -> Result<(), Fail> {
+    let (tape, ..) = *row;
+    let report = checked_text(rt, alloc, tape)?.or(Err("a fault"))?;
+    expect_report(rt, &report, row);
+    Ok(())
+}
+
 #[test]
 fn the_check_tells_what_a_tape_comes_to(rt: HostRuntime) -> Result<(), Fail> {
     for row in &TAPES {
-        let (tape, orders, rows, end) = *row;
-        let report = checked_text(&rt, rt.alloc(), tape)?.or(Err("a fault"))?;
-        let told = (report.orders(), report.rows(), report.end());
-        assert!(rt; told == (orders, rows, end), "{tape}");
+        expect_checked(&rt, rt.alloc(), row)?;
     }
     Ok(())
 }

@@ -1,6 +1,6 @@
 //! The Initial Orders, obeyed one by one on a tape.
 
-use crate::support::{LETTER, loaded, start_on, started, stops};
+use crate::support::{LETTER, expect, loaded, start_on, started, stops};
 use ed_codes::Code;
 use ed_initial::{Loaded, Rested, is_started, to_rest};
 use ed_machine::Machine;
@@ -59,25 +59,31 @@ fn expect_load(
     done: u64,
 ) -> Result<(), Fail> {
     start_on(alloc, machine, LETTER)?;
-    assert!(rt; machine.orders_done() == done);
+    expect(rt, machine.orders_done() == done, "the orders before");
     let (at, orders) = (64, 191);
-    let load = loaded(rt, machine);
-    assert!(rt; load == Loaded::Entered { at, orders }, "after {done}");
+    expect(
+        rt,
+        loaded(rt, machine) == Loaded::Entered { at, orders },
+        "the load",
+    );
     let wrong = wrong_at_the_entry(rt, machine);
-    assert!(rt; wrong.is_empty(), "{wrong} after {done}");
-    let stops_second = !stops(rt, machine) && stops(rt, machine);
-    assert!(rt; stops_second, "after {done}");
+    expect(rt, wrong.is_empty(), wrong);
+    expect(rt, !stops(rt, machine) && stops(rt, machine), "the stop");
+    Ok(())
+}
+
+/// Checks two loads of that tape, one after the other, on a cleared machine.
+fn expect_two_loads(rt: &impl Abort, alloc: Global, machine: &mut Machine) -> Result<(), Fail> {
+    expect_load(rt, alloc, machine, 0)?;
+    expect_load(rt, alloc, machine, 193)?;
+    expect(rt, machine.last_printed() == Code::new(28), "the letter");
     Ok(())
 }
 
 #[test]
 fn a_tape_is_loaded_twice_without_clearing(rt: HostRuntime) -> Result<(), Fail> {
     let mut machine = Machine::cleared(rt.alloc())?;
-    for done in [0, 193] {
-        expect_load(&rt, rt.alloc(), &mut machine, done)?;
-    }
-    assert!(rt; machine.last_printed() == Code::new(28));
-    Ok(())
+    expect_two_loads(&rt, rt.alloc(), &mut machine)
 }
 
 /// The next rests of the loader on the tape of a letter: the location, the orders from the rest before, and all orders.
@@ -91,15 +97,24 @@ const RESTS: [(u16, u64, u64); 7] = [
     (34, 16, 71),
 ];
 
+/// Where the loader rests next.
+fn rested(rt: &impl Abort, machine: &mut Machine) -> Rested {
+    let counter = machine.counter();
+    assert!(rt; counter == 0 || (counter == 9 || counter == 34));
+    assert!(rt; machine.orders_done() < 1 << 20);
+    to_rest(machine)
+}
+
 /// Checks the rests of the loader on a machine that was started.
 fn expect_rests(rt: &impl Abort, machine: &mut Machine) {
     for row in &RESTS {
         let (place, orders, done) = *row;
-        let counter = machine.counter();
-        assert!(rt; counter == 0 || (counter == 9 || counter == 34));
-        assert!(rt; machine.orders_done() < 1 << 20);
-        assert!(rt; to_rest(machine) == Rested::At { place, orders });
-        assert!(rt; machine.orders_done() == done);
+        expect(
+            rt,
+            rested(rt, machine) == Rested::At { place, orders },
+            "the rest",
+        );
+        expect(rt, machine.orders_done() == done, "all orders");
     }
 }
 
@@ -123,23 +138,22 @@ const ENTERED: [(&str, u16, u64); 5] = [
 /// Tapes that have no entry, and the orders until they end.
 const LOST: [(&str, u64); 2] = [("", 9), ("T64K", 49)];
 
-/// How the load of a tape ends.
-fn load_of(rt: &impl Abort, alloc: Global, tape: &str) -> Result<Loaded, Fail> {
+/// Checks how the load of a tape ends.
+fn expect_end(rt: &impl Abort, alloc: Global, tape: &str, end: Loaded) -> Result<(), Fail> {
     let mut machine = started(alloc, Size::Full, tape)?;
-    Ok(loaded(rt, &mut machine))
+    expect(rt, loaded(rt, &mut machine) == end, tape);
+    Ok(())
 }
 
 #[test]
 fn tapes_are_loaded_at_their_cost_or_are_lost(rt: HostRuntime) -> Result<(), Fail> {
     for row in &ENTERED {
         let (tape, at, orders) = *row;
-        let load = load_of(&rt, rt.alloc(), tape)?;
-        assert!(rt; load == Loaded::Entered { at, orders }, "{tape}");
+        expect_end(&rt, rt.alloc(), tape, Loaded::Entered { at, orders })?;
     }
     for row in &LOST {
         let (tape, orders) = *row;
-        let load = load_of(&rt, rt.alloc(), tape)?;
-        assert!(rt; load == Loaded::Lost { orders }, "{tape}");
+        expect_end(&rt, rt.alloc(), tape, Loaded::Lost { orders })?;
     }
     Ok(())
 }

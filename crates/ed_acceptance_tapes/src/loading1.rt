@@ -1,6 +1,6 @@
 //! Initial Orders 1, obeyed one by one on a tape.
 
-use crate::support::rows_of;
+use crate::support::{expect, rows_of};
 use crate::support1::{LETTER, checked, loaded, misplaced, started};
 use ed_codes::Code;
 use ed_initial1::{Checked1, Loaded1, is_started1, orders1};
@@ -99,83 +99,117 @@ fn put_program(image: &mut Vec<Word>) -> Result<(), Fail> {
     Ok(())
 }
 
+/// Obeys the next orders.
+fn obey(rt: &impl Abort, machine: &mut Machine, orders: u32) {
+    for _ in 0..orders {
+        assert!(rt; machine.orders_done() < 1 << 20);
+        machine.step();
+    }
+}
+
 /// Runs that program.
 fn set_sandwich(rt: &impl Abort, alloc: Global, machine: &mut Machine) -> Result<(), Fail> {
     let mut image = Vec::new(alloc);
     put_program(&mut image)?;
     assert!(rt; image.len() < 41);
     machine.start(&image, Vec::new(alloc));
-    for _ in 0..3 {
-        assert!(rt; machine.orders_done() < 1 << 20);
-        machine.step();
-    }
+    obey(rt, machine, 3);
+    Ok(())
+}
+
+/// Loads the tape that a machine was started on, and enters it.
+fn enter(rt: &impl Abort, machine: &mut Machine) {
+    expect(
+        rt,
+        matches!(loaded(rt, machine), Loaded1::Entered { .. }),
+        "the load",
+    );
+}
+
+/// Loads the largest tape of Q 7 L on a machine that was started on it, and runs the program that halves a word.
+fn fill(rt: &impl Abort, alloc: Global, machine: &mut Machine) -> Result<(), Fail> {
+    enter(rt, machine);
+    set_sandwich(rt, alloc, machine)?;
+    expect(
+        rt,
+        machine.sandwich(0) && machine.word(35).value() == 4111,
+        "the store",
+    );
     Ok(())
 }
 
 /// A machine whose locations 31 to 1022 hold the word of Q 7 L, and whose pair 0, 1 has the sandwich digit 1.
 fn used(rt: &impl Abort, alloc: Global) -> Result<Machine, Fail> {
     let mut machine = started(alloc, largest(alloc, "Q7L")?)?;
-    assert!(rt; matches!(loaded(rt, &mut machine), Loaded1::Entered { .. }));
-    set_sandwich(rt, alloc, &mut machine)?;
-    assert!(rt; machine.sandwich(0) && machine.word(35).value() == 4111);
+    fill(rt, alloc, &mut machine)?;
     Ok(machine)
 }
 
-/// Starts a machine on the tape of a letter, and checks what is left at the entry.
-fn expect_letter(
-    rt: &impl Abort,
-    alloc: Global,
-    machine: &mut Machine,
-    before: &Machine,
-) -> Result<(), Fail> {
+/// Starts a machine on the tape of a letter.
+fn start_letter(alloc: Global, machine: &mut Machine) -> Result<(), Fail> {
     machine.start(&orders1(), rows_of(alloc, LETTER)?);
-    assert!(rt; loaded(rt, machine) == Loaded1::Entered { orders: 120 });
+    Ok(())
+}
+
+/// Loads the tape of a letter, and checks what is left at the entry.
+fn expect_letter(rt: &impl Abort, machine: &mut Machine, before: &Machine) {
+    expect(
+        rt,
+        loaded(rt, machine) == Loaded1::Entered { orders: 120 },
+        "the load",
+    );
     let differs = first_difference(machine, before);
     assert!(rt; differs.is_none(), "{differs:?}");
-    assert!(rt; has_entered(machine) && machine.rows_left().is_empty());
-    assert!(rt; machine.last_printed().is_none());
+    expect(rt, has_entered(machine), "the registers");
+    expect(rt, machine.rows_left().is_empty(), "the tape");
+    expect(rt, machine.last_printed().is_none(), "the last code");
+}
+
+/// Checks what the tape of a letter leaves on a machine.
+fn expect_letter_on(rt: &impl Abort, alloc: Global, machine: &mut Machine) -> Result<(), Fail> {
+    let before = machine.copy()?;
+    start_letter(alloc, machine)?;
+    expect_letter(rt, machine, &before);
     Ok(())
 }
 
 #[test]
 fn a_used_machine_is_loaded_cell_by_cell(rt: HostRuntime) -> Result<(), Fail> {
     let mut machine = used(&rt, rt.alloc())?;
-    let before = machine.copy()?;
-    expect_letter(&rt, rt.alloc(), &mut machine, &before)
+    expect_letter_on(&rt, rt.alloc(), &mut machine)
 }
 
 /// What the next order does, if it leaves the counter there and 0 at 35.
 fn next_turn(rt: &impl Abort, machine: &mut Machine, counter: u16) -> Turn {
     assert!(rt; machine.orders_done() < 1 << 20);
     let turn = machine.step();
-    assert!(rt;
-        machine.counter() == counter && machine.word(35).value() == 0,
-        "{counter}"
-    );
+    expect(rt, machine.counter() == counter, "the counter");
+    expect(rt, machine.word(35).value() == 0, "the place");
     turn
 }
 
 /// Checks the orders of the program that prints a letter.
 fn expect_turns(rt: &impl Abort, machine: &mut Machine) {
-    assert!(rt; next_turn(rt, machine, 32) == Turn::Went);
+    expect(rt, next_turn(rt, machine, 32) == Turn::Went, "T");
     let printed = Code::new(28).map(Turn::Printed);
-    assert!(rt; Some(next_turn(rt, machine, 33)) == printed);
-    assert!(rt; next_turn(rt, machine, 34) == Turn::Stopped);
+    expect(rt, Some(next_turn(rt, machine, 33)) == printed, "O");
+    expect(rt, next_turn(rt, machine, 34) == Turn::Stopped, "Z");
 }
 
 #[test]
 fn the_first_order_clears_the_place_that_it_names(rt: HostRuntime) -> Result<(), Fail> {
     let mut machine = used(&rt, rt.alloc())?;
-    machine.start(&orders1(), rows_of(rt.alloc(), LETTER)?);
-    assert!(rt; matches!(loaded(&rt, &mut machine), Loaded1::Entered { .. }));
+    start_letter(rt.alloc(), &mut machine)?;
+    enter(&rt, &mut machine);
     expect_turns(&rt, &mut machine);
     Ok(())
 }
 
-/// How the load of a tape ends.
-fn load_of(rt: &impl Abort, alloc: Global, tape: &str) -> Result<Loaded1, Fail> {
+/// Checks how the load of a tape ends.
+fn expect_end(rt: &impl Abort, alloc: Global, tape: &str, end: Loaded1) -> Result<(), Fail> {
     let mut machine = started(alloc, rows_of(alloc, tape)?)?;
-    Ok(loaded(rt, &mut machine))
+    expect(rt, loaded(rt, &mut machine) == end, tape);
+    Ok(())
 }
 
 /// Tapes, and the orders until the entry.
@@ -193,8 +227,7 @@ const ENTERED: [(&str, u64); 6] = [
 fn tapes_are_loaded_at_their_cost(rt: HostRuntime) -> Result<(), Fail> {
     for row in &ENTERED {
         let (tape, orders) = *row;
-        let load = load_of(&rt, rt.alloc(), tape)?;
-        assert!(rt; load == Loaded1::Entered { orders }, "{tape}");
+        expect_end(&rt, rt.alloc(), tape, Loaded1::Entered { orders })?;
     }
     Ok(())
 }
@@ -206,8 +239,7 @@ const LOST: [(&str, u64); 5] = [("", 4), ("T", 9), ("T35", 29), ("T35S", 44), ("
 fn a_tape_that_ends_too_early_is_lost(rt: HostRuntime) -> Result<(), Fail> {
     for row in &LOST {
         let (tape, orders) = *row;
-        let load = load_of(&rt, rt.alloc(), tape)?;
-        assert!(rt; load == Loaded1::Lost { orders }, "{tape}");
+        expect_end(&rt, rt.alloc(), tape, Loaded1::Lost { orders })?;
     }
     Ok(())
 }
@@ -220,32 +252,43 @@ fn expect_largest(
     row: (&str, u64, usize),
 ) {
     let (item, orders, rows) = row;
-    let told = (report.orders(), report.rows(), report.end());
-    assert!(rt; told == (orders, rows, 1023), "{item}");
-    let load = loaded(rt, machine);
-    assert!(rt; load == Loaded1::Entered { orders }, "{item}");
-    assert!(rt; misplaced(machine, report).is_none(), "{item}");
+    expect(rt, report.orders() == orders && report.rows() == rows, item);
+    expect(rt, report.end() == 1023, item);
+    expect(rt, loaded(rt, machine) == Loaded1::Entered { orders }, item);
+    expect(rt, misplaced(machine, report).is_none(), item);
+}
+
+/// The report on the largest tape.
+fn checked_largest(rt: &impl Abort, alloc: Global, item: &str) -> Result<Checked1, Fail> {
+    let rows = largest(alloc, item)?;
+    Ok(checked(rt, alloc, &rows).or(Err("a fault"))?)
+}
+
+/// Checks the largest tape of an item, its orders and its rows.
+fn expect_tape(
+    rt: &impl Abort,
+    alloc: Global,
+    item: &str,
+    orders: u64,
+    rows: usize,
+) -> Result<(), Fail> {
+    let report = checked_largest(rt, alloc, item)?;
+    let mut machine = started(alloc, largest(alloc, item)?)?;
+    expect_largest(rt, &report, &mut machine, (item, orders, rows));
+    Ok(())
 }
 
 #[test]
 fn the_largest_tape(rt: HostRuntime) -> Result<(), Fail> {
-    for (item, orders, rows) in [("PS", 18_892, 1988), ("Q7L", 28_802, 2979)] {
-        let read = largest(rt.alloc(), item)?;
-        let report = checked(&rt, rt.alloc(), &read).or(Err("a fault"))?;
-        let mut machine = started(rt.alloc(), read)?;
-        expect_largest(&rt, &report, &mut machine, (item, orders, rows));
-    }
-    Ok(())
+    expect_tape(&rt, rt.alloc(), "PS", 18_892, 1988)?;
+    expect_tape(&rt, rt.alloc(), "Q7L", 28_802, 2979)
 }
 
 /// Whether a cleared machine of a size counts as started after this many orders of the listing.
 fn is_started_after(rt: &impl Abort, alloc: Global, size: Size, orders: u32) -> Result<bool, Fail> {
     let mut machine = Machine::cleared_of(alloc, size)?;
     machine.start(&orders1(), Vec::new(alloc));
-    for _ in 0..orders {
-        assert!(rt; machine.orders_done() < 1 << 20);
-        machine.step();
-    }
+    obey(rt, &mut machine, orders);
     Ok(is_started1(&machine))
 }
 

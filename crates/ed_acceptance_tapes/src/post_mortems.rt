@@ -1,6 +1,6 @@
 //! Post-mortems: what is printed of words that a tape left in the store, and the refusals.
 
-use crate::support::{first_difference, loaded, started};
+use crate::support::{expect, first_difference, loaded, started};
 use ed_codes::{Code, byte_of};
 use ed_initial::Loaded;
 use ed_machine::{Machine, Paper};
@@ -70,6 +70,26 @@ const PRINTED: [Printed; 3] = [
     ("E144KPF", 1024, 0, &[], 3358),
 ];
 
+/// Checks on a cleared machine that a post-mortem is refused and that it changes nothing.
+fn expect_refused_on(
+    rt: &impl Abort,
+    alloc: Global,
+    machine: &mut Machine,
+    paper: &mut Paper,
+    words: (u16, u16),
+    fault: PmFault,
+) {
+    let (first, count) = words;
+    let answer = printed(rt, alloc, machine, first, count, paper);
+    expect(rt, answer == Err(fault), "the refusal");
+    expect(
+        rt,
+        machine.orders_done() == 0 && machine.word(0).value() == 0,
+        "the machine",
+    );
+    expect(rt, paper.codes().is_empty(), "the paper");
+}
+
 /// Checks that a post-mortem is refused and that it changes nothing.
 fn expect_refused(
     rt: &impl Abort,
@@ -80,10 +100,7 @@ fn expect_refused(
     fault: PmFault,
 ) -> Result<(), Fail> {
     let (mut machine, mut paper) = cleared(alloc, size, 6)?;
-    let answer = printed(rt, alloc, &mut machine, first, count, &mut paper);
-    assert!(rt; answer == Err(fault), "{first} and {count}");
-    assert!(rt; machine.orders_done() == 0 && machine.word(0).value() == 0);
-    assert!(rt; paper.codes().is_empty());
+    expect_refused_on(rt, alloc, &mut machine, &mut paper, (first, count), fault);
     Ok(())
 }
 
@@ -110,20 +127,41 @@ fn expect_printed(
     let before = machine.orders_done();
     let answer = printed(rt, alloc, machine, first, count, paper);
     let obeyed = machine.orders_done().checked_sub(before);
-    assert!(rt; answer == Ok(orders) && obeyed == Some(orders), "{tape}");
-    let differs = first_difference(paper.codes(), codes);
-    assert!(rt; differs.is_none(), "{differs:?} of {tape}");
+    expect(rt, answer == Ok(orders) && obeyed == Some(orders), tape);
+    expect(rt, first_difference(paper.codes(), codes).is_none(), tape);
+}
+
+/// Checks what a post-mortem prints of the words of a tape, and its cost.
+fn expect_print(rt: &impl Abort, alloc: Global, row: &Printed) -> Result<(), Fail> {
+    let (tape, _, _, codes, _) = *row;
+    let mut paper = Paper::new(alloc, codes.len())?;
+    let (mut machine, _) = loaded_on(rt, alloc, tape)?;
+    expect_printed(rt, alloc, &mut machine, &mut paper, row);
+    Ok(())
 }
 
 #[test]
 fn words_are_printed_at_their_cost(rt: HostRuntime) -> Result<(), Fail> {
     for row in &PRINTED {
-        let (tape, _, _, codes, _) = *row;
-        let (mut machine, _) = loaded_on(&rt, rt.alloc(), tape)?;
-        let mut paper = Paper::new(rt.alloc(), codes.len())?;
-        expect_printed(&rt, rt.alloc(), &mut machine, &mut paper, row);
+        expect_print(&rt, rt.alloc(), row)?;
     }
     Ok(())
+}
+
+/// Checks the number of lines that a machine prints.
+fn expect_lines_on(
+    rt: &impl Abort,
+    alloc: Global,
+    machine: &mut Machine,
+    paper: &mut Paper,
+    words: (u16, u16),
+    lines: usize,
+) {
+    let (first, count) = words;
+    let answer = printed(rt, alloc, machine, first, count, paper);
+    expect(rt, answer.is_ok(), "the answer");
+    let codes = paper.codes().len();
+    expect(rt, codes / 8 == lines && codes % 8 == 0, "the lines");
 }
 
 /// Checks the number of lines that a machine of 512 locations prints.
@@ -135,12 +173,7 @@ fn expect_lines(
     lines: usize,
 ) -> Result<(), Fail> {
     let (mut machine, mut paper) = cleared(alloc, Size::Small, ROOM)?;
-    let answer = printed(rt, alloc, &mut machine, first, count, &mut paper);
-    assert!(rt; answer.is_ok(), "{first} and {count}");
-    assert!(rt;
-        paper.codes().len() / 8 == lines && paper.codes().len() % 8 == 0,
-        "{first} and {count}"
-    );
+    expect_lines_on(rt, alloc, &mut machine, &mut paper, (first, count), lines);
     Ok(())
 }
 
@@ -157,38 +190,42 @@ fn parts(word: u32) -> (u8, u32, bool) {
 }
 
 /// Adds the item of a word to a tape.
-fn add_item(alloc: Global, tape: &mut String, word: u32) -> Result<(), Fail> {
+fn add_item(tape: &mut String, word: u32) -> Result<(), Fail> {
     let (function, number, long) = parts(word);
     let letter = char::from(byte_of(Code::new(function).ok_or("no code")?, false));
     let end = if long { 'D' } else { 'F' };
-    let item = format!(in alloc; "{letter}{number}{end}")?;
-    Ok(tape.push_str(&item)?)
+    Ok(write!(tape, "{letter}{number}{end}")?)
 }
 
 /// The tape that places `count` words, the number `from` and those after it, from location 144 upwards.
 fn tape_of_words(alloc: Global, from: u32, count: u32) -> Result<String, Fail> {
     let mut tape = String::from_str(alloc, "T144K")?;
     for word in from..from.saturating_add(count) {
-        add_item(alloc, &mut tape, word)?;
+        add_item(&mut tape, word)?;
     }
     tape.push_str("E144KPF")?;
     Ok(tape)
 }
 
-/// Adds the codes of a number's digits.
-fn add_digits(alloc: Global, codes: &mut Vec<u8>, number: u32) -> Result<(), Fail> {
-    let digits = format!(in alloc; "{number}")?;
+/// Adds the codes of digits.
+fn add_digits(codes: &mut Vec<u8>, digits: &str) -> Result<(), Fail> {
     for digit in digits.bytes() {
         codes.push(digit.wrapping_sub(b'0'))?;
     }
     Ok(())
 }
 
+/// Adds the codes of a number's digits.
+fn add_number(alloc: Global, codes: &mut Vec<u8>, number: u32) -> Result<(), Fail> {
+    let digits = format!(in alloc; "{number}")?;
+    add_digits(codes, &digits)
+}
+
 /// Adds the codes that print a word.
 fn add_codes(alloc: Global, codes: &mut Vec<u8>, word: u32) -> Result<(), Fail> {
     let (function, number, long) = parts(word);
     codes.extend_from_slice(&[15, function, 11])?;
-    add_digits(alloc, codes, number)?;
+    add_number(alloc, codes, number)?;
     codes.extend_from_slice(&[15, if long { 19 } else { 17 }, 18, 24])?;
     Ok(())
 }
@@ -202,15 +239,35 @@ fn codes_of_words(alloc: Global, from: u32, count: u32) -> Result<Vec<u8>, Fail>
     Ok(codes)
 }
 
+/// A machine on which the tape of these words was loaded.
+fn machine_of_words(
+    rt: &impl Abort,
+    alloc: Global,
+    from: u32,
+    count: u16,
+) -> Result<Machine, Fail> {
+    let tape = tape_of_words(alloc, from, u32::from(count))?;
+    let (machine, load) = loaded_on(rt, alloc, &tape)?;
+    expect(rt, matches!(load, Loaded::Entered { at: 144, .. }), &tape);
+    Ok(machine)
+}
+
 /// What a post-mortem prints of these words.
 fn paper_of_words(rt: &impl Abort, alloc: Global, from: u32, count: u16) -> Result<Paper, Fail> {
-    let tape = tape_of_words(alloc, from, u32::from(count))?;
-    let (mut machine, load) = loaded_on(rt, alloc, &tape)?;
-    assert!(rt; matches!(load, Loaded::Entered { at: 144, .. }), "{from}");
     let mut paper = Paper::new(alloc, ROOM)?;
+    let mut machine = machine_of_words(rt, alloc, from, count)?;
     let answer = printed(rt, alloc, &mut machine, 144, count, &mut paper);
-    assert!(rt; answer.is_ok(), "{from}");
+    expect(rt, answer.is_ok(), "the answer");
     Ok(paper)
+}
+
+/// Checks what a post-mortem prints of these words.
+fn expect_words(rt: &impl Abort, alloc: Global, from: u32, count: u16) -> Result<(), Fail> {
+    let codes = codes_of_words(alloc, from, u32::from(count))?;
+    let paper = paper_of_words(rt, alloc, from, count)?;
+    let differs = first_difference(paper.codes(), &codes);
+    assert!(rt; differs.is_none(), "{differs:?} from {from} on");
+    Ok(())
 }
 
 #[test]
@@ -218,10 +275,7 @@ fn every_word_is_printed(rt: HostRuntime) -> Result<(), Fail> {
     for block in 0..149u32 {
         let from = block * MOST;
         let count = MOST.min(131_072 - from);
-        let codes = codes_of_words(rt.alloc(), from, count)?;
-        let paper = paper_of_words(&rt, rt.alloc(), from, count as u16)?;
-        let differs = first_difference(paper.codes(), &codes);
-        assert!(rt; differs.is_none(), "{differs:?} from {from} on");
+        expect_words(&rt, rt.alloc(), from, count as u16)?;
     }
     Ok(())
 }

@@ -74,13 +74,6 @@ fn orders_to_the_end(rt: &impl Abort, rows: &[Code]) -> u64 {
     if inside { orders } else { orders + 1 }
 }
 
-/// How the load of rows ends, and the machine after it.
-fn loaded_on(rt: &impl Abort, alloc: Global, rows: Vec<Code>) -> Result<(Machine, Loaded1), Fail> {
-    let mut machine = started(alloc, rows)?;
-    let loaded = loaded(rt, &mut machine);
-    Ok((machine, loaded))
-}
-
 /// Whether as many of `count` rows were loaded, and to the places, as a report tells.
 fn is_as_reported(machine: &Machine, loaded: Loaded1, count: usize, report: &Checked1) -> bool {
     let orders = report.orders();
@@ -89,22 +82,33 @@ fn is_as_reported(machine: &Machine, loaded: Loaded1, count: usize, report: &Che
         && misplaced(machine, report).is_none()
 }
 
-/// Whether the rows of a list are loaded as the check reports. If they have a fault other than their end, the orders
-/// may do anything.
+/// Whether rows are loaded as the check reports, on a machine that was started on them. If they have a fault other
+/// than their end, the orders may do anything.
+fn is_loaded_as_told(
+    rt: &impl Abort,
+    machine: &mut Machine,
+    rows: &[Code],
+    told: &Result<Checked1, Tape1Fault>,
+) -> bool {
+    let orders = orders_to_the_end(rt, rows);
+    let loaded = loaded(rt, machine);
+    match told {
+        Ok(report) => is_as_reported(machine, loaded, rows.len(), report),
+        Err(fault) => {
+            !is_end(fault) || loaded == Loaded1::Lost { orders } && machine.rows_left().is_empty()
+        }
+    }
+}
+
+/// Whether the rows of a list are loaded as the check reports.
 fn are_loaded_as_told(
     rt: &impl Abort,
     alloc: Global,
     rows: &[Code],
     told: &Result<Checked1, Tape1Fault>,
 ) -> Result<bool, Fail> {
-    let orders = orders_to_the_end(rt, rows);
-    let (machine, loaded) = loaded_on(rt, alloc, rows.to_vec(alloc)?)?;
-    Ok(match told {
-        Ok(report) => is_as_reported(&machine, loaded, rows.len(), report),
-        Err(fault) => {
-            !is_end(fault) || loaded == Loaded1::Lost { orders } && machine.rows_left().is_empty()
-        }
-    })
+    let mut machine = started(alloc, rows.to_vec(alloc)?)?;
+    Ok(is_loaded_as_told(rt, &mut machine, rows, told))
 }
 
 /// Whether a fault is the end of the tape.

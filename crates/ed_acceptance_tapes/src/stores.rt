@@ -1,6 +1,6 @@
 //! The store at the entry of a tape, compared with the checker's report.
 
-use crate::support::{LETTER, checked, loaded, start_on, started, stops};
+use crate::support::{LETTER, checked, expect, loaded, start_on, started, stops};
 use ed_initial::Loaded;
 use ed_machine::Machine;
 use ed_notation::Checked;
@@ -12,15 +12,24 @@ use std::test::Fail;
 /// A program that leaves a sandwich digit between 100 and 101, and words of its own.
 const BEFORE: &str = "T64KGKA4#@RDT100DZFPFPDEZPF";
 
+/// Loads that program on a machine that was started on it, and runs it.
+fn run_before(rt: &impl Abort, machine: &mut Machine) {
+    let (at, orders) = (64, 302);
+    expect(
+        rt,
+        loaded(rt, machine) == Loaded::Entered { at, orders },
+        BEFORE,
+    );
+    for stop in [false, false, false, true] {
+        expect(rt, stops(rt, machine) == stop, BEFORE);
+    }
+    expect(rt, machine.sandwich(100), BEFORE);
+}
+
 /// A machine on which another program was run before.
 fn used_machine(rt: &impl Abort, alloc: Global, size: Size) -> Result<Machine, Fail> {
     let mut machine = started(alloc, size, BEFORE)?;
-    let (at, orders) = (64, 302);
-    assert!(rt; loaded(rt, &mut machine) == Loaded::Entered { at, orders });
-    for stop in [false, false, false, true] {
-        assert!(rt; stops(rt, &mut machine) == stop);
-    }
-    assert!(rt; machine.sandwich(100));
+    run_before(rt, &mut machine);
     Ok(machine)
 }
 
@@ -45,13 +54,19 @@ fn expect_as_checked(
     tape: &str,
 ) {
     let (at, orders) = (report.entry(), report.orders());
-    let load = loaded(rt, machine);
-    assert!(rt; load == Loaded::Entered { at, orders }, "{tape}");
-    let differs = first_difference(machine, before, report);
-    assert!(rt; differs.is_none(), "{differs:?} of {tape}");
-    assert!(rt; machine.word(42) == report.theta(), "{tape}");
+    expect(
+        rt,
+        loaded(rt, machine) == Loaded::Entered { at, orders },
+        tape,
+    );
+    expect(
+        rt,
+        first_difference(machine, before, report).is_none(),
+        tape,
+    );
+    expect(rt, machine.word(42) == report.theta(), tape);
     let read = tape.len().checked_sub(machine.rows_left().len());
-    assert!(rt; read == Some(report.rows()), "{tape}");
+    expect(rt, read == Some(report.rows()), tape);
 }
 
 /// Loads a tape of rows of one byte on a machine, and compares with the checker's report on the machine before.
@@ -68,6 +83,24 @@ fn is_as_checked(
     Ok(())
 }
 
+/// Compares the load of a tape on a machine with the checker's report on the machine before.
+fn is_as_checked_before(
+    rt: &impl Abort,
+    alloc: Global,
+    machine: &mut Machine,
+    tape: &str,
+) -> Result<(), Fail> {
+    let before = machine.copy()?;
+    is_as_checked(rt, alloc, machine, &before, tape)
+}
+
+/// Compares the load of a tape on a machine of a size that was used before with the checker's report.
+fn expect_checked(rt: &impl Abort, alloc: Global, size: Size, tape: &str) -> Result<(), Fail> {
+    let mut machine = used_machine(rt, alloc, size)?;
+    is_as_checked_before(rt, alloc, &mut machine, tape)
+}
+
+/// Sizes and tapes.
 const TAPES: [(Size, &str); 7] = [
     (Size::Small, LETTER),
     (Size::Full, LETTER),
@@ -82,9 +115,7 @@ const TAPES: [(Size, &str); 7] = [
 fn the_store_at_the_entry_is_what_the_checker_tells(rt: HostRuntime) -> Result<(), Fail> {
     for row in &TAPES {
         let (size, tape) = *row;
-        let mut machine = used_machine(&rt, rt.alloc(), size)?;
-        let before = machine.copy()?;
-        is_as_checked(&rt, rt.alloc(), &mut machine, &before, tape)?;
+        expect_checked(&rt, rt.alloc(), size, tape)?;
     }
     Ok(())
 }

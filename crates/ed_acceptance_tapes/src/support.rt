@@ -13,6 +13,11 @@ use std::test::Fail;
 /// The tape that prints A.
 pub const LETTER: &str = "T64KGKO2@ZFAFEZPF";
 
+/// Checks what is told of the thing with a name.
+pub fn expect(rt: &impl Abort, told: bool, name: &str) {
+    assert!(rt; told, "{name}");
+}
+
 /// The rows of a tape's text.
 pub fn rows_of(alloc: Global, tape: &str) -> Result<Vec<Code>, Fail> {
     Ok(tape_of_text(alloc, tape.as_bytes())?)
