@@ -40,7 +40,7 @@ use Rattle.ed_page.specs.Private.ItemTables.{table_on, whole_item, opened_with}
 use Rattle.ed_page.specs.declared.items.Notation.{Notation}
 use Rattle.ed_page.specs.declared.items.OpenItem.{OpenItem}
 use Rattle.ed_page.specs.declared.told.Told.{Told}
-use Rattle.ed_page.specs.Private.Stages.{AreItemsOf, HoldsOutcome, IsEntered}
+use Rattle.ed_page.specs.Private.Stages.{AreItemsOf, HoldsOutcome, HasEntryRows}
 
 -- ---- what the fold places
 
@@ -326,7 +326,7 @@ AreWritten-append [] ws a b = b
 AreWritten-append (v ∷ vs) ws a b = (a.0, AreWritten-append vs ws a.1 b)
 
 -- what is answered to a well-formed tape
-pub entered_told : (z : Size) {codes : List ℕ} {count : ℕ} {told : Told} → IsEntered z codes (Ok count)
+pub entered_told : (z : Size) {codes : List ℕ} {count : ℕ} {told : Told} → HasEntryRows z codes (Ok count)
     → HoldsOutcome told (done (table_on 0 first_notation None (take count codes))) → AreItemsOf z codes (Ok told)
 entered_told z {codes} {count} {told} (r, f, many) tells =
     let ws = f.comes.before in

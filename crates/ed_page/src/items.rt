@@ -10,7 +10,7 @@ ghost use Rattle.ed_page.specs.Pictures.{size_shown};
 ghost use Rattle.ed_page.specs.Private.ItemTables.{IsSetAs, IsSetBelow, first_notation, is_last_row, item_at};
 ghost use Rattle.ed_page.specs.Private.ItemTables.{notation_after, note_over};
 ghost use Rattle.ed_page.specs.Private.ItemTables.{placing_over, table_on, whole_item, opened_with};
-ghost use Rattle.ed_page.specs.Private.Stages.{AreItemsOf, IsAnswered, IsEntered};
+ghost use Rattle.ed_page.specs.Private.Stages.{AreItemsOf, IsAnswered, HasEntryRows};
 ghost use Rattle.ed_page.specs.TapeItems.{PlacingLaw, four_bytes, four_numbers, item_line, items_answer};
 ghost use Rattle.ed_answers.specs.declared.input.TheConstants.{INPUT_BYTES};
 
@@ -100,7 +100,7 @@ fn row_items(alloc: Global, size: Size, rows: &[Code]) -> Result<Told, NoMemory>
 /// The number of rows up to the entry of a tape on a cleared store, or its fault.
 fn entered_rows(alloc: Global, size: Size, rows: &[Code]) -> Result<usize, TapeFault>
     requires { length rows.now ≤ INPUT_BYTES }
-    ensures { IsEntered size rows.now result }
+    ensures { HasEntryRows size rows.now result }
 {
     let store = Store::cleared(alloc)?;
     Ok(check(alloc, size, &store, rows)?.rows())

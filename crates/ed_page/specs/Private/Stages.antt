@@ -108,10 +108,10 @@ pub record IsGone (r : RunEnd) (gone : Gone) : Type 0 where
   pub codes_are : gone.paper.codes ≡ r.codes
 
 -- what a check of rows on a cleared store answers, with the number of rows up to the entry
-abbrev pub IsEntered : Size → List ℕ → Result ℕ TapeFault → Type 0
-IsEntered z codes (Ok n) = (r : Report) × Accepts z cleared_cells.words first_note 9 codes r × (n ≡ r.rows)
-IsEntered z codes (Err (At row cause)) = IsFault z cleared_cells.words first_note codes row cause
-IsEntered z codes (Err NoStore) = Unit {0}
+abbrev pub HasEntryRows : Size → List ℕ → Result ℕ TapeFault → Type 0
+HasEntryRows z codes (Ok n) = (r : Report) × Accepts z cleared_cells.words first_note 9 codes r × (n ≡ r.rows)
+HasEntryRows z codes (Err (At row cause)) = IsFault z cleared_cells.words first_note codes row cause
+HasEntryRows z codes (Err NoStore) = Unit {0}
 
 -- what is answered about the items of rows
 abbrev pub AreItemsOf : Size → List ℕ → Result Told NoMemory → Type 0

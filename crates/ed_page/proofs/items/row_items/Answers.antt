@@ -4,7 +4,7 @@ use Rattle.ed_notation.specs.declared.cause.TapeFault.{TapeFault}
 use Rattle.ed_notation.specs.declared.cause.TapeFault.TheVariants.{At}
 use Rattle.ed_report.specs.Notes.{rule_line}
 use Rattle.ed_answers.specs.Outcome.{done}
-use Rattle.ed_page.specs.Private.Stages.{HoldsOutcome, IsEntered}
+use Rattle.ed_page.specs.Private.Stages.{HoldsOutcome, HasEntryRows}
 use Rattle.ed_page.proofs.ItemRows.{entered_told, fault_told}
 use Rattle.ed_page.proofs.RowCodes.{first_within}
 use Rattle.ed_page.proofs.items.row_items.Goals as goal
@@ -19,8 +19,8 @@ returns-in_ok-tape_fault-in-Err-At c =
     let row = c.in-Err-At.row in
     let cause = c.in-Err-At.cause in
     let items = c.in_ok-items-in-Err-At.items.items in
-    let fault : IsEntered c.args.size c.args.rows.now (Err (At row cause)) =
-    subst (λ (f : TapeFault). IsEntered c.args.size c.args.rows.now (Err f)) c.in-Err-At.field-0-is
+    let fault : HasEntryRows c.args.size c.args.rows.now (Err (At row cause)) =
+    subst (λ (f : TapeFault). HasEntryRows c.args.size c.args.rows.now (Err f)) c.in-Err-At.field-0-is
     c.in-Err-At.ensures in
     let noted : HoldsOutcome c.refused.result (record { out = items; note = rule_line row cause; status = 3 }) =
     subst (λ (note : List ℕ). HoldsOutcome c.refused.result (record { out = items; note = note; status = 3 }))
