@@ -2,9 +2,10 @@
 use Rattle.std.proofs.Common.{◌≡◌, ◌<◌, ap, refl, sym, Bool, true, List, [], ◌∷◌, map, length, arith}
 use Rattle.std.specs.Prelude.{Option, Some, None, Ok, Err}
 use Rattle.ed_words.specs.Texts.{Text}
+use Rattle.ed_syntax.specs.Parts.{is_place_name}
 use Rattle.ed_syntax.specs.Private.Answers.{LineIs, form_fault}
 use Rattle.ed_syntax.specs.Private.Found.{form_result}
-use Rattle.ed_syntax.specs.Private.Grammar.{Ranged, after_label, ranged_map, placed_statement}
+use Rattle.ed_syntax.specs.Private.Grammar.{Ranged, labelled_line, ranged_map, placed_statement}
 use Rattle.ed_syntax.specs.Private.Seen.{part}
 use Rattle.ed_syntax.specs.Private.SourceReading.{or_cause}
 use Rattle.ed_syntax.specs.declared.fault.FormFault.{FormFault}
@@ -40,8 +41,8 @@ line_form (Some None) f h = absurd (cc)
 line_form (Some (Some g)) f h = let same : f ≡ g = cc in ap (λ (x : Form). Ok x) (sym same)
 
 -- what follows a label is a statement that may have one
-pub before_statement : (two : Bool) (r : Text) (ps : List Part) → 0 < length ps
-    → after_label two r (map part ps)
+pub after_a_label : (two : Bool) (r : Text) (ps : List Part) → is_place_name two r ≡ true → 0 < length ps
+    → labelled_line two r (map part ps)
     ≡ ranged_map (λ s. record { label = Some r; statement = Some s }) (placed_statement two (map part ps))
-before_statement two r [] h = absurd (omega arith)
-before_statement two r (p ∷ ps) h = refl
+after_a_label two r [] e h = absurd (omega arith)
+after_a_label two r (p ∷ ps) e h = rw e refl

@@ -10,6 +10,7 @@ pub mod NameBytes
 pub mod NameLemmas
 pub mod Numbers
 pub mod OperandLaws
+pub mod Orders
 pub mod PartLemmas
 pub mod PartTexts
 pub mod PartsLaws

@@ -79,6 +79,3 @@ pub(crate) enum FormFault {
     /// They have its form, and a number is out of its range.
     OutOfRange,
 }
-
-/// What parts say that have a form: None where one of its numbers is out of its range.
-pub(crate) type Ranged<T> = Option<T>;

@@ -1,11 +1,12 @@
 //! Operands and settings.
-ghost use Rattle.std.specs.Prelude.{◌≡◌, ◌+◌, ◌≤◌, ◌∷◌, ◌==◌, ◌<◌, ◌^◌, length, map, option_map, IfOk, Some};
+ghost use Rattle.std.specs.Prelude.{◌≡◌, ◌+◌, ◌≤◌, ◌∷◌, ◌==◌, ◌<◌, ◌^◌, length, map, option_map, IfErr, IfOk, Some};
 ghost use Rattle.std.specs.Option.{ok_or};
+ghost use Rattle.std.specs.Result.{result_ok};
 ghost use Rattle.std.specs.Borrow.{Bor};
 ghost use Rattle.std.specs.List.{list_any};
 ghost use Rattle.ed_syntax.specs.Private.Grammar.{and_more, both, joined_operand, ranged_map, operand, with_settings};
 ghost use Rattle.ed_syntax.specs.Private.Grammar.{joined_front, setting, with_rest};
-ghost use Rattle.ed_syntax.specs.Private.Found.{form_result, found};
+ghost use Rattle.ed_syntax.specs.Private.Found.{form_result, front};
 ghost use Rattle.ed_syntax.specs.Programs.{is_second};
 ghost use Rattle.ed_syntax.specs.Parts.{array};
 ghost use Rattle.ed_syntax.specs.Parts.{setting_letter, with_sign};
@@ -13,7 +14,7 @@ ghost use Rattle.ed_syntax.specs.Private.Grammar.{settings, single};
 ghost use Rattle.ed_syntax.specs.Parts.{run, sign};
 ghost use Rattle.ed_syntax.specs.Private.Seen.{part};
 
-use crate::fault::{FormFault, Ranged};
+use crate::fault::FormFault;
 use crate::parts::Part;
 use crate::terms::{is, is_number, place_name, up_to};
 use crate::{Operand, Setting, Version};
@@ -21,17 +22,18 @@ use arrayvec::ArrayVec;
 use ed_codes::{Code, row_of_byte};
 
 /// An operand that is a number or a name: none where the number is out of its range.
-fn single(version: Version, run: &[u8]) -> Option<Ranged<Operand>>
-    ensures { result ≡ single (is_second version) run.now }
+fn single(version: Version, run: &[u8]) -> Result<Option<Operand>, FormFault>
+    ensures is { result_ok result ≡ single (is_second version) run.now }
+    ensures fault { IfErr result (λ e. e ≡ FormFault.NotThisForm) }
 {
     if is_number(run) {
         return match up_to(32767, run) {
-            Some(number) => Some(Some(Operand::Number(number as u16))),
-            None => Some(None),
+            Some(number) => Ok(Some(Operand::Number(number as u16))),
+            None => Ok(None),
         };
     }
     let name = place_name(version, run)?;
-    Some(Some(Operand::Label { name, plus: 0 }))
+    Ok(Some(Operand::Label { name, plus: 0 }))
 }
 
 /// A number after a sign.
@@ -47,25 +49,26 @@ fn signed(minus: bool, number: u64) -> i32
 }
 
 /// An operand that is a name, a sign, and a number or in version 2 a name: none where the number is out of its range.
-fn joined(version: Version, run: &[u8], sign: u8, more: &[u8]) -> Option<Ranged<Operand>>
-    ensures { result ≡ joined_operand (is_second version) run.now sign more.now }
+fn joined(version: Version, run: &[u8], sign: u8, more: &[u8]) -> Result<Option<Operand>, FormFault>
+    ensures is { result_ok result ≡ joined_operand (is_second version) run.now sign more.now }
+    ensures fault { IfErr result (λ e. e ≡ FormFault.NotThisForm) }
 {
     let first = place_name(version, run)?;
     let minus = sign == b'-';
     if is_number(more) {
         return match up_to(1023, more) {
-            Some(number) => Some(Some(Operand::Label {
+            Some(number) => Ok(Some(Operand::Label {
                 name: first,
                 plus: signed(minus, number),
             })),
-            None => Some(None),
+            None => Ok(None),
         };
     }
     if !version.is_two() {
-        return None;
+        return Err(FormFault::NotThisForm);
     }
     let second = place_name(version, more)?;
-    Some(Some(Operand::Two {
+    Ok(Some(Operand::Two {
         first,
         second,
         minus,
@@ -77,12 +80,13 @@ fn joined(version: Version, run: &[u8], sign: u8, more: &[u8]) -> Option<Ranged<
 pub(crate) fn operand<'a, 'p>(
     version: Version,
     parts: &'p [Part<'a>],
-) -> Option<(Ranged<Operand>, &'p [Part<'a>])>
-    ensures { found result ≡ operand (is_second version) (map part parts.entry.now) }
+) -> Result<(Option<Operand>, &'p [Part<'a>]), FormFault>
+    ensures is { front result ≡ operand (is_second version) (map part parts.entry.now) }
+    ensures fault { IfErr result (λ e. e ≡ FormFault.NotThisForm) }
 {
     match parts.split_first() {
-        Some((&Part::Run(run), rest)) => operand_of_run(version, run, rest),
-        _ => None,
+        Some((Part::Run(run), rest)) => operand_of_run(version, run, rest),
+        _ => Err(FormFault::NotThisForm),
     }
 }
 
@@ -91,11 +95,12 @@ fn operand_of_run<'a, 'p>(
     version: Version,
     first: &[u8],
     parts: &'p [Part<'a>],
-) -> Option<(Ranged<Operand>, &'p [Part<'a>])>
-    ensures { found result ≡ operand (is_second version) (run first.now ∷ map part parts.entry.now) }
+) -> Result<(Option<Operand>, &'p [Part<'a>]), FormFault>
+    ensures is { front result ≡ operand (is_second version) (run first.now ∷ map part parts.entry.now) }
+    ensures fault { IfErr result (λ e. e ≡ FormFault.NotThisForm) }
 {
     match parts.split_first() {
-        Some((&Part::Sign(sign @ (b'+' | b'-')), rest)) => joined_front(version, first, sign, rest),
+        Some((Part::Sign(sign @ (b'+' | b'-')), rest)) => joined_front(version, first, *sign, rest),
         _ => single_front(version, first, parts),
     }
 }
@@ -105,11 +110,12 @@ fn single_front<'a, 'p>(
     version: Version,
     run: &[u8],
     parts: &'p [Part<'a>],
-) -> Option<(Ranged<Operand>, &'p [Part<'a>])>
-    ensures { found result ≡ with_rest (map part parts.entry.now) (single (is_second version) run.now) }
+) -> Result<(Option<Operand>, &'p [Part<'a>]), FormFault>
+    ensures is { front result ≡ with_rest (map part parts.entry.now) (single (is_second version) run.now) }
+    ensures fault { IfErr result (λ e. e ≡ FormFault.NotThisForm) }
 {
     let operand = single(version, run)?;
-    Some((operand, parts))
+    Ok((operand, parts))
 }
 
 /// An operand that begins with this run and this sign, and the parts after it.
@@ -118,22 +124,26 @@ fn joined_front<'a, 'p>(
     run: &[u8],
     sign: u8,
     parts: &'p [Part<'a>],
-) -> Option<(Ranged<Operand>, &'p [Part<'a>])>
-    ensures { found result ≡ joined_front (is_second version) run.now sign (map part parts.entry.now) }
+) -> Result<(Option<Operand>, &'p [Part<'a>]), FormFault>
+    ensures is { front result ≡ joined_front (is_second version) run.now sign (map part parts.entry.now) }
+    ensures fault { IfErr result (λ e. e ≡ FormFault.NotThisForm) }
 {
     match parts.split_first() {
-        Some((&Part::Run(more), rest)) => Some((joined(version, run, sign, more)?, rest)),
-        _ => None,
+        Some((Part::Run(more), rest)) => Ok((joined(version, run, sign, more)?, rest)),
+        _ => Err(FormFault::NotThisForm),
     }
 }
 
 /// The letter of a setting, as its code.
-fn setting_letter(byte: u8) -> Option<Code>
-    ensures { result ≡ setting_letter byte }
+fn setting_letter(byte: u8) -> Result<Code, FormFault>
+    ensures is { result_ok result ≡ setting_letter byte }
+    ensures fault { IfErr result (λ e. e ≡ FormFault.NotThisForm) }
 {
     match byte {
-        b'H' | b'N' | b'M' | b'&' | b'L' | b'X' => row_of_byte(byte),
-        _ => None,
+        b'H' | b'N' | b'M' | b'&' | b'L' | b'X' => {
+            row_of_byte(byte).ok_or(FormFault::NotThisForm)
+        }
+        _ => Err(FormFault::NotThisForm),
     }
 }
 
@@ -141,12 +151,13 @@ fn setting_letter(byte: u8) -> Option<Code>
 fn setting<'a, 'p>(
     version: Version,
     parts: &'p [Part<'a>],
-) -> Option<(Ranged<Setting>, &'p [Part<'a>])>
-    ensures { found result ≡ setting (is_second version) (map part parts.entry.now) }
+) -> Result<(Option<Setting>, &'p [Part<'a>]), FormFault>
+    ensures is { front result ≡ setting (is_second version) (map part parts.entry.now) }
+    ensures fault { IfErr result (λ e. e ≡ FormFault.NotThisForm) }
 {
     match parts.split_first() {
-        Some((&Part::Sign(byte), rest)) => setting_of_letter(version, byte, rest),
-        _ => None,
+        Some((Part::Sign(byte), rest)) => setting_of_letter(version, *byte, rest),
+        _ => Err(FormFault::NotThisForm),
     }
 }
 
@@ -155,32 +166,24 @@ fn setting_of_letter<'a, 'p>(
     version: Version,
     byte: u8,
     parts: &'p [Part<'a>],
-) -> Option<(Ranged<Setting>, &'p [Part<'a>])>
-    ensures { found result ≡ setting (is_second version) (sign byte ∷ map part parts.entry.now) }
+) -> Result<(Option<Setting>, &'p [Part<'a>]), FormFault>
+    ensures is { front result ≡ setting (is_second version) (sign byte ∷ map part parts.entry.now) }
+    ensures fault { IfErr result (λ e. e ≡ FormFault.NotThisForm) }
 {
     match parts.split_first() {
-        Some((Part::Sign(b'='), rest)) => setting_of_operand(version, byte, rest),
-        _ => None,
-    }
-}
-
-/// The setting of a letter and the operand at the front, and the parts after it.
-fn setting_of_operand<'a, 'p>(
-    version: Version,
-    byte: u8,
-    parts: &'p [Part<'a>],
-) -> Option<(Ranged<Setting>, &'p [Part<'a>])>
-    ensures { found result ≡ setting (is_second version) (sign byte ∷ sign 61 ∷ map part parts.entry.now) }
-{
-    let letter = setting_letter(byte)?;
-    match operand(version, parts) {
-        Some((operand, rest)) => Some((with_letter(letter, operand), rest)),
-        None => None,
+        Some((Part::Sign(equals), rest)) if *equals == b'=' => {
+            let letter = setting_letter(byte)?;
+            match operand(version, rest) {
+                Ok((operand, rest)) => Ok((with_letter(letter, operand), rest)),
+                Err(_) => Err(FormFault::NotThisForm),
+            }
+        }
+        _ => Err(FormFault::NotThisForm),
     }
 }
 
 /// A letter with its operand, if the operand is in its range.
-fn with_letter(letter: Code, operand: Ranged<Operand>) -> Ranged<Setting>
+fn with_letter(letter: Code, operand: Option<Operand>) -> Option<Setting>
     ensures { result ≡ option_map (λ o. record { letter = letter; operand = o }) operand }
 {
     Some(Setting {
@@ -200,8 +203,8 @@ fn settings(version: Version, most: u8, parts: &[Part]) -> Result<ArrayVec<Setti
         return Err(FormFault::NotThisForm);
     }
     match setting(version, parts) {
-        Some((setting, rest)) => and_more(version, setting, most - 1, rest),
-        None => Err(FormFault::NotThisForm),
+        Ok((setting, rest)) => and_more(version, setting, most - 1, rest),
+        Err(_) => Err(FormFault::NotThisForm),
     }
 }
 
@@ -209,7 +212,7 @@ fn settings(version: Version, most: u8, parts: &[Part]) -> Result<ArrayVec<Setti
 #[cycle(settings)]
 fn and_more(
     version: Version,
-    setting: Ranged<Setting>,
+    setting: Option<Setting>,
     most: u8,
     parts: &[Part],
 ) -> Result<ArrayVec<Setting, 6>, FormFault>
@@ -230,7 +233,7 @@ fn and_more(
 
 /// A setting in front of others, where it is in its range.
 fn both(
-    setting: Ranged<Setting>,
+    setting: Option<Setting>,
     more: ArrayVec<Setting, 6>,
 ) -> Result<ArrayVec<Setting, 6>, FormFault>
     requires { length more.items ≤ 5 }

@@ -1,11 +1,11 @@
 //! Statements, and lines with their labels.
 ghost use Rattle.std.specs.Prelude.{◌≡◌, ◌∷◌, ◌==◌, codes, map, option_map, Some};
-ghost use Rattle.ed_syntax.specs.declared.program.Statement.TheVariants.{Order};
+ghost use Rattle.std.specs.Option.{ok_or};
 ghost use Rattle.ed_syntax.specs.Programs.{is_second};
 ghost use Rattle.ed_syntax.specs.Private.Found.{form_result};
 ghost use Rattle.ed_syntax.specs.Private.Grammar.{base, enter, fetch, form, form_at};
-ghost use Rattle.ed_syntax.specs.Parts.{function, length_of};
-ghost use Rattle.ed_syntax.specs.Private.Grammar.{after_label, is_version_two, labelled_line, length_end};
+ghost use Rattle.ed_syntax.specs.Parts.{function};
+ghost use Rattle.ed_syntax.specs.Private.Grammar.{is_version_two, labelled_line, length_end};
 ghost use Rattle.ed_syntax.specs.Private.Grammar.{long, number_up_to, ranged_map, order, order_end, placed_statement, segment};
 ghost use Rattle.ed_words.specs.Decimals.{value};
 ghost use Rattle.ed_syntax.specs.Private.Grammar.{statement, data_statement, unlabelled_line, word};
@@ -13,90 +13,76 @@ ghost use Rattle.ed_syntax.specs.Private.Grammar as grammar;
 ghost use Rattle.ed_syntax.specs.Parts.{run, sign};
 ghost use Rattle.ed_syntax.specs.Private.Seen.{part};
 
-use crate::fault::{FormFault, Ranged};
+use crate::fault::FormFault;
 use crate::operands::{operand, preset};
 use crate::parts::Part;
 use crate::program::Form;
 use crate::terms::{integer, is, is_number, name, number, place_name, string, up_to};
-use crate::{Name, Operand, Statement, Version};
+use crate::{Operand, Statement, Version};
 use ed_codes::{Code, row_of_byte};
 use ed_words::{Long, Word};
 
 /// A function, as its code.
-fn function(byte: u8) -> Option<Code>
-    ensures { result ≡ function byte }
+fn function(byte: u8) -> Result<Code, FormFault>
+    ensures { result ≡ ok_or (function byte) FormFault.NotThisForm }
 {
     if byte.is_ascii_digit() {
-        return None;
+        return Err(FormFault::NotThisForm);
     }
-    row_of_byte(byte)
-}
-
-/// The length that a letter stands for, which is true for D.
-fn length_of(letter: u8) -> Option<bool>
-    ensures { result ≡ length_of letter }
-{
-    match letter {
-        b'F' => Some(false),
-        b'D' => Some(true),
-        _ => None,
-    }
+    row_of_byte(byte).ok_or(FormFault::NotThisForm)
 }
 
 /// The length at the end of an order.
-fn length_end(parts: &[Part]) -> Option<bool>
-    ensures { result ≡ length_end (map part parts.now) }
+fn length_end(parts: &[Part]) -> Result<bool, FormFault>
+    ensures { result ≡ ok_or (length_end (map part parts.now)) FormFault.NotThisForm }
 {
     match parts.split_first() {
-        Some((&Part::Sign(letter), rest)) if rest.is_empty() => length_of(letter),
-        _ => None,
+        Some((Part::Sign(end), rest)) if rest.is_empty() => match end {
+            b'F' => Ok(false),
+            b'D' => Ok(true),
+            _ => Err(FormFault::NotThisForm),
+        },
+        _ => Err(FormFault::NotThisForm),
     }
 }
 
 /// What follows the function of an order: the operand, where its number is in its range, and the length.
-fn order_end(version: Version, parts: &[Part]) -> Option<(Ranged<Operand>, bool)>
-    ensures { result ≡ order_end (is_second version) (map part parts.now) }
+fn order_end(version: Version, parts: &[Part]) -> Result<(Option<Operand>, bool), FormFault>
+    ensures { result ≡ ok_or (order_end (is_second version) (map part parts.now)) FormFault.NotThisForm }
 {
     match parts.split_first() {
         Some((Part::Sign(_), _)) => with_length(Some(Operand::Number(0)), parts),
         _ => match operand(version, parts) {
-            Some((operand, rest)) => with_length(operand, rest),
-            None => None,
+            Ok((operand, rest)) => with_length(operand, rest),
+            Err(_) => Err(FormFault::NotThisForm),
         },
     }
 }
 
 /// An operand with the length after it.
-fn with_length(operand: Ranged<Operand>, parts: &[Part]) -> Option<(Ranged<Operand>, bool)>
-    ensures { result ≡ option_map (λ l. (operand, l)) (length_end (map part parts.now)) }
+fn with_length(
+    operand: Option<Operand>,
+    parts: &[Part],
+) -> Result<(Option<Operand>, bool), FormFault>
+    ensures { result ≡ ok_or (option_map (λ l. (operand, l)) (length_end (map part parts.now))) FormFault.NotThisForm }
 {
     let length = length_end(parts)?;
-    Some((operand, length))
+    Ok((operand, length))
 }
 
 /// An order with this function.
 fn order(version: Version, byte: u8, parts: &[Part]) -> Result<Statement, FormFault>
     ensures { result ≡ form_result (order (is_second version) byte (map part parts.now)) }
 {
-    match function(byte) {
-        Some(function) => order_of(version, function, parts),
-        None => Err(FormFault::NotThisForm),
-    }
-}
-
-/// An order, by what follows its function.
-fn order_of(version: Version, function: Code, parts: &[Part]) -> Result<Statement, FormFault>
-    ensures { result ≡ form_result (option_map (λ p. option_map (λ o. Order function o p.1) p.0)
-        (order_end (is_second version) (map part parts.now))) }
-{
+    let function = function(byte)?;
     match order_end(version, parts) {
-        Some((Some(operand), length)) => Ok(Statement::Order {
+        Ok((Some(operand), length)) => Ok(Statement::Order {
             function,
             operand,
             length,
         }),
-        Some((None, _)) => Err(FormFault::OutOfRange),
-        None => Err(FormFault::NotThisForm),
+        Ok((None, _)) => Err(FormFault::OutOfRange),
+        Err(_) => Err(FormFault::NotThisForm),
     }
 }
 
@@ -126,20 +112,16 @@ fn long(parts: &[Part]) -> Result<Statement, FormFault>
 fn text(parts: &[Part]) -> Result<Statement, FormFault>
     ensures { result ≡ form_result (grammar.text (map part parts.now)) }
 {
-    match string(parts) {
-        Some(codes) => Ok(Statement::Text { codes }),
-        None => Err(FormFault::NotThisForm),
-    }
+    let codes = string(parts)?;
+    Ok(Statement::Text { codes })
 }
 
 /// What follows `data`.
 fn tape_rows(parts: &[Part]) -> Result<Statement, FormFault>
     ensures { result ≡ form_result (data_statement (map part parts.now)) }
 {
-    match string(parts) {
-        Some(codes) => Ok(Statement::Rows { codes }),
-        None => Err(FormFault::NotThisForm),
-    }
+    let codes = string(parts)?;
+    Ok(Statement::Rows { codes })
 }
 
 /// What follows `enter`.
@@ -228,8 +210,8 @@ fn placed(version: Version, parts: &[Part]) -> Result<Statement, FormFault>
     ensures { result ≡ form_result (placed_statement (is_second version) (map part parts.now)) }
 {
     match parts.split_first() {
-        Some((&Part::Sign(byte), rest)) => order(version, byte, rest),
-        Some((&Part::Run(run), rest)) => placed_word(version, run, rest),
+        Some((Part::Sign(byte), rest)) => order(version, *byte, rest),
+        Some((Part::Run(run), rest)) => placed_word(version, run, rest),
         _ => Err(FormFault::NotThisForm),
     }
 }
@@ -254,7 +236,7 @@ fn statement(version: Version, parts: &[Part]) -> Result<Statement, FormFault>
     ensures { result ≡ form_result (statement (is_second version) (map part parts.now)) }
 {
     match parts.split_first() {
-        Some((&Part::Run(run), rest)) => statement_word(version, run, rest),
+        Some((Part::Run(run), rest)) => statement_word(version, run, rest),
         _ => placed(version, parts),
     }
 }
@@ -291,16 +273,7 @@ fn unlabelled(version: Version, parts: &[Part]) -> Result<Form, FormFault>
 fn labelled(version: Version, run: &[u8], parts: &[Part]) -> Result<Form, FormFault>
     ensures { result ≡ form_result (labelled_line (is_second version) run.now (map part parts.now)) }
 {
-    match place_name(version, run) {
-        Some(label) => after_label(version, label, parts),
-        None => Err(FormFault::NotThisForm),
-    }
-}
-
-/// A line with this label, by what follows it.
-fn after_label(version: Version, label: Name, parts: &[Part]) -> Result<Form, FormFault>
-    ensures { result ≡ form_result (after_label (is_second version) label (map part parts.now)) }
-{
+    let label = place_name(version, run)?;
     if parts.is_empty() {
         return Ok(Form {
             label: Some(label),
@@ -339,7 +312,7 @@ fn form(version: Version, parts: &[Part]) -> Result<Form, FormFault>
             label: None,
             statement: None,
         }),
-        Some((&Part::Run(run), rest)) => form_of_run(version, run, rest, parts),
+        Some((Part::Run(run), rest)) => form_of_run(version, run, rest, parts),
         _ => unlabelled(version, parts),
     }
 }

@@ -1,6 +1,7 @@
 //! Names, numbers and strings.
 ghost use Rattle.std.specs.Prelude.{◌≡◌, ◌∷◌, ◌≤◌, ◌<◌, ◌^◌, true, false, Some};
-ghost use Rattle.std.specs.Prelude.{map, length, IfNone, IfSome, IfOk, IfErr, option_map};
+ghost use Rattle.std.specs.Prelude.{map, length, IfSome, IfOk, IfErr, option_map};
+ghost use Rattle.std.specs.Option.{ok_or};
 ghost use Rattle.ed_syntax.specs.Programs.{is_second};
 ghost use Rattle.ed_syntax.specs.Private.Found.{form_result};
 ghost use Rattle.std.specs.List.{list_all};
@@ -92,14 +93,15 @@ pub(crate) fn name(run: &[u8]) -> Result<Name, FormFault>
 }
 
 /// A name or, in version 2, a local name.
-pub(crate) fn place_name(version: Version, run: &[u8]) -> Option<Name>
-    ensures none { IfNone result (is_place_name (is_second version) run.now ≡ false) }
-    ensures some { IfSome result (λ n. (n ≡ run.now) × (is_place_name (is_second version) run.now ≡ true)) }
+pub(crate) fn place_name(version: Version, run: &[u8]) -> Result<Name, FormFault>
+    ensures none { IfErr result
+        (λ e. (e ≡ FormFault.NotThisForm) × (is_place_name (is_second version) run.now ≡ false)) }
+    ensures some { IfOk result (λ n. (n ≡ run.now) × (is_place_name (is_second version) run.now ≡ true)) }
 {
     if is_place_name(version, run) {
-        Some(name_of(run))
+        Ok(name_of(run))
     } else {
-        None
+        Err(FormFault::NotThisForm)
     }
 }
 
@@ -173,12 +175,14 @@ fn negative(least: u64, run: &[u8]) -> Result<i64, FormFault>
 }
 
 /// A string of one or more bytes that spell rows.
-pub(crate) fn string(parts: &[Part]) -> Option<ArrayVec<Code, 120>>
-    ensures { result ≡ option_map array (string (map part parts.now)) }
+pub(crate) fn string(parts: &[Part]) -> Result<ArrayVec<Code, 120>, FormFault>
+    ensures { result ≡ ok_or (option_map array (string (map part parts.now))) FormFault.NotThisForm }
 {
     match parts.split_first() {
-        Some((&Part::Quoted(text), rest)) if rest.is_empty() => string_rows(text),
-        _ => None,
+        Some((Part::Quoted(text), rest)) if rest.is_empty() => {
+            string_rows(text).ok_or(FormFault::NotThisForm)
+        }
+        _ => Err(FormFault::NotThisForm),
     }
 }
 

@@ -15,6 +15,6 @@ form_result (Some None) = Err OutOfRange
 form_result (Some (Some a)) = Ok a
 
 -- what was found at the front, and the parts after it
-abbrev pub found : {A : Type 0} → Option (A × Bor (List Part)) → Option (A × List LinePart)
-found (Some p) = Some (p.0, map part p.1.now)
-found None = None
+abbrev pub front : {A : Type 0} → Result (A × Bor (List Part)) FormFault → Option (A × List LinePart)
+front (Ok p) = Some (p.0, map part p.1.now)
+front (Err e) = None

@@ -14,17 +14,17 @@ settings-returns-then-most-eq0-clause-is t c =
     ap (λ (o : Option (Ranged (List Setting))). form_result (ranged_map array o))
     (sym (none_left (is_second c.args.version) c.args.most (map part c.args.parts.now) c.if-most-eq0.true))
 
-pub settings-returns-in-Some-clause-is : goal.settings-returns-in-Some-clause-is
-settings-returns-in-Some-clause-is t c =
+pub settings-returns-in-Ok-clause-is : goal.settings-returns-in-Ok-clause-is
+settings-returns-in-Ok-clause-is t c =
     let front : setting (is_second c.args.version) (map part c.args.parts.now)
-    ≡ Some (c.in-Some.setting, map part c.in-Some.rest.now) = search rules in
-    let rest = map part c.in-Some.rest.now in
-    let whole = first_setting (is_second c.args.version) c.args.most (map part c.args.parts.now) rest c.in-Some.setting
+    ≡ Some (c.in-Ok.setting, map part c.in-Ok.rest.now) = search rules in
+    let rest = map part c.in-Ok.rest.now in
+    let whole = first_setting (is_second c.args.version) c.args.most (map part c.args.parts.now) rest c.in-Ok.setting
     (omega arith) front in
     c.and_more.ensures.is ∙ ap (λ (o : Option (Ranged (List Setting))). form_result (ranged_map array o)) (sym whole)
 
-pub settings-returns-in-None-clause-is : goal.settings-returns-in-None-clause-is
-settings-returns-in-None-clause-is t c =
+pub settings-returns-in-Err-clause-is : goal.settings-returns-in-Err-clause-is
+settings-returns-in-Err-clause-is t c =
     let front : setting (is_second c.args.version) (map part c.args.parts.now) ≡ None = search rules in
     ap (λ (o : Option (Ranged (List Setting))). form_result (ranged_map array o))
     (sym (no_setting (is_second c.args.version) c.args.most (map part c.args.parts.now) (omega arith) front))

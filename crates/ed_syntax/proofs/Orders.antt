@@ -1,0 +1,52 @@
+-- An order, by its function and by what follows.
+use Rattle.std.proofs.Common.{◌≡◌, ◌∙◌, ℕ, Bool, ap, refl}
+use Rattle.std.specs.Prelude.{Option, Some, None, Ok, Err, option_map, option_and_then}
+use Rattle.std.specs.Option.{ok_or}
+use Rattle.ed_syntax.specs.Private.Found.{form_result}
+use Rattle.ed_syntax.specs.Private.Grammar.{Ranged}
+use Rattle.ed_syntax.specs.declared.fault.FormFault.{FormFault}
+use Rattle.ed_syntax.specs.declared.fault.FormFault.TheVariants.{NotThisForm, OutOfRange}
+use Rattle.ed_syntax.specs.declared.program.Operand.{Operand}
+use Rattle.ed_syntax.specs.declared.program.Statement.{Statement}
+use Rattle.ed_syntax.specs.declared.program.Statement.TheVariants as statements
+
+-- what a function and what follows it make
+abbrev pub made_order : Option ℕ → Option (Ranged Operand × Bool) → Option (Ranged Statement)
+made_order function end =
+    option_and_then (λ f. option_map (λ p. option_map (λ o. statements.Order f o p.1) p.0) end) function
+
+-- an order whose operand has its number in its range
+pub order_made : (function : Option ℕ) (end : Option (Ranged Operand × Bool)) (f : ℕ) (x : Ranged Operand) (o : Operand)
+    (l : Bool) → Ok f ≡ ok_or function NotThisForm → Ok (x, l) ≡ ok_or end NotThisForm → x ≡ Some o
+    → Ok (statements.Order f o l) ≡ form_result (made_order function end)
+order_made None end f x o l h e is = absurd (cc)
+order_made (Some g) None f x o l h e is = absurd (cc)
+order_made (Some g) (Some (y, m)) f x o l h e is =
+    let function : g ≡ f = cc in
+    let same : (y, m) ≡ (x, l) = cc in
+    let operand : y ≡ Some o = ap (λ (p : Ranged Operand × Bool). p.0) same ∙ is in
+    let length : m ≡ l = ap (λ (p : Ranged Operand × Bool). p.1) same in rw (function, operand, length) refl
+
+-- an order whose operand has its number out of its range
+pub order_out_of_range : (function : Option ℕ) (end : Option (Ranged Operand × Bool)) (f : ℕ) (x : Ranged Operand)
+    (l : Bool) → Ok f ≡ ok_or function NotThisForm → Ok (x, l) ≡ ok_or end NotThisForm → x ≡ None
+    → Err OutOfRange ≡ form_result (made_order function end)
+order_out_of_range None end f x l h e is = absurd (cc)
+order_out_of_range (Some g) None f x l h e is = absurd (cc)
+order_out_of_range (Some g) (Some (y, m)) f x l h e is =
+    let same : (y, m) ≡ (x, l) = cc in
+    let operand : y ≡ None = ap (λ (p : Ranged Operand × Bool). p.0) same ∙ is in rw operand refl
+
+-- nothing after the function makes an order
+pub no_order : (function : Option ℕ) (end : Option (Ranged Operand × Bool)) (f : ℕ) (fault : FormFault)
+    → Ok f ≡ ok_or function NotThisForm → Err fault ≡ ok_or end NotThisForm
+    → Err NotThisForm ≡ form_result (made_order function end)
+no_order None end f fault h e = absurd (cc)
+no_order (Some g) None f fault h e = refl
+no_order (Some g) (Some p) f fault h e = absurd (cc)
+
+-- no function, no order
+pub no_function : (function : Option ℕ) (end : Option (Ranged Operand × Bool)) (fault : FormFault)
+    → Err fault ≡ ok_or function NotThisForm → Err fault ≡ form_result (made_order function end)
+no_function None end fault h = let same : fault ≡ NotThisForm = cc in ap (λ (x : FormFault). Err x) same
+no_function (Some g) end fault h = absurd (cc)
