@@ -57,7 +57,6 @@ impl BackFault {
 }
 
 /// The first bad line, counted from 1: it says no command, or it is line 1001.
-#[tactic(auto, using(crate::proofs::ScriptLaws::one_meaning))]
 pub fn bad_line(script: &[u8]) -> Option<u32>
     ensures is { HasBadLine script.now result }
     ensures one { EachScriptHasOneMeaning }

@@ -2,7 +2,7 @@ use Rattle.std.proofs.Common.{◌≡◌, Some, None}
 use Rattle.std.proofs.lemmas.Grind.{common_steps}
 use Rattle.std.proofs.Common.{arith}
 use Rattle.ed_stepper.specs.Private.CommandReading.{bad_line}
-use Rattle.ed_stepper.proofs.ScriptLaws.{bad_line_is}
+use Rattle.ed_stepper.proofs.ScriptLaws.{bad_line_is, one_meaning}
 use Rattle.ed_stepper.proofs.script.bad_line.Goals as goal
 use Rattle.ed_stepper.proofs.script.bad_line.Goals.{then-number-eq-TOO_MANY-via-then-number-eq-TOO_MANY}
 use Rattle.ed_stepper.proofs.script.bad_line.Goals.{then-number-eq-TOO_MANY-via-else-number-eq-TOO_MANY+then-is_none}
@@ -16,3 +16,9 @@ pub returns-clause-is : goal.returns-clause-is
 returns-clause-is c =
     let found : bad_line c.args.script.now ≡ None = grind (arith, common_steps) in
     bad_line_is c.args.script.now None found
+
+pub returns-then-number-eq-TOO_MANY-clause-one : goal.returns-then-number-eq-TOO_MANY-clause-one
+returns-then-number-eq-TOO_MANY-clause-one c = one_meaning
+
+pub returns-clause-one : goal.returns-clause-one
+returns-clause-one c = one_meaning
