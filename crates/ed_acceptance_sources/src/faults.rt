@@ -1,27 +1,10 @@
 //! The twelve faults of meaning: each alone, and each two of them on one line and on two.
 
-use crate::support::fault_of;
-use ed_syntax::SourceCause;
+use crate::support::{cause, fault_of};
 use ed_words::Size;
 use std::alloc::Global;
 use std::process::Abort;
 use std::test::Fail;
-
-/// The faults of meaning, by their numbers from 6.
-const CAUSES: [SourceCause; 12] = [
-    SourceCause::LabelTwice,
-    SourceCause::LabelUnknown,
-    SourceCause::AddressRange,
-    SourceCause::OutsideSegment,
-    SourceCause::LoaderStore,
-    SourceCause::ParameterStore,
-    SourceCause::StoreEnd,
-    SourceCause::Overlap,
-    SourceCause::NoSuchRoutine,
-    SourceCause::Parameters,
-    SourceCause::Enter,
-    SourceCause::SandwichDigit,
-];
 
 /// A number greater than that of any fault.
 const NONE: usize = 18;
@@ -96,11 +79,6 @@ const OTHERS: [(&str, u32, usize); 7] = [
 /// The program of some lines, after two that define m and a at 56.
 fn source(alloc: Global, lines: &str) -> Result<String, Fail> {
     Ok(format!(in alloc; "version 2\nsegment m\na: Z F\n{lines}enter m\n")?)
-}
-
-/// The cause of a fault by its number.
-fn cause(number: usize) -> Option<SourceCause> {
-    CAUSES.get(number.wrapping_sub(6)).copied()
 }
 
 /// Checks that a program of some lines has a fault, by its number, on a line.

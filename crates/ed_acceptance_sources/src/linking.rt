@@ -1,12 +1,8 @@
 //! Linking: the punched tape and the words of a source, where it begins, and the first fault of meaning.
 
-use crate::support::{Row, expect_faults, linked, rows_of, tape_of};
+use crate::support::{Row, expect, expect_faults, linked, rows_of, tape_of};
 use ed_codes::tape_of_text;
 use ed_link::Linked;
-use ed_syntax::SourceCause::{
-    AddressRange, Enter, LabelTwice, LabelUnknown, LoaderStore, NoSuchRoutine, OutsideSegment,
-    Overlap, ParameterStore, Parameters, SandwichDigit, StoreEnd,
-};
 use ed_words::Size;
 use std::alloc::Global;
 use std::process::Abort;
@@ -54,77 +50,61 @@ const WORDS: [(u16, u32); 5] = [
 /// Its names, with their locations.
 const LABELS: [(&str, u16); 3] = [("main", 56), ("mark", 59), ("letter", 60)];
 
-/// The first faults of sources in a store of 1024 locations.
+/// The first faults of sources in a store of 1024 locations, by their lines and numbers.
 const FAULTS: [Row; 28] = [
-    (FIRST, 0, None),
-    (SECOND, 11, Some(OutsideSegment)),
-    (THIRD, 0, None),
-    (b"", 1, Some(Enter)),
+    (FIRST, 0, 0),
+    (SECOND, 11, 9),
+    (THIRD, 0, 0),
+    (b"", 1, 16),
     (
         b"segment m\nA nowhere F\nsegment s at 20\nZ F\nenter m",
         2,
-        Some(LabelUnknown),
+        7,
     ),
-    (
-        b"segment m\nsegment s at 20\nZ F\nenter m",
-        3,
-        Some(LoaderStore),
-    ),
-    (b"segment m at 43\nm: Z F\nenter m", 2, Some(LabelTwice)),
-    (b"segment m\nA m+1000 F\nenter m", 2, Some(AddressRange)),
-    (b"Z F\nsegment m\nZ F\nenter m", 1, Some(OutsideSegment)),
-    (b"segment m at 43\nZ F\nenter m", 2, Some(LoaderStore)),
-    (b"segment m at 44\nZ F\nenter m", 2, Some(ParameterStore)),
-    (b"segment m at 55\nZ F\nenter m", 2, Some(ParameterStore)),
-    (b"segment m at 55\nenter m", 2, Some(ParameterStore)),
-    (b"segment m at 1023\nZ F\nenter m", 0, None),
-    (b"segment m at 1023\nZ F\nZ F\nenter m", 3, Some(StoreEnd)),
+    (b"segment m\nsegment s at 20\nZ F\nenter m", 3, 10),
+    (b"segment m at 43\nm: Z F\nenter m", 2, 6),
+    (b"segment m\nA m+1000 F\nenter m", 2, 8),
+    (b"Z F\nsegment m\nZ F\nenter m", 1, 9),
+    (b"segment m at 43\nZ F\nenter m", 2, 10),
+    (b"segment m at 44\nZ F\nenter m", 2, 11),
+    (b"segment m at 55\nZ F\nenter m", 2, 11),
+    (b"segment m at 55\nenter m", 2, 11),
+    (b"segment m at 1023\nZ F\nenter m", 0, 0),
+    (b"segment m at 1023\nZ F\nZ F\nenter m", 3, 12),
     (
         b"segment m at 60\nZ F\nsegment n at 58\ntext \"ABC\"\nenter m",
         4,
-        Some(Overlap),
+        13,
     ),
     (
         b"segment m at 60\nZ F\nsegment n at 58\ntext \"AB\"\nenter m",
         0,
-        None,
+        0,
     ),
-    (b"use newlin as n\nenter n", 1, Some(NoSuchRoutine)),
-    (b"use newline as n with H=1\nenter n", 1, Some(Parameters)),
-    (b"segment m\nZ F\nenter m\nenter m", 4, Some(Enter)),
-    (b"segment m\nZ F\nenter m\nZ F", 4, Some(Enter)),
-    (b"data \"A\"\nsegment m\nZ F\nenter m", 1, Some(Enter)),
-    (b"data \"A\"\nsegment m\nZ F\n", 4, Some(Enter)),
-    (b"segment m\nZ F\nenter m\n\ndata \"A\"", 0, None),
-    (b"segment m\nZ F\nenter m\na:", 4, Some(Enter)),
-    (
-        b"version 2\nsegment m\nlong 131072\nenter m",
-        3,
-        Some(SandwichDigit),
-    ),
-    (
-        b"version 2\nsegment m at 55\nlong 5\nenter m",
-        3,
-        Some(ParameterStore),
-    ),
-    (
-        b"version 2\nsegment m at 1023\nlong 5\nenter m",
-        3,
-        Some(StoreEnd),
-    ),
+    (b"use newlin as n\nenter n", 1, 14),
+    (b"use newline as n with H=1\nenter n", 1, 15),
+    (b"segment m\nZ F\nenter m\nenter m", 4, 16),
+    (b"segment m\nZ F\nenter m\nZ F", 4, 16),
+    (b"data \"A\"\nsegment m\nZ F\nenter m", 1, 16),
+    (b"data \"A\"\nsegment m\nZ F\n", 4, 16),
+    (b"segment m\nZ F\nenter m\n\ndata \"A\"", 0, 0),
+    (b"segment m\nZ F\nenter m\na:", 4, 16),
+    (b"version 2\nsegment m\nlong 131072\nenter m", 3, 17),
+    (b"version 2\nsegment m at 55\nlong 5\nenter m", 3, 11),
+    (b"version 2\nsegment m at 1023\nlong 5\nenter m", 3, 12),
 ];
 
 /// The first faults of sources in a store of 512 locations.
 const FAULTS_IN_512: [Row; 3] = [
-    (b"segment m at 511\nZ F\nenter m", 0, None),
-    (b"segment m at 512\nZ F\nenter m", 2, Some(StoreEnd)),
-    (b"segment m at 512\nenter m", 2, Some(StoreEnd)),
+    (b"segment m at 511\nZ F\nenter m", 0, 0),
+    (b"segment m at 512\nZ F\nenter m", 2, 12),
+    (b"segment m at 512\nenter m", 2, 12),
 ];
 
 /// Checks that a tape is punched for a source.
 fn is_punched(rt: &impl Abort, alloc: Global, text: &[u8], punched: &str) -> Result<(), Fail> {
     let tape = tape_of(alloc, text)?;
-    assert!(rt; tape.as_slice() == punched.as_bytes(), "{punched}");
+    expect(rt, tape.as_slice() == punched.as_bytes(), punched);
     Ok(())
 }
 
@@ -132,7 +112,7 @@ fn is_punched(rt: &impl Abort, alloc: Global, text: &[u8], punched: &str) -> Res
 fn spells_rows(rt: &impl Abort, alloc: Global, text: &[u8], punched: &str) -> Result<(), Fail> {
     let rows = rows_of(alloc, text)?;
     let spelled = tape_of_text(alloc, punched.as_bytes())?;
-    assert!(rt; spelled.as_slice() == rows.as_slice(), "{punched}");
+    expect(rt, spelled.as_slice() == rows.as_slice(), punched);
     Ok(())
 }
 
@@ -168,9 +148,13 @@ fn what_is_punched(rt: HostRuntime) -> Result<(), Fail> {
 #[test]
 fn the_linked_program(rt: HostRuntime) -> Result<(), Fail> {
     let linked = linked(rt.alloc(), Size::Small, FIRST).ok_or("a fault")?;
-    assert!(rt; has_words(&linked, &WORDS));
-    assert!(rt; has_labels(&linked, &LABELS));
-    assert!(rt; linked.entry == 56 && linked.after.is_empty());
+    expect(&rt, has_words(&linked, &WORDS), "the words");
+    expect(&rt, has_labels(&linked, &LABELS), "the names");
+    expect(
+        &rt,
+        linked.entry == 56 && linked.after.is_empty(),
+        "the entry",
+    );
     Ok(())
 }
 

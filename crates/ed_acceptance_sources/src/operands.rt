@@ -1,6 +1,6 @@
 //! Each kind of operand at its edges, in a first segment, in one at a base, and in the settings of a use.
 
-use crate::support::{fault_of, tape_of};
+use crate::support::{expect, fault_of, tape_of};
 use ed_syntax::SourceCause;
 use ed_syntax::SourceCause::{AddressRange, LabelUnknown, NotAStatement, NumberRange};
 use ed_words::Size;
@@ -101,11 +101,29 @@ const ITEMS_IN_A_USE: [(&str, &str); 14] = [
     ("m-p", "51F"),
 ];
 
+/// The source of an operand.
+fn source_of(alloc: Global, frame: &Frame, operand: &str) -> Result<String, Fail> {
+    Ok(format!(in alloc; "{}{operand}{}", frame.head, frame.tail)?)
+}
+
 /// Checks how a source's tape begins.
 fn begins_with(rt: &impl Abort, alloc: Global, text: &str, wanted: &str) -> Result<(), Fail> {
     let tape = tape_of(alloc, text.as_bytes())?;
-    assert!(rt; tape.starts_with(wanted.as_bytes()), "{text}{wanted}");
+    expect(rt, tape.starts_with(wanted.as_bytes()), text);
     Ok(())
+}
+
+/// Checks what is punched for an operand.
+fn expect_item(
+    rt: &impl Abort,
+    alloc: Global,
+    frame: &Frame,
+    operand: &str,
+    item: &str,
+) -> Result<(), Fail> {
+    let text = source_of(alloc, frame, operand)?;
+    let wanted = format!(in alloc; "{}{item}{}", frame.punched_head, frame.punched_tail)?;
+    begins_with(rt, alloc, &text, &wanted)
 }
 
 /// Checks what is punched for operands.
@@ -116,9 +134,7 @@ fn punched(
     cases: &[(&str, &str)],
 ) -> Result<(), Fail> {
     for (operand, item) in cases {
-        let text = format!(in alloc; "{}{operand}{}", frame.head, frame.tail)?;
-        let wanted = format!(in alloc; "{}{item}{}", frame.punched_head, frame.punched_tail)?;
-        begins_with(rt, alloc, &text, &wanted)?;
+        expect_item(rt, alloc, frame, operand, item)?;
     }
     Ok(())
 }
@@ -132,9 +148,9 @@ fn refused(
     operands: &[&str],
 ) -> Result<(), Fail> {
     for operand in operands {
-        let text = format!(in alloc; "{}{operand}{}", frame.head, frame.tail)?;
+        let text = source_of(alloc, frame, operand)?;
         let fault = fault_of(alloc, Size::Full, text.as_bytes());
-        assert!(rt; fault == Some((3, Some(cause))), "{text}");
+        expect(rt, fault == Some((3, Some(cause))), &text);
     }
     Ok(())
 }

@@ -1,8 +1,8 @@
 //! The locations of a source's lines and names, and the first fault of its names.
 
+use crate::support::{cause, expect_of};
 use ed_symbols::{Places, resolve};
-use ed_syntax::SourceCause::{AddressRange, LabelTwice, LabelUnknown};
-use ed_syntax::{Name, SourceCause, SourceFault, parse};
+use ed_syntax::{Name, SourceFault, parse};
 use std::alloc::Global;
 use std::process::Abort;
 use std::test::Fail;
@@ -15,6 +15,7 @@ const ODD: &[u8] =
     b"version 2\nsegment m\n_x: Z F\nuse newline as n\nsegment s\n_x: long 1\nq: text \"ABC\"\nr: word 1";
 
 /// What is asked about a line of a source, and about a name.
+#[derive(Clone, Copy)]
 enum Question {
     /// The location before the line.
     Place,
@@ -33,122 +34,128 @@ use Question::{Place, PlaceOf, PlaceSeen, Segment, SegmentSeen};
 /// No segment's number.
 const WHOLE: u32 = 0;
 
-/// A line, a question, the name that it is about, if any, and the answer.
-type Row = (u32, Question, &'static str, Option<u32>);
+/// Stands for no answer: no location and no segment has this number.
+const NONE: u32 = u32::MAX;
 
-const IN_FIRST: [Row; 12] = [
-    // The location before a line.
-    (1, Place, "", Some(56)),
-    (2, Place, "", Some(56)),
-    (3, Place, "", Some(57)),
-    (4, Place, "", Some(58)),
-    (5, Place, "", Some(59)),
-    (6, Place, "", Some(60)),
-    (7, Place, "", Some(61)),
-    (8, Place, "", None),
-    // The location of a name.
-    (1, PlaceOf, "mark", Some(59)),
-    (1, PlaceOf, "letter", Some(60)),
-    (1, PlaceOf, "main", Some(56)),
-    (1, PlaceOf, "other", None),
+/// A line, the name that a question is about, if any, and the answer.
+type Row = (u32, &'static str, u32);
+
+/// The locations before the lines of the first source.
+const LINES_OF_FIRST: [Row; 8] = [
+    (1, "", 56),
+    (2, "", 56),
+    (3, "", 57),
+    (4, "", 58),
+    (5, "", 59),
+    (6, "", 60),
+    (7, "", 61),
+    (8, "", NONE),
 ];
 
-const IN_ODD: [Row; 40] = [
-    // The location before a line.
-    (2, Place, "", Some(56)),
-    (3, Place, "", Some(56)),
-    (4, Place, "", Some(57)),
-    (5, Place, "", Some(65)),
-    (6, Place, "", Some(65)),
-    (7, Place, "", Some(68)),
-    (8, Place, "", Some(71)),
-    // The location of a name.
-    (1, PlaceOf, "m", Some(56)),
-    (1, PlaceOf, "n", Some(58)),
-    (1, PlaceOf, "s", Some(65)),
-    (1, PlaceOf, "q", Some(68)),
-    (1, PlaceOf, "r", Some(71)),
-    // The location of a name that a line sees.
-    (1, PlaceSeen, "_x", None),
-    (2, PlaceSeen, "_x", Some(56)),
-    (3, PlaceSeen, "_x", Some(56)),
-    (4, PlaceSeen, "_x", None),
-    (5, PlaceSeen, "_x", Some(66)),
-    (8, PlaceSeen, "_x", Some(66)),
-    (8, PlaceSeen, "q", Some(68)),
-    (1, PlaceSeen, "q", Some(68)),
-    (9, PlaceSeen, "q", None),
-    // The segment of a line, by its number.
-    (1, Segment, "", None),
-    (2, Segment, "", Some(1)),
-    (3, Segment, "", Some(1)),
-    (4, Segment, "", None),
-    (5, Segment, "", Some(3)),
-    (6, Segment, "", Some(3)),
-    (7, Segment, "", Some(3)),
-    (8, Segment, "", Some(3)),
-    (9, Segment, "", None),
-    // The segment of a name that a line sees.
-    (1, SegmentSeen, "m", Some(1)),
-    (2, SegmentSeen, "m", Some(1)),
-    (1, SegmentSeen, "n", Some(WHOLE)),
-    (1, SegmentSeen, "s", Some(3)),
-    (3, SegmentSeen, "q", Some(3)),
-    (1, SegmentSeen, "_x", None),
-    (2, SegmentSeen, "_x", Some(1)),
-    (8, SegmentSeen, "_x", Some(3)),
-    (4, SegmentSeen, "_x", None),
-    (8, SegmentSeen, "other", None),
+/// The locations of its names.
+const NAMES_OF_FIRST: [Row; 4] = [
+    (1, "mark", 59),
+    (1, "letter", 60),
+    (1, "main", 56),
+    (1, "other", NONE),
 ];
 
-/// Sources, and the first faults of their names with their lines; line 0 if there is none.
-const FAULTS: [(&[u8], u32, Option<SourceCause>); 23] = [
-    (FIRST, 0, None),
-    (ODD, 0, None),
+/// The locations before the lines of the second source.
+const LINES_OF_ODD: [Row; 7] = [
+    (2, "", 56),
+    (3, "", 56),
+    (4, "", 57),
+    (5, "", 65),
+    (6, "", 65),
+    (7, "", 68),
+    (8, "", 71),
+];
+
+/// The locations of its names.
+const NAMES_OF_ODD: [Row; 5] = [
+    (1, "m", 56),
+    (1, "n", 58),
+    (1, "s", 65),
+    (1, "q", 68),
+    (1, "r", 71),
+];
+
+/// The locations of the names that its lines see.
+const NAMES_SEEN: [Row; 9] = [
+    (1, "_x", NONE),
+    (2, "_x", 56),
+    (3, "_x", 56),
+    (4, "_x", NONE),
+    (5, "_x", 66),
+    (8, "_x", 66),
+    (8, "q", 68),
+    (1, "q", 68),
+    (9, "q", NONE),
+];
+
+/// The segments of its lines.
+const SEGMENTS: [Row; 9] = [
+    (1, "", NONE),
+    (2, "", 1),
+    (3, "", 1),
+    (4, "", NONE),
+    (5, "", 3),
+    (6, "", 3),
+    (7, "", 3),
+    (8, "", 3),
+    (9, "", NONE),
+];
+
+/// The segments of the names that its lines see.
+const SEGMENTS_SEEN: [Row; 10] = [
+    (1, "m", 1),
+    (2, "m", 1),
+    (1, "n", WHOLE),
+    (1, "s", 3),
+    (3, "q", 3),
+    (1, "_x", NONE),
+    (2, "_x", 1),
+    (8, "_x", 3),
+    (4, "_x", NONE),
+    (8, "other", NONE),
+];
+
+/// Sources, and the lines and the numbers of the first faults of their names; line 0 and number 0 if there is none.
+const FAULTS: [(&[u8], u32, usize); 23] = [
+    (FIRST, 0, 0),
+    (ODD, 0, 0),
     (
         b"segment m\nA nowhere F\nsegment s at 20\nZ F\nenter m",
         2,
-        Some(LabelUnknown),
+        7,
     ),
-    (b"segment m\nsegment s at 20\nZ F\nenter m", 0, None),
-    (b"a: Z F\na: Z F", 2, Some(LabelTwice)),
-    (b"segment a\na: Z F", 2, Some(LabelTwice)),
-    (b"use newline as a\nsegment a", 2, Some(LabelTwice)),
-    (b"segment m\nA x F\nm: Z F", 2, Some(LabelUnknown)),
-    (b"segment m\nm: A x F", 2, Some(LabelTwice)),
-    (b"enter m", 1, Some(LabelUnknown)),
-    (b"use newline as n with H=x", 1, Some(LabelUnknown)),
-    (b"use newline as n with H=n+1000", 1, Some(AddressRange)),
-    (b"segment m at 1023\nA m F", 0, None),
-    (b"segment m at 1023\nA m+1 F", 2, Some(AddressRange)),
-    (b"A m-57 F\nsegment m", 0, None),
-    (b"A m-58 F\nsegment m", 1, Some(AddressRange)),
-    (b"A 32767 F", 0, None),
-    (
-        b"version 2\nsegment m\n_c: A F\nsegment t\nO _c F",
-        5,
-        Some(LabelUnknown),
-    ),
-    (
-        b"version 2\nsegment m\n_c: A F\n_c: A F",
-        4,
-        Some(LabelTwice),
-    ),
+    (b"segment m\nsegment s at 20\nZ F\nenter m", 0, 0),
+    (b"a: Z F\na: Z F", 2, 6),
+    (b"segment a\na: Z F", 2, 6),
+    (b"use newline as a\nsegment a", 2, 6),
+    (b"segment m\nA x F\nm: Z F", 2, 7),
+    (b"segment m\nm: A x F", 2, 6),
+    (b"enter m", 1, 7),
+    (b"use newline as n with H=x", 1, 7),
+    (b"use newline as n with H=n+1000", 1, 8),
+    (b"segment m at 1023\nA m F", 0, 0),
+    (b"segment m at 1023\nA m+1 F", 2, 8),
+    (b"A m-57 F\nsegment m", 0, 0),
+    (b"A m-58 F\nsegment m", 1, 8),
+    (b"A 32767 F", 0, 0),
+    (b"version 2\nsegment m\n_c: A F\nsegment t\nO _c F", 5, 7),
+    (b"version 2\nsegment m\n_c: A F\n_c: A F", 4, 6),
     (
         b"version 2\nsegment m\n_c: A F\nsegment t\n_c: A _c F",
         0,
-        None,
+        0,
     ),
-    (b"version 2\nO _c F\n_c: A F", 2, Some(LabelUnknown)),
-    (
-        b"version 2\nsegment m\na: Z F\nb: Z F\nP a-b F",
-        5,
-        Some(AddressRange),
-    ),
+    (b"version 2\nO _c F\n_c: A F", 2, 7),
+    (b"version 2\nsegment m\na: Z F\nb: Z F\nP a-b F", 5, 8),
     (
         b"version 2\nsegment m\na: Z F\nb: Z F\nP a+b F\nP b-a F",
         0,
-        None,
+        0,
     ),
 ];
 
@@ -170,7 +177,7 @@ fn resolved(alloc: Global, text: &[u8]) -> Option<Places> {
 }
 
 /// The answer to a question about a line of a source.
-fn answer(alloc: Global, text: &[u8], line: u32, question: &Question, name: &str) -> Option<u32> {
+fn answer(alloc: Global, text: &[u8], line: u32, question: Question, name: &str) -> Option<u32> {
     let program = parse(alloc, text).ok()?;
     let places = resolve(alloc, &program).ok()?;
     if line == 0 || program.lines.len() < line as usize {
@@ -188,34 +195,69 @@ fn answer(alloc: Global, text: &[u8], line: u32, question: &Question, name: &str
     }
 }
 
-/// Checks the answers to questions about a source.
-fn expect_each(rt: &impl Abort, alloc: Global, text: &[u8], rows: &[Row]) {
-    for (row, (line, question, name, wanted)) in rows.iter().enumerate() {
-        let found = answer(alloc, text, *line, question, name);
-        assert!(rt; found == *wanted, "row {row} of {text:?}");
+/// Checks the answers to a question about lines of a source.
+fn expect_each(rt: &impl Abort, alloc: Global, text: &[u8], question: Question, rows: &[Row]) {
+    for (line, name, wanted) in rows {
+        let found = answer(alloc, text, *line, question, name).unwrap_or(NONE);
+        expect_row(rt, found == *wanted, *line, name);
     }
 }
 
+/// Checks the answer about a line and a name.
+fn expect_row(rt: &impl Abort, told: bool, line: u32, name: &str) {
+    assert!(rt; told, "line {line} and {name}");
+}
+
 #[test]
-fn where_lines_and_names_stand(rt: HostRuntime) {
-    expect_each(&rt, rt.alloc(), FIRST, &IN_FIRST);
-    expect_each(&rt, rt.alloc(), ODD, &IN_ODD);
+fn where_lines_stand(rt: HostRuntime) {
+    expect_each(&rt, rt.alloc(), FIRST, Place, &LINES_OF_FIRST);
+    expect_each(&rt, rt.alloc(), ODD, Place, &LINES_OF_ODD);
+    expect_each(&rt, rt.alloc(), ODD, Segment, &SEGMENTS);
     let last = b"segment a at 1023\nZ F\nZ F";
-    expect_each(&rt, rt.alloc(), last, &[(3, Place, "", Some(1024))]);
+    expect_each(&rt, rt.alloc(), last, Place, &[(3, "", 1024)]);
+}
+
+#[test]
+fn where_names_stand(rt: HostRuntime) {
+    expect_each(&rt, rt.alloc(), FIRST, PlaceOf, &NAMES_OF_FIRST);
+    expect_each(&rt, rt.alloc(), ODD, PlaceOf, &NAMES_OF_ODD);
+    expect_each(&rt, rt.alloc(), ODD, PlaceSeen, &NAMES_SEEN);
+    expect_each(&rt, rt.alloc(), ODD, SegmentSeen, &SEGMENTS_SEEN);
     let twice = b"a: Z F\na: Z F";
-    expect_each(&rt, rt.alloc(), twice, &[(1, PlaceOf, "a", Some(56))]);
+    expect_each(&rt, rt.alloc(), twice, PlaceOf, &[(1, "a", 56)]);
+}
+
+/// Whether this is the first fault of the names of a source.
+fn is_fault(places: &Places, line: u32, number: usize) -> bool {
+    match places.fault() {
+        Some(
+            SourceFault::At {
+                line: at,
+                cause: told,
+            },
+        ) => { at == line && Some(told) == cause(number) }
+        Some(SourceFault::Memory) => false,
+        None => line == 0 && number == 0,
+    }
+}
+
+/// Checks the first fault of the names of a source.
+fn expect_fault(
+    rt: &impl Abort,
+    alloc: Global,
+    text: &[u8],
+    line: u32,
+    number: usize,
+) -> Result<(), Fail> {
+    let places = resolved(alloc, text).ok_or("a fault of form")?;
+    expect_of(rt, is_fault(&places, line, number), text);
+    Ok(())
 }
 
 #[test]
 fn the_fault_of_names(rt: HostRuntime) -> Result<(), Fail> {
-    for (text, line, cause) in &FAULTS {
-        let places = resolved(rt.alloc(), text).ok_or("a fault of form")?;
-        let found = match places.fault() {
-            Some(SourceFault::At { line, cause }) => (line, Some(cause)),
-            Some(SourceFault::Memory) => return Err("no memory".into()),
-            None => (0, None),
-        };
-        assert!(rt; found == (*line, *cause), "{text:?}");
+    for (text, line, number) in &FAULTS {
+        expect_fault(&rt, rt.alloc(), text, *line, *number)?;
     }
     Ok(())
 }

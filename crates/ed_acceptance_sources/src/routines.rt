@@ -1,7 +1,8 @@
 //! The routines of the library: their texts as they are punched, what is read of them, and their words in the store.
 
+use crate::support::expect;
 use ed_library::{Routine, catalogue_size, find, image_word, routine};
-use ed_notation::{spellable, text_of_items};
+use ed_notation::{Item, spellable, text_of_items};
 use ed_words::Word;
 use std::alloc::Global;
 use std::process::Abort;
@@ -83,23 +84,39 @@ const SHEETS: [Sheet; 6] = [
     },
 ];
 
-/// The text of a routine's items, a line for each.
-fn text_of(rt: &impl Abort, alloc: Global, routine: Routine) -> Result<Vec<u8>, Fail> {
-    let mut text = Vec::new(alloc);
+/// Adds the text of an item.
+fn add_item(rt: &impl Abort, alloc: Global, text: &mut Vec<u8>, item: Item) -> Result<(), Fail> {
+    assert!(rt; spellable(&item));
+    text.extend_from_slice(&text_of_items(alloc, &[item])?)?;
+    Ok(())
+}
+
+/// Adds the text of a routine's items, a line for each.
+fn add_items(
+    rt: &impl Abort,
+    alloc: Global,
+    text: &mut Vec<u8>,
+    routine: Routine,
+) -> Result<(), Fail> {
     for place in 0..routine.length() {
-        let item = routine.item(place);
-        assert!(rt; spellable(&item));
-        text.extend_from_slice(&text_of_items(alloc, &[item])?)?;
+        add_item(rt, alloc, text, routine.item(place))?;
     }
-    Ok(text)
+    Ok(())
+}
+
+/// Checks the text of a routine's items.
+fn expect_text(rt: &impl Abort, alloc: Global, sheet: &Sheet) -> Result<(), Fail> {
+    let found = find(sheet.name).ok_or("no such routine")?;
+    let mut text = Vec::new(alloc);
+    add_items(rt, alloc, &mut text, found)?;
+    expect(rt, text.as_slice() == sheet.text.as_bytes(), sheet.name);
+    Ok(())
 }
 
 #[test]
 fn texts_as_they_are_punched(rt: HostRuntime) -> Result<(), Fail> {
     for sheet in &SHEETS {
-        let found = find(sheet.name).ok_or("no such routine")?;
-        let text = text_of(&rt, rt.alloc(), found)?;
-        assert!(rt; text.as_slice() == sheet.text.as_bytes(), "{}", sheet.name);
+        expect_text(&rt, rt.alloc(), sheet)?;
     }
     Ok(())
 }
@@ -125,6 +142,15 @@ fn has_working(routine: Routine, places: &[u16]) -> bool {
     true
 }
 
+/// Checks what is read of a routine.
+fn expect_routine(rt: &impl Abort, routine: Routine, sheet: &Sheet) {
+    expect(rt, routine.name() == sheet.name, sheet.name);
+    expect(rt, find(sheet.name) == Some(routine), sheet.name);
+    expect(rt, routine.length() == sheet.length, sheet.name);
+    expect(rt, has_parameters(routine, sheet.parameters), sheet.name);
+    expect(rt, has_working(routine, sheet.working), sheet.name);
+}
+
 #[test]
 fn what_the_catalogue_says(rt: HostRuntime) {
     assert!(rt; usize::from(catalogue_size()) == SHEETS.len());
@@ -132,11 +158,7 @@ fn what_the_catalogue_says(rt: HostRuntime) {
     for index in 0..catalogue_size() {
         let routine = routine(index);
         let sheet = &SHEETS[usize::from(index)];
-        assert!(rt; routine.name() == sheet.name);
-        assert!(rt; find(sheet.name) == Some(routine));
-        assert!(rt; routine.length() == sheet.length);
-        assert!(rt; has_parameters(routine, sheet.parameters));
-        assert!(rt; has_working(routine, sheet.working));
+        expect_routine(&rt, routine, sheet);
     }
 }
 

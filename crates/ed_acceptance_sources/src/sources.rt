@@ -1,5 +1,6 @@
 //! The lines of a source: their forms, and the first fault of form.
 
+use crate::support::expect_of;
 use ed_syntax::SourceCause::{BadByte, LongLine, NotAStatement, NumberRange, TooManyLines};
 use ed_syntax::{SourceCause, SourceFault, parse};
 use std::alloc::{AllocError, Global};
@@ -181,7 +182,7 @@ fn outcome(alloc: Global, text: &[u8]) -> (u32, Option<SourceCause>) {
 /// Checks how the texts of a table are read: without a fault, or with this first one.
 fn expect_each(rt: &impl Abort, alloc: Global, fault: Option<SourceCause>, rows: &[Row]) {
     for (text, line) in rows {
-        assert!(rt; outcome(alloc, text) == (*line, fault), "{text:?}");
+        expect_of(rt, outcome(alloc, text) == (*line, fault), text);
     }
 }
 

@@ -39,15 +39,49 @@ pub fn fault_of(alloc: Global, size: Size, text: &[u8]) -> Option<(u32, Option<S
     }
 }
 
-/// A source, and its first fault with its line; line 0 if it has none.
-pub type Row = (&'static [u8], u32, Option<SourceCause>);
+/// The causes of faults, by their numbers from 1.
+const CAUSES: [SourceCause; 17] = [
+    SourceCause::BadByte,
+    SourceCause::LongLine,
+    SourceCause::NotAStatement,
+    SourceCause::NumberRange,
+    SourceCause::TooManyLines,
+    SourceCause::LabelTwice,
+    SourceCause::LabelUnknown,
+    SourceCause::AddressRange,
+    SourceCause::OutsideSegment,
+    SourceCause::LoaderStore,
+    SourceCause::ParameterStore,
+    SourceCause::StoreEnd,
+    SourceCause::Overlap,
+    SourceCause::NoSuchRoutine,
+    SourceCause::Parameters,
+    SourceCause::Enter,
+    SourceCause::SandwichDigit,
+];
+
+/// The cause of a fault by its number, as the line of the fault tells it; none for 0.
+pub fn cause(number: usize) -> Option<SourceCause> {
+    CAUSES.get(number.wrapping_sub(1)).copied()
+}
+
+/// Checks what is told of the thing with a name.
+pub fn expect(rt: &impl Abort, told: bool, name: &str) {
+    assert!(rt; told, "{name}");
+}
+
+/// Checks what is told of a text.
+pub fn expect_of(rt: &impl Abort, told: bool, text: &[u8]) {
+    assert!(rt; told, "{text:?}");
+}
+
+/// A source, and the line and the number of its first fault; line 0 and number 0 if it has none.
+pub type Row = (&'static [u8], u32, usize);
 
 /// Checks the first faults of sources.
 pub fn expect_faults(rt: &impl Abort, alloc: Global, size: Size, rows: &[Row]) {
-    for (text, line, cause) in rows {
-        assert!(rt;
-            fault_of(alloc, size, text) == Some((*line, *cause)),
-            "{text:?}"
-        );
+    for (text, line, number) in rows {
+        let wanted = Some((*line, cause(*number)));
+        expect_of(rt, fault_of(alloc, size, text) == wanted, text);
     }
 }

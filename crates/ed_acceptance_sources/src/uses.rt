@@ -2,7 +2,6 @@
 
 use crate::support::{Row, expect_faults, linked};
 use ed_link::Linked;
-use ed_syntax::SourceCause::{NoSuchRoutine, Parameters};
 use ed_words::Size;
 use std::test::Fail;
 
@@ -20,26 +19,19 @@ const WORDS: [(u16, Option<u32>); 5] = [
     (119, Some(114_812)),
 ];
 
+/// The faults of uses, by their lines and numbers.
 const FAULTS: [Row; 4] = [
-    (
-        b"segment m\nZ F\nx: P F\nuse print as p\nenter m",
-        4,
-        Some(Parameters),
-    ),
-    (
-        b"segment m\nZ F\nx: P F\nuse sine as p\nenter m",
-        4,
-        Some(NoSuchRoutine),
-    ),
+    (b"segment m\nZ F\nx: P F\nuse print as p\nenter m", 4, 15),
+    (b"segment m\nZ F\nx: P F\nuse sine as p\nenter m", 4, 14),
     (
         b"segment m\nZ F\nx: P F\nuse read as p with N=x\nenter m",
         4,
-        Some(Parameters),
+        15,
     ),
     (
         b"segment m\nZ F\nx: P F\nuse newline as p with H=x\nenter m",
         4,
-        Some(Parameters),
+        15,
     ),
 ];
 

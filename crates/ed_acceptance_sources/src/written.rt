@@ -1,5 +1,6 @@
 //! What is written for a line of each form and for three examples, and when a program is not written.
 
+use crate::support::expect;
 use ed_syntax::{Program, parse};
 use ed_writer::{WriteFault, text_of_program};
 use std::alloc::Global;
@@ -68,26 +69,33 @@ fn rewritten(rt: &impl Abort, alloc: Global, source: &str) -> Result<Vec<u8>, Wr
     text_of_program(alloc, &program)
 }
 
+/// Checks how the program of a source is written.
+fn expect_written(rt: &impl Abort, alloc: Global, source: &str, wanted: &str) {
+    let text = rewritten(rt, alloc, source).ok().expect(rt, source);
+    expect(rt, text.as_slice() == wanted.as_bytes(), source);
+}
+
+/// Checks how a line is written.
+fn expect_line(rt: &impl Abort, alloc: Global, line: &str, wanted: &str) -> Result<(), Fail> {
+    let source = format!(in alloc; "version  02\n{line}")?;
+    let text = format!(in alloc; "version 2\n{wanted}\n")?;
+    expect_written(rt, alloc, &source, &text);
+    Ok(())
+}
+
 #[test]
 fn forms_are_written(rt: HostRuntime) -> Result<(), Fail> {
-    let alloc = rt.alloc();
-    for (line, wanted) in FORMS {
-        let source = format!(in alloc; "version  02\n{line}")?;
-        let text = rewritten(&rt, alloc, &source).ok().expect(&rt, line);
-        let wanted = format!(in alloc; "version 2\n{wanted}\n")?;
-        assert!(rt; text.as_slice() == wanted.as_bytes(), "{line}");
+    for (line, wanted) in &FORMS {
+        expect_line(&rt, rt.alloc(), line, wanted)?;
     }
     Ok(())
 }
 
 #[test]
-fn examples_are_written(rt: HostRuntime) -> Result<(), Fail> {
-    let alloc = rt.alloc();
-    for source in EXAMPLES {
-        let text = rewritten(&rt, alloc, source).ok().expect(&rt, source);
-        assert!(rt; text.as_slice() == source.as_bytes(), "{source}");
+fn examples_are_written(rt: HostRuntime) {
+    for source in &EXAMPLES {
+        expect_written(&rt, rt.alloc(), source, source);
     }
-    Ok(())
 }
 
 #[test]
