@@ -51,7 +51,7 @@ fn wrong_at_the_entry(rt: &impl Abort, machine: &Machine) -> &'static str {
     }
 }
 
-/// Starts a machine that has obeyed so many orders on the tape of a letter, and checks its load and its stop.
+/// Starts a machine again, which has obeyed `done` orders, on the tape of a letter; checks its load and its stop.
 fn expect_load(
     rt: &impl Abort,
     alloc: Global,
