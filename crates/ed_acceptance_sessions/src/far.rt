@@ -1,19 +1,19 @@
 //! A session on an endless loop, far forward and often back.
 
-use crate::support::{LOOP, session_on};
+use crate::support::{LOOP, expect, session_on};
 use ed_stepper::{BackFault, MoveEnd, Moved, Session};
 use std::process::Abort;
 use std::test::Fail;
 
 /// Goes far on and often back, and then on to the limit.
 fn goes_on_and_back(rt: &impl Abort, session: &mut Session) {
-    assert!(rt; session.go(9_963_472).end == MoveEnd::Went);
+    expect(rt, session.go(9_963_472).end == MoveEnd::Went, "far on");
     for _ in 0..2_000 {
-        assert!(rt; session.back(1).is_ok());
+        expect(rt, session.back(1).is_ok(), "often back");
     }
     let moved = session.go(100_000);
     let (at, done, end) = (64, 10_000_000, MoveEnd::Limit);
-    assert!(rt; moved == Moved { at, done, end });
+    expect(rt, moved == Moved { at, done, end }, "to the limit");
 }
 
 /// The latest copy is that after 9,961,472 orders, 152 times 65,536, so each move back obeys at most 2,000 orders. From
@@ -25,14 +25,24 @@ fn far_on_and_often_back(rt: HostRuntime) -> Result<(), Fail> {
     Ok(())
 }
 
+/// Checks that a session which has obeyed this number of orders doesn't go back so far.
+fn expect_too_far(rt: &impl Abort, session: &mut Session, orders: u64, done: u64) {
+    let fault = BackFault::TooFar { done };
+    expect(rt, session.back(orders) == Err(fault), "too far");
+}
+
 /// Goes back to the start and no further, and then on to the entry.
 fn goes_back_to_the_start(rt: &impl Abort, session: &mut Session) {
-    assert!(rt; session.go(90).end == MoveEnd::Went);
-    assert!(rt; session.back(91) == Err(BackFault::TooFar { done: 90 }));
+    expect(rt, session.go(90).end == MoveEnd::Went, "on");
+    expect_too_far(rt, session, 91, 90);
     let (at, done, end) = (0, 0, MoveEnd::Back);
-    assert!(rt; session.back(90) == Ok(Moved { at, done, end }));
-    assert!(rt; session.back(1) == Err(BackFault::TooFar { done: 0 }));
-    assert!(rt; session.until_entry().end == MoveEnd::Entered);
+    expect(rt, session.back(90) == Ok(Moved { at, done, end }), "back");
+    expect_too_far(rt, session, 1, 0);
+    expect(
+        rt,
+        session.until_entry().end == MoveEnd::Entered,
+        "the entry",
+    );
 }
 
 #[test]

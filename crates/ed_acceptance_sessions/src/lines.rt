@@ -1,5 +1,6 @@
 //! Which lines are commands of a script.
 
+use crate::support::expect;
 use ed_stepper::bad_line;
 use std::alloc::Global;
 use std::test::Fail;
@@ -92,7 +93,7 @@ const OTHERS: [&str; 47] = [
 #[test]
 fn lines_of_a_script(rt: HostRuntime) -> Result<(), Fail> {
     for line in &LINES {
-        assert!(rt; bad_line(line.as_bytes()).is_none(), "{line}");
+        expect(&rt, bad_line(line.as_bytes()).is_none(), line);
     }
     Ok(())
 }
@@ -100,7 +101,7 @@ fn lines_of_a_script(rt: HostRuntime) -> Result<(), Fail> {
 #[test]
 fn lines_that_are_none(rt: HostRuntime) -> Result<(), Fail> {
     for line in &OTHERS {
-        assert!(rt; bad_line(line.as_bytes()) == Some(1), "{line}");
+        expect(&rt, bad_line(line.as_bytes()) == Some(1), line);
     }
     Ok(())
 }
@@ -117,7 +118,7 @@ fn the_first_bad_line_is_reported(rt: HostRuntime) -> Result<(), Fail> {
     assert!(rt; bad_line(b"go 1\r\nto 5\r\n\r\nentry").is_none());
     for row in &SCRIPTS {
         let (script, line) = *row;
-        assert!(rt; bad_line(script.as_bytes()) == Some(line), "{script}");
+        expect(&rt, bad_line(script.as_bytes()) == Some(line), script);
     }
     Ok(())
 }

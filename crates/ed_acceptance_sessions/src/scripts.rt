@@ -1,6 +1,6 @@
 //! Scripts on worked tapes, and what they write.
 
-use crate::support::{LETTER, LOOP, lines_of, session_on};
+use crate::support::{LETTER, LOOP, expect, lines_of, session_on};
 use ed_stepper::{ScriptFault, run_script};
 use std::alloc::Global;
 use std::process::Abort;
@@ -88,10 +88,9 @@ fn written(
 /// Checks the number of lines of a text that a script writes, and its first and last line.
 fn expect_ends(rt: &impl Abort, text: &[u8], wanted: (&str, usize, &str, &str)) {
     let (script, lines, first, last) = wanted;
-    let found = lines_of(text);
-    assert!(rt; found == lines, "{script}: {found} lines");
-    assert!(rt; text.starts_with(first.as_bytes()), "{script}");
-    assert!(rt; text.ends_with(last.as_bytes()), "{script}");
+    expect(rt, lines_of(text) == lines, script);
+    expect(rt, text.starts_with(first.as_bytes()), script);
+    expect(rt, text.ends_with(last.as_bytes()), script);
 }
 
 /// Scripts, the number of lines of their texts, and their first and last line. There are 1,024 words, and 10,000
@@ -111,22 +110,42 @@ const LONG: [(&str, usize, &str, &str); 2] = [
     ),
 ];
 
+/// Checks the text of a script on the tape that jumps to itself.
+fn expect_long(
+    rt: &impl Abort,
+    alloc: Global,
+    wanted: (&str, usize, &str, &str),
+) -> Result<(), Fail> {
+    let (script, ..) = wanted;
+    let text = written(rt, alloc, script, 20_000, LOOP)?;
+    expect_ends(rt, &text, wanted);
+    Ok(())
+}
+
 #[test]
 fn the_longest_lists_and_traces(rt: HostRuntime) -> Result<(), Fail> {
-    for wanted in LONG {
-        let (script, ..) = wanted;
-        let text = written(&rt, rt.alloc(), script, 20_000, LOOP)?;
-        expect_ends(&rt, &text, wanted);
+    for wanted in &LONG {
+        expect_long(&rt, rt.alloc(), *wanted)?;
     }
+    Ok(())
+}
+
+/// Checks what a script writes in a session on a tape.
+fn expect_script(
+    rt: &impl Abort,
+    alloc: Global,
+    row: &(&str, u64, &str, &str),
+) -> Result<(), Fail> {
+    let (script, limit, tape, text) = *row;
+    let written = written(rt, alloc, script, limit, tape)?;
+    expect_text(rt, &written, text, script);
     Ok(())
 }
 
 #[test]
 fn scripts_write_their_texts(rt: HostRuntime) -> Result<(), Fail> {
     for row in &SCRIPTS {
-        let (script, limit, tape, text) = *row;
-        let written = written(&rt, rt.alloc(), script, limit, tape)?;
-        expect_text(&rt, &written, text, script);
+        expect_script(&rt, rt.alloc(), row)?;
     }
     Ok(())
 }
@@ -150,7 +169,7 @@ fn expect_refused(
 ) -> Result<(), Fail> {
     let mut session = session_on(rt, alloc, LETTER, 1_000)?;
     let answer = run_script(alloc, &mut session, script.as_bytes());
-    assert!(rt; answer.err() == Some(fault), "{script}");
-    assert!(rt; session.machine().counter() == at, "{script}");
+    expect(rt, answer.err() == Some(fault), script);
+    expect(rt, session.machine().counter() == at, script);
     Ok(())
 }

@@ -14,10 +14,16 @@ pub const LETTER: &str = "T64KGKO2@ZFAFEZPF";
 /// The tape that jumps to itself.
 pub const LOOP: &str = "T64KGKE@EZPF";
 
+/// Checks what is told of the thing with a name.
+pub fn expect(rt: &impl Abort, told: bool, name: &str) {
+    assert!(rt; told, "{name}");
+}
+
 /// A cleared machine, started on a tape with the Initial Orders.
 pub fn started(alloc: Global, tape: &str) -> Result<Machine, Fail> {
+    let rows = tape_of_text(alloc, tape.as_bytes())?;
     let mut machine = Machine::cleared(alloc)?;
-    begin(&mut machine, tape_of_text(alloc, tape.as_bytes())?);
+    begin(&mut machine, rows);
     Ok(machine)
 }
 

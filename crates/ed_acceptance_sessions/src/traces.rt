@@ -1,6 +1,6 @@
 //! Traces of runs, on sinks that take pieces and fail.
 
-use crate::support::{LETTER, LOOP, lines_of, started};
+use crate::support::{LETTER, LOOP, expect, lines_of, started};
 use ed_io::MemorySink;
 use ed_machine::Ending;
 use ed_trace::{TraceFault, trace_run};
@@ -49,19 +49,24 @@ fn expect_trace(
 ) -> Result<(), Fail> {
     let (tape, limit, ending, bytes, lines) = *row;
     let answer = traced(rt, alloc, tape, limit, out)?;
-    assert!(rt; answer == Ok(ending), "{tape} {limit}");
+    expect(rt, answer == Ok(ending), tape);
     let text = out.bytes();
     assert!(rt; text.len() == bytes, "{tape} {limit}");
-    assert!(rt; lines_of(text) == lines, "{tape} {limit}");
-    assert!(rt; text.starts_with(b"TEHATAATE"), "{tape} {limit}");
+    expect(rt, lines_of(text) == lines, tape);
+    expect(rt, text.starts_with(b"TEHATAATE"), tape);
     Ok(())
+}
+
+/// Checks a trace on a sink of its own.
+fn expect_own_trace(rt: &impl Abort, alloc: Global, row: &Row) -> Result<(), Fail> {
+    let mut out = sink(alloc, Vec::new(alloc))?;
+    expect_trace(rt, alloc, &mut out, row)
 }
 
 #[test]
 fn lines_of_fifty_letters(rt: HostRuntime) -> Result<(), Fail> {
     for row in &TRACES {
-        let mut out = sink(rt.alloc(), Vec::new(rt.alloc()))?;
-        expect_trace(&rt, rt.alloc(), &mut out, row)?;
+        expect_own_trace(&rt, rt.alloc(), row)?;
     }
     Ok(())
 }
@@ -84,17 +89,32 @@ fn expect_failed(
 ) -> Result<(), Fail> {
     let answer = traced(rt, alloc, LETTER, 1_000, out)?;
     assert!(rt; answer == Err(TraceFault::Failed), "{call}");
-    assert!(rt; out.faults() == 1, "{call}");
-    assert!(rt; whole.bytes().starts_with(out.bytes()), "{call}");
+    expect(rt, out.faults() == 1, "the faults");
+    expect(rt, whole.bytes().starts_with(out.bytes()), "the bytes");
+    Ok(())
+}
+
+/// Checks a trace of which this write fails.
+fn expect_failure(
+    rt: &impl Abort,
+    alloc: Global,
+    whole: &MemorySink,
+    call: u64,
+) -> Result<(), Fail> {
+    let mut out = sink(alloc, [call].to_vec(alloc)?)?;
+    expect_failed(rt, alloc, &mut out, whole, call)
+}
+
+/// Checks traces of which one write fails, each in turn.
+fn expect_failures(rt: &impl Abort, alloc: Global, whole: &MemorySink) -> Result<(), Fail> {
+    for call in 0..31 {
+        expect_failure(rt, alloc, whole, call)?;
+    }
     Ok(())
 }
 
 #[test]
 fn a_failed_write_ends_a_trace_at_once(rt: HostRuntime) -> Result<(), Fail> {
     let whole = whole_trace(&rt, rt.alloc())?;
-    for call in 0..31 {
-        let mut out = sink(rt.alloc(), [call].to_vec(rt.alloc())?)?;
-        expect_failed(&rt, rt.alloc(), &mut out, &whole, call)?;
-    }
-    Ok(())
+    expect_failures(&rt, rt.alloc(), &whole)
 }

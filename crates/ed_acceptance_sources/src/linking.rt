@@ -119,7 +119,8 @@ fn spells_rows(rt: &impl Abort, alloc: Global, text: &[u8], punched: &str) -> Re
 /// Whether a linked program consists of these words with their locations.
 fn has_words(linked: &Linked, words: &[(u16, u32)]) -> bool {
     for (placed, wanted) in linked.words.iter().zip(words) {
-        if (placed.place, placed.word.value()) != *wanted {
+        let (place, word) = *wanted;
+        if placed.place != place || placed.word.value() != word {
             return false;
         }
     }
@@ -129,7 +130,8 @@ fn has_words(linked: &Linked, words: &[(u16, u32)]) -> bool {
 /// Whether a linked program has these names with their locations.
 fn has_labels(linked: &Linked, labels: &[(&str, u16)]) -> bool {
     for (label, wanted) in linked.labels.iter().zip(labels) {
-        if (label.name.text(), label.place) != *wanted {
+        let (name, place) = *wanted;
+        if label.name.text() != name || label.place != place {
             return false;
         }
     }

@@ -1,8 +1,6 @@
 //! Each kind of operand at its edges, in a first segment, in one at a base, and in the settings of a use.
 
-use crate::support::{expect, fault_of, tape_of};
-use ed_syntax::SourceCause;
-use ed_syntax::SourceCause::{AddressRange, LabelUnknown, NotAStatement, NumberRange};
+use crate::support::{cause, expect, fault_of, tape_of};
 use ed_words::Size;
 use std::alloc::Global;
 use std::process::Abort;
@@ -101,6 +99,47 @@ const ITEMS_IN_A_USE: [(&str, &str); 14] = [
     ("m-p", "51F"),
 ];
 
+/// Operands that are refused, and the numbers of their faults.
+const REFUSED_IN_FIRST: [(&str, usize); 14] = [
+    ("32768", 4),
+    ("t-1024", 4),
+    ("s+1024", 4),
+    ("m+968", 8),
+    ("m-57", 8),
+    ("t+1", 8),
+    ("s-1", 8),
+    ("_l+967", 8),
+    ("_l-58", 8),
+    ("s-t", 8),
+    ("t+m", 8),
+    ("m-_l", 8),
+    ("_k", 7),
+    ("m-_k", 7),
+];
+
+const REFUSED_AT_100: [(&str, usize); 5] = [
+    ("m+924", 8),
+    ("m-101", 8),
+    ("_l+923", 8),
+    ("_l-102", 8),
+    ("m-t", 8),
+];
+
+const REFUSED_IN_A_USE: [(&str, usize); 12] = [
+    ("", 3),
+    ("32768", 4),
+    ("p+968", 8),
+    ("p-57", 8),
+    ("m+917", 8),
+    ("m-108", 8),
+    ("t+1", 8),
+    ("s-1", 8),
+    ("s-t", 8),
+    ("t+p", 8),
+    ("_l", 7),
+    ("m-_l", 7),
+];
+
 /// The source of an operand.
 fn source_of(alloc: Global, frame: &Frame, operand: &str) -> Result<String, Fail> {
     Ok(format!(in alloc; "{}{operand}{}", frame.head, frame.tail)?)
@@ -139,18 +178,29 @@ fn punched(
     Ok(())
 }
 
-/// Checks that operands are refused for a cause.
+/// Checks that an operand is refused for a fault, by its number.
+fn expect_refused(
+    rt: &impl Abort,
+    alloc: Global,
+    frame: &Frame,
+    operand: &str,
+    number: usize,
+) -> Result<(), Fail> {
+    let text = source_of(alloc, frame, operand)?;
+    let fault = fault_of(alloc, Size::Full, text.as_bytes());
+    expect(rt, fault == Some((3, cause(number))), &text);
+    Ok(())
+}
+
+/// Checks that operands are refused.
 fn refused(
     rt: &impl Abort,
     alloc: Global,
     frame: &Frame,
-    cause: SourceCause,
-    operands: &[&str],
+    cases: &[(&str, usize)],
 ) -> Result<(), Fail> {
-    for operand in operands {
-        let text = source_of(alloc, frame, operand)?;
-        let fault = fault_of(alloc, Size::Full, text.as_bytes());
-        expect(rt, fault == Some((3, Some(cause))), &text);
+    for (operand, number) in cases {
+        expect_refused(rt, alloc, frame, operand, *number)?;
     }
     Ok(())
 }
@@ -172,35 +222,15 @@ fn operands_in_the_settings_of_a_use(rt: HostRuntime) -> Result<(), Fail> {
 
 #[test]
 fn operands_beyond_their_edges_in_the_first_segment(rt: HostRuntime) -> Result<(), Fail> {
-    let alloc = rt.alloc();
-    let addresses = [
-        "m+968", "m-57", "t+1", "s-1", "_l+967", "_l-58", "s-t", "t+m", "m-_l",
-    ];
-    refused(
-        &rt,
-        alloc,
-        &FIRST,
-        NumberRange,
-        &["32768", "t-1024", "s+1024"],
-    )?;
-    refused(&rt, alloc, &FIRST, AddressRange, &addresses)?;
-    refused(&rt, alloc, &FIRST, LabelUnknown, &["_k", "m-_k"])
+    refused(&rt, rt.alloc(), &FIRST, &REFUSED_IN_FIRST)
 }
 
 #[test]
 fn operands_beyond_their_edges_in_a_segment_at_a_place(rt: HostRuntime) -> Result<(), Fail> {
-    let addresses = ["m+924", "m-101", "_l+923", "_l-102", "m-t"];
-    refused(&rt, rt.alloc(), &AT_100, AddressRange, &addresses)
+    refused(&rt, rt.alloc(), &AT_100, &REFUSED_AT_100)
 }
 
 #[test]
 fn operands_beyond_their_edges_in_the_settings_of_a_use(rt: HostRuntime) -> Result<(), Fail> {
-    let alloc = rt.alloc();
-    let addresses = [
-        "p+968", "p-57", "m+917", "m-108", "t+1", "s-1", "s-t", "t+p",
-    ];
-    refused(&rt, alloc, &IN_A_USE, NotAStatement, &[""])?;
-    refused(&rt, alloc, &IN_A_USE, NumberRange, &["32768"])?;
-    refused(&rt, alloc, &IN_A_USE, AddressRange, &addresses)?;
-    refused(&rt, alloc, &IN_A_USE, LabelUnknown, &["_l", "m-_l"])
+    refused(&rt, rt.alloc(), &IN_A_USE, &REFUSED_IN_A_USE)
 }

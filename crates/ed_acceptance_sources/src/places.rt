@@ -1,6 +1,6 @@
 //! The locations of a source's lines and names, and the first fault of its names.
 
-use crate::support::{cause, expect_of};
+use crate::support::{cause, expect, expect_of};
 use ed_symbols::{Places, resolve};
 use ed_syntax::{Name, SourceFault, parse};
 use std::alloc::Global;
@@ -266,12 +266,10 @@ fn the_fault_of_names(rt: HostRuntime) -> Result<(), Fail> {
 fn what_a_source_defines(rt: HostRuntime) -> Result<(), Fail> {
     let places = resolved(rt.alloc(), ODD).ok_or("a fault of form")?;
     assert!(rt; places.symbols().len() == DEFINED.len());
-    for (index, found) in places.symbols().iter().enumerate() {
-        let found = (found.name.text(), found.place, found.segment);
-        assert!(rt;
-            DEFINED.get(index).copied() == Some(found),
-            "definition {index}"
-        );
+    for (found, wanted) in places.symbols().iter().zip(&DEFINED) {
+        let (name, place, segment) = *wanted;
+        expect(&rt, found.name.text() == name, name);
+        expect(&rt, found.place == place && found.segment == segment, name);
     }
     Ok(())
 }
