@@ -1,6 +1,6 @@
 //! Calls of the library's routines, and the list of the library.
 
-use crate::support::{Row, expect_beginning, expect_each};
+use crate::support::{Row, expect_beginning, expect_each, expect_that};
 use std::alloc::Global;
 use std::process::Abort;
 use std::test::Fail;
@@ -30,7 +30,7 @@ fn expect_printed(rt: &impl Abort, alloc: Global, rows: &[(&str, &str)]) -> Resu
     for (line, printed) in rows {
         let wanted = (0, *printed, "entered 56 after ");
         let unread = expect_beginning(rt, alloc, line, "no source", wanted)?;
-        assert!(rt; unread == 9, "{line}");
+        expect_that(rt, unread == 9, line);
     }
     Ok(())
 }

@@ -121,11 +121,12 @@ const VERDICTS: [(&str, &str, &str); 64] = [
 /// Checks that a command line gives this line for a tape: on `out` if the tape is well formed, otherwise on `note`.
 fn says(rt: &impl Abort, alloc: Global, line: &str, tape: &str, verdict: &str) -> Result<(), Fail> {
     let text = format!(in alloc; "{verdict}\n")?;
-    if verdict.starts_with("entry ") {
-        expect(rt, alloc, line, tape, (0, &text, ""))?;
+    let wanted = if verdict.starts_with("entry ") {
+        (0, text.as_str(), "")
     } else {
-        expect(rt, alloc, line, tape, (3, "", &text))?;
-    }
+        (3, "", text.as_str())
+    };
+    expect(rt, alloc, line, tape, wanted)?;
     Ok(())
 }
 
@@ -148,15 +149,19 @@ fn expect_cut(rt: &impl Abort, alloc: Global, tape: &str, rows: usize) -> Result
     says(rt, alloc, "check-tape", tape, &verdict)
 }
 
-#[test]
-fn a_tape_that_is_cut_has_no_entry(rt: HostRuntime) -> Result<(), Fail> {
-    let alloc = rt.alloc();
-    let mut cut = String::new(alloc);
-    for (rows, row) in "T64KGKO2@ZFAFEZPF".chars().enumerate() {
-        expect_cut(&rt, alloc, &cut, rows)?;
+/// Checks that a tape has no entry if it is cut before any of its rows.
+fn expect_cuts(rt: &impl Abort, alloc: Global, cut: &mut String, tape: &str) -> Result<(), Fail> {
+    for (rows, row) in tape.chars().enumerate() {
+        expect_cut(rt, alloc, cut, rows)?;
         cut.push(row)?;
     }
     Ok(())
+}
+
+#[test]
+fn a_tape_that_is_cut_has_no_entry(rt: HostRuntime) -> Result<(), Fail> {
+    let mut cut = String::new(rt.alloc());
+    expect_cuts(&rt, rt.alloc(), &mut cut, "T64KGKO2@ZFAFEZPF")
 }
 
 /// The line for the tape of a function row and a row after it.

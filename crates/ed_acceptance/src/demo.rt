@@ -1,6 +1,6 @@
 //! The large source from a number, and the sources of calls, to the byte.
 
-use crate::support::{Answer, answer_of, expect_beginning};
+use crate::support::{Answer, answer_of, expect_beginning, expect_that};
 use ed_call::Call;
 use ed_top::{call_source, demo_source};
 use std::alloc::Global;
@@ -27,14 +27,19 @@ fn lines_of(text: &[u8]) -> u32 {
 
 /// Checks the end and the lines of the largest source.
 fn expect_largest(rt: &impl Abort, source: &[u8]) {
-    assert!(rt; source.ends_with(b"\nenter main\n"));
-    assert!(rt; lines_of(source) == 1027);
+    expect_that(rt, source.ends_with(b"\nenter main\n"), "the end");
+    expect_that(rt, lines_of(source) == 1027, "the lines");
 }
 
 #[test]
-fn sources_of_demos_to_the_byte(rt: HostRuntime) -> Result<(), Fail> {
+fn the_first_source_of_a_demo_to_the_byte(rt: HostRuntime) -> Result<(), Fail> {
     let first = demo_source(rt.alloc(), 1)?;
     assert!(rt; first.as_slice() == FIRST.as_bytes());
+    Ok(())
+}
+
+#[test]
+fn the_largest_source_of_a_demo(rt: HostRuntime) -> Result<(), Fail> {
     let largest = demo_source(rt.alloc(), 112)?;
     expect_largest(&rt, &largest);
     Ok(())
@@ -58,27 +63,34 @@ fn answer_in_512(rt: &impl Abort, alloc: Global, number: u32) -> Result<Answer, 
     answer_of(alloc, "run --store 512", &source)
 }
 
-/// Checks that a source is refused at its end.
-fn expect_refused(rt: &impl Abort, answer: &Answer) {
-    assert!(rt; answer.status == 3);
-    assert!(rt; answer.note.as_slice() == b"line 457: S12 store end\n".as_slice());
+/// Checks that the source of a demo is run on such a store.
+fn expect_run(rt: &impl Abort, alloc: Global, number: u32) -> Result<(), Fail> {
+    let answer = answer_in_512(rt, alloc, number)?;
+    expect_that(rt, answer.status == 0, "the status");
+    Ok(())
+}
+
+/// Checks that the source of a demo is refused at its end on such a store.
+fn expect_refused(rt: &impl Abort, alloc: Global, number: u32) -> Result<(), Fail> {
+    let note = "line 457: S12 store end\n";
+    let answer = answer_in_512(rt, alloc, number)?;
+    expect_that(rt, answer.status == 3, "the status");
+    expect_that(rt, answer.note.as_slice() == note.as_bytes(), "the note");
+    Ok(())
 }
 
 #[test]
 fn the_source_is_one_that_run_takes(rt: HostRuntime) -> Result<(), Fail> {
     expect_beginning(&rt, rt.alloc(), "run", FIRST, (0, "339", ""))?;
-    let last = answer_in_512(&rt, rt.alloc(), 48)?;
-    assert!(rt; last.status == 0);
-    let longer = answer_in_512(&rt, rt.alloc(), 49)?;
-    expect_refused(&rt, &longer);
-    Ok(())
+    expect_run(&rt, rt.alloc(), 48)?;
+    expect_refused(&rt, rt.alloc(), 49)
 }
 
 #[test]
 fn the_least_and_the_greatest_sum(rt: HostRuntime) -> Result<(), Fail> {
     for (line, sum) in [("demo 1", "339"), ("demo 112", "28190")] {
         let unread = expect_beginning(&rt, rt.alloc(), line, "no source", (0, sum, ""))?;
-        assert!(rt; unread == 9, "{line}");
+        expect_that(&rt, unread == 9, line);
     }
     expect_beginning(
         &rt,

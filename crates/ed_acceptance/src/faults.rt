@@ -100,6 +100,19 @@ fn sink(alloc: Global, failing: &[u64]) -> Result<MemorySink, Fail> {
     Ok(MemorySink::in_pieces(alloc, 200, failing.to_vec(alloc)?, 3)?)
 }
 
+/// The result of a run with its texts in pieces of 3; these calls of out and of note fail.
+fn outcome_from(
+    alloc: Global,
+    words: &[String],
+    source: &mut MemorySource,
+    writes: &[u64],
+    notes: &[u64],
+) -> Result<Outcome, Fail> {
+    let mut out = sink(alloc, writes)?;
+    let mut note = sink(alloc, notes)?;
+    outcome_on(alloc, words, source, &mut out, &mut note)
+}
+
 /// Runs the program with its input in pieces of 7 bytes and its texts in pieces of 3; these calls of the input, of out
 /// and of note fail.
 fn outcome_of(
@@ -109,11 +122,9 @@ fn outcome_of(
     writes: &[u64],
     notes: &[u64],
 ) -> Result<Outcome, Fail> {
-    let words = words_of(alloc, run.command)?;
     let mut source = source_of(alloc, run, reads)?;
-    let mut out = sink(alloc, writes)?;
-    let mut note = sink(alloc, notes)?;
-    outcome_on(alloc, &words, &mut source, &mut out, &mut note)
+    let words = words_of(alloc, run.command)?;
+    outcome_from(alloc, &words, &mut source, writes, notes)
 }
 
 /// The number of writes of 3 bytes that a text takes.

@@ -27,18 +27,18 @@ fn expect_tape(rt: &impl Abort, alloc: Global, source: &str) -> Result<(), Fail>
     Ok(())
 }
 
-/// Adds the line of a location to a listing.
-fn add_line(alloc: Global, listing: &mut String, place: u16) -> Result<(), Fail> {
-    let line = format!(in alloc; "{place:4} 114818 A65F\n")?;
-    Ok(listing.push_str(&line)?)
+/// Adds the lines of the listing of that source.
+fn add_lines(listing: &mut String) -> Result<(), Fail> {
+    for place in 56..956u16 {
+        write!(listing, "{place:4} 114818 A65F\n")?;
+    }
+    Ok(())
 }
 
 /// Checks the listing of that source.
 fn expect_listing(rt: &impl Abort, alloc: Global, source: &str) -> Result<(), Fail> {
     let mut listing = String::new(alloc);
-    for place in 56..956 {
-        add_line(alloc, &mut listing, place)?;
-    }
+    add_lines(&mut listing)?;
     expect(rt, alloc, "listing", source, (0, &listing, ""))?;
     Ok(())
 }

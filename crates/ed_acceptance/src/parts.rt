@@ -202,15 +202,14 @@ fn machine_on(alloc: Global, tape: &str) -> Result<Machine, Fail> {
     }
 }
 
-/// The lines that are written if at most `limit` orders are allowed.
-fn lines_within(alloc: Global, limit: u64) -> Result<String, Fail> {
-    let mut text = String::new(alloc);
-    for (orders, line) in LINES {
-        if orders <= limit {
+/// Adds the lines that are written if at most `limit` orders are allowed.
+fn add_lines(text: &mut String, limit: u64) -> Result<(), Fail> {
+    for (orders, line) in &LINES {
+        if *orders <= limit {
             text.push_str(line)?;
         }
     }
-    Ok(text)
+    Ok(())
 }
 
 /// The note of the run if at most `limit` orders are allowed, the last of which leaves the counter at `at`.
@@ -219,25 +218,36 @@ fn note_within(alloc: Global, limit: u64, at: u16) -> Result<String, Fail> {
     Ok(format!(in alloc; "{name} at {at} after {limit}\n")?)
 }
 
+/// Checks the run with a limit, after which this is the note.
+fn expect_limit(rt: &impl Abort, alloc: Global, limit: u64, note: &str) -> Result<(), Fail> {
+    let line = format!(in alloc; "parts --limit {limit}")?;
+    let mut out = String::new(alloc);
+    add_lines(&mut out, limit)?;
+    let status = if limit < 445 { 4 } else { 0 };
+    expect(rt, alloc, &line, TWO_PARTS, (status, &out, note))?;
+    Ok(())
+}
+
 /// Checks the run with a limit, at which the counter is at `at`.
 fn expect_within(rt: &impl Abort, alloc: Global, limit: u64, at: u16) -> Result<(), Fail> {
-    let line = format!(in alloc; "parts --limit {limit}")?;
     let note = note_within(alloc, limit, at)?;
-    let out = lines_within(alloc, limit)?;
-    let status = if limit < 445 { 4 } else { 0 };
-    expect(rt, alloc, &line, TWO_PARTS, (status, &out, &note))?;
+    expect_limit(rt, alloc, limit, &note)
+}
+
+/// Checks the run with each limit, beside a machine that was started on its tape.
+fn expect_limits(rt: &impl Abort, alloc: Global, machine: &mut Machine) -> Result<(), Fail> {
+    for limit in 1..446 {
+        assert!(rt; machine.orders_done() < limit);
+        machine.step();
+        expect_within(rt, alloc, limit, machine.counter())?;
+    }
     Ok(())
 }
 
 #[test]
 fn every_limit_cuts_the_lines_where_it_falls(rt: HostRuntime) -> Result<(), Fail> {
     let mut machine = machine_on(rt.alloc(), TWO_PARTS)?;
-    for limit in 1..446 {
-        assert!(rt; machine.orders_done() < limit);
-        machine.step();
-        expect_within(&rt, rt.alloc(), limit, machine.counter())?;
-    }
-    Ok(())
+    expect_limits(&rt, rt.alloc(), &mut machine)
 }
 
 #[test]

@@ -1,6 +1,6 @@
 //! The option `--post-mortem`: what is printed after a run.
 
-use crate::support::{Answer, Row, answer_of, expect, expect_each, repeated};
+use crate::support::{Answer, Row, answer_of, expect, expect_each, expect_that, repeated};
 use std::process::Abort;
 use std::test::Fail;
 
@@ -121,10 +121,11 @@ fn words_are_printed_after_a_run(rt: HostRuntime) -> Result<(), Fail> {
 
 /// Checks the answer with a paper that is full.
 fn expect_full(rt: &impl Abort, answer: &Answer) {
-    assert!(rt; answer.status == 7);
-    assert!(rt; answer.out.len() == 1_000_006);
-    assert!(rt; answer.out.ends_with(b"OO66F\r\n"));
-    assert!(rt; answer.note.as_slice() == b"paper full at 64 after 2000249\n".as_slice());
+    let note = "paper full at 64 after 2000249\n";
+    expect_that(rt, answer.status == 7, "the status");
+    expect_that(rt, answer.out.len() == 1_000_006, "the length");
+    expect_that(rt, answer.out.ends_with(b"OO66F\r\n"), "the end");
+    expect_that(rt, answer.note.as_slice() == note.as_bytes(), "the note");
 }
 
 #[test]

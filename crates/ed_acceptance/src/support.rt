@@ -19,13 +19,24 @@ pub struct Answer {
     pub unread: usize,
 }
 
-/// The words of a command line, which blanks separate.
-pub fn words_of(alloc: Global, line: &str) -> Result<Vec<String>, Fail> {
-    let mut words = Vec::new(alloc);
+/// Adds the words of a command line.
+fn add_words(alloc: Global, words: &mut Vec<String>, line: &str) -> Result<(), Fail> {
     for word in line.split_whitespace() {
         words.push(String::from_str(alloc, word)?)?;
     }
+    Ok(())
+}
+
+/// The words of a command line, which blanks separate.
+pub fn words_of(alloc: Global, line: &str) -> Result<Vec<String>, Fail> {
+    let mut words = Vec::new(alloc);
+    add_words(alloc, &mut words, line)?;
     Ok(words)
+}
+
+/// Checks what is told of the thing with a name.
+pub fn expect_that(rt: &impl Abort, told: bool, name: &str) {
+    assert!(rt; told, "{name}");
 }
 
 /// The answer of the program to words, on its three devices.
@@ -45,13 +56,18 @@ fn answer_on(
     })
 }
 
-/// The answer of the program to a command line and an input, over devices that never fail.
-pub fn answer_of(alloc: Global, line: &str, input: &[u8]) -> Result<Answer, Fail> {
-    let words = words_of(alloc, line)?;
-    let mut source = SureSource::new(input.to_vec(alloc)?);
+/// The answer of the program to words and an input, over devices that never fail.
+fn answer_to(alloc: Global, words: &[String], source: &mut SureSource) -> Result<Answer, Fail> {
     let mut out = SureSink::new(alloc, ROOM)?;
     let mut note = SureSink::new(alloc, ROOM)?;
-    answer_on(alloc, &words, &mut source, &mut out, &mut note)
+    answer_on(alloc, words, source, &mut out, &mut note)
+}
+
+/// The answer of the program to a command line and an input.
+pub fn answer_of(alloc: Global, line: &str, input: &[u8]) -> Result<Answer, Fail> {
+    let mut source = SureSource::new(input.to_vec(alloc)?);
+    let words = words_of(alloc, line)?;
+    answer_to(alloc, &words, &mut source)
 }
 
 /// A command line, its input, and the status and the two texts that are due.
@@ -156,7 +172,7 @@ pub fn expect_usage(
 ) -> Result<(), Fail> {
     for line in lines {
         let unread = expect(rt, alloc, line, input, (2, "", USAGE))?;
-        assert!(rt; unread == input.len(), "{line}");
+        expect_that(rt, unread == input.len(), line);
     }
     Ok(())
 }

@@ -2,6 +2,7 @@
 
 use crate::support::{Row, expect, expect_beginning, expect_each, repeated};
 use std::alloc::Global;
+use std::process::Abort;
 use std::test::Fail;
 
 const RUNS: [Row; 12] = [
@@ -53,11 +54,23 @@ const BLANKS: [(u32, u8, &str); 2] = [
     (262_145, 11, "input too long\n"),
 ];
 
+/// Checks the answer to an input of blanks.
+fn expect_blanks(
+    rt: &impl Abort,
+    alloc: Global,
+    blanks: u32,
+    status: u8,
+    note: &str,
+) -> Result<(), Fail> {
+    let input = repeated(alloc, &[(" ", blanks)])?;
+    expect(rt, alloc, "tape", &input, (status, "", note))?;
+    Ok(())
+}
+
 #[test]
 fn an_input_of_too_many_bytes_is_refused(rt: HostRuntime) -> Result<(), Fail> {
     for (blanks, status, note) in &BLANKS {
-        let input = repeated(rt.alloc(), &[(" ", *blanks)])?;
-        expect(&rt, rt.alloc(), "tape", &input, (*status, "", note))?;
+        expect_blanks(&rt, rt.alloc(), *blanks, *status, note)?;
     }
     Ok(())
 }
@@ -103,12 +116,17 @@ fn tape_of_many_rows(alloc: Global) -> Result<String, Fail> {
     repeated(alloc, &[(&block, 20), ("T64KGKO2@ZFAFEZPF", 1)])
 }
 
+/// Checks the answers to that tape.
+fn expect_many_rows(rt: &impl Abort, alloc: Global, tape: &str) -> Result<(), Fail> {
+    let checked = (0, "entry 64 after 414991 orders, 36097 rows\n", "");
+    expect(rt, alloc, "check-tape", tape, checked)?;
+    let stopped = (0, "A", "stopped at 66 after 414993\n");
+    expect(rt, alloc, "tape", tape, stopped)?;
+    Ok(())
+}
+
 #[test]
 fn a_tape_of_many_thousand_rows(rt: HostRuntime) -> Result<(), Fail> {
     let tape = tape_of_many_rows(rt.alloc())?;
-    let checked = (0, "entry 64 after 414991 orders, 36097 rows\n", "");
-    expect(&rt, rt.alloc(), "check-tape", &tape, checked)?;
-    let stopped = (0, "A", "stopped at 66 after 414993\n");
-    expect(&rt, rt.alloc(), "tape", &tape, stopped)?;
-    Ok(())
+    expect_many_rows(&rt, rt.alloc(), &tape)
 }

@@ -240,6 +240,12 @@ fn the_store(rt: HostRuntime) -> Result<(), Fail> {
     Ok(())
 }
 
+/// Checks the text of a word's order.
+fn expect_order(rt: &impl Abort, number: u32, wanted: &str) {
+    let text = order_text(word(rt, number));
+    assert!(rt; text.as_str() == wanted, "{number}");
+}
+
 #[test]
 fn orders_and_their_texts(rt: HostRuntime) {
     expect(&rt, kind_of(28) == Some(Kind::A), "the kind of A");
@@ -248,16 +254,8 @@ fn orders_and_their_texts(rt: HostRuntime) {
         kind_of(0).is_none() && kind_of(32).is_none(),
         "no kind",
     );
-    expect(
-        &rt,
-        order_text(word(&rt, 114_821)).as_str() == "A66D",
-        "the text of a long order",
-    );
-    expect(
-        &rt,
-        order_text(word(&rt, 53_248)).as_str() == "ZF",
-        "the text of an order",
-    );
+    expect_order(&rt, 114_821, "A66D");
+    expect_order(&rt, 53_248, "ZF");
 }
 
 /// Checks the places of a shift.
