@@ -34,7 +34,7 @@ pub fn words_of(alloc: Global, line: &str) -> Result<Vec<String>, Fail> {
     Ok(words)
 }
 
-/// Checks what is told of the thing with a name.
+/// Checks that something holds. A failure shows the name of what was checked.
 pub fn expect_that(rt: &impl Abort, told: bool, name: &str) {
     assert!(rt; told, "{name}");
 }

@@ -8,7 +8,7 @@ use std::alloc::Global;
 use std::process::Abort;
 use std::test::Fail;
 
-/// Checks what is told of the thing with a name.
+/// Checks that something holds. A failure shows the name of what was checked.
 pub fn expect(rt: &impl Abort, told: bool, name: &str) {
     assert!(rt; told, "{name}");
 }

@@ -69,7 +69,7 @@ pub const PLACES: [Places; 3] = [
     },
 ];
 
-/// Checks what is told of the thing with a name.
+/// Checks that something holds. A failure shows the name of what was checked.
 pub fn expect(rt: &impl Abort, told: bool, name: &str) {
     assert!(rt; told, "{name}");
 }

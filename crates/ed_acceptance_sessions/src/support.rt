@@ -14,7 +14,7 @@ pub const LETTER: &str = "T64KGKO2@ZFAFEZPF";
 /// The tape that jumps to itself.
 pub const LOOP: &str = "T64KGKE@EZPF";
 
-/// Checks what is told of the thing with a name.
+/// Checks that something holds. A failure shows the name of what was checked.
 pub fn expect(rt: &impl Abort, told: bool, name: &str) {
     assert!(rt; told, "{name}");
 }

@@ -65,7 +65,7 @@ pub fn cause(number: usize) -> Option<SourceCause> {
     CAUSES.get(number.wrapping_sub(1)).copied()
 }
 
-/// Checks what is told of the thing with a name.
+/// Checks that something holds. A failure shows the name of what was checked.
 pub fn expect(rt: &impl Abort, told: bool, name: &str) {
     assert!(rt; told, "{name}");
 }

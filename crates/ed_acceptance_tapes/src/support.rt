@@ -13,7 +13,7 @@ use std::test::Fail;
 /// The tape that prints A.
 pub const LETTER: &str = "T64KGKO2@ZFAFEZPF";
 
-/// Checks what is told of the thing with a name.
+/// Checks that something holds. A failure shows the name of what was checked.
 pub fn expect(rt: &impl Abort, told: bool, name: &str) {
     assert!(rt; told, "{name}");
 }

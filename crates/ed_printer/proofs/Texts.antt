@@ -1,4 +1,4 @@
--- The text of codes, of which it is known what comes after it.
+-- The text of codes, whatever codes come after them.
 use Rattle.std.proofs.Common.{◌≡◌, ◌∙◌, ◌++◌, List, ℕ, [], sym, ap, append-nil}
 use Rattle.ed_printer.specs.Paper.{paper_from}
 use Rattle.ed_printer.specs.declared.printer.Shift.{Shift}
