@@ -2,8 +2,8 @@
 -- there.
 use Rattle.std.specs.Prelude.{◌≡◌, ◌-◌, ◌<◌, ◌≤◌, List}
 use Rattle.ed_run.specs.Run.{run_end}
-use Rattle.ed_syntax.specs.declared.program.Line.{Line}
-use Rattle.ed_link.specs.Refusals.{IsAcceptedAs}
+use Rattle.ed_lines.specs.declared.program.Line.{Line}
+use Rattle.ed_loads.specs.Refusals.{IsAcceptedAs}
 use Rattle.ed_link.specs.Linked.{entry_of}
 use Rattle.ed_link.specs.Tapes.{cost, tape}
 use Rattle.ed_loads.specs.EntryState.{Enters, entry_state}

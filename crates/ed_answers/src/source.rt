@@ -1,6 +1,6 @@
 ghost use Rattle.std.specs.Prelude.{◌≡◌, ◌<◌, ◌≤◌, ◌++◌, [], All, IfOk, List, map, nat_le, if◌then◌else◌};
 ghost use Rattle.ed_notation.specs.Spellings.{canonicals, text_of};
-ghost use Rattle.ed_syntax.specs.declared.program.Line.{Line};
+ghost use Rattle.ed_lines.specs.declared.program.Line.{Line};
 ghost use Rattle.ed_link.specs.Answers.{IsLinked};
 ghost use Rattle.ed_link.specs.Tapes.{after_text, cost, tape};
 ghost use Rattle.ed_loads.specs.EntryState.{entry_state};

@@ -6,16 +6,12 @@ use Rattle.ed_words.proofs.Numbers.{le_of, not_le_of}
 use Rattle.ed_words.specs.declared.size.Size.{Size}
 use Rattle.std.specs.Prelude.{Result, Ok, Err, IfErr}
 use Rattle.ed_link.specs.Answers.{HasMeaningFault}
-use Rattle.ed_words.specs.Texts.{Text}
-use Rattle.ed_syntax.specs.Lines.{lines_of}
-use Rattle.ed_syntax.specs.Private.SourceReading.{is_two, program_of}
-use Rattle.ed_syntax.specs.Programs.{AreNumbered}
-use Rattle.ed_syntax.proofs.Formed.{program_formed}
-use Rattle.ed_syntax.specs.declared.program.Line.{Line}
-use Rattle.ed_syntax.specs.declared.fault.SourceCause.{SourceCause}
-use Rattle.ed_syntax.specs.declared.fault.SourceCause.TheVariants as causes
-use Rattle.ed_syntax.specs.declared.fault.SourceFault.{SourceFault}
-use Rattle.ed_syntax.specs.declared.fault.SourceFault.TheVariants.{At, Memory}
+use Rattle.ed_lines.specs.Programs.{AreNumbered}
+use Rattle.ed_lines.specs.declared.program.Line.{Line}
+use Rattle.ed_lines.specs.declared.fault.SourceCause.{SourceCause}
+use Rattle.ed_lines.specs.declared.fault.SourceCause.TheVariants as causes
+use Rattle.ed_lines.specs.declared.fault.SourceFault.{SourceFault}
+use Rattle.ed_lines.specs.declared.fault.SourceFault.TheVariants.{At, Memory}
 use Rattle.ed_symbols.specs.declared.location_counter.LocationCounter.{LocationCounter}
 use Rattle.ed_symbols.specs.Places.{after_statement, first_counter}
 use Rattle.ed_symbols.specs.Faults.{or_later, resolution}
@@ -266,11 +262,6 @@ fault_law z lines e =
       accepts = λ h. is_none_fault z lines n h;
       no_memory = λ h. subst (Tells z lines n) h (tells z lines n);
     }
-
--- the lines of each text that is read have their numbers
-pub read_law : (z : Size) (text : Text) (lines : List Line) → program_of text ≡ Ok lines → FaultIsFound z lines
-read_law z text lines e =
-    fault_law z lines (program_formed (is_two (lines_of text)) (lines_of text) lines e).numbered
 
 -- an answer that is the fault that is looked for is that of the definition
 pub answer_has_fault : {A : Type 0} (z : Size) (lines : List Line) → AreNumbered lines → (r : Result A SourceFault)

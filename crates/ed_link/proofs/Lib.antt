@@ -17,13 +17,9 @@ pub mod Bounds
 pub mod LineLoop
 pub mod Maps
 pub mod Finished
-pub mod EachSource
 pub mod Extents
-pub mod FaultExamples
-pub mod OneAnswers
 pub mod FaultSentences
 pub mod SettingSentences
 pub mod LineFaults
 pub mod FaultLaw
-pub mod PunchedTexts
 pub mod WordLaws

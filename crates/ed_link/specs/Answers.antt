@@ -2,15 +2,13 @@
 use Rattle.std.specs.Prelude.{◌≡◌, ℕ, ◌<◌, reverse, List}
 use Rattle.ed_words.specs.declared.size.Size.{Size}
 use Rattle.ed_notation.specs.Fold.{placed_at}
-use Rattle.ed_words.specs.Texts.{Text}
-use Rattle.ed_syntax.specs.declared.program.Line.{Line}
-use Rattle.ed_syntax.specs.declared.fault.SourceFault.{SourceFault}
-use Rattle.ed_syntax.specs.declared.fault.SourceFault.TheVariants.{At, Memory}
+use Rattle.ed_lines.specs.declared.program.Line.{Line}
+use Rattle.ed_lines.specs.declared.fault.SourceFault.{SourceFault}
+use Rattle.ed_lines.specs.declared.fault.SourceFault.TheVariants.{At, Memory}
 use Rattle.ed_link.specs.declared.linked.Linked.{Linked}
 use Rattle.ed_link.specs.Linked.{data_after, symbols_of, entry_of, linked_words}
 use Rattle.ed_link.specs.Punch.{punched_items}
 use Rattle.ed_link.specs.Faults.{HasNoFault, IsMeaningFault}
-use Rattle.ed_link.specs.Refusals.{IsAcceptedAs}
 use Rattle.ed_link.specs.Tables.{table_of, word_at, words_from}
 use Rattle.ed_link.specs.Labels.{labels}
 use Rattle.ed_link.specs.Tapes.{ComesToLinked}
@@ -32,8 +30,3 @@ pub record IsLinked (z : Size) (lines : List Line) (k : Linked) : Type 0 where
   pub labels : k.labels.items ≡ labels (symbols_of lines)
   -- from every store, reading the tape gives the linked program
   pub loads : ComesToLinked z lines
-
--- for every source without a fault, reading its tape gives its linked program, from every store
-abbrev pub EachSourceComes : Type 0
-EachSourceComes =
-    (z : Size) (source : Text) (lines : List Line) → IsAcceptedAs z source lines → ComesToLinked z lines

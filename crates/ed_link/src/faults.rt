@@ -13,8 +13,8 @@ ghost use Rattle.ed_link.specs.Private.FaultTests.{fault_line, missing, sooner};
 use crate::operands::setting;
 use ed_codes::Code;
 use ed_library::{Routine, find};
+use ed_lines::{Line, Setting, SourceCause, SourceFault, Statement};
 use ed_symbols::{Definition, LocationCounter, even, find_place};
-use ed_syntax::{Line, Setting, SourceCause, SourceFault, Statement};
 use ed_words::Size;
 
 /// The location of a line's first word.

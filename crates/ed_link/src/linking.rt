@@ -2,8 +2,7 @@
 ghost use Rattle.std.specs.Prelude.{◌≡◌, ◌≤◌, IfOk, IfErr, length};
 ghost use Rattle.ed_notation.specs.Spellings.{AreSpellable};
 ghost use Rattle.ed_symbols.specs.Faults.{resolution};
-ghost use Rattle.ed_link.specs.Answers.{EachSourceComes, HasMeaningFault, IsLinked};
-ghost use Rattle.ed_link.specs.Refusals.{EachSourceHasOneAnswer};
+ghost use Rattle.ed_link.specs.Answers.{HasMeaningFault, IsLinked};
 ghost use Rattle.ed_link.specs.Words.{EachWordStands};
 ghost use Rattle.ed_link.specs.Private.Building.{IsFinished};
 ghost use Rattle.ed_link.specs.Private.FaultTests.{IsFirstFault, fault as first_fault};
@@ -15,8 +14,8 @@ use crate::faults::{any_enter, missing, sooner, sooner_than};
 use crate::linked::{LabelPlace, Linked};
 use crate::words::words_of;
 use ed_library::catalogue_size;
+use ed_lines::{Program, SourceFault};
 use ed_symbols::{Definition, is_local, resolve};
-use ed_syntax::{Program, SourceFault};
 use ed_words::{NoMemory, Size};
 use std::alloc::Global;
 
@@ -24,8 +23,6 @@ use std::alloc::Global;
 pub fn link(alloc: Global, size: Size, program: &Program) -> Result<Linked, SourceFault>
     ensures linked { IfOk result (λ k. IsLinked size program.now.lines.items k) }
     ensures fault { IfErr result (λ e. HasMeaningFault size program.now.lines.items e) }
-    ensures one { EachSourceHasOneAnswer }
-    ensures law { EachSourceComes }
     ensures words { EachWordStands }
 {
     let places = resolve(alloc, program)?;

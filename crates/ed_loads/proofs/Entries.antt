@@ -22,11 +22,11 @@ use Rattle.ed_initial.specs.Entry.{at_entry, Comes, IsLoaded, IsStarted}
 use Rattle.ed_initial.specs.declared.loading.Loaded.{Loaded}
 use Rattle.ed_initial.proofs.Started.{is_started}
 use Rattle.ed_initial.proofs.Quiet.{LeadsIn, comes_in}
-use Rattle.ed_syntax.specs.declared.program.Line.{Line}
+use Rattle.ed_lines.specs.declared.program.Line.{Line}
 use Rattle.ed_link.specs.declared.linked.Linked.{Linked}
 use Rattle.ed_link.specs.Answers.{IsLinked}
 use Rattle.ed_link.specs.Linked.{linked_words, entry_of, data_after}
-use Rattle.ed_link.proofs.EachSource.{each_source as comes_to}
+use Rattle.ed_loads.proofs.EachSource.{each_source as comes_to}
 use Rattle.ed_link.specs.Tapes.{ComesToLinked, arrival, cost, tape}
 use Rattle.ed_loads.specs.EntryState.{Enters, EachSourceEnters, entry_state, first_state, own_words}
 

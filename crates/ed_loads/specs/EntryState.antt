@@ -14,11 +14,11 @@ use Rattle.ed_initial.specs.Listing.{initial_orders}
 use Rattle.ed_initial.specs.Rests.{Working, initial_words}
 use Rattle.ed_words.specs.Texts.{Text}
 use Rattle.ed_words.specs.declared.order_words.TheConstants.{E_F, T_F}
-use Rattle.ed_syntax.specs.declared.program.Line.{Line}
+use Rattle.ed_lines.specs.declared.program.Line.{Line}
 use Rattle.ed_symbols.specs.Places.{first_counter}
 use Rattle.ed_link.specs.Linked.{linked_words, entry_of, theta_from, data_after}
-use Rattle.ed_link.specs.Tapes.{cost, punched_rows, tape}
-use Rattle.ed_link.specs.Refusals.{IsAcceptedAs}
+use Rattle.ed_link.specs.Tapes.{ComesToLinked, cost, punched_rows, tape}
+use Rattle.ed_loads.specs.Refusals.{IsAcceptedAs}
 
 -- a cleared machine of a size, started on rows with the Initial Orders
 unfoldable pub first_state : Size → List ℕ → State
@@ -57,6 +57,11 @@ entry_state z lines = record {
   last = None;
   orders = cost lines;
 }
+
+-- for every source without a fault, reading its tape gives its linked program, from every store
+abbrev pub EachSourceComes : Type 0
+EachSourceComes =
+    (z : Size) (source : Text) (lines : List Line) → IsAcceptedAs z source lines → ComesToLinked z lines
 
 -- a cleared machine that is started on the punched tape reaches that state after the stated cost, which is at most 17
 -- orders for each row of the punched items, and 9 more; none of these orders prints or stops, so nothing is printed

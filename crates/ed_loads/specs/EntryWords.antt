@@ -4,9 +4,9 @@ use Rattle.std.specs.Prelude.{◌≡◌, ◌⊎◌, ℕ, ◌<◌, ◌≤◌, Lis
 use Rattle.ed_words.specs.declared.size.Size.{Size}
 use Rattle.ed_store.specs.Cells.{short_at}
 use Rattle.ed_words.specs.Texts.{Text}
-use Rattle.ed_syntax.specs.declared.program.Line.{Line}
+use Rattle.ed_lines.specs.declared.program.Line.{Line}
 use Rattle.ed_symbols.specs.NameFaults.{StandsAfter}
-use Rattle.ed_link.specs.Refusals.{IsAcceptedAs}
+use Rattle.ed_loads.specs.Refusals.{IsAcceptedAs}
 use Rattle.ed_link.specs.Words.{IsLastSet, LinePlaces, LineSets}
 use Rattle.ed_loads.specs.EntryState.{entry_store}
 

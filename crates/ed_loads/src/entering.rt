@@ -1,8 +1,9 @@
 ghost use Rattle.std.specs.Prelude.{◌≡◌, IfOk, List};
 ghost use Rattle.ed_initial.specs.Entry.{IsStarted};
-ghost use Rattle.ed_syntax.specs.declared.program.Line.{Line};
+ghost use Rattle.ed_lines.specs.declared.program.Line.{Line};
 ghost use Rattle.ed_link.specs.Answers.{IsLinked};
-ghost use Rattle.ed_loads.specs.EntryState.{EachSourceEnters, entry_state, first_state};
+ghost use Rattle.ed_loads.specs.EntryState.{EachSourceComes, EachSourceEnters, entry_state, first_state};
+ghost use Rattle.ed_loads.specs.Refusals.{EachSourceHasOneAnswer};
 ghost use Rattle.ed_loads.specs.EntryWords.{EachEntryHasWords};
 
 use ed_codes::Code;
@@ -29,6 +30,8 @@ pub fn started(alloc: Global, size: Size, rows: Vec<Code>) -> Result<Machine, No
 pub fn enter(alloc: Global, size: Size, linked: &Linked) -> Result<Machine, NoMemory>
     ensures entry { IfOk result
         (λ m. (lines : List Line) → IsLinked size lines linked.now → m ≡ entry_state size lines) }
+    ensures one { EachSourceHasOneAnswer }
+    ensures comes { EachSourceComes }
     ensures law { EachSourceEnters }
     ensures words { EachEntryHasWords }
 {

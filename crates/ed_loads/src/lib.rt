@@ -1,7 +1,8 @@
-//! The state at the entry of a linked program: its tape, loaded.
+//! The verdict on a source, and the state at the entry of a linked program: its tape, loaded.
 //!
-//! Contract: the Initial Orders on its tape lead to that state at the stated cost, cell by cell. They are obeyed one by
-//! one from Start and print nothing. Depends on `ed_link` and `ed_initial`.
+//! Contract: each source is accepted with one list of lines or refused for one fault. The Initial Orders on the tape of
+//! an accepted source lead to that state at the stated cost, cell by cell. They are obeyed one by one from Start and
+//! print nothing. Depends on `ed_syntax`, `ed_link` and `ed_initial`.
 #![tactic(auto)]
 
 mod entering;

@@ -1,6 +1,6 @@
 ghost use Rattle.std.specs.Prelude.{◌≡◌, IfOk, List, Some, None};
 ghost use Rattle.ed_printer.specs.Paper.{paper};
-ghost use Rattle.ed_syntax.specs.declared.program.Line.{Line};
+ghost use Rattle.ed_lines.specs.declared.program.Line.{Line};
 ghost use Rattle.ed_link.specs.Answers.{IsLinked};
 ghost use Rattle.ed_link.specs.Tapes.{tape};
 ghost use Rattle.ed_answers.specs.FirstOrders.{run1_of, tape1_outcome};

@@ -22,15 +22,15 @@ use Rattle.ed_notation.specs.declared.item.Item.{Item}
 use Rattle.ed_library.specs.Entries.{entry}
 use Rattle.ed_library.specs.Images.{image_word, parameter_store, routine_word}
 use Rattle.ed_library.specs.Routines.{is_working, missing_row, routine_item, table_item}
-use Rattle.ed_syntax.specs.declared.program.Line.{Line}
+use Rattle.ed_lines.specs.declared.program.Line.{Line}
 use Rattle.ed_symbols.specs.NameFaults.{counter_after}
 use Rattle.ed_notation.specs.Spellings.{canonicals, text_of}
 use Rattle.ed_link.specs.Linked.{data_after, first_place, symbols_of, operand_number}
 use Rattle.ed_link.specs.Punch.{punched_items}
-use Rattle.ed_link.specs.Refusals.{IsAcceptedAs}
+use Rattle.ed_loads.specs.Refusals.{IsAcceptedAs}
 use Rattle.ed_link.specs.Tapes.{after_text, cost, tape}
 use Rattle.ed_link.specs.Words.{LinePlaces, words_of_line}
-use Rattle.ed_link.proofs.PunchedTexts.{text_is_tape}
+use Rattle.ed_loads.proofs.PunchedTexts.{text_is_tape}
 use Rattle.ed_link.proofs.WordLaws.{each_word_stands}
 use Rattle.ed_loads.specs.EntryState.{entry_state, first_state}
 use Rattle.ed_loads.proofs.Entries.{each_source}

@@ -7,11 +7,11 @@ use Rattle.ed_words.specs.declared.size.Size.{Size}
 use Rattle.ed_words.specs.declared.size.Size.TheVariants.{Small, Full}
 use Rattle.ed_words.specs.Texts.{Text}
 use Rattle.ed_printer.specs.Paper.{paper}
-use Rattle.ed_syntax.specs.declared.program.Line.{Line}
-use Rattle.ed_syntax.specs.declared.fault.SourceFault.{SourceFault}
+use Rattle.ed_lines.specs.declared.program.Line.{Line}
+use Rattle.ed_lines.specs.declared.fault.SourceFault.{SourceFault}
 use Rattle.ed_syntax.specs.Private.SourceReading.{is_two, program_of}
 use Rattle.ed_link.specs.Private.FaultTests.{fault}
-use Rattle.ed_link.proofs.EachSource.{read_is_accepted}
+use Rattle.ed_loads.proofs.EachSource.{read_is_accepted}
 use Rattle.ed_loads.specs.EntryState.{entry_state}
 use Rattle.ed_routines.proofs.Journeys.{ComesToStop}
 use Rattle.ed_sources.specs.Calls.{text_of_lines, woven_text}

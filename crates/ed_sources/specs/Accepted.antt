@@ -4,9 +4,9 @@ use Rattle.ed_words.specs.declared.size.Size.{Size}
 use Rattle.ed_words.specs.Sizes.{locations}
 use Rattle.ed_call.specs.declared.Call.{Call}
 use Rattle.ed_call.specs.Ranges.{IsCallInRange}
-use Rattle.ed_syntax.specs.declared.program.Line.{Line}
+use Rattle.ed_lines.specs.declared.program.Line.{Line}
 use Rattle.ed_words.specs.Texts.{Text}
-use Rattle.ed_link.specs.Refusals.{IsAcceptedAs}
+use Rattle.ed_loads.specs.Refusals.{IsAcceptedAs}
 use Rattle.ed_sources.specs.Calls.{call_text}
 use Rattle.ed_sources.specs.Demo.{demo_text}
 

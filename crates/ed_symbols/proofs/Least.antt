@@ -1,9 +1,9 @@
 -- The fault of the first line that has one.
 use Rattle.std.proofs.Common.{◌≡◌, ◌<◌, ℕ, Bool, List, Some, refl, sym, length, drop, get_or}
 use Rattle.std.proofs.Math.Seq.{drop-cons}
-use Rattle.ed_syntax.specs.declared.program.Line.{Line}
-use Rattle.ed_syntax.specs.declared.fault.SourceCause.{SourceCause}
-use Rattle.ed_syntax.specs.declared.fault.SourceFault.TheVariants.{At}
+use Rattle.ed_lines.specs.declared.program.Line.{Line}
+use Rattle.ed_lines.specs.declared.fault.SourceCause.{SourceCause}
+use Rattle.ed_lines.specs.declared.fault.SourceFault.TheVariants.{At}
 use Rattle.ed_symbols.specs.Faults.{naming_cause, defines_again, naming_fault_from}
 use Rattle.ed_symbols.specs.declared.location_counter.LocationCounter.{LocationCounter}
 use Rattle.ed_symbols.specs.declared.symbols.Definition.{Definition}

@@ -7,7 +7,7 @@ ghost use Rattle.ed_symbols.specs.Faults.{operand_value, with_more, naming_cause
 
 use crate::location_counter::LocationCounter;
 use crate::symbols::{Definition, find_place};
-use ed_syntax::{Line, Operand, Setting, SourceCause, Statement};
+use ed_lines::{Line, Operand, Setting, SourceCause, Statement};
 
 /// The value of an operand on a line of a segment.
 pub fn value(symbols: &[Definition], segment: Option<u32>, operand: &Operand) -> Option<i64>

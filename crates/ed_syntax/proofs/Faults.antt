@@ -2,7 +2,7 @@
 use Rattle.std.proofs.Common.{◌≡◌, ◌<◌, ap, refl, sym, Bool, true, List, [], ◌∷◌, map, length, arith}
 use Rattle.std.specs.Prelude.{Option, Some, None, Ok, Err}
 use Rattle.ed_words.specs.Texts.{Text}
-use Rattle.ed_syntax.specs.Parts.{is_place_name}
+use Rattle.ed_lines.specs.Names.{is_place_name}
 use Rattle.ed_syntax.specs.Private.Answers.{LineIs, form_fault}
 use Rattle.ed_syntax.specs.Private.Found.{form_result}
 use Rattle.ed_syntax.specs.Private.Grammar.{Ranged, labelled_line, ranged_map, placed_statement}
@@ -11,7 +11,7 @@ use Rattle.ed_syntax.specs.Private.SourceReading.{or_cause}
 use Rattle.ed_syntax.specs.declared.fault.FormFault.{FormFault}
 use Rattle.ed_syntax.specs.declared.fault.FormFault.TheVariants.{NotThisForm, OutOfRange}
 use Rattle.ed_syntax.specs.declared.parts.Part.{Part}
-use Rattle.ed_syntax.specs.declared.program.Form.{Form}
+use Rattle.ed_syntax.specs.declared.form.Form.{Form}
 
 -- what is made of what is not read is not read, with the same fault
 pub made_fault : {A B : Type 0} (f : A → B) (o : Option (Ranged A)) (e : FormFault) → Err e ≡ form_result o

@@ -4,7 +4,7 @@ use Rattle.std.specs.Prelude.{Option, Some, None, option_and_then}
 use Rattle.ed_words.specs.Texts.{Text}
 use Rattle.ed_syntax.specs.Private.PartReading.{parts_of}
 use Rattle.ed_syntax.specs.Private.Grammar
-use Rattle.ed_syntax.specs.declared.program.Form.{Form}
+use Rattle.ed_syntax.specs.declared.form.Form.{Form}
 use Rattle.ed_syntax.specs.Forms.{SpellsLine, IsNoStatement}
 use Rattle.ed_syntax.proofs.Readings.{ranged, chained, some_is}
 use Rattle.ed_syntax.proofs.PartsLaws.{parts_are_read, read_parts_are}

@@ -9,7 +9,8 @@ use Rattle.ed_syntax.proofs.Splits.{split_at}
 use Rattle.ed_words.specs.Texts.{Text}
 use Rattle.ed_syntax.specs.Parts.{LinePart, run, sign, quoted}
 use Rattle.ed_syntax.specs.Private.PartReading.{parts_of, parts_from}
-use Rattle.ed_syntax.specs.Parts.{is_blank, is_run_byte, begins_run}
+use Rattle.ed_syntax.specs.Parts.{is_blank, begins_run}
+use Rattle.ed_lines.specs.Names.{is_run_byte}
 use Rattle.ed_syntax.specs.Private.PartReading.{with_run_byte}
 use Rattle.std.specs.Prelude.{Result, Ok, Err}
 use Rattle.std.specs.Borrow.{Bor}

@@ -7,7 +7,8 @@ use Rattle.std.proofs.lemmas.Bool.Decides.{nat_tests}
 use Rattle.std.proofs.lemmas.Bool.{and_parts}
 use Rattle.ed_words.specs.Texts.{Text}
 use Rattle.ed_words.specs.Decimals.{is_digit, value}
-use Rattle.ed_syntax.specs.Parts.{LinePart, run, sign, quoted, is_run_byte, begins_run}
+use Rattle.ed_syntax.specs.Parts.{LinePart, run, sign, quoted, begins_run}
+use Rattle.ed_lines.specs.Names.{is_run_byte}
 use Rattle.ed_syntax.specs.Parts.{is_number}
 use Rattle.ed_syntax.specs.Forms.{HasLineParts, nothing, blank, one_sign, one_string, one_run, is_sign}
 use Rattle.ed_syntax.specs.Parts.{has_quote}

@@ -3,7 +3,7 @@ use Rattle.std.proofs.Common.{◌≡◌, ◌∙◌, ℕ, zero, suc, ◌-◌, ◌
 use Rattle.std.specs.Prelude.{Some, None, option_and_then}
 use Rattle.ed_syntax.specs.Parts.{LinePart}
 use Rattle.ed_syntax.specs.Private.Grammar.{Ranged, and_more, setting, settings}
-use Rattle.ed_syntax.specs.declared.program.Setting.{Setting}
+use Rattle.ed_lines.specs.declared.program.Setting.{Setting}
 
 step : (two : Bool) (k : ℕ) (parts : List LinePart) → 0 < k
     → settings two k parts ≡ option_and_then (λ p. and_more p.0 p.1 (settings two (k - 1))) (setting two parts)

@@ -1,6 +1,6 @@
 pub mod Lines
 pub mod Parts
-pub mod Programs
+pub mod Versions
 pub mod Forms
 pub mod Sources
 pub mod Private

@@ -7,19 +7,20 @@ ghost use Rattle.std.specs.List.{list_any};
 ghost use Rattle.ed_syntax.specs.Private.Grammar.{and_more, both, joined_operand, ranged_map, operand, with_settings};
 ghost use Rattle.ed_syntax.specs.Private.Grammar.{joined_front, setting, with_rest};
 ghost use Rattle.ed_syntax.specs.Private.Found.{form_result, front};
-ghost use Rattle.ed_syntax.specs.Programs.{is_second};
+ghost use Rattle.ed_syntax.specs.Versions.{is_second};
 ghost use Rattle.ed_syntax.specs.Parts.{array};
 ghost use Rattle.ed_syntax.specs.Parts.{setting_letter, with_sign};
 ghost use Rattle.ed_syntax.specs.Private.Grammar.{settings, single};
 ghost use Rattle.ed_syntax.specs.Parts.{run, sign};
 ghost use Rattle.ed_syntax.specs.Private.Seen.{part};
 
+use crate::Version;
 use crate::fault::FormFault;
 use crate::parts::Part;
 use crate::terms::{is, is_number, place_name, up_to};
-use crate::{Operand, Setting, Version};
 use arrayvec::ArrayVec;
 use ed_codes::{Code, row_of_byte};
+use ed_lines::{Operand, Setting};
 
 /// An operand that is a number or a name: none where the number is out of its range.
 fn single(version: Version, run: &[u8]) -> Result<Option<Operand>, FormFault>

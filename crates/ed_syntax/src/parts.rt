@@ -1,7 +1,8 @@
 //! The parts of a line: runs, signs and strings.
 ghost use Rattle.std.specs.Prelude.{◌∷◌, true, ◌≡◌, ◌≤◌, ◌<◌, Some, None, IfSome};
 ghost use Rattle.std.specs.Prelude.{IfNone, IfOk, IfErr, map, false, length};
-ghost use Rattle.ed_syntax.specs.Parts.{begins_run, is_blank, is_run_byte};
+ghost use Rattle.ed_syntax.specs.Parts.{begins_run, is_blank};
+ghost use Rattle.ed_lines.specs.Names.{is_run_byte};
 ghost use Rattle.ed_syntax.specs.Private.PartReading.{parts_of};
 ghost use Rattle.ed_syntax.specs.Private.Seen.{part};
 ghost use Rattle.ed_syntax.specs.Private.PartFronts.{SplitsRun, SplitsQuote, Takes, begins_blank};

@@ -2,7 +2,7 @@
 ghost use Rattle.std.specs.Prelude.{◌≡◌, ◌==◌, ◌≤◌, ◌<◌, if◌then◌else◌, length, IfErr, IfOk, Ok};
 ghost use Rattle.std.specs.List.{list_all};
 ghost use Rattle.ed_syntax.specs.Private.Answers.{IsFaultOf, LineIs, LinesAre, fault_at};
-ghost use Rattle.ed_syntax.specs.Programs.{is_second};
+ghost use Rattle.ed_syntax.specs.Versions.{is_second};
 ghost use Rattle.ed_syntax.specs.Private.LineFronts.{TakesLine};
 ghost use Rattle.ed_syntax.specs.Lines.{without_return};
 ghost use Rattle.ed_syntax.specs.Lines.{lines_of};
@@ -11,11 +11,12 @@ ghost use Rattle.ed_syntax.specs.Sources.{HasFormFault, HasOneMeaning, IsProgram
 ghost use Rattle.ed_syntax.specs.Parts.{is_line_byte};
 ghost use Rattle.ed_syntax.specs.Private.SourceReading.{is_two, line_of, lines_from, or_cause, program_of, version_of};
 
+use crate::Version;
 use crate::fault::FormFault;
+use crate::form::Form;
 use crate::parts::{QuoteFault, parts_of};
-use crate::program::Form;
 use crate::statements::{form_at, is_version_two};
-use crate::{Line, Program, SourceCause, SourceFault, Version};
+use ed_lines::{Line, Program, SourceCause, SourceFault};
 use ed_words::NoMemory;
 use std::alloc::Global;
 

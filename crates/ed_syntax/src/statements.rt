@@ -1,7 +1,7 @@
 //! Statements, and lines with their labels.
 ghost use Rattle.std.specs.Prelude.{◌≡◌, ◌∷◌, ◌==◌, codes, map, option_map, Some};
 ghost use Rattle.std.specs.Option.{ok_or};
-ghost use Rattle.ed_syntax.specs.Programs.{is_second};
+ghost use Rattle.ed_syntax.specs.Versions.{is_second};
 ghost use Rattle.ed_syntax.specs.Private.Found.{form_result};
 ghost use Rattle.ed_syntax.specs.Private.Grammar.{base, enter, fetch, form, form_at};
 ghost use Rattle.ed_syntax.specs.Parts.{function};
@@ -13,13 +13,14 @@ ghost use Rattle.ed_syntax.specs.Private.Grammar as grammar;
 ghost use Rattle.ed_syntax.specs.Parts.{run, sign};
 ghost use Rattle.ed_syntax.specs.Private.Seen.{part};
 
+use crate::Version;
 use crate::fault::FormFault;
+use crate::form::Form;
 use crate::operands::{operand, preset};
 use crate::parts::Part;
-use crate::program::Form;
 use crate::terms::{integer, is, is_number, name, number, place_name, string, up_to};
-use crate::{Operand, Statement, Version};
 use ed_codes::{Code, row_of_byte};
+use ed_lines::{Operand, Statement};
 use ed_words::{Long, Word};
 
 /// A function, as its code.

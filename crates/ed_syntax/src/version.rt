@@ -1,7 +1,7 @@
 ghost use Rattle.std.specs.Prelude.{◌≡◌, ◌==◌, ◌≤◌, if◌then◌else◌};
-ghost use Rattle.ed_syntax.specs.Programs.{is_second};
+ghost use Rattle.ed_syntax.specs.Versions.{is_second};
 
-use crate::Program;
+use ed_lines::Program;
 
 /// A version of the source language.
 #[derive(Clone, Copy)]

@@ -9,10 +9,10 @@ use Rattle.ed_call.specs.Ranges.{IsCallInRange}
 use Rattle.ed_call.specs.declared.Call.{Call}
 use Rattle.ed_call.specs.declared.Call.TheVariants.{Print, Read, NewLine, Divide, Root, Check}
 use Rattle.ed_sources.specs.Calls.{call_text}
-use Rattle.ed_syntax.specs.declared.program.Line.{Line}
+use Rattle.ed_lines.specs.declared.program.Line.{Line}
 use Rattle.ed_syntax.specs.Private.SourceReading.{program_of}
 use Rattle.ed_link.specs.Private.FaultTests.{fault}
-use Rattle.ed_link.proofs.EachSource.{read_is_accepted}
+use Rattle.ed_loads.proofs.EachSource.{read_is_accepted}
 use Rattle.ed_sources.proofs.CallsAccepted.{divide_read, newline_read, print_read, read_read, root_read, check_read}
 use Rattle.ed_sources.proofs.Faultless.{divide_faultless, newline_faultless, print_faultless}
 use Rattle.ed_sources.proofs.Faultless.{read_faultless, root_faultless, check_faultless}

@@ -1,8 +1,8 @@
 -- `demo` is the run of its source, from the state at its entry to its stop.
 use Rattle.std.proofs.Common.{◌≡◌, ◌∙◌, ◌+◌, ◌*◌, arith, List, [], ◌∷◌, ◌++◌, codes}
-use Rattle.ed_syntax.specs.declared.program.Line.{Line}
+use Rattle.ed_lines.specs.declared.program.Line.{Line}
 use Rattle.ed_link.specs.Tapes.{cost}
-use Rattle.ed_link.proofs.EachSource.{read_is_accepted}
+use Rattle.ed_loads.proofs.EachSource.{read_is_accepted}
 use Rattle.ed_report.specs.Notes.{at_after, entry_note}
 use Rattle.ed_routines.specs.Digits.{print_orders}
 use Rattle.ed_routines.proofs.Digits.{few_digits}

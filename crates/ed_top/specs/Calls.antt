@@ -3,8 +3,8 @@ use Rattle.std.specs.Prelude.{◌≡◌, ℕ, ◌+◌, ◌*◌, ◌/◌, ◌%◌
 use Rattle.std.specs.Fmt.{decimal}
 use Rattle.ed_call.specs.declared.Call.{Call}
 use Rattle.ed_call.specs.declared.Call.TheVariants.{Print, Read, NewLine, Divide, Root, Check}
-use Rattle.ed_syntax.specs.declared.program.Line.{Line}
-use Rattle.ed_link.specs.Refusals.{IsAcceptedAs}
+use Rattle.ed_lines.specs.declared.program.Line.{Line}
+use Rattle.ed_loads.specs.Refusals.{IsAcceptedAs}
 use Rattle.ed_link.specs.Tapes.{cost}
 use Rattle.ed_loads.specs.EntryState.{entry_state}
 use Rattle.ed_printer.specs.Paper.{paper}

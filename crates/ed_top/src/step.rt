@@ -1,5 +1,5 @@
 ghost use Rattle.std.specs.Prelude.{◌≤◌, [], IfOk, List, None, length};
-ghost use Rattle.ed_syntax.specs.declared.program.Line.{Line};
+ghost use Rattle.ed_lines.specs.declared.program.Line.{Line};
 ghost use Rattle.ed_link.specs.Answers.{IsLinked};
 ghost use Rattle.ed_link.specs.Tapes.{tape};
 ghost use Rattle.ed_stepper.specs.ScriptLines.{CommandList, HasBadLine, IsScript};

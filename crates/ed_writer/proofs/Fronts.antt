@@ -8,7 +8,8 @@ use Rattle.std.proofs.lemmas.Bool.{and_parts}
 use Rattle.std.proofs.lemmas.List.{append-nil}
 use Rattle.ed_words.specs.Texts.{Text}
 use Rattle.ed_words.specs.Decimals.{is_digit}
-use Rattle.ed_syntax.specs.Parts.{LinePart, run, sign, quoted, is_lower, is_run_byte, is_line_byte, begins_run}
+use Rattle.ed_syntax.specs.Parts.{LinePart, run, sign, quoted, is_line_byte, begins_run}
+use Rattle.ed_lines.specs.Names.{is_lower, is_run_byte}
 use Rattle.ed_syntax.specs.Parts.{has_quote}
 use Rattle.ed_syntax.specs.Forms.{HasLineParts, nothing, blank, one_sign, one_string, one_run, is_sign}
 use Rattle.ed_syntax.proofs.PartTexts.{is_part, each_append}

@@ -10,7 +10,8 @@ use Rattle.std.proofs.lemmas.Fmt.{decimal_by_steps}
 use Rattle.std.proofs.lemmas.List.Sums.{fold-append}
 use Rattle.ed_words.specs.Texts.{Text}
 use Rattle.ed_words.specs.Decimals.{is_digit, value}
-use Rattle.ed_syntax.specs.Parts.{run, is_number, is_run_byte}
+use Rattle.ed_syntax.specs.Parts.{run, is_number}
+use Rattle.ed_lines.specs.Names.{is_run_byte}
 use Rattle.ed_syntax.proofs.PartTexts.{is_part, each_append}
 use Rattle.ed_syntax.proofs.WrittenLaws.{both}
 

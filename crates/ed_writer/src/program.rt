@@ -3,7 +3,7 @@ ghost use Rattle.std.specs.Prelude.{◌≡◌, ◌==◌, ◌++◌, ◌∷◌, []
 ghost use Rattle.std.specs.List.{list_all};
 ghost use Rattle.ed_writer.specs.Answers.{has_version_place, HasNoText, IsTextOf, IsWriteFault};
 ghost use Rattle.ed_writer.specs.Private.LineTexts.{IsTextOfLines, has_few, IsLinesFault};
-ghost use Rattle.ed_syntax.specs.Programs.{is_second};
+ghost use Rattle.ed_syntax.specs.Versions.{is_second};
 ghost use Rattle.ed_syntax.specs.Sources.{IsProgram};
 ghost use Rattle.ed_writer.specs.Written.{form_text, line_text};
 

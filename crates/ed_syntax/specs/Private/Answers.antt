@@ -2,16 +2,16 @@
 use Rattle.std.specs.Prelude.{◌≡◌, ℕ, List, Result, Ok, Err, Vec}
 use Rattle.std.specs.declared.alloc.Global.{Global}
 use Rattle.ed_syntax.specs.Private.SourceReading.{Fault}
-use Rattle.ed_syntax.specs.declared.fault.SourceCause.{SourceCause}
-use Rattle.ed_syntax.specs.declared.fault.SourceFault.{SourceFault}
-use Rattle.ed_syntax.specs.declared.fault.SourceFault.TheVariants.{At, Memory}
-use Rattle.ed_syntax.specs.declared.program.Form.{Form}
-use Rattle.ed_syntax.specs.declared.program.Line.{Line}
+use Rattle.ed_lines.specs.declared.fault.SourceCause.{SourceCause}
+use Rattle.ed_lines.specs.declared.fault.SourceFault.{SourceFault}
+use Rattle.ed_lines.specs.declared.fault.SourceFault.TheVariants.{At, Memory}
+use Rattle.ed_syntax.specs.declared.form.Form.{Form}
+use Rattle.ed_lines.specs.declared.program.Line.{Line}
 use Rattle.ed_syntax.specs.declared.source.LineFault.{LineFault}
 use Rattle.ed_syntax.specs.declared.source.LineFault.TheVariants as line
 use Rattle.ed_syntax.specs.declared.fault.FormFault.{FormFault}
 use Rattle.ed_syntax.specs.declared.fault.FormFault.TheVariants.{NotThisForm, OutOfRange}
-use Rattle.ed_syntax.specs.declared.fault.SourceCause.TheVariants.{NotAStatement, NumberRange}
+use Rattle.ed_lines.specs.declared.fault.SourceCause.TheVariants.{NotAStatement, NumberRange}
 use Rattle.ed_syntax.specs.declared.parts.QuoteFault.{QuoteFault}
 use Rattle.ed_syntax.specs.declared.parts.QuoteFault.TheVariants as parts
 

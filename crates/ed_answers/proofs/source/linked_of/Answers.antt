@@ -4,7 +4,7 @@ use Rattle.ed_words.proofs.Mapped.{mapped_err, mapped_ok}
 use Rattle.ed_report.specs.Notes.{source_fault_line}
 use Rattle.ed_answers.specs.Replies.{Refuses}
 use Rattle.ed_answers.specs.declared.reply.Rejection.TheVariants as rejection
-use Rattle.ed_syntax.specs.declared.fault.SourceFault.TheVariants as fault
+use Rattle.ed_lines.specs.declared.fault.SourceFault.TheVariants as fault
 use Rattle.ed_answers.proofs.Sources.{linked_or_refused, refused_form}
 use Rattle.ed_answers.proofs.source.linked_of.Goals as goal
 

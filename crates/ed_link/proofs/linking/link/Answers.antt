@@ -1,19 +1,6 @@
-use Rattle.ed_link.proofs.EachSource.{each_source, one_answer}
 use Rattle.ed_link.proofs.FaultLaw.{answer_has_fault}
 use Rattle.ed_link.proofs.WordLaws.{each_word_stands}
 use Rattle.ed_link.proofs.linking.link.Goals as goal
-
-pub returns-clause-law : goal.returns-clause-law
-returns-clause-law c = each_source
-
-pub returns-in_err-places-clause-law : goal.returns-in_err-places-clause-law
-returns-in_err-places-clause-law c = each_source
-
-pub returns-clause-one : goal.returns-clause-one
-returns-clause-one c = one_answer
-
-pub returns-in_err-places-clause-one : goal.returns-in_err-places-clause-one
-returns-in_err-places-clause-one c = one_answer
 
 pub returns-clause-fault : goal.returns-clause-fault
 returns-clause-fault c =

@@ -1,5 +1,5 @@
 use Rattle.std.proofs.Common.{◌≡◌, ◌∙◌, sym, ap, subst, ℕ, List, length, arith}
-use Rattle.ed_syntax.specs.declared.program.Line.{Line}
+use Rattle.ed_lines.specs.declared.program.Line.{Line}
 use Rattle.ed_link.specs.Private.Building.{IsBuilt}
 use Rattle.ed_link.specs.Private.FaultTests.{any_enter, missing}
 use Rattle.ed_link.proofs.Finished.{finished}

@@ -1,3 +1,4 @@
+use Rattle.ed_loads.proofs.EachSource.{each_source as each_comes, one_answer}
 use Rattle.ed_loads.proofs.Entries.{each_source, loaded}
 use Rattle.ed_loads.proofs.EntryWords.{each_entry_has_words}
 use Rattle.ed_loads.proofs.entering.enter.Goals as goal
@@ -22,3 +23,21 @@ returns-in_err-machine-clause-words c = each_entry_has_words
 
 pub returns-clause-words : goal.returns-clause-words
 returns-clause-words c = each_entry_has_words
+
+pub returns-in_err-rows-clause-one : goal.returns-in_err-rows-clause-one
+returns-in_err-rows-clause-one c = one_answer
+
+pub returns-in_err-rows-clause-comes : goal.returns-in_err-rows-clause-comes
+returns-in_err-rows-clause-comes c = each_comes
+
+pub returns-in_err-machine-clause-one : goal.returns-in_err-machine-clause-one
+returns-in_err-machine-clause-one c = one_answer
+
+pub returns-in_err-machine-clause-comes : goal.returns-in_err-machine-clause-comes
+returns-in_err-machine-clause-comes c = each_comes
+
+pub returns-clause-one : goal.returns-clause-one
+returns-clause-one c = one_answer
+
+pub returns-clause-comes : goal.returns-clause-comes
+returns-clause-comes c = each_comes

@@ -4,8 +4,8 @@ use Rattle.ed_syntax.specs.Parts.{array}
 use Rattle.ed_syntax.specs.Private.Found.{form_result}
 use Rattle.ed_syntax.specs.Private.Grammar.{Ranged, ranged_map, setting}
 use Rattle.ed_syntax.specs.Private.Seen.{part}
-use Rattle.ed_syntax.specs.Programs.{is_second}
-use Rattle.ed_syntax.specs.declared.program.Setting.{Setting}
+use Rattle.ed_syntax.specs.Versions.{is_second}
+use Rattle.ed_lines.specs.declared.program.Setting.{Setting}
 use Rattle.ed_syntax.proofs.Settings.{none_left, no_setting, first_setting}
 use Rattle.ed_syntax.proofs.operands.+settings.Goals as goal
 

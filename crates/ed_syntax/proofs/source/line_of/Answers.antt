@@ -6,7 +6,7 @@ use Rattle.ed_syntax.specs.Private.Found.{form_result}
 use Rattle.ed_syntax.specs.Private.Grammar.{form_at}
 use Rattle.ed_syntax.specs.Private.Seen.{part}
 use Rattle.ed_syntax.specs.Private.SourceReading.{line_of, or_cause}
-use Rattle.ed_syntax.specs.Programs.{is_second}
+use Rattle.ed_syntax.specs.Versions.{is_second}
 use Rattle.ed_syntax.proofs.Faults.{line_fault, line_form}
 use Rattle.ed_syntax.proofs.source.line_of.Goals as goal
 

@@ -1,7 +1,7 @@
 use Rattle.std.proofs.Common.{rules, ◌≡◌, ◌∙◌, ◌++◌, ◌∷◌, [], false, arith}
 use Rattle.std.specs.Prelude.{◌==◌, Ok}
 use Rattle.ed_syntax.specs.Lines.{lines_of}
-use Rattle.ed_syntax.specs.Programs.{is_second}
+use Rattle.ed_syntax.specs.Versions.{is_second}
 use Rattle.ed_syntax.specs.Private.SourceReading.{line_of}
 use Rattle.ed_syntax.proofs.Programs.{numbered, program_step}
 use Rattle.ed_syntax.proofs.source.lines.Goals as goal

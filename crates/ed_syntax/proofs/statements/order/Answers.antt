@@ -3,7 +3,7 @@ use Rattle.std.proofs.lemmas.Result.{err_from_is_err_and}
 use Rattle.ed_syntax.specs.Parts.{function}
 use Rattle.ed_syntax.specs.Private.Grammar.{order_end}
 use Rattle.ed_syntax.specs.Private.Seen.{part}
-use Rattle.ed_syntax.specs.Programs.{is_second}
+use Rattle.ed_syntax.specs.Versions.{is_second}
 use Rattle.ed_syntax.proofs.Orders.{order_made, order_out_of_range, no_order, no_function}
 use Rattle.ed_syntax.proofs.statements.order.Goals as goal
 

@@ -3,9 +3,9 @@ use Rattle.std.specs.Prelude.{Some, None}
 use Rattle.std.proofs.lemmas.Result.{err_from_is_err_and}
 use Rattle.ed_syntax.specs.Private.Grammar.{statement}
 use Rattle.ed_syntax.specs.Private.Seen.{part}
-use Rattle.ed_syntax.specs.Programs.{is_second}
-use Rattle.ed_syntax.specs.declared.program.Form.{Form}
-use Rattle.ed_syntax.specs.declared.program.Statement.{Statement}
+use Rattle.ed_syntax.specs.Versions.{is_second}
+use Rattle.ed_syntax.specs.declared.form.Form.{Form}
+use Rattle.ed_lines.specs.declared.program.Statement.{Statement}
 use Rattle.ed_syntax.proofs.Faults.{made_fault}
 use Rattle.ed_syntax.proofs.statements.unlabelled.Goals as goal
 

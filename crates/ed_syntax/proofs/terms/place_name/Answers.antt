@@ -1,5 +1,5 @@
 use Rattle.std.proofs.Common.{rules}
-use Rattle.ed_syntax.specs.Programs.{is_second}
+use Rattle.ed_syntax.specs.Versions.{is_second}
 use Rattle.ed_syntax.proofs.NameLemmas.{place_name_text}
 use Rattle.ed_syntax.proofs.terms.place_name.Goals as goal
 

@@ -1,6 +1,6 @@
 use Rattle.std.proofs.Common.{◌≡◌, ◌++◌, drop}
 use Rattle.std.specs.List.{list_all}
-use Rattle.ed_syntax.specs.Programs.{is_second}
+use Rattle.ed_syntax.specs.Versions.{is_second}
 use Rattle.ed_writer.specs.Answers.{long_line}
 use Rattle.ed_writer.specs.Private.LineTexts.{has_few}
 use Rattle.ed_writer.specs.Written.{text_of_program}

@@ -1,6 +1,6 @@
 ghost use Rattle.std.specs.Prelude.{◌≡◌, ◌≤◌, ◌==◌, true, length};
 ghost use Rattle.std.specs.List.{list_all};
-ghost use Rattle.ed_syntax.specs.Programs.{AreNumbered, is_line};
+ghost use Rattle.ed_lines.specs.Programs.{AreNumbered, is_line};
 
 use crate::Name;
 use arrayvec::ArrayVec;
@@ -34,7 +34,7 @@ pub struct Setting {
 
 impl Default for Setting {
     ghost use Rattle.std.specs.Prelude.{◌≡◌};
-    ghost use Rattle.ed_syntax.specs.declared.program.Operand.TheVariants.{Number};
+    ghost use Rattle.ed_lines.specs.declared.program.Operand.TheVariants.{Number};
 
     ghost is_default = { λ s. (s.letter ≡ 21) × (s.operand ≡ Number 0) };
 
@@ -96,26 +96,6 @@ pub struct Line {
     pub number: u32,
     pub label: Option<Name>,
     pub statement: Option<Statement>,
-}
-
-/// What a line says, without its number: a label, a statement, both or neither.
-#[derive(Drop)]
-pub(crate) struct Form {
-    pub(crate) label: Option<Name>,
-    pub(crate) statement: Option<Statement>,
-}
-
-impl Form {
-    /// The line that says it, with its number.
-    pub(crate) fn line(self, number: u32) -> Line
-        ensures { result ≡ record { number = number; label = self.label; statement = self.statement } }
-    {
-        Line {
-            number,
-            label: self.label,
-            statement: self.statement,
-        }
-    }
 }
 
 /// A source: its version, 1 or 2, and its lines, which have forms of the version's grammar.

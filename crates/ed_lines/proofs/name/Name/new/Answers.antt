@@ -1,6 +1,6 @@
 use Rattle.std.proofs.Common.{arith}
 use Rattle.std.proofs.lemmas.Grind.{common_steps, elements}
-use Rattle.ed_syntax.proofs.name.Name.new.Goals as goal
+use Rattle.ed_lines.proofs.name.Name.new.Goals as goal
 
 pub invariant_of-result : goal.invariant_of-result
 invariant_of-result c = grind (arith, common_steps)

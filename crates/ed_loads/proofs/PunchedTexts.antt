@@ -14,19 +14,19 @@ use Rattle.ed_notation.proofs.Canonical.{are_written}
 use Rattle.ed_notation.proofs.Texts.{are_codes, line_spells, text_reads}
 use Rattle.ed_syntax.specs.Lines.{lines_of}
 use Rattle.ed_syntax.specs.Private.SourceReading.{is_two}
-use Rattle.ed_syntax.specs.Programs.{is_line, is_statement}
-use Rattle.ed_syntax.specs.declared.program.Line.{Line}
-use Rattle.ed_syntax.specs.declared.program.Statement.{Statement}
-use Rattle.ed_syntax.specs.declared.program.Statement.TheVariants.{Rows}
+use Rattle.ed_lines.specs.Programs.{is_line, is_statement}
+use Rattle.ed_lines.specs.declared.program.Line.{Line}
+use Rattle.ed_lines.specs.declared.program.Statement.{Statement}
+use Rattle.ed_lines.specs.declared.program.Statement.TheVariants.{Rows}
 use Rattle.ed_syntax.proofs.Formed.{program_formed}
 use Rattle.ed_syntax.proofs.PartTexts.{each_append}
 use Rattle.ed_syntax.proofs.SourceLaws.{program_is_read}
 use Rattle.ed_link.specs.Linked.{data_after, data_rows}
 use Rattle.ed_link.specs.Punch.{punched_items}
-use Rattle.ed_link.specs.Refusals.{IsAcceptedAs}
+use Rattle.ed_loads.specs.Refusals.{IsAcceptedAs}
 use Rattle.ed_link.specs.Tapes.{after_text, punched_rows, tape}
 use Rattle.ed_link.proofs.Accepted.{can_be_spelled}
-use Rattle.ed_link.proofs.EachSource.{accepted_is_read, tables}
+use Rattle.ed_loads.proofs.EachSource.{accepted_is_read, tables}
 use Rattle.ed_link.proofs.Inductions.{formed_statement}
 use Rattle.ed_link.proofs.Texts.{both_read}
 

@@ -9,21 +9,26 @@ use Rattle.ed_library.specs.Ready.{is_ready}
 use Rattle.ed_syntax.specs.Lines.{lines_of}
 use Rattle.ed_syntax.specs.Sources.{IsProgram, IsProgramOrFault}
 use Rattle.ed_syntax.specs.Private.SourceReading.{is_two, program_of}
-use Rattle.ed_syntax.specs.declared.program.Line.{Line}
-use Rattle.ed_syntax.specs.declared.fault.SourceCause.{SourceCause}
-use Rattle.ed_syntax.specs.declared.fault.SourceFault.{SourceFault}
-use Rattle.ed_syntax.specs.declared.fault.SourceFault.TheVariants.{At, Memory}
+use Rattle.ed_lines.specs.declared.program.Line.{Line}
+use Rattle.ed_lines.specs.declared.fault.SourceCause.{SourceCause}
+use Rattle.ed_lines.specs.declared.fault.SourceFault.{SourceFault}
+use Rattle.ed_lines.specs.declared.fault.SourceFault.TheVariants.{At, Memory}
 use Rattle.ed_syntax.proofs.Formed.{program_formed}
 use Rattle.ed_syntax.proofs.SourceLaws.{has_one_meaning, program_is_read, source_answer}
-use Rattle.ed_link.specs.Answers.{EachSourceComes}
 use Rattle.ed_link.specs.Faults.{IsMeaningFault}
-use Rattle.ed_link.specs.Refusals.{IsAcceptedAs, IsRefused, for_form, for_meaning, IsAcceptedOrRefused}
-use Rattle.ed_link.specs.Refusals.{EachSourceHasOneAnswer}
+use Rattle.ed_loads.specs.Refusals.{IsAcceptedAs, IsRefused, for_form, for_meaning, IsAcceptedOrRefused}
+use Rattle.ed_loads.specs.Refusals.{EachSourceHasOneAnswer}
 use Rattle.ed_link.specs.Private.FaultTests.{fault}
 use Rattle.ed_link.proofs.Accepted.{accepted_law}
-use Rattle.ed_link.proofs.FaultLaw.{FaultIsFound, read_law}
+use Rattle.ed_link.proofs.FaultLaw.{FaultIsFound, fault_law}
+use Rattle.ed_loads.specs.EntryState.{EachSourceComes}
 
 -- ---- accepted or refused
+
+-- the lines of each text that is read have their numbers
+pub read_law : (z : Size) (text : Text) (lines : List Line) → program_of text ≡ Ok lines → FaultIsFound z lines
+read_law z text lines e =
+    fault_law z lines (program_formed (is_two (lines_of text)) (lines_of text) lines e).numbered
 
 -- a source that says some lines is accepted, or their fault is its fault
 of_lines : (z : Size) (text : Text) (two : Bool) (lines : List Line) → IsProgram text two lines
