@@ -89,7 +89,35 @@ def copy(names, to):
     lines = (ROOT / "crates.txt").read_text().splitlines(keepends=True)
     (to / "crates.txt").write_text("".join(line for line in lines if re.split(r"[ :]", line)[0] in names))
     for name in names:
-        shutil.copytree(CRATES / name, to / "crates" / name, ignore=lambda at, found: {"out", "must-fail"} & set(found))
+        copy_crate(name, to)
+
+
+def copy_crate(name, to):
+    """Copies one crate in the same way, beside those that are there."""
+    shutil.copytree(CRATES / name, to / "crates" / name, ignore=lambda at, found: {"out", "must-fail"} & set(found))
+
+
+def kit():
+    """The folder of the kit."""
+    return Path(subprocess.run(["rt", "doc"], capture_output=True, text=True, check=True).stdout.strip()).parent
+
+
+def prover(verb, name, top=ROOT):
+    """The words by which the prover checks or builds a crate, over the libraries that `rt` has built in a repository."""
+    home = kit()
+    lines = (ROOT / "crates.txt").read_text().splitlines()
+    kind, _, others = next(line for line in lines if re.split(r"[ :]", line)[0] == name).partition(":")
+    crates = stands_on()
+    rlib = lambda other: (top / "crates" / other / "out/rlib" if other in crates else home / "rlibs") / f"{other}.rlib"
+    root = "src/main.rt" if (CRATES / name / "src/main.rt").exists() else "src/lib.rt"
+    words = [str(home / "bin/rattle"), verb, "--crate-name", name, root]
+    for other in ["std", *others.split()]:
+        words += ["--extern", f"{other}={rlib(other)}"]
+    for folder in [home / "rlibs", *(rlib(other).parent for other in sorted(below(name, crates)))]:
+        words += ["-L", f"dependency={folder}"]
+    words += ["--crate-type", "staticlib"] * ("staticlib" in kind)
+    logic = ["--antt-project", str(home / "rattle/logic/antt-project.json"), "--logic-built", str(home / "logic_built")]
+    return [*words, *logic]
 
 
 # ---- their code
@@ -198,13 +226,13 @@ def answer(program, words, stdin=b"", **streams):
 
 
 class Run:
-    """A run of `rt` with its log in a file. It ends with this process, however this ends, unless it is killed."""
+    """A run of a command with its log in a file. It ends with this process, however this ends, unless it is killed."""
 
     def __init__(self, words, folder, log):
         self.log = log
         with open(log, "wb") as out:
             self.process = subprocess.Popen(
-                ["rt", *words],
+                words,
                 cwd=folder,
                 stdin=subprocess.DEVNULL,
                 stdout=out,
