@@ -1,3 +1,5 @@
+mod Causes
+mod Loops
 pub mod Steps
 pub mod Spellable
 pub mod Texts

@@ -1,6 +1,5 @@
 use Rattle.std.proofs.Common.{◌∙◌, sym, arith}
-use Rattle.std.proofs.lemmas.Grind.{common_steps}
-use Rattle.ed_symbols.proofs.Least.{is_least_at}
+use Rattle.ed_symbols.proofs.Least.{goes_on, is_least_at, none_left}
 use Rattle.ed_symbols.proofs.places.find_fault.Goals as goal
 
 -- the current line has a fault, and none before it had one
@@ -12,7 +11,17 @@ returns-in-Some c =
 
 -- and the lines that are left have the fault, if the current line has none
 pub loop-line-preserved : goal.loop-line-preserved
-loop-line-preserved c = grind (arith, common_steps)
+loop-line-preserved c =
+    let l = c.loop-line in
+    let counter = c.after_statement-counter.ensures in (
+      goes_on c.args.symbols.now l.earlier.items l.counter c.deref-line-items.ensures.value c.loop-line-test.true
+          c.line-item.is c.in_ok-again.ensures.again (sym c.cause_of.ensures ∙ c.in_default.is)
+          c.in_ok-again.ensures.symbols counter.is l.invariant.0,
+      omega (arith, counter.place, l.invariant.1),
+      omega (arith, counter.segments, l.invariant.2),
+    )
 
 pub returns : goal.returns
-returns c = grind (arith, common_steps)
+returns c =
+    none_left c.args.symbols.now c.loop-line.earlier.items c.loop-line.counter c.deref-line-items.ensures.value
+    c.loop-line-test.false c.loop-line.invariant.0

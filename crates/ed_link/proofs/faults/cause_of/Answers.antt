@@ -1,0 +1,95 @@
+use Rattle.std.proofs.Common.{◌≡◌, ◌∙◌, ap, refl, rules, true, false}
+use Rattle.std.specs.List.{list_any}
+use Rattle.ed_link.specs.declared.faults.Extent.{Extent}
+use Rattle.ed_link.specs.Private.FaultTests.{extent, overlaps, word_extent}
+use Rattle.ed_link.proofs.Causes.{clear, fails, holds, within}
+use Rattle.ed_link.proofs.faults.cause_of.Goals as goal
+
+pub returns-then-is_outside : goal.returns-then-is_outside
+returns-then-is_outside c = holds _ _ _ c.if-is_outside.ensures
+
+pub returns-then-overlaps : goal.returns-then-overlaps
+returns-then-overlaps c =
+    fails _ _ _ _ c.if-is_outside.ensures
+    (holds _ _ _ (c.if-overlaps.ensures ∙ ap (λ (r : Extent). overlaps r (extent 0 44)) c.reach-reach.ensures))
+
+pub returns-then-overlaps-2 : goal.returns-then-overlaps-2
+returns-then-overlaps-2 c =
+    clear _ _ _ _ _ _ _ c.reach-reach.ensures c.if-is_outside.ensures c.if-overlaps.ensures
+    (holds _ _ _ (c.if-overlaps-2.ensures ∙ ap (λ (r : Extent). overlaps r (extent 44 56)) c.reach-reach.ensures))
+
+pub returns-then-overlaps-3 : goal.returns-then-overlaps-3
+returns-then-overlaps-3 c =
+    let r = c.reach-reach.ensures in
+    let n = c.from.ensures ∙ c.value.ensures.is in
+    clear _ _ _ _ _ _ _ r c.if-is_outside.ensures c.if-overlaps.ensures
+    (fails _ _ _ _ (c.if-overlaps-2.ensures ∙ ap (λ (r : Extent). overlaps r (extent 44 56)) r)
+    (holds _ _ _ (c.if-overlaps-3.ensures ∙ (λ i. overlaps (r i) (extent (n i) (r i).after)))))
+
+pub returns-then-overlaps_any : goal.returns-then-overlaps_any
+returns-then-overlaps_any c =
+    let n = c.from.ensures ∙ c.value.ensures.is in
+    let words = word_extent c.args.line.now.statement c.args.counter in
+    let overlap : true ≡ list_any (λ other. overlaps words other) c.args.past.now.extents.items = search rules in
+    within _ _ _ _ _ _ _ _ _ _ _ c.reach-reach.ensures n c.if-is_outside.ensures c.if-overlaps.ensures
+    c.if-overlaps-2.ensures c.if-overlaps-3.ensures
+    (holds _ _ _ overlap)
+
+pub returns-then-has_no_routine : goal.returns-then-has_no_routine
+returns-then-has_no_routine c =
+    let n = c.from.ensures ∙ c.value.ensures.is in
+    let words = word_extent c.args.line.now.statement c.args.counter in
+    let apart : false ≡ list_any (λ other. overlaps words other) c.args.past.now.extents.items = search rules in
+    within _ _ _ _ _ _ _ _ _ _ _ c.reach-reach.ensures n c.if-is_outside.ensures c.if-overlaps.ensures
+    c.if-overlaps-2.ensures c.if-overlaps-3.ensures
+    (fails _ _ _ _ apart
+    (holds _ _ _ c.if-has_no_routine.ensures))
+
+pub returns-then-sets_otherwise : goal.returns-then-sets_otherwise
+returns-then-sets_otherwise c =
+    let n = c.from.ensures ∙ c.value.ensures.is in
+    let words = word_extent c.args.line.now.statement c.args.counter in
+    let apart : false ≡ list_any (λ other. overlaps words other) c.args.past.now.extents.items = search rules in
+    within _ _ _ _ _ _ _ _ _ _ _ c.reach-reach.ensures n c.if-is_outside.ensures c.if-overlaps.ensures
+    c.if-overlaps-2.ensures c.if-overlaps-3.ensures
+    (fails _ _ _ _ apart
+    (fails _ _ _ _ c.if-has_no_routine.ensures
+    (holds _ _ _ c.if-sets_otherwise.ensures)))
+
+pub returns-then-is_misplaced : goal.returns-then-is_misplaced
+returns-then-is_misplaced c =
+    let n = c.from.ensures ∙ c.value.ensures.is in
+    let words = word_extent c.args.line.now.statement c.args.counter in
+    let apart : false ≡ list_any (λ other. overlaps words other) c.args.past.now.extents.items = search rules in
+    within _ _ _ _ _ _ _ _ _ _ _ c.reach-reach.ensures n c.if-is_outside.ensures c.if-overlaps.ensures
+    c.if-overlaps-2.ensures c.if-overlaps-3.ensures
+    (fails _ _ _ _ apart
+    (fails _ _ _ _ c.if-has_no_routine.ensures
+    (fails _ _ _ _ c.if-sets_otherwise.ensures
+    (holds _ _ _ c.if-is_misplaced.ensures))))
+
+pub returns-then-has_sandwich : goal.returns-then-has_sandwich
+returns-then-has_sandwich c =
+    let n = c.from.ensures ∙ c.value.ensures.is in
+    let words = word_extent c.args.line.now.statement c.args.counter in
+    let apart : false ≡ list_any (λ other. overlaps words other) c.args.past.now.extents.items = search rules in
+    within _ _ _ _ _ _ _ _ _ _ _ c.reach-reach.ensures n c.if-is_outside.ensures c.if-overlaps.ensures
+    c.if-overlaps-2.ensures c.if-overlaps-3.ensures
+    (fails _ _ _ _ apart
+    (fails _ _ _ _ c.if-has_no_routine.ensures
+    (fails _ _ _ _ c.if-sets_otherwise.ensures
+    (fails _ _ _ _ c.if-is_misplaced.ensures
+    (holds _ _ _ c.if-has_sandwich.ensures)))))
+
+pub returns-else-has_sandwich : goal.returns-else-has_sandwich
+returns-else-has_sandwich c =
+    let n = c.from.ensures ∙ c.value.ensures.is in
+    let words = word_extent c.args.line.now.statement c.args.counter in
+    let apart : false ≡ list_any (λ other. overlaps words other) c.args.past.now.extents.items = search rules in
+    within _ _ _ _ _ _ _ _ _ _ _ c.reach-reach.ensures n c.if-is_outside.ensures c.if-overlaps.ensures
+    c.if-overlaps-2.ensures c.if-overlaps-3.ensures
+    (fails _ _ _ _ apart
+    (fails _ _ _ _ c.if-has_no_routine.ensures
+    (fails _ _ _ _ c.if-sets_otherwise.ensures
+    (fails _ _ _ _ c.if-is_misplaced.ensures
+    (fails _ _ _ _ c.if-has_sandwich.ensures refl)))))
