@@ -1,0 +1,47 @@
+-- What calls of devices over memory take and give, and whether their number is in the list of those that fail.
+use Rattle.std.proofs.Common.{ℕ, ◌≡◌, ◌≤◌, ◌<◌, ◌+◌, ◌-◌, ◌++◌, ◌∙◌, List, [], ◌∷◌, true, false, min, take, drop}
+use Rattle.std.proofs.Common.{length, get_or, sym, ap, refl, arith}
+use Rattle.std.specs.Prelude.{◌==◌}
+use Rattle.std.specs.List.{Contains}
+use Rattle.std.proofs.lemmas.Bool.Decides.{Decides-eqb}
+use Rattle.std.proofs.lemmas.List.{drop-drop, take-append-drop, take_rest}
+
+-- the number is in the list
+pub is_among : {read xs : List ℕ} {x : ℕ} (k : ℕ) → read ≡ xs → k < length read → (get_or read k x == x) ≡ true
+    → Contains xs x
+is_among {read} {xs} {x} k e within found = rw (← e) (k, within, (Decides-eqb (get_or read k x) x).0 found)
+
+-- the number is not in the list
+pub none_among : {read xs : List ℕ} {x : ℕ} → read ≡ xs
+    → ((k d : ℕ) → 0 ≤ k → k < length read → (get_or read k d == x) ≡ false)
+    → Contains xs x → false ≡ true
+none_among {read} {xs} {x} e none among =
+    let here : Contains read x = rw e among in
+    sym (none here.0 x (omega arith) here.1) ∙ (Decides-eqb (get_or read here.0 x) x).1 here.2
+
+none_left : (xs : List ℕ) → length xs ≡ 0 → xs ≡ []
+none_left [] e = refl
+none_left (x ∷ xs) e = absurd (omega arith)
+
+-- the first n of the bytes from `at` onwards stand at the front of a piece; n is 0 only if there is none or the piece is
+-- empty
+pub record HandsOver (at n : ℕ) (bytes into : List ℕ) : Type 0 where
+  pub within : n ≤ length into
+  pub whole : drop at bytes ≡ take n into ++ drop (at + n) bytes
+  pub ends : n ≡ 0 → 0 < length into → drop at bytes ≡ []
+
+pub hands_over : {at n most : ℕ} {read bytes into : List ℕ} (old : List ℕ) → read ≡ bytes
+    → n ≡ min most (min (length old) (length (take (length read - at) (drop at read))))
+    → take n into ≡ take n (take (length read - at) (drop at read))
+    → length into ≡ length old → 0 < most → HandsOver at n bytes into
+hands_over {at} {n} {most} {read} {bytes} {into} old e count front same some =
+    let rest = take_rest read at in
+    let many : n ≡ min most (min (length old) (length (drop at read))) = rw rest at count in
+    let first : take n into ≡ take n (drop at read) = rw rest at front in
+    rw (← e) (record {
+      within = omega arith;
+      whole = sym (ap (λ (l : List ℕ). l ++ drop (at + n) read) first
+          ∙ ap (λ (l : List ℕ). take n (drop at read) ++ l) (sym (drop-drop n at read))
+          ∙ take-append-drop n (drop at read));
+      ends = λ z l. none_left (drop at read) (omega arith);
+    })
