@@ -1,15 +1,14 @@
 -- Letters of a trace, one after the other.
 use Rattle.std.proofs.Common.{◌≡◌, ◌∙◌, ℕ, zero, suc, ◌+◌, refl, sym, ap, arith, add-one, List}
 use Rattle.std.proofs.Common.{[], ◌∷◌, ◌++◌, length, append_assoc, append-nil, length-append}
-use Rattle.std.proofs.Common.{Bool, false, ◌<◌, ◌≤◌, drop, get_or}
-use Rattle.std.specs.Prelude.{if◌then◌else◌}
-use Rattle.std.proofs.lemmas.List.{at_drop_all, at_drop_more}
+use Rattle.std.proofs.Common.{Bool, false, ◌<◌, drop, get_or}
+use Rattle.std.proofs.lemmas.List.{at_drop_more}
 use Rattle.ed_codes.specs.Spelling.{byte_of}
 use Rattle.ed_words.specs.Words.{function_of}
 use Rattle.ed_machine.specs.State.{State}
 use Rattle.ed_machine.specs.OrderTable.{next_word}
 use Rattle.ed_machine.specs.Steps.{state_after}
-use Rattle.ed_report.specs.Traces.{functions_after, is_full, letters_from, line_end, trace_text, traced_letter}
+use Rattle.ed_report.specs.Traces.{functions_after, is_full, letters_from, line_end, traced_letter}
 
 -- one letter more
 pub letters_more : (n : ℕ) (fs : List ℕ) (f : ℕ)
@@ -28,15 +27,6 @@ pub next_lettered : (before : List ℕ) {after whole : List ℕ} (fs : List ℕ)
     → after ++ letters_from (i + 1) (drop (i + 1) fs) ≡ whole
 next_lettered before {after} {whole} fs {i} {f} start within at letter full ends added =
     rw (added, ← ends, letter, ← start, at_drop_more (letters_from i) fs i f within, ← at) (simp append_assoc)
-
--- a text that has the letters of all functions, after the end of its last line
-pub all_lettered : (before : List ℕ) {after : List ℕ} (fs : List ℕ) {i : ℕ}
-    → before ++ letters_from i (drop i fs) ≡ letters_from 0 fs → length fs ≤ i → (full : Bool) → is_full (length fs) ≡ full
-    → after ≡ before ++ (if full then [] else 10 ∷ []) → after ≡ trace_text fs
-all_lettered before {after} fs {i} start end full ends added =
-    let none : letters_from i (drop i fs) ≡ [] = at_drop_all (letters_from i) fs i end in
-    let all : before ≡ letters_from 0 fs = sym (append-nil before) ∙ ap (λ (l : List ℕ). before ++ l) (sym none) ∙ start in
-    rw (added, ← ends, all) refl
 
 -- the functions of one order more
 pub next_functions : (k : ℕ) (s : State)
