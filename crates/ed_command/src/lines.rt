@@ -8,6 +8,15 @@ use crate::options::Options;
 use ed_call::Call;
 use ed_words::{number, number_within};
 
+/// All the options. The commands that run a tape or a source have them.
+const ALL: &[&str] = &["limit", "resume", "post-mortem", "store"];
+
+/// The one option of the commands that run a script, a tape in parts, or a source of the program's own.
+const LIMIT: &[&str] = &["limit"];
+
+/// The one option of the commands that run nothing and depend on the size of the store.
+const STORE: &[&str] = &["store"];
+
 /// The command of the words that belong to no option, and the options.
 pub(crate) fn command_of(words: &[&str], options: &Options<'_>) -> Option<Command>
     ensures { result ≡ command_of (map (λ w. w.now) words.now) (options_in options.now) }
@@ -21,32 +30,22 @@ fn command_named(word: &str, arguments: &[&str], options: &Options<'_>) -> Optio
     ensures { result ≡ command_named word.now (map (λ a. a.now) arguments.now) (options_in options.now) }
 {
     match word {
-        "tape" => plain(
-            &["limit", "resume", "post-mortem", "store"],
-            options,
-            Action::Tape,
-            arguments,
-        ),
-        "check-tape" => plain(&["store"], options, Action::CheckTape, arguments),
-        "run" => plain(
-            &["limit", "resume", "post-mortem", "store"],
-            options,
-            Action::Run,
-            arguments,
-        ),
-        "punch" => plain(&["store"], options, Action::Punch, arguments),
-        "listing" => plain(&["store"], options, Action::Listing, arguments),
-        "step" => plain(&["limit"], options, Action::Step, arguments),
+        "tape" => plain(ALL, options, Action::Tape, arguments),
+        "check-tape" => plain(STORE, options, Action::CheckTape, arguments),
+        "run" => plain(ALL, options, Action::Run, arguments),
+        "punch" => plain(STORE, options, Action::Punch, arguments),
+        "listing" => plain(STORE, options, Action::Listing, arguments),
+        "step" => plain(LIMIT, options, Action::Step, arguments),
         "trace" => plain(
             &["limit", "resume", "store"],
             options,
             Action::Trace,
             arguments,
         ),
-        "call" => with_only(&["limit"], options, call(arguments)),
+        "call" => with_only(LIMIT, options, call(arguments)),
         "library" => plain(&[], options, Action::Library, arguments),
-        "demo" => with_only(&["limit"], options, demo(arguments)),
-        "parts" => plain(&["limit"], options, Action::Parts, arguments),
+        "demo" => with_only(LIMIT, options, demo(arguments)),
+        "parts" => plain(LIMIT, options, Action::Parts, arguments),
         "tape1" => plain(&["limit", "resume"], options, Action::Tape1, arguments),
         "check-tape1" => plain(&[], options, Action::CheckTape1, arguments),
         _ => None,

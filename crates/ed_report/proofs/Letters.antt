@@ -1,11 +1,14 @@
 -- Letters of a trace, one after the other.
 use Rattle.std.proofs.Common.{◌≡◌, ◌∙◌, ℕ, zero, suc, ◌+◌, refl, sym, ap, arith, add-one, List}
 use Rattle.std.proofs.Common.{[], ◌∷◌, ◌++◌, length, append_assoc, append-nil, length-append}
+use Rattle.std.proofs.Common.{Bool, false, ◌<◌, drop, get_or}
+use Rattle.std.proofs.lemmas.List.{at_drop_more}
+use Rattle.ed_codes.specs.Spelling.{byte_of}
 use Rattle.ed_words.specs.Words.{function_of}
 use Rattle.ed_machine.specs.State.{State}
 use Rattle.ed_machine.specs.OrderTable.{next_word}
 use Rattle.ed_machine.specs.Steps.{state_after}
-use Rattle.ed_report.specs.Traces.{functions_after, traced_letter, letters_from}
+use Rattle.ed_report.specs.Traces.{functions_after, is_full, letters_from, line_end, traced_letter}
 
 -- one letter more
 pub letters_more : (n : ℕ) (fs : List ℕ) (f : ℕ)
@@ -16,6 +19,14 @@ letters_more n (g ∷ fs) f =
     ap (λ t. traced_letter (n + 1) g ++ t)
     (letters_more (n + 1) fs f ∙ ap (λ k. letters_from (n + 1) fs ++ traced_letter k f) e)
     ∙ sym (append_assoc (traced_letter (n + 1) g) (letters_from (n + 1) fs) (traced_letter (n + length (g ∷ fs) + 1) f))
+
+-- a text that has the letters of the first i functions, after the letter of the next one
+pub next_lettered : (before : List ℕ) {after whole : List ℕ} (fs : List ℕ) {i f byte : ℕ}
+    → before ++ letters_from i (drop i fs) ≡ whole → i < length fs → f ≡ get_or fs i f → byte ≡ byte_of f false
+    → (full : Bool) → is_full (i + 1) ≡ full → after ≡ (before ++ byte ∷ []) ++ line_end full
+    → after ++ letters_from (i + 1) (drop (i + 1) fs) ≡ whole
+next_lettered before {after} {whole} fs {i} {f} start within at letter full ends added =
+    rw (added, ← ends, letter, ← start, at_drop_more (letters_from i) fs i f within, ← at) (simp append_assoc)
 
 -- the functions of one order more
 pub next_functions : (k : ℕ) (s : State)
