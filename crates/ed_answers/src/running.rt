@@ -98,12 +98,27 @@ pub fn post_mortem_reply(
       status = status_of ran.ending;
     })) }
 {
-    let after = post_mortem_of(alloc, settings.post_mortem, &mut ran.machine)?;
+    let out = papers_of(alloc, settings.post_mortem, &mut ran)?;
     Ok(Reply {
-        out: papers_text(alloc, ran.paper.codes(), after.codes())?,
+        out,
         note,
         status: status_of(ran.ending),
     })
+}
+
+/// The text of a run's paper, and of the post-mortem in a window after it.
+fn papers_of(
+    alloc: Global,
+    window: Option<Window>,
+    ran: &mut FinishedRun,
+) -> Result<Vec<u8>, NoMemory>
+    requires window { IfSome window (IsWindowOf ran.old.machine.size) }
+    requires orders { ran.old.machine.orders + 300000 ≤ 2 ^ 63 }
+    ensures text { IfOk result (λ v. v.items ≡ paper (ran.old.paper.codes ++ post_mortem_codes window ran.old.machine)) }
+    ensures same { ran.new.ending ≡ ran.old.ending }
+{
+    let after = post_mortem_of(alloc, window, &mut ran.machine)?;
+    papers_text(alloc, ran.paper.codes(), after.codes())
 }
 
 /// The paper of a post-mortem of the words in a window, or an empty one without a window.

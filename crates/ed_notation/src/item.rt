@@ -18,7 +18,6 @@ pub struct Item {
 }
 
 /// Whether an item can be spelled: callers test with it what the calls that spell items require.
-#[tactic(auto, using(crate::proofs::Canonical::spellable_law))]
 pub fn spellable(item: &Item) -> bool
     ensures is { result ≡ is_spellable item.now }
     ensures law { SpellableIsSpelled item.now }

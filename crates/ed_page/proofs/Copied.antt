@@ -52,5 +52,6 @@ pub four_pushed : (none one two three four a b c d : List ℕ) (r : Result (Unit
     → IfOk r (λ _. four ≡ none ++ (a ++ (b ++ (c ++ d))))
 four_pushed none one two three four a b c d (Ok u) first second third fourth =
     fourth ∙ ap (λ (t : List ℕ). t ++ d) (third ∙ ap (λ (t : List ℕ). t ++ c) (second
-    ∙ ap (λ (t : List ℕ). t ++ b) first)) ∙ simp append_assoc
+    ∙ ap (λ (t : List ℕ). t ++ b) first)) ∙ append_assoc ((none ++ a) ++ b) c d ∙ append_assoc (none ++ a) b (c ++ d)
+    ∙ append_assoc none a (b ++ (c ++ d))
 four_pushed none one two three four a b c d (Err e) first second third fourth = tt

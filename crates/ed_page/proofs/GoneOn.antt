@@ -1,5 +1,5 @@
 -- From a run that continued to the cause of an answer.
-use Rattle.std.proofs.Common.{◌≡◌, ◌∙◌, ℕ, ◌+◌, ◌-◌, ◌<◌, refl, sym, ap, subst, arith, lit<, List, [], length}
+use Rattle.std.proofs.Common.{◌≡◌, ◌≢◌, ◌⊎◌, inl, inr, ◌∙◌, ℕ, ◌+◌, ◌-◌, ◌<◌, refl, sym, ap, subst, arith, lit<, List, [], length}
 use Rattle.ed_machine.specs.State.{State}
 use Rattle.ed_machine.specs.declared.ending.Ending.{Ending}
 use Rattle.ed_machine.specs.declared.ending.Ending.TheVariants.{Stopped, Limit, NoOrder, NoTape, PaperFull}
@@ -23,6 +23,12 @@ low_status Limit = lit< tt
 low_status NoOrder = lit< tt
 low_status NoTape = lit< tt
 low_status PaperFull = lit< tt
+
+-- a buffer of the store has the wrong length
+pub no_store_room : (b : GoingBuffers)
+    → (length b.words ≢ 1024) ⊎ ((length b.words ≡ 1024) × (length b.digits ≢ 512)) → HasStoreRoom b → ⊥
+no_store_room b (inl words) room = words room.0
+no_store_room b (inr digits) room = digits.1 room.1
 
 -- there was no room
 pub gone_nowhere : (r : RunEnd) (before : GoingBuffers) → (HasStoreRoom before → ⊥) → IsGoneOn r before before 12

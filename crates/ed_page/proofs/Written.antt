@@ -1,6 +1,7 @@
 -- From what was written into buffers to the cause of an answer.
-use Rattle.std.proofs.Common.{◌≡◌, ◌≢◌, ◌∙◌, ◌≤◌, ℕ, true≢false, inl, inr, refl, subst, sym, arith}
+use Rattle.std.proofs.Common.{◌≡◌, ◌≢◌, ◌⊎◌, ◌∙◌, ◌<◌, ◌≤◌, ℕ, true≢false, inl, inr, refl, subst, sym, arith}
 use Rattle.std.proofs.Common.{Option, None, List, length}
+use Rattle.std.proofs.lemmas.Bool.{cases_lt}
 use Rattle.std.specs.Prelude.{◌↔◌, IfSome, IsTrue, Result, Ok, Err, Bool, false}
 use Rattle.ed_words.specs.declared.memory.NoMemory.{NoMemory}
 use Rattle.ed_machine.specs.State.{State}
@@ -34,6 +35,19 @@ told_room o told out note g room = (
 -- a test that failed refutes what it says
 pub refuted : {P : Type 0} (b : Bool) → b ≡ false → (IsTrue b ↔ P) → P → ⊥
 refuted b e test p = true≢false (sym (test.1 p) ∙ e)
+
+same_number : (m n : ℕ) → ((m ≢ n) → ⊥) → (m < n) ⊎ (n ≤ m) → (n < m) ⊎ (m ≤ n) → m ≡ n
+same_number m n h (inl less) other = absurd (h (λ e. omega (arith, less, e)))
+same_number m n h (inr most) (inl less) = absurd (h (λ e. omega (arith, less, e)))
+same_number m n h (inr most) (inr least) = omega (arith, most, least)
+
+-- the buffers of the store have their lengths if no test of them failed
+pub store_lengths : {P : Type 0} (words digits : List ℕ)
+    → ((length words ≢ 1024) ⊎ ((length digits ≢ 512) ⊎ P) → ⊥) → (length words ≡ 1024) × (length digits ≡ 512)
+store_lengths words digits none = (
+  same_number _ _ (λ no. none (inl no)) (cases_lt (length words) 1024) (cases_lt 1024 (length words)),
+  same_number _ _ (λ no. none (inr (inl no))) (cases_lt (length digits) 512) (cases_lt 512 (length digits)),
+)
 
 twelve : ◌≢◌ {A = ℕ} 12 10
 twelve e = cc

@@ -1,5 +1,5 @@
 -- At the entry of a source that enters the checking routine the routine is at the start of a turn, with the guest at H.
-use Rattle.std.proofs.Common.{◌≡◌, ◌∙◌, ℕ, ◌+◌, ◌-◌, ◌*◌, ◌/◌, ◌%◌, ◌^◌, ◌<◌, ◌≤◌}
+use Rattle.std.proofs.Common.{◌≡◌, ◌∙◌, ℕ, ◌+◌, ◌*◌, ◌/◌, ◌%◌, ◌^◌, ◌<◌, ◌≤◌}
 use Rattle.std.proofs.Common.{refl, sym, ap, subst, arith, lit<}
 use Rattle.std.proofs.Common.{Bool, true, false, true≢false, ◌||◌, nat_eq, List}
 use Rattle.std.proofs.Common.{◌++◌, get_or, length, map}
@@ -12,7 +12,6 @@ use Rattle.ed_words.specs.Words.{address_of, long_of_halves}
 use Rattle.ed_words.proofs.SizeLemmas.{most}
 use Rattle.ed_words.specs.Texts.{Text}
 use Rattle.ed_words.specs.declared.order_words.TheConstants.{A_F}
-use Rattle.ed_codes.specs.Text.{row}
 use Rattle.ed_codes.proofs.Below.{from_below}
 use Rattle.ed_store.specs.Cells.{even, long_at, odd, sandwich_at, short_at}
 use Rattle.ed_machine.specs.State.{State}

@@ -1,12 +1,12 @@
 -- What a call that writes a program's text answers.
-use Rattle.std.proofs.Common.{◌≡◌, ◌∙◌, inl, ℕ, List, [], ◌∷◌, ◌++◌, ap, sym, refl, subst, append_assoc, append-nil}
-use Rattle.std.specs.Prelude.{Result, Ok, Err, None, Some, IfOk, IfSome, String, string_bytes}
+use Rattle.std.proofs.Common.{◌≡◌, ◌∙◌, inl, ℕ, List, [], ◌∷◌, ◌++◌, ap, sym, refl, subst, append_assoc}
+use Rattle.std.specs.Prelude.{Option, Result, Ok, Err, None, Some, IfOk, IfSome, String, string_bytes}
 use Rattle.std.specs.declared.alloc.AllocError.{AllocError}
 use Rattle.std.specs.declared.alloc.Global.{Global}
 use Rattle.ed_words.specs.Texts.{Text}
 use Rattle.ed_command.specs.declared.command.Settings.{Settings}
-use Rattle.ed_sources.specs.Calls.{text_of_lines, woven_text}
-use Rattle.ed_programs.specs.Programs.{GivesProgram, AnswersWritten, SourceRuns}
+use Rattle.ed_sources.specs.Calls.{text_of_lines}
+use Rattle.ed_programs.specs.Programs.{AnswersWritten, GivesProgram, Prints, SourceRuns}
 use Rattle.ed_programs.specs.declared.refusal.Refusal.{Refusal}
 
 -- the answer is what `format!` wrote
@@ -31,33 +31,8 @@ pub runs_as : {orders at : ℕ} {text printed : Text} {program : Text} → progr
 runs_as {orders} {at} {printed = printed} is law s =
     subst (λ (t : Text). SourceRuns s t orders at printed) (sym is) (law s)
 
--- ---- data with one text between each two of them
-
-abbrev pub joined : Text → Text → List Text → Text
-joined next t [] = t
-joined next t (u ∷ us) = t ++ (next ++ joined next u us)
-
--- the text before each of them, and then other pieces
-abbrev pub nexts : Text → List Text → List Text → List Text
-nexts next [] pieces = pieces
-nexts next (t ∷ ts) pieces = next ∷ nexts next ts pieces
-
-woven_joined : (next head t : Text) (ts pieces ds : List Text)
-    → woven_text (head ∷ nexts next ts pieces) (t ∷ (ts ++ ds)) ≡ head ++ (joined next t ts ++ woven_text pieces ds)
-woven_joined next head t [] pieces ds = refl
-woven_joined next head t (u ∷ us) pieces ds =
-    let j : Text = joined next u us in
-    let w : Text = woven_text pieces ds in
-    ap (λ (x : Text). head ++ (t ++ x)) (woven_joined next next u us pieces ds)
-    ∙ ap (λ (x : Text). head ++ x) (sym (append_assoc t (next ++ j) w
-    ∙ ap (λ (x : Text). t ++ x) (append_assoc next j w)))
-
--- they are written in two halves
-pub halves : (next head tail t u : Text) (ts us : List Text) {x y : Text} → x ≡ joined next t ts → y ≡ joined next u us
-    → head ++ (x ++ (next ++ (y ++ tail)))
-    ≡ woven_text (head ∷ nexts next ts (next ∷ nexts next us (tail ∷ []))) (t ∷ (ts ++ (u ∷ (us ++ []))))
-halves next head tail t u ts us first last =
-    (λ i. head ++ (first i ++ (next ++ (last i ++ tail))))
-    ∙ sym (woven_joined next head t ts (next ∷ nexts next us (tail ∷ [])) (u ∷ (us ++ []))
-    ∙ ap (λ (x : Text). head ++ (joined next t ts ++ x)) (woven_joined next next u us (tail ∷ []) []
-    ∙ ap (λ (x : Text). next ++ (joined next u us ++ x)) (append-nil tail)))
+-- and of what is answered, if a program is answered
+pub prints_as : {orders at : ℕ} {text printed : Text} (cause : Option Refusal) (r : Result (String Global) Refusal)
+    → GivesProgram cause text r → ((s : Settings) → SourceRuns s text orders at printed) → Prints orders at printed r
+prints_as cause (Ok program) is law = runs_as is.1 law
+prints_as cause (Err refusal) is law = tt

@@ -1,7 +1,8 @@
 ghost use Rattle.ed_programs.specs.Greatest.{greatest_orders, greatest_prints, greatest_refusal, greatest_text};
 ghost use Rattle.ed_programs.specs.Programs.{GivesProgram, Prints};
 
-use crate::refusal::Refusal;
+use crate::refusal::{Refusal, program_of_text};
+use crate::woven::with_numbers;
 use std::alloc::Global;
 
 /// The source before the first number and after the last.
@@ -46,11 +47,9 @@ pub fn greatest_program(alloc: Global, numbers: &[u16]) -> Result<String, Refusa
     ensures is { GivesProgram (greatest_refusal numbers.now) (greatest_text numbers.now) result }
     ensures law { Prints (greatest_orders numbers.now) 76 (greatest_prints numbers.now) result }
 {
-    let &[a, b, c, d, e, f, g, h] = numbers else {
+    if numbers.len() != 8 {
         return Err(Refusal::Count);
-    };
+    }
     let [head, tail] = GREATEST;
-    let first = format!(in alloc; "{a}\nword {b}\nword {c}\nword {d}")?;
-    let last = format!(in alloc; "{e}\nword {f}\nword {g}\nword {h}")?;
-    Ok(format!(in alloc; "{head}{first}\nword {last}{tail}")?)
+    program_of_text(with_numbers(alloc, head, numbers, "\nword ", tail))
 }

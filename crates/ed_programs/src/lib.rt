@@ -17,6 +17,7 @@ mod multiply;
 mod refusal;
 mod sort;
 mod squares;
+mod woven;
 
 pub use add::add_program;
 pub use checked::checked_program;

@@ -1,5 +1,6 @@
 -- `demo` is the run of its source, from the state at its entry to its stop.
-use Rattle.std.proofs.Common.{◌≡◌, ◌∙◌, ◌+◌, ◌*◌, arith, List, [], ◌∷◌, ◌++◌, codes}
+use Rattle.std.proofs.Common.{◌≡◌, ◌∙◌, ℕ, ◌+◌, ◌*◌, arith, List, [], ◌∷◌, ◌++◌, codes}
+use Rattle.ed_words.specs.Texts.{Text}
 use Rattle.ed_lines.specs.declared.program.Line.{Line}
 use Rattle.ed_link.specs.Tapes.{cost}
 use Rattle.ed_loads.proofs.EachSource.{read_is_accepted}
@@ -14,10 +15,24 @@ use Rattle.ed_sources.proofs.DemoFaultless.{demo_faultless}
 use Rattle.ed_sources.proofs.Papers.{digits_printed}
 use Rattle.ed_sources.proofs.SaidDemo.{demo_lines}
 use Rattle.ed_top.specs.Demos.{EachDemoRuns, demo_orders}
+use Rattle.ed_answers.specs.Outcome.{Outcome}
 use Rattle.ed_answers.specs.Headline.{RunsFromEntry}
 use Rattle.ed_answers.specs.Sources.{run_outcome}
 use Rattle.ed_answers.proofs.Sources.{accepted_is, headline}
 use Rattle.ed_top.proofs.Stopped.{stopped_outcome}
+
+-- the outcome of a run that was entered at a location after k orders, and stopped after more
+abbrev stopped : Text → (entry k orders : ℕ) → Outcome
+stopped text entry k orders = record {
+  out = text;
+  note = entry_note entry k ++ (at_after (codes "stopped") 69 orders ++ 10 ∷ []);
+  status = 0;
+}
+
+same_outcome : (o : Outcome) (text other : Text) (entry at k orders more : ℕ) → o ≡ stopped text entry k orders
+    → text ≡ other → entry ≡ at → orders ≡ more → o ≡ stopped other at k more
+same_outcome o text other entry at k orders more is printed place count =
+    is ∙ (λ i. stopped (printed i) (place i) k (count i))
 
 pub each_demo_runs : EachDemoRuns
 each_demo_runs s n some few fits =
@@ -36,13 +51,9 @@ each_demo_runs s n some few fits =
           omega arith in
           let printed = digits_printed (demo_sum n) (sum_small n few) in
           let at = demo_entry n some few in
-          stopped_outcome s entry (demo_ends s.size n some few fits) (omega (arith, digit_count)) none plain
-          (omega (arith, enough, count))
-          ∙ (λ i. record {
-            out = printed i;
-            note = entry_note (at i) (cost lines) ++ (at_after (codes "stopped") 69 (count i) ++ 10 ∷ []);
-            status = 0;
-          });
+          let ends = stopped_outcome s entry (demo_ends s.size n some few fits) (omega (arith, digit_count)) none plain
+          (omega (arith, enough, count)) in
+          same_outcome (run_outcome s lines) _ _ _ _ (cost lines) _ _ ends printed at count;
       cheap =
           let most = entry.enters.cheap in
           let rows = demo_rows n some few in

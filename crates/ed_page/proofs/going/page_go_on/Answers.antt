@@ -1,5 +1,6 @@
+use Rattle.ed_page.specs.Going.{going_buffers}
 use Rattle.ed_page.proofs.Goes.{going_law}
-use Rattle.ed_page.proofs.GoneOn.{next_on}
+use Rattle.ed_page.proofs.GoneOn.{gone_nowhere, gone_shown, gone_unmade, next_on, no_store_room}
 use Rattle.ed_page.proofs.going.page_go_on.Goals as goal
 
 pub returns-then-words-ne1024-clause-law : goal.returns-then-words-ne1024-clause-law
@@ -16,3 +17,24 @@ returns-in-Ok-clause-law c = going_law
 
 pub returns-in-Err-clause-law : goal.returns-in-Err-clause-law
 returns-in-Err-clause-law c = going_law
+
+pub returns-then-words-ne1024-clause-gone : goal.returns-then-words-ne1024-clause-gone
+returns-then-words-ne1024-clause-gone c first begins k pictured =
+    let before =
+    going_buffers c.args.words.now c.args.digits.now c.args.codes.now c.args.registers.now in
+    gone_nowhere _ before (no_store_room before c.then-words-ne1024.either)
+
+pub returns-in-Ok-clause-gone : goal.returns-in-Ok-clause-gone
+returns-in-Ok-clause-gone c first begins k pictured =
+    gone_shown _ _ _ _ (c.if-words-ne1024.false, c.if-digits-ne512.false)
+    (c.show.ensures _ (c.in-Ok.ensures.gone first begins k pictured))
+
+pub returns-in-Err-clause-gone : goal.returns-in-Err-clause-gone
+returns-in-Err-clause-gone c first begins k pictured =
+    gone_unmade _ _ (c.if-words-ne1024.false, c.if-digits-ne512.false)
+
+pub returns-then-words-ne1024-clause-next : goal.returns-then-words-ne1024-clause-next
+returns-then-words-ne1024-clause-next c first begins way = way
+
+pub returns-in-Err-clause-next : goal.returns-in-Err-clause-next
+returns-in-Err-clause-next c first begins way = way

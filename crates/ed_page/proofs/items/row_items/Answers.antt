@@ -1,4 +1,5 @@
 use Rattle.std.proofs.Common.{List, ℕ, subst}
+use Rattle.std.proofs.lemmas.Result.{err_from_is_err_and}
 use Rattle.std.specs.Prelude.{Err}
 use Rattle.ed_notation.specs.declared.cause.TapeFault.{TapeFault}
 use Rattle.ed_notation.specs.declared.cause.TapeFault.TheVariants.{At}
@@ -39,3 +40,21 @@ item_table-requires c = first_within _ _ c.args.rows.now c.requires
 
 pub item_table-requires-in-Err-At : goal.item_table-requires-in-Err-At
 item_table-requires-in-Err-At c = first_within _ _ c.args.rows.now c.requires
+
+pub returns-in_err-item_table-in-Ok : goal.returns-in_err-item_table-in-Ok
+returns-in_err-item_table-in-Ok c =
+    rw (err_from_is_err_and c.from_residual.result c.from_residual.ensures.1).1 tt
+
+pub returns-in_err-items-in-Err-At : goal.returns-in_err-items-in-Err-At
+returns-in_err-items-in-Err-At c =
+    let r = c.from_residual-in_err-items-in-Err-At in rw (err_from_is_err_and r.result r.ensures.1).1 tt
+
+pub returns-in_err-tape_fault-in-Err-At : goal.returns-in_err-tape_fault-in-Err-At
+returns-in_err-tape_fault-in-Err-At c =
+    let r = c.from_residual-in_err-tape_fault-in-Err-At in rw (err_from_is_err_and r.result r.ensures.1).1 tt
+
+pub tape_fault-requires : goal.tape_fault-requires
+tape_fault-requires c e = cc
+
+pub returns-in-Err-Memory : goal.returns-in-Err-Memory
+returns-in-Err-Memory c = tt

@@ -12,7 +12,7 @@ use Rattle.ed_page.proofs.Goes.{from_start}
 use Rattle.ed_page.proofs.GoneOn.{begins_on}
 use Rattle.ed_page.proofs.RowCodes.{read_codes}
 use Rattle.ed_page.proofs.TapeRows.{each_run_reads_on}
-use Rattle.ed_page.proofs.Written.{drawn_shown, picture_early, picture_unmade, refuted}
+use Rattle.ed_page.proofs.Written.{drawn_shown, picture_early, picture_unmade, refuted, store_lengths}
 use Rattle.ed_page.proofs.pictures.page_tape.Goals as goal
 
 pub returns-in-Ok-clause-shown : goal.returns-in-Ok-clause-shown
@@ -62,3 +62,13 @@ returns-in-Err-clause-next c codes is few not10 not12 = absurd (not10 refl)
 
 pub tape_shown-requires : goal.tape_shown-requires
 tape_shown-requires c = ap (λ (s : Settings). s.post_mortem) c.run_settings.ensures
+
+pub show-requires-clause-words : goal.show-requires-clause-words
+show-requires-clause-words c =
+    (store_lengths c.args.words.now c.args.digits.now
+    (refuted c.lacks_room.result c.if-lacks_room.false c.lacks_room.ensures)).0
+
+pub show-requires-clause-digits : goal.show-requires-clause-digits
+show-requires-clause-digits c =
+    (store_lengths c.args.words.now c.args.digits.now
+    (refuted c.lacks_room.result c.if-lacks_room.false c.lacks_room.ensures)).1

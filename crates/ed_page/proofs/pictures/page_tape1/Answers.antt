@@ -11,7 +11,7 @@ use Rattle.ed_page.proofs.Goes.{from_start1}
 use Rattle.ed_page.proofs.GoneOn.{begins_on}
 use Rattle.ed_page.proofs.RowCodes.{read_codes}
 use Rattle.ed_page.proofs.TapeRows.{each_run1_reads_on}
-use Rattle.ed_page.proofs.Written.{drawn_shown, picture_early, picture_unmade, refuted}
+use Rattle.ed_page.proofs.Written.{drawn_shown, picture_early, picture_unmade, refuted, store_lengths}
 use Rattle.ed_page.proofs.pictures.page_tape1.Goals as goal
 
 pub returns-in-Ok-clause-shown : goal.returns-in-Ok-clause-shown
@@ -58,3 +58,13 @@ returns-then-lacks_room-clause-next c codes is few not10 not12 = absurd (not12 r
 
 pub returns-in-Err-clause-next : goal.returns-in-Err-clause-next
 returns-in-Err-clause-next c codes is few not10 not12 = absurd (not10 refl)
+
+pub show-requires-clause-words : goal.show-requires-clause-words
+show-requires-clause-words c =
+    (store_lengths c.args.words.now c.args.digits.now
+    (refuted c.lacks_room.result c.if-lacks_room.false c.lacks_room.ensures)).0
+
+pub show-requires-clause-digits : goal.show-requires-clause-digits
+show-requires-clause-digits c =
+    (store_lengths c.args.words.now c.args.digits.now
+    (refuted c.lacks_room.result c.if-lacks_room.false c.lacks_room.ensures)).1

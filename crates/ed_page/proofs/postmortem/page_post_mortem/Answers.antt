@@ -1,0 +1,29 @@
+use Rattle.std.proofs.Common.{inl, inr, refl}
+use Rattle.ed_page.proofs.postmortem.page_post_mortem.Goals as goal
+
+pub returns-then-words-ne1024-clause-told : goal.returns-then-words-ne1024-clause-told
+returns-then-words-ne1024-clause-told c words digits s begins k pictured = elim c.then-words-ne1024.either [
+  | inl wrong ↦ absurd (wrong words)
+  | inr both ↦ absurd (both.1 digits)
+]
+
+pub returns-then-words-ne1024-clause-early : goal.returns-then-words-ne1024-clause-early
+returns-then-words-ne1024-clause-early c lacks = (refl, refl)
+
+pub returns-in-Ok-clause-early : goal.returns-in-Ok-clause-early
+returns-in-Ok-clause-early c lacks = elim lacks [
+  | inl wrong ↦ absurd (wrong c.if-words-ne1024.false)
+  | inr wrong ↦ absurd (wrong c.if-digits-ne512.false)
+]
+
+pub returns-in-Err-clause-early : goal.returns-in-Err-clause-early
+returns-in-Err-clause-early c lacks = elim lacks [
+  | inl wrong ↦ absurd (wrong c.if-words-ne1024.false)
+  | inr wrong ↦ absurd (wrong c.if-digits-ne512.false)
+]
+
+pub returns-then-not-is_window-clause-early : goal.returns-then-not-is_window-clause-early
+returns-then-not-is_window-clause-early c lacks = elim lacks [
+  | inl wrong ↦ absurd (wrong c.if-words-ne1024.false)
+  | inr wrong ↦ absurd (wrong c.if-digits-ne512.false)
+]
