@@ -1,6 +1,6 @@
 -- The bytes, words and numbers of the source language (this project's own rule).
 use Rattle.std.specs.Prelude.{ℕ, ◌^◌, ◌==◌, ◌&&◌, ◌||◌, Bool, true, false, ℤ, pos, neg_ℤ, unsigned_abs}
-use Rattle.std.specs.Prelude.{List, [], ◌∷◌, codes, length, nat_le, if◌then◌else◌, Option, Some, None}
+use Rattle.std.specs.Prelude.{List, [], ◌∷◌, codes, nat_le, if◌then◌else◌, Option, Some, None}
 use Rattle.std.specs.Int.{int_rem_euclid}
 use Rattle.std.specs.List.{list_all, list_any}
 use Rattle.ed_codes.specs.Spelling.{row_of}
