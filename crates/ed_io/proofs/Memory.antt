@@ -25,8 +25,8 @@ none_left : (xs : List ℕ) → length xs ≡ 0 → xs ≡ []
 none_left [] e = refl
 none_left (x ∷ xs) e = absurd (omega arith)
 
--- the first n of the bytes from `at` onwards stand at the front of a piece; n is 0 only if there is none or the piece is
--- empty
+-- the first n of the bytes from `at` onwards stand at the front of a piece; n is 0 only if no byte is left or the piece
+-- is empty
 pub record HandsOver (at n : ℕ) (bytes into : List ℕ) : Type 0 where
   pub within : n ≤ length into
   pub whole : drop at bytes ≡ take n into ++ drop (at + n) bytes

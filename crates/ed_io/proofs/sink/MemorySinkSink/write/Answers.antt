@@ -3,7 +3,8 @@ use Rattle.std.proofs.lemmas.Bool.Decides.{nat_tests}
 use Rattle.ed_io.proofs.Memory.{is_among, none_among}
 use Rattle.ed_io.proofs.sink.MemorySinkSink.write.Goals as goal
 use Rattle.ed_io.proofs.sink.MemorySinkSink.write.Goals.{then-free-eq0, else-free-eq0}
-use Rattle.ed_io.proofs.sink.MemorySinkSink.write.Goals.{then-fails-via-then-fails, then-fails-via-else-fails+then-not-is_empty}
+use Rattle.ed_io.proofs.sink.MemorySinkSink.write.Goals.{then-fails-via-then-fails}
+use Rattle.ed_io.proofs.sink.MemorySinkSink.write.Goals.{then-fails-via-else-fails+then-not-is_empty}
 
 -- a call that does not fail has neither cause
 neither : {A B : Type 0} → (A → false ≡ true) → (B → false ≡ true) → A ⊎ B → false ≡ true
@@ -29,7 +30,8 @@ returns c =
       cause = record { later = omega arith; failed = tt };
       fails = (
         λ e. absurd (cc),
-        neither (none_among c.deref.ensures.value c.if-fails.ensures.cases) (λ h. absurd (omega (arith, roomy h.1, h.0))),
+        neither (none_among c.deref.ensures.value c.if-fails.ensures.cases)
+            (λ h. absurd (omega (arith, roomy h.1, h.0))),
       );
       count = omega (arith, least, count, len);
       faults = refl;
@@ -55,7 +57,8 @@ returns-then-fails c =
               omega (arith, v.if-free-eq0.true, c.len.ensures),
               grind (arith, nat_tests, v.value-is, v.is_empty.ensures, w.if-not-is_empty.true),
             )
-            | else-free-eq0 v ↦ absurd (grind (arith, nat_tests, v.value-is, v.if-free-eq0.false, w.if-not-is_empty.true))
+            | else-free-eq0 v ↦
+                absurd (grind (arith, nat_tests, v.value-is, v.if-free-eq0.false, w.if-not-is_empty.true))
           ]
         ],
         λ _. refl,

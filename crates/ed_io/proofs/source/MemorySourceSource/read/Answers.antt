@@ -22,7 +22,8 @@ pub returns : goal.returns
 returns c =
     let given = c.hand_over-count in
     let value = c.deref-2.ensures.value in
-    let h = hands_over c.args.into.now value given.ensures.count given.ensures.bytes given.auto.into c.self.invariant.1 in
+    let some = c.self.invariant.1 in
+    let h = hands_over c.args.into.now value given.ensures.count given.ensures.bytes given.auto.into some in
     rw (← c.self.view_is) (record {
       within = h.within;
       bytes = (h.whole, h.ends);
