@@ -2,6 +2,7 @@
 
 use crate::support::{Row, expect_faults, linked};
 use ed_link::Linked;
+use ed_syntax::SourceCause::{NoSuchRoutine, Parameters};
 use ed_words::Size;
 use std::test::Fail;
 
@@ -19,21 +20,21 @@ const WORDS: [(u16, Option<u32>); 5] = [
     (119, Some(114_812)),
 ];
 
-/// The faults of uses, by their lines and numbers.
-const FAULTS: [Row; 4] = [
-    (b"segment m\nZ F\nx: P F\nuse print as p\nenter m", 4, 15),
-    (b"segment m\nZ F\nx: P F\nuse sine as p\nenter m", 4, 14),
+/// Uses whose parameters are not those of the routine.
+const PARAMETERS: [Row; 3] = [
+    (b"segment m\nZ F\nx: P F\nuse print as p\nenter m", 4),
     (
         b"segment m\nZ F\nx: P F\nuse read as p with N=x\nenter m",
         4,
-        15,
     ),
     (
         b"segment m\nZ F\nx: P F\nuse newline as p with H=x\nenter m",
         4,
-        15,
     ),
 ];
+
+/// A use of a routine that the library doesn't have.
+const NO_ROUTINE: [Row; 1] = [(b"segment m\nZ F\nx: P F\nuse sine as p\nenter m", 4)];
 
 /// The word at a location of a linked program.
 fn word_at(linked: &Linked, place: u16) -> Option<u32> {
@@ -56,5 +57,6 @@ fn each_use_has_its_own_parameters(rt: HostRuntime) -> Result<(), Fail> {
 
 #[test]
 fn faults_of_a_use(rt: HostRuntime) {
-    expect_faults(&rt, rt.alloc(), Size::Full, &FAULTS);
+    expect_faults(&rt, rt.alloc(), Size::Full, Parameters, &PARAMETERS);
+    expect_faults(&rt, rt.alloc(), Size::Full, NoSuchRoutine, &NO_ROUTINE);
 }
