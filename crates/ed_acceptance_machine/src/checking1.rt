@@ -31,7 +31,7 @@ fn expect_report(rt: &impl Abort, report: &Checked1, row: &Row) {
 /// Checks what the check of a tape tells.
 fn expect_checked(rt: &impl Abort, alloc: Global, row: &Row) -> Result<(), Fail> {
     let (tape, ..) = *row;
-    let report = checked_text(rt, alloc, tape)?.or(Err("a fault"))?;
+    let report = checked_text(rt, alloc, tape)?.ok().expect(rt, tape);
     expect_report(rt, &report, row);
     Ok(())
 }
@@ -74,7 +74,8 @@ fn expect_words(rt: &impl Abort, report: &Checked1) {
 
 #[test]
 fn the_check_tells_the_words_of_a_tape(rt: HostRuntime) -> Result<(), Fail> {
-    let report = checked_text(&rt, rt.alloc(), "T35S50L*32767LV32767S")?.or(Err("a fault"))?;
+    let tape = "T35S50L*32767LV32767S";
+    let report = checked_text(&rt, rt.alloc(), tape)?.ok().expect(&rt, tape);
     expect_words(&rt, &report);
     Ok(())
 }

@@ -78,7 +78,8 @@ fn is_as_checked(
     tape: &str,
 ) -> Result<(), Fail> {
     start_on(alloc, machine, tape)?;
-    let report = checked(rt, alloc, before.size(), before.store(), tape)?.or(Err("a fault"))?;
+    let told = checked(rt, alloc, before.size(), before.store(), tape)?;
+    let report = told.ok().expect(rt, tape);
     expect_as_checked(rt, machine, before, &report, tape);
     Ok(())
 }
