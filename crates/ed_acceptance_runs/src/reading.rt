@@ -79,7 +79,7 @@ fn digit_rows_are_a_number(rt: HostRuntime) -> Result<(), Fail> {
 
 /// A machine that has called `read` with a digit row, the row of a code, and a digit row.
 fn called_on(rt: &impl Abort, alloc: Global, code: u8) -> Result<Machine, Fail> {
-    let row = char::from(byte_of(Code::new(code).ok_or("no code")?, false));
+    let row = char::from(byte_of(Code::new(code).expect(rt, "a code"), false));
     let rows = format!(in alloc; "5{row}6")?;
     called(rt, alloc, routine(READ), &PLACES[0], 99, &rows)
 }
