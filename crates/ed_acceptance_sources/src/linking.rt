@@ -131,14 +131,14 @@ const BEYOND_512: [Row; 2] = [
 
 /// Checks that a tape is punched for a source.
 fn is_punched(rt: &impl Abort, alloc: Global, text: &[u8], punched: &str) -> Result<(), Fail> {
-    let tape = tape_of(alloc, text)?;
+    let tape = tape_of(rt, alloc, text)?;
     expect(rt, tape.as_slice() == punched.as_bytes(), punched);
     Ok(())
 }
 
 /// Checks that the text of a tape spells the rows of a source's tape.
 fn spells_rows(rt: &impl Abort, alloc: Global, text: &[u8], punched: &str) -> Result<(), Fail> {
-    let rows = rows_of(alloc, text)?;
+    let rows = rows_of(rt, alloc, text)?;
     let spelled = tape_of_text(alloc, punched.as_bytes())?;
     expect(rt, spelled.as_slice() == rows.as_slice(), punched);
     Ok(())
@@ -157,9 +157,8 @@ fn has_words(linked: &Linked, words: &[(u16, u32)]) -> bool {
 
 /// Whether a linked program has these names with their locations.
 fn has_labels(linked: &Linked, labels: &[(&str, u16)]) -> bool {
-    for (label, wanted) in linked.labels.iter().zip(labels) {
-        let (name, place) = *wanted;
-        if label.name.text() != name || label.place != place {
+    for (index, label) in linked.labels.iter().enumerate() {
+        if labels.get(index) != Some(&(label.name.text(), label.place)) {
             return false;
         }
     }
@@ -176,8 +175,8 @@ fn what_is_punched(rt: HostRuntime) -> Result<(), Fail> {
 }
 
 #[test]
-fn the_linked_program(rt: HostRuntime) -> Result<(), Fail> {
-    let linked = linked(rt.alloc(), Size::Small, FIRST).ok_or("a fault")?;
+fn the_linked_program(rt: HostRuntime) {
+    let linked = linked(&rt, rt.alloc(), Size::Small, FIRST);
     expect(&rt, has_words(&linked, &WORDS), "the words");
     expect(&rt, has_labels(&linked, &LABELS), "the names");
     expect(
@@ -185,7 +184,6 @@ fn the_linked_program(rt: HostRuntime) -> Result<(), Fail> {
         linked.entry == 56 && linked.after.is_empty(),
         "the entry",
     );
-    Ok(())
 }
 
 #[test]

@@ -128,7 +128,7 @@ fn source_of(alloc: Global, frame: &Frame, operand: &str) -> Result<String, Fail
 
 /// Checks how a source's tape begins.
 fn begins_with(rt: &impl Abort, alloc: Global, text: &str, wanted: &str) -> Result<(), Fail> {
-    let tape = tape_of(alloc, text.as_bytes())?;
+    let tape = tape_of(rt, alloc, text.as_bytes())?;
     expect(rt, tape.starts_with(wanted.as_bytes()), text);
     Ok(())
 }

@@ -1,12 +1,13 @@
 //! The locations of a source's lines and names, and the first fault of its names.
 
+ghost use Rattle.std.specs.Prelude.{◌≤◌, length};
+
 use crate::support::{expect, expect_of, is_at};
-use ed_symbols::{Places, resolve};
+use ed_symbols::{Definition, Places, resolve};
 use ed_syntax::SourceCause::{self, AddressRange, LabelTwice, LabelUnknown};
 use ed_syntax::{Name, parse};
 use std::alloc::Global;
 use std::process::Abort;
-use std::test::Fail;
 
 /// The program of seven lines that prints A.
 const FIRST: &[u8] = b"segment main\nO mark F\nO letter F\nZ F\nmark: * F\nletter: A F\nenter main";
@@ -169,9 +170,38 @@ const DEFINED: [(&str, u32, Option<u32>); 7] = [
 ];
 
 /// The locations and names of a source.
-fn resolved(alloc: Global, text: &[u8]) -> Option<Places> {
-    let program = parse(alloc, text).ok()?;
-    resolve(alloc, &program).ok()
+fn resolved(rt: &impl Abort, alloc: Global, text: &[u8]) -> Places {
+    let program = parse(alloc, text).ok().expect(rt, "a program");
+    resolve(alloc, &program).ok().expect(rt, "its names")
+}
+
+/// The answer to a question about a name, on a line of the source.
+fn answer_of_name(places: &Places, line: u32, question: Question, name: &Name) -> Option<u32>
+    requires from_one { 1 ≤ line }
+    requires of_the_program { line ≤ length places.now.positions }
+{
+    match question {
+        Place | Segment => None,
+        PlaceOf => places.label(name),
+        PlaceSeen => places.label_at(line, name),
+        SegmentSeen => places.home_at(line, name)?.segment,
+        WholeSeen => match places.home_at(line, name)?.segment {
+            Some(_) => None,
+            None => places.label_at(line, name),
+        },
+    }
+}
+
+/// The answer to a question about a line of the source.
+fn answer_of(places: &Places, line: u32, question: Question, name: &str) -> Option<u32>
+    requires from_one { 1 ≤ line }
+    requires of_the_program { line ≤ length places.now.positions }
+{
+    match question {
+        Place => Some(places.line_place(line)),
+        Segment => places.line_segment(line),
+        _ => answer_of_name(places, line, question, &Name::new(name)?),
+    }
 }
 
 /// The answer to a question about a line of a source.
@@ -181,20 +211,7 @@ fn answer(alloc: Global, text: &[u8], line: u32, question: Question, name: &str)
     if line == 0 || program.lines.len() < line as usize {
         return None;
     }
-    match question {
-        Place => Some(places.line_place(line)),
-        PlaceOf => places.label(&Name::new(name)?),
-        PlaceSeen => places.label_at(line, &Name::new(name)?),
-        Segment => places.line_segment(line),
-        SegmentSeen => places.home_at(line, &Name::new(name)?)?.segment,
-        WholeSeen => {
-            let definition = places.home_at(line, &Name::new(name)?)?;
-            if definition.segment.is_some() {
-                return None;
-            }
-            Some(definition.place)
-        }
-    }
+    answer_of(&places, line, question, name)
 }
 
 /// Checks the answer about a line and a name.
@@ -253,55 +270,53 @@ fn the_segments_of_lines_and_names(rt: HostRuntime) {
 }
 
 /// Checks the first fault of the names of a source.
-fn expect_fault(
-    rt: &impl Abort,
-    alloc: Global,
-    text: &[u8],
-    line: u32,
-    cause: SourceCause,
-) -> Result<(), Fail> {
-    let places = resolved(alloc, text).ok_or("a fault of form")?;
-    expect_of(rt, is_at(places.fault(), line, cause), text);
-    Ok(())
+fn expect_fault(rt: &impl Abort, alloc: Global, text: &[u8], line: u32, cause: SourceCause) {
+    let fault = resolved(rt, alloc, text).fault();
+    expect_of(rt, is_at(fault, line, cause), text);
 }
 
 /// Checks the first faults of the names of sources, which have one cause.
-fn expect_faults(
-    rt: &impl Abort,
-    alloc: Global,
-    cause: SourceCause,
-    rows: &[(&[u8], u32)],
-) -> Result<(), Fail> {
+fn expect_faults(rt: &impl Abort, alloc: Global, cause: SourceCause, rows: &[(&[u8], u32)]) {
     for (text, line) in rows {
-        expect_fault(rt, alloc, text, *line, cause)?;
+        expect_fault(rt, alloc, text, *line, cause);
     }
-    Ok(())
 }
 
 #[test]
-fn the_fault_of_names(rt: HostRuntime) -> Result<(), Fail> {
-    expect_faults(&rt, rt.alloc(), LabelTwice, &TWICE)?;
-    expect_faults(&rt, rt.alloc(), LabelUnknown, &UNKNOWN)?;
-    expect_faults(&rt, rt.alloc(), AddressRange, &OUT_OF_RANGE)
+fn the_fault_of_names(rt: HostRuntime) {
+    expect_faults(&rt, rt.alloc(), LabelTwice, &TWICE);
+    expect_faults(&rt, rt.alloc(), LabelUnknown, &UNKNOWN);
+    expect_faults(&rt, rt.alloc(), AddressRange, &OUT_OF_RANGE);
 }
 
 #[test]
-fn names_without_a_fault(rt: HostRuntime) -> Result<(), Fail> {
+fn names_without_a_fault(rt: HostRuntime) {
     for text in &FAULTLESS {
-        let places = resolved(rt.alloc(), text).ok_or("a fault of form")?;
-        expect_of(&rt, places.fault().is_none(), text);
+        let fault = resolved(&rt, rt.alloc(), text).fault();
+        expect_of(&rt, fault.is_none(), text);
     }
-    Ok(())
+}
+
+/// The name of the first of some definitions that is not that of the source ODD; nothing if there is none.
+fn first_difference(symbols: &[Definition]) -> &'static str {
+    for (found, wanted) in symbols.iter().zip(&DEFINED) {
+        let (name, place, segment) = *wanted;
+        if found.name.text() != name || found.place != place || found.segment != segment {
+            return name;
+        }
+    }
+    ""
+}
+
+/// Checks that these are the definitions of the source ODD.
+fn expect_defined(rt: &impl Abort, symbols: &[Definition]) {
+    assert!(rt; symbols.len() == DEFINED.len());
+    let differs = first_difference(symbols);
+    expect(rt, differs.is_empty(), differs);
 }
 
 #[test]
-fn what_a_source_defines(rt: HostRuntime) -> Result<(), Fail> {
-    let places = resolved(rt.alloc(), ODD).ok_or("a fault of form")?;
-    assert!(rt; places.symbols().len() == DEFINED.len());
-    for (found, wanted) in places.symbols().iter().zip(&DEFINED) {
-        let (name, place, segment) = *wanted;
-        expect(&rt, found.name.text() == name, name);
-        expect(&rt, found.place == place && found.segment == segment, name);
-    }
-    Ok(())
+fn what_a_source_defines(rt: HostRuntime) {
+    let places = resolved(&rt, rt.alloc(), ODD);
+    expect_defined(&rt, places.symbols());
 }

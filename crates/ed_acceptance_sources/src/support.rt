@@ -9,20 +9,22 @@ use std::process::Abort;
 use std::test::Fail;
 
 /// A source, linked for a machine of a size.
-pub fn linked(alloc: Global, size: Size, text: &[u8]) -> Option<Linked> {
-    let program = parse(alloc, text).ok()?;
-    link(alloc, size, &program).ok()
+pub fn linked(rt: &impl Abort, alloc: Global, size: Size, text: &[u8]) -> Linked {
+    let program = parse(alloc, text).ok().expect(rt, "a program");
+    link(alloc, size, &program)
+        .ok()
+        .expect(rt, "a linked program")
 }
 
 /// The text of a source's tape.
-pub fn tape_of(alloc: Global, text: &[u8]) -> Result<Vec<u8>, Fail> {
-    let linked = linked(alloc, Size::Full, text).ok_or("a fault")?;
+pub fn tape_of(rt: &impl Abort, alloc: Global, text: &[u8]) -> Result<Vec<u8>, Fail> {
+    let linked = linked(rt, alloc, Size::Full, text);
     Ok(linked.text()?)
 }
 
 /// The rows of a source's tape.
-pub fn rows_of(alloc: Global, text: &[u8]) -> Result<Vec<Code>, Fail> {
-    let linked = linked(alloc, Size::Full, text).ok_or("a fault")?;
+pub fn rows_of(rt: &impl Abort, alloc: Global, text: &[u8]) -> Result<Vec<Code>, Fail> {
+    let linked = linked(rt, alloc, Size::Full, text);
     Ok(linked.rows()?)
 }
 

@@ -4,7 +4,7 @@ use crate::support::{Row, expect_faults, linked};
 use ed_link::Linked;
 use ed_syntax::SourceCause::{NoSuchRoutine, Parameters};
 use ed_words::Size;
-use std::test::Fail;
+use std::process::Abort;
 
 /// Two prints, each with a location of its own.
 const TWO_PRINTS: &[u8] =
@@ -46,13 +46,17 @@ fn word_at(linked: &Linked, place: u16) -> Option<u32> {
     None
 }
 
-#[test]
-fn each_use_has_its_own_parameters(rt: HostRuntime) -> Result<(), Fail> {
-    let linked = linked(rt.alloc(), Size::Full, TWO_PRINTS).ok_or("a fault")?;
-    for (place, word) in WORDS {
-        assert!(rt; word_at(&linked, place) == word, "{place}");
+/// Checks the words of the program.
+fn expect_words(rt: &impl Abort, linked: &Linked) {
+    for (place, word) in &WORDS {
+        assert!(rt; word_at(linked, *place) == *word, "{place}");
     }
-    Ok(())
+}
+
+#[test]
+fn each_use_has_its_own_parameters(rt: HostRuntime) {
+    let linked = linked(&rt, rt.alloc(), Size::Full, TWO_PRINTS);
+    expect_words(&rt, &linked);
 }
 
 #[test]
