@@ -1,6 +1,6 @@
 //! The twelve faults of meaning: each alone, and each two of them on one line and on two.
 
-use crate::support::{expect_of, fault_of, is_at};
+use crate::support::{expect, fault_of, is_at};
 use ed_syntax::SourceCause::{
     self, AddressRange, Enter, LabelTwice, LabelUnknown, LoaderStore, NoSuchRoutine,
     OutsideSegment, Overlap, ParameterStore, Parameters, SandwichDigit, StoreEnd,
@@ -131,7 +131,7 @@ fn expect_fault(
 ) -> Result<(), Fail> {
     let text = source(alloc, lines)?;
     let fault = fault_of(alloc, Size::Full, text.as_bytes());
-    expect_of(rt, is_at(fault, line, cause), text.as_bytes());
+    expect(rt, is_at(fault, line, cause), &text);
     Ok(())
 }
 
@@ -139,7 +139,7 @@ fn expect_fault(
 fn expect_no_fault(rt: &impl Abort, alloc: Global, lines: &str) -> Result<(), Fail> {
     let text = source(alloc, lines)?;
     let fault = fault_of(alloc, Size::Full, text.as_bytes());
-    expect_of(rt, fault.is_none(), text.as_bytes());
+    expect(rt, fault.is_none(), &text);
     Ok(())
 }
 
@@ -204,7 +204,7 @@ fn first_of(
 }
 
 /// Checks that a program of some lines has this fault on a line, or none.
-fn expect(
+fn expect_outcome(
     rt: &impl Abort,
     alloc: Global,
     lines: &str,
@@ -229,9 +229,9 @@ fn expect_on_one_line(
     let (head, tail, own) = *form;
     let given = given(placed, of_a_word);
     let new = format!(in alloc; "{before}{head}b{tail}")?;
-    expect(rt, alloc, &new, line, first_of(own, None, given))?;
+    expect_outcome(rt, alloc, &new, line, first_of(own, None, given))?;
     let twice = format!(in alloc; "{before}{head}a{tail}")?;
-    expect(
+    expect_outcome(
         rt,
         alloc,
         &twice,
