@@ -20,9 +20,10 @@ fn run_before(rt: &impl Abort, machine: &mut Machine) {
         loaded(rt, machine) == Loaded::Entered { at, orders },
         BEFORE,
     );
-    for stop in [false, false, false, true] {
-        expect(rt, stops(rt, machine) == stop, BEFORE);
+    for _ in 0..3 {
+        expect(rt, !stops(rt, machine), BEFORE);
     }
+    expect(rt, stops(rt, machine), BEFORE);
     expect(rt, machine.sandwich(100), BEFORE);
 }
 

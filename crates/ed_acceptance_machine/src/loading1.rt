@@ -291,15 +291,22 @@ fn is_started_after(rt: &impl Abort, alloc: Global, size: Size, orders: u32) -> 
     Ok(is_started1(&machine))
 }
 
+/// Checks whether such a machine counts as started.
+fn expect_started(
+    rt: &impl Abort,
+    alloc: Global,
+    size: Size,
+    orders: u32,
+    wanted: bool,
+) -> Result<(), Fail> {
+    let started = is_started_after(rt, alloc, size, orders)?;
+    assert!(rt; started == wanted, "{orders}");
+    Ok(())
+}
+
 #[test]
 fn a_machine_is_started_at_full_size_and_at_0(rt: HostRuntime) -> Result<(), Fail> {
-    for (size, orders, wanted) in [
-        (Size::Full, 0, true),
-        (Size::Full, 1, false),
-        (Size::Small, 0, false),
-    ] {
-        let started = is_started_after(&rt, rt.alloc(), size, orders)?;
-        assert!(rt; started == wanted, "{orders}");
-    }
-    Ok(())
+    expect_started(&rt, rt.alloc(), Size::Full, 0, true)?;
+    expect_started(&rt, rt.alloc(), Size::Full, 1, false)?;
+    expect_started(&rt, rt.alloc(), Size::Small, 0, false)
 }
